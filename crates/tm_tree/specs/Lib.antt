@@ -1,0 +1,7 @@
+pub mod Numbers
+pub mod Tree
+pub mod Codes
+pub mod View
+pub mod Falls
+pub mod Word
+pub mod Limits
