@@ -1,5 +1,5 @@
 -- A block is larger than the blocks inside it.
-use Rattle.std.specs.Prelude.{ℕ, ◌≤◌, ◌+◌, max, List, [], ◌∷◌}
+use Rattle.std.specs.Prelude.{◌≤◌, List, [], ◌∷◌}
 use Rattle.std.proofs.Common.{arith}
 use denote.Param.Weighed.{most}
 use Rattle.tm_tree.specs.declared.stmt.Stmt.{Stmt}

@@ -5,3 +5,7 @@ pub mod View
 pub mod Falls
 pub mod Word
 pub mod Limits
+pub mod Meaning
+pub mod Cases
+pub mod PointNumbers
+pub mod Runs

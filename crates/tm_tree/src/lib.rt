@@ -5,12 +5,14 @@
 
 mod cond;
 mod form;
+mod law;
 mod name;
 mod program;
 mod stmt;
 
 pub use cond::{Cond, Rel, leaves};
 pub use form::{Coeffs, Form};
+pub use law::cases_are_truth;
 pub use name::{Name, Names};
 pub use program::{Program, statements};
 pub use stmt::{Block, Stmt};

@@ -14,11 +14,21 @@ use std::marker::Model;
 #[derive(Drop)]
 pub enum Stmt {
     /// The variable takes the form's value.
-    Set { var: u32, form: Form, line: u32 },
+    Set {
+        var: u32,
+        form: Form,
+        line: u32,
+    },
     /// The variable takes any value.
-    Havoc { var: u32, line: u32 },
+    Havoc {
+        var: u32,
+        line: u32,
+    },
     /// The run goes on only where the condition may be true.
-    Assume { cond: Cond, line: u32 },
+    Assume {
+        cond: Cond,
+        line: u32,
+    },
     /// `first` where the condition may be true, `second` where it may be false.
     If {
         cond: Cond,
@@ -27,9 +37,16 @@ pub enum Stmt {
         line: u32,
     },
     /// `body` again and again, as long as the condition may be true; past it where it may be false.
-    While { cond: Cond, body: Block, line: u32 },
+    While {
+        cond: Cond,
+        body: Block,
+        line: u32,
+    },
     /// Names this place.
-    Label { name: Name, line: u32 },
+    Label {
+        name: Name,
+        line: u32,
+    },
 }
 
 /// A list of statements.
