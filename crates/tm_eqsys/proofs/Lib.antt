@@ -1,0 +1,3 @@
+pub mod RationalStates
+pub mod Soundness
+pub mod Leastness
