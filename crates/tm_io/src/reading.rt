@@ -12,7 +12,7 @@ use std::io;
 use std::io::{ErrorKind, Read};
 
 /// How many bytes one read asks for.
-const PIECE: usize = 1 << 18;
+const PIECE: usize = 1 << 16;
 
 /// Reads the first `most` bytes that a reader has left. A read of no bytes ends them.
 pub(crate) fn read_front<R: Read>(alloc: Global, reader: &mut R, most: usize) -> Result<Vec<u8>, LoadFault>
