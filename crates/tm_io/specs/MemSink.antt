@@ -6,7 +6,7 @@ use Rattle.tm_io.specs.declared.mem_sink.MemSink.{MemSink}
 
 -- how many puts were made
 abbrev pub puts_made : MemSink → ℕ
-puts_made sink = sink.made
+puts_made sink = sink.made.value
 
 -- the numbers of the puts that fail, each with the bytes that it still takes
 abbrev pub planned_puts : MemSink → List (ℕ × ℕ)
@@ -14,7 +14,7 @@ planned_puts sink = sink.faults.items
 
 -- how many bytes the next put still takes, where it is to fail: the first pair of its number counts
 abbrev pub planned_cut : MemSink → Option ℕ
-planned_cut sink = option_map (λ f. f.1) (find (λ f. f.0 == sink.made) sink.faults.items)
+planned_cut sink = option_map (λ f. f.1) (find (λ f. f.0 == sink.made.value) sink.faults.items)
 
 -- the put takes all bytes, or fails after so many
 abbrev pub PutsAsPlanned : Option ℕ → (before now piece : List ℕ) → Put → Type 0

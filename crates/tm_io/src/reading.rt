@@ -15,7 +15,11 @@ use std::io::{ErrorKind, Read};
 const PIECE: usize = 1 << 16;
 
 /// Reads the first `most` bytes that a reader has left. A read of no bytes ends them.
-pub(crate) fn read_front<R: Read>(alloc: Global, reader: &mut R, most: usize) -> Result<Vec<u8>, LoadFault>
+pub(crate) fn read_front<R: Read>(
+    alloc: Global,
+    reader: &mut R,
+    most: usize,
+) -> Result<Vec<u8>, LoadFault>
     ensures within { IfOk result (λ bytes. vec_len bytes ≤ most) }
     ensures front { IfOk result (λ bytes. IfSome (R.remaining reader.old) (λ left. bytes.items ≡ take most left)) }
 {
