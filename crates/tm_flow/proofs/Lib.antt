@@ -4,3 +4,4 @@ pub mod WaysLaw
 pub mod Walk
 pub mod Reach
 pub mod PathLaw
+pub mod Ranges
