@@ -5,3 +5,5 @@ pub mod Walk
 pub mod Reach
 pub mod PathLaw
 pub mod Ranges
+pub mod Followed
+pub mod Examples

@@ -21,5 +21,4 @@ pub fn edges_are_paths()
 /// No edge of a program ends at the entry, and every edge goes from a point to a point.
 pub fn edges_are_in_range()
     ensures { EdgesInRange }
-{
-}
+{}
