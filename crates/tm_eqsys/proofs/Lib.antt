@@ -1,3 +1,5 @@
 pub mod RationalStates
 pub mod Soundness
 pub mod Leastness
+pub mod Listed
+pub mod Examples
