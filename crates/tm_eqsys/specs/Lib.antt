@@ -4,3 +4,4 @@ pub mod Equations
 pub mod Solutions
 pub mod View
 pub mod SolutionLaws
+pub mod Report

@@ -8,6 +8,7 @@ ghost use Rattle.tm_eqsys.specs.SolutionLaws.{
   ProgramPostSolutionsHold,
   UnreachedAtAllRows,
 };
+ghost use Rattle.tm_eqsys.specs.View.{VectorsAreLists};
 
 /// Every post-solution holds in every run: where the edges are the paths of a program, and so for the system of a program.
 pub fn post_solutions_hold()
@@ -35,3 +36,9 @@ pub fn least_solutions_are_supported()
 pub fn unreached_at_all_rows()
     ensures { UnreachedAtAllRows }
 {}
+
+/// A vector over points and rows is the list of its bounds, point after point, and the other way round.
+pub fn vectors_are_lists()
+    ensures { VectorsAreLists }
+{
+}

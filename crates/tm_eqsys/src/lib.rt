@@ -3,11 +3,13 @@
 //! `docs/DEFINITIONS.md` reads the definitions of `specs/` in order.
 #![tactic(auto)]
 
+mod footer;
 mod law;
 mod system;
 
+pub use footer::Footer;
 pub use law::{
     at_most_one_least, integer_states_are_rational, least_solutions_are_supported,
-    post_solutions_hold, unreached_at_all_rows,
+    post_solutions_hold, unreached_at_all_rows, vectors_are_lists,
 };
 pub use system::System;
