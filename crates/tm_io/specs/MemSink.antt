@@ -4,6 +4,10 @@ use Rattle.tm_io.specs.Puts.{Put}
 use Rattle.tm_io.specs.declared.sink.PutFault.TheVariants.{Failed, NoMemory}
 use Rattle.tm_io.specs.declared.mem_sink.MemSink.{MemSink}
 
+-- the bytes that it holds
+abbrev pub bytes_in : MemSink → List ℕ
+bytes_in sink = sink.held.items
+
 -- how many puts were made
 abbrev pub puts_made : MemSink → ℕ
 puts_made sink = sink.made.value

@@ -21,7 +21,8 @@ pub(crate) fn read_front<R: Read>(
     most: usize,
 ) -> Result<Vec<u8>, LoadFault>
     ensures within { IfOk result (λ bytes. vec_len bytes ≤ most) }
-    ensures front { IfOk result (λ bytes. IfSome (R.remaining reader.old) (λ left. bytes.items ≡ take most left)) }
+    ensures front { IfOk result (λ bytes. IfSome (R.remaining reader.old)
+        (λ left. bytes.items ≡ take most left)) }
 {
     let mut bytes = Vec::new(alloc);
     while bytes.len() < most {
@@ -58,7 +59,8 @@ fn read_at<R: Read>(reader: &mut R, buf: &mut [u8], start: usize) -> io::Result<
     ensures within { IfOk result (λ count. start + count ≤ length buf.new) }
     ensures bytes { IfOk result (λ count. Consumes (R.remaining reader.old) (R.remaining reader.new)
         (take count (drop start buf.new))) }
-    ensures ends { IfOk result (λ count. count ≡ 0 → start < length buf.old → IsAtEnd (R.remaining reader.new)) }
+    ensures ends { IfOk result (λ count. count ≡ 0 → start < length buf.old
+        → IsAtEnd (R.remaining reader.new)) }
 {
     read_once(reader, &mut buf[start..])
 }
@@ -69,7 +71,7 @@ fn read_once<R: Read>(reader: &mut R, buf: &mut [u8]) -> io::Result<usize>
     ensures bytes { ReadConsumes (R.remaining reader.old) (R.remaining reader.new) result buf.new }
     ensures retried { IfErr result (λ error. error_kind error ≢ ErrorKind.Interrupted) }
 {
-    'tries: for _ in 0..u64::MAX {
+    for _ in 0..u64::MAX {
         match reader.read(buf) {
             Ok(count) => return Ok(count),
             Err(error) => {

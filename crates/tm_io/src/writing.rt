@@ -35,7 +35,7 @@ fn write_once<W: Write>(writer: &mut W, buf: &[u8]) -> io::Result<usize>
     ensures bytes { WriteAppends (W.contents writer.old) (W.contents writer.new) result buf.now }
     ensures retried { IfErr result (λ error. error_kind error ≢ ErrorKind.Interrupted) }
 {
-    'tries: for _ in 0..u64::MAX {
+    for _ in 0..u64::MAX {
         match writer.write(buf) {
             Ok(count) => return Ok(count),
             Err(error) => {
