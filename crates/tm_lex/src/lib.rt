@@ -1,7 +1,9 @@
 //! The tokens of a program's text.
 #![tactic(auto)]
 
+mod byte;
 mod fault;
+mod reserved;
 mod sign;
 mod token;
 mod word;
