@@ -3,8 +3,10 @@
 
 mod byte;
 mod fault;
+mod found;
 mod reserved;
 mod sign;
+mod signs;
 mod token;
 mod word;
 
