@@ -2,8 +2,14 @@
 #![tactic(auto)]
 
 mod byte;
+mod comment;
 mod fault;
 mod found;
+mod lexer;
+mod line;
+mod name;
+mod number;
+mod piece;
 mod reserved;
 mod sign;
 mod signs;
@@ -11,6 +17,11 @@ mod token;
 mod word;
 
 pub use fault::LexFault;
+pub use lexer::lex;
+pub use line::line_of;
 pub use sign::Sign;
 pub use token::{Kind, Token};
 pub use word::Word;
+
+#[cfg(test)]
+mod tests;
