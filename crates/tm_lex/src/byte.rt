@@ -1,7 +1,14 @@
 //! Classes of bytes.
 
 ghost use Rattle.std.specs.Prelude.{◌≡◌};
-ghost use Rattle.tm_lex.specs.Bytes.{is_letter, is_digit, is_word_byte};
+ghost use Rattle.tm_lex.specs.Bytes.{is_blank, is_letter, is_digit, is_word_byte};
+
+/// Space, tab, carriage return and line feed.
+pub fn is_blank(byte: u8) -> bool
+    ensures { result ≡ is_blank byte }
+{
+    matches!(byte, b' ' | b'\t' | b'\r' | b'\n')
+}
 
 /// `A` to `Z`, `a` to `z` and `_`.
 pub fn is_letter(byte: u8) -> bool

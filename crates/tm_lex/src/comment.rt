@@ -10,7 +10,8 @@ use crate::found::Found;
 
 /// How many bytes stand before the first line feed, or before the end.
 fn line_len(rest: &[u8]) -> usize
-    ensures { result ≡ prefix_len is_on_line rest.now }
+    ensures len { result ≡ prefix_len is_on_line rest.now }
+    ensures within { result ≤ length rest.now }
 {
     rest.iter().take_while(|byte| **byte != b'\n').count()
 }
@@ -33,12 +34,12 @@ pub fn comment(rest: &[u8], at: u32) -> Result<Found, LexFault>
     requires slash { slice_index rest.now 0 ≡ 47 }
     ensures { Finds rest.now at result }
 {
-    match rest.get(1) {
-        Some(b'/') => Ok(Found {
+    match rest {
+        [_, b'/', body @ ..] => Ok(Found {
             kind: None,
-            len: 2 + line_len(&rest[2..]),
+            len: 2 + line_len(body),
         }),
-        Some(b'*') => match first_close(&rest[2..]) {
+        [_, b'*', body @ ..] => match first_close(body) {
             Some(place) => Ok(Found {
                 kind: None,
                 len: place + 4,

@@ -8,10 +8,7 @@ pub fn line_of(text: &[u8], at: u32) -> u32
     requires { length text.now ≤ 65536 }
     ensures { result ≡ line_at text.now at }
 {
-    let feeds = text
-        .iter()
-        .take(at as usize)
-        .filter(|byte| **byte == b'\n')
-        .count();
+    let before = &text[..text.len().min(at as usize)];
+    let feeds = before.iter().filter(|byte| **byte == b'\n').count();
     1 + feeds as u32
 }

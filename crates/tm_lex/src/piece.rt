@@ -4,6 +4,7 @@ ghost use Rattle.std.specs.Prelude.{◌≡◌, ◌≢◌, ◌≤◌, length, sli
 ghost use Rattle.tm_lex.specs.Bytes.{is_blank, is_letter, is_digit};
 ghost use Rattle.tm_lex.specs.Steps.{Finds};
 
+use crate::byte::{is_blank, is_digit, is_letter};
 use crate::comment::comment;
 use crate::fault::LexFault;
 use crate::found::Found;
@@ -37,10 +38,10 @@ pub fn piece(rest: &[u8], at: u32) -> Result<Found, LexFault>
     ensures { Finds rest.now at result }
 {
     match rest[0] {
-        b' ' | b'\t' | b'\r' | b'\n' => Ok(Found { kind: None, len: 1 }),
+        first if is_blank(first) => Ok(Found { kind: None, len: 1 }),
         b'/' => comment(rest, at),
-        b'0'..=b'9' => number(rest, at),
-        b'A'..=b'Z' | b'a'..=b'z' | b'_' => word(rest, at),
+        first if is_digit(first) => number(rest, at),
+        first if is_letter(first) => word(rest, at),
         _ => sign(rest, at),
     }
 }
