@@ -3,3 +3,7 @@ pub mod Heads
 pub mod Longest
 pub mod Standing
 pub mod Digits
+pub mod Comments
+pub mod Signed
+pub mod SignsAt
+pub mod Readings
