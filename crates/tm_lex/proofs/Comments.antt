@@ -33,7 +33,7 @@ line_comment_from body n e = rw e record {
 
 pub line_comment_stands : (rest : List ℕ) (n : ℕ) → 2 ≤ length rest → get_or rest 0 0 ≡ 47 → get_or rest 1 0 ≡ 47 → n ≡ prefix_len is_on_line (take (length rest - 2) (drop 2 rest)) → StandsFirst rest (record { kind = None; len = 2 + n })
 line_comment_stands rest n some e f h =
-  subst (λ (r : List ℕ). StandsFirst r (record { kind = None; len = 2 + n })) (first_two rest 47 47 some e f)
+    subst (λ (r : List ℕ). StandsFirst r (record { kind = None; len = 2 + n })) (first_two rest 47 47 some e f)
     (line_comment_from (drop 2 rest) n (rw (take_rest rest 2) at h))
 
 -- where `*/` is written it stands
@@ -50,9 +50,9 @@ close_split [] k h = absurd (omega (arith, h.0))
 close_split (x ∷ []) zero h = absurd (omega (arith, h.1))
 close_split (x ∷ y ∷ text) zero h = let one : x ≡ 42 = h.0 in let two : y ≡ 47 = h.1 in cc
 close_split (x ∷ text) (suc k) h =
-  let one : suc k + 1 ≡ suc (k + 1) = omega arith in
-  let two : suc k + 2 ≡ suc (k + 2) = omega arith in
-  rw two (ap (λ (xs : List ℕ). x ∷ xs) (close_split text k (h.0, rw one at h.1)))
+    let one : suc k + 1 ≡ suc (k + 1) = omega arith in
+    let two : suc k + 2 ≡ suc (k + 2) = omega arith in
+    rw two (ap (λ (xs : List ℕ). x ∷ xs) (close_split text k (h.0, rw one at h.1)))
 
 close_within : (text : List ℕ) (k : ℕ) → ClosesAt text k → k + 2 ≤ length text
 close_within text k h = ⊎_elim (λ (short : length text < k + 2). let past : get_or text (k + 1) 0 ≡ 0 = get_or_past text (k + 1) 0 (omega arith) in absurd (omega (arith, h.1))) (λ (long : k + 2 ≤ length text). long) (cases_lt (length text) (k + 2))
@@ -69,17 +69,19 @@ block_comment_from body k first = record {
   where
     within : k + 2 ≤ length body
     within = close_within body k first.0
+
     closed : IsClosed (take k body) (drop (k + 2) body)
     closed other after e = ⊎_elim
-      (λ (low : length other < k). absurd (first.1 (length other) low (close_at other after body (e ∙ close_split body k first.0))))
-      (λ (high : k ≤ length other). omega (arith, length-take k body))
-      (cases_lt (length other) k)
+        (λ (low : length other < k). absurd (first.1 (length other) low (close_at other after body (e ∙ close_split body k first.0))))
+        (λ (high : k ≤ length other). omega (arith, length-take k body))
+        (cases_lt (length other) k)
+
     length_is : length (47 ∷ 42 ∷ (take k body ++ 42 ∷ 47 ∷ [])) ≡ k + 4
     length_is = omega (arith, length-append (take k body) (42 ∷ 47 ∷ []), length-take-le k body (omega (arith, within)))
 
 pub block_comment_stands : (rest : List ℕ) (k : ℕ) → 2 ≤ length rest → get_or rest 0 0 ≡ 47 → get_or rest 1 0 ≡ 42 → IsFirstClose (take (length rest - 2) (drop 2 rest)) (Some k) → StandsFirst rest (record { kind = None; len = k + 4 })
 block_comment_stands rest k some e f h =
-  subst (λ (r : List ℕ). StandsFirst r (record { kind = None; len = k + 4 })) (first_two rest 47 42 some e f)
+    subst (λ (r : List ℕ). StandsFirst r (record { kind = None; len = k + 4 })) (first_two rest 47 42 some e f)
     (block_comment_from (drop 2 rest) k (rw (take_rest rest 2) at h))
 
 pub open_comment_stands : (rest : List ℕ) → 2 ≤ length rest → get_or rest 0 0 ≡ 47 → get_or rest 1 0 ≡ 42 → IsFirstClose (take (length rest - 2) (drop 2 rest)) None → IsOpen rest

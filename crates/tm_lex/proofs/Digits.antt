@@ -18,12 +18,12 @@ pub record AddsDigit (digits : List ℕ) (i : ℕ) : Type 0 where
 
 pub value_more : (digits : List ℕ) (i : ℕ) → list_all is_digit digits ≡ true → i < length digits → AddsDigit digits i
 value_more digits i all below =
-  let at = AllPass-from_list_all is_digit digits all i 0 below in
-  let both = and_parts _ _ at in
-  let low : 48 ≤ get_or digits i 0 = leb-true _ _ both.0 in
-  let high : get_or digits i 0 ≤ 57 = leb-true _ _ both.1 in
-  let is : digit_value (get_or digits i 0) + 48 ≡ get_or digits i 0 = digit_value_digit (get_or digits i 0) (low, high) in
-  record { value_is = omega (arith, digits_value_more 10 digits i below, is); digit_low = high }
+    let at = AllPass-from_list_all is_digit digits all i 0 below in
+    let both = and_parts _ _ at in
+    let low : 48 ≤ get_or digits i 0 = leb-true _ _ both.0 in
+    let high : get_or digits i 0 ≤ 57 = leb-true _ _ both.1 in
+    let is : digit_value (get_or digits i 0) + 48 ≡ get_or digits i 0 = digit_value_digit (get_or digits i 0) (low, high) in
+    record { value_is = omega (arith, digits_value_more 10 digits i below, is); digit_low = high }
 
 pub value_front : (digits : List ℕ) (i : ℕ) → digits_value 10 (take i digits) ≤ digits_value 10 digits
 value_front digits i = digits_value-take-le 10 digits i (omega arith)

@@ -112,7 +112,7 @@ pub record IsMark (b : ℕ) : Type 0 where
 
 pub mark_is : (b : ℕ) → is_mark b ≡ true → IsMark b
 mark_is b h =
-  let all = or_parts _ _ (not-true _ h) in
-  let three = or_parts _ _ all.0 in
-  let two = or_parts _ _ three.0 in
-  record { no_letter = two.0; no_digit = two.1; no_blank = three.1; no_slash = all.1 }
+    let all = or_parts _ _ (not-true _ h) in
+    let three = or_parts _ _ all.0 in
+    let two = or_parts _ _ three.0 in
+    record { no_letter = two.0; no_digit = two.1; no_blank = three.1; no_slash = all.1 }

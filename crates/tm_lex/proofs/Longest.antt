@@ -42,8 +42,8 @@ module _ (other after bs : List ℕ) (b : ℕ) (front : other ++ after ≡ b ∷
 word_passes : (bytes : List ℕ) → is_word bytes ≡ true → list_all is_word_byte bytes ≡ true
 word_passes [] h = refl
 word_passes (b ∷ bs) h =
-  let both = and_parts (is_letter b) (list_all is_word_byte bs) h in
-  and_from (is_word_byte b) (list_all is_word_byte bs) (or_left (is_letter b) (is_digit b) both.0) both.1
+    let both = and_parts (is_letter b) (list_all is_word_byte bs) h in
+    and_from (is_word_byte b) (list_all is_word_byte bs) (or_left (is_letter b) (is_digit b) both.0) both.1
 
 numeral_passes : (bytes : List ℕ) → is_numeral bytes ≡ true → list_all is_digit bytes ≡ true
 numeral_passes [] h = refl
@@ -68,8 +68,8 @@ run_is_longest : (p : ℕ → Bool) (text : List ℕ) → ((other after : List �
 run_is_longest p text passes lexeme = record {
   lexeme = lexeme;
   longest = λ other after e is_lexeme.
-    let whole : other ++ after ≡ text = e ∙ take-append-drop (prefix_len p text) text in
-    rw (length-take-le (prefix_len p text) text (prefix_len-le-length p text)) (run_longest p other after text whole (passes other after whole is_lexeme));
+      let whole : other ++ after ≡ text = e ∙ take-append-drop (prefix_len p text) text in
+      rw (length-take-le (prefix_len p text) text (prefix_len-le-length p text)) (run_longest p other after text whole (passes other after whole is_lexeme));
 }
 
 pub word_longest : (b : ℕ) (bs : List ℕ) → is_letter b ≡ true → IsLongest (take (prefix_len is_word_byte (b ∷ bs)) (b ∷ bs)) (drop (prefix_len is_word_byte (b ∷ bs)) (b ∷ bs))

@@ -1,23 +1,24 @@
 -- A reading grows by the piece that stands next.
 use Rattle.std.proofs.Common.{◌≡◌, ◌≤◌, ◌<◌, ◌+◌, ◌-◌, ℕ, suc, Bool, true, false, List, [], ◌∷◌, ◌++◌, length, take, drop, refl, sym, ap, subst, ◌∙◌, arith, Option, Some, None}
-use Rattle.std.proofs.lemmas.List.{append_assoc, append-nil, length-append, drop_at, drop-drop}
+use Rattle.std.proofs.lemmas.List.{append_assoc, append-nil, length-append, length-drop, take_rest, drop_at, drop-drop}
 use Rattle.tm_lex.specs.declared.token.Kind.{Kind}
 use Rattle.tm_lex.specs.declared.token.Token.{Token}
 use Rattle.tm_lex.specs.declared.found.Found.{Found}
+use Rattle.tm_lex.specs.Bytes.{is_letter, is_digit}
+use Rattle.tm_lex.specs.Signs.{sign_bytes}
 use Rattle.tm_lex.specs.Lexemes.{IsLexeme, a_word, a_numeral, a_sign}
 use Rattle.tm_lex.specs.Reading.{Piece, blank, line_comment, block_comment, token, piece_bytes, spelling, Fits, AllFit, piece_tokens, tokens_from, ReadsUpTo}
 use Rattle.tm_lex.specs.Steps.{StandsFirst, piece_kind}
-use Rattle.tm_lex.proofs.Heads.{heads, is_mark, sign_heads}
+use Rattle.tm_lex.proofs.Heads.{heads, is_mark, sign_heads, word_heads, numeral_heads}
 
 heads_some : (p : ℕ → Bool) (xs : List ℕ) → heads p xs ≡ true → 0 < length xs
 heads_some p [] h = cc
 heads_some p (x ∷ xs) h = omega arith
 
 lexeme_some : (bytes : List ℕ) → IsLexeme bytes → 0 < length bytes
-lexeme_some [] (a_word w) = cc
-lexeme_some [] (a_numeral d) = cc
-lexeme_some [] (a_sign sign e) = rw (← e) (heads_some is_mark _ (sign_heads sign))
-lexeme_some (b ∷ bs) lexeme = omega arith
+lexeme_some bytes (a_word w) = heads_some is_letter bytes (word_heads bytes w)
+lexeme_some bytes (a_numeral d) = heads_some is_digit bytes (numeral_heads bytes d)
+lexeme_some bytes (a_sign sign e) = subst (λ (bs : List ℕ). 0 < length bs) e (heads_some is_mark (sign_bytes sign) (sign_heads sign))
 
 -- a piece has a byte
 pub piece_some : (piece : Piece) (rest : List ℕ) → Fits piece rest → 0 < length (piece_bytes piece)
@@ -40,9 +41,9 @@ fit_push (p ∷ pieces) piece rest fit fits = (subst (Fits p) (sym (spelled_push
 tokens_push : (at : ℕ) (pieces : List Piece) (piece : Piece) → tokens_from at (pieces ++ piece ∷ []) ≡ tokens_from at pieces ++ piece_tokens (at + length (spelling pieces)) piece
 tokens_push at [] piece = let none : at + 0 ≡ at = omega arith in rw none (append-nil (piece_tokens at piece))
 tokens_push at (p ∷ pieces) piece =
-  let next : at + length (piece_bytes p) + length (spelling pieces) ≡ at + length (piece_bytes p ++ spelling pieces) = omega (arith, length-append (piece_bytes p) (spelling pieces)) in
-  let more = tokens_push (at + length (piece_bytes p)) pieces piece in
-  ap (λ (ts : List Token). piece_tokens at p ++ ts) (rw next at more) ∙ sym (append_assoc (piece_tokens at p) (tokens_from (at + length (piece_bytes p)) pieces) (piece_tokens (at + length (piece_bytes p ++ spelling pieces)) piece))
+    let next : at + length (piece_bytes p) + length (spelling pieces) ≡ at + length (piece_bytes p ++ spelling pieces) = omega (arith, length-append (piece_bytes p) (spelling pieces)) in
+    let more = tokens_push (at + length (piece_bytes p)) pieces piece in
+    ap (λ (ts : List Token). piece_tokens at p ++ ts) (rw next at more) ∙ sym (append_assoc (piece_tokens at p) (tokens_from (at + length (piece_bytes p)) pieces) (piece_tokens (at + length (piece_bytes p ++ spelling pieces)) piece))
 
 pub reads_none : (text : List ℕ) → ReadsUpTo text 0 [] text
 reads_none text = record { pieces = []; spelled = refl; fit = tt; place = refl; told = refl }
@@ -69,17 +70,21 @@ reads_more text at tokens rest found reads stands = record {
   where
     pieces : List Piece
     pieces = reads.pieces ++ stands.piece ∷ []
+
     after : stands.after ≡ drop found.len rest
     after = sym (drop_at (piece_bytes stands.piece) stands.after found.len stands.length_is) ∙ ap (drop found.len) stands.split
+
     split : piece_bytes stands.piece ++ drop found.len rest ≡ rest
     split = rw (← after) stands.split
+
     place : length (spelling pieces) ≡ at + found.len
     place = omega (arith, ap length (spelling_push reads.pieces stands.piece), length-append (spelling reads.pieces) (piece_bytes stands.piece), stands.length_is, reads.place)
+
     told : tokens_from 0 reads.pieces ++ piece_tokens (0 + length (spelling reads.pieces)) stands.piece ≡ tokens ++ found_tokens at found.kind found.len
     told =
-      let here : 0 + length (spelling reads.pieces) ≡ at = omega (arith, reads.place) in
-      let piece = found_piece at stands.piece found.kind found.len stands.length_is stands.kind_is in
-      rw (reads.told, here, piece) refl
+        let here : 0 + length (spelling reads.pieces) ≡ at = omega (arith, reads.place) in
+        let piece = found_piece at stands.piece found.kind found.len stands.length_is stands.kind_is in
+        rw (reads.told, here, piece) refl
 
 -- what is found lies in the rest, and has a byte
 pub found_some : (rest : List ℕ) (found : Found) → StandsFirst rest found → 0 < found.len
@@ -87,3 +92,13 @@ found_some rest found stands = omega (arith, piece_some stands.piece stands.afte
 
 pub found_within : (rest : List ℕ) (found : Found) → StandsFirst rest found → found.len ≤ length rest
 found_within rest found stands = omega (arith, stands.length_is, ap length stands.split, length-append (piece_bytes stands.piece) stands.after)
+
+-- one turn of the loop
+pub reads_step : (text : List ℕ) (at : ℕ) (tokens items : List Token) (found : Found) → ReadsUpTo text at tokens (drop at text) → StandsFirst (take (length text - at) (drop at text)) found → items ≡ tokens ++ found_tokens at found.kind found.len → ReadsUpTo text (at + found.len) items (drop (at + found.len) text)
+reads_step text at tokens items found reads stands e =
+    let here = rw (take_rest text at) at stands in
+    let more = reads_more text at tokens (drop at text) found reads here in
+    rw e (rw (drop-drop found.len at text) at more)
+
+pub found_fits : (text : List ℕ) (at : ℕ) (found : Found) → at ≤ length text → StandsFirst (take (length text - at) (drop at text)) found → at + found.len ≤ length text
+found_fits text at found within stands = omega (arith, found_within (drop at text) found (rw (take_rest text at) at stands), length-drop at text)

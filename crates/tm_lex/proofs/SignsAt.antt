@@ -71,29 +71,29 @@ start_from (b ∷ c ∷ cs) after first (d ∷ ds) h e = let one : b ≡ first =
 -- every lexeme here is a sign that starts so
 signs_only : (first : ℕ) (bs other after : List ℕ) → is_letter first ≡ false → is_digit first ≡ false → other ++ after ≡ first ∷ bs → IsLexeme other → (sign : Sign) × (sign_bytes sign ≡ other) × StartWith (sign_bytes sign) first (second_of (first ∷ bs))
 signs_only first bs other after no_letter no_digit e lexeme =
-  let found = sign_starts other after bs first e lexeme no_letter no_digit in
-  (found.0, found.1, start_from (sign_bytes found.0) after first bs (sign_heads found.0) (rw found.1 e))
+    let found = sign_starts other after bs first e lexeme no_letter no_digit in
+    (found.0, found.1, start_from (sign_bytes found.0) after first bs (sign_heads found.0) (rw found.1 e))
 
 sign_from : (first : ℕ) (bs : List ℕ) (sign : Sign) (len : ℕ) → IsLongestSign first (second_of (first ∷ bs)) (Some sign) → is_letter first ≡ false → is_digit first ≡ false → len ≡ length (sign_bytes sign) → StandsFirst (first ∷ bs) (record { kind = Some (kind.Sign sign); len = len })
 sign_from first bs sign len longest no_letter no_digit e =
-  let found = start_split (sign_bytes sign) first bs longest.0 (sign_short sign) in
-  record {
-    piece = token (kind.Sign sign) (sign_bytes sign);
-    after = found.0;
-    split = found.1;
-    fits = record {
-      is_token = refl;
-      longest = record {
-        lexeme = a_sign sign refl;
-        longest = λ other after whole lexeme.
-          let t = signs_only first bs other after no_letter no_digit (whole ∙ found.1) lexeme in
-          rw (← t.1) (longest.1 t.0 t.2);
+    let found = start_split (sign_bytes sign) first bs longest.0 (sign_short sign) in
+    record {
+      piece = token (kind.Sign sign) (sign_bytes sign);
+      after = found.0;
+      split = found.1;
+      fits = record {
+        is_token = refl;
+        longest = record {
+          lexeme = a_sign sign refl;
+          longest = λ other after whole lexeme.
+              let t = signs_only first bs other after no_letter no_digit (whole ∙ found.1) lexeme in
+              rw (← t.1) (longest.1 t.0 t.2);
+        };
+        apart = tt;
       };
-      apart = tt;
-    };
-    length_is = sym e;
-    kind_is = refl;
-  }
+      length_is = sym e;
+      kind_is = refl;
+    }
 
 pub sign_stands : (rest : List ℕ) (sign : Sign) (len : ℕ) → 1 ≤ length rest → is_letter (get_or rest 0 0) ≡ false → is_digit (get_or rest 0 0) ≡ false → IsLongestSign (get_or rest 0 0) (second_of rest) (Some sign) → len ≡ length (sign_bytes sign) → StandsFirst rest (record { kind = Some (kind.Sign sign); len = len })
 sign_stands [] sign len some no_letter no_digit longest e = absurd (omega arith)
