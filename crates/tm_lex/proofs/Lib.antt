@@ -7,3 +7,5 @@ pub mod Comments
 pub mod Signed
 pub mod SignsAt
 pub mod Readings
+pub mod Spellings
+pub mod Grades
