@@ -9,3 +9,4 @@ pub mod SignsAt
 pub mod Readings
 pub mod Spellings
 pub mod Grades
+pub mod Openings

@@ -19,7 +19,7 @@ pub data Leads (b : ℕ) : Type 0 where
   mark : IsMark b → Leads b
 
 module _ (other after bs : List ℕ) (b : ℕ) (front : other ++ after ≡ b ∷ bs) where
-  leads : IsLexeme other → Leads b
+  pub leads : IsLexeme other → Leads b
   leads (a_word w) = letter (heads_front is_letter other after bs b front (word_heads other w))
   leads (a_numeral d) = digit (heads_front is_digit other after bs b front (numeral_heads other d))
   leads (a_sign sign e) = mark (mark_is b (heads_front is_mark other after bs b front (rw (← e) (sign_heads sign))))
