@@ -57,7 +57,7 @@ mark_no_digit (b ∷ bs) h = (mark_is b h).no_digit
 short_word_grade : (bytes after : List ℕ) → is_word bytes ≡ true → length bytes ≤ longest_word → grade bytes after ≡ short_word
 short_word_grade bytes after w h = rw (word_heads bytes w, le-ltb longest_word (length bytes) h) refl
 
-long_word_grade : (bytes after : List ℕ) → is_word bytes ≡ true → longest_word < length bytes → grade bytes after ≡ long_word
+pub long_word_grade : (bytes after : List ℕ) → is_word bytes ≡ true → longest_word < length bytes → grade bytes after ≡ long_word
 long_word_grade bytes after w h = rw (word_heads bytes w, lt-ltb longest_word (length bytes) h) refl
 
 numeral_grade : (bytes after : List ℕ) → is_numeral bytes ≡ true → grade bytes after ≡ number_grade bytes after
@@ -66,10 +66,10 @@ numeral_grade bytes after d = let digit = numeral_heads bytes d in rw (numeral_n
 good_number_grade : (bytes after : List ℕ) → is_numeral bytes ≡ true → is_bad bytes after ≡ false → digits_value 10 bytes ≤ greatest_literal → grade bytes after ≡ good_number
 good_number_grade bytes after d good h = numeral_grade bytes after d ∙ rw (good, le-ltb greatest_literal (digits_value 10 bytes) h) refl
 
-great_number_grade : (bytes after : List ℕ) → is_numeral bytes ≡ true → is_bad bytes after ≡ false → greatest_literal < digits_value 10 bytes → grade bytes after ≡ great_number
+pub great_number_grade : (bytes after : List ℕ) → is_numeral bytes ≡ true → is_bad bytes after ≡ false → greatest_literal < digits_value 10 bytes → grade bytes after ≡ great_number
 great_number_grade bytes after d good h = numeral_grade bytes after d ∙ rw (good, lt-ltb greatest_literal (digits_value 10 bytes) h) refl
 
-bad_number_grade : (bytes after : List ℕ) → is_numeral bytes ≡ true → is_bad bytes after ≡ true → grade bytes after ≡ bad_number
+pub bad_number_grade : (bytes after : List ℕ) → is_numeral bytes ≡ true → is_bad bytes after ≡ true → grade bytes after ≡ bad_number
 bad_number_grade bytes after d bad = numeral_grade bytes after d ∙ rw bad refl
 
 sign_grade : (bytes after : List ℕ) → heads is_mark bytes ≡ true → grade bytes after ≡ plain_sign

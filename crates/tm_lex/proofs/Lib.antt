@@ -10,3 +10,4 @@ pub mod Readings
 pub mod Spellings
 pub mod Grades
 pub mod Openings
+pub mod Once

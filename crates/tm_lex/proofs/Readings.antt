@@ -15,7 +15,7 @@ heads_some : (p : ℕ → Bool) (xs : List ℕ) → heads p xs ≡ true → 0 < 
 heads_some p [] h = cc
 heads_some p (x ∷ xs) h = omega arith
 
-lexeme_some : (bytes : List ℕ) → IsLexeme bytes → 0 < length bytes
+pub lexeme_some : (bytes : List ℕ) → IsLexeme bytes → 0 < length bytes
 lexeme_some bytes (a_word w) = heads_some is_letter bytes (word_heads bytes w)
 lexeme_some bytes (a_numeral d) = heads_some is_digit bytes (numeral_heads bytes d)
 lexeme_some bytes (a_sign sign e) = subst (λ (bs : List ℕ). 0 < length bs) e (heads_some is_mark (sign_bytes sign) (sign_heads sign))
