@@ -97,9 +97,9 @@ one_kind k l bytes after s t = let same : kind_grade k ≡ kind_grade l = sym (t
 -- the longest lexeme of a text is one
 pub one_longest : (a x b y : List ℕ) → IsLongest a x → IsLongest b y → a ++ x ≡ b ++ y → a ≡ b
 one_longest a x b y s t e =
-  let low : length b ≤ length a = s.longest b y (sym e) t.lexeme in
-  let high : length a ≤ length b = t.longest a x e s.lexeme in
-  sym (take_at a x (length a) refl) ∙ (ap (take (length a)) e ∙ take_at b y (length a) (omega arith))
+    let low : length b ≤ length a = s.longest b y (sym e) t.lexeme in
+    let high : length a ≤ length b = t.longest a x e s.lexeme in
+    sym (take_at a x (length a) refl) ∙ (ap (take (length a)) e ∙ take_at b y (length a) (omega arith))
 
 pub one_rest : (a x b y : List ℕ) → a ≡ b → a ++ x ≡ b ++ y → x ≡ y
 one_rest a x b y same e = append_cancel_left b x y (rw same at e)

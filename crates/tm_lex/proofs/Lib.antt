@@ -11,3 +11,5 @@ pub mod Spellings
 pub mod Grades
 pub mod Openings
 pub mod Once
+pub mod Placed
+pub mod Exactly

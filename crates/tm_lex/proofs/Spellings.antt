@@ -89,13 +89,13 @@ sign_back OrOr = refl
 
 pub one_word : (w v : Word) (bytes : List ℕ) → word_bytes w ≡ bytes → word_bytes v ≡ bytes → w ≡ v
 one_word w v bytes e f =
-  let same : Some w ≡ Some v = sym (word_back w) ∙ (ap word_of (e ∙ sym f) ∙ word_back v) in
-  cc
+    let same : Some w ≡ Some v = sym (word_back w) ∙ (ap word_of (e ∙ sym f) ∙ word_back v) in
+    cc
 
 pub one_sign : (s t : Sign) (bytes : List ℕ) → sign_bytes s ≡ bytes → sign_bytes t ≡ bytes → s ≡ t
 one_sign s t bytes e f =
-  let same : Some s ≡ Some t = sym (sign_back s) ∙ (ap sign_of (e ∙ sym f) ∙ sign_back t) in
-  cc
+    let same : Some s ≡ Some t = sym (sign_back s) ∙ (ap sign_of (e ∙ sym f) ∙ sign_back t) in
+    cc
 
 pub word_short : (word : Word) → length (word_bytes word) ≤ 32
 word_short Auto = omega arith

@@ -5,6 +5,7 @@ mod byte;
 mod comment;
 mod fault;
 mod found;
+mod laws;
 mod lexer;
 mod line;
 mod name;
@@ -17,6 +18,7 @@ mod token;
 mod word;
 
 pub use fault::LexFault;
+pub use laws::one_reading;
 pub use lexer::lex;
 pub use line::line_of;
 pub use sign::Sign;

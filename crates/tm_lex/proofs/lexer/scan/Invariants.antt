@@ -1,6 +1,6 @@
 use Rattle.std.proofs.Common.{◌-◌, ◌≤◌, length, drop}
 use Rattle.tm_lex.specs.Reading.{ReadsUpTo}
-use Rattle.tm_lex.proofs.lexer.lex.Given as goal
+use Rattle.tm_lex.proofs.lexer.scan.Given as goal
 
 abbrev pub invariant-loop-at : goal.invariant-loop-at
 invariant-loop-at l = record {
