@@ -1,13 +1,12 @@
 -- What starts at a place, by the first two bytes.
-use Rattle.std.proofs.Common.{◌≡◌, ℕ, Bool, true, false, cond, eqb, List, [], ◌∷◌, ◌++◌, refl, sym, ap, ◌∙◌, arith}
+use Rattle.std.proofs.Common.{◌≡◌, ℕ, true, false, cond, eqb, List, [], ◌∷◌, ◌++◌, refl, sym, ap, ◌∙◌, arith}
 use Rattle.std.proofs.lemmas.Bool.{cond_both, false_from_ne_true, leb-true, eqb-true}
 use Rattle.tm_lex.specs.Bytes.{is_blank, is_letter, is_digit}
 use Rattle.tm_lex.specs.declared.fault.LexFault.{LexFault}
 use Rattle.tm_lex.specs.declared.fault.LexFault.TheVariants.{BadByte, OpenComment, LongNumber, LongName, BadNumber, NoMemory}
 use Rattle.tm_lex.specs.Lexemes.{IsLexeme}
-use Rattle.tm_lex.specs.Reading.{Piece, blank, line_comment, block_comment, token, piece_bytes, Fits, IsLongest}
+use Rattle.tm_lex.specs.Reading.{Piece, blank, line_comment, block_comment, token, piece_bytes, Fits}
 use Rattle.tm_lex.specs.Faults.{NothingStarts, Stands}
-use Rattle.tm_lex.proofs.Heads.{IsMark}
 use Rattle.tm_lex.proofs.Longest.{Leads, letter, digit, mark, leads}
 
 pub data Opening : Type 0 where

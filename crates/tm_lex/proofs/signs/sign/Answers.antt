@@ -1,7 +1,6 @@
 use Rattle.std.proofs.Common.{◌≡◌, refl, ◌∙◌}
-use Rattle.tm_lex.specs.Steps.{IsLongestSign}
 use Rattle.tm_lex.proofs.SignsAt.{second_of, second_read, sign_stands, nothing_stands}
-use Rattle.tm_lex.proofs.piece.sign.Goals as goal
+use Rattle.tm_lex.proofs.signs.sign.Goals as goal
 
 pub returns-in-Some : goal.returns-in-Some
 returns-in-Some c =
