@@ -45,7 +45,7 @@ digit_no_blank b d k = grind (arith, leb-true, eqb-true)
 digit_no_slash : (b : ℕ) → is_digit b ≡ true → eqb b 47 ≡ true → ⊥
 digit_no_slash b d k = grind (arith, leb-true, eqb-true)
 
-lead_plain : (b : ℕ) → Leads b → (is_blank b ≡ false) × (eqb b 47 ≡ false)
+pub lead_plain : (b : ℕ) → Leads b → (is_blank b ≡ false) × (eqb b 47 ≡ false)
 lead_plain b (letter h) = (false_from_ne_true (is_blank b) (letter_no_blank b h), false_from_ne_true (eqb b 47) (letter_no_slash b h))
 lead_plain b (digit h) = (false_from_ne_true (is_blank b) (digit_no_blank b h), false_from_ne_true (eqb b 47) (digit_no_slash b h))
 lead_plain b (mark m) = (m.no_blank, m.no_slash)

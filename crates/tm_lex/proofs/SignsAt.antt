@@ -28,7 +28,7 @@ second_read (a ∷ []) (Some x) e h = cc
 second_read (a ∷ b ∷ bs) None e h = let yes : ltb 1 (suc (suc (length bs))) ≡ true = lt-ltb 1 (suc (suc (length bs))) (omega arith) in cc
 second_read (a ∷ b ∷ bs) (Some x) e h = ap (λ (n : ℕ). Some n) h
 
-sign_short : (sign : Sign) → length (sign_bytes sign) ≤ 2
+pub sign_short : (sign : Sign) → length (sign_bytes sign) ≤ 2
 sign_short LeftParen = omega arith
 sign_short RightParen = omega arith
 sign_short LeftBrace = omega arith
