@@ -4,6 +4,7 @@ ghost use Rattle.tm_eqsys.specs.SolutionLaws.{
   AtMostOneLeast,
   IntegerStatesAreRational,
   LeastSolutionsAreSupported,
+  LeastWhereDecided,
   PostSolutionsHold,
   ProgramPostSolutionsHold,
   UnreachedAtAllRows,
@@ -27,9 +28,10 @@ pub fn at_most_one_least()
 {}
 
 /// A post-solution that is at most every post-solution can't have a smaller bound outside the entry: it isn't so that no
-/// transition exceeds the smaller number.
+/// transition exceeds the smaller number. So it is least wherever that is decided.
 pub fn least_solutions_are_supported()
-    ensures { LeastSolutionsAreSupported }
+    ensures supported { LeastSolutionsAreSupported }
+    ensures decided { LeastWhereDecided }
 {}
 
 /// Where a solution has the bound `-inf` at a point, it has it there for every row.
@@ -40,5 +42,4 @@ pub fn unreached_at_all_rows()
 /// A vector over points and rows is the list of its bounds, point after point, and the other way round.
 pub fn vectors_are_lists()
     ensures { VectorsAreLists }
-{
-}
+{}
