@@ -1,4 +1,5 @@
 pub mod RationalStates
+pub mod FreeValueLaw
 pub mod Soundness
 pub mod Leastness
 pub mod Listed

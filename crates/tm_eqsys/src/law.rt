@@ -1,5 +1,6 @@
 //! Laws of the definitions, each the contract of a function that does nothing.
 
+ghost use Rattle.tm_eqsys.specs.FreeValues.{TracesAreFollowed};
 ghost use Rattle.tm_eqsys.specs.SolutionLaws.{
   AtMostOneLeast,
   IntegerStatesAreRational,
@@ -20,6 +21,11 @@ pub fn post_solutions_hold()
 /// An integer state is a rational state, and each form has the same value there.
 pub fn integer_states_are_rational()
     ensures { IntegerStatesAreRational }
+{}
+
+/// A trace takes one value at each free assignment, and its start and these values determine its end.
+pub fn traces_are_followed()
+    ensures { TracesAreFollowed }
 {}
 
 /// Two least vectors have the same bounds, and what solves the system and is at most every post-solution is least.

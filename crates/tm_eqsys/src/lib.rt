@@ -12,6 +12,6 @@ mod tests;
 pub use footer::Footer;
 pub use law::{
     at_most_one_least, integer_states_are_rational, least_solutions_are_supported,
-    post_solutions_hold, unreached_at_all_rows, vectors_are_lists,
+    post_solutions_hold, traces_are_followed, unreached_at_all_rows, vectors_are_lists,
 };
 pub use system::System;
