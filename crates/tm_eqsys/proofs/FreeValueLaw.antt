@@ -1,5 +1,5 @@
 -- A trace is determined by its start and the values at its free assignments.
-use Rattle.std.proofs.Common.{◌≡◌, ◌∙◌, ℕ, suc, List, [], ◌∷◌, length, refl, sym, ap}
+use Rattle.std.proofs.Common.{◌≡◌, ◌∙◌, suc, List, [], ◌∷◌, length, refl, sym, ap}
 use Rattle.std.specs.Prelude.{slice_set}
 use Rattle.tm_num.specs.Rational.{ℚ}
 use Rattle.tm_flow.specs.declared.edge.Action.{Action}

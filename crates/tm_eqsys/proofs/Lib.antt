@@ -5,3 +5,4 @@ pub mod Leastness
 pub mod Listed
 pub mod FitsProgram
 pub mod Examples
+pub mod Counting

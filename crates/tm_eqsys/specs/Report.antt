@@ -1,5 +1,5 @@
 -- The report of a vector as a list of bytes.
-use Rattle.std.specs.Prelude.{◌==◌, ◌++◌, ℕ, suc, ℤ, pos, negsuc, Bool, true, false, List, [], ◌∷◌, codes, decimal, flat_map, map, nat_abs, if◌then◌else◌}
+use Rattle.std.specs.Prelude.{◌==◌, ◌++◌, ℕ, suc, ℤ, pos, negsuc, List, [], ◌∷◌, codes, decimal, flat_map, nat_abs, if◌then◌else◌}
 use Rattle.std.specs.Fmt.{signed_decimal}
 use Rattle.tm_num.specs.Rational.{ℚ}
 use Rattle.tm_num.specs.Extended.{Ext, neg_inf, fin, pos_inf}

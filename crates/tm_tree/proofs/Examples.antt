@@ -1,9 +1,9 @@
 -- Values, truth and cases of small conditions, worked by hand.
-use Rattle.std.proofs.Common.{◌≡◌, ℕ, Bool, true, false, List, [], ◌∷◌, inl, inr, refl, arith}
+use Rattle.std.proofs.Common.{◌≡◌, true, false, [], ◌∷◌, inl, inr, refl, arith}
 use Rattle.std.specs.Prelude.{ℤ, pos, negsuc}
 use Rattle.std.proofs.lemmas.Int.{ints}
 use Rattle.tm_tree.specs.declared.form.Form.{Form}
-use Rattle.tm_tree.specs.declared.cond.Rel.TheVariants.{Eq, Ne, Lt, Le, Gt, Ge}
+use Rattle.tm_tree.specs.declared.cond.Rel.TheVariants.{Ne, Lt, Le, Gt, Ge}
 use Rattle.tm_tree.specs.Tree.{Condition, free, compare, negation, both, either}
 use Rattle.tm_tree.specs.Meaning.{value, MayBe}
 use Rattle.tm_tree.specs.Cases.{cases_of}
