@@ -17,9 +17,9 @@ made_of L n d o h e =
     match_option_map o (λ n. inr (λ f. n (subst (λ q. Fits L q) (sym e) f))) (λ r m. (m.0 ∙ e, m.1, h))
 
 -- the parts that code makes of n and d, as it reads them, have the ratio n / d
-pub fraction_read : (n d N : ℤ) (D : ℕ) → d ≢ pos 0 → FitsSigned w64 n → FitsSigned w64 d → FitsSigned w128 N → N ≡ signed_by (to_z w64 (of_z w64 d)) (to_z w64 (of_z w64 n)) → D ≡ nat_abs (to_z w64 (of_z w64 d)) → ratio (to_z w128 (of_z w128 N)) D ≡ whole n /ℚ whole d
-fraction_read n d N D h fn fd fN e f =
-    ap₂ ratio (to_z-of_z w128 N fN ∙ e ∙ ap₂ signed_by (to_z-of_z w64 d fd) (to_z-of_z w64 n fn)) (f ∙ ap nat_abs (to_z-of_z w64 d fd)) ∙ ratio_is_fraction n d h
+pub fraction_read : (n d N : ℤ) (D : ℕ) → d ≢ pos 0 → FitsSigned w64 n → FitsSigned w64 d → FitsSigned w128 N → ratio N D ≡ ratio (signed_by (to_z w64 (of_z w64 d)) (to_z w64 (of_z w64 n))) (nat_abs (to_z w64 (of_z w64 d))) → ratio (to_z w128 (of_z w128 N)) D ≡ whole n /ℚ whole d
+fraction_read n d N D h fn fd fN e =
+    ap (λ z. ratio z D) (to_z-of_z w128 N fN) ∙ e ∙ ap₂ ratio (ap₂ signed_by (to_z-of_z w64 d fd) (to_z-of_z w64 n fn)) (ap nat_abs (to_z-of_z w64 d fd)) ∙ ratio_is_fraction n d h
 
 -- a whole number of a size up to 2 is made
 small_fits : {L : ℤ} (z : ℤ) → pos 2 ≤ℤ L → nat_abs z ≤ 2 → Fits L (whole z /ℚ whole (pos 1))
