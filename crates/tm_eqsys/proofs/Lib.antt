@@ -6,3 +6,4 @@ pub mod Listed
 pub mod FitsProgram
 pub mod Examples
 pub mod Counting
+pub mod BoundTexts

@@ -1,3 +1,4 @@
+pub mod ExtendedCode
 pub mod SystemLimits
 pub mod States
 pub mod FreeValues

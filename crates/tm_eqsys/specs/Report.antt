@@ -1,8 +1,7 @@
 -- The report of a vector as a list of bytes.
 use Rattle.std.specs.Prelude.{◌==◌, ◌++◌, ℕ, suc, ℤ, pos, negsuc, List, [], ◌∷◌, codes, decimal, flat_map, nat_abs, if◌then◌else◌}
-use Rattle.std.specs.Fmt.{signed_decimal}
-use Rattle.tm_num.specs.Rational.{ℚ}
 use Rattle.tm_num.specs.Extended.{Ext, neg_inf, fin, pos_inf}
+use Rattle.tm_frac.specs.Texts.{frac_text}
 use Rattle.tm_flow.specs.declared.point.Place.{Place}
 use Rattle.tm_flow.specs.declared.point.Place.TheVariants.{Entry, Loop, Label, Join, Assume, Exit}
 use Rattle.tm_flow.specs.declared.point.Point.{Point}
@@ -15,14 +14,10 @@ use Rattle.tm_eqsys.specs.Equations.{Vector}
 abbrev pub line : List ℕ → List ℕ
 line bytes = bytes ++ 10 ∷ []
 
--- the numerator, and where the denominator isn't 1 a `/` and the denominator
-abbrev pub fraction_text : ℚ → List ℕ
-fraction_text q = signed_decimal q.num ++ (if q.den == 1 then [] else 47 ∷ decimal q.den)
-
 -- the text of a bound
 abbrev pub bound_text : Ext → List ℕ
 bound_text neg_inf = codes "-inf"
-bound_text (fin q) = fraction_text q
+bound_text (fin q) = frac_text q
 bound_text pos_inf = codes "+inf"
 
 -- ---- rows
