@@ -7,3 +7,6 @@ pub mod FitsProgram
 pub mod Examples
 pub mod Counting
 pub mod BoundTexts
+pub mod Sizes
+pub mod Started
+pub mod CellCounts

@@ -4,8 +4,11 @@
 #![tactic(auto)]
 
 mod bounds;
+mod cells;
 mod footer;
 mod law;
+mod pick;
+mod spot;
 mod system;
 #[cfg(test)]
 mod tests;
@@ -17,5 +20,7 @@ pub use law::{
     at_most_one_least, integer_states_are_rational, least_solutions_are_supported,
     post_solutions_hold, traces_are_followed, unreached_at_all_rows, vectors_are_lists,
 };
-pub use system::System;
+pub use pick::Pick;
+pub use spot::{Part, PartFault, Site, Spot};
+pub use system::{System, SystemFault};
 pub use trace::{Fracs, Trace};
