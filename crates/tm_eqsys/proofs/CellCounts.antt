@@ -1,28 +1,35 @@
 -- The greatest counts on the edges into a point, edge by edge.
-use Rattle.std.proofs.Common.{◌≡◌, ◌∙◌, ◌==◌, ℕ, zero, suc, ◌+◌, ◌-◌, ◌*◌, ◌<◌, ◌≤◌, Bool, true, false, ◌&&◌, cond, List, [], ◌∷◌, ◌++◌, length, get_or, map, take, refl, ap, ap₂, sym, arith, max}
+use Rattle.std.proofs.Common.{◌≡◌, ◌∙◌, ◌==◌, ℕ, suc, ◌+◌, ◌*◌, ◌<◌, ◌≤◌, Bool, true, false, cond, List, [], ◌∷◌, ◌++◌, length, get_or, map, take, refl, ap, sym, arith, max, nat_cmp}
 use Rattle.std.specs.Prelude.{IsTrue, nat_lt, nat_le}
-use Rattle.std.specs.List.{filter, list_all, list_any, count_by, sum_by, range_with_len}
+use Rattle.std.specs.Ordering.{ord_max}
+use Rattle.std.specs.List.{filter, list_all, count_by}
 use Rattle.std.proofs.lemmas.Nat.{mul-le}
-use Rattle.std.proofs.lemmas.Bool.{eq-eqb, ne_eqb, leb-true}
+use Rattle.std.proofs.lemmas.Bool.Decides.{nat_tests}
+use Rattle.std.proofs.lemmas.Bool.{eq-eqb, leb-true}
 use Rattle.std.proofs.lemmas.List.{take_more, map-append}
-use Rattle.std.proofs.lemmas.List.Sums.{sum_by-append, count_by-le-length}
+use Rattle.std.proofs.lemmas.List.Sums.{count_by-le-length}
 use Rattle.std.proofs.lemmas.List.Elements.{filter-append}
 use Rattle.std.proofs.lemmas.List.Recursion.{is_count_by}
 use Rattle.tm_flow.specs.declared.edge.Action.{Action}
 use Rattle.tm_flow.specs.declared.edge.Action.TheVariants.{Guard, Assign, Havoc}
 use Rattle.tm_flow.specs.declared.edge.Edge.{Edge}
+use Rattle.tm_flow.specs.declared.flow.Flow.{Flow}
 use Rattle.tm_flow.specs.FlowLimits.{is_action, is_edge}
 use Rattle.tm_eqsys.specs.FreeValues.{free_count}
 use Rattle.tm_eqsys.specs.Cells.{is_havoc, guard_count, greatest, most}
-use Rattle.tm_eqsys.proofs.Sizes.{both}
+use Rattle.tm_eqsys.proofs.Sizes.{both, flow_sizes}
 
 pub free_count-is : (actions : List Action) → free_count actions ≡ count_by is_havoc actions
 free_count-is actions = is_count_by free_count is_havoc refl step actions
   where
-    step : (a : Action) (as : List Action) → free_count (a ∷ as) ≡ cond (is_havoc a) (1 + free_count as) (free_count as)
-    step (Guard form) as = refl
-    step (Assign var form) as = refl
-    step (Havoc var) as = let e : suc (free_count as) ≡ 1 + free_count as = omega arith in e
+    step : (a : Action) (more : List Action) → free_count (a ∷ more) ≡ cond (is_havoc a) (1 + free_count more) (free_count more)
+    step (Guard form) more = refl
+    step (Assign var form) more = refl
+    step (Havoc var) more = let e : suc (free_count more) ≡ 1 + free_count more = omega arith in e
+
+-- the greater of two numbers as the code finds it
+pub max-is : (a b : ℕ) → ord_max nat_cmp a b ≡ max a b
+max-is a b = grind (arith, nat_tests)
 
 greatest-push : (xs : List ℕ) (x : ℕ) → greatest (xs ++ x ∷ []) ≡ max (greatest xs) x
 greatest-push [] x = let e : max x 0 ≡ max 0 x = omega arith in e
@@ -44,7 +51,7 @@ module _ (count : List Action → ℕ) where
   most_no edges i e p l h k =
       ap (λ es. most count es p) (take_more edges i e l ∙ ap (λ x. take i edges ++ x ∷ []) (sym h))
       ∙ ap (λ es. greatest (map (λ e. count e.actions) es))
-        (filter-append (λ e. e.to == p) (take i edges) (e ∷ []) ∙ ap (λ b. filter (λ e. e.to == p) (take i edges) ++ cond b (e ∷ []) []) k)
+      (filter-append (λ e. e.to == p) (take i edges) (e ∷ []) ∙ ap (λ b. filter (λ e. e.to == p) (take i edges) ++ cond b (e ∷ []) []) k)
       ∙ ap (λ ns. greatest ns) (map-append (λ e. count e.actions) (filter (λ e. e.to == p) (take i edges)) [])
       ∙ ap greatest (nothing_more (map (λ e. count e.actions) (filter (λ e. e.to == p) (take i edges))))
     where
@@ -83,3 +90,7 @@ rows_bound rows guards h k = mul-le rows (rows + 1 + guards) 128 385 h (omega (a
 
 pub columns_bound : (rows names frees : ℕ) → rows ≤ 128 → names ≤ 8 → frees ≤ 256 → rows * (1 + 2 * (names + frees)) ≤ 67712
 columns_bound rows names frees h k l = mul-le rows (1 + 2 * (names + frees)) 128 529 h (omega (arith, k, l))
+
+-- the counts of a flow's edges
+pub few_of : (count : List Action → ℕ) → ((actions : List Action) → count actions ≤ length actions) → (flow : Flow) (edges : List Edge) (p n : ℕ) → edges ≡ flow.edges → n ≡ most count edges p → n ≤ 256
+few_of count few flow edges p n e k = omega (arith, k, ap (λ es. most count es p) e, most_few count few (length flow.names) (length flow.points) flow.edges p (flow_sizes flow).edges)

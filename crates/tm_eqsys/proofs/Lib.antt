@@ -10,3 +10,4 @@ pub mod BoundTexts
 pub mod Sizes
 pub mod Started
 pub mod CellCounts
+pub mod CellSums

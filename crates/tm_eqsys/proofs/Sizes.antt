@@ -1,11 +1,11 @@
 -- How many names, points, edges and rows there are at most.
-use Rattle.std.proofs.Common.{◌≡◌, ◌∙◌, ℕ, ◌≤◌, Bool, true, false, ◌&&◌, List, length, arith, refl, sym, true≢false}
+use Rattle.std.proofs.Common.{◌≤◌, Bool, true, false, ◌&&◌, List, length, refl, sym, true≢false}
 use Rattle.std.specs.Prelude.{IsTrue, nat_le, ℤ}
 use Rattle.std.specs.List.{list_all}
 use Rattle.std.proofs.lemmas.Bool.{leb-true}
 use Rattle.tm_flow.specs.declared.flow.Flow.{Flow}
 use Rattle.tm_flow.specs.FlowLimits.{begins_with_entry, has_line, is_edge}
-use Rattle.tm_rows.specs.Rows.{is_row, is_template, width_of}
+use Rattle.tm_rows.specs.Rows.{is_template}
 
 pub both : (a b : Bool) → IsTrue (a && b) → IsTrue a × IsTrue b
 both true true e = (refl, refl)
