@@ -9,5 +9,7 @@ pub mod Counting
 pub mod BoundTexts
 pub mod Sizes
 pub mod Started
+pub mod Widths
+pub mod Summed
 pub mod CellCounts
 pub mod CellSums

@@ -7,5 +7,7 @@ pub mod Solutions
 pub mod Starts
 pub mod View
 pub mod Cells
+pub mod Sums
+pub mod FitTests
 pub mod SolutionLaws
 pub mod Report

@@ -5,16 +5,19 @@
 
 mod bounds;
 mod cells;
+mod fit;
 mod footer;
 mod law;
 mod pick;
 mod spot;
+mod sums;
 mod system;
 #[cfg(test)]
 mod tests;
 mod trace;
 
 pub use bounds::Bounds;
+pub use fit::fits;
 pub use footer::Footer;
 pub use law::{
     at_most_one_least, integer_states_are_rational, least_solutions_are_supported,
