@@ -11,5 +11,6 @@ pub mod Sizes
 pub mod Started
 pub mod Widths
 pub mod Summed
+pub mod Tested
 pub mod CellCounts
 pub mod CellSums
