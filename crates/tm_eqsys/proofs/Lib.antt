@@ -12,5 +12,6 @@ pub mod Started
 pub mod Widths
 pub mod Summed
 pub mod Tested
+pub mod Traced
 pub mod CellCounts
 pub mod CellSums

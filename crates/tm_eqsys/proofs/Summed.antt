@@ -44,11 +44,11 @@ module _ (row : List ℤ) (state : RationalState) (i : ℕ) (sum : ℚ) (h : IsS
   pub summed_more : (next : ℚ) → next ≡ sum +ℚ (whole c *ℚ x) → first_wide long_limit (product_operations sum c x) ≡ None → IsSummed row state (i + 1) next
   summed_more next e n = record {
     value = h.value ∙ ap₂ (λ cs xs. sum +ℚ dotℚ cs xs) row_left state_left
-      ∙ sym (+ℚ_assoc sum (whole c *ℚ x) (dotℚ (drop (i + 1) row) (drop (i + 1) state)))
-      ∙ ap (λ s. s +ℚ dotℚ (drop (i + 1) row) (drop (i + 1) state)) (sym e);
+        ∙ sym (+ℚ_assoc sum (whole c *ℚ x) (dotℚ (drop (i + 1) row) (drop (i + 1) state)))
+        ∙ ap (λ s. s +ℚ dotℚ (drop (i + 1) row) (drop (i + 1) state)) (sym e);
     first = h.first ∙ ap (first_wide long_limit) left
-      ∙ first_wide_later long_limit (product_operations sum c x) (products_operations (sum +ℚ (whole c *ℚ x)) (drop (i + 1) row) (drop (i + 1) state)) n
-      ∙ ap (λ s. first_wide long_limit (products_operations s (drop (i + 1) row) (drop (i + 1) state))) (sym e);
+        ∙ first_wide_later long_limit (product_operations sum c x) (products_operations (sum +ℚ (whole c *ℚ x)) (drop (i + 1) row) (drop (i + 1) state)) n
+        ∙ ap (λ s. first_wide long_limit (products_operations s (drop (i + 1) row) (drop (i + 1) state))) (sym e);
   }
 
   -- one that is

@@ -77,10 +77,9 @@ module _ (rows : List (List ℤ)) (bounds : ℕ → Ext) (x : RationalState) (i 
   tested_more b n = record {
     passed = λ r other m f. ⊎_elim (λ s. h.passed r other s f) (at_row r other m f) (cases_lt r i);
     first = left ∙ first_wide_later long_limit (row_test row x bound) (cond (is_at_most (dotℚ row x) bound) (fit_operations (drop (i + 1) rows) bounds (suc i) x) []) n
-      ∙ ap (λ t. first_wide long_limit (cond t (fit_operations (drop (i + 1) rows) bounds (suc i) x) [])) (at_most_yes (dotℚ row x) bound b)
-      ∙ ap (λ j. first_wide long_limit (fit_operations (drop (i + 1) rows) bounds j x)) (sym (add-one i));
+        ∙ ap (λ t. first_wide long_limit (cond t (fit_operations (drop (i + 1) rows) bounds (suc i) x) [])) (at_most_yes (dotℚ row x) bound b)
+        ∙ ap (λ j. first_wide long_limit (fit_operations (drop (i + 1) rows) bounds j x)) (sym (add-one i));
   }
-
     where
       at_row : (r : ℕ) (other : List ℤ) → r < i + 1 → slice_get rows r ≡ Some other → i ≤ r → fin (dotℚ other x) ≤ᴱ bounds r
       at_row r other m f s =

@@ -9,5 +9,6 @@ pub mod View
 pub mod Cells
 pub mod Sums
 pub mod FitTests
+pub mod TraceTests
 pub mod SolutionLaws
 pub mod Report

@@ -39,7 +39,12 @@ fn is_at_most(row: &[i64], state: &[Frac], bound: Ext) -> Result<bool, Wide<Frac
 ///
 /// The first operation whose exact result has a part above the limit, exactly where there is one before a row fails.
 /// Takes no memory.
-pub fn fits(system: &System, bounds: &Bounds, point: u32, state: &[Frac]) -> Result<bool, Wide<Frac>>
+pub fn fits(
+    system: &System,
+    bounds: &Bounds,
+    point: u32,
+    state: &[Frac],
+) -> Result<bool, Wide<Frac>>
     requires bounds { length bounds.now ≡ length system.now.flow.points * length system.now.template }
     requires point { point < length system.now.flow.points }
     requires state { length state.now ≡ length system.now.flow.names }

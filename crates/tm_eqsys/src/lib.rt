@@ -6,6 +6,7 @@
 mod bounds;
 mod cells;
 mod fit;
+mod follow;
 mod footer;
 mod law;
 mod pick;
@@ -18,6 +19,7 @@ mod trace;
 
 pub use bounds::Bounds;
 pub use fit::fits;
+pub use follow::trace_value;
 pub use footer::Footer;
 pub use law::{
     at_most_one_least, integer_states_are_rational, least_solutions_are_supported,

@@ -34,9 +34,10 @@ returns-then-not-branch c =
     let e = c.index-rows-i.is ∙ ap (λ rs. get_or rs i row) same in
     let k = c.at-bound.ensures ∙ ap (λ rs. get_or c.args.bounds.now (c.args.point * length rs + i) neg_inf) same in
     let n : ¬ (fin (dotℚ row c.args.state.now) ≤ᴱ bound) = λ h. true≢false (sym (c.in_ok-is_at_most.ensures.0.1 (subst (λ r. fin (dotℚ r c.args.state.now) ≤ᴱ bound) (sym c.as_slice.ensures.list) h)) ∙ c.if-not-branch.true) in
-    let f = ap (λ r. first_wide long_limit (row_test r c.args.state.now bound)) (sym c.as_slice.ensures.list) ∙ c.in_ok-is_at_most.ensures.1 in
-    ((λ x. absurd (true≢false (sym x)), λ h. absurd (fails_at t (vector_of (length t) c.args.bounds.now c.args.point) c.args.state.now i c.loop-i.invariant row l e bound k n h)),
-    tested_fails t (vector_of (length t) c.args.bounds.now c.args.point) c.args.state.now i c.loop-i.invariant row l e bound k n f)
+    let f = ap (λ r. first_wide long_limit (row_test r c.args.state.now bound)) (sym c.as_slice.ensures.list) ∙ c.in_ok-is_at_most.ensures.1 in (
+      (λ x. absurd (true≢false (sym x)), λ h. absurd (fails_at t (vector_of (length t) c.args.bounds.now c.args.point) c.args.state.now i c.loop-i.invariant row l e bound k n h)),
+      tested_fails t (vector_of (length t) c.args.bounds.now c.args.point) c.args.state.now i c.loop-i.invariant row l e bound k n f,
+    )
 
 pub loop-i-preserved : goal.loop-i-preserved
 loop-i-preserved c =
