@@ -1,5 +1,5 @@
 -- The test of a state row by row.
-use Rattle.std.proofs.Common.{◌≡◌, ◌∙◌, ◌↔◌, ℕ, zero, suc, ◌+◌, ◌<◌, ◌≤◌, ◌⊎◌, ⊎_elim, ℤ, Bool, true, false, T, cond, List, [], ◌∷◌, ◌++◌, length, get_or, drop, Option, Some, None, refl, ap, ap₂, sym, subst, subst₂, true≢false, add-one, arith}
+use Rattle.std.proofs.Common.{◌≡◌, ◌∙◌, ◌↔◌, ℕ, zero, suc, ◌+◌, ◌<◌, ◌≤◌, ⊎_elim, ℤ, Bool, true, false, T, cond, List, [], ◌∷◌, ◌++◌, length, get_or, drop, Some, None, refl, ap, sym, subst, subst₂, true≢false, add-one, arith}
 use Rattle.std.specs.Prelude.{IsTrue, slice_get}
 use Rattle.std.specs.Ordering.{partial_le, is_le, as_partial_cmp}
 use Rattle.std.specs.declared.cmp.Ordering.{Ordering}

@@ -1,4 +1,4 @@
-use Rattle.std.proofs.Common.{◌≡◌, ◌∙◌, ◌+◌, ◌*◌, ◌<◌, length, get_or, ap, sym, subst, true≢false, arith, refl}
+use Rattle.std.proofs.Common.{◌∙◌, ◌+◌, ◌*◌, ◌<◌, length, get_or, ap, sym, subst, true≢false, arith, refl}
 use Rattle.std.proofs.lemmas.Result.{err_from_is_err_and}
 use Rattle.tm_num.specs.Extended.{neg_inf, fin, ◌≤ᴱ◌}
 use Rattle.tm_frac.specs.Extended.{extended}
@@ -7,7 +7,7 @@ use Rattle.tm_frac.specs.Operation.{first_wide, operation_of}
 use Rattle.tm_eqsys.specs.States.{dotℚ}
 use Rattle.tm_eqsys.specs.View.{vector_of}
 use Rattle.tm_eqsys.specs.FitTests.{row_test}
-use Rattle.tm_eqsys.proofs.Tested.{tested_none, tested_more, tested_fails, fails_at, tested_wide, tested_all}
+use Rattle.tm_eqsys.proofs.Tested.{tested_more, tested_fails, fails_at, tested_wide, tested_all}
 use Rattle.tm_eqsys.proofs.fit.fits.Goals as goal
 
 pub returns-in_err-is_at_most : goal.returns-in_err-is_at_most

@@ -1,4 +1,4 @@
-use Rattle.std.proofs.Common.{◌≡◌, ◌*◌, length}
+use Rattle.std.proofs.Common.{length}
 use Rattle.tm_eqsys.specs.View.{vector_of}
 use Rattle.tm_eqsys.proofs.Tested.{IsTested}
 use Rattle.tm_eqsys.proofs.fit.fits.Given as goal

@@ -1,4 +1,4 @@
-use Rattle.std.proofs.Common.{◌∙◌, sym, subst}
+use Rattle.std.proofs.Common.{sym, subst}
 use Rattle.tm_num.specs.Rational.{◌≤ℚ◌}
 use Rattle.tm_eqsys.proofs.Tested.{test_le}
 use Rattle.tm_eqsys.proofs.fit.is_at_most.Goals as goal

@@ -1,5 +1,4 @@
-use Rattle.std.proofs.Common.{◌≡◌, ◌∙◌, ◌+◌, ◌<◌, ◌≤◌, ◌∷◌, length, drop, ap, subst₂, length-drop, arith, None, Some}
-use Rattle.std.specs.Prelude.{ℕ}
+use Rattle.std.proofs.Common.{◌+◌, drop, ap, subst₂, length-drop, arith}
 use Rattle.std.proofs.lemmas.List.{take_rest}
 use Rattle.tm_eqsys.specs.FreeValues.{free_count}
 use Rattle.tm_eqsys.specs.TraceTests.{StepIs}

@@ -1,6 +1,6 @@
-use Rattle.std.proofs.Common.{◌≡◌, ◌∙◌, refl, sym, subst, true≢false, arith}
+use Rattle.std.proofs.Common.{◌∙◌, refl, sym, subst, true≢false}
 use Rattle.std.proofs.lemmas.Result.{err_from_is_err_and}
-use Rattle.tm_num.specs.Rational.{◌≤ℚ◌, zero_ℚ}
+use Rattle.tm_num.specs.Rational.{◌≤ℚ◌}
 use Rattle.tm_frac.specs.Operation.{operation_of}
 use Rattle.tm_eqsys.proofs.Tested.{test_le}
 use Rattle.tm_eqsys.proofs.Traced.{guard_refused, assign_refused, guard_passed, guard_failed, assigned}

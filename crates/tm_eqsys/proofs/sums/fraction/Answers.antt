@@ -1,4 +1,4 @@
-use Rattle.std.proofs.Common.{◌≡◌, ◌∙◌, ap, sym, subst, to_z, of_z}
+use Rattle.std.proofs.Common.{◌∙◌, ap, sym, subst, to_z, of_z}
 use Rattle.std.specs.Prelude.{IsTrue}
 use mir.Syntax.{w64}
 use Rattle.tm_num.specs.Rational.{ℚ, whole}

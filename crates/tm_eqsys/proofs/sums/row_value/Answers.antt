@@ -1,4 +1,4 @@
-use Rattle.std.proofs.Common.{◌≡◌, ◌<◌, length, get_or, to_z, of_z, pos, sym, subst, arith}
+use Rattle.std.proofs.Common.{get_or, to_z, of_z, pos, sym, subst, arith}
 use Rattle.std.specs.Prelude.{IsTrue}
 use mir.Syntax.{w64}
 use Rattle.std.proofs.lemmas.Result.{err_from_is_err_and}
