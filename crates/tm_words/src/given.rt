@@ -10,7 +10,8 @@ use clap::ArgMatches;
 
 /// The request that these matches make.
 pub(crate) fn request<'a>(matches: &ArgMatches<'a>) -> Option<Request<&'a str>>
-    ensures { option_map request_text result ≡ option_and_then command_in (subcommand_rows_of matches.now) }
+    ensures { option_map request_text result
+        ≡ option_and_then command_in (subcommand_rows_of matches.now) }
 {
     let (name, given) = matches.subcommand()?;
     command(name, given)
@@ -77,7 +78,8 @@ fn value<'a>(given: &ArgMatches<'a>, id: &str) -> Option<&'a str>
 
 /// The value of an option, or its default.
 fn value_or<'a>(given: &ArgMatches<'a>, id: &str, absent: &'a str) -> &'a str
-    ensures { result.now ≡ unwrap_or (first_of id.now (rows_of (found_of given.now))) absent.entry.now }
+    ensures { result.now
+        ≡ unwrap_or (first_of id.now (rows_of (found_of given.now))) absent.entry.now }
 {
     value(given, id).unwrap_or(absent)
 }

@@ -24,7 +24,8 @@ pub fn request_laws()
         ≡ Some (Solve (plain_analysis (codes "--domain") Intervals)) }
 
     // No option is given twice, and no word makes no command.
-    ensures repeated { request_of (codes "solve" ∷ codes "p" ∷ codes "--policy=best" ∷ codes "--policy=best" ∷ []) ≡ None }
+    ensures repeated { request_of (codes "solve" ∷ codes "p" ∷ codes "--policy=best"
+        ∷ codes "--policy=best" ∷ []) ≡ None }
     ensures nothing { request_of [] ≡ None }
 
     // A request for help is no command.

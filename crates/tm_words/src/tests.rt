@@ -87,40 +87,42 @@ fn commands(rt: HostRuntime) -> Result<(), Fail> {
 
 #[test]
 fn no_commands(rt: HostRuntime) -> Result<(), Fail> {
-    for words in [
-        [].as_slice(),
-        [""].as_slice(),
-        ["solve"].as_slice(),
-        ["solve", "p", "q"].as_slice(),
-        ["solv", "p"].as_slice(),
-        ["solve", "p", "--nothing", "1"].as_slice(),
-        ["solve", "p", "--domain", "rows"].as_slice(),
-        ["solve", "p", "--rows", "r"].as_slice(),
-        ["solve", "p", "--domain", "zones", "--rows", "r"].as_slice(),
-        ["solve", "p", "--domain", "Zones"].as_slice(),
-        ["solve", "p", "--domain="].as_slice(),
-        ["solve", "p", "--domain", "zones", "--domain", "zones"].as_slice(),
-        ["solve", "p", "--policy", "worst"].as_slice(),
-        ["solve", "p", "--improvements", "1000001"].as_slice(),
-        ["solve", "p", "--improvements", "00000000001"].as_slice(),
-        ["solve", "p", "--improvements", "+1"].as_slice(),
-        ["solve", "p", "--improvements", "-1"].as_slice(),
-        ["check", "p"].as_slice(),
-        ["check", "p", "c", "--domain", "zones"].as_slice(),
-        ["bench", "--seed", "1"].as_slice(),
-        ["bench", "--seed", "2147483648", "--loops", "1"].as_slice(),
-        ["bench", "--seed", "1", "--loops", "0"].as_slice(),
-        ["bench", "--seed", "1", "--loops", "47"].as_slice(),
-        ["--help"].as_slice(),
-        ["help"].as_slice(),
-        ["solve", "p", "-h"].as_slice(),
-        ["--version"].as_slice(),
-        ["-V"].as_slice(),
+    for line in [
+        "",
+        "solve",
+        "solve p q",
+        "solv p",
+        "solve p --nothing 1",
+        "solve p --domain rows",
+        "solve p --rows r",
+        "solve p --domain zones --rows r",
+        "solve p --domain Zones",
+        "solve p --domain=",
+        "solve p --domain zones --domain zones",
+        "solve p --policy worst",
+        "solve p --improvements 1000001",
+        "solve p --improvements 00000000001",
+        "solve p --improvements +1",
+        "solve p --improvements -1",
+        "check p",
+        "check p c --domain zones",
+        "bench --seed 1",
+        "bench --seed 2147483648 --loops 1",
+        "bench --seed 1 --loops 0",
+        "bench --seed 1 --loops 47",
+        "--help",
+        "help",
+        "solve p -h",
+        "--version",
+        "-V",
     ] {
-        let words = strings(rt.alloc(), words)?;
+        let mut words = Vec::new(rt.alloc());
+        for word in line.split_whitespace() {
+            words.push(String::from_str(rt.alloc(), word)?)?;
+        }
         match read_words(rt.alloc(), words.as_slice()) {
-            Ok(_) => assert!(rt; false, "{words:?}"),
-            Err(fault) => assert!(rt; fault == WordsFault::Usage, "{words:?}"),
+            Ok(_) => assert!(rt; false, "{line}"),
+            Err(fault) => assert!(rt; fault == WordsFault::Usage, "{line}"),
         }
     }
     Ok(())

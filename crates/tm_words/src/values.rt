@@ -49,7 +49,8 @@ pub(crate) fn policy(name: &str) -> Option<Policy>
 
 /// The domain of this name. A file of rows is given exactly where the name is `rows`.
 pub(crate) fn domain<'a>(name: &str, rows: Option<&'a str>) -> Option<Domain<&'a str>>
-    ensures { option_map domain_text result ≡ domain_in name.now (option_map (λ file. file.now) rows.entry) }
+    ensures { option_map domain_text result
+        ≡ domain_in name.now (option_map (λ file. file.now) rows.entry) }
 {
     match rows {
         Some(file) => {

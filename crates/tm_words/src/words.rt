@@ -36,8 +36,10 @@ impl From<AllocError> for WordsFault {
 /// `--domain=zones` are the same, `--` ends the options, and no option is given twice. A request for
 /// help or for a version is no command.
 pub fn read_words<'a>(alloc: Global, words: &'a [String]) -> Result<Request<&'a str>, WordsFault>
-    ensures ok { IfOk result (λ r. request_of (map string_bytes words.entry.now) ≡ Some (request_text r)) }
-    ensures usage { IsErrOf result WordsFault.Usage → request_of (map string_bytes words.entry.now) ≡ None }
+    ensures ok { IfOk result (λ request.
+        request_of (map string_bytes words.entry.now) ≡ Some (request_text request)) }
+    ensures usage { IsErrOf result WordsFault.Usage
+        → request_of (map string_bytes words.entry.now) ≡ None }
 {
     let command = command_line(alloc)?;
     match command.try_get_matches_from(words) {
