@@ -122,7 +122,8 @@ fn no_commands(rt: HostRuntime) -> Result<(), Fail> {
         }
         match read_words(rt.alloc(), words.as_slice()) {
             Ok(_) => assert!(rt; false, "{line}"),
-            Err(fault) => assert!(rt; fault == WordsFault::Usage, "{line}"),
+            Err(WordsFault::Usage) => {}
+            Err(WordsFault::NoMemory) => return Err(WordsFault::NoMemory)?,
         }
     }
     Ok(())
