@@ -1,0 +1,5 @@
+//! The grammar and its machine.
+#![tactic(auto)]
+
+/// Nothing.
+pub fn law() {}
