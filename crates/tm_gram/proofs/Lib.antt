@@ -8,3 +8,4 @@ pub mod Scanned
 pub mod Exact
 pub mod Flat
 pub mod Unique
+pub mod Once
