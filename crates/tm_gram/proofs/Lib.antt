@@ -9,3 +9,5 @@ pub mod Exact
 pub mod Flat
 pub mod Unique
 pub mod Once
+pub mod Advance
+pub mod Plain

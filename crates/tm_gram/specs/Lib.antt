@@ -2,3 +2,4 @@ pub mod Grammar
 pub mod Machine
 pub mod Depth
 pub mod Faults
+pub mod View

@@ -1,5 +1,11 @@
-//! The grammar and its machine.
+//! The grammar of programs, and whether tokens keep to it.
 #![tactic(auto)]
 
-/// Nothing.
-pub fn law() {}
+mod goal;
+mod laws;
+mod machine;
+mod symbol;
+
+pub use laws::{every_front, one_program};
+pub use machine::{Syntax, examine};
+pub use symbol::{Change, Direction, Op, Relation, Symbol, symbol_of};
