@@ -1,0 +1,40 @@
+-- What joins points, labelled steps, paths and edges.
+use Rattle.std.specs.Prelude.{◌≡◌, ℕ, List, ◌∷◌, ◌++◌, length, map, flat_map, Contains}
+use Rattle.std.specs.List.{range_with_len}
+use Rattle.tm_tree.specs.Tree.{Statements}
+use Rattle.tm_tree.specs.PointNumbers.{points_in, point_count}
+use Rattle.tm_tree.specs.Runs.{Item, node, mark, turn}
+use Rattle.tm_flow.specs.declared.edge.Action.{Action}
+use Rattle.tm_flow.specs.declared.edge.Edge.{Edge}
+use Rattle.tm_flow.specs.Points.{made_in, points_of_program}
+use Rattle.tm_flow.specs.Steps.{steps_of}
+use Rattle.tm_flow.specs.Paths.{Path}
+use Rattle.tm_flow.specs.Edges.{prefixed, ways_from, edges_of_program}
+
+-- the nodes of a program make the points 1, 2, 3 and so on, each once, in the order of the list of points
+pub record IsNumbered (body : Statements) : Type 0 where
+  pub numbers : map (λ m. m.number) (made_in body 1) ≡ range_with_len 1 (points_in body)
+  pub count : length (points_of_program body) ≡ point_count body
+
+abbrev pub PointsAreNumbered : Type 0
+PointsAreNumbered = (body : Statements) → IsNumbered body
+
+-- the item is the mark of a point
+abbrev pub IsMark : Item → Type 0
+IsMark (mark p) = Unit {0}
+IsMark (node s n) = ⊥
+IsMark (turn c body line n) = ⊥
+
+-- an item that is no mark leads on by its labelled steps, in their order, and by nothing else
+abbrev pub WaysAreSteps : Type 0
+WaysAreSteps =
+    (item : Item) (rest : List Item) → ¬ (IsMark item) →
+    ways_from (item ∷ rest) ≡ flat_map (λ s. prefixed s.actions (ways_from (s.work ++ rest))) (steps_of item)
+
+-- these edges are exactly the paths of a program
+pub record EdgesArePaths (edges : List Edge) (body : Statements) : Type 0 where
+  pub complete : (from to : ℕ) (actions : List Action) → Path body from actions to → Contains edges (record { from = from; to = to; actions = actions })
+  pub sound : (edge : Edge) → Contains edges edge → Path body edge.from edge.actions edge.to
+
+abbrev pub EdgesOfPrograms : Type 0
+EdgesOfPrograms = (body : Statements) → EdgesArePaths (edges_of_program body) body

@@ -1,0 +1,19 @@
+//! Laws of the definitions, each the contract of a function that does nothing.
+
+ghost use Rattle.tm_flow.specs.PathLaws.{EdgesOfPrograms, PointsAreNumbered, WaysAreSteps};
+
+/// Each point of a program is made by exactly one of its nodes, and stands in the list of points at the number that this
+/// node gives it.
+pub fn points_are_numbered()
+    ensures { PointsAreNumbered }
+{}
+
+/// The ways from a piece of work to the next point are those by its labelled steps, in their order.
+pub fn ways_are_steps()
+    ensures { WaysAreSteps }
+{}
+
+/// The edges of a program are its paths: each edge is a path, and each path is an edge.
+pub fn edges_are_paths()
+    ensures { EdgesOfPrograms }
+{}
