@@ -1,0 +1,3 @@
+pub mod Binds
+pub mod Fed
+pub mod FedAll
