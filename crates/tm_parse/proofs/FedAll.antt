@@ -143,8 +143,8 @@ module _ (line : ℕ → ℕ) (width : ℕ) where
   abbrev DoesItems : List Token → List Token → State → ℕ → Statements → List Frame → Result (State × Statements) ParseFault → Type 0
   DoesItems x w st i ns fs r = F (x ++ w) (at st (items i ns ∷ fs) stands) ≡ r >>= λ q. F w (at q.0 (items i (followed_by ns q.1) ∷ fs) stands)
 
-  case_block : (a : ℕ) (x : List Token) (b : ℕ) (w : List Token) (st : State) (fs : List Frame) (walked : Result (State × Statements) ParseFault) → DoesItems x (token right_brace b ∷ w) st (length st.known) nil fs walked → Does (token left_brace a ∷ (x ++ token right_brace b ∷ [])) w st fs (walked >>= λ r. Ok (closed line width (length st.known) r.0, r.1))
-  case_block a x b w st fs walked h = ap (λ (y : List Token). F y (at st (items (length st.known) nil ∷ fs) stands)) (append_assoc x (token right_brace b ∷ []) w) ∙ h ∙ bind_right walked _ (λ r. Ok (closed line width (length st.known) r.0, r.1)) _ (λ r. refl)
+  case_block : (a : ℕ) (x : List Token) (b : ℕ) (w : List Token) (st : State) (fs : List Frame) (walked : Result (State × Statements) ParseFault) → DoesItems x (token right_brace b ∷ w) st (length st.known) nil fs walked → Does (token left_brace a ∷ (x ++ token right_brace b ∷ [])) w st fs (walked >>= λ r. Ok (closed (length st.known) r.0, r.1))
+  case_block a x b w st fs walked h = ap (λ (y : List Token). F y (at st (items (length st.known) nil ∷ fs) stands)) (append_assoc x (token right_brace b ∷ []) w) ∙ h ∙ bind_right walked _ (λ r. Ok (closed (length st.known) r.0, r.1)) _ (λ r. refl)
 
   -- a condition in parentheses, and what comes of it
   condition_fed : (a : ℕ) (t : feeds.Test) (st : State) (fs : List Frame) (e : Expr) (c : ℕ) (y w : List Token) (g : Condition → Result (State × Statements) ParseFault) → Groups 0 e → ((x : Condition) → (feeds.decided line width t a st fs x >>= λ s. F (y ++ w) s) ≡ g x >>= λ q. F w (at q.0 fs (after q.1))) → F ((spell_expr e ++ token right_paren c ∷ y) ++ w) (at st (test t a ∷ fs) wants) ≡ (walk_expr line width st e >>= λ v. tested a v >>= λ x. g x) >>= λ q. F w (at q.0 fs (after q.1))
@@ -168,10 +168,10 @@ module _ (line : ℕ → ℕ) (width : ℕ) where
   case_assumed a b c d e w st fs g = bind_both (counted a st) (λ now. Ok (at now fs (feeds.opens of_assume a))) (λ s. F (token left_paren b ∷ ((spell_expr e ++ token right_paren c ∷ token semicolon d ∷ []) ++ w)) s) (λ now. walk_expr line width now e >>= λ v. tested a v >>= λ x. Ok (now, one (tree.assume x (line a)))) _ (λ now. condition_fed a of_assume now fs e c (token semicolon d ∷ []) w (λ x. Ok (now, one (tree.assume x (line a)))) g (λ x. refl))
 
   case_set : (x : List ℕ) (a b c : ℕ) (g : Change) (e : Expr) (w : List Token) (st : State) (fs : List Frame) → Groups 0 e → Does (spell_core (set x a g b e c)) w st fs (walk_core line width (set x a g b e c) st)
-  case_set x a b c g e w st fs k = bind_both (known_number x a st) (λ i. counted a st >>= λ now. Ok (at now (assigns i g b a ∷ fs) wants)) (λ s. F ((spell_expr e ++ token semicolon c ∷ []) ++ w) s) (λ i. counted a st >>= λ now. walk_expr line width now e >>= λ v. assigned line width g i b v >>= λ o. Ok (now, one (assignment i o (line a)))) _ (λ i. bind_both (counted a st) (λ now. Ok (at now (assigns i g b a ∷ fs) wants)) (λ s. F ((spell_expr e ++ token semicolon c ∷ []) ++ w) s) (λ now. walk_expr line width now e >>= λ v. assigned line width g i b v >>= λ o. Ok (now, one (assignment i o (line a)))) _ (λ now.
+  case_set x a b c g e w st fs k = bind_both (known_number x a st) (λ i. counted a st >>= λ now. Ok (at now (assigns i g b a ∷ fs) wants)) (λ s. F ((spell_expr e ++ token semicolon c ∷ []) ++ w) s) (λ i. counted a st >>= λ now. walk_expr line width now e >>= λ v. assigned width g i b v >>= λ o. Ok (now, one (assignment i o (line a)))) _ (λ i. bind_both (counted a st) (λ now. Ok (at now (assigns i g b a ∷ fs) wants)) (λ s. F ((spell_expr e ++ token semicolon c ∷ []) ++ w) s) (λ now. walk_expr line width now e >>= λ v. assigned width g i b v >>= λ o. Ok (now, one (assignment i o (line a)))) _ (λ now.
       ap (λ (u : List Token). F u (at now (assigns i g b a ∷ fs) wants)) (append_assoc (spell_expr e) (token semicolon c ∷ []) w)
       ∙ fed_expr line width now e 0 (assigns i g b a ∷ fs) (token semicolon c) w k tt tt
-      ∙ bind_right (walk_expr line width now e) _ (λ v. assigned line width g i b v >>= λ o. Ok (now, one (assignment i o (line a)))) _ (λ v. bind_both (assigned line width g i b v) (λ o. Ok (at now fs (after (one (assignment i o (line a)))))) (λ s. F w s) (λ o. Ok (now, one (assignment i o (line a)))) _ (λ o. refl))))
+      ∙ bind_right (walk_expr line width now e) _ (λ v. assigned width g i b v >>= λ o. Ok (now, one (assignment i o (line a)))) _ (λ v. bind_both (assigned width g i b v) (λ o. Ok (at now fs (after (one (assignment i o (line a)))))) (λ s. F w s) (λ o. Ok (now, one (assignment i o (line a)))) _ (λ o. refl))))
 
   case_step_after : (x : List ℕ) (a b c : ℕ) (g : Direction) (w : List Token) (st : State) (fs : List Frame) → Does (spell_core (step_after x a g b c)) w st fs (walk_core line width (step_after x a g b c) st)
   case_step_after x a b c g w st fs = bind_both (known_number x a st) (λ i. counted a st >>= λ now. Ok (at now fs (ends (step_node line width g i a)))) (λ s. F (token semicolon c ∷ w) s) (λ i. counted a st >>= λ now. Ok (now, step_node line width g i a)) _ (λ i. bind_both (counted a st) (λ now. Ok (at now fs (ends (step_node line width g i a)))) (λ s. F (token semicolon c ∷ w) s) (λ now. Ok (now, step_node line width g i a)) _ (λ now. refl))
@@ -208,12 +208,12 @@ module _ (line : ℕ → ℕ) (width : ℕ) where
 
   -- a declarator before `;`, and before `,`
   before_semicolon : (x : Declarator) (c : ℕ) (w : List Token) (st : State) (i : ℕ) (ns : Statements) (fs : List Frame) → GoodDeclarator x → F (spell_declarator x ++ token semicolon c ∷ w) (at st (items i ns ∷ fs) names_next) ≡ walk_declarator line width x st >>= λ r. F w (at r.0 (items i (followed_by ns (one r.1)) ∷ fs) stands)
-  before_semicolon (bare x a) c w st i ns fs g = bind_left (declared_by line width x a None st) (λ r. Ok (at r.0 (items i (followed_by ns (one r.1)) ∷ fs) stands)) (λ s. F w s) _ (λ r. refl)
-  before_semicolon (given x a b e) c w st i ns fs g = fed_expr line width st e 0 (initial x a b ∷ items i ns ∷ fs) (token semicolon c) w g tt tt ∙ bind_right (walk_expr line width st e) _ (λ v. right_side b v >>= λ o. declared_by line width x a o st) _ (λ v. bind_both (right_side b v) (λ o. declared_by line width x a o st >>= λ r. Ok (at r.0 (items i (followed_by ns (one r.1)) ∷ fs) stands)) (λ s. F w s) (λ o. declared_by line width x a o st) _ (λ o. bind_left (declared_by line width x a o st) (λ r. Ok (at r.0 (items i (followed_by ns (one r.1)) ∷ fs) stands)) (λ s. F w s) _ (λ r. refl)))
+  before_semicolon (bare x a) c w st i ns fs g = bind_left (declared_by line x a None st) (λ r. Ok (at r.0 (items i (followed_by ns (one r.1)) ∷ fs) stands)) (λ s. F w s) _ (λ r. refl)
+  before_semicolon (given x a b e) c w st i ns fs g = fed_expr line width st e 0 (initial x a b ∷ items i ns ∷ fs) (token semicolon c) w g tt tt ∙ bind_right (walk_expr line width st e) _ (λ v. right_side b v >>= λ o. declared_by line x a o st) _ (λ v. bind_both (right_side b v) (λ o. declared_by line x a o st >>= λ r. Ok (at r.0 (items i (followed_by ns (one r.1)) ∷ fs) stands)) (λ s. F w s) (λ o. declared_by line x a o st) _ (λ o. bind_left (declared_by line x a o st) (λ r. Ok (at r.0 (items i (followed_by ns (one r.1)) ∷ fs) stands)) (λ s. F w s) _ (λ r. refl)))
 
   before_comma : (x : Declarator) (c : ℕ) (w : List Token) (st : State) (i : ℕ) (ns : Statements) (fs : List Frame) → GoodDeclarator x → F (spell_declarator x ++ token comma c ∷ w) (at st (items i ns ∷ fs) names_next) ≡ walk_declarator line width x st >>= λ r. F w (at r.0 (items i (followed_by ns (one r.1)) ∷ fs) names_next)
-  before_comma (bare x a) c w st i ns fs g = bind_left (declared_by line width x a None st) (λ r. Ok (at r.0 (items i (followed_by ns (one r.1)) ∷ fs) names_next)) (λ s. F w s) _ (λ r. refl)
-  before_comma (given x a b e) c w st i ns fs g = fed_expr line width st e 0 (initial x a b ∷ items i ns ∷ fs) (token comma c) w g tt tt ∙ bind_right (walk_expr line width st e) _ (λ v. right_side b v >>= λ o. declared_by line width x a o st) _ (λ v. bind_both (right_side b v) (λ o. declared_by line width x a o st >>= λ r. Ok (at r.0 (items i (followed_by ns (one r.1)) ∷ fs) names_next)) (λ s. F w s) (λ o. declared_by line width x a o st) _ (λ o. bind_left (declared_by line width x a o st) (λ r. Ok (at r.0 (items i (followed_by ns (one r.1)) ∷ fs) names_next)) (λ s. F w s) _ (λ r. refl)))
+  before_comma (bare x a) c w st i ns fs g = bind_left (declared_by line x a None st) (λ r. Ok (at r.0 (items i (followed_by ns (one r.1)) ∷ fs) names_next)) (λ s. F w s) _ (λ r. refl)
+  before_comma (given x a b e) c w st i ns fs g = fed_expr line width st e 0 (initial x a b ∷ items i ns ∷ fs) (token comma c) w g tt tt ∙ bind_right (walk_expr line width st e) _ (λ v. right_side b v >>= λ o. declared_by line x a o st) _ (λ v. bind_both (right_side b v) (λ o. declared_by line x a o st >>= λ r. Ok (at r.0 (items i (followed_by ns (one r.1)) ∷ fs) names_next)) (λ s. F w s) (λ o. declared_by line x a o st) _ (λ o. bind_left (declared_by line x a o st) (λ r. Ok (at r.0 (items i (followed_by ns (one r.1)) ∷ fs) names_next)) (λ s. F w s) _ (λ r. refl)))
 
   declarators_fed : (xs : Declarators) (w : List Token) (st : State) (i : ℕ) (ns : Statements) (fs : List Frame) → GoodDeclarators xs → F (spell_declarators xs ++ w) (at st (items i ns ∷ fs) names_next) ≡ walk_declarators line width xs st >>= λ q. F w (at q.0 (items i (followed_by ns q.1) ∷ fs) stands)
   declarators_fed (declares x c) w st i ns fs g =

@@ -169,12 +169,12 @@ module _ (line : ℕ → ℕ) (width : ℕ) where
   after_paren st (fs, v) = Ok (at st fs (has v))
 
   abbrev pub after_semicolon : State → List Frame × Value → Outcome
-  after_semicolon st (assigns i g b a ∷ fs, v) = assigned line width g i b v >>= λ o. Ok (at st fs (after (one (assignment i o (line a)))))
-  after_semicolon st (initial x a b ∷ fs, v) = right_side b v >>= λ o. declared_by line width x a o st >>= λ r. Ok (at r.0 (pushed r.1 fs) stands)
+  after_semicolon st (assigns i g b a ∷ fs, v) = assigned width g i b v >>= λ o. Ok (at st fs (after (one (assignment i o (line a)))))
+  after_semicolon st (initial x a b ∷ fs, v) = right_side b v >>= λ o. declared_by line x a o st >>= λ r. Ok (at r.0 (pushed r.1 fs) stands)
   after_semicolon st (fs, v) = Ok (at st fs (has v))
 
   abbrev pub after_comma : State → List Frame × Value → Outcome
-  after_comma st (initial x a b ∷ fs, v) = right_side b v >>= λ o. declared_by line width x a o st >>= λ r. Ok (at r.0 (pushed r.1 fs) declares)
+  after_comma st (initial x a b ∷ fs, v) = right_side b v >>= λ o. declared_by line x a o st >>= λ r. Ok (at r.0 (pushed r.1 fs) declares)
   after_comma st (fs, v) = Ok (at st fs (has v))
 
   abbrev pub followed : State → List Frame → Value → Kind → ℕ → Outcome
@@ -186,7 +186,7 @@ module _ (line : ℕ → ℕ) (width : ℕ) where
 
   -- the end of items
   abbrev pub items_end : State → List Frame → Machine
-  items_end st (items k ns ∷ fs) = at (closed line width k st) fs (after ns)
+  items_end st (items k ns ∷ fs) = at (closed k st) fs (after ns)
   items_end st fs = at st fs stands
 
   -- the first token of a statement, or what follows items
@@ -223,8 +223,8 @@ module _ (line : ℕ → ℕ) (width : ℕ) where
 
   abbrev pub behind_declarator : State → List Frame → List ℕ → ℕ → Kind → ℕ → Outcome
   behind_declarator st fs x b (change_sign g) a = Ok (at st (initial x b a ∷ fs) wants)
-  behind_declarator st fs x b comma a = declared_by line width x b None st >>= λ r. Ok (at r.0 (pushed r.1 fs) declares)
-  behind_declarator st fs x b semicolon a = declared_by line width x b None st >>= λ r. Ok (at r.0 (pushed r.1 fs) stands)
+  behind_declarator st fs x b comma a = declared_by line x b None st >>= λ r. Ok (at r.0 (pushed r.1 fs) declares)
+  behind_declarator st fs x b semicolon a = declared_by line x b None st >>= λ r. Ok (at r.0 (pushed r.1 fs) stands)
   behind_declarator st fs x b _ a = Ok (at st fs stands)
 
   abbrev pub in_heading : State → List Frame → Kind → Outcome

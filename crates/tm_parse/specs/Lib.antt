@@ -1,5 +1,8 @@
 pub mod Forms
 pub mod Results
-pub mod Distinct
+pub mod Names
 pub mod Walk
 pub mod Feed
+pub mod Gives
+pub mod Values
+pub mod Views

@@ -1,10 +1,11 @@
 -- What a program's tree means: names, kinds and limits, in the order of a text's faults.
-use Rattle.std.specs.Prelude.{if◌then◌else◌, ◌++◌, ◌||◌, Bool, true, false, nat_lt, nat_eq, ℕ, suc, pos, negsuc, List, [], ◌∷◌, length, take, Option, Some, None, Result, Ok, Err, min, ◌+◌}
+use Rattle.std.specs.Prelude.{if◌then◌else◌, ◌++◌, ◌||◌, Bool, true, false, nat_lt, nat_eq, ℕ, suc, ℤ, pos, negsuc, List, [], ◌∷◌, length, take, Option, Some, None, Result, Ok, Err, min, ◌+◌}
 use Rattle.std.specs.List.{list_any}
 use Rattle.tm_gram.specs.Grammar.{Relation, equal, unequal, less, at_most, greater, at_least, Op, or_op, and_op, compare_op, plus_op, minus_op, times_op, Prefix, negative, positive, negation, Change, replaces, adds, subtracts, Direction, up, down, Expr, number, variable, free, grouped, prefixed, joined, Declarator, bare, given, Declarators, declares, declares_more, Core, empty, block, if_alone, if_else, repeat, assumed, set, step_after, step_before, Sub, labelled, plain, Items, no_items, label, declaration, item, Program, program}
 use Rattle.tm_tree.specs.declared.form.Form.{Form}
 use Rattle.tm_tree.specs.declared.cond.Rel.{Rel}
 use Rattle.tm_tree.specs.declared.cond.Rel.TheVariants as rel
+use Rattle.tm_tree.specs.Numbers.{is_number}
 use Rattle.tm_tree.specs.Tree as tree
 use Rattle.tm_tree.specs.Tree.{Condition, Statement, Statements, nil, cons, leaf_count}
 use Rattle.tm_parse.specs.declared.fault.ParseFault.{ParseFault}
@@ -13,8 +14,8 @@ use Rattle.tm_parse.specs.declared.fault.ParseFault.TheVariants as fault
 use Rattle.tm_parse.specs.declared.fault.Limit.TheVariants.{Variables, Leaves}
 use Rattle.tm_parse.specs.declared.fault.Limit.TheVariants as limit
 use Rattle.tm_parse.specs.Results.{◌>>=◌}
-use Rattle.tm_parse.specs.Distinct.{place_of, with_name}
-use Rattle.tm_parse.specs.Forms.{constant_form, variable_form, plus, minus, scaled, is_constant, in_range, is_comparable}
+use Rattle.tm_parse.specs.Names.{place_of}
+use Rattle.tm_parse.specs.Forms.{constant_form, variable_form, plus, minus, scaled, is_constant, is_comparable}
 
 -- What an expression is: a number with the place of its first token, a truth value, or `nondet()` at its place.
 pub data Value : Type 0 where
@@ -46,12 +47,12 @@ counted a st = if nat_lt st.count 512 then Ok (record st { count = suc st.count 
 
 -- a label
 abbrev pub labelled_by : List ℕ → ℕ → State → Result State ParseFault
-labelled_by x a st = elim (place_of x st.labels) [ Some i ↦ Err (NameTwice a) | None ↦ counted a (record st { labels = with_name x st.labels }) ]
+labelled_by x a st = elim (place_of x st.labels) [ Some i ↦ Err (NameTwice a) | None ↦ counted a (record st { labels = st.labels ++ x ∷ [] }) ]
 
 -- the number of a variable that is known
 abbrev pub number_if_known : ℕ → List ℕ → Option ℕ → Result ℕ ParseFault
 number_if_known a known None = Err (UnknownName a)
-number_if_known a known (Some i) = if list_any (nat_eq i) known then Ok i else Err (UnknownName a)
+number_if_known a known (Some i) = if list_any (λ j. nat_eq j i) known then Ok i else Err (UnknownName a)
 
 abbrev pub known_number : List ℕ → ℕ → State → Result ℕ ParseFault
 known_number x a st = number_if_known a st.known (place_of x st.names)
@@ -63,14 +64,22 @@ number_of sign (a_truth c) = Err (NotAffine sign)
 number_of sign (a_nondet a) = Err (NondetHere a)
 
 -- a condition from a value
-abbrev pub condition_of : Value → Result Condition ParseFault
-condition_of (a_form f first) = if is_comparable f then Ok (tree.compare rel.Ne f) else Err (BigNumber first)
-condition_of (a_truth c) = Ok c
-condition_of (a_nondet a) = Ok tree.free
+abbrev pub as_condition : Value → Result Condition ParseFault
+as_condition (a_form f first) = if is_comparable f then Ok (tree.compare rel.Ne f) else Err (BigNumber first)
+as_condition (a_truth c) = Ok c
+as_condition (a_nondet a) = Ok tree.free
 
--- a form whose numbers are in range
+-- a number in its range
+abbrev pub ranged_number : ℕ → ℤ → Result ℤ ParseFault
+ranged_number a z = if is_number z then Ok z else Err (BigNumber a)
+
+abbrev pub ranged_numbers : ℕ → List ℤ → Result (List ℤ) ParseFault
+ranged_numbers a [] = Ok []
+ranged_numbers a (z ∷ zs) = ranged_number a z >>= λ y. ranged_numbers a zs >>= λ ys. Ok (y ∷ ys)
+
+-- a form whose numbers are in their range
 abbrev pub ranged : ℕ → Form → Result Form ParseFault
-ranged a f = if in_range f then Ok f else Err (BigNumber a)
+ranged a f = ranged_numbers a f.coeffs >>= λ cs. ranged_number a f.constant >>= λ c. Ok (record { coeffs = cs; constant = c })
 
 -- the place of a number's first token
 abbrev pub first_of : ℕ → Value → ℕ
@@ -82,7 +91,7 @@ abbrev pub two_numbers : ℕ → Value → Value → Result (Form × Form) Parse
 two_numbers a v w = number_of a v >>= λ f. number_of a w >>= λ g. Ok (f, g)
 
 abbrev pub two_conditions : Value → Value → Result (Condition × Condition) ParseFault
-two_conditions v w = condition_of v >>= λ c. condition_of w >>= λ d. Ok (c, d)
+two_conditions v w = as_condition v >>= λ c. as_condition w >>= λ d. Ok (c, d)
 
 abbrev pub rel_of : Relation → Rel
 rel_of equal = rel.Eq
@@ -111,9 +120,9 @@ combined times_op a v w = two_numbers a v w >>= λ p. product a p.0 p.1 >>= λ f
 
 -- what a sign before a value makes of it
 abbrev pub prefix_value : Prefix → ℕ → Value → Result Value ParseFault
-prefix_value negative a v = number_of a v >>= λ f. Ok (a_form (scaled (negsuc 0) f) a)
+prefix_value negative a v = number_of a v >>= λ f. ranged a (scaled (negsuc 0) f) >>= λ g. Ok (a_form g a)
 prefix_value positive a v = number_of a v >>= λ f. Ok (a_form f a)
-prefix_value negation a v = condition_of v >>= λ c. Ok (a_truth (tree.negation c))
+prefix_value negation a v = as_condition v >>= λ c. Ok (a_truth (tree.negation c))
 
 -- a value in parentheses
 abbrev pub regarded : ℕ → Value → Value
@@ -126,7 +135,7 @@ abbrev pub few_leaves : ℕ → Condition → Result Condition ParseFault
 few_leaves a c = if nat_lt 64 (leaf_count c) then Err (fault.Limit a Leaves) else Ok c
 
 abbrev pub tested : ℕ → Value → Result Condition ParseFault
-tested a v = condition_of v >>= λ c. few_leaves a c
+tested a v = as_condition v >>= λ c. few_leaves a c
 
 -- the right side of `=` at this place: a form, or any value
 abbrev pub right_side : ℕ → Value → Result (Option Form) ParseFault
@@ -139,25 +148,29 @@ abbrev pub assignment : ℕ → Option Form → ℕ → Statement
 assignment i (Some f) line = tree.set i f line
 assignment i None line = tree.havoc i line
 
+-- what the variable i takes by an assignment, in forms over so many variables
+abbrev pub assigned : ℕ → Change → ℕ → ℕ → Value → Result (Option Form) ParseFault
+assigned width replaces i sign v = right_side sign v
+assigned width adds i sign v = number_of sign v >>= λ f. ranged sign (plus (variable_form width i (pos 0)) f) >>= λ g. Ok (Some g)
+assigned width subtracts i sign v = number_of sign v >>= λ f. ranged sign (minus (variable_form width i (pos 0)) f) >>= λ g. Ok (Some g)
+
+-- the variable i with 1 more or less
+abbrev pub stepped : ℕ → Direction → ℕ → Form
+stepped width up i = variable_form width i (pos 1)
+stepped width down i = variable_form width i (negsuc 0)
+
+-- a variable is declared, with what it takes
+abbrev pub declared_by : (ℕ → ℕ) → List ℕ → ℕ → Option Form → State → Result (State × Statement) ParseFault
+declared_by line x a o st = elim (place_of x st.names) [ Some i ↦ Err (NameTwice a) | None ↦ if nat_lt (length st.names) 8 then (counted a (record st { names = st.names ++ x ∷ []; known = st.known ++ length st.names ∷ [] }) >>= λ now. Ok (now, assignment (length st.names) o (line a))) else Err (fault.Limit a Variables) ]
+
+-- the names that were known at the beginning of a block are known at its end
+abbrev pub closed : ℕ → State → State
+closed k st = record st { known = take k st.known }
+
 module _ (line : ℕ → ℕ) (width : ℕ) where
-  -- what the variable i takes by an assignment
-  abbrev pub assigned : Change → ℕ → ℕ → Value → Result (Option Form) ParseFault
-  assigned replaces i sign v = right_side sign v
-  assigned adds i sign v = number_of sign v >>= λ f. ranged sign (plus (variable_form width i (pos 0)) f) >>= λ g. Ok (Some g)
-  assigned subtracts i sign v = number_of sign v >>= λ f. ranged sign (minus (variable_form width i (pos 0)) f) >>= λ g. Ok (Some g)
-
-  -- the variable i with 1 more or less
-  abbrev pub stepped : Direction → ℕ → Form
-  stepped up i = variable_form width i (pos 1)
-  stepped down i = variable_form width i (negsuc 0)
-
   -- the node of `++` or `--`
   abbrev pub step_node : Direction → ℕ → ℕ → Statements
-  step_node g i a = one (tree.set i (stepped g i) (line a))
-
-  -- a variable is declared, with what it takes
-  abbrev pub declared_by : List ℕ → ℕ → Option Form → State → Result (State × Statement) ParseFault
-  declared_by x a o st = elim (place_of x st.names) [ Some i ↦ Err (NameTwice a) | None ↦ if nat_lt (length st.names) 8 then (counted a (record st { names = with_name x st.names; known = st.known ++ length st.names ∷ [] }) >>= λ now. Ok (now, assignment (length st.names) o (line a))) else Err (fault.Limit a Variables) ]
+  step_node g i a = one (tree.set i (stepped width g i) (line a))
 
   -- the left side before the right one, and both before the sign
   abbrev pub walk_expr : State → Expr → Result Value ParseFault
@@ -170,16 +183,12 @@ module _ (line : ℕ → ℕ) (width : ℕ) where
 
   -- the initialiser before the name
   abbrev pub walk_declarator : Declarator → State → Result (State × Statement) ParseFault
-  walk_declarator (bare x a) st = declared_by x a None st
-  walk_declarator (given x a b e) st = walk_expr st e >>= λ v. right_side b v >>= λ o. declared_by x a o st
+  walk_declarator (bare x a) st = declared_by line x a None st
+  walk_declarator (given x a b e) st = walk_expr st e >>= λ v. right_side b v >>= λ o. declared_by line x a o st
 
   abbrev pub walk_declarators : Declarators → State → Result (State × Statements) ParseFault
   walk_declarators (declares x c) st = walk_declarator x st >>= λ r. Ok (r.0, one r.1)
   walk_declarators (declares_more x c xs) st = walk_declarator x st >>= λ r. walk_declarators xs r.0 >>= λ q. Ok (q.0, cons r.1 q.1)
-
-  -- the names that were known at the beginning of a block are known at its end
-  abbrev pub closed : ℕ → State → State
-  closed k st = record st { known = take k st.known }
 
   abbrev mutual
     -- the nodes of a statement, and what has been met after it
@@ -190,7 +199,7 @@ module _ (line : ℕ → ℕ) (width : ℕ) where
     walk_core (if_else a b e c s d t) st = walk_expr st e >>= λ v. tested a v >>= λ x. counted a st >>= λ now. walk_sub s now >>= λ r. walk_sub t r.0 >>= λ q. Ok (q.0, one (tree.branch x r.1 q.1 (line a)))
     walk_core (repeat a b e c s) st = walk_expr st e >>= λ v. tested a v >>= λ x. counted a st >>= λ now. walk_sub s now >>= λ r. Ok (r.0, one (tree.loop x r.1 (line a)))
     walk_core (assumed a b e c d) st = counted a st >>= λ now. walk_expr now e >>= λ v. tested a v >>= λ x. Ok (now, one (tree.assume x (line a)))
-    walk_core (set x a g b e c) st = known_number x a st >>= λ i. counted a st >>= λ now. walk_expr now e >>= λ v. assigned g i b v >>= λ o. Ok (now, one (assignment i o (line a)))
+    walk_core (set x a g b e c) st = known_number x a st >>= λ i. counted a st >>= λ now. walk_expr now e >>= λ v. assigned width g i b v >>= λ o. Ok (now, one (assignment i o (line a)))
     walk_core (step_after x a g b c) st = known_number x a st >>= λ i. counted a st >>= λ now. Ok (now, step_node g i a)
     walk_core (step_before g a x b c) st = counted a st >>= λ now. known_number x b now >>= λ i. Ok (now, step_node g i a)
 

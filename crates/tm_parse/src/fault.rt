@@ -1,6 +1,9 @@
 //! Why tokens are no program.
 
-use std::alloc::AllocError;
+ghost use Rattle.std.specs.Prelude.{◌≡◌};
+ghost use Rattle.tm_parse.specs.declared.fault.ParseFault.TheVariants.{NoMemory};
+
+use std::alloc::{AllocError, AllocFailed};
 
 /// A limit of the language.
 #[derive(Clone, Copy, Debug, PartialEq, Eq)]
@@ -40,7 +43,17 @@ pub enum ParseFault {
 }
 
 impl From<AllocError> for ParseFault {
+    ghost from_gives = { λ _ e. e ≡ NoMemory };
+
     fn from(_error: AllocError) -> Self {
+        ParseFault::NoMemory
+    }
+}
+
+impl<T: Drop> From<AllocFailed<T>> for ParseFault {
+    ghost from_gives = { λ _ e. e ≡ NoMemory };
+
+    fn from(_error: AllocFailed<T>) -> Self {
         ParseFault::NoMemory
     }
 }
