@@ -1,6 +1,6 @@
 //! Why a text has no tokens.
 
-use std::alloc::AllocError;
+use std::alloc::AllocFailed;
 
 /// The first fault of a text, in the order of its bytes; `at` counts the bytes before the fault
 /// (docs/FORMATS.md, "Tokens").
@@ -21,8 +21,13 @@ pub enum LexFault {
     NoMemory,
 }
 
-impl From<AllocError> for LexFault {
-    fn from(_error: AllocError) -> Self {
+impl<T: Drop> From<AllocFailed<T>> for LexFault {
+    ghost use Rattle.std.specs.Prelude.{◌≡◌};
+    ghost use Rattle.tm_lex.specs.declared.fault.LexFault.TheVariants.{NoMemory};
+
+    ghost from_gives = { λ _ fault. fault ≡ NoMemory };
+
+    fn from(_failed: AllocFailed<T>) -> Self {
         LexFault::NoMemory
     }
 }

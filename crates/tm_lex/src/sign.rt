@@ -1,5 +1,8 @@
 //! Signs.
 
+ghost use Rattle.std.specs.Prelude.{◌≡◌, length};
+ghost use Rattle.tm_lex.specs.Signs.{sign_bytes};
+
 /// A sign, by the bytes that spell it.
 #[derive(Clone, Copy, Debug, PartialEq, Eq)]
 pub enum Sign {
@@ -51,4 +54,25 @@ pub enum Sign {
     AndAnd,
     /// `||`
     OrOr,
+}
+
+impl Sign {
+    /// How many bytes spell it.
+    pub fn width(self) -> usize
+        ensures { result ≡ length (sign_bytes self) }
+    {
+        match self {
+            Sign::PlusAssign
+            | Sign::MinusAssign
+            | Sign::Increment
+            | Sign::Decrement
+            | Sign::LessEqual
+            | Sign::GreaterEqual
+            | Sign::EqualEqual
+            | Sign::BangEqual
+            | Sign::AndAnd
+            | Sign::OrOr => 2,
+            _ => 1,
+        }
+    }
 }
