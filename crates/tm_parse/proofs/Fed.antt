@@ -12,7 +12,7 @@ use Rattle.tm_parse.specs.Results.{◌>>=◌}
 use Rattle.tm_parse.specs.Forms.{constant_form, variable_form}
 use Rattle.tm_parse.specs.Walk.{Value, a_form, a_nondet, State, start_state, followed_by, one, counted, labelled_by, known_number, combined, prefix_value, regarded, tested, right_side, assignment, assigned, stepped, step_node, declared_by, closed, whole, walk_expr, walk_declarators, walk_core, walk_sub, walk_items}
 use Rattle.tm_parse.specs.Feed as feeds
-use Rattle.tm_parse.specs.Feed.{Frame, side, before, group, test, assigns, initial, items, branch, other, loop, of_if, of_while, of_assume, wants, has, stands, heading, after, ends, Mode, Machine, at, Outcome, complete, settle, pushed}
+use Rattle.tm_parse.specs.Feed.{Frame, side, before, group, test, assigns, initial, under, of_if, of_while, of_assume, wants, has, stands, heading, after, ends, Mode, Machine, at, Outcome, complete, settle, pushed}
 use Rattle.tm_parse.proofs.Binds.{bind_assoc, bind_same, bind_both, bind_left, bind_right}
 
 -- the next token joins every left side of level l and above
@@ -32,10 +32,7 @@ Base l (group a ∷ fs) = Unit {0}
 Base l (test t a ∷ fs) = Unit {0}
 Base l (assigns i g b a ∷ fs) = Unit {0}
 Base l (initial x a b ∷ fs) = Unit {0}
-Base l (items k ns ∷ fs) = Unit {0}
-Base l (branch c a ns ∷ fs) = Unit {0}
-Base l (other c ms a ns ∷ fs) = Unit {0}
-Base l (loop c a ns ∷ fs) = Unit {0}
+Base l (under w ns ∷ fs) = Unit {0}
 
 base_complete : (l : ℕ) (fs : List Frame) (v : Value) → Base l fs → complete fs v ≡ Ok (fs, v)
 base_complete l (side u o a ∷ fs) v h = refl
@@ -45,10 +42,7 @@ base_complete l (group a ∷ fs) v h = refl
 base_complete l (test t a ∷ fs) v h = refl
 base_complete l (assigns i g b a ∷ fs) v h = refl
 base_complete l (initial x a b ∷ fs) v h = refl
-base_complete l (items k ns ∷ fs) v h = refl
-base_complete l (branch c a ns ∷ fs) v h = refl
-base_complete l (other c ms a ns ∷ fs) v h = refl
-base_complete l (loop c a ns ∷ fs) v h = refl
+base_complete l (under w ns ∷ fs) v h = refl
 
 base_settle : (l m : ℕ) (fs : List Frame) (v : Value) → Base l fs → l ≤ m → settle m fs v ≡ Ok (fs, v)
 base_settle l m (side u o a ∷ fs) v b h = ap (λ (t : Bool). elim t as (λ x. Result (List Frame × Value) ParseFault) [ true ↦ Ok (side u o a ∷ fs, v) | false ↦ combined o a u v >>= λ x. settle m fs x ]) (lt-ltb (level o) m (omega arith))
@@ -58,10 +52,7 @@ base_settle l m (group a ∷ fs) v h j = refl
 base_settle l m (test t a ∷ fs) v h j = refl
 base_settle l m (assigns i g b a ∷ fs) v h j = refl
 base_settle l m (initial x a b ∷ fs) v h j = refl
-base_settle l m (items k ns ∷ fs) v h j = refl
-base_settle l m (branch c a ns ∷ fs) v h j = refl
-base_settle l m (other c ms a ns ∷ fs) v h j = refl
-base_settle l m (loop c a ns ∷ fs) v h j = refl
+base_settle l m (under w ns ∷ fs) v h j = refl
 
 base_more : (l m : ℕ) (fs : List Frame) → Base l fs → l ≤ m → Base m fs
 base_more l m (side u o a ∷ fs) b h = omega arith
@@ -71,10 +62,7 @@ base_more l m (group a ∷ fs) h j = tt
 base_more l m (test t a ∷ fs) h j = tt
 base_more l m (assigns i g b a ∷ fs) h j = tt
 base_more l m (initial x a b ∷ fs) h j = tt
-base_more l m (items k ns ∷ fs) h j = tt
-base_more l m (branch c a ns ∷ fs) h j = tt
-base_more l m (other c ms a ns ∷ fs) h j = tt
-base_more l m (loop c a ns ∷ fs) h j = tt
+base_more l m (under w ns ∷ fs) h j = tt
 
 next_more : (l m : ℕ) (t : Token) → Next l t → l ≤ m → Next m t
 next_more l m (token (infix_sign o) a) n h = omega arith

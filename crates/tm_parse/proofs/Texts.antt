@@ -26,16 +26,13 @@ map-pushed f true xs x = refl
 map-pushed f false xs x = map-append f xs (x ∷ [])
 
 -- what passes nowhere is not found
+within_step : (b rest : Bool) (n k : ℕ) → (b || rest) ≡ true → (rest ≡ true → n < k) → cond (not b) (1 + n) 0 < k + 1
+within_step true rest n k e f = omega arith
+within_step false rest n k e f = let h = f e in omega arith
+
 within : {X : Type 0} (p : X → Bool) (xs : List X) → list_any p xs ≡ true → position_or_len p xs < length xs
 within p [] e = absurd (cc)
-within p (x ∷ xs) e = by_test (p x) refl where
-  by_test : (b : Bool) → p x ≡ b → cond (not (p x)) (1 + position_or_len p xs) 0 < length (x ∷ xs)
-  by_test true h = ap_lt (cond (not (p x)) (1 + position_or_len p xs) 0) (ap (λ b. cond (not b) (1 + position_or_len p xs) 0) h) where
-    ap_lt : (n : ℕ) → n ≡ 0 → n < length (x ∷ xs)
-    ap_lt n h = omega arith
-  by_test false h = next (cond (not (p x)) (1 + position_or_len p xs) 0) (ap (λ b. cond (not b) (1 + position_or_len p xs) 0) h) (within p xs (ap (λ b. b || list_any p xs) (sym h) ∙ e)) where
-    next : (n : ℕ) → n ≡ 1 + position_or_len p xs → position_or_len p xs < length xs → n < length (x ∷ xs)
-    next n h i = omega arith
+within p (x ∷ xs) e = let h = (within_step (p x) (list_any p xs) (position_or_len p xs) (length xs) e (λ h. within p xs h)) in omega (arith, h)
 
 pub none_any : {X : Type 0} (p : X → Bool) (xs : List X) → position p xs ≡ None → list_any p xs ≡ false
 none_any p xs e = by_test (list_any p xs) refl where
@@ -46,6 +43,9 @@ none_any p xs e = by_test (list_any p xs) refl where
 -- the number of a text among keys
 pub place_is : (name : List ℕ) (names : List (List ℕ)) (keys : List (Vec ℕ Global)) → keys_of keys ≡ names → position (λ k. bytes_eq name k.items) keys ≡ place_of name names
 place_is name names keys e = sym (position-mapped (λ (k : Vec ℕ Global). k.items) (bytes_eq name) keys) ∙ ap (place_of name) e
+
+pub keys_length : (keys : List (Vec ℕ Global)) (names : List (List ℕ)) → keys_of keys ≡ names → length keys ≡ length names
+keys_length keys names e = sym (length-map keys (λ (k : Vec ℕ Global). k.items)) ∙ ap length e
 
 -- a key that is new goes last
 pub added : (name : List ℕ) (names : List (List ℕ)) (key : Vec ℕ Global) (keys now : List (Vec ℕ Global)) → key.items ≡ name → keys_of keys ≡ names → place_of name names ≡ None → now ≡ insert_key (λ x y. bytes_eq x.items y.items) keys key → keys_of now ≡ names ++ name ∷ []

@@ -14,6 +14,16 @@ pub data Test : Type 0 where
   of_while : Test
   of_assume : Test
 
+-- what statements belong to
+pub data Within : Type 0 where
+  -- items; so many names were known at their beginning
+  of_items : ℕ → Within
+  -- the first branch of an `if`, and its second one with the nodes of the first; the place is that of the `if`
+  of_branch : Condition → ℕ → Within
+  of_other : Condition → Statements → ℕ → Within
+  -- the body of a `while`
+  of_loop : Condition → ℕ → Within
+
 -- what is pending
 pub data Frame : Type 0 where
   -- a left side with its sign
@@ -28,14 +38,8 @@ pub data Frame : Type 0 where
   assigns : ℕ → Change → ℕ → ℕ → Frame
   -- a declarator with its place, and the place of `=`
   initial : List ℕ → ℕ → ℕ → Frame
-  -- items with the nodes so far; so many names were known at their beginning
-  items : ℕ → Statements → Frame
-  -- the first branch of an `if`, with the nodes so far
-  branch : Condition → ℕ → Statements → Frame
-  -- its second branch, with the nodes of the first
-  other : Condition → Statements → ℕ → Statements → Frame
-  -- the body of a `while`, with the nodes so far
-  loop : Condition → ℕ → Statements → Frame
+  -- statements, with the nodes so far
+  under : Within → Statements → Frame
 
 -- what is read next
 pub data Mode : Type 0 where
@@ -87,10 +91,7 @@ complete (group a ∷ fs) v = Ok (group a ∷ fs, v)
 complete (test t a ∷ fs) v = Ok (test t a ∷ fs, v)
 complete (assigns i g b a ∷ fs) v = Ok (assigns i g b a ∷ fs, v)
 complete (initial x a b ∷ fs) v = Ok (initial x a b ∷ fs, v)
-complete (items k ns ∷ fs) v = Ok (items k ns ∷ fs, v)
-complete (branch c a ns ∷ fs) v = Ok (branch c a ns ∷ fs, v)
-complete (other c ms a ns ∷ fs) v = Ok (other c ms a ns ∷ fs, v)
-complete (loop c a ns ∷ fs) v = Ok (loop c a ns ∷ fs, v)
+complete (under w ns ∷ fs) v = Ok (under w ns ∷ fs, v)
 
 -- the left sides whose sign holds at least as tightly as the next one are joined
 abbrev pub settle : ℕ → List Frame → Value → Result (List Frame × Value) ParseFault
@@ -101,48 +102,49 @@ settle l (group a ∷ fs) v = Ok (group a ∷ fs, v)
 settle l (test t a ∷ fs) v = Ok (test t a ∷ fs, v)
 settle l (assigns i g b a ∷ fs) v = Ok (assigns i g b a ∷ fs, v)
 settle l (initial x a b ∷ fs) v = Ok (initial x a b ∷ fs, v)
-settle l (items k ns ∷ fs) v = Ok (items k ns ∷ fs, v)
-settle l (branch c a ns ∷ fs) v = Ok (branch c a ns ∷ fs, v)
-settle l (other c ms a ns ∷ fs) v = Ok (other c ms a ns ∷ fs, v)
-settle l (loop c a ns ∷ fs) v = Ok (loop c a ns ∷ fs, v)
+settle l (under w ns ∷ fs) v = Ok (under w ns ∷ fs, v)
 
 -- a node that stands behind those so far
 abbrev pub pushed : Statement → List Frame → List Frame
-pushed n (items k ns ∷ fs) = items k (followed_by ns (one n)) ∷ fs
-pushed n (branch c a ns ∷ fs) = branch c a (followed_by ns (one n)) ∷ fs
-pushed n (other c ms a ns ∷ fs) = other c ms a (followed_by ns (one n)) ∷ fs
-pushed n (loop c a ns ∷ fs) = loop c a (followed_by ns (one n)) ∷ fs
+pushed n (under w ns ∷ fs) = under w (followed_by ns (one n)) ∷ fs
 pushed n fs = fs
 
+-- the statement whose last part has these nodes
+abbrev pub wrapped : (ℕ → ℕ) → Within → Statements → Statements
+wrapped line (of_items k) ns = ns
+wrapped line (of_branch c a) ns = one (tree.branch c ns nil (line a))
+wrapped line (of_other c first a) ns = one (tree.branch c first ns (line a))
+wrapped line (of_loop c a) ns = one (tree.loop c ns (line a))
+
+-- a statement with these nodes has ended, and with it all that ends where no `else` follows
+abbrev pub close : (ℕ → ℕ) → Statements → List Frame → List Frame
+close line ms (under (of_items k) ns ∷ fs) = under (of_items k) (followed_by ns ms) ∷ fs
+close line ms (under (of_branch c a) ns ∷ fs) = close line (wrapped line (of_branch c a) (followed_by ns ms)) fs
+close line ms (under (of_other c first a) ns ∷ fs) = close line (wrapped line (of_other c first a) (followed_by ns ms)) fs
+close line ms (under (of_loop c a) ns ∷ fs) = close line (wrapped line (of_loop c a) (followed_by ns ms)) fs
+close line ms [] = under (of_items 0) ms ∷ []
+close line ms (side u o a ∷ fs) = fs
+close line ms (before p a ∷ fs) = fs
+close line ms (group a ∷ fs) = fs
+close line ms (test t a ∷ fs) = fs
+close line ms (assigns i g b a ∷ fs) = fs
+close line ms (initial x a b ∷ fs) = fs
+
+-- a statement with these nodes has ended, and an `else` follows: it belongs to the nearest `if` that has none
+abbrev pub attach : (ℕ → ℕ) → Statements → List Frame → List Frame
+attach line ms (under (of_items k) ns ∷ fs) = fs
+attach line ms (under (of_branch c a) ns ∷ fs) = under (of_other c (followed_by ns ms) a) nil ∷ fs
+attach line ms (under (of_other c first a) ns ∷ fs) = attach line (wrapped line (of_other c first a) (followed_by ns ms)) fs
+attach line ms (under (of_loop c a) ns ∷ fs) = attach line (wrapped line (of_loop c a) (followed_by ns ms)) fs
+attach line ms [] = []
+attach line ms (side u o a ∷ fs) = fs
+attach line ms (before p a ∷ fs) = fs
+attach line ms (group a ∷ fs) = fs
+attach line ms (test t a ∷ fs) = fs
+attach line ms (assigns i g b a ∷ fs) = fs
+attach line ms (initial x a b ∷ fs) = fs
+
 module _ (line : ℕ → ℕ) (width : ℕ) where
-  -- a statement with these nodes has ended, and with it all that ends where no `else` follows
-  abbrev pub close : Statements → List Frame → List Frame
-  close ms (items k ns ∷ fs) = items k (followed_by ns ms) ∷ fs
-  close ms (branch c a ns ∷ fs) = close (one (tree.branch c (followed_by ns ms) nil (line a))) fs
-  close ms (other c first a ns ∷ fs) = close (one (tree.branch c first (followed_by ns ms) (line a))) fs
-  close ms (loop c a ns ∷ fs) = close (one (tree.loop c (followed_by ns ms) (line a))) fs
-  close ms [] = items 0 ms ∷ []
-  close ms (side u o a ∷ fs) = fs
-  close ms (before p a ∷ fs) = fs
-  close ms (group a ∷ fs) = fs
-  close ms (test t a ∷ fs) = fs
-  close ms (assigns i g b a ∷ fs) = fs
-  close ms (initial x a b ∷ fs) = fs
-
-  -- a statement with these nodes has ended, and an `else` follows: it belongs to the nearest `if` that has none
-  abbrev pub attach : Statements → List Frame → List Frame
-  attach ms (branch c a ns ∷ fs) = other c (followed_by ns ms) a nil ∷ fs
-  attach ms (other c first a ns ∷ fs) = attach (one (tree.branch c first (followed_by ns ms) (line a))) fs
-  attach ms (loop c a ns ∷ fs) = attach (one (tree.loop c (followed_by ns ms) (line a))) fs
-  attach ms (items k ns ∷ fs) = fs
-  attach ms [] = []
-  attach ms (side u o a ∷ fs) = fs
-  attach ms (before p a ∷ fs) = fs
-  attach ms (group a ∷ fs) = fs
-  attach ms (test t a ∷ fs) = fs
-  attach ms (assigns i g b a ∷ fs) = fs
-  attach ms (initial x a b ∷ fs) = fs
-
   -- a value is there
   abbrev pub given : State → List Frame × Value → Machine
   given st r = at st r.0 (has r.1)
@@ -158,8 +160,8 @@ module _ (line : ℕ → ℕ) (width : ℕ) where
 
   -- the condition of a statement is there
   abbrev pub decided : Test → ℕ → State → List Frame → Condition → Outcome
-  decided of_if a st fs c = counted a st >>= λ now. Ok (at now (branch c a nil ∷ fs) stands)
-  decided of_while a st fs c = counted a st >>= λ now. Ok (at now (loop c a nil ∷ fs) stands)
+  decided of_if a st fs c = counted a st >>= λ now. Ok (at now (under (of_branch c a) nil ∷ fs) stands)
+  decided of_while a st fs c = counted a st >>= λ now. Ok (at now (under (of_loop c a) nil ∷ fs) stands)
   decided of_assume a st fs c = Ok (at st fs (ends (one (tree.assume c (line a)))))
 
   -- behind a whole expression
@@ -186,14 +188,14 @@ module _ (line : ℕ → ℕ) (width : ℕ) where
 
   -- the end of items
   abbrev pub items_end : State → List Frame → Machine
-  items_end st (items k ns ∷ fs) = at (closed k st) fs (after ns)
+  items_end st (under (of_items k) ns ∷ fs) = at (closed k st) fs (after ns)
   items_end st fs = at st fs stands
 
   -- the first token of a statement, or what follows items
   abbrev pub begun : State → List Frame → Kind → ℕ → Outcome
   begun st fs (a_name x) a = Ok (at st fs (named x a))
   begun st fs semicolon a = Ok (at st fs (after nil))
-  begun st fs left_brace a = Ok (at st (items (length st.known) nil ∷ fs) stands)
+  begun st fs left_brace a = Ok (at st (under (of_items (length st.known)) nil ∷ fs) stands)
   begun st fs right_brace a = Ok (items_end st fs)
   begun st fs int_word a = Ok (at st fs declares)
   begun st fs return_word a = Ok (at st fs returning)
@@ -214,8 +216,8 @@ module _ (line : ℕ → ℕ) (width : ℕ) where
   behind_step st fs g b _ a = Ok (at st fs stands)
 
   abbrev pub behind_statement : State → List Frame → Statements → Kind → ℕ → Outcome
-  behind_statement st fs ms else_word a = Ok (at st (attach ms fs) stands)
-  behind_statement st fs ms k a = begun st (close ms fs) k a
+  behind_statement st fs ms else_word a = Ok (at st (attach line ms fs) stands)
+  behind_statement st fs ms k a = begun st (close line ms fs) k a
 
   abbrev pub a_declarator : State → List Frame → Kind → ℕ → Outcome
   a_declarator st fs (a_name x) a = Ok (at st fs (declared x a))
@@ -228,7 +230,7 @@ module _ (line : ℕ → ℕ) (width : ℕ) where
   behind_declarator st fs x b _ a = Ok (at st fs stands)
 
   abbrev pub in_heading : State → List Frame → Kind → Outcome
-  in_heading st fs left_brace = Ok (at st (items 0 nil ∷ fs) stands)
+  in_heading st fs left_brace = Ok (at st (under (of_items 0) nil ∷ fs) stands)
   in_heading st fs _ = Ok (at st fs heading)
 
   abbrev pub in_return : State → List Frame → Kind → Outcome
@@ -266,7 +268,7 @@ begin = at start_state [] heading
 
 -- the nodes of the whole text
 abbrev pub nodes_under : List Frame → Statements
-nodes_under (items k ns ∷ fs) = ns
+nodes_under (under (of_items k) ns ∷ fs) = ns
 nodes_under fs = nil
 
 abbrev pub result_of : Machine → Result (List (List ℕ) × Statements) ParseFault
