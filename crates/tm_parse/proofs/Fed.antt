@@ -10,7 +10,7 @@ use Rattle.tm_tree.specs.Tree.{Condition, Statement, Statements, nil, cons}
 use Rattle.tm_parse.specs.declared.fault.ParseFault.{ParseFault}
 use Rattle.tm_parse.specs.Results.{◌>>=◌}
 use Rattle.tm_parse.specs.Forms.{constant_form, variable_form}
-use Rattle.tm_parse.specs.Walk.{Value, a_form, a_nondet, State, start_state, followed_by, one, counted, labelled_by, known_number, combined, prefix_value, regarded, tested, right_side, assignment, assigned, stepped, step_node, declared_by, closed, whole, walk_expr, walk_declarators, walk_core, walk_sub, walk_items}
+use Rattle.tm_parse.specs.Walk.{Value, a_form, a_nondet, State, start_state, followed_by, one, counted, labelled_by, known_number, combined, prefix_value, ranged, regarded, tested, right_side, assignment, assigned, stepped, step_node, declared_by, closed, whole, walk_expr, walk_declarators, walk_core, walk_sub, walk_items}
 use Rattle.tm_parse.specs.Feed as feeds
 use Rattle.tm_parse.specs.Feed.{Frame, side, before, group, test, assigns, initial, under, of_if, of_while, of_assume, wants, has, stands, heading, after, ends, Mode, Machine, at, Outcome, complete, settle, pushed}
 use Rattle.tm_parse.proofs.Binds.{bind_assoc, bind_same, bind_both, bind_left, bind_right}
@@ -82,7 +82,7 @@ module _ (line : ℕ → ℕ) (width : ℕ) where
   feed ts s = feeds.feed line width ts s
 
   abbrev given_by : State → List Frame × Value → Machine
-  given_by st r = feeds.given line width st r
+  given_by st r = feeds.given st r
 
   -- after a whole operand
   abbrev on : State → List Token → List Frame → Value → Outcome
@@ -103,7 +103,7 @@ module _ (line : ℕ → ℕ) (width : ℕ) where
   FedExpr st e fs t w = feed (spell_expr e ++ t ∷ w) (at st fs wants) ≡ walk_expr line width st e >>= λ v. feed (t ∷ w) (at st fs (has v))
 
   op_number : (st : State) (n a : ℕ) (fs : List Frame) (w : List Token) → FedOperand st (number n a) fs w
-  op_number st n a fs w = bind_assoc (complete fs (a_form (constant_form width (pos n)) a)) (λ r. Ok (given_by st r)) (λ r. feed w r)
+  op_number st n a fs w = bind_both (ranged a (constant_form width (pos n))) _ _ (λ f. Ok (a_form f a)) (λ v. on st w fs v) (λ f. bind_assoc (complete fs (a_form f a)) (λ r. Ok (given_by st r)) (λ r. feed w r))
 
   op_variable : (st : State) (x : List ℕ) (a : ℕ) (fs : List Frame) (w : List Token) → FedOperand st (variable x a) fs w
   op_variable st x a fs w = bind_both (known_number x a st) _ _ (λ i. Ok (a_form (variable_form width i (pos 0)) a)) (λ v. on st w fs v) (λ i. bind_assoc (complete fs (a_form (variable_form width i (pos 0)) a)) (λ r. Ok (given_by st r)) (λ r. feed w r))

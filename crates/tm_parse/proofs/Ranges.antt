@@ -63,6 +63,13 @@ ranged_is_number a z y e = on_ok (ranged_number a z) y (one_ok a z) e where
   on_ok (Ok z) y h e = let k : z ≡ y = cc in ap is_number (sym k) ∙ h
   on_ok (Err x) y h e = cc
 
+numbers_ok : (a : ℕ) (zs : List ℤ) → IsTrue (are_numbers zs) → ranged_numbers a zs ≡ Ok zs
+numbers_ok a [] h = refl
+numbers_ok a (z ∷ zs) h = let p = and_split (is_number z) (are_numbers zs) h in then_ok {r = ranged_number a z} {x = z} (λ y. ranged_numbers a zs >>= λ ys. Ok (y ∷ ys)) (ap (λ (b : Bool). cond b (Ok z) (Err (BigNumber a))) p.0) (then_ok {r = ranged_numbers a zs} {x = zs} (λ ys. Ok (z ∷ ys)) (numbers_ok a zs p.1) refl)
+
+pub zeros_ranged : (a n : ℕ) → ranged_numbers a (replicate n (pos 0)) ≡ Ok (replicate n (pos 0))
+zeros_ranged a n = numbers_ok a (replicate n (pos 0)) (zeros_fit n)
+
 -- ---- a list that is made number by number: the numbers so far, and what is left
 abbrev pub with_rest : ℕ → List ℤ → List ℤ → Result (List ℤ) ParseFault
 with_rest a list rest = ranged_numbers a rest >>= λ ys. Ok (list ++ ys)

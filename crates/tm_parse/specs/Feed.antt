@@ -1,12 +1,12 @@
 -- The walk token by token, with a stack of what is pending.
-use Rattle.std.specs.Prelude.{nat_lt, true, false, ℕ, pos, negsuc, List, [], ◌∷◌, length, Option, Some, None, Result, Ok, Err}
+use Rattle.std.specs.Prelude.{nat_lt, Bool, true, false, ℕ, pos, negsuc, List, [], ◌∷◌, length, Option, Some, None, Result, Ok, Err}
 use Rattle.tm_gram.specs.Grammar.{Op, or_op, and_op, compare_op, plus_op, minus_op, times_op, level, Prefix, negative, positive, negation, Change, Direction, Kind, a_name, a_number, infix_sign, bang, left_paren, right_paren, left_brace, right_brace, comma, semicolon, colon, change_sign, step_sign, int_word, if_word, else_word, while_word, return_word, assume_word, nondet_word, the_end, Token, token}
 use Rattle.tm_tree.specs.Tree as tree
 use Rattle.tm_tree.specs.Tree.{Condition, Statement, Statements, nil, cons}
 use Rattle.tm_parse.specs.declared.fault.ParseFault.{ParseFault}
 use Rattle.tm_parse.specs.Results.{◌>>=◌}
 use Rattle.tm_parse.specs.Forms.{constant_form, variable_form}
-use Rattle.tm_parse.specs.Walk.{Value, a_form, a_nondet, State, start_state, followed_by, one, counted, labelled_by, known_number, combined, prefix_value, regarded, tested, right_side, assignment, assigned, step_node, declared_by, closed, whole}
+use Rattle.tm_parse.specs.Walk.{Value, a_form, a_nondet, State, start_state, followed_by, one, counted, labelled_by, known_number, combined, prefix_value, ranged, regarded, tested, right_side, assignment, assigned, step_node, declared_by, closed, whole}
 
 -- what a condition in parentheses belongs to
 pub data Test : Type 0 where
@@ -70,6 +70,11 @@ pub data Mode : Type 0 where
 
 pub data Machine : Type 0 where
   at : State → List Frame → Mode → Machine
+
+-- the word that goes on with an `if`
+abbrev pub is_else : Kind → Bool
+is_else else_word = true
+is_else k = false
 
 abbrev pub Outcome : Type 0
 Outcome = Result Machine ParseFault
@@ -144,19 +149,43 @@ attach line ms (test t a ∷ fs) = fs
 attach line ms (assigns i g b a ∷ fs) = fs
 attach line ms (initial x a b ∷ fs) = fs
 
-module _ (line : ℕ → ℕ) (width : ℕ) where
-  -- a value is there
-  abbrev pub given : State → List Frame × Value → Machine
-  given st r = at st r.0 (has r.1)
+-- a value is there
+abbrev pub given : State → List Frame × Value → Machine
+given st r = at st r.0 (has r.1)
 
+-- a sign, a parenthesis or `nondet` where an operand has to stand
+abbrev pub signed : List Frame → Kind → ℕ → List Frame × Mode
+signed fs (infix_sign o) a = elim (prefix_of o) [ Some p ↦ (before p a ∷ fs, wants) | None ↦ (fs, wants) ]
+signed fs bang a = (before negation a ∷ fs, wants)
+signed fs left_paren a = (group a ∷ fs, wants)
+signed fs nondet_word a = (fs, calls a)
+signed fs _ a = (fs, wants)
+
+-- the end of items
+abbrev pub items_end : State → List Frame → Machine
+items_end st (under (of_items k) ns ∷ fs) = at (closed k st) fs (after ns)
+items_end st fs = at st fs stands
+
+-- the name that a declarator begins with
+abbrev pub a_declarator : Kind → ℕ → Mode
+a_declarator (a_name x) a = declared x a
+a_declarator _ a = declares
+
+-- the head of `main`, up to its `{`
+abbrev pub in_heading : List Frame → Kind → List Frame × Mode
+in_heading fs left_brace = (under (of_items 0) nil ∷ fs, stands)
+in_heading fs _ = (fs, heading)
+
+-- the rest of `return`, up to the `}` of `main`
+abbrev pub in_return : State → List Frame → Kind → Machine
+in_return st fs right_brace = items_end st fs
+in_return st fs _ = at st fs returning
+
+module _ (line : ℕ → ℕ) (width : ℕ) where
   abbrev pub wanted : State → List Frame → Kind → ℕ → Outcome
-  wanted st fs (a_number n) a = complete fs (a_form (constant_form width (pos n)) a) >>= λ r. Ok (given st r)
+  wanted st fs (a_number n) a = ranged a (constant_form width (pos n)) >>= λ f. complete fs (a_form f a) >>= λ r. Ok (given st r)
   wanted st fs (a_name x) a = known_number x a st >>= λ i. complete fs (a_form (variable_form width i (pos 0)) a) >>= λ r. Ok (given st r)
-  wanted st fs (infix_sign o) a = elim (prefix_of o) [ Some p ↦ Ok (at st (before p a ∷ fs) wants) | None ↦ Ok (at st fs wants) ]
-  wanted st fs bang a = Ok (at st (before negation a ∷ fs) wants)
-  wanted st fs left_paren a = Ok (at st (group a ∷ fs) wants)
-  wanted st fs nondet_word a = Ok (at st fs (calls a))
-  wanted st fs _ a = Ok (at st fs wants)
+  wanted st fs k a = Ok (at st (signed fs k a).0 (signed fs k a).1)
 
   -- the condition of a statement is there
   abbrev pub decided : Test → ℕ → State → List Frame → Condition → Outcome
@@ -186,11 +215,6 @@ module _ (line : ℕ → ℕ) (width : ℕ) where
   followed st fs v comma a = settle 0 fs v >>= λ r. after_comma st r
   followed st fs v _ a = Ok (at st fs (has v))
 
-  -- the end of items
-  abbrev pub items_end : State → List Frame → Machine
-  items_end st (under (of_items k) ns ∷ fs) = at (closed k st) fs (after ns)
-  items_end st fs = at st fs stands
-
   -- the first token of a statement, or what follows items
   abbrev pub begun : State → List Frame → Kind → ℕ → Outcome
   begun st fs (a_name x) a = Ok (at st fs (named x a))
@@ -219,26 +243,14 @@ module _ (line : ℕ → ℕ) (width : ℕ) where
   behind_statement st fs ms else_word a = Ok (at st (attach line ms fs) stands)
   behind_statement st fs ms k a = begun st (close line ms fs) k a
 
-  abbrev pub a_declarator : State → List Frame → Kind → ℕ → Outcome
-  a_declarator st fs (a_name x) a = Ok (at st fs (declared x a))
-  a_declarator st fs _ a = Ok (at st fs declares)
-
   abbrev pub behind_declarator : State → List Frame → List ℕ → ℕ → Kind → ℕ → Outcome
   behind_declarator st fs x b (change_sign g) a = Ok (at st (initial x b a ∷ fs) wants)
   behind_declarator st fs x b comma a = declared_by line x b None st >>= λ r. Ok (at r.0 (pushed r.1 fs) declares)
   behind_declarator st fs x b semicolon a = declared_by line x b None st >>= λ r. Ok (at r.0 (pushed r.1 fs) stands)
   behind_declarator st fs x b _ a = Ok (at st fs stands)
 
-  abbrev pub in_heading : State → List Frame → Kind → Outcome
-  in_heading st fs left_brace = Ok (at st (under (of_items 0) nil ∷ fs) stands)
-  in_heading st fs _ = Ok (at st fs heading)
-
-  abbrev pub in_return : State → List Frame → Kind → Outcome
-  in_return st fs right_brace = Ok (items_end st fs)
-  in_return st fs _ = Ok (at st fs returning)
-
   abbrev pub in_mode : Mode → State → List Frame → Kind → ℕ → Outcome
-  in_mode heading st fs k a = in_heading st fs k
+  in_mode heading st fs k a = Ok (at st (in_heading fs k).0 (in_heading fs k).1)
   in_mode stands st fs k a = begun st fs k a
   in_mode (named x b) st fs k a = behind_name st fs x b k a
   in_mode wants st fs k a = wanted st fs k a
@@ -249,9 +261,9 @@ module _ (line : ℕ → ℕ) (width : ℕ) where
   in_mode (stepping g b) st fs k a = behind_step st fs g b k a
   in_mode (ends ms) st fs k a = Ok (at st fs (after ms))
   in_mode (after ms) st fs k a = behind_statement st fs ms k a
-  in_mode declares st fs k a = a_declarator st fs k a
+  in_mode declares st fs k a = Ok (at st fs (a_declarator k a))
   in_mode (declared x b) st fs k a = behind_declarator st fs x b k a
-  in_mode returning st fs k a = in_return st fs k
+  in_mode returning st fs k a = Ok (in_return st fs k)
 
   -- one token
   abbrev pub feed_one : Machine → Token → Outcome
@@ -273,3 +285,7 @@ nodes_under fs = nil
 
 abbrev pub result_of : Machine → Result (List (List ℕ) × Statements) ParseFault
 result_of (at st fs m) = whole (st, nodes_under fs)
+
+-- what the loop over all tokens gives
+abbrev pub reading : (ℕ → ℕ) → ℕ → List Token → Result (List (List ℕ) × Statements) ParseFault
+reading line width ts = feed line width ts begin >>= λ s. result_of s

@@ -6,3 +6,7 @@ pub mod Feed
 pub mod Gives
 pub mod Values
 pub mod Views
+pub mod Frames
+pub mod Modes
+pub mod Width
+pub mod Meaning

@@ -174,7 +174,7 @@ module _ (line : ℕ → ℕ) (width : ℕ) where
 
   -- the left side before the right one, and both before the sign
   abbrev pub walk_expr : State → Expr → Result Value ParseFault
-  walk_expr st (number n a) = Ok (a_form (constant_form width (pos n)) a)
+  walk_expr st (number n a) = ranged a (constant_form width (pos n)) >>= λ f. Ok (a_form f a)
   walk_expr st (variable x a) = known_number x a st >>= λ i. Ok (a_form (variable_form width i (pos 0)) a)
   walk_expr st (free a b c) = Ok (a_nondet a)
   walk_expr st (grouped a e b) = walk_expr st e >>= λ v. Ok (regarded a v)

@@ -32,11 +32,18 @@ fn zeros(alloc: Global, width: usize) -> Result<Vec<i64>, AllocError>
     Ok(vec![in alloc; 0; width]?)
 }
 
-/// The whole number `constant`.
-pub(crate) fn constant_form(alloc: Global, width: usize, constant: i64) -> Result<Form, AllocError>
-    ensures { IfOk result (λ form. form ≡ constant_form width constant) }
+/// The whole number `constant`; out of its range it is a fault of the token at `at`.
+#[tactic(auto, using(crate::proofs::Binds::then_ok, crate::proofs::Binds::then_err, crate::proofs::Ranges::zeros_ranged))]
+pub(crate) fn constant_form(
+    alloc: Global,
+    at: u32,
+    width: usize,
+    constant: i64,
+) -> Result<Form, ParseFault>
+    ensures { Gives (λ form. form) result (ranged at (constant_form width constant)) }
 {
     let list = zeros(alloc, width)?;
+    let constant = ranged_number(at, constant as i128)?;
     Ok(Form {
         coeffs: Coeffs::new(list),
         constant,

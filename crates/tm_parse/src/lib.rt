@@ -2,9 +2,18 @@
 #![tactic(auto)]
 
 mod context;
+mod expression;
 mod fault;
 mod forms;
+mod frame;
+mod lexeme;
+mod mode;
 mod names;
+mod parser;
+mod pass;
+mod statement;
 mod value;
+mod width;
 
 pub use fault::{Limit, ParseFault};
+pub use parser::parse;
