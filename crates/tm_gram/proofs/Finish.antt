@@ -53,6 +53,7 @@ finishes (only statement_end ∷ gs) = finishes gs
 finishes (only main_name ∷ gs) = finishes gs
 finishes (only int_type ∷ gs) = finishes gs
 finishes (only text_end ∷ gs) = finishes gs
+
 front_step : (o : Option (List Goal)) (now : List Goal) (ts rest : List Token) → ((next : List Goal) → run next ts ≡ Some now → run next (ts ++ rest) ≡ run now rest) → elim o as (λ x. Option (List Goal)) [ None ↦ None | Some next ↦ run next ts ] ≡ Some now → elim o as (λ x. Option (List Goal)) [ None ↦ None | Some next ↦ run next (ts ++ rest) ] ≡ run now rest
 front_step None now ts rest f h = cc
 front_step (Some next) now ts rest f h = f next h

@@ -91,7 +91,6 @@ Clear shut v = Unit {0}
 Clear waiting [] = Unit {0}
 Clear waiting (token k a ∷ v) = NotElse k
 
-
 -- what ends the initialiser of a declarator, with the declarators after it
 pub data Rest : Type 0 where
   no_more : ℕ → Rest

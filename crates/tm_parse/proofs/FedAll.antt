@@ -158,8 +158,8 @@ module _ (line : ℕ → ℕ) (width : ℕ) where
       ap (λ (u : List Token). F u (at now (under (of_branch x a) nil ∷ fs) stands)) (append_assoc y (token else_word i ∷ z) w)
       ∙ f now (under (of_branch x a) nil ∷ fs) tt
       ∙ bind_right (first now) _ (λ r. second r.0 >>= λ q. Ok (q.0, one (tree.branch x r.1 q.1 (line a)))) _ (λ r.
-        k r.0 (under (of_other x r.1 a) nil ∷ fs) tt
-        ∙ bind_right (second r.0) _ (λ q. Ok (q.0, one (tree.branch x r.1 q.1 (line a)))) _ (λ q. pass q.0 (under (of_other x r.1 a) nil ∷ fs) fs q.1 (one (tree.branch x r.1 q.1 (line a))) n w h refl refl))))
+      k r.0 (under (of_other x r.1 a) nil ∷ fs) tt
+      ∙ bind_right (second r.0) _ (λ q. Ok (q.0, one (tree.branch x r.1 q.1 (line a)))) _ (λ q. pass q.0 (under (of_other x r.1 a) nil ∷ fs) fs q.1 (one (tree.branch x r.1 q.1 (line a))) n w h refl refl))))
 
   case_assumed : (a b c d : ℕ) (e : Expr) (w : List Token) (st : State) (fs : List Frame) → Groups 0 e → Does (spell_core (assumed a b e c d)) w st fs (walk_core line width (assumed a b e c d) st)
   case_assumed a b c d e w st fs g = bind_both (counted a st) (λ now. Ok (at now fs (feeds.opens of_assume a))) (λ s. F (token left_paren b ∷ ((spell_expr e ++ token right_paren c ∷ token semicolon d ∷ []) ++ w)) s) (λ now. walk_expr line width now e >>= λ v. tested a v >>= λ x. Ok (now, one (tree.assume x (line a)))) _ (λ now. condition_fed a of_assume now fs e c (token semicolon d ∷ []) w (λ x. Ok (now, one (tree.assume x (line a)))) g (λ x. refl))
@@ -181,15 +181,15 @@ module _ (line : ℕ → ℕ) (width : ℕ) where
   case_labelled x a b y w st fs walked n o h f = bind_both (labelled_by x a st) (λ now. Ok (at now (pushed (tree.label x (line a)) fs) stands)) (λ s. F (y ++ w) s) (λ now. walked now >>= λ r. Ok (r.0, cons (tree.label x (line a)) r.1)) _ (λ now.
       f now (pushed (tree.label x (line a)) fs) (still_open (tree.label x (line a)) fs o)
       ∙ bind_right (walked now) _ (λ r. Ok (r.0, cons (tree.label x (line a)) r.1)) _ (λ r. pass r.0 (pushed (tree.label x (line a)) fs) fs r.1 (cons (tree.label x (line a)) r.1) n w h (pushed_close (tree.label x (line a)) fs r.1 o) (pushed_attach (tree.label x (line a)) fs r.1 o))) where
-      still_open : (n : Statement) (fs : List Frame) → IsOpen fs → IsOpen (pushed n fs)
-      still_open n (under w ns ∷ fs) h = tt
-      still_open n [] h = absurd h
-      still_open n (side u o a ∷ fs) h = absurd h
-      still_open n (before p a ∷ fs) h = absurd h
-      still_open n (group a ∷ fs) h = absurd h
-      still_open n (test t a ∷ fs) h = absurd h
-      still_open n (assigns i g b a ∷ fs) h = absurd h
-      still_open n (initial x a b ∷ fs) h = absurd h
+        still_open : (n : Statement) (fs : List Frame) → IsOpen fs → IsOpen (pushed n fs)
+        still_open n (under w ns ∷ fs) h = tt
+        still_open n [] h = absurd h
+        still_open n (side u o a ∷ fs) h = absurd h
+        still_open n (before p a ∷ fs) h = absurd h
+        still_open n (group a ∷ fs) h = absurd h
+        still_open n (test t a ∷ fs) h = absurd h
+        still_open n (assigns i g b a ∷ fs) h = absurd h
+        still_open n (initial x a b ∷ fs) h = absurd h
 
   case_label : (x : List ℕ) (a b : ℕ) (y w : List Token) (st : State) (i : ℕ) (ns : Statements) (fs : List Frame) (walked : Walk) → ((now : State) (ms : Statements) → DoesItems y w now i ms fs (walked now)) → DoesItems (token (a_name x) a ∷ token colon b ∷ y) w st i ns fs (labelled_by x a st >>= λ now. walked now >>= λ r. Ok (r.0, cons (tree.label x (line a)) r.1))
   case_label x a b y w st i ns fs walked f = bind_both (labelled_by x a st) (λ now. Ok (at now (under (of_items i) (followed_by ns (one (tree.label x (line a)))) ∷ fs) stands)) (λ s. F (y ++ w) s) (λ now. walked now >>= λ r. Ok (r.0, cons (tree.label x (line a)) r.1)) _ (λ now.
@@ -218,25 +218,25 @@ module _ (line : ℕ → ℕ) (width : ℕ) where
       ap (λ (u : List Token). F u (at st (under (of_items i) ns ∷ fs) names_next)) (append_assoc (spell_declarator x) (token comma c ∷ spell_declarators xs) w)
       ∙ before_comma x c (spell_declarators xs ++ w) st i ns fs g.0
       ∙ bind_right (walk_declarator line width x st) _ (λ r. walk_declarators line width xs r.0 >>= λ q. Ok (q.0, cons r.1 q.1)) _ (λ r.
-        declarators_fed xs w r.0 i (followed_by ns (one r.1)) fs g.1
-        ∙ bind_right (walk_declarators line width xs r.0) _ (λ q. Ok (q.0, cons r.1 q.1)) _ (λ q. ap (λ (z : Statements). F w (at q.0 (under (of_items i) z ∷ fs) stands)) (follow_assoc ns (one r.1) q.1)))
+      declarators_fed xs w r.0 i (followed_by ns (one r.1)) fs g.1
+      ∙ bind_right (walk_declarators line width xs r.0) _ (λ q. Ok (q.0, cons r.1 q.1)) _ (λ q. ap (λ (z : Statements). F w (at q.0 (under (of_items i) z ∷ fs) stands)) (follow_assoc ns (one r.1) q.1)))
 
   case_declaration : (a : ℕ) (xs : Declarators) (y w : List Token) (st : State) (i : ℕ) (ns : Statements) (fs : List Frame) (walked : Walk) → GoodDeclarators xs → ((now : State) (ms : Statements) → DoesItems y w now i ms fs (walked now)) → DoesItems (token int_word a ∷ (spell_declarators xs ++ y)) w st i ns fs (walk_declarators line width xs st >>= λ r. walked r.0 >>= λ q. Ok (q.0, followed_by r.1 q.1))
   case_declaration a xs y w st i ns fs walked g f =
       ap (λ (u : List Token). F u (at st (under (of_items i) ns ∷ fs) names_next)) (append_assoc (spell_declarators xs) y w)
       ∙ declarators_fed xs (y ++ w) st i ns fs g
       ∙ bind_right (walk_declarators line width xs st) _ (λ r. walked r.0 >>= λ q. Ok (q.0, followed_by r.1 q.1)) _ (λ r.
-        f r.0 (followed_by ns r.1)
-        ∙ bind_right (walked r.0) _ (λ q. Ok (q.0, followed_by r.1 q.1)) _ (λ q. ap (λ (z : Statements). F w (at q.0 (under (of_items i) z ∷ fs) stands)) (follow_assoc ns r.1 q.1)))
+      f r.0 (followed_by ns r.1)
+      ∙ bind_right (walked r.0) _ (λ q. Ok (q.0, followed_by r.1 q.1)) _ (λ q. ap (λ (z : Statements). F w (at q.0 (under (of_items i) z ∷ fs) stands)) (follow_assoc ns r.1 q.1)))
 
   case_item : (x y w : List Token) (st : State) (i : ℕ) (ns : Statements) (fs : List Frame) (core : Result (State × Statements) ParseFault) (walked : Walk) → GoesOn (y ++ w) → Does x (y ++ w) st (under (of_items i) ns ∷ fs) core → ((now : State) (ms : Statements) → DoesItems y w now i ms fs (walked now)) → DoesItems (x ++ y) w st i ns fs (core >>= λ r. walked r.0 >>= λ q. Ok (q.0, followed_by r.1 q.1))
   case_item x y w st i ns fs core walked g h f =
       ap (λ (u : List Token). F u (at st (under (of_items i) ns ∷ fs) stands)) (append_assoc x y w)
       ∙ h
       ∙ bind_right core _ (λ r. walked r.0 >>= λ q. Ok (q.0, followed_by r.1 q.1)) _ (λ r.
-        pass_items r.0 i ns fs r.1 (y ++ w) g
-        ∙ f r.0 (followed_by ns r.1)
-        ∙ bind_right (walked r.0) _ (λ q. Ok (q.0, followed_by r.1 q.1)) _ (λ q. ap (λ (z : Statements). F w (at q.0 (under (of_items i) z ∷ fs) stands)) (follow_assoc ns r.1 q.1)))
+      pass_items r.0 i ns fs r.1 (y ++ w) g
+      ∙ f r.0 (followed_by ns r.1)
+      ∙ bind_right (walked r.0) _ (λ q. Ok (q.0, followed_by r.1 q.1)) _ (λ q. ap (λ (z : Statements). F w (at q.0 (under (of_items i) z ∷ fs) stands)) (follow_assoc ns r.1 q.1)))
 
   case_none : (w : List Token) (st : State) (i : ℕ) (ns : Statements) (fs : List Frame) → DoesItems [] w st i ns fs (Ok (st, nil))
   case_none w st i ns fs = ap (λ (z : Statements). F w (at st (under (of_items i) z ∷ fs) stands)) (sym (follow_nil ns))

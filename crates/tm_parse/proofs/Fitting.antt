@@ -245,6 +245,7 @@ module _ (line : ℕ → ℕ) (N : ℕ) where
       more : length (st.names ++ x ∷ []) ≡ suc (length st.names)
       more = omega (arith, length-append st.names (x ∷ []))
     by_test false e = tt
+
     by_place : (p : Option ℕ) → OnValue (Declares st) (elim p as (λ z. Result (State × Statement) ParseFault) [ Some i ↦ Err (fault.NameTwice a) | None ↦ cond (nat_lt (length st.names) 8) (counted a (record st { names = st.names ++ x ∷ []; known = st.known ++ length st.names ∷ [] }) >>= λ now. Ok (now, assignment (length st.names) o (line a))) (Err (fault.Limit a limit.Variables)) ])
     by_place (Some i) = tt
     by_place None = by_test (nat_lt (length st.names) 8) refl

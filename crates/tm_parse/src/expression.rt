@@ -124,11 +124,7 @@ pub(crate) fn wanted(
         Lexeme::Number(number) => constant_form(alloc, place, width, literal(number))?,
         Lexeme::Plain(symbol) => return Ok(signed(frames, symbol, place)?),
     };
-    Ok(Mode::Has(complete(
-        alloc,
-        frames,
-        Value::Form(form, place),
-    )?))
+    Ok(Mode::Has(complete(alloc, frames, Value::Form(form, place))?))
 }
 
 /// A sign, a parenthesis or `nondet` where an operand has to stand.

@@ -78,12 +78,7 @@ pub(crate) fn variable_form(
 }
 
 /// `left + right`, or `left - right`.
-fn sum_or_difference(
-    at: u32,
-    subtracts: bool,
-    left: i64,
-    right: i64,
-) -> Result<i64, ParseFault>
+fn sum_or_difference(at: u32, subtracts: bool, left: i64, right: i64) -> Result<i64, ParseFault>
     ensures { Gives (λ n. n) result (ranged_number at (sum_or_difference subtracts left right)) }
 {
     if subtracts {
@@ -141,12 +136,7 @@ fn times(at: u32, factor: i64, number: i64) -> Result<i64, ParseFault>
     ranged_number(at, factor as i128 * number as i128)
 }
 
-fn products(
-    alloc: Global,
-    at: u32,
-    factor: i64,
-    numbers: &[i64],
-) -> Result<Vec<i64>, ParseFault>
+fn products(alloc: Global, at: u32, factor: i64, numbers: &[i64]) -> Result<Vec<i64>, ParseFault>
     ensures list { Gives (λ list. list.items) result (ranged_numbers at (products factor numbers.now)) }
     ensures numbers { IfOk result (λ list. IsTrue (are_numbers list.items)) }
 {
@@ -158,12 +148,7 @@ fn products(
 }
 
 /// `factor * form`; a number out of range is a fault of the sign at `at`.
-pub(crate) fn scaled(
-    alloc: Global,
-    at: u32,
-    factor: i64,
-    form: &Form,
-) -> Result<Form, ParseFault>
+pub(crate) fn scaled(alloc: Global, at: u32, factor: i64, form: &Form) -> Result<Form, ParseFault>
     ensures { Gives (λ form. form) result (ranged at (scaled factor form.now)) }
 {
     let list = products(alloc, at, factor, form.coeffs.as_slice())?;

@@ -17,3 +17,6 @@ mod width;
 
 pub use fault::{Limit, ParseFault};
 pub use parser::parse;
+
+#[cfg(test)]
+mod tests;

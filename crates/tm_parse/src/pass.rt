@@ -36,9 +36,7 @@ fn fed(
     let mut mode = Mode::Heading;
     for token in tokens {
         let lexeme = read_token(token, text);
-        mode = in_mode(
-            alloc, text, width, context, frames, mode, lexeme, token.at,
-        )?;
+        mode = in_mode(alloc, text, width, context, frames, mode, lexeme, token.at)?;
     }
     Ok(mode)
 }

@@ -156,9 +156,7 @@ fn behind_name(
         Lexeme::Plain(Symbol::Step(direction)) => {
             let var = context.known_number(&name, from)?;
             context.counted(from)?;
-            Ok(Mode::Ends(step_node(
-                alloc, text, width, direction, var, from,
-            )?))
+            Ok(Mode::Ends(step_node(alloc, text, width, direction, var, from)?))
         }
         _ => Ok(Mode::Stands),
     }
@@ -182,9 +180,7 @@ fn behind_step(
     match lexeme {
         Lexeme::Name(name) => {
             let var = context.known_number(&name, place)?;
-            Ok(Mode::Ends(step_node(
-                alloc, text, width, direction, var, from,
-            )?))
+            Ok(Mode::Ends(step_node(alloc, text, width, direction, var, from)?))
         }
         _ => Ok(Mode::Stands),
     }
@@ -254,11 +250,7 @@ fn behind_declarator(
 }
 
 /// The head of `main`, up to its `{`.
-fn in_heading(
-    alloc: Global,
-    frames: &mut Vec<Frame>,
-    lexeme: Lexeme,
-) -> Result<Mode, AllocError>
+fn in_heading(alloc: Global, frames: &mut Vec<Frame>, lexeme: Lexeme) -> Result<Mode, AllocError>
     ensures { IfOk result (λ m. in_heading (frames_of frames.old.items) (lexeme_kind lexeme) ≡ (frames_of frames.new.items, mode_of m)) }
 {
     match lexeme {

@@ -113,10 +113,7 @@ fn either(alloc: Global, left: Value, right: Value) -> Result<Value, ParseFault>
 {
     let first = as_condition(left)?;
     let second = as_condition(right)?;
-    Ok(Value::Truth(Cond::Either(
-        Box::new(alloc, first)?,
-        Box::new(alloc, second)?,
-    )))
+    Ok(Value::Truth(Cond::Either(Box::new(alloc, first)?, Box::new(alloc, second)?)))
 }
 
 /// What `&&` makes of its sides.
@@ -125,10 +122,7 @@ fn both(alloc: Global, left: Value, right: Value) -> Result<Value, ParseFault>
 {
     let first = as_condition(left)?;
     let second = as_condition(right)?;
-    Ok(Value::Truth(Cond::Both(
-        Box::new(alloc, first)?,
-        Box::new(alloc, second)?,
-    )))
+    Ok(Value::Truth(Cond::Both(Box::new(alloc, first)?, Box::new(alloc, second)?)))
 }
 
 /// What the sign `op` at `at` makes of its sides.
