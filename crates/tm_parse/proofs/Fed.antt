@@ -10,9 +10,10 @@ use Rattle.tm_tree.specs.Tree.{Condition, Statement, Statements, nil, cons}
 use Rattle.tm_parse.specs.declared.fault.ParseFault.{ParseFault}
 use Rattle.tm_parse.specs.Results.{◌>>=◌}
 use Rattle.tm_parse.specs.Forms.{constant_form, variable_form}
-use Rattle.tm_parse.specs.Walk.{Value, a_form, a_nondet, State, start_state, followed_by, one, counted, labelled_by, known_number, combined, prefix_value, ranged, regarded, tested, right_side, assignment, assigned, stepped, step_node, declared_by, closed, whole, walk_expr, walk_declarators, walk_core, walk_sub, walk_items}
+use Rattle.tm_parse.specs.Walk.{Value, a_form, a_nondet, State, start_state, followed_by, one, counted, labelled_by, known_number, prefix_value, ranged, regarded, tested, right_side, assignment, assigned, stepped, step_node, declared_by, closed, whole, walk_declarators, walk_core, walk_sub, walk_items}
 use Rattle.tm_parse.specs.Feed as feeds
-use Rattle.tm_parse.specs.Feed.{Frame, side, before, group, test, assigns, initial, under, of_if, of_while, of_assume, wants, has, stands, heading, after, ends, Mode, Machine, at, Outcome, complete, settle, pushed}
+use Rattle.tm_parse.specs.Feed.{combined_small, Frame, side, before, group, test, assigns, initial, under, of_if, of_while, of_assume, wants, has, stands, heading, after, ends, Mode, Machine, at, Outcome, complete, settle, pushed}
+use Rattle.tm_parse.proofs.Small.{walk_small}
 use Rattle.tm_parse.proofs.Binds.{bind_assoc, bind_same, bind_both, bind_left, bind_right}
 
 -- the next token joins every left side of level l and above
@@ -45,7 +46,7 @@ base_complete l (initial x a b ∷ fs) v h = refl
 base_complete l (under w ns ∷ fs) v h = refl
 
 base_settle : (l m : ℕ) (fs : List Frame) (v : Value) → Base l fs → l ≤ m → settle m fs v ≡ Ok (fs, v)
-base_settle l m (side u o a ∷ fs) v b h = ap (λ (t : Bool). elim t as (λ x. Result (List Frame × Value) ParseFault) [ true ↦ Ok (side u o a ∷ fs, v) | false ↦ combined o a u v >>= λ x. settle m fs x ]) (lt-ltb (level o) m (omega arith))
+base_settle l m (side u o a ∷ fs) v b h = ap (λ (t : Bool). elim t as (λ x. Result (List Frame × Value) ParseFault) [ true ↦ Ok (side u o a ∷ fs, v) | false ↦ combined_small o a u v >>= λ x. settle m fs x ]) (lt-ltb (level o) m (omega arith))
 base_settle l m (before p a ∷ fs) v b h = absurd b
 base_settle l m [] v h j = refl
 base_settle l m (group a ∷ fs) v h j = refl
@@ -71,11 +72,11 @@ next_more l m (token semicolon a) n h = tt
 next_more l m (token comma a) n h = tt
 next_more l m (token _ a) n h = absurd n
 
-settle_side : (m : ℕ) (u : Value) (o : Op) (a : ℕ) (fs : List Frame) (v : Value) → m ≤ level o → settle m (side u o a ∷ fs) v ≡ combined o a u v >>= λ x. settle m fs x
-settle_side m u o a fs v h = ap (λ (t : Bool). elim t as (λ x. Result (List Frame × Value) ParseFault) [ true ↦ Ok (side u o a ∷ fs, v) | false ↦ combined o a u v >>= λ x. settle m fs x ]) (le-ltb (level o) m h)
+settle_side : (m : ℕ) (u : Value) (o : Op) (a : ℕ) (fs : List Frame) (v : Value) → m ≤ level o → settle m (side u o a ∷ fs) v ≡ combined_small o a u v >>= λ x. settle m fs x
+settle_side m u o a fs v h = ap (λ (t : Bool). elim t as (λ x. Result (List Frame × Value) ParseFault) [ true ↦ Ok (side u o a ∷ fs, v) | false ↦ combined_small o a u v >>= λ x. settle m fs x ]) (le-ltb (level o) m h)
 
-settled : (m : ℕ) (u : Value) (o : Op) (a : ℕ) (fs : List Frame) (v : Value) (p : List Frame × Value → Outcome) (q : Machine → Outcome) → m ≤ level o → (settle m (side u o a ∷ fs) v >>= p) >>= q ≡ combined o a u v >>= λ x. (settle m fs x >>= p) >>= q
-settled m u o a fs v p q h = ap (λ (z : Result (List Frame × Value) ParseFault). (z >>= p) >>= q) (settle_side m u o a fs v h) ∙ ap (λ (z : Outcome). z >>= q) (bind_assoc (combined o a u v) (λ x. settle m fs x) p) ∙ bind_assoc (combined o a u v) (λ x. settle m fs x >>= p) q
+settled : (m : ℕ) (u : Value) (o : Op) (a : ℕ) (fs : List Frame) (v : Value) (p : List Frame × Value → Outcome) (q : Machine → Outcome) → m ≤ level o → (settle m (side u o a ∷ fs) v >>= p) >>= q ≡ combined_small o a u v >>= λ x. (settle m fs x >>= p) >>= q
+settled m u o a fs v p q h = ap (λ (z : Result (List Frame × Value) ParseFault). (z >>= p) >>= q) (settle_side m u o a fs v h) ∙ ap (λ (z : Outcome). z >>= q) (bind_assoc (combined_small o a u v) (λ x. settle m fs x) p) ∙ bind_assoc (combined_small o a u v) (λ x. settle m fs x >>= p) q
 
 module _ (line : ℕ → ℕ) (width : ℕ) where
   abbrev pub feed : List Token → Machine → Outcome
@@ -89,7 +90,7 @@ module _ (line : ℕ → ℕ) (width : ℕ) where
   on st w fs v = complete fs v >>= λ r. feed w (given_by st r)
 
   -- the pending side is joined by the next token
-  joins : (st : State) (u : Value) (o : Op) (a : ℕ) (fs : List Frame) (v : Value) (l : ℕ) (t : Token) (w : List Token) → Next l t → l ≤ level o → feed (t ∷ w) (at st (side u o a ∷ fs) (has v)) ≡ combined o a u v >>= λ x. feed (t ∷ w) (at st fs (has x))
+  joins : (st : State) (u : Value) (o : Op) (a : ℕ) (fs : List Frame) (v : Value) (l : ℕ) (t : Token) (w : List Token) → Next l t → l ≤ level o → feed (t ∷ w) (at st (side u o a ∷ fs) (has v)) ≡ combined_small o a u v >>= λ x. feed (t ∷ w) (at st fs (has x))
   joins st u o a fs v l (token (infix_sign p) b) w n h = settled (level p) u o a fs v (λ r. Ok (at st (side r.1 p b ∷ r.0) wants)) (λ r. feed w r) (omega arith)
   joins st u o a fs v l (token right_paren b) w n h = settled 0 u o a fs v (λ r. feeds.after_paren line width st r) (λ r. feed w r) (omega arith)
   joins st u o a fs v l (token semicolon b) w n h = settled 0 u o a fs v (λ r. feeds.after_semicolon line width st r) (λ r. feed w r) (omega arith)
@@ -97,10 +98,10 @@ module _ (line : ℕ → ℕ) (width : ℕ) where
   joins st u o a fs v l (token _ b) w n h = absurd n
 
   abbrev FedOperand : State → Expr → List Frame → List Token → Type 0
-  FedOperand st e fs w = feed (spell_expr e ++ w) (at st fs wants) ≡ walk_expr line width st e >>= λ v. on st w fs v
+  FedOperand st e fs w = feed (spell_expr e ++ w) (at st fs wants) ≡ walk_small line width st e >>= λ v. on st w fs v
 
   abbrev FedExpr : State → Expr → List Frame → Token → List Token → Type 0
-  FedExpr st e fs t w = feed (spell_expr e ++ t ∷ w) (at st fs wants) ≡ walk_expr line width st e >>= λ v. feed (t ∷ w) (at st fs (has v))
+  FedExpr st e fs t w = feed (spell_expr e ++ t ∷ w) (at st fs wants) ≡ walk_small line width st e >>= λ v. feed (t ∷ w) (at st fs (has v))
 
   op_number : (st : State) (n a : ℕ) (fs : List Frame) (w : List Token) → FedOperand st (number n a) fs w
   op_number st n a fs w = bind_both (ranged a (constant_form width (pos n))) _ _ (λ f. Ok (a_form f a)) (λ v. on st w fs v) (λ f. bind_assoc (complete fs (a_form f a)) (λ r. Ok (given_by st r)) (λ r. feed w r))
@@ -112,13 +113,13 @@ module _ (line : ℕ → ℕ) (width : ℕ) where
   op_free st a b c fs w = bind_assoc (complete fs (a_nondet a)) (λ r. Ok (given_by st r)) (λ r. feed w r)
 
   op_grouped : (st : State) (a : ℕ) (e : Expr) (b : ℕ) (fs : List Frame) (w : List Token) → FedExpr st e (group a ∷ fs) (token right_paren b) w → FedOperand st (grouped a e b) fs w
-  op_grouped st a e b fs w h = ap (λ (x : List Token). feed x (at st (group a ∷ fs) wants)) (append_assoc (spell_expr e) (token right_paren b ∷ []) w) ∙ h ∙ bind_right (walk_expr line width st e) _ (λ v. Ok (regarded a v)) (λ v. on st w fs v) (λ v. bind_assoc (complete fs (regarded a v)) (λ r. Ok (given_by st r)) (λ r. feed w r))
+  op_grouped st a e b fs w h = ap (λ (x : List Token). feed x (at st (group a ∷ fs) wants)) (append_assoc (spell_expr e) (token right_paren b ∷ []) w) ∙ h ∙ bind_right (walk_small line width st e) _ (λ v. Ok (regarded a v)) (λ v. on st w fs v) (λ v. bind_assoc (complete fs (regarded a v)) (λ r. Ok (given_by st r)) (λ r. feed w r))
 
-  op_prefixed : (st : State) (p : Prefix) (a : ℕ) (e : Expr) (fs : List Frame) (w : List Token) → FedOperand st e (before p a ∷ fs) w → feed (spell_expr e ++ w) (at st (before p a ∷ fs) wants) ≡ walk_expr line width st (prefixed p a e) >>= λ v. on st w fs v
-  op_prefixed st p a e fs w h = h ∙ bind_right (walk_expr line width st e) _ (λ v. prefix_value p a v) (λ v. on st w fs v) (λ v. bind_assoc (prefix_value p a v) (λ u. complete fs u) (λ r. feed w (given_by st r)))
+  op_prefixed : (st : State) (p : Prefix) (a : ℕ) (e : Expr) (fs : List Frame) (w : List Token) → FedOperand st e (before p a ∷ fs) w → feed (spell_expr e ++ w) (at st (before p a ∷ fs) wants) ≡ walk_small line width st (prefixed p a e) >>= λ v. on st w fs v
+  op_prefixed st p a e fs w h = h ∙ bind_right (walk_small line width st e) _ (λ v. prefix_value p a v) (λ v. on st w fs v) (λ v. bind_assoc (prefix_value p a v) (λ u. complete fs u) (λ r. feed w (given_by st r)))
 
   lift : (st : State) (e : Expr) (l : ℕ) (fs : List Frame) (t : Token) (w : List Token) → Base l fs → FedOperand st e fs (t ∷ w) → FedExpr st e fs t w
-  lift st e l fs t w b h = h ∙ bind_same (walk_expr line width st e) _ _ (λ v. ap (λ (r : Result (List Frame × Value) ParseFault). r >>= λ r. feed (t ∷ w) (given_by st r)) (base_complete l fs v b))
+  lift st e l fs t w b h = h ∙ bind_same (walk_small line width st e) _ _ (λ v. ap (λ (r : Result (List Frame × Value) ParseFault). r >>= λ r. feed (t ∷ w) (given_by st r)) (base_complete l fs v b))
 
   pushes : (st : State) (o : Op) (a : ℕ) (fs : List Frame) (v : Value) (w : List Token) → Base (level o) fs → feed (token (infix_sign o) a ∷ w) (at st fs (has v)) ≡ feed w (at st (side v o a ∷ fs) wants)
   pushes st o a fs v w b = ap (λ (z : Result (List Frame × Value) ParseFault). (z >>= λ r. Ok (at st (side r.1 o a ∷ r.0) wants)) >>= λ r. feed w r) (base_settle (level o) (level o) fs v b (omega arith))
@@ -146,8 +147,8 @@ module _ (line : ℕ → ℕ) (width : ℕ) where
     fed_expr st (joined e o a f) l fs t w g b i =
         ap (λ (x : List Token). feed x (at st fs wants)) (append_assoc (spell_expr e) (token (infix_sign o) a ∷ spell_expr f) (t ∷ w))
         ∙ fed_expr st e (level o) fs (token (infix_sign o) a) (spell_expr f ++ t ∷ w) g.1 (base_more l (level o) fs b g.0) (omega arith)
-        ∙ bind_same (walk_expr line width st e) _ _ (λ v. pushes st o a fs v (spell_expr f ++ t ∷ w) (base_more l (level o) fs b g.0)
+        ∙ bind_same (walk_small line width st e) _ _ (λ v. pushes st o a fs v (spell_expr f ++ t ∷ w) (base_more l (level o) fs b g.0)
         ∙ fed_expr st f (suc (level o)) (side v o a ∷ fs) t w g.2 (omega arith) (next_more l (suc (level o)) t i (omega (arith, g.0)))
-        ∙ bind_same (walk_expr line width st f) _ _ (λ u. joins st v o a fs u l t w i g.0)
-        ∙ sym (bind_assoc (walk_expr line width st f) (λ u. combined o a v u) (λ x. feed (t ∷ w) (at st fs (has x)))))
-        ∙ sym (bind_assoc (walk_expr line width st e) (λ v. walk_expr line width st f >>= λ u. combined o a v u) (λ x. feed (t ∷ w) (at st fs (has x))))
+        ∙ bind_same (walk_small line width st f) _ _ (λ u. joins st v o a fs u l t w i g.0)
+        ∙ sym (bind_assoc (walk_small line width st f) (λ u. combined_small o a v u) (λ x. feed (t ∷ w) (at st fs (has x)))))
+        ∙ sym (bind_assoc (walk_small line width st e) (λ v. walk_small line width st f >>= λ u. combined_small o a v u) (λ x. feed (t ∷ w) (at st fs (has x))))

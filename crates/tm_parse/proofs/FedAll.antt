@@ -12,6 +12,7 @@ use Rattle.tm_parse.specs.Feed.{Frame, side, before, group, test, assigns, initi
 use Rattle.tm_parse.specs.Feed.{declares as names_next, declared as name_read}
 use Rattle.tm_parse.proofs.Binds.{bind_assoc, bind_same, bind_both, bind_left, bind_right}
 use Rattle.tm_parse.proofs.Fed.{feed, fed_expr}
+use Rattle.tm_parse.proofs.Small.{walk_small, small_then, test_respects, side_respects, assigned_respects}
 
 follow_nil : (ns : Statements) → followed_by ns nil ≡ ns
 follow_nil nil = refl
@@ -145,7 +146,7 @@ module _ (line : ℕ → ℕ) (width : ℕ) where
 
   -- a condition in parentheses, and what comes of it
   condition_fed : (a : ℕ) (t : feeds.Test) (st : State) (fs : List Frame) (e : Expr) (c : ℕ) (y w : List Token) (g : Condition → Result (State × Statements) ParseFault) → Groups 0 e → ((x : Condition) → (feeds.decided line width t a st fs x >>= λ s. F (y ++ w) s) ≡ g x >>= λ q. F w (at q.0 fs (after q.1))) → F ((spell_expr e ++ token right_paren c ∷ y) ++ w) (at st (test t a ∷ fs) wants) ≡ (walk_expr line width st e >>= λ v. tested a v >>= λ x. g x) >>= λ q. F w (at q.0 fs (after q.1))
-  condition_fed a t st fs e c y w g k h = ap (λ (z : List Token). F z (at st (test t a ∷ fs) wants)) (append_assoc (spell_expr e) (token right_paren c ∷ y) w) ∙ fed_expr line width st e 0 (test t a ∷ fs) (token right_paren c) (y ++ w) k tt tt ∙ bind_right (walk_expr line width st e) _ (λ v. tested a v >>= λ x. g x) _ (λ v. bind_both (tested a v) (λ x. feeds.decided line width t a st fs x) (λ s. F (y ++ w) s) (λ x. g x) _ h)
+  condition_fed a t st fs e c y w g k h = ap (λ (z : List Token). F z (at st (test t a ∷ fs) wants)) (append_assoc (spell_expr e) (token right_paren c ∷ y) w) ∙ fed_expr line width st e 0 (test t a ∷ fs) (token right_paren c) (y ++ w) k tt tt ∙ bind_right (walk_small line width st e) _ (λ v. tested a v >>= λ x. g x) (λ q. F w (at q.0 fs (after q.1))) (λ v. bind_both (tested a v) (λ x. feeds.decided line width t a st fs x) (λ s. F (y ++ w) s) (λ x. g x) _ h) ∙ small_then line width st e (λ v. tested a v >>= λ x. g x) (λ q. F w (at q.0 fs (after q.1))) (test_respects line width a g)
 
   case_if_alone : (a b c : ℕ) (e : Expr) (y w : List Token) (st : State) (fs : List Frame) (walked : Walk) → Groups 0 e → GoesOn w → ((now : State) (gs : List Frame) → IsOpen gs → Does y w now gs (walked now)) → Does (token if_word a ∷ token left_paren b ∷ (spell_expr e ++ token right_paren c ∷ y)) w st fs (walk_expr line width st e >>= λ v. tested a v >>= λ x. counted a st >>= λ now. walked now >>= λ r. Ok (r.0, one (tree.branch x r.1 nil (line a))))
   case_if_alone a b c e y w st fs walked g h f = condition_fed a of_if st fs e c y w (λ x. counted a st >>= λ now. walked now >>= λ r. Ok (r.0, one (tree.branch x r.1 nil (line a)))) g (λ x. bind_both (counted a st) (λ now. Ok (at now (under (of_branch x a) nil ∷ fs) stands)) (λ s. F (y ++ w) s) (λ now. walked now >>= λ r. Ok (r.0, one (tree.branch x r.1 nil (line a)))) _ (λ now. f now (under (of_branch x a) nil ∷ fs) tt ∙ bind_right (walked now) _ (λ r. Ok (r.0, one (tree.branch x r.1 nil (line a)))) _ (λ r. pass_branch r.0 x a nil fs r.1 w h)))
@@ -168,7 +169,7 @@ module _ (line : ℕ → ℕ) (width : ℕ) where
   case_set x a b c g e w st fs k = bind_both (known_number x a st) (λ i. counted a st >>= λ now. Ok (at now (assigns i g b a ∷ fs) wants)) (λ s. F ((spell_expr e ++ token semicolon c ∷ []) ++ w) s) (λ i. counted a st >>= λ now. walk_expr line width now e >>= λ v. assigned width g i b v >>= λ o. Ok (now, one (assignment i o (line a)))) _ (λ i. bind_both (counted a st) (λ now. Ok (at now (assigns i g b a ∷ fs) wants)) (λ s. F ((spell_expr e ++ token semicolon c ∷ []) ++ w) s) (λ now. walk_expr line width now e >>= λ v. assigned width g i b v >>= λ o. Ok (now, one (assignment i o (line a)))) _ (λ now.
       ap (λ (u : List Token). F u (at now (assigns i g b a ∷ fs) wants)) (append_assoc (spell_expr e) (token semicolon c ∷ []) w)
       ∙ fed_expr line width now e 0 (assigns i g b a ∷ fs) (token semicolon c) w k tt tt
-      ∙ bind_right (walk_expr line width now e) _ (λ v. assigned width g i b v >>= λ o. Ok (now, one (assignment i o (line a)))) _ (λ v. bind_both (assigned width g i b v) (λ o. Ok (at now fs (after (one (assignment i o (line a)))))) (λ s. F w s) (λ o. Ok (now, one (assignment i o (line a)))) _ (λ o. refl))))
+      ∙ bind_right (walk_small line width now e) _ (λ v. assigned width g i b v >>= λ o. Ok (now, one (assignment i o (line a)))) (λ q. F w (at q.0 fs (after q.1))) (λ v. bind_both (assigned width g i b v) (λ o. Ok (at now fs (after (one (assignment i o (line a)))))) (λ s. F w s) (λ o. Ok (now, one (assignment i o (line a)))) _ (λ o. refl)) ∙ small_then line width now e (λ v. assigned width g i b v >>= λ o. Ok (now, one (assignment i o (line a)))) (λ q. F w (at q.0 fs (after q.1))) (assigned_respects line width g i b (λ o. Ok (now, one (assignment i o (line a)))))))
 
   case_step_after : (x : List ℕ) (a b c : ℕ) (g : Direction) (w : List Token) (st : State) (fs : List Frame) → Does (spell_core (step_after x a g b c)) w st fs (walk_core line width (step_after x a g b c) st)
   case_step_after x a b c g w st fs = bind_both (known_number x a st) (λ i. counted a st >>= λ now. Ok (at now fs (ends (step_node line width g i a)))) (λ s. F (token semicolon c ∷ w) s) (λ i. counted a st >>= λ now. Ok (now, step_node line width g i a)) _ (λ i. bind_both (counted a st) (λ now. Ok (at now fs (ends (step_node line width g i a)))) (λ s. F (token semicolon c ∷ w) s) (λ now. Ok (now, step_node line width g i a)) _ (λ now. refl))
@@ -203,11 +204,11 @@ module _ (line : ℕ → ℕ) (width : ℕ) where
   -- a declarator before `;`, and before `,`
   before_semicolon : (x : Declarator) (c : ℕ) (w : List Token) (st : State) (i : ℕ) (ns : Statements) (fs : List Frame) → GoodDeclarator x → F (spell_declarator x ++ token semicolon c ∷ w) (at st (under (of_items i) ns ∷ fs) names_next) ≡ walk_declarator line width x st >>= λ r. F w (at r.0 (under (of_items i) (followed_by ns (one r.1)) ∷ fs) stands)
   before_semicolon (bare x a) c w st i ns fs g = bind_left (declared_by line x a None st) (λ r. Ok (at r.0 (under (of_items i) (followed_by ns (one r.1)) ∷ fs) stands)) (λ s. F w s) _ (λ r. refl)
-  before_semicolon (given x a b e) c w st i ns fs g = fed_expr line width st e 0 (initial x a b ∷ under (of_items i) ns ∷ fs) (token semicolon c) w g tt tt ∙ bind_right (walk_expr line width st e) _ (λ v. right_side b v >>= λ o. declared_by line x a o st) _ (λ v. bind_both (right_side b v) (λ o. declared_by line x a o st >>= λ r. Ok (at r.0 (under (of_items i) (followed_by ns (one r.1)) ∷ fs) stands)) (λ s. F w s) (λ o. declared_by line x a o st) _ (λ o. bind_left (declared_by line x a o st) (λ r. Ok (at r.0 (under (of_items i) (followed_by ns (one r.1)) ∷ fs) stands)) (λ s. F w s) _ (λ r. refl)))
+  before_semicolon (given x a b e) c w st i ns fs g = fed_expr line width st e 0 (initial x a b ∷ under (of_items i) ns ∷ fs) (token semicolon c) w g tt tt ∙ bind_right (walk_small line width st e) _ (λ v. right_side b v >>= λ o. declared_by line x a o st) (λ (r : State × Statement). F w (at r.0 (under (of_items i) (followed_by ns (one r.1)) ∷ fs) stands)) (λ v. bind_both (right_side b v) (λ o. declared_by line x a o st >>= λ r. Ok (at r.0 (under (of_items i) (followed_by ns (one r.1)) ∷ fs) stands)) (λ s. F w s) (λ o. declared_by line x a o st) _ (λ o. bind_left (declared_by line x a o st) (λ r. Ok (at r.0 (under (of_items i) (followed_by ns (one r.1)) ∷ fs) stands)) (λ s. F w s) _ (λ r. refl))) ∙ small_then line width st e (λ v. right_side b v >>= λ o. declared_by line x a o st) (λ (r : State × Statement). F w (at r.0 (under (of_items i) (followed_by ns (one r.1)) ∷ fs) stands)) (side_respects line width b (λ o. declared_by line x a o st))
 
   before_comma : (x : Declarator) (c : ℕ) (w : List Token) (st : State) (i : ℕ) (ns : Statements) (fs : List Frame) → GoodDeclarator x → F (spell_declarator x ++ token comma c ∷ w) (at st (under (of_items i) ns ∷ fs) names_next) ≡ walk_declarator line width x st >>= λ r. F w (at r.0 (under (of_items i) (followed_by ns (one r.1)) ∷ fs) names_next)
   before_comma (bare x a) c w st i ns fs g = bind_left (declared_by line x a None st) (λ r. Ok (at r.0 (under (of_items i) (followed_by ns (one r.1)) ∷ fs) names_next)) (λ s. F w s) _ (λ r. refl)
-  before_comma (given x a b e) c w st i ns fs g = fed_expr line width st e 0 (initial x a b ∷ under (of_items i) ns ∷ fs) (token comma c) w g tt tt ∙ bind_right (walk_expr line width st e) _ (λ v. right_side b v >>= λ o. declared_by line x a o st) _ (λ v. bind_both (right_side b v) (λ o. declared_by line x a o st >>= λ r. Ok (at r.0 (under (of_items i) (followed_by ns (one r.1)) ∷ fs) names_next)) (λ s. F w s) (λ o. declared_by line x a o st) _ (λ o. bind_left (declared_by line x a o st) (λ r. Ok (at r.0 (under (of_items i) (followed_by ns (one r.1)) ∷ fs) names_next)) (λ s. F w s) _ (λ r. refl)))
+  before_comma (given x a b e) c w st i ns fs g = fed_expr line width st e 0 (initial x a b ∷ under (of_items i) ns ∷ fs) (token comma c) w g tt tt ∙ bind_right (walk_small line width st e) _ (λ v. right_side b v >>= λ o. declared_by line x a o st) (λ (r : State × Statement). F w (at r.0 (under (of_items i) (followed_by ns (one r.1)) ∷ fs) names_next)) (λ v. bind_both (right_side b v) (λ o. declared_by line x a o st >>= λ r. Ok (at r.0 (under (of_items i) (followed_by ns (one r.1)) ∷ fs) names_next)) (λ s. F w s) (λ o. declared_by line x a o st) _ (λ o. bind_left (declared_by line x a o st) (λ r. Ok (at r.0 (under (of_items i) (followed_by ns (one r.1)) ∷ fs) names_next)) (λ s. F w s) _ (λ r. refl))) ∙ small_then line width st e (λ v. right_side b v >>= λ o. declared_by line x a o st) (λ (r : State × Statement). F w (at r.0 (under (of_items i) (followed_by ns (one r.1)) ∷ fs) names_next)) (side_respects line width b (λ o. declared_by line x a o st))
 
   declarators_fed : (xs : Declarators) (w : List Token) (st : State) (i : ℕ) (ns : Statements) (fs : List Frame) → GoodDeclarators xs → F (spell_declarators xs ++ w) (at st (under (of_items i) ns ∷ fs) names_next) ≡ walk_declarators line width xs st >>= λ q. F w (at q.0 (under (of_items i) (followed_by ns q.1) ∷ fs) stands)
   declarators_fed (declares x c) w st i ns fs g =

@@ -12,3 +12,4 @@ pub mod Whole
 pub mod Meant
 pub mod Plain
 pub mod Named
+pub mod Small

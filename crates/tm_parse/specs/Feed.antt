@@ -1,12 +1,12 @@
 -- The walk token by token, with a stack of what is pending.
-use Rattle.std.specs.Prelude.{nat_lt, Bool, true, false, ℕ, pos, negsuc, List, [], ◌∷◌, length, Option, Some, None, Result, Ok, Err}
+use Rattle.std.specs.Prelude.{if◌then◌else◌, nat_lt, Bool, true, false, ℕ, pos, negsuc, List, [], ◌∷◌, length, Option, Some, None, Result, Ok, Err}
 use Rattle.tm_gram.specs.Grammar.{Op, or_op, and_op, compare_op, plus_op, minus_op, times_op, level, Prefix, negative, positive, negation, Change, Direction, Kind, a_name, a_number, infix_sign, bang, left_paren, right_paren, left_brace, right_brace, comma, semicolon, colon, change_sign, step_sign, int_word, if_word, else_word, while_word, return_word, assume_word, nondet_word, the_end, Token, token}
 use Rattle.tm_tree.specs.Tree as tree
-use Rattle.tm_tree.specs.Tree.{Condition, Statement, Statements, nil, cons}
+use Rattle.tm_tree.specs.Tree.{Condition, Statement, Statements, nil, cons, leaf_count}
 use Rattle.tm_parse.specs.declared.fault.ParseFault.{ParseFault}
 use Rattle.tm_parse.specs.Results.{◌>>=◌}
 use Rattle.tm_parse.specs.Forms.{constant_form, variable_form}
-use Rattle.tm_parse.specs.Walk.{Value, a_form, a_nondet, State, start_state, followed_by, one, counted, labelled_by, known_number, combined, prefix_value, ranged, regarded, tested, right_side, assignment, assigned, step_node, declared_by, closed, whole}
+use Rattle.tm_parse.specs.Walk.{Value, a_form, a_truth, a_nondet, two_conditions, State, start_state, followed_by, one, counted, labelled_by, known_number, combined, prefix_value, ranged, regarded, tested, right_side, assignment, assigned, step_node, declared_by, closed, whole}
 
 -- what a condition in parentheses belongs to
 pub data Test : Type 0 where
@@ -87,6 +87,16 @@ prefix_of or_op = None
 prefix_of and_op = None
 prefix_of (compare_op r) = None
 
+-- two conditions joined; with more than 64 leaves, where the statement will be refused, the first one stays as it is
+abbrev pub grown : (Condition → Condition → Condition) → Condition → Condition → Condition
+grown join c d = if nat_lt 64 (leaf_count c) then c else join c d
+
+-- what a sign makes of its sides, conditions kept small
+abbrev pub combined_small : Op → ℕ → Value → Value → Result Value ParseFault
+combined_small or_op a v w = two_conditions v w >>= λ p. Ok (a_truth (grown tree.either p.0 p.1))
+combined_small and_op a v w = two_conditions v w >>= λ p. Ok (a_truth (grown tree.both p.0 p.1))
+combined_small o a v w = combined o a v w
+
 -- the signs before a whole operand are applied
 abbrev pub complete : List Frame → Value → Result (List Frame × Value) ParseFault
 complete (before p a ∷ fs) v = prefix_value p a v >>= λ u. complete fs u
@@ -100,7 +110,7 @@ complete (under w ns ∷ fs) v = Ok (under w ns ∷ fs, v)
 
 -- the left sides whose sign holds at least as tightly as the next one are joined
 abbrev pub settle : ℕ → List Frame → Value → Result (List Frame × Value) ParseFault
-settle l (side u o a ∷ fs) v = elim (nat_lt (level o) l) [ true ↦ Ok (side u o a ∷ fs, v) | false ↦ combined o a u v >>= λ x. settle l fs x ]
+settle l (side u o a ∷ fs) v = elim (nat_lt (level o) l) [ true ↦ Ok (side u o a ∷ fs, v) | false ↦ combined_small o a u v >>= λ x. settle l fs x ]
 settle l [] v = Ok ([], v)
 settle l (before p a ∷ fs) v = Ok (before p a ∷ fs, v)
 settle l (group a ∷ fs) v = Ok (group a ∷ fs, v)

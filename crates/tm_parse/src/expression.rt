@@ -1,10 +1,9 @@
 //! Expressions, token by token.
 #![tactic(auto, using(crate::proofs::Binds::then_ok, crate::proofs::Binds::then_err))]
 
-ghost use Rattle.std.specs.Prelude.{◌≡◌, ◌≤◌, ◌+◌, min, length, IfOk};
+ghost use Rattle.std.specs.Prelude.{◌≡◌, ◌≤◌, length, IfOk};
 ghost use Rattle.tm_gram.specs.View.{symbol_kind, change_of};
 ghost use Rattle.tm_lex.specs.Lines.{line_at};
-ghost use Rattle.tm_tree.specs.Tree.{leaf_count};
 ghost use Rattle.tm_tree.specs.View.{condition_of};
 ghost use Rattle.tm_parse.specs.Walk.{tested, right_side, assigned};
 ghost use Rattle.tm_parse.specs.Feed.{at, signed, wanted, decided, after_paren, after_semicolon, after_comma, followed};
@@ -20,43 +19,11 @@ use crate::forms::{constant_form, together, variable_form};
 use crate::frame::{Before, Frame, Test, Within, complete, level, one, pushed, regarded, settle};
 use crate::lexeme::{Lexeme, literal};
 use crate::mode::Mode;
-use crate::value::{Value, as_condition, number_of};
+use crate::value::{LEAVES, Value, as_condition, leaves_up_to, number_of};
 use std::alloc::{AllocError, Global};
 use tm_gram::{Change, Op, Symbol};
 use tm_lex::line_of;
 use tm_tree::{Cond, Form, Stmt};
-
-/// The most leaves of a condition.
-const LEAVES: u32 = 64;
-
-/// The number of a condition's leaves, or one more than `most` where it has more. It calls itself
-/// at most so many times deeper than constructs nest.
-fn leaves_up_to(cond: &Cond, most: u32) -> u32
-    requires { most ≤ 64 }
-    ensures { result ≡ min (leaf_count (condition_of cond.now)) (most + 1) }
-{
-    match cond {
-        Cond::Free => 1,
-        Cond::Cmp(_, _) => 1,
-        Cond::Not(inner) => leaves_up_to(inner, most),
-        Cond::Both(first, second) => {
-            let last = leaves_up_to(second, most);
-            if last > most {
-                last
-            } else {
-                last + leaves_up_to(first, most - last)
-            }
-        }
-        Cond::Either(first, second) => {
-            let last = leaves_up_to(second, most);
-            if last > most {
-                last
-            } else {
-                last + leaves_up_to(first, most - last)
-            }
-        }
-    }
-}
 
 /// The condition of the statement that begins at `at`.
 fn tested(at: u32, value: Value) -> Result<Cond, ParseFault>

@@ -6,6 +6,7 @@ mod expression;
 mod fault;
 mod forms;
 mod frame;
+mod laws;
 mod lexeme;
 mod mode;
 mod names;
@@ -16,6 +17,7 @@ mod value;
 mod width;
 
 pub use fault::{Limit, ParseFault};
+pub use laws::one_meaning;
 pub use parser::parse;
 
 #[cfg(test)]

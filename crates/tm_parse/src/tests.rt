@@ -257,7 +257,7 @@ fn long_texts_are_read(rt: HostRuntime) -> Result<(), Fail> {
         (
             b"int main() { int x; assume(x",
             b"&&x",
-            1_000,
+            20_000,
             b"); }",
             Some(limit(20, Limit::Leaves)),
         ),

@@ -1,11 +1,13 @@
 //! What expressions are: numbers, truth values or `nondet()`.
 #![tactic(auto, using(crate::proofs::Binds::then_ok, crate::proofs::Binds::then_err))]
 
-ghost use Rattle.std.specs.Prelude.{◌≡◌};
+ghost use Rattle.std.specs.Prelude.{◌≡◌, ◌≤◌, ◌+◌, min};
+ghost use Rattle.tm_tree.specs.Tree.{leaf_count};
 ghost use Rattle.tm_tree.specs.View.{condition_of};
 ghost use Rattle.tm_gram.specs.Grammar.{or_op, and_op};
 ghost use Rattle.tm_gram.specs.View.{relation_of, op_of};
-ghost use Rattle.tm_parse.specs.Walk.{number_of, as_condition, first_of, rel_of, compared, product, combined};
+ghost use Rattle.tm_parse.specs.Walk.{number_of, as_condition, first_of, rel_of, compared, product};
+ghost use Rattle.tm_parse.specs.Feed.{combined_small};
 ghost use Rattle.tm_parse.specs.Gives.{Gives};
 ghost use Rattle.tm_parse.specs.Values.{value_of};
 
@@ -15,6 +17,9 @@ use std::alloc::Global;
 use tm_gram::{Op, Relation};
 use tm_tree::{Cond, Form, Rel};
 
+/// The most leaves of a condition.
+pub(crate) const LEAVES: u32 = 64;
+
 /// What an expression is.
 #[derive(Drop)]
 pub(crate) enum Value {
@@ -23,6 +28,35 @@ pub(crate) enum Value {
     Truth(Cond),
     /// `nondet()`, with its place.
     Nondet(u32),
+}
+
+/// The number of a condition's leaves, or one more than `most` where it has more. It calls itself
+/// at most so many times deeper than constructs nest.
+pub(crate) fn leaves_up_to(cond: &Cond, most: u32) -> u32
+    requires { most ≤ 64 }
+    ensures { result ≡ min (leaf_count (condition_of cond.now)) (most + 1) }
+{
+    match cond {
+        Cond::Free => 1,
+        Cond::Cmp(_, _) => 1,
+        Cond::Not(inner) => leaves_up_to(inner, most),
+        Cond::Both(first, second) => {
+            let last = leaves_up_to(second, most);
+            if last > most {
+                last
+            } else {
+                last + leaves_up_to(first, most - last)
+            }
+        }
+        Cond::Either(first, second) => {
+            let last = leaves_up_to(second, most);
+            if last > most {
+                last
+            } else {
+                last + leaves_up_to(first, most - last)
+            }
+        }
+    }
 }
 
 /// The number that the sign at `sign` asks for.
@@ -107,21 +141,28 @@ fn product(alloc: Global, at: u32, left: &Form, right: &Form) -> Result<Form, Pa
     }
 }
 
-/// What `||` makes of its sides.
+/// What `||` makes of its sides. Past the limit of leaves, where the statement will be refused, the
+/// left one stays as it is, so that no condition gets deeper than constructs nest and leaves allow.
 fn either(alloc: Global, left: Value, right: Value) -> Result<Value, ParseFault>
-    ensures { Gives value_of result (combined or_op 0 (value_of left) (value_of right)) }
+    ensures { Gives value_of result (combined_small or_op 0 (value_of left) (value_of right)) }
 {
     let first = as_condition(left)?;
     let second = as_condition(right)?;
+    if leaves_up_to(&first, LEAVES) > LEAVES {
+        return Ok(Value::Truth(first));
+    }
     Ok(Value::Truth(Cond::Either(Box::new(alloc, first)?, Box::new(alloc, second)?)))
 }
 
-/// What `&&` makes of its sides.
+/// What `&&` makes of its sides; past the limit of leaves likewise.
 fn both(alloc: Global, left: Value, right: Value) -> Result<Value, ParseFault>
-    ensures { Gives value_of result (combined and_op 0 (value_of left) (value_of right)) }
+    ensures { Gives value_of result (combined_small and_op 0 (value_of left) (value_of right)) }
 {
     let first = as_condition(left)?;
     let second = as_condition(right)?;
+    if leaves_up_to(&first, LEAVES) > LEAVES {
+        return Ok(Value::Truth(first));
+    }
     Ok(Value::Truth(Cond::Both(Box::new(alloc, first)?, Box::new(alloc, second)?)))
 }
 
@@ -133,7 +174,7 @@ pub(crate) fn combined(
     left: Value,
     right: Value,
 ) -> Result<Value, ParseFault>
-    ensures { Gives value_of result (combined (op_of op) at (value_of left) (value_of right)) }
+    ensures { Gives value_of result (combined_small (op_of op) at (value_of left) (value_of right)) }
 {
     match op {
         Op::Or => return either(alloc, left, right),
