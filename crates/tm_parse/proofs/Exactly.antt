@@ -1,5 +1,5 @@
 -- A text means one thing.
-use Rattle.std.proofs.Common.{◌≡◌, ◌∙◌, ◌⊎◌, inl, inr, ℕ, List, Err, refl, sym, ap}
+use Rattle.std.proofs.Common.{◌≡◌, ◌∙◌, inl, inr, ℕ, List, Err, refl, sym, ap}
 use Rattle.tm_gram.specs.Grammar.{Token, Program, Reads}
 use Rattle.tm_gram.specs.Machine.{start}
 use Rattle.tm_gram.specs.Depth.{Scan, whole, short, unexpected, nested, scan}

@@ -1,20 +1,17 @@
 -- Feeding the spelling of a tree is walking it.
-use Rattle.std.proofs.Common.{◌≡◌, ◌∙◌, ◌++◌, ◌<◌, ◌≤◌, ℕ, suc, List, [], ◌∷◌, length, Result, Ok, Err, refl, sym, ap, append_assoc, arith, Bool, true, false, Option, None}
+use Rattle.std.proofs.Common.{◌≡◌, ◌∙◌, ◌++◌, ◌<◌, ◌≤◌, ℕ, suc, List, [], ◌∷◌, Result, Ok, refl, sym, ap, append_assoc, arith, Bool, true, false}
 use Rattle.std.proofs.lemmas.Bool.{lt-ltb, le-ltb}
 use Rattle.std.specs.Prelude.{pos}
-use Rattle.tm_gram.specs.Grammar.{Op, level, Prefix, negative, positive, negation, Change, replaces, Direction, Kind, a_name, infix_sign, left_paren, right_paren, right_brace, left_brace, comma, semicolon, colon, change_sign, step_sign, int_word, if_word, else_word, while_word, assume_word, return_word, the_end, Token, token, Groups, Expr, number, variable, free, grouped, prefixed, joined, spell_expr, Declarators, declares, declares_more, bare, given, spell_declarators, GoodDeclarators, Core, empty, block, if_alone, if_else, repeat, assumed, set, step_after, step_before, Sub, labelled, plain, Items, no_items, label, declaration, item, spell_core, spell_sub, spell_items, Ending, shut, waiting, ending_core, ending_sub, GoodCore, GoodSub, GoodItems, Return, no_return, returns, returns_minus, spell_return, Parameters, nothing, void_at, Program, program, spell, Good}
+use Rattle.tm_gram.specs.Grammar.{Op, level, Prefix, negative, positive, negation, infix_sign, right_paren, comma, semicolon, Token, token, Groups, Expr, number, variable, free, grouped, prefixed, joined, spell_expr}
 use Rattle.tm_gram.proofs.Sound.{below_six}
-use Rattle.tm_gram.proofs.Complete.{NotElse, GoesOn, items_head, return_head}
-use Rattle.tm_tree.specs.Tree as tree
-use Rattle.tm_tree.specs.Tree.{Condition, Statement, Statements, nil, cons}
 use Rattle.tm_parse.specs.declared.fault.ParseFault.{ParseFault}
 use Rattle.tm_parse.specs.Results.{◌>>=◌}
 use Rattle.tm_parse.specs.Forms.{constant_form, variable_form}
-use Rattle.tm_parse.specs.Walk.{Value, a_form, a_nondet, State, start_state, followed_by, one, counted, labelled_by, known_number, prefix_value, ranged, regarded, tested, right_side, assignment, assigned, stepped, step_node, declared_by, closed, whole, walk_declarators, walk_core, walk_sub, walk_items}
+use Rattle.tm_parse.specs.Walk.{Value, a_form, a_nondet, State, known_number, prefix_value, ranged, regarded}
 use Rattle.tm_parse.specs.Feed as feeds
 use Rattle.tm_parse.specs.Feed.{combined_small, Frame, side, before, group, test, assigns, initial, under, of_if, of_while, of_assume, wants, has, stands, heading, after, ends, Mode, Machine, at, Outcome, complete, settle, pushed}
 use Rattle.tm_parse.proofs.Small.{walk_small}
-use Rattle.tm_parse.proofs.Binds.{bind_assoc, bind_same, bind_both, bind_left, bind_right}
+use Rattle.tm_parse.proofs.Binds.{bind_assoc, bind_same, bind_both, bind_right}
 
 -- the next token joins every left side of level l and above
 abbrev pub Next : ℕ → Token → Type 0

@@ -1,16 +1,16 @@
 -- Feeding the spelling of statements and of a program is walking them.
-use Rattle.std.proofs.Common.{◌≡◌, ◌∙◌, ◌++◌, ◌≤◌, ℕ, suc, List, [], ◌∷◌, length, Result, Ok, Err, refl, sym, ap, ap₂, append_assoc, Option, Some, None}
-use Rattle.tm_gram.specs.Grammar.{Change, replaces, Direction, Kind, a_name, right_paren, left_paren, right_brace, left_brace, comma, semicolon, colon, change_sign, step_sign, int_word, main_word, void_word, if_word, else_word, while_word, assume_word, return_word, the_end, Token, token, Groups, Expr, spell_expr, Declarators, Declarator, declares, declares_more, bare, given, spell_declarator, spell_declarators, GoodDeclarator, GoodDeclarators, Parameters, a_number, infix_sign, bang, nondet_word, other_word, Core, empty, block, if_alone, if_else, repeat, assumed, set, step_after, step_before, Sub, labelled, plain, Items, no_items, label, declaration, item, spell_core, spell_sub, spell_items, Ending, shut, waiting, ending_core, ending_sub, GoodCore, GoodSub, GoodItems, Return, no_return, returns, returns_minus, spell_return, nothing, void_at, Program, program, spell, Good}
+use Rattle.std.proofs.Common.{◌≡◌, ◌∙◌, ◌++◌, ℕ, List, [], ◌∷◌, length, Result, Ok, refl, sym, ap, append_assoc, None}
+use Rattle.tm_gram.specs.Grammar.{Change, Direction, Kind, a_name, right_paren, left_paren, right_brace, left_brace, comma, semicolon, colon, change_sign, step_sign, int_word, main_word, void_word, if_word, else_word, while_word, assume_word, return_word, the_end, Token, token, Groups, Expr, spell_expr, Declarators, Declarator, declares, declares_more, bare, given, spell_declarator, spell_declarators, GoodDeclarator, GoodDeclarators, Parameters, a_number, infix_sign, bang, nondet_word, other_word, Core, empty, block, if_alone, if_else, repeat, assumed, set, step_after, step_before, Sub, labelled, plain, Items, no_items, label, declaration, item, spell_core, spell_sub, spell_items, Ending, shut, waiting, ending_core, ending_sub, GoodCore, GoodSub, GoodItems, Return, no_return, returns, returns_minus, spell_return, nothing, void_at, program, spell}
 use Rattle.tm_gram.proofs.Complete.{NotElse, GoesOn, items_head, return_head}
 use Rattle.tm_tree.specs.Tree as tree
 use Rattle.tm_tree.specs.Tree.{Condition, Statement, Statements, nil, cons}
 use Rattle.tm_parse.specs.declared.fault.ParseFault.{ParseFault}
 use Rattle.tm_parse.specs.Results.{◌>>=◌}
-use Rattle.tm_parse.specs.Walk.{Value, State, start_state, followed_by, one, counted, labelled_by, known_number, tested, right_side, assignment, assigned, step_node, declared_by, closed, whole, walk_expr, walk_declarator, walk_declarators, walk_core, walk_sub, walk_items}
+use Rattle.tm_parse.specs.Walk.{State, start_state, followed_by, one, counted, labelled_by, known_number, tested, right_side, assignment, assigned, step_node, declared_by, closed, whole, walk_expr, walk_declarator, walk_declarators, walk_core, walk_sub, walk_items}
 use Rattle.tm_parse.specs.Feed as feeds
 use Rattle.tm_parse.specs.Feed.{Frame, side, before, group, test, assigns, initial, Within, of_items, of_branch, of_other, of_loop, under, wrapped, of_if, of_while, of_assume, wants, has, stands, heading, named, after, ends, returning, Mode, Machine, at, Outcome, pushed, begin, nodes_under, result_of}
 use Rattle.tm_parse.specs.Feed.{declares as names_next, declared as name_read}
-use Rattle.tm_parse.proofs.Binds.{bind_assoc, bind_same, bind_both, bind_left, bind_right}
+use Rattle.tm_parse.proofs.Binds.{bind_both, bind_left, bind_right}
 use Rattle.tm_parse.proofs.Fed.{feed, fed_expr}
 use Rattle.tm_parse.proofs.Small.{walk_small, small_then, test_respects, side_respects, assigned_respects}
 

@@ -1,9 +1,9 @@
 -- What a walk gives is a program within the limits.
-use Rattle.std.proofs.Common.{◌≡◌, ◌∙◌, ◌++◌, ◌+◌, ◌≤◌, ◌<◌, ℕ, zero, suc, ℤ, pos, negsuc, List, [], ◌∷◌, length, Bool, true, false, ◌&&◌, ◌==◌, not, cond, IsTrue, Result, Ok, Err, Option, Some, None, refl, sym, ap, ap₂, arith, replicate, nat_le, nat_lt, nat_eq, min, subst}
+use Rattle.std.proofs.Common.{◌≡◌, ◌∙◌, ◌++◌, ◌+◌, ◌≤◌, ◌<◌, ℕ, zero, suc, ℤ, pos, negsuc, List, [], ◌∷◌, length, Bool, true, false, ◌&&◌, ◌==◌, cond, IsTrue, Result, Ok, Err, Option, Some, None, refl, sym, ap, arith, replicate, nat_le, nat_lt, nat_eq, min, subst}
 use Rattle.std.proofs.Math.ListN.{set}
 use Rattle.std.proofs.lemmas.Bool.{lt-ltb, le-leb, ltb-true, ltb-false, eq-eqb, eqb-true}
 use Rattle.std.proofs.lemmas.List.{length-append, length-set, length-replicate}
-use Rattle.std.specs.List.{list_any, position, position_or_len}
+use Rattle.std.specs.List.{list_any, position_or_len}
 use Rattle.std.specs.Str.{bytes_eq}
 use Rattle.tm_gram.specs.Grammar.{Relation, Op, or_op, and_op, compare_op, plus_op, minus_op, times_op, Prefix, negative, positive, negation, Change, replaces, adds, subtracts, Direction, up, down, Expr, number, variable, free, grouped, prefixed, joined, Declarator, bare, given, Declarators, declares, declares_more, Core, empty, block, if_alone, if_else, repeat, assumed, set as set_core, step_after, step_before, Sub, labelled, plain, Items, no_items, label, declaration, item}
 use Rattle.tm_tree.specs.declared.form.Form.{Form}
@@ -16,8 +16,8 @@ use Rattle.tm_parse.specs.declared.fault.ParseFault.TheVariants as fault
 use Rattle.tm_parse.specs.declared.fault.Limit.TheVariants as limit
 use Rattle.tm_parse.specs.Results.{◌>>=◌}
 use Rattle.tm_parse.specs.Names.{place_of}
-use Rattle.tm_parse.specs.Forms.{constant_form, variable_form, sum_or_difference, pairwise, together, plus, minus, products, scaled, is_constant, is_comparable}
-use Rattle.tm_parse.specs.Walk.{Value, a_form, a_truth, a_nondet, State, start_state, followed_by, one, counted, labelled_by, number_if_known, known_number, number_of, as_condition, ranged_number, ranged_numbers, ranged, first_of, two_numbers, two_conditions, rel_of, compared, product, combined, prefix_value, regarded, few_leaves, tested, right_side, assignment, assigned, stepped, declared_by, closed, step_node, walk_expr, walk_declarator, walk_declarators, walk_core, walk_sub, walk_items, declared_in, declared_core, declared_sub, declared_items, whole}
+use Rattle.tm_parse.specs.Forms.{constant_form, variable_form, pairwise, together, plus, minus, products, scaled, is_constant, is_comparable}
+use Rattle.tm_parse.specs.Walk.{Value, a_form, a_truth, a_nondet, State, start_state, followed_by, one, counted, labelled_by, number_if_known, known_number, number_of, as_condition, ranged_number, ranged_numbers, ranged, two_numbers, two_conditions, compared, product, combined, prefix_value, regarded, few_leaves, tested, right_side, assignment, assigned, stepped, declared_by, closed, walk_expr, walk_declarator, walk_declarators, walk_core, walk_sub, walk_items, declared_in, declared_core, declared_sub, declared_items, whole}
 use Rattle.tm_parse.proofs.Ranges.{zeros_fit, set_fits, ranged_are_numbers, ranged_is_number}
 
 -- what holds of a value, if there is one

@@ -1,5 +1,5 @@
 -- What the parser answers is what the text means.
-use Rattle.std.proofs.Common.{◌≡◌, ◌∙◌, ◌⊎◌, inl, inr, ◌-◌, ℕ, List, map, min, Result, Ok, Err, refl, sym, ap, ap₂, subst}
+use Rattle.std.proofs.Common.{◌≡◌, ◌∙◌, inl, inr, ◌-◌, ℕ, List, map, min, Ok, Err, refl, sym, ap₂, subst}
 use Rattle.tm_gram.specs.Grammar.{Token, Program, program, Reads}
 use Rattle.tm_gram.specs.Depth.{Scan, whole, short, unexpected, nested, scan}
 use Rattle.tm_gram.specs.Faults.{Finds}

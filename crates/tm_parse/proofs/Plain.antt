@@ -1,8 +1,8 @@
 -- What stands where an operand has to stand, and is no name and no number.
-use Rattle.std.proofs.Common.{◌≡◌, ℕ, List, Result, Ok, refl}
-use Rattle.tm_gram.specs.Grammar.{Kind, a_name, a_number, infix_sign, or_op, and_op, compare_op, plus_op, minus_op, times_op, bang, left_paren, right_paren, left_brace, right_brace, comma, semicolon, colon, change_sign, step_sign, int_word, main_word, void_word, if_word, else_word, while_word, return_word, assume_word, nondet_word, other_word, the_end}
+use Rattle.std.proofs.Common.{◌≡◌, ℕ, List, Ok, refl}
+use Rattle.tm_gram.specs.Grammar.{Kind, a_name, a_number, infix_sign, bang, left_paren, right_paren, left_brace, right_brace, comma, semicolon, colon, change_sign, step_sign, int_word, main_word, void_word, if_word, else_word, while_word, return_word, assume_word, nondet_word, other_word, the_end}
 use Rattle.tm_parse.specs.Walk.{State}
-use Rattle.tm_parse.specs.Feed.{Frame, Outcome, at, signed, wanted}
+use Rattle.tm_parse.specs.Feed.{Frame, at, signed, wanted}
 use Rattle.tm_parse.specs.Modes.{unnamed}
 
 pub plain_wanted : (line : ℕ → ℕ) (width : ℕ) (st : State) (fs : List Frame) (k : Kind) (a : ℕ) → wanted line width st fs (unnamed k) a ≡ Ok (at st (signed fs (unnamed k) a).0 (signed fs (unnamed k) a).1)

@@ -9,7 +9,7 @@ use Rattle.tm_parse.specs.declared.fault.ParseFault.TheVariants.{BigNumber}
 use Rattle.tm_parse.specs.Results.{◌>>=◌}
 use Rattle.tm_parse.specs.Forms.{products, pairwise, sum_or_difference}
 use Rattle.tm_parse.specs.Walk.{ranged_number, ranged_numbers}
-use Rattle.tm_parse.proofs.Binds.{bind_assoc, bind_same, then_ok, then_err}
+use Rattle.tm_parse.proofs.Binds.{bind_assoc, bind_same, then_ok}
 
 both_true : (a b : Bool) → IsTrue a → IsTrue b → IsTrue (a && b)
 both_true true b h i = i

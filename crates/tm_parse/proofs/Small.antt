@@ -1,6 +1,6 @@
 -- Conditions that are kept small mean the same: where one has more than 64 leaves, its statement is refused.
-use Rattle.std.proofs.Common.{◌≡◌, ◌∙◌, ◌⊎◌, inl, inr, ◌+◌, ◌<◌, ◌≤◌, ℕ, pos, negsuc, Option, Some, subst, Bool, true, false, cond, nat_lt, List, Result, Ok, Err, refl, sym, ap, ap₂, arith}
-use Rattle.std.proofs.lemmas.Bool.{lt-ltb, ltb-true, ltb-false}
+use Rattle.std.proofs.Common.{◌≡◌, ◌∙◌, ◌⊎◌, inl, inr, ◌+◌, ◌<◌, ℕ, pos, negsuc, Option, Some, subst, Bool, true, false, cond, nat_lt, Result, Ok, Err, refl, sym, ap, ap₂, arith}
+use Rattle.std.proofs.lemmas.Bool.{lt-ltb, ltb-true}
 use Rattle.tm_gram.specs.Grammar.{Op, or_op, and_op, compare_op, plus_op, minus_op, times_op, Prefix, negative, positive, negation, Change, replaces, adds, subtracts, Expr, number, variable, free, grouped, prefixed, joined}
 use Rattle.tm_tree.specs.Tree as tree
 use Rattle.tm_tree.specs.Tree.{Condition, leaf_count}
@@ -12,7 +12,6 @@ use Rattle.tm_parse.specs.Forms.{constant_form, variable_form, plus, minus, scal
 use Rattle.tm_tree.specs.declared.form.Form.{Form}
 use Rattle.tm_parse.specs.Walk.{Value, a_form, a_truth, a_nondet, State, known_number, number_of, as_condition, ranged, first_of, two_numbers, two_conditions, compared, product, combined, prefix_value, regarded, few_leaves, tested, right_side, assigned, walk_expr}
 use Rattle.tm_parse.specs.Feed.{grown, combined_small}
-use Rattle.tm_parse.proofs.Binds.{bind_assoc}
 
 module _ (line : ℕ → ℕ) (width : ℕ) where
   -- the walk of an expression, its conditions kept small

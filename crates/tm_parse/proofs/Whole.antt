@@ -1,9 +1,8 @@
 -- Tokens that end with `End` and begin a sentence are one; and the width of a sentence.
-use Rattle.std.proofs.Common.{◌≡◌, ◌∙◌, ◌++◌, ◌+◌, ◌-◌, ◌≤◌, ℕ, zero, suc, List, [], ◌∷◌, length, map, min, refl, sym, ap, ap₂, subst, arith, append_assoc}
+use Rattle.std.proofs.Common.{◌≡◌, ◌∙◌, ◌++◌, ◌+◌, ◌-◌, ℕ, zero, suc, List, [], ◌∷◌, length, map, min, refl, sym, ap, ap₂, subst, arith, append_assoc}
 use Rattle.std.proofs.lemmas.List.{append-nil, map-append}
-use Rattle.tm_gram.specs.Grammar.{Kind, a_name, a_number, infix_sign, bang, left_paren, right_paren, left_brace, right_brace, comma, semicolon, colon, change_sign, step_sign, int_word, main_word, void_word, if_word, else_word, while_word, return_word, assume_word, nondet_word, other_word, the_end, Token, token, Items, spell_items, Parameters, spell_parameters, Return, spell_return, Program, program, spell, Good, Reads, Begins}
+use Rattle.tm_gram.specs.Grammar.{Kind, left_paren, right_paren, left_brace, right_brace, comma, int_word, main_word, the_end, Token, token, Items, spell_items, Parameters, spell_parameters, Return, spell_return, Program, program, spell, Reads, Begins}
 use Rattle.tm_gram.specs.View.{kind_of, plain_kind, token_of, tokens_of, plain_token}
-use Rattle.tm_gram.specs.Faults.{Fine}
 use Rattle.tm_lex.specs.declared.token.Kind.TheVariants as lex
 use Rattle.tm_lex.specs.declared.token.Kind as lex_kind
 use Rattle.tm_lex.specs.declared.token.Token as lex_token

@@ -1,8 +1,8 @@
 -- What the spelling of a program counts.
-use Rattle.std.proofs.Common.{◌≡◌, ◌∙◌, ◌++◌, ◌+◌, ℕ, zero, suc, List, [], ◌∷◌, refl, sym, ap, arith, append_assoc}
-use Rattle.tm_gram.specs.Grammar.{replaces, minus_op, Prefix, negative, positive, negation, Kind, a_name, a_number, infix_sign, bang, left_paren, right_paren, left_brace, right_brace, comma, semicolon, colon, change_sign, step_sign, int_word, main_word, void_word, if_word, else_word, while_word, return_word, assume_word, nondet_word, other_word, the_end, sign_of, Token, token, Expr, number, variable, free, grouped, prefixed, joined, spell_expr, Declarator, bare, given, Declarators, declares, declares_more, spell_declarator, spell_declarators, Core, empty, block, if_alone, if_else, repeat, assumed, set, step_after, step_before, Sub, labelled, plain, Items, no_items, label, declaration, item, spell_core, spell_sub, spell_items, Parameters, nothing, void_at, spell_parameters, Return, no_return, returns, returns_minus, spell_return, Program, program, spell, Reads}
+use Rattle.std.proofs.Common.{◌≡◌, ◌∙◌, ◌++◌, ◌+◌, ℕ, zero, suc, List, [], ◌∷◌, refl, ap, arith}
+use Rattle.tm_gram.specs.Grammar.{replaces, minus_op, Prefix, negative, positive, negation, Kind, a_name, a_number, infix_sign, left_paren, right_paren, left_brace, right_brace, comma, semicolon, colon, change_sign, step_sign, int_word, main_word, void_word, if_word, else_word, while_word, return_word, assume_word, nondet_word, the_end, sign_of, Token, token, Expr, number, variable, free, grouped, prefixed, joined, spell_expr, Declarator, bare, given, Declarators, declares, declares_more, spell_declarator, spell_declarators, Core, empty, block, if_alone, if_else, repeat, assumed, set, step_after, step_before, Sub, labelled, plain, Items, no_items, label, declaration, item, spell_core, spell_sub, spell_items, Parameters, nothing, void_at, spell_parameters, Return, no_return, returns, returns_minus, spell_return}
 use Rattle.tm_parse.specs.Walk.{declared_in, declared_core, declared_sub, declared_items}
-use Rattle.tm_parse.specs.Width.{total, mark}
+use Rattle.tm_parse.specs.Width.{total}
 
 pub total_append : (f : Kind → ℕ) (xs ys : List Token) → total f (xs ++ ys) ≡ total f xs + total f ys
 total_append f [] ys = omega arith

@@ -1,6 +1,6 @@
 -- The walk token by token, with a stack of what is pending.
-use Rattle.std.specs.Prelude.{if◌then◌else◌, nat_lt, Bool, true, false, ℕ, pos, negsuc, List, [], ◌∷◌, length, Option, Some, None, Result, Ok, Err}
-use Rattle.tm_gram.specs.Grammar.{Op, or_op, and_op, compare_op, plus_op, minus_op, times_op, level, Prefix, negative, positive, negation, Change, Direction, Kind, a_name, a_number, infix_sign, bang, left_paren, right_paren, left_brace, right_brace, comma, semicolon, colon, change_sign, step_sign, int_word, if_word, else_word, while_word, return_word, assume_word, nondet_word, the_end, Token, token}
+use Rattle.std.specs.Prelude.{if◌then◌else◌, nat_lt, Bool, true, false, ℕ, pos, List, [], ◌∷◌, length, Option, Some, None, Result, Ok}
+use Rattle.tm_gram.specs.Grammar.{Op, or_op, and_op, compare_op, plus_op, minus_op, times_op, level, Prefix, negative, positive, negation, Change, Direction, Kind, a_name, a_number, infix_sign, bang, left_paren, right_paren, left_brace, right_brace, comma, semicolon, colon, change_sign, step_sign, int_word, if_word, else_word, while_word, return_word, assume_word, nondet_word, Token, token}
 use Rattle.tm_tree.specs.Tree as tree
 use Rattle.tm_tree.specs.Tree.{Condition, Statement, Statements, nil, cons, leaf_count}
 use Rattle.tm_parse.specs.declared.fault.ParseFault.{ParseFault}

@@ -1,5 +1,5 @@
 -- What a program's tree means: names, kinds and limits, in the order of a text's faults.
-use Rattle.std.specs.Prelude.{if◌then◌else◌, ◌++◌, ◌||◌, Bool, true, false, nat_lt, nat_eq, ℕ, suc, ℤ, pos, negsuc, List, [], ◌∷◌, length, take, Option, Some, None, Result, Ok, Err, min, ◌+◌}
+use Rattle.std.specs.Prelude.{if◌then◌else◌, ◌++◌, nat_lt, nat_eq, ℕ, suc, ℤ, pos, negsuc, List, [], ◌∷◌, length, take, Option, Some, None, Result, Ok, Err, min, ◌+◌}
 use Rattle.std.specs.List.{list_any}
 use Rattle.tm_gram.specs.Grammar.{Relation, equal, unequal, less, at_most, greater, at_least, Op, or_op, and_op, compare_op, plus_op, minus_op, times_op, Prefix, negative, positive, negation, Change, replaces, adds, subtracts, Direction, up, down, Expr, number, variable, free, grouped, prefixed, joined, Declarator, bare, given, Declarators, declares, declares_more, Core, empty, block, if_alone, if_else, repeat, assumed, set, step_after, step_before, Sub, labelled, plain, Items, no_items, label, declaration, item, Program, program}
 use Rattle.tm_tree.specs.declared.form.Form.{Form}

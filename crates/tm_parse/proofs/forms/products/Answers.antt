@@ -1,4 +1,4 @@
-use Rattle.std.proofs.Common.{arith, refl, rules, ap, ◌∙◌, ◌++◌, ◌∷◌, [], FitsSigned, w64, get_or, pos}
+use Rattle.std.proofs.Common.{arith, rules, ap, ◌∙◌, ◌++◌, ◌∷◌, [], FitsSigned, w64, get_or, pos}
 use Rattle.std.proofs.lemmas.Int.{to_z-of_z}
 use Rattle.tm_parse.specs.Forms.{products}
 use Rattle.tm_parse.proofs.Binds.{handed_on}

@@ -1,4 +1,4 @@
-use Rattle.std.proofs.Common.{FitsSigned, w64, rules, ◌*ℤ◌}
+use Rattle.std.proofs.Common.{FitsSigned, rules, ◌*ℤ◌}
 use Rattle.std.proofs.lemmas.Int.{to_z-of_z}
 use mir.Syntax.{w128}
 use Rattle.tm_parse.proofs.forms.times.Goals as goal

@@ -1,8 +1,6 @@
-use Rattle.std.proofs.Common.{ap, sym, ◌∙◌, arith, ◌≡◌, ◌<◌, length, List, ℕ}
+use Rattle.std.proofs.Common.{ap, ◌∙◌, arith, ◌<◌, length, List, ℕ}
 use Rattle.std.specs.List.{position}
 use Rattle.std.specs.Str.{bytes_eq}
-use Rattle.indexmap.specs.IndexSet.{index_set_len}
-use Rattle.tm_parse.specs.Names.{keys_of}
 use Rattle.tm_parse.proofs.Texts.{place_is, keys_length}
 use Rattle.tm_parse.proofs.names.NameTable.place.Goals as goal
 
