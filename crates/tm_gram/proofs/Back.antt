@@ -1,9 +1,9 @@
 -- Each entry of the machine, read backwards.
 use Rattle.std.proofs.Common.{◌≡◌, ◌∙◌, ◌++◌, inl, inr, ℕ, suc, List, [], ◌∷◌, Option, Some, None, refl, sym, ap, append_assoc, subst}
-use Rattle.tm_gram.specs.Grammar.{Op, plus_op, minus_op, negative, positive, negation, Change, replaces, adds, subtracts, Direction, Kind, a_name, a_number, infix_sign, bang, left_paren, right_paren, left_brace, right_brace, comma, semicolon, colon, change_sign, step_sign, int_word, main_word, void_word, if_word, else_word, while_word, return_word, assume_word, nondet_word, the_end, Token, token, Groups, Expr, number, variable, free, grouped, prefixed, spell_expr, Declarators, declares, declares_more, bare, given, spell_declarators, GoodDeclarators, Core, empty, block, if_alone, if_else, repeat, assumed, set, step_after, step_before, Sub, labelled, plain, Items, no_items, label, declaration, item, spell_core, spell_sub, spell_items, Ending, shut, waiting, ending_core, ending_sub, GoodCore, Return, no_return, returns, returns_minus, spell_return, nothing, void_at, spell_parameters, Program, program, Reads}
-use Rattle.tm_gram.specs.Machine.{Ender, until_paren, until_semicolon, until_declared, Place, in_sub, in_block, in_main, next, opening, closing, brace_opening, brace_closing, statement_end, main_name, int_type, text_end, Mark, mark_kind, Goal, operand, more, statement, after_name, maybe_else, condition, declarator, declared, some_name, parameters, returned, some_number, only, Entry, takes, skips, stops, prefix_entry, operand_entry, more_entry, declaration_entry, close_entry, return_entry, statement_entry, label_entry, name_entry, else_entry, condition_entry, declarator_entry, declared_entry, some_name_entry, parameters_entry, returned_entry, some_number_entry, only_entry, entry, step, run, start}
+use Rattle.tm_gram.specs.Grammar.{Op, plus_op, minus_op, negative, positive, negation, Change, replaces, Direction, Kind, a_name, a_number, infix_sign, bang, left_paren, right_paren, left_brace, right_brace, comma, semicolon, colon, change_sign, step_sign, int_word, main_word, void_word, if_word, else_word, while_word, return_word, assume_word, nondet_word, the_end, Token, token, Groups, Expr, number, variable, free, grouped, prefixed, spell_expr, Declarators, declares, declares_more, bare, given, spell_declarators, Core, empty, block, if_alone, if_else, repeat, assumed, set, step_after, step_before, Sub, labelled, plain, no_items, label, declaration, item, spell_core, spell_sub, spell_items, Ending, shut, waiting, ending_core, ending_sub, GoodCore, no_return, returns, returns_minus, spell_return, nothing, void_at, spell_parameters, Program, program, Reads}
+use Rattle.tm_gram.specs.Machine.{Ender, until_paren, until_semicolon, until_declared, Place, in_sub, in_block, in_main, next, opening, closing, brace_opening, brace_closing, statement_end, main_name, int_type, text_end, Mark, Goal, operand, more, statement, after_name, maybe_else, condition, declarator, declared, some_name, parameters, returned, some_number, only, Entry, takes, skips, stops, prefix_entry, operand_entry, more_entry, declaration_entry, close_entry, return_entry, statement_entry, label_entry, name_entry, else_entry, condition_entry, declarator_entry, declared_entry, some_name_entry, parameters_entry, returned_entry, some_number_entry, only_entry, entry, step, run, start}
 use Rattle.tm_gram.proofs.Complete.{NotElse}
-use Rattle.tm_gram.proofs.Sound.{Links, ended, link, spell_links, GoodLinks, extend_all, spell_all, groups_all, any_level, Clear, no_more, and_more, Rest, spell_rest, GoodRest, Ended, Result, just, minus, spell_result, Holds}
+use Rattle.tm_gram.proofs.Sound.{Links, ended, link, spell_links, GoodLinks, extend_all, spell_all, groups_all, any_level, Clear, no_more, and_more, Ended, just, minus, Holds}
 
 abbrev pub Back : Entry → Goal → List Goal → Kind → ℕ → List Token → Type 0
 Back (takes next) g gs k a w = Holds (next ++ gs) w → Holds (g ∷ gs) (token k a ∷ w)

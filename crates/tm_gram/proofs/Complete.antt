@@ -1,7 +1,7 @@
 -- The machine takes the spelling of each good tree.
-use Rattle.std.proofs.Common.{◌≡◌, ◌∙◌, ◌++◌, ℕ, suc, List, [], ◌∷◌, Option, Some, None, refl, sym, ap, append_assoc}
-use Rattle.tm_gram.specs.Grammar.{else_word, negative, positive, negation, Kind, Token, token, Expr, number, variable, free, grouped, prefixed, joined, spell_expr, Declarator, bare, given, Declarators, declares, declares_more, spell_declarator, spell_declarators, Core, empty, block, if_alone, if_else, repeat, assumed, set, step_after, step_before, Sub, labelled, plain, Items, no_items, label, declaration, item, spell_core, spell_sub, spell_items, shut, ending_core, ending_sub, GoodCore, GoodSub, GoodItems, Return, no_return, returns, returns_minus, spell_return, Parameters, nothing, void_at, Program, program, spell, Good, right_brace, right_paren, left_brace, comma, semicolon}
-use Rattle.tm_gram.specs.Machine.{Ender, until_declared, Place, in_sub, in_block, in_main, next, Goal, operand, more, statement, after_name, maybe_else, declarator, declared, only, statement_end, brace_opening, text_end, parameters, skips, else_entry, step, run, start}
+use Rattle.std.proofs.Common.{◌≡◌, ◌∙◌, ◌++◌, ℕ, suc, List, [], ◌∷◌, Option, Some, None, refl, ap, append_assoc}
+use Rattle.tm_gram.specs.Grammar.{else_word, negative, positive, negation, Kind, Token, token, Expr, number, variable, free, grouped, prefixed, joined, spell_expr, bare, given, Declarators, declares, declares_more, spell_declarators, Core, empty, block, if_alone, if_else, repeat, assumed, set, step_after, step_before, Sub, labelled, plain, Items, no_items, label, declaration, item, spell_core, spell_sub, spell_items, shut, ending_core, ending_sub, GoodCore, GoodSub, GoodItems, Return, no_return, returns, returns_minus, spell_return, nothing, void_at, Program, program, spell, Good, right_brace, right_paren, comma, semicolon}
+use Rattle.tm_gram.specs.Machine.{Ender, until_declared, Place, in_sub, in_block, in_main, next, Goal, operand, more, statement, maybe_else, declarator, only, statement_end, text_end, skips, else_entry, step, run, start}
 
 pub expr_run : (e : Expr) (n : Ender) (d c : ℕ) (gs : List Goal) (w : List Token) → run (operand d ∷ more n c ∷ gs) (spell_expr e ++ w) ≡ run (more n c ∷ gs) w
 expr_run (number m a) n d c gs w = refl

@@ -1,8 +1,8 @@
 -- The machine counts what is open as the trees do.
 use Rattle.std.proofs.Common.{◌≡◌, ◌∙◌, ◌++◌, ℕ, suc, List, [], ◌∷◌, Option, Some, None, refl, sym, ap, ap₂, append_assoc, arith}
-use Rattle.tm_gram.specs.Grammar.{level, else_word, negative, positive, negation, Kind, Token, token, Groups, Expr, number, variable, free, grouped, prefixed, joined, spell_expr, Declarators, declares, declares_more, bare, given, spell_declarators, GoodDeclarators, Core, empty, block, if_alone, if_else, repeat, assumed, set, step_after, step_before, Sub, labelled, plain, Items, no_items, label, declaration, item, spell_core, spell_sub, spell_items, GoodCore, GoodSub, GoodItems, Return, no_return, returns, returns_minus, spell_return, Parameters, nothing, void_at, spell_parameters, Program, program, spell, Good, right_brace, right_paren, left_brace, comma, semicolon, the_end}
-use Rattle.tm_gram.specs.Machine.{Ender, until_paren, until_semicolon, until_declared, Place, in_sub, in_block, in_main, next, Goal, operand, more, statement, maybe_else, declarator, only, statement_end, brace_opening, text_end, start}
-use Rattle.tm_gram.specs.Depth.{opens_expr, opens_declarators, opens_core, opens_sub, opens_items, opens_return, opens_parameters, opens, opened, trace}
+use Rattle.tm_gram.specs.Grammar.{level, else_word, negative, positive, negation, Kind, Token, token, Groups, Expr, number, variable, free, grouped, prefixed, joined, spell_expr, Declarators, declares, declares_more, bare, given, spell_declarators, GoodDeclarators, Core, empty, block, if_alone, if_else, repeat, assumed, set, step_after, step_before, Sub, labelled, plain, Items, no_items, label, declaration, item, spell_core, spell_sub, spell_items, GoodCore, GoodSub, GoodItems, Return, no_return, returns, returns_minus, spell_return, nothing, void_at, Program, program, spell, Good, right_brace, right_paren, comma, semicolon, the_end}
+use Rattle.tm_gram.specs.Machine.{Ender, until_paren, until_semicolon, until_declared, Place, in_sub, in_block, in_main, next, Goal, operand, more, statement, maybe_else, declarator, only, statement_end, text_end, start}
+use Rattle.tm_gram.specs.Depth.{opens_expr, opens_declarators, opens_core, opens_sub, opens_items, opens_return, opens, opened, trace}
 use Rattle.tm_gram.proofs.Complete.{pending_core, pending_sub, none_sub, NotElse, pass_core, GoesOn, items_head, IsMany, return_head}
 use Rattle.tm_gram.proofs.Sound.{below_six}
 

@@ -1,6 +1,6 @@
 -- What the machine has taken can always be completed.
 use Rattle.std.proofs.Common.{◌≡◌, ◌++◌, List, [], ◌∷◌, Option, Some, None, refl}
-use Rattle.tm_gram.specs.Grammar.{Token, token, a_name, a_number, right_paren, semicolon, else_word, right_brace, colon, left_paren, left_brace, main_word, int_word, the_end}
+use Rattle.tm_gram.specs.Grammar.{Token, token, a_name, a_number, right_paren, semicolon, else_word, right_brace, colon, left_paren}
 use Rattle.tm_gram.specs.Machine.{until_paren, until_semicolon, until_declared, in_sub, in_block, in_main, opening, closing, brace_opening, brace_closing, statement_end, main_name, int_type, text_end, mark_kind, Goal, operand, more, statement, after_name, maybe_else, condition, declarator, declared, some_name, parameters, returned, some_number, only, step, run}
 
 abbrev pub finish : List Goal → List Token

@@ -1,7 +1,7 @@
 -- A text has at most one program.
 use Rattle.std.proofs.Common.{◌≡◌, ◌∙◌, ◌++◌, ℕ, suc, List, [], ◌∷◌, refl, sym, ap, ap₂, append_assoc, arith, subst}
-use Rattle.tm_gram.specs.Grammar.{Change, Direction, replaces, adds, subtracts, up, down, Kind, infix_sign, minus_op, a_name, a_number, right_paren, left_paren, right_brace, left_brace, comma, semicolon, colon, change_sign, step_sign, int_word, main_word, void_word, if_word, else_word, while_word, return_word, assume_word, the_end, Token, token, Groups, Expr, spell_expr, Declarator, bare, given, Declarators, declares, declares_more, spell_declarators, GoodDeclarators, Core, empty, block, if_alone, if_else, repeat, assumed, set, step_after, step_before, Sub, labelled, plain, Items, no_items, label, declaration, item, spell_core, spell_sub, spell_items, Ending, shut, waiting, ending_core, ending_sub, GoodCore, GoodSub, GoodItems, Parameters, nothing, void_at, Return, no_return, returns, returns_minus, spell_return, Program, program, spell, Good, Reads}
-use Rattle.tm_gram.proofs.Complete.{NotElse, GoesOn, items_head, return_head}
+use Rattle.tm_gram.specs.Grammar.{Change, replaces, Kind, infix_sign, minus_op, a_name, a_number, right_paren, left_paren, right_brace, left_brace, comma, semicolon, colon, change_sign, int_word, main_word, if_word, else_word, while_word, return_word, assume_word, the_end, Token, token, Groups, Expr, spell_expr, bare, given, Declarators, declares, declares_more, spell_declarators, GoodDeclarators, Core, empty, block, if_alone, if_else, repeat, assumed, set, step_after, step_before, Sub, labelled, plain, Items, no_items, label, declaration, item, spell_core, spell_sub, spell_items, Ending, shut, waiting, ending_core, ending_sub, GoodCore, GoodSub, GoodItems, Parameters, nothing, void_at, Return, no_return, returns, returns_minus, spell_return, Program, program, spell, Good, Reads}
+use Rattle.tm_gram.proofs.Complete.{NotElse, GoesOn, items_head}
 use Rattle.tm_gram.proofs.Sound.{Clear}
 use Rattle.tm_gram.proofs.Unique.{weight, IsEnd, unique, unique_expr, tail_of, head_of}
 

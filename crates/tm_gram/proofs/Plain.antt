@@ -1,10 +1,10 @@
 -- Names and numbers do not matter to the machine.
 use Rattle.std.specs.Prelude.{slice_range}
 use Rattle.std.proofs.Common.{◌≡◌, ◌∙◌, ◌+◌, ◌++◌, ℕ, List, [], ◌∷◌, Option, Some, None, refl, sym, ap, ap₂, map}
-use Rattle.tm_gram.specs.Grammar.{a_name, a_number, Kind, Token, token}
+use Rattle.tm_gram.specs.Grammar.{a_name, a_number, Kind}
 use Rattle.tm_gram.specs.Machine.{Goal, operand, more, statement, after_name, maybe_else, condition, declarator, declared, some_name, parameters, returned, some_number, only, opening, closing, brace_opening, brace_closing, statement_end, main_name, int_type, text_end, until_paren, until_semicolon, until_declared, Entry, takes, skips, stops, entry, step}
 use Rattle.tm_gram.specs.Depth.{opened, opened_by, verdict, judged, Verdict, goes, refused, too_deep, Scan, unexpected, nested, scan}
-use Rattle.tm_gram.specs.View.{literal, kind_of, plain_kind, token_of, tokens_of, plain_token}
+use Rattle.tm_gram.specs.View.{literal, kind_of, plain_kind, tokens_of, plain_token}
 use Rattle.tm_lex.specs.declared.token.Kind as lex_kind
 use Rattle.tm_lex.specs.declared.token.Token as lex_token
 

@@ -1,7 +1,7 @@
 -- What the machine accepts is the spelling of a good tree.
 use Rattle.std.proofs.Common.{◌≡◌, ◌∙◌, ◌++◌, ◌<◌, ◌≤◌, ◌⊎◌, ℕ, suc, List, [], ◌∷◌, refl, sym, append_assoc, arith}
-use Rattle.tm_gram.specs.Grammar.{equal, unequal, less, at_most, greater, at_least, Op, or_op, and_op, compare_op, plus_op, minus_op, times_op, Kind, a_name, a_number, infix_sign, left_paren, right_paren, right_brace, comma, semicolon, colon, else_word, Token, token, level, Groups, Expr, number, variable, free, grouped, prefixed, joined, spell_expr, Declarators, spell_declarators, GoodDeclarators, Core, spell_core, ending_core, GoodCore, Sub, Items, Return, spell_return, Parameters, spell_parameters, spell_sub, spell_items, Ending, shut, waiting, ending_sub, GoodSub, GoodItems}
-use Rattle.tm_gram.specs.Machine.{Ender, until_paren, until_semicolon, until_declared, Place, in_sub, in_block, in_main, Goal, operand, more, statement, after_name, maybe_else, condition, declarator, declared, some_name, parameters, returned, some_number, only, Mark, mark_kind}
+use Rattle.tm_gram.specs.Grammar.{equal, unequal, less, at_most, greater, at_least, Op, or_op, and_op, compare_op, plus_op, minus_op, times_op, a_name, a_number, infix_sign, left_paren, right_paren, right_brace, comma, semicolon, colon, else_word, Token, token, level, Groups, Expr, number, variable, free, grouped, prefixed, joined, spell_expr, Declarators, spell_declarators, GoodDeclarators, Core, spell_core, ending_core, GoodCore, Sub, Items, Return, spell_return, Parameters, spell_parameters, spell_sub, spell_items, Ending, shut, waiting, ending_sub, GoodSub, GoodItems}
+use Rattle.tm_gram.specs.Machine.{Ender, until_paren, until_semicolon, until_declared, in_sub, in_block, in_main, Goal, operand, more, statement, after_name, maybe_else, condition, declarator, declared, some_name, parameters, returned, some_number, only, mark_kind}
 use Rattle.tm_gram.proofs.Complete.{NotElse}
 use Rattle.std.proofs.lemmas.Bool.{ltb-true, ltb-false}
 use Rattle.std.proofs.lemmas.List.{append-nil}
