@@ -4,3 +4,7 @@ pub mod WaysLaw
 pub mod Walk
 pub mod Reach
 pub mod PathLaw
+pub mod Counting
+pub mod Views
+pub mod Loops
+pub mod GuardLemmas

@@ -1,3 +1,4 @@
+pub mod Constants
 pub mod FlowLimits
 pub mod Elements
 pub mod Points

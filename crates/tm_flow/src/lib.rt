@@ -3,12 +3,18 @@
 //! `docs/DEFINITIONS.md` reads the definitions of `specs/` in order.
 #![tactic(auto)]
 
+mod case;
 mod edge;
 mod flow;
+mod guard;
 mod law;
+mod listing;
 mod point;
+mod saturated;
 
+pub use case::{Case, Cases, CasesFault};
 pub use edge::{Action, Actions, Edge, Edges};
 pub use flow::Flow;
 pub use law::{edges_are_paths, points_are_numbered, ways_are_steps};
+pub use listing::cases;
 pub use point::{Place, Point, Points};
