@@ -11,8 +11,8 @@ use Rattle.tm_flow.specs.declared.saturated.TheConstants.{ENOUGH}
 pub sum_counted : (x y a b r : ℕ) → x ≡ min a ENOUGH → y ≡ min b ENOUGH → r ≡ min (x + y) ENOUGH → r ≡ min (a + b) ENOUGH
 sum_counted x y a b r p q e = omega arith
 
-split : (a b : ℕ) → (a ≤ b) ⊎ (b < a)
-split a b = ⊎_elim (λ e. inl (omega arith)) (λ r. ⊎_elim (λ l. inl (omega arith)) (λ g. inr g) r) (cases_order a b)
+pub either_way : (a b : ℕ) → (a ≤ b) ⊎ (b < a)
+either_way a b = ⊎_elim (λ e. inl (omega arith)) (λ r. ⊎_elim (λ l. inl (omega arith)) (λ g. inr g) r) (cases_order a b)
 
 -- a product is at least a factor that is past the limit, where the other isn't 0
 grown : (a b : ℕ) → 257 ≤ a → min (257 * min b 257) 257 ≡ min (a * b) 257
@@ -34,8 +34,8 @@ capped a b =
     let d : min b 257 ≡ 257 = omega arith in
     rw (e, d) (past a b k))
     (λ (k : b < 257). let d : min b 257 ≡ b = omega arith in rw (e, d) refl)
-    (split 257 b))
-    (split 257 a)
+    (either_way 257 b))
+    (either_way 257 a)
 
 pub product_counted : (x y a b r : ℕ) → x ≡ min a ENOUGH → y ≡ min b ENOUGH → r ≡ min (x * y) ENOUGH → r ≡ min (a * b) ENOUGH
 product_counted x y a b r p q e =

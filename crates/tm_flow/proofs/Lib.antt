@@ -8,3 +8,5 @@ pub mod Counting
 pub mod Views
 pub mod Loops
 pub mod GuardLemmas
+pub mod Trailing
+pub mod TrailLemmas

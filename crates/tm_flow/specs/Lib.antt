@@ -6,3 +6,7 @@ pub mod Steps
 pub mod Paths
 pub mod Edges
 pub mod PathLaws
+pub mod Counts
+pub mod Faults
+pub mod Trails
+pub mod Places

@@ -4,13 +4,16 @@
 #![tactic(auto)]
 
 mod case;
+mod count;
 mod edge;
+mod fault;
 mod flow;
 mod guard;
 mod law;
 mod listing;
 mod point;
 mod saturated;
+mod trail;
 
 pub use case::{Case, Cases, CasesFault};
 pub use edge::{Action, Actions, Edge, Edges};
