@@ -10,3 +10,4 @@ pub mod Loops
 pub mod GuardLemmas
 pub mod Trailing
 pub mod TrailLemmas
+pub mod WalkSteps

@@ -6,6 +6,7 @@
 mod case;
 mod count;
 mod edge;
+mod edge_walk;
 mod fault;
 mod flow;
 mod guard;
