@@ -12,9 +12,11 @@ mod flow;
 mod guard;
 mod law;
 mod listing;
+mod places;
 mod point;
 mod saturated;
 mod trail;
+mod wide;
 
 pub use case::{Case, Cases, CasesFault};
 pub use edge::{Action, Actions, Edge, Edges};

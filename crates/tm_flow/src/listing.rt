@@ -12,7 +12,7 @@ use std::alloc::{AllocError, Global};
 use tm_tree::{Cond, Form, Rel};
 
 /// The greatest number of cases that a condition may have.
-const MOST_CASES: u32 = 64;
+pub(crate) const MOST_CASES: u32 = 64;
 
 /// The cases of the condition for this truth: it may have this truth exactly where all forms of one of them are at most 0.
 ///

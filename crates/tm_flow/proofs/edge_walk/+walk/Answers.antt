@@ -12,15 +12,15 @@ pub walk-returns-in-Set : goal.walk-returns-in-Set
 walk-returns-in-Set t c =
     on_ok_weaker c.walk.result
     (walked_set _ _ c.args.trail (statements_of c.args.stmts.now) (statements_of c.in-Some.rest.now) (statement_of c.in-Some.stmt.now) c.args.first c.points_of.result c.args.end
-      (ap statements_of c.in-Some.ensures.cases.0) c.points_of.ensures _ c.in-Set.form c.in_ok-again-in-Set.field-0 _ _
-      (ap statement_of c.in-Set.is) c.in_ok-again-in-Set.ensures c.in_ok-add-in-Set.ensures)
+    (ap statements_of c.in-Some.ensures.cases.0) c.points_of.ensures _ c.in-Set.form c.in_ok-again-in-Set.field-0 _ _
+    (ap statement_of c.in-Set.is) c.in_ok-again-in-Set.ensures c.in_ok-add-in-Set.ensures)
     c.walk.ensures
 
 pub walk-returns-in-Havoc : goal.walk-returns-in-Havoc
 walk-returns-in-Havoc t c =
     on_ok_weaker c.walk-in-Havoc.result
     (walked_havoc _ _ c.args.trail (statements_of c.args.stmts.now) (statements_of c.in-Some.rest.now) (statement_of c.in-Some.stmt.now) c.args.first c.points_of.result c.args.end
-      (ap statements_of c.in-Some.ensures.cases.0) c.points_of.ensures _ _ _ (ap statement_of c.in-Havoc.is) c.in_ok-add-in-Havoc.ensures)
+    (ap statements_of c.in-Some.ensures.cases.0) c.points_of.ensures _ _ _ (ap statement_of c.in-Havoc.is) c.in_ok-add-in-Havoc.ensures)
     c.walk-in-Havoc.ensures
 
 pub walk_cases-loop-case-preserved : goal.walk_cases-loop-case-preserved
@@ -35,24 +35,24 @@ pub walk-returns-then-as_slice-gt1 : goal.walk-returns-then-as_slice-gt1
 walk-returns-then-as_slice-gt1 t c =
     on_ok_weaker c.walk_cases.result
     (walked_split _ _ c.args.trail (statements_of c.args.stmts.now) (statements_of c.in-Some.rest.now) (statement_of c.in-Some.stmt.now) c.args.first c.points_of.result c.args.end
-      (ap statements_of c.in-Some.ensures.cases.0) c.points_of.ensures (condition_of c.in-Assume.cond) _ c.in_ok-cases-in-Assume.cases
-      (ap statement_of c.in-Assume.is) c.in_ok-cases-in-Assume.ensures (rw c.as_slice.ensures at c.if-as_slice-gt1.true))
+    (ap statements_of c.in-Some.ensures.cases.0) c.points_of.ensures (condition_of c.in-Assume.cond) _ c.in_ok-cases-in-Assume.cases
+    (ap statement_of c.in-Assume.is) c.in_ok-cases-in-Assume.ensures (rw c.as_slice.ensures at c.if-as_slice-gt1.true))
     c.walk_cases.ensures
 
 pub walk-returns-in-Assume : goal.walk-returns-in-Assume
 walk-returns-in-Assume t c =
     on_ok_weaker c.walk_cases-else-as_slice-gt1.result
     (walked_assume _ _ c.args.trail (statements_of c.args.stmts.now) (statements_of c.in-Some.rest.now) (statement_of c.in-Some.stmt.now) c.args.first c.points_of.result c.args.end
-      (ap statements_of c.in-Some.ensures.cases.0) c.points_of.ensures (condition_of c.in-Assume.cond) _ c.in_ok-cases-in-Assume.cases
-      (ap statement_of c.in-Assume.is) c.in_ok-cases-in-Assume.ensures (rw c.as_slice.ensures at c.if-as_slice-gt1.false))
+    (ap statements_of c.in-Some.ensures.cases.0) c.points_of.ensures (condition_of c.in-Assume.cond) _ c.in_ok-cases-in-Assume.cases
+    (ap statement_of c.in-Assume.is) c.in_ok-cases-in-Assume.ensures (rw c.as_slice.ensures at c.if-as_slice-gt1.false))
     c.walk_cases-else-as_slice-gt1.ensures
 
 pub walk-returns-in-If : goal.walk-returns-in-If
 walk-returns-in-If t c =
     on_ok_weaker c.walk_cases-in-If-2.result
     (walked_branch _ _ c.args.trail (statements_of c.args.stmts.now) (statements_of c.in-Some.rest.now) (statement_of c.in-Some.stmt.now) c.args.first c.points_of.result c.args.end
-      (ap statements_of c.in-Some.ensures.cases.0) c.points_of.ensures (condition_of c.in-If.cond) c.in-If.yes c.in-If.no _ c.in_ok-held-in-If.held c.in_ok-failed-in-If.failed
-      c.walk_cases-in-If.new.edges.items _ _ c.points_in.result c.points_in-in-If.result
-      (ap statement_of c.in-If.is) c.in_ok-held-in-If.ensures c.in_ok-failed-in-If.ensures c.as_slice-in-If-3.ensures c.as_slice-in-If-4.ensures
-      (rw c.as_slice-in-If.ensures at c.points_in.ensures) (rw c.as_slice-in-If-2.ensures at c.points_in-in-If.ensures) c.in_ok-walk_cases-in-If.ensures)
+    (ap statements_of c.in-Some.ensures.cases.0) c.points_of.ensures (condition_of c.in-If.cond) c.in-If.yes c.in-If.no _ c.in_ok-held-in-If.held c.in_ok-failed-in-If.failed
+    c.walk_cases-in-If.new.edges.items _ _ c.points_in.result c.points_in-in-If.result
+    (ap statement_of c.in-If.is) c.in_ok-held-in-If.ensures c.in_ok-failed-in-If.ensures c.as_slice-in-If-3.ensures c.as_slice-in-If-4.ensures
+    (rw c.as_slice-in-If.ensures at c.points_in.ensures) (rw c.as_slice-in-If-2.ensures at c.points_in-in-If.ensures) c.in_ok-walk_cases-in-If.ensures)
     c.walk_cases-in-If-2.ensures
