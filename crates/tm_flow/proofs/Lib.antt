@@ -11,3 +11,4 @@ pub mod GuardLemmas
 pub mod Trailing
 pub mod TrailLemmas
 pub mod WalkSteps
+pub mod PlaceLemmas

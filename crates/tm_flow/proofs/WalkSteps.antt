@@ -10,7 +10,7 @@ use Rattle.tm_flow.specs.declared.edge.Action.{Action}
 use Rattle.tm_flow.specs.declared.edge.Action.TheVariants.{Assign, Havoc}
 use Rattle.tm_flow.specs.declared.edge.Edge.{Edge}
 use Rattle.tm_flow.specs.Edges.{Way, arrived, by_case, ways_of, ways_in}
-use Rattle.tm_flow.specs.Trails.{Begun, followed, reached, split}
+use Rattle.tm_flow.specs.Trails.{Begun, begun_at, followed, reached, split, edges_in_node, edges_in_nodes}
 use Rattle.tm_flow.proofs.TrailLemmas.{reached-prefixed, reached-by_case, reached-both}
 
 -- the ways along statements of which s is the first
@@ -74,3 +74,20 @@ module _ (before after : List Edge) (b : Begun) (ss rest : Statements) (s : Stat
       by_first (branch c p r line) e
       (i ∙ ap₂ (λ z w. z ++ w) (h ∙ ap (λ z. before ++ z) one) other ∙ append_assoc before (split b (cases_of true c) us) (split b (cases_of false c) vs)
       ∙ ap (λ z. before ++ z) (sym (reached-both b c us vs)))
+
+-- the head of a `while`, and the points of its body
+pub turned : (before first second after : List Edge) (c : Condition) (body : Statements) (line n q end : ℕ) (s : Statement) (rest b d : Statements) (head : Begun) (held failed : List (List Form)) →
+    s ≡ loop c body line → q ≡ points_of s → head ≡ begun_at n → held ≡ cases_of true c → failed ≡ cases_of false c → b ≡ body → d ≡ body →
+    first ≡ before ++ split head held (ways_in b (n + 1) (arrived n)) → second ≡ first ++ split head failed (ways_in rest (n + q) (arrived end)) →
+    after ≡ second ++ edges_in_nodes d (n + 1) (arrived n) → after ≡ before ++ edges_in_node s n (ways_in rest (n + points_of s) (arrived end))
+turned before first second after c body line n q end s rest b d head held failed e f g h i j k l m o =
+    let us = ways_in body (n + 1) (arrived n) in
+    let vs = ways_in rest (n + points_of s) (arrived end) in
+    let one = split (begun_at n) (cases_of true c) us in
+    let other = split (begun_at n) (cases_of false c) vs in
+    let inner = edges_in_nodes body (n + 1) (arrived n) in
+    let x : first ≡ before ++ one = rw (l, g, h, j) refl in
+    let y : second ≡ first ++ other = rw (m, g, i, f) refl in
+    let z : after ≡ second ++ inner = rw (o, k) refl in
+    let w : edges_in_node s n vs ≡ (one ++ other) ++ inner = ap (λ t. edges_in_node t n vs) e ∙ ap (λ r. r ++ inner) (reached-both (begun_at n) c us vs) in
+    z ∙ ap (λ r. r ++ inner) (y ∙ ap (λ r. r ++ other) x ∙ append_assoc before one other) ∙ append_assoc before (one ++ other) inner ∙ ap (λ r. before ++ r) (sym w)
