@@ -4,7 +4,7 @@ use Rattle.std.specs.Prelude.{ℤ, pos, negsuc, neg_ℤ, nat_abs, IsTrue, zero, 
 use Rattle.std.proofs.lemmas.Bool.{and_parts, and_from}
 use Rattle.tm_tree.specs.Numbers.{is_number, are_numbers}
 
-nat_abs-neg : (z : ℤ) → nat_abs (neg_ℤ z) ≡ nat_abs z
+pub nat_abs-neg : (z : ℤ) → nat_abs (neg_ℤ z) ≡ nat_abs z
 nat_abs-neg (pos zero) = refl
 nat_abs-neg (pos (suc n)) = refl
 nat_abs-neg (negsuc n) = refl

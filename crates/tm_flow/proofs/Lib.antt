@@ -12,3 +12,8 @@ pub mod Trailing
 pub mod TrailLemmas
 pub mod WalkSteps
 pub mod PlaceLemmas
+pub mod CountLaws
+pub mod Each
+pub mod FormLimits
+pub mod EdgeLimits
+pub mod FlowLaws

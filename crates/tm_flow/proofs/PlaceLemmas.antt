@@ -9,7 +9,7 @@ use Rattle.tm_flow.specs.declared.point.Point.{Point}
 use Rattle.tm_flow.specs.Points.{Made, made, made_by, made_in, points_of_program}
 use Rattle.tm_flow.specs.Places.{one_point, places_of, places_in}
 
-abbrev plain : List Made → List Point
+abbrev pub plain : List Made → List Point
 plain ms = map (λ m. m.point) ms
 
 plain-append : (xs ys : List Made) (a b : List Point) → plain xs ≡ a → plain ys ≡ b → plain (xs ++ ys) ≡ a ++ b
@@ -31,7 +31,7 @@ mutual
   plain_by (loop c body line) n = ap (λ r. one_point Loop line ++ r) (plain_in body (n + 1))
   plain_by (label name line) n = refl
 
-  plain_in : (ss : Statements) (n : ℕ) → plain (made_in ss n) ≡ places_in ss
+  pub plain_in : (ss : Statements) (n : ℕ) → plain (made_in ss n) ≡ places_in ss
   plain_in nil n = refl
   plain_in (cons s rest) n = plain-append (made_by s n) (made_in rest (n + points_of s)) _ _ (plain_by s n) (plain_in rest (n + points_of s))
 

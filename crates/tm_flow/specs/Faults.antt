@@ -40,18 +40,24 @@ first_of (n ∷ ns) = Some n
 abbrev pub is_long : Edge → Bool
 is_long e = nat_lt 256 (length e.actions)
 
--- what stands against the edges: more than 256 of them, or else the first that is too long
-abbrev pub edge_fault : List Edge → Option FlowFault
-edge_fault edges = if nat_lt 256 (length edges) then Some fault.Edges else option_map (λ e. fault.Actions e) (position is_long edges)
+-- the first edge that is too long
+abbrev pub long_fault : List Edge → Option FlowFault
+long_fault edges = option_map (λ e. fault.Actions e) (position is_long edges)
 
--- what stands against points and edges: more than 48 points, or else what stands against the edges
-abbrev pub point_fault : Statements → Option FlowFault
-point_fault body = if nat_lt 48 (point_count body) then Some (fault.Points (point_count body)) else edge_fault (edges_of_program body)
+-- what is seen by counting: the first statement with a condition of more than 64 cases, or else more than 48 points, or else more than 256 edges
+abbrev pub counted_after : List ℕ → Statements → Option FlowFault
+counted_after [] body =
+    if nat_lt 48 (point_count body) then Some (fault.Points (point_count body)) else (if nat_lt 256 (length (edges_of_program body)) then Some fault.Edges else None)
+counted_after (line ∷ lines) body = Some (fault.Cases line)
 
--- the first fault of a program: the first statement with a condition of more than 64 cases, or else what stands against its points and edges
-abbrev pub fault_after : List ℕ → Statements → Option FlowFault
-fault_after [] body = point_fault body
-fault_after (line ∷ lines) body = Some (fault.Cases line)
+abbrev pub counted_fault : Statements → Option FlowFault
+counted_fault body = counted_after (wide_lines_in body) body
 
+-- the first of two
+abbrev pub fault_or : Option FlowFault → Option FlowFault → Option FlowFault
+fault_or None other = other
+fault_or (Some f) other = Some f
+
+-- the first fault of a program: what is seen by counting, or else the first edge that is too long
 abbrev pub fault_of_program : Statements → Option FlowFault
-fault_of_program body = fault_after (wide_lines_in body) body
+fault_of_program body = fault_or (counted_fault body) (long_fault (edges_of_program body))

@@ -1,9 +1,10 @@
 //! How many points, ways and edges a program has, counted before they are made.
 
-ghost use Rattle.std.specs.Prelude.{◌≡◌, ◌<◌, ◌^◌, ◌+◌, ◌*◌, ◌≤◌, ℕ, min, true, false};
+ghost use Rattle.std.specs.Prelude.{◌≡◌, ◌<◌, ◌^◌, ◌+◌, ◌*◌, ◌≤◌, ℕ, length, min, true, false};
 ghost use Rattle.tm_tree.specs.View.{condition_of, statement_of, statements_of};
 ghost use Rattle.tm_tree.specs.PointNumbers.{points_in, points_of, splits};
-ghost use Rattle.tm_flow.specs.Counts.{case_count, edge_count, edge_count_in, edge_count_of, way_count_in};
+ghost use Rattle.tm_flow.specs.Edges.{edges_of_program};
+ghost use Rattle.tm_flow.specs.Counts.{case_count, edge_count_in, edge_count_of, way_count_in};
 
 use crate::listing::case_count;
 use crate::saturated::{ENOUGH, product, sum};
@@ -77,7 +78,7 @@ pub(crate) fn way_count(stmts: &[Stmt]) -> u32
 
 /// The number of the program's edges, counted up to `ENOUGH`.
 pub(crate) fn edge_count(body: &Block) -> u32
-    ensures { result ≡ min (edge_count body.now) ENOUGH }
+    ensures { result ≡ min (length (edges_of_program body.now)) ENOUGH }
 {
     sum(way_count(body.as_slice()), edge_count_in(body.as_slice()))
 }

@@ -3,12 +3,13 @@
 //! `docs/DEFINITIONS.md` reads the definitions of `specs/` in order.
 #![tactic(auto)]
 
+mod build;
 mod case;
 mod count;
 mod edge;
 mod edge_walk;
 mod fault;
-mod flow;
+mod graph;
 mod guard;
 mod law;
 mod listing;
@@ -18,9 +19,11 @@ mod saturated;
 mod trail;
 mod wide;
 
+pub use build::flow;
 pub use case::{Case, Cases, CasesFault};
 pub use edge::{Action, Actions, Edge, Edges};
-pub use flow::Flow;
+pub use fault::FlowFault;
+pub use graph::Flow;
 pub use law::{edges_are_paths, points_are_numbered, ways_are_steps};
 pub use listing::cases;
 pub use point::{Place, Point, Points};
