@@ -1,5 +1,6 @@
 pub mod ElementLemmas
 pub mod Numbering
+pub mod StepLaw
 pub mod WaysLaw
 pub mod Walk
 pub mod Reach
@@ -17,3 +18,6 @@ pub mod Each
 pub mod FormLimits
 pub mod EdgeLimits
 pub mod FlowLaws
+pub mod Ranges
+pub mod Followed
+pub mod Examples
