@@ -68,9 +68,9 @@ long-kept e =
     ⊎_elim
     (λ (h : length e.actions ≤ 257). ap (λ a. nat_lt 256 (length a)) (take_all 257 e.actions h))
     (λ (h : 257 < length e.actions).
-      let k : 256 < length (kept e.actions) = omega arith in
-      let o : 256 < length e.actions = omega arith in
-      lt-ltb 256 (length (kept e.actions)) k ∙ sym (lt-ltb 256 (length e.actions) o))
+    let k : 256 < length (kept e.actions) = omega arith in
+    let o : 256 < length e.actions = omega arith in
+    lt-ltb 256 (length (kept e.actions)) k ∙ sym (lt-ltb 256 (length e.actions) o))
     (either_way (length e.actions) 257)
 
 from-kept : (i : ℕ) (es : List Edge) → position_from is_long i (map kept_edge es) ≡ position_from is_long i es

@@ -11,8 +11,7 @@ pub fn points_are_numbered()
 /// A step of a run, other than past a mark, does what one of the labelled steps records, and the other way round.
 pub fn steps_are_recorded()
     ensures { StepsAreRecorded }
-{
-}
+{}
 
 /// The ways from a piece of work to the next point are those by its labelled steps, in their order.
 pub fn ways_are_steps()

@@ -16,6 +16,8 @@ mod listing;
 mod places;
 mod point;
 mod saturated;
+#[cfg(test)]
+mod tests;
 mod trail;
 mod wide;
 
