@@ -1,5 +1,5 @@
 -- The numbers of ways and edges are the lengths of their lists.
-use Rattle.std.proofs.Common.{◌≡◌, ◌∙◌, ℕ, ◌+◌, ◌*◌, Bool, true, false, List, [], ◌∷◌, ◌++◌, length, map, min, refl, sym, ap, ap₂, arith, length-append}
+use Rattle.std.proofs.Common.{◌≡◌, ◌∙◌, ℕ, ◌+◌, ◌*◌, Bool, true, false, List, [], ◌∷◌, ◌++◌, length, min, refl, sym, ap, ap₂, arith, length-append}
 use Rattle.std.specs.Prelude.{if◌then◌else◌, flat_map}
 use Rattle.std.proofs.lemmas.List.{length-map}
 use Rattle.tm_tree.specs.declared.form.Form.{Form}
@@ -11,7 +11,7 @@ use Rattle.tm_flow.specs.declared.edge.Action.TheVariants.{Assign, Havoc}
 use Rattle.tm_flow.specs.declared.edge.Edge.{Edge}
 use Rattle.tm_flow.specs.Steps.{guards}
 use Rattle.tm_flow.specs.Edges.{Way, arrived, prefixed, by_case, ways_of, ways_in, edges_of_program}
-use Rattle.tm_flow.specs.Trails.{Begun, begun_at, kept, kept_edge, reached, edges_in_node, edges_in_nodes, kept_edges}
+use Rattle.tm_flow.specs.Trails.{Begun, begun_at, kept, kept_edge, reached, edges_in_node, edges_in_nodes}
 use Rattle.tm_flow.specs.Counts.{case_count, way_count_of, way_count_in, edge_count_of, edge_count_in, edge_count}
 use Rattle.tm_flow.proofs.Trailing.{walked_program}
 

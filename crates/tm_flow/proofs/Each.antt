@@ -1,8 +1,9 @@
 -- A fact of each element of a list, by recursion.
-use Rattle.std.proofs.Common.{◌≡◌, ℕ, zero, suc, Bool, true, List, [], ◌∷◌, ◌++◌, map, take, refl}
+use Rattle.std.proofs.Common.{inl, inr, ℕ, zero, suc, Bool, List, [], ◌∷◌, ◌++◌, map, take, refl}
 use Rattle.std.specs.Prelude.{IsTrue, flat_map}
 use Rattle.std.specs.List.{list_all}
-use Rattle.std.proofs.lemmas.Bool.{and_from, and_parts}
+use Rattle.std.proofs.lemmas.Bool.{and_from}
+use Rattle.tm_flow.specs.Elements.{In}
 
 abbrev pub Each : {A : Type 0} → (A → Type 0) → List A → Type 0
 Each P [] = Unit {0}
@@ -26,6 +27,10 @@ module _ {A : Type 0} where
   pub each_both : (P Q R : A → Type 0) → ((x : A) → P x → Q x → R x) → (xs : List A) → Each P xs → Each Q xs → Each R xs
   each_both P Q R f [] h k = tt
   each_both P Q R f (x ∷ xs) h k = (f x h.0 k.0, each_both P Q R f xs h.1 k.1)
+
+  pub each_in : (P : A → Type 0) (xs : List A) → ((x : A) → In xs x → P x) → Each P xs
+  each_in P [] f = tt
+  each_in P (x ∷ xs) f = (f x (inl refl), each_in P xs (λ y m. f y (inr m)))
 
   pub each_passes : (p : A → Bool) (xs : List A) → Each (λ x. IsTrue (p x)) xs → IsTrue (list_all p xs)
   each_passes p [] h = refl

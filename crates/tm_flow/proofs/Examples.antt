@@ -1,11 +1,10 @@
 -- Points and edges of small programs, worked by hand.
-use Rattle.std.proofs.Common.{◌≡◌, ℕ, Bool, true, false, List, [], ◌∷◌, length, refl}
+use Rattle.std.proofs.Common.{◌≡◌, ℕ, true, false, List, [], ◌∷◌, length, refl}
 use Rattle.std.specs.Prelude.{ℤ, pos, negsuc}
 use Rattle.tm_tree.specs.declared.form.Form.{Form}
 use Rattle.tm_tree.specs.declared.cond.Rel.TheVariants.{Ne, Lt, Le, Eq}
-use Rattle.tm_tree.specs.Tree.{Condition, free, compare, negation, both, either, Statements, set, havoc, assume, branch, loop, label, nil, cons}
+use Rattle.tm_tree.specs.Tree.{Condition, free, compare, both, either, Statements, set, havoc, assume, branch, loop, label, nil, cons}
 use Rattle.tm_tree.specs.Cases.{cases_of}
-use Rattle.tm_tree.specs.PointNumbers.{point_count}
 use Rattle.tm_flow.specs.declared.edge.Action.{Action}
 use Rattle.tm_flow.specs.declared.edge.Action.TheVariants.{Guard, Assign, Havoc}
 use Rattle.tm_flow.specs.declared.edge.Edge.{Edge}

@@ -1,22 +1,20 @@
 -- What the faults rule out, and that what is left is a flow within the limits.
-use Rattle.std.proofs.Common.{◌≡◌, ◌∙◌, ◌⊎◌, inl, inr, ⊎_elim, ℕ, ◌+◌, ◌<◌, ◌≤◌, ◌^◌, Bool, true, false, List, [], ◌∷◌, ◌++◌, length, map, take, min, refl, sym, ap, ap₂, subst, arith, length-append, lit<}
-use Rattle.std.specs.Prelude.{◌==◌, ◌&&◌, ◌||◌, IsTrue, Option, Some, None, nat_lt, nat_le, cond, not, position, option_map, if◌then◌else◌}
+use Rattle.std.proofs.Common.{◌≡◌, ◌∙◌, ⊎_elim, ℕ, ◌+◌, ◌<◌, ◌≤◌, ◌^◌, Bool, true, false, List, [], ◌∷◌, ◌++◌, length, map, min, refl, sym, ap, ap₂, arith}
+use Rattle.std.specs.Prelude.{◌&&◌, IsTrue, Option, Some, None, nat_lt, nat_le, cond, not, position, option_map, if◌then◌else◌}
 use Rattle.std.specs.List.{list_all, position_from}
 use Rattle.std.proofs.lemmas.Bool.{and_from, and_parts, leb-true, le-leb, lt-ltb, ltb-false}
-use Rattle.std.proofs.lemmas.List.{length-map, length-take, take_all, map-append}
-use Rattle.std.proofs.lemmas.List.Folds.{list_all-append}
+use Rattle.std.proofs.lemmas.List.{length-map, length-take, take_all}
 use Rattle.std.proofs.lemmas.Iterator.Adapters.{position_from-zero}
 use Rattle.tm_tree.specs.Tree.{Statement, Statements, set, havoc, assume, branch, loop, label, nil, cons, nodes_in}
 use Rattle.tm_tree.specs.Limits.{are_statements, is_program}
-use Rattle.tm_tree.specs.PointNumbers.{splits, points_in, point_count}
-use Rattle.tm_flow.specs.declared.edge.Action.{Action}
+use Rattle.tm_tree.specs.PointNumbers.{splits, point_count}
 use Rattle.tm_flow.specs.declared.edge.Edge.{Edge}
 use Rattle.tm_flow.specs.declared.fault.FlowFault.{FlowFault}
 use Rattle.tm_flow.specs.declared.fault.FlowFault.TheVariants as fault
-use Rattle.tm_flow.specs.declared.point.Place.{Place}
-use Rattle.tm_flow.specs.declared.point.Place.TheVariants.{Entry, Loop, Label, Join, Assume, Exit}
+use Rattle.tm_flow.specs.declared.point.Place.TheVariants.{Join, Assume, Exit}
 use Rattle.tm_flow.specs.declared.point.Point.{Point}
-use Rattle.tm_flow.specs.Points.{Made, made_in, points_of_program}
+use Rattle.tm_flow.specs.PathLaws.{IsInRange}
+use Rattle.tm_flow.specs.Points.{made_in, points_of_program}
 use Rattle.tm_flow.specs.Places.{one_point, places_of, places_in}
 use Rattle.tm_flow.specs.Edges.{edges_of_program}
 use Rattle.tm_flow.specs.Trails.{kept, kept_edge, kept_edges}
@@ -25,9 +23,11 @@ use Rattle.tm_flow.specs.FlowLimits.{is_entry, is_exit, begins_with_entry, has_l
 use Rattle.tm_flow.proofs.Numbering.{numbering}
 use Rattle.tm_flow.proofs.Trailing.{walked_program}
 use Rattle.tm_flow.proofs.PlaceLemmas.{plain, plain_in}
-use Rattle.tm_flow.proofs.Each.{Each, each-append, each_both, each_passes, each_weaker}
+use Rattle.tm_flow.proofs.Each.{Each, each-append, each_both, each_in, each_passes, each_weaker}
 use Rattle.tm_flow.proofs.Counting.{either_way}
-use Rattle.tm_flow.proofs.EdgeLimits.{Joins, room_in, few_in, program_edges}
+use Rattle.tm_flow.proofs.EdgeLimits.{EdgeFits, few_in, edges_fit}
+use Rattle.tm_flow.proofs.ElementLemmas.{in_contains}
+use Rattle.tm_flow.proofs.Ranges.{ranges_law}
 
 -- ---- a program's limits
 pub record Limits (n : ℕ) (body : Statements) : Type 0 where
@@ -165,19 +165,25 @@ points_within body =
     (each_passes has_line rest (each_weaker IsLater (λ q. IsTrue (has_line q)) (λ q h. h.1) rest l))
 
 -- ---- the edges
-edge_within : (n m : ℕ) (e : Edge) → Joins n m e → IsShort e → IsTrue (is_edge n m e)
-edge_within n m e h k =
-    and_from (nat_lt e.from m) _ (lt-ltb e.from m h.start)
-    (and_from (nat_lt 0 e.to) _ (lt-ltb 0 e.to h.not_entry)
-    (and_from (nat_lt e.to m) _ (lt-ltb e.to m h.inside)
-    (and_from (nat_le (length e.actions) 256) _ (le-leb (length e.actions) 256 k) (each_passes (is_action n) e.actions h.actions))))
+edge_within : (n m : ℕ) (e : Edge) → IsInRange m e → EdgeFits n e → IsShort e → IsTrue (is_edge n m e)
+edge_within n m e r h k =
+    and_from (nat_lt e.from m) _ (lt-ltb e.from m r.from)
+    (and_from (nat_lt 0 e.to) _ (lt-ltb 0 e.to r.later)
+    (and_from (nat_lt e.to m) _ (lt-ltb e.to m r.to)
+    (and_from (nat_le (length e.actions) 256) _ (le-leb (length e.actions) 256 k) (each_passes (is_action n) e.actions h))))
 
 edges_within : (n : ℕ) (body : Statements) → IsTrue (are_statements n body) → position is_long (kept_edges body) ≡ None →
     IsTrue (list_all (is_edge n (point_count body)) (kept_edges body))
 edges_within n body h k =
     let m = point_count body in
-    each_passes (is_edge n m) (kept_edges body)
-    (each_both (Joins n m) IsShort (λ e. IsTrue (is_edge n m e)) (edge_within n m) (kept_edges body) (program_edges n body h) (short (kept_edges body) k))
+    let edges = edges_of_program body in
+    let range = each_in (IsInRange m) edges (λ e i. ranges_law body e (in_contains edges e i)) in
+    let fit : Each (EdgeFits n) edges = rw (nothing_cut body k) at (edges_fit n body h) in
+    let brief : Each IsShort edges = rw (nothing_cut body k) at (short (kept_edges body) k) in
+    rw (nothing_cut body k)
+    (each_passes (is_edge n m) edges
+    (each_both (λ e. IsInRange m e × EdgeFits n e) IsShort (λ e. IsTrue (is_edge n m e)) (λ e p l. edge_within n m e p.0 p.1 l) edges
+    (each_both (IsInRange m) (EdgeFits n) (λ e. IsInRange m e × EdgeFits n e) (λ e p q. (p, q)) edges range fit) brief))
 
 few_edges : (body : Statements) → counted_fault body ≡ None → length (kept_edges body) ≤ 256
 few_edges body h = omega (arith, (none_counted body h).1, ap length (walked_program body), length-map (edges_of_program body) kept_edge)

@@ -1,5 +1,5 @@
 -- Numbers, and the forms of guards, within their limits.
-use Rattle.std.proofs.Common.{◌≡◌, ◌∙◌, ◌≤◌, List, [], ◌∷◌, map, refl, sym, ap}
+use Rattle.std.proofs.Common.{◌≡◌, List, [], ◌∷◌, map, refl}
 use Rattle.std.specs.Prelude.{ℤ, pos, negsuc, neg_ℤ, nat_abs, IsTrue, zero, suc}
 use Rattle.std.proofs.lemmas.Bool.{and_parts, and_from}
 use Rattle.tm_tree.specs.Numbers.{is_number, are_numbers}

@@ -1,5 +1,5 @@
 -- Loops over a list that add to another list what belongs to each element.
-use Rattle.std.proofs.Common.{◌≡◌, ◌∙◌, ℕ, ◌+◌, ◌<◌, ◌≤◌, List, [], ◌∷◌, ◌++◌, length, get_or, drop, refl, sym, ap, ap₂, append_assoc}
+use Rattle.std.proofs.Common.{◌≡◌, ◌∙◌, ℕ, ◌+◌, ◌<◌, ◌≤◌, List, [], ◌∷◌, ◌++◌, length, get_or, drop, sym, ap, append_assoc}
 use Rattle.std.proofs.lemmas.List.{at_drop_more, at_drop_all, append-nil}
 
 module _ {A B : Type 0} (F : List A → List B) (f : A → List B) (by_cons : (x : A) (xs : List A) → F (x ∷ xs) ≡ f x ++ F xs) where

@@ -1,5 +1,5 @@
 -- Edges that are begun, and more actions after them.
-use Rattle.std.proofs.Common.{◌≡◌, ◌∙◌, ⊎_elim, ℕ, ◌+◌, ◌≤◌, ◌<◌, Bool, true, false, List, [], ◌∷◌, ◌++◌, length, get_or, map, take, refl, sym, ap, ap₂, arith, append_assoc, length-append}
+use Rattle.std.proofs.Common.{◌≡◌, ◌∙◌, ⊎_elim, ℕ, ◌+◌, ◌≤◌, ◌<◌, Bool, true, false, List, [], ◌∷◌, ◌++◌, length, get_or, take, refl, sym, ap, ap₂, arith, append_assoc, length-append}
 use Rattle.std.specs.Prelude.{flat_map}
 use Rattle.std.proofs.lemmas.List.{map-append, append-nil, take_more, take_all, take-append-le, length-take}
 use Rattle.tm_tree.specs.declared.form.Form.{Form}
@@ -10,7 +10,7 @@ use Rattle.tm_flow.specs.declared.edge.Action.TheVariants.{Guard}
 use Rattle.tm_flow.specs.declared.edge.Edge.{Edge}
 use Rattle.tm_flow.specs.Steps.{guards}
 use Rattle.tm_flow.specs.Edges.{Way, prefixed, by_case}
-use Rattle.tm_flow.specs.Trails.{Begun, kept, begun_at, followed, reached, split}
+use Rattle.tm_flow.specs.Trails.{Begun, kept, followed, reached, split}
 use Rattle.tm_flow.proofs.Counting.{either_way}
 
 pub kept_all : (xs : List Action) → length xs ≤ 257 → kept xs ≡ xs

@@ -1,17 +1,13 @@
 -- The edges of a program as they are walked are its edges, with the first 257 actions of each.
-use Rattle.std.proofs.Common.{◌≡◌, ◌∙◌, ℕ, suc, ◌+◌, ◌≤◌, Bool, true, false, List, [], ◌∷◌, ◌++◌, length, map, take, refl, sym, ap, ap₂, arith, append_assoc}
-use Rattle.std.specs.Prelude.{if◌then◌else◌, flat_map}
-use Rattle.std.proofs.lemmas.List.{map-append, append-nil, take_all}
-use Rattle.tm_tree.specs.declared.form.Form.{Form}
-use Rattle.tm_tree.specs.Tree.{Condition, Statement, Statements, set, havoc, assume, branch, loop, label, nil, cons}
-use Rattle.tm_tree.specs.Cases.{cases_of}
+use Rattle.std.proofs.Common.{◌≡◌, ◌∙◌, ℕ, suc, ◌+◌, Bool, true, false, List, [], ◌∷◌, ◌++◌, length, map, refl, sym, ap, ap₂, arith, append_assoc}
+use Rattle.std.specs.Prelude.{if◌then◌else◌}
+use Rattle.std.proofs.lemmas.List.{map-append, append-nil}
+use Rattle.tm_tree.specs.Tree.{Statement, Statements, set, havoc, assume, branch, loop, label, nil, cons}
 use Rattle.tm_tree.specs.PointNumbers.{splits, points_of, points_in, join_of, exit_of}
 use Rattle.tm_tree.specs.Runs.{Item, node, mark, turn, nodes}
-use Rattle.tm_flow.specs.declared.edge.Action.{Action}
 use Rattle.tm_flow.specs.declared.edge.Edge.{Edge}
-use Rattle.tm_flow.specs.Steps.{guards}
-use Rattle.tm_flow.specs.Edges.{Way, arrived, prefixed, by_case, ways_of, ways_in, ways_from, behind_of, behind_in, behind_points, edges_from, edges_of_program}
-use Rattle.tm_flow.specs.Trails.{Begun, kept, begun_at, followed, reached, split, edges_in_node, edges_in_nodes, kept_edges, kept_edge}
+use Rattle.tm_flow.specs.Edges.{Way, arrived, ways_from, behind_of, behind_in, edges_from, edges_of_program}
+use Rattle.tm_flow.specs.Trails.{kept, begun_at, reached, edges_in_node, edges_in_nodes, kept_edges, kept_edge}
 use Rattle.tm_flow.proofs.WaysLaw.{ways-nodes}
 use Rattle.tm_flow.proofs.Walk.{behind_count_of, behind_count_in}
 

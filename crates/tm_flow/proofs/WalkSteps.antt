@@ -1,9 +1,9 @@
 -- One statement of a walk: the edges that go on from there.
-use Rattle.std.proofs.Common.{◌≡◌, ◌∙◌, ℕ, ◌+◌, ◌≤◌, ◌<◌, Bool, true, false, List, [], ◌∷◌, ◌++◌, length, refl, sym, ap, ap₂, arith, append_assoc}
-use Rattle.std.specs.Prelude.{nat_lt, if◌then◌else◌}
+use Rattle.std.proofs.Common.{◌≡◌, ◌∙◌, ℕ, ◌+◌, ◌≤◌, ◌<◌, true, false, List, [], ◌∷◌, ◌++◌, length, refl, sym, ap, ap₂, append_assoc}
+use Rattle.std.specs.Prelude.{if◌then◌else◌}
 use Rattle.std.proofs.lemmas.Bool.{lt-ltb, le-ltb}
 use Rattle.tm_tree.specs.declared.form.Form.{Form}
-use Rattle.tm_tree.specs.Tree.{Condition, Statement, Statements, set, havoc, assume, branch, loop, label, nil, cons}
+use Rattle.tm_tree.specs.Tree.{Condition, Statement, Statements, set, havoc, assume, branch, loop, cons}
 use Rattle.tm_tree.specs.Cases.{cases_of}
 use Rattle.tm_tree.specs.PointNumbers.{splits, points_of, points_in, join_of}
 use Rattle.tm_flow.specs.declared.edge.Action.{Action}

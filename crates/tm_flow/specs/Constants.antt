@@ -1,6 +1,7 @@
 -- Comparisons whose guards stay within the numbers of a program.
-use Rattle.std.specs.Prelude.{◌+◌, ◌&&◌, Bool, true, nat_abs, nat_le}
+use Rattle.std.specs.Prelude.{◌+◌, ◌&&◌, ℕ, Bool, true, IsTrue, nat_abs, nat_le}
 use Rattle.tm_tree.specs.declared.form.Form.{Form}
+use Rattle.tm_tree.specs.Limits.{is_condition}
 use Rattle.tm_tree.specs.Tree.{Condition, free, compare, negation, both, either, Statement, Statements, set, havoc, assume, branch, loop, label, nil, cons}
 
 -- adding 1 to the constant, or to the negated one, stays within 2^63 - 1
@@ -29,3 +30,7 @@ abbrev mutual
   pub have_rooms : Statements → Bool
   have_rooms nil = true
   have_rooms (cons s rest) = has_rooms s && have_rooms rest
+
+-- a condition of a program over n variables has such comparisons
+abbrev pub ConditionsHaveRoom : Type 0
+ConditionsHaveRoom = (n : ℕ) (c : Condition) → IsTrue (is_condition n c) → IsTrue (have_room c)

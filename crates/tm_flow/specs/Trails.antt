@@ -1,12 +1,12 @@
 -- Edges that are walked, action by action.
-use Rattle.std.specs.Prelude.{ℕ, ◌+◌, Bool, true, false, List, [], ◌∷◌, ◌++◌, map, flat_map, take, if◌then◌else◌}
+use Rattle.std.specs.Prelude.{ℕ, ◌+◌, true, false, List, [], ◌++◌, map, flat_map, take, if◌then◌else◌}
 use Rattle.tm_tree.specs.declared.form.Form.{Form}
-use Rattle.tm_tree.specs.Tree.{Condition, Statement, Statements, set, havoc, assume, branch, loop, label, nil, cons}
+use Rattle.tm_tree.specs.Tree.{Statement, Statements, set, havoc, assume, branch, loop, label, nil, cons}
 use Rattle.tm_tree.specs.PointNumbers.{splits, points_of, points_in, join_of, exit_of}
 use Rattle.tm_flow.specs.declared.edge.Action.{Action}
 use Rattle.tm_flow.specs.declared.edge.Edge.{Edge}
 use Rattle.tm_flow.specs.Steps.{guards}
-use Rattle.tm_flow.specs.Edges.{Way, arrived, by_case, ways_of, ways_in}
+use Rattle.tm_flow.specs.Edges.{Way, arrived, by_case, ways_in}
 
 -- an edge as far as it has been walked
 pub record Begun : Type 0 where

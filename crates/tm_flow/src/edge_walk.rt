@@ -161,18 +161,18 @@ fn add_edges_in(
         }
         Stmt::While { cond, body, .. } => {
             let head = Trail::new(alloc, first);
-            let held = list_cases(alloc, cond, true)?;
+            let into = list_cases(alloc, cond, true)?;
             walk_cases(
                 alloc,
                 edges,
                 &head,
-                &held,
+                &into,
                 body.as_slice(),
                 first + 1,
                 first,
             )?;
-            let failed = list_cases(alloc, cond, false)?;
-            walk_cases(alloc, edges, &head, &failed, rest, next, end)?;
+            let past = list_cases(alloc, cond, false)?;
+            walk_cases(alloc, edges, &head, &past, rest, next, end)?;
             add_edges(alloc, edges, body.as_slice(), first + 1, first)
         }
         Stmt::Label { .. } => walk(alloc, edges, Trail::new(alloc, first), rest, next, end),

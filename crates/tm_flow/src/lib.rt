@@ -27,7 +27,8 @@ pub use edge::{Action, Actions, Edge, Edges};
 pub use fault::FlowFault;
 pub use graph::Flow;
 pub use law::{
-    edges_are_in_range, edges_are_paths, points_are_numbered, steps_are_recorded, ways_are_steps,
+    conditions_have_room, edges_are_in_range, edges_are_paths, points_are_numbered,
+    steps_are_recorded, ways_are_steps,
 };
 pub use listing::cases;
 pub use point::{Place, Point, Points};

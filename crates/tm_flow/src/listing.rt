@@ -116,13 +116,13 @@ fn add_cases(
                 add_cases(alloc, list, second, truth)
             }
         }
-        Cond::Either(first, second) => {
+        Cond::Either(one, other) => {
             if truth {
-                add_cases(alloc, list, first, truth)?;
-                add_cases(alloc, list, second, truth)
+                add_cases(alloc, list, one, truth)?;
+                add_cases(alloc, list, other, truth)
             } else {
-                let before = list_cases(alloc, first, truth)?;
-                let after = list_cases(alloc, second, truth)?;
+                let before = list_cases(alloc, one, truth)?;
+                let after = list_cases(alloc, other, truth)?;
                 add_crossed(alloc, list, before.as_slice(), after.as_slice())
             }
         }

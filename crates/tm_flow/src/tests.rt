@@ -192,19 +192,19 @@ fn open_choice() -> Asked {
 }
 
 /// `x != 1 && x != 2 && ..`, of so many comparisons: `2^count` cases.
-fn all_differ(alloc: Global, count: i16) -> Result<Asked, Unmade> {
+fn all_differ(alloc: Global, count: u8) -> Result<Asked, Unmade> {
     let mut asked = compare(alloc, Rel::Ne, -1)?;
     for k in 2..=count {
-        asked = both(alloc, asked, compare(alloc, Rel::Ne, -k)?)?;
+        asked = both(alloc, asked, compare(alloc, Rel::Ne, -i16::from(k))?)?;
     }
     Ok(asked)
 }
 
 /// `x < 1 || x < 2 || ..`, of so many comparisons: `count` cases.
-fn some_below(alloc: Global, count: i16) -> Result<Asked, Unmade> {
+fn some_below(alloc: Global, count: u8) -> Result<Asked, Unmade> {
     let mut asked = compare(alloc, Rel::Lt, -1)?;
     for k in 2..=count {
-        asked = either(alloc, asked, compare(alloc, Rel::Lt, -k)?)?;
+        asked = either(alloc, asked, compare(alloc, Rel::Lt, -i16::from(k))?)?;
     }
     Ok(asked)
 }

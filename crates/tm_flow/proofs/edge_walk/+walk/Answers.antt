@@ -1,4 +1,4 @@
-use Rattle.std.proofs.Common.{refl, ap, ◌++◌}
+use Rattle.std.proofs.Common.{refl, ap}
 use Rattle.std.proofs.lemmas.Result.{on_ok_weaker}
 use Rattle.tm_tree.specs.View.{condition_of, statement_of, statements_of}
 use Rattle.tm_flow.specs.Edges.{arrived, ways_in}

@@ -1,5 +1,4 @@
 use Rattle.std.proofs.Common.{◌∙◌, ap, ◌++◌}
-use Rattle.tm_tree.specs.View.{statements_of}
 use Rattle.tm_flow.specs.Places.{places_in}
 use Rattle.tm_flow.proofs.PlaceLemmas.{placed}
 use Rattle.tm_flow.proofs.places.points_of_program.Goals as goal
