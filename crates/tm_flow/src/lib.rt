@@ -28,7 +28,7 @@ pub use fault::FlowFault;
 pub use graph::Flow;
 pub use law::{
     conditions_have_room, edges_are_in_range, edges_are_paths, points_are_numbered,
-    steps_are_recorded, ways_are_steps,
+    steps_are_recorded, ways_are_steps, work_behind_points,
 };
 pub use listing::cases;
 pub use point::{Place, Point, Points};
