@@ -4,3 +4,6 @@ pub mod WaysLaw
 pub mod Walk
 pub mod Reach
 pub mod PathLaw
+pub mod Ranges
+pub mod Followed
+pub mod Examples

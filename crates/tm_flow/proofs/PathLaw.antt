@@ -16,7 +16,7 @@ use Rattle.tm_flow.proofs.WaysLaw.{ways_law}
 use Rattle.tm_flow.proofs.Walk.{AllNumbered, program_holds}
 use Rattle.tm_flow.proofs.Reach.{AtPoint, points_reached}
 
-abbrev way : List Action → ℕ → Way
+abbrev pub way : List Action → ℕ → Way
 way actions to = record { actions = actions; to = to }
 
 -- ---- a way exactly where labelled steps arrive
@@ -36,7 +36,7 @@ way_of_arrival work actions p behind (by_step (turn c b l n) rest step later p' 
     step_way (turn c b l n) rest step (way later p') (λ t. t) m (way_of_arrival (step.work ++ rest) later p' behind' h)
 
 -- each way from the work is an arrival
-abbrev Arriving : List Item → Type 0
+abbrev pub Arriving : List Item → Type 0
 Arriving work = (w : Way) → In (ways_from work) w → (behind : List Item) × Arrives work w.actions w.to behind
 
 mark_arrives : (p : ℕ) (rest : List Item) → Unit {0} → Arriving (mark p ∷ rest)
@@ -77,11 +77,11 @@ numbered_itself F n (v ∷ ws) f =
 
 -- ---- the work behind a mark that labelled steps reach
 module _ (body : Statements) where
-  abbrev Behind : ℕ → List Item → Type 0
+  abbrev pub Behind : ℕ → List Item → Type 0
   Behind p rest = slice_get (behind_points body) p ≡ Some rest
 
   -- at the next mark, the work behind that point is left
-  abbrev Known : List Item → Type 0
+  abbrev pub Known : List Item → Type 0
   Known work = (actions : List Action) (p : ℕ) (behind : List Item) → Arrives work actions p behind → Behind p behind
 
   mark_known : (p : ℕ) (rest : List Item) → Behind p rest → Known (mark p ∷ rest)
@@ -99,7 +99,7 @@ module _ (body : Statements) where
       none work actions q behind (at_mark p rest) e = cc
       none work actions q behind (by_step item rest step later q' behind' m h) e = cc
 
-  behind_known : AllNumbered (λ k w. Known w) 0 (behind_points body)
+  pub behind_known : AllNumbered (λ k w. Known w) 0 (behind_points body)
   behind_known = program_holds Known Behind mark_known steps_known body (numbered_itself Behind 0 (behind_points body) (λ i w e. let z : i ≡ 0 + i = omega arith in subst (λ j. Behind j w) z e)) nothing_known
 
   known_at : (p : ℕ) (rest : List Item) → Behind p rest → Known rest
@@ -117,7 +117,7 @@ module _ (body : Statements) where
   behind_mark : (actions : List Action) (p : ℕ) (behind : List Item) → Leads (start_work body) actions (mark p ∷ behind) → Behind p behind
   behind_mark actions p behind h = leads_known (start_work body) actions (mark p ∷ behind) h start_known p behind refl
 
-  behind_arrives : AllNumbered (λ k w. Arriving w) 0 (behind_points body)
+  pub behind_arrives : AllNumbered (λ k w. Arriving w) 0 (behind_points body)
   behind_arrives = program_holds Arriving (λ k w. Unit {0}) mark_arrives steps_arrive body (numbered_trivially 0 (behind_points body)) (λ w m. absurd m)
 
 -- ---- edges by their points
@@ -137,7 +137,7 @@ in_edges k (v ∷ ws) (suc p) work w e m =
     in-append_right (map (λ x. record { from = k; to = x.to; actions = x.actions }) (ways_from v)) (edges_from (suc k) ws) (from (k + suc p))
     (subst (λ i. In (edges_from (suc k) ws) (from i)) z (in_edges (suc k) ws p work w e m))
 
-from_edges : (k : ℕ) (ws : List (List Item)) (e : Edge) → In (edges_from k ws) e →
+pub from_edges : (k : ℕ) (ws : List (List Item)) (e : Edge) → In (edges_from k ws) e →
     (p : ℕ) × (work : List Item) × (slice_get ws p ≡ Some work) × (e.from ≡ k + p) × In (ways_from work) (way e.actions e.to)
 from_edges k [] e m = absurd m
 from_edges k (v ∷ ws) e m =

@@ -3,7 +3,7 @@ use Rattle.std.proofs.Common.{◌≡◌, ⊎_elim, ℕ, suc, ◌+◌, Bool, true
 use Rattle.std.specs.Prelude.{if◌then◌else◌}
 use Rattle.tm_tree.specs.Tree.{Condition, Statement, Statements, set, havoc, assume, branch, loop, label, nil, cons}
 use Rattle.tm_tree.specs.Cases.{cases_of}
-use Rattle.tm_tree.specs.PointNumbers.{splits, points_of, points_in, join_of, exit_of}
+use Rattle.tm_tree.specs.PointNumbers.{splits, points_of, points_in, join_of, exit_of, point_count}
 use Rattle.tm_tree.specs.Runs.{Item, node, mark, turn, nodes, branch_work, turn_work}
 use Rattle.tm_flow.specs.Elements.{In}
 use Rattle.tm_flow.specs.Steps.{Labelled, labelled, guards, choices, steps_of}
@@ -173,14 +173,24 @@ module _ (P : List Item → Type 0) (Allowed : ℕ → List Item → Type 0)
         numbered-append F n (behind_of s n after) (behind_in more (n + points_of s) rest) (behind_node s n after parts.0 g)
         (subst (λ k. AllNumbered F (n + k) (behind_in more (n + points_of s) rest)) (sym (behind_count_of s n after)) (behind_nodes more (n + points_of s) rest parts.1 h))
 
-  pub program_holds : (body : Statements) → AllNumbered Allowed 0 (behind_points body) → P [] → AllNumbered (λ k w. P w) 0 (behind_points body)
-  program_holds body a none =
+  pub points_hold : (body : Statements) → AllNumbered Allowed 1 (behind_in body 1 (mark (exit_of body) ∷ []) ++ [] ∷ []) → P [] → AllNumbered (λ k w. P w) 0 (behind_points body)
+  points_hold body a none =
       let exit = mark (exit_of body) ∷ [] in
       let ws = behind_in body 1 exit in
       let F : ℕ → List Item → Type 0 = λ k w. P w in
-      let left : AllNumbered Allowed 1 ws = numbered_left Allowed 1 ws ([] ∷ []) a.1 in
-      let right = numbered_right Allowed 1 ws ([] ∷ []) a.1 in
+      let left : AllNumbered Allowed 1 ws = numbered_left Allowed 1 ws ([] ∷ []) a in
+      let right = numbered_right Allowed 1 ws ([] ∷ []) a in
       let e : 1 + length ws ≡ exit_of body = omega (arith, behind_count_in body 1 exit) in
       let at_exit : P exit = at_mark (exit_of body) [] (subst (λ k. Allowed k []) e right.0) in
       let last : AllNumbered F (1 + length ws) ([] ∷ []) = (none, tt) in
       (nodes_hold body 1 exit left at_exit, numbered-append F 1 ws ([] ∷ []) (behind_nodes body 1 exit left at_exit) last)
+
+  pub program_holds : (body : Statements) → AllNumbered Allowed 0 (behind_points body) → P [] → AllNumbered (λ k w. P w) 0 (behind_points body)
+  program_holds body a none = points_hold body a.1 none
+
+-- a program has as many works behind points as points
+pub behind_count : (body : Statements) → length (behind_points body) ≡ point_count body
+behind_count body =
+    let exit = mark (exit_of body) ∷ [] in
+    let last : List (List Item) = [] ∷ [] in
+    omega (arith, behind_count_in body 1 exit, length-append (behind_in body 1 exit) last)

@@ -1,5 +1,5 @@
 -- What joins points, labelled steps, paths and edges.
-use Rattle.std.specs.Prelude.{◌≡◌, ℕ, List, ◌∷◌, ◌++◌, length, map, flat_map, Contains}
+use Rattle.std.specs.Prelude.{◌≡◌, ℕ, ◌<◌, List, ◌∷◌, ◌++◌, length, map, flat_map, Contains}
 use Rattle.std.specs.List.{range_with_len}
 use Rattle.tm_tree.specs.Tree.{Statements}
 use Rattle.tm_tree.specs.PointNumbers.{points_in, point_count}
@@ -38,3 +38,12 @@ pub record EdgesArePaths (edges : List Edge) (body : Statements) : Type 0 where
 
 abbrev pub EdgesOfPrograms : Type 0
 EdgesOfPrograms = (body : Statements) → EdgesArePaths (edges_of_program body) body
+
+-- an edge goes from a point to a point other than the entry
+pub record IsInRange (points : ℕ) (edge : Edge) : Type 0 where
+  pub from : edge.from < points
+  pub to : edge.to < points
+  pub later : 0 < edge.to
+
+abbrev pub EdgesInRange : Type 0
+EdgesInRange = (body : Statements) (edge : Edge) → Contains (edges_of_program body) edge → IsInRange (point_count body) edge

@@ -1,6 +1,6 @@
 //! Laws of the definitions, each the contract of a function that does nothing.
 
-ghost use Rattle.tm_flow.specs.PathLaws.{EdgesOfPrograms, PointsAreNumbered, WaysAreSteps};
+ghost use Rattle.tm_flow.specs.PathLaws.{EdgesInRange, EdgesOfPrograms, PointsAreNumbered, WaysAreSteps};
 
 /// Each point of a program is made by exactly one of its nodes, and stands in the list of points at the number that this
 /// node gives it.
@@ -16,4 +16,9 @@ pub fn ways_are_steps()
 /// The edges of a program are its paths: each edge is a path, and each path is an edge.
 pub fn edges_are_paths()
     ensures { EdgesOfPrograms }
+{}
+
+/// No edge of a program ends at the entry, and every edge goes from a point to a point.
+pub fn edges_are_in_range()
+    ensures { EdgesInRange }
 {}
