@@ -1,6 +1,15 @@
 //! Templates: the linear forms whose bounds an analysis gives.
 #![tactic(auto)]
 
+mod checked;
+mod domains;
+mod fault;
 mod template;
 
+pub use checked::from_rows;
+pub use domains::{intervals, octagons, zones};
+pub use fault::RowFault;
 pub use template::Template;
+
+#[cfg(test)]
+mod tests;
