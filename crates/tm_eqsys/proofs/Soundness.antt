@@ -16,10 +16,11 @@ use Rattle.tm_tree.proofs.CaseLaw.{cases_law}
 use Rattle.tm_flow.specs.declared.edge.Action.{Action}
 use Rattle.tm_flow.specs.declared.edge.Action.TheVariants.{Guard, Assign, Havoc}
 use Rattle.tm_flow.specs.Elements.{In}
-use Rattle.tm_flow.specs.Steps.{Labelled, labelled, guards, choices, steps_of}
+use Rattle.tm_flow.specs.Steps.{Labelled, steps_of, Acts}
 use Rattle.tm_flow.specs.Paths.{Leads, here, past, done, Arrives, at_mark, by_step, Path}
 use Rattle.tm_flow.specs.PathLaws.{EdgesArePaths, IsMark}
 use Rattle.tm_flow.proofs.ElementLemmas.{in-append_left, in-append_right, in-map, contains_in}
+use Rattle.tm_flow.proofs.StepLaw.{steps_law}
 use Rattle.tm_flow.proofs.Reach.{leads_then}
 use Rattle.tm_flow.proofs.PathLaw.{edges_law}
 use Rattle.tm_eqsys.specs.States.{RationalState, dotℚ, valueℚ, rational, Traces}
@@ -35,59 +36,24 @@ trace-append (Guard f ∷ a) b x y z h k = (h.0, trace-append a b x y z h.1 k)
 trace-append (Assign var f ∷ a) b x y z h k = trace-append a b (slice_set x var (valueℚ f x)) y z h k
 trace-append (Havoc var ∷ a) b x y z h k = (h.0, trace-append a b (slice_set x var h.0) y z h.1 k)
 
-guards_trace : (forms : List Form) (x : State) → HoldAll x forms → Traces (guards forms) (rational x) (rational x)
-guards_trace [] x h = refl
-guards_trace (f ∷ forms) x h =
+-- actions that lead from one integer state to another are a trace
+acts_trace : (actions : List Action) (x y : State) → Acts actions x y → Traces actions (rational x) (rational y)
+acts_trace [] x y h = ap rational h
+acts_trace (Guard f ∷ actions) x y h =
     let at_most : whole (value f x) ≤ℚ zero_ℚ = subst (λ q. whole (value f x) ≤ℚ q) whole-zero (whole_le (value f x) (pos 0) h.0) in
-    (subst (λ q. q ≤ℚ zero_ℚ) (sym (value_rational f x)) at_most, guards_trace forms x h.1)
-
-holding_case : (x : State) (cs : List (List Form)) → HoldSome x cs → (forms : List Form) × (In cs forms × HoldAll x forms)
-holding_case x [] h = absurd h
-holding_case x (c ∷ cs) h = ⊎_elim (λ k. (c, (inl refl, k))) (λ k. let r = holding_case x cs k in (r.0, (inr r.1.0, r.1.1))) h
+    (subst (λ q. q ≤ℚ zero_ℚ) (sym (value_rational f x)) at_most, acts_trace actions x y h.1)
+acts_trace (Assign var f ∷ actions) x y h =
+    let e : rational (slice_set x var (value f x)) ≡ slice_set (rational x) var (valueℚ f (rational x)) = map-set whole x var (value f x) ∙ ap (slice_set (rational x) var) (sym (value_rational f x)) in
+    subst (λ z. Traces actions z (rational y)) e (acts_trace actions (slice_set x var (value f x)) y h)
+acts_trace (Havoc var ∷ actions) x y h =
+    (whole h.0, subst (λ z. Traces actions z (rational y)) (map-set whole x var h.0) (acts_trace actions (slice_set x var h.0) y h.1))
 
 -- a labelled step with the item that leaves this work, along which a trace leads from one state to the other
 abbrev Recorded : Item → State → List Item → State → Type 0
 Recorded item x work y = (s : Labelled) × In (steps_of item) s × (s.work ≡ work) × Traces s.actions (rational x) (rational y)
 
--- what is chosen where a condition may have a truth
-chosen : (truth : Bool) (c : Condition) (work : List Item) (x : State) → MayBe truth c x → (s : Labelled) × In (choices truth c work) s × (s.work ≡ work) × Traces s.actions (rational x) (rational x)
-chosen truth c work x h =
-    let r = holding_case x (cases_of truth c) ((cases_law truth c x).0 h) in
-    (labelled (guards r.0) work, in-map (λ forms. labelled (guards forms) work) (cases_of truth c) r.0 r.1.0, refl, guards_trace r.0 x r.1.1)
-
-chosen_of_two : (truth : Bool) (c : Condition) (yes_work no_work : List Item) (x : State) → MayBe truth c x →
-    (s : Labelled) × In (choices true c yes_work ++ choices false c no_work) s × (s.work ≡ (if truth then yes_work else no_work)) × Traces s.actions (rational x) (rational x)
-chosen_of_two true c yes_work no_work x h = let k = chosen true c yes_work x h in (k.0, in-append_left (choices true c yes_work) (choices false c no_work) k.0 k.1, k.2, k.3)
-chosen_of_two false c yes_work no_work x h = let k = chosen false c no_work x h in (k.0, in-append_right (choices true c yes_work) (choices false c no_work) k.0 k.1, k.2, k.3)
-
-branch_recorded : (truth : Bool) (c : Condition) (first second : Statements) (line n : ℕ) (x : State) → MayBe truth c x → Recorded (node (branch c first second line) n) x (branch_work truth first second n) x
-branch_recorded true c first second line n x h = chosen_of_two true c (branch_work true first second n) (branch_work false first second n) x h
-branch_recorded false c first second line n x h = chosen_of_two false c (branch_work true first second n) (branch_work false first second n) x h
-
-turn_recorded : (truth : Bool) (c : Condition) (body : Statements) (line n : ℕ) (x : State) → MayBe truth c x → Recorded (turn c body line n) x (turn_work truth c body line n) x
-turn_recorded true c body line n x h = chosen_of_two true c (turn_work true c body line n) [] x h
-turn_recorded false c body line n x h = chosen_of_two false c (turn_work true c body line n) [] x h
-
-moved : (item : Item) (x : State) (w v : List Item) (y : State) → w ≡ v → y ≡ x → Recorded item x v x → Recorded item x w y
-moved item x w v y e f r = (r.0, r.1, r.2 ∙ sym e, subst (λ z. Traces r.0.actions (rational x) (rational z)) (sym f) r.3)
-
 recorded : (item : Item) (x : State) (work : List Item) (y : State) → ¬ (IsMark item) → Does item x work y → Recorded item x work y
-recorded (mark p) x work y other d = absurd (other tt)
-recorded (node (set var form line) n) x work y other d = (
-  labelled (Assign var form ∷ []) [],
-  inl refl,
-  sym d.0,
-  ap rational d.1 ∙ map-set whole x var (value form x) ∙ ap (slice_set (rational x) var) (sym (value_rational form x)),
-)
-recorded (node (havoc var line) n) x work y other d = (labelled (Havoc var ∷ []) [], inl refl, sym d.1, (whole d.0, ap rational d.2 ∙ map-set whole x var d.0))
-recorded (node (assume c line) n) x work y other d =
-    let w = if splits c then mark n ∷ [] else [] in moved (node (assume c line) n) x work w y d.1 d.2 (chosen true c w x d.0)
-recorded (node (branch c first second line) n) x work y other d =
-    moved (node (branch c first second line) n) x work (branch_work d.0 first second n) y d.2 d.3 (branch_recorded d.0 c first second line n x d.1)
-recorded (node (loop c body line) n) x work y other d = (labelled [] (mark n ∷ (turn c body line n ∷ [])), inl refl, sym d.0, ap rational d.1)
-recorded (node (label name line) n) x work y other d = (labelled [] (mark n ∷ []), inl refl, sym d.0, ap rational d.1)
-recorded (turn c body line n) x work y other d =
-    moved (turn c body line n) x work (turn_work d.0 c body line n) y d.2 d.3 (turn_recorded d.0 c body line n x d.1)
+recorded item x work y other d = let r = (steps_law item x work y other).0 d in (r.0, r.1, r.2, acts_trace r.0.actions x y r.3)
 
 -- a state keeps its length
 keeps_length : (item : Item) (x : State) (work : List Item) (y : State) → Does item x work y → length y ≡ length x

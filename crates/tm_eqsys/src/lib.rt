@@ -6,6 +6,8 @@
 mod footer;
 mod law;
 mod system;
+#[cfg(test)]
+mod tests;
 
 pub use footer::Footer;
 pub use law::{

@@ -1,5 +1,6 @@
 pub mod ElementLemmas
 pub mod Numbering
+pub mod StepLaw
 pub mod WaysLaw
 pub mod Walk
 pub mod Reach

@@ -1,13 +1,15 @@
 -- What joins points, labelled steps, paths and edges.
-use Rattle.std.specs.Prelude.{◌≡◌, ℕ, ◌<◌, List, ◌∷◌, ◌++◌, length, map, flat_map, Contains}
+use Rattle.std.specs.Prelude.{◌≡◌, ◌↔◌, ℕ, ◌<◌, List, ◌∷◌, ◌++◌, length, map, flat_map, Contains}
 use Rattle.std.specs.List.{range_with_len}
 use Rattle.tm_tree.specs.Tree.{Statements}
 use Rattle.tm_tree.specs.PointNumbers.{points_in, point_count}
-use Rattle.tm_tree.specs.Runs.{Item, node, mark, turn}
+use Rattle.tm_tree.specs.Meaning.{State}
+use Rattle.tm_tree.specs.Runs.{Item, node, mark, turn, Does}
 use Rattle.tm_flow.specs.declared.edge.Action.{Action}
 use Rattle.tm_flow.specs.declared.edge.Edge.{Edge}
+use Rattle.tm_flow.specs.Elements.{In}
 use Rattle.tm_flow.specs.Points.{made_in, points_of_program}
-use Rattle.tm_flow.specs.Steps.{steps_of}
+use Rattle.tm_flow.specs.Steps.{Labelled, steps_of, Acts}
 use Rattle.tm_flow.specs.Paths.{Path}
 use Rattle.tm_flow.specs.Edges.{prefixed, ways_from, edges_of_program}
 
@@ -24,6 +26,12 @@ abbrev pub IsMark : Item → Type 0
 IsMark (mark p) = Unit {0}
 IsMark (node s n) = ⊥
 IsMark (turn c body line n) = ⊥
+
+-- a step of a run with an item that is no mark does what one of its labelled steps records, and each labelled step that can be taken is such a step
+abbrev pub StepsAreRecorded : Type 0
+StepsAreRecorded =
+    (item : Item) (x : State) (work : List Item) (y : State) → ¬ (IsMark item) →
+    Does item x work y ↔ ((s : Labelled) × In (steps_of item) s × (s.work ≡ work) × Acts s.actions x y)
 
 -- an item that is no mark leads on by its labelled steps, in their order, and by nothing else
 abbrev pub WaysAreSteps : Type 0

@@ -1,12 +1,18 @@
 //! Laws of the definitions, each the contract of a function that does nothing.
 
-ghost use Rattle.tm_flow.specs.PathLaws.{EdgesInRange, EdgesOfPrograms, PointsAreNumbered, WaysAreSteps};
+ghost use Rattle.tm_flow.specs.PathLaws.{EdgesInRange, EdgesOfPrograms, PointsAreNumbered, StepsAreRecorded, WaysAreSteps};
 
 /// Each point of a program is made by exactly one of its nodes, and stands in the list of points at the number that this
 /// node gives it.
 pub fn points_are_numbered()
     ensures { PointsAreNumbered }
 {}
+
+/// A step of a run, other than past a mark, does what one of the labelled steps records, and the other way round.
+pub fn steps_are_recorded()
+    ensures { StepsAreRecorded }
+{
+}
 
 /// The ways from a piece of work to the next point are those by its labelled steps, in their order.
 pub fn ways_are_steps()

@@ -10,22 +10,22 @@ pub record HasPut (held now : Option (List ℕ)) (faults faults_now spare spare_
   pub front : List ℕ
   pub whole : text ≡ front ++ rest
   pub appended : Appends held now front
-  pub later : faults ≤ faults_now
+  pub calm : faults_now ≡ faults
   pub spared : spare ≤ spare_now + length front
 
 pub nothing_put : (held : Option (List ℕ)) (faults spare : ℕ) (text : List ℕ) → HasPut held held faults faults spare spare text text
-nothing_put held faults spare text = record { front = []; whole = refl; appended = Appends-nil held; later = omega arith; spared = omega arith }
+nothing_put held faults spare text = record { front = []; whole = refl; appended = Appends-nil held; calm = refl; spared = omega arith }
 
 -- one more piece
 pub one_more : (held now next : Option (List ℕ)) (f f' f'' s s' s'' : ℕ) (text rest line others : List ℕ)
-    → HasPut held now f f' s s' text rest → rest ≡ line ++ others → Appends now next line → f' ≤ f'' → s' ≤ s'' + length line
+    → HasPut held now f f' s s' text rest → rest ≡ line ++ others → Appends now next line → f'' ≡ f' → s' ≤ s'' + length line
     → HasPut held next f f'' s s'' text others
-one_more held now next f f' f'' s s' s'' text rest line others h cut appended later spared =
+one_more held now next f f' f'' s s' s'' text rest line others h cut appended calm spared =
     record {
       front = h.front ++ line;
       whole = h.whole ∙ ap (λ r. h.front ++ r) cut ∙ sym (append_assoc h.front line others);
       appended = Appends-trans held now next h.front line h.appended appended;
-      later = let l = h.later in omega arith;
+      calm = calm ∙ h.calm;
       spared = let l = h.spared in omega (arith, length-append h.front line);
     }
 

@@ -1,6 +1,6 @@
 //! A complete text, put one line at a time.
 
-ghost use Rattle.std.specs.Prelude.{◌≡◌, ◌≤◌, ◌<◌, length};
+ghost use Rattle.std.specs.Prelude.{◌≤◌, ◌<◌, ◌+◌, length};
 ghost use Rattle.tm_io.specs.Puts.{HasPutCause, Puts};
 
 use tm_io::{PutFault, Sink};
@@ -20,9 +20,10 @@ fn first_line(text: &[u8]) -> usize
 /// Puts the text, each line as one piece with its line feed. What one `put` of the whole text
 /// promises, this promises too.
 pub(crate) fn put_lines<K: Sink>(out: &mut K, text: &[u8]) -> Result<(), PutFault>
-    ensures bytes { Puts (K.held out.old) (K.held out.new) text.now result }
-    ensures cause { HasPutCause (K.faults out.old) (K.faults out.new)
-        (K.spare out.old) (K.spare out.new) (length text.now) result }
+    ensures appends { Puts (K.held out.old) (K.held out.new) text.now result }
+    ensures cause { HasPutCause (K.faults out.old) (K.faults out.new) (K.spare out.old) text.now result }
+    ensures never_falls { K.faults out.old ≤ K.faults out.new }
+    ensures spare { K.spare out.old ≤ K.spare out.new + length text.now }
 {
     let mut rest = text;
     while !rest.is_empty() {

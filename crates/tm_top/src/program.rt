@@ -49,7 +49,7 @@ fn answer<K: Sink>(alloc: Global, text: &[u8], out: &mut K) -> Status
 
 /// Loads the program that the words name, and puts the report on it.
 fn solve<S: Shelf, K: Sink>(alloc: Global, words: &[String], shelf: &mut S, out: &mut K) -> Status
-    ensures files { S.files shelf.new ≡ S.files shelf.old }
+    ensures kept { S.files shelf.new ≡ S.files shelf.old }
     ensures usage { (result ≡ Status.Usage) ↔ (program_named (map string_bytes words.now) ≡ None) }
     ensures read { result ≡ Status.Read (ReadCause.Failed Which.Program) → Rose (S.faults shelf.old) (S.faults shelf.new)
         × (Some (S.last_failed shelf.new) ≡ program_named (map string_bytes words.now)) }
@@ -77,7 +77,7 @@ pub fn run<S: Shelf, K: Sink, L: Sink>(
     out: &mut K,
     err: &mut L,
 ) -> Status
-    ensures files { S.files shelf.new ≡ S.files shelf.old }
+    ensures kept { S.files shelf.new ≡ S.files shelf.old }
     ensures usage { (result ≡ Status.Usage) ↔ (program_named (map string_bytes words.now) ≡ None) }
     ensures read { result ≡ Status.Read (ReadCause.Failed Which.Program) → Rose (S.faults shelf.old) (S.faults shelf.new)
         × (Some (S.last_failed shelf.new) ≡ program_named (map string_bytes words.now)) }

@@ -6,4 +6,4 @@ use Rattle.tm_top.proofs.program.run.Goals as goal
 pub returns-then-ne-clause-errors : goal.returns-then-ne-clause-errors
 returns-then-ne-clause-errors g c =
     let other : c.solve-status.result ≢ Done = search rules in
-    told_by _ _ _ _ _ _ _ _ _ c.message.ensures other c.put.ensures.bytes c.put.ensures.cause
+    told_by _ _ _ _ _ _ _ _ c.message.ensures other c.put.ensures.appends c.put.ensures.cause
