@@ -4,7 +4,10 @@
 mod checked;
 mod domains;
 mod fault;
+mod row;
+mod sums;
 mod template;
+mod term;
 
 pub use checked::from_rows;
 pub use domains::{intervals, octagons, zones};
