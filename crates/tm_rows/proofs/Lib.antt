@@ -5,3 +5,8 @@ pub mod KeptSteps
 pub mod RowSteps
 pub mod TokenSteps
 pub mod Spelling
+pub mod LineSteps
+pub mod ReadSteps
+pub mod FileSteps
+pub mod OneAnswer
+pub mod FileRows

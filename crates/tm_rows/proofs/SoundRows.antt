@@ -29,7 +29,7 @@ within true f h = refl
 within false f h = cc
 
 -- a row over n variables
-abbrev is_row_over : ℕ → List ℤ → Bool
+abbrev pub is_row_over : ℕ → List ℤ → Bool
 is_row_over n row = is_row row && eqb (length row) n
 
 all_rows : (n line : ℕ) (rows : List (List ℤ)) → faults_from n line rows ≡ [] → list_all (is_row_over n) rows ≡ true

@@ -8,7 +8,7 @@ use Rattle.tm_rows.specs.declared.term.Term.{Term}
 use Rattle.tm_lex.specs.declared.token.Token.{Token}
 use Rattle.tm_lex.specs.declared.token.Kind.{Kind}
 use Rattle.tm_lex.specs.declared.token.Kind.TheVariants as kind
-use Rattle.tm_rows.specs.Grammar.{Amount, Symbol, named, times, Written, amount, signed, sign_symbol, unsigned_symbols, symbols_of, Spells}
+use Rattle.tm_rows.specs.Grammar.{Amount, Symbol, named, times, Written, amount, signed, sign_symbol, unsigned_symbols, symbols_of, Spells, ReadsTerms}
 use Rattle.tm_rows.specs.Sums.{total}
 
 -- what a kept term stands for
@@ -80,3 +80,8 @@ pub record SpellsKept (symbols : List Symbol) (kept : List Term) : Type 0 where
 -- They spell no row.
 abbrev pub NoRow : List Symbol → Type 0
 NoRow symbols = (terms : List Written) → Spells symbols terms → ⊥
+
+-- The line reads as terms that stand for these, and as no others.
+pub record ReadsKept (line : List ℕ) (kept : List Term) : Type 0 where
+  pub reads : ReadsTerms line (map kept_amount kept)
+  pub only : (amounts : List Amount) → ReadsTerms line amounts → amounts ≡ map kept_amount kept

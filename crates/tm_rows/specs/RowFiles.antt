@@ -1,5 +1,5 @@
 -- The rows of a file, and its first fault.
-use Rattle.std.specs.Prelude.{◌≡◌, ◌==◌, ◌||◌, ◌+◌, ◌++◌, ℕ, ℤ, Bool, true, not, IsTrue, IsFalse, List, [], ◌∷◌, length, find, Option, Some, None, option_to_list, Result, Ok, Err}
+use Rattle.std.specs.Prelude.{◌≡◌, ◌==◌, ◌||◌, ◌+◌, ◌++◌, ◌⊎◌, ℕ, ℤ, Bool, true, not, IsTrue, IsFalse, List, [], ◌∷◌, length, find, Option, Some, None, option_to_list, Result, Ok, Err}
 use Rattle.std.specs.List.{list_all, slice_split}
 use Rattle.tm_rows.specs.declared.fault.RowFault.{RowFault}
 use Rattle.tm_rows.specs.declared.fault.RowFault.TheVariants.{ZeroRow, Count, UnknownName, BadRow, Length, NoMemory}
@@ -103,8 +103,13 @@ pub record HasCount (names : List (List ℕ)) (lines : List (List ℕ)) (count :
   pub read : LinesRead names lines rows
   pub wrong : count_faults (length rows) ≡ Count count ∷ []
 
--- What a file is: these rows, or this fault.
-abbrev pub Answers : List (List ℕ) → List ℕ → Result (List (List ℤ)) RowFault → Type 0
-Answers names text (Ok rows) = HasRows names (lines_of text) rows
-Answers names text (Err (Count count)) = HasCount names (lines_of text) count
-Answers names text (Err fault) = HasFault names (lines_of text) fault
+-- What a file is over these variables: a template of these rows, or this fault.
+pub data Answers (names : List (List ℕ)) (text : List ℕ) (answer : Result (List (List ℤ)) RowFault) : Type 0 where
+  a_template : (rows : List (List ℤ)) → answer ≡ Ok rows → HasRows names (lines_of text) rows → Answers names text answer
+  a_count : (count : ℕ) → answer ≡ Err (Count count) → HasCount names (lines_of text) count → Answers names text answer
+  a_fault : (fault : RowFault) → answer ≡ Err fault → HasFault names (lines_of text) fault → Answers names text answer
+
+-- The result is this answer, unless memory is wanted.
+abbrev pub Gives : Result (List (List ℤ)) RowFault → Result (List (List ℤ)) RowFault → Type 0
+Gives (Ok template) answer = answer ≡ Ok template
+Gives (Err fault) answer = (fault ≡ NoMemory) ⊎ (answer ≡ Err fault)

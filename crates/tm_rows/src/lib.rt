@@ -4,6 +4,9 @@
 mod checked;
 mod domains;
 mod fault;
+mod file;
+mod law;
+mod line;
 mod row;
 mod sums;
 mod template;
@@ -12,6 +15,8 @@ mod term;
 pub use checked::from_rows;
 pub use domains::{intervals, octagons, zones};
 pub use fault::RowFault;
+pub use file::read_rows;
+pub use law::one_reading;
 pub use template::Template;
 
 #[cfg(test)]
