@@ -31,13 +31,13 @@ pub line_fault : (names : List (List ℕ)) (lines : List (Bor (List ℕ))) (i : 
 line_fault names lines i d rows fault h before f =
     let at : length (pieces (take i lines)) ≡ i = length-map (take i lines) (λ line. line.now) ∙ length-take-le i lines (omega arith) in
     record {
-        before = pieces (take i lines);
-        line = (get_or lines i d).now;
-        after = pieces (drop (i + 1) lines);
-        split = sym (append_assoc (pieces (take i lines)) ((get_or lines i d).now ∷ []) (pieces (drop (i + 1) lines)))
-            ∙ (ap (λ ls. ls ++ pieces (drop (i + 1) lines)) (sym (pieces_more lines i d h))
-            ∙ (sym (map-append (λ line. line.now) (take (i + 1) lines) (drop (i + 1) lines)) ∙ ap pieces (take-append-drop (i + 1) lines)));
-        rows = rows;
-        sound = before;
-        fault_is = subst (λ n. FaultAt names (get_or lines i d).now (n + 1) fault) (sym at) f;
+      before = pieces (take i lines);
+      line = (get_or lines i d).now;
+      after = pieces (drop (i + 1) lines);
+      split = sym (append_assoc (pieces (take i lines)) ((get_or lines i d).now ∷ []) (pieces (drop (i + 1) lines)))
+          ∙ (ap (λ ls. ls ++ pieces (drop (i + 1) lines)) (sym (pieces_more lines i d h))
+          ∙ (sym (map-append (λ line. line.now) (take (i + 1) lines) (drop (i + 1) lines)) ∙ ap pieces (take-append-drop (i + 1) lines)));
+      rows = rows;
+      sound = before;
+      fault_is = subst (λ n. FaultAt names (get_or lines i d).now (n + 1) fault) (sym at) f;
     }

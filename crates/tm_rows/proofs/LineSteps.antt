@@ -54,12 +54,12 @@ unspelled_is_none line tokens reads h amounts r =
 pub reads_kept : (line : List ℕ) (tokens : List Token) (kept : List Term) → IsFalse (list_any (λ b. eqb b 47) line) → Reads line tokens → SpellsKept (symbols_of line tokens) kept → ReadsKept line kept
 reads_kept line tokens kept slash reads h =
     let here : ReadsTerms line (map kept_amount kept) = record {
-        no_slash = slash;
-        tokens = tokens;
-        reads = reads;
-        terms = h.terms;
-        spelled = h.spelled;
-        stand_for = h.stand_for;
+      no_slash = slash;
+      tokens = tokens;
+      reads = reads;
+      terms = h.terms;
+      spelled = h.spelled;
+      stand_for = h.stand_for;
     } in
     record { reads = here; only = λ amounts r. one_terms line amounts (map kept_amount kept) r here }
 

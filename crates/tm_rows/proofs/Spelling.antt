@@ -74,8 +74,8 @@ signed_only all rest negative a (t ∷ ts) (inr e) = absurd (no_sign t.factor t.
 
 pub pending_signed : (all rest : List Symbol) (negative : Bool) → all ≡ sign_symbol negative ∷ rest → Pending all [] negative rest
 pending_signed all rest negative a = record {
-    goes_on = λ t ts s e. inl (a ∙ (ap (λ b. sign_symbol b ∷ rest) (sym s) ∙ ap (λ r. sign_symbol t.negative ∷ r) e));
-    only = signed_only all rest negative a;
+  goes_on = λ t ts s e. inl (a ∙ (ap (λ b. sign_symbol b ∷ rest) (sym s) ∙ ap (λ r. sign_symbol t.negative ∷ r) e));
+  only = signed_only all rest negative a;
 }
 
 plain_only : (all : List Symbol) → NoSign all → (whole : List Written) → Spells all whole → Continues whole [] false all
@@ -97,20 +97,20 @@ more_only whole done negative next rest after others t (v ∷ vs) c u s e a =
     let tail : sign_symbol next ∷ others ≡ sign_symbol v.negative ∷ (unsigned_symbols v ++ tail_symbols vs) = sym a ∙ (one.rest ∙ ap tail_symbols u) in
     let sign : sign_symbol v.negative ≡ sign_symbol next = cc in
     record {
-        term = v;
-        others = vs;
-        whole_is = c.whole_is ∙ (ap (λ x. done ++ c.term ∷ x) u ∙ (ap (λ x. done ++ x ∷ v ∷ vs) (sym first) ∙ sym (append_assoc done (t ∷ []) (v ∷ vs))));
-        sign = same_sign _ _ sign;
-        spelled = cc;
+      term = v;
+      others = vs;
+      whole_is = c.whole_is ∙ (ap (λ x. done ++ c.term ∷ x) u ∙ (ap (λ x. done ++ x ∷ v ∷ vs) (sym first) ∙ sym (append_assoc done (t ∷ []) (v ∷ vs))));
+      sign = same_sign _ _ sign;
+      spelled = cc;
     }
 
 pub pending_more : (all : List Symbol) (done : List Written) (negative next : Bool) (rest after others : List Symbol) (t : Written) → Pending all done negative rest → t.negative ≡ negative → rest ≡ unsigned_symbols t ++ after → after ≡ sign_symbol next ∷ others → Pending all (done ++ t ∷ []) next others
 pending_more all done negative next rest after others t p s e a = record {
-    goes_on = λ v vs n d.
-        let tail : after ≡ tail_symbols (v ∷ vs) = a ∙ (ap (λ b. sign_symbol b ∷ others) (sym n) ∙ ap (λ r. sign_symbol v.negative ∷ r) d) in
-        subst (Spells all) (sym (append_assoc done (t ∷ []) (v ∷ vs)))
-        (p.goes_on t (v ∷ vs) s (e ∙ ap (λ r. unsigned_symbols t ++ r) tail));
-    only = λ whole h. more_only whole done negative next rest after others t (p.only whole h).others (p.only whole h) refl s e a;
+  goes_on = λ v vs n d.
+      let tail : after ≡ tail_symbols (v ∷ vs) = a ∙ (ap (λ b. sign_symbol b ∷ others) (sym n) ∙ ap (λ r. sign_symbol v.negative ∷ r) d) in
+      subst (Spells all) (sym (append_assoc done (t ∷ []) (v ∷ vs)))
+      (p.goes_on t (v ∷ vs) s (e ∙ ap (λ r. unsigned_symbols t ++ r) tail));
+  only = λ whole h. more_only whole done negative next rest after others t (p.only whole h).others (p.only whole h) refl s e a;
 }
 
 -- a term was found, and the end after it

@@ -45,9 +45,9 @@ within_more a i t h e w f = λ name k le.
     ⊎_elim
     (λ lt. w name k (omega arith))
     (λ ge.
-        let at : k ≡ i + 1 = omega arith in
-        rw (at, total_more a i t name h e)
-        (within_share (total name (take i a)) t.0 (total t.1 (take i a)) t.1 name (bytes_eq t.1 name) refl (λ q. ap (λ n. total n (take i a)) (sym q)) (w name i (omega arith)) f))
+    let at : k ≡ i + 1 = omega arith in
+    rw (at, total_more a i t name h e)
+    (within_share (total name (take i a)) t.0 (total t.1 (take i a)) t.1 name (bytes_eq t.1 name) refl (λ q. ap (λ n. total n (take i a)) (sym q)) (w name i (omega arith)) f))
     (cases_lt k (i + 1))
 
 -- where a term's sum leaves the range, the coefficients don't stay within it

@@ -15,11 +15,11 @@ name_first line [] d negative kept l k c n fit = absurd (omega arith)
 name_first line (t ∷ ts) d negative kept l k c n fit =
     let P : List Token → Type 0 = λ after. TakesTerm line (t ∷ ts) negative kept after in
     subst P (sym (rest_is t ts)) (record {
-        term = record { negative = negative; factor = None; name = kept.name.now };
-        sign = refl;
-        stands_for = ap (λ z. (z, kept.name.now)) (sym c);
-        spelled = ap (λ s. s ∷ symbols_of line ts) (ap (λ k. symbol_with k (slice_range line t.at (t.at + t.len))) k ∙ ap named (sym n));
-        fit = fit.1;
+      term = record { negative = negative; factor = None; name = kept.name.now };
+      sign = refl;
+      stands_for = ap (λ z. (z, kept.name.now)) (sym c);
+      spelled = ap (λ s. s ∷ symbols_of line ts) (ap (λ k. symbol_with k (slice_range line t.at (t.at + t.len))) k ∙ ap named (sym n));
+      fit = fit.1;
     })
 
 no_number : (f : Option ℤ) (n : List ℕ) (z : ℤ) (symbols more : List Symbol) → number z ∷ symbols ≡ (factor_symbols f ++ named n ∷ []) ++ more → NoName symbols → ⊥
@@ -32,12 +32,12 @@ number_before line t ts negative factor None k h = λ term more e.
     no_number term.factor term.name factor (symbols_of line ts) more
     (ap (λ s. s ∷ symbols_of line ts) (sym (ap (λ q. symbol_with q (slice_range line t.at (t.at + t.len))) k)) ∙ e) h
 number_before line t ts negative factor (Some found) k h = record {
-    term = record { negative = negative; factor = Some factor; name = found.0.name.now };
-    sign = refl;
-    stands_for = ap (λ z. (z, found.0.name.now)) (sym h.coefficient);
-    spelled = ap (λ s. s ∷ symbols_of line ts) (ap (λ q. symbol_with q (slice_range line t.at (t.at + t.len))) k)
-        ∙ ap (λ ss. number factor ∷ ss) h.spelled;
-    fit = h.fit;
+  term = record { negative = negative; factor = Some factor; name = found.0.name.now };
+  sign = refl;
+  stands_for = ap (λ z. (z, found.0.name.now)) (sym h.coefficient);
+  spelled = ap (λ s. s ∷ symbols_of line ts) (ap (λ q. symbol_with q (slice_range line t.at (t.at + t.len))) k)
+      ∙ ap (λ ss. number factor ∷ ss) h.spelled;
+  fit = h.fit;
 }
 
 pub number_first : (line : List ℕ) (tokens : List Token) (d : Token) (negative : Bool) (factor same : ℤ) (r : Option (Term × Bor (List Token))) → 1 ≤ length tokens → (get_or tokens 0 d).kind ≡ kind.Number factor → same ≡ factor → MatchOption r (NoName (symbols_of line (take (length tokens - 1) (drop 1 tokens)))) (λ found. TakesName line (take (length tokens - 1) (drop 1 tokens)) negative same found.0 found.1.now) → MatchOption r (NoTerm (symbols_of line tokens)) (λ found. TakesTerm line tokens negative found.0 found.1.now)

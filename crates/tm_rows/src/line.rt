@@ -46,7 +46,7 @@ fn tokens_of(alloc: Global, line: &[u8]) -> Result<Option<Vec<Token>>, RowFault>
     requires { length line.now ≤ 65536 }
     ensures { MatchResult result
         (λ found. MatchOption found ((tokens : List Token) → Reads line.now tokens → ⊥)
-            (λ tokens. Reads line.now tokens.items × AllFit line.now tokens.items))
+        (λ tokens. Reads line.now tokens.items × AllFit line.now tokens.items))
         (λ fault. fault ≡ NoMemory) }
 {
     match lex(alloc, line) {
@@ -63,7 +63,7 @@ fn terms_of<'a>(alloc: Global, line: &'a [u8]) -> Result<Option<Vec<Term<'a>>>, 
     requires { length line.now ≤ 65536 }
     ensures { MatchResult result
         (λ found. MatchOption found ((amounts : List Amount) → ReadsTerms line.now amounts → ⊥)
-            (λ terms. ReadsKept line.now terms.items))
+        (λ terms. ReadsKept line.now terms.items))
         (λ fault. fault ≡ NoMemory) }
 {
     if line.contains(&b'/') {
@@ -76,7 +76,12 @@ fn terms_of<'a>(alloc: Global, line: &'a [u8]) -> Result<Option<Vec<Term<'a>>>, 
 }
 
 /// What the line of this number gives: a row, or nothing where it is skipped.
-pub(crate) fn read_line(alloc: Global, line: &[u8], names: &[Name], number: u32) -> Result<Option<Coeffs>, RowFault>
+pub(crate) fn read_line(
+    alloc: Global,
+    line: &[u8],
+    names: &[Name],
+    number: u32,
+) -> Result<Option<Coeffs>, RowFault>
     requires { length line.now ≤ 65536 }
     ensures read { IfOk result (λ read. LineReads names.now line.now read) }
     ensures refused { IfErr result (λ fault. fault ≢ NoMemory → FaultAt names.now line.now number fault) }

@@ -26,7 +26,11 @@ pub(crate) fn are_known(names: &[Name], terms: &[Term]) -> bool
 }
 
 /// The coefficients of the row in which each name has this sum.
-pub(crate) fn row_of(alloc: Global, names: &[Name], sums: &BTreeMap<&[u8], i64>) -> Result<Vec<i64>, AllocError>
+pub(crate) fn row_of(
+    alloc: Global,
+    names: &[Name],
+    sums: &BTreeMap<&[u8], i64>,
+) -> Result<Vec<i64>, AllocError>
     ensures { IfOk result (λ row. row.items ≡ row_by names.now (sum_at sums.now)) }
 {
     let mut row = Vec::new(alloc);

@@ -44,7 +44,10 @@ fn add<'a>(sums: &mut BTreeMap<&'a [u8], i64>, term: Term<'a>) -> Result<bool, A
 }
 
 /// What the coefficients of the terms add up to by their names; `None` where one leaves `2^63 - 1` on the way.
-pub(crate) fn sums<'a>(alloc: Global, terms: &[Term<'a>]) -> Result<Option<BTreeMap<&'a [u8], i64>>, AllocError>
+pub(crate) fn sums<'a>(
+    alloc: Global,
+    terms: &[Term<'a>],
+) -> Result<Option<BTreeMap<&'a [u8], i64>>, AllocError>
     ensures { IfOk result (λ found. MatchOption found (StaysWithin (map kept_amount terms.now) → ⊥)
         (λ sums. StaysWithin (map kept_amount terms.now) × AddUp sums (map kept_amount terms.now))) }
 {

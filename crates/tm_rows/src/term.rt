@@ -1,7 +1,5 @@
 //! The terms of a row.
 
-
-
 /// A term: its coefficient, and the name that it multiplies.
 #[derive(Clone, Copy)]
 pub(crate) struct Term<'a> {

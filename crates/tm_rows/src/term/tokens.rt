@@ -24,7 +24,12 @@ fn named<'a>(line: &'a [u8], token: Token, negative: bool, factor: i64) -> Term<
 }
 
 /// A factor times the name that stands first behind a `*`, and the tokens after it.
-fn multiple<'a, 't>(line: &'a [u8], tokens: &'t [Token], negative: bool, factor: i64) -> Option<(Term<'a>, &'t [Token])>
+fn multiple<'a, 't>(
+    line: &'a [u8],
+    tokens: &'t [Token],
+    negative: bool,
+    factor: i64,
+) -> Option<(Term<'a>, &'t [Token])>
     requires fit { AllFit line.now tokens.now }
     requires unsigned { pos 0 ≤ℤ factor }
     ensures { MatchOption result (NoName (symbols_of line.now tokens.now))
@@ -42,7 +47,11 @@ fn multiple<'a, 't>(line: &'a [u8], tokens: &'t [Token], negative: bool, factor:
 }
 
 /// The term that stands first, without its sign, and the tokens after it.
-fn unsigned<'a, 't>(line: &'a [u8], tokens: &'t [Token], negative: bool) -> Option<(Term<'a>, &'t [Token])>
+fn unsigned<'a, 't>(
+    line: &'a [u8],
+    tokens: &'t [Token],
+    negative: bool,
+) -> Option<(Term<'a>, &'t [Token])>
     requires { AllFit line.now tokens.now }
     ensures { MatchOption result (NoTerm (symbols_of line.now tokens.now))
         (λ found. TakesTerm line.now tokens.now negative found.0 found.1.now) }
@@ -96,7 +105,11 @@ fn start<'t>(line: &[u8], tokens: &'t [Token]) -> (bool, &'t [Token])
 }
 
 /// The terms that all the tokens spell, if they spell a row.
-pub(crate) fn terms<'a>(alloc: Global, line: &'a [u8], tokens: &[Token]) -> Result<Option<Vec<Term<'a>>>, AllocError>
+pub(crate) fn terms<'a>(
+    alloc: Global,
+    line: &'a [u8],
+    tokens: &[Token],
+) -> Result<Option<Vec<Term<'a>>>, AllocError>
     requires { AllFit line.now tokens.now }
     ensures { IfOk result (λ found. MatchOption found (NoRow (symbols_of line.now tokens.now))
         (λ terms. SpellsKept (symbols_of line.now tokens.now) terms.items)) }

@@ -32,16 +32,16 @@ returns-in-Some-clause-refused c = λ wanted.
     let many : length c.as_slice.result.now ≡ length rows = ap length c.as_slice.ensures.value in
     let fault : c.in-Some.fault ≡ Count (length c.as_slice.result.now) = count_is (length c.as_slice.result.now) c.in-Some.fault c.in-Some.ensures in
     a_count (length c.as_slice.result.now) (ap Err fault) (record {
-        rows = rows;
-        read = subst (λ ls. LinesRead c.args.names.now ls rows) lines c.in_ok-rows.ensures.rows;
-        wrong = ap count_faults (sym many) ∙ (sym c.in-Some.ensures ∙ ap (λ f. f ∷ []) fault);
+      rows = rows;
+      read = subst (λ ls. LinesRead c.args.names.now ls rows) lines c.in_ok-rows.ensures.rows;
+      wrong = ap count_faults (sym many) ∙ (sym c.in-Some.ensures ∙ ap (λ f. f ∷ []) fault);
     })
 
 pub new-requires : goal.new-requires
 new-requires c =
     let many : length c.as_slice.result.now ≡ length c.in_ok-rows.rows.items = ap length c.as_slice.ensures.value in
     (template_from (length c.args.names.now) c.in_ok-rows.rows.items (rows_over c.args.names.now _ c.in_ok-rows.rows.items c.in_ok-rows.ensures.rows)
-        (count_within (length c.in_ok-rows.rows.items) (ap count_faults (sym many) ∙ sym c.in-None.ensures))).0
+    (count_within (length c.in_ok-rows.rows.items) (ap count_faults (sym many) ∙ sym c.in-None.ensures))).0
 
 pub returns-clause-template : goal.returns-clause-template
 returns-clause-template c =
@@ -49,8 +49,8 @@ returns-clause-template c =
     let rows = c.in_ok-rows.rows.items in
     let many : length c.as_slice.result.now ≡ length rows = ap length c.as_slice.ensures.value in
     a_template rows (ap Ok c.new.ensures) (record {
-        read = subst (λ ls. LinesRead c.args.names.now ls rows) lines c.in_ok-rows.ensures.rows;
-        right = ap count_faults (sym many) ∙ sym c.in-None.ensures;
+      read = subst (λ ls. LinesRead c.args.names.now ls rows) lines c.in_ok-rows.ensures.rows;
+      right = ap count_faults (sym many) ∙ sym c.in-None.ensures;
     })
 
 pub returns-clause-width : goal.returns-clause-width
@@ -58,7 +58,7 @@ returns-clause-width c =
     let many : length c.as_slice.result.now ≡ length c.in_ok-rows.rows.items = ap length c.as_slice.ensures.value in
     ap width_of c.new.ensures
     ∙ (template_from (length c.args.names.now) c.in_ok-rows.rows.items (rows_over c.args.names.now _ c.in_ok-rows.rows.items c.in_ok-rows.ensures.rows)
-        (count_within (length c.in_ok-rows.rows.items) (ap count_faults (sym many) ∙ sym c.in-None.ensures))).1
+    (count_within (length c.in_ok-rows.rows.items) (ap count_faults (sym many) ∙ sym c.in-None.ensures))).1
 
 pub overflow_cast-as_slice : goal.overflow_cast-as_slice
 overflow_cast-as_slice c =

@@ -8,9 +8,11 @@ returns-in_default-clause-refused c = λ wanted.
 
 pub returns-in_default-2-clause-refused : goal.returns-in_default-2-clause-refused
 returns-in_default-2-clause-refused c = λ wanted.
-    let terms = rw c.in-Some.is at c.in_ok-terms.ensures in
-    (refl, bad_range c.args.line.now c.in-Some.terms.items c.deref.result.now (sym c.is_skipped.ensures ∙ c.if-is_skipped.false) terms c.deref.ensures.value
-    (rw c.in_default-2.is at c.in_ok-sums.ensures))
+    let terms = rw c.in-Some.is at c.in_ok-terms.ensures in (
+      refl,
+      bad_range c.args.line.now c.in-Some.terms.items c.deref.result.now (sym c.is_skipped.ensures ∙ c.if-is_skipped.false) terms c.deref.ensures.value
+          (rw c.in_default-2.is at c.in_ok-sums.ensures),
+    )
 
 pub returns-then-not-are_known-clause-refused : goal.returns-then-not-are_known-clause-refused
 returns-then-not-are_known-clause-refused c = λ wanted.

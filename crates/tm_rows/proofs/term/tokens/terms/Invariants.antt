@@ -6,10 +6,10 @@ use Rattle.tm_rows.proofs.term.tokens.terms.Given as goal
 
 abbrev pub invariant-terms : goal.invariant-terms
 invariant-terms l = record {
-    done : List Written;
-    stand_for : map amount done ≡ map kept_amount l.terms.items;
-    pending : Pending (symbols_of l.fn.line l.fn.tokens) done l.negative (symbols_of l.line l.rest);
-    fit : AllFit l.line l.rest;
+  done : List Written;
+  stand_for : map amount done ≡ map kept_amount l.terms.items;
+  pending : Pending (symbols_of l.fn.line l.fn.tokens) done l.negative (symbols_of l.line l.rest);
+  fit : AllFit l.line l.rest;
 }
 
 abbrev pub decreases-terms : goal.decreases-terms
