@@ -1,6 +1,6 @@
 -- The lines of a short text are short, and the rows of a file are rows over its variables.
-use Rattle.std.proofs.Common.{◌≡◌, ◌≤◌, ◌+◌, ℕ, ℤ, suc, zero, Bool, true, false, cond, ◌&&◌, eqb, nat_le, List, [], ◌∷◌, ◌++◌, length, map, Bor, Option, None, Some, option_to_list, refl, ap, sym, subst, ◌∙◌, arith}
-use Rattle.std.specs.List.{slice_split, onto_first, list_all, count_by}
+use Rattle.std.proofs.Common.{◌≡◌, ◌≤◌, ◌+◌, ℕ, ℤ, suc, zero, Bool, true, false, cond, ◌&&◌, eqb, nat_le, List, [], ◌∷◌, ◌++◌, length, Bor, Option, None, Some, option_to_list, refl, ap, sym, ◌∙◌, arith}
+use Rattle.std.specs.List.{slice_split, onto_first, list_all}
 use Rattle.std.proofs.lemmas.Bool.{and_from, and_parts, eq-eqb, leb-true, le-leb}
 use Rattle.std.proofs.lemmas.List.{length-map}
 use Rattle.std.proofs.lemmas.List.Sums.{count_by-le-length}
@@ -8,7 +8,6 @@ use Rattle.std.proofs.lemmas.List.Splits.{length-slice_split}
 use Rattle.std.proofs.lemmas.List.FromFn.{length-map-range_with_len}
 use Rattle.tm_rows.specs.declared.fault.RowFault.{RowFault}
 use Rattle.tm_rows.specs.declared.fault.RowFault.TheVariants.{Count}
-use Rattle.tm_rows.specs.Rows.{is_row}
 use Rattle.tm_rows.specs.RowFaults.{count_faults}
 use Rattle.tm_rows.specs.Sums.{coefficient_by, total}
 use Rattle.tm_rows.specs.RowFiles.{lines_of, LineReads, LinesRead}

@@ -4,7 +4,6 @@ use Rattle.std.specs.BTreeMap.{BTreeMap}
 use Rattle.std.proofs.lemmas.List.{length-map, get_or-map}
 use Rattle.tm_tree.specs.Numbers.{is_number}
 use Rattle.tm_rows.specs.declared.term.Term.{Term}
-use Rattle.tm_rows.specs.Grammar.{Amount}
 use Rattle.tm_rows.specs.Sums.{share, total, StaysWithin}
 use Rattle.tm_rows.specs.Kept.{kept_amount, sum_at, AddUp}
 use Rattle.tm_rows.proofs.SumSteps.{WithinUpTo, total_more, within_more, leaves_range}

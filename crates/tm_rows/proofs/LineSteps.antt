@@ -1,5 +1,5 @@
 -- What a line reads as.
-use Rattle.std.proofs.Common.{◌≡◌, ◌≤◌, ◌+◌, ◌≤ℤ◌, ℕ, ℤ, pos, Bool, true, false, List, [], ◌∷◌, ◌++◌, length, map, IsTrue, IsFalse, Option, None, Some, MatchOption, Vec, Global, eqb, refl, ap, sym, subst, ◌∙◌, arith}
+use Rattle.std.proofs.Common.{◌≡◌, ◌+◌, ℕ, true, List, [], ◌∷◌, ◌++◌, length, map, IsFalse, Option, None, Some, MatchOption, Vec, Global, eqb, ap, sym, subst, ◌∙◌, arith}
 use Rattle.std.proofs.lemmas.Bool.{false≢true}
 use Rattle.std.proofs.lemmas.Int.{ints}
 use Rattle.std.specs.List.{list_any}
@@ -11,7 +11,7 @@ use Rattle.tm_lex.specs.Reading.{Reads, end_at}
 use Rattle.tm_lex.specs.TokenLists.{AreTokensAfter, AreTokensOf}
 use Rattle.tm_lex.proofs.Once.{one_token_list}
 use Rattle.tm_rows.specs.declared.term.Term.{Term}
-use Rattle.tm_rows.specs.Grammar.{Amount, Written, amount, symbols_of, Spells, ReadsTerms}
+use Rattle.tm_rows.specs.Grammar.{Amount, amount, symbols_of, Spells, ReadsTerms}
 use Rattle.tm_rows.specs.Kept.{kept_amount, IsUnsigned, AllFit, SpellsKept, NoRow, ReadsKept}
 use Rattle.tm_rows.proofs.Spelling.{one_spelling}
 

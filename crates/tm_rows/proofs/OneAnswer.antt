@@ -1,5 +1,5 @@
 -- A file is one thing at most.
-use Rattle.std.proofs.Common.{◌≡◌, ◌⊎◌, ◌+◌, ℕ, ℤ, Bool, true, false, List, [], ◌∷◌, ◌++◌, length, Option, None, Some, option_to_list, Result, Ok, Err, IfOk, IfErr, refl, ap, sym, subst, ◌∙◌, inl, inr}
+use Rattle.std.proofs.Common.{◌≡◌, ◌+◌, ℕ, ℤ, List, [], ◌∷◌, ◌++◌, length, Option, None, Some, option_to_list, Result, Ok, Err, IfOk, IfErr, refl, ap, sym, subst, ◌∙◌, inl, inr}
 use Rattle.std.proofs.lemmas.Bool.{false≢true}
 use Rattle.tm_rows.specs.declared.fault.RowFault.{RowFault}
 use Rattle.tm_rows.specs.declared.fault.RowFault.TheVariants.{ZeroRow, Count, UnknownName, BadRow, Length, NoMemory}
@@ -7,7 +7,7 @@ use Rattle.tm_rows.specs.Rows.{is_row}
 use Rattle.tm_rows.specs.RowFaults.{count_faults}
 use Rattle.tm_rows.specs.Grammar.{Amount}
 use Rattle.tm_rows.specs.Sums.{row_of}
-use Rattle.tm_rows.specs.RowFiles.{lines_of, are_known, ReadsWithin, LineReads, LinesRead, FaultAt, HasFault, HasRows, HasCount, Answers, a_template, a_count, a_fault, Gives}
+use Rattle.tm_rows.specs.RowFiles.{lines_of, are_known, ReadsWithin, LineReads, LinesRead, FaultAt, HasFault, Answers, a_template, a_count, a_fault, Gives}
 use Rattle.tm_rows.proofs.LineSteps.{one_terms}
 
 same_amounts : (line : List ℕ) (a b : List Amount) → ReadsWithin line a → ReadsWithin line b → a ≡ b

@@ -1,5 +1,5 @@
 -- What a line is, by what was found of it.
-use Rattle.std.proofs.Common.{◌≡◌, ℕ, ℤ, Bool, true, false, List, map, IsTrue, IsFalse, Bor, Some, refl, ap, sym, subst, ◌∙◌}
+use Rattle.std.proofs.Common.{◌≡◌, ℕ, ℤ, Bool, true, false, List, map, IsTrue, Bor, ap, sym, subst, ◌∙◌}
 use Rattle.std.specs.List.{list_all}
 use Rattle.std.specs.BTreeMap.{BTreeMap}
 use Rattle.tm_tree.specs.Numbers.{are_numbers}

@@ -1,14 +1,14 @@
 -- The row of terms.
-use Rattle.std.proofs.Common.{◌≡◌, ◌<◌, ◌≤◌, ◌+◌, ℕ, ℤ, pos, Bool, true, false, cond, ◌&&◌, List, [], ◌∷◌, length, take, map, get_or, IsTrue, refl, ap, sym, ◌∙◌, arith}
+use Rattle.std.proofs.Common.{◌≡◌, ℕ, ℤ, pos, Bool, true, false, cond, ◌&&◌, List, [], ◌∷◌, length, take, map, get_or, refl, ap, sym, ◌∙◌, arith}
 use Rattle.std.specs.List.{list_all, range_with_len}
 use Rattle.std.proofs.lemmas.Bool.{and_from}
-use Rattle.std.proofs.lemmas.List.{get_or_read, take_all}
+use Rattle.std.proofs.lemmas.List.{take_all}
 use Rattle.tm_tree.specs.Numbers.{is_number, are_numbers}
 use Rattle.tm_rows.specs.declared.term.Term.{Term}
 use Rattle.tm_rows.specs.Grammar.{Amount}
 use Rattle.tm_rows.specs.Sums.{is_among, coefficient_by, row_by, row_of, total, StaysWithin}
 use Rattle.tm_rows.specs.RowFiles.{are_known}
-use Rattle.tm_rows.specs.Kept.{kept_amount, sum_at, AddUp}
+use Rattle.tm_rows.specs.Kept.{kept_amount}
 
 pub coefficient_repeated : (names : List (List ℕ)) (sum : List ℕ → ℤ) (i : ℕ) (name : List ℕ) → get_or names i [] ≡ name → is_among (take i names) name ≡ true → coefficient_by names sum i ≡ pos 0
 coefficient_repeated names sum i name e h = rw (e, h) refl

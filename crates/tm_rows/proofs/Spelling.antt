@@ -1,6 +1,6 @@
 -- A row's symbols spell one list of terms, and its terms are found one after another.
-use Rattle.std.proofs.Common.{◌≡◌, ◌⊎◌, ℕ, ℤ, Bool, true, false, List, [], ◌∷◌, ◌++◌, Option, None, Some, refl, ap, sym, subst, ◌∙◌, inl, inr, ⊎_elim, append_assoc}
-use Rattle.tm_rows.specs.Grammar.{Symbol, plus, minus, times, number, named, end, sign_symbol, factor_symbols, Written, unsigned_symbols, signed_symbols, tail_symbols, Spells}
+use Rattle.std.proofs.Common.{◌≡◌, ℕ, ℤ, Bool, true, false, List, [], ◌∷◌, ◌++◌, Option, None, Some, refl, ap, sym, subst, ◌∙◌, inl, inr, append_assoc}
+use Rattle.tm_rows.specs.Grammar.{Symbol, named, end, sign_symbol, factor_symbols, Written, unsigned_symbols, tail_symbols, Spells}
 use Rattle.tm_rows.specs.Kept.{NoSign, NoTerm}
 use Rattle.tm_rows.specs.Pending.{Continues, Pending}
 

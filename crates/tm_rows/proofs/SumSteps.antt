@@ -1,5 +1,5 @@
 -- One more term.
-use Rattle.std.proofs.Common.{◌≡◌, ◌≤◌, ◌<◌, ◌+◌, ◌+ℤ◌, ℕ, ℤ, pos, Bool, true, false, cond, List, length, take, map, fold, get_or, Option, Some, unwrap_or, Bor, refl, ap, sym, subst, ◌∙◌, ⊎_elim, arith, IsTrue, w64, suc}
+use Rattle.std.proofs.Common.{◌≡◌, ◌≤◌, ◌<◌, ◌+◌, ◌+ℤ◌, ℕ, ℤ, pos, Bool, true, false, cond, List, length, take, get_or, Some, unwrap_or, Bor, refl, ap, sym, ◌∙◌, ⊎_elim, arith, IsTrue, w64}
 use Rattle.std.specs.BTreeMap.{BTreeMap, get_by, UpdatesBy}
 use Rattle.std.specs.Ordering.{nat_cmp}
 use Rattle.std.specs.Cmp.Lexicographic.{slice_cmp}

@@ -4,7 +4,7 @@ use Rattle.std.proofs.lemmas.List.{take_all, map-append}
 use Rattle.tm_lex.specs.declared.token.Token.{Token}
 use Rattle.tm_lex.specs.declared.token.Kind.TheVariants as kind
 use Rattle.tm_rows.specs.declared.term.Term.{Term}
-use Rattle.tm_rows.specs.Grammar.{Symbol, number, times, named, symbol_with, symbols_of, factor_symbols, signed, Written, amount, unsigned_symbols}
+use Rattle.tm_rows.specs.Grammar.{Symbol, number, named, symbol_with, symbols_of, factor_symbols, signed, Written, amount}
 use Rattle.tm_rows.specs.Kept.{kept_amount, AllFit, TakesTerm, NoTerm, TakesName, NoName}
 
 rest_is : (t : Token) (ts : List Token) → take (length (t ∷ ts) - 1) (drop 1 (t ∷ ts)) ≡ ts

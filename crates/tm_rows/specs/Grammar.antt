@@ -32,6 +32,7 @@ symbol_with (kind.Word word) bytes = other
 abbrev pub symbol_of : List ℕ → Token → Symbol
 symbol_of line token = symbol_with token.kind (slice_range line token.at (token.at + token.len))
 
+-- the symbols of tokens of this line
 abbrev pub symbols_of : List ℕ → List Token → List Symbol
 symbols_of line tokens = map (symbol_of line) tokens
 
@@ -41,10 +42,12 @@ pub record Written : Type 0 where
   pub factor : Option ℤ
   pub name : List ℕ
 
+-- the sign of a term
 abbrev pub sign_symbol : Bool → Symbol
 sign_symbol true = minus
 sign_symbol false = plus
 
+-- the number before a `*` and the `*`, if there is one
 abbrev pub factor_symbols : Option ℤ → List Symbol
 factor_symbols None = []
 factor_symbols (Some factor) = number factor ∷ times ∷ []
@@ -71,6 +74,7 @@ Spells symbols (t ∷ ts) = (symbols ≡ tail_symbols (t ∷ ts)) ⊎ ((t.negati
 abbrev pub Amount : Type 0
 Amount = ℤ × List ℕ
 
+-- a factor with the sign of its term
 abbrev pub signed : Bool → ℤ → ℤ
 signed negative factor = if negative then neg_ℤ factor else factor
 

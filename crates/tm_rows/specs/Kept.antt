@@ -36,6 +36,7 @@ pub record FitsLine (line : List ℕ) (token : Token) : Type 0 where
   pub within : token.at + token.len ≤ length line
   pub unsigned : IsUnsigned token.kind
 
+-- each is a token of this line
 abbrev pub AllFit : List ℕ → List Token → Type 0
 AllFit line [] = Unit {0}
 AllFit line (token ∷ tokens) = FitsLine line token × AllFit line tokens

@@ -7,8 +7,8 @@ ghost use Rattle.tm_rows.specs.declared.fault.RowFault.TheVariants.{NoMemory};
 ghost use Rattle.tm_rows.specs.Rows.{width_of};
 ghost use Rattle.tm_rows.specs.RowFiles.{lines_of, LinesRead, HasFault, Answers, Gives};
 
-use crate::checked::count_fault;
 use crate::fault::RowFault;
+use crate::given::count_fault;
 use crate::line::read_line;
 use crate::template::Template;
 use std::alloc::{AllocError, Global};

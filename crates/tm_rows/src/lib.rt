@@ -1,10 +1,10 @@
 //! Templates: the linear forms whose bounds an analysis gives.
 #![tactic(auto)]
 
-mod checked;
 mod domains;
 mod fault;
 mod file;
+mod given;
 mod law;
 mod line;
 mod row;
@@ -12,10 +12,10 @@ mod sums;
 mod template;
 mod term;
 
-pub use checked::from_rows;
 pub use domains::{intervals, octagons, zones};
 pub use fault::RowFault;
 pub use file::read_rows;
+pub use given::from_rows;
 pub use law::one_reading;
 pub use template::Template;
 

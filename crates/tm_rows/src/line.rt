@@ -8,8 +8,8 @@ ghost use Rattle.tm_rows.specs.Grammar.{Amount, ReadsTerms};
 ghost use Rattle.tm_rows.specs.Kept.{kept_amount, AllFit, ReadsKept};
 ghost use Rattle.tm_rows.specs.RowFiles.{is_blank, is_skipped, LineReads, FaultAt};
 
-use crate::checked::is_row;
 use crate::fault::RowFault;
+use crate::given::is_row;
 use crate::row::{are_known, row_of};
 use crate::sums::sums;
 use crate::term::{Term, terms};

@@ -1,4 +1,4 @@
-use Rattle.std.proofs.Common.{◌≡◌, ◌≤◌, ◌+◌, ◌∷◌, [], List, ℕ, length, ap, sym, subst, ◌∙◌, refl, Ok, Err, arith}
+use Rattle.std.proofs.Common.{◌≡◌, ◌≤◌, ◌+◌, ◌∷◌, [], length, ap, sym, subst, ◌∙◌, refl, Ok, Err, arith}
 use Rattle.std.proofs.lemmas.Result.{err_from_is_err_and}
 use Rattle.tm_rows.specs.declared.fault.RowFault.TheVariants.{Count}
 use Rattle.tm_rows.specs.Rows.{width_of}

@@ -1,7 +1,4 @@
-use Rattle.std.proofs.Common.{◌≡◌, sym, ◌∙◌, subst, List, Some, MatchOption, rules}
-use Rattle.tm_lex.specs.declared.token.Token.{Token}
-use Rattle.tm_lex.specs.Reading.{Reads}
-use Rattle.tm_rows.specs.Kept.{AllFit}
+use Rattle.std.proofs.Common.{sym, ◌∙◌}
 use Rattle.tm_rows.proofs.LineSteps.{terms_told, untold_is_none}
 use Rattle.tm_rows.proofs.line.terms_of.Goals as goal
 

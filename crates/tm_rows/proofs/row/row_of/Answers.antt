@@ -1,4 +1,4 @@
-use Rattle.std.proofs.Common.{◌≡◌, ◌<◌, [], get_or, sym, ◌∙◌, refl, length, w64}
+use Rattle.std.proofs.Common.{◌≡◌, [], get_or, sym, ◌∙◌, w64}
 use Rattle.std.proofs.lemmas.Int.{to_z-of_z}
 use Rattle.std.proofs.lemmas.List.{get_or_read}
 use Rattle.tm_rows.specs.Kept.{sum_at}

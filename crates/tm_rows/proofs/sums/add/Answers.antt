@@ -1,5 +1,5 @@
-use Rattle.std.proofs.Common.{◌≡◌, ap, ◌∙◌, ◌+ℤ◌, to_z, of_z, w64, sym, arith}
-use Rattle.std.proofs.lemmas.Int.{to_z-of_z, ints}
+use Rattle.std.proofs.Common.{◌≡◌, ap, ◌∙◌, ◌+ℤ◌, to_z, of_z, w64, arith}
+use Rattle.std.proofs.lemmas.Int.{to_z-of_z}
 use Rattle.tm_tree.specs.Numbers.{is_number}
 use Rattle.tm_rows.specs.Kept.{sum_at}
 use Rattle.tm_rows.proofs.SumSteps.{term_added, number_fits}

@@ -1,4 +1,4 @@
-use Rattle.std.proofs.Common.{[], ◌∷◌, ◌++◌, true, false, sym, ◌∙◌}
+use Rattle.std.proofs.Common.{[], ◌∷◌, ◌++◌, sym, ◌∙◌}
 use Rattle.std.proofs.lemmas.Bool.{false≢true}
 use Rattle.tm_rows.proofs.Spelling.{pending_more, pending_end, pending_stuck}
 use Rattle.tm_rows.proofs.TokenSteps.{kept_more}

@@ -1,6 +1,6 @@
 use Rattle.std.proofs.Common.{sym}
 use Rattle.tm_rows.proofs.SoundRows.{none_first, template_of_sound}
-use Rattle.tm_rows.proofs.checked.from_rows.Goals as goal
+use Rattle.tm_rows.proofs.given.from_rows.Goals as goal
 
 pub new-requires : goal.new-requires
 new-requires c =
