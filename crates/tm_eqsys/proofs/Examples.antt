@@ -1,9 +1,9 @@
 -- Reports and fits, worked by hand.
-use Rattle.std.proofs.Common.{◌≡◌, ℕ, zero, suc, Bool, true, false, List, [], ◌∷◌, refl}
+use Rattle.std.proofs.Common.{◌≡◌, ℕ, zero, suc, true, false, List, [], ◌∷◌, refl}
 use Rattle.std.specs.Prelude.{ℤ, pos, negsuc, codes}
 use Rattle.std.specs.Fmt.{digits}
 use Rattle.tm_num.specs.Gcd.{gcd, gcd_within}
-use Rattle.tm_num.specs.Rational.{ℚ, is_reduced, ratio, whole, zero_ℚ, ◌+ℚ◌, ◌*ℚ◌, le_ℚ}
+use Rattle.tm_num.specs.Rational.{ratio, whole, zero_ℚ, ◌+ℚ◌, ◌*ℚ◌, le_ℚ}
 use Rattle.tm_num.specs.Extended.{Ext, neg_inf, fin, pos_inf}
 use Rattle.tm_flow.specs.declared.point.Place.{Place}
 use Rattle.tm_flow.specs.declared.point.Place.TheVariants.{Entry, Loop, Label, Join, Assume, Exit}

@@ -1,7 +1,7 @@
 -- A plain program that finds whether a state fits, row by row.
 use Rattle.std.proofs.Common.{◌≡◌, ◌↔◌, ℕ, zero, suc, Bool, true, false, T, ◌&&◌, List, [], ◌∷◌, subst}
 use Rattle.std.specs.Prelude.{ℤ, slice_get, Some}
-use Rattle.tm_num.specs.Rational.{ℚ, le_ℚ, ◌≤ℚ◌}
+use Rattle.tm_num.specs.Rational.{le_ℚ}
 use Rattle.tm_num.specs.Extended.{Ext, neg_inf, fin, pos_inf, ◌≤ᴱ◌}
 use Rattle.tm_eqsys.specs.States.{RationalState, dotℚ}
 use Rattle.tm_eqsys.specs.Equations.{Equations, Vector, Fits}

@@ -9,7 +9,7 @@ use Rattle.tm_num.proofs.ExtendedLaws.{≤ᴱ_refl, ≤ᴱ_trans, ≤ᴱ_antisym
 use Rattle.tm_flow.specs.declared.edge.Edge.{Edge}
 use Rattle.tm_eqsys.specs.States.{RationalState, dotℚ}
 use Rattle.tm_eqsys.specs.Equations.{Equations, Vector, Fits, Transition, PostSolution, Exceeds, Solves}
-use Rattle.tm_eqsys.specs.SolutionLaws.{AtMostOneLeast, LeastSolutionsAreSupported, UnreachedAtAllRows}
+use Rattle.tm_eqsys.specs.SolutionLaws.{AtMostOneLeast, LeastSolutionsAreSupported, LeastWhereDecided, UnreachedAtAllRows}
 
 pub at_most_one : AtMostOneLeast
 at_most_one system v w least solves below p r h i = ≤ᴱ_antisymm (v p r) (w p r) (least.below w solves.post p r h i) (below v least.solves.post p r h i)
@@ -99,3 +99,14 @@ pub supported_law : LeastSolutionsAreSupported
 supported_law system v post below p r row number later within listed smaller never =
     let under = below (lowered v p r number) (lowered_post system v post p r row number later listed smaller never) p r within (slice_get_within system.template r row listed) in
     ext_not_le_of_lt number (v p r) smaller (subst (λ x. v p r ≤ᴱ x) (lowered_itself v p r number) under)
+
+pub decided_law : LeastWhereDecided
+decided_law system v post below decides =
+    record {
+      solves = record {
+        post = post;
+        supported = λ p r row number later within listed smaller.
+            ⊎_elim (λ x. x) (λ n. absurd (supported_law system v post below p r row number later within listed smaller n)) (decides p row number);
+      };
+      below = below;
+    }

@@ -1,25 +1,21 @@
 -- Every post-solution of a program's system holds in every run.
-use Rattle.std.proofs.Common.{◌≡◌, ◌∙◌, ◌⊎◌, inl, inr, ⊎_elim, ℕ, Bool, true, false, List, [], ◌∷◌, ◌++◌, refl, sym, ap, subst, append_assoc, append-nil, length}
-use Rattle.std.specs.Prelude.{pos, slice_set, if◌then◌else◌}
+use Rattle.std.proofs.Common.{◌≡◌, ◌∙◌, ◌⊎◌, inl, inr, ⊎_elim, ℕ, List, [], ◌∷◌, ◌++◌, refl, sym, ap, subst, append_assoc, append-nil, length}
+use Rattle.std.specs.Prelude.{pos, slice_set}
 use Rattle.std.proofs.lemmas.List.{map-set, length-set, length-map}
 use Rattle.std.proofs.lemmas.Option.{slice_get_within}
 use Rattle.tm_num.specs.Rational.{whole, zero_ℚ, ◌≤ℚ◌}
 use Rattle.tm_num.specs.Extended.{fin, ◌≤ᴱ◌}
 use Rattle.tm_num.proofs.Laws.{whole-zero, whole_le}
-use Rattle.tm_tree.specs.declared.form.Form.{Form}
-use Rattle.tm_tree.specs.Tree.{Condition, Statements, set, havoc, assume, branch, loop, label}
-use Rattle.tm_tree.specs.Meaning.{State, value, MayBe}
-use Rattle.tm_tree.specs.Cases.{HoldAll, HoldSome, cases_of}
-use Rattle.tm_tree.specs.PointNumbers.{splits}
-use Rattle.tm_tree.specs.Runs.{Item, node, mark, turn, start_work, branch_work, turn_work, Does, Configuration, Step, Follows}
-use Rattle.tm_tree.proofs.CaseLaw.{cases_law}
+use Rattle.tm_tree.specs.Tree.{Statements, set, havoc, assume, branch, loop, label}
+use Rattle.tm_tree.specs.Meaning.{State, value}
+use Rattle.tm_tree.specs.Runs.{Item, node, mark, turn, start_work, Does, Configuration, Step, Follows}
 use Rattle.tm_flow.specs.declared.edge.Action.{Action}
 use Rattle.tm_flow.specs.declared.edge.Action.TheVariants.{Guard, Assign, Havoc}
 use Rattle.tm_flow.specs.Elements.{In}
 use Rattle.tm_flow.specs.Steps.{Labelled, steps_of, Acts}
 use Rattle.tm_flow.specs.Paths.{Leads, here, past, done, Arrives, at_mark, by_step, Path}
 use Rattle.tm_flow.specs.PathLaws.{EdgesArePaths, IsMark}
-use Rattle.tm_flow.proofs.ElementLemmas.{in-append_left, in-append_right, in-map, contains_in}
+use Rattle.tm_flow.proofs.ElementLemmas.{contains_in}
 use Rattle.tm_flow.proofs.StepLaw.{steps_law}
 use Rattle.tm_flow.proofs.Reach.{leads_then}
 use Rattle.tm_flow.proofs.PathLaw.{edges_law}

@@ -1,5 +1,7 @@
+pub mod ExtendedCode
 pub mod SystemLimits
 pub mod States
+pub mod FreeValues
 pub mod Equations
 pub mod Solutions
 pub mod View

@@ -1,8 +1,7 @@
 -- The report of a vector as a list of bytes.
-use Rattle.std.specs.Prelude.{◌==◌, ◌++◌, ℕ, suc, ℤ, pos, negsuc, Bool, true, false, List, [], ◌∷◌, codes, decimal, flat_map, map, nat_abs, if◌then◌else◌}
-use Rattle.std.specs.Fmt.{signed_decimal}
-use Rattle.tm_num.specs.Rational.{ℚ}
+use Rattle.std.specs.Prelude.{◌==◌, ◌++◌, ℕ, suc, ℤ, pos, negsuc, List, [], ◌∷◌, codes, decimal, flat_map, nat_abs, if◌then◌else◌}
 use Rattle.tm_num.specs.Extended.{Ext, neg_inf, fin, pos_inf}
+use Rattle.tm_frac.specs.Texts.{frac_text}
 use Rattle.tm_flow.specs.declared.point.Place.{Place}
 use Rattle.tm_flow.specs.declared.point.Place.TheVariants.{Entry, Loop, Label, Join, Assume, Exit}
 use Rattle.tm_flow.specs.declared.point.Point.{Point}
@@ -15,13 +14,10 @@ use Rattle.tm_eqsys.specs.Equations.{Vector}
 abbrev pub line : List ℕ → List ℕ
 line bytes = bytes ++ 10 ∷ []
 
--- the numerator, and where the denominator isn't 1 a `/` and the denominator
-abbrev pub fraction_text : ℚ → List ℕ
-fraction_text q = signed_decimal q.num ++ (if q.den == 1 then [] else 47 ∷ decimal q.den)
-
+-- the text of a bound
 abbrev pub bound_text : Ext → List ℕ
 bound_text neg_inf = codes "-inf"
-bound_text (fin q) = fraction_text q
+bound_text (fin q) = frac_text q
 bound_text pos_inf = codes "+inf"
 
 -- ---- rows
@@ -29,11 +25,12 @@ bound_text pos_inf = codes "+inf"
 abbrev pub term_text : ℕ → List ℕ → List ℕ
 term_text size name = if size == 1 then name else decimal size ++ 42 ∷ name
 
--- what stands before the first term, and before a later one
+-- what stands before the first term
 abbrev pub first_sign : ℤ → List ℕ
 first_sign (pos n) = []
 first_sign (negsuc n) = codes "-"
 
+-- what stands before a later one
 abbrev pub later_sign : ℤ → List ℕ
 later_sign (pos n) = codes " + "
 later_sign (negsuc n) = codes " - "
@@ -50,7 +47,7 @@ row_text [] cs = []
 row_text (name ∷ names) [] = []
 row_text (name ∷ names) (c ∷ cs) = if nat_abs c == 0 then row_text names cs else (first_sign c ++ term_text (nat_abs c) name) ++ later_terms names cs
 
--- ---- points
+-- what a point is, and where
 abbrev pub place_text : Place → ℕ → List ℕ
 place_text Entry at = codes "entry"
 place_text Loop at = codes "loop at line " ++ decimal at
@@ -59,9 +56,11 @@ place_text Join at = codes "join at line " ++ decimal at
 place_text Assume at = codes "assume at line " ++ decimal at
 place_text Exit at = codes "exit"
 
+-- the head of a point
 abbrev pub head_line : ℕ → Point → List ℕ
 head_line p point = line (codes "point " ++ decimal p ++ codes ": " ++ place_text point.place point.line)
 
+-- the line of a row and its bound
 abbrev pub row_line : List (List ℕ) → List ℤ → Ext → List ℕ
 row_line names row bound = line (codes "  " ++ row_text names row ++ codes " <= " ++ bound_text bound)
 
@@ -85,10 +84,11 @@ abbrev pub points_lines : List (List ℕ) → List (List ℤ) → Vector → ℕ
 points_lines names template v p [] = []
 points_lines names template v p (point ∷ points) = point_lines names template v p point ++ points_lines names template v (suc p) points
 
--- ---- the whole
+-- the names of the variables
 abbrev pub variables_line : List (List ℕ) → List ℕ
 variables_line names = line (codes "variables" ++ flat_map (λ name. 32 ∷ name) names)
 
+-- the last line
 abbrev pub footer_line : Footer → List ℕ
 footer_line (Improvements k) = line (codes "improvements: " ++ decimal k)
 footer_line Accepted = line (codes "certificate: accepted")

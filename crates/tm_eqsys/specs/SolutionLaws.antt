@@ -1,5 +1,5 @@
 -- What is so of every solution.
-use Rattle.std.specs.Prelude.{◌≡◌, ℕ, ◌<◌, ℤ, List, length, slice_get, Some}
+use Rattle.std.specs.Prelude.{◌≡◌, ◌⊎◌, ℕ, ◌<◌, ℤ, List, length, slice_get, Some}
 use Rattle.tm_num.specs.Rational.{whole}
 use Rattle.tm_num.specs.Extended.{Ext, neg_inf, ◌<ᴱ◌}
 use Rattle.tm_tree.specs.declared.form.Form.{Form}
@@ -25,6 +25,7 @@ pub record IsRational (state : State) : Type 0 where
   pub rows : (row : List ℤ) → dotℚ row (rational state) ≡ whole (dot row state)
   pub forms : (form : Form) → valueℚ form (rational state) ≡ whole (value form state)
 
+-- of every integer state
 abbrev pub IntegerStatesAreRational : Type 0
 IntegerStatesAreRational = (state : State) → IsRational state
 
@@ -40,6 +41,11 @@ AtMostOneLeast = (system : Equations) (v w : Vector) → Least system v → Solv
 abbrev pub LeastSolutionsAreSupported : Type 0
 LeastSolutionsAreSupported = (system : Equations) (v : Vector) → PostSolution system v → ((w : Vector) → PostSolution system w → IsBelow system v w) →
     (p r : ℕ) (row : List ℤ) (number : Ext) → 0 < p → p < system.points → slice_get system.template r ≡ Some row → number <ᴱ v p r → ¬ (¬ (Exceeds system v p row number))
+
+-- so it is least wherever it is decided whether a transition exceeds a number
+abbrev pub LeastWhereDecided : Type 0
+LeastWhereDecided = (system : Equations) (v : Vector) → PostSolution system v → ((w : Vector) → PostSolution system w → IsBelow system v w) →
+    ((p : ℕ) (row : List ℤ) (number : Ext) → Exceeds system v p row number ⊎ (¬ (Exceeds system v p row number))) → Least system v
 
 -- a bound of a solution at a point is -inf for all rows of the template or for none
 abbrev pub UnreachedAtAllRows : Type 0

@@ -23,5 +23,6 @@ pub record IsListed (points rows : ℕ) : Type 0 where
   pub count : (v : Vector) → length (bounds_of points rows v) ≡ points * rows
   pub list : (bounds : List Ext) → length bounds ≡ points * rows → bounds_of points rows (vector_of rows bounds) ≡ bounds
 
+-- over any points and rows
 abbrev pub VectorsAreLists : Type 0
 VectorsAreLists = (points rows : ℕ) → IsListed points rows

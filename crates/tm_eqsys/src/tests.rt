@@ -1,6 +1,7 @@
-use crate::System;
+use crate::{Bounds, Fracs, System, Trace};
 use std::test::Fail;
 use tm_flow::{Action, Actions, Edge, Edges, Flow, Place, Point, Points};
+use tm_frac::{Ext, Frac};
 use tm_rows::Template;
 use tm_tree::{Coeffs, Form, Name, Names};
 
@@ -47,5 +48,24 @@ fn a_system_of_one_edge(rt: HostRuntime) -> Result<(), Fail> {
     };
     assert_eq!(rt; system.flow.edges.as_slice().len(), 1);
     assert_eq!(rt; system.template.as_slice().len(), 2);
+    Ok(())
+}
+
+#[test]
+fn bounds_and_traces(rt: HostRuntime) -> Result<(), Fail> {
+    let alloc = rt.alloc();
+    let mut list = Vec::new(alloc);
+    list.push(Ext::PosInf)?;
+    list.push(Ext::Fin(Frac::make(26, 6).ok_or("13/3")?))?;
+    let bounds = Bounds::new(list);
+    assert_eq!(rt; bounds.as_slice()[1].text().bytes(), b"13/3".as_slice());
+    let mut start = Vec::new(alloc);
+    start.push(Frac::make(1, 2).ok_or("1/2")?)?;
+    let trace = Trace {
+        start: Fracs::new(start),
+        free: Fracs::new(Vec::new(alloc)),
+    };
+    assert_eq!(rt; trace.start.as_slice().len(), 1);
+    assert_eq!(rt; trace.free.as_slice().len(), 0);
     Ok(())
 }

@@ -1,11 +1,10 @@
 -- Points and edges of small programs, worked by hand.
-use Rattle.std.proofs.Common.{◌≡◌, ℕ, Bool, true, false, List, [], ◌∷◌, length, refl}
+use Rattle.std.proofs.Common.{◌≡◌, ℕ, true, false, List, [], ◌∷◌, length, refl}
 use Rattle.std.specs.Prelude.{ℤ, pos, negsuc}
 use Rattle.tm_tree.specs.declared.form.Form.{Form}
 use Rattle.tm_tree.specs.declared.cond.Rel.TheVariants.{Ne, Lt, Le, Eq}
-use Rattle.tm_tree.specs.Tree.{Condition, free, compare, negation, both, either, Statements, set, havoc, assume, branch, loop, label, nil, cons}
+use Rattle.tm_tree.specs.Tree.{Condition, free, compare, both, either, Statements, set, havoc, assume, branch, loop, label, nil, cons}
 use Rattle.tm_tree.specs.Cases.{cases_of}
-use Rattle.tm_tree.specs.PointNumbers.{point_count}
 use Rattle.tm_flow.specs.declared.edge.Action.{Action}
 use Rattle.tm_flow.specs.declared.edge.Action.TheVariants.{Guard, Assign, Havoc}
 use Rattle.tm_flow.specs.declared.edge.Edge.{Edge}
@@ -17,26 +16,26 @@ use Rattle.tm_flow.specs.Edges.{edges_of_program}
 use Rattle.tm_flow.proofs.Followed.{followed_edges}
 
 -- c * x + k
-abbrev form : ℤ → ℤ → Form
+abbrev pub form : ℤ → ℤ → Form
 form c k = record { coeffs = c ∷ []; constant = k }
 
-abbrev minus_one : ℤ
+abbrev pub minus_one : ℤ
 minus_one = negsuc 0
 
 abbrev point : Place → ℕ → Point
 point place line = record { place = place; line = line }
 
-abbrev edge : ℕ → ℕ → List Action → Edge
+abbrev pub edge : ℕ → ℕ → List Action → Edge
 edge from to actions = record { from = from; to = to; actions = actions }
 
 -- ---- int x = 0; while (x < 100) { x = x + 1; }
-abbrev counting : Statements
+abbrev pub counting : Statements
 counting = cons (set 0 (form (pos 0) (pos 0)) 1) (cons (loop (compare Lt (form (pos 1) (negsuc 99))) (cons (set 0 (form (pos 1) (pos 1)) 1) nil) 1) nil)
 
 counting_points : points_of_program counting ≡ point Entry 0 ∷ (point Loop 1 ∷ (point Exit 0 ∷ []))
 counting_points = refl
 
-abbrev counting_list : List Edge
+abbrev pub counting_list : List Edge
 counting_list =
     edge 0 1 (Assign 0 (form (pos 0) (pos 0)) ∷ [])
     ∷ (edge 1 1 (Guard (form (pos 1) (negsuc 98)) ∷ (Assign 0 (form (pos 1) (pos 1)) ∷ []))

@@ -5,7 +5,7 @@ use Rattle.tm_tree.specs.Tree.{Statements}
 use Rattle.tm_tree.specs.Runs.{Item, node, mark, turn, start_work}
 use Rattle.tm_flow.specs.declared.edge.Action.{Action}
 use Rattle.tm_flow.specs.declared.edge.Edge.{Edge}
-use Rattle.tm_flow.specs.Steps.{Labelled, steps_of}
+use Rattle.tm_flow.specs.Steps.{steps_of}
 
 -- an arrival at a point: what was done, the point's number, and the work behind its mark
 pub record Arrival : Type 0 where

@@ -10,7 +10,7 @@ use Rattle.tm_flow.specs.Elements.{In}
 use Rattle.tm_flow.specs.Steps.{Labelled, steps_of}
 use Rattle.tm_flow.specs.Paths.{Leads, here, past, done, Arrives, at_mark, by_step, Path}
 use Rattle.tm_flow.specs.Edges.{Way, prefixed, ways_from, behind_points, edges_from, edges_of_program}
-use Rattle.tm_flow.specs.PathLaws.{IsMark, EdgesOfPrograms}
+use Rattle.tm_flow.specs.PathLaws.{IsMark, BehindPoints, EdgesOfPrograms}
 use Rattle.tm_flow.proofs.ElementLemmas.{in-append, in-append_left, in-append_right, in-map, from_map, in-flat_map, from_flat_map, in_contains, contains_in}
 use Rattle.tm_flow.proofs.WaysLaw.{ways_law}
 use Rattle.tm_flow.proofs.Walk.{AllNumbered, program_holds}
@@ -119,6 +119,14 @@ module _ (body : Statements) where
 
   pub behind_arrives : AllNumbered (λ k w. Arriving w) 0 (behind_points body)
   behind_arrives = program_holds Arriving (λ k w. Unit {0}) mark_arrives steps_arrive body (numbered_trivially 0 (behind_points body)) (λ w m. absurd m)
+
+pub behind_law : BehindPoints
+behind_law body p rest = (
+  (λ e. let r = numbered_at (AtPoint (start_work body)) 0 (behind_points body) p rest (points_reached body) e in
+      let z : 0 + p ≡ p = omega arith in
+      (r.0, subst (λ q. Leads (start_work body) r.0 (mark q ∷ rest)) z r.1)),
+  (λ r. behind_mark body r.0 p rest r.1),
+)
 
 -- ---- edges by their points
 in_edges : (k : ℕ) (ws : List (List Item)) (p : ℕ) (work : List Item) (w : Way) → slice_get ws p ≡ Some work → In (ways_from work) w →

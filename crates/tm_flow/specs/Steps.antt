@@ -14,6 +14,7 @@ pub record Labelled : Type 0 where
   pub actions : List Action
   pub work : List Item
 
+-- the labelled step of these
 abbrev pub labelled : List Action → List Item → Labelled
 labelled actions work = record { actions = actions; work = work }
 

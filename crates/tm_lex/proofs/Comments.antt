@@ -1,11 +1,10 @@
 -- Where comments end.
-use Rattle.std.proofs.Common.{◌≡◌, ◌≤◌, ◌<◌, ◌+◌, ◌-◌, ℕ, suc, zero, Bool, true, false, not, eqb, List, [], ◌∷◌, ◌++◌, length, take, drop, get_or, refl, ap, sym, subst, ◌∙◌, arith, None, Some, inl, inr, ⊎_elim}
+use Rattle.std.proofs.Common.{◌≡◌, ◌≤◌, ◌<◌, ◌+◌, ◌-◌, ℕ, suc, zero, true, not, eqb, List, [], ◌∷◌, ◌++◌, length, take, drop, get_or, refl, ap, subst, ◌∙◌, arith, None, Some, ⊎_elim}
 use Rattle.std.proofs.lemmas.List.{take-append-drop, length-take-le, length-take, length-append, take_rest, get_or_at, append_assoc, get_or_past}
 use Rattle.std.proofs.lemmas.List.Sums.{prefix_len-le-length}
 use Rattle.std.proofs.lemmas.Bool.{not-true, not-false, cases_lt}
 use Rattle.std.specs.List.{prefix_len}
 use Rattle.tm_lex.specs.Bytes.{is_on_line}
-use Rattle.tm_lex.specs.declared.found.Found.{Found}
 use Rattle.tm_lex.specs.Reading.{line_comment, block_comment, IsClosed, ends_line}
 use Rattle.tm_lex.specs.Faults.{IsOpen}
 use Rattle.tm_lex.specs.Steps.{StandsFirst, ClosesAt, IsFirstClose}

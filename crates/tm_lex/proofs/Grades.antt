@@ -1,19 +1,17 @@
 -- What the longest lexeme of a text is, as a function of its bytes and of what follows.
-use Rattle.std.proofs.Common.{◌≡◌, ◌≤◌, ◌<◌, ℕ, Bool, true, false, cond, ltb, List, [], ◌∷◌, ◌++◌, length, take, refl, ap, sym, ◌∙◌, arith, pos, ℤ}
+use Rattle.std.proofs.Common.{◌≡◌, ◌≤◌, ◌<◌, ℕ, Bool, true, false, cond, ltb, List, [], ◌∷◌, ◌++◌, length, take, refl, ap, sym, ◌∙◌, arith}
 use Rattle.std.proofs.lemmas.List.{take_at, append_cancel_left}
 use Rattle.std.proofs.lemmas.Bool.{lt-ltb, le-ltb, or_from}
 use Rattle.std.specs.Str.Parse.{digits_value}
 use Rattle.tm_lex.specs.Bytes.{is_letter, is_digit}
-use Rattle.tm_lex.specs.declared.word.Word.{Word}
-use Rattle.tm_lex.specs.declared.sign.Sign.{Sign}
 use Rattle.tm_lex.specs.declared.token.Kind.{Kind}
 use Rattle.tm_lex.specs.declared.token.Kind.TheVariants as kind
 use Rattle.tm_lex.specs.Signs.{sign_bytes}
 use Rattle.tm_lex.specs.Words.{word_bytes}
-use Rattle.tm_lex.specs.Lexemes.{IsLexeme, IsToken, is_word, is_numeral, is_padded, longest_word, greatest_literal}
+use Rattle.tm_lex.specs.Lexemes.{is_word, is_numeral, is_padded, longest_word, greatest_literal}
 use Rattle.tm_lex.specs.Reading.{IsLongest, IsWholeToken, starts_with_letter}
-use Rattle.tm_lex.specs.Faults.{is_bad, IsBadNumber, IsLongNumber, IsLongName}
-use Rattle.tm_lex.proofs.Heads.{heads, is_mark, sign_heads, word_heads, word_spelled, numeral_heads, letter_no_digit, IsMark, mark_is}
+use Rattle.tm_lex.specs.Faults.{is_bad}
+use Rattle.tm_lex.proofs.Heads.{heads, is_mark, sign_heads, word_heads, word_spelled, numeral_heads, letter_no_digit, mark_is}
 use Rattle.tm_lex.proofs.Spellings.{one_word, one_sign, word_short}
 
 pub data Grade : Type 0 where

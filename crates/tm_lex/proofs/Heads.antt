@@ -1,15 +1,14 @@
 -- The first byte tells words, numbers, signs, blanks and comments apart.
-use Rattle.std.proofs.Common.{◌≡◌, ◌≤◌, ℕ, Bool, true, false, not, ◌||◌, eqb, List, [], ◌∷◌, ◌++◌, length, refl, ap, sym, ◌∙◌, arith}
-use Rattle.std.proofs.lemmas.Bool.{and_parts, or_parts, or_cases, leb-true, eqb-true, not-true}
-use Rattle.std.specs.List.{list_all}
-use Rattle.tm_lex.specs.Bytes.{is_blank, is_letter, is_digit, is_word_byte}
+use Rattle.std.proofs.Common.{◌≡◌, ℕ, Bool, true, false, not, ◌||◌, eqb, List, [], ◌∷◌, ◌++◌, refl, ap, sym, ◌∙◌, arith}
+use Rattle.std.proofs.lemmas.Bool.{and_parts, or_parts, leb-true, eqb-true, not-true}
+use Rattle.tm_lex.specs.Bytes.{is_blank, is_letter, is_digit}
 use Rattle.tm_lex.specs.declared.sign.Sign.{Sign}
 use Rattle.tm_lex.specs.declared.sign.Sign.TheVariants.{LeftParen, RightParen, LeftBrace, RightBrace, Comma, Semicolon, Colon, Assign, PlusAssign, MinusAssign, Increment, Decrement, Plus, Minus, Star, Bang, Less, LessEqual, Greater, GreaterEqual, EqualEqual, BangEqual, AndAnd, OrOr}
 use Rattle.tm_lex.specs.declared.word.Word.{Word}
 use Rattle.tm_lex.specs.declared.word.Word.TheVariants.{Auto, Break, Case, Char, Const, Continue, Default, Do, Double, Else, Enum, Extern, Float, For, Goto, If, Inline, Int, Long, Register, Return, Short, Signed, SizeOf, Static, Struct, Switch, TypeDef, Union, Unsigned, Void, Volatile, While, Assume, Assert, Main, Nondet, VerifierAssume, VerifierAssert, VerifierNondetInt}
 use Rattle.tm_lex.specs.Signs.{sign_bytes}
 use Rattle.tm_lex.specs.Words.{word_bytes}
-use Rattle.tm_lex.specs.Lexemes.{IsLexeme, a_word, a_numeral, a_sign, is_word, is_numeral}
+use Rattle.tm_lex.specs.Lexemes.{is_word, is_numeral}
 
 -- there is a first element, and it passes
 abbrev pub heads : {X : Type 0} → (X → Bool) → List X → Bool

@@ -13,3 +13,4 @@ pub mod Openings
 pub mod Once
 pub mod Placed
 pub mod Exactly
+pub mod Total

@@ -1,16 +1,16 @@
 -- Which lexeme is the longest, by the first byte of a text.
-use Rattle.std.proofs.Common.{◌≡◌, ◌≤◌, ◌+◌, ℕ, suc, Bool, true, false, cond, List, [], ◌∷◌, ◌++◌, length, take, drop, refl, ◌∙◌, sym, arith, ◌⊎◌, inl, inr}
+use Rattle.std.proofs.Common.{◌≡◌, ◌+◌, ℕ, suc, Bool, true, false, cond, List, [], ◌∷◌, ◌++◌, take, drop, refl, ◌∙◌, arith}
 use Rattle.std.proofs.lemmas.List.{take-append-drop, length-take-le}
 use Rattle.std.proofs.lemmas.List.Sums.{prefix_len-le-length}
 use Rattle.std.proofs.lemmas.Bool.{and_from, and_parts, or_left}
 use Rattle.std.specs.List.{list_all, prefix_len}
-use Rattle.tm_lex.specs.Bytes.{is_blank, is_letter, is_digit, is_word_byte}
+use Rattle.tm_lex.specs.Bytes.{is_letter, is_digit, is_word_byte}
 use Rattle.tm_lex.specs.declared.sign.Sign.{Sign}
 use Rattle.tm_lex.specs.Signs.{sign_bytes}
 use Rattle.tm_lex.specs.Lexemes.{IsLexeme, a_word, a_numeral, a_sign, is_word, is_numeral}
 use Rattle.tm_lex.specs.Reading.{IsLongest}
 use Rattle.tm_lex.proofs.Runs.{all_run, run_longest}
-use Rattle.tm_lex.proofs.Heads.{heads, heads_front, is_mark, sign_heads, word_heads, numeral_heads, letter_no_digit, IsMark, mark_is}
+use Rattle.tm_lex.proofs.Heads.{heads_front, is_mark, sign_heads, word_heads, numeral_heads, letter_no_digit, IsMark, mark_is}
 
 -- the first byte of a lexeme, whatever follows
 pub data Leads (b : ℕ) : Type 0 where

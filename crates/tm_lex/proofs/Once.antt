@@ -1,7 +1,7 @@
 -- At one place at most one piece stands, or one fault and no piece; so a text has one reading or one fault.
-use Rattle.std.proofs.Common.{◌≡◌, ◌≤◌, ◌<◌, ◌+◌, ℕ, Bool, true, false, cond, not, eqb, List, [], ◌∷◌, ◌++◌, length, take, drop, refl, sym, ap, subst, ◌∙◌, arith}
+use Rattle.std.proofs.Common.{◌≡◌, ◌≤◌, ℕ, Bool, true, false, not, eqb, List, [], ◌∷◌, ◌++◌, length, take, refl, sym, ap, subst, ◌∙◌, arith}
 use Rattle.std.proofs.lemmas.List.{take_at, append_assoc, append_cancel_left, length-append}
-use Rattle.std.proofs.lemmas.Bool.{and_parts, or_from, not_from_true, not_from_false}
+use Rattle.std.proofs.lemmas.Bool.{and_parts, not_from_true, not_from_false}
 use Rattle.std.specs.List.{list_all}
 use Rattle.tm_lex.specs.Bytes.{is_on_line}
 use Rattle.tm_lex.specs.declared.token.Kind.{Kind}
@@ -9,7 +9,6 @@ use Rattle.tm_lex.specs.declared.token.Kind.TheVariants as kind
 use Rattle.tm_lex.specs.declared.token.Token.{Token}
 use Rattle.tm_lex.specs.declared.fault.LexFault.{LexFault}
 use Rattle.tm_lex.specs.declared.fault.LexFault.TheVariants.{BadByte, OpenComment, LongNumber, LongName, BadNumber, NoMemory}
-use Rattle.tm_lex.specs.Lexemes.{IsLexeme}
 use Rattle.tm_lex.specs.Reading.{Piece, blank, line_comment, block_comment, token, piece_bytes, spelling, ends_line, IsClosed, IsLongest, IsWholeToken, Fits, AllFit, tokens_from, ReadsUpTo, end_at, Reads}
 use Rattle.tm_lex.specs.Faults.{NothingStarts, IsOpen, IsLongNumber, IsLongName, IsBadNumber, Stands, HasFault}
 use Rattle.tm_lex.proofs.Runs.{stops}

@@ -1,13 +1,12 @@
 -- What starts at a place, by the first two bytes.
-use Rattle.std.proofs.Common.{◌≡◌, ℕ, Bool, true, false, cond, eqb, List, [], ◌∷◌, ◌++◌, refl, sym, ap, ◌∙◌, arith}
+use Rattle.std.proofs.Common.{◌≡◌, ℕ, true, false, cond, eqb, List, [], ◌∷◌, ◌++◌, refl, sym, ap, ◌∙◌, arith}
 use Rattle.std.proofs.lemmas.Bool.{cond_both, false_from_ne_true, leb-true, eqb-true}
 use Rattle.tm_lex.specs.Bytes.{is_blank, is_letter, is_digit}
 use Rattle.tm_lex.specs.declared.fault.LexFault.{LexFault}
 use Rattle.tm_lex.specs.declared.fault.LexFault.TheVariants.{BadByte, OpenComment, LongNumber, LongName, BadNumber, NoMemory}
 use Rattle.tm_lex.specs.Lexemes.{IsLexeme}
-use Rattle.tm_lex.specs.Reading.{Piece, blank, line_comment, block_comment, token, piece_bytes, Fits, IsLongest}
+use Rattle.tm_lex.specs.Reading.{Piece, blank, line_comment, block_comment, token, piece_bytes, Fits}
 use Rattle.tm_lex.specs.Faults.{NothingStarts, Stands}
-use Rattle.tm_lex.proofs.Heads.{IsMark}
 use Rattle.tm_lex.proofs.Longest.{Leads, letter, digit, mark, leads}
 
 pub data Opening : Type 0 where
@@ -46,7 +45,7 @@ digit_no_blank b d k = grind (arith, leb-true, eqb-true)
 digit_no_slash : (b : ℕ) → is_digit b ≡ true → eqb b 47 ≡ true → ⊥
 digit_no_slash b d k = grind (arith, leb-true, eqb-true)
 
-lead_plain : (b : ℕ) → Leads b → (is_blank b ≡ false) × (eqb b 47 ≡ false)
+pub lead_plain : (b : ℕ) → Leads b → (is_blank b ≡ false) × (eqb b 47 ≡ false)
 lead_plain b (letter h) = (false_from_ne_true (is_blank b) (letter_no_blank b h), false_from_ne_true (eqb b 47) (letter_no_slash b h))
 lead_plain b (digit h) = (false_from_ne_true (is_blank b) (digit_no_blank b h), false_from_ne_true (eqb b 47) (digit_no_slash b h))
 lead_plain b (mark m) = (m.no_blank, m.no_slash)

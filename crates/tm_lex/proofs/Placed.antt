@@ -1,11 +1,11 @@
 -- The tokens of a reading stand in the text, one behind the other.
-use Rattle.std.proofs.Common.{◌≡◌, ◌≤◌, ◌<◌, ◌+◌, ◌-◌, ℕ, List, [], ◌∷◌, ◌++◌, length, take, drop, refl, sym, ap, subst, ◌∙◌, arith}
+use Rattle.std.proofs.Common.{◌≡◌, ◌≤◌, ◌+◌, ◌-◌, ℕ, List, [], ◌∷◌, ◌++◌, length, refl, sym, ap, subst, ◌∙◌, arith}
 use Rattle.std.specs.List.{slice_range}
 use Rattle.std.proofs.lemmas.List.{take_at, drop_at, append_assoc, append-nil, length-append}
 use Rattle.tm_lex.specs.declared.token.Kind.{Kind}
 use Rattle.tm_lex.specs.declared.token.Token.{Token}
 use Rattle.tm_lex.specs.Lexemes.{IsToken}
-use Rattle.tm_lex.specs.Reading.{Piece, blank, line_comment, block_comment, token, piece_bytes, spelling, Fits, AllFit, IsWholeToken, piece_tokens, tokens_from, ReadsUpTo, end_at, Reads}
+use Rattle.tm_lex.specs.Reading.{Piece, token, piece_bytes, spelling, AllFit, IsWholeToken, tokens_from, Reads}
 use Rattle.tm_lex.specs.TokenLists.{IsTokenAfter, AreTokensAfter, AreTokensOf}
 use Rattle.tm_lex.proofs.Readings.{lexeme_some}
 

@@ -1,5 +1,5 @@
 -- A reading grows by the piece that stands next.
-use Rattle.std.proofs.Common.{◌≡◌, ◌≤◌, ◌<◌, ◌+◌, ◌-◌, ℕ, suc, Bool, true, false, List, [], ◌∷◌, ◌++◌, length, take, drop, refl, sym, ap, subst, ◌∙◌, arith, Option, Some, None}
+use Rattle.std.proofs.Common.{◌≡◌, ◌≤◌, ◌<◌, ◌+◌, ◌-◌, ℕ, Bool, true, List, [], ◌∷◌, ◌++◌, length, take, drop, refl, sym, ap, subst, ◌∙◌, arith, Option, Some, None}
 use Rattle.std.proofs.lemmas.List.{append_assoc, append-nil, length-append, length-drop, take_rest, drop_at, drop-drop}
 use Rattle.tm_lex.specs.declared.token.Kind.{Kind}
 use Rattle.tm_lex.specs.declared.token.Token.{Token}

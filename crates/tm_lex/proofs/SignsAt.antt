@@ -1,15 +1,14 @@
 -- The sign that stands first, from the first two bytes.
-use Rattle.std.proofs.Common.{◌≡◌, ◌≢◌, ◌≤◌, ◌<◌, ◌+◌, ℕ, suc, Bool, true, false, eqb, ltb, List, [], ◌∷◌, ◌++◌, length, get_or, refl, sym, ap, ◌∙◌, arith, Option, Some, None, Bor, is_some, IfSome, lit≤}
+use Rattle.std.proofs.Common.{◌≡◌, ◌≢◌, ◌≤◌, ℕ, suc, true, false, ltb, List, [], ◌∷◌, ◌++◌, length, get_or, refl, sym, ap, ◌∙◌, arith, Option, Some, None, Bor, is_some, IfSome}
 use Rattle.std.specs.Option.{option_copied}
 use Rattle.std.proofs.lemmas.Bool.{lt-ltb}
 use Rattle.tm_lex.specs.Bytes.{is_blank, is_letter, is_digit}
 use Rattle.tm_lex.specs.declared.sign.Sign.{Sign}
 use Rattle.tm_lex.specs.declared.sign.Sign.TheVariants.{LeftParen, RightParen, LeftBrace, RightBrace, Comma, Semicolon, Colon, Assign, PlusAssign, MinusAssign, Increment, Decrement, Plus, Minus, Star, Bang, Less, LessEqual, Greater, GreaterEqual, EqualEqual, BangEqual, AndAnd, OrOr}
 use Rattle.tm_lex.specs.declared.token.Kind.TheVariants as kind
-use Rattle.tm_lex.specs.declared.found.Found.{Found}
 use Rattle.tm_lex.specs.Signs.{sign_bytes}
 use Rattle.tm_lex.specs.Lexemes.{IsLexeme, a_sign}
-use Rattle.tm_lex.specs.Reading.{token, IsLongest}
+use Rattle.tm_lex.specs.Reading.{token}
 use Rattle.tm_lex.specs.Faults.{NothingStarts}
 use Rattle.tm_lex.specs.Steps.{StandsFirst, StartWith, IsLongestSign}
 use Rattle.tm_lex.proofs.Heads.{heads, is_mark, sign_heads}
@@ -29,7 +28,7 @@ second_read (a ∷ []) (Some x) e h = cc
 second_read (a ∷ b ∷ bs) None e h = let yes : ltb 1 (suc (suc (length bs))) ≡ true = lt-ltb 1 (suc (suc (length bs))) (omega arith) in cc
 second_read (a ∷ b ∷ bs) (Some x) e h = ap (λ (n : ℕ). Some n) h
 
-sign_short : (sign : Sign) → length (sign_bytes sign) ≤ 2
+pub sign_short : (sign : Sign) → length (sign_bytes sign) ≤ 2
 sign_short LeftParen = omega arith
 sign_short RightParen = omega arith
 sign_short LeftBrace = omega arith

@@ -1,12 +1,15 @@
 -- One spelling is that of one reserved word, or of one sign.
-use Rattle.std.proofs.Common.{◌≡◌, ◌≤◌, ℕ, Bool, cond, List, [], ◌∷◌, length, refl, ap, sym, ◌∙◌, arith, Option, Some, None}
+use Rattle.std.proofs.Common.{◌≡◌, ◌≤◌, ◌⊎◌, inl, inr, ⊎_elim, true, false, ℕ, cond, List, [], ◌∷◌, length, refl, ap, sym, ◌∙◌, arith, Option, Some, None}
 use Rattle.std.specs.Str.{bytes_eq}
+use Rattle.std.proofs.lemmas.Bool.{cases_Bool}
+use Rattle.std.proofs.lemmas.Slice.Eq.{bytes_eq-Decides}
 use Rattle.tm_lex.specs.declared.sign.Sign.{Sign}
 use Rattle.tm_lex.specs.declared.sign.Sign.TheVariants.{LeftParen, RightParen, LeftBrace, RightBrace, Comma, Semicolon, Colon, Assign, PlusAssign, MinusAssign, Increment, Decrement, Plus, Minus, Star, Bang, Less, LessEqual, Greater, GreaterEqual, EqualEqual, BangEqual, AndAnd, OrOr}
 use Rattle.tm_lex.specs.declared.word.Word.{Word}
 use Rattle.tm_lex.specs.declared.word.Word.TheVariants.{Auto, Break, Case, Char, Const, Continue, Default, Do, Double, Else, Enum, Extern, Float, For, Goto, If, Inline, Int, Long, Register, Return, Short, Signed, SizeOf, Static, Struct, Switch, TypeDef, Union, Unsigned, Void, Volatile, While, Assume, Assert, Main, Nondet, VerifierAssume, VerifierAssert, VerifierNondetInt}
 use Rattle.tm_lex.specs.Signs.{sign_bytes}
 use Rattle.tm_lex.specs.Words.{word_bytes}
+use Rattle.tm_lex.specs.Lexemes.{IsReserved}
 
 -- the first of these that is spelled so
 abbrev first_spelled : {X : Type 0} → (X → List ℕ) → List X → List ℕ → Option X
@@ -138,3 +141,18 @@ word_short Nondet = omega arith
 word_short VerifierAssume = omega arith
 word_short VerifierAssert = omega arith
 word_short VerifierNondetInt = omega arith
+
+first_sound : (words : List Word) (bytes : List ℕ) (w : Word) → first_spelled word_bytes words bytes ≡ Some w → word_bytes w ≡ bytes
+first_sound [] bytes w e = cc
+first_sound (x ∷ xs) bytes w e = ⊎_elim
+    (λ (same : bytes_eq (word_bytes x) bytes ≡ true). let found : Some x ≡ Some w = rw same at e in let one : x ≡ w = cc in sym (ap word_bytes one) ∙ (bytes_eq-Decides (word_bytes x) bytes).0 same)
+    (λ (other : bytes_eq (word_bytes x) bytes ≡ false). first_sound xs bytes w (rw other at e))
+    (cases_Bool (bytes_eq (word_bytes x) bytes))
+
+-- either the bytes spell a reserved word, or they don't
+pub reserved_or_not : (bytes : List ℕ) → IsReserved bytes ⊎ (IsReserved bytes → ⊥)
+reserved_or_not bytes = from (word_of bytes) refl
+  where
+    from : (o : Option Word) → word_of bytes ≡ o → IsReserved bytes ⊎ (IsReserved bytes → ⊥)
+    from (Some w) e = inl (w, first_sound (Auto ∷ Break ∷ Case ∷ Char ∷ Const ∷ Continue ∷ Default ∷ Do ∷ Double ∷ Else ∷ Enum ∷ Extern ∷ Float ∷ For ∷ Goto ∷ If ∷ Inline ∷ Int ∷ Long ∷ Register ∷ Return ∷ Short ∷ Signed ∷ SizeOf ∷ Static ∷ Struct ∷ Switch ∷ TypeDef ∷ Union ∷ Unsigned ∷ Void ∷ Volatile ∷ While ∷ Assume ∷ Assert ∷ Main ∷ Nondet ∷ VerifierAssume ∷ VerifierAssert ∷ VerifierNondetInt ∷ []) bytes w e)
+    from None e = inr (λ found. let is : word_of bytes ≡ Some found.0 = sym (ap word_of found.1) ∙ word_back found.0 in cc)

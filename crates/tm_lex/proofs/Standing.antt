@@ -1,22 +1,16 @@
 -- What stands first in the rest of a text, from what the parts of the lexer measure.
-use Rattle.std.proofs.Common.{◌≡◌, ◌≢◌, ◌≤◌, ◌<◌, ◌+◌, ℕ, suc, Bool, true, false, not, ◌||◌, eqb, List, [], ◌∷◌, ◌++◌, length, take, drop, get_or, refl, ◌∙◌, sym, ap, arith, Some, None, Option, pos, ℤ}
+use Rattle.std.proofs.Common.{◌≡◌, ◌≤◌, ◌<◌, ℕ, Bool, true, false, List, [], ◌∷◌, length, take, drop, get_or, refl, arith, Some, None}
 use Rattle.std.proofs.lemmas.List.{take-append-drop, length-take-le}
 use Rattle.std.proofs.lemmas.List.Sums.{prefix_len-le-length}
-use Rattle.std.proofs.lemmas.Bool.{or_parts, eqb-false}
-use Rattle.std.specs.List.{list_all, prefix_len}
+use Rattle.std.specs.List.{prefix_len}
 use Rattle.std.specs.Str.Parse.{digits_value}
-use Rattle.tm_lex.specs.Bytes.{is_blank, is_letter, is_digit, is_word_byte, is_on_line}
-use Rattle.tm_lex.specs.declared.sign.Sign.{Sign}
+use Rattle.tm_lex.specs.Bytes.{is_blank, is_letter, is_digit, is_word_byte}
 use Rattle.tm_lex.specs.declared.token.Kind.{Kind}
-use Rattle.tm_lex.specs.declared.token.Kind.TheVariants as kind
-use Rattle.tm_lex.specs.declared.found.Found.{Found}
-use Rattle.tm_lex.specs.Signs.{sign_bytes}
-use Rattle.tm_lex.specs.Lexemes.{IsLexeme, a_sign, IsToken, is_word, is_numeral, longest_word, greatest_literal}
-use Rattle.tm_lex.specs.Reading.{blank, line_comment, block_comment, token, IsLongest, IsApart, IsWholeToken, ends_line, starts_with_letter}
-use Rattle.tm_lex.specs.Faults.{NothingStarts, IsBadNumber, IsLongNumber, IsLongName, is_bad}
-use Rattle.tm_lex.specs.Steps.{StandsFirst, StartWith, IsLongestSign}
-use Rattle.tm_lex.proofs.Runs.{stops, all_run, stops_run, run_longest}
-use Rattle.tm_lex.proofs.Longest.{word_longest, word_run, numeral_longest, numeral_run, sign_starts}
+use Rattle.tm_lex.specs.Lexemes.{IsToken, is_word, is_numeral, longest_word, greatest_literal}
+use Rattle.tm_lex.specs.Reading.{blank, token, IsLongest, IsApart}
+use Rattle.tm_lex.specs.Faults.{IsBadNumber, IsLongNumber, IsLongName, is_bad}
+use Rattle.tm_lex.specs.Steps.{StandsFirst}
+use Rattle.tm_lex.proofs.Longest.{word_longest, word_run, numeral_longest, numeral_run}
 
 -- A front of this length is the longest lexeme, and passes the test of its class.
 pub record IsLongestFront (test : List ℕ → Bool) (rest : List ℕ) (len : ℕ) : Type 0 where

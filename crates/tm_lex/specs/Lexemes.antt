@@ -1,5 +1,5 @@
 -- What words, numbers and signs look like, and which token each is.
-use Rattle.std.specs.Prelude.{◌≡◌, ◌≤◌, ℕ, Bool, false, ◌&&◌, ◌||◌, ◌==◌, IsTrue, IsFalse, List, [], ◌∷◌, length, ℤ, pos}
+use Rattle.std.specs.Prelude.{◌≡◌, ◌≤◌, ℕ, Bool, false, ◌&&◌, ◌==◌, IsTrue, IsFalse, List, [], ◌∷◌, length, ℤ, pos}
 use Rattle.std.specs.List.{list_all}
 use Rattle.std.specs.Str.Parse.{digits_value}
 use Rattle.tm_lex.specs.declared.word.Word.{Word}

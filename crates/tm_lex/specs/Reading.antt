@@ -1,5 +1,5 @@
 -- A text as blanks, comments and tokens.
-use Rattle.std.specs.Prelude.{◌≡◌, ◌≤◌, ◌+◌, ◌++◌, ℕ, Bool, false, true, ◌==◌, IsTrue, IsFalse, List, [], ◌∷◌, length, Option, Some, None}
+use Rattle.std.specs.Prelude.{◌≡◌, ◌≤◌, ◌+◌, ◌++◌, ℕ, Bool, false, true, ◌==◌, IsTrue, IsFalse, List, [], ◌∷◌, length}
 use Rattle.std.specs.List.{list_all}
 use Rattle.tm_lex.specs.declared.token.Kind.{Kind}
 use Rattle.tm_lex.specs.declared.token.Kind.TheVariants as kind
@@ -50,6 +50,7 @@ abbrev pub IsApart : Kind → List ℕ → Type 0
 IsApart (kind.Number value) rest = IsFalse (starts_with_letter rest)
 IsApart kind rest = Unit {0}
 
+-- The bytes are a token of this kind, the longest lexeme at their place, and nothing that belongs to a number follows.
 pub record IsWholeToken (kind : Kind) (bytes rest : List ℕ) : Type 0 where
   pub is_token : IsToken kind bytes
   pub longest : IsLongest bytes rest

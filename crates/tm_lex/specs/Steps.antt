@@ -1,5 +1,5 @@
 -- What one step of the lexer finds at the head of the rest of a text.
-use Rattle.std.specs.Prelude.{◌≡◌, ◌≤◌, ◌<◌, ◌+◌, ◌++◌, ℕ, List, [], ◌∷◌, length, slice_index, Option, Some, None, Result, MatchResult, MatchOption}
+use Rattle.std.specs.Prelude.{◌≡◌, ◌≤◌, ◌<◌, ◌+◌, ◌++◌, ℕ, List, [], ◌∷◌, length, slice_index, Option, Some, None, Result, MatchResult}
 use Rattle.tm_lex.specs.declared.token.Kind.{Kind}
 use Rattle.tm_lex.specs.declared.sign.Sign.{Sign}
 use Rattle.tm_lex.specs.declared.fault.LexFault.{LexFault}

@@ -8,7 +8,6 @@ mod found;
 mod laws;
 mod lexer;
 mod line;
-mod name;
 mod number;
 mod piece;
 mod reserved;
@@ -16,6 +15,7 @@ mod sign;
 mod signs;
 mod token;
 mod word;
+mod words;
 
 pub use fault::LexFault;
 pub use laws::one_reading;

@@ -1,4 +1,4 @@
-use Rattle.std.proofs.Common.{arith, ◌≡◌, ◌≤◌, ◌<◌, ◌+◌, ◌*◌, length, take, get_or}
+use Rattle.std.proofs.Common.{arith, ◌≤◌, ◌+◌, take}
 use Rattle.std.specs.Str.Parse.{digits_value}
 use Rattle.tm_lex.proofs.Digits.{value_more, value_front}
 use Rattle.tm_lex.proofs.number.literal_value.Goals as goal

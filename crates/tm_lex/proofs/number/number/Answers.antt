@@ -1,4 +1,4 @@
-use Rattle.std.proofs.Common.{◌≡◌, Bool, true, false, sym, ◌∙◌, take, drop, refl, w64, to_z, of_z}
+use Rattle.std.proofs.Common.{◌≡◌, true, false, sym, ◌∙◌, take, drop, refl, w64, to_z, of_z}
 use Rattle.std.specs.Str.Parse.{digits_value}
 use Rattle.std.proofs.lemmas.Bool.{or_left, or_right, or_from}
 use Rattle.std.proofs.lemmas.List.{take_rest}
