@@ -27,13 +27,8 @@ pub use edge::{Action, Actions, Edge, Edges};
 pub use fault::FlowFault;
 pub use graph::Flow;
 pub use law::{
-<<<<<<< HEAD
     conditions_have_room, edges_are_in_range, edges_are_paths, points_are_numbered,
     steps_are_recorded, ways_are_steps, work_behind_points,
-=======
-    edges_are_in_range, edges_are_paths, points_are_numbered, steps_are_recorded, ways_are_steps,
-    work_behind_points,
->>>>>>> 77f89b8ff49fcbdb7518426f30ab744adfcbfe06
 };
 pub use listing::cases;
 pub use point::{Place, Point, Points};

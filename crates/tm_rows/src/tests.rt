@@ -136,7 +136,10 @@ fn reads_rows(rt: HostRuntime) -> Result<(), Fail> {
     let names = variables().ok_or("no names")?;
     let cases: [(&str, &[&[i64]]); 7] = [
         ("x + 2*y\n", &[&[1, 2]]),
-        ("# rows / x\r\n\r\n \t-x\r\n\n  # more\ny", &[&[-1, 0], &[0, 1]]),
+        (
+            "# rows / x\r\n\r\n \t-x\r\n\n  # more\ny",
+            &[&[-1, 0], &[0, 1]],
+        ),
         ("\t+ 2 *x - y+3* x", &[&[5, -1]]),
         ("x - y + y", &[&[1, 0]]),
         (
