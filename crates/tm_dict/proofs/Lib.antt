@@ -4,3 +4,6 @@ pub mod Cells
 pub mod Joins
 pub mod RowSteps
 pub mod RowLoops
+pub mod Built
+pub mod Shifts
+pub mod LeastSides

@@ -1,5 +1,5 @@
 -- A problem of the code as a linear program over exact numbers, and the first dictionary's table.
-use Rattle.std.specs.Prelude.{◌≡◌, ℕ, ◌+◌, ◌-◌, ◌<◌, List, [], length, map, get_or, All}
+use Rattle.std.specs.Prelude.{◌≡◌, ℕ, ◌+◌, ◌<◌, length, map, All, Option, Some, None}
 use Rattle.tm_num.specs.Rational.{ℚ, zero_ℚ}
 use Rattle.tm_lp.specs.Problem as lp
 use Rattle.tm_lp.specs.Listed.{list_problem}
@@ -27,3 +27,8 @@ start_from P (found r) = first_table P
 -- the first dictionary: with the auxiliary variable and two goals exactly where some side is below 0
 unfoldable pub start_table : lp.Problem → Table
 start_table P = start_from P (lowest P)
+
+-- a row as a search of the theory finds it
+abbrev pub search_of : Option ℕ → Search
+search_of None = none
+search_of (Some r) = found r

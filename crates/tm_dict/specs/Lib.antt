@@ -6,3 +6,5 @@ pub mod Exact
 pub mod Faults
 pub mod Cells
 pub mod Rows
+pub mod Build
+pub mod Sides

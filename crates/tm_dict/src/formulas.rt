@@ -7,7 +7,7 @@ ghost use Rattle.tm_dict.specs.Formulas.{divided, divided_operations, combined, 
 use tm_frac::{OrderedField, Wide};
 
 /// An entry of the pivot's row after the pivot: formula 1 at the pivot itself, else formula 2.
-pub fn divided_by<F: OrderedField + Drop>(entry: F, pivot: F, at_pivot: bool) -> Result<F, Wide<F>>
+pub fn divided_by<F: OrderedField>(entry: F, pivot: F, at_pivot: bool) -> Result<F, Wide<F>>
     requires { F.meaning pivot ≢ zero_ℚ }
     ensures { Answers F.meaning F.LIMIT (divided (F.meaning entry) (F.meaning pivot) at_pivot) (divided_operations (F.meaning entry) (F.meaning pivot) at_pivot) result }
 {
@@ -23,7 +23,7 @@ pub fn divided_by<F: OrderedField + Drop>(entry: F, pivot: F, at_pivot: bool) ->
 
 /// An entry of another row after the pivot: formula 3 in the pivot's column, else formula 4. The row's entry in the pivot's
 /// column was `factor`, and `above` is the new entry of the pivot's row.
-pub fn combined_with<F: OrderedField + Drop>(entry: F, factor: F, above: F, at_pivot: bool) -> Result<F, Wide<F>>
+pub fn combined_with<F: OrderedField>(entry: F, factor: F, above: F, at_pivot: bool) -> Result<F, Wide<F>>
     requires { F.meaning factor ≢ zero_ℚ }
     ensures { Answers F.meaning F.LIMIT (combined (F.meaning entry) (F.meaning factor) (F.meaning above) at_pivot) (combined_operations (F.meaning entry) (F.meaning factor) (F.meaning above) at_pivot) result }
 {

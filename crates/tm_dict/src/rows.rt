@@ -5,13 +5,13 @@ ghost use Rattle.tm_dict.specs.Operation.{first_wide, operation_of};
 ghost use Rattle.tm_dict.specs.Formulas.{divided_row, combined_row};
 ghost use Rattle.tm_dict.specs.PivotOperations.{division_row_operations, combination_row_operations};
 ghost use Rattle.tm_dict.specs.Cells.{cell, row_from};
-ghost use Rattle.tm_dict.specs.Rows.{SetsRow, CombinesRows, rows_operations};
+ghost use Rattle.tm_dict.specs.Rows.{SetsRow, CombinesRows, Exchanges, rows_operations, exchange_operations};
 
 use crate::formulas::{combined_with, divided_by};
 use tm_frac::{OrderedField, Wide};
 
 /// Formulas 1 and 2 on the row of `stride` entries from `start` on, with the pivot at its place `col`.
-pub fn divide_row<F: OrderedField + Drop>(entries: &mut [F], start: usize, stride: usize, col: usize) -> Result<(), Wide<F>>
+pub fn divide_row<F: OrderedField>(entries: &mut [F], start: usize, stride: usize, col: usize) -> Result<(), Wide<F>>
     requires within { start + stride ≤ length entries.old }
     requires col { col < stride }
     requires pivot { cell F.meaning entries.old (start + col) ≢ zero_ℚ }
@@ -29,7 +29,7 @@ pub fn divide_row<F: OrderedField + Drop>(entries: &mut [F], start: usize, strid
 
 /// Formulas 3 and 4 on the row of `stride` entries from `start` on, where the pivot's row after its division is the one from
 /// `above` on. A row with 0 in the pivot's column stays as it is.
-pub fn combine_row<F: OrderedField + Drop>(entries: &mut [F], start: usize, above: usize, stride: usize, col: usize) -> Result<(), Wide<F>>
+pub fn combine_row<F: OrderedField>(entries: &mut [F], start: usize, above: usize, stride: usize, col: usize) -> Result<(), Wide<F>>
     requires within { start + stride ≤ length entries.old }
     requires above_within { above + stride ≤ length entries.old }
     requires apart { (start + stride ≤ above) ⊎ (above + stride ≤ start) }
@@ -50,7 +50,7 @@ pub fn combine_row<F: OrderedField + Drop>(entries: &mut [F], start: usize, abov
 }
 
 /// Formulas 3 and 4 on each of the `rows` rows but `row`, whose division is done.
-pub fn combine_rows<F: OrderedField + Drop>(entries: &mut [F], rows: usize, row: usize, stride: usize, col: usize) -> Result<(), Wide<F>>
+pub fn combine_rows<F: OrderedField>(entries: &mut [F], rows: usize, row: usize, stride: usize, col: usize) -> Result<(), Wide<F>>
     requires size { length entries.old ≡ rows * stride }
     requires row { row < rows }
     requires col { col < stride }
@@ -64,4 +64,18 @@ pub fn combine_rows<F: OrderedField + Drop>(entries: &mut [F], rows: usize, row:
         }
     }
     Ok(())
+}
+
+/// The four formulas on `rows` rows of `stride` entries, with the pivot at `row` and `col`.
+pub fn exchange<F: OrderedField>(entries: &mut [F], rows: usize, row: usize, stride: usize, col: usize) -> Result<(), Wide<F>>
+    requires size { length entries.old ≡ rows * stride }
+    requires row { row < rows }
+    requires col { col < stride }
+    requires pivot { cell F.meaning entries.old (row * stride + col) ≢ zero_ℚ }
+    ensures exchanged { OnOk result (Exchanges F.meaning rows row stride col entries.old entries.new) }
+    ensures fits { OnOk result (first_wide F.LIMIT (exchange_operations F.meaning entries.old rows row stride col) ≡ None) }
+    ensures wide { IfErr result (λ w. first_wide F.LIMIT (exchange_operations F.meaning entries.old rows row stride col) ≡ Some (operation_of F.meaning w)) }
+{
+    divide_row(entries, row * stride, stride, col)?;
+    combine_rows(entries, rows, row, stride, col)
 }

@@ -19,6 +19,7 @@ pub trait Tableau<F: OrderedField>: Sized {
     ghost use Rattle.std.specs.Prelude.{◌≡◌, ◌≢◌, ℕ, ◌+◌, ◌<◌, Bool, true, false, None, IfOk, IfErr, OnOk};
     ghost use Rattle.tm_num.specs.Rational.{zero_ℚ};
     ghost use Rattle.tm_lp.specs.Table.{Table, Agree, pivot_table};
+    ghost use Rattle.tm_lp.specs.Run.{leave_table};
     ghost use Rattle.tm_dict.specs.Exact.{exact, IsShaped, start_table};
     ghost use Rattle.tm_dict.specs.Operation.{first_wide};
     ghost use Rattle.tm_dict.specs.PivotOperations.{pivot_operations};
@@ -75,6 +76,15 @@ pub trait Tableau<F: OrderedField>: Sized {
         ensures refused { IfErr result (λ e. Refuses F.meaning F.LIMIT (pivot_operations (table self.old) row col) e) }
         ensures fresh { OnOk result (spent self.new ≡ false) }
         ensures spoilt { IfErr result (λ e. spent self.new ≡ true) };
+
+    /// Leaves out the column of the auxiliary variable, which is not basic, and the first of two goals. Later columns keep their
+    /// order. Takes no memory.
+    fn leave_first(&mut self)
+        requires goals { (table self.old).goals ≡ 2 }
+        requires auxiliary { (k : ℕ) × (k < (table self.old).width) × ((table self.old).col_name k ≡ 0) }
+        requires fresh { spent self.old ≡ false }
+        ensures left { Agree (leave_table (table self.old)) (table self.new) }
+        ensures fresh { spent self.new ≡ false };
 
     /// Whether a pivot was refused.
     fn is_spent(&self) -> bool
