@@ -7,3 +7,9 @@ pub mod RowLoops
 pub mod Built
 pub mod Shifts
 pub mod LeastSides
+pub mod ExchangeSteps
+pub mod DictReads
+pub mod DictPivots
+pub mod DictLeaves
+pub mod DictBuilds
+pub mod DictStarts

@@ -32,3 +32,17 @@ goals_entries false c = goal_entries false c
 -- the entries of the first n slacks
 abbrev pub slacks_entries : Bool → List (List ℚ) → List ℚ → ℕ → List ℚ
 slacks_entries aux A b n = joined n (λ i. slack_entries aux (get_or A i []) (get_or b i zero_ℚ))
+
+-- how many goals the first dictionary has
+abbrev pub goals_of : Bool → ℕ
+goals_of true = 2
+goals_of false = 1
+
+-- how many columns it has
+abbrev pub width_of : Bool → ℕ → ℕ
+width_of true cols = suc cols
+width_of false cols = cols
+
+-- the name of a column: the auxiliary variable stands behind the problem's
+abbrev pub other_name : ℕ → ℕ → ℕ
+other_name cols k = cond (ltb k cols) (suc k) 0

@@ -2,7 +2,7 @@
 ghost use Rattle.std.specs.Prelude.{◌≡◌, ℕ, ◌+◌, ◌<◌, ◌≤◌, length, map, ◌++◌, ◌∷◌, [], get_or, vec_len, IfOk, OnOk};
 ghost use Rattle.tm_num.specs.Rational.{one_ℚ, neg_ℚ};
 ghost use Rattle.tm_dict.specs.Exact.{exact, IsShaped};
-ghost use Rattle.tm_dict.specs.Build.{zeros, slack_entries, auxiliary_entries, goal_entries, goals_entries, slacks_entries};
+ghost use Rattle.tm_dict.specs.Build.{goals_of, width_of, other_name, zeros, slack_entries, auxiliary_entries, goal_entries, goals_entries, slacks_entries};
 
 use crate::problem::{Problem, Row};
 use std::alloc::{AllocError, Global};
@@ -18,6 +18,25 @@ pub fn names_from(alloc: Global, first: u32, count: u32) -> Result<Vec<u32>, All
         names.push(first + i)?;
     }
     Ok(names)
+}
+
+/// The names of the columns of the first dictionary.
+pub fn other_names(alloc: Global, cols: u32, auxiliary: bool) -> Result<Vec<u32>, AllocError>
+    requires { 1 + cols < 4294967296 }
+    ensures { IfOk result (λ v. (length v.items ≡ width_of auxiliary cols) × ((k : ℕ) → k < width_of auxiliary cols → get_or v.items k 0 ≡ other_name cols k)) }
+{
+    let mut names = names_from(alloc, 1, cols)?;
+    if auxiliary {
+        names.push(0)?;
+    }
+    Ok(names)
+}
+
+/// How many goals the first dictionary has.
+pub fn goal_count(auxiliary: bool) -> usize
+    ensures { result ≡ goals_of auxiliary }
+{
+    if auxiliary { 2 } else { 1 }
 }
 
 /// Appends the row of a slack.

@@ -1,7 +1,7 @@
 //! Dictionaries that keep every entry.
 ghost use Rattle.std.specs.Prelude.{◌≡◌, ℕ, suc, ◌+◌, ◌*◌, ◌≤◌, ◌<◌, length};
 
-use crate::build::{first_entries, names_from};
+use crate::build::{first_entries, goal_count, names_from, other_names};
 use crate::problem::Problem;
 use crate::rows::exchange;
 use crate::shift::{shift_rows, zero_place};
@@ -35,15 +35,12 @@ impl<F: OrderedField> Tableau<F> for Dict<F> {
         let auxiliary = lowest_side(problem).is_some();
         let entries = first_entries(alloc, problem, auxiliary)?;
         let basics = names_from(alloc, cols + 1, problem.rows.len() as u32)?;
-        let mut others = names_from(alloc, 1, cols)?;
-        if auxiliary {
-            others.push(0)?;
-        }
+        let others = other_names(alloc, cols, auxiliary)?;
         Ok(Dict {
             entries,
             basics,
             others,
-            goals: if auxiliary { 2 } else { 1 },
+            goals: goal_count(auxiliary),
             spent: false,
         })
     }
