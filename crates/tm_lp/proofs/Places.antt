@@ -6,7 +6,8 @@ use Rattle.tm_lp.specs.Bland.{index_of}
 use Rattle.tm_lp.specs.Run.{place_of}
 use Rattle.tm_lp.proofs.Searches.{FirstIs, first_is}
 
-first_same : (p : ℕ → Bool) (n k : ℕ) (s : Search) → FirstIs p n s → k < n → p k ≡ true → ((j : ℕ) → j < k → p j ≡ false) → index_of s ≡ k
+-- the search finds the first place that is wanted
+pub first_same : (p : ℕ → Bool) (n k : ℕ) (s : Search) → FirstIs p n s → k < n → p k ≡ true → ((j : ℕ) → j < k → p j ≡ false) → index_of s ≡ k
 first_same p n k none h l e b = absurd (true≢false (sym e ∙ h k l))
 first_same p n k (found i) h l e b = ⊎_elim (λ a. absurd (true≢false (sym h.1 ∙ b i a))) (λ a. ⊎_elim (λ c. absurd (true≢false (sym e ∙ h.2 k c))) (λ c. omega (arith, a, c)) (cases_lt k i)) (cases_lt i k)
 

@@ -1,0 +1,10 @@
+//! The simplex method with Bland's rule in two phases, over any tableau.
+#![tactic(auto)]
+
+mod outcome;
+mod phase;
+mod read;
+mod scan;
+mod step;
+
+pub use outcome::{Outcome, SolveFault};
