@@ -44,3 +44,9 @@ pub joined_fits_empty : (L : ℤ) (n : ℕ) (f : ℕ → List Operation) → ((k
 unfolding joined
 joined_fits_empty L zero f h = refl
 joined_fits_empty L (suc n) f h = first_wide_later L (joined n f) (f n) (joined_fits_empty L n f (λ k l. h k (omega (arith, l)))) ∙ ap (first_wide L) (h n (omega arith))
+
+-- lists below n of which none is wide
+pub joined_fits_each : (L : ℤ) (n : ℕ) (f : ℕ → List Operation) → ((k : ℕ) → k < n → first_wide L (f k) ≡ None) → first_wide L (joined n f) ≡ None
+unfolding joined
+joined_fits_each L zero f h = refl
+joined_fits_each L (suc n) f h = first_wide_later L (joined n f) (f n) (joined_fits_each L n f (λ k l. h k (omega (arith, l)))) ∙ h n (omega arith)

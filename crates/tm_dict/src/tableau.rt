@@ -15,7 +15,7 @@ pub enum PivotFault<F> {
 /// Rows and columns are counted from 0. With C columns and R rows of the problem, name 0 is the auxiliary variable, 1 to C are
 /// the columns and C + 1 to C + R the slacks. The rows of the goals follow those of the basic variables.
 /// After a refused pivot the dictionary is spent, and its entries mean nothing.
-pub trait Tableau<F: OrderedField>: Sized {
+pub trait Tableau<F: OrderedField>: Sized + Drop {
     ghost use Rattle.std.specs.Prelude.{◌≡◌, ◌≢◌, ℕ, ◌+◌, ◌<◌, Bool, true, false, None, IfOk, IfErr, OnOk};
     ghost use Rattle.tm_num.specs.Rational.{zero_ℚ};
     ghost use Rattle.tm_lp.specs.Table.{Table, Agree, pivot_table};

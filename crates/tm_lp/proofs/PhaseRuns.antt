@@ -6,7 +6,7 @@ use Rattle.tm_num.proofs.Laws.{one_ne_zero}
 use Rattle.tm_lp.specs.Problem.{Problem}
 use Rattle.tm_lp.specs.Dictionary.{delta, Dict, IsDict, Models, extend, drop_zero}
 use Rattle.tm_lp.specs.Search.{Search, none, found, first}
-use Rattle.tm_lp.specs.Bland.{Choice, optimal, ray, step, choose, after, stops, stop_index, index_of, IsGood}
+use Rattle.tm_lp.specs.Bland.{Choice, optimal, ray, step, choose, after, stops, stop_index, index_of, ChoiceIs, IsGood}
 use Rattle.tm_lp.proofs.Pivots.{pivot_enters}
 use Rattle.tm_lp.specs.Simplex.{names, slack_name, main_row, aux_row, first_dict, entered, lowest, is_over, phase_one_index, last_of_one}
 use Rattle.tm_lp.specs.Table.{Table, Shows, Agree, pivot_table}
@@ -15,7 +15,8 @@ use Rattle.tm_lp.specs.Run.{place_of, leave_table, step_table, tables_after, Pha
 use Rattle.tm_lp.proofs.Searches.{FirstIs, first_is, LeastIs, least_is, IsLeast, lt_no}
 use Rattle.tm_lp.proofs.Dictionaries.{bool_cases, extend_models, extend_free}
 use Rattle.tm_lp.proofs.NoRepeat.{no_repeat}
-use Rattle.tm_lp.proofs.Stops.{chain_from, stop_index_is}
+use Rattle.tm_lp.proofs.Stops.{chain_from, stop_index_is, after_good}
+use Rattle.tm_lp.proofs.Steps.{choose_is}
 use Rattle.tm_lp.proofs.Pigeons.{code, code_same}
 use Rattle.tm_lp.proofs.Roles.{first_free}
 use Rattle.tm_lp.proofs.Outcomes.{IsMain, after_main}
@@ -26,7 +27,7 @@ use Rattle.tm_lp.proofs.EnteredTables.{entered_shows}
 use Rattle.tm_lp.proofs.TableDrops.{table_drop}
 use Rattle.tm_lp.proofs.Sums.{delta_same}
 use Rattle.tm_lp.proofs.Places.{place_in}
-use Rattle.tm_lp.proofs.Phases.{phase_shows, phase_good}
+use Rattle.tm_lp.proofs.Phases.{phase_shows, phase_good, places_of_step, tables_show}
 
 -- in the second phase the auxiliary variable counts as basic
 pub main_basic : (P : Problem) (D : Dict) → IsMain P D → D.basic 0 ≡ true
@@ -182,3 +183,20 @@ module _ (n : ℕ) (ph : Phase) (h : IsPhase n ph) where
       (chain_from ph.goal n ph.start h.good i (j - i) (λ a b. (h.goes_on a (omega (arith, b, s, m))).0))
       p
       (λ q b. ap (λ x. (after ph.goal n ph.start x).basic q) z ∙ code_same (after ph.goal n ph.start i).basic (after ph.goal n ph.start j).basic n e q b ∙ ap (λ x. (after ph.goal n ph.start x).basic q) (sym s))
+
+step_goal_name : (g n : ℕ) (T : Table) (D : Dict) → Shows n T D → IsDict n D → (x : Choice) → ChoiceIs g n D x → (i : ℕ) → T.rows ≤ i → (step_table T x).row_name i ≡ T.row_name i
+unfolding pivot_table
+step_goal_name g n T D h d optimal w i l = refl
+step_goal_name g n T D h d (ray c) w i l = refl
+step_goal_name g n T D h d (step c r) w i l =
+    let p = places_of_step g n T D h d c r w.0 w.1 in
+    ap (λ b. cond b (T.col_name (place_of T.col_name T.width c)) (T.row_name i)) (ne_eqb i (place_of T.row_name T.rows r) (λ e. let q = p.0 in omega (arith, e, q, l)))
+
+-- the goals keep their names
+pub goal_names_after : (g n : ℕ) (T : Table) (D : Dict) → Shows n T D → IsGood n D → (i : ℕ) → T.rows ≤ i → (j : ℕ) → (tables_after g n T D j).row_name i ≡ T.row_name i
+unfolding tables_after
+goal_names_after g n T D h d i l zero = refl
+goal_names_after g n T D h d i l (suc j) =
+    let r = rows_after g n T D j in
+    step_goal_name g n (tables_after g n T D j) (after g n D j) (tables_show g n T D h d j) (after_good g n D d j).form (choose g n (after g n D j)) (choose_is g n (after g n D j)) i (omega (arith, r, l))
+    ∙ goal_names_after g n T D h d i l j

@@ -35,7 +35,8 @@ places_of_step g n T D h d c r e l =
     (λ z. absurd (<ℚ_irrefl (subst (λ x. x <ℚ zero_ℚ) (z c) l.falls)))
     (h.all_rows r l.name (leaves_basic n D d c r l.falls))
 
-next-is : (g n : ℕ) (D : Dict) → take_step D (choose g n D) ≡ next g n D
+-- the dictionary of the next step
+pub next-is : (g n : ℕ) (D : Dict) → take_step D (choose g n D) ≡ next g n D
 unfolding next
 next-is g n D = refl
 

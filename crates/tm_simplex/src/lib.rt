@@ -1,10 +1,14 @@
 //! The simplex method with Bland's rule in two phases, over any tableau.
 #![tactic(auto)]
 
+mod method;
 mod outcome;
 mod phase;
 mod read;
 mod scan;
+
 mod step;
 
 pub use outcome::{Outcome, SolveFault};
+pub use method::solve;
+pub use tm_dict::{Problem, Row, Tableau};

@@ -1,4 +1,5 @@
 //! What the method answers.
+use std::alloc::AllocError;
 use tm_frac::Wide;
 
 /// The outcome of a problem, with its evidence (docs/DECISIONS.md has the rules by which it is read).
@@ -23,4 +24,15 @@ pub enum Outcome<F> {
 pub enum SolveFault<F> {
     Wide { pivot: u32, wide: Wide<F> },
     NoMemory,
+}
+
+impl<F: Drop> From<AllocError> for SolveFault<F> {
+    ghost use Rattle.std.specs.Prelude.{◌≡◌};
+    ghost use Rattle.tm_simplex.specs.declared.outcome.SolveFault.TheVariants.{NoMemory};
+
+    ghost from_gives = { λ _ e. e ≡ NoMemory };
+
+    fn from(_e: AllocError) -> SolveFault<F> {
+        SolveFault::NoMemory
+    }
 }

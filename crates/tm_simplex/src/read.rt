@@ -3,6 +3,7 @@ ghost use Rattle.std.specs.Prelude.{◌≡◌, ℕ, ◌+◌, ◌<◌, ◌≤◌,
 ghost use Rattle.tm_num.specs.Rational.{zero_ℚ, neg_ℚ};
 ghost use Rattle.tm_dict.specs.Cells.{cell};
 ghost use Rattle.tm_simplex.specs.Placed.{IsPlaced, Places};
+ghost use Rattle.tm_simplex.specs.Answers.{IsDirection};
 
 use std::alloc::{AllocError, Global};
 use tm_dict::Tableau;
@@ -60,6 +61,20 @@ pub fn basic_values<F: OrderedField, T: Tableau<F>>(alloc: Global, tableau: &T, 
     for row in 0..rows {
         put_at(&mut values, tableau.basic(row), 0, value_at(tableau, row, col, width));
     }
+    Ok(values)
+}
+
+/// The direction of the column `col` that enters: 1 for its own variable, its entry for each basic column, else 0.
+pub fn entering_values<F: OrderedField, T: Tableau<F>>(alloc: Global, tableau: &T, rows: u32, cols: u32, col: u32, width: u32) -> Result<Vec<F>, AllocError>
+    requires rows { rows ≡ (T.table tableau.now).rows }
+    requires col { col < width }
+    requires width { width ≡ (T.table tableau.now).width }
+    requires apart { (i j : ℕ) → i < rows → j < rows → (T.table tableau.now).row_name i ≡ (T.table tableau.now).row_name j → i ≡ j }
+    requires fresh { T.spent tableau.now ≡ false }
+    ensures { IfOk result (λ v. IsDirection F.meaning (T.table tableau.now) rows cols col v.items) }
+{
+    let mut values = basic_values(alloc, tableau, rows, cols, col, width)?;
+    put_at(&mut values, tableau.other(col), 0, F::one());
     Ok(values)
 }
 
