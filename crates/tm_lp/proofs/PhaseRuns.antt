@@ -82,7 +82,8 @@ aux_runs P D T d h b =
           (or_cases (stops (aux_row P) (names P) (after (aux_row P) (names P) D k)) (not ((after (aux_row P) (names P) D k).basic 0)) w.over);
     }
 
-lowest_is : (P : Problem) (r : ℕ) → lowest P ≡ found r → IsLeast (λ r. lt_ℚ (P.side r) zero_ℚ) P.side P.rows r
+-- the row of the least side
+pub lowest_is : (P : Problem) (r : ℕ) → lowest P ≡ found r → IsLeast (λ r. lt_ℚ (P.side r) zero_ℚ) P.side P.rows r
 unfolding lowest
 lowest_is P r e = subst (LeastIs (λ r. lt_ℚ (P.side r) zero_ℚ) P.side P.rows) e (least_is (λ r. lt_ℚ (P.side r) zero_ℚ) P.side P.rows)
 
@@ -200,3 +201,19 @@ goal_names_after g n T D h d i l (suc j) =
     let r = rows_after g n T D j in
     step_goal_name g n (tables_after g n T D j) (after g n D j) (tables_show g n T D h d j) (after_good g n D d j).form (choose g n (after g n D j)) (choose_is g n (after g n D j)) i (omega (arith, r, l))
     ∙ goal_names_after g n T D h d i l j
+
+-- in the second phase the auxiliary variable counts as basic throughout
+pub plain_stays : (P : Problem) → lowest P ≡ none → (j : ℕ) → (phase_dict (names P) (main_phase P) j).basic 0 ≡ true
+plain_stays P e j =
+    let D = drop_zero (first_dict P) in
+    let d = dropped_main P (first_dict P) (first_aux P (lowest_none P e)) (first_free P 0 (omega arith)) in
+    subst (λ s. (after (main_row P) (names P) (main_start P s) j).basic 0 ≡ true) (sym e) (main_basic P (after (main_row P) (names P) (drop_zero (first_dict P)) j) (after_main (main_row P) P (drop_zero (first_dict P)) d j))
+
+pub main_stays : (P : Problem) (r : ℕ) → lowest P ≡ found r → (phase_dict (names P) (aux_phase P) (aux_phase P).last).basic 0 ≡ false → (j : ℕ) → (phase_dict (names P) (main_phase P) j).basic 0 ≡ true
+unfolding last_of_one
+main_stays P r e f j =
+    let a = entered_aux P r (lowest_is P r e) in
+    let i : index_of (lowest P) ≡ r = ap index_of e in
+    let g : (last_of_one P (entered P r)).basic 0 ≡ false = subst (λ s. (after (aux_row P) (names P) (entered P s) (phase_one_index P (entered P s))).basic 0 ≡ false) i f in
+    let d = dropped_main P (last_of_one P (entered P r)) (after_aux (aux_row P) P (entered P r) a (phase_one_index P (entered P r))) g in
+    subst (λ s. (after (main_row P) (names P) (main_start P s) j).basic 0 ≡ true) (sym e) (main_basic P (after (main_row P) (names P) (drop_zero (last_of_one P (entered P r))) j) (after_main (main_row P) P (drop_zero (last_of_one P (entered P r))) d j))

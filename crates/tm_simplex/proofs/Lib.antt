@@ -8,3 +8,5 @@ pub mod PhaseLoops
 pub mod LoopSteps
 pub mod Readings
 pub mod Evidences
+pub mod Begins
+pub mod Ends
