@@ -6,13 +6,15 @@ use Rattle.tm_lp.specs.Dictionary.{Dict, IsDict, drop_zero}
 use Rattle.tm_lp.specs.Search.{Search, none, found}
 use Rattle.tm_lp.specs.Bland.{Choice, optimal, ray, choose, after, stop_index, index_of}
 use Rattle.tm_lp.specs.Simplex.{names, main_row, aux_row, first_dict, entered, lowest, phase_one_index, last_of, last_of_one, multipliers, point_of, ray_of, outcome_at, after_one, phase_one, phase_two, lp_from, lp as lp_of}
-use Rattle.tm_lp.specs.Table.{Table, Shows, Agree}
-use Rattle.tm_lp.specs.FirstTable.{first_table}
+use Rattle.tm_lp.specs.Table.{Table, Shows, Agree, pivot_table}
+use Rattle.tm_lp.specs.FirstTable.{first_table, plain_table}
 use Rattle.tm_lp.specs.HasRows.{HasRows}
-use Rattle.tm_lp.specs.Run.{phase_dict, phase_table, IsPhase, aux_phase, main_start, main_phase, phase_of}
+use Rattle.tm_lp.specs.Run.{Phase, phase_dict, phase_table, IsPhase, aux_phase, main_start, main_phase, phase_of}
 use Rattle.tm_lp.proofs.FirstTables.{shows_agree}
 use Rattle.tm_lp.proofs.HasRows.{has_agree, has_phase}
+use Rattle.tm_lp.proofs.Agrees.{agree_trans, agree_pivot}
 use Rattle.tm_lp.proofs.Phases.{phase_shows, phase_good}
+use Rattle.tm_dict.specs.Exact.{start_from, start_table}
 use Rattle.tm_dict.specs.Operation.{Operation, first_wide, operation_of}
 use Rattle.tm_dict.specs.PivotOperations.{pivot_operations}
 use Rattle.tm_simplex.specs.declared.outcome.Outcome.{Outcome}
@@ -167,3 +169,23 @@ module _ (L : ℤ) (P : lp.Problem) (r : ℕ) (e : lowest P ≡ found r) (r_in :
 
       pub refused_main : (phase_dict (names P) (aux_phase P) (aux_phase P).last).basic 0 ≡ false → {F : Type 0} (m : F → ℚ) (f : SolveFault F) → RefusesRun m L (whole_phase P (main_phase P)) f → RefusesRun m L (run_operations P) f
       refused_main g m f w = refused_as m L (whole_phase P (main_phase P)) (run_operations P) (λ o q. run_main g ∙ q) f w
+
+-- a phase that ends otherwise than by the auxiliary variable's leaving still has it
+pub not_left : (n : ℕ) (ph : Phase) (T : Table) (end : End) → EndOf n ph T end → (end ≡ Left → ⊥) → (phase_dict n ph ph.last).basic 0 ≡ true
+not_left n ph T AtBest w k = w.1
+not_left n ph T (AtRay c) w k = w.2
+not_left n ph T Left w k = absurd (k refl)
+
+-- the first table
+pub start_plain : (P : lp.Problem) → lowest P ≡ none → start_table P ≡ plain_table P
+unfolding start_table
+start_plain P e = ap (start_from P) e
+
+pub start_first : (P : lp.Problem) (r : ℕ) → lowest P ≡ found r → start_table P ≡ first_table P
+unfolding start_table
+start_first P r e = ap (start_from P) e
+
+-- the table after the special first pivot
+pub entered_agrees : (P : lp.Problem) (r : ℕ) (T U : Table) → r < P.rows → Agree (first_table P) T → Agree (pivot_table T r P.cols) U → Agree (pivot_table (first_table P) r P.cols) U
+unfolding first_table
+entered_agrees P r T U l a b = agree_trans (pivot_table (first_table P) r P.cols) (pivot_table T r P.cols) U (agree_pivot (first_table P) T a r P.cols l (omega arith)) b
