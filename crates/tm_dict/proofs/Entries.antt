@@ -6,7 +6,7 @@ use Rattle.tm_frac.specs.Fits.{Fits}
 use Rattle.tm_frac.specs.declared.wide.Op.TheVariants.{Add, Mul, Div}
 use Rattle.tm_frac.specs.declared.wide.Wide.{Wide}
 use Rattle.tm_dict.specs.Operation.{Operation, first_wide, operation_of, Answers}
-use Rattle.tm_dict.specs.Formulas.{is_zero, divided, division, divided_operations, combined, unless_zero, combined_operations}
+use Rattle.tm_dict.specs.Formulas.{is_zero, divided, division, divided_operations, unless_zero, product_operations, added, added_operations}
 use Rattle.tm_dict.proofs.Widths.{first_wide_past, first_wide_here, is_zero_yes, is_zero_no, one_answer}
 
 zero_over : (p : ℚ) → neg_ℚ (zero_ℚ /ℚ p) ≡ zero_ℚ
@@ -55,43 +55,46 @@ module _ (L : ℤ) where
   all_made : (f b : ℚ) (os : List Operation) → f ≢ zero_ℚ → b ≢ zero_ℚ → unless_zero f b os ≡ os
   all_made f b os n k = ap₂ (λ s t. cond s [] (cond t [] os)) (is_zero_no f n) (is_zero_no b k)
 
-  -- formulas 3 and 4 where the pivot row's new entry is 0
-  pub combined_zero_at : (a f b : ℚ) (t : Bool) → t ≡ true → b ≡ zero_ℚ → (b ≡ combined a f b t) × (first_wide L (combined_operations a f b t) ≡ None)
-  combined_zero_at a f b false e z = absurd (true≢false (sym e))
-  combined_zero_at a f b true e z = (
+  -- formula 3 where the pivot row's new entry is 0
+  pub product_zero : (f b : ℚ) → b ≡ zero_ℚ → (b ≡ f *ℚ b) × (first_wide L (product_operations f b) ≡ None)
+  product_zero f b z = (
     z ∙ sym (ap (λ x. f *ℚ x) z ∙ *ℚ-zero f),
     ap (first_wide L) (none_made f b (record { op = Mul; left = f; right = b } ∷ []) z),
   )
 
-  pub combined_zero_off : (a f b : ℚ) (t : Bool) → t ≡ false → b ≡ zero_ℚ → (a ≡ combined a f b t) × (first_wide L (combined_operations a f b t) ≡ None)
-  combined_zero_off a f b true e z = absurd (true≢false e)
-  combined_zero_off a f b false e z = (
+  -- formula 3
+  pub product_made : {F : Type 0} (m : F → ℚ) (factor above : F) (res : Result F (Wide F)) → m factor ≢ zero_ℚ → m above ≢ zero_ℚ →
+      MatchResult res (λ r. (m r ≡ m factor *ℚ m above) × Fits L (m r)) (λ e. (¬ (Fits L (m factor *ℚ m above))) × (e ≡ record { op = Mul; left = factor; right = above })) →
+      Answers m L (m factor *ℚ m above) (product_operations (m factor) (m above)) res
+  product_made m factor above res n k h =
+      subst (λ os. Answers m L (m factor *ℚ m above) os res) (sym (all_made (m factor) (m above) (record { op = Mul; left = m factor; right = m above } ∷ []) n k)) (one_answer m L Mul factor above res h)
+
+  -- formula 4 leaves the pivot's column
+  pub added_at : (a f b : ℚ) (t : Bool) → t ≡ true → (a ≡ added a f b t) × (first_wide L (added_operations a f b t) ≡ None)
+  added_at a f b true e = (refl, refl)
+  added_at a f b false e = absurd (true≢false (sym e))
+
+  -- formula 4 where the pivot row's new entry is 0
+  pub added_zero : (a f b : ℚ) (t : Bool) → t ≡ false → b ≡ zero_ℚ → (a ≡ added a f b t) × (first_wide L (added_operations a f b t) ≡ None)
+  added_zero a f b true e z = absurd (true≢false e)
+  added_zero a f b false e z = (
     sym (ap (λ x. a +ℚ x) (ap (λ x. f *ℚ x) z ∙ *ℚ-zero f) ∙ +ℚ_idr a),
     ap (first_wide L) (none_made f b (record { op = Mul; left = f; right = b } ∷ record { op = Add; left = a; right = f *ℚ b } ∷ []) z),
   )
 
-  -- where the product is wide
-  pub combined_refused : (a f b : ℚ) (t : Bool) → f ≢ zero_ℚ → b ≢ zero_ℚ → ¬ (Fits L (f *ℚ b)) → first_wide L (combined_operations a f b t) ≡ Some (record { op = Mul; left = f; right = b })
-  combined_refused a f b true n k w =
-      ap (first_wide L) (all_made f b (record { op = Mul; left = f; right = b } ∷ []) n k) ∙ first_wide_here L (record { op = Mul; left = f; right = b }) [] w
-  combined_refused a f b false n k w =
+  -- formula 4 where the product is wide
+  pub added_refused : (a f b : ℚ) (t : Bool) → t ≡ false → f ≢ zero_ℚ → b ≢ zero_ℚ → ¬ (Fits L (f *ℚ b)) → first_wide L (added_operations a f b t) ≡ Some (record { op = Mul; left = f; right = b })
+  added_refused a f b true e n k w = absurd (true≢false e)
+  added_refused a f b false e n k w =
       ap (first_wide L) (all_made f b (record { op = Mul; left = f; right = b } ∷ record { op = Add; left = a; right = f *ℚ b } ∷ []) n k)
       ∙ first_wide_here L (record { op = Mul; left = f; right = b }) (record { op = Add; left = a; right = f *ℚ b } ∷ []) w
 
-  -- formula 3
-  pub combined_at : (a f b p : ℚ) (t : Bool) → t ≡ true → f ≢ zero_ℚ → b ≢ zero_ℚ → p ≡ f *ℚ b → Fits L p → (p ≡ combined a f b t) × (first_wide L (combined_operations a f b t) ≡ None)
-  combined_at a f b p false e n k g h = absurd (true≢false (sym e))
-  combined_at a f b p true e n k g h = (
-    g,
-    ap (first_wide L) (all_made f b (record { op = Mul; left = f; right = b } ∷ []) n k) ∙ first_wide_past L (record { op = Mul; left = f; right = b }) [] (subst (Fits L) g h),
-  )
-
   -- formula 4
-  pub combined_off : {F : Type 0} (m : F → ℚ) (entry product : F) (f b : ℚ) (t : Bool) (res : Result F (Wide F)) → t ≡ false → f ≢ zero_ℚ → b ≢ zero_ℚ → m product ≡ f *ℚ b → Fits L (m product) →
+  pub added_off : {F : Type 0} (m : F → ℚ) (entry product : F) (f b : ℚ) (t : Bool) (res : Result F (Wide F)) → t ≡ false → f ≢ zero_ℚ → b ≢ zero_ℚ → m product ≡ f *ℚ b → Fits L (m product) →
       MatchResult res (λ r. (m r ≡ m entry +ℚ m product) × Fits L (m r)) (λ e. (¬ (Fits L (m entry +ℚ m product))) × (e ≡ record { op = Add; left = entry; right = product })) →
-      Answers m L (combined (m entry) f b t) (combined_operations (m entry) f b t) res
-  combined_off m entry product f b true res e n k g h s = absurd (true≢false e)
-  combined_off m entry product f b false res e n k g h s =
+      Answers m L (added (m entry) f b t) (added_operations (m entry) f b t) res
+  added_off m entry product f b true res e n k g h s = absurd (true≢false e)
+  added_off m entry product f b false res e n k g h s =
       let made = all_made f b (record { op = Mul; left = f; right = b } ∷ record { op = Add; left = m entry; right = f *ℚ b } ∷ []) n k in
       let past = ap (first_wide L) made ∙ first_wide_past L (record { op = Mul; left = f; right = b }) (record { op = Add; left = m entry; right = f *ℚ b } ∷ []) (subst (Fits L) g h) in
       let last = subst (λ x. Answers m L (m entry +ℚ x) (record { op = Add; left = m entry; right = x } ∷ []) res) g (one_answer m L Add entry product res s) in

@@ -39,10 +39,19 @@ combined a f b false = a +ℚ f *ℚ b
 abbrev pub unless_zero : ℚ → ℚ → List Operation → List Operation
 unless_zero f b os = cond (is_zero f) [] (cond (is_zero b) [] os)
 
--- the operations of formulas 3 and 4
-abbrev pub combined_operations : ℚ → ℚ → ℚ → Bool → List Operation
-combined_operations a f b true = unless_zero f b (record { op = Mul; left = f; right = b } ∷ [])
-combined_operations a f b false = unless_zero f b (record { op = Mul; left = f; right = b } ∷ record { op = Add; left = a; right = f *ℚ b } ∷ [])
+-- the operation of formula 3
+abbrev pub product_operations : ℚ → ℚ → List Operation
+product_operations f b = unless_zero f b (record { op = Mul; left = f; right = b } ∷ [])
+
+-- formula 4, which leaves the entry in the pivot's column as it is
+abbrev pub added : ℚ → ℚ → ℚ → Bool → ℚ
+added a f b true = a
+added a f b false = a +ℚ f *ℚ b
+
+-- the operations of formula 4
+abbrev pub added_operations : ℚ → ℚ → ℚ → Bool → List Operation
+added_operations a f b true = []
+added_operations a f b false = unless_zero f b (record { op = Mul; left = f; right = b } ∷ record { op = Add; left = a; right = f *ℚ b } ∷ [])
 
 -- the pivot's row after the pivot
 abbrev pub divided_row : (ℕ → ℚ) → ℕ → ℕ → ℚ
@@ -51,3 +60,7 @@ divided_row a c k = divided (a k) (a c) (eqb k c)
 -- another row a after the pivot, where b is the pivot's row after it
 abbrev pub combined_row : (ℕ → ℚ) → (ℕ → ℚ) → ℕ → ℕ → ℚ
 combined_row a b c k = combined (a k) (a c) (b k) (eqb k c)
+
+-- a row a to which f times the row b is added outside the pivot's column
+abbrev pub added_row : (ℕ → ℚ) → ℚ → (ℕ → ℚ) → ℕ → ℕ → ℚ
+added_row a f b c k = added (a k) f (b k) (eqb k c)

@@ -1,8 +1,8 @@
 //! The four formulas at single entries.
 ghost use Rattle.std.specs.Prelude.{◌≢◌};
-ghost use Rattle.tm_num.specs.Rational.{zero_ℚ};
+ghost use Rattle.tm_num.specs.Rational.{zero_ℚ, ◌*ℚ◌};
 ghost use Rattle.tm_dict.specs.Operation.{Answers};
-ghost use Rattle.tm_dict.specs.Formulas.{divided, divided_operations, combined, combined_operations};
+ghost use Rattle.tm_dict.specs.Formulas.{divided, divided_operations, product_operations, added, added_operations};
 
 use tm_frac::{OrderedField, Wide};
 
@@ -21,18 +21,29 @@ pub fn divided_by<F: OrderedField>(entry: F, pivot: F, at_pivot: bool) -> Result
     Ok(quotient.negate())
 }
 
-/// An entry of another row after the pivot: formula 3 in the pivot's column, else formula 4. The row's entry in the pivot's
-/// column was `factor`, and `above` is the new entry of the pivot's row.
-pub fn combined_with<F: OrderedField>(entry: F, factor: F, above: F, at_pivot: bool) -> Result<F, Wide<F>>
+/// Formula 3, the entry of another row in the pivot's column: `factor` times the new entry of the pivot's row.
+pub fn product_of<F: OrderedField>(factor: F, above: F) -> Result<F, Wide<F>>
     requires { F.meaning factor ≢ zero_ℚ }
-    ensures { Answers F.meaning F.LIMIT (combined (F.meaning entry) (F.meaning factor) (F.meaning above) at_pivot) (combined_operations (F.meaning entry) (F.meaning factor) (F.meaning above) at_pivot) result }
+    ensures { Answers F.meaning F.LIMIT (F.meaning factor *ℚ F.meaning above) (product_operations (F.meaning factor) (F.meaning above)) result }
 {
     if above.is_zero() {
-        return Ok(if at_pivot { above } else { entry });
+        return Ok(above);
+    }
+    factor.times(above)
+}
+
+/// Formula 4, an entry of another row outside the pivot's column: `factor` times the new entry of the pivot's row is added. In
+/// the pivot's column the entry stays.
+pub fn sum_of<F: OrderedField>(entry: F, factor: F, above: F, at_pivot: bool) -> Result<F, Wide<F>>
+    requires { F.meaning factor ≢ zero_ℚ }
+    ensures { Answers F.meaning F.LIMIT (added (F.meaning entry) (F.meaning factor) (F.meaning above) at_pivot) (added_operations (F.meaning entry) (F.meaning factor) (F.meaning above) at_pivot) result }
+{
+    if at_pivot {
+        return Ok(entry);
+    }
+    if above.is_zero() {
+        return Ok(entry);
     }
     let product = factor.times(above)?;
-    if at_pivot {
-        return Ok(product);
-    }
     entry.plus(product)
 }

@@ -2,12 +2,12 @@
 ghost use Rattle.std.specs.Prelude.{◌≡◌, ◌≢◌, ◌+◌, ◌*◌, ◌<◌, ◌≤◌, ◌⊎◌, length, None, Some, OnOk, IfErr};
 ghost use Rattle.tm_num.specs.Rational.{zero_ℚ};
 ghost use Rattle.tm_dict.specs.Operation.{first_wide, operation_of};
-ghost use Rattle.tm_dict.specs.Formulas.{divided_row, combined_row};
-ghost use Rattle.tm_dict.specs.PivotOperations.{division_row_operations, combination_row_operations};
+ghost use Rattle.tm_dict.specs.Formulas.{divided_row, combined_row, added_row};
+ghost use Rattle.tm_dict.specs.PivotOperations.{division_row_operations, added_row_operations, combination_row_operations};
 ghost use Rattle.tm_dict.specs.Cells.{cell, row_from};
 ghost use Rattle.tm_dict.specs.Rows.{SetsRow, CombinesRows, Exchanges, rows_operations, exchange_operations};
 
-use crate::formulas::{combined_with, divided_by};
+use crate::formulas::{divided_by, product_of, sum_of};
 use tm_frac::{OrderedField, Wide};
 
 /// Formulas 1 and 2 on the row of `stride` entries from `start` on, with the pivot at its place `col`.
@@ -22,6 +22,23 @@ pub fn divide_row<F: OrderedField>(entries: &mut [F], start: usize, stride: usiz
     let pivot = entries[start + col];
     for k in 0..stride {
         let entry = divided_by(entries[start + k], pivot, k == col)?;
+        entries[start + k] = entry;
+    }
+    Ok(())
+}
+
+/// Formula 4 on the row of `stride` entries from `start` on, whose entry at `col` was `factor` and is done.
+fn add_row<F: OrderedField>(entries: &mut [F], factor: F, start: usize, above: usize, stride: usize, col: usize) -> Result<(), Wide<F>>
+    requires within { start + stride ≤ length entries.old }
+    requires above_within { above + stride ≤ length entries.old }
+    requires apart { (start + stride ≤ above) ⊎ (above + stride ≤ start) }
+    requires factor { F.meaning factor ≢ zero_ℚ }
+    ensures added { OnOk result (SetsRow F.meaning start stride (added_row (row_from F.meaning entries.old start) (F.meaning factor) (row_from F.meaning entries.old above) col) entries.old entries.new) }
+    ensures fits { OnOk result (first_wide F.LIMIT (added_row_operations stride (row_from F.meaning entries.old start) (F.meaning factor) (row_from F.meaning entries.old above) col) ≡ None) }
+    ensures wide { IfErr result (λ w. first_wide F.LIMIT (added_row_operations stride (row_from F.meaning entries.old start) (F.meaning factor) (row_from F.meaning entries.old above) col) ≡ Some (operation_of F.meaning w)) }
+{
+    for k in 0..stride {
+        let entry = sum_of(entries[start + k], factor, entries[above + k], k == col)?;
         entries[start + k] = entry;
     }
     Ok(())
@@ -42,11 +59,9 @@ pub fn combine_row<F: OrderedField>(entries: &mut [F], start: usize, above: usiz
     if factor.is_zero() {
         return Ok(());
     }
-    for k in 0..stride {
-        let entry = combined_with(entries[start + k], factor, entries[above + k], k == col)?;
-        entries[start + k] = entry;
-    }
-    Ok(())
+    let product = product_of(factor, entries[above + col])?;
+    entries[start + col] = product;
+    add_row(entries, factor, start, above, stride, col)
 }
 
 /// Formulas 3 and 4 on each of the `rows` rows but `row`, whose division is done.
