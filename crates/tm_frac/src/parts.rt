@@ -1,100 +1,123 @@
-// Numerators and denominators before they are stored.
-ghost use Rattle.std.specs.Prelude.{◌≡◌, ◌≢◌, ◌<◌, ◌^◌, ◌*◌, pos, ◌≤ℤ◌, ◌+ℤ◌, ◌*ℤ◌, unsigned_abs};
-ghost use Rattle.tm_num.specs.Gcd.{gcd as gcd_of};
-ghost use Rattle.tm_num.specs.Rational.{ratio, signed_by};
+// Numerators and denominators of results in lowest terms, before it is known whether they fit.
+// Divisors are taken out before the products, so that no product has more than 127 bits.
+ghost use Rattle.std.specs.Prelude.{◌≡◌, ◌≢◌, ◌<◌, ◌≤◌, ◌^◌, ◌*◌, pos, ◌*ℤ◌, unsigned_abs, T};
+ghost use Prim.Native.Nat.{◌∣◌};
+ghost use Rattle.tm_num.specs.Rational.{ratio, is_reduced, signed_by, ◌+ℚ◌, ◌*ℚ◌};
 
-// The greatest common divisor, by Euclid's algorithm.
-pub fn gcd(a: u128, b: u128) -> u128
-    ensures { result ≡ gcd_of a b }
+use crate::divisor::{gcd, wide_gcd};
+
+// d / g, where g divides d.
+fn quotient(d: u64, g: u64) -> u64
+    requires positive { 0 < g }
+    requires divides { g ∣ d }
+    ensures value { result * g ≡ d }
+    ensures bound { result ≤ d }
 {
-    let mut x = a;
-    let mut y = b;
-    while y != 0 {
-        let r = x % y;
-        x = y;
-        y = r;
-    }
-    x
+    if g == 1 { d } else { d / g }
 }
 
-// The numerator and the denominator of n / d in lowest terms.
-pub fn lowest(n: i128, d: u128) -> (i128, u128)
-    requires above_zero { 0 < d }
-    requires small { d < 2 ^ 127 }
-    ensures num { result.0 ≡ (ratio n d).num }
-    ensures den { result.1 ≡ (ratio n d).den }
+// n / g, where g divides n.
+fn signed_quotient(n: i64, g: u64) -> i64
+    requires positive { 0 < g }
+    requires small { g < 2 ^ 63 }
+    requires divides { g ∣ unsigned_abs n }
+    ensures value { result *ℤ pos g ≡ n }
+    ensures bound { unsigned_abs result ≤ unsigned_abs n }
 {
-    let g = gcd(n.unsigned_abs(), d);
-    (n / (g as i128), d / g)
+    if g == 1 { n } else { n / (g as i64) }
 }
 
-// The product of two numbers, neither of which is the least.
-pub fn wide_product(a: i64, b: i64) -> i128
+// t / g, where g divides t.
+fn wide_quotient(t: i128, g: u64) -> i128
+    requires positive { 0 < g }
+    requires divides { g ∣ unsigned_abs t }
+    ensures value { result *ℤ pos g ≡ t }
+{
+    if g == 1 { t } else { t / (g as i128) }
+}
+
+// The product of an integer and a natural number.
+pub fn wide_product(a: i64, b: u64) -> i128
+    requires left { unsigned_abs a < 2 ^ 63 }
+    requires right { b < 2 ^ 63 }
+    ensures value { result ≡ a *ℤ pos b }
+    ensures bound { unsigned_abs result < 2 ^ 126 }
+{
+    (a as i128) * (b as i64 as i128)
+}
+
+// The product of two integers.
+fn signed_product(a: i64, b: i64) -> i128
     requires left { unsigned_abs a < 2 ^ 63 }
     requires right { unsigned_abs b < 2 ^ 63 }
-    ensures value { result ≡ a *ℤ b }
-    ensures bound { unsigned_abs result < 2 ^ 126 }
+    ensures { result ≡ a *ℤ b }
 {
     (a as i128) * (b as i128)
 }
 
-// The numerator and the denominator of a sum, not yet in lowest terms.
-pub fn sum_parts(an: i64, ad: i64, bn: i64, bd: i64) -> (i128, u128)
+// The numerator and the denominator of the sum, in lowest terms (Knuth, The Art of Computer Programming 4.5.1).
+pub fn sum_parts(an: i64, ad: u64, bn: i64, bd: u64) -> (i128, u128)
     requires a_num { unsigned_abs an < 2 ^ 63 }
-    requires a_den { pos 1 ≤ℤ ad }
+    requires a_den { ad < 2 ^ 63 }
     requires b_num { unsigned_abs bn < 2 ^ 63 }
-    requires b_den { pos 1 ≤ℤ bd }
-    ensures num { result.0 ≡ an *ℤ bd +ℤ bn *ℤ ad }
-    ensures den { pos result.1 ≡ ad *ℤ bd }
-    ensures small { result.1 < 2 ^ 127 }
-    ensures above_zero { 0 < result.1 }
+    requires b_den { bd < 2 ^ 63 }
+    requires a_lowest { T (is_reduced an ad) }
+    requires b_lowest { T (is_reduced bn bd) }
+    ensures sum { ratio result.0 result.1 ≡ ratio an ad +ℚ ratio bn bd }
+    ensures lowest { T (is_reduced result.0 result.1) }
 {
-    let n = wide_product(an, bd) + wide_product(bn, ad);
-    let d = (ad as u128) * (bd as u128);
-    (n, d)
+    let g = gcd(ad, bd);
+    let a_part = quotient(ad, g);
+    let b_part = quotient(bd, g);
+    let t = wide_product(an, b_part) + wide_product(bn, a_part);
+    let h = wide_gcd(t, g);
+    let num = wide_quotient(t, h);
+    (num, (a_part as u128) * (quotient(bd, h) as u128))
 }
 
-// The numerator and the denominator of a product, not yet in lowest terms.
-pub fn product_parts(an: i64, ad: i64, bn: i64, bd: i64) -> (i128, u128)
+// The numerator and the denominator of the product, in lowest terms.
+pub fn product_parts(an: i64, ad: u64, bn: i64, bd: u64) -> (i128, u128)
     requires a_num { unsigned_abs an < 2 ^ 63 }
-    requires a_den { pos 1 ≤ℤ ad }
+    requires a_den { ad < 2 ^ 63 }
     requires b_num { unsigned_abs bn < 2 ^ 63 }
-    requires b_den { pos 1 ≤ℤ bd }
-    ensures num { result.0 ≡ an *ℤ bn }
-    ensures den { pos result.1 ≡ ad *ℤ bd }
-    ensures small { result.1 < 2 ^ 127 }
-    ensures above_zero { 0 < result.1 }
+    requires b_den { bd < 2 ^ 63 }
+    requires a_lowest { T (is_reduced an ad) }
+    requires b_lowest { T (is_reduced bn bd) }
+    ensures product { ratio result.0 result.1 ≡ ratio an ad *ℚ ratio bn bd }
+    ensures lowest { T (is_reduced result.0 result.1) }
 {
-    let n = (an as i128) * (bn as i128);
-    let d = (ad as u128) * (bd as u128);
-    (n, d)
+    if an == 0 || bn == 0 {
+        return (0, 1);
+    }
+    let g = gcd(an.unsigned_abs(), bd);
+    let h = gcd(bn.unsigned_abs(), ad);
+    let num = signed_product(signed_quotient(an, g), signed_quotient(bn, h));
+    (num, (quotient(ad, h) as u128) * (quotient(bd, g) as u128))
 }
 
-// The numerator and the denominator of a quotient, not yet in lowest terms.
-pub fn quotient_parts(an: i64, ad: i64, bn: i64, bd: i64) -> (i128, u128)
-    requires a_num { unsigned_abs an < 2 ^ 63 }
-    requires a_den { pos 1 ≤ℤ ad }
-    requires b_num { unsigned_abs bn < 2 ^ 63 }
-    requires b_den { pos 1 ≤ℤ bd }
-    requires not_zero { bn ≢ pos 0 }
-    ensures num { result.0 ≡ signed_by bn (an *ℤ bd) }
-    ensures den { result.1 ≡ unsigned_abs ad * unsigned_abs bn }
-    ensures small { result.1 < 2 ^ 127 }
-    ensures above_zero { 0 < result.1 }
+// n with the sign of n / by.
+fn signed(n: i64, by: i64) -> i128
+    ensures { result ≡ signed_by by n }
 {
-    let n = wide_product(an, bd);
-    let d = (ad as u128) * (bn.unsigned_abs() as u128);
-    (if bn < 0 { -n } else { n }, d)
+    if by < 0 { -(n as i128) } else { n as i128 }
 }
 
-// The numerator and the denominator of num / den with a denominator above 0, not yet in lowest terms.
-pub fn fraction_parts(num: i64, den: i64) -> (i128, u128)
+// d with the sign of by.
+pub fn with_sign(d: u64, by: i64) -> i64
+    requires { d < 2 ^ 63 }
+    ensures { result ≡ signed_by by (pos d) }
+{
+    if by < 0 { -(d as i64) } else { d as i64 }
+}
+
+// The numerator and the denominator of num / den, with the sign at the numerator, in lowest terms.
+pub fn fraction_parts(num: i64, den: i64) -> (i128, u64)
     requires { den ≢ pos 0 }
-    ensures num { result.0 ≡ signed_by den num }
-    ensures den { result.1 ≡ unsigned_abs den }
-    ensures small { result.1 < 2 ^ 127 }
-    ensures above_zero { 0 < result.1 }
+    ensures value { ratio result.0 result.1 ≡ ratio (signed_by den num) (unsigned_abs den) }
+    ensures lowest { T (is_reduced result.0 result.1) }
 {
-    let n = num as i128;
-    (if den < 0 { -n } else { n }, den.unsigned_abs() as u128)
+    let n = signed(num, den);
+    let d = den.unsigned_abs();
+    let g = wide_gcd(n, d);
+    (wide_quotient(n, g), quotient(d, g))
 }

@@ -3,6 +3,7 @@ use crate::exact::Exact;
 use crate::limit::Limit;
 use crate::parts::wide_product;
 use std::cmp::Ordering;
+use std::hash::{Hash, Hasher};
 
 impl<L: Limit> PartialEq for Exact<L> {
     ghost use Rattle.std.specs.Ordering.{eq_by_cmp};
@@ -56,5 +57,18 @@ impl<L: Limit> PartialOrd for Exact<L> {
 
     fn partial_cmp(&self, other: &Self) -> Option<Ordering> {
         Some(self.cmp(other))
+    }
+}
+
+impl<L: Limit> Hash for Exact<L> {
+    ghost use Rattle.tm_frac.specs.HashedParts.{frac_hash, frac_hash_agrees};
+
+    ghost hash_input = { frac_hash };
+
+    ghost respects_eq = { frac_hash_agrees };
+
+    fn hash<H: Hasher>(&self, state: &mut H) {
+        self.num.hash(state);
+        self.den.hash(state);
     }
 }

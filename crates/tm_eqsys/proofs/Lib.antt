@@ -1,0 +1,9 @@
+pub mod RationalStates
+pub mod FreeValueLaw
+pub mod Soundness
+pub mod Leastness
+pub mod Listed
+pub mod FitsProgram
+pub mod Examples
+pub mod Counting
+pub mod BoundTexts

@@ -1,0 +1,5 @@
+use Rattle.tm_eqsys.proofs.Leastness.{unreached_law}
+use Rattle.tm_eqsys.proofs.law.unreached_at_all_rows.Goals as goal
+
+pub returns : goal.returns
+returns c = unreached_law

@@ -1,0 +1,5 @@
+use Rattle.tm_eqsys.proofs.Listed.{listed_law}
+use Rattle.tm_eqsys.proofs.law.vectors_are_lists.Goals as goal
+
+pub returns : goal.returns
+returns c = listed_law

@@ -1,0 +1,9 @@
+pub mod ExtendedCode
+pub mod SystemLimits
+pub mod States
+pub mod FreeValues
+pub mod Equations
+pub mod Solutions
+pub mod View
+pub mod SolutionLaws
+pub mod Report

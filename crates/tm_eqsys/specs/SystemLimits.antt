@@ -1,0 +1,7 @@
+-- Which flows and templates make a system.
+use Rattle.std.specs.Prelude.{◌==◌, ◌&&◌, ◌*◌, ℕ, ℤ, Bool, List, length, nat_le}
+use Rattle.std.specs.List.{list_all}
+
+-- each row has one coefficient for each name, and there are at most 1,024 unknowns
+abbrev pub is_system : ℕ → ℕ → List (List ℤ) → Bool
+is_system names points template = list_all (λ row. length row == names) template && nat_le (points * length template) 1024

@@ -1,0 +1,21 @@
+//! The equation system of a program's edges and a template, and its least solution.
+//!
+//! `docs/DEFINITIONS.md` reads the definitions of `specs/` in order.
+#![tactic(auto)]
+
+mod bounds;
+mod footer;
+mod law;
+mod system;
+#[cfg(test)]
+mod tests;
+mod trace;
+
+pub use bounds::Bounds;
+pub use footer::Footer;
+pub use law::{
+    at_most_one_least, integer_states_are_rational, least_solutions_are_supported,
+    post_solutions_hold, traces_are_followed, unreached_at_all_rows, vectors_are_lists,
+};
+pub use system::System;
+pub use trace::{Fracs, Trace};

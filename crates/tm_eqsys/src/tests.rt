@@ -1,0 +1,71 @@
+use crate::{Bounds, Fracs, System, Trace};
+use std::test::Fail;
+use tm_flow::{Action, Actions, Edge, Edges, Flow, Place, Point, Points};
+use tm_frac::{Ext, Frac};
+use tm_rows::Template;
+use tm_tree::{Coeffs, Form, Name, Names};
+
+// int x = 0;
+#[test]
+fn a_system_of_one_edge(rt: HostRuntime) -> Result<(), Fail> {
+    let alloc = rt.alloc();
+    let mut names = Vec::new(alloc);
+    names.push(Name::new(b"x").ok_or("a word")?)?;
+    let mut points = Vec::new(alloc);
+    points.push(Point {
+        place: Place::Entry,
+        line: 0,
+    })?;
+    points.push(Point {
+        place: Place::Exit,
+        line: 0,
+    })?;
+    let mut actions = Vec::new(alloc);
+    actions.push(Action::Assign {
+        var: 0,
+        form: Form {
+            coeffs: Coeffs::new(vec![in alloc; 0]?),
+            constant: 0,
+        },
+    })?;
+    let mut edges = Vec::new(alloc);
+    edges.push(Edge {
+        from: 0,
+        to: 1,
+        actions: Actions::new(actions),
+    })?;
+    let flow = Flow {
+        names: Names::new(names),
+        points: Points::new(points),
+        edges: Edges::new(edges),
+    };
+    let mut rows = Vec::new(alloc);
+    rows.push(Coeffs::new(vec![in alloc; 1]?))?;
+    rows.push(Coeffs::new(vec![in alloc; -1]?))?;
+    let system = System {
+        flow,
+        template: Template::new(rows),
+    };
+    assert_eq!(rt; system.flow.edges.as_slice().len(), 1);
+    assert_eq!(rt; system.template.as_slice().len(), 2);
+    Ok(())
+}
+
+#[test]
+fn bounds_and_traces(rt: HostRuntime) -> Result<(), Fail> {
+    let alloc = rt.alloc();
+    let mut list = Vec::new(alloc);
+    list.push(Ext::PosInf)?;
+    list.push(Ext::Fin(Frac::make(26, 6).ok_or("13/3")?))?;
+    let bounds = Bounds::new(list);
+    assert_eq!(rt; bounds.as_slice()[1].text().bytes(), b"13/3".as_slice());
+    let mut start = Vec::new(alloc);
+    start.push(Frac::make(1, 2).ok_or("1/2")?)?;
+    let trace = Trace {
+        start: Fracs::new(start),
+        free: Fracs::new(Vec::new(alloc)),
+    };
+    assert_eq!(rt; trace.start.as_slice().len(), 1);
+    assert_eq!(rt; trace.free.as_slice().len(), 0);
+    Ok(())
+}

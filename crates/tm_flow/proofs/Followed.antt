@@ -1,0 +1,38 @@
+-- A plain program that finds points and edges by following labelled steps from the start. It sees a program as work alone, and stops after so many steps.
+use Rattle.std.specs.Prelude.{ℕ, zero, suc, ◌==◌, List, [], ◌∷◌, ◌++◌, map, flat_map, if◌then◌else◌}
+use Rattle.std.specs.List.{list_any}
+use Rattle.tm_tree.specs.Tree.{Statements}
+use Rattle.tm_tree.specs.Runs.{Item, node, mark, turn, start_work}
+use Rattle.tm_flow.specs.declared.edge.Action.{Action}
+use Rattle.tm_flow.specs.declared.edge.Edge.{Edge}
+use Rattle.tm_flow.specs.Steps.{steps_of}
+
+-- an arrival at a point: what was done, the point's number, and the work behind its mark
+pub record Arrival : Type 0 where
+  pub actions : List Action
+  pub to : ℕ
+  pub behind : List Item
+
+abbrev pub done_before : List Action → Arrival → Arrival
+done_before actions a = record a { actions = actions ++ a.actions }
+
+-- all arrivals at the next mark, within so many steps each
+abbrev pub arrivals : ℕ → List Item → List Arrival
+arrivals zero work = []
+arrivals (suc steps) [] = []
+arrivals (suc steps) (mark p ∷ rest) = record { actions = []; to = p; behind = rest } ∷ []
+arrivals (suc steps) (node s n ∷ rest) = flat_map (λ l. map (done_before l.actions) (arrivals steps (l.work ++ rest))) (steps_of (node s n))
+arrivals (suc steps) (turn c body line n ∷ rest) = flat_map (λ l. map (done_before l.actions) (arrivals steps (l.work ++ rest))) (steps_of (turn c body line n))
+
+-- the arrivals at points, each point explored once, as they are found
+abbrev pub explored : ℕ → List Arrival → List ℕ → List Edge
+explored zero found seen = []
+explored (suc steps) [] seen = []
+explored (suc steps) (a ∷ found) seen =
+    if list_any (λ p. p == a.to) seen then explored steps found seen else
+    (let next = arrivals steps a.behind in
+    map (λ b. record { from = a.to; to = b.to; actions = b.actions }) next ++ explored steps (found ++ next) (a.to ∷ seen))
+
+-- the edges that following finds
+abbrev pub followed_edges : ℕ → Statements → List Edge
+followed_edges steps body = explored steps (arrivals steps (start_work body)) []

@@ -1,0 +1,10 @@
+pub mod ElementLemmas
+pub mod Numbering
+pub mod StepLaw
+pub mod WaysLaw
+pub mod Walk
+pub mod Reach
+pub mod PathLaw
+pub mod Ranges
+pub mod Followed
+pub mod Examples

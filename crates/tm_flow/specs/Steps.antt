@@ -1,0 +1,45 @@
+-- Labelled steps: what may be done with an item of work whatever the state, and the actions that this records.
+use Rattle.std.specs.Prelude.{◌≡◌, Bool, true, false, ℤ, pos, ◌≤ℤ◌, List, [], ◌∷◌, ◌++◌, map, slice_set, if◌then◌else◌}
+use Rattle.tm_tree.specs.declared.form.Form.{Form}
+use Rattle.tm_tree.specs.Tree.{Condition, set, havoc, assume, branch, loop, label}
+use Rattle.tm_tree.specs.Cases.{cases_of}
+use Rattle.tm_tree.specs.Meaning.{State, value}
+use Rattle.tm_tree.specs.PointNumbers.{splits}
+use Rattle.tm_tree.specs.Runs.{Item, node, mark, turn, branch_work, turn_work}
+use Rattle.tm_flow.specs.declared.edge.Action.{Action}
+use Rattle.tm_flow.specs.declared.edge.Action.TheVariants.{Guard, Assign, Havoc}
+
+-- the actions recorded, and the work that takes the item's place
+pub record Labelled : Type 0 where
+  pub actions : List Action
+  pub work : List Item
+
+-- the labelled step of these
+abbrev pub labelled : List Action → List Item → Labelled
+labelled actions work = record { actions = actions; work = work }
+
+-- the guards of a case
+abbrev pub guards : List Form → List Action
+guards forms = map Guard forms
+
+-- a choice takes one case of the condition's truth, and records its guards
+abbrev pub choices : Bool → Condition → List Item → List Labelled
+choices truth c work = map (λ forms. labelled (guards forms) work) (cases_of truth c)
+
+-- the labelled steps with an item, in order; a mark is only dropped
+abbrev pub steps_of : Item → List Labelled
+steps_of (mark p) = []
+steps_of (node (set var form line) n) = labelled (Assign var form ∷ []) [] ∷ []
+steps_of (node (havoc var line) n) = labelled (Havoc var ∷ []) [] ∷ []
+steps_of (node (assume c line) n) = choices true c (if splits c then mark n ∷ [] else [])
+steps_of (node (branch c first second line) n) = choices true c (branch_work true first second n) ++ choices false c (branch_work false first second n)
+steps_of (node (loop c body line) n) = labelled [] (mark n ∷ (turn c body line n ∷ [])) ∷ []
+steps_of (node (label name line) n) = labelled [] (mark n ∷ []) ∷ []
+steps_of (turn c body line n) = choices true c (turn_work true c body line n) ++ choices false c (turn_work false c body line n)
+
+-- actions lead from one integer state to another: a guard is at most 0, an assignment sets one place to the form's value, a free one to any integer
+abbrev pub Acts : List Action → State → State → Type 0
+Acts [] x y = y ≡ x
+Acts (Guard form ∷ actions) x y = (value form x ≤ℤ pos 0) × Acts actions x y
+Acts (Assign var form ∷ actions) x y = Acts actions (slice_set x var (value form x)) y
+Acts (Havoc var ∷ actions) x y = (z : ℤ) × Acts actions (slice_set x var z) y

@@ -1,0 +1,6 @@
+use Rattle.std.proofs.Common.{pos, nat_abs, sym, ap, ◌∙◌, arith}
+use Rattle.tm_num.proofs.Quotients.{whole_ne_zero}
+use Rattle.tm_frac.proofs.frac.Exact+LongLimit.mid.Goals as goal
+
+pub over-requires : goal.over-requires
+over-requires c = λ e. whole_ne_zero (λ f. let h = ap nat_abs f in omega (arith, h)) (sym c.two.ensures ∙ e)

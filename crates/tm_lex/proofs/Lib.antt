@@ -1,0 +1,16 @@
+pub mod Runs
+pub mod Heads
+pub mod Longest
+pub mod Standing
+pub mod Digits
+pub mod Comments
+pub mod Signed
+pub mod SignsAt
+pub mod Readings
+pub mod Spellings
+pub mod Grades
+pub mod Openings
+pub mod Once
+pub mod Placed
+pub mod Exactly
+pub mod Total

@@ -1,0 +1,9 @@
+pub mod Bytes
+pub mod Words
+pub mod Signs
+pub mod Lexemes
+pub mod Reading
+pub mod Faults
+pub mod TokenLists
+pub mod Lines
+pub mod Steps

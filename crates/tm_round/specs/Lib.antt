@@ -1,0 +1,9 @@
+pub mod Picks
+pub mod RoundFacts
+pub mod PickCount
+pub mod Growth
+pub mod Round
+pub mod Solve
+pub mod Policy
+pub mod Rounds
+pub mod Laws

@@ -1,0 +1,10 @@
+pub mod Words
+pub mod Steps
+pub mod Certificates
+pub mod Shown
+pub mod Transformers
+pub mod Decide
+pub mod Faults
+pub mod Follow
+pub mod Picks
+pub mod Laws

@@ -1,0 +1,50 @@
+-- A text that is put piece by piece.
+use Rattle.std.proofs.Common.{◌≡◌, ◌≤◌, ◌+◌, ℕ, List, [], ◌++◌, Option, length, take, min, refl, sym, ap, ◌∙◌, subst, arith, append_assoc, append-nil, length-append}
+use Rattle.std.specs.Io.KnownBytes.{Appends}
+use Rattle.std.proofs.KnownBytes.{Appends-nil, Appends-trans}
+use Rattle.std.proofs.lemmas.List.{take-append-le, take_min}
+use Rattle.std.proofs.Math.Seq.{take-append-add}
+
+-- what stands before the rest of the text was appended, and the sink kept its promises over it
+pub record HasPut (held now : Option (List ℕ)) (faults faults_now spare spare_now : ℕ) (text rest : List ℕ) : Type 0 where
+  pub front : List ℕ
+  pub whole : text ≡ front ++ rest
+  pub appended : Appends held now front
+  pub calm : faults_now ≡ faults
+  pub spared : spare ≤ spare_now + length front
+
+pub nothing_put : (held : Option (List ℕ)) (faults spare : ℕ) (text : List ℕ) → HasPut held held faults faults spare spare text text
+nothing_put held faults spare text = record { front = []; whole = refl; appended = Appends-nil held; calm = refl; spared = omega arith }
+
+-- one more piece
+pub one_more : (held now next : Option (List ℕ)) (f f' f'' s s' s'' : ℕ) (text rest line others : List ℕ)
+    → HasPut held now f f' s s' text rest → rest ≡ line ++ others → Appends now next line → f'' ≡ f' → s' ≤ s'' + length line
+    → HasPut held next f f'' s s'' text others
+one_more held now next f f' f'' s s' s'' text rest line others h cut appended calm spared =
+    record {
+      front = h.front ++ line;
+      whole = h.whole ∙ ap (λ r. h.front ++ r) cut ∙ sym (append_assoc h.front line others);
+      appended = Appends-trans held now next h.front line h.appended appended;
+      calm = calm ∙ h.calm;
+      spared = let l = h.spared in omega (arith, length-append h.front line);
+    }
+
+-- all of the text
+pub all_put : (held now : Option (List ℕ)) (f f' s s' : ℕ) (text rest : List ℕ) → HasPut held now f f' s s' text rest → rest ≡ [] → Appends held now text
+all_put held now f f' s s' text rest h none =
+    subst (λ t. Appends held now t) (sym (h.whole ∙ ap (λ r. h.front ++ r) none ∙ append-nil h.front)) h.appended
+
+take_front : (n : ℕ) (front line others : List ℕ) → take (length front + min n (length line)) (front ++ (line ++ others)) ≡ front ++ take n line
+take_front n front line others =
+    take-append-add front (line ++ others) (min n (length line)) ∙ ap (λ t. front ++ t) (take-append-le (min n (length line)) line others (omega arith) ∙ take_min n line)
+
+-- a part of a piece is a part of the text
+pub part_put : (held now next : Option (List ℕ)) (f f' s s' : ℕ) (text rest line others : List ℕ) (n : ℕ)
+    → HasPut held now f f' s s' text rest → rest ≡ line ++ others → Appends now next (take n line)
+    → (m : ℕ) × Appends held next (take m text)
+part_put held now next f f' s s' text rest line others n h cut part = (
+  length h.front + min n (length line),
+  subst (λ t. Appends held next t)
+      (sym (ap (λ t. take (length h.front + min n (length line)) t) (h.whole ∙ ap (λ r. h.front ++ r) cut) ∙ take_front n h.front line others))
+      (Appends-trans held now next h.front (take n line) h.appended part),
+)

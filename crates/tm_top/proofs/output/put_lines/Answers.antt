@@ -1,0 +1,16 @@
+use Rattle.std.proofs.Common.{◌≡◌, ◌++◌, sym, ap₂, ◌∙◌}
+use Rattle.std.proofs.lemmas.List.{take-append-drop}
+use Rattle.tm_top.proofs.Pieces.{one_more, part_put}
+use Rattle.tm_top.proofs.output.put_lines.Goals as goal
+
+pub returns-in-Err-clause-appends : goal.returns-in-Err-clause-appends
+returns-in-Err-clause-appends g c =
+    let cut : c.loop-rest.rest.now ≡ c.split_at.result.0.now ++ c.split_at.result.1.now =
+    sym (ap₂ (λ a b. a ++ b) c.split_at.ensures.front c.split_at.ensures.back ∙ take-append-drop _ _) in
+    part_put _ _ _ _ _ _ _ _ _ _ _ _ c.loop-rest.invariant cut c.in-Err.ensures.appends.1
+
+pub loop-rest-preserved : goal.loop-rest-preserved
+loop-rest-preserved g c =
+    let cut : c.loop-rest.rest.now ≡ c.split_at.result.0.now ++ c.split_at.result.1.now =
+    sym (ap₂ (λ a b. a ++ b) c.split_at.ensures.front c.split_at.ensures.back ∙ take-append-drop _ _) in
+    one_more _ _ _ _ _ _ _ _ _ _ _ _ _ c.loop-rest.invariant cut c.in-Ok.ensures.appends c.in-Ok.ensures.cause c.in-Ok.ensures.spare

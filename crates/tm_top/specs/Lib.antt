@@ -1,0 +1,4 @@
+pub mod Status
+pub mod Request
+pub mod Report
+pub mod Run

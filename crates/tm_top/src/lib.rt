@@ -1,0 +1,18 @@
+//! All that the program does, over its words, its files and its streams.
+#![tactic(auto)]
+
+mod cursor;
+mod first_form;
+mod output;
+mod program;
+mod report;
+mod request;
+mod reserved;
+mod status;
+mod straight;
+
+pub use program::run;
+pub use status::{ReadCause, Status, TextCause, Which};
+
+#[cfg(test)]
+mod tests;

@@ -1,0 +1,2 @@
+pub mod CaseLaw
+pub mod Examples

@@ -1,0 +1,5 @@
+use Rattle.tm_tree.proofs.CaseLaw.{cases_law}
+use Rattle.tm_tree.proofs.law.cases_are_truth.Goals as goal
+
+pub returns : goal.returns
+returns c = cases_law

@@ -1,0 +1,21 @@
+-- A block is larger than the blocks inside it.
+use Rattle.std.specs.Prelude.{◌≤◌, List, [], ◌∷◌}
+use Rattle.std.proofs.Common.{arith}
+use denote.Param.Weighed.{most}
+use Rattle.tm_tree.specs.declared.stmt.Stmt.{Stmt}
+use Rattle.tm_tree.specs.declared.stmt.Stmt.TheVariants.{Set, Havoc, Assume, If, While, Label}
+use Rattle.tm_tree.specs.declared.stmt.Block.TheDeep.{deep-Stmt}
+use Rattle.tm_tree.specs.Tree.{node_count, nodes_in}
+use Rattle.tm_tree.specs.View.{statement_of, statements_of}
+
+deep_one : (s : Stmt) → deep-Stmt s ≤ node_count (statement_of s)
+deep_one (Set var form line) = omega arith
+deep_one (Havoc var line) = omega arith
+deep_one (Assume cond line) = omega arith
+deep_one (If cond first second line) = omega arith
+deep_one (While cond body line) = omega arith
+deep_one (Label name line) = omega arith
+
+pub deep_all : (ss : List Stmt) → most deep-Stmt ss ≤ nodes_in (statements_of ss)
+deep_all [] = omega arith
+deep_all (s ∷ ss) = omega (arith, deep_one s, deep_all ss)

@@ -1,0 +1,11 @@
+pub mod Numbers
+pub mod Tree
+pub mod Codes
+pub mod View
+pub mod Falls
+pub mod Word
+pub mod Limits
+pub mod Meaning
+pub mod Cases
+pub mod PointNumbers
+pub mod Runs

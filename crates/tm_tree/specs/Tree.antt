@@ -1,0 +1,49 @@
+-- Conditions and statements as plain trees: what a program's text reads as.
+use Rattle.std.specs.Prelude.{ℕ, ◌+◌, List}
+use Rattle.tm_tree.specs.declared.form.Form.{Form}
+use Rattle.tm_tree.specs.declared.cond.Rel.{Rel}
+
+-- a choice that is left open, a comparison of a form with 0, or made of conditions
+pub data Condition : Type 0 where
+  free : Condition
+  compare : Rel → Form → Condition
+  negation : Condition → Condition
+  both : Condition → Condition → Condition
+  either : Condition → Condition → Condition
+
+-- a statement with its line, and a list of statements
+mutual
+  pub data Statement : Type 0 where
+    set : (var : ℕ) (form : Form) (line : ℕ) → Statement
+    havoc : (var line : ℕ) → Statement
+    assume : (cond : Condition) (line : ℕ) → Statement
+    branch : (cond : Condition) (first second : Statements) (line : ℕ) → Statement
+    loop : (cond : Condition) (body : Statements) (line : ℕ) → Statement
+    label : (name : List ℕ) (line : ℕ) → Statement
+
+  pub data Statements : Type 0 where
+    nil : Statements
+    cons : Statement → Statements → Statements
+
+-- the number of leaves of a condition
+abbrev pub leaf_count : Condition → ℕ
+leaf_count free = 1
+leaf_count (compare rel form) = 1
+leaf_count (negation c) = leaf_count c
+leaf_count (both c d) = leaf_count c + leaf_count d
+leaf_count (either c d) = leaf_count c + leaf_count d
+
+abbrev mutual
+  -- the number of statements in a statement, itself included
+  pub node_count : Statement → ℕ
+  node_count (set var form line) = 1
+  node_count (havoc var line) = 1
+  node_count (assume cond line) = 1
+  node_count (branch cond first second line) = 1 + nodes_in first + nodes_in second
+  node_count (loop cond body line) = 1 + nodes_in body
+  node_count (label name line) = 1
+
+  -- the number of statements in a list, those inside others included
+  pub nodes_in : Statements → ℕ
+  nodes_in nil = 0
+  nodes_in (cons s rest) = node_count s + nodes_in rest

@@ -1,0 +1,33 @@
+-- The plain trees that the types of the code stand for.
+use Rattle.std.specs.Prelude.{List, [], ◌∷◌}
+use Rattle.tm_tree.specs.declared.cond.Cond.{Cond, fold-Cond}
+use Rattle.tm_tree.specs.declared.cond.Cond.TheOpen.{Cond-F}
+use Rattle.tm_tree.specs.declared.stmt.Stmt.{Stmt}
+use Rattle.tm_tree.specs.declared.stmt.Stmt.TheVariants.{Set, Havoc, Assume, If, While, Label}
+use Rattle.tm_tree.specs.Tree.{Condition, free, compare, negation, both, either, Statement, Statements, set, havoc, assume, branch, loop, label, nil, cons}
+
+-- one level of a condition
+abbrev pub condition_step : Cond-F Condition → Condition
+condition_step Cond-F.Free = free
+condition_step (Cond-F.Cmp rel form) = compare rel form
+condition_step (Cond-F.Not c) = negation c.value
+condition_step (Cond-F.Both c d) = both c.value d.value
+condition_step (Cond-F.Either c d) = either c.value d.value
+
+-- the tree of a condition
+abbrev pub condition_of : Cond → Condition
+condition_of = fold-Cond Condition condition_step
+
+-- the tree of a statement, whose blocks are trees already
+abbrev pub statement_of : Stmt → Statement
+statement_of (Set var form line) = set var form line
+statement_of (Havoc var line) = havoc var line
+statement_of (Assume cond line) = assume (condition_of cond) line
+statement_of (If cond first second line) = branch (condition_of cond) first second line
+statement_of (While cond body line) = loop (condition_of cond) body line
+statement_of (Label name line) = label name line
+
+-- the trees of a list of statements
+abbrev pub statements_of : List Stmt → Statements
+statements_of [] = nil
+statements_of (s ∷ ss) = cons (statement_of s) (statements_of ss)

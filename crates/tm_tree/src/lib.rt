@@ -1,0 +1,20 @@
+//! Programs as trees, and what they mean: the truth of conditions and the runs of statements.
+//!
+//! `docs/DEFINITIONS.md` reads the definitions of `specs/` in order.
+#![tactic(auto)]
+
+mod cond;
+mod form;
+mod law;
+mod name;
+mod program;
+mod stmt;
+#[cfg(test)]
+mod tests;
+
+pub use cond::{Cond, Rel, leaves};
+pub use form::{Coeffs, Form};
+pub use law::cases_are_truth;
+pub use name::{Name, Names};
+pub use program::{Program, statements};
+pub use stmt::{Block, Stmt};
