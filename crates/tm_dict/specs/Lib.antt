@@ -5,6 +5,7 @@ pub mod PivotOperations
 pub mod Exact
 pub mod Faults
 pub mod Cells
+pub mod DictTable
 pub mod Rows
 pub mod Build
 pub mod Sides

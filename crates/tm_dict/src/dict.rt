@@ -1,5 +1,6 @@
 //! Dictionaries that keep every entry.
-ghost use Rattle.std.specs.Prelude.{◌≡◌, ℕ, suc, ◌+◌, ◌*◌, ◌≤◌, ◌<◌, length};
+ghost use Rattle.std.specs.Prelude.{◌≡◌, ℕ, suc, ◌+◌, ◌*◌, ◌≤◌, ◌<◌, length, IfErr};
+ghost use Rattle.tm_dict.specs.Faults.{IsWide};
 
 use crate::build::{first_entries, goal_count, names_from, other_names};
 use crate::problem::Problem;
@@ -24,9 +25,15 @@ pub struct Dict<F> {
 }
 
 impl<F: OrderedField> Tableau<F> for Dict<F> {
-    ghost use Rattle.tm_dict.specs.Cells.{cells_table};
+    ghost use Rattle.std.specs.Prelude.{◌≢◌, true, false, None, OnOk};
+    ghost use Rattle.tm_num.specs.Rational.{zero_ℚ};
+    ghost use Rattle.tm_lp.specs.Table.{Agree, pivot_table};
+    ghost use Rattle.tm_dict.specs.Operation.{first_wide};
+    ghost use Rattle.tm_dict.specs.PivotOperations.{pivot_operations};
+    ghost use Rattle.tm_dict.specs.Faults.{Refuses};
+    ghost use Rattle.tm_dict.specs.DictTable.{dict_table};
 
-    ghost table = { λ d. cells_table F.meaning d.basics.items d.others.items d.goals d.entries.items };
+    ghost table = { dict_table F.meaning };
 
     ghost spent = { λ d. d.spent };
 
@@ -63,7 +70,18 @@ impl<F: OrderedField> Tableau<F> for Dict<F> {
         self.others[col as usize]
     }
 
-    fn pivot(&mut self, row: u32, col: u32) -> Result<(), PivotFault<F>> {
+    fn pivot(&mut self, row: u32, col: u32) -> Result<(), PivotFault<F>>
+        requires row { row < (dict_table F.meaning self.old).rows }
+        requires col { col < (dict_table F.meaning self.old).width }
+        requires entry { (dict_table F.meaning self.old).entry row col ≢ zero_ℚ }
+        requires fresh { self.old.spent ≡ false }
+        ensures exchanged { OnOk result (Agree (pivot_table (dict_table F.meaning self.old) row col) (dict_table F.meaning self.new)) }
+        ensures fits { OnOk result (first_wide F.LIMIT (pivot_operations (dict_table F.meaning self.old) row col) ≡ None) }
+        ensures refused { IfErr result (λ e. Refuses F.meaning F.LIMIT (pivot_operations (dict_table F.meaning self.old) row col) e) }
+        ensures fresh { OnOk result (self.new.spent ≡ false) }
+        ensures spoilt { IfErr result (λ e. self.new.spent ≡ true) }
+        ensures takes_no_memory { IfErr result IsWide }
+    {
         let rows = self.basics.len() + self.goals;
         let stride = self.others.len() + 1;
         match exchange(&mut self.entries, rows, row as usize, stride, col as usize) {
