@@ -133,8 +133,7 @@ first_one P r l =
 -- the entry of the special first pivot is 1
 pub first_pivot : (P : lp.Problem) (r : ℕ) (T : Table) → r < P.rows → Agree (first_table P) T → (r < T.rows) × (P.cols < T.width) × (T.entry r P.cols ≢ zero_ℚ)
 first_pivot P r T l a =
-    let z = first_sizes P in
-    (
+    let z = first_sizes P in (
       (let q = a.rows in omega (arith, l, q, z.0)),
       (let q = a.width in omega (arith, q, z.2)),
       λ e. one_ne_zero (sym (a.entry r P.cols (omega (arith, l, z.0)) (omega (arith, z.2)) ∙ first_one P r l) ∙ e),

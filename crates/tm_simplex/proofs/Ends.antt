@@ -74,8 +74,7 @@ pub best_end : (L : ℤ) (P : lp.Problem) (made : ℕ) (T₀ T : Table) (pivots 
     IsOutcomeOf m P (main_outcome P) o
 unfolding main_outcome
 best_end L P made T₀ T pivots b e m rows cols (Best point value ys) q c r =
-    subst (λ x. IsOutcomeOf m P (outcome_at P (phase_dict (names P) (main_phase P) (main_phase P).last) x) (Best point value ys)) (sym e.why.0)
-    (
+    subst (λ x. IsOutcomeOf m P (outcome_at P (phase_dict (names P) (main_phase P) (main_phase P).last) x) (Best point value ys)) (sym e.why.0) (
       point_end L P false made T₀ T AtBest pivots b e m rows cols point.items q c r.0,
       r.1 ∙ ap (λ i. T.entry i T.width) (q ∙ sym e.rows) ∙ value_end L P false made T₀ T AtBest pivots b e,
       multipliers_end L P false made T₀ T AtBest pivots b e m rows cols T.width ys.items q c refl r.2,
@@ -89,8 +88,7 @@ pub unbounded_end : (L : ℤ) (P : lp.Problem) (made : ℕ) (T₀ T : Table) (c 
 unfolding main_outcome
 unbounded_end L P made T₀ T c pivots b e m rows cols (Best point value ys) q w r = absurd r
 unbounded_end L P made T₀ T c pivots b e m rows cols (Unbounded point rise) q w r =
-    subst (λ x. IsOutcomeOf m P (outcome_at P (phase_dict (names P) (main_phase P) (main_phase P).last) x) (Unbounded point rise)) (sym e.why.1)
-    (
+    subst (λ x. IsOutcomeOf m P (outcome_at P (phase_dict (names P) (main_phase P) (main_phase P).last) x) (Unbounded point rise)) (sym e.why.1) (
       point_end L P false made T₀ T (AtRay c) pivots b e m rows cols point.items q w r.0,
       ray_end L P false made T₀ T (AtRay c) pivots b e m rows cols c rise.items q w e.why.0 r.1,
     )
@@ -143,8 +141,12 @@ module _ (L : ℤ) (P : lp.Problem) (r : ℕ) (e : lowest P ≡ found r) (r_in :
   first_operations = agree_pivots (first_table P) T a r P.cols r_in (omega arith)
 
   pub refused_first : {F : Type 0} (m : F → ℚ) (f : SolveFault F) → EntersRefused m L (pivot_operations T r P.cols) f → RefusesRun m L (run_operations P) f
-  refused_first m (Wide pivot wide) w = (1, w.0, ap (first_refused L) (run_found P r e) ∙ refused_sooner L (numbered 1 (pivot_operations (first_table P) r P.cols)) (whole_phase P (aux_phase P) ++ then_main P ((phase_dict (names P) (aux_phase P) (aux_phase P).last).basic 0))
-      (record { pivot = 1; operation = operation_of m wide }) (numbered_some L 1 (pivot_operations (first_table P) r P.cols) (operation_of m wide) (ap (first_wide L) (sym first_operations) ∙ w.1)))
+  refused_first m (Wide pivot wide) w = (
+    1,
+    w.0,
+    ap (first_refused L) (run_found P r e) ∙ refused_sooner L (numbered 1 (pivot_operations (first_table P) r P.cols)) (whole_phase P (aux_phase P) ++ then_main P ((phase_dict (names P) (aux_phase P) (aux_phase P).last).basic 0))
+        (record { pivot = 1; operation = operation_of m wide }) (numbered_some L 1 (pivot_operations (first_table P) r P.cols) (operation_of m wide) (ap (first_wide L) (sym first_operations) ∙ w.1)),
+  )
   refused_first m NoMemory w = tt
 
   module _ (fits : first_wide L (pivot_operations T r P.cols) ≡ None) where

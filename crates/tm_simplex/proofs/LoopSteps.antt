@@ -107,12 +107,11 @@ module _ (L : ℤ) (P : lp.Problem) (aux : Bool) (h : IsPhase (names P) (phase_o
   unfolding phase_operations
   refuses m number (Wide pivot wide) c r =
       let w = wide_in (names P) (phase_of P aux) h s.j T s.table s.goal s.goals L (operation_of m wide) r.1 in
-      let k : (phase_of P aux).made + s.j + 1 ≡ suc ((phase_of P aux).made + s.j) = omega arith in
-      (
+      let k : (phase_of P aux).made + s.j + 1 ≡ suc ((phase_of P aux).made + s.j) = omega arith in (
         suc ((phase_of P aux).made + s.j),
         r.0 ∙ c ∙ ap capped k,
         run_wide_at L s.j (phase_of P aux).last (pivot_of_phase (names P) (phase_of P aux)) (record { pivot = suc ((phase_of P aux).made + s.j); operation = operation_of m wide }) (goes_at w.0) s.fits
-        (numbered_some L (suc ((phase_of P aux).made + s.j)) (step_operations (phase_table (names P) (phase_of P aux) s.j) (choose (phase_of P aux).goal (names P) (phase_dict (names P) (phase_of P aux) s.j))) (operation_of m wide) w.1),
+            (numbered_some L (suc ((phase_of P aux).made + s.j)) (step_operations (phase_table (names P) (phase_of P aux) s.j) (choose (phase_of P aux).goal (names P) (phase_dict (names P) (phase_of P aux) s.j))) (operation_of m wide) w.1),
       )
   refuses m number NoMemory c r = tt
 

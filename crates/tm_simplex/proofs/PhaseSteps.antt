@@ -119,9 +119,11 @@ module _ (n : ℕ) (ph : Phase) (h : IsPhase n ph) (j : ℕ) (T : Table) (a : Ag
   wide_choice L c o e w (step d r) k =
       let q = enters_only ph.goal n (phase_dict n ph j) (T.col_name c) d (enters_in c e) k.0 in
       let c_in : c < (phase_table n ph j).width = omega (arith, e.0, a.width) in
-      let p : col_place (phase_table n ph j) d ≡ c = ap (col_place (phase_table n ph j)) (sym q) ∙ col_back c e.0 in
-      (refl, first_wide_sooner L (ratio_operations (phase_table n ph j) (col_place (phase_table n ph j) d)) (pivot_operations (phase_table n ph j) (row_place (phase_table n ph j) r) (col_place (phase_table n ph j) d)) o
-      (ap (λ x. first_wide L (ratio_operations (phase_table n ph j) x)) p ∙ ap (first_wide L) (sym (agree_ratios (phase_table n ph j) T a c c_in)) ∙ w))
+      let p : col_place (phase_table n ph j) d ≡ c = ap (col_place (phase_table n ph j)) (sym q) ∙ col_back c e.0 in (
+        refl,
+        first_wide_sooner L (ratio_operations (phase_table n ph j) (col_place (phase_table n ph j) d)) (pivot_operations (phase_table n ph j) (row_place (phase_table n ph j) r) (col_place (phase_table n ph j) d)) o
+            (ap (λ x. first_wide L (ratio_operations (phase_table n ph j) x)) p ∙ ap (first_wide L) (sym (agree_ratios (phase_table n ph j) T a c c_in)) ∙ w),
+      )
 
   -- a step that is refused
   pub wide_in : (L : ℤ) (o : Operation) → StepWide L T T.rows T.width o → (stops ph.goal n (phase_dict n ph j) ≡ false) × (first_wide L (step_operations (phase_table n ph j) (choose ph.goal n (phase_dict n ph j))) ≡ Some o)

@@ -6,9 +6,10 @@ mod outcome;
 mod phase;
 mod read;
 mod scan;
-
 mod step;
+#[cfg(test)]
+mod tests;
 
-pub use outcome::{Outcome, SolveFault};
 pub use method::solve;
+pub use outcome::{Outcome, SolveFault};
 pub use tm_dict::{Problem, Row, Tableau};

@@ -21,7 +21,11 @@ use tm_dict::{PivotFault, Problem, Tableau, lowest_side};
 use tm_frac::OrderedField;
 
 /// The special first pivot of the first phase: the auxiliary variable, in the last column, enters in the row of the least side.
-fn enter_auxiliary<F: OrderedField, T: Tableau<F>>(tableau: &mut T, row: u32, cols: u32) -> Result<(), SolveFault<F>>
+fn enter_auxiliary<F: OrderedField, T: Tableau<F>>(
+    tableau: &mut T,
+    row: u32,
+    cols: u32,
+) -> Result<(), SolveFault<F>>
     requires row { row < (T.table tableau.old).rows }
     requires col { cols < (T.table tableau.old).width }
     requires entry { (T.table tableau.old).entry row cols ≢ zero_ℚ }
@@ -39,7 +43,12 @@ fn enter_auxiliary<F: OrderedField, T: Tableau<F>>(tableau: &mut T, row: u32, co
 }
 
 /// The point, the value and the multipliers of the last dictionary.
-fn best<F: OrderedField, T: Tableau<F>>(alloc: Global, tableau: &T, rows: u32, cols: u32) -> Result<Outcome<F>, AllocError>
+fn best<F: OrderedField, T: Tableau<F>>(
+    alloc: Global,
+    tableau: &T,
+    rows: u32,
+    cols: u32,
+) -> Result<Outcome<F>, AllocError>
     requires rows { rows ≡ (T.table tableau.now).rows }
     requires cols { cols ≡ (T.table tableau.now).width }
     requires goals { 0 < (T.table tableau.now).goals }
@@ -58,7 +67,13 @@ fn best<F: OrderedField, T: Tableau<F>>(alloc: Global, tableau: &T, rows: u32, c
 }
 
 /// The point of the last dictionary and the direction of the entering column.
-fn unbounded<F: OrderedField, T: Tableau<F>>(alloc: Global, tableau: &T, rows: u32, cols: u32, col: u32) -> Result<Outcome<F>, AllocError>
+fn unbounded<F: OrderedField, T: Tableau<F>>(
+    alloc: Global,
+    tableau: &T,
+    rows: u32,
+    cols: u32,
+    col: u32,
+) -> Result<Outcome<F>, AllocError>
     requires rows { rows ≡ (T.table tableau.now).rows }
     requires cols { cols ≡ (T.table tableau.now).width }
     requires col { col < cols }
@@ -72,7 +87,12 @@ fn unbounded<F: OrderedField, T: Tableau<F>>(alloc: Global, tableau: &T, rows: u
 }
 
 /// The second phase after `made` pivots, and its outcome.
-fn second_phase<F: OrderedField, T: Tableau<F>>(alloc: Global, problem: &Problem<F>, tableau: &mut T, made: u32) -> Result<Outcome<F>, SolveFault<F>>
+fn second_phase<F: OrderedField, T: Tableau<F>>(
+    alloc: Global,
+    problem: &Problem<F>,
+    tableau: &mut T,
+    made: u32,
+) -> Result<Outcome<F>, SolveFault<F>>
     requires shaped { IsShaped problem.now }
     requires begins { BeginsPhase (exact F.meaning problem.now) false made (T.table tableau.old) }
     requires fresh { T.spent tableau.old ≡ false }
@@ -91,7 +111,12 @@ fn second_phase<F: OrderedField, T: Tableau<F>>(alloc: Global, problem: &Problem
 }
 
 /// The first phase, where the row of the least side has a side below 0, and then the second.
-fn both_phases<F: OrderedField, T: Tableau<F>>(alloc: Global, problem: &Problem<F>, tableau: &mut T, row: u32) -> Result<Outcome<F>, SolveFault<F>>
+fn both_phases<F: OrderedField, T: Tableau<F>>(
+    alloc: Global,
+    problem: &Problem<F>,
+    tableau: &mut T,
+    row: u32,
+) -> Result<Outcome<F>, SolveFault<F>>
     requires shaped { IsShaped problem.now }
     requires least { lowest (exact F.meaning problem.now) ≡ found row }
     requires table { Agree (first_table (exact F.meaning problem.now)) (T.table tableau.old) }
@@ -120,7 +145,10 @@ fn both_phases<F: OrderedField, T: Tableau<F>>(alloc: Global, problem: &Problem<
 /// `Best`, `Unbounded` and `Empty` come exactly as the supremum is attained, absent or over no point. Their numbers are those of
 /// the last dictionary of the exact run. `Wide` comes exactly where an operation of that run is wide, and names the first with
 /// the number of its pivot, at most 4294967295.
-pub fn solve<F: OrderedField, T: Tableau<F>>(alloc: Global, problem: &Problem<F>) -> Result<Outcome<F>, SolveFault<F>>
+pub fn solve<F: OrderedField, T: Tableau<F>>(
+    alloc: Global,
+    problem: &Problem<F>,
+) -> Result<Outcome<F>, SolveFault<F>>
     requires { IsShaped problem.now }
     ensures outcome { IfOk result (λ o. IsOutcomeOf F.meaning (exact F.meaning problem.now) (lp (exact F.meaning problem.now)) o) }
     ensures evidence { IfOk result (λ o. HasEvidence F.meaning (exact F.meaning problem.now) o) }

@@ -12,10 +12,15 @@ pub enum Outcome<F> {
         multipliers: Vec<F>,
     },
     /// There is no bound: a point, and a direction in which all are points and the value rises.
-    Unbounded { point: Vec<F>, ray: Vec<F> },
+    Unbounded {
+        point: Vec<F>,
+        ray: Vec<F>,
+    },
     /// There is no point: one multiplier a row, at least 0, with a combination of the rows that has no negative coefficient and
     /// a negative side.
-    Empty { multipliers: Vec<F> },
+    Empty {
+        multipliers: Vec<F>,
+    },
 }
 
 /// Why the method was refused: the first wide operation with the number of its pivot, counted from 1 and at most 4294967295, or

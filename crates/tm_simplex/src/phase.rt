@@ -27,7 +27,12 @@ pub struct Ended {
 
 /// Makes the pivots of a phase after `made` pivots, with the goal in the row behind the basic variables: the first phase where
 /// there is an auxiliary variable, else the second.
-pub fn run_phase<F: OrderedField, T: Tableau<F>>(problem: &Problem<F>, auxiliary: bool, tableau: &mut T, made: u32) -> Result<Ended, SolveFault<F>>
+pub fn run_phase<F: OrderedField, T: Tableau<F>>(
+    problem: &Problem<F>,
+    auxiliary: bool,
+    tableau: &mut T,
+    made: u32,
+) -> Result<Ended, SolveFault<F>>
     requires shaped { IsShaped problem.now }
     requires begins { BeginsPhase (exact F.meaning problem.now) auxiliary made (T.table tableau.old) }
     requires fresh { T.spent tableau.old ≡ false }

@@ -49,7 +49,14 @@ fn value_at<F: OrderedField, T: Tableau<F>>(tableau: &T, row: u32, col: u32, wid
 
 /// For each of the problem's columns the entry of its row at `col` where it is basic, or the constant where `col` is the width;
 /// else 0.
-pub fn basic_values<F: OrderedField, T: Tableau<F>>(alloc: Global, tableau: &T, rows: u32, cols: u32, col: u32, width: u32) -> Result<Vec<F>, AllocError>
+pub fn basic_values<F: OrderedField, T: Tableau<F>>(
+    alloc: Global,
+    tableau: &T,
+    rows: u32,
+    cols: u32,
+    col: u32,
+    width: u32,
+) -> Result<Vec<F>, AllocError>
     requires rows { rows ≡ (T.table tableau.now).rows }
     requires col { col ≤ width }
     requires width { width ≡ (T.table tableau.now).width }
@@ -59,13 +66,25 @@ pub fn basic_values<F: OrderedField, T: Tableau<F>>(alloc: Global, tableau: &T, 
 {
     let mut values = zeros(alloc, cols)?;
     for row in 0..rows {
-        put_at(&mut values, tableau.basic(row), 0, value_at(tableau, row, col, width));
+        put_at(
+            &mut values,
+            tableau.basic(row),
+            0,
+            value_at(tableau, row, col, width),
+        );
     }
     Ok(values)
 }
 
 /// The direction of the column `col` that enters: 1 for its own variable, its entry for each basic column, else 0.
-pub fn entering_values<F: OrderedField, T: Tableau<F>>(alloc: Global, tableau: &T, rows: u32, cols: u32, col: u32, width: u32) -> Result<Vec<F>, AllocError>
+pub fn entering_values<F: OrderedField, T: Tableau<F>>(
+    alloc: Global,
+    tableau: &T,
+    rows: u32,
+    cols: u32,
+    col: u32,
+    width: u32,
+) -> Result<Vec<F>, AllocError>
     requires rows { rows ≡ (T.table tableau.now).rows }
     requires col { col < width }
     requires width { width ≡ (T.table tableau.now).width }
@@ -79,7 +98,13 @@ pub fn entering_values<F: OrderedField, T: Tableau<F>>(alloc: Global, tableau: &
 }
 
 /// For each slack its negated coefficient in the goal behind the rows where it is not basic, else 0.
-pub fn goal_multipliers<F: OrderedField, T: Tableau<F>>(alloc: Global, tableau: &T, rows: u32, cols: u32, width: u32) -> Result<Vec<F>, AllocError>
+pub fn goal_multipliers<F: OrderedField, T: Tableau<F>>(
+    alloc: Global,
+    tableau: &T,
+    rows: u32,
+    cols: u32,
+    width: u32,
+) -> Result<Vec<F>, AllocError>
     requires rows { rows < (T.table tableau.now).rows + (T.table tableau.now).goals }
     requires width { width ≡ (T.table tableau.now).width }
     requires apart { (i j : ℕ) → i < width → j < width → (T.table tableau.now).col_name i ≡ (T.table tableau.now).col_name j → i ≡ j }
@@ -88,7 +113,12 @@ pub fn goal_multipliers<F: OrderedField, T: Tableau<F>>(alloc: Global, tableau: 
 {
     let mut values = zeros(alloc, rows)?;
     for col in 0..width {
-        put_at(&mut values, tableau.other(col), cols, tableau.entry(rows, col).negate());
+        put_at(
+            &mut values,
+            tableau.other(col),
+            cols,
+            tableau.entry(rows, col).negate(),
+        );
     }
     Ok(values)
 }

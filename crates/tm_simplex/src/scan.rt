@@ -16,7 +16,12 @@ pub struct Candidate<F> {
 }
 
 /// The column that enters after one more column is looked at.
-fn smaller_column<F: OrderedField, T: Tableau<F>>(tableau: &T, goal: u32, col: u32, best: Option<u32>) -> Option<u32>
+fn smaller_column<F: OrderedField, T: Tableau<F>>(
+    tableau: &T,
+    goal: u32,
+    col: u32,
+    best: Option<u32>,
+) -> Option<u32>
     requires goal { goal < (T.table tableau.now).rows + (T.table tableau.now).goals }
     requires col { col < (T.table tableau.now).width }
     requires fresh { T.spent tableau.now ≡ false }
@@ -35,7 +40,11 @@ fn smaller_column<F: OrderedField, T: Tableau<F>>(tableau: &T, goal: u32, col: u
 }
 
 /// The column of the smallest name with a positive coefficient in the row of a goal.
-pub fn entering_column<F: OrderedField, T: Tableau<F>>(tableau: &T, goal: u32, width: u32) -> Option<u32>
+pub fn entering_column<F: OrderedField, T: Tableau<F>>(
+    tableau: &T,
+    goal: u32,
+    width: u32,
+) -> Option<u32>
     requires goal { goal < (T.table tableau.now).rows + (T.table tableau.now).goals }
     requires width { width ≡ (T.table tableau.now).width }
     requires fresh { T.spent tableau.now ≡ false }
@@ -49,7 +58,11 @@ pub fn entering_column<F: OrderedField, T: Tableau<F>>(tableau: &T, goal: u32, w
 }
 
 /// The ratio of a row: its constant over its negated entry, if that entry is negative.
-fn ratio<F: OrderedField, T: Tableau<F>>(tableau: &T, row: u32, col: u32) -> Result<Option<F>, Wide<F>>
+fn ratio<F: OrderedField, T: Tableau<F>>(
+    tableau: &T,
+    row: u32,
+    col: u32,
+) -> Result<Option<F>, Wide<F>>
     requires row { row < (T.table tableau.now).rows }
     requires col { col < (T.table tableau.now).width }
     requires fresh { T.spent tableau.now ≡ false }
@@ -64,7 +77,12 @@ fn ratio<F: OrderedField, T: Tableau<F>>(tableau: &T, row: u32, col: u32) -> Res
 }
 
 /// Whether a row with this ratio leaves before the best so far.
-fn is_before<F: OrderedField, T: Tableau<F>>(tableau: &T, row: u32, ratio: F, best: Candidate<F>) -> bool
+fn is_before<F: OrderedField, T: Tableau<F>>(
+    tableau: &T,
+    row: u32,
+    ratio: F,
+    best: Candidate<F>,
+) -> bool
     requires row { row < (T.table tableau.now).rows }
     requires best { best.row < (T.table tableau.now).rows }
     requires fresh { T.spent tableau.now ≡ false }
@@ -78,7 +96,13 @@ fn is_before<F: OrderedField, T: Tableau<F>>(tableau: &T, row: u32, ratio: F, be
 }
 
 /// The candidate after a row with a negative entry and this ratio.
-fn better<F: OrderedField, T: Tableau<F>>(tableau: &T, row: u32, col: u32, quotient: F, best: Option<Candidate<F>>) -> Candidate<F>
+fn better<F: OrderedField, T: Tableau<F>>(
+    tableau: &T,
+    row: u32,
+    col: u32,
+    quotient: F,
+    best: Option<Candidate<F>>,
+) -> Candidate<F>
     requires row { row < (T.table tableau.now).rows }
     requires fresh { T.spent tableau.now ≡ false }
     requires ratio { RatioAt F.meaning (T.table tableau.now) col row (Some quotient) }
@@ -97,7 +121,12 @@ fn better<F: OrderedField, T: Tableau<F>>(tableau: &T, row: u32, col: u32, quoti
 }
 
 /// The candidate after one more row is looked at.
-fn next_candidate<F: OrderedField, T: Tableau<F>>(tableau: &T, row: u32, col: u32, best: Option<Candidate<F>>) -> Result<Option<Candidate<F>>, Wide<F>>
+fn next_candidate<F: OrderedField, T: Tableau<F>>(
+    tableau: &T,
+    row: u32,
+    col: u32,
+    best: Option<Candidate<F>>,
+) -> Result<Option<Candidate<F>>, Wide<F>>
     requires row { row < (T.table tableau.now).rows }
     requires col { col < (T.table tableau.now).width }
     requires fresh { T.spent tableau.now ≡ false }
@@ -112,7 +141,11 @@ fn next_candidate<F: OrderedField, T: Tableau<F>>(tableau: &T, row: u32, col: u3
 
 /// The row of the least ratio among those with a negative entry in the column, the smallest name on ties. The ratios are formed
 /// row by row from the first; `Wide` comes exactly where one of them is wide, and names the first.
-pub fn leaving_row<F: OrderedField, T: Tableau<F>>(tableau: &T, rows: u32, col: u32) -> Result<Option<u32>, Wide<F>>
+pub fn leaving_row<F: OrderedField, T: Tableau<F>>(
+    tableau: &T,
+    rows: u32,
+    col: u32,
+) -> Result<Option<u32>, Wide<F>>
     requires rows { rows ≡ (T.table tableau.now).rows }
     requires col { col < (T.table tableau.now).width }
     requires fresh { T.spent tableau.now ≡ false }

@@ -17,7 +17,12 @@ pub enum Step {
 
 /// A step of the rule with the goal in the row behind the basic variables' `rows`. A wide ratio or formula comes with the number
 /// of the pivot.
-pub fn make_step<F: OrderedField, T: Tableau<F>>(tableau: &mut T, rows: u32, width: u32, number: u32) -> Result<Step, SolveFault<F>>
+pub fn make_step<F: OrderedField, T: Tableau<F>>(
+    tableau: &mut T,
+    rows: u32,
+    width: u32,
+    number: u32,
+) -> Result<Step, SolveFault<F>>
     requires rows { rows ≡ (T.table tableau.old).rows }
     requires goals { 0 < (T.table tableau.old).goals }
     requires width { width ≡ (T.table tableau.old).width }
@@ -31,7 +36,10 @@ pub fn make_step<F: OrderedField, T: Tableau<F>>(tableau: &mut T, rows: u32, wid
     };
     let leaving = match leaving_row(tableau, rows, col) {
         Ok(leaving) => leaving,
-        Err(wide) => return Err(SolveFault::Wide { pivot: number, wide }),
+        Err(wide) => return Err(SolveFault::Wide {
+            pivot: number,
+            wide,
+        }),
     };
     let Some(row) = leaving else {
         return Ok(Step::Ray(col));
@@ -39,7 +47,10 @@ pub fn make_step<F: OrderedField, T: Tableau<F>>(tableau: &mut T, rows: u32, wid
     let name = tableau.basic(row);
     match tableau.pivot(row, col) {
         Ok(()) => Ok(Step::Pivot(name)),
-        Err(PivotFault::Wide(wide)) => Err(SolveFault::Wide { pivot: number, wide }),
+        Err(PivotFault::Wide(wide)) => Err(SolveFault::Wide {
+            pivot: number,
+            wide,
+        }),
         Err(PivotFault::NoMemory) => Err(SolveFault::NoMemory),
     }
 }

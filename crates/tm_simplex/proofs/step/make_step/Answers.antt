@@ -30,9 +30,11 @@ pub returns-in-Err-Wide-clause-refused : goal.returns-in-Err-Wide-clause-refused
 returns-in-Err-Wide-clause-refused g c =
     let T = g.T.Tableau.table c.args.tableau.now in
     let l = subst (LeavesOf T c.in-Some.col c.args.rows) c.in-Some-leaving.is c.in-Ok.ensures.0 in
-    let r = rw c.in-Err-Wide.field-0-is at c.in-Err-Wide.ensures.refused in
-    (refl, record {
-      col = c.in-Some.col;
-      enters = c.in-Some.ensures;
-      wide = inr (c.in-Some-leaving.row, l, first_wide_later g.F.OrderedField.LIMIT (ratio_operations T c.in-Some.col) (pivot_operations T c.in-Some-leaving.row c.in-Some.col) c.in-Ok.ensures.1 ∙ r);
-    })
+    let r = rw c.in-Err-Wide.field-0-is at c.in-Err-Wide.ensures.refused in (
+      refl,
+      record {
+        col = c.in-Some.col;
+        enters = c.in-Some.ensures;
+        wide = inr (c.in-Some-leaving.row, l, first_wide_later g.F.OrderedField.LIMIT (ratio_operations T c.in-Some.col) (pivot_operations T c.in-Some-leaving.row c.in-Some.col) c.in-Ok.ensures.1 ∙ r);
+      },
+    )
