@@ -2,7 +2,7 @@
 use std::alloc::AllocError;
 use tm_frac::Wide;
 
-/// The outcome of a problem, with its evidence (docs/DECISIONS.md has the rules by which it is read).
+/// The outcome of a problem, with its evidence (docs/FORMATS.md, "Linear programs", has the rules by which it is read).
 #[derive(Drop)]
 pub enum Outcome<F> {
     /// The supremum is attained: a point that reaches it, its value, and one multiplier a row, at least 0, that bound each value.
