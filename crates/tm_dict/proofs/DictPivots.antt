@@ -4,7 +4,7 @@ use Rattle.std.proofs.lemmas.List.{length-set, take_at, get_or_default}
 use Rattle.std.proofs.lemmas.Bool.{cases_eq, eq-eqb, ne_eqb, eqb-true}
 use Rattle.tm_num.specs.Rational.{ℚ, one_ℚ, neg_ℚ, ◌+ℚ◌, ◌*ℚ◌, ◌/ℚ◌}
 use Rattle.tm_lp.specs.Table.{Table, Agree, pivot_row_entry, pivot_other_entry, pivot_table}
-use Rattle.tm_dict.specs.Operation.{Operation, first_wide}
+use Rattle.tm_frac.specs.Operation.{Operation, first_wide}
 use Rattle.tm_dict.specs.Listed.{joined}
 use Rattle.tm_dict.specs.Formulas.{divided_row, combined_row, divided, combined}
 use Rattle.tm_dict.specs.PivotOperations.{other_row_operations, pivot_operations}

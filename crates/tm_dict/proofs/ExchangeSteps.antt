@@ -1,7 +1,7 @@
 -- The division of the pivot's row and then the other rows make the exchange.
 use Rattle.std.proofs.Common.{◌≡◌, ◌≢◌, ℕ, ◌+◌, ◌*◌, ◌<◌, Bool, true, false, cond, eqb, ℤ, List, [], ◌++◌, Option, Some, None, refl, ap, sym, ◌∙◌, subst, arith}
 use Rattle.tm_num.specs.Rational.{ℚ}
-use Rattle.tm_dict.specs.Operation.{Operation, first_wide}
+use Rattle.tm_frac.specs.Operation.{Operation, first_wide}
 use Rattle.tm_dict.specs.Listed.{joined}
 use Rattle.tm_dict.specs.Formulas.{divided_row, combined_row}
 use Rattle.tm_dict.specs.PivotOperations.{division_row_operations, combination_row_operations}

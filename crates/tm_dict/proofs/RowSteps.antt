@@ -3,7 +3,7 @@ use Rattle.std.proofs.Common.{◌≡◌, ◌≢◌, ℕ, suc, ◌+◌, ◌*◌, 
 use Rattle.tm_num.specs.Rational.{ℚ, zero_ℚ, ◌+ℚ◌, ◌*ℚ◌}
 use Rattle.tm_num.proofs.Laws.{zero-*ℚ, +ℚ_idr}
 use Rattle.tm_frac.specs.declared.wide.Wide.{Wide}
-use Rattle.tm_dict.specs.Operation.{Operation, first_wide, operation_of}
+use Rattle.tm_frac.specs.Operation.{Operation, first_wide, operation_of}
 use Rattle.tm_dict.specs.Listed.{joined}
 use Rattle.std.proofs.lemmas.Bool.{eqb-true, eqb-false}
 use Rattle.tm_frac.specs.declared.wide.Op.TheVariants.{Add, Mul}
@@ -40,8 +40,7 @@ module _ {F : Type 0} (m : F → ℚ) (L : ℤ) (old ys : List F) (start k c : �
   division_more e h w v =
       let a = row_from m old start in
       let xe : m x ≡ row_from m old start k = x_read (divided_row (row_from m old start) c) h in
-      let pe : m p ≡ row_from m old start c = p_read (divided_row (row_from m old start) c) h in
-      (
+      let pe : m p ≡ row_from m old start c = p_read (divided_row (row_from m old start) c) h in (
         sets_more m start k (divided_row (row_from m old start) c) old ys e h below (v.0 ∙ ap₂ (λ s t. divided s t (eqb k c)) xe pe),
         joined_fits_more L k (λ j. divided_operations (row_from m old start j) (row_from m old start c) (eqb j c)) w (ap₂ (λ s t. first_wide L (divided_operations s t (eqb k c))) (sym xe) (sym pe) ∙ v.1),
       )

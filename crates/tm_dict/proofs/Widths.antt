@@ -9,7 +9,7 @@ use Rattle.tm_num.proofs.Quotients.{zero_by_num}
 use Rattle.tm_frac.specs.Fits.{Fits}
 use Rattle.tm_frac.specs.declared.wide.Op.{Op}
 use Rattle.tm_frac.specs.declared.wide.Wide.{Wide}
-use Rattle.tm_dict.specs.Operation.{Operation, result_by, result_of, fits, is_wide, first_wide, operation_of, Answers}
+use Rattle.tm_frac.specs.Operation.{Operation, result_by, result_of, fits, is_wide, first_wide, operation_of, Answers}
 use Rattle.tm_dict.specs.Formulas.{is_zero, is_zero_num}
 
 both_true : (a b : Bool) → T a → T b → a && b ≡ true

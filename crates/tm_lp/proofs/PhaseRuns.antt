@@ -75,9 +75,10 @@ aux_runs P D T d h b =
       begins = b;
       goes_on = λ j l.
           let s = stops (aux_row P) (names P) (after (aux_row P) (names P) D j) in
-          let b = (after (aux_row P) (names P) D j).basic 0 in
-          (or_first (stops (aux_row P) (names P) (after (aux_row P) (names P) D j)) (not ((after (aux_row P) (names P) D j).basic 0)) (w.before j l),
-          not_false ((after (aux_row P) (names P) D j).basic 0) (or_second (stops (aux_row P) (names P) (after (aux_row P) (names P) D j)) (not ((after (aux_row P) (names P) D j).basic 0)) (w.before j l)));
+          let b = (after (aux_row P) (names P) D j).basic 0 in (
+            or_first (stops (aux_row P) (names P) (after (aux_row P) (names P) D j)) (not ((after (aux_row P) (names P) D j).basic 0)) (w.before j l),
+            not_false ((after (aux_row P) (names P) D j).basic 0) (or_second (stops (aux_row P) (names P) (after (aux_row P) (names P) D j)) (not ((after (aux_row P) (names P) D j).basic 0)) (w.before j l)),
+          );
       ends = ⊎_elim (λ a. inl a) (λ a. inr (not_true ((after (aux_row P) (names P) D k).basic 0) a))
           (or_cases (stops (aux_row P) (names P) (after (aux_row P) (names P) D k)) (not ((after (aux_row P) (names P) D k).basic 0)) w.over);
     }

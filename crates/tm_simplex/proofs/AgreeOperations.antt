@@ -3,7 +3,7 @@ use Rattle.std.proofs.Common.{◌≡◌, ℕ, suc, ◌+◌, ◌<◌, ◌≤◌, 
 use Rattle.tm_num.specs.Rational.{ℚ, zero_ℚ, neg_ℚ, lt_ℚ}
 use Rattle.tm_frac.specs.declared.wide.Op.TheVariants.{Div}
 use Rattle.tm_lp.specs.Table.{Table, Agree}
-use Rattle.tm_dict.specs.Operation.{Operation}
+use Rattle.tm_frac.specs.Operation.{Operation}
 use Rattle.tm_dict.specs.Listed.{joined}
 use Rattle.tm_dict.specs.Formulas.{divided, divided_row}
 use Rattle.tm_dict.specs.PivotOperations.{division_row_operations, combination_row_operations, other_row_operations, pivot_operations}

@@ -15,7 +15,7 @@ use Rattle.tm_lp.proofs.HasRows.{has_agree, has_phase}
 use Rattle.tm_lp.proofs.Agrees.{agree_trans, agree_pivot}
 use Rattle.tm_lp.proofs.Phases.{phase_shows, phase_good}
 use Rattle.tm_dict.specs.Exact.{start_from, start_table}
-use Rattle.tm_dict.specs.Operation.{Operation, first_wide, operation_of}
+use Rattle.tm_frac.specs.Operation.{Operation, first_wide, operation_of}
 use Rattle.tm_dict.specs.PivotOperations.{pivot_operations}
 use Rattle.tm_simplex.specs.declared.outcome.Outcome.{Outcome}
 use Rattle.tm_simplex.specs.declared.outcome.Outcome.TheVariants.{Best, Unbounded, Empty}

@@ -15,7 +15,7 @@ use Rattle.tm_lp.proofs.Steps.{enters_free, leaves_basic}
 use Rattle.tm_lp.proofs.Programs.{after-zero}
 use Rattle.tm_lp.proofs.Phases.{phase_good}
 use Rattle.tm_dict.specs.Build.{width_of}
-use Rattle.tm_dict.specs.Operation.{Operation, first_wide, operation_of}
+use Rattle.tm_frac.specs.Operation.{Operation, first_wide, operation_of}
 use Rattle.tm_simplex.specs.declared.phase.End.TheVariants.{AtBest, AtRay, Left}
 use Rattle.tm_simplex.specs.declared.outcome.SolveFault.{SolveFault}
 use Rattle.tm_simplex.specs.declared.outcome.SolveFault.TheVariants.{Wide, NoMemory}

@@ -18,7 +18,7 @@ use Rattle.tm_lp.proofs.FirstTables.{shows_agree}
 use Rattle.tm_lp.proofs.TableChoices.{choose_only, table_enters, table_optimal, table_leaves, table_ray}
 use Rattle.tm_lp.proofs.Agrees.{agree_trans, agree_pivot}
 use Rattle.tm_lp.proofs.Phases.{phase_shows, phase_good, phase_next, next-is}
-use Rattle.tm_dict.specs.Operation.{Operation, first_wide}
+use Rattle.tm_frac.specs.Operation.{Operation, first_wide}
 use Rattle.tm_dict.specs.PivotOperations.{pivot_operations}
 use Rattle.tm_dict.proofs.Widths.{first_wide_later, first_wide_sooner}
 use Rattle.tm_dict.proofs.Joins.{joined_fits_each}

@@ -11,7 +11,7 @@ use Rattle.tm_frac.specs.declared.wide.Op.TheVariants.{Div}
 use Rattle.tm_frac.specs.declared.wide.Wide.{Wide}
 use Rattle.tm_lp.specs.Table.{Table}
 use Rattle.tm_lp.proofs.Searches.{lt_yes, lt_no, lt_does}
-use Rattle.tm_dict.specs.Operation.{Operation, first_wide, operation_of, Answers}
+use Rattle.tm_frac.specs.Operation.{Operation, first_wide, operation_of, Answers}
 use Rattle.tm_dict.specs.Listed.{joined}
 use Rattle.tm_dict.proofs.Widths.{one_answer}
 use Rattle.tm_dict.proofs.Joins.{joined_wide_at}

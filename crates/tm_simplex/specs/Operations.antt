@@ -9,7 +9,7 @@ use Rattle.tm_lp.specs.Simplex.{names, lowest}
 use Rattle.tm_lp.specs.Table.{Table}
 use Rattle.tm_lp.specs.FirstTable.{first_table}
 use Rattle.tm_lp.specs.Run.{row_place, col_place, Phase, phase_dict, phase_table, aux_phase, main_phase}
-use Rattle.tm_dict.specs.Operation.{Operation, is_wide}
+use Rattle.tm_frac.specs.Operation.{Operation, is_wide}
 use Rattle.tm_dict.specs.Listed.{joined}
 use Rattle.tm_dict.specs.PivotOperations.{pivot_operations}
 

@@ -9,7 +9,7 @@ use Rattle.tm_lp.specs.Run.{main_phase, aux_phase}
 use Rattle.tm_lp.proofs.PhaseRuns.{lowest_is}
 use Rattle.tm_dict.specs.declared.problem.Row.{Row}
 use Rattle.tm_dict.specs.Exact.{exact}
-use Rattle.tm_dict.specs.Operation.{first_wide}
+use Rattle.tm_frac.specs.Operation.{first_wide}
 use Rattle.tm_dict.specs.PivotOperations.{pivot_operations}
 use Rattle.tm_simplex.specs.declared.outcome.Outcome.TheVariants.{Empty}
 use Rattle.tm_simplex.specs.declared.phase.End.TheVariants.{Left}
