@@ -41,7 +41,8 @@ phase_one_index_is P D d = by (first (is_over P D) (2 ^ names P)) (first_is (is_
     by none h = absurd (some_stop (aux_row P) (names P) D d (λ j l. (either_out (stops (aux_row P) (names P) (after (aux_row P) (names P) D j)) (not ((after (aux_row P) (names P) D j).basic 0)) (h j l)).0))
     by (found k) h = record { below = h.0; over = h.1; before = h.2 }
 
-after-zero : (g n : ℕ) (D : Dict) → after g n D 0 ≡ D
+-- before any step
+pub after-zero : (g n : ℕ) (D : Dict) → after g n D 0 ≡ D
 unfolding after
 after-zero g n D = refl
 

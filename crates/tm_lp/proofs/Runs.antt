@@ -63,28 +63,31 @@ pub phase_one_at : (P : Problem) (D : Dict) → IsGood (names P) D → (j : ℕ)
 unfolding phase_one last_of_one
 phase_one_at P D d j s b = ap (λ k. after_one P (after (aux_row P) (names P) D k) ((after (aux_row P) (names P) D k).basic 0)) (phase_one_index_only P D d j s b)
 
-least_same : (p : ℕ → Bool) (f : ℕ → ℚ) (n : ℕ) (s : Search) (r : ℕ) → LeastIs p f n s → IsLeast p f n r → s ≡ found r
+-- what the search finds is the least
+pub least_same : (p : ℕ → Bool) (f : ℕ → ℚ) (n : ℕ) (s : Search) (r : ℕ) → LeastIs p f n s → IsLeast p f n r → s ≡ found r
 least_same p f n none r h k = absurd (true≢false (sym k.wanted ∙ h r k.below))
 least_same p f n (found q) r h k = ap found (⊎_elim
     (λ l. absurd (not_le_of_lt (k.before q l h.wanted) (h.least r k.below k.wanted)))
     (λ l. ⊎_elim (λ m. absurd (not_le_of_lt (h.before r m k.wanted) (k.least q h.below h.wanted))) (λ m. omega (arith, l, m)) (cases_lt r q))
     (cases_lt q r))
 
-least_none : (p : ℕ → Bool) (f : ℕ → ℚ) (n : ℕ) (s : Search) → LeastIs p f n s → ((i : ℕ) → i < n → p i ≡ false) → s ≡ none
+-- the search finds none where none is wanted
+pub least_none : (p : ℕ → Bool) (f : ℕ → ℚ) (n : ℕ) (s : Search) → LeastIs p f n s → ((i : ℕ) → i < n → p i ≡ false) → s ≡ none
 least_none p f n none h k = refl
 least_none p f n (found q) h k = absurd (true≢false (sym h.wanted ∙ k q h.below))
+
+below_no : (x : ℚ) (b : Bool) → lt_ℚ x zero_ℚ ≡ b → zero_ℚ ≤ℚ x → b ≡ false
+below_no x true e i = absurd (not_le_of_lt (lt_yes x zero_ℚ e) i)
+below_no x false e i = refl
+
+-- the test for a number below 0 fails
+pub not_below : (x : ℚ) → zero_ℚ ≤ℚ x → lt_ℚ x zero_ℚ ≡ false
+not_below x i = below_no x (lt_ℚ x zero_ℚ) refl i
 
 -- no side below 0: phase 2 alone
 pub lp_plain : (P : Problem) → ((r : ℕ) → r < P.rows → zero_ℚ ≤ℚ P.side r) → lp P ≡ phase_two P (drop_zero (first_dict P))
 unfolding lp lowest
 lp_plain P h = ap (lp_from P) (least_none (λ r. lt_ℚ (P.side r) zero_ℚ) P.side P.rows (lowest P) (least_is (λ r. lt_ℚ (P.side r) zero_ℚ) P.side P.rows) (λ i l. not_below (P.side i) (h i l)))
-  where
-    by : (x : ℚ) (b : Bool) → lt_ℚ x zero_ℚ ≡ b → zero_ℚ ≤ℚ x → b ≡ false
-    by x true e i = absurd (not_le_of_lt (lt_yes x zero_ℚ e) i)
-    by x false e i = refl
-
-    not_below : (x : ℚ) → zero_ℚ ≤ℚ x → lt_ℚ x zero_ℚ ≡ false
-    not_below x i = by x (lt_ℚ x zero_ℚ) refl i
 
 -- the lowest row of the least side, below 0: phase 1
 pub lp_entered : (P : Problem) (r : ℕ) → r < P.rows → P.side r <ℚ zero_ℚ → ((i : ℕ) → i < P.rows → P.side r ≤ℚ P.side i) → ((i : ℕ) → i < r → P.side r <ℚ P.side i) → lp P ≡ phase_one P (entered P r)

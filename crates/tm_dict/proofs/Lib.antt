@@ -1,0 +1,15 @@
+pub mod Widths
+pub mod Entries
+pub mod Cells
+pub mod Joins
+pub mod RowSteps
+pub mod RowLoops
+pub mod Built
+pub mod Shifts
+pub mod LeastSides
+pub mod ExchangeSteps
+pub mod DictReads
+pub mod DictPivots
+pub mod DictLeaves
+pub mod DictBuilds
+pub mod DictStarts

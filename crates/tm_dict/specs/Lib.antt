@@ -1,0 +1,10 @@
+pub mod Listed
+pub mod Formulas
+pub mod PivotOperations
+pub mod Exact
+pub mod Faults
+pub mod Cells
+pub mod DictTable
+pub mod Rows
+pub mod Build
+pub mod Sides

@@ -1,0 +1,16 @@
+//! Linear problems over the values of a field.
+
+/// A row of a problem: its value is at most `side` where the sum of each coefficient times its column is.
+#[derive(Drop)]
+pub struct Row<F> {
+    pub coeffs: Vec<F>,
+    pub side: F,
+}
+
+/// Asks for the greatest value of `goal` over columns that are at least 0, with each row's value at most its side.
+/// Each row has one coefficient for each entry of the goal.
+#[derive(Drop)]
+pub struct Problem<F> {
+    pub rows: Vec<Row<F>>,
+    pub goal: Vec<F>,
+}

@@ -1,0 +1,5 @@
+pub mod Operations
+pub mod Choices
+pub mod Placed
+pub mod Outcomes
+pub mod Answers

@@ -1,0 +1,15 @@
+//! The simplex method with Bland's rule in two phases, over any tableau.
+#![tactic(auto)]
+
+mod method;
+mod outcome;
+mod phase;
+mod read;
+mod scan;
+mod step;
+#[cfg(test)]
+mod tests;
+
+pub use method::solve;
+pub use outcome::{Outcome, SolveFault};
+pub use tm_dict::{Problem, Row, Tableau};

@@ -1,0 +1,3 @@
+pub mod AnyName
+pub mod Numbers
+pub mod Parsed
