@@ -13,7 +13,7 @@ use Rattle.std.proofs.lemmas.List.Recursion.{is_count_by}
 use Rattle.tm_flow.specs.declared.edge.Action.{Action}
 use Rattle.tm_flow.specs.declared.edge.Action.TheVariants.{Guard, Assign, Havoc}
 use Rattle.tm_flow.specs.declared.edge.Edge.{Edge}
-use Rattle.tm_flow.specs.declared.flow.Flow.{Flow}
+use Rattle.tm_flow.specs.declared.graph.Flow.{Flow}
 use Rattle.tm_flow.specs.FlowLimits.{is_action, is_edge}
 use Rattle.tm_eqsys.specs.FreeValues.{free_count}
 use Rattle.tm_eqsys.specs.Cells.{is_havoc, guard_count, greatest, most}

@@ -3,7 +3,7 @@ use Rattle.std.proofs.Common.{◌≤◌, Bool, true, false, ◌&&◌, List, leng
 use Rattle.std.specs.Prelude.{IsTrue, nat_le, ℤ}
 use Rattle.std.specs.List.{list_all}
 use Rattle.std.proofs.lemmas.Bool.{leb-true}
-use Rattle.tm_flow.specs.declared.flow.Flow.{Flow}
+use Rattle.tm_flow.specs.declared.graph.Flow.{Flow}
 use Rattle.tm_flow.specs.FlowLimits.{begins_with_entry, has_line, is_edge}
 use Rattle.tm_rows.specs.Rows.{is_template}
 
