@@ -1,5 +1,5 @@
 -- The four formulas at single entries.
-use Rattle.std.proofs.Common.{◌≡◌, ◌≢◌, Bool, true, false, cond, ℤ, List, [], ◌∷◌, Option, Some, None, Result, MatchResult, refl, ap, ap₂, sym, ◌∙◌, subst, true≢false}
+use Rattle.std.proofs.Common.{◌≡◌, ◌≢◌, Bool, true, false, cond, ℤ, List, [], ◌∷◌, Some, None, Result, MatchResult, refl, ap, ap₂, sym, ◌∙◌, subst, true≢false}
 use Rattle.tm_num.specs.Rational.{ℚ, zero_ℚ, one_ℚ, inv_ℚ, neg_ℚ, ◌+ℚ◌, ◌*ℚ◌, ◌/ℚ◌}
 use Rattle.tm_num.proofs.Laws.{div_ℚ_is, zero-*ℚ, *ℚ-zero, neg_ℚ-zero, +ℚ_idr}
 use Rattle.tm_frac.specs.Fits.{Fits}

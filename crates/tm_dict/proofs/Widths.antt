@@ -1,10 +1,8 @@
 -- The test for a wide operation against what the operations of a field answer.
-use Rattle.std.proofs.Common.{◌≡◌, ◌≢◌, ◌↔◌, IsTrue, Bool, true, false, not, cond, T, ◌&&◌, ℤ, pos, negsuc, zero, suc, nat_abs, List, [], ◌∷◌, ◌++◌, Option, Some, None, Result, Ok, Err, MatchResult, refl, ap, sym, ◌∙◌, subst, true≢false, arith}
-use Rattle.std.specs.Prelude.{find}
+use Rattle.std.proofs.Common.{◌≡◌, ◌≢◌, Bool, true, false, not, cond, T, ◌&&◌, ℤ, pos, negsuc, zero, suc, nat_abs, List, [], ◌∷◌, ◌++◌, Some, None, Result, Ok, Err, MatchResult, refl, ap, sym, ◌∙◌, subst, true≢false}
 use lib.Signed.{le_z}
 use Rattle.std.proofs.lemmas.List.Folds.{find-append}
 use Rattle.tm_num.specs.Rational.{ℚ, zero_ℚ}
-use Rattle.tm_num.proofs.Parts.{num-zero}
 use Rattle.tm_num.proofs.Quotients.{zero_by_num}
 use Rattle.tm_frac.specs.Fits.{Fits}
 use Rattle.tm_frac.specs.declared.wide.Op.{Op}

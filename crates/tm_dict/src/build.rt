@@ -40,7 +40,11 @@ pub fn goal_count(auxiliary: bool) -> usize
 }
 
 /// Appends the row of a slack.
-fn push_slack<F: OrderedField>(entries: &mut Vec<F>, row: &Row<F>, auxiliary: bool) -> Result<(), AllocError>
+fn push_slack<F: OrderedField>(
+    entries: &mut Vec<F>,
+    row: &Row<F>,
+    auxiliary: bool,
+) -> Result<(), AllocError>
     ensures { OnOk result (map F.meaning entries.new.items ≡ map F.meaning entries.old.items ++ slack_entries auxiliary (map F.meaning row.now.coeffs.items) (F.meaning row.now.side)) }
 {
     for coeff in &row.coeffs {
@@ -54,7 +58,11 @@ fn push_slack<F: OrderedField>(entries: &mut Vec<F>, row: &Row<F>, auxiliary: bo
 }
 
 /// Appends the rows of the slacks.
-fn push_slacks<F: OrderedField>(entries: &mut Vec<F>, rows: &[Row<F>], auxiliary: bool) -> Result<(), AllocError>
+fn push_slacks<F: OrderedField>(
+    entries: &mut Vec<F>,
+    rows: &[Row<F>],
+    auxiliary: bool,
+) -> Result<(), AllocError>
     requires { entries.old.items ≡ [] }
     ensures { OnOk result (map F.meaning entries.new.items ≡ slacks_entries auxiliary (map (λ r. map F.meaning r.coeffs.items) rows.now) (map (λ r. F.meaning r.side) rows.now) (length rows.now)) }
 {
@@ -85,7 +93,11 @@ fn push_auxiliary<F: OrderedField>(entries: &mut Vec<F>, cols: usize) -> Result<
 }
 
 /// Appends the row of the problem's goal.
-fn push_goal<F: OrderedField>(entries: &mut Vec<F>, goal: &[F], auxiliary: bool) -> Result<(), AllocError>
+fn push_goal<F: OrderedField>(
+    entries: &mut Vec<F>,
+    goal: &[F],
+    auxiliary: bool,
+) -> Result<(), AllocError>
     ensures { OnOk result (map F.meaning entries.new.items ≡ map F.meaning entries.old.items ++ goal_entries auxiliary (map F.meaning goal.now)) }
 {
     entries.extend_from_slice(goal)?;
@@ -97,7 +109,11 @@ fn push_goal<F: OrderedField>(entries: &mut Vec<F>, goal: &[F], auxiliary: bool)
 }
 
 /// Appends the rows of the goals.
-fn push_goals<F: OrderedField>(entries: &mut Vec<F>, goal: &[F], auxiliary: bool) -> Result<(), AllocError>
+fn push_goals<F: OrderedField>(
+    entries: &mut Vec<F>,
+    goal: &[F],
+    auxiliary: bool,
+) -> Result<(), AllocError>
     ensures { OnOk result (map F.meaning entries.new.items ≡ map F.meaning entries.old.items ++ goals_entries auxiliary (map F.meaning goal.now)) }
 {
     if auxiliary {
@@ -107,7 +123,11 @@ fn push_goals<F: OrderedField>(entries: &mut Vec<F>, goal: &[F], auxiliary: bool
 }
 
 /// The entries of the first dictionary, row after row, with the auxiliary variable's column and goal where it has one.
-pub fn first_entries<F: OrderedField>(alloc: Global, problem: &Problem<F>, auxiliary: bool) -> Result<Vec<F>, AllocError>
+pub fn first_entries<F: OrderedField>(
+    alloc: Global,
+    problem: &Problem<F>,
+    auxiliary: bool,
+) -> Result<Vec<F>, AllocError>
     ensures { IfOk result (λ v. map F.meaning v.items ≡ slacks_entries auxiliary (map (λ r. map F.meaning r.coeffs.items) problem.now.rows.items) (map (λ r. F.meaning r.side) problem.now.rows.items) (length problem.now.rows.items) ++ goals_entries auxiliary (map F.meaning problem.now.goal.items)) }
 {
     let rows = problem.rows.len().saturating_add(2);

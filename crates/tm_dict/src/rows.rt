@@ -11,7 +11,12 @@ use crate::formulas::{divided_by, product_of, sum_of};
 use tm_frac::{OrderedField, Wide};
 
 /// Formulas 1 and 2 on the row of `stride` entries from `start` on, with the pivot at its place `col`.
-pub fn divide_row<F: OrderedField>(entries: &mut [F], start: usize, stride: usize, col: usize) -> Result<(), Wide<F>>
+pub fn divide_row<F: OrderedField>(
+    entries: &mut [F],
+    start: usize,
+    stride: usize,
+    col: usize,
+) -> Result<(), Wide<F>>
     requires within { start + stride ≤ length entries.old }
     requires col { col < stride }
     requires pivot { cell F.meaning entries.old (start + col) ≢ zero_ℚ }
@@ -28,7 +33,14 @@ pub fn divide_row<F: OrderedField>(entries: &mut [F], start: usize, stride: usiz
 }
 
 /// Formula 4 on the row of `stride` entries from `start` on, whose entry at `col` was `factor` and is done.
-fn add_row<F: OrderedField>(entries: &mut [F], factor: F, start: usize, above: usize, stride: usize, col: usize) -> Result<(), Wide<F>>
+fn add_row<F: OrderedField>(
+    entries: &mut [F],
+    factor: F,
+    start: usize,
+    above: usize,
+    stride: usize,
+    col: usize,
+) -> Result<(), Wide<F>>
     requires within { start + stride ≤ length entries.old }
     requires above_within { above + stride ≤ length entries.old }
     requires apart { (start + stride ≤ above) ⊎ (above + stride ≤ start) }
@@ -46,7 +58,13 @@ fn add_row<F: OrderedField>(entries: &mut [F], factor: F, start: usize, above: u
 
 /// Formulas 3 and 4 on the row of `stride` entries from `start` on, where the pivot's row after its division is the one from
 /// `above` on. A row with 0 in the pivot's column stays as it is.
-pub fn combine_row<F: OrderedField>(entries: &mut [F], start: usize, above: usize, stride: usize, col: usize) -> Result<(), Wide<F>>
+pub fn combine_row<F: OrderedField>(
+    entries: &mut [F],
+    start: usize,
+    above: usize,
+    stride: usize,
+    col: usize,
+) -> Result<(), Wide<F>>
     requires within { start + stride ≤ length entries.old }
     requires above_within { above + stride ≤ length entries.old }
     requires apart { (start + stride ≤ above) ⊎ (above + stride ≤ start) }
@@ -65,7 +83,13 @@ pub fn combine_row<F: OrderedField>(entries: &mut [F], start: usize, above: usiz
 }
 
 /// Formulas 3 and 4 on each of the `rows` rows but `row`, whose division is done.
-pub fn combine_rows<F: OrderedField>(entries: &mut [F], rows: usize, row: usize, stride: usize, col: usize) -> Result<(), Wide<F>>
+pub fn combine_rows<F: OrderedField>(
+    entries: &mut [F],
+    rows: usize,
+    row: usize,
+    stride: usize,
+    col: usize,
+) -> Result<(), Wide<F>>
     requires size { length entries.old ≡ rows * stride }
     requires row { row < rows }
     requires col { col < stride }
@@ -82,7 +106,13 @@ pub fn combine_rows<F: OrderedField>(entries: &mut [F], rows: usize, row: usize,
 }
 
 /// The four formulas on `rows` rows of `stride` entries, with the pivot at `row` and `col`.
-pub fn exchange<F: OrderedField>(entries: &mut [F], rows: usize, row: usize, stride: usize, col: usize) -> Result<(), Wide<F>>
+pub fn exchange<F: OrderedField>(
+    entries: &mut [F],
+    rows: usize,
+    row: usize,
+    stride: usize,
+    col: usize,
+) -> Result<(), Wide<F>>
     requires size { length entries.old ≡ rows * stride }
     requires row { row < rows }
     requires col { col < stride }

@@ -21,7 +21,13 @@ fn shift_row<F: OrderedField>(entries: &mut [F], from: usize, to: usize, stride:
 }
 
 /// Moves `rows` rows of `stride` entries forward, without their entries at `col` and without the row number `row`.
-pub fn shift_rows<F: OrderedField>(entries: &mut [F], rows: usize, row: usize, stride: usize, col: usize)
+pub fn shift_rows<F: OrderedField>(
+    entries: &mut [F],
+    rows: usize,
+    row: usize,
+    stride: usize,
+    col: usize,
+)
     requires size { length entries.old ≡ suc rows * stride }
     requires row { row ≤ rows }
     requires col { col < stride }

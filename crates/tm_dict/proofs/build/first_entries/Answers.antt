@@ -1,5 +1,4 @@
-use Rattle.std.proofs.Common.{◌≡◌, ◌++◌, length, map, ap, ap₂, sym, ◌∙◌}
-use Rattle.tm_num.specs.Rational.{ℚ}
+use Rattle.std.proofs.Common.{◌++◌, length, map, ap, ap₂, ◌∙◌}
 use Rattle.tm_dict.specs.declared.problem.Row.{Row}
 use Rattle.tm_dict.specs.Build.{goals_entries, slacks_entries}
 use Rattle.tm_dict.proofs.build.first_entries.Goals as goal

@@ -26,7 +26,7 @@ loop-i-preserved g c =
     let m = g.F.OrderedField.meaning in
     let L = g.F.OrderedField.LIMIT in
     elim c.if-i-row.branch [
-      then-i-row+in_ok-combine_row w ↦ rw w.entries-is record {
+      | then-i-row+in_ok-combine_row w ↦ rw w.entries-is record {
         rows = combines_more m L c.args.row c.args.stride c.args.col c.requires.col c.args.entries.now c.loop-i.i c.loop-i.entries c.loop-i.invariant.rows w.if-i-row.true w.combine_row.new.entries w.in_ok-combine_row.ensures.combined;
         fits = rows_more m L c.args.row c.args.stride c.args.col c.requires.col c.args.entries.now c.loop-i.i c.loop-i.entries c.loop-i.invariant.rows w.if-i-row.true c.loop-i.invariant.fits w.in_ok-combine_row.ensures.fits;
       }

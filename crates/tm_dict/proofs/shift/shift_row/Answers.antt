@@ -7,7 +7,7 @@ use Rattle.tm_dict.proofs.shift.shift_row.Goals.{then-k-col, else-k-col}
 pub loop-k-preserved : goal.loop-k-preserved
 loop-k-preserved g c =
     let e : c.if-k-col.place ≡ skip c.args.col c.loop-k.k = elim c.if-k-col.branch [
-      then-k-col w ↦ place_before c.args.col c.loop-k.k c.if-k-col.place w.if-k-col.true w.place-is
+      | then-k-col w ↦ place_before c.args.col c.loop-k.k c.if-k-col.place w.if-k-col.true w.place-is
       | else-k-col w ↦ place_behind c.args.col c.loop-k.k c.if-k-col.place w.if-k-col.false w.place-is
     ] in
     let most = skip_most c.args.col c.loop-k.k in

@@ -7,7 +7,7 @@ use Rattle.tm_dict.proofs.shift.shift_rows.Goals.{then-i-row, else-i-row}
 pub loop-i-preserved : goal.loop-i-preserved
 loop-i-preserved g c =
     let e : c.if-i-row.place ≡ skip c.args.row c.loop-i.i = elim c.if-i-row.branch [
-      then-i-row w ↦ place_before c.args.row c.loop-i.i c.if-i-row.place w.if-i-row.true w.place-is
+      | then-i-row w ↦ place_before c.args.row c.loop-i.i c.if-i-row.place w.if-i-row.true w.place-is
       | else-i-row w ↦ place_behind c.args.row c.loop-i.i c.if-i-row.place w.if-i-row.false w.place-is
     ] in
     let b : 0 < c.args.stride = omega arith in

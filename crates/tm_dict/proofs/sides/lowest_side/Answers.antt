@@ -1,6 +1,6 @@
-use Rattle.std.proofs.Common.{◌≡◌, ◌<◌, length, map, subst, sym, ◌∙◌, arith}
+use Rattle.std.proofs.Common.{◌≡◌, ◌<◌, length, subst, sym, arith}
 use Rattle.std.proofs.lemmas.List.{length-map}
-use Rattle.tm_num.specs.Rational.{ℚ, ◌≤ℚ◌, ◌<ℚ◌}
+use Rattle.tm_num.specs.Rational.{◌≤ℚ◌}
 use Rattle.tm_num.proofs.Compared.{test_lt, test_not_lt}
 use Rattle.tm_dict.specs.declared.problem.Row.{Row}
 use Rattle.tm_dict.specs.Exact.{exact}
@@ -19,12 +19,12 @@ loop-i-preserved g c =
     let l : c.loop-i.i < length p.rows.items = omega arith in
     let e : (exact m p).side c.loop-i.i ≡ m row.side = side_read m p c.loop-i.i row l c.index.ensures in
     elim c.if-lt.branch [
-      then-lt w ↦ rw (w.least-is, w.lowest-is)
-      (least_found f c.loop-i.i (m c.loop-i.least) (m row.side) c.loop-i.lowest c.loop-i.invariant e
-      (test_lt m g.met.F.OrderedField.ordered g.met.F.Ord.matches_partial_cmp row.side c.loop-i.least c.lt.result c.lt.ensures w.if-lt.true))
+      | then-lt w ↦ rw (w.least-is, w.lowest-is)
+          (least_found f c.loop-i.i (m c.loop-i.least) (m row.side) c.loop-i.lowest c.loop-i.invariant e
+          (test_lt m g.met.F.OrderedField.ordered g.met.F.Ord.matches_partial_cmp row.side c.loop-i.least c.lt.result c.lt.ensures w.if-lt.true))
       | else-lt w ↦ rw (w.least-is, w.lowest-is)
-      (least_kept f c.loop-i.i (m c.loop-i.least) c.loop-i.lowest c.loop-i.invariant
-      (subst (λ x. m c.loop-i.least ≤ℚ x) (sym e) (test_not_lt m g.met.F.OrderedField.ordered g.met.F.Ord.matches_partial_cmp row.side c.loop-i.least c.lt.result c.lt.ensures w.if-lt.false)))
+          (least_kept f c.loop-i.i (m c.loop-i.least) c.loop-i.lowest c.loop-i.invariant
+          (subst (λ x. m c.loop-i.least ≤ℚ x) (sym e) (test_not_lt m g.met.F.OrderedField.ordered g.met.F.Ord.matches_partial_cmp row.side c.loop-i.least c.lt.result c.lt.ensures w.if-lt.false)))
     ]
 
 pub returns : goal.returns

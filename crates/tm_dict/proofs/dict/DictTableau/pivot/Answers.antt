@@ -1,4 +1,4 @@
-use Rattle.std.proofs.Common.{◌≡◌, ◌+◌, ◌<◌, ◌++◌, suc, length, take, drop, sym, ap, ◌∙◌, subst, arith}
+use Rattle.std.proofs.Common.{◌≡◌, ◌+◌, suc, length, sym, ap, ◌∙◌, subst, arith}
 use Rattle.std.proofs.Common.{set}
 use Rattle.tm_lp.specs.Table.{Agree, pivot_table}
 use Rattle.tm_dict.specs.Operation.{first_wide}
