@@ -1,7 +1,8 @@
 -- Lists that grow at their end, in the loops that build the first dictionary.
-use Rattle.std.proofs.Common.{◌≡◌, ℕ, zero, suc, ◌+◌, ◌<◌, Bool, List, [], ◌∷◌, ◌++◌, length, map, take, get_or, refl, ap, ap₂, sym, ◌∙◌, subst, append_assoc, add-one}
+use Rattle.std.proofs.Common.{◌≡◌, ℕ, zero, suc, ◌+◌, ◌<◌, Bool, List, [], ◌∷◌, ◌++◌, length, map, take, get_or, refl, ap, ap₂, sym, ◌∙◌, subst, arith, append_assoc, add-one, length-append}
 use Rattle.std.proofs.lemmas.List.{map_push, map_more, get_or-map, length-map}
 use Rattle.tm_num.specs.Rational.{ℚ, zero_ℚ, neg_ℚ}
+use Rattle.tm_dict.specs.Listed.{joined}
 use Rattle.tm_dict.specs.Build.{zeros, slack_entries, slacks_entries}
 use Rattle.tm_dict.proofs.Joins.{joined-suc, joined-zero}
 

@@ -1,10 +1,10 @@
 -- The table of the first dictionary.
-use Rattle.std.proofs.Common.{◌≡◌, ℕ, zero, suc, ◌+◌, ◌*◌, ◌<◌, ⊎_elim, true, false, cond, eqb, ltb, List, [], ◌∷◌, ◌++◌, length, map, get_or, refl, ap, ap₂, sym, ◌∙◌, arith, lt-ltb, le-ltb, length-append}
+use Rattle.std.proofs.Common.{◌≡◌, ◌≢◌, ℕ, zero, suc, ◌+◌, ◌-◌, ◌*◌, ◌<◌, ◌≤◌, ⊎_elim, Bool, true, false, cond, eqb, ltb, List, [], ◌∷◌, ◌++◌, length, map, get_or, refl, ap, ap₂, sym, ◌∙◌, subst, arith, lt-ltb, le-ltb, length-append}
 use Rattle.std.proofs.lemmas.List.{length-map, get_or-map, get_or_append_left, get_or-append-add}
 use Rattle.std.proofs.lemmas.Bool.{cases_lt, cases_eq, eq-eqb, ne_eqb}
 use Rattle.tm_num.specs.Rational.{ℚ, zero_ℚ, one_ℚ, neg_ℚ}
 use Rattle.tm_dict.specs.Listed.{joined}
-use Rattle.tm_dict.specs.Build.{zeros, slack_entries, auxiliary_entries, goal_entries}
+use Rattle.tm_dict.specs.Build.{auxiliary_entry, zeros, slack_entries, auxiliary_entries, goal_entries, goals_entries, slacks_entries}
 use Rattle.tm_dict.proofs.RowLoops.{row_end}
 
 -- an entry behind the first part of a list

@@ -1,12 +1,14 @@
 -- The table of a dictionary after a pivot.
-use Rattle.std.proofs.Common.{◌≡◌, ℕ, suc, ◌+◌, ◌*◌, ◌<◌, ◌≤◌, ⊎_elim, Bool, true, false, cond, eqb, ltb, List, ◌++◌, length, get_or, set, take, drop, refl, ap, ap₂, sym, ◌∙◌, subst, arith, get_or-set_same, get_or-set_other, lt-ltb}
+use Rattle.std.proofs.Common.{◌≡◌, ◌≢◌, ℕ, suc, ◌+◌, ◌*◌, ◌<◌, ◌≤◌, ⊎_elim, Bool, true, false, cond, eqb, ltb, ℤ, List, [], ◌++◌, length, get_or, set, take, drop, Option, Some, None, refl, ap, ap₂, sym, ◌∙◌, subst, arith, get_or-set_same, get_or-set_other, lt-ltb, le-ltb}
 use Rattle.std.proofs.lemmas.List.{length-set, take_at, get_or_default}
 use Rattle.std.proofs.lemmas.Bool.{cases_eq, eq-eqb, ne_eqb, eqb-true}
 use Rattle.tm_num.specs.Rational.{ℚ, one_ℚ, neg_ℚ, ◌+ℚ◌, ◌*ℚ◌, ◌/ℚ◌}
 use Rattle.tm_lp.specs.Table.{Table, Agree, pivot_row_entry, pivot_other_entry, pivot_table}
+use Rattle.tm_frac.specs.Operation.{Operation, first_wide}
+use Rattle.tm_dict.specs.Listed.{joined}
 use Rattle.tm_dict.specs.Formulas.{divided_row, combined_row, divided, combined}
-use Rattle.tm_dict.specs.PivotOperations.{pivot_operations}
-use Rattle.tm_dict.specs.Cells.{row_from, goal_name, cells_table}
+use Rattle.tm_dict.specs.PivotOperations.{other_row_operations, pivot_operations}
+use Rattle.tm_dict.specs.Cells.{cell, row_from, goal_name, cells_table}
 use Rattle.tm_dict.specs.Rows.{Exchanges, exchange_operations}
 
 -- a number that is read, at the default 0

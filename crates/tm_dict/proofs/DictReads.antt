@@ -1,8 +1,8 @@
 -- Reads of entries by row and column, and the entries of a dictionary's table.
-use Rattle.std.proofs.Common.{◌≡◌, ℕ, suc, ◌+◌, ◌*◌, ◌<◌, ◌≤◌, List, length, get_or, ap, sym, ◌∙◌, subst}
+use Rattle.std.proofs.Common.{◌≡◌, ℕ, suc, ◌+◌, ◌*◌, ◌<◌, ◌≤◌, List, length, get_or, take, drop, ◌++◌, ap, sym, ◌∙◌, subst, arith}
 use Rattle.tm_num.specs.Rational.{ℚ}
 use Rattle.tm_lp.proofs.FlatTables.{place_in}
-use Rattle.tm_dict.specs.Cells.{row_from}
+use Rattle.tm_dict.specs.Cells.{cell, row_from}
 use Rattle.tm_dict.proofs.Cells.{cell_read}
 
 -- the entry at a row and a column, where a row has s entries

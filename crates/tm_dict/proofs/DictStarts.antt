@@ -1,19 +1,20 @@
 -- The lists of the first dictionary make its table.
-use Rattle.std.proofs.Common.{◌≡◌, ℕ, zero, suc, ◌+◌, ◌*◌, ◌<◌, ◌≤◌, ⊎_elim, Bool, true, false, cond, eqb, ltb, List, [], ◌∷◌, ◌++◌, length, map, get_or, Option, Some, None, refl, ap, ap₂, sym, ◌∙◌, subst, arith, lt-ltb, le-ltb, length-append, true≢false}
+use Rattle.std.proofs.Common.{◌≡◌, ◌≢◌, ℕ, zero, suc, ◌+◌, ◌-◌, ◌*◌, ◌<◌, ◌≤◌, ⊎_elim, Bool, true, false, cond, eqb, ltb, List, [], ◌∷◌, ◌++◌, length, map, get_or, Option, Some, None, refl, ap, ap₂, sym, ◌∙◌, subst, arith, lt-ltb, le-ltb, length-append, true≢false}
 use Rattle.std.specs.Prelude.{is_some, All}
 use Rattle.std.proofs.lemmas.List.{length-map, get_or_append_left}
 use Rattle.std.proofs.lemmas.List.Elements.{All-head, All-tail}
 use Rattle.std.proofs.lemmas.Bool.{cases_lt, cases_eq, eq-eqb, ne_eqb}
-use Rattle.tm_num.specs.Rational.{ℚ, zero_ℚ, neg_ℚ}
+use Rattle.tm_num.specs.Rational.{ℚ, zero_ℚ, one_ℚ, neg_ℚ}
 use Rattle.tm_lp.specs.Problem as lp
 use Rattle.tm_lp.specs.Listed.{list_problem}
 use Rattle.tm_lp.specs.Simplex.{lowest, slack_name, aux_row, main_row}
-use Rattle.tm_lp.specs.Table.{Agree}
+use Rattle.tm_lp.specs.Table.{Table, Agree}
 use Rattle.tm_lp.specs.FirstTable.{first_entry, first_table, plain_table}
 use Rattle.tm_lp.proofs.FirstTables.{entry_slack, entry_aux, entry_main}
 use Rattle.tm_dict.specs.declared.problem.Row.{Row}
+use Rattle.tm_dict.specs.Listed.{joined}
 use Rattle.tm_dict.specs.Build.{goals_of, width_of, other_name, slack_entries, auxiliary_entries, goal_entries, goals_entries, slacks_entries}
-use Rattle.tm_dict.specs.Cells.{row_from, goal_name, cells_table}
+use Rattle.tm_dict.specs.Cells.{cell, row_from, goal_name, cells_table}
 use Rattle.tm_dict.specs.Exact.{search_of, start_from, start_table}
 use Rattle.tm_dict.proofs.RowLoops.{row_end}
 use Rattle.tm_dict.proofs.DictBuilds.{get_behind, joined_length, get_joined, slack_long, slack_entry_long, slack_short, slack_entry_short, goal_long, goal_entry_long, goal_short, goal_entry_short, auxiliary_length, auxiliary_get}

@@ -1,11 +1,11 @@
 -- The four formulas at single entries.
-use Rattle.std.proofs.Common.{◌≡◌, ◌≢◌, Bool, true, false, cond, ℤ, List, [], ◌∷◌, Some, None, Result, MatchResult, refl, ap, ap₂, sym, ◌∙◌, subst, true≢false}
+use Rattle.std.proofs.Common.{◌≡◌, ◌≢◌, Bool, true, false, cond, ℤ, List, [], ◌∷◌, Option, Some, None, Result, MatchResult, refl, ap, ap₂, sym, ◌∙◌, subst, true≢false}
 use Rattle.tm_num.specs.Rational.{ℚ, zero_ℚ, one_ℚ, inv_ℚ, neg_ℚ, ◌+ℚ◌, ◌*ℚ◌, ◌/ℚ◌}
 use Rattle.tm_num.proofs.Laws.{div_ℚ_is, zero-*ℚ, *ℚ-zero, neg_ℚ-zero, +ℚ_idr}
 use Rattle.tm_frac.specs.Fits.{Fits}
 use Rattle.tm_frac.specs.declared.wide.Op.TheVariants.{Add, Mul, Div}
 use Rattle.tm_frac.specs.declared.wide.Wide.{Wide}
-use Rattle.tm_dict.specs.Operation.{Operation, first_wide, operation_of, Answers}
+use Rattle.tm_frac.specs.Operation.{Operation, first_wide, operation_of, Answers}
 use Rattle.tm_dict.specs.Formulas.{is_zero, divided, division, divided_operations, unless_zero, product_operations, added, added_operations}
 use Rattle.tm_dict.proofs.Widths.{first_wide_past, first_wide_here, is_zero_yes, is_zero_no, one_answer}
 

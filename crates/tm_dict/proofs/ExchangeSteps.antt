@@ -1,11 +1,11 @@
 -- The division of the pivot's row and then the other rows make the exchange.
-use Rattle.std.proofs.Common.{◌≡◌, ◌≢◌, ℕ, ◌+◌, ◌*◌, ◌<◌, Bool, true, false, cond, eqb, ℤ, List, [], ◌++◌, Some, None, refl, ap, sym, ◌∙◌}
+use Rattle.std.proofs.Common.{◌≡◌, ◌≢◌, ℕ, ◌+◌, ◌*◌, ◌<◌, Bool, true, false, cond, eqb, ℤ, List, [], ◌++◌, Option, Some, None, refl, ap, sym, ◌∙◌, subst, arith}
 use Rattle.tm_num.specs.Rational.{ℚ}
-use Rattle.tm_dict.specs.Operation.{Operation, first_wide}
+use Rattle.tm_frac.specs.Operation.{Operation, first_wide}
 use Rattle.tm_dict.specs.Listed.{joined}
-use Rattle.tm_dict.specs.Formulas.{divided_row}
+use Rattle.tm_dict.specs.Formulas.{divided_row, combined_row}
 use Rattle.tm_dict.specs.PivotOperations.{division_row_operations, combination_row_operations}
-use Rattle.tm_dict.specs.Cells.{row_from}
+use Rattle.tm_dict.specs.Cells.{cell, row_from}
 use Rattle.tm_dict.specs.Rows.{SetsRow, CombinesRows, Exchanges, rows_operations, exchange_operations}
 use Rattle.tm_dict.proofs.Widths.{first_wide_later, first_wide_sooner}
 use Rattle.std.proofs.lemmas.Bool.{eqb-false}

@@ -1,10 +1,11 @@
 -- The least side so far, one row further, and at the end.
-use Rattle.std.proofs.Common.{◌≡◌, ℕ, ◌+◌, ◌<◌, ⊎_elim, Option, Some, None, length, get_or, ap, sym, ◌∙◌, subst, arith}
+use Rattle.std.proofs.Common.{◌≡◌, ℕ, zero, suc, ◌+◌, ◌<◌, ◌≤◌, ⊎_elim, Bool, true, false, Option, Some, None, List, [], length, map, get_or, refl, ap, sym, ◌∙◌, subst, subst₂, arith, true≢false}
 use Rattle.std.proofs.lemmas.Bool.{cases_lt}
-use Rattle.std.proofs.lemmas.List.{get_or-map}
+use Rattle.std.proofs.lemmas.List.{get_or-map, length-map}
 use Rattle.tm_num.specs.Rational.{ℚ, zero_ℚ, lt_ℚ, ◌≤ℚ◌, ◌<ℚ◌}
 use Rattle.tm_num.proofs.Laws.{≤ℚ_refl, ≤ℚ_trans, le_of_lt_ℚ, lt_of_lt_of_le_ℚ, <ℚ_trans}
 use Rattle.tm_lp.specs.Problem as lp
+use Rattle.tm_lp.specs.Search.{none, found, least}
 use Rattle.tm_lp.specs.Simplex.{lowest}
 use Rattle.tm_lp.proofs.Searches.{lt_does, least_is}
 use Rattle.tm_lp.proofs.Runs.{least_none, least_same, not_below}

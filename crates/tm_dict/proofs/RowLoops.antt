@@ -1,9 +1,9 @@
 -- One more row in the loop over the rows.
-use Rattle.std.proofs.Common.{◌≡◌, ◌≢◌, ℕ, suc, ◌+◌, ◌*◌, ◌<◌, ◌≤◌, ◌⊎◌, inl, inr, ⊎_elim, cond, eqb, ℤ, List, [], Some, None, refl, ap, sym, ◌∙◌, subst, arith}
+use Rattle.std.proofs.Common.{◌≡◌, ◌≢◌, ℕ, suc, ◌+◌, ◌*◌, ◌<◌, ◌≤◌, ◌⊎◌, inl, inr, ⊎_elim, Bool, true, false, cond, eqb, ℤ, List, [], Option, Some, None, refl, ap, sym, ◌∙◌, subst, arith}
 use native.Mathlib.Nat.{mul-le-mul_right}
 use Rattle.std.proofs.lemmas.Bool.{cases_lt, eq-eqb, ne_eqb}
 use Rattle.tm_num.specs.Rational.{ℚ}
-use Rattle.tm_dict.specs.Operation.{Operation, first_wide}
+use Rattle.tm_frac.specs.Operation.{Operation, first_wide}
 use Rattle.tm_dict.specs.Formulas.{combined_row}
 use Rattle.tm_dict.specs.PivotOperations.{combination_row_operations}
 use Rattle.tm_dict.specs.Cells.{cell, row_from}

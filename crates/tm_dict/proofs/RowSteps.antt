@@ -1,14 +1,15 @@
 -- One more entry in the loops over a row.
-use Rattle.std.proofs.Common.{◌≡◌, ◌≢◌, ℕ, ◌+◌, ◌<◌, ◌≤◌, ◌⊎◌, inl, inr, ⊎_elim, Bool, true, false, cond, eqb, ℤ, List, [], ◌∷◌, ◌++◌, length, get_or, set, Some, None, refl, ap, ap₂, sym, ◌∙◌, arith}
+use Rattle.std.proofs.Common.{◌≡◌, ◌≢◌, ℕ, suc, ◌+◌, ◌*◌, ◌<◌, ◌≤◌, ◌⊎◌, inl, inr, ⊎_elim, Bool, true, false, cond, eqb, ℤ, List, [], ◌∷◌, ◌++◌, length, get_or, set, Option, Some, None, Result, refl, ap, ap₂, sym, ◌∙◌, subst, subst₂, arith}
 use Rattle.tm_num.specs.Rational.{ℚ, zero_ℚ, ◌+ℚ◌, ◌*ℚ◌}
 use Rattle.tm_num.proofs.Laws.{zero-*ℚ, +ℚ_idr}
-use Rattle.tm_dict.specs.Operation.{Operation, first_wide}
+use Rattle.tm_frac.specs.declared.wide.Wide.{Wide}
+use Rattle.tm_frac.specs.Operation.{Operation, first_wide, operation_of}
 use Rattle.tm_dict.specs.Listed.{joined}
 use Rattle.std.proofs.lemmas.Bool.{eqb-true, eqb-false}
 use Rattle.tm_frac.specs.declared.wide.Op.TheVariants.{Add, Mul}
 use Rattle.tm_dict.specs.Formulas.{is_zero, unless_zero, divided, divided_operations, combined, product_operations, added, added_operations, divided_row, combined_row, added_row}
 use Rattle.tm_dict.specs.PivotOperations.{division_row_operations, added_row_operations, combination_row_operations}
-use Rattle.tm_dict.specs.Cells.{row_from}
+use Rattle.tm_dict.specs.Cells.{cell, row_from}
 use Rattle.tm_dict.specs.Rows.{SetsRow}
 use Rattle.tm_dict.proofs.Widths.{is_zero_yes, first_wide_sooner, first_wide_later}
 use Rattle.tm_dict.proofs.Cells.{cell_read, cell_written, cell_kept, sets_more}

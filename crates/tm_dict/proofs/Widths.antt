@@ -1,13 +1,15 @@
 -- The test for a wide operation against what the operations of a field answer.
-use Rattle.std.proofs.Common.{◌≡◌, ◌≢◌, Bool, true, false, not, cond, T, ◌&&◌, ℤ, pos, negsuc, zero, suc, nat_abs, List, [], ◌∷◌, ◌++◌, Some, None, Result, Ok, Err, MatchResult, refl, ap, sym, ◌∙◌, subst, true≢false}
+use Rattle.std.proofs.Common.{◌≡◌, ◌≢◌, ◌↔◌, IsTrue, Bool, true, false, not, cond, T, ◌&&◌, ℤ, pos, negsuc, zero, suc, nat_abs, List, [], ◌∷◌, ◌++◌, Option, Some, None, Result, Ok, Err, MatchResult, refl, ap, sym, ◌∙◌, subst, true≢false, arith}
+use Rattle.std.specs.Prelude.{find}
 use lib.Signed.{le_z}
 use Rattle.std.proofs.lemmas.List.Folds.{find-append}
 use Rattle.tm_num.specs.Rational.{ℚ, zero_ℚ}
+use Rattle.tm_num.proofs.Parts.{num-zero}
 use Rattle.tm_num.proofs.Quotients.{zero_by_num}
 use Rattle.tm_frac.specs.Fits.{Fits}
 use Rattle.tm_frac.specs.declared.wide.Op.{Op}
 use Rattle.tm_frac.specs.declared.wide.Wide.{Wide}
-use Rattle.tm_dict.specs.Operation.{Operation, result_by, result_of, fits, is_wide, first_wide, operation_of, Answers}
+use Rattle.tm_frac.specs.Operation.{Operation, result_by, result_of, fits, is_wide, first_wide, operation_of, Answers}
 use Rattle.tm_dict.specs.Formulas.{is_zero, is_zero_num}
 
 both_true : (a b : Bool) → T a → T b → a && b ≡ true

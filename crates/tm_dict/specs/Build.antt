@@ -1,5 +1,5 @@
 -- The entries of the first dictionary as lists, row after row.
-use Rattle.std.specs.Prelude.{ℕ, zero, suc, Bool, true, false, cond, ltb, List, [], ◌∷◌, ◌++◌, length, map, get_or}
+use Rattle.std.specs.Prelude.{ℕ, zero, suc, ◌+◌, Bool, true, false, cond, ltb, eqb, List, [], ◌∷◌, ◌++◌, length, map, get_or}
 use Rattle.tm_num.specs.Rational.{ℚ, zero_ℚ, one_ℚ, neg_ℚ}
 use Rattle.tm_dict.specs.Listed.{joined}
 

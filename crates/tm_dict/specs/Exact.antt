@@ -1,12 +1,13 @@
 -- A problem of the code as a linear program over exact numbers, and the first dictionary's table.
 use Rattle.std.specs.Prelude.{◌≡◌, ℕ, ◌+◌, ◌<◌, length, map, All, Option, Some, None}
-use Rattle.tm_num.specs.Rational.{ℚ}
+use Rattle.tm_num.specs.Rational.{ℚ, zero_ℚ}
 use Rattle.tm_lp.specs.Problem as lp
 use Rattle.tm_lp.specs.Listed.{list_problem}
 use Rattle.tm_lp.specs.Search.{Search, none, found}
 use Rattle.tm_lp.specs.Simplex.{lowest}
-use Rattle.tm_lp.specs.Table.{Table}
+use Rattle.tm_lp.specs.Table.{Table, drop_table}
 use Rattle.tm_lp.specs.FirstTable.{first_table, plain_table}
+use Rattle.tm_dict.specs.declared.problem.Row.{Row}
 use Rattle.tm_dict.specs.declared.problem.Problem.{Problem}
 
 -- the linear program, where m gives the number that a value stands for

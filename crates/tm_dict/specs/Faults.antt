@@ -3,7 +3,7 @@ use Rattle.std.specs.Prelude.{◌≡◌, ℤ, List, Some}
 use Rattle.tm_num.specs.Rational.{ℚ}
 use Rattle.tm_dict.specs.declared.tableau.PivotFault.{PivotFault}
 use Rattle.tm_dict.specs.declared.tableau.PivotFault.TheVariants.{Wide, NoMemory}
-use Rattle.tm_dict.specs.Operation.{Operation, first_wide, operation_of}
+use Rattle.tm_frac.specs.Operation.{Operation, first_wide, operation_of}
 
 -- the fault carries the first of the operations that is wide, if it is not want of memory
 abbrev pub Refuses : {F : Type 0} → (F → ℚ) → ℤ → List Operation → PivotFault F → Type 0

@@ -3,7 +3,7 @@
 use Rattle.std.specs.Prelude.{ℕ, zero, suc, ℤ, pos, negsuc, Bool, true, false, cond, eqb, List, [], ◌∷◌}
 use Rattle.tm_num.specs.Rational.{ℚ, one_ℚ, neg_ℚ, ◌+ℚ◌, ◌*ℚ◌, ◌/ℚ◌}
 use Rattle.tm_frac.specs.declared.wide.Op.TheVariants.{Add, Mul, Div}
-use Rattle.tm_dict.specs.Operation.{Operation}
+use Rattle.tm_frac.specs.Operation.{Operation}
 
 -- the numerator is 0
 abbrev pub is_zero_num : ℤ → Bool

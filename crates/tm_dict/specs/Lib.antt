@@ -1,4 +1,3 @@
-pub mod Operation
 pub mod Listed
 pub mod Formulas
 pub mod PivotOperations

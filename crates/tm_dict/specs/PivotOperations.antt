@@ -3,7 +3,7 @@
 use Rattle.std.specs.Prelude.{ℕ, suc, ◌+◌, cond, eqb, List, [], ◌++◌}
 use Rattle.tm_num.specs.Rational.{ℚ}
 use Rattle.tm_lp.specs.Table.{Table}
-use Rattle.tm_dict.specs.Operation.{Operation}
+use Rattle.tm_frac.specs.Operation.{Operation}
 use Rattle.tm_dict.specs.Listed.{joined}
 use Rattle.tm_dict.specs.Formulas.{divided_row, divided_operations, product_operations, added_operations}
 

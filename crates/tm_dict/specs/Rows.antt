@@ -2,7 +2,7 @@
 use Rattle.std.specs.Prelude.{◌≡◌, ℕ, ◌+◌, ◌-◌, ◌*◌, ◌<◌, ◌≤◌, ◌≢◌, ◌⊎◌, List, [], ◌++◌, cond, eqb}
 use Rattle.tm_num.specs.Rational.{ℚ}
 use Rattle.tm_lp.specs.Table.{skip}
-use Rattle.tm_dict.specs.Operation.{Operation}
+use Rattle.tm_frac.specs.Operation.{Operation}
 use Rattle.tm_dict.specs.Listed.{joined}
 use Rattle.tm_dict.specs.Formulas.{divided_row, combined_row}
 use Rattle.tm_dict.specs.PivotOperations.{division_row_operations, combination_row_operations}

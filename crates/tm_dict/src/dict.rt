@@ -28,7 +28,7 @@ impl<F: OrderedField> Tableau<F> for Dict<F> {
     ghost use Rattle.std.specs.Prelude.{◌≢◌, true, false, None, OnOk};
     ghost use Rattle.tm_num.specs.Rational.{zero_ℚ};
     ghost use Rattle.tm_lp.specs.Table.{Agree, pivot_table};
-    ghost use Rattle.tm_dict.specs.Operation.{first_wide};
+    ghost use Rattle.tm_frac.specs.Operation.{first_wide};
     ghost use Rattle.tm_dict.specs.PivotOperations.{pivot_operations};
     ghost use Rattle.tm_dict.specs.Faults.{Refuses};
     ghost use Rattle.tm_dict.specs.DictTable.{dict_table};

@@ -1,7 +1,7 @@
 //! The four formulas at single entries.
 ghost use Rattle.std.specs.Prelude.{◌≢◌};
 ghost use Rattle.tm_num.specs.Rational.{zero_ℚ, ◌*ℚ◌};
-ghost use Rattle.tm_dict.specs.Operation.{Answers};
+ghost use Rattle.tm_frac.specs.Operation.{Answers};
 ghost use Rattle.tm_dict.specs.Formulas.{divided, divided_operations, product_operations, added, added_operations};
 
 use tm_frac::{OrderedField, Wide};

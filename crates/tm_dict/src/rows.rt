@@ -1,7 +1,7 @@
 //! A pivot on the entries of a dictionary that stand in one list, row after row.
 ghost use Rattle.std.specs.Prelude.{◌≡◌, ◌≢◌, ◌+◌, ◌*◌, ◌<◌, ◌≤◌, ◌⊎◌, length, None, Some, OnOk, IfErr};
 ghost use Rattle.tm_num.specs.Rational.{zero_ℚ};
-ghost use Rattle.tm_dict.specs.Operation.{first_wide, operation_of};
+ghost use Rattle.tm_frac.specs.Operation.{first_wide, operation_of};
 ghost use Rattle.tm_dict.specs.Formulas.{divided_row, combined_row, added_row};
 ghost use Rattle.tm_dict.specs.PivotOperations.{division_row_operations, added_row_operations, combination_row_operations};
 ghost use Rattle.tm_dict.specs.Cells.{cell, row_from};

@@ -21,7 +21,7 @@ pub trait Tableau<F: OrderedField>: Sized + Drop {
     ghost use Rattle.tm_lp.specs.Table.{Table, Agree, pivot_table};
     ghost use Rattle.tm_lp.specs.Run.{leave_table};
     ghost use Rattle.tm_dict.specs.Exact.{exact, IsShaped, start_table};
-    ghost use Rattle.tm_dict.specs.Operation.{first_wide};
+    ghost use Rattle.tm_frac.specs.Operation.{first_wide};
     ghost use Rattle.tm_dict.specs.PivotOperations.{pivot_operations};
     ghost use Rattle.tm_dict.specs.Faults.{Refuses};
 

@@ -7,3 +7,11 @@ pub mod FitsProgram
 pub mod Examples
 pub mod Counting
 pub mod BoundTexts
+pub mod Sizes
+pub mod Started
+pub mod Widths
+pub mod Summed
+pub mod Tested
+pub mod Traced
+pub mod CellCounts
+pub mod CellSums

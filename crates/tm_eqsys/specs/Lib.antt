@@ -4,6 +4,11 @@ pub mod States
 pub mod FreeValues
 pub mod Equations
 pub mod Solutions
+pub mod Starts
 pub mod View
+pub mod Cells
+pub mod Sums
+pub mod FitTests
+pub mod TraceTests
 pub mod SolutionLaws
 pub mod Report

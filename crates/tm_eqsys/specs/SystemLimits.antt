@@ -2,6 +2,10 @@
 use Rattle.std.specs.Prelude.{◌==◌, ◌&&◌, ◌*◌, ℕ, ℤ, Bool, List, length, nat_le}
 use Rattle.std.specs.List.{list_all}
 
+-- each row has one coefficient for each of n names
+abbrev pub is_over : ℕ → List (List ℤ) → Bool
+is_over n template = list_all (λ row. length row == n) template
+
 -- each row has one coefficient for each name, and there are at most 1,024 unknowns
 abbrev pub is_system : ℕ → ℕ → List (List ℤ) → Bool
-is_system names points template = list_all (λ row. length row == names) template && nat_le (points * length template) 1024
+is_system names points template = is_over names template && nat_le (points * length template) 1024

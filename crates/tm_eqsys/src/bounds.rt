@@ -1,8 +1,13 @@
 //! Vectors of bounds.
 
-ghost use Rattle.std.specs.Prelude.{◌≡◌, map};
+ghost use Rattle.std.specs.Prelude.{◌≡◌, ◌<◌, ℕ, IfOk, length, map, get_or, slice_set};
+ghost use Rattle.tm_num.specs.Extended.{neg_inf};
 ghost use Rattle.tm_frac.specs.Extended.{extended};
+ghost use Rattle.tm_eqsys.specs.Starts.{start_bounds, start_vector};
+ghost use Rattle.tm_eqsys.specs.View.{vector_of};
 
+use crate::system::System;
+use std::alloc::{AllocError, Global};
 use std::marker::Model;
 use tm_frac::Ext;
 
@@ -39,5 +44,33 @@ impl Bounds {
         ensures { map extended result.now ≡ self.now }
     {
         self.list.as_slice()
+    }
+
+    /// The bounds from which an analysis starts: `+inf` at the entry and `-inf` at every other point.
+    pub fn start(alloc: Global, system: &System) -> Result<Bounds, AllocError>
+        ensures list { IfOk result (λ b. b ≡ start_bounds (length system.now.flow.points) (length system.now.template)) }
+        ensures vector { IfOk result (λ b. (p r : ℕ) → p < length system.now.flow.points → r < length system.now.template → vector_of (length system.now.template) b p r ≡ start_vector p r) }
+    {
+        let rows = system.template.as_slice().len();
+        let points = system.flow.points.as_slice().len();
+        let mut list = vec![in alloc; Ext::PosInf; rows]?;
+        list.resize(points * rows, Ext::NegInf)?;
+        Ok(Bounds { list })
+    }
+
+    /// The bound of the unknown of this number.
+    pub fn at(&self, unknown: u32) -> Ext
+        requires { unknown < length self.now }
+        ensures { extended result ≡ get_or self.now unknown neg_inf }
+    {
+        self.list[unknown as usize]
+    }
+
+    /// Gives the unknown of this number a bound; all others keep theirs.
+    pub fn set(&mut self, unknown: u32, value: Ext)
+        requires { unknown < length self.old }
+        ensures { self.new ≡ slice_set self.old unknown (extended value) }
+    {
+        self.list[unknown as usize] = value;
     }
 }

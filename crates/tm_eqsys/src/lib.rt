@@ -4,18 +4,28 @@
 #![tactic(auto)]
 
 mod bounds;
+mod cells;
+mod fit;
+mod follow;
 mod footer;
 mod law;
+mod pick;
+mod spot;
+mod sums;
 mod system;
 #[cfg(test)]
 mod tests;
 mod trace;
 
 pub use bounds::Bounds;
+pub use fit::fits;
+pub use follow::trace_value;
 pub use footer::Footer;
 pub use law::{
     at_most_one_least, integer_states_are_rational, least_solutions_are_supported,
     post_solutions_hold, traces_are_followed, unreached_at_all_rows, vectors_are_lists,
 };
-pub use system::System;
+pub use pick::Pick;
+pub use spot::{Part, PartFault, Site, Spot};
+pub use system::{System, SystemFault};
 pub use trace::{Fracs, Trace};

@@ -1,7 +1,7 @@
 //! Systems.
 
-ghost use Rattle.std.specs.Prelude.{IsTrue, length};
-ghost use Rattle.tm_eqsys.specs.SystemLimits.{is_system};
+ghost use Rattle.std.specs.Prelude.{◌≡◌, ◌↔◌, ◌*◌, ◌<◌, IsTrue, IsErr, IfOk, IfErr, length};
+ghost use Rattle.tm_eqsys.specs.SystemLimits.{is_over, is_system};
 
 use tm_flow::Flow;
 use tm_rows::Template;
@@ -13,4 +13,34 @@ pub struct System {
     pub flow: Flow,
     pub template: Template,
     pub ghost within_limits: { IsTrue (is_system (length flow.names) (length flow.points) template) },
+}
+
+/// Why a flow and a template make no system.
+#[derive(Clone, Copy, Debug, PartialEq, Eq, Drop)]
+pub enum SystemFault {
+    /// There are more than 1,024 unknowns: so many.
+    Unknowns { count: u32 },
+}
+
+impl System {
+    /// The system of a flow and of a template with one coefficient for each of its names.
+    ///
+    /// # Errors
+    ///
+    /// `Unknowns` with their number, points times rows, exactly where this is above 1,024; both arguments are dropped.
+    /// Takes no memory.
+    pub fn new(flow: Flow, template: Template) -> Result<System, SystemFault>
+        requires { IsTrue (is_over (length flow.names) template) }
+        ensures system { IfOk result (λ s. (s.flow ≡ flow) × (s.template ≡ template)) }
+        ensures unknowns { IsErr result ↔ 1024 < length flow.points * length template }
+        ensures count { IfErr result (λ e. e ≡ SystemFault.Unknowns (length flow.points * length template)) }
+    {
+        let points = flow.points.as_slice().len() as u32;
+        let rows = template.as_slice().len() as u32;
+        let count = points * rows;
+        if count > 1024 {
+            return Err(SystemFault::Unknowns { count });
+        }
+        Ok(System { flow, template })
+    }
 }

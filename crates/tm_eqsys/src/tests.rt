@@ -1,11 +1,11 @@
-use crate::{Bounds, Fracs, System, Trace};
+use crate::{Bounds, Fracs, Pick, System, Trace, fits, trace_value};
 use std::test::Fail;
 use tm_flow::{Action, Actions, Edge, Edges, Flow, Place, Point, Points};
 use tm_frac::{Ext, Frac};
 use tm_rows::Template;
 use tm_tree::{Coeffs, Form, Name, Names};
 
-// int x = 0;
+// int x; x = 2 * x + 1; assume(x <= 5); x = nondet(); over x and -x.
 #[test]
 fn a_system_of_one_edge(rt: HostRuntime) -> Result<(), Fail> {
     let alloc = rt.alloc();
@@ -24,10 +24,15 @@ fn a_system_of_one_edge(rt: HostRuntime) -> Result<(), Fail> {
     actions.push(Action::Assign {
         var: 0,
         form: Form {
-            coeffs: Coeffs::new(vec![in alloc; 0]?),
-            constant: 0,
+            coeffs: Coeffs::new(vec![in alloc; 2]?),
+            constant: 1,
         },
     })?;
+    actions.push(Action::Guard(Form {
+        coeffs: Coeffs::new(vec![in alloc; 1]?),
+        constant: -5,
+    }))?;
+    actions.push(Action::Havoc { var: 0 })?;
     let mut edges = Vec::new(alloc);
     edges.push(Edge {
         from: 0,
@@ -42,12 +47,18 @@ fn a_system_of_one_edge(rt: HostRuntime) -> Result<(), Fail> {
     let mut rows = Vec::new(alloc);
     rows.push(Coeffs::new(vec![in alloc; 1]?))?;
     rows.push(Coeffs::new(vec![in alloc; -1]?))?;
-    let system = System {
-        flow,
-        template: Template::new(rows),
+    let system = match System::new(flow, Template::new(rows)) {
+        Ok(system) => system,
+        Err(_) => return Err("four unknowns".into()),
     };
-    assert_eq!(rt; system.flow.edges.as_slice().len(), 1);
-    assert_eq!(rt; system.template.as_slice().len(), 2);
+    // Two unknowns of 4 rows and 5 columns.
+    assert_eq!(rt; system.cells(), 120);
+    let bounds = Bounds::start(alloc, &system)?;
+    assert!(rt;
+        bounds.as_slice() == [Ext::PosInf, Ext::PosInf, Ext::NegInf, Ext::NegInf].as_slice()
+    );
+    let pick = Pick::none(alloc, &system)?;
+    assert!(rt; pick.at(3).is_none());
     Ok(())
 }
 

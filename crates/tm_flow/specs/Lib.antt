@@ -1,3 +1,4 @@
+pub mod Constants
 pub mod FlowLimits
 pub mod Elements
 pub mod Points
@@ -5,3 +6,7 @@ pub mod Steps
 pub mod Paths
 pub mod Edges
 pub mod PathLaws
+pub mod Counts
+pub mod Faults
+pub mod Trails
+pub mod Places

@@ -1,5 +1,6 @@
 //! Laws of the definitions, each the contract of a function that does nothing.
 
+ghost use Rattle.tm_flow.specs.Constants.{ConditionsHaveRoom};
 ghost use Rattle.tm_flow.specs.PathLaws.{BehindPoints, EdgesInRange, EdgesOfPrograms, PointsAreNumbered, StepsAreRecorded, WaysAreSteps};
 
 /// Each point of a program is made by exactly one of its nodes, and stands in the list of points at the number that this
@@ -31,4 +32,9 @@ pub fn edges_are_paths()
 /// No edge of a program ends at the entry, and every edge goes from a point to a point.
 pub fn edges_are_in_range()
     ensures { EdgesInRange }
+{}
+
+/// The comparisons of a program's conditions leave room for their guards, so that `cases` may be asked for them.
+pub fn conditions_have_room()
+    ensures { ConditionsHaveRoom }
 {}

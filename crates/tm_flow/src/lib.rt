@@ -3,15 +3,32 @@
 //! `docs/DEFINITIONS.md` reads the definitions of `specs/` in order.
 #![tactic(auto)]
 
+mod build;
+mod case;
+mod count;
 mod edge;
-mod flow;
+mod edge_walk;
+mod fault;
+mod graph;
+mod guard;
 mod law;
+mod listing;
+mod places;
 mod point;
+mod saturated;
+#[cfg(test)]
+mod tests;
+mod trail;
+mod wide;
 
+pub use build::flow;
+pub use case::{Case, Cases, CasesFault};
 pub use edge::{Action, Actions, Edge, Edges};
-pub use flow::Flow;
+pub use fault::FlowFault;
+pub use graph::Flow;
 pub use law::{
-    edges_are_in_range, edges_are_paths, points_are_numbered, steps_are_recorded, ways_are_steps,
-    work_behind_points,
+    conditions_have_room, edges_are_in_range, edges_are_paths, points_are_numbered,
+    steps_are_recorded, ways_are_steps, work_behind_points,
 };
+pub use listing::cases;
 pub use point::{Place, Point, Points};

@@ -1,5 +1,5 @@
 -- Fractions with infinities, as extended numbers and as texts.
-use Rattle.std.specs.Prelude.{ℕ, List, [], ◌∷◌, Bool}
+use Rattle.std.specs.Prelude.{ℕ, List, [], ◌∷◌}
 use Rattle.std.specs.Ordering.{eq_by_cmp}
 use Rattle.std.specs.Cmp.{IsTotalOrder, IsEquivalence, on_total}
 use Rattle.std.proofs.lemmas.Cmp.{eq_by_cmp_equiv}

@@ -1,5 +1,5 @@
 -- Tables that are the same within their bounds stay so.
-use Rattle.std.proofs.Common.{◌≡◌, ℕ, suc, ◌+◌, ◌-◌, ◌<◌, ◌≤◌, cond, eqb, refl, ap, ap₂, ◌∙◌, arith}
+use Rattle.std.proofs.Common.{◌≡◌, ℕ, suc, ◌+◌, ◌-◌, ◌<◌, ◌≤◌, cond, eqb, refl, ap, ap₂, sym, ◌∙◌, arith}
 use Rattle.tm_num.specs.Rational.{one_ℚ, neg_ℚ, ◌+ℚ◌, ◌*ℚ◌, ◌/ℚ◌}
 use Rattle.tm_lp.specs.Table.{Table, Agree, pivot_row_entry, pivot_other_entry, pivot_table, skip, drop_table}
 use Rattle.tm_lp.specs.Run.{place_of, leave_table}

@@ -1,18 +1,18 @@
 -- The two phases are phases, and the number of a phase's table is told by its names.
-use Rattle.std.proofs.Common.{◌≡◌, ℕ, zero, suc, ◌+◌, ◌-◌, ◌^◌, ◌<◌, ◌≤◌, inl, inr, ⊎_elim, Bool, true, false, not, cond, ◌||◌, refl, ap, ap₂, sym, ◌∙◌, subst, arith, true≢false}
-use Rattle.std.proofs.lemmas.Bool.{ne_eqb, or_cases}
-use Rattle.tm_num.specs.Rational.{zero_ℚ, lt_ℚ, ◌≤ℚ◌}
+use Rattle.std.proofs.Common.{◌≡◌, ◌≢◌, ℕ, zero, suc, ◌+◌, ◌-◌, ◌*◌, ◌^◌, ◌<◌, ◌≤◌, ◌⊎◌, inl, inr, ⊎_elim, Bool, true, false, not, cond, eqb, ◌||◌, refl, ap, ap₂, sym, ◌∙◌, subst, arith, true≢false}
+use Rattle.std.proofs.lemmas.Bool.{cases_lt, eq-eqb, eqb-true, ne_eqb, or_cases}
+use Rattle.tm_num.specs.Rational.{ℚ, zero_ℚ, one_ℚ, lt_ℚ, ◌≤ℚ◌}
 use Rattle.tm_num.proofs.Laws.{one_ne_zero}
 use Rattle.tm_lp.specs.Problem.{Problem}
-use Rattle.tm_lp.specs.Dictionary.{delta, Dict, IsDict, extend, drop_zero}
-use Rattle.tm_lp.specs.Search.{none, found}
+use Rattle.tm_lp.specs.Dictionary.{delta, Dict, IsDict, Models, extend, drop_zero}
+use Rattle.tm_lp.specs.Search.{Search, none, found, first}
 use Rattle.tm_lp.specs.Bland.{Choice, optimal, ray, step, choose, after, stops, stop_index, index_of, ChoiceIs, IsGood}
 use Rattle.tm_lp.proofs.Pivots.{pivot_enters}
-use Rattle.tm_lp.specs.Simplex.{names, slack_name, main_row, aux_row, first_dict, entered, lowest, phase_one_index, last_of_one}
-use Rattle.tm_lp.specs.Table.{Table, Shows, pivot_table}
+use Rattle.tm_lp.specs.Simplex.{names, slack_name, main_row, aux_row, first_dict, entered, lowest, is_over, phase_one_index, last_of_one}
+use Rattle.tm_lp.specs.Table.{Table, Shows, Agree, pivot_table}
 use Rattle.tm_lp.specs.FirstTable.{first_table, plain_table}
 use Rattle.tm_lp.specs.Run.{place_of, leave_table, step_table, tables_after, Phase, phase_dict, phase_table, IsPhase, aux_phase, main_start, main_table, main_made, main_phase}
-use Rattle.tm_lp.proofs.Searches.{LeastIs, least_is, IsLeast, lt_no}
+use Rattle.tm_lp.proofs.Searches.{FirstIs, first_is, LeastIs, least_is, IsLeast, lt_no}
 use Rattle.tm_lp.proofs.Dictionaries.{bool_cases, extend_models, extend_free}
 use Rattle.tm_lp.proofs.NoRepeat.{no_repeat}
 use Rattle.tm_lp.proofs.Stops.{chain_from, stop_index_is, after_good}
@@ -20,7 +20,7 @@ use Rattle.tm_lp.proofs.Steps.{choose_is}
 use Rattle.tm_lp.proofs.Pigeons.{code, code_same}
 use Rattle.tm_lp.proofs.Roles.{first_free}
 use Rattle.tm_lp.proofs.Outcomes.{IsMain, after_main}
-use Rattle.tm_lp.proofs.PhaseOne.{entered_good, entered_aux, after_aux}
+use Rattle.tm_lp.proofs.PhaseOne.{IsAux, entered_good, entered_aux, after_aux}
 use Rattle.tm_lp.proofs.Programs.{phase_one_index_is, dropped_main, first_aux}
 use Rattle.tm_lp.proofs.PlainTables.{plain_table_shows}
 use Rattle.tm_lp.proofs.EnteredTables.{entered_shows}

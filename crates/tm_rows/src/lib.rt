@@ -1,6 +1,23 @@
 //! Templates: the linear forms whose bounds an analysis gives.
 #![tactic(auto)]
 
+mod domains;
+mod fault;
+mod file;
+mod given;
+mod law;
+mod line;
+mod row;
+mod sums;
 mod template;
+mod term;
 
+pub use domains::{intervals, octagons, zones};
+pub use fault::RowFault;
+pub use file::read_rows;
+pub use given::from_rows;
+pub use law::one_reading;
 pub use template::Template;
+
+#[cfg(test)]
+mod tests;

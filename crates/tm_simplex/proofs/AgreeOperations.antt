@@ -1,8 +1,9 @@
 -- Tables that are the same within their bounds make the same operations.
-use Rattle.std.proofs.Common.{◌≡◌, ℕ, suc, ◌+◌, ◌<◌, cond, eqb, [], ◌∷◌, ◌++◌, ap, ap₂, ◌∙◌, arith}
-use Rattle.tm_num.specs.Rational.{zero_ℚ, neg_ℚ, lt_ℚ}
+use Rattle.std.proofs.Common.{◌≡◌, ℕ, suc, ◌+◌, ◌<◌, ◌≤◌, Bool, true, false, cond, eqb, List, [], ◌∷◌, ◌++◌, refl, ap, ap₂, sym, ◌∙◌, subst, arith}
+use Rattle.tm_num.specs.Rational.{ℚ, zero_ℚ, neg_ℚ, lt_ℚ}
 use Rattle.tm_frac.specs.declared.wide.Op.TheVariants.{Div}
 use Rattle.tm_lp.specs.Table.{Table, Agree}
+use Rattle.tm_frac.specs.Operation.{Operation}
 use Rattle.tm_dict.specs.Listed.{joined}
 use Rattle.tm_dict.specs.Formulas.{divided, divided_row}
 use Rattle.tm_dict.specs.PivotOperations.{division_row_operations, combination_row_operations, other_row_operations, pivot_operations}

@@ -1,23 +1,23 @@
 -- How the phases begin.
-use Rattle.std.proofs.Common.{◌≡◌, ◌≢◌, ℕ, suc, ◌+◌, ◌-◌, ◌<◌, ◌≤◌, true, false, cond, eqb, ltb, ℤ, refl, ap, sym, ◌∙◌, subst, arith, true≢false}
-use Rattle.std.proofs.lemmas.Bool.{ne_eqb, eq-eqb, le-ltb}
-use Rattle.tm_num.specs.Rational.{zero_ℚ, one_ℚ, neg_ℚ}
+use Rattle.std.proofs.Common.{◌≡◌, ◌≢◌, ℕ, zero, suc, ◌+◌, ◌-◌, ◌<◌, ◌≤◌, ⊎_elim, Bool, true, false, cond, eqb, ltb, ℤ, Option, None, refl, ap, ap₂, sym, ◌∙◌, subst, subst₂, arith, true≢false}
+use Rattle.std.proofs.lemmas.Bool.{ne_eqb, eq-eqb, lt-ltb, le-ltb}
+use Rattle.tm_num.specs.Rational.{ℚ, zero_ℚ, one_ℚ, neg_ℚ}
 use Rattle.tm_num.proofs.Laws.{one_ne_zero}
 use Rattle.tm_lp.specs.Problem as lp
 use Rattle.tm_lp.specs.Dictionary.{drop_zero}
-use Rattle.tm_lp.specs.Search.{none, found}
+use Rattle.tm_lp.specs.Search.{Search, none, found}
 use Rattle.tm_lp.specs.Bland.{after, index_of}
-use Rattle.tm_lp.specs.Simplex.{names, main_row, aux_row, slack_name, entered, lowest, phase_one_index, last_of_one}
-use Rattle.tm_lp.specs.Table.{Table, Agree, drop_table, pivot_table}
-use Rattle.tm_lp.specs.FirstTable.{first_table, plain_table}
+use Rattle.tm_lp.specs.Simplex.{names, main_row, aux_row, slack_name, first_dict, entered, lowest, phase_one_index, last_of_one}
+use Rattle.tm_lp.specs.Table.{Table, Agree, skip, drop_table, pivot_table}
+use Rattle.tm_lp.specs.FirstTable.{first_entry, first_table, plain_table}
 use Rattle.tm_lp.specs.HasRows.{HasRows}
-use Rattle.tm_lp.specs.Run.{leave_table, phase_dict, phase_table, aux_phase, main_start, main_table, main_made, main_phase}
+use Rattle.tm_lp.specs.Run.{leave_table, Phase, phase_dict, phase_table, IsPhase, aux_phase, main_start, main_table, main_made, main_phase, phase_of}
 use Rattle.tm_lp.proofs.TableDrops.{skip_above}
 use Rattle.tm_lp.proofs.FirstTables.{entry_slack}
 use Rattle.tm_lp.proofs.Agrees.{agree_trans, agree_leave}
 use Rattle.tm_lp.proofs.HasRows.{has_entered, has_plain, has_left, has_phase}
-use Rattle.tm_lp.proofs.Phases.{tables_after-zero}
-use Rattle.tm_lp.proofs.PhaseRuns.{lowest_is, aux_is_phase, plain_is_phase, main_is_phase, goals_after, goal_names_after, plain_stays, main_stays}
+use Rattle.tm_lp.proofs.Phases.{tables_after-zero, phase_shows}
+use Rattle.tm_lp.proofs.PhaseRuns.{lowest_is, aux_is_phase, plain_is_phase, main_is_phase, goals_after, goal_names_after, rows_after, plain_stays, main_stays}
 use Rattle.tm_simplex.specs.Operations.{capped}
 use Rattle.tm_simplex.specs.Answers.{BeginsPhase, EndsPhase}
 use Rattle.tm_simplex.specs.declared.phase.End.{End}

@@ -1,21 +1,21 @@
 -- What the ends of the phases give.
-use Rattle.std.proofs.Common.{◌≡◌, ℕ, ◌<◌, Bool, true, false, ℤ, List, ◌++◌, Some, None, refl, ap, sym, ◌∙◌, subst, subst₂, arith}
+use Rattle.std.proofs.Common.{◌≡◌, ◌≢◌, ℕ, zero, suc, ◌+◌, ◌<◌, ◌≤◌, ⊎_elim, Bool, true, false, ℤ, List, [], ◌++◌, Option, Some, None, refl, ap, ap₂, sym, ◌∙◌, subst, subst₂, arith, true≢false}
 use Rattle.tm_num.specs.Rational.{ℚ, neg_ℚ}
 use Rattle.tm_lp.specs.Problem as lp
-use Rattle.tm_lp.specs.Dictionary.{IsDict}
-use Rattle.tm_lp.specs.Search.{none, found}
-use Rattle.tm_lp.specs.Bland.{choose, after, stop_index, index_of}
-use Rattle.tm_lp.specs.Simplex.{names, main_row, aux_row, entered, lowest, phase_one_index, last_of, last_of_one, multipliers, point_of, ray_of, outcome_at, after_one, phase_one, phase_two, lp_from, lp as lp_of}
+use Rattle.tm_lp.specs.Dictionary.{Dict, IsDict, drop_zero}
+use Rattle.tm_lp.specs.Search.{Search, none, found}
+use Rattle.tm_lp.specs.Bland.{Choice, optimal, ray, choose, after, stop_index, index_of}
+use Rattle.tm_lp.specs.Simplex.{names, main_row, aux_row, first_dict, entered, lowest, phase_one_index, last_of, last_of_one, multipliers, point_of, ray_of, outcome_at, after_one, phase_one, phase_two, lp_from, lp as lp_of}
 use Rattle.tm_lp.specs.Table.{Table, Shows, Agree, pivot_table}
 use Rattle.tm_lp.specs.FirstTable.{first_table, plain_table}
 use Rattle.tm_lp.specs.HasRows.{HasRows}
-use Rattle.tm_lp.specs.Run.{Phase, phase_dict, phase_table, aux_phase, main_start, main_phase, phase_of}
+use Rattle.tm_lp.specs.Run.{Phase, phase_dict, phase_table, IsPhase, aux_phase, main_start, main_phase, phase_of}
 use Rattle.tm_lp.proofs.FirstTables.{shows_agree}
 use Rattle.tm_lp.proofs.HasRows.{has_agree, has_phase}
 use Rattle.tm_lp.proofs.Agrees.{agree_trans, agree_pivot}
 use Rattle.tm_lp.proofs.Phases.{phase_shows, phase_good}
 use Rattle.tm_dict.specs.Exact.{start_from, start_table}
-use Rattle.tm_dict.specs.Operation.{first_wide, operation_of}
+use Rattle.tm_frac.specs.Operation.{Operation, first_wide, operation_of}
 use Rattle.tm_dict.specs.PivotOperations.{pivot_operations}
 use Rattle.tm_simplex.specs.declared.outcome.Outcome.{Outcome}
 use Rattle.tm_simplex.specs.declared.outcome.Outcome.TheVariants.{Best, Unbounded, Empty}
@@ -23,7 +23,7 @@ use Rattle.tm_simplex.specs.declared.outcome.SolveFault.{SolveFault}
 use Rattle.tm_simplex.specs.declared.outcome.SolveFault.TheVariants.{Wide, NoMemory}
 use Rattle.tm_simplex.specs.declared.phase.End.{End}
 use Rattle.tm_simplex.specs.declared.phase.End.TheVariants.{AtBest, AtRay, Left}
-use Rattle.tm_simplex.specs.Operations.{Numbered, numbered, first_refused, whole_phase, then_main, run_from, run_operations}
+use Rattle.tm_simplex.specs.Operations.{Numbered, numbered, first_refused, whole_phase, then_main, run_from, run_operations, capped}
 use Rattle.tm_simplex.specs.Placed.{IsPlaced}
 use Rattle.tm_simplex.specs.Outcomes.{IsListed, IsOutcomeOf}
 use Rattle.tm_simplex.specs.Answers.{RefusesRun, BeginsPhase, EndOf, EndsPhase, EntersRefused, IsDirection, ReadsBest, ReadsRay, main_outcome}

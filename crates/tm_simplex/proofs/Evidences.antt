@@ -1,13 +1,14 @@
 -- The numbers of an outcome carry its evidence.
-use Rattle.std.proofs.Common.{◌≡◌, ℕ, ◌<◌, map, ap, sym, ◌∙◌, subst}
+use Rattle.std.proofs.Common.{◌≡◌, ℕ, ◌<◌, List, map, ap, sym, ◌∙◌, subst, subst₂}
 use Rattle.tm_num.specs.Rational.{ℚ, zero_ℚ, ◌*ℚ◌, ◌≤ℚ◌, ◌<ℚ◌}
+use Rattle.tm_num.specs.Vector.{sum_to}
 use Rattle.tm_lp.specs.Problem as lp
 use Rattle.tm_lp.specs.Listed.{at}
 use Rattle.tm_num.proofs.Vectors.{sum_to_same}
 use Rattle.tm_lp.proofs.Evidence.{weak_best, weak_empty, ray_exceeds}
 use Rattle.tm_simplex.specs.declared.outcome.Outcome.{Outcome}
 use Rattle.tm_simplex.specs.declared.outcome.Outcome.TheVariants.{Best, Unbounded, Empty}
-use Rattle.tm_simplex.specs.Outcomes.{IsOutcomeOf, HasEvidence, SaysSupremum}
+use Rattle.tm_simplex.specs.Outcomes.{IsListed, IsOutcomeOf, HasEvidence, SaysSupremum}
 
 module _ (P : lp.Problem) where
   -- values that agree on the columns

@@ -1,13 +1,13 @@
 -- From one turn of a phase's loop to the next, and to its end.
-use Rattle.std.proofs.Common.{◌≡◌, ◌≢◌, ℕ, suc, ◌+◌, ◌<◌, ◌≤◌, ⊎_elim, Bool, true, false, cond, min, ℤ, Some, None, ap, sym, ◌∙◌, subst, arith, true≢false}
+use Rattle.std.proofs.Common.{◌≡◌, ◌≢◌, ℕ, zero, suc, ◌+◌, ◌-◌, ◌<◌, ◌≤◌, ◌⊎◌, inl, inr, ⊎_elim, Bool, true, false, cond, eqb, ltb, min, ℤ, List, [], ◌++◌, Option, Some, None, refl, ap, ap₂, sym, ◌∙◌, subst, subst₂, arith, true≢false}
 use Rattle.std.proofs.lemmas.Bool.{cases_lt, ne_eqb, lt-ltb, le-ltb}
 use Rattle.tm_num.specs.Rational.{ℚ}
 use Rattle.tm_lp.specs.Problem as lp
 use Rattle.tm_lp.specs.Dictionary.{pivot}
-use Rattle.tm_lp.specs.Bland.{ray, choose, is_stop, stops}
+use Rattle.tm_lp.specs.Bland.{optimal, ray, choose, is_stop, stops}
 use Rattle.tm_lp.specs.Simplex.{names}
 use Rattle.tm_lp.specs.Table.{Table, Agree, pivot_table}
-use Rattle.tm_lp.specs.Run.{phase_dict, phase_table, IsPhase, phase_of}
+use Rattle.tm_lp.specs.Run.{Phase, phase_dict, phase_table, IsPhase, phase_of}
 use Rattle.tm_lp.proofs.Pivots.{pivot_leaves}
 use Rattle.tm_lp.proofs.Agrees.{agree_trans}
 use Rattle.tm_lp.proofs.PhasePlaces.{pivots_left, pivots_fall}
@@ -15,15 +15,15 @@ use Rattle.tm_lp.proofs.Steps.{enters_free, leaves_basic}
 use Rattle.tm_lp.proofs.Programs.{after-zero}
 use Rattle.tm_lp.proofs.Phases.{phase_good}
 use Rattle.tm_dict.specs.Build.{width_of}
-use Rattle.tm_dict.specs.Operation.{operation_of}
+use Rattle.tm_frac.specs.Operation.{Operation, first_wide, operation_of}
 use Rattle.tm_simplex.specs.declared.phase.End.TheVariants.{AtBest, AtRay, Left}
 use Rattle.tm_simplex.specs.declared.outcome.SolveFault.{SolveFault}
 use Rattle.tm_simplex.specs.declared.outcome.SolveFault.TheVariants.{Wide, NoMemory}
-use Rattle.tm_simplex.specs.Operations.{first_refused, step_operations, pivot_of_phase, phase_operations, whole_phase, capped}
-use Rattle.tm_simplex.specs.Choices.{EntersAt, LeavesOf, PivotMade, StepRefused}
-use Rattle.tm_simplex.specs.Answers.{RefusesRun, BeginsPhase, EndsPhase}
+use Rattle.tm_simplex.specs.Operations.{Numbered, numbered, first_refused, step_operations, pivot_of_phase, phase_operations, whole_phase, capped}
+use Rattle.tm_simplex.specs.Choices.{EntersAt, LeavesAt, LeavesOf, PivotMade, StepWide, StepRefused}
+use Rattle.tm_simplex.specs.Answers.{RefusesRun, BeginsPhase, EndOf, EndsPhase}
 use Rattle.tm_simplex.proofs.Numbering.{numbered_none, numbered_some, run_fits_more, run_wide_at, run_fits_none}
-use Rattle.tm_simplex.proofs.PhaseSteps.{enters_in, leaves_in, optimal_in, ray_in, pivot_in, dict_in, stays_in, goes_in, wide_in, fits_in}
+use Rattle.tm_simplex.proofs.PhaseSteps.{shown, enters_in, leaves_in, optimal_in, ray_in, pivot_in, dict_in, stays_in, goes_in, wide_in, fits_in}
 use Rattle.tm_simplex.proofs.PhaseLoops.{Stands}
 
 capped_below : (k : ℕ) → k < 4294967295 → capped k ≡ k

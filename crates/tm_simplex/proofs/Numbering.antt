@@ -1,8 +1,9 @@
 -- The first wide operation among numbered ones.
-use Rattle.std.proofs.Common.{◌≡◌, ℕ, zero, suc, ◌+◌, ◌<◌, ◌≤◌, ⊎_elim, Bool, true, false, cond, ℤ, List, [], ◌∷◌, ◌++◌, Some, None, refl, ap, sym, ◌∙◌, arith, add-one}
+use Rattle.std.proofs.Common.{◌≡◌, ℕ, zero, suc, ◌+◌, ◌<◌, ◌≤◌, ⊎_elim, Bool, true, false, not, cond, ℤ, List, [], ◌∷◌, ◌++◌, map, Option, Some, None, refl, ap, sym, ◌∙◌, subst, arith, add-one, true≢false}
+use Rattle.std.specs.Prelude.{find}
 use Rattle.std.proofs.lemmas.List.Folds.{find-append}
 use Rattle.std.proofs.lemmas.Bool.{cases_lt}
-use Rattle.tm_dict.specs.Operation.{Operation, is_wide, first_wide}
+use Rattle.tm_frac.specs.Operation.{Operation, is_wide, first_wide}
 use Rattle.tm_dict.specs.Listed.{joined}
 use Rattle.tm_dict.proofs.Joins.{joined-suc, joined-zero}
 use Rattle.tm_simplex.specs.Operations.{Numbered, numbered, first_refused}

@@ -1,5 +1,5 @@
 -- Where the loop of a phase stands.
-use Rattle.std.proofs.Common.{◌≡◌, ℕ, ◌+◌, ◌<◌, ◌≤◌, Bool, true, ℤ, None}
+use Rattle.std.proofs.Common.{◌≡◌, ℕ, ◌+◌, ◌<◌, ◌≤◌, Bool, true, false, ℤ, Option, None}
 use Rattle.tm_lp.specs.Problem as lp
 use Rattle.tm_lp.specs.Simplex.{names}
 use Rattle.tm_lp.specs.Table.{Table, Agree}

@@ -1,11 +1,14 @@
 -- What a step of the code is in the exact run.
-use Rattle.std.proofs.Common.{◌≡◌, ◌≢◌, ℕ, suc, ◌+◌, ◌<◌, ⊎_elim, true, false, ℤ, ◌++◌, Some, None, refl, ap, ap₂, sym, ◌∙◌, subst, arith}
-use Rattle.tm_num.specs.Rational.{zero_ℚ, ◌≤ℚ◌}
+use Rattle.std.proofs.Common.{◌≡◌, ◌≢◌, ℕ, zero, suc, ◌+◌, ◌<◌, ◌≤◌, ◌⊎◌, inl, inr, ⊎_elim, Bool, true, false, cond, eqb, ltb, ℤ, List, [], ◌++◌, Option, Some, None, refl, ap, ap₂, sym, ◌∙◌, subst, subst₂, arith, true≢false}
+use Rattle.std.proofs.lemmas.Bool.{cases_lt, eqb-true, ne_eqb, lt-ltb, le-ltb}
+use Rattle.tm_num.specs.Rational.{ℚ, zero_ℚ, ◌≤ℚ◌, ◌<ℚ◌}
 use Rattle.tm_num.proofs.Laws.{not_le_of_lt}
+use Rattle.tm_lp.specs.Problem as lp
 use Rattle.tm_lp.specs.Dictionary.{Dict, IsDict, pivot}
-use Rattle.tm_lp.specs.Bland.{Enters, Leaves, Choice, optimal, ray, step, choose, take_step, is_stop, stops, ChoiceIs}
+use Rattle.tm_lp.specs.Bland.{Enters, Leaves, Choice, optimal, ray, step, choose, next, take_step, after, is_stop, stops, ChoiceIs}
+use Rattle.tm_lp.specs.Simplex.{names}
 use Rattle.tm_lp.specs.Table.{Table, Shows, Agree, pivot_table}
-use Rattle.tm_lp.specs.Run.{row_place, col_place, Phase, phase_dict, phase_table, IsPhase}
+use Rattle.tm_lp.specs.Run.{row_place, col_place, Phase, phase_dict, phase_table, IsPhase, phase_of}
 use Rattle.tm_lp.proofs.Dictionaries.{bool_cases}
 use Rattle.tm_lp.proofs.Steps.{choose_is, enters_only}
 use Rattle.tm_lp.proofs.NoRepeat.{turned_free}
@@ -15,13 +18,14 @@ use Rattle.tm_lp.proofs.FirstTables.{shows_agree}
 use Rattle.tm_lp.proofs.TableChoices.{choose_only, table_enters, table_optimal, table_leaves, table_ray}
 use Rattle.tm_lp.proofs.Agrees.{agree_trans, agree_pivot}
 use Rattle.tm_lp.proofs.Phases.{phase_shows, phase_good, phase_next, next-is}
-use Rattle.tm_dict.specs.Operation.{Operation, first_wide}
+use Rattle.tm_frac.specs.Operation.{Operation, first_wide}
 use Rattle.tm_dict.specs.PivotOperations.{pivot_operations}
-use Rattle.tm_dict.proofs.Widths.{first_wide_sooner}
+use Rattle.tm_dict.proofs.Widths.{first_wide_later, first_wide_sooner}
 use Rattle.tm_dict.proofs.Joins.{joined_fits_each}
-use Rattle.tm_simplex.specs.Operations.{ratio_operation, ratio_operations, step_operations}
-use Rattle.tm_simplex.specs.Choices.{EntersAt, LeavesAt, LeavesOf, StepWide}
+use Rattle.tm_simplex.specs.Operations.{Numbered, numbered, first_refused, ratio_operation, ratio_operations, step_operations, pivot_of_phase, phase_operations, capped}
+use Rattle.tm_simplex.specs.Choices.{EntersAt, LeavesAt, LeavesOf, PivotMade, StepWide}
 use Rattle.tm_simplex.proofs.AgreeOperations.{agree_ratios, agree_pivots}
+use Rattle.tm_simplex.proofs.Numbering.{numbered_none, numbered_some, run_fits_more, run_wide_at, run_fits_none}
 use Rattle.tm_simplex.proofs.Scans.{ratio_none}
 
 none_not_some : {A : Type 0} {o : A} → None ≡ Some o → ⊥

@@ -1,7 +1,7 @@
 -- What is read from a table is what the dictionary says.
-use Rattle.std.proofs.Common.{◌≡◌, ◌≢◌, ℕ, suc, ◌+◌, ◌<◌, ⊎_elim, false, List, ap, ap₂, sym, ◌∙◌, arith, true≢false}
+use Rattle.std.proofs.Common.{◌≡◌, ◌≢◌, ℕ, zero, suc, ◌+◌, ◌<◌, ◌≤◌, ⊎_elim, Bool, true, false, List, length, refl, ap, ap₂, sym, ◌∙◌, subst, arith, true≢false}
 use Rattle.std.proofs.lemmas.Bool.{cases_eq}
-use Rattle.tm_num.specs.Rational.{ℚ, neg_ℚ}
+use Rattle.tm_num.specs.Rational.{ℚ, zero_ℚ, one_ℚ, neg_ℚ}
 use Rattle.tm_num.proofs.Laws.{neg_ℚ-zero}
 use Rattle.tm_lp.specs.Problem as lp
 use Rattle.tm_lp.specs.Dictionary.{delta, Dict, IsDict}
@@ -10,7 +10,8 @@ use Rattle.tm_lp.specs.Table.{Table, Shows}
 use Rattle.tm_lp.specs.HasRows.{HasRows}
 use Rattle.tm_lp.proofs.Sums.{delta_same, delta_other}
 use Rattle.tm_lp.proofs.Dictionaries.{bool_cases}
-use Rattle.tm_simplex.specs.Placed.{IsPlaced}
+use Rattle.tm_dict.specs.Cells.{cell}
+use Rattle.tm_simplex.specs.Placed.{IsPlaced, Places}
 use Rattle.tm_simplex.specs.Outcomes.{IsListed}
 use Rattle.tm_simplex.specs.Answers.{IsDirection}
 

@@ -1,23 +1,23 @@
 -- One more column, or one more row, in the scans of a table.
-use Rattle.std.proofs.Common.{◌≡◌, ◌≢◌, ℕ, ◌+◌, ◌<◌, ◌≤◌, inl, inr, ⊎_elim, Bool, true, false, cond, ltb, Less, Equal, Greater, ℤ, [], ◌∷◌, Option, Some, None, Result, MatchResult, refl, ap, sym, ◌∙◌, subst, subst₂, arith}
+use Rattle.std.proofs.Common.{◌≡◌, ◌≢◌, ℕ, suc, ◌+◌, ◌<◌, ◌≤◌, ◌⊎◌, inl, inr, ⊎_elim, Bool, true, false, cond, ltb, Ordering, Less, Equal, Greater, ℤ, List, [], ◌∷◌, Option, Some, None, Result, MatchResult, refl, ap, ap₂, sym, ◌∙◌, subst, subst₂, arith, true≢false}
 use Rattle.std.specs.Prelude.{MatchBool}
 use Rattle.std.proofs.lemmas.Bool.{cases_lt, ltb-true, ltb-false}
 use Rattle.tm_num.specs.Compare.{cmp_ℚ}
 use Rattle.tm_num.proofs.Compared.{cmp-less, cmp-equal, cmp-greater}
 use Rattle.tm_num.specs.Rational.{ℚ, zero_ℚ, neg_ℚ, ◌/ℚ◌, lt_ℚ, ◌≤ℚ◌, ◌<ℚ◌}
-use Rattle.tm_num.proofs.Laws.{≤ℚ_refl, ≤ℚ_trans, ≤ℚ_antisymm, le_or_lt, le_of_lt_ℚ, le_of_eq_ℚ, not_le_of_lt, <ℚ_irrefl, lt_of_lt_of_le_ℚ, ne_of_lt_ℚ, neg_ℚ-neg_ℚ, neg_ℚ-zero}
+use Rattle.tm_num.proofs.Laws.{≤ℚ_refl, ≤ℚ_trans, ≤ℚ_antisymm, le_or_lt, le_of_lt_ℚ, le_of_eq_ℚ, not_le_of_lt, <ℚ_irrefl, lt_of_lt_of_le_ℚ, lt_of_le_of_lt_ℚ, ne_of_lt_ℚ, neg_ℚ-neg_ℚ, neg_ℚ-zero}
 use Rattle.tm_frac.specs.Fits.{Fits}
 use Rattle.tm_frac.specs.declared.wide.Op.TheVariants.{Div}
 use Rattle.tm_frac.specs.declared.wide.Wide.{Wide}
 use Rattle.tm_lp.specs.Table.{Table}
-use Rattle.tm_lp.proofs.Searches.{lt_yes, lt_does}
-use Rattle.tm_dict.specs.Operation.{Operation, first_wide, Answers}
+use Rattle.tm_lp.proofs.Searches.{lt_yes, lt_no, lt_does}
+use Rattle.tm_frac.specs.Operation.{Operation, first_wide, operation_of, Answers}
 use Rattle.tm_dict.specs.Listed.{joined}
 use Rattle.tm_dict.proofs.Widths.{one_answer}
 use Rattle.tm_dict.proofs.Joins.{joined_wide_at}
 use Rattle.tm_simplex.specs.declared.scan.Candidate.{Candidate}
 use Rattle.tm_simplex.specs.Operations.{ratio_operation, ratio_operations}
-use Rattle.tm_simplex.specs.Choices.{EntersAt, ratio_at, LeavesAt, CandidateOf, IsBefore}
+use Rattle.tm_simplex.specs.Choices.{EntersAt, ratio_at, RatioAt, LeavesAt, CandidateOf, IsBefore}
 
 module _ (T : Table) (g n : ℕ) where
   -- the next column has no positive entry

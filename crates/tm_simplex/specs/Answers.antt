@@ -8,7 +8,7 @@ use Rattle.tm_lp.specs.Table.{Table, Agree}
 use Rattle.tm_lp.specs.HasRows.{HasRows}
 use Rattle.tm_lp.specs.Run.{Phase, phase_dict, phase_table, IsPhase, main_phase, phase_of}
 use Rattle.tm_dict.specs.Build.{width_of}
-use Rattle.tm_dict.specs.Operation.{Operation, first_wide, operation_of}
+use Rattle.tm_frac.specs.Operation.{Operation, first_wide, operation_of}
 use Rattle.tm_simplex.specs.declared.outcome.SolveFault.{SolveFault}
 use Rattle.tm_simplex.specs.declared.outcome.SolveFault.TheVariants.{Wide, NoMemory}
 use Rattle.tm_simplex.specs.declared.outcome.Outcome.{Outcome}

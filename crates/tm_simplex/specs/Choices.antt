@@ -1,8 +1,8 @@
 -- What the scans of a table find.
-use Rattle.std.specs.Prelude.{◌≡◌, ℕ, ◌<◌, ◌≤◌, ◌++◌, ◌⊎◌, ℤ, Option, Some, None}
+use Rattle.std.specs.Prelude.{◌≡◌, ℕ, ◌+◌, ◌<◌, ◌≤◌, ◌++◌, ◌⊎◌, ℤ, Option, Some, None}
 use Rattle.tm_num.specs.Rational.{ℚ, zero_ℚ, neg_ℚ, ◌/ℚ◌, ◌≤ℚ◌, ◌<ℚ◌}
 use Rattle.tm_lp.specs.Table.{Table, Agree, pivot_table}
-use Rattle.tm_dict.specs.Operation.{Operation, first_wide, operation_of}
+use Rattle.tm_frac.specs.Operation.{Operation, first_wide, operation_of}
 use Rattle.tm_dict.specs.PivotOperations.{pivot_operations}
 use Rattle.tm_simplex.specs.declared.scan.Candidate.{Candidate}
 use Rattle.tm_simplex.specs.declared.step.Step.{Step}

@@ -1,6 +1,6 @@
 -- The operations of the exact run, each with the number of its pivot, in the order in which they are made.
 use Rattle.std.specs.Prelude.{ℕ, suc, ◌+◌, ℤ, Bool, true, false, cond, ltb, List, [], ◌∷◌, ◌++◌, map, Option, find}
-use Rattle.tm_num.specs.Rational.{zero_ℚ, neg_ℚ, lt_ℚ}
+use Rattle.tm_num.specs.Rational.{ℚ, zero_ℚ, neg_ℚ, lt_ℚ}
 use Rattle.tm_frac.specs.declared.wide.Op.TheVariants.{Div}
 use Rattle.tm_lp.specs.Problem.{Problem}
 use Rattle.tm_lp.specs.Search.{Search, none, found}
@@ -9,7 +9,7 @@ use Rattle.tm_lp.specs.Simplex.{names, lowest}
 use Rattle.tm_lp.specs.Table.{Table}
 use Rattle.tm_lp.specs.FirstTable.{first_table}
 use Rattle.tm_lp.specs.Run.{row_place, col_place, Phase, phase_dict, phase_table, aux_phase, main_phase}
-use Rattle.tm_dict.specs.Operation.{Operation, is_wide}
+use Rattle.tm_frac.specs.Operation.{Operation, is_wide}
 use Rattle.tm_dict.specs.Listed.{joined}
 use Rattle.tm_dict.specs.PivotOperations.{pivot_operations}
 

@@ -7,7 +7,7 @@ ghost use Rattle.tm_lp.specs.Table.{Agree, pivot_table};
 ghost use Rattle.tm_lp.specs.FirstTable.{first_table};
 ghost use Rattle.tm_lp.specs.Run.{main_phase};
 ghost use Rattle.tm_dict.specs.Exact.{exact, IsShaped};
-ghost use Rattle.tm_dict.specs.Operation.{first_wide};
+ghost use Rattle.tm_frac.specs.Operation.{first_wide};
 ghost use Rattle.tm_dict.specs.PivotOperations.{pivot_operations};
 ghost use Rattle.tm_simplex.specs.Operations.{first_refused, whole_phase, run_operations};
 ghost use Rattle.tm_simplex.specs.Outcomes.{IsOutcomeOf, HasEvidence, SaysSupremum};

@@ -1,6 +1,6 @@
 //! The entering column and the leaving row of Bland's rule, found without memory.
 ghost use Rattle.std.specs.Prelude.{◌≡◌, ◌+◌, ◌<◌, Some, None, false, MatchBool, MatchResult};
-ghost use Rattle.tm_dict.specs.Operation.{first_wide, operation_of};
+ghost use Rattle.tm_frac.specs.Operation.{first_wide, operation_of};
 ghost use Rattle.tm_simplex.specs.Operations.{ratio_operation, ratio_operations};
 ghost use Rattle.tm_simplex.specs.Choices.{EntersAt, RatioAt, IsBefore, LeavesOf, CandidateOf};
 

@@ -1,5 +1,5 @@
 -- What the stream of messages holds after a message was put in one piece.
-use Rattle.std.proofs.Common.{◌≡◌, ◌≤◌, ◌≢◌, ℕ, List, Option, length, refl, sym, subst, arith}
+use Rattle.std.proofs.Common.{◌≡◌, ◌≤◌, ◌≢◌, ℕ, List, Option, length, take, refl, sym, subst, arith}
 use Rattle.std.specs.Prelude.{Result, Ok, Err}
 use Rattle.std.specs.Io.KnownBytes.{Appends}
 use Rattle.std.proofs.Math.Seq.{take-length}
@@ -7,10 +7,7 @@ use Rattle.tm_io.specs.Puts.{HasPutCause, Puts}
 use Rattle.tm_io.specs.declared.sink.PutFault.{PutFault}
 use Rattle.tm_io.specs.declared.sink.PutFault.TheVariants.{Failed, NoMemory}
 use Rattle.tm_top.specs.Run.{ErrorsHold, GetsMessage}
-use Rattle.tm_top.specs.Status.{message_of}
-use Rattle.tm_top.specs.declared.status.Which.TheVariants.{Program}
-use Rattle.tm_top.specs.declared.status.ReadCause.TheVariants.{Failed as ReadFailed}
-use Rattle.tm_top.specs.declared.status.TextCause.TheVariants.{NotBuilt}
+use Rattle.tm_top.specs.Messages.{message_of}
 use Rattle.tm_top.specs.declared.status.Status.{Status}
 use Rattle.tm_top.specs.declared.status.Status.TheVariants.{Done, Usage, Read, Text, Memory, Write}
 
@@ -26,17 +23,18 @@ gets message held now f f' s (Err Failed) short puts cause =
 gets message held now f f' s (Err NoMemory) short puts cause =
     record { part = puts; whole = λ room calm. let small = cause.0 in absurd (omega arith) }
 
-pub told : (status : Status) (held now : Option (List ℕ)) (f f' s : ℕ) (r : Result (Unit {0}) PutFault)
-    → status ≢ Done → Puts held now (message_of status) r → HasPutCause f f' s (message_of status) r → ErrorsHold status held now f f' s
-told Done held now f f' s r other puts cause = absurd (other refl)
-told Usage held now f f' s r other puts cause = gets (message_of Usage) held now f f' s r (omega arith) puts cause
-told (Read (ReadFailed Program)) held now f f' s r other puts cause = gets (message_of (Read (ReadFailed Program))) held now f f' s r (omega arith) puts cause
-told (Text NotBuilt) held now f f' s r other puts cause = gets (message_of (Text NotBuilt)) held now f f' s r (omega arith) puts cause
-told Memory held now f f' s r other puts cause = gets (message_of Memory) held now f f' s r (omega arith) puts cause
-told Write held now f f' s r other puts cause = gets (message_of Write) held now f f' s r (omega arith) puts cause
+told : (line : ℕ) (status : Status) (held now : Option (List ℕ)) (f f' s : ℕ)
+    → status ≢ Done → GetsMessage (message_of line status) held now f f' s → ErrorsHold line status held now f f' s
+told line Done held now f f' s other m = absurd (other refl)
+told line Usage held now f f' s other m = m
+told line (Read cause) held now f f' s other m = m
+told line (Text cause) held now f f' s other m = m
+told line Memory held now f f' s other m = m
+told line Write held now f f' s other m = m
 
--- the same for the bytes that were put
-pub told_by : (status : Status) (message : List ℕ) (held now : Option (List ℕ)) (f f' s : ℕ) (r : Result (Unit {0}) PutFault)
-    → message ≡ message_of status → status ≢ Done → Puts held now message r → HasPutCause f f' s message r → ErrorsHold status held now f f' s
-told_by status message held now f f' s r e other puts cause =
-    told status held now f f' s r other (subst (λ m. Puts held now m r) e puts) (subst (λ m. HasPutCause f f' s m r) e cause)
+-- the bytes of a message were put
+pub told_by : (line : ℕ) (status : Status) (bytes message : List ℕ) (held now : Option (List ℕ)) (f f' s : ℕ) (r : Result (Unit {0}) PutFault)
+    → bytes ≡ message → message ≡ message_of line status → length bytes ≤ 512 → status ≢ Done → Puts held now bytes r → HasPutCause f f' s bytes r → ErrorsHold line status held now f f' s
+told_by line status bytes message held now f f' s r e i short other puts cause =
+    told line status held now f f' s other
+    (subst (λ m. GetsMessage m held now f f' s) i (subst (λ m. GetsMessage m held now f f' s) e (gets bytes held now f f' s r short puts cause)))

@@ -1,13 +1,13 @@
 //! All that the program does, over its words, its files and its streams.
 #![tactic(auto)]
 
-mod cursor;
-mod first_form;
+mod message;
 mod output;
 mod program;
 mod report;
 mod request;
-mod reserved;
+mod small;
+mod source;
 mod status;
 mod straight;
 

@@ -1,7 +1,11 @@
-//! How a run ended, its exit code and its message.
+//! How a run ended, and its exit code.
 
-ghost use Rattle.std.specs.Prelude.{◌≡◌, ◌≤◌, length};
-ghost use Rattle.tm_top.specs.Status.{code_of, message_of};
+ghost use Rattle.std.specs.Prelude.{◌≡◌};
+ghost use Rattle.tm_top.specs.Status.{code_of};
+
+use tm_flow::FlowFault;
+use tm_lex::LexFault;
+use tm_parse::ParseFault;
 
 /// A file that the words name.
 #[derive(Clone, Copy, Debug, PartialEq, Eq)]
@@ -14,12 +18,20 @@ pub enum Which {
 pub enum ReadCause {
     /// The load of this file failed.
     Failed(Which),
+    /// This file has more bytes than it may have.
+    TooLong(Which),
 }
 
-/// Why a program text is refused.
+/// Why a program text is refused (docs/FORMATS.md, "Messages").
 #[derive(Clone, Copy, Debug, PartialEq, Eq)]
 pub enum TextCause {
-    /// The text isn't one straight line of the first form (docs/FORMATS.md).
+    /// It doesn't read as tokens.
+    Lex(LexFault),
+    /// Its tokens don't read as a program.
+    Parse(ParseFault),
+    /// Its program has no points and edges within the limits.
+    Flow(FlowFault),
+    /// Its program isn't a small line.
     NotBuilt,
 }
 
@@ -52,20 +64,6 @@ impl Status {
             Status::Text(_) => 4,
             Status::Memory => 7,
             Status::Write => 8,
-        }
-    }
-
-    /// The line for the stream of messages; empty for `Done`.
-    pub fn message(&self) -> &'static [u8]
-        ensures { result.now ≡ message_of self.now }
-    {
-        match self {
-            Status::Done => b"",
-            Status::Usage => b"usage: tmpl solve PROGRAM\n",
-            Status::Read(ReadCause::Failed(Which::Program)) => b"cannot read the program\n",
-            Status::Text(TextCause::NotBuilt) => b"program refused: not built yet\n",
-            Status::Memory => b"out of memory\n",
-            Status::Write => b"cannot write\n",
         }
     }
 }

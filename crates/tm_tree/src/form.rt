@@ -1,8 +1,9 @@
 //! Affine forms.
 
-ghost use Rattle.std.specs.Prelude.{◌≡◌, IsTrue};
+ghost use Rattle.std.specs.Prelude.{◌≡◌, IsTrue, IfOk};
 ghost use Rattle.tm_tree.specs.Numbers.{are_numbers};
 
+use std::alloc::AllocError;
 use std::marker::Model;
 
 /// A list of whole numbers, each within `2^63 - 1` in absolute value: the coefficients of a form or of a template's row,
@@ -39,6 +40,14 @@ impl Coeffs {
     {
         self.list.as_slice()
     }
+
+    /// The same list once more.
+    pub fn again(&self) -> Result<Coeffs, AllocError>
+        ensures { IfOk result (λ copy. copy ≡ self.now) }
+    {
+        let list = self.list.clone()?;
+        Ok(Coeffs { list })
+    }
 }
 
 /// An affine form: the sum of each variable's value times its coefficient, and a constant.
@@ -46,4 +55,17 @@ impl Coeffs {
 pub struct Form {
     pub coeffs: Coeffs,
     pub constant: i64,
+}
+
+impl Form {
+    /// The same form once more.
+    pub fn again(&self) -> Result<Form, AllocError>
+        ensures { IfOk result (λ copy. copy ≡ self.now) }
+    {
+        let coeffs = self.coeffs.again()?;
+        Ok(Form {
+            coeffs,
+            constant: self.constant,
+        })
+    }
 }

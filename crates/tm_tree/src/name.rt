@@ -1,9 +1,10 @@
 //! Names of variables and labels.
 
-ghost use Rattle.std.specs.Prelude.{◌≡◌, ◌↔◌, IsTrue, IsSome, IfSome};
+ghost use Rattle.std.specs.Prelude.{◌≡◌, ◌↔◌, IsTrue, IsSome, IfOk, IfSome};
 ghost use Rattle.std.specs.List.{list_all};
 ghost use Rattle.tm_tree.specs.Word.{begins_word, is_letter, is_word, is_word_byte};
 
+use std::alloc::{AllocError, Global};
 use std::marker::Model;
 
 /// A word of 1 to 32 bytes: a letter or `_`, and then letters, digits and `_`.
@@ -87,6 +88,17 @@ impl Names {
         ensures { result.now ≡ self.now }
     {
         self.list.as_slice()
+    }
+
+    /// The same names once more.
+    pub fn again(&self, alloc: Global) -> Result<Names, AllocError>
+        ensures { IfOk result (λ copy. copy ≡ self.now) }
+    {
+        let mut list = Vec::new(alloc);
+        for name in self.as_slice() {
+            list.push(name.again())?;
+        }
+        Ok(Names { list })
     }
 }
 

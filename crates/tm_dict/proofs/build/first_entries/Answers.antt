@@ -1,4 +1,5 @@
-use Rattle.std.proofs.Common.{◌++◌, length, map, ap, ap₂, ◌∙◌}
+use Rattle.std.proofs.Common.{◌≡◌, ◌++◌, length, map, ap, ap₂, sym, ◌∙◌}
+use Rattle.tm_num.specs.Rational.{ℚ}
 use Rattle.tm_dict.specs.declared.problem.Row.{Row}
 use Rattle.tm_dict.specs.Build.{goals_entries, slacks_entries}
 use Rattle.tm_dict.proofs.build.first_entries.Goals as goal

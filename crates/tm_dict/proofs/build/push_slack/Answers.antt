@@ -1,4 +1,4 @@
-use Rattle.std.proofs.Common.{◌+◌, map, take}
+use Rattle.std.proofs.Common.{◌≡◌, ◌+◌, map, take}
 use Rattle.tm_num.specs.Rational.{neg_ℚ}
 use Rattle.tm_dict.proofs.Built.{negated_more, appended_more}
 use Rattle.tm_dict.proofs.build.push_slack.Goals as goal

@@ -1,6 +1,6 @@
-use Rattle.std.proofs.Common.{◌++◌, [], map, ap, sym, ◌∙◌}
+use Rattle.std.proofs.Common.{◌≡◌, ◌++◌, [], map, get_or, ap, sym, ◌∙◌}
 use Rattle.std.proofs.lemmas.List.{get_or-map}
-use Rattle.tm_num.specs.Rational.{zero_ℚ}
+use Rattle.tm_num.specs.Rational.{ℚ, zero_ℚ}
 use Rattle.tm_dict.specs.declared.problem.Row.{Row}
 use Rattle.tm_dict.specs.Build.{slack_entries}
 use Rattle.tm_dict.proofs.Built.{slacks_more, slacks_none}

@@ -1,4 +1,4 @@
-use Rattle.std.proofs.Common.{◌≢◌, true≢false, sym, ◌∙◌}
+use Rattle.std.proofs.Common.{◌≡◌, ◌≢◌, true≢false, sym, ◌∙◌}
 use Rattle.tm_num.specs.Rational.{zero_ℚ}
 use Rattle.tm_dict.proofs.Entries.{product_zero, product_made}
 use Rattle.tm_dict.proofs.formulas.product_of.Goals as goal

@@ -1,6 +1,6 @@
-use Rattle.std.proofs.Common.{◌+◌, ◌<◌, length, arith}
+use Rattle.std.proofs.Common.{◌≡◌, ◌+◌, ◌<◌, length, arith}
 use Rattle.std.proofs.lemmas.Result.{err_from_is_err_and}
-use Rattle.tm_dict.specs.Operation.{operation_of}
+use Rattle.tm_frac.specs.Operation.{operation_of}
 use Rattle.tm_dict.specs.Formulas.{added_row}
 use Rattle.tm_dict.specs.Cells.{row_from}
 use Rattle.tm_dict.proofs.Cells.{sets_none}

@@ -1,10 +1,11 @@
 use Rattle.std.proofs.Common.{◌≡◌, ◌+◌, ◌<◌, length, set, Some, refl, ap, sym, ◌∙◌, arith}
 use Rattle.std.proofs.lemmas.Result.{err_from_is_err_and, on_ok_weaker, IfErr-weaker}
-use Rattle.tm_num.specs.Rational.{◌*ℚ◌}
-use Rattle.tm_dict.specs.Operation.{first_wide, operation_of}
+use Rattle.tm_num.specs.Rational.{zero_ℚ, ◌*ℚ◌}
+use Rattle.tm_frac.specs.Operation.{first_wide, operation_of}
+use Rattle.tm_dict.specs.Formulas.{combined_row}
 use Rattle.tm_dict.specs.PivotOperations.{added_row_operations, combination_row_operations}
 use Rattle.tm_dict.specs.Cells.{row_from}
-use Rattle.tm_dict.proofs.Cells.{cell_read}
+use Rattle.tm_dict.proofs.Cells.{cell_read, sets_none}
 use Rattle.tm_dict.proofs.RowSteps.{combined_still, combination_still, combined_after, combined_later, combined_sooner}
 use Rattle.tm_dict.proofs.rows.combine_row.Goals as goal
 

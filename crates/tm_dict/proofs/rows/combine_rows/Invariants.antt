@@ -1,5 +1,5 @@
 use Rattle.std.proofs.Common.{◌≡◌, None}
-use Rattle.tm_dict.specs.Operation.{first_wide}
+use Rattle.tm_frac.specs.Operation.{first_wide}
 use Rattle.tm_dict.specs.Rows.{CombinesRows, rows_operations}
 use Rattle.tm_dict.proofs.rows.combine_rows.Given as goal
 

@@ -1,5 +1,5 @@
 use Rattle.std.proofs.Common.{◌≡◌, None}
-use Rattle.tm_dict.specs.Operation.{first_wide}
+use Rattle.tm_frac.specs.Operation.{first_wide}
 use Rattle.tm_dict.specs.Formulas.{divided_row}
 use Rattle.tm_dict.specs.PivotOperations.{division_row_operations}
 use Rattle.tm_dict.specs.Cells.{row_from}

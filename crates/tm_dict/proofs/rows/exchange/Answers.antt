@@ -1,6 +1,6 @@
-use Rattle.std.proofs.Common.{◌≡◌, Some, ◌∙◌}
+use Rattle.std.proofs.Common.{◌≡◌, Ok, Err, Result, Some, None, sym, ◌∙◌}
 use Rattle.std.proofs.lemmas.Result.{err_from_is_err_and, on_ok_weaker, IfErr-weaker}
-use Rattle.tm_dict.specs.Operation.{first_wide, operation_of}
+use Rattle.tm_frac.specs.Operation.{first_wide, operation_of}
 use Rattle.tm_dict.specs.Rows.{exchange_operations, rows_operations}
 use Rattle.tm_dict.proofs.ExchangeSteps.{exchange_made, exchange_later, exchange_sooner}
 use Rattle.tm_dict.proofs.rows.exchange.Goals as goal

@@ -1,3 +1,4 @@
+use Rattle.std.proofs.Common.{◌≡◌}
 use Rattle.tm_dict.specs.Exact.{exact}
 use Rattle.tm_dict.specs.Sides.{IsLeastSoFar}
 use Rattle.tm_dict.proofs.sides.lowest_side.Given as goal

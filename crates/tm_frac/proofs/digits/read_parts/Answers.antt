@@ -1,4 +1,4 @@
-use Rattle.std.proofs.Common.{pos, Some, refl, ap, sym, ◌∙◌, arith}
+use Rattle.std.proofs.Common.{pos, Some, refl, ap, sym, ◌∙◌}
 use Rattle.tm_frac.proofs.Slashes.{cut, uncut}
 use Rattle.tm_frac.proofs.digits.read_parts.Goals as goal
 

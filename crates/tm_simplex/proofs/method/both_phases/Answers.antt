@@ -1,4 +1,4 @@
-use Rattle.std.proofs.Common.{◌≡◌, ◌≢◌, ◌+◌, true, None, length, sym, ◌∙◌, subst, arith}
+use Rattle.std.proofs.Common.{◌≡◌, ◌≢◌, ◌+◌, ◌<◌, true, false, None, length, refl, sym, ap, ◌∙◌, subst, arith}
 use Rattle.std.specs.Prelude.{IfOk}
 use Rattle.std.proofs.lemmas.List.{length-map}
 use Rattle.std.proofs.lemmas.Result.{err_from_is_err_and, on_ok_weaker, IfErr-weaker}
@@ -9,11 +9,11 @@ use Rattle.tm_lp.specs.Run.{main_phase, aux_phase}
 use Rattle.tm_lp.proofs.PhaseRuns.{lowest_is}
 use Rattle.tm_dict.specs.declared.problem.Row.{Row}
 use Rattle.tm_dict.specs.Exact.{exact}
-use Rattle.tm_dict.specs.Operation.{first_wide}
+use Rattle.tm_frac.specs.Operation.{first_wide}
 use Rattle.tm_dict.specs.PivotOperations.{pivot_operations}
 use Rattle.tm_simplex.specs.declared.outcome.Outcome.TheVariants.{Empty}
 use Rattle.tm_simplex.specs.declared.phase.End.TheVariants.{Left}
-use Rattle.tm_simplex.specs.Operations.{whole_phase, run_operations}
+use Rattle.tm_simplex.specs.Operations.{first_refused, whole_phase, run_operations}
 use Rattle.tm_simplex.specs.Outcomes.{IsOutcomeOf}
 use Rattle.tm_simplex.specs.Answers.{EndsPhase, EntersRefused, RefusesRun}
 use Rattle.tm_simplex.proofs.Begins.{first_pivot, begins_aux, two_goals, begins_main}

@@ -1,7 +1,8 @@
-use Rattle.std.proofs.Common.{◌≡◌, ◌+◌, ℕ, true, false, Bool, length, sym, ap₂, ◌∙◌, subst, subst₂, arith}
+use Rattle.std.proofs.Common.{◌≡◌, ◌+◌, ℕ, true, false, Bool, length, refl, sym, ap, ap₂, ◌∙◌, subst, subst₂, arith}
 use mir.Val.{bool_byte}
 use Rattle.std.proofs.lemmas.List.{length-map}
 use Rattle.std.proofs.lemmas.Result.{err_from_is_err_and}
+use Rattle.tm_num.specs.Rational.{ℚ}
 use Rattle.tm_lp.specs.Run.{phase_of}
 use Rattle.tm_dict.specs.declared.problem.Row.{Row}
 use Rattle.tm_dict.specs.Build.{width_of}

@@ -1,4 +1,4 @@
-use Rattle.std.proofs.Common.{◌<◌, ◌-◌, length, arith}
+use Rattle.std.proofs.Common.{◌≡◌, ◌<◌, ◌-◌, length, arith}
 use Rattle.tm_simplex.proofs.Placing.{put_in}
 use Rattle.tm_simplex.proofs.read.put_at.Goals as goal
 

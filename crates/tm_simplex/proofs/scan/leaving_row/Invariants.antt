@@ -1,5 +1,5 @@
 use Rattle.std.proofs.Common.{◌≡◌, None}
-use Rattle.tm_dict.specs.Operation.{first_wide}
+use Rattle.tm_frac.specs.Operation.{first_wide}
 use Rattle.tm_dict.specs.Listed.{joined}
 use Rattle.tm_simplex.specs.Operations.{ratio_operation}
 use Rattle.tm_simplex.specs.Choices.{CandidateOf}

@@ -1,7 +1,7 @@
-use Rattle.std.proofs.Common.{◌≡◌, Some, None, ap, ◌∙◌, subst}
+use Rattle.std.proofs.Common.{◌≡◌, Option, Some, None, sym, ap, ◌∙◌, subst}
 use Rattle.std.proofs.lemmas.Result.{err_from_is_err_and, MatchResult-at_ok, MatchResult-at_err}
 use Rattle.tm_num.specs.Rational.{zero_ℚ, neg_ℚ, ◌≤ℚ◌, ◌<ℚ◌}
-use Rattle.tm_dict.specs.Operation.{first_wide, operation_of}
+use Rattle.tm_frac.specs.Operation.{first_wide, operation_of}
 use Rattle.tm_simplex.specs.Operations.{ratio_operation}
 use Rattle.tm_simplex.specs.Choices.{ratio_at}
 use Rattle.tm_simplex.proofs.Signs.{sign_ge, sign_lt}

@@ -1,4 +1,4 @@
-use Rattle.std.proofs.Common.{inr, refl, ◌∙◌, subst}
+use Rattle.std.proofs.Common.{◌≡◌, inl, inr, refl, sym, ◌∙◌, subst}
 use Rattle.tm_num.proofs.Laws.{ne_of_lt_ℚ}
 use Rattle.tm_dict.proofs.Widths.{first_wide_later}
 use Rattle.tm_dict.specs.PivotOperations.{pivot_operations}

@@ -1,5 +1,6 @@
-use Rattle.std.proofs.Common.{◌≡◌, length, All, sym, ap, subst, arith}
+use Rattle.std.proofs.Common.{◌≡◌, ◌+◌, ◌<◌, ◌++◌, ◌∷◌, [], length, All, sym, ◌∙◌, ap, subst, arith}
 use Rattle.std.proofs.lemmas.List.Elements.{All-push}
+use Rattle.tm_dict.specs.Exact.{IsShaped}
 use Rattle.tm_simplex.proofs.tests.add_row.Goals as goal
 
 pub returns : goal.returns

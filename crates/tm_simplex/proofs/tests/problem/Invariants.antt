@@ -1,4 +1,4 @@
-use Rattle.std.proofs.Common.{length}
+use Rattle.std.proofs.Common.{◌≡◌, ◌≤◌, length}
 use Rattle.tm_dict.specs.Exact.{IsShaped}
 use Rattle.tm_simplex.proofs.tests.problem.Given as goal
 

@@ -1,6 +1,8 @@
 use Rattle.std.proofs.Common.{◌≡◌, ◌+◌, ◌*◌, ◌<◌, ◌≤◌, ◌++◌, ℕ, suc, Bool, true, false, length, map, get_or, ap, sym, ◌∙◌, subst, arith}
 use Rattle.std.proofs.lemmas.List.{length-map}
+use Rattle.tm_num.specs.Rational.{ℚ}
 use Rattle.tm_lp.specs.Table.{Agree}
+use Rattle.tm_lp.specs.Simplex.{slack_name}
 use Rattle.tm_dict.specs.declared.problem.Row.{Row}
 use Rattle.tm_dict.specs.Build.{goals_of, width_of, other_name, slacks_entries, goals_entries}
 use Rattle.tm_dict.specs.Cells.{cells_table}

@@ -1,4 +1,4 @@
-use Rattle.std.proofs.Common.{◌≡◌, ◌+◌, ◌-◌, ◌*◌, ◌<◌, suc, length, get_or, take, sym, ap, ap₂, ◌∙◌, subst, arith}
+use Rattle.std.proofs.Common.{◌≡◌, ◌+◌, ◌-◌, ◌*◌, ◌<◌, ◌++◌, suc, length, get_or, take, drop, sym, ap, ap₂, ◌∙◌, subst, arith}
 use Rattle.tm_lp.specs.Table.{Agree}
 use Rattle.tm_lp.specs.Run.{place_of, leave_table}
 use Rattle.tm_dict.specs.Cells.{cells_table}

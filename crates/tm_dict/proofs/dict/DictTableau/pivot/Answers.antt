@@ -1,7 +1,7 @@
-use Rattle.std.proofs.Common.{◌≡◌, ◌+◌, suc, length, sym, ap, ◌∙◌, subst, arith}
+use Rattle.std.proofs.Common.{◌≡◌, ◌+◌, ◌<◌, ◌++◌, suc, length, take, drop, sym, ap, ◌∙◌, subst, arith}
 use Rattle.std.proofs.Common.{set}
 use Rattle.tm_lp.specs.Table.{Agree, pivot_table}
-use Rattle.tm_dict.specs.Operation.{first_wide}
+use Rattle.tm_frac.specs.Operation.{first_wide}
 use Rattle.tm_dict.specs.Cells.{cells_table}
 use Rattle.tm_dict.proofs.DictPivots.{pivot_agrees, pivot_operations_are, written_back, exchange_in, exchange_operations_in}
 use Rattle.tm_dict.proofs.dict.DictTableau.pivot.Goals as goal

@@ -1,4 +1,4 @@
-use Rattle.std.proofs.Common.{pos, nat_abs, sym, ap, ◌∙◌, arith}
+use Rattle.std.proofs.Common.{nat_abs, sym, ap, ◌∙◌, arith}
 use Rattle.tm_num.proofs.Quotients.{whole_ne_zero}
 use Rattle.tm_frac.proofs.frac.Exact+LongLimit.mid.Goals as goal
 

@@ -1,1 +1,0 @@
-use Rattle.tm_frac.proofs.frac.Exact+LongLimit.read.Goals as goal

@@ -1,0 +1,13 @@
+use Rattle.std.proofs.Common.{◌≡◌, ◌≤◌, ◌*◌, ◌-◌}
+use Rattle.tm_eqsys.specs.View.{equations_of}
+use Rattle.tm_eqsys.specs.Cells.{unknown_rows, unknown_columns}
+use Rattle.tm_eqsys.proofs.CellSums.{sum_to}
+use Rattle.tm_eqsys.proofs.system.System.cells.Given as goal
+
+abbrev pub invariant-loop-point : goal.invariant-loop-point
+invariant-loop-point l = record {
+  rows : l.rows ≡ sum_to (equations_of l.self) (unknown_rows (equations_of l.self)) (l.point - 1);
+  columns : l.columns ≡ sum_to (equations_of l.self) (unknown_columns (equations_of l.self)) (l.point - 1);
+  few_rows : l.rows ≤ l.point * 49280;
+  few_columns : l.columns ≤ l.point * 67712;
+}

@@ -1,0 +1,6 @@
+use Rattle.std.proofs.Common.{rules}
+use Rattle.tm_flow.proofs.CountLaws.{counted_up_to}
+use Rattle.tm_flow.proofs.count.edge_count.Goals as goal
+
+pub returns : goal.returns
+returns c = counted_up_to c.args.body.now _ _ (search rules)

@@ -1,0 +1,14 @@
+use Rattle.std.proofs.Common.{◌∙◌}
+use Rattle.std.proofs.lemmas.Result.{IfOk-weaker}
+use Rattle.tm_gram.specs.Machine.{start}
+use Rattle.tm_gram.specs.View.{scan_of, tokens_of}
+use Rattle.tm_gram.proofs.Exact.{exact_by}
+use Rattle.tm_gram.proofs.Plain.{plain_scan}
+use Rattle.tm_gram.proofs.Scanned.{found_by}
+use Rattle.tm_gram.proofs.machine.examine.Goals as goal
+
+pub returns-clause-found : goal.returns-clause-found
+returns-clause-found c = IfOk-weaker c.recognise.result _ _ (λ s e text. found_by (scan_of s) (tokens_of text c.args.tokens.now) (e ∙ plain_scan text start c.args.tokens.now)) c.recognise.ensures
+
+pub returns-clause-exact : goal.returns-clause-exact
+returns-clause-exact c = IfOk-weaker c.recognise.result _ _ (λ s e text t n f. exact_by (scan_of s) t (tokens_of text c.args.tokens.now) (e ∙ plain_scan text start c.args.tokens.now) n f) c.recognise.ensures

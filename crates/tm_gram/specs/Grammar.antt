@@ -1,0 +1,273 @@
+-- The language: trees, how each is spelled, and which trees the rules on grouping allow.
+use Rattle.std.specs.Prelude.{◌≡◌, ◌≤◌, ◌++◌, ℕ, suc, List, [], ◌∷◌}
+
+-- how two numbers are compared
+pub data Relation : Type 0 where
+  equal : Relation
+  unequal : Relation
+  less : Relation
+  at_most : Relation
+  greater : Relation
+  at_least : Relation
+
+-- the signs that stand between two sides
+pub data Op : Type 0 where
+  or_op : Op
+  and_op : Op
+  compare_op : Relation → Op
+  plus_op : Op
+  minus_op : Op
+  times_op : Op
+
+-- the signs that stand before one
+pub data Prefix : Type 0 where
+  negative : Prefix
+  positive : Prefix
+  negation : Prefix
+
+-- what an assignment does: `=`, `+=`, `-=`
+pub data Change : Type 0 where
+  replaces : Change
+  adds : Change
+  subtracts : Change
+
+-- `++` and `--`
+pub data Direction : Type 0 where
+  up : Direction
+  down : Direction
+
+-- What a token is. The words that stand for one thing are one kind; `other_word` is a reserved word that stands nowhere.
+pub data Kind : Type 0 where
+  a_name : List ℕ → Kind
+  a_number : ℕ → Kind
+  infix_sign : Op → Kind
+  bang : Kind
+  left_paren : Kind
+  right_paren : Kind
+  left_brace : Kind
+  right_brace : Kind
+  comma : Kind
+  semicolon : Kind
+  colon : Kind
+  change_sign : Change → Kind
+  step_sign : Direction → Kind
+  int_word : Kind
+  main_word : Kind
+  void_word : Kind
+  if_word : Kind
+  else_word : Kind
+  while_word : Kind
+  return_word : Kind
+  assume_word : Kind
+  nondet_word : Kind
+  other_word : Kind
+  the_end : Kind
+
+-- a token of a kind at a place
+pub data Token : Type 0 where
+  token : Kind → ℕ → Token
+
+abbrev pub sign_of : Prefix → Kind
+sign_of negative = infix_sign minus_op
+sign_of positive = infix_sign plus_op
+sign_of negation = bang
+
+abbrev pub relation_level : Relation → ℕ
+relation_level equal = 2
+relation_level unequal = 2
+relation_level less = 3
+relation_level at_most = 3
+relation_level greater = 3
+relation_level at_least = 3
+
+-- how tightly a sign holds its sides
+abbrev pub level : Op → ℕ
+level or_op = 0
+level and_op = 1
+level (compare_op r) = relation_level r
+level plus_op = 4
+level minus_op = 4
+level times_op = 5
+
+-- An expression. Here and below each ℕ that isn't a number's value is the place of a token, in the order of the text.
+pub data Expr : Type 0 where
+  number : ℕ → ℕ → Expr
+  variable : List ℕ → ℕ → Expr
+  free : ℕ → ℕ → ℕ → Expr
+  grouped : ℕ → Expr → ℕ → Expr
+  prefixed : Prefix → ℕ → Expr → Expr
+  joined : Expr → Op → ℕ → Expr → Expr
+
+abbrev pub spell_expr : Expr → List Token
+spell_expr (number n a) = token (a_number n) a ∷ []
+spell_expr (variable x a) = token (a_name x) a ∷ []
+spell_expr (free a b c) = token nondet_word a ∷ token left_paren b ∷ token right_paren c ∷ []
+spell_expr (grouped a e b) = token left_paren a ∷ (spell_expr e ++ token right_paren b ∷ [])
+spell_expr (prefixed p a e) = token (sign_of p) a ∷ spell_expr e
+spell_expr (joined e o a f) = spell_expr e ++ token (infix_sign o) a ∷ spell_expr f
+
+-- The tree groups as the levels say: no sign above holds looser than l, repeated ones group to the left.
+abbrev pub Groups : ℕ → Expr → Type 0
+Groups l (number n a) = Unit {0}
+Groups l (variable x a) = Unit {0}
+Groups l (free a b c) = Unit {0}
+Groups l (grouped a e b) = Groups 0 e
+Groups l (prefixed p a e) = Groups 6 e
+Groups l (joined e o a f) = (l ≤ level o) × Groups (level o) e × Groups (suc (level o)) f
+
+-- a name that is declared, with `=` and an initialiser or without
+pub data Declarator : Type 0 where
+  bare : List ℕ → ℕ → Declarator
+  given : List ℕ → ℕ → ℕ → Expr → Declarator
+
+-- declarators with a comma between them and a `;` at the end
+pub data Declarators : Type 0 where
+  declares : Declarator → ℕ → Declarators
+  declares_more : Declarator → ℕ → Declarators → Declarators
+
+abbrev pub spell_declarator : Declarator → List Token
+spell_declarator (bare x a) = token (a_name x) a ∷ []
+spell_declarator (given x a b e) = token (a_name x) a ∷ token (change_sign replaces) b ∷ spell_expr e
+
+abbrev pub spell_declarators : Declarators → List Token
+spell_declarators (declares x a) = spell_declarator x ++ token semicolon a ∷ []
+spell_declarators (declares_more x a xs) = spell_declarator x ++ token comma a ∷ spell_declarators xs
+
+abbrev pub GoodDeclarator : Declarator → Type 0
+GoodDeclarator (bare x a) = Unit {0}
+GoodDeclarator (given x a b e) = Groups 0 e
+
+abbrev pub GoodDeclarators : Declarators → Type 0
+GoodDeclarators (declares x a) = GoodDeclarator x
+GoodDeclarators (declares_more x a xs) = GoodDeclarator x × GoodDeclarators xs
+
+mutual
+  pub data Core : Type 0 where
+    empty : ℕ → Core
+    block : ℕ → Items → ℕ → Core
+    if_alone : ℕ → ℕ → Expr → ℕ → Sub → Core
+    if_else : ℕ → ℕ → Expr → ℕ → Sub → ℕ → Sub → Core
+    repeat : ℕ → ℕ → Expr → ℕ → Sub → Core
+    assumed : ℕ → ℕ → Expr → ℕ → ℕ → Core
+    set : List ℕ → ℕ → Change → ℕ → Expr → ℕ → Core
+    step_after : List ℕ → ℕ → Direction → ℕ → ℕ → Core
+    step_before : Direction → ℕ → List ℕ → ℕ → ℕ → Core
+
+  pub data Sub : Type 0 where
+    labelled : List ℕ → ℕ → ℕ → Sub → Sub
+    plain : Core → Sub
+
+  pub data Items : Type 0 where
+    no_items : Items
+    label : List ℕ → ℕ → ℕ → Items → Items
+    declaration : ℕ → Declarators → Items → Items
+    item : Core → Items → Items
+
+abbrev mutual
+  pub spell_core : Core → List Token
+  spell_core (empty a) = token semicolon a ∷ []
+  spell_core (block a is b) = token left_brace a ∷ (spell_items is ++ token right_brace b ∷ [])
+  spell_core (if_alone a b e c s) = token if_word a ∷ token left_paren b ∷ (spell_expr e ++ token right_paren c ∷ spell_sub s)
+  spell_core (if_else a b e c s d t) = token if_word a ∷ token left_paren b ∷ (spell_expr e ++ token right_paren c ∷ (spell_sub s ++ token else_word d ∷ spell_sub t))
+  spell_core (repeat a b e c s) = token while_word a ∷ token left_paren b ∷ (spell_expr e ++ token right_paren c ∷ spell_sub s)
+  spell_core (assumed a b e c d) = token assume_word a ∷ token left_paren b ∷ (spell_expr e ++ token right_paren c ∷ token semicolon d ∷ [])
+  spell_core (set x a g b e c) = token (a_name x) a ∷ token (change_sign g) b ∷ (spell_expr e ++ token semicolon c ∷ [])
+  spell_core (step_after x a g b c) = token (a_name x) a ∷ token (step_sign g) b ∷ token semicolon c ∷ []
+  spell_core (step_before g a x b c) = token (step_sign g) a ∷ token (a_name x) b ∷ token semicolon c ∷ []
+
+  pub spell_sub : Sub → List Token
+  spell_sub (labelled x a b s) = token (a_name x) a ∷ token colon b ∷ spell_sub s
+  spell_sub (plain c) = spell_core c
+
+  pub spell_items : Items → List Token
+  spell_items no_items = []
+  spell_items (label x a b is) = token (a_name x) a ∷ token colon b ∷ spell_items is
+  spell_items (declaration a xs is) = token int_word a ∷ (spell_declarators xs ++ spell_items is)
+  spell_items (item c is) = spell_core c ++ spell_items is
+
+-- Whether an `if` at the very end has no `else`.
+pub data Ending : Type 0 where
+  shut : Ending
+  waiting : Ending
+
+abbrev mutual
+  pub ending_core : Core → Ending
+  ending_core (empty a) = shut
+  ending_core (block a is b) = shut
+  ending_core (if_alone a b e c s) = waiting
+  ending_core (if_else a b e c s d t) = ending_sub t
+  ending_core (repeat a b e c s) = ending_sub s
+  ending_core (assumed a b e c d) = shut
+  ending_core (set x a g b e c) = shut
+  ending_core (step_after x a g b c) = shut
+  ending_core (step_before g a x b c) = shut
+
+  pub ending_sub : Sub → Ending
+  ending_sub (labelled x a b s) = ending_sub s
+  ending_sub (plain c) = ending_core c
+
+-- Expressions group as they must, and each `else` belongs to the nearest `if` that has none.
+abbrev mutual
+  pub GoodCore : Core → Type 0
+  GoodCore (empty a) = Unit {0}
+  GoodCore (block a is b) = GoodItems is
+  GoodCore (if_alone a b e c s) = Groups 0 e × GoodSub s
+  GoodCore (if_else a b e c s d t) = Groups 0 e × GoodSub s × (ending_sub s ≡ shut) × GoodSub t
+  GoodCore (repeat a b e c s) = Groups 0 e × GoodSub s
+  GoodCore (assumed a b e c d) = Groups 0 e
+  GoodCore (set x a g b e c) = Groups 0 e
+  GoodCore (step_after x a g b c) = Unit {0}
+  GoodCore (step_before g a x b c) = Unit {0}
+
+  pub GoodSub : Sub → Type 0
+  GoodSub (labelled x a b s) = GoodSub s
+  GoodSub (plain c) = GoodCore c
+
+  pub GoodItems : Items → Type 0
+  GoodItems no_items = Unit {0}
+  GoodItems (label x a b is) = GoodItems is
+  GoodItems (declaration a xs is) = GoodDeclarators xs × GoodItems is
+  GoodItems (item c is) = GoodCore c × GoodItems is
+
+-- what stands between the parentheses of `main`
+pub data Parameters : Type 0 where
+  nothing : Parameters
+  void_at : ℕ → Parameters
+
+-- how `main` ends: with `return`, maybe a `-`, a number and `;`, or without
+pub data Return : Type 0 where
+  no_return : Return
+  returns : ℕ → ℕ → ℕ → ℕ → Return
+  returns_minus : ℕ → ℕ → ℕ → ℕ → ℕ → Return
+
+abbrev pub spell_parameters : Parameters → List Token
+spell_parameters nothing = []
+spell_parameters (void_at a) = token void_word a ∷ []
+
+abbrev pub spell_return : Return → List Token
+spell_return no_return = []
+spell_return (returns a n b c) = token return_word a ∷ token (a_number n) b ∷ token semicolon c ∷ []
+spell_return (returns_minus a b n c d) = token return_word a ∷ token (infix_sign minus_op) b ∷ token (a_number n) c ∷ token semicolon d ∷ []
+
+-- `int main ( .. ) { .. }` and the end of the text
+pub data Program : Type 0 where
+  program : ℕ → ℕ → ℕ → Parameters → ℕ → ℕ → Items → Return → ℕ → ℕ → Program
+
+abbrev pub spell : Program → List Token
+spell (program a b c ps d e is r f g) = token int_word a ∷ token main_word b ∷ token left_paren c ∷ (spell_parameters ps ++ token right_paren d ∷ token left_brace e ∷ (spell_items is ++ (spell_return r ++ token right_brace f ∷ token the_end g ∷ [])))
+
+abbrev pub Good : Program → Type 0
+Good (program a b c ps d e is r f g) = GoodItems is
+
+-- The tokens read as this program.
+pub record Reads (tokens : List Token) (p : Program) : Type 0 where
+  pub spelled : spell p ≡ tokens
+  pub good : Good p
+
+-- The tokens begin a sentence of the grammar.
+abbrev pub Begins : List Token → Type 0
+Begins front = (p : Program) × (rest : List Token) × Reads (front ++ rest) p
+
+-- The tokens before this one begin a sentence, and with it they begin none.
+abbrev pub IsUnexpected : List Token → Token → Type 0
+IsUnexpected front t = Begins front × (Begins (front ++ t ∷ []) → ⊥)

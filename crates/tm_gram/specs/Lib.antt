@@ -1,0 +1,5 @@
+pub mod Grammar
+pub mod Machine
+pub mod Depth
+pub mod Faults
+pub mod View

@@ -1,0 +1,204 @@
+-- A machine that reads a text token by token: a stack of what has still to come.
+use Rattle.std.specs.Prelude.{◌++◌, ℕ, suc, List, [], ◌∷◌, Option, Some, None}
+use Rattle.tm_gram.specs.Grammar.{Op, plus_op, minus_op, replaces, Kind, a_name, a_number, infix_sign, bang, left_paren, right_paren, left_brace, right_brace, comma, semicolon, colon, change_sign, step_sign, int_word, main_word, void_word, if_word, else_word, while_word, return_word, assume_word, nondet_word, the_end, Token, token}
+
+-- what has to stand behind an expression
+pub data Ender : Type 0 where
+  until_paren : Ender
+  until_semicolon : Ender
+  -- `,` and a further declarator, or `;`
+  until_declared : Ender
+
+-- where a statement stands: under an `if`, an `else`, a `while` or a label before it; in a block; in `main`
+pub data Place : Type 0 where
+  in_sub : Place
+  in_block : Place
+  in_main : Place
+
+-- a token that alone may stand at its place
+pub data Mark : Type 0 where
+  opening : Mark
+  closing : Mark
+  brace_opening : Mark
+  brace_closing : Mark
+  statement_end : Mark
+  main_name : Mark
+  int_type : Mark
+  text_end : Mark
+
+abbrev pub mark_kind : Mark → Kind
+mark_kind opening = left_paren
+mark_kind closing = right_paren
+mark_kind brace_opening = left_brace
+mark_kind brace_closing = right_brace
+mark_kind statement_end = semicolon
+mark_kind main_name = main_word
+mark_kind int_type = int_word
+mark_kind text_end = the_end
+
+-- What has to come. Each number is how many constructs are open there; that of `maybe_else` counts its `if`.
+pub data Goal : Type 0 where
+  operand : ℕ → Goal
+  more : Ender → ℕ → Goal
+  statement : Place → ℕ → Goal
+  after_name : Place → ℕ → Goal
+  maybe_else : ℕ → Goal
+  condition : ℕ → Goal
+  declarator : ℕ → Goal
+  declared : ℕ → Goal
+  some_name : Goal
+  parameters : Goal
+  returned : Goal
+  some_number : Goal
+  only : Mark → Goal
+
+pub data Entry : Type 0 where
+  -- the token is taken, and these have to come next
+  takes : List Goal → Entry
+  -- nothing is wanted, and the token belongs to what comes below
+  skips : Entry
+  stops : Entry
+
+abbrev pub prefix_entry : Op → ℕ → Entry
+prefix_entry plus_op d = takes (operand (suc d) ∷ [])
+prefix_entry minus_op d = takes (operand (suc d) ∷ [])
+prefix_entry _ d = stops
+
+abbrev pub operand_entry : ℕ → Kind → Entry
+operand_entry d (a_name x) = takes []
+operand_entry d (a_number n) = takes []
+operand_entry d (infix_sign o) = prefix_entry o d
+operand_entry d bang = takes (operand (suc d) ∷ [])
+operand_entry d left_paren = takes (operand (suc d) ∷ more until_paren (suc d) ∷ [])
+operand_entry d nondet_word = takes (only opening ∷ only closing ∷ [])
+operand_entry d _ = stops
+
+abbrev pub more_entry : Ender → ℕ → Kind → Entry
+more_entry e d (infix_sign o) = takes (operand d ∷ more e d ∷ [])
+more_entry until_paren d right_paren = takes []
+more_entry until_semicolon d semicolon = takes []
+more_entry until_declared d semicolon = takes []
+more_entry until_declared d comma = takes (declarator d ∷ [])
+more_entry e d _ = stops
+
+-- what comes after a whole statement
+abbrev pub next : Place → ℕ → List Goal
+next in_sub d = []
+next in_block d = statement in_block d ∷ []
+next in_main d = statement in_main d ∷ []
+
+abbrev pub declaration_entry : Place → ℕ → Entry
+declaration_entry in_sub d = stops
+declaration_entry in_block d = takes (declarator d ∷ statement in_block d ∷ [])
+declaration_entry in_main d = takes (declarator d ∷ statement in_main d ∷ [])
+
+abbrev pub close_entry : Place → Entry
+close_entry in_sub = stops
+close_entry in_block = takes []
+close_entry in_main = takes []
+
+abbrev pub return_entry : Place → Entry
+return_entry in_sub = stops
+return_entry in_block = stops
+return_entry in_main = takes (returned ∷ only statement_end ∷ only brace_closing ∷ [])
+
+abbrev pub statement_entry : Place → ℕ → Kind → Entry
+statement_entry p d (a_name x) = takes (after_name p d ∷ next p d)
+statement_entry p d semicolon = takes (next p d)
+statement_entry p d left_brace = takes (statement in_block (suc d) ∷ next p d)
+statement_entry p d right_brace = close_entry p
+statement_entry p d int_word = declaration_entry p d
+statement_entry p d return_word = return_entry p
+statement_entry p d if_word = takes (condition (suc d) ∷ statement in_sub (suc d) ∷ maybe_else (suc d) ∷ next p d)
+statement_entry p d while_word = takes (condition (suc d) ∷ statement in_sub (suc d) ∷ next p d)
+statement_entry p d assume_word = takes (condition d ∷ only statement_end ∷ next p d)
+statement_entry p d (step_sign g) = takes (some_name ∷ only statement_end ∷ next p d)
+statement_entry p d _ = stops
+
+-- what a label leaves to come
+abbrev pub label_entry : Place → ℕ → Entry
+label_entry in_sub d = takes (statement in_sub d ∷ [])
+label_entry in_block d = takes []
+label_entry in_main d = takes []
+
+abbrev pub name_entry : Place → ℕ → Kind → Entry
+name_entry p d colon = label_entry p d
+name_entry p d (change_sign g) = takes (operand d ∷ more until_semicolon d ∷ [])
+name_entry p d (step_sign g) = takes (only statement_end ∷ [])
+name_entry p d _ = stops
+
+abbrev pub else_entry : ℕ → Kind → Entry
+else_entry d else_word = takes (statement in_sub d ∷ [])
+else_entry d _ = skips
+
+abbrev pub condition_entry : ℕ → Kind → Entry
+condition_entry d left_paren = takes (operand d ∷ more until_paren d ∷ [])
+condition_entry d _ = stops
+
+abbrev pub declarator_entry : ℕ → Kind → Entry
+declarator_entry d (a_name x) = takes (declared d ∷ [])
+declarator_entry d _ = stops
+
+abbrev pub declared_entry : ℕ → Kind → Entry
+declared_entry d (change_sign replaces) = takes (operand d ∷ more until_declared d ∷ [])
+declared_entry d comma = takes (declarator d ∷ [])
+declared_entry d semicolon = takes []
+declared_entry d _ = stops
+
+abbrev pub some_name_entry : Kind → Entry
+some_name_entry (a_name x) = takes []
+some_name_entry _ = stops
+
+abbrev pub parameters_entry : Kind → Entry
+parameters_entry void_word = takes (only closing ∷ [])
+parameters_entry right_paren = takes []
+parameters_entry _ = stops
+
+abbrev pub returned_entry : Kind → Entry
+returned_entry (infix_sign minus_op) = takes (some_number ∷ [])
+returned_entry (a_number n) = takes []
+returned_entry _ = stops
+
+abbrev pub some_number_entry : Kind → Entry
+some_number_entry (a_number n) = takes []
+some_number_entry _ = stops
+
+abbrev pub only_entry : Mark → Kind → Entry
+only_entry opening left_paren = takes []
+only_entry closing right_paren = takes []
+only_entry brace_opening left_brace = takes []
+only_entry brace_closing right_brace = takes []
+only_entry statement_end semicolon = takes []
+only_entry main_name main_word = takes []
+only_entry int_type int_word = takes []
+only_entry text_end the_end = takes []
+only_entry m _ = stops
+
+-- what a goal makes of a token
+abbrev pub entry : Goal → Kind → Entry
+entry (operand d) k = operand_entry d k
+entry (more e d) k = more_entry e d k
+entry (statement p d) k = statement_entry p d k
+entry (after_name p d) k = name_entry p d k
+entry (maybe_else d) k = else_entry d k
+entry (condition d) k = condition_entry d k
+entry (declarator d) k = declarator_entry d k
+entry (declared d) k = declared_entry d k
+entry some_name k = some_name_entry k
+entry parameters k = parameters_entry k
+entry returned k = returned_entry k
+entry some_number k = some_number_entry k
+entry (only m) k = only_entry m k
+
+-- the stack after a token, if it may stand there
+abbrev pub step : List Goal → Kind → Option (List Goal)
+step [] k = None
+step (g ∷ gs) k = elim (entry g k) [ takes next ↦ Some (next ++ gs) | skips ↦ step gs k | stops ↦ None ]
+
+abbrev pub run : List Goal → List Token → Option (List Goal)
+run gs [] = Some gs
+run gs (token k a ∷ ts) = elim (step gs k) [ None ↦ None | Some next ↦ run next ts ]
+
+-- a whole text has to come
+abbrev pub start : List Goal
+start = only int_type ∷ only main_name ∷ only opening ∷ parameters ∷ only brace_opening ∷ statement in_main 0 ∷ only text_end ∷ []

@@ -1,0 +1,14 @@
+//! The grammar of programs, and whether tokens keep to it.
+#![tactic(auto)]
+
+mod goal;
+mod laws;
+mod machine;
+mod symbol;
+
+pub use laws::{every_front, one_program};
+pub use machine::{Syntax, examine};
+pub use symbol::{Change, Direction, Op, Relation, Symbol, symbol_of};
+
+#[cfg(test)]
+mod tests;

@@ -1,0 +1,15 @@
+pub mod Binds
+pub mod Fed
+pub mod FedAll
+pub mod Ranges
+pub mod Texts
+pub mod Appended
+pub mod Widths
+pub mod Fitting
+pub mod Exactly
+pub mod Proper
+pub mod Whole
+pub mod Meant
+pub mod Plain
+pub mod Named
+pub mod Small

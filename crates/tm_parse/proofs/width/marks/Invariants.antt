@@ -1,0 +1,7 @@
+use Rattle.std.proofs.Common.{◌≡◌, ◌+◌, ◌≤◌, drop, map}
+use Rattle.tm_gram.specs.View.{plain_token}
+use Rattle.tm_parse.specs.Width.{mark, total}
+use Rattle.tm_parse.proofs.width.marks.Given as goal
+
+abbrev pub invariant-loop-token : goal.invariant-loop-token
+invariant-loop-token l = record { counted : l.count + total mark (map plain_token (drop l.token-index l.tokens)) ≡ total mark (map plain_token l.tokens); small : l.count ≤ l.token-index }

@@ -1,0 +1,125 @@
+//! What has been met so far: variables, labels and the number of statements.
+
+ghost use Rattle.std.specs.Prelude.{◌≡◌, ◌≤◌, length};
+ghost use Rattle.tm_lex.specs.Lines.{line_at};
+ghost use Rattle.tm_tree.specs.View.{statement_of};
+ghost use Rattle.tm_parse.specs.Walk.{start_state, counted, labelled_by, known_number, assignment, declared_by, closed};
+ghost use Rattle.tm_parse.specs.Gives.{Gives};
+ghost use Rattle.tm_parse.specs.Views.{state_of};
+
+use crate::fault::{Limit, ParseFault};
+use crate::names::NameTable;
+use std::alloc::Global;
+use tm_lex::line_of;
+use tm_tree::{Form, Name, Stmt};
+
+/// The most variables.
+const VARIABLES: usize = 8;
+
+/// The most statements.
+const STATEMENTS: u32 = 512;
+
+/// What has been met so far.
+#[derive(Drop)]
+pub(crate) struct Context {
+    /// The variables in order of declaration.
+    pub(crate) names: NameTable,
+    /// The numbers of those that are known here.
+    pub(crate) known: Vec<u32>,
+    labels: NameTable,
+    count: u32,
+}
+
+/// The statement by which a variable takes the value of a form, or any.
+pub(crate) fn assignment(var: u32, form: Option<Form>, line: u32) -> Stmt
+    ensures { statement_of result ≡ assignment var form line }
+{
+    match form {
+        Some(form) => Stmt::Set { var, form, line },
+        None => Stmt::Havoc { var, line },
+    }
+}
+
+impl Context {
+    pub(crate) fn new(alloc: Global) -> Self
+        ensures { state_of result ≡ start_state }
+    {
+        Context {
+            names: NameTable::new(alloc),
+            known: Vec::new(alloc),
+            labels: NameTable::new(alloc),
+            count: 0,
+        }
+    }
+
+    /// Counts one more statement, which begins at `at`.
+    pub(crate) fn counted(&mut self, at: u32) -> Result<(), ParseFault>
+        ensures { Gives (λ _. state_of self.new) result (counted at (state_of self.old)) }
+    {
+        if self.count < STATEMENTS {
+            self.count += 1;
+            Ok(())
+        } else {
+            Err(ParseFault::Limit {
+                at,
+                which: Limit::Statements,
+            })
+        }
+    }
+
+    /// Declares a label.
+    pub(crate) fn labelled(&mut self, name: &Name, at: u32) -> Result<(), ParseFault>
+        ensures { Gives (λ _. state_of self.new) result (labelled_by name.now at (state_of self.old)) }
+    {
+        if self.labels.place(name).is_some() {
+            return Err(ParseFault::NameTwice { at });
+        }
+        self.labels.add(name)?;
+        self.counted(at)
+    }
+
+    /// The number of a variable that is known here.
+    pub(crate) fn known_number(&self, name: &Name, at: u32) -> Result<u32, ParseFault>
+        ensures { Gives (λ n. n) result (known_number name.now at (state_of self.now)) }
+    {
+        match self.names.place(name) {
+            Some(place) if self.known.contains(&place) => Ok(place),
+            _ => Err(ParseFault::UnknownName { at }),
+        }
+    }
+
+    /// Declares a variable, which takes the value of a form, or any.
+    pub(crate) fn declared(
+        &mut self,
+        text: &[u8],
+        name: &Name,
+        at: u32,
+        form: Option<Form>,
+    ) -> Result<Stmt, ParseFault>
+        requires { length text.now ≤ 65536 }
+        ensures { Gives (λ s. (state_of self.new, statement_of s)) result (declared_by (line_at text.now) name.now at form (state_of self.old)) }
+    {
+        if self.names.place(name).is_some() {
+            return Err(ParseFault::NameTwice { at });
+        }
+        let var = self.names.len();
+        if var >= VARIABLES {
+            return Err(ParseFault::Limit {
+                at,
+                which: Limit::Variables,
+            });
+        }
+        let var = var as u32;
+        self.names.add(name)?;
+        self.known.push(var)?;
+        self.counted(at)?;
+        Ok(assignment(var, form, line_of(text, at)))
+    }
+
+    /// Leaves a block at whose beginning so many names were known.
+    pub(crate) fn close(&mut self, known: usize)
+        ensures { state_of self.new ≡ closed known (state_of self.old) }
+    {
+        self.known.truncate(known);
+    }
+}

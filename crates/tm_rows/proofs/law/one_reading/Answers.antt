@@ -1,0 +1,6 @@
+use Rattle.tm_rows.proofs.LineSteps.{one_terms}
+use Rattle.tm_rows.proofs.OneAnswer.{one_answer}
+use Rattle.tm_rows.proofs.law.one_reading.Goals as goal
+
+pub returns : goal.returns
+returns c = record { terms = one_terms; answers = one_answer }

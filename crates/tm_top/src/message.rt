@@ -1,0 +1,195 @@
+//! The line that tells how a run ended, where it isn't done.
+
+ghost use Rattle.std.specs.Prelude.{◌≡◌, ◌≤◌, ◌+◌, ◌++◌, [], None, Some, codes, length};
+ghost use Rattle.tm_top.specs.Messages.{counted, flow_words, lex_words, line_text, limit_words, message_of, parse_words, read_words, text_words, words, words_of};
+ghost use Rattle.tm_top.specs.Parts.{told};
+
+use crate::status::{ReadCause, Status, TextCause, Which};
+use itoa::Buffer;
+use std::marker::Model;
+use tm_flow::FlowFault;
+use tm_lex::LexFault;
+use tm_parse::{Limit, ParseFault};
+
+/// Words, a number and words.
+#[derive(Clone, Copy, Drop)]
+pub(crate) struct Parts {
+    before: &'static [u8],
+    number: Option<u32>,
+    after: &'static [u8],
+}
+
+fn plain(before: &'static [u8]) -> Parts
+    ensures { told result ≡ words before.entry.now }
+{
+    Parts {
+        before,
+        number: None,
+        after: b"",
+    }
+}
+
+fn counted(before: &'static [u8], number: u32) -> Parts
+    ensures { told result ≡ counted before.entry.now number }
+{
+    Parts {
+        before,
+        number: Some(number),
+        after: b"",
+    }
+}
+
+fn lex_parts(line: u32, fault: LexFault) -> Parts
+    ensures { told result ≡ lex_words line fault }
+{
+    match fault {
+        LexFault::BadByte { .. } => counted(b"program refused: bad byte at line ", line),
+        LexFault::OpenComment { .. } => counted(b"program refused: open comment at line ", line),
+        LexFault::LongNumber { .. } => counted(b"program refused: long number at line ", line),
+        LexFault::LongName { .. } => counted(b"program refused: long name at line ", line),
+        LexFault::BadNumber { .. } => counted(b"program refused: bad number at line ", line),
+        LexFault::NoMemory => plain(b"out of memory"),
+    }
+}
+
+fn limit_parts(line: u32, which: Limit) -> Parts
+    ensures { told result ≡ limit_words line which }
+{
+    match which {
+        Limit::Nesting => counted(b"program refused: nesting at line ", line),
+        Limit::Variables => counted(b"program refused: variables at line ", line),
+        Limit::Statements => counted(b"program refused: statements at line ", line),
+        Limit::Leaves => counted(b"program refused: leaves at line ", line),
+    }
+}
+
+fn parse_parts(line: u32, fault: ParseFault) -> Parts
+    ensures { told result ≡ parse_words line fault }
+{
+    match fault {
+        ParseFault::Unexpected { .. } => counted(
+            b"program refused: unexpected token at line ",
+            line,
+        ),
+        ParseFault::UnknownName { .. } => counted(b"program refused: unknown name at line ", line),
+        ParseFault::NameTwice { .. } => counted(b"program refused: name twice at line ", line),
+        ParseFault::NotAffine { .. } => counted(b"program refused: not affine at line ", line),
+        ParseFault::NondetHere { .. } => counted(b"program refused: nondet at line ", line),
+        ParseFault::Limit { which, .. } => limit_parts(line, which),
+        ParseFault::NoVariables => plain(b"program refused: no variables"),
+        ParseFault::BigNumber { .. } => counted(b"program refused: big number at line ", line),
+        ParseFault::NoMemory => plain(b"out of memory"),
+    }
+}
+
+fn flow_parts(fault: FlowFault) -> Parts
+    ensures { told result ≡ flow_words fault }
+{
+    match fault {
+        FlowFault::Cases { line } => counted(b"program refused: cases at line ", line),
+        FlowFault::Points { count } => Parts {
+            before: b"program refused: ",
+            number: Some(count),
+            after: b" points",
+        },
+        FlowFault::Edges => plain(b"program refused: edges"),
+        FlowFault::Actions { edge } => counted(b"program refused: actions of edge ", edge),
+        FlowFault::NoMemory => plain(b"out of memory"),
+    }
+}
+
+fn text_parts(line: u32, cause: TextCause) -> Parts
+    ensures { told result ≡ text_words line cause }
+{
+    match cause {
+        TextCause::Lex(fault) => lex_parts(line, fault),
+        TextCause::Parse(fault) => parse_parts(line, fault),
+        TextCause::Flow(fault) => flow_parts(fault),
+        TextCause::NotBuilt => plain(b"program refused: not built yet"),
+    }
+}
+
+fn read_parts(cause: ReadCause) -> Parts
+    ensures { told result ≡ read_words cause }
+{
+    match cause {
+        ReadCause::Failed(Which::Program) => plain(b"cannot read the program"),
+        ReadCause::TooLong(Which::Program) => plain(b"too long: the program"),
+    }
+}
+
+/// What is told of an ending whose cause stands at this line.
+fn make_parts(line: u32, status: Status) -> Parts
+    ensures { told result ≡ words_of line status }
+{
+    match status {
+        Status::Done => plain(b""),
+        Status::Usage => plain(b"usage: tmpl solve PROGRAM"),
+        Status::Read(cause) => read_parts(cause),
+        Status::Text(cause) => text_parts(line, cause),
+        Status::Memory => plain(b"out of memory"),
+        Status::Write => plain(b"cannot write"),
+    }
+}
+
+/// A message of at most 512 bytes, which takes no memory.
+#[derive(Drop)]
+pub(crate) struct Message {
+    bytes: [u8; 512],
+    len: usize,
+}
+
+impl Model for Message {
+    ghost use Rattle.std.specs.Prelude.{List, ℕ, ◌≤◌, take};
+
+    ghost Value = { List ℕ };
+
+    ghost view = { λ m. take m.len m.bytes };
+
+    ghost invariant = { λ m. m.len ≤ 512 };
+}
+
+impl Message {
+    fn new() -> Message
+        ensures { result ≡ [] }
+    {
+        Message {
+            bytes: [0; 512],
+            len: 0,
+        }
+    }
+
+    /// Adds a piece at the end.
+    fn append(&mut self, piece: &[u8])
+        requires { length self.old + length piece.now ≤ 512 }
+        ensures { self.new ≡ self.old ++ piece.now }
+    {
+        let end = self.len + piece.len();
+        self.bytes[self.len..end].copy_from_slice(piece);
+        self.len = end;
+    }
+
+    /// The bytes of the message.
+    pub(crate) fn bytes(&self) -> &[u8]
+        ensures bytes { result.now ≡ self.now }
+        ensures short { length result.now ≤ 512 }
+    {
+        &self.bytes[..self.len]
+    }
+}
+
+/// The message of an ending whose cause stands at this line.
+pub(crate) fn make_message(line: u32, status: Status) -> Message
+    ensures { result ≡ message_of line status }
+{
+    let parts = make_parts(line, status);
+    let mut buffer = Buffer::new();
+    let mut message = Message::new();
+    message.append(parts.before);
+    if let Some(number) = parts.number {
+        message.append(buffer.format(number).as_bytes());
+    }
+    message.append(parts.after);
+    message.append(b"\n");
+    message
+}
