@@ -1,0 +1,4 @@
+pub mod SmallLines
+pub mod Straight
+pub mod Ends
+pub mod Laws
