@@ -1,0 +1,16 @@
+//! Dictionaries of linear problems whose rows keep only the entries that are not zero.
+#![tactic(auto)]
+
+mod build;
+mod entry;
+mod formulas;
+mod leave;
+mod merge;
+mod place;
+mod push;
+mod rows;
+mod sparse;
+#[cfg(test)]
+mod tests;
+
+pub use sparse::Sparse;
