@@ -1,0 +1,43 @@
+-- What the value of a transformer means.
+use Rattle.std.specs.Prelude.{◌≡◌, ◌<◌, ◌++◌, ℤ, List, length}
+use Rattle.tm_num.specs.Rational.{ℚ}
+use Rattle.tm_num.specs.Extended.{Ext, neg_inf, fin, pos_inf}
+use Rattle.tm_flow.specs.declared.edge.Edge.{Edge}
+use Rattle.tm_eqsys.specs.Equations.{Equations, Vector}
+use Rattle.tm_eqsys.specs.declared.trace.Trace.{Trace}
+use Rattle.tm_steps.specs.Words.{Word}
+use Rattle.tm_steps.specs.Steps.{Runs, end_value}
+use Rattle.tm_steps.specs.Certificates.{BoundPasses, EmptyPasses}
+use Rattle.tm_steps.specs.Transformers.{Unlimited}
+use Rattle.tm_oper.specs.declared.value.Value.{Value}
+use Rattle.tm_oper.specs.declared.value.Value.TheVariants.{Unreached, Empty, Best, Unbounded}
+
+-- the extended number of a value
+abbrev pub number_of : Value → Ext
+number_of (Unreached r) = neg_inf
+number_of (Empty rows guards) = neg_inf
+number_of (Best value trace rows guards) = fin value
+number_of (Unbounded trace direction) = pos_inf
+
+-- the word of a trace
+abbrev pub word_of : Trace → Word
+word_of trace = trace.start ++ trace.free
+
+-- the trace runs at the vector and ends with the value, and the multipliers bound it
+pub record IsBestEvidence (system : Equations) (z : Vector) (edge : Edge) (row : List ℤ) (value : ℚ) (trace : Trace) (rows guards : List ℚ) : Type 0 where
+  pub runs : Runs system z edge (word_of trace)
+  pub reaches : end_value system edge row (word_of trace) ≡ value
+  pub bounds : BoundPasses system z edge row (fin value) rows guards
+
+-- the trace runs at the vector, and along the direction it goes on running with values as large as wanted
+pub record IsUnboundedEvidence (system : Equations) (z : Vector) (edge : Edge) (row : List ℤ) (trace direction : Trace) : Type 0 where
+  pub unlimited : Unlimited system z edge row
+  pub word : unlimited.word ≡ word_of trace
+  pub along : unlimited.direction ≡ word_of direction
+
+-- a row at -inf, multipliers that contradict one another, a trace that reaches a bound, or a trace and a direction
+abbrev pub HasEvidence : Equations → Vector → Edge → List ℤ → Value → Type 0
+HasEvidence system z edge row (Unreached r) = (r < length system.template) × (z edge.from r ≡ neg_inf)
+HasEvidence system z edge row (Empty rows guards) = EmptyPasses system z edge rows guards
+HasEvidence system z edge row (Best value trace rows guards) = IsBestEvidence system z edge row value trace rows guards
+HasEvidence system z edge row (Unbounded trace direction) = IsUnboundedEvidence system z edge row trace direction

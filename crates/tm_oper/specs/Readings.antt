@@ -1,0 +1,48 @@
+-- What reading an outcome answers.
+use Rattle.std.specs.Prelude.{◌≡◌, ℕ, ◌+◌, ℤ, List, length, None, Result, MatchResult}
+use Rattle.tm_num.specs.Rational.{ℚ, zero_ℚ}
+use Rattle.tm_num.specs.Extended.{Ext as Extended, neg_inf, fin, pos_inf}
+use Rattle.tm_frac.specs.Fits.{long_limit}
+use Rattle.tm_eqsys.specs.declared.spot.PartFault.{PartFault}
+use Rattle.tm_eqsys.specs.declared.spot.PartFault.TheVariants.{Wide, NoMemory}
+use Rattle.tm_lp.specs.Problem as lp
+use Rattle.tm_lp.specs.Listed.{at}
+use Rattle.tm_simplex.specs.declared.outcome.Outcome.{Outcome}
+use Rattle.tm_simplex.specs.declared.outcome.Outcome.TheVariants.{Best, Unbounded, Empty}
+use Rattle.tm_point.specs.EdgeProblems.{source_limits}
+use Rattle.tm_frac.specs.Operation.{Operation, first_wide, operation_of}
+use Rattle.tm_oper.specs.declared.fault.FormFault.{FormFault}
+use Rattle.tm_oper.specs.Faults.{IsFormFault}
+use Rattle.tm_oper.specs.Values.{IsWideIn}
+
+-- what is so of the value where none of the operations is wide, and the first that is where one is
+abbrev pub ReadsBy : {A : Type 0} → (A → Type 0) → List Operation → Result A FormFault → Type 0
+ReadsBy P operations result = MatchResult result (λ r. P r × (first_wide long_limit operations ≡ None)) (IsFormFault operations)
+
+-- the outcome of the theory with the numbers of lists, 0 behind their ends
+abbrev pub listed_outcome : Outcome ℚ → lp.Outcome
+listed_outcome (Best point value multipliers) = lp.best (at point.items) value (at multipliers.items)
+listed_outcome (Unbounded point ray) = lp.unbounded (at point.items) (at ray.items)
+listed_outcome (Empty multipliers) = lp.empty (at multipliers.items)
+
+-- a problem with two columns for each of w, and rows for the finite bounds and so many guards
+pub record HasSizes (P : lp.Problem) (w : ℕ) (bounds : ℕ → Extended) (template : List (List ℤ)) (guards : ℕ) : Type 0 where
+  pub cols : P.cols ≡ w + w
+  pub rows : P.rows ≡ length (source_limits (λ r u. u) 0 bounds template) + guards
+
+-- the fault of a problem
+abbrev pub IsProblemFault : lp.Problem → List Operation → PartFault → Type 0
+IsProblemFault P reading (Wide part wide) = IsWideIn P reading part (operation_of (λ q. q) wide)
+IsProblemFault P reading NoMemory = Unit {0}
+
+-- how many rows of a problem a bound makes
+abbrev pub finite_one : Extended → ℕ
+finite_one neg_inf = 0
+finite_one (fin c) = 1
+finite_one pos_inf = 0
+
+-- the multiplier of a template row, where this is the next one
+abbrev pub multiplier_one : Extended → ℚ → ℚ
+multiplier_one neg_inf q = zero_ℚ
+multiplier_one (fin c) q = q
+multiplier_one pos_inf q = zero_ℚ

@@ -1,0 +1,118 @@
+//! The transformer of an edge and a row at a vector.
+
+ghost use Rattle.std.specs.Prelude.{◌≡◌, ◌≤◌, ◌<◌, ◌+◌, ◌*◌, ℤ, List, IfOk, IfErr, OnOk, None, Some, length, slice_get};
+ghost use Rattle.tm_num.specs.Rational.{ℚ};
+ghost use Rattle.tm_flow.specs.declared.edge.Edge.{Edge};
+ghost use Rattle.tm_frac.specs.Fits.{long_limit};
+ghost use Rattle.tm_frac.specs.Operation.{first_wide};
+ghost use Rattle.tm_eqsys.specs.View.{equations_of, vector_of};
+ghost use Rattle.tm_lp.specs.Simplex.{lp};
+ghost use Rattle.tm_dict.specs.Exact.{exact, IsShaped};
+ghost use Rattle.tm_simplex.specs.Operations.{first_refused, run_operations};
+ghost use Rattle.tm_oper.specs.Composed.{AreComposed};
+ghost use Rattle.tm_oper.specs.Values.{IsValue, NoneWide, IsOperatorFault, ReadsOutcome, reading_operations};
+ghost use Rattle.tm_point.specs.EdgeProblems.{transformer};
+ghost use Rattle.tm_oper.specs.Meanings.{number_of, HasEvidence};
+ghost use Rattle.tm_oper.specs.Splits.{bounds_at};
+ghost use Rattle.tm_oper.specs.Readings.{HasSizes, IsProblemFault};
+
+use crate::build::{edge_problem, lowest_lost};
+use crate::fault::FormFault;
+use crate::paths::Paths;
+use crate::read::{Sizes, read_outcome};
+use crate::value::Value;
+use std::alloc::Global;
+use tm_dict::{Dict, Problem};
+use tm_eqsys::{Bounds, Part, PartFault, System};
+use tm_frac::{Ext, Frac};
+use tm_simplex::{SolveFault, solve};
+
+// The value of a problem over split columns.
+fn solve_problem(
+    alloc: Global,
+    sizes: Sizes,
+    source: &[Ext],
+    constant: Frac,
+    problem: &Problem<Frac>,
+) -> Result<Value, PartFault>
+    requires shaped { IsShaped problem.now }
+    requires room { sizes.rows ≤ length source.now }
+    requires few { sizes.rows ≤ 128 }
+    ensures value { (template : List (List ℤ)) → sizes.rows ≡ length template → HasSizes (exact (λ q. q) problem.now) (sizes.variables + sizes.frees) (bounds_at source.now) template sizes.guards → IfOk result (ReadsOutcome sizes.variables (sizes.variables + sizes.frees) constant (bounds_at source.now) template sizes.guards (lp (exact (λ q. q) problem.now))) }
+    ensures pivots { OnOk result (first_refused long_limit (run_operations (exact (λ q. q) problem.now)) ≡ None) }
+    ensures reading { (template : List (List ℤ)) → sizes.rows ≡ length template → HasSizes (exact (λ q. q) problem.now) (sizes.variables + sizes.frees) (bounds_at source.now) template sizes.guards → OnOk result (first_wide long_limit (reading_operations (sizes.variables + sizes.frees) constant (lp (exact (λ q. q) problem.now))) ≡ None) }
+    ensures refused { (template : List (List ℤ)) → sizes.rows ≡ length template → HasSizes (exact (λ q. q) problem.now) (sizes.variables + sizes.frees) (bounds_at source.now) template sizes.guards → IfErr result (IsProblemFault (exact (λ q. q) problem.now) (reading_operations (sizes.variables + sizes.frees) constant (lp (exact (λ q. q) problem.now)))) }
+{
+    match solve::<Frac, Dict<Frac>>(alloc, problem) {
+        Ok(outcome) => match read_outcome(alloc, sizes, source, constant, outcome) {
+            Ok(value) => Ok(value),
+            Err(FormFault::WideSum(wide)) => Err(PartFault::Wide {
+                part: Part::Reading,
+                wide,
+            }),
+            Err(FormFault::NoRoom) => Err(PartFault::NoMemory),
+        },
+        Err(SolveFault::Wide { pivot, wide }) => Err(PartFault::Wide {
+            part: Part::Pivot(pivot),
+            wide,
+        }),
+        Err(SolveFault::NoMemory) => Err(PartFault::NoMemory),
+    }
+}
+
+/// The transformer of an edge and a row at a vector: the supremum of the row after the edge, over all states before it that fit
+/// the bounds there, by one exact linear program (docs/FORMATS.md, "Linear programs"). Its columns are the start variables and
+/// the free values, each split into a positive and a negative one; its rows are the template rows with a finite bound at the
+/// source and then the guards; its goal is the row's end value without its constant. The trace, the direction and the multipliers
+/// are those of the last dictionary.
+///
+/// # Errors
+///
+/// `Wide` exactly where an operation is too wide for a fraction, with the first: a pivot with its number, and then the
+/// reading, first of the value and then of the trace's entries and of the direction's. The sides have no operation.
+pub fn operator(
+    alloc: Global,
+    system: &System,
+    paths: &Paths,
+    bounds: &Bounds,
+    edge: u32,
+    row: u32,
+) -> Result<Value, PartFault>
+    requires paths { AreComposed (equations_of system.now) paths.now }
+    requires bounds { length bounds.now ≡ length system.now.flow.points * length system.now.template }
+    requires edge { edge < length system.now.flow.edges }
+    requires row { row < length system.now.template }
+    ensures value { (e : Edge) (cs : List ℤ) → slice_get system.now.flow.edges edge ≡ Some e → slice_get system.now.template row ≡ Some cs → IfOk result (IsValue (equations_of system.now) (vector_of (length system.now.template) bounds.now) e cs) }
+    ensures supremum { (e : Edge) (cs : List ℤ) → slice_get system.now.flow.edges edge ≡ Some e → slice_get system.now.template row ≡ Some cs → IfOk result (λ v. transformer (equations_of system.now) (vector_of (length system.now.template) bounds.now) e cs ≡ number_of v) }
+    ensures evidence { (e : Edge) (cs : List ℤ) → slice_get system.now.flow.edges edge ≡ Some e → slice_get system.now.template row ≡ Some cs → IfOk result (HasEvidence (equations_of system.now) (vector_of (length system.now.template) bounds.now) e cs) }
+    ensures fits { (e : Edge) (cs : List ℤ) → slice_get system.now.flow.edges edge ≡ Some e → slice_get system.now.template row ≡ Some cs → OnOk result (NoneWide (equations_of system.now) (vector_of (length system.now.template) bounds.now) e cs) }
+    ensures refused { (e : Edge) (cs : List ℤ) → slice_get system.now.flow.edges edge ≡ Some e → slice_get system.now.template row ≡ Some cs → IfErr result (IsOperatorFault (equations_of system.now) (vector_of (length system.now.template) bounds.now) e cs) }
+{
+    let variables = system.flow.names.as_slice().len();
+    let template = system.template.as_slice();
+    let from = system.flow.edges.as_slice()[edge as usize].from as usize;
+    let source = &bounds.as_slice()[from * template.len()..];
+    if let Some(lost) = lowest_lost(source, template.len()) {
+        return Ok(Value::Unreached { row: lost });
+    }
+    let path = paths.path(edge);
+    let guards = path.guards.as_slice();
+    let form = &path.rows.as_slice()[row as usize];
+    let sizes = Sizes {
+        variables,
+        frees: path.frees as usize,
+        rows: template.len(),
+        guards: guards.len(),
+    };
+    match edge_problem(
+        alloc,
+        template,
+        source,
+        guards,
+        form,
+        sizes.variables + sizes.frees,
+    ) {
+        Ok(problem) => solve_problem(alloc, sizes, source, form.constant, &problem),
+        Err(_) => Err(PartFault::NoMemory),
+    }
+}
