@@ -1,0 +1,9 @@
+use Rattle.std.proofs.Common.{◌≡◌, ◌+◌, ◌*◌, ◌≤◌, length, drop}
+use Rattle.tm_joint.specs.Blocks.{split_columns}
+use Rattle.tm_joint.proofs.joint_rows.count_columns.Given as goal
+
+abbrev pub invariant-loop-unknown : goal.invariant-loop-unknown
+invariant-loop-unknown l = record {
+  count : l.cols + split_columns l.system l.pick (drop l.unknown-index l.list) ≡ length l.list + split_columns l.system l.pick l.list;
+  few : l.cols ≤ length l.list + 528 * l.unknown-index;
+}

@@ -1,0 +1,5 @@
+use Rattle.tm_joint.proofs.LaidOut.{IsLaid}
+use Rattle.tm_joint.proofs.layout.layout.Given as goal
+
+abbrev pub invariant-loop-place : goal.invariant-loop-place
+invariant-loop-place l = IsLaid l.system l.pick l.list l.rises.items l.offset l.place

@@ -1,0 +1,6 @@
+use Rattle.std.proofs.Common.{◌≡◌, ◌++◌}
+use Rattle.tm_point.specs.JointProblems.{zeros}
+use Rattle.tm_joint.proofs.row.push_zeros.Given as goal
+
+abbrev pub invariant-loop-column : goal.invariant-loop-column
+invariant-loop-column l = l.row.items ≡ l.initial.row.items ++ zeros l._column

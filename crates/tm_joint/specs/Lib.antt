@@ -1,0 +1,10 @@
+pub mod Numbers
+pub mod Tables
+pub mod Cuts
+pub mod PartLists
+pub mod Rows
+pub mod Blocks
+pub mod Problems
+pub mod Layouts
+pub mod Joints
+pub mod Readings

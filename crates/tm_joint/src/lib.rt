@@ -1,0 +1,26 @@
+//! A list of unknowns with picked edges: its parts by dependence, and its joint problem, the greatest vector that the edges support.
+#![tactic(auto)]
+
+mod block;
+mod closure;
+mod cut;
+mod joined;
+mod joint_problem;
+mod joint_rows;
+mod layout;
+mod node;
+mod part_lists;
+mod point;
+mod problem;
+mod read;
+mod row;
+mod solve;
+mod table;
+#[cfg(test)]
+mod tests;
+
+pub use cut::parts;
+pub use joined::Joined;
+pub use part_lists::Parts;
+pub use point::Traces;
+pub use solve::joint;
