@@ -1,0 +1,68 @@
+-- Improvements of the system and at the bounds that the code has.
+use Rattle.std.specs.Prelude.{◌≡◌, ℕ, ℤ, List, [], length, get_or, Option}
+use Rattle.std.specs.Option.{option_map}
+use Rattle.tm_num.specs.Rational.{ℚ}
+use Rattle.tm_num.specs.Extended.{Ext as Extended}
+use Rattle.tm_frac.specs.Extended.{extended}
+use Rattle.tm_frac.specs.declared.ext.Ext.{Ext}
+use Rattle.tm_frac.specs.declared.wide.Wide.{Wide}
+use Rattle.tm_flow.specs.declared.edge.Edge.{Edge}
+use Rattle.tm_eqsys.specs.declared.spot.Part.{Part}
+use Rattle.tm_eqsys.specs.declared.spot.PartFault.TheVariants.{Wide as WideIn}
+use Rattle.tm_eqsys.specs.declared.system.System.{System}
+use Rattle.tm_eqsys.specs.Equations.{Vector}
+use Rattle.tm_eqsys.specs.View.{equations_of, vector_of}
+use Rattle.tm_round.specs.Picks.{Transformer, Supported, Tight}
+use Rattle.tm_point.specs.EdgeProblems.{transformer}
+use Rattle.tm_rounds.specs.declared.offer.Offer.{Offer}
+use Rattle.tm_rounds.specs.declared.stop.Stop.{Stop}
+use Rattle.tm_rounds.specs.Improvement.{pick_of, IsOffer, IsNext, NoneExceeds}
+use Rattle.tm_rounds.specs.Stops.{IsStop}
+use Rattle.tm_oper.specs.Values.{IsOperatorFault}
+
+-- the exact transformers of a system
+abbrev pub transformers : System → Transformer
+transformers system = transformer (equations_of system)
+
+-- the vector of a list of bounds
+abbrev pub vector_at : System → List Extended → Vector
+vector_at system bounds = vector_of (length system.template) bounds
+
+-- what an unknown is offered
+abbrev pub IsOfferAt : System → List Extended → ℕ → ℕ → Offer → Type 0
+IsOfferAt system bounds p r offer = IsOffer (equations_of system) (transformers system) (vector_at system bounds) p r offer
+
+-- the edge and the row of a number
+abbrev pub edge_at : System → ℕ → Edge
+edge_at system edge = get_or system.flow.edges edge (record { from = 0; to = 0; actions = [] })
+
+abbrev pub row_at : System → ℕ → List ℤ
+row_at system row = get_or system.template row []
+
+-- the transformer of an edge and a row
+abbrev pub IsTransformerAt : System → List Extended → ℕ → ℕ → Ext → Type 0
+IsTransformerAt system bounds edge row value = extended value ≡ transformers system (vector_at system bounds) (edge_at system edge) (row_at system row)
+
+-- the first wide operation of a part of the problem of an edge and a row
+abbrev pub IsWidePart : System → List Extended → ℕ → ℕ → Part → Wide ℚ → Type 0
+IsWidePart system bounds edge row part wide = IsOperatorFault (equations_of system) (vector_at system bounds) (edge_at system edge) (row_at system row) (WideIn part wide)
+
+-- no transformer exceeds its bound anywhere
+abbrev pub NothingExceeds : System → List Extended → Type 0
+NothingExceeds system bounds = NoneExceeds (equations_of system) (transformers system) (vector_at system bounds)
+
+-- the next pick of a policy, none where no transformer exceeds its bound
+abbrev pub IsNextPick : System → List Extended → (Offer → ℕ → Type 0) → List (Option ℕ) → Option (List (Option ℕ)) → Type 0
+IsNextPick system bounds policy old next =
+    IsNext (equations_of system) (transformers system) (vector_at system bounds) policy (pick_of (length system.template) old) (option_map (pick_of (length system.template)) next)
+
+-- a pick is tight, or supported
+abbrev pub IsTightPick : System → List Extended → List (Option ℕ) → Type 0
+IsTightPick system bounds pick = Tight (equations_of system) (transformers system) (vector_at system bounds) (pick_of (length system.template) pick)
+
+abbrev pub IsSupportedPick : System → List Extended → List (Option ℕ) → Type 0
+IsSupportedPick system bounds pick = Supported (equations_of system) (transformers system) (vector_at system bounds) (pick_of (length system.template) pick)
+
+-- a wide operation of an offer, or want of memory
+abbrev pub IsOfferStop : System → List Extended → ℕ → Stop → Type 0
+IsOfferStop system bounds round stop = IsStop (equations_of system) (IsWidePart system bounds) round stop

@@ -1,0 +1,5 @@
+pub mod Improvement
+pub mod Offers
+pub mod PickLimit
+pub mod Stops
+pub mod AtBounds
