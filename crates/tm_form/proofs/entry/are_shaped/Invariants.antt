@@ -1,0 +1,8 @@
+use Rattle.std.proofs.Common.{◌≡◌}
+use Rattle.serde_json.specs.View.{items_view}
+use Rattle.tm_form.specs.Lists.{all_items}
+use Rattle.tm_form.proofs.ReadLists.{left_to_test}
+use Rattle.tm_form.proofs.entry.are_shaped.Given as goal
+
+abbrev pub invariant-loop-value : goal.invariant-loop-value
+invariant-loop-value g l = all_items (g.T.Entry.shaped l.rows) (items_view l.values) ≡ left_to_test (g.T.Entry.shaped l.rows) l.values l.value-index

@@ -1,0 +1,8 @@
+use Rattle.std.proofs.Common.{◌≡◌}
+use Rattle.serde_json.specs.View.{items_view}
+use Rattle.tm_form.specs.Lists.{items_in}
+use Rattle.tm_form.proofs.ReadLists.{after, left_to_read}
+use Rattle.tm_form.proofs.entry.read_each.Given as goal
+
+abbrev pub invariant-loop-value : goal.invariant-loop-value
+invariant-loop-value g l = items_in (g.T.Entry.element_in l.rows) (items_view l.values) ≡ after (g.T.Entry.element_in l.rows) l.list.items (left_to_read (g.T.Entry.element_in l.rows) l.values l.value-index)

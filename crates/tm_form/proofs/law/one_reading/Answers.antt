@@ -1,0 +1,5 @@
+use Rattle.tm_form.proofs.Laws.{one_reading}
+use Rattle.tm_form.proofs.law.one_reading.Goals as goal
+
+pub returns : goal.returns
+returns c = one_reading

@@ -1,0 +1,10 @@
+pub mod Lists
+pub mod Numbers
+pub mod Keys
+pub mod Traces
+pub mod StepItems
+pub mod StepForms
+pub mod Evidence
+pub mod BoundLines
+pub mod Certificates
+pub mod FormLaws

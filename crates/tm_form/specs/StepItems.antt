@@ -1,0 +1,66 @@
+-- The items of steps.
+use Rattle.std.specs.Prelude.{◌/◌, ◌%◌, ◌&&◌, ◌==◌, ℕ, Bool, Option, option_and_then, option_map, codes}
+use Rattle.serde_json.specs.Data.{Data, array, item, member, no_items, no_members, object}
+use Rattle.serde_json.specs.Find.{get}
+use Rattle.tm_cert.specs.declared.step.Item.{Item}
+use Rattle.tm_cert.specs.declared.step.JumpItem.{JumpItem}
+use Rattle.tm_cert.specs.declared.step.RayItem.{RayItem}
+use Rattle.tm_form.specs.Numbers.{frac_data, frac_in, is_text}
+use Rattle.tm_form.specs.Keys.{index_at, index_data, is_index, is_unknown, member_count, passes_at, unknown_at}
+use Rattle.tm_form.specs.Traces.{is_trace, trace_at, trace_data}
+
+-- the unknown as its point and its row
+abbrev pub unknown_data : ℕ → ℕ → Data
+unknown_data rows u = array (item (index_data (u / rows)) (item (index_data (u % rows)) no_items))
+
+-- ---- shapes; the keys are exactly those named
+
+-- `edge`, `low` and `unknown`, which each kind of item has
+abbrev pub has_start : ℕ → Data → Bool
+has_start rows d = passes_at is_index (codes "edge") d && passes_at is_trace (codes "low") d && passes_at (is_unknown rows) (codes "unknown") d
+
+-- `edge`, `low`, `to` and `unknown`
+abbrev pub is_plain_item : ℕ → Data → Bool
+is_plain_item rows d = (member_count d == 4) && has_start rows d && passes_at is_text (codes "to") d
+
+-- `edge`, `high`, `low`, `to` and `unknown`
+abbrev pub is_jump_item : ℕ → Data → Bool
+is_jump_item rows d = (member_count d == 5) && has_start rows d && passes_at is_trace (codes "high") d && passes_at is_text (codes "to") d
+
+-- `direction`, `edge`, `low`, `rate` and `unknown`
+abbrev pub is_ray_item : ℕ → Data → Bool
+is_ray_item rows d = (member_count d == 5) && has_start rows d && passes_at is_trace (codes "direction") d && passes_at is_text (codes "rate") d
+
+-- ---- reading
+
+-- the item of a plain step that a value is
+abbrev pub plain_item_in : ℕ → Data → Option Item
+plain_item_in rows d =
+    option_and_then (λ edge. option_and_then (λ low. option_and_then (λ to. option_map (λ unknown. record { unknown = unknown; edge = edge; low = low; to = to })
+    (unknown_at rows (codes "unknown") d)) (option_and_then frac_in (get (codes "to") d))) (trace_at (codes "low") d)) (index_at (codes "edge") d)
+
+-- the item of a jump that a value is
+abbrev pub jump_item_in : ℕ → Data → Option JumpItem
+jump_item_in rows d =
+    option_and_then (λ edge. option_and_then (λ high. option_and_then (λ low. option_and_then (λ to. option_map (λ unknown. record { unknown = unknown; edge = edge; low = low; high = high; to = to })
+    (unknown_at rows (codes "unknown") d)) (option_and_then frac_in (get (codes "to") d))) (trace_at (codes "low") d)) (trace_at (codes "high") d)) (index_at (codes "edge") d)
+
+-- the item of a ray that a value is
+abbrev pub ray_item_in : ℕ → Data → Option RayItem
+ray_item_in rows d =
+    option_and_then (λ direction. option_and_then (λ edge. option_and_then (λ low. option_and_then (λ rate. option_map (λ unknown. record { unknown = unknown; edge = edge; low = low; direction = direction; rate = rate })
+    (unknown_at rows (codes "unknown") d)) (option_and_then frac_in (get (codes "rate") d))) (trace_at (codes "low") d)) (index_at (codes "edge") d)) (trace_at (codes "direction") d)
+
+-- ---- writing
+
+-- the value of an item of a plain step
+abbrev pub plain_item_data : ℕ → Item → Data
+plain_item_data rows i = object (member (codes "edge") (index_data i.edge) (member (codes "low") (trace_data i.low) (member (codes "to") (frac_data i.to) (member (codes "unknown") (unknown_data rows i.unknown) no_members))))
+
+-- the value of an item of a jump
+abbrev pub jump_item_data : ℕ → JumpItem → Data
+jump_item_data rows i = object (member (codes "edge") (index_data i.edge) (member (codes "high") (trace_data i.high) (member (codes "low") (trace_data i.low) (member (codes "to") (frac_data i.to) (member (codes "unknown") (unknown_data rows i.unknown) no_members)))))
+
+-- the value of an item of a ray
+abbrev pub ray_item_data : ℕ → RayItem → Data
+ray_item_data rows i = object (member (codes "direction") (trace_data i.direction) (member (codes "edge") (index_data i.edge) (member (codes "low") (trace_data i.low) (member (codes "rate") (frac_data i.rate) (member (codes "unknown") (unknown_data rows i.unknown) no_members)))))

@@ -1,0 +1,41 @@
+-- Lists of fractions, and traces.
+use Rattle.std.specs.Prelude.{◌&&◌, ◌==◌, Bool, List, ℕ, Option, option_and_then, option_map, codes}
+use Rattle.serde_json.specs.Data.{Data, member, no_members, object}
+use Rattle.serde_json.specs.Find.{get}
+use Rattle.tm_num.specs.Rational.{ℚ}
+use Rattle.tm_eqsys.specs.declared.trace.Trace.{Trace}
+use Rattle.tm_form.specs.Lists.{is_list, list_data, list_in}
+use Rattle.tm_form.specs.Numbers.{frac_data, frac_in, is_text}
+use Rattle.tm_form.specs.Keys.{member_count, passes_at}
+
+-- a list of texts
+abbrev pub are_texts : Data → Bool
+are_texts d = is_list is_text d
+
+-- the fractions that a value is
+abbrev pub fracs_in : Data → Option (List ℚ)
+fracs_in d = list_in frac_in d
+
+-- the fractions that the member of this key is
+abbrev pub fracs_at : List ℕ → Data → Option (List ℚ)
+fracs_at key d = option_and_then fracs_in (get key d)
+
+-- the value of fractions
+abbrev pub fracs_data : List ℚ → Data
+fracs_data qs = list_data frac_data qs
+
+-- exactly the keys `free` and `start`, with lists of texts
+abbrev pub is_trace : Data → Bool
+is_trace d = (member_count d == 2) && passes_at are_texts (codes "free") d && passes_at are_texts (codes "start") d
+
+-- the trace that a value is
+abbrev pub trace_in : Data → Option Trace
+trace_in d = option_and_then (λ free. option_map (λ start. record { start = start; free = free }) (fracs_at (codes "start") d)) (fracs_at (codes "free") d)
+
+-- the trace that the member of this key is
+abbrev pub trace_at : List ℕ → Data → Option Trace
+trace_at key d = option_and_then trace_in (get key d)
+
+-- the value of a trace
+abbrev pub trace_data : Trace → Data
+trace_data t = object (member (codes "free") (fracs_data t.free) (member (codes "start") (fracs_data t.start) no_members))

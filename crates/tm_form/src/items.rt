@@ -1,0 +1,253 @@
+//! The items of steps.
+
+ghost use Rattle.std.specs.Prelude.{◌≡◌, ◌<◌, IfOk, Some, codes, option_and_then, true};
+ghost use Rattle.serde_json.specs.Data.{member, no_members, object};
+ghost use Rattle.serde_json.specs.Find.{get};
+ghost use Rattle.serde_json.specs.View.{view};
+ghost use Rattle.tm_form.specs.Keys.{index_data, passes_at};
+ghost use Rattle.tm_form.specs.Numbers.{frac_in, is_text};
+ghost use Rattle.tm_form.specs.StepItems.{has_start, is_jump_item, is_plain_item, is_ray_item, jump_item_data, jump_item_in, plain_item_data, plain_item_in, ray_item_data, ray_item_in};
+
+use crate::keys::{index_at, is_index_at, is_unknown_at, member_count, unknown_at, unknown_value};
+use crate::numbers::{frac_value, is_text, read_frac};
+use crate::trace::{is_trace_at, trace_at, trace_value};
+use serde_json::{Value, json};
+use std::alloc::{AllocError, Global};
+use tm_cert::{Item, JumpItem, RayItem};
+use tm_frac::Frac;
+
+// Whether the member of this key is there and a text.
+fn is_text_at(value: &Value, key: &str) -> bool
+    ensures { result ≡ passes_at is_text key.now (view value.now) }
+{
+    match value.get(key) {
+        Some(member) => is_text(member),
+        None => false,
+    }
+}
+
+// The fraction that the member of this key is.
+fn frac_at(value: &Value, key: &str) -> Option<Frac>
+    ensures { result ≡ option_and_then frac_in (get key.now (view value.now)) }
+{
+    match value.get(key) {
+        Some(member) => read_frac(member),
+        None => None,
+    }
+}
+
+// Whether `edge`, `low` and `unknown` are there and have their shapes.
+fn has_start(rows: usize, value: &Value) -> bool
+    ensures { result ≡ has_start rows (view value.now) }
+{
+    is_index_at(value, "edge") && is_trace_at(value, "low") && is_unknown_at(rows, value)
+}
+
+/// Whether the value has the shape of an item of a plain step.
+pub(crate) fn is_plain_item(rows: usize, value: &Value) -> bool
+    ensures { result ≡ is_plain_item rows (view value.now) }
+{
+    member_count(value) == 4 && has_start(rows, value) && is_text_at(value, "to")
+}
+
+/// Whether the value has the shape of an item of a jump.
+pub(crate) fn is_jump_item(rows: usize, value: &Value) -> bool
+    ensures { result ≡ is_jump_item rows (view value.now) }
+{
+    member_count(value) == 5
+        && has_start(rows, value)
+        && is_trace_at(value, "high")
+        && is_text_at(value, "to")
+}
+
+/// Whether the value has the shape of an item of a ray.
+pub(crate) fn is_ray_item(rows: usize, value: &Value) -> bool
+    ensures { result ≡ is_ray_item rows (view value.now) }
+{
+    member_count(value) == 5
+        && has_start(rows, value)
+        && is_trace_at(value, "direction")
+        && is_text_at(value, "rate")
+}
+
+/// The item of a plain step that the value is.
+pub(crate) fn read_plain_item(
+    alloc: Global,
+    rows: usize,
+    value: &Value,
+) -> Result<Option<Item>, AllocError>
+    ensures { IfOk result (λ item. item ≡ plain_item_in rows (view value.now)) }
+{
+    let Some(edge) = index_at(value, "edge") else {
+        return Ok(None);
+    };
+    let Some(low) = trace_at(alloc, value, "low")? else {
+        return Ok(None);
+    };
+    let Some(to) = frac_at(value, "to") else {
+        return Ok(None);
+    };
+    let Some(unknown) = unknown_at(rows, value) else {
+        return Ok(None);
+    };
+    Ok(Some(Item {
+        unknown,
+        edge,
+        low,
+        to,
+    }))
+}
+
+/// The item of a jump that the value is.
+pub(crate) fn read_jump_item(
+    alloc: Global,
+    rows: usize,
+    value: &Value,
+) -> Result<Option<JumpItem>, AllocError>
+    ensures { IfOk result (λ item. item ≡ jump_item_in rows (view value.now)) }
+{
+    let Some(edge) = index_at(value, "edge") else {
+        return Ok(None);
+    };
+    let Some(high) = trace_at(alloc, value, "high")? else {
+        return Ok(None);
+    };
+    let Some(low) = trace_at(alloc, value, "low")? else {
+        return Ok(None);
+    };
+    let Some(to) = frac_at(value, "to") else {
+        return Ok(None);
+    };
+    let Some(unknown) = unknown_at(rows, value) else {
+        return Ok(None);
+    };
+    Ok(Some(JumpItem {
+        unknown,
+        edge,
+        low,
+        high,
+        to,
+    }))
+}
+
+/// The item of a ray that the value is.
+pub(crate) fn read_ray_item(
+    alloc: Global,
+    rows: usize,
+    value: &Value,
+) -> Result<Option<RayItem>, AllocError>
+    ensures { IfOk result (λ item. item ≡ ray_item_in rows (view value.now)) }
+{
+    let Some(direction) = trace_at(alloc, value, "direction")? else {
+        return Ok(None);
+    };
+    let Some(edge) = index_at(value, "edge") else {
+        return Ok(None);
+    };
+    let Some(low) = trace_at(alloc, value, "low")? else {
+        return Ok(None);
+    };
+    let Some(rate) = frac_at(value, "rate") else {
+        return Ok(None);
+    };
+    let Some(unknown) = unknown_at(rows, value) else {
+        return Ok(None);
+    };
+    Ok(Some(RayItem {
+        unknown,
+        edge,
+        low,
+        direction,
+        rate,
+    }))
+}
+
+// The members of an item of a plain step as a value.
+fn plain_item_object(
+    alloc: Global,
+    edge: u32,
+    low: Value,
+    to: Value,
+    unknown: Value,
+) -> Result<Value, AllocError>
+    ensures { IfOk result (λ v. view v ≡ object (member (codes "edge") (index_data edge) (member (codes "low") (view low) (member (codes "to") (view to) (member (codes "unknown") (view unknown) no_members))))) }
+{
+    json!(in alloc; {"edge": edge, "low": low, "to": to, "unknown": unknown})
+}
+
+// The members of an item of a jump as a value.
+fn jump_item_object(
+    alloc: Global,
+    edge: u32,
+    high: Value,
+    low: Value,
+    to: Value,
+    unknown: Value,
+) -> Result<Value, AllocError>
+    ensures { IfOk result (λ v. view v ≡ object (member (codes "edge") (index_data edge) (member (codes "high") (view high) (member (codes "low") (view low) (member (codes "to") (view to) (member (codes "unknown") (view unknown) no_members)))))) }
+{
+    json!(in alloc; {"edge": edge, "high": high, "low": low, "to": to, "unknown": unknown})
+}
+
+// The members of an item of a ray as a value.
+fn ray_item_object(
+    alloc: Global,
+    direction: Value,
+    edge: u32,
+    low: Value,
+    rate: Value,
+    unknown: Value,
+) -> Result<Value, AllocError>
+    ensures { IfOk result (λ v. view v ≡ object (member (codes "direction") (view direction) (member (codes "edge") (index_data edge) (member (codes "low") (view low) (member (codes "rate") (view rate) (member (codes "unknown") (view unknown) no_members)))))) }
+{
+    json!(in alloc; {"direction": direction, "edge": edge, "low": low, "rate": rate, "unknown": unknown})
+}
+
+/// The item of a plain step as a value.
+pub(crate) fn plain_item_value(alloc: Global, rows: usize, item: &Item) -> Result<Value, AllocError>
+    requires { 0 < rows }
+    ensures value { IfOk result (λ v. view v ≡ plain_item_data rows item.now) }
+    ensures shape { IfOk result (λ _. is_plain_item rows (plain_item_data rows item.now) ≡ true) }
+    ensures back { IfOk result (λ _. plain_item_in rows (plain_item_data rows item.now) ≡ Some item.now) }
+{
+    let low = trace_value(alloc, &item.low)?;
+    let to = frac_value(alloc, item.to)?;
+    let unknown = unknown_value(alloc, rows, item.unknown)?;
+    plain_item_object(alloc, item.edge, low, to, unknown)
+}
+
+/// The item of a jump as a value.
+pub(crate) fn jump_item_value(
+    alloc: Global,
+    rows: usize,
+    item: &JumpItem,
+) -> Result<Value, AllocError>
+    requires { 0 < rows }
+    ensures value { IfOk result (λ v. view v ≡ jump_item_data rows item.now) }
+    ensures shape { IfOk result (λ _. is_jump_item rows (jump_item_data rows item.now) ≡ true) }
+    ensures back { IfOk result (λ _. jump_item_in rows (jump_item_data rows item.now) ≡ Some item.now) }
+{
+    let high = trace_value(alloc, &item.high)?;
+    let low = trace_value(alloc, &item.low)?;
+    let to = frac_value(alloc, item.to)?;
+    let unknown = unknown_value(alloc, rows, item.unknown)?;
+    jump_item_object(alloc, item.edge, high, low, to, unknown)
+}
+
+/// The item of a ray as a value.
+pub(crate) fn ray_item_value(
+    alloc: Global,
+    rows: usize,
+    item: &RayItem,
+) -> Result<Value, AllocError>
+    requires { 0 < rows }
+    ensures value { IfOk result (λ v. view v ≡ ray_item_data rows item.now) }
+    ensures shape { IfOk result (λ _. is_ray_item rows (ray_item_data rows item.now) ≡ true) }
+    ensures back { IfOk result (λ _. ray_item_in rows (ray_item_data rows item.now) ≡ Some item.now) }
+{
+    let direction = trace_value(alloc, &item.direction)?;
+    let low = trace_value(alloc, &item.low)?;
+    let rate = frac_value(alloc, item.rate)?;
+    let unknown = unknown_value(alloc, rows, item.unknown)?;
+    ray_item_object(alloc, direction, item.edge, low, rate, unknown)
+}

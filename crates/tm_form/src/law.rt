@@ -1,0 +1,33 @@
+//! What the definitions of the format come to, each as the contract of a function that does nothing; and the round trip.
+
+ghost use Rattle.std.specs.Prelude.{◌≡◌, IfErr, IfOk};
+ghost use Rattle.tm_form.specs.Certificates.{IsWritable};
+ghost use Rattle.tm_form.specs.FormLaws.{BoundsByText, FractionsByText, OneReading, WholesByText};
+
+use crate::fault::FormFault;
+use crate::reading::read;
+use crate::writing::write;
+use std::alloc::Global;
+use tm_cert::Cert;
+
+/// Bytes are one certificate at most.
+pub fn one_reading()
+    ensures { OneReading }
+{}
+
+/// A text is read as a number exactly where it is the canonical text of a number of its kind.
+pub fn numbers_have_one_text()
+    ensures fractions { FractionsByText }
+    ensures wholes { WholesByText }
+    ensures bounds { BoundsByText }
+{}
+
+/// The certificate, written and read: the same one, unless memory is refused.
+pub fn round_trip(alloc: Global, cert: &Cert) -> Result<Cert, FormFault>
+    requires { IsWritable cert.now }
+    ensures same { IfOk result (λ c. c ≡ cert.now) }
+    ensures only_memory { IfErr result (λ fault. fault ≡ FormFault.NoMemory) }
+{
+    let bytes = write(alloc, cert)?;
+    read(alloc, bytes.as_slice())
+}

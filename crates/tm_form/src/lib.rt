@@ -1,0 +1,24 @@
+//! Certificates as text: format 1, a JSON object.
+#![tactic(auto)]
+
+mod bounds;
+mod entry;
+mod fault;
+mod item_entries;
+mod items;
+mod keys;
+mod law;
+mod numbers;
+mod reading;
+mod rows;
+mod step;
+#[cfg(test)]
+mod tests;
+mod trace;
+mod upper;
+mod writing;
+
+pub use fault::{Field, FormFault};
+pub use law::{numbers_have_one_text, one_reading, round_trip};
+pub use reading::read;
+pub use writing::write;

@@ -1,0 +1,61 @@
+//! Rows of a template.
+
+ghost use Rattle.std.specs.Prelude.{◌≡◌, IfOk, IfSome, IsTrue, Some, true};
+ghost use Rattle.serde_json.specs.View.{view};
+ghost use Rattle.tm_tree.specs.Numbers.{are_numbers};
+ghost use Rattle.tm_form.specs.Certificates.{row_data};
+ghost use Rattle.tm_form.specs.Lists.{list_in};
+ghost use Rattle.tm_form.specs.Numbers.{whole_in};
+ghost use Rattle.tm_form.specs.Traces.{are_texts};
+
+use crate::entry::{Entry, is_list, read_list, write_list};
+use serde_json::Value;
+use std::alloc::{AllocError, Global};
+use tm_tree::Coeffs;
+
+// The coefficients that the value is.
+fn read_row(alloc: Global, value: &Value) -> Result<Option<Coeffs>, AllocError>
+    ensures { IfOk result (λ row. row ≡ list_in whole_in (view value.now)) }
+{
+    match read_list::<i64>(alloc, 0, value)? {
+        Some(list) => Ok(Some(Coeffs::new(list))),
+        None => Ok(None),
+    }
+}
+
+// The coefficients as a value.
+fn row_value(alloc: Global, row: &Coeffs) -> Result<Value, AllocError>
+    ensures value { IfOk result (λ v. view v ≡ row_data row.now) }
+    ensures shape { IfOk result (λ _. are_texts (row_data row.now) ≡ true) }
+    ensures back { IfOk result (λ _. list_in whole_in (row_data row.now) ≡ Some row.now) }
+{
+    write_list(alloc, 0, row.as_slice())
+}
+
+impl Entry for Coeffs {
+    ghost use Rattle.std.specs.Prelude.{true};
+    ghost use Rattle.tm_form.specs.Certificates.{row_data};
+    ghost use Rattle.tm_form.specs.Lists.{list_in};
+    ghost use Rattle.tm_form.specs.Numbers.{whole_in};
+    ghost use Rattle.tm_form.specs.Traces.{are_texts};
+
+    ghost shaped = { λ _ d. are_texts d };
+
+    ghost element_in = { λ _ d. list_in whole_in d };
+
+    ghost element_data = { λ _ row. row_data row };
+
+    ghost writable = { λ _ _. true };
+
+    fn has_shape(_rows: usize, value: &Value) -> bool {
+        is_list::<i64>(0, value)
+    }
+
+    fn read(alloc: Global, _rows: usize, value: &Value) -> Result<Option<Coeffs>, AllocError> {
+        read_row(alloc, value)
+    }
+
+    fn write(&self, alloc: Global, _rows: usize) -> Result<Value, AllocError> {
+        row_value(alloc, self)
+    }
+}
