@@ -1,0 +1,16 @@
+pub mod Failed
+pub mod StepTests
+pub mod Stops
+pub mod Runs
+pub mod Named
+pub mod RayTests
+pub mod CheckTests
+pub mod Places
+pub mod Directions
+pub mod Taken
+pub mod Compares
+pub mod Edges
+pub mod Usables
+pub mod Landed
+pub mod Found
+pub mod Totals

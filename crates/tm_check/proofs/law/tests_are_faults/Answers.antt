@@ -1,0 +1,5 @@
+use Rattle.tm_check.proofs.CheckTests.{tests_are_faults}
+use Rattle.tm_check.proofs.law.tests_are_faults.Goals as goal
+
+pub returns : goal.returns
+returns c = tests_are_faults

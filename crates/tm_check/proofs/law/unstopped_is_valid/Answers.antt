@@ -1,0 +1,5 @@
+use Rattle.tm_check.proofs.CheckTests.{unstopped_is_valid, unstopped_is_least}
+use Rattle.tm_check.proofs.law.unstopped_is_valid.Goals as goal
+
+pub returns : goal.returns
+returns c = record { valid = unstopped_is_valid; least = unstopped_is_least }

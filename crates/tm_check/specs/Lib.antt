@@ -1,0 +1,10 @@
+pub mod Rooms
+pub mod Events
+pub mod Stands
+pub mod Runs
+pub mod Items
+pub mod StepEvents
+pub mod Usable
+pub mod EvidenceEvents
+pub mod CheckEvents
+pub mod Laws

@@ -1,0 +1,177 @@
+//! The tests of a step's items after all of them have passed at the vector that the step finds.
+
+ghost use Rattle.std.specs.Prelude.{◌≡◌, ◌↔◌, ◌*◌, ◌<◌, ◌^◌, ℕ, IsTrue, length};
+ghost use Rattle.tm_num.specs.Extended.{fin, ◌≤ᴱ◌};
+ghost use Rattle.tm_frac.specs.Extended.{extended};
+ghost use Rattle.tm_eqsys.specs.Equations.{Vector};
+ghost use Rattle.tm_eqsys.specs.View.{equations_of};
+ghost use Rattle.tm_cert.specs.Certificates.{step_of};
+ghost use Rattle.tm_steps.specs.Steps.{Kind, new_value, put};
+ghost use Rattle.tm_check.specs.Events.{IsRun};
+ghost use Rattle.tm_check.specs.Items.{item_count, item_at};
+ghost use Rattle.tm_check.specs.StepEvents.{allowances, landing_events, going_events, second_pass_events};
+ghost use Rattle.tm_check.specs.Stands.{Stands};
+ghost use Rattle.tm_check.specs.Usable.{IsUsable};
+
+use crate::direction::carry;
+use crate::fault::CheckFault;
+use crate::item::{count, edge_at, number_at, second_at, unknown_at};
+use crate::run::{run, wide_at};
+use tm_cert::Step;
+use tm_eqsys::{Bounds, Site, System};
+use tm_frac::{Ext, Frac, OrderedField};
+
+// Whether a bound is at most a number.
+fn is_at_most(bound: Ext, number: Frac) -> bool
+    ensures { IsTrue result ↔ (extended bound ≤ᴱ fin number) }
+{
+    match bound {
+        Ext::NegInf => true,
+        Ext::Fin(limit) => limit <= number,
+        Ext::PosInf => false,
+    }
+}
+
+// The tests of a jump's item where the new bounds are in place.
+fn lands(
+    system: &System,
+    step: &Step,
+    number: u32,
+    k: u32,
+    base: &Bounds,
+    next: &Bounds,
+) -> Result<(), CheckFault>
+    requires item { k < item_count step.now }
+    requires jump { (step_of (length system.now.template) step.now).kind ≡ Kind.Jump }
+    requires usable { IsUsable Kind.Jump (equations_of system.now) (item_at (length system.now.template) step.now k) }
+    requires base { length base.now ≡ length system.now.flow.points * length system.now.template }
+    requires next { length next.now ≡ length system.now.flow.points * length system.now.template }
+    ensures { (z p : Vector) → Stands (equations_of system.now) base.now z → Stands (equations_of system.now) next.now p →
+        IsRun (λ u. Unit {0}) (landing_events (equations_of system.now) z p number k (item_at (length system.now.template) step.now k)) result }
+{
+    let place = k as usize;
+    let unknown = unknown_at(step, place);
+    let to = number_at(step, place);
+    if !is_at_most(base.at(unknown), to) {
+        return Err(CheckFault::High {
+            step: number,
+            item: k,
+        });
+    }
+    let row = unknown % system.template.as_slice().len() as u32;
+    match run(
+        system,
+        next,
+        edge_at(step, place),
+        row,
+        second_at(step, place),
+    ) {
+        Ok(Some(value)) => {
+            if to <= value {
+                Ok(())
+            } else {
+                Err(CheckFault::High {
+                    step: number,
+                    item: k,
+                })
+            }
+        }
+        Ok(None) => Err(CheckFault::High {
+            step: number,
+            item: k,
+        }),
+        Err(wide) => Err(wide_at(
+            Site::Step {
+                step: number,
+                item: k,
+            },
+            wide,
+        )),
+    }
+}
+
+/// The tests of all items of a jump.
+pub fn landings(
+    system: &System,
+    step: &Step,
+    number: u32,
+    base: &Bounds,
+    next: &Bounds,
+) -> Result<(), CheckFault>
+    requires few { item_count step.now < 2 ^ 32 }
+    requires jump { (step_of (length system.now.template) step.now).kind ≡ Kind.Jump }
+    requires usable { (k : ℕ) → k < item_count step.now → IsUsable Kind.Jump (equations_of system.now) (item_at (length system.now.template) step.now k) }
+    requires base { length base.now ≡ length system.now.flow.points * length system.now.template }
+    requires next { length next.now ≡ length system.now.flow.points * length system.now.template }
+    ensures { (z : Vector) → Stands (equations_of system.now) base.now z → let items = (step_of (length system.now.template) step.now).items in
+        Stands (equations_of system.now) next.now (put (new_value Kind.Jump) items z) → IsRun (λ u. Unit {0}) (second_pass_events Kind.Jump (equations_of system.now) z items number 0 items) result }
+{
+    for k in 0..count(step) as u32 {
+        lands(system, step, number, k, base, next)?;
+    }
+    Ok(())
+}
+
+// The tests of a ray's item.
+fn goes(system: &System, step: &Step, number: u32, k: u32, rates: &Bounds) -> Result<(), CheckFault>
+    requires item { k < item_count step.now }
+    requires ray { (step_of (length system.now.template) step.now).kind ≡ Kind.Ray }
+    requires usable { IsUsable Kind.Ray (equations_of system.now) (item_at (length system.now.template) step.now k) }
+    requires rates { length rates.now ≡ length system.now.flow.points * length system.now.template }
+    ensures { (z : Vector) → let items = (step_of (length system.now.template) step.now).items in Stands (equations_of system.now) rates.now (allowances items z) →
+        IsRun (λ u. Unit {0}) (going_events (equations_of system.now) z items number k (item_at (length system.now.template) step.now k)) result }
+{
+    let place = k as usize;
+    let rate = number_at(step, place);
+    if rate <= Frac::zero() {
+        return Err(CheckFault::Ray {
+            step: number,
+            item: k,
+        });
+    }
+    let row = unknown_at(step, place) % system.template.as_slice().len() as u32;
+    match carry(
+        system,
+        rates,
+        edge_at(step, place),
+        row,
+        second_at(step, place),
+    ) {
+        Ok(Some(gain)) => {
+            if rate <= gain {
+                Ok(())
+            } else {
+                Err(CheckFault::Ray {
+                    step: number,
+                    item: k,
+                })
+            }
+        }
+        Ok(None) => Err(CheckFault::Ray {
+            step: number,
+            item: k,
+        }),
+        Err(wide) => Err(wide_at(
+            Site::Step {
+                step: number,
+                item: k,
+            },
+            wide,
+        )),
+    }
+}
+
+/// The tests of all items of a ray.
+pub fn goings(system: &System, step: &Step, number: u32, rates: &Bounds) -> Result<(), CheckFault>
+    requires few { item_count step.now < 2 ^ 32 }
+    requires ray { (step_of (length system.now.template) step.now).kind ≡ Kind.Ray }
+    requires usable { (k : ℕ) → k < item_count step.now → IsUsable Kind.Ray (equations_of system.now) (item_at (length system.now.template) step.now k) }
+    requires rates { length rates.now ≡ length system.now.flow.points * length system.now.template }
+    ensures { (z : Vector) → let items = (step_of (length system.now.template) step.now).items in Stands (equations_of system.now) rates.now (allowances items z) →
+        IsRun (λ u. Unit {0}) (second_pass_events Kind.Ray (equations_of system.now) z items number 0 items) result }
+{
+    for k in 0..count(step) as u32 {
+        goes(system, step, number, k, rates)?;
+    }
+    Ok(())
+}
