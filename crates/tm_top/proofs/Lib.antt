@@ -1,6 +1,9 @@
 pub mod Pieces
-pub mod Causes
 pub mod Messages
+pub mod Readings
+pub mod Once
+pub mod Answered
+pub mod Worded
+pub mod Solved
 pub mod Loaded
-pub mod Named
-pub mod Endings
+pub mod Plain

@@ -1,5 +1,5 @@
 -- What the stream of messages holds after a message was put in one piece.
-use Rattle.std.proofs.Common.{◌≡◌, ◌≤◌, ◌≢◌, ℕ, List, Option, length, take, refl, sym, subst, arith}
+use Rattle.std.proofs.Common.{◌≡◌, ◌≤◌, ◌≢◌, ℕ, List, Option, length, refl, sym, subst, arith}
 use Rattle.std.specs.Prelude.{Result, Ok, Err}
 use Rattle.std.specs.Io.KnownBytes.{Appends}
 use Rattle.std.proofs.Math.Seq.{take-length}
@@ -9,7 +9,7 @@ use Rattle.tm_io.specs.declared.sink.PutFault.TheVariants.{Failed, NoMemory}
 use Rattle.tm_top.specs.Run.{ErrorsHold, GetsMessage}
 use Rattle.tm_top.specs.Messages.{message_of}
 use Rattle.tm_top.specs.declared.status.Status.{Status}
-use Rattle.tm_top.specs.declared.status.Status.TheVariants.{Done, Usage, Read, Text, Memory, Write}
+use Rattle.tm_top.specs.declared.status.Status.TheVariants.{Done, Usage, Read, Text, Spent, Memory, Write}
 
 gets : (message : List ℕ) (held now : Option (List ℕ)) (f f' s : ℕ) (r : Result (Unit {0}) PutFault)
     → length message ≤ 512 → Puts held now message r → HasPutCause f f' s message r → GetsMessage message held now f f' s
@@ -29,6 +29,7 @@ told line Done held now f f' s other m = absurd (other refl)
 told line Usage held now f f' s other m = m
 told line (Read cause) held now f f' s other m = m
 told line (Text cause) held now f f' s other m = m
+told line (Spent n) held now f f' s other m = m
 told line Memory held now f f' s other m = m
 told line Write held now f f' s other m = m
 

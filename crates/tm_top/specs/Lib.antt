@@ -1,8 +1,10 @@
 pub mod Status
 pub mod Request
-pub mod Report
+pub mod Files
 pub mod Texts
+pub mod Reports
+pub mod Endings
 pub mod Messages
 pub mod Parts
-pub mod Refusals
+pub mod Parted
 pub mod Run

@@ -1,5 +1,5 @@
 -- The messages of a run.
-use Rattle.std.specs.Prelude.{ℕ, List, [], ◌∷◌, ◌++◌, Option, Some, None, codes, decimal}
+use Rattle.std.specs.Prelude.{ℕ, List, [], ◌++◌, Option, Some, None, codes, decimal}
 use Rattle.tm_lex.specs.declared.fault.LexFault.{LexFault}
 use Rattle.tm_lex.specs.declared.fault.LexFault.TheVariants as lex
 use Rattle.tm_lex.specs.Lines.{line_at}
@@ -9,13 +9,16 @@ use Rattle.tm_parse.specs.declared.fault.ParseFault.{ParseFault}
 use Rattle.tm_parse.specs.declared.fault.ParseFault.TheVariants as parse
 use Rattle.tm_flow.specs.declared.fault.FlowFault.{FlowFault}
 use Rattle.tm_flow.specs.declared.fault.FlowFault.TheVariants as flow
-use Rattle.tm_top.specs.declared.status.Which.TheVariants.{Program}
+use Rattle.tm_rows.specs.declared.fault.RowFault.{RowFault}
+use Rattle.tm_rows.specs.declared.fault.RowFault.TheVariants as rows
+use Rattle.tm_words.specs.Usage.{usage_text}
+use Rattle.tm_top.specs.declared.status.Which.TheVariants as which
 use Rattle.tm_top.specs.declared.status.ReadCause.{ReadCause}
 use Rattle.tm_top.specs.declared.status.ReadCause.TheVariants.{Failed, TooLong}
 use Rattle.tm_top.specs.declared.status.TextCause.{TextCause}
-use Rattle.tm_top.specs.declared.status.TextCause.TheVariants.{Lex, Parse, Flow, NotBuilt}
+use Rattle.tm_top.specs.declared.status.TextCause.TheVariants.{Lex, Parse, Flow, Rows, Unknowns, NotBuilt}
 use Rattle.tm_top.specs.declared.status.Status.{Status}
-use Rattle.tm_top.specs.declared.status.Status.TheVariants.{Done, Usage, Read, Text, Memory, Write}
+use Rattle.tm_top.specs.declared.status.Status.TheVariants.{Done, Usage, Read, Text, Spent, Memory, Write}
 
 -- ---- where a cause stands
 
@@ -45,6 +48,8 @@ abbrev pub place_of : TextCause → Option ℕ
 place_of (Lex fault) = lex_place fault
 place_of (Parse fault) = parse_place fault
 place_of (Flow fault) = None
+place_of (Rows fault) = None
+place_of (Unknowns count) = None
 place_of NotBuilt = None
 
 abbrev pub line_at_place : List ℕ → Option ℕ → ℕ
@@ -57,23 +62,24 @@ line_in text (Text cause) = line_at_place text (place_of cause)
 line_in text Done = 0
 line_in text Usage = 0
 line_in text (Read cause) = 0
+line_in text (Spent number) = 0
 line_in text Memory = 0
 line_in text Write = 0
 
 -- ---- the words
 
--- words, a number and words
+-- words, a number and words, with a line feed at the end
 pub record Words : Type 0 where
   pub before : List ℕ
   pub number : Option ℕ
   pub after : List ℕ
 
 abbrev pub words : List ℕ → Words
-words before = record { before = before; number = None; after = [] }
+words before = record { before = before; number = None; after = codes "\n" }
 
 -- words and a number behind them
 abbrev pub counted : List ℕ → ℕ → Words
-counted before number = record { before = before; number = Some number; after = [] }
+counted before number = record { before = before; number = Some number; after = codes "\n" }
 
 abbrev pub lex_words : ℕ → LexFault → Words
 lex_words line (lex.BadByte at) = counted (codes "program refused: bad byte at line ") line
@@ -102,27 +108,40 @@ parse_words line parse.NoMemory = words (codes "out of memory")
 
 abbrev pub flow_words : FlowFault → Words
 flow_words (flow.Cases line) = counted (codes "program refused: cases at line ") line
-flow_words (flow.Points count) = record { before = codes "program refused: "; number = Some count; after = codes " points" }
+flow_words (flow.Points count) = record { before = codes "program refused: "; number = Some count; after = codes " points\n" }
 flow_words flow.Edges = words (codes "program refused: edges")
 flow_words (flow.Actions edge) = counted (codes "program refused: actions of edge ") edge
 flow_words flow.NoMemory = words (codes "out of memory")
+
+abbrev pub row_words : RowFault → Words
+row_words (rows.ZeroRow line) = counted (codes "rows refused: zero row at line ") line
+row_words (rows.Count count) = record { before = codes "rows refused: "; number = Some count; after = codes " rows\n" }
+row_words (rows.UnknownName line) = counted (codes "rows refused: unknown name at line ") line
+row_words (rows.BadRow line) = counted (codes "rows refused: bad row at line ") line
+row_words (rows.Length line) = counted (codes "rows refused: length at line ") line
+row_words rows.NoMemory = words (codes "out of memory")
 
 abbrev pub text_words : ℕ → TextCause → Words
 text_words line (Lex fault) = lex_words line fault
 text_words line (Parse fault) = parse_words line fault
 text_words line (Flow fault) = flow_words fault
+text_words line (Rows fault) = row_words fault
+text_words line (Unknowns count) = record { before = codes "program refused: "; number = Some count; after = codes " unknowns\n" }
 text_words line NotBuilt = words (codes "program refused: not built yet")
 
 abbrev pub read_words : ReadCause → Words
-read_words (Failed Program) = words (codes "cannot read the program")
-read_words (TooLong Program) = words (codes "too long: the program")
+read_words (Failed which.Program) = words (codes "cannot read the program")
+read_words (Failed which.Rows) = words (codes "cannot read the rows")
+read_words (TooLong which.Program) = words (codes "too long: the program")
+read_words (TooLong which.Rows) = words (codes "too long: the rows")
 
 -- the words of an ending
 abbrev pub words_of : ℕ → Status → Words
 words_of line Done = words []
-words_of line Usage = words (codes "usage: tmpl solve PROGRAM")
+words_of line Usage = record { before = usage_text; number = None; after = [] }
 words_of line (Read cause) = read_words cause
 words_of line (Text cause) = text_words line cause
+words_of line (Spent number) = record { before = codes "spent: "; number = Some number; after = codes " improvements\n" }
 words_of line Memory = words (codes "out of memory")
 words_of line Write = words (codes "cannot write")
 
@@ -132,7 +151,7 @@ number_text (Some n) = decimal n
 
 -- the whole line
 abbrev pub line_text : Words → List ℕ
-line_text w = w.before ++ number_text w.number ++ w.after ++ 10 ∷ []
+line_text w = w.before ++ number_text w.number ++ w.after
 
 -- the message of an ending, where this is the line of its cause
 abbrev pub message_of : ℕ → Status → List ℕ

@@ -1,7 +1,7 @@
 -- The exit codes of a run.
 use Rattle.std.specs.Prelude.{ℕ}
 use Rattle.tm_top.specs.declared.status.Status.{Status}
-use Rattle.tm_top.specs.declared.status.Status.TheVariants.{Done, Usage, Read, Text, Memory, Write}
+use Rattle.tm_top.specs.declared.status.Status.TheVariants.{Done, Usage, Read, Text, Spent, Memory, Write}
 
 -- the exit code
 abbrev pub code_of : Status → ℕ
@@ -9,5 +9,6 @@ code_of Done = 0
 code_of Usage = 2
 code_of (Read cause) = 3
 code_of (Text cause) = 4
+code_of (Spent improvements) = 6
 code_of Memory = 7
 code_of Write = 8

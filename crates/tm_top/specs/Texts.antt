@@ -1,54 +1,80 @@
--- What a text is to the program: a small line, or refused by a cause. Tokens come first, then the program, then its points and edges.
-use Rattle.std.specs.Prelude.{◌≡◌, ◌+◌, ◌&&◌, ℕ, Bool, true, false, List, Ok, Err, Some, None, map, nat_abs, nat_le, sum}
+-- What texts are: a system to be solved, or refused by a cause. Tokens come first, then the program, its points and edges, the template, and the unknowns.
+use Rattle.std.specs.Prelude.{◌≡◌, ◌*◌, ◌&&◌, ◌≤◌, ◌<◌, ℕ, ℤ, Bool, true, false, List, Result, Ok, Err, Some, None, length}
 use Rattle.tm_lex.specs.declared.token.Token.{Token}
 use Rattle.tm_lex.specs.Reading.{Reads}
 use Rattle.tm_lex.specs.Faults.{HasFault}
 use Rattle.tm_gram.specs.View.{tokens_of}
 use Rattle.tm_parse.specs.Meaning.{Answer, Means}
-use Rattle.tm_tree.specs.declared.form.Form.{Form}
-use Rattle.tm_tree.specs.Tree.{Statement, Statements, set, havoc, assume, branch, loop, label, nil, cons, nodes_in}
+use Rattle.tm_tree.specs.Tree.{Statements}
 use Rattle.tm_flow.specs.Faults.{fault_of_program}
+use Rattle.tm_flow.specs.Points.{points_of_program}
+use Rattle.tm_rows.specs.Domains.{intervals_of, zones_of, octagons_of}
+use Rattle.tm_rows.specs.RowFiles.{Answers}
+use Rattle.tm_rows.specs.declared.fault.RowFault.{RowFault}
+use Rattle.tm_small.specs.SmallLines.{has_small_rows, is_small_line}
+use Rattle.tm_words.specs.declared.request.Domain.{Domain}
+use Rattle.tm_words.specs.declared.request.Domain.TheVariants as domain
 use Rattle.tm_top.specs.declared.status.TextCause.{TextCause}
-use Rattle.tm_top.specs.declared.status.TextCause.TheVariants.{Lex, Parse, Flow, NotBuilt}
+use Rattle.tm_top.specs.declared.status.TextCause.TheVariants.{Lex, Parse, Flow, Rows, Unknowns, NotBuilt}
 
 -- the text's tokens mean this: names and statements, or a fault
 abbrev pub Reading : List ℕ → Answer → Type 0
 Reading text answer = (tokens : List Token) × Reads text tokens × Means text (tokens_of text tokens) answer
-
--- the absolute values of a form's numbers, added up
-abbrev pub size_of : Form → ℕ
-size_of form = sum (map nat_abs form.coeffs) + nat_abs form.constant
-
--- an assignment of a form whose size is at most 8 * 999, or of any value
-abbrev pub is_small_statement : Statement → Bool
-is_small_statement (set var form line) = nat_le (size_of form) 7992
-is_small_statement (havoc var line) = true
-is_small_statement (assume cond line) = false
-is_small_statement (branch cond first second line) = false
-is_small_statement (loop cond body line) = false
-is_small_statement (label name line) = false
-
--- each of them is
-abbrev pub are_small : Statements → Bool
-are_small nil = true
-are_small (cons s rest) = is_small_statement s && are_small rest
-
--- a small line: at most four of them
-abbrev pub is_small_line : Statements → Bool
-is_small_line body = nat_le (nodes_in body) 4 && are_small body
 
 -- the text reads as these names and statements, whose points and edges are within the limits
 pub record IsAnalysed (text : List ℕ) (names : List (List ℕ)) (body : Statements) : Type 0 where
   pub reading : Reading text (Ok (names, body))
   pub within : fault_of_program body ≡ None
 
--- the text is refused by this cause
-abbrev pub IsRefused : List ℕ → TextCause → Type 0
-IsRefused text (Lex fault) = HasFault text fault
-IsRefused text (Parse fault) = Reading text (Err fault)
-IsRefused text (Flow fault) = (names : List (List ℕ)) × (body : Statements) × Reading text (Ok (names, body)) × (fault_of_program body ≡ Some fault)
-IsRefused text NotBuilt = (names : List (List ℕ)) × (body : Statements) × IsAnalysed text names body × (is_small_line body ≡ false)
+-- the template over these variables: the list of a domain, or what the text of the rows is
+abbrev pub HasTemplate : Domain (List ℕ) → List (List ℕ) → Result (List (List ℤ)) RowFault → Type 0
+HasTemplate domain.Intervals names answer = answer ≡ Ok (intervals_of (length names))
+HasTemplate domain.Zones names answer = answer ≡ Ok (zones_of (length names))
+HasTemplate domain.Octagons names answer = answer ≡ Ok (octagons_of (length names))
+HasTemplate (domain.Rows text) names answer = Answers names text answer
 
--- the text reads as a small line
-abbrev pub IsSmallText : List ℕ → Type 0
-IsSmallText text = (names : List (List ℕ)) × (body : Statements) × IsAnalysed text names body × (is_small_line body ≡ true)
+-- a program and a template of these texts
+pub record IsSystemOf (text : List ℕ) (rows : Domain (List ℕ)) (names : List (List ℕ)) (body : Statements) (template : List (List ℤ)) : Type 0 where
+  pub analysed : IsAnalysed text names body
+  pub template_is : HasTemplate rows names (Ok template)
+
+-- the number of unknowns: points times rows
+abbrev pub unknowns : Statements → List (List ℤ) → ℕ
+unknowns body template = length (points_of_program body) * length template
+
+-- which programs are solved over which templates
+abbrev pub is_built : Statements → List (List ℤ) → Bool
+is_built body template = is_small_line body && has_small_rows template
+
+-- a program and a template of these texts that are solved
+pub record IsReady (text : List ℕ) (rows : Domain (List ℕ)) (names : List (List ℕ)) (body : Statements) (template : List (List ℤ)) : Type 0 where
+  pub system : IsSystemOf text rows names body template
+  pub within : unknowns body template ≤ 1024
+  pub built : is_built body template ≡ true
+
+-- the texts are refused by this cause
+abbrev pub IsRefused : List ℕ → Domain (List ℕ) → TextCause → Type 0
+IsRefused text rows (Lex fault) = HasFault text fault
+IsRefused text rows (Parse fault) = Reading text (Err fault)
+IsRefused text rows (Flow fault) =
+    (names : List (List ℕ)) × (body : Statements) × Reading text (Ok (names, body)) × (fault_of_program body ≡ Some fault)
+IsRefused text rows (Rows fault) =
+    (names : List (List ℕ)) × (body : Statements) × IsAnalysed text names body × HasTemplate rows names (Err fault)
+IsRefused text rows (Unknowns count) =
+    (names : List (List ℕ)) × (body : Statements) × (template : List (List ℤ)) × IsSystemOf text rows names body template
+    × (1024 < unknowns body template) × (count ≡ unknowns body template)
+IsRefused text rows NotBuilt =
+    (names : List (List ℕ)) × (body : Statements) × (template : List (List ℤ)) × IsSystemOf text rows names body template
+    × (unknowns body template ≤ 1024) × (is_built body template ≡ false)
+
+-- the texts are a system, and no improvement is asked for, though one is needed
+abbrev pub IsSpent : List ℕ → Domain (List ℕ) → ℕ → Type 0
+IsSpent text rows improvements =
+    (names : List (List ℕ)) × (body : Statements) × (template : List (List ℤ)) × IsReady text rows names body template
+    × (improvements ≡ 0)
+
+-- the texts are a system that is solved by the improvements asked for
+abbrev pub IsSolvable : List ℕ → Domain (List ℕ) → ℕ → Type 0
+IsSolvable text rows improvements =
+    (names : List (List ℕ)) × (body : Statements) × (template : List (List ℤ)) × IsReady text rows names body template
+    × (0 < improvements)

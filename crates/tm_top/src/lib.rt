@@ -1,16 +1,18 @@
 //! All that the program does, over its words, its files and its streams.
 #![tactic(auto)]
 
+mod load;
+mod memory;
 mod message;
 mod output;
+mod place;
 mod program;
-mod report;
-mod request;
-mod small;
+mod solve;
 mod source;
 mod status;
-mod straight;
+mod template;
 
+pub use memory::run_in_memory;
 pub use program::run;
 pub use status::{ReadCause, Status, TextCause, Which};
 

@@ -1,7 +1,7 @@
 //! The line that tells how a run ended, where it isn't done.
 
 ghost use Rattle.std.specs.Prelude.{◌≡◌, ◌≤◌, ◌+◌, ◌++◌, [], None, Some, codes, length};
-ghost use Rattle.tm_top.specs.Messages.{counted, flow_words, lex_words, line_text, limit_words, message_of, parse_words, read_words, text_words, words, words_of};
+ghost use Rattle.tm_top.specs.Messages.{counted, flow_words, lex_words, line_text, limit_words, message_of, parse_words, read_words, row_words, text_words, words, words_of};
 ghost use Rattle.tm_top.specs.Parts.{told};
 
 use crate::status::{ReadCause, Status, TextCause, Which};
@@ -10,8 +10,10 @@ use std::marker::Model;
 use tm_flow::FlowFault;
 use tm_lex::LexFault;
 use tm_parse::{Limit, ParseFault};
+use tm_rows::RowFault;
+use tm_words::usage_line;
 
-/// Words, a number and words.
+/// Words, a number and words, with a line feed at the end.
 #[derive(Clone, Copy, Drop)]
 pub(crate) struct Parts {
     before: &'static [u8],
@@ -25,7 +27,7 @@ fn plain(before: &'static [u8]) -> Parts
     Parts {
         before,
         number: None,
-        after: b"",
+        after: b"\n",
     }
 }
 
@@ -35,7 +37,7 @@ fn counted(before: &'static [u8], number: u32) -> Parts
     Parts {
         before,
         number: Some(number),
-        after: b"",
+        after: b"\n",
     }
 }
 
@@ -90,11 +92,28 @@ fn flow_parts(fault: FlowFault) -> Parts
         FlowFault::Points { count } => Parts {
             before: b"program refused: ",
             number: Some(count),
-            after: b" points",
+            after: b" points\n",
         },
         FlowFault::Edges => plain(b"program refused: edges"),
         FlowFault::Actions { edge } => counted(b"program refused: actions of edge ", edge),
         FlowFault::NoMemory => plain(b"out of memory"),
+    }
+}
+
+fn row_parts(fault: RowFault) -> Parts
+    ensures { told result ≡ row_words fault }
+{
+    match fault {
+        RowFault::ZeroRow { line } => counted(b"rows refused: zero row at line ", line),
+        RowFault::Count { count } => Parts {
+            before: b"rows refused: ",
+            number: Some(count),
+            after: b" rows\n",
+        },
+        RowFault::UnknownName { line } => counted(b"rows refused: unknown name at line ", line),
+        RowFault::BadRow { line } => counted(b"rows refused: bad row at line ", line),
+        RowFault::Length { line } => counted(b"rows refused: length at line ", line),
+        RowFault::NoMemory => plain(b"out of memory"),
     }
 }
 
@@ -105,6 +124,12 @@ fn text_parts(line: u32, cause: TextCause) -> Parts
         TextCause::Lex(fault) => lex_parts(line, fault),
         TextCause::Parse(fault) => parse_parts(line, fault),
         TextCause::Flow(fault) => flow_parts(fault),
+        TextCause::Rows(fault) => row_parts(fault),
+        TextCause::Unknowns(count) => Parts {
+            before: b"program refused: ",
+            number: Some(count),
+            after: b" unknowns\n",
+        },
         TextCause::NotBuilt => plain(b"program refused: not built yet"),
     }
 }
@@ -114,7 +139,9 @@ fn read_parts(cause: ReadCause) -> Parts
 {
     match cause {
         ReadCause::Failed(Which::Program) => plain(b"cannot read the program"),
+        ReadCause::Failed(Which::Rows) => plain(b"cannot read the rows"),
         ReadCause::TooLong(Which::Program) => plain(b"too long: the program"),
+        ReadCause::TooLong(Which::Rows) => plain(b"too long: the rows"),
     }
 }
 
@@ -124,9 +151,18 @@ fn make_parts(line: u32, status: Status) -> Parts
 {
     match status {
         Status::Done => plain(b""),
-        Status::Usage => plain(b"usage: tmpl solve PROGRAM"),
+        Status::Usage => Parts {
+            before: usage_line(),
+            number: None,
+            after: b"",
+        },
         Status::Read(cause) => read_parts(cause),
         Status::Text(cause) => text_parts(line, cause),
+        Status::Spent(number) => Parts {
+            before: b"spent: ",
+            number: Some(number),
+            after: b" improvements\n",
+        },
         Status::Memory => plain(b"out of memory"),
         Status::Write => plain(b"cannot write"),
     }
@@ -190,6 +226,5 @@ pub(crate) fn make_message(line: u32, status: Status) -> Message
         message.append(buffer.format(number).as_bytes());
     }
     message.append(parts.after);
-    message.append(b"\n");
     message
 }

@@ -1,29 +1,30 @@
-//! From a program's text to the program, or the cause for which it is refused.
+//! From the text of a program to its points and edges, or the cause for which it is refused.
 
-ghost use Rattle.std.specs.Prelude.{◌≡◌, ◌≤◌, ◌⊎◌, ℕ, List, IfOk, IfErr, Ok, Err, Some, length, true};
-ghost use Rattle.tm_lex.specs.declared.token.Token.{Token};
-ghost use Rattle.tm_lex.specs.Reading.{Reads};
+ghost use Rattle.std.specs.Prelude.{◌≡◌, ◌≤◌, ◌⊎◌, ℕ, List, IfOk, IfErr, Ok, Err, None, Some, length};
 ghost use Rattle.tm_lex.specs.Faults.{HasFault};
-ghost use Rattle.tm_gram.specs.View.{tokens_of};
-ghost use Rattle.tm_parse.specs.Meaning.{Answer, Means};
+ghost use Rattle.tm_parse.specs.Meaning.{Answer};
 ghost use Rattle.tm_tree.specs.Tree.{Statements};
+ghost use Rattle.tm_flow.specs.Edges.{edges_of_program};
 ghost use Rattle.tm_flow.specs.Faults.{fault_of_program};
-ghost use Rattle.tm_top.specs.Texts.{IsAnalysed, Reading, is_small_line};
-ghost use Rattle.tm_top.specs.Refusals.{IsRefusedBy};
+ghost use Rattle.tm_flow.specs.Points.{points_of_program};
+ghost use Rattle.tm_words.specs.declared.request.Domain.{Domain};
+ghost use Rattle.tm_top.specs.Parted.{IsRefusedBy};
+ghost use Rattle.tm_top.specs.Texts.{Reading};
 
-use crate::small::is_small_line;
 use crate::status::TextCause;
 use std::alloc::{AllocError, Global};
-use tm_flow::{FlowFault, flow};
+use tm_flow::{Flow, FlowFault, flow};
 use tm_lex::{LexFault, lex};
 use tm_parse::{ParseFault, parse};
 use tm_tree::Program;
 
-/// Why a text has no report.
+/// Why texts have no report.
 #[derive(Clone, Copy, Debug, Drop)]
 pub(crate) enum Refusal {
-    /// The text is refused by this cause.
+    /// The texts are refused by this cause.
     Text(TextCause),
+    /// This number of improvements is too small.
+    Spent(u32),
     NoMemory,
 }
 
@@ -40,7 +41,7 @@ impl From<AllocError> for Refusal {
 
 /// The refusal of a text that has this fault instead of tokens.
 fn lex_refusal(fault: LexFault) -> Refusal
-    ensures { (text : List ℕ) → HasFault text fault ⊎ (fault ≡ LexFault.NoMemory) → IsRefusedBy text result }
+    ensures { (text : List ℕ) (rows : Domain (List ℕ)) (n : ℕ) → HasFault text fault ⊎ (fault ≡ LexFault.NoMemory) → IsRefusedBy text rows n result }
 {
     match fault {
         LexFault::NoMemory => Refusal::NoMemory,
@@ -50,8 +51,8 @@ fn lex_refusal(fault: LexFault) -> Refusal
 
 /// The refusal of a text whose tokens have this fault.
 fn parse_refusal(fault: ParseFault) -> Refusal
-    ensures { (text : List ℕ) (answer : Answer) → Reading text answer
-        → ((fault ≡ ParseFault.NoMemory → ⊥) → answer ≡ Err fault) → IsRefusedBy text result }
+    ensures { (text : List ℕ) (rows : Domain (List ℕ)) (n : ℕ) (answer : Answer) → Reading text answer
+        → ((fault ≡ ParseFault.NoMemory → ⊥) → answer ≡ Err fault) → IsRefusedBy text rows n result }
 {
     match fault {
         ParseFault::NoMemory => Refusal::NoMemory,
@@ -61,8 +62,8 @@ fn parse_refusal(fault: ParseFault) -> Refusal
 
 /// The refusal of a text whose program has this fault.
 fn flow_refusal(fault: FlowFault) -> Refusal
-    ensures { (text : List ℕ) (names : List (List ℕ)) (body : Statements) → Reading text (Ok (names, body))
-        → (fault ≡ FlowFault.NoMemory) ⊎ (fault_of_program body ≡ Some fault) → IsRefusedBy text result }
+    ensures { (text : List ℕ) (rows : Domain (List ℕ)) (n : ℕ) (names : List (List ℕ)) (body : Statements) → Reading text (Ok (names, body))
+        → (fault ≡ FlowFault.NoMemory) ⊎ (fault_of_program body ≡ Some fault) → IsRefusedBy text rows n result }
 {
     match fault {
         FlowFault::NoMemory => Refusal::NoMemory,
@@ -71,10 +72,10 @@ fn flow_refusal(fault: FlowFault) -> Refusal
 }
 
 /// The program that the text reads as.
-fn program_of(alloc: Global, text: &[u8]) -> Result<Program, Refusal>
+pub(crate) fn program_of(alloc: Global, text: &[u8]) -> Result<Program, Refusal>
     requires { length text.now ≤ 65536 }
     ensures ok { IfOk result (λ program. Reading text.now (Ok (program.names, program.body))) }
-    ensures err { IfErr result (λ refusal. IsRefusedBy text.now refusal) }
+    ensures err { IfErr result (λ refusal. (rows : Domain (List ℕ)) (n : ℕ) → IsRefusedBy text.now rows n refusal) }
 {
     let tokens = match lex(alloc, text) {
         Ok(tokens) => tokens,
@@ -86,20 +87,17 @@ fn program_of(alloc: Global, text: &[u8]) -> Result<Program, Refusal>
     }
 }
 
-/// The small line that the text reads as.
-pub(crate) fn small_line_of(alloc: Global, text: &[u8]) -> Result<Program, Refusal>
-    requires { length text.now ≤ 65536 }
-    ensures analysed { IfOk result (λ program. IsAnalysed text.now program.names program.body) }
-    ensures small { IfOk result (λ program. is_small_line program.body ≡ true) }
-    ensures err { IfErr result (λ refusal. IsRefusedBy text.now refusal) }
+/// The points and edges of a program.
+pub(crate) fn flow_of(alloc: Global, program: &Program) -> Result<Flow, Refusal>
+    ensures names { IfOk result (λ flow. flow.names ≡ program.now.names) }
+    ensures points { IfOk result (λ flow. flow.points ≡ points_of_program program.now.body) }
+    ensures edges { IfOk result (λ flow. flow.edges ≡ edges_of_program program.now.body) }
+    ensures within { IfOk result (λ _. fault_of_program program.now.body ≡ None) }
+    ensures err { IfErr result (λ refusal. (text : List ℕ) (rows : Domain (List ℕ)) (n : ℕ)
+        → Reading text (Ok (program.now.names, program.now.body)) → IsRefusedBy text rows n refusal) }
 {
-    let program = program_of(alloc, text)?;
-    if let Err(fault) = flow(alloc, &program) {
-        return Err(flow_refusal(fault));
-    }
-    if is_small_line(&program) {
-        Ok(program)
-    } else {
-        Err(Refusal::Text(TextCause::NotBuilt))
+    match flow(alloc, program) {
+        Ok(flow) => Ok(flow),
+        Err(fault) => Err(flow_refusal(fault)),
     }
 }

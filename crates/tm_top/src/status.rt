@@ -6,11 +6,14 @@ ghost use Rattle.tm_top.specs.Status.{code_of};
 use tm_flow::FlowFault;
 use tm_lex::LexFault;
 use tm_parse::ParseFault;
+use tm_rows::RowFault;
 
 /// A file that the words name.
 #[derive(Clone, Copy, Debug, PartialEq, Eq)]
 pub enum Which {
     Program,
+    /// The file of the template's rows.
+    Rows,
 }
 
 /// Why a named file isn't read.
@@ -22,7 +25,8 @@ pub enum ReadCause {
     TooLong(Which),
 }
 
-/// Why a program text is refused (docs/FORMATS.md, "Messages").
+/// Why the texts of a program and of its rows are refused (docs/FORMATS.md, "Messages"). The first that stands in
+/// this order is answered.
 #[derive(Clone, Copy, Debug, PartialEq, Eq)]
 pub enum TextCause {
     /// It doesn't read as tokens.
@@ -31,7 +35,12 @@ pub enum TextCause {
     Parse(ParseFault),
     /// Its program has no points and edges within the limits.
     Flow(FlowFault),
-    /// Its program isn't a small line.
+    /// The file of rows is no template over its variables.
+    Rows(RowFault),
+    /// There are more than 1,024 unknowns, so many.
+    Unknowns(u32),
+    /// Not built yet: the command isn't `solve`, or the policy isn't `best`, both of which are seen right after the words;
+    /// or the program isn't a small line, or a row has a coefficient above 100 in absolute value.
     NotBuilt,
 }
 
@@ -44,8 +53,10 @@ pub enum Status {
     Usage,
     /// A named file isn't read.
     Read(ReadCause),
-    /// The program text is refused.
+    /// The program or its rows are refused.
     Text(TextCause),
+    /// More improvements are needed than this number, which was asked for.
+    Spent(u32),
     /// Memory was wanted.
     Memory,
     /// The output took less than the whole report.
@@ -62,6 +73,7 @@ impl Status {
             Status::Usage => 2,
             Status::Read(_) => 3,
             Status::Text(_) => 4,
+            Status::Spent(_) => 6,
             Status::Memory => 7,
             Status::Write => 8,
         }

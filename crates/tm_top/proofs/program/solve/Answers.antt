@@ -1,21 +1,15 @@
-use Rattle.std.proofs.Common.{[], sym, ◌∙◌, subst}
-use Rattle.std.proofs.KnownBytes.{Appends-nil}
-use Rattle.tm_top.specs.Run.{OutputHolds}
-use Rattle.tm_top.proofs.Endings.{no_name, not_failed, not_usage}
-use Rattle.tm_top.proofs.Named.{loaded_front}
+use Rattle.tm_words.specs.Request.{analysis_text}
+use Rattle.tm_top.specs.Parted.{domain_of}
+use Rattle.tm_top.specs.Reports.{IsReportOf, IsReportOn}
+use Rattle.tm_top.proofs.Answered.{texts_answer}
+use Rattle.tm_top.proofs.Worded.{output_map}
 use Rattle.tm_top.proofs.program.solve.Goals as goal
 
-pub returns-in-Ok-clause-usage : goal.returns-in-Ok-clause-usage
-returns-in-Ok-clause-usage g c =
-    (λ e. absurd (not_usage _ c.end_with.ensures.kind e), λ none. absurd (no_name _ (c.in-Some.ensures ∙ none)))
+pub returns-in-Ok-clause-answer : goal.returns-in-Ok-clause-answer
+returns-in-Ok-clause-answer g c = texts_answer _ _ _ _ _ c.in-Ok.ensures.inputs c.answer-status.ensures.answer
 
-pub returns-in-Ok-clause-read : goal.returns-in-Ok-clause-read
-returns-in-Ok-clause-read g c = λ e. absurd (not_failed _ c.end_with.ensures.kind e)
-
-pub returns-in-Ok-clause-answers : goal.returns-in-Ok-clause-answers
-returns-in-Ok-clause-answers g c =
-    λ text h. c.end_with.ensures.answers text (c.deref.ensures.value ∙ loaded_front _ _ _ text 65537 c.in-Ok.text c.in-Some.ensures h c.in-Ok.ensures.gives)
-
-pub returns-in-Err-NoMemory-clause-held : goal.returns-in-Err-NoMemory-clause-held
-returns-in-Err-NoMemory-clause-held g c =
-    subst (λ s. OutputHolds s (g.K.Sink.held c.args.out.now) (g.K.Sink.held c.args.out.now)) (sym c.without_line-in-Err-NoMemory.ensures.status) ([], 0, Appends-nil _)
+pub returns-in-Ok-clause-held : goal.returns-in-Ok-clause-held
+returns-in-Ok-clause-held g c =
+    output_map (IsReportOf c.in-Ok.inputs.text.items (domain_of c.in-Ok.inputs.source) c.args.analysis.improvements)
+    (IsReportOn (g.S.Shelf.files c.args.shelf.now) (analysis_text c.args.analysis)) _ _ _
+    (λ bytes report. (c.in-Ok.inputs.text.items, domain_of c.in-Ok.inputs.source, c.in-Ok.ensures.inputs, report)) c.answer-status.ensures.held

@@ -1,5 +1,4 @@
-use Rattle.std.proofs.Common.{◌≡◌, ℕ, List, ap, subst, subst₂}
-use Rattle.std.specs.Prelude.{Ok, Err}
+use Rattle.std.proofs.Common.{ap, subst, subst₂}
 use Rattle.tm_gram.specs.View.{tokens_of}
 use Rattle.tm_parse.specs.Meaning.{Means}
 use Rattle.tm_top.proofs.source.program_of.Goals as goal
@@ -14,10 +13,13 @@ returns-in-Ok-parse-clause-ok c =
 
 pub returns-clause-err : goal.returns-clause-err
 returns-clause-err c =
-    let found = c.in-Err-parse.ensures.found in
-    c.parse_refusal.ensures c.args.text.now found.0 (
+    let found = c.in-Err-parse.ensures.found in λ rows n.
+    c.parse_refusal.ensures c.args.text.now rows n found.0 (
       c.in-Ok.tokens.items,
       c.in-Ok.ensures.ok,
       subst (λ ts. Means c.args.text.now ts found.0) (ap (λ ts. tokens_of c.args.text.now ts) c.deref.ensures.value) found.1,
     )
     found.2
+
+pub returns-in-Err-clause-err : goal.returns-in-Err-clause-err
+returns-in-Err-clause-err c = λ rows n. c.lex_refusal.ensures c.args.text.now rows n c.in-Err.ensures.err
