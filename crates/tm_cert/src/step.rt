@@ -171,4 +171,11 @@ impl Steps {
     {
         self.list.as_slice()
     }
+
+    /// The list, given back.
+    pub fn into_list(self) -> Vec<Step>
+        ensures { result.items ≡ self }
+    {
+        self.list
+    }
 }
