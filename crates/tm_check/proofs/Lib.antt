@@ -5,6 +5,12 @@ pub mod Runs
 pub mod Named
 pub mod RayTests
 pub mod CheckTests
+pub mod Ranges
+pub mod Numbered
+pub mod Counted
+pub mod Reached
+pub mod Supplied
+pub mod Checked
 pub mod Places
 pub mod Directions
 pub mod Taken
@@ -14,3 +20,11 @@ pub mod Usables
 pub mod Landed
 pub mod Found
 pub mod Totals
+pub mod Multiples
+pub mod Composed
+pub mod Entries
+pub mod Combinations
+pub mod Signs
+pub mod Outcomes
+pub mod Columns
+pub mod Evidenced

@@ -178,7 +178,7 @@ after_entry u rows l h = by (u / rows) refl
     by (suc n) e = omega arith
 
 -- and before the end
-point_below : (u points rows : ℕ) → u < points * rows → u / rows < points
+pub point_below : (u points rows : ℕ) → u < points * rows → u / rows < points
 point_below u points rows high = by (dec_lt (u / rows) points)
   where
     by : Dec (u / rows < points) → u / rows < points

@@ -1,8 +1,8 @@
 -- Sums of rows and guards from the left are those of the theory.
-use Rattle.std.proofs.Common.{◌≡◌, ◌∙◌, ℕ, zero, suc, ◌+◌, ◌==◌, ◌&&◌, pos, List, [], ◌∷◌, length, map, get_or, refl, sym, ap, ap₂, subst, arith}
+use Rattle.std.proofs.Common.{◌≡◌, ◌∙◌, ℕ, zero, suc, ◌+◌, ◌==◌, pos, List, [], ◌∷◌, length, map, get_or, refl, sym, ap, ap₂, arith}
 use Rattle.std.specs.Prelude.{ℤ, IsTrue}
-use Rattle.std.specs.List.{list_all, range_with_len}
-use Rattle.tm_num.specs.Rational.{ℚ, whole, zero_ℚ, one_ℚ, ◌+ℚ◌, ◌*ℚ◌, neg_ℚ}
+use Rattle.std.specs.List.{range_with_len}
+use Rattle.tm_num.specs.Rational.{ℚ, whole, zero_ℚ, ◌+ℚ◌, ◌*ℚ◌, neg_ℚ}
 use Rattle.tm_num.specs.Extended.{Ext}
 use Rattle.tm_num.specs.Vector.{dot, add_vec, scale_vec, vec_mat}
 use Rattle.tm_num.proofs.Laws.{+ℚ_assoc, +ℚ_idl, +ℚ_idr, *ℚ-zero, *ℚ_idr}

@@ -6,5 +6,6 @@ pub mod Items
 pub mod StepEvents
 pub mod Usable
 pub mod EvidenceEvents
+pub mod Combined
 pub mod CheckEvents
 pub mod Laws

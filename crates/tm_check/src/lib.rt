@@ -5,19 +5,29 @@
 #![tactic(auto)]
 
 mod after;
+mod combine;
 mod direction;
+mod evidence;
 mod fault;
+mod final_vector;
 mod item;
 mod law;
+mod multipliers;
 mod names;
 mod run;
 mod scratch;
 mod settle;
 mod shown;
+mod size;
 mod steps;
 mod sums;
+#[cfg(test)]
+mod tests;
+mod uppers;
+mod whole;
 
 pub use fault::CheckFault;
 pub use law::{evidence_is_summed, stops_are_faults, tests_are_faults, unstopped_is_valid};
 pub use scratch::Scratch;
 pub use steps::check_steps;
+pub use whole::check;
