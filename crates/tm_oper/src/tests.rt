@@ -2,7 +2,11 @@ ghost use Rattle.std.specs.Prelude.{◌≡◌, ◌≤◌, ◌<◌, ◌^◌, ℕ,
 ghost use Rattle.std.specs.List.{list_all};
 ghost use Rattle.tm_tree.specs.Limits.{is_form};
 ghost use Rattle.tm_flow.specs.FlowLimits.{is_action};
+ghost use Rattle.tm_eqsys.specs.SystemLimits.{is_over};
 ghost use Rattle.tm_oper.specs.Composed.{EdgeForms};
+
+mod evidence;
+mod loops;
 
 use crate::{Affine, PathFault, Paths, Value, compose_all, operator};
 use std::alloc::{AllocError, Global};
@@ -10,7 +14,7 @@ use std::test::Fail;
 use tm_eqsys::{Bounds, Fracs, Site, Spot, System};
 use tm_flow::{Action, Actions, Edge, Edges, Flow, Place, Point, Points};
 use tm_frac::{Frac, Op, Wide};
-use tm_rows::intervals;
+use tm_rows::{Template, intervals};
 use tm_tree::{Coeffs, Form, Name, Names};
 
 /// A form over the one variable.
@@ -25,12 +29,19 @@ fn form(alloc: Global, coeff: i64, constant: i64) -> Result<Form, AllocError>
     })
 }
 
-/// The name x.
-fn names(alloc: Global) -> Result<Names, Fail>
-    ensures { IfOk result (λ names. length names ≡ 1) }
+/// The name x, or x and y.
+fn names(alloc: Global, count: u32) -> Result<Names, Fail>
+    requires some { 1 ≤ count }
+    requires few { count ≤ 2 }
+    ensures { IfOk result (λ names. length names ≡ count) }
 {
-    let mut names = Vec::new(alloc);
-    names.push(Name::new(b"x").ok_or("a word")?)?;
+    let x = Name::new(b"x").ok_or("a word")?;
+    let y = Name::new(b"y").ok_or("a word")?;
+    let names = if count == 1 {
+        vec![in alloc; x]?
+    } else {
+        vec![in alloc; x, y]?
+    };
     Ok(Names::new(names))
 }
 
@@ -68,6 +79,39 @@ fn edges(alloc: Global, first: Vec<Action>, second: Vec<Action>) -> Result<Edges
     Ok(Edges::new(edges))
 }
 
+/// The system of these edges over the rows of a template.
+fn loop_system(
+    alloc: Global,
+    variables: u32,
+    template: Template,
+    first: Vec<Action>,
+    second: Vec<Action>,
+) -> Result<System, Fail>
+    requires some { 1 ≤ variables }
+    requires few { variables ≤ 2 }
+    requires over { IsTrue (is_over variables template) }
+    requires first_actions { IsTrue (list_all (is_action variables) first.items) }
+    requires first_few { length first.items ≤ 256 }
+    requires second_actions { IsTrue (list_all (is_action variables) second.items) }
+    requires second_few { length second.items ≤ 256 }
+    ensures points { IfOk result (λ s. length s.flow.points ≡ 2) }
+    ensures edges { IfOk result (λ s. length s.flow.edges ≡ 2) }
+    ensures template { IfOk result (λ s. s.template ≡ template) }
+{
+    let names = names(alloc, variables)?;
+    let points = points(alloc)?;
+    let edges = edges(alloc, first, second)?;
+    let flow = Flow {
+        names,
+        points,
+        edges,
+    };
+    match System::new(flow, template) {
+        Ok(system) => Ok(system),
+        Err(_) => Err("few unknowns".into()),
+    }
+}
+
 /// The system of these edges over x and -x.
 fn system(alloc: Global, first: Vec<Action>, second: Vec<Action>) -> Result<System, Fail>
     requires first_actions { IsTrue (list_all (is_action 1) first.items) }
@@ -78,16 +122,7 @@ fn system(alloc: Global, first: Vec<Action>, second: Vec<Action>) -> Result<Syst
     ensures edges { IfOk result (λ s. length s.flow.edges ≡ 2) }
     ensures rows { IfOk result (λ s. length s.template ≡ 2) }
 {
-    let names = names(alloc)?;
-    let points = points(alloc)?;
-    let edges = edges(alloc, first, second)?;
-    let template = intervals(alloc, 1)?;
-    let flow = Flow {
-        names,
-        points,
-        edges,
-    };
-    Ok(System { flow, template })
+    loop_system(alloc, 1, intervals(alloc, 1)?, first, second)
 }
 
 /// Its composed edges.
