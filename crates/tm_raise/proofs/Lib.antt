@@ -1,0 +1,12 @@
+pub mod Agree
+pub mod Forms
+pub mod Moving
+pub mod Carrying
+pub mod Widths
+pub mod Wholes
+pub mod Towards
+pub mod Entries
+pub mod Faults
+pub mod Multiples
+pub mod Above
+pub mod Raised

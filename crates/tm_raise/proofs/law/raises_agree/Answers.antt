@@ -1,0 +1,5 @@
+use Rattle.tm_raise.proofs.Agree.{agree}
+use Rattle.tm_raise.proofs.law.raises_agree.Goals as goal
+
+pub returns : goal.returns
+returns c = agree

@@ -1,0 +1,47 @@
+-- The trace that shows an unknown above its bound where the row rises along a direction for ever.
+use Rattle.std.specs.Prelude.{◌≡◌, ℤ, List, [], ◌++◌, if◌then◌else◌, Some, Result, MatchResult, None}
+use Rattle.tm_num.specs.Rational.{ℚ, lt_ℚ}
+use Rattle.tm_num.specs.Extended.{Ext, neg_inf, fin, pos_inf}
+use Rattle.tm_flow.specs.declared.edge.Edge.{Edge}
+use Rattle.tm_frac.specs.Fits.{long_limit}
+use Rattle.tm_frac.specs.Operation.{Operation, first_wide, operation_of}
+use Rattle.tm_eqsys.specs.Equations.{Equations}
+use Rattle.tm_eqsys.specs.declared.trace.Trace.{Trace}
+use Rattle.tm_steps.specs.Steps.{Pieces}
+use Rattle.tm_cert.specs.Certificates.{pieces_of}
+use Rattle.tm_raise.specs.declared.carry.Constants.TheVariants.{Kept, Zero}
+use Rattle.tm_raise.specs.declared.fault.RaiseFault.{RaiseFault}
+use Rattle.tm_raise.specs.declared.fault.RaiseFault.TheVariants.{Wide, NoMemory}
+use Rattle.tm_raise.specs.Moves.{carried, carried_operations}
+use Rattle.tm_raise.specs.Numbers.{multiple, multiple_operations, moved_pieces, moved_operations}
+
+module _ (system : Equations) (edge : Edge) (row : List ℤ) where
+  -- the multiple of a direction by which a trace comes above a bound
+  abbrev pub multiple_along : ℚ → Trace → Trace → ℚ
+  multiple_along b trace direction = multiple b (carried Kept system edge row trace) (carried Zero system edge row direction)
+
+  -- the given trace where its value exceeds the bound, and else that trace moved along the direction by the multiple
+  unfoldable pub low_of : Ext → Trace → Trace → Pieces
+  low_of neg_inf trace direction = pieces_of trace
+  low_of (fin b) trace direction = if lt_ℚ b (carried Kept system edge row trace) then pieces_of trace else moved_pieces (multiple_along b trace direction) trace direction
+  low_of pos_inf trace direction = pieces_of trace
+
+  -- the operations of moving a trace whose value isn't above the bound
+  abbrev pub move_operations : ℚ → Trace → Trace → List Operation
+  move_operations b trace direction =
+      multiple_operations b (carried Kept system edge row trace) (carried Zero system edge row direction) ++ moved_operations (multiple_along b trace direction) trace direction
+
+  -- those of the trace, in order: its value where the bound is a fraction, and where that isn't above the bound the move
+  unfoldable pub low_operations : Ext → Trace → Trace → List Operation
+  low_operations neg_inf trace direction = []
+  low_operations (fin b) trace direction = carried_operations Kept edge row trace ++ (if lt_ℚ b (carried Kept system edge row trace) then [] else move_operations b trace direction)
+  low_operations pos_inf trace direction = []
+
+-- the fault carries the first of the operations that is wide; want of memory may come at any time
+abbrev pub IsRaiseFault : List Operation → RaiseFault → Type 0
+IsRaiseFault operations (Wide wide) = first_wide long_limit operations ≡ Some (operation_of (λ (q : ℚ). q) wide)
+IsRaiseFault operations NoMemory = Unit {0}
+
+-- this is so of the answer and none of the operations is wide, or there is such a fault
+abbrev pub RaiseAnswers : {A : Type 0} → (A → Type 0) → List Operation → Result A RaiseFault → Type 0
+RaiseAnswers P operations result = MatchResult result (λ r. P r × (first_wide long_limit operations ≡ None)) (IsRaiseFault operations)
