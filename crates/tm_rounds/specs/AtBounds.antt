@@ -1,5 +1,5 @@
 -- Improvements of the system and at the bounds that the code has.
-use Rattle.std.specs.Prelude.{◌≡◌, ℕ, ℤ, List, [], length, get_or, Option}
+use Rattle.std.specs.Prelude.{◌≡◌, ℕ, ℤ, List, [], length, get_or, Option, Some, None, ◌<◌}
 use Rattle.std.specs.Option.{option_map}
 use Rattle.tm_num.specs.Rational.{ℚ}
 use Rattle.tm_num.specs.Extended.{Ext as Extended}
@@ -62,6 +62,10 @@ IsTightPick system bounds pick = Tight (equations_of system) (transformers syste
 
 abbrev pub IsSupportedPick : System → List Extended → List (Option ℕ) → Type 0
 IsSupportedPick system bounds pick = Supported (equations_of system) (transformers system) (vector_at system bounds) (pick_of (length system.template) pick)
+
+-- each picked edge is one of the system
+abbrev pub EdgesAreThere : System → List (Option ℕ) → Type 0
+EdgesAreThere system pick = (u edge : ℕ) → get_or pick u None ≡ Some edge → edge < length system.flow.edges
 
 -- a wide operation of an offer, or want of memory
 abbrev pub IsOfferStop : System → List Extended → ℕ → Stop → Type 0

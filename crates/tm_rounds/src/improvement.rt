@@ -17,7 +17,7 @@ use tm_frac::Ext;
 use tm_oper::{Paths, Value, operator};
 
 // The supremum that a transformer's value tells.
-fn supremum(value: &Value) -> Ext
+pub(crate) fn supremum(value: &Value) -> Ext
     ensures { extended result ≡ number_of value.now }
 {
     match value {

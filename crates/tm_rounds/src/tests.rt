@@ -65,7 +65,7 @@ fn policies_choose(rt: HostRuntime) -> Result<(), Fail> {
 }
 
 /// A point.
-fn point(place: Place) -> Point
+pub(crate) fn point(place: Place) -> Point
     ensures place { result.place ≡ place }
     ensures line { result.line ≡ 0 }
 {
@@ -73,7 +73,7 @@ fn point(place: Place) -> Point
 }
 
 /// An edge that does nothing.
-fn edge(alloc: Global, from: u32, to: u32) -> Edge
+pub(crate) fn edge(alloc: Global, from: u32, to: u32) -> Edge
     ensures { result ≡ record { from = from; to = to; actions = [] } }
 {
     Edge {
@@ -162,9 +162,10 @@ fn looping(alloc: Global) -> Result<Option<u32>, Fail> {
 }
 
 // int x = 0; while (x < 100) { x = x + 1; }
-fn counter(alloc: Global) -> Result<System, Fail>
+pub(crate) fn counter(alloc: Global) -> Result<System, Fail>
     ensures points { IfOk result (λ system. length system.flow.points ≡ 3) }
     ensures rows { IfOk result (λ system. length system.template ≡ 2) }
+    ensures edges { IfOk result (λ system. length system.flow.edges ≡ 3) }
 {
     let zero = Form {
         coeffs: Coeffs::new(vec![in alloc; 0]?),

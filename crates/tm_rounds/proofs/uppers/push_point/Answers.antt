@@ -1,0 +1,31 @@
+use Rattle.std.proofs.Common.{◌∙◌, ◌+◌, ◌*◌, ◌++◌, List, length, get_or, map, sym, ap}
+use Rattle.std.proofs.lemmas.List.{append_assoc}
+use Rattle.tm_num.specs.Extended.{neg_inf}
+use Rattle.tm_eqsys.specs.View.{equations_of}
+use Rattle.tm_cert.specs.Certificates.{evidence_of}
+use Rattle.tm_rounds.specs.AtBounds.{vector_at}
+use Rattle.tm_rounds.specs.Uppers.{is_top, uppers_of_rows, uppers_into}
+use Rattle.tm_rounds.proofs.UpperLists.{rows_top, rows_edges}
+use Rattle.tm_rounds.proofs.uppers.push_point.Goals as goal
+use Rattle.tm_rounds.proofs.uppers.push_point.Goals.{then-not-is_unlimited+in_ok-push_into, else-not-is_unlimited}
+
+pub loop-row-preserved : goal.loop-row-preserved
+loop-row-preserved c =
+    let system = c.args.system.now in
+    let E = equations_of system in
+    let z = vector_at system c.args.bounds.now in
+    let p = c.args.point in
+    let r = c.loop-row.row in
+    let old = map evidence_of c.args.uppers.now.items in
+    let bound = ap is_top (c.at.ensures ∙ ap (λ n. get_or c.args.bounds.now (p * n + r) neg_inf) (ap (λ (t : List _). length t) c.as_slice.ensures.rows)) in
+    elim c.if-not-is_unlimited.branch [
+      | then-not-is_unlimited+in_ok-push_into w ↦
+          ap (λ v. map evidence_of v.items) w.uppers-is
+          ∙ w.in_ok-push_into.ensures.uppers
+          ∙ ap (λ s. s ++ uppers_into E z p r) c.loop-row.invariant
+          ∙ append_assoc old (uppers_of_rows E z p r) (uppers_into E z p r)
+          ∙ ap (λ s. old ++ s) (rows_edges E z p r (sym (sym w.if-not-is_unlimited.true ∙ c.is_unlimited.ensures ∙ bound)))
+      | else-not-is_unlimited w ↦
+          ap (λ v. map evidence_of v.items) w.uppers-is ∙ c.loop-row.invariant
+          ∙ ap (λ s. old ++ s) (rows_top E z p r (sym (sym w.if-not-is_unlimited.false ∙ c.is_unlimited.ensures ∙ bound)))
+    ]

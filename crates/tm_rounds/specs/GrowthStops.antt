@@ -1,0 +1,47 @@
+-- Why a growth stops.
+use Rattle.std.specs.Prelude.{◌≡◌, ◌⊎◌, ℕ, List}
+use Rattle.tm_num.specs.Rational.{ℚ}
+use Rattle.tm_num.specs.Extended.{◌<ᴱ◌}
+use Rattle.tm_frac.specs.Fits.{long_limit}
+use Rattle.tm_frac.specs.Operation.{first_wide, operation_of}
+use Rattle.std.specs.Prelude.{Some}
+use Rattle.tm_eqsys.specs.Equations.{Equations}
+use Rattle.tm_eqsys.specs.declared.spot.Part.{Part}
+use Rattle.tm_eqsys.specs.declared.spot.PartFault.TheVariants.{Wide as WideIn}
+use Rattle.tm_eqsys.specs.declared.spot.Spot.{Spot}
+use Rattle.tm_eqsys.specs.declared.spot.Site.TheVariants.{Growth, Raise}
+use Rattle.tm_steps.specs.Steps.{In, edge_of, row_of}
+use Rattle.tm_round.specs.Picks.{value_at}
+use Rattle.tm_point.specs.EdgeProblems.{transformer}
+use Rattle.tm_oper.specs.declared.value.Value.{Value}
+use Rattle.tm_oper.specs.Values.{IsValue, IsOperatorFault}
+use Rattle.tm_raise.specs.Raises.{raise_operations}
+use Rattle.tm_rounds.specs.declared.stop.Stop.{Stop}
+use Rattle.tm_rounds.specs.declared.stop.Stop.TheVariants.{Wide, NoMemory}
+use Rattle.tm_rounds.specs.GrowthTests.{Test}
+
+-- the first wide operation of a part of the problem of the tested unknown's edge and row, at the vector of the test
+pub record IsTestSpot (system : Equations) (test : Test) (spot : Spot) : Type 0 where
+  pub part : Part
+  pub site : spot.site ≡ Growth test.unknown.edge test.unknown.row part
+  pub wide : IsOperatorFault system test.vector (edge_of system test.unknown) (row_of system test.unknown) (WideIn part spot.wide)
+
+-- the first wide operation of the raise of the tested unknown, whose transformer exceeds its bound at the vector of the test
+pub record IsRaiseSpot (system : Equations) (test : Test) (spot : Spot) : Type 0 where
+  pub site : spot.site ≡ Raise test.raises
+  pub exceeds : test.vector test.unknown.point test.unknown.row <ᴱ value_at system (transformer system) test.vector test.unknown
+  pub value : Value
+  pub is_value : IsValue system test.vector (edge_of system test.unknown) (row_of system test.unknown) value
+  pub wide : first_wide long_limit (raise_operations system test.unknown (test.vector test.unknown.point test.unknown.row) value) ≡ Some (operation_of (λ (q : ℚ). q) spot.wide)
+
+-- a wide operation of one of the tests or of the raise that follows it, in this round
+pub record IsGrowthSpot (system : Equations) (tests : List Test) (number : ℕ) (spot : Spot) : Type 0 where
+  pub round : spot.round ≡ number
+  pub test : Test
+  pub listed : In tests test
+  pub formula : IsTestSpot system test spot ⊎ IsRaiseSpot system test spot
+
+-- such a spot, or want of memory
+abbrev pub IsStopIn : Equations → List Test → ℕ → Stop → Type 0
+IsStopIn system tests round (Wide spot) = IsGrowthSpot system tests round spot
+IsStopIn system tests round NoMemory = Unit {0}

@@ -1,0 +1,56 @@
+//! Why the rounds halt.
+
+use crate::stop::Stop;
+use std::alloc::AllocError;
+use tm_eqsys::{Bounds, Spot};
+use tm_oper::PathFault;
+
+/// Why there is no solution.
+#[derive(Drop)]
+pub enum Halt {
+    /// An operation was too wide.
+    Wide(Spot),
+    /// As many rounds as allowed were made. They led to these bounds, which are no post-solution.
+    Spent(Bounds),
+    /// There was no memory.
+    NoMemory,
+}
+
+impl From<Stop> for Halt {
+    ghost use Rattle.std.specs.Prelude.{◌≡◌};
+    ghost use Rattle.tm_rounds.specs.HaltOf.{halt_of_stop};
+
+    ghost from_gives = { λ stop halt. halt ≡ halt_of_stop stop };
+
+    fn from(stop: Stop) -> Halt {
+        match stop {
+            Stop::Wide(spot) => Halt::Wide(spot),
+            Stop::NoMemory => Halt::NoMemory,
+        }
+    }
+}
+
+impl From<PathFault> for Halt {
+    ghost use Rattle.std.specs.Prelude.{◌≡◌};
+    ghost use Rattle.tm_rounds.specs.HaltOf.{halt_of_fault};
+
+    ghost from_gives = { λ fault halt. halt ≡ halt_of_fault fault };
+
+    fn from(fault: PathFault) -> Halt {
+        match fault {
+            PathFault::Wide(spot) => Halt::Wide(spot),
+            PathFault::NoMemory => Halt::NoMemory,
+        }
+    }
+}
+
+impl From<AllocError> for Halt {
+    ghost use Rattle.std.specs.Prelude.{◌≡◌};
+    ghost use Rattle.tm_rounds.specs.declared.halt.Halt.TheVariants.{NoMemory};
+
+    ghost from_gives = { λ _ halt. halt ≡ NoMemory };
+
+    fn from(_e: AllocError) -> Halt {
+        Halt::NoMemory
+    }
+}

@@ -1,0 +1,57 @@
+//! The rounds by the two policies.
+
+ghost use Rattle.std.specs.Prelude.{◌≤◌, IfOk, IfErr};
+ghost use Rattle.tm_eqsys.specs.Equations.{Least};
+ghost use Rattle.tm_eqsys.specs.Cells.{cells_of};
+ghost use Rattle.tm_eqsys.specs.View.{equations_of};
+ghost use Rattle.tm_steps.specs.Certificates.{ValidCertificate};
+ghost use Rattle.tm_cert.specs.Shaped.{IsShaped};
+ghost use Rattle.tm_rounds.specs.AtBounds.{vector_at};
+ghost use Rattle.tm_rounds.specs.Halts.{IsHalt};
+ghost use Rattle.tm_rounds.specs.Policies.{by_best, by_first};
+ghost use Rattle.tm_rounds.specs.Solutions.{IsSolved, AreNumbered, cert_with, made_certificate};
+
+use crate::chooser::Chooser;
+use crate::halt::Halt;
+use crate::policy::{best, first};
+use crate::solution::Solved;
+use crate::solving::least;
+use std::alloc::Global;
+use tm_eqsys::System;
+
+/// The least bounds of a system as `least` finds them, each unknown taking the first edge whose transformer is greatest.
+///
+/// # Errors
+///
+/// As `least`.
+#[tactic(auto, using(crate::proofs::Offered::best_exceeds))]
+pub fn least_by_best(alloc: Global, system: &System, limit: u32) -> Result<Solved, Halt>
+    requires limit { limit ≤ 1000000 }
+    requires cells { cells_of (equations_of system.now) ≤ 134217728 }
+    ensures solved { IfOk result (IsSolved system.now by_best limit) }
+    ensures least { IfOk result (λ solved. Least (equations_of system.now) (vector_at system.now solved.bounds)) }
+    ensures valid { IfOk result (λ solved. ValidCertificate (equations_of system.now) (made_certificate system.now solved)) }
+    ensures shaped { IfOk result (λ solved. IsShaped (cert_with system.now solved)) }
+    ensures numbered { IfOk result (λ solved. AreNumbered system.now solved.steps) }
+    ensures halt { IfErr result (IsHalt system.now by_best limit) }
+{
+    least(alloc, system, limit, &Chooser::new(best))
+}
+
+/// The least bounds of a system as `least` finds them, each unknown taking the first edge whose transformer exceeds its bound.
+///
+/// # Errors
+///
+/// As `least`.
+pub fn least_by_first(alloc: Global, system: &System, limit: u32) -> Result<Solved, Halt>
+    requires limit { limit ≤ 1000000 }
+    requires cells { cells_of (equations_of system.now) ≤ 134217728 }
+    ensures solved { IfOk result (IsSolved system.now by_first limit) }
+    ensures least { IfOk result (λ solved. Least (equations_of system.now) (vector_at system.now solved.bounds)) }
+    ensures valid { IfOk result (λ solved. ValidCertificate (equations_of system.now) (made_certificate system.now solved)) }
+    ensures shaped { IfOk result (λ solved. IsShaped (cert_with system.now solved)) }
+    ensures numbered { IfOk result (λ solved. AreNumbered system.now solved.steps) }
+    ensures halt { IfErr result (IsHalt system.now by_first limit) }
+{
+    least(alloc, system, limit, &Chooser::new(first))
+}
