@@ -9,7 +9,7 @@ use Rattle.tm_io.specs.declared.sink.PutFault.TheVariants.{Failed, NoMemory}
 use Rattle.tm_top.specs.Run.{ErrorsHold, GetsMessage}
 use Rattle.tm_top.specs.Messages.{message_of}
 use Rattle.tm_top.specs.declared.status.Status.{Status}
-use Rattle.tm_top.specs.declared.status.Status.TheVariants.{Done, Usage, Read, Text, Spent, Memory, Write}
+use Rattle.tm_top.specs.declared.status.Status.TheVariants.{Done, Certificate, Usage, Read, Text, Wide, Spent, Memory, Write}
 
 gets : (message : List ℕ) (held now : Option (List ℕ)) (f f' s : ℕ) (r : Result (Unit {0}) PutFault)
     → length message ≤ 512 → Puts held now message r → HasPutCause f f' s message r → GetsMessage message held now f f' s
@@ -23,19 +23,25 @@ gets message held now f f' s (Err Failed) short puts cause =
 gets message held now f f' s (Err NoMemory) short puts cause =
     record { part = puts; whole = λ room calm. let small = cause.0 in absurd (omega arith) }
 
-told : (line : ℕ) (status : Status) (held now : Option (List ℕ)) (f f' s : ℕ)
-    → status ≢ Done → GetsMessage (message_of line status) held now f f' s → ErrorsHold line status held now f f' s
-told line Done held now f f' s other m = absurd (other refl)
-told line Usage held now f f' s other m = m
-told line (Read cause) held now f f' s other m = m
-told line (Text cause) held now f f' s other m = m
-told line (Spent n) held now f f' s other m = m
-told line Memory held now f f' s other m = m
-told line Write held now f f' s other m = m
+told : (line rows : ℕ) (status : Status) (held now : Option (List ℕ)) (f f' s : ℕ)
+    → status ≢ Done → GetsMessage (message_of line rows status) held now f f' s → ErrorsHold line rows status held now f f' s
+told line rows Done held now f f' s other m = absurd (other refl)
+told line rows (Certificate cause) held now f f' s other m = m
+told line rows Usage held now f f' s other m = m
+told line rows (Read cause) held now f f' s other m = m
+told line rows (Text cause) held now f f' s other m = m
+told line rows (Wide spot) held now f f' s other m = m
+told line rows (Spent n) held now f f' s other m = m
+told line rows Memory held now f f' s other m = m
+told line rows Write held now f f' s other m = m
+
+-- a run that is done puts no message
+pub quiet : (line rows : ℕ) (status : Status) (held : Option (List ℕ)) (f f' s : ℕ) → status ≡ Done → ErrorsHold line rows status held held f f' s
+quiet line rows status held f f' s e = subst (λ x. ErrorsHold line rows x held held f f' s) (sym e) refl
 
 -- the bytes of a message were put
-pub told_by : (line : ℕ) (status : Status) (bytes message : List ℕ) (held now : Option (List ℕ)) (f f' s : ℕ) (r : Result (Unit {0}) PutFault)
-    → bytes ≡ message → message ≡ message_of line status → length bytes ≤ 512 → status ≢ Done → Puts held now bytes r → HasPutCause f f' s bytes r → ErrorsHold line status held now f f' s
-told_by line status bytes message held now f f' s r e i short other puts cause =
-    told line status held now f f' s other
+pub told_by : (line rows : ℕ) (status : Status) (bytes message : List ℕ) (held now : Option (List ℕ)) (f f' s : ℕ) (r : Result (Unit {0}) PutFault)
+    → bytes ≡ message → message ≡ message_of line rows status → length bytes ≤ 512 → status ≢ Done → Puts held now bytes r → HasPutCause f f' s bytes r → ErrorsHold line rows status held now f f' s
+told_by line rows status bytes message held now f f' s r e i short other puts cause =
+    told line rows status held now f f' s other
     (subst (λ m. GetsMessage m held now f f' s) i (subst (λ m. GetsMessage m held now f f' s) e (gets bytes held now f f' s r short puts cause)))

@@ -11,7 +11,7 @@ use Rattle.tm_flow.specs.Points.{points_of_program}
 use Rattle.tm_flow.proofs.Numbering.{numbering}
 use Rattle.tm_rows.specs.Rows.{is_row, is_template, width_of}
 use Rattle.tm_eqsys.specs.declared.system.System.{System}
-use Rattle.tm_eqsys.specs.declared.footer.Footer.TheVariants.{Improvements}
+use Rattle.tm_eqsys.specs.declared.footer.Footer.{Footer}
 use Rattle.tm_eqsys.specs.Equations.{Equations, Least, Vector}
 use Rattle.tm_eqsys.specs.Report.{report_of, report_text}
 use Rattle.tm_eqsys.specs.Solutions.{equations_of_program}
@@ -26,32 +26,29 @@ abbrev made_of : ℕ → ℕ → List Edge → List (List ℤ) → Equations
 made_of variables points edges template = record { variables = variables; points = points; edges = edges; template = template }
 
 -- a flow and a template as the system of a program
-least_of : (names : List (List ℕ)) (body : Statements) (template : List (List ℤ)) (ns : List (List ℕ)) (points : List Point) (edges : List Edge) (v : Vector)
-    → ns ≡ names → points ≡ points_of_program body → edges ≡ edges_of_program body
-    → Least (made_of (length ns) (length points) edges template) v → Least (equations_of_program (length names) body template) v
-least_of names body template ns points edges v n p e h =
-    subst (λ es. Least (made_of (length names) (point_count body) es template) v) e
-    (subst (λ k. Least (made_of (length names) k edges template) v) (ap length p ∙ (numbering body).count)
-    (subst (λ xs. Least (made_of (length xs) (length points) edges template) v) n h))
+pub same_equations : (names : List (List ℕ)) (body : Statements) (s : System) → s.flow.names ≡ names → s.flow.points ≡ points_of_program body → s.flow.edges ≡ edges_of_program body
+    → equations_of s ≡ equations_of_program (length names) body s.template
+same_equations names body s n p e =
+    ap (λ k. made_of k (length s.flow.points) s.flow.edges s.template) (ap length n)
+    ∙ ap (λ k. made_of (length names) k s.flow.edges s.template) (ap length p ∙ (numbering body).count)
+    ∙ ap (λ es. made_of (length names) (point_count body) es s.template) e
 
-text_of : (names : List (List ℕ)) (body : Statements) (template : List (List ℤ)) (ns : List (List ℕ)) (points : List Point) (v : Vector) (bytes : List ℕ)
-    → ns ≡ names → points ≡ points_of_program body → bytes ≡ report_text ns points template v (Improvements 1)
-    → bytes ≡ report_text names (points_of_program body) template v (Improvements 1)
-text_of names body template ns points v bytes n p h =
-    subst (λ ps. bytes ≡ report_text names ps template v (Improvements 1)) p
-    (subst (λ xs. bytes ≡ report_text xs points template v (Improvements 1)) n h)
+text_of : (names : List (List ℕ)) (body : Statements) (template : List (List ℤ)) (ns : List (List ℕ)) (points : List Point) (v : Vector) (footer : Footer) (bytes : List ℕ)
+    → ns ≡ names → points ≡ points_of_program body → bytes ≡ report_text ns points template v footer
+    → bytes ≡ report_text names (points_of_program body) template v footer
+text_of names body template ns points v footer bytes n p h =
+    subst (λ ps. bytes ≡ report_text names ps template v footer) p
+    (subst (λ xs. bytes ≡ report_text xs points template v footer) n h)
 
-pub least_report : (names : List (List ℕ)) (body : Statements) (s : System) (v : Vector) (bytes : List ℕ)
+pub least_report : (names : List (List ℕ)) (body : Statements) (s : System) (v : Vector) (footer : Footer) (bytes : List ℕ)
     → s.flow.names ≡ names → s.flow.points ≡ points_of_program body → s.flow.edges ≡ edges_of_program body
-    → Least (equations_of s) v → bytes ≡ report_of s v (Improvements 1) → IsLeastReport names body s.template bytes
-least_report names body s v bytes n p e least text =
-    let moved : Least (equations_of_program (length names) body s.template) v =
-    least_of names body s.template s.flow.names s.flow.points s.flow.edges v n p e least in
+    → Least (equations_of s) v → bytes ≡ report_of s v footer → IsLeastReport names body s.template v footer bytes
+least_report names body s v footer bytes n p e least text =
+    let moved : Least (equations_of_program (length names) body s.template) v = subst (λ q. Least q v) (same_equations names body s n p e) least in
     record {
-      vector = v;
       least = moved;
       holds = program_soundness (length names) body s.template v moved.solves.post;
-      report = text_of names body s.template s.flow.names s.flow.points v bytes n p text;
+      report = text_of names body s.template s.flow.names s.flow.points v footer bytes n p text;
     }
 
 -- ---- each row of a template is as wide as the first

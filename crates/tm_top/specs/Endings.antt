@@ -1,65 +1,120 @@
 -- How a run ends, by the texts that it reads: the first cause in order decides.
-use Rattle.std.specs.Prelude.{◌≡◌, ◌⊎◌, ℕ, List, Option, Some, None}
+use Rattle.std.specs.Prelude.{◌≡◌, ◌<◌, ◌⊎◌, ℕ, List, Option, Some, None}
 use Rattle.tm_io.specs.Files.{Contents}
-use Rattle.tm_words.specs.Request.{request_of}
-use Rattle.tm_words.specs.declared.request.Analysis.{Analysis}
+use Rattle.tm_rows.specs.Domains.{intervals_of}
+use Rattle.tm_eqsys.specs.declared.spot.Spot.{Spot}
+use Rattle.tm_eqsys.specs.declared.system.System.{System}
+use Rattle.tm_eqsys.specs.View.{equations_of}
+use Rattle.tm_round.specs.PickCount.{pick_count}
+use Rattle.tm_workload.specs.Bodies.{generated_body, generated_names}
 use Rattle.tm_words.specs.declared.request.Domain.{Domain}
-use Rattle.tm_words.specs.declared.request.Request.{Request}
-use Rattle.tm_top.specs.Files.{AreInputs, IsReached, IsTooLong}
-use Rattle.tm_top.specs.Request.{analysis_of}
-use Rattle.tm_top.specs.Texts.{IsRefused, IsSolvable, IsSpent}
+use Rattle.tm_words.specs.declared.request.Policy.{Policy}
+use Rattle.tm_words.specs.declared.request.Policy.TheVariants.{Best}
+use Rattle.tm_top.specs.Checks.{IsAccepted, IsRefusedCertificate, IsWideAt}
+use Rattle.tm_top.specs.Files.{AreChecked, AreInputs, IsReached, IsTooLong}
+use Rattle.tm_top.specs.Request.{Task, asked}
+use Rattle.tm_top.specs.Rounds.{EndsWithin, HasSpot, IsSystemFor, RunsOut}
+use Rattle.tm_top.specs.Texts.{IsRefused, IsRefusedProgram, IsSolvable, IsSolvedSystem, IsSpent, IsSpotIn}
+use Rattle.tm_top.specs.declared.task.Purpose.TheVariants.{Report}
+use Rattle.tm_top.specs.declared.task.Task.TheVariants.{Analyse, Check, Bench}
 use Rattle.tm_top.specs.declared.status.ReadCause.TheVariants.{Failed, TooLong}
-use Rattle.tm_top.specs.declared.status.TextCause.TheVariants.{NotBuilt}
 use Rattle.tm_top.specs.declared.status.Status.{Status}
-use Rattle.tm_top.specs.declared.status.Status.TheVariants.{Done, Usage, Read, Text, Spent, Memory, Write}
+use Rattle.tm_top.specs.declared.status.Status.TheVariants.{Done, Certificate, Usage, Read, Text, Wide, Spent, Memory, Write}
 
--- this is the ending that texts have
-abbrev pub TextsEnd : List ℕ → Domain (List ℕ) → ℕ → Status → Type 0
-TextsEnd text rows improvements Done = IsSolvable text rows improvements
-TextsEnd text rows improvements Usage = ⊥
-TextsEnd text rows improvements (Read cause) = ⊥
-TextsEnd text rows improvements (Text cause) = IsRefused text rows cause
-TextsEnd text rows improvements (Spent number) = IsSpent text rows improvements × (number ≡ improvements)
-TextsEnd text rows improvements Memory = ⊥
-TextsEnd text rows improvements Write = ⊥
+-- this is the ending that texts have which are analysed, but for wide operations
+abbrev pub TextsEnd : List ℕ → Domain (List ℕ) → Policy → ℕ → Status → Type 0
+TextsEnd text rows policy limit Done = IsSolvable text rows policy limit
+TextsEnd text rows policy limit (Certificate cause) = ⊥
+TextsEnd text rows policy limit Usage = ⊥
+TextsEnd text rows policy limit (Read cause) = ⊥
+TextsEnd text rows policy limit (Text cause) = IsRefused text rows cause
+TextsEnd text rows policy limit (Wide spot) = ⊥
+TextsEnd text rows policy limit (Spent number) = IsSpent text rows policy limit × (number ≡ limit)
+TextsEnd text rows policy limit Memory = ⊥
+TextsEnd text rows policy limit Write = ⊥
 
--- this is the ending that the texts which an analysis reads have
-abbrev pub InputsEnd : Option Contents → Analysis (List ℕ) → Status → Type 0
-InputsEnd files analysis status =
-    (text : List ℕ) × (rows : Domain (List ℕ)) × AreInputs files analysis text rows × TextsEnd text rows analysis.improvements status
+-- the system of a generated program over intervals
+abbrev pub IsGenerated : ℕ → ℕ → System → Type 0
+IsGenerated seed loops system = IsSystemFor generated_names (generated_body seed loops) (intervals_of 3) system
 
--- this is the ending that an analysis of these files has, where nothing fails and there is memory
-abbrev pub Ends : Option Contents → Analysis (List ℕ) → Status → Type 0
-Ends files analysis Done = InputsEnd files analysis Done
-Ends files analysis Usage = ⊥
-Ends files analysis (Read (Failed which)) = ⊥
-Ends files analysis (Read (TooLong which)) = IsTooLong files analysis which
-Ends files analysis (Text cause) = InputsEnd files analysis (Text cause)
-Ends files analysis (Spent number) = InputsEnd files analysis (Spent number)
-Ends files analysis Memory = ⊥
-Ends files analysis Write = ⊥
+-- this is the ending that the analysis of a generated program has, but for wide operations: 1,000 rounds by `best` are enough, or not
+abbrev pub BenchEnd : ℕ → ℕ → Status → Type 0
+BenchEnd seed loops Done = (system : System) × IsGenerated seed loops system × EndsWithin system Best 1000
+BenchEnd seed loops (Certificate cause) = ⊥
+BenchEnd seed loops Usage = ⊥
+BenchEnd seed loops (Read cause) = ⊥
+BenchEnd seed loops (Text cause) = ⊥
+BenchEnd seed loops (Wide spot) = ⊥
+BenchEnd seed loops (Spent number) = (system : System) × IsGenerated seed loops system × RunsOut system Best 1000 × (number ≡ 1000)
+BenchEnd seed loops Memory = ⊥
+BenchEnd seed loops Write = ⊥
 
--- what an answer to an analysis says of these files
-abbrev pub IsAnswerTo : Option Contents → Analysis (List ℕ) → Status → Type 0
-IsAnswerTo files analysis Done = Ends files analysis Done
-IsAnswerTo files analysis Usage = ⊥
-IsAnswerTo files analysis (Read (Failed which)) = IsReached files analysis which
-IsAnswerTo files analysis (Read (TooLong which)) = Ends files analysis (Read (TooLong which))
-IsAnswerTo files analysis (Text cause) = Ends files analysis (Text cause)
-IsAnswerTo files analysis (Spent number) = Ends files analysis (Spent number)
-IsAnswerTo files analysis Memory = Unit {0}
-IsAnswerTo files analysis Write = Ends files analysis Done
+-- this is the ending that the text of a program and the bytes of a certificate have
+abbrev pub CheckEnd : List ℕ → List ℕ → Status → Type 0
+CheckEnd text bytes Done = IsAccepted text bytes
+CheckEnd text bytes (Certificate cause) = IsRefusedCertificate text bytes cause
+CheckEnd text bytes Usage = ⊥
+CheckEnd text bytes (Read cause) = ⊥
+CheckEnd text bytes (Text cause) = IsRefusedProgram text cause
+CheckEnd text bytes (Wide spot) = IsWideAt text bytes spot
+CheckEnd text bytes (Spent number) = ⊥
+CheckEnd text bytes Memory = ⊥
+CheckEnd text bytes Write = ⊥
 
--- a request without an analysis isn't built yet
-abbrev pub IsAnswerToAnalysis : Option Contents → Option (Analysis (List ℕ)) → Status → Type 0
-IsAnswerToAnalysis files None status = (status ≡ Text NotBuilt) ⊎ (status ≡ Memory)
-IsAnswerToAnalysis files (Some analysis) status = IsAnswerTo files analysis status
+-- this is the ending that the texts which a task reads have
+abbrev pub InputsEnd : Option Contents → Task → Status → Type 0
+InputsEnd files (Analyse purpose analysis) status =
+    (text : List ℕ) × (rows : Domain (List ℕ)) × AreInputs files analysis text rows × TextsEnd text rows analysis.policy analysis.improvements status
+InputsEnd files (Check program certificate) status =
+    (text : List ℕ) × (bytes : List ℕ) × AreChecked files program certificate text bytes × CheckEnd text bytes status
+InputsEnd files (Bench seed loops) status = BenchEnd seed loops status
+
+-- a wide operation that may end a task: in an analysis any spot of it, in a check the first operation that is wide
+abbrev pub IsSpotFor : Option Contents → Task → Spot → Type 0
+IsSpotFor files (Analyse purpose analysis) spot =
+    (text : List ℕ) × (rows : Domain (List ℕ)) × AreInputs files analysis text rows × IsSpotIn purpose text rows analysis.policy analysis.improvements spot
+IsSpotFor files (Check program certificate) spot =
+    (text : List ℕ) × (bytes : List ℕ) × AreChecked files program certificate text bytes × IsWideAt text bytes spot
+IsSpotFor files (Bench seed loops) spot = (system : System) × IsGenerated seed loops system × HasSpot Report system Best 1000 spot
+
+-- there are more picks than this number in the system that a task analyses
+abbrev pub HasMorePicks : Option Contents → Task → ℕ → Type 0
+HasMorePicks files (Analyse purpose analysis) number =
+    (text : List ℕ) × (rows : Domain (List ℕ)) × (system : System) × AreInputs files analysis text rows × IsSolvedSystem text rows system × (number < pick_count (equations_of system))
+HasMorePicks files (Check program certificate) number = ⊥
+HasMorePicks files (Bench seed loops) number = (system : System) × IsGenerated seed loops system × (number < pick_count (equations_of system))
+
+-- this is the ending that a task over these files has, where nothing fails and there is memory
+abbrev pub Ends : Option Contents → Task → Status → Type 0
+Ends files task Done = InputsEnd files task Done
+Ends files task (Certificate cause) = InputsEnd files task (Certificate cause)
+Ends files task Usage = ⊥
+Ends files task (Read (Failed which)) = ⊥
+Ends files task (Read (TooLong which)) = IsTooLong files task which
+Ends files task (Text cause) = InputsEnd files task (Text cause)
+Ends files task (Wide spot) = InputsEnd files task (Wide spot)
+Ends files task (Spent number) = InputsEnd files task (Spent number)
+Ends files task Memory = ⊥
+Ends files task Write = ⊥
+
+-- what an answer to a task says of these files
+abbrev pub IsAnswerTo : Option Contents → Task → Status → Type 0
+IsAnswerTo files task Done = Ends files task Done
+IsAnswerTo files task (Certificate cause) = Ends files task (Certificate cause)
+IsAnswerTo files task Usage = ⊥
+IsAnswerTo files task (Read (Failed which)) = IsReached files task which
+IsAnswerTo files task (Read (TooLong which)) = Ends files task (Read (TooLong which))
+IsAnswerTo files task (Text cause) = Ends files task (Text cause)
+IsAnswerTo files task (Wide spot) = IsSpotFor files task spot
+IsAnswerTo files task (Spent number) = Ends files task (Spent number)
+IsAnswerTo files task Memory = Unit {0}
+IsAnswerTo files task Write = Ends files task Done
 
 -- words without a request are refused by the usage
-abbrev pub IsAnswerToRequest : Option Contents → Option (Request (List ℕ)) → Status → Type 0
-IsAnswerToRequest files None status = (status ≡ Usage) ⊎ (status ≡ Memory)
-IsAnswerToRequest files (Some request) status = IsAnswerToAnalysis files (analysis_of request) status
+abbrev pub IsAnswerToTask : Option Contents → Option Task → Status → Type 0
+IsAnswerToTask files None status = (status ≡ Usage) ⊎ (status ≡ Memory)
+IsAnswerToTask files (Some task) status = IsAnswerTo files task status
 
 -- what an answer to the words says of these files
 abbrev pub IsAnswerToWords : Option Contents → List (List ℕ) → Status → Type 0
-IsAnswerToWords files words status = IsAnswerToRequest files (request_of words) status
+IsAnswerToWords files words status = IsAnswerToTask files (asked words) status

@@ -4,7 +4,8 @@ use Rattle.tm_io.specs.Files.{Contents}
 use Rattle.tm_words.specs.declared.request.Analysis.{Analysis}
 use Rattle.tm_words.specs.declared.request.Domain.{Domain}
 use Rattle.tm_words.specs.declared.request.Domain.TheVariants.{Intervals, Zones, Octagons, Rows}
-use Rattle.tm_top.specs.Request.{rows_file}
+use Rattle.tm_top.specs.Request.{Task, file_in}
+use Rattle.tm_top.specs.declared.task.Task.TheVariants.{Analyse, Check, Bench}
 use Rattle.tm_top.specs.declared.status.Which.{Which}
 use Rattle.tm_top.specs.declared.status.Which.TheVariants as which
 
@@ -43,35 +44,61 @@ pub record AreInputs (files : Option Contents) (analysis : Analysis (List ℕ)) 
   pub rows_are : IsWithText files analysis.domain rows
   pub short_rows : HasShortRows rows
 
+-- what a check reads: the text of a program and the bytes of a certificate, each within its limit
+pub record AreChecked (files : Option Contents) (program certificate text bytes : List ℕ) : Type 0 where
+  pub program_is : HasContent files program text
+  pub short : IsShort text
+  pub certificate_is : HasContent files certificate bytes
+  pub short_bytes : length bytes ≤ 16777216
+
+-- how many bytes a file may have: 65,536, and a certificate 16,777,216
+abbrev pub most_bytes : Which → ℕ
+most_bytes which.Program = 65536
+most_bytes which.Rows = 65536
+most_bytes which.Certificate = 16777216
+
+-- the program that a task reads has this text
+abbrev pub HasProgram : Option Contents → Task → List ℕ → Type 0
+HasProgram files (Analyse purpose analysis) text = HasContent files analysis.program text
+HasProgram files (Check program certificate) text = HasContent files program text
+HasProgram files (Bench seed loops) text = ⊥
+
 -- the program is too long
-pub record IsLongProgram (files : Option Contents) (analysis : Analysis (List ℕ)) : Type 0 where
+pub record IsLongProgram (files : Option Contents) (task : Task) : Type 0 where
   pub text : List ℕ
-  pub program : HasContent files analysis.program text
+  pub program : HasProgram files task text
   pub long : 65536 < length text
 
--- the program isn't, and the file of rows is too long
-pub record AreLongRows (files : Option Contents) (analysis : Analysis (List ℕ)) : Type 0 where
+-- the program isn't, and this file is too long
+pub record IsLongAfter (files : Option Contents) (task : Task) (which : Which) : Type 0 where
   pub text : List ℕ
-  pub program : HasContent files analysis.program text
+  pub program : HasProgram files task text
   pub short : IsShort text
   pub file : List ℕ
-  pub named : rows_file analysis.domain ≡ Some file
-  pub rows : List ℕ
-  pub content : HasContent files file rows
-  pub long : 65536 < length rows
+  pub named : file_in which task ≡ Some file
+  pub bytes : List ℕ
+  pub content : HasContent files file bytes
+  pub long : most_bytes which < length bytes
 
 -- this file is the first that is too long
-abbrev pub IsTooLong : Option Contents → Analysis (List ℕ) → Which → Type 0
-IsTooLong files analysis which.Program = IsLongProgram files analysis
-IsTooLong files analysis which.Rows = AreLongRows files analysis
+abbrev pub IsTooLong : Option Contents → Task → Which → Type 0
+IsTooLong files task which.Program = IsLongProgram files task
+IsTooLong files task which.Rows = IsLongAfter files task which.Rows
+IsTooLong files task which.Certificate = IsLongAfter files task which.Certificate
 
--- a file of rows is loaded after a program that isn't too long
-pub record HasShortProgram (files : Option Contents) (analysis : Analysis (List ℕ)) : Type 0 where
+-- a file of rows or a certificate is loaded after a program that isn't too long
+pub record HasShortProgram (files : Option Contents) (task : Task) : Type 0 where
   pub text : List ℕ
-  pub program : HasContent files analysis.program text
+  pub program : HasProgram files task text
   pub short : IsShort text
 
--- the files that are loaded before this one are not too long
-abbrev pub IsReached : Option Contents → Analysis (List ℕ) → Which → Type 0
-IsReached files analysis which.Program = Unit {0}
-IsReached files analysis which.Rows = HasShortProgram files analysis
+-- there is something
+abbrev pub HasSome : {A : Type 0} → Option A → Type 0
+HasSome None = ⊥
+HasSome (Some x) = Unit {0}
+
+-- the task reads this file, and the files that are loaded before it are not too long
+abbrev pub IsReached : Option Contents → Task → Which → Type 0
+IsReached files task which.Program = HasSome (file_in which.Program task)
+IsReached files task which.Rows = HasShortProgram files task
+IsReached files task which.Certificate = HasShortProgram files task

@@ -1,9 +1,13 @@
 pub mod Status
 pub mod Request
 pub mod Files
+pub mod Policies
+pub mod Rounds
 pub mod Texts
+pub mod Checks
 pub mod Reports
 pub mod Endings
+pub mod CheckMessages
 pub mod Messages
 pub mod Parts
 pub mod Parted

@@ -12,13 +12,14 @@ use Rattle.tm_flow.specs.declared.fault.FlowFault.TheVariants as flow
 use Rattle.tm_rows.specs.declared.fault.RowFault.{RowFault}
 use Rattle.tm_rows.specs.declared.fault.RowFault.TheVariants as rows
 use Rattle.tm_words.specs.Usage.{usage_text}
+use Rattle.tm_top.specs.CheckMessages.{certificate_message, wide_message}
 use Rattle.tm_top.specs.declared.status.Which.TheVariants as which
 use Rattle.tm_top.specs.declared.status.ReadCause.{ReadCause}
 use Rattle.tm_top.specs.declared.status.ReadCause.TheVariants.{Failed, TooLong}
 use Rattle.tm_top.specs.declared.status.TextCause.{TextCause}
-use Rattle.tm_top.specs.declared.status.TextCause.TheVariants.{Lex, Parse, Flow, Rows, Unknowns, NotBuilt}
+use Rattle.tm_top.specs.declared.status.TextCause.TheVariants.{Lex, Parse, Flow, Rows, Unknowns, Cells}
 use Rattle.tm_top.specs.declared.status.Status.{Status}
-use Rattle.tm_top.specs.declared.status.Status.TheVariants.{Done, Usage, Read, Text, Spent, Memory, Write}
+use Rattle.tm_top.specs.declared.status.Status.TheVariants.{Done, Certificate, Usage, Read, Text, Wide, Spent, Memory, Write}
 
 -- ---- where a cause stands
 
@@ -50,7 +51,7 @@ place_of (Parse fault) = parse_place fault
 place_of (Flow fault) = None
 place_of (Rows fault) = None
 place_of (Unknowns count) = None
-place_of NotBuilt = None
+place_of (Cells count) = None
 
 abbrev pub line_at_place : List ℕ → Option ℕ → ℕ
 line_at_place text None = 0
@@ -60,8 +61,10 @@ line_at_place text (Some at) = line_at text at
 abbrev pub line_in : List ℕ → Status → ℕ
 line_in text (Text cause) = line_at_place text (place_of cause)
 line_in text Done = 0
+line_in text (Certificate cause) = 0
 line_in text Usage = 0
 line_in text (Read cause) = 0
+line_in text (Wide spot) = 0
 line_in text (Spent number) = 0
 line_in text Memory = 0
 line_in text Write = 0
@@ -127,20 +130,24 @@ text_words line (Parse fault) = parse_words line fault
 text_words line (Flow fault) = flow_words fault
 text_words line (Rows fault) = row_words fault
 text_words line (Unknowns count) = record { before = codes "program refused: "; number = Some count; after = codes " unknowns\n" }
-text_words line NotBuilt = words (codes "program refused: not built yet")
+text_words line (Cells count) = record { before = codes "program refused: "; number = Some count; after = codes " cells\n" }
 
 abbrev pub read_words : ReadCause → Words
 read_words (Failed which.Program) = words (codes "cannot read the program")
 read_words (Failed which.Rows) = words (codes "cannot read the rows")
+read_words (Failed which.Certificate) = words (codes "cannot read the certificate")
 read_words (TooLong which.Program) = words (codes "too long: the program")
 read_words (TooLong which.Rows) = words (codes "too long: the rows")
+read_words (TooLong which.Certificate) = words (codes "too long: the certificate")
 
--- the words of an ending
+-- the words of an ending; another message tells of a refused certificate and of a wide operation
 abbrev pub words_of : ℕ → Status → Words
 words_of line Done = words []
+words_of line (Certificate cause) = words []
 words_of line Usage = record { before = usage_text; number = None; after = [] }
 words_of line (Read cause) = read_words cause
 words_of line (Text cause) = text_words line cause
+words_of line (Wide spot) = words []
 words_of line (Spent number) = record { before = codes "spent: "; number = Some number; after = codes " improvements\n" }
 words_of line Memory = words (codes "out of memory")
 words_of line Write = words (codes "cannot write")
@@ -153,6 +160,14 @@ number_text (Some n) = decimal n
 abbrev pub line_text : Words → List ℕ
 line_text w = w.before ++ number_text w.number ++ w.after
 
--- the message of an ending, where this is the line of its cause
-abbrev pub message_of : ℕ → Status → List ℕ
-message_of line status = line_text (words_of line status)
+-- the message of an ending, where this is the line of its cause, and each point has so many rows
+abbrev pub message_of : (line rows : ℕ) → Status → List ℕ
+message_of line rows Done = line_text (words_of line Done)
+message_of line rows (Certificate cause) = certificate_message rows cause
+message_of line rows Usage = line_text (words_of line Usage)
+message_of line rows (Read cause) = line_text (words_of line (Read cause))
+message_of line rows (Text cause) = line_text (words_of line (Text cause))
+message_of line rows (Wide spot) = wide_message rows spot
+message_of line rows (Spent number) = line_text (words_of line (Spent number))
+message_of line rows Memory = line_text (words_of line Memory)
+message_of line rows Write = line_text (words_of line Write)

@@ -1,17 +1,40 @@
 -- What the parts of a run, before and after the loads, say to one another.
-use Rattle.std.specs.Prelude.{◌≡◌, ◌<◌, ℕ, ℤ, List, Option, Some, true, false, length}
+use Rattle.std.specs.Prelude.{◌≡◌, ◌≤◌, ◌<◌, ◌⊎◌, ℕ, List, [], IsTrue, Option, Some, length, slice_get, take}
+use Rattle.std.specs.Io.KnownBytes.{Appends}
+use Rattle.tm_io.specs.Faults.{Rose}
 use Rattle.tm_io.specs.Files.{Contents}
 use Rattle.tm_tree.specs.Tree.{Statements}
+use Rattle.tm_rows.specs.RowFaults.{faults_of}
+use Rattle.tm_rows.specs.Rows.{is_template}
+use Rattle.tm_num.specs.Extended.{Ext}
+use Rattle.tm_eqsys.specs.declared.footer.Footer.TheVariants.{Improvements}
+use Rattle.tm_eqsys.specs.declared.system.System.{System}
+use Rattle.tm_eqsys.specs.Equations.{Equations, Least}
+use Rattle.tm_eqsys.specs.Report.{report_of}
+use Rattle.tm_eqsys.specs.View.{equations_of, vector_of}
+use Rattle.tm_steps.specs.Certificates.{Certificate as TheoryCertificate, ValidCertificate}
+use Rattle.tm_cert.specs.declared.cert.Cert.{Cert}
+use Rattle.serde_json.specs.Written.{compact_text}
+use Rattle.tm_form.specs.Certificates.{SpellsCert, cert_data}
+use Rattle.tm_rounds.specs.declared.solution.Solved.{Solved}
+use Rattle.tm_rounds.specs.Solutions.{IsSolved, cert_with, made_certificate}
 use Rattle.tm_words.specs.declared.request.Domain.{Domain}
 use Rattle.tm_words.specs.declared.request.Domain.TheVariants as domain
+use Rattle.tm_words.specs.declared.request.Policy.{Policy}
+use Rattle.tm_words.specs.declared.request.Policy.TheVariants.{Best}
 use Rattle.tm_top.specs.Files.{HasContent}
 use Rattle.tm_top.specs.Run.{HasFailed}
 use Rattle.tm_top.specs.Request.{rows_file}
-use Rattle.tm_top.specs.Endings.{TextsEnd}
-use Rattle.tm_top.specs.Texts.{IsRefused, IsSpent, is_built}
+use Rattle.tm_top.specs.Checks.{IsCheckSpot, IsCompositionSpot, IsRefusedCertificate, NoneIsWide, IsStopped, system_with, theirs}
+use Rattle.tm_top.specs.Endings.{BenchEnd, CheckEnd, IsGenerated, TextsEnd}
+use Rattle.tm_top.specs.Policies.{rule_of}
+use Rattle.tm_top.specs.Rounds.{EndsWithin, HasRounds, HasSpot, RunsOut}
+use Rattle.tm_top.specs.Texts.{IsRefused, IsRefusedProgram, IsSpotIn, unknowns}
+use Rattle.tm_top.specs.declared.task.Purpose.{Purpose}
+use Rattle.tm_top.specs.declared.task.Purpose.TheVariants.{Report, Certificate as AsCertificate}
 use Rattle.tm_top.specs.declared.status.Which.{Which}
 use Rattle.tm_top.specs.declared.status.ReadCause.TheVariants as read
-use Rattle.tm_top.specs.declared.status.TextCause.TheVariants as cause
+use Rattle.tm_top.specs.declared.status.CertCause.TheVariants as form
 use Rattle.tm_top.specs.declared.status.Status.{Status}
 use Rattle.tm_top.specs.declared.status.Status.TheVariants as status
 use Rattle.tm_top.specs.declared.load.Source.{Source}
@@ -19,7 +42,7 @@ use Rattle.tm_top.specs.declared.load.Source.TheVariants as source
 use Rattle.tm_top.specs.declared.load.LoadRefusal.{LoadRefusal}
 use Rattle.tm_top.specs.declared.load.LoadRefusal.TheVariants as load
 use Rattle.tm_top.specs.declared.source.Refusal.{Refusal}
-use Rattle.tm_top.specs.declared.source.Refusal.TheVariants.{Text, Spent, NoMemory}
+use Rattle.tm_top.specs.declared.source.Refusal.TheVariants.{Text, Certificate, Wide, Spent, NoMemory}
 
 -- the domain by the text of its rows
 abbrev pub domain_of : Source → Domain (List ℕ)
@@ -28,16 +51,16 @@ domain_of source.Zones = domain.Zones
 domain_of source.Octagons = domain.Octagons
 domain_of (source.File text) = domain.Rows text.items
 
--- a file isn't loaded: its load failed, it is too long, or memory was wanted
-abbrev pub IsNotLoaded : Option Contents → (faults faults_now : ℕ) → (last name : List ℕ) → LoadRefusal → Type 0
-IsNotLoaded files faults faults_now last name load.Failed = HasFailed faults faults_now last (Some name)
-IsNotLoaded files faults faults_now last name load.TooLong = (text : List ℕ) × HasContent files name text × (65536 < length text)
-IsNotLoaded files faults faults_now last name load.NoMemory = Unit {0}
+-- a file that may have so many bytes isn't loaded: its load failed, it is too long, or memory was wanted
+abbrev pub IsNotLoaded : Option Contents → (faults faults_now : ℕ) → (last name : List ℕ) → (most : ℕ) → LoadRefusal → Type 0
+IsNotLoaded files faults faults_now last name most load.Failed = HasFailed faults faults_now last (Some name)
+IsNotLoaded files faults faults_now last name most load.TooLong = (text : List ℕ) × HasContent files name text × (most < length text)
+IsNotLoaded files faults faults_now last name most load.NoMemory = Unit {0}
 
 -- the file of a domain's rows isn't loaded
 abbrev pub AreNotLoaded : Option Contents → (faults faults_now : ℕ) → (last : List ℕ) → Domain (List ℕ) → LoadRefusal → Type 0
 AreNotLoaded files faults faults_now last rows refusal =
-    (name : List ℕ) × (rows_file rows ≡ Some name) × IsNotLoaded files faults faults_now last name refusal
+    (name : List ℕ) × (rows_file rows ≡ Some name) × IsNotLoaded files faults faults_now last name 65536 refusal
 
 -- the ending where this file isn't loaded
 abbrev pub unloaded : Which → LoadRefusal → Status
@@ -45,39 +68,177 @@ unloaded which load.Failed = status.Read (read.Failed which)
 unloaded which load.TooLong = status.Read (read.TooLong which)
 unloaded which load.NoMemory = status.Memory
 
--- a refusal's cause stands; want of memory needs none
-abbrev pub IsRefusedBy : List ℕ → Domain (List ℕ) → ℕ → Refusal → Type 0
-IsRefusedBy text rows improvements (Text cause) = IsRefused text rows cause
-IsRefusedBy text rows improvements (Spent number) = IsSpent text rows improvements × (number ≡ improvements)
-IsRefusedBy text rows improvements NoMemory = Unit {0}
+-- the text of a program is refused by this cause; want of memory needs none
+abbrev pub IsUnread : List ℕ → Refusal → Type 0
+IsUnread text (Text cause) = IsRefusedProgram text cause
+IsUnread text (Certificate cause) = ⊥
+IsUnread text (Wide spot) = ⊥
+IsUnread text (Spent number) = ⊥
+IsUnread text NoMemory = Unit {0}
 
--- why a program over a template gets no bounds
-abbrev pub GetsNoBounds : Statements → List (List ℤ) → ℕ → Refusal → Type 0
-GetsNoBounds body template improvements (Text (cause.Lex fault)) = ⊥
-GetsNoBounds body template improvements (Text (cause.Parse fault)) = ⊥
-GetsNoBounds body template improvements (Text (cause.Flow fault)) = ⊥
-GetsNoBounds body template improvements (Text (cause.Rows fault)) = ⊥
-GetsNoBounds body template improvements (Text (cause.Unknowns count)) = ⊥
-GetsNoBounds body template improvements (Text cause.NotBuilt) = is_built body template ≡ false
-GetsNoBounds body template improvements (Spent number) = (is_built body template ≡ true) × (improvements ≡ 0) × (number ≡ improvements)
-GetsNoBounds body template improvements NoMemory = Unit {0}
+-- the texts are refused by this cause before there is a system; want of memory needs none
+abbrev pub IsRefusedBy : List ℕ → Domain (List ℕ) → Refusal → Type 0
+IsRefusedBy text rows (Text cause) = IsRefused text rows cause
+IsRefusedBy text rows (Certificate cause) = ⊥
+IsRefusedBy text rows (Wide spot) = ⊥
+IsRefusedBy text rows (Spent number) = ⊥
+IsRefusedBy text rows NoMemory = Unit {0}
+
+-- why the analysis of a system has no end; want of memory needs none
+abbrev pub IsHalted : Purpose → System → Policy → ℕ → Refusal → Type 0
+IsHalted purpose system policy limit (Text cause) = ⊥
+IsHalted purpose system policy limit (Certificate cause) = ⊥
+IsHalted purpose system policy limit (Wide spot) = HasSpot purpose system policy limit spot
+IsHalted purpose system policy limit (Spent number) = RunsOut system policy limit × (number ≡ limit)
+IsHalted purpose system policy limit NoMemory = Unit {0}
+
+-- the bytes are the report of the least vector of a system, with the number of its rounds
+pub record IsRoundsReport (system : System) (policy : Policy) (limit : ℕ) (bytes : List ℕ) : Type 0 where
+  pub rounds : ℕ
+  pub within : rounds ≤ limit
+  pub has_rounds : HasRounds system policy rounds
+  pub bounds : List Ext
+  pub least : Least (equations_of system) (vector_of (length system.template) bounds)
+  pub report : bytes ≡ report_of system (vector_of (length system.template) bounds) (Improvements rounds)
+
+-- the bytes are the certificate that the rounds over a system make; it is valid, and no sum of its check is wide
+pub record IsRoundsCertificate (system : System) (policy : Policy) (limit : ℕ) (bytes : List ℕ) : Type 0 where
+  pub solved : Solved
+  pub is_solved : IsSolved system (rule_of policy) limit solved
+  pub template : IsTrue (is_template system.template)
+  pub written : bytes ≡ compact_text (cert_data (cert_with system solved))
+  pub spells : SpellsCert bytes (cert_with system solved)
+  pub valid : ValidCertificate (equations_of system) (made_certificate system solved)
+  pub narrow : NoneIsWide (equations_of system) (made_certificate system solved)
+  pub least : Least (equations_of system) (vector_of (length system.template) solved.bounds)
+
+-- what is put of the analysis of a system
+abbrev pub IsOutputOf : Purpose → System → Policy → ℕ → List ℕ → Type 0
+IsOutputOf Report system policy limit bytes = IsRoundsReport system policy limit bytes
+IsOutputOf AsCertificate system policy limit bytes = IsRoundsCertificate system policy limit bytes
+
+-- the text or the bytes are refused before the certificate's rows are seen
+abbrev pub IsUnspelt : List ℕ → List ℕ → Refusal → Type 0
+IsUnspelt text bytes (Text cause) = IsRefusedProgram text cause
+IsUnspelt text bytes (Certificate (form.Form fault)) = IsRefusedCertificate text bytes (form.Form fault)
+IsUnspelt text bytes (Certificate (form.Rows fault)) = ⊥
+IsUnspelt text bytes (Certificate (form.Unknowns count)) = ⊥
+IsUnspelt text bytes (Certificate (form.Check fault)) = ⊥
+IsUnspelt text bytes (Wide spot) = ⊥
+IsUnspelt text bytes (Spent number) = ⊥
+IsUnspelt text bytes NoMemory = Unit {0}
+
+-- the rows of a certificate are a template over a program's variables, with few enough unknowns
+pub record FitsProgram (names : List (List ℕ)) (body : Statements) (cert : Cert) : Type 0 where
+  pub rows : faults_of (length names) cert.rows ≡ []
+  pub within : unknowns body cert.rows ≤ 1024
+
+-- why a system and a certificate aren't accepted
+abbrev pub IsUnaccepted : Equations → TheoryCertificate → Refusal → Type 0
+IsUnaccepted system certificate (Text cause) = ⊥
+IsUnaccepted system certificate (Certificate (form.Form fault)) = ⊥
+IsUnaccepted system certificate (Certificate (form.Rows fault)) = ⊥
+IsUnaccepted system certificate (Certificate (form.Unknowns count)) = ⊥
+IsUnaccepted system certificate (Certificate (form.Check fault)) = IsStopped system certificate fault
+IsUnaccepted system certificate (Wide spot) = IsCompositionSpot system spot ⊎ IsCheckSpot system certificate spot
+IsUnaccepted system certificate (Spent number) = ⊥
+IsUnaccepted system certificate NoMemory = Unit {0}
+
+-- why a program and a certificate are no system
+abbrev pub IsNoSystem : List (List ℕ) → Statements → Cert → Refusal → Type 0
+IsNoSystem names body cert (Text cause) = ⊥
+IsNoSystem names body cert (Certificate (form.Form fault)) = ⊥
+IsNoSystem names body cert (Certificate (form.Rows fault)) = slice_get (faults_of (length names) cert.rows) 0 ≡ Some fault
+IsNoSystem names body cert (Certificate (form.Unknowns count)) =
+    (faults_of (length names) cert.rows ≡ []) × (1024 < unknowns body cert.rows) × (count ≡ unknowns body cert.rows)
+IsNoSystem names body cert (Certificate (form.Check fault)) = ⊥
+IsNoSystem names body cert (Wide spot) = ⊥
+IsNoSystem names body cert (Spent number) = ⊥
+IsNoSystem names body cert NoMemory = Unit {0}
+
+-- why a program and a certificate that is spelt get no report
+abbrev pub GetsNoReport : List (List ℕ) → Statements → Cert → Refusal → Type 0
+GetsNoReport names body cert refusal =
+    IsNoSystem names body cert refusal ⊎ (FitsProgram names body cert × IsUnaccepted (system_with names body cert) (theirs cert) refusal)
+
+-- the ending of a refusal
+abbrev pub refused : Refusal → Status
+refused (Text cause) = status.Text cause
+refused (Certificate cause) = status.Certificate cause
+refused (Wide spot) = status.Wide spot
+refused (Spent number) = status.Spent number
+refused NoMemory = status.Memory
+
+-- a report is put: all of it where the run is done, and else a part, since the output failed or wants memory
+pub data PutsReport (bytes : List ℕ) (result : Status) (held now : Option (List ℕ)) (faults faults_now : ℕ) : Type 0 where
+  whole : result ≡ status.Done → Appends held now bytes → PutsReport bytes result held now faults faults_now
+  failed : result ≡ status.Write → (n : ℕ) → Appends held now (take n bytes) → Rose faults faults_now → PutsReport bytes result held now faults faults_now
+  wanting : result ≡ status.Memory → (n : ℕ) → Appends held now (take n bytes) → PutsReport bytes result held now faults faults_now
+
+-- what an answer to the analysis of a system says of it
+abbrev pub IsAnswerToSystem : Purpose → System → Policy → ℕ → Status → Type 0
+IsAnswerToSystem purpose system policy limit status.Done = EndsWithin system policy limit
+IsAnswerToSystem purpose system policy limit (status.Certificate cause) = ⊥
+IsAnswerToSystem purpose system policy limit status.Usage = ⊥
+IsAnswerToSystem purpose system policy limit (status.Read cause) = ⊥
+IsAnswerToSystem purpose system policy limit (status.Text cause) = ⊥
+IsAnswerToSystem purpose system policy limit (status.Wide spot) = HasSpot purpose system policy limit spot
+IsAnswerToSystem purpose system policy limit (status.Spent number) = RunsOut system policy limit × (number ≡ limit)
+IsAnswerToSystem purpose system policy limit status.Memory = Unit {0}
+IsAnswerToSystem purpose system policy limit status.Write = EndsWithin system policy limit
 
 -- what an answer to loaded texts says of them
-abbrev pub IsAnswerToTexts : List ℕ → Domain (List ℕ) → ℕ → Status → Type 0
-IsAnswerToTexts text rows improvements status.Done = TextsEnd text rows improvements status.Done
-IsAnswerToTexts text rows improvements status.Usage = ⊥
-IsAnswerToTexts text rows improvements (status.Read cause) = ⊥
-IsAnswerToTexts text rows improvements (status.Text cause) = TextsEnd text rows improvements (status.Text cause)
-IsAnswerToTexts text rows improvements (status.Spent number) = TextsEnd text rows improvements (status.Spent number)
-IsAnswerToTexts text rows improvements status.Memory = Unit {0}
-IsAnswerToTexts text rows improvements status.Write = TextsEnd text rows improvements status.Done
+abbrev pub IsAnswerToTexts : Purpose → List ℕ → Domain (List ℕ) → Policy → ℕ → Status → Type 0
+IsAnswerToTexts purpose text rows policy limit status.Done = TextsEnd text rows policy limit status.Done
+IsAnswerToTexts purpose text rows policy limit (status.Certificate cause) = ⊥
+IsAnswerToTexts purpose text rows policy limit status.Usage = ⊥
+IsAnswerToTexts purpose text rows policy limit (status.Read cause) = ⊥
+IsAnswerToTexts purpose text rows policy limit (status.Text cause) = TextsEnd text rows policy limit (status.Text cause)
+IsAnswerToTexts purpose text rows policy limit (status.Wide spot) = IsSpotIn purpose text rows policy limit spot
+IsAnswerToTexts purpose text rows policy limit (status.Spent number) = TextsEnd text rows policy limit (status.Spent number)
+IsAnswerToTexts purpose text rows policy limit status.Memory = Unit {0}
+IsAnswerToTexts purpose text rows policy limit status.Write = TextsEnd text rows policy limit status.Done
 
--- the ending of an analysis whose files aren't loaded
-abbrev pub IsUnread : Status → Type 0
-IsUnread status.Done = ⊥
-IsUnread status.Usage = ⊥
-IsUnread (status.Read cause) = Unit {0}
-IsUnread (status.Text cause) = ⊥
-IsUnread (status.Spent number) = ⊥
-IsUnread status.Memory = Unit {0}
-IsUnread status.Write = ⊥
+-- what an answer to a request for a generated program says of it
+abbrev pub IsAnswerToBench : ℕ → ℕ → Status → Type 0
+IsAnswerToBench seed loops status.Done = BenchEnd seed loops status.Done
+IsAnswerToBench seed loops (status.Certificate cause) = ⊥
+IsAnswerToBench seed loops status.Usage = ⊥
+IsAnswerToBench seed loops (status.Read cause) = ⊥
+IsAnswerToBench seed loops (status.Text cause) = ⊥
+IsAnswerToBench seed loops (status.Wide spot) = (system : System) × IsGenerated seed loops system × HasSpot Report system Best 1000 spot
+IsAnswerToBench seed loops (status.Spent number) = BenchEnd seed loops (status.Spent number)
+IsAnswerToBench seed loops status.Memory = Unit {0}
+IsAnswerToBench seed loops status.Write = BenchEnd seed loops status.Done
+
+-- why there is no summary of a generated program; want of memory needs no cause
+abbrev pub IsUnsummed : ℕ → ℕ → Refusal → Type 0
+IsUnsummed seed loops (Text cause) = ⊥
+IsUnsummed seed loops (Certificate cause) = ⊥
+IsUnsummed seed loops (Wide spot) = (system : System) × IsGenerated seed loops system × HasSpot Report system Best 1000 spot
+IsUnsummed seed loops (Spent number) = (system : System) × IsGenerated seed loops system × RunsOut system Best 1000 × (number ≡ 1000)
+IsUnsummed seed loops NoMemory = Unit {0}
+
+-- what an answer to the check of loaded texts says of them
+abbrev pub IsAnswerToCheck : List ℕ → List ℕ → Status → Type 0
+IsAnswerToCheck text bytes status.Done = CheckEnd text bytes status.Done
+IsAnswerToCheck text bytes (status.Certificate cause) = CheckEnd text bytes (status.Certificate cause)
+IsAnswerToCheck text bytes status.Usage = ⊥
+IsAnswerToCheck text bytes (status.Read cause) = ⊥
+IsAnswerToCheck text bytes (status.Text cause) = CheckEnd text bytes (status.Text cause)
+IsAnswerToCheck text bytes (status.Wide spot) = CheckEnd text bytes (status.Wide spot)
+IsAnswerToCheck text bytes (status.Spent number) = ⊥
+IsAnswerToCheck text bytes status.Memory = Unit {0}
+IsAnswerToCheck text bytes status.Write = CheckEnd text bytes status.Done
+
+-- the ending of a task whose files aren't loaded
+abbrev pub AreUnloaded : Status → Type 0
+AreUnloaded status.Done = ⊥
+AreUnloaded (status.Certificate cause) = ⊥
+AreUnloaded status.Usage = ⊥
+AreUnloaded (status.Read cause) = Unit {0}
+AreUnloaded (status.Text cause) = ⊥
+AreUnloaded (status.Wide spot) = ⊥
+AreUnloaded (status.Spent number) = ⊥
+AreUnloaded status.Memory = Unit {0}
+AreUnloaded status.Write = ⊥

@@ -1,17 +1,24 @@
 -- What a run does to its shelf and its streams.
-use Rattle.std.specs.Prelude.{◌≡◌, ◌≤◌, ◌⊎◌, ℕ, List, Option, Some, take}
+use Rattle.std.specs.Prelude.{◌≡◌, ◌≤◌, ◌⊎◌, ℕ, List, Option, Some, length, take}
 use Rattle.std.specs.Io.KnownBytes.{Appends}
 use Rattle.tm_io.specs.Faults.{Rose}
 use Rattle.tm_io.specs.Files.{Contents}
-use Rattle.tm_words.specs.declared.request.Analysis.{Analysis}
-use Rattle.tm_top.specs.Files.{HasContent, IsTold}
+use Rattle.tm_eqsys.specs.declared.spot.Spot.{Spot}
+use Rattle.tm_eqsys.specs.declared.system.System.{System}
+use Rattle.tm_cert.specs.declared.cert.Cert.{Cert}
+use Rattle.tm_form.specs.Certificates.{SpellsCert}
+use Rattle.tm_top.specs.Files.{AreInputs, HasContent, HasProgram, IsTold}
+use Rattle.tm_top.specs.CheckMessages.{rows_in, rows_of}
 use Rattle.tm_top.specs.Messages.{line_in, message_of}
-use Rattle.tm_top.specs.Request.{asked, file_in}
+use Rattle.tm_top.specs.Request.{Task, asked, file_in}
+use Rattle.tm_top.specs.Texts.{IsSolvedSystem}
+use Rattle.tm_words.specs.declared.request.Domain.{Domain}
+use Rattle.tm_top.specs.declared.task.Task.TheVariants.{Analyse, Check, Bench}
 use Rattle.tm_top.specs.declared.status.Which.{Which}
-use Rattle.tm_top.specs.declared.status.Which.TheVariants.{Program, Rows}
+use Rattle.tm_top.specs.declared.status.Which.TheVariants as which
 use Rattle.tm_top.specs.declared.status.ReadCause.TheVariants.{Failed, TooLong}
 use Rattle.tm_top.specs.declared.status.Status.{Status}
-use Rattle.tm_top.specs.declared.status.Status.TheVariants.{Done, Usage, Read, Text, Spent, Memory, Write}
+use Rattle.tm_top.specs.declared.status.Status.TheVariants.{Done, Certificate, Usage, Read, Text, Wide, Spent, Memory, Write}
 
 -- ---- the outside
 
@@ -19,26 +26,31 @@ use Rattle.tm_top.specs.declared.status.Status.TheVariants.{Done, Usage, Read, T
 abbrev pub HasFailed : (faults faults_now : ℕ) → (last : List ℕ) → Option (List ℕ) → Type 0
 HasFailed faults faults_now last name = Rose faults faults_now × (Some last ≡ name)
 
--- an answer to an analysis that a file failed comes only where it did
-abbrev pub FailsOnlyIn : (faults faults_now : ℕ) → (last : List ℕ) → Analysis (List ℕ) → Status → Type 0
-FailsOnlyIn faults faults_now last analysis Done = Unit {0}
-FailsOnlyIn faults faults_now last analysis Usage = Unit {0}
-FailsOnlyIn faults faults_now last analysis (Read (Failed which)) = HasFailed faults faults_now last (file_in which analysis)
-FailsOnlyIn faults faults_now last analysis (Read (TooLong which)) = Unit {0}
-FailsOnlyIn faults faults_now last analysis (Text cause) = Unit {0}
-FailsOnlyIn faults faults_now last analysis (Spent number) = Unit {0}
-FailsOnlyIn faults faults_now last analysis Memory = Unit {0}
-FailsOnlyIn faults faults_now last analysis Write = Unit {0}
+-- an answer to a task that a file failed comes only where it did
+abbrev pub FailsOnlyIn : (faults faults_now : ℕ) → (last : List ℕ) → Task → Status → Type 0
+FailsOnlyIn faults faults_now last task Done = Unit {0}
+FailsOnlyIn faults faults_now last task (Certificate cause) = Unit {0}
+FailsOnlyIn faults faults_now last task Usage = Unit {0}
+FailsOnlyIn faults faults_now last task (Read (Failed which)) = HasFailed faults faults_now last (file_in which task)
+FailsOnlyIn faults faults_now last task (Read (TooLong which)) = Unit {0}
+FailsOnlyIn faults faults_now last task (Text cause) = Unit {0}
+FailsOnlyIn faults faults_now last task (Wide spot) = Unit {0}
+FailsOnlyIn faults faults_now last task (Spent number) = Unit {0}
+FailsOnlyIn faults faults_now last task Memory = Unit {0}
+FailsOnlyIn faults faults_now last task Write = Unit {0}
 
 -- a file failed that is loaded before an ending is seen
 abbrev pub FailedBefore : Status → Status → Type 0
-FailedBefore (Read (TooLong Program)) status = status ≡ Read (Failed Program)
-FailedBefore (Read (TooLong Rows)) status = (which : Which) × (status ≡ Read (Failed which))
+FailedBefore (Read (TooLong which.Program)) status = status ≡ Read (Failed which.Program)
+FailedBefore (Read (TooLong which.Rows)) status = (failed : Which) × (status ≡ Read (Failed failed))
+FailedBefore (Read (TooLong which.Certificate)) status = (failed : Which) × (status ≡ Read (Failed failed))
 FailedBefore (Read (Failed which)) status = ⊥
-FailedBefore Done status = (which : Which) × (status ≡ Read (Failed which))
+FailedBefore Done status = (failed : Which) × (status ≡ Read (Failed failed))
+FailedBefore (Certificate cause) status = (failed : Which) × (status ≡ Read (Failed failed))
 FailedBefore Usage status = ⊥
-FailedBefore (Text cause) status = (which : Which) × (status ≡ Read (Failed which))
-FailedBefore (Spent number) status = (which : Which) × (status ≡ Read (Failed which))
+FailedBefore (Text cause) status = (failed : Which) × (status ≡ Read (Failed failed))
+FailedBefore (Wide spot) status = (failed : Which) × (status ≡ Read (Failed failed))
+FailedBefore (Spent number) status = (failed : Which) × (status ≡ Read (Failed failed))
 FailedBefore Memory status = ⊥
 FailedBefore Write status = ⊥
 
@@ -46,9 +58,18 @@ FailedBefore Write status = ⊥
 abbrev pub Unless : Status → Status → Type 0
 Unless wanted status = (status ≡ wanted) ⊎ ((status ≡ Memory) ⊎ FailedBefore wanted status)
 
+-- an operation is too wide
+abbrev pub IsWide : Status → Type 0
+IsWide status = (spot : Spot) × (status ≡ Wide spot)
+
 -- such an answer, and the output holds nothing new
 pub record Refuses (wanted status : Status) (held now : Option (List ℕ)) : Type 0 where
   pub answer : Unless wanted status
+  pub unchanged : now ≡ held
+
+-- such an answer, or an operation is too wide, and the output holds nothing new
+pub record RefusesUnlessWide (wanted status : Status) (held now : Option (List ℕ)) : Type 0 where
+  pub answer : IsWide status ⊎ Unless wanted status
   pub unchanged : now ≡ held
 
 -- ---- the output
@@ -60,9 +81,11 @@ GetsPart IsReport held now = (bytes : List ℕ) × (n : ℕ) × IsReport bytes �
 -- what the output holds after a run: the whole report where it is done, nothing new where the run is refused
 abbrev pub OutputHolds : (List ℕ → Type 0) → Status → Option (List ℕ) → Option (List ℕ) → Type 0
 OutputHolds IsReport Done held now = (bytes : List ℕ) × IsReport bytes × Appends held now bytes
+OutputHolds IsReport (Certificate cause) held now = now ≡ held
 OutputHolds IsReport Usage held now = now ≡ held
 OutputHolds IsReport (Read cause) held now = now ≡ held
 OutputHolds IsReport (Text cause) held now = now ≡ held
+OutputHolds IsReport (Wide spot) held now = now ≡ held
 OutputHolds IsReport (Spent number) held now = now ≡ held
 OutputHolds IsReport Memory held now = (now ≡ held) ⊎ GetsPart IsReport held now
 OutputHolds IsReport Write held now = GetsPart IsReport held now
@@ -71,11 +94,24 @@ OutputHolds IsReport Write held now = GetsPart IsReport held now
 
 -- this is the text of the program that the words name
 abbrev pub IsProgramText : Option Contents → List (List ℕ) → List ℕ → Type 0
-IsProgramText files words text = (analysis : Analysis (List ℕ)) × (asked words ≡ Some analysis) × HasContent files analysis.program text
+IsProgramText files words text = (task : Task) × (asked words ≡ Some task) × HasProgram files task text
 
 -- this is the line that the message names, where the shelf tells its files
 abbrev pub IsLine : Option Contents → List (List ℕ) → Status → ℕ → Type 0
 IsLine files words status line = (text : List ℕ) → IsTold files → IsProgramText files words text → line ≡ line_in text status
+
+-- so many rows each point has by which the message of a task numbers an unknown, where the shelf tells its files: those of the template of an analysis, or of the certificate that is checked
+abbrev pub IsRowCountIn : Option Contents → Task → Status → ℕ → Type 0
+IsRowCountIn files (Analyse purpose analysis) status rows =
+    (text : List ℕ) (domain : Domain (List ℕ)) (system : System) → IsTold files → AreInputs files analysis text domain → IsSolvedSystem text domain system
+    → rows ≡ rows_of (length system.template) status
+IsRowCountIn files (Check program certificate) status rows =
+    (bytes : List ℕ) (cert : Cert) → IsTold files → HasContent files certificate bytes → SpellsCert bytes cert → rows ≡ rows_in cert status
+IsRowCountIn files (Bench seed loops) status rows = Unit {0}
+
+-- so many that of the task which the words ask for
+abbrev pub IsRowCount : Option Contents → List (List ℕ) → Status → ℕ → Type 0
+IsRowCount files words status rows = (task : Task) → asked words ≡ Some task → IsRowCountIn files task status rows
 
 -- a message: some first bytes of it, and all of it where there is room for 512 bytes and no put failed
 pub record GetsMessage (message : List ℕ) (held now : Option (List ℕ)) (faults faults_now spare : ℕ) : Type 0 where
@@ -83,11 +119,13 @@ pub record GetsMessage (message : List ℕ) (held now : Option (List ℕ)) (faul
   pub whole : 512 ≤ spare → (Rose faults faults_now → ⊥) → Appends held now message
 
 -- what the stream of messages holds after a run: the message of every ending but `Done`
-abbrev pub ErrorsHold : ℕ → Status → Option (List ℕ) → Option (List ℕ) → ℕ → ℕ → ℕ → Type 0
-ErrorsHold line Done held now faults faults_now spare = now ≡ held
-ErrorsHold line Usage held now faults faults_now spare = GetsMessage (message_of line Usage) held now faults faults_now spare
-ErrorsHold line (Read cause) held now faults faults_now spare = GetsMessage (message_of line (Read cause)) held now faults faults_now spare
-ErrorsHold line (Text cause) held now faults faults_now spare = GetsMessage (message_of line (Text cause)) held now faults faults_now spare
-ErrorsHold line (Spent number) held now faults faults_now spare = GetsMessage (message_of line (Spent number)) held now faults faults_now spare
-ErrorsHold line Memory held now faults faults_now spare = GetsMessage (message_of line Memory) held now faults faults_now spare
-ErrorsHold line Write held now faults faults_now spare = GetsMessage (message_of line Write) held now faults faults_now spare
+abbrev pub ErrorsHold : (line rows : ℕ) → Status → Option (List ℕ) → Option (List ℕ) → ℕ → ℕ → ℕ → Type 0
+ErrorsHold line rows Done held now faults faults_now spare = now ≡ held
+ErrorsHold line rows (Certificate cause) held now faults faults_now spare = GetsMessage (message_of line rows (Certificate cause)) held now faults faults_now spare
+ErrorsHold line rows Usage held now faults faults_now spare = GetsMessage (message_of line rows Usage) held now faults faults_now spare
+ErrorsHold line rows (Read cause) held now faults faults_now spare = GetsMessage (message_of line rows (Read cause)) held now faults faults_now spare
+ErrorsHold line rows (Text cause) held now faults faults_now spare = GetsMessage (message_of line rows (Text cause)) held now faults faults_now spare
+ErrorsHold line rows (Wide spot) held now faults faults_now spare = GetsMessage (message_of line rows (Wide spot)) held now faults faults_now spare
+ErrorsHold line rows (Spent number) held now faults faults_now spare = GetsMessage (message_of line rows (Spent number)) held now faults faults_now spare
+ErrorsHold line rows Memory held now faults faults_now spare = GetsMessage (message_of line rows Memory) held now faults faults_now spare
+ErrorsHold line rows Write held now faults faults_now spare = GetsMessage (message_of line rows Write) held now faults faults_now spare

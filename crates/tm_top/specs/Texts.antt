@@ -1,5 +1,5 @@
 -- What texts are: a system to be solved, or refused by a cause. Tokens come first, then the program, its points and edges, the template, and the unknowns.
-use Rattle.std.specs.Prelude.{◌≡◌, ◌*◌, ◌&&◌, ◌≤◌, ◌<◌, ℕ, ℤ, Bool, true, false, List, Result, Ok, Err, Some, None, length}
+use Rattle.std.specs.Prelude.{◌≡◌, ◌*◌, ◌≤◌, ◌<◌, ℕ, ℤ, List, Result, Ok, Err, Some, None, length}
 use Rattle.tm_lex.specs.declared.token.Token.{Token}
 use Rattle.tm_lex.specs.Reading.{Reads}
 use Rattle.tm_lex.specs.Faults.{HasFault}
@@ -11,11 +11,17 @@ use Rattle.tm_flow.specs.Points.{points_of_program}
 use Rattle.tm_rows.specs.Domains.{intervals_of, zones_of, octagons_of}
 use Rattle.tm_rows.specs.RowFiles.{Answers}
 use Rattle.tm_rows.specs.declared.fault.RowFault.{RowFault}
-use Rattle.tm_small.specs.SmallLines.{has_small_rows, is_small_line}
+use Rattle.tm_eqsys.specs.declared.spot.Spot.{Spot}
+use Rattle.tm_eqsys.specs.declared.system.System.{System}
+use Rattle.tm_eqsys.specs.Cells.{cells_of}
+use Rattle.tm_eqsys.specs.Solutions.{equations_of_program}
 use Rattle.tm_words.specs.declared.request.Domain.{Domain}
+use Rattle.tm_words.specs.declared.request.Policy.{Policy}
 use Rattle.tm_words.specs.declared.request.Domain.TheVariants as domain
 use Rattle.tm_top.specs.declared.status.TextCause.{TextCause}
-use Rattle.tm_top.specs.declared.status.TextCause.TheVariants.{Lex, Parse, Flow, Rows, Unknowns, NotBuilt}
+use Rattle.tm_top.specs.declared.status.TextCause.TheVariants.{Lex, Parse, Flow, Rows, Unknowns, Cells}
+use Rattle.tm_top.specs.declared.task.Purpose.{Purpose}
+use Rattle.tm_top.specs.Rounds.{EndsWithin, HasSpot, IsSystemFor, RunsOut}
 
 -- the text's tokens mean this: names and statements, or a fault
 abbrev pub Reading : List ℕ → Answer → Type 0
@@ -42,39 +48,56 @@ pub record IsSystemOf (text : List ℕ) (rows : Domain (List ℕ)) (names : List
 abbrev pub unknowns : Statements → List (List ℤ) → ℕ
 unknowns body template = length (points_of_program body) * length template
 
--- which programs are solved over which templates
-abbrev pub is_built : Statements → List (List ℤ) → Bool
-is_built body template = is_small_line body && has_small_rows template
+-- the number of cells of the largest joint problem
+abbrev pub cells : List (List ℕ) → Statements → List (List ℤ) → ℕ
+cells names body template = cells_of (equations_of_program (length names) body template)
 
 -- a program and a template of these texts that are solved
 pub record IsReady (text : List ℕ) (rows : Domain (List ℕ)) (names : List (List ℕ)) (body : Statements) (template : List (List ℤ)) : Type 0 where
   pub system : IsSystemOf text rows names body template
   pub within : unknowns body template ≤ 1024
-  pub built : is_built body template ≡ true
+  pub cells_within : cells names body template ≤ 134217728
+
+-- the system of these texts, which is solved
+pub record IsSolvedSystem (text : List ℕ) (rows : Domain (List ℕ)) (system : System) : Type 0 where
+  pub names : List (List ℕ)
+  pub body : Statements
+  pub template : List (List ℤ)
+  pub ready : IsReady text rows names body template
+  pub system_for : IsSystemFor names body template system
+
+-- the text of the program is refused by this cause, whatever template it is for
+abbrev pub IsRefusedProgram : List ℕ → TextCause → Type 0
+IsRefusedProgram text (Lex fault) = HasFault text fault
+IsRefusedProgram text (Parse fault) = Reading text (Err fault)
+IsRefusedProgram text (Flow fault) =
+    (names : List (List ℕ)) × (body : Statements) × Reading text (Ok (names, body)) × (fault_of_program body ≡ Some fault)
+IsRefusedProgram text (Rows fault) = ⊥
+IsRefusedProgram text (Unknowns count) = ⊥
+IsRefusedProgram text (Cells count) = ⊥
 
 -- the texts are refused by this cause
 abbrev pub IsRefused : List ℕ → Domain (List ℕ) → TextCause → Type 0
-IsRefused text rows (Lex fault) = HasFault text fault
-IsRefused text rows (Parse fault) = Reading text (Err fault)
-IsRefused text rows (Flow fault) =
-    (names : List (List ℕ)) × (body : Statements) × Reading text (Ok (names, body)) × (fault_of_program body ≡ Some fault)
+IsRefused text rows (Lex fault) = IsRefusedProgram text (Lex fault)
+IsRefused text rows (Parse fault) = IsRefusedProgram text (Parse fault)
+IsRefused text rows (Flow fault) = IsRefusedProgram text (Flow fault)
 IsRefused text rows (Rows fault) =
     (names : List (List ℕ)) × (body : Statements) × IsAnalysed text names body × HasTemplate rows names (Err fault)
 IsRefused text rows (Unknowns count) =
     (names : List (List ℕ)) × (body : Statements) × (template : List (List ℤ)) × IsSystemOf text rows names body template
     × (1024 < unknowns body template) × (count ≡ unknowns body template)
-IsRefused text rows NotBuilt =
+IsRefused text rows (Cells count) =
     (names : List (List ℕ)) × (body : Statements) × (template : List (List ℤ)) × IsSystemOf text rows names body template
-    × (unknowns body template ≤ 1024) × (is_built body template ≡ false)
+    × (unknowns body template ≤ 1024) × (134217728 < cells names body template) × (count ≡ cells names body template)
 
--- the texts are a system, and no improvement is asked for, though one is needed
-abbrev pub IsSpent : List ℕ → Domain (List ℕ) → ℕ → Type 0
-IsSpent text rows improvements =
-    (names : List (List ℕ)) × (body : Statements) × (template : List (List ℤ)) × IsReady text rows names body template
-    × (improvements ≡ 0)
+-- the texts are a system whose rounds haven't ended at the limit
+abbrev pub IsSpent : List ℕ → Domain (List ℕ) → Policy → ℕ → Type 0
+IsSpent text rows policy limit = (system : System) × IsSolvedSystem text rows system × RunsOut system policy limit
 
--- the texts are a system that is solved by the improvements asked for
-abbrev pub IsSolvable : List ℕ → Domain (List ℕ) → ℕ → Type 0
-IsSolvable text rows improvements =
-    (names : List (List ℕ)) × (body : Statements) × (template : List (List ℤ)) × IsReady text rows names body template
-    × (0 < improvements)
+-- the texts are a system whose rounds end within the limit
+abbrev pub IsSolvable : List ℕ → Domain (List ℕ) → Policy → ℕ → Type 0
+IsSolvable text rows policy limit = (system : System) × IsSolvedSystem text rows system × EndsWithin system policy limit
+
+-- the texts are a system, and this is a spot of its analysis
+abbrev pub IsSpotIn : Purpose → List ℕ → Domain (List ℕ) → Policy → ℕ → Spot → Type 0
+IsSpotIn purpose text rows policy limit spot = (system : System) × IsSolvedSystem text rows system × HasSpot purpose system policy limit spot

@@ -1,6 +1,12 @@
 //! All that the program does, over its words, its files and its streams.
 #![tactic(auto)]
 
+mod accept;
+mod analysis;
+mod bench;
+mod certificate;
+mod certify;
+mod check_message;
 mod load;
 mod memory;
 mod message;
@@ -10,11 +16,17 @@ mod program;
 mod solve;
 mod source;
 mod status;
+mod task;
 mod template;
 
 pub use memory::run_in_memory;
 pub use program::run;
-pub use status::{ReadCause, Status, TextCause, Which};
+pub use status::{CertCause, ReadCause, Status, TextCause, Which};
+pub use tm_workload::generate;
 
+#[cfg(test)]
+mod check_tests;
+#[cfg(test)]
+mod solve_tests;
 #[cfg(test)]
 mod tests;

@@ -1,10 +1,12 @@
 //! The files that an analysis reads.
 
-ghost use Rattle.std.specs.Prelude.{◌≡◌, ◌≤◌, IfOk, IfErr, length};
+ghost use Rattle.std.specs.Prelude.{◌≡◌, ◌≤◌, ◌<◌, ◌^◌, IfOk, IfErr, length};
 ghost use Rattle.tm_words.specs.Request.{analysis_text, domain_text};
 ghost use Rattle.tm_top.specs.Endings.{IsAnswerTo};
-ghost use Rattle.tm_top.specs.Files.{AreInputs, HasContent, HasShortRows, IsShort, IsWithText};
-ghost use Rattle.tm_top.specs.Parted.{AreNotLoaded, IsNotLoaded, IsUnread, domain_of, unloaded};
+ghost use Rattle.tm_top.specs.Files.{AreChecked, AreInputs, HasContent, HasShortRows, IsWithText};
+ghost use Rattle.tm_top.specs.Parted.{AreNotLoaded, AreUnloaded, IsNotLoaded, domain_of, unloaded};
+ghost use Rattle.tm_top.specs.declared.task.Purpose.{Purpose};
+ghost use Rattle.tm_top.specs.declared.task.Task.TheVariants.{Analyse, Check};
 ghost use Rattle.tm_top.specs.Run.{FailsOnlyIn};
 
 use crate::status::{ReadCause, Status, Which};
@@ -13,6 +15,9 @@ use tm_words::{Analysis, Domain};
 
 /// How many bytes a program or a file of rows may have.
 const MOST_BYTES: usize = 65536;
+
+/// How many bytes a certificate may have.
+const MOST_CERTIFICATE_BYTES: usize = 16777216;
 
 /// Where the template comes from: a built-in domain, or the text of a file of rows.
 #[derive(Drop)]
@@ -30,6 +35,13 @@ pub(crate) struct Inputs {
     pub source: Source,
 }
 
+/// What a check reads: the text of the program and the bytes of the certificate.
+#[derive(Drop)]
+pub(crate) struct CheckInputs {
+    pub text: Vec<u8>,
+    pub bytes: Vec<u8>,
+}
+
 /// Why a file isn't loaded.
 #[derive(Clone, Copy, Debug, Drop)]
 pub(crate) enum LoadRefusal {
@@ -38,19 +50,20 @@ pub(crate) enum LoadRefusal {
     NoMemory,
 }
 
-/// The file of this name, whole.
-fn load_file<S: Shelf>(shelf: &mut S, name: &str) -> Result<Vec<u8>, LoadRefusal>
+/// The file of this name, whole; it may have so many bytes.
+fn load_file<S: Shelf>(shelf: &mut S, name: &str, most: usize) -> Result<Vec<u8>, LoadRefusal>
+    requires { most < 2 ^ 32 }
     ensures kept { S.files shelf.new ≡ S.files shelf.old }
     ensures content { IfOk result (λ text. HasContent (S.files shelf.old) name.now text.items) }
-    ensures short { IfOk result (λ text. IsShort text.items) }
+    ensures short { IfOk result (λ text. length text.items ≤ most) }
     ensures calm { IfOk result (λ _. S.faults shelf.new ≡ S.faults shelf.old) }
     ensures refused { IfErr result (λ refusal. IsNotLoaded (S.files shelf.old) (S.faults shelf.old) (S.faults shelf.new)
-        (S.last_failed shelf.new) name.now refusal) }
+        (S.last_failed shelf.new) name.now most refusal) }
 {
-    // One byte more than a text may have shows that it is too long.
-    match shelf.load(name, MOST_BYTES + 1) {
+    // One byte more than a file may have shows that it is too long.
+    match shelf.load(name, most + 1) {
         Ok(text) => {
-            if text.len() > MOST_BYTES {
+            if text.len() > most {
                 Err(LoadRefusal::TooLong)
             } else {
                 Ok(text)
@@ -73,7 +86,7 @@ fn load_rows<S: Shelf>(shelf: &mut S, domain: Domain<&str>) -> Result<Source, Lo
         Domain::Intervals => Ok(Source::Intervals),
         Domain::Zones => Ok(Source::Zones),
         Domain::Octagons => Ok(Source::Octagons),
-        Domain::Rows(file) => Ok(Source::File(load_file(shelf, file)?)),
+        Domain::Rows(file) => Ok(Source::File(load_file(shelf, file, MOST_BYTES)?)),
     }
 }
 
@@ -92,17 +105,40 @@ fn unloaded(which: Which, refusal: LoadRefusal) -> Status
 pub(crate) fn load<S: Shelf>(shelf: &mut S, analysis: Analysis<&str>) -> Result<Inputs, Status>
     ensures kept { S.files shelf.new ≡ S.files shelf.old }
     ensures inputs { IfOk result (λ inputs. AreInputs (S.files shelf.old) (analysis_text analysis.entry) inputs.text.items (domain_of inputs.source)) }
-    ensures answer { IfErr result (λ status. IsAnswerTo (S.files shelf.old) (analysis_text analysis.entry) status) }
-    ensures refused { IfErr result (λ status. IsUnread status) }
-    ensures failed { IfErr result (λ status. FailsOnlyIn (S.faults shelf.old) (S.faults shelf.new) (S.last_failed shelf.new)
-        (analysis_text analysis.entry) status) }
+    ensures answer { (purpose : Purpose) → IfErr result (λ status. IsAnswerTo (S.files shelf.old) (Analyse purpose (analysis_text analysis.entry)) status) }
+    ensures refused { IfErr result (λ status. AreUnloaded status) }
+    ensures failed { (purpose : Purpose) → IfErr result (λ status. FailsOnlyIn (S.faults shelf.old) (S.faults shelf.new) (S.last_failed shelf.new)
+        (Analyse purpose (analysis_text analysis.entry)) status) }
 {
-    let text = match load_file(shelf, analysis.program) {
+    let text = match load_file(shelf, analysis.program, MOST_BYTES) {
         Ok(text) => text,
         Err(refusal) => return Err(unloaded(Which::Program, refusal)),
     };
     match load_rows(shelf, analysis.domain) {
         Ok(source) => Ok(Inputs { text, source }),
         Err(refusal) => Err(unloaded(Which::Rows, refusal)),
+    }
+}
+
+/// What a check reads: the program, and then the certificate; or the ending where a file isn't loaded.
+pub(crate) fn load_check<S: Shelf>(
+    shelf: &mut S,
+    program: &str,
+    certificate: &str,
+) -> Result<CheckInputs, Status>
+    ensures kept { S.files shelf.new ≡ S.files shelf.old }
+    ensures inputs { IfOk result (λ inputs. AreChecked (S.files shelf.old) program.now certificate.now inputs.text.items inputs.bytes.items) }
+    ensures answer { IfErr result (λ status. IsAnswerTo (S.files shelf.old) (Check program.now certificate.now) status) }
+    ensures refused { IfErr result (λ status. AreUnloaded status) }
+    ensures failed { IfErr result (λ status. FailsOnlyIn (S.faults shelf.old) (S.faults shelf.new) (S.last_failed shelf.new)
+        (Check program.now certificate.now) status) }
+{
+    let text = match load_file(shelf, program, MOST_BYTES) {
+        Ok(text) => text,
+        Err(refusal) => return Err(unloaded(Which::Program, refusal)),
+    };
+    match load_file(shelf, certificate, MOST_CERTIFICATE_BYTES) {
+        Ok(bytes) => Ok(CheckInputs { text, bytes }),
+        Err(refusal) => Err(unloaded(Which::Certificate, refusal)),
     }
 }

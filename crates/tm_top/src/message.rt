@@ -4,6 +4,7 @@ ghost use Rattle.std.specs.Prelude.{◌≡◌, ◌≤◌, ◌+◌, ◌++◌, [],
 ghost use Rattle.tm_top.specs.Messages.{counted, flow_words, lex_words, line_text, limit_words, message_of, parse_words, read_words, row_words, text_words, words, words_of};
 ghost use Rattle.tm_top.specs.Parts.{told};
 
+use crate::check_message::{certificate_message, wide_message};
 use crate::status::{ReadCause, Status, TextCause, Which};
 use itoa::Buffer;
 use std::marker::Model;
@@ -17,7 +18,7 @@ use tm_words::usage_line;
 #[derive(Clone, Copy, Drop)]
 pub(crate) struct Parts {
     before: &'static [u8],
-    number: Option<u32>,
+    number: Option<u64>,
     after: &'static [u8],
 }
 
@@ -36,7 +37,7 @@ fn counted(before: &'static [u8], number: u32) -> Parts
 {
     Parts {
         before,
-        number: Some(number),
+        number: Some(number as u64),
         after: b"\n",
     }
 }
@@ -91,7 +92,7 @@ fn flow_parts(fault: FlowFault) -> Parts
         FlowFault::Cases { line } => counted(b"program refused: cases at line ", line),
         FlowFault::Points { count } => Parts {
             before: b"program refused: ",
-            number: Some(count),
+            number: Some(count as u64),
             after: b" points\n",
         },
         FlowFault::Edges => plain(b"program refused: edges"),
@@ -107,7 +108,7 @@ fn row_parts(fault: RowFault) -> Parts
         RowFault::ZeroRow { line } => counted(b"rows refused: zero row at line ", line),
         RowFault::Count { count } => Parts {
             before: b"rows refused: ",
-            number: Some(count),
+            number: Some(count as u64),
             after: b" rows\n",
         },
         RowFault::UnknownName { line } => counted(b"rows refused: unknown name at line ", line),
@@ -127,10 +128,14 @@ fn text_parts(line: u32, cause: TextCause) -> Parts
         TextCause::Rows(fault) => row_parts(fault),
         TextCause::Unknowns(count) => Parts {
             before: b"program refused: ",
-            number: Some(count),
+            number: Some(count as u64),
             after: b" unknowns\n",
         },
-        TextCause::NotBuilt => plain(b"program refused: not built yet"),
+        TextCause::Cells(count) => Parts {
+            before: b"program refused: ",
+            number: Some(count),
+            after: b" cells\n",
+        },
     }
 }
 
@@ -140,27 +145,30 @@ fn read_parts(cause: ReadCause) -> Parts
     match cause {
         ReadCause::Failed(Which::Program) => plain(b"cannot read the program"),
         ReadCause::Failed(Which::Rows) => plain(b"cannot read the rows"),
+        ReadCause::Failed(Which::Certificate) => plain(b"cannot read the certificate"),
         ReadCause::TooLong(Which::Program) => plain(b"too long: the program"),
         ReadCause::TooLong(Which::Rows) => plain(b"too long: the rows"),
+        ReadCause::TooLong(Which::Certificate) => plain(b"too long: the certificate"),
     }
 }
 
-/// What is told of an ending whose cause stands at this line.
-fn make_parts(line: u32, status: Status) -> Parts
-    ensures { told result ≡ words_of line status }
+/// What is told of an ending whose cause stands at this line; of a refused certificate and a wide operation another
+/// message tells.
+fn make_parts(line: u32, status: &Status) -> Parts
+    ensures { told result ≡ words_of line status.now }
 {
     match status {
-        Status::Done => plain(b""),
+        Status::Done | Status::Certificate(_) | Status::Wide(_) => plain(b""),
         Status::Usage => Parts {
             before: usage_line(),
             number: None,
             after: b"",
         },
-        Status::Read(cause) => read_parts(cause),
-        Status::Text(cause) => text_parts(line, cause),
+        Status::Read(cause) => read_parts(*cause),
+        Status::Text(cause) => text_parts(line, *cause),
         Status::Spent(number) => Parts {
             before: b"spent: ",
-            number: Some(number),
+            number: Some(*number as u64),
             after: b" improvements\n",
         },
         Status::Memory => plain(b"out of memory"),
@@ -186,7 +194,7 @@ impl Model for Message {
 }
 
 impl Message {
-    fn new() -> Message
+    pub(crate) fn new() -> Message
         ensures { result ≡ [] }
     {
         Message {
@@ -196,7 +204,7 @@ impl Message {
     }
 
     /// Adds a piece at the end.
-    fn append(&mut self, piece: &[u8])
+    pub(crate) fn append(&mut self, piece: &[u8])
         requires { length self.old + length piece.now ≤ 512 }
         ensures { self.new ≡ self.old ++ piece.now }
     {
@@ -214,9 +222,9 @@ impl Message {
     }
 }
 
-/// The message of an ending whose cause stands at this line.
-pub(crate) fn make_message(line: u32, status: Status) -> Message
-    ensures { result ≡ message_of line status }
+/// The message of words and a number, of an ending whose cause stands at this line.
+fn plain_message(line: u32, status: &Status) -> Message
+    ensures { result ≡ line_text (words_of line status.now) }
 {
     let parts = make_parts(line, status);
     let mut buffer = Buffer::new();
@@ -227,4 +235,15 @@ pub(crate) fn make_message(line: u32, status: Status) -> Message
     }
     message.append(parts.after);
     message
+}
+
+/// The message of an ending whose cause stands at this line, where each point has so many rows.
+pub(crate) fn make_message(line: u32, rows: usize, status: &Status) -> Message
+    ensures { result ≡ message_of line rows status.now }
+{
+    match status {
+        Status::Certificate(cause) => certificate_message(rows, cause),
+        Status::Wide(spot) => wide_message(rows, spot),
+        _ => plain_message(line, status),
+    }
 }

@@ -1,36 +1,34 @@
-//! The report of the least vector of the texts of a program and of its rows.
+//! The system of the texts of a program and of its rows.
 
-ghost use Rattle.std.specs.Prelude.{◌≡◌, ◌*◌, ◌≤◌, ◌<◌, ◌≢◌, ℕ, List, IfOk, IfErr, IsTrue, Ok, Err, length, true};
+ghost use Rattle.std.specs.Prelude.{◌≡◌, ◌*◌, ◌≤◌, ◌<◌, ◌≢◌, ℕ, List, IfOk, IfErr, IsTrue, Ok, Err, length};
 ghost use Rattle.tm_tree.specs.Tree.{Statements};
-ghost use Rattle.tm_flow.specs.Edges.{edges_of_program};
-ghost use Rattle.tm_flow.specs.Points.{points_of_program};
 ghost use Rattle.tm_rows.specs.declared.fault.RowFault.TheVariants.{NoMemory};
-ghost use Rattle.tm_eqsys.specs.Equations.{Least};
+ghost use Rattle.tm_eqsys.specs.Cells.{cells_of};
 ghost use Rattle.tm_eqsys.specs.SystemLimits.{is_over};
-ghost use Rattle.tm_eqsys.specs.View.{equations_of, vector_of};
+ghost use Rattle.tm_eqsys.specs.View.{equations_of};
 ghost use Rattle.tm_words.specs.declared.request.Domain.{Domain};
-ghost use Rattle.tm_top.specs.declared.status.TextCause.TheVariants.{Unknowns};
+ghost use Rattle.tm_top.specs.declared.status.TextCause.TheVariants.{Cells, Unknowns};
 ghost use Rattle.tm_top.specs.Files.{HasShortRows};
-ghost use Rattle.tm_top.specs.Parted.{GetsNoBounds, IsRefusedBy, domain_of};
-ghost use Rattle.tm_top.specs.Reports.{IsReportOf};
-ghost use Rattle.tm_top.specs.Texts.{HasTemplate, IsAnalysed, is_built};
+ghost use Rattle.tm_top.specs.Parted.{IsRefusedBy, domain_of};
+ghost use Rattle.tm_top.specs.Texts.{HasTemplate, IsAnalysed, IsSolvedSystem};
 
 use crate::load::Source;
 use crate::source::{Refusal, flow_of, program_of};
 use crate::status::TextCause;
 use crate::template::template_of;
 use std::alloc::Global;
-use tm_eqsys::{Bounds, Footer, System, SystemFault};
+use tm_eqsys::{System, SystemFault};
 use tm_flow::Flow;
-use tm_report::report;
 use tm_rows::{RowFault, Template};
-use tm_small::{has_small_rows, is_small_line, least_bounds, small_lines_are_straight};
 use tm_tree::Program;
+
+/// How many cells the largest joint problem may have.
+const MOST_CELLS: u64 = 134217728;
 
 /// The refusal of rows that have this fault.
 fn row_refusal(fault: RowFault) -> Refusal
-    ensures { (text : List ℕ) (rows : Domain (List ℕ)) (n : ℕ) (names : List (List ℕ)) (body : Statements) → IsAnalysed text names body
-        → (fault ≢ NoMemory → HasTemplate rows names (Err fault)) → IsRefusedBy text rows n result }
+    ensures { (text : List ℕ) (rows : Domain (List ℕ)) (names : List (List ℕ)) (body : Statements) → IsAnalysed text names body
+        → (fault ≢ NoMemory → HasTemplate rows names (Err fault)) → IsRefusedBy text rows result }
 {
     match fault {
         RowFault::NoMemory => Refusal::NoMemory,
@@ -43,8 +41,8 @@ fn rows_of(alloc: Global, source: &Source, program: &Program) -> Result<Template
     requires { HasShortRows (domain_of source.now) }
     ensures template { IfOk result (λ template. HasTemplate (domain_of source.now) program.now.names (Ok template)) }
     ensures over { IfOk result (λ template. IsTrue (is_over (length program.now.names) template)) }
-    ensures err { IfErr result (λ refusal. (text : List ℕ) (n : ℕ)
-        → IsAnalysed text program.now.names program.now.body → IsRefusedBy text (domain_of source.now) n refusal) }
+    ensures err { IfErr result (λ refusal. (text : List ℕ)
+        → IsAnalysed text program.now.names program.now.body → IsRefusedBy text (domain_of source.now) refusal) }
 {
     match template_of(alloc, source, program.names.as_slice()) {
         Ok(template) => Ok(template),
@@ -67,54 +65,31 @@ fn system_of(flow: Flow, template: Template) -> Result<System, Refusal>
     }
 }
 
-/// Whether a program is solved over a template.
-fn is_built(program: &Program, template: &Template) -> bool
-    ensures { result ≡ is_built program.now.body template.now }
+/// Whether the joint problems of a system have few enough cells.
+fn count_cells(system: &System) -> Result<(), Refusal>
+    ensures within { IfOk result (λ _. cells_of (equations_of system.now) ≤ 134217728) }
+    ensures above { IfErr result (λ _. 134217728 < cells_of (equations_of system.now)) }
+    ensures count { IfErr result (λ refusal. refusal ≡ Refusal.Text (Cells (cells_of (equations_of system.now)))) }
 {
-    is_small_line(program) && has_small_rows(template)
+    let cells = system.cells();
+    if cells > MOST_CELLS {
+        return Err(Refusal::Text(TextCause::Cells(cells)));
+    }
+    Ok(())
 }
 
-/// The least bounds of a program's system, by at most so many improvements: one is needed.
-fn bounds_of(
-    alloc: Global,
-    program: &Program,
-    system: &System,
-    improvements: u32,
-) -> Result<Bounds, Refusal>
-    requires points { system.now.flow.points ≡ points_of_program program.now.body }
-    requires edges { system.now.flow.edges ≡ edges_of_program program.now.body }
-    ensures least { IfOk result (λ b. Least (equations_of system.now) (vector_of (length system.now.template) b)) }
-    ensures count { IfOk result (λ b. length b ≡ length system.now.flow.points * length system.now.template) }
-    ensures built { IfOk result (λ _. is_built program.now.body system.now.template ≡ true) }
-    ensures needed { IfOk result (λ _. 0 < improvements) }
-    ensures err { IfErr result (λ refusal. GetsNoBounds program.now.body system.now.template improvements refusal) }
-{
-    if !is_built(program, &system.template) {
-        return Err(Refusal::Text(TextCause::NotBuilt));
-    }
-    if improvements == 0 {
-        return Err(Refusal::Spent(improvements));
-    }
-    small_lines_are_straight();
-    Ok(least_bounds(alloc, system)?)
-}
-
-/// The whole report of the least vector of these texts.
-pub(crate) fn report_on(
-    alloc: Global,
-    text: &[u8],
-    source: &Source,
-    improvements: u32,
-) -> Result<Vec<u8>, Refusal>
+/// The system of these texts.
+pub(crate) fn system_on(alloc: Global, text: &[u8], source: &Source) -> Result<System, Refusal>
     requires short { length text.now ≤ 65536 }
     requires short_rows { HasShortRows (domain_of source.now) }
-    ensures ok { IfOk result (λ bytes. IsReportOf text.now (domain_of source.now) improvements bytes.items) }
-    ensures err { IfErr result (λ refusal. IsRefusedBy text.now (domain_of source.now) improvements refusal) }
+    ensures ok { IfOk result (λ system. IsSolvedSystem text.now (domain_of source.now) system) }
+    ensures cells { IfOk result (λ system. cells_of (equations_of system) ≤ 134217728) }
+    ensures err { IfErr result (λ refusal. IsRefusedBy text.now (domain_of source.now) refusal) }
 {
     let program = program_of(alloc, text)?;
     let flow = flow_of(alloc, &program)?;
     let template = rows_of(alloc, source, &program)?;
     let system = system_of(flow, template)?;
-    let bounds = bounds_of(alloc, &program, &system, improvements)?;
-    Ok(report(alloc, &system, &bounds, Footer::Improvements(1))?)
+    count_cells(&system)?;
+    Ok(system)
 }

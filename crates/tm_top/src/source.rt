@@ -7,12 +7,12 @@ ghost use Rattle.tm_tree.specs.Tree.{Statements};
 ghost use Rattle.tm_flow.specs.Edges.{edges_of_program};
 ghost use Rattle.tm_flow.specs.Faults.{fault_of_program};
 ghost use Rattle.tm_flow.specs.Points.{points_of_program};
-ghost use Rattle.tm_words.specs.declared.request.Domain.{Domain};
-ghost use Rattle.tm_top.specs.Parted.{IsRefusedBy};
+ghost use Rattle.tm_top.specs.Parted.{IsUnread};
 ghost use Rattle.tm_top.specs.Texts.{Reading};
 
-use crate::status::TextCause;
+use crate::status::{CertCause, TextCause};
 use std::alloc::{AllocError, Global};
+use tm_eqsys::Spot;
 use tm_flow::{Flow, FlowFault, flow};
 use tm_lex::{LexFault, lex};
 use tm_parse::{ParseFault, parse};
@@ -23,6 +23,10 @@ use tm_tree::Program;
 pub(crate) enum Refusal {
     /// The texts are refused by this cause.
     Text(TextCause),
+    /// The certificate is refused by this cause.
+    Certificate(CertCause),
+    /// An operation is too wide at this spot.
+    Wide(Spot),
     /// This number of improvements is too small.
     Spent(u32),
     NoMemory,
@@ -41,7 +45,7 @@ impl From<AllocError> for Refusal {
 
 /// The refusal of a text that has this fault instead of tokens.
 fn lex_refusal(fault: LexFault) -> Refusal
-    ensures { (text : List ℕ) (rows : Domain (List ℕ)) (n : ℕ) → HasFault text fault ⊎ (fault ≡ LexFault.NoMemory) → IsRefusedBy text rows n result }
+    ensures { (text : List ℕ) → HasFault text fault ⊎ (fault ≡ LexFault.NoMemory) → IsUnread text result }
 {
     match fault {
         LexFault::NoMemory => Refusal::NoMemory,
@@ -51,8 +55,8 @@ fn lex_refusal(fault: LexFault) -> Refusal
 
 /// The refusal of a text whose tokens have this fault.
 fn parse_refusal(fault: ParseFault) -> Refusal
-    ensures { (text : List ℕ) (rows : Domain (List ℕ)) (n : ℕ) (answer : Answer) → Reading text answer
-        → ((fault ≡ ParseFault.NoMemory → ⊥) → answer ≡ Err fault) → IsRefusedBy text rows n result }
+    ensures { (text : List ℕ) (answer : Answer) → Reading text answer
+        → ((fault ≡ ParseFault.NoMemory → ⊥) → answer ≡ Err fault) → IsUnread text result }
 {
     match fault {
         ParseFault::NoMemory => Refusal::NoMemory,
@@ -62,8 +66,8 @@ fn parse_refusal(fault: ParseFault) -> Refusal
 
 /// The refusal of a text whose program has this fault.
 fn flow_refusal(fault: FlowFault) -> Refusal
-    ensures { (text : List ℕ) (rows : Domain (List ℕ)) (n : ℕ) (names : List (List ℕ)) (body : Statements) → Reading text (Ok (names, body))
-        → (fault ≡ FlowFault.NoMemory) ⊎ (fault_of_program body ≡ Some fault) → IsRefusedBy text rows n result }
+    ensures { (text : List ℕ) (names : List (List ℕ)) (body : Statements) → Reading text (Ok (names, body))
+        → (fault ≡ FlowFault.NoMemory) ⊎ (fault_of_program body ≡ Some fault) → IsUnread text result }
 {
     match fault {
         FlowFault::NoMemory => Refusal::NoMemory,
@@ -75,7 +79,7 @@ fn flow_refusal(fault: FlowFault) -> Refusal
 pub(crate) fn program_of(alloc: Global, text: &[u8]) -> Result<Program, Refusal>
     requires { length text.now ≤ 65536 }
     ensures ok { IfOk result (λ program. Reading text.now (Ok (program.names, program.body))) }
-    ensures err { IfErr result (λ refusal. (rows : Domain (List ℕ)) (n : ℕ) → IsRefusedBy text.now rows n refusal) }
+    ensures err { IfErr result (λ refusal. IsUnread text.now refusal) }
 {
     let tokens = match lex(alloc, text) {
         Ok(tokens) => tokens,
@@ -93,8 +97,7 @@ pub(crate) fn flow_of(alloc: Global, program: &Program) -> Result<Flow, Refusal>
     ensures points { IfOk result (λ flow. flow.points ≡ points_of_program program.now.body) }
     ensures edges { IfOk result (λ flow. flow.edges ≡ edges_of_program program.now.body) }
     ensures within { IfOk result (λ _. fault_of_program program.now.body ≡ None) }
-    ensures err { IfErr result (λ refusal. (text : List ℕ) (rows : Domain (List ℕ)) (n : ℕ)
-        → Reading text (Ok (program.now.names, program.now.body)) → IsRefusedBy text rows n refusal) }
+    ensures err { IfErr result (λ refusal. (text : List ℕ) → Reading text (Ok (program.now.names, program.now.body)) → IsUnread text refusal) }
 {
     match flow(alloc, program) {
         Ok(flow) => Ok(flow),

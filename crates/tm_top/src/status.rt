@@ -3,7 +3,10 @@
 ghost use Rattle.std.specs.Prelude.{◌≡◌};
 ghost use Rattle.tm_top.specs.Status.{code_of};
 
+use tm_check::CheckFault;
+use tm_eqsys::Spot;
 use tm_flow::FlowFault;
+use tm_form::FormFault;
 use tm_lex::LexFault;
 use tm_parse::ParseFault;
 use tm_rows::RowFault;
@@ -14,6 +17,7 @@ pub enum Which {
     Program,
     /// The file of the template's rows.
     Rows,
+    Certificate,
 }
 
 /// Why a named file isn't read.
@@ -39,9 +43,21 @@ pub enum TextCause {
     Rows(RowFault),
     /// There are more than 1,024 unknowns, so many.
     Unknowns(u32),
-    /// Not built yet: the command isn't `solve`, or the policy isn't `best`, both of which are seen right after the words;
-    /// or the program isn't a small line, or a row has a coefficient above 100 in absolute value.
-    NotBuilt,
+    /// The largest joint problem has more than 134,217,728 cells, so many.
+    Cells(u64),
+}
+
+/// Why a certificate is refused (docs/FORMATS.md, "Messages"). The first that stands in this order is answered.
+#[derive(Clone, Copy, Debug, PartialEq, Eq)]
+pub enum CertCause {
+    /// The bytes spell no certificate.
+    Form(FormFault),
+    /// Its rows are no template over the program's variables. Rows are numbered from 1, as lines are.
+    Rows(RowFault),
+    /// There are more than 1,024 unknowns, so many.
+    Unknowns(u32),
+    /// A test of the check fails, and no number before it is wide.
+    Check(CheckFault),
 }
 
 /// How a run ended.
@@ -49,12 +65,16 @@ pub enum TextCause {
 pub enum Status {
     /// All bytes of the report were put.
     Done,
+    /// The certificate is refused.
+    Certificate(CertCause),
     /// The words are no command.
     Usage,
     /// A named file isn't read.
     Read(ReadCause),
     /// The program or its rows are refused.
     Text(TextCause),
+    /// An operation on fractions was too wide, at this spot.
+    Wide(Spot),
     /// More improvements are needed than this number, which was asked for.
     Spent(u32),
     /// Memory was wanted.
@@ -70,9 +90,11 @@ impl Status {
     {
         match self {
             Status::Done => 0,
+            Status::Certificate(_) => 1,
             Status::Usage => 2,
             Status::Read(_) => 3,
             Status::Text(_) => 4,
+            Status::Wide(_) => 5,
             Status::Spent(_) => 6,
             Status::Memory => 7,
             Status::Write => 8,

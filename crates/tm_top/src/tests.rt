@@ -42,10 +42,10 @@ improvements: 1
 
 /// What a run wrote.
 #[derive(Drop)]
-struct Written {
-    status: Status,
-    out: PlainSink,
-    err: PlainSink,
+pub(crate) struct Written {
+    pub status: Status,
+    pub out: PlainSink,
+    pub err: PlainSink,
 }
 
 /// The words of a command line.
@@ -66,7 +66,7 @@ fn shelf(alloc: Global, text: &[u8], rows: &[u8]) -> Result<PlainShelf, AllocErr
 }
 
 /// The run of these words over the two files.
-fn run_words(
+pub(crate) fn run_words(
     alloc: Global,
     list: &[&str],
     text: &[u8],
@@ -122,16 +122,20 @@ fn reports_small_lines(rt: HostRuntime) -> Result<(), Fail> {
 #[test]
 fn refuses_words_files_and_rows(rt: HostRuntime) -> Result<(), Fail> {
     let rows: &[&str] = &["solve", "p", "--domain", "rows", "--rows", "r"];
-    let not_built = b"program refused: not built yet\n".as_slice();
-    let cases: [(&[&str], &[u8], u8, &[u8]); 17] = [
+    let cases: [(&[&str], &[u8], u8, &[u8]); 16] = [
         (&[], b"", 2, USAGE),
         (&["solve"], b"", 2, USAGE),
         (&["solve", "p", "--domain", "rows"], b"", 2, USAGE),
         (&["solve", "p", "--improvements", "1000001"], b"", 2, USAGE),
-        (&["certify", "q"], b"", 4, not_built),
-        (&["check", "q", "q"], b"", 4, not_built),
-        (&["bench", "--seed", "1", "--loops", "1"], b"", 4, not_built),
-        (&["solve", "q", "--policy", "first"], b"", 4, not_built),
+        (&["certify", "q"], b"", 3, b"cannot read the program\n"),
+        (&["check", "q", "q"], b"", 3, b"cannot read the program\n"),
+        (&["bench", "--seed", "1", "--loops", "47"], b"", 2, USAGE),
+        (
+            &["solve", "q", "--policy", "first"],
+            b"",
+            3,
+            b"cannot read the program\n",
+        ),
         (&["solve", "q"], b"", 3, b"cannot read the program\n"),
         (
             &["solve", "q", "--domain", "rows", "--rows", "s"],
@@ -154,7 +158,6 @@ fn refuses_words_files_and_rows(rt: HostRuntime) -> Result<(), Fail> {
             b"rows refused: unknown name at line 2\n",
         ),
         (rows, b"x <= 1", 4, b"rows refused: bad row at line 1\n"),
-        (rows, b"x - 101*y", 4, not_built),
         (
             &["solve", "p", "--improvements", "0"],
             b"",
@@ -195,7 +198,7 @@ fn refuses_long_files(rt: HostRuntime) -> Result<(), Fail> {
 
 #[test]
 fn refuses_texts(rt: HostRuntime) -> Result<(), Fail> {
-    let cases: [(&[u8], &[u8]); 20] = [
+    let cases: [(&[u8], &[u8]); 15] = [
         (b"", b"program refused: unexpected token at line 1\n"),
         (
             b"int main() { x = 1; }",
@@ -249,26 +252,6 @@ fn refuses_texts(rt: HostRuntime) -> Result<(), Fail> {
         (
             b"int main() { int x;\nl1: l2: l3: l4: l5: l6: l7: l8: l9: l10: l11: l12: l13: l14: l15: l16: l17: l18: l19: l20: l21: l22: l23: l24: l25: l26: l27: l28: l29: l30: l31: l32: l33: l34: l35: l36: l37: l38: l39: l40: l41: l42: l43: l44: l45: l46: l47: ; }",
             b"program refused: 49 points\n",
-        ),
-        (
-            b"int main() { int x = 0; while (x < 100) { x = x + 1; } }",
-            b"program refused: not built yet\n",
-        ),
-        (
-            b"int main() { int x = 9223372036854775806; }",
-            b"program refused: not built yet\n",
-        ),
-        (
-            b"int main() { int x = 7993; }",
-            b"program refused: not built yet\n",
-        ),
-        (
-            b"int main() { int x = 1, y = 2, z = 3; x = y; y = z; }",
-            b"program refused: not built yet\n",
-        ),
-        (
-            b"int main() { int x; assume(1 > 2); }",
-            b"program refused: not built yet\n",
         ),
     ];
     for (text, message) in cases {

@@ -1,9 +1,15 @@
 use Rattle.std.proofs.Common.{arith}
-use Rattle.tm_top.proofs.Plain.{never_fails}
+use Rattle.tm_top.proofs.Plain.{check_never_fails, never_fails}
 use Rattle.tm_top.proofs.memory.run_in_memory.Goals as goal
 
 pub returns-clause-complete : goal.returns-clause-complete
 returns-clause-complete g c =
-    λ analysis text rows is inputs solvable. c.run.ensures.complete analysis text rows is tt inputs solvable
-    (λ which failed. never_fails _ _ _ analysis text rows which _ _ _ is inputs c.run.ensures.kept c.run.new.shelf.absent failed)
+    λ purpose analysis text rows is inputs solvable spots. c.run.ensures.complete purpose analysis text rows is tt inputs solvable spots
+    (λ which failed. never_fails _ _ _ purpose analysis text rows which _ _ _ is inputs c.run.ensures.kept c.run.new.shelf.absent failed)
+    (λ rose. omega (arith, rose))
+
+pub returns-clause-accepts : goal.returns-clause-accepts
+returns-clause-accepts g c =
+    λ program certificate text bytes is inputs accepted. c.run.ensures.accepts program certificate text bytes is tt inputs accepted
+    (λ which failed. check_never_fails _ _ _ program certificate text bytes which _ _ _ is inputs c.run.ensures.kept c.run.new.shelf.absent failed)
     (λ rose. omega (arith, rose))

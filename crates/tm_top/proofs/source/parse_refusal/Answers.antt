@@ -4,4 +4,4 @@ use Rattle.tm_top.proofs.source.parse_refusal.Goals as goal
 
 pub returns-in_default : goal.returns-in_default
 returns-in_default c =
-    λ text rows n answer reading is. subst (λ a. Reading text a) (is c.in_default.not-NoMemory) reading
+    λ text answer reading is. subst (λ a. Reading text a) (is c.in_default.not-NoMemory) reading

@@ -13,8 +13,8 @@ returns-in-Ok-parse-clause-ok c =
 
 pub returns-clause-err : goal.returns-clause-err
 returns-clause-err c =
-    let found = c.in-Err-parse.ensures.found in λ rows n.
-    c.parse_refusal.ensures c.args.text.now rows n found.0 (
+    let found = c.in-Err-parse.ensures.found in
+    c.parse_refusal.ensures c.args.text.now found.0 (
       c.in-Ok.tokens.items,
       c.in-Ok.ensures.ok,
       subst (λ ts. Means c.args.text.now ts found.0) (ap (λ ts. tokens_of c.args.text.now ts) c.deref.ensures.value) found.1,
@@ -22,4 +22,4 @@ returns-clause-err c =
     found.2
 
 pub returns-in-Err-clause-err : goal.returns-in-Err-clause-err
-returns-in-Err-clause-err c = λ rows n. c.lex_refusal.ensures c.args.text.now rows n c.in-Err.ensures.err
+returns-in-Err-clause-err c = c.lex_refusal.ensures c.args.text.now c.in-Err.ensures.err

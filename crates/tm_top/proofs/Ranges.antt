@@ -1,0 +1,168 @@
+-- The numbers of what words ask for are within their limits.
+use Rattle.std.proofs.Common.{◌≡◌, ◌⊎◌, inl, inr, ⊎_elim, ℕ, ◌≤◌, Bool, true, false, List, [], ◌∷◌, length, refl, sym, subst, arith, if◌then◌else◌}
+use Rattle.std.specs.Prelude.{Option, Some, None, option_and_then, option_map, ◌&&◌, nat_le, nat_lt, unwrap_or, codes}
+use Rattle.std.specs.Char.{is_ascii_digit}
+use Rattle.std.specs.List.{list_all}
+use Rattle.std.specs.Str.{bytes_eq}
+use Rattle.std.specs.Str.Parse.{digits_value}
+use Rattle.clap.specs.Words.{Kinds, Row, Text, fault_of, first_of, subcommand_of}
+use Rattle.tm_words.specs.CommandLine.{tmpl_app}
+use Rattle.tm_words.specs.Request.{analysis_in, bench_in, check_in, command_in, request_of, unless_fault}
+use Rattle.tm_words.specs.Values.{domain_in, meaning_in, number_in, policies}
+use Rattle.tm_words.specs.declared.request.Analysis.{Analysis}
+use Rattle.tm_words.specs.declared.request.Domain.{Domain}
+use Rattle.tm_words.specs.declared.request.Policy.{Policy}
+use Rattle.tm_words.specs.declared.request.Request.{Request}
+use Rattle.tm_words.specs.declared.request.Request.TheVariants.{Solve, Certify, Check, Bench}
+use Rattle.tm_top.specs.Request.{IsInRange, Task, task_of}
+
+none_some : {A : Type 0} (b : A) → None ≡ Some b → ⊥
+none_some b e = cc
+
+same_some : {A : Type 0} (x y : A) → Some x ≡ Some y → x ≡ y
+same_some x y e = cc
+
+and_then_some : {A B : Type 0} (f : A → Option B) (o : Option A) (b : B) → option_and_then f o ≡ Some b → (a : A) × (o ≡ Some a) × (f a ≡ Some b)
+and_then_some f None b e = absurd (none_some b e)
+and_then_some f (Some a) b e = (a, refl, e)
+
+map_some : {A B : Type 0} (f : A → B) (o : Option A) (b : B) → option_map f o ≡ Some b → (a : A) × (o ≡ Some a) × (f a ≡ b)
+map_some f None b e = absurd (none_some b e)
+map_some f (Some a) b e = (a, refl, same_some (f a) b e)
+
+if_some : {A : Type 0} (b : Bool) (x y : Option A) (a : A) → (if b then x else y) ≡ Some a → (x ≡ Some a) ⊎ (y ≡ Some a)
+if_some true x y a e = inl e
+if_some false x y a e = inr e
+
+if_value : (b : Bool) (v n : ℕ) → (if b then Some v else None) ≡ Some n → (b ≡ true) × (v ≡ n)
+if_value true v n e = (refl, same v n e)
+  where
+    same : (x y : ℕ) → Some x ≡ Some y → x ≡ y
+    same x y e = cc
+if_value false v n e = absurd (none n e)
+  where
+    none : (n : ℕ) → None ≡ Some n → ⊥
+    none n e = cc
+
+last_true : (a b : Bool) → (a && b) ≡ true → b ≡ true
+last_true true b e = e
+last_true false b e = cc
+
+first_true : (a b : Bool) → (a && b) ≡ true → a ≡ true
+first_true true b e = refl
+first_true false b e = cc
+
+le_of : (a b : ℕ) → nat_le a b ≡ true → a ≤ b
+le_of a b e = grind arith
+
+bounded : (least most v : ℕ) (x y z : Bool) → (x && (y && (z && (nat_le least v && nat_le v most)))) ≡ true → (least ≤ v) × (v ≤ most)
+bounded least most v x y z e =
+    let both = last_true z _ (last_true y _ (last_true x _ e)) in
+    (le_of least v (first_true (nat_le least v) (nat_le v most) both), le_of v most (last_true (nat_le least v) (nat_le v most) both))
+
+number_bounds : (least most : ℕ) (text : Text) (n : ℕ) → number_in least most text ≡ Some n → (least ≤ n) × (n ≤ most)
+number_bounds least most text n e =
+    let v = if_value (nat_lt 0 (length text) && (nat_le (length text) 10 && (list_all is_ascii_digit text && (nat_le least (digits_value 10 text) && nat_le (digits_value 10 text) most)))) (digits_value 10 text) n e in
+    subst (λ m. (least ≤ m) × (m ≤ most)) v.1 (bounded least most (digits_value 10 text) (nat_lt 0 (length text)) (nat_le (length text) 10) (list_all is_ascii_digit text) v.0)
+
+-- ---- the options of an analysis
+
+limit_in : List Row → Option ℕ
+limit_in given = number_in 0 1000000 (unwrap_or (first_of (codes "improvements") given) (codes "1000"))
+
+policy_in : List Row → Option Policy
+policy_in given = meaning_in policies (unwrap_or (first_of (codes "policy") given) (codes "best"))
+
+rows_in : List Row → Option (Domain Text)
+rows_in given = domain_in (unwrap_or (first_of (codes "domain") given) (codes "intervals")) (first_of (codes "rows") given)
+
+with_policy : List Row → Text → Domain Text → ℕ → Option (Analysis Text)
+with_policy given program domain improvements = option_map (λ policy. record { program = program; domain = domain; improvements = improvements; policy = policy }) (policy_in given)
+
+with_limit : List Row → Text → Domain Text → Option (Analysis Text)
+with_limit given program domain = option_and_then (with_policy given program domain) (limit_in given)
+
+with_domain : List Row → Text → Option (Analysis Text)
+with_domain given program = option_and_then (with_limit given program) (rows_in given)
+
+analysis_bounds : (given : List Row) (a : Analysis Text) → analysis_in given ≡ Some a → a.improvements ≤ 1000000
+unfolding with_domain with_limit with_policy limit_in policy_in rows_in
+analysis_bounds given a e =
+    let program = and_then_some (with_domain given) (first_of (codes "program") given) a e in
+    let domain = and_then_some (with_limit given program.0) (rows_in given) a program.2 in
+    let improvements = and_then_some (with_policy given program.0 domain.0) (limit_in given) a domain.2 in
+    let made : Policy → Analysis Text = λ policy. record { program = program.0; domain = domain.0; improvements = improvements.0; policy = policy } in
+    let policy = map_some made (policy_in given) a improvements.2 in
+    subst (λ (x : Analysis Text). x.improvements ≤ 1000000) policy.2
+    (number_bounds 0 1000000 (unwrap_or (first_of (codes "improvements") given) (codes "1000")) improvements.0 improvements.1).1
+
+-- ---- the commands
+
+abbrev solve_of : Analysis Text → Request Text
+solve_of a = Solve a
+
+abbrev certify_of : Analysis Text → Request Text
+certify_of a = Certify a
+
+solve_range : (given : List Row) (r : Request Text) → option_map (λ a. Solve a) (analysis_in given) ≡ Some r → IsInRange (task_of r)
+solve_range given r e =
+    let a = map_some solve_of (analysis_in given) r e in
+    subst (λ r. IsInRange (task_of r)) a.2 (analysis_bounds given a.0 a.1)
+
+certify_range : (given : List Row) (r : Request Text) → option_map (λ a. Certify a) (analysis_in given) ≡ Some r → IsInRange (task_of r)
+certify_range given r e =
+    let a = map_some certify_of (analysis_in given) r e in
+    subst (λ r. IsInRange (task_of r)) a.2 (analysis_bounds given a.0 a.1)
+
+check_of : List Row → Text → Option (Request Text)
+check_of given program = option_map (λ certificate. Check program certificate) (first_of (codes "certificate") given)
+
+check_range : (given : List Row) (r : Request Text) → check_in given ≡ Some r → IsInRange (task_of r)
+unfolding check_of
+check_range given r e =
+    let p = and_then_some (check_of given) (first_of (codes "program") given) r e in
+    let made : Text → Request Text = λ certificate. Check p.0 certificate in
+    let c = map_some made (first_of (codes "certificate") given) r p.2 in
+    subst (λ r. IsInRange (task_of r)) c.2 tt
+
+bench_of : List Row → ℕ → Option (Request Text)
+bench_of given seed = option_map (λ loops. Bench seed loops) (option_and_then (number_in 1 46) (first_of (codes "loops") given))
+
+bench_range : (given : List Row) (r : Request Text) → bench_in given ≡ Some r → IsInRange (task_of r)
+unfolding bench_of
+bench_range given r e =
+    let seed = and_then_some (bench_of given) (option_and_then (number_in 0 2147483647) (first_of (codes "seed") given)) r e in
+    let made : ℕ → Request Text = λ loops. Bench seed.0 loops in
+    let loops = map_some made (option_and_then (number_in 1 46) (first_of (codes "loops") given)) r seed.2 in
+    let s = and_then_some (number_in 0 2147483647) (first_of (codes "seed") given) seed.0 seed.1 in
+    let l = and_then_some (number_in 1 46) (first_of (codes "loops") given) loops.0 loops.1 in
+    let most : seed.0 ≤ 2147483647 = (number_bounds 0 2147483647 s.0 seed.0 s.2).1 in
+    let range = number_bounds 1 46 l.0 loops.0 l.2 in
+    subst (λ r. IsInRange (task_of r)) loops.2 (omega arith, range.0, range.1)
+
+command_range : (p : Text × List Row) (r : Request Text) → command_in p ≡ Some r → IsInRange (task_of r)
+command_range (name, given) r e =
+    ⊎_elim (λ h. solve_range given r h)
+    (λ h. ⊎_elim (λ i. certify_range given r i)
+    (λ i. ⊎_elim (λ j. check_range given r j)
+    (λ j. ⊎_elim (λ k. bench_range given r k) (λ k. absurd (none_some r k))
+    (if_some (bytes_eq name (codes "bench")) (bench_in given) None r j))
+    (if_some (bytes_eq name (codes "check")) (check_in given) (if bytes_eq name (codes "bench") then bench_in given else None) r i))
+    (if_some (bytes_eq name (codes "certify")) (option_map (λ a. Certify a) (analysis_in given))
+    (if bytes_eq name (codes "check") then check_in given else (if bytes_eq name (codes "bench") then bench_in given else None)) r h))
+    (if_some (bytes_eq name (codes "solve")) (option_map (λ a. Solve a) (analysis_in given))
+    (if bytes_eq name (codes "certify") then option_map (λ a. Certify a) (analysis_in given)
+    else (if bytes_eq name (codes "check") then check_in given else (if bytes_eq name (codes "bench") then bench_in given else None))) r e)
+
+unfaulted : (kinds : Kinds) (o : Option (Request Text)) (r : Request Text) → unless_fault kinds o ≡ Some r → o ≡ Some r
+unfaulted [] o r e = e
+unfaulted (kind ∷ kinds) o r e = absurd (none_some r e)
+
+request_range : (words : List Text) (r : Request Text) → request_of words ≡ Some r → IsInRange (task_of r)
+unfolding request_of
+request_range words r e =
+    let p = and_then_some command_in (subcommand_of tmpl_app words) r (unfaulted (fault_of tmpl_app words) (option_and_then command_in (subcommand_of tmpl_app words)) r e) in
+    command_range p.0 r p.2
+
+pub task_range : (words : List Text) (r : Request Text) (task : Task) → request_of words ≡ Some r → task ≡ task_of r → IsInRange task
+task_range words r task e i = subst IsInRange (sym i) (request_range words r e)

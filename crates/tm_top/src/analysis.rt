@@ -1,0 +1,108 @@
+//! The rounds over a system, and what is put of them.
+
+ghost use Rattle.std.specs.Prelude.{◌≡◌, ◌≤◌, ◌*◌, ℕ, IfOk, IfErr, length};
+ghost use Rattle.tm_eqsys.specs.Cells.{cells_of};
+ghost use Rattle.tm_eqsys.specs.Equations.{Least};
+ghost use Rattle.tm_eqsys.specs.View.{equations_of, vector_of};
+ghost use Rattle.tm_cert.specs.Shaped.{IsShaped};
+ghost use Rattle.tm_steps.specs.Certificates.{ValidCertificate};
+ghost use Rattle.tm_eqsys.specs.declared.system.System.{System as SystemValue};
+ghost use Rattle.tm_rounds.specs.Halts.{IsHalt};
+ghost use Rattle.tm_rounds.specs.Offers.{SomeExceeds};
+ghost use Rattle.tm_rounds.specs.Solutions.{AreNumbered, IsSolved, cert_with, made_certificate};
+ghost use Rattle.tm_words.specs.declared.request.Policy.{Policy as PolicyValue};
+ghost use Rattle.tm_top.specs.declared.task.Purpose.{Purpose};
+ghost use Rattle.tm_top.specs.Parted.{IsHalted, IsOutputOf, IsRoundsReport};
+ghost use Rattle.tm_top.specs.Policies.{rule_of};
+
+use crate::certify::certificate_of;
+use crate::source::Refusal;
+use crate::task::Purpose;
+use std::alloc::Global;
+use tm_eqsys::{Footer, System};
+use tm_report::report;
+use tm_rounds::{Chooser, Halt, Policy as Function, Solved, best, first, least};
+use tm_words::Policy;
+
+/// The chooser of a policy.
+#[tactic(auto, using(tm_rounds::proofs::Offered::best_exceeds))]
+fn chooser_of(policy: Policy) -> Chooser
+    ensures { (offer : _) (k : ℕ) → SomeExceeds offer.now → Function.post result.policy offer k → rule_of policy offer.now k }
+{
+    match policy {
+        Policy::Best => Chooser::new(best),
+        Policy::First => Chooser::new(first),
+    }
+}
+
+/// The refusal of rounds that halt, where so many are allowed.
+#[tactic(auto, using(crate::proofs::Mapped::halted_wide, crate::proofs::Mapped::halted_spent))]
+fn halted(halt: Halt, limit: u32) -> Refusal
+    ensures { (purpose : Purpose) (policy : PolicyValue) (system : SystemValue) → IsHalt system (rule_of policy) limit halt
+        → IsHalted purpose system policy limit result }
+{
+    match halt {
+        Halt::Wide(spot) => Refusal::Wide(spot),
+        Halt::Spent(_bounds) => Refusal::Spent(limit),
+        Halt::NoMemory => Refusal::NoMemory,
+    }
+}
+
+/// The least bounds of a system, by rounds of a policy.
+pub(crate) fn solve(
+    alloc: Global,
+    system: &System,
+    policy: Policy,
+    limit: u32,
+) -> Result<Solved, Refusal>
+    requires limit { limit ≤ 1000000 }
+    requires cells { cells_of (equations_of system.now) ≤ 134217728 }
+    ensures solved { IfOk result (IsSolved system.now (rule_of policy) limit) }
+    ensures least { IfOk result (λ solved. Least (equations_of system.now) (vector_of (length system.now.template) solved.bounds)) }
+    ensures count { IfOk result (λ solved. length solved.bounds ≡ length system.now.flow.points * length system.now.template) }
+    ensures valid { IfOk result (λ solved. ValidCertificate (equations_of system.now) (made_certificate system.now solved)) }
+    ensures shaped { IfOk result (λ solved. IsShaped (cert_with system.now solved)) }
+    ensures numbered { IfOk result (λ solved. AreNumbered system.now solved.steps) }
+    ensures err { IfErr result (λ refusal. (purpose : Purpose) → IsHalted purpose system.now policy limit refusal) }
+{
+    let chooser = chooser_of(policy);
+    match least(alloc, system, limit, &chooser) {
+        Ok(solved) => Ok(solved),
+        Err(halt) => Err(halted(halt, limit)),
+    }
+}
+
+/// The whole report of the least bounds of a system.
+fn report_of(alloc: Global, system: &System, policy: Policy, limit: u32) -> Result<Vec<u8>, Refusal>
+    requires limit { limit ≤ 1000000 }
+    requires cells { cells_of (equations_of system.now) ≤ 134217728 }
+    ensures ok { IfOk result (λ bytes. IsRoundsReport system.now policy limit bytes.items) }
+    ensures err { IfErr result (λ refusal. (purpose : Purpose) → IsHalted purpose system.now policy limit refusal) }
+{
+    let solved = solve(alloc, system, policy, limit)?;
+    Ok(report(
+        alloc,
+        system,
+        &solved.bounds,
+        Footer::Improvements(solved.improvements),
+    )?)
+}
+
+/// What is put of the analysis of a system, whole.
+pub(crate) fn output_of(
+    alloc: Global,
+    purpose: Purpose,
+    system: &System,
+    policy: Policy,
+    limit: u32,
+) -> Result<Vec<u8>, Refusal>
+    requires limit { limit ≤ 1000000 }
+    requires cells { cells_of (equations_of system.now) ≤ 134217728 }
+    ensures ok { IfOk result (λ bytes. IsOutputOf purpose system.now policy limit bytes.items) }
+    ensures err { IfErr result (λ refusal. IsHalted purpose system.now policy limit refusal) }
+{
+    match purpose {
+        Purpose::Report => report_of(alloc, system, policy, limit),
+        Purpose::Certificate => certificate_of(alloc, system, policy, limit),
+    }
+}

@@ -1,0 +1,430 @@
+use crate::{ReadCause, Status, Which, run};
+use std::alloc::{AllocError, Global};
+use std::test::Fail;
+use tm_io::{MemShelf, PlainSink};
+
+const JUMP_PROGRAM: &str = "int main() { int x = 0; while (nondet()) { x = x; } }";
+
+const JUMP_FROM_ITS_BOUND: &str =
+    r#"{"bounds":[["+inf","+inf"],["5","0"],["5","0"]],"format":1,"rows":[["1"],["-1"]],"steps":[{"items":[{"edge":0,"to":"0","low":{"free":[],"start":["0"]},"unknown":[1,0]},{"edge":0,"to":"0","low":{"free":[],"start":["0"]},"unknown":[1,1]}],"kind":"plain"},{"items":[{"edge":1,"high":{"free":[],"start":["5"]},"low":{"free":[],"start":["0"]},"to":"5","unknown":[1,0]}],"kind":"jump"}],"uppers":[]}"#;
+
+const RAY_PROGRAM: &str = "int main() { int x; assume(x <= 7); }";
+
+const RAY: &str =
+    r#"{"bounds":[["+inf","+inf"],["7","+inf"]],"format":1,"rows":[["1"],["-1"]],"steps":[{"items":[{"edge":0,"low":{"free":["7"],"start":["0"]},"to":"7","unknown":[1,0]}],"kind":"plain"},{"items":[{"direction":{"free":["-1"],"start":["0"]},"edge":0,"low":{"free":["0"],"start":["0"]},"rate":"1","unknown":[1,1]}],"kind":"ray"}],"uppers":[{"guards":["1"],"kind":"bound","rows":["0","0"]}]}"#;
+
+const RAY_REPORT: &[u8] = b"variables x
+point 0: entry
+  x <= +inf
+  -x <= +inf
+point 1: exit
+  x <= 7
+  -x <= +inf
+certificate: accepted
+";
+
+const LINE_PROGRAM: &str = "int main() { int x = 1; }";
+
+const LINE: &str =
+    r#"{"bounds":[["+inf","+inf"],["1","-1"]],"format":1,"rows":[["1"],["-1"]],"steps":[{"items":[{"edge":0,"low":{"free":[],"start":["0"]},"to":"1","unknown":[1,0]},{"edge":0,"low":{"free":[],"start":["0"]},"to":"-1","unknown":[1,1]}],"kind":"plain"}],"uppers":[{"guards":[],"kind":"bound","rows":["0","0"]},{"guards":[],"kind":"bound","rows":["0","0"]}]}"#;
+
+const LINE_REPORT: &[u8] = b"variables x
+point 0: entry
+  x <= +inf
+  -x <= +inf
+point 1: exit
+  x <= 1
+  -x <= -1
+certificate: accepted
+";
+
+const LOOP_PROGRAM: &str = "int main() { int x = 0; while (x < 3) x = x + 1; }";
+
+const LOOP: &str =
+    r#"{"bounds":[["+inf"],["3"],["3"]],"format":1,"rows":[["1"]],"steps":[{"items":[{"edge":0,"low":{"free":[],"start":["0"]},"to":"0","unknown":[1,0]}],"kind":"plain"},{"items":[{"edge":1,"high":{"free":[],"start":["2"]},"low":{"free":[],"start":["0"]},"to":"3","unknown":[1,0]}],"kind":"jump"},{"items":[{"edge":2,"low":{"free":[],"start":["3"]},"to":"3","unknown":[2,0]}],"kind":"plain"}],"uppers":[{"guards":[],"kind":"bound","rows":["0"]},{"guards":["1"],"kind":"bound","rows":["0"]},{"guards":["0"],"kind":"bound","rows":["1"]}]}"#;
+
+const LOOP_REPORT: &[u8] = b"variables x
+point 0: entry
+  x <= +inf
+point 1: loop at line 1
+  x <= 3
+point 2: exit
+  x <= 3
+certificate: accepted
+";
+
+const WIDE: &str =
+    r#"{"bounds":[["+inf"],["+inf"]],"format":1,"rows":[["3037000500"]],"steps":[{"items":[{"edge":0,"low":{"free":["3037000500"],"start":["0"]},"to":"1","unknown":[1,0]}],"kind":"plain"}],"uppers":[]}"#;
+
+/// What a run wrote.
+#[derive(Drop)]
+struct Written {
+    status: Status,
+    out: PlainSink,
+    err: PlainSink,
+}
+
+/// The check of a certificate of a program, where the loads with these numbers fail.
+fn check(alloc: Global, text: &[u8], bytes: &[u8], fails: &[u32]) -> Result<Written, AllocError> {
+    let mut words = Vec::new(alloc);
+    for word in ["check", "p", "c"] {
+        words.push(String::from_str(alloc, word)?)?;
+    }
+    let mut files = Vec::new(alloc);
+    files.push((String::from_str(alloc, "p")?, text.to_vec(alloc)?))?;
+    files.push((String::from_str(alloc, "c")?, bytes.to_vec(alloc)?))?;
+    let mut shelf = MemShelf::new(alloc, files, fails.to_vec(alloc)?);
+    let mut out = PlainSink::new(alloc, 4096)?;
+    let mut err = PlainSink::new(alloc, 512)?;
+    let status = run(alloc, &words, &mut shelf, &mut out, &mut err);
+    Ok(Written { status, out, err })
+}
+
+/// A text, and the same with one piece in another's place where that stands first.
+fn changed(alloc: Global, text: &str, old: &str, new: &str) -> Result<Vec<u8>, AllocError> {
+    let mut bytes = Vec::new(alloc);
+    match text.split_once(old) {
+        Some((before, after)) => {
+            bytes.extend_from_slice(before.as_bytes())?;
+            bytes.extend_from_slice(new.as_bytes())?;
+            bytes.extend_from_slice(after.as_bytes())?;
+        }
+        None => bytes.extend_from_slice(text.as_bytes())?,
+    }
+    Ok(bytes)
+}
+
+#[test]
+fn accepts_valid_certificates(rt: HostRuntime) -> Result<(), Fail> {
+    let cases: [(&str, &str, &[u8]); 3] = [
+        (RAY_PROGRAM, RAY, RAY_REPORT),
+        (LINE_PROGRAM, LINE, LINE_REPORT),
+        (LOOP_PROGRAM, LOOP, LOOP_REPORT),
+    ];
+    for (text, certificate, report) in cases {
+        let written = check(rt.alloc(), text.as_bytes(), certificate.as_bytes(), &[])?;
+        assert_eq!(rt; written.err.bytes(), b"".as_slice());
+        assert_eq!(rt; written.out.bytes(), report);
+        assert_eq!(rt; written.status.code(), 0);
+    }
+    Ok(())
+}
+
+#[test]
+fn refuses_changed_certificates(rt: HostRuntime) -> Result<(), Fail> {
+    let cases: [(&str, &str, &str, &str, &str); 24] = [
+        (
+            JUMP_PROGRAM,
+            JUMP_FROM_ITS_BOUND,
+            "~",
+            "~",
+            "low, step 1, item 0",
+        ),
+        (
+            RAY_PROGRAM,
+            RAY,
+            "\"guards\":[\"1\"]",
+            "\"guards\":[\"-1\"]",
+            "upper, point 1, row 0, edge 0",
+        ),
+        (RAY_PROGRAM, RAY, "\"format\":1", "\"format\":3", "format"),
+        (
+            RAY_PROGRAM,
+            RAY,
+            "\"format\":1",
+            "\"format\":\"1\"",
+            "field format",
+        ),
+        (
+            RAY_PROGRAM,
+            RAY,
+            "\"rate\":\"1\"",
+            "\"rate\":\"01\"",
+            "number in steps",
+        ),
+        (
+            RAY_PROGRAM,
+            RAY,
+            "\"rate\":\"1\"",
+            "\"rate\":\"2\"",
+            "ray, step 1, item 0",
+        ),
+        (
+            RAY_PROGRAM,
+            RAY,
+            r#"[{"guards":["1"],"kind":"bound","rows":["0","0"]}]"#,
+            "[]",
+            "upper, point 1, row 0, edge 0",
+        ),
+        (
+            RAY_PROGRAM,
+            RAY,
+            "\"edge\":0",
+            "\"edge\":4294967296",
+            "field steps",
+        ),
+        (
+            RAY_PROGRAM,
+            RAY,
+            "\"edge\":0",
+            "\"edge\":4294967295",
+            "trace, step 0, item 0",
+        ),
+        (
+            RAY_PROGRAM,
+            RAY,
+            "\"to\":\"7\"",
+            "\"to\":\"7/0\"",
+            "number in steps",
+        ),
+        (
+            RAY_PROGRAM,
+            RAY,
+            "\"to\":\"7\"",
+            "\"to\":\"8\"",
+            "low, step 0, item 0",
+        ),
+        (RAY_PROGRAM, RAY, "\"format\":1,", "", "field top"),
+        (
+            RAY_PROGRAM,
+            RAY,
+            "[[\"1\"],[\"-1\"]]",
+            "[[\"1\"],[\"1/2\"]]",
+            "number in rows",
+        ),
+        (
+            RAY_PROGRAM,
+            RAY,
+            "[[\"1\"],[\"-1\"]]",
+            "[[\"1\"],[\"0\"]]",
+            "rows",
+        ),
+        (
+            RAY_PROGRAM,
+            RAY,
+            "[[\"1\"],[\"-1\"]]",
+            "[[\"1\",\"2\"],[\"-1\"]]",
+            "rows",
+        ),
+        (
+            RAY_PROGRAM,
+            RAY,
+            "[\"7\",\"+inf\"]",
+            "[\"7\"]",
+            "field bounds",
+        ),
+        (
+            LINE_PROGRAM,
+            LINE,
+            "\"to\":\"1\"",
+            "\"to\":\"2\"",
+            "low, step 0, item 0",
+        ),
+        (
+            LINE_PROGRAM,
+            LINE,
+            "[\"1\",\"-1\"]",
+            "[\"2\",\"-1\"]",
+            "final, point 1, row 0",
+        ),
+        (
+            LINE_PROGRAM,
+            LINE,
+            "\"rows\":[\"0\",\"0\"]},{\"guards\":[],\"kind\":\"bound\",\"rows\":[\"0\",\"0\"]}",
+            "\"rows\":[\"0\",\"0\"]}",
+            "upper, point 1, row 1, edge 0",
+        ),
+        (
+            LINE_PROGRAM,
+            LINE,
+            "\"uppers\":[",
+            "\"uppers\":[{\"guards\":[],\"kind\":\"bound\",\"rows\":[\"0\",\"0\"]},",
+            "size",
+        ),
+        (
+            LINE_PROGRAM,
+            LINE,
+            "\"kind\":\"plain\"",
+            "\"kind\":\"leap\"",
+            "field steps",
+        ),
+        (
+            LOOP_PROGRAM,
+            LOOP,
+            "\"start\":[\"0\"]},\"to\":\"3\"",
+            "\"start\":[\"0\"]},\"to\":\"4\"",
+            "high, step 1, item 0",
+        ),
+        (
+            LOOP_PROGRAM,
+            LOOP,
+            "\"low\":{\"free\":[],\"start\":[\"0\"]},\"to\":\"3\"",
+            "\"low\":{\"free\":[],\"start\":[\"2\"]},\"to\":\"3\"",
+            "trace, step 1, item 0",
+        ),
+        ("int main() { int x; }", WIDE, "3037000500", "0", "rows"),
+    ];
+    for (text, certificate, old, new, cause) in cases {
+        let alloc = rt.alloc();
+        let bytes = changed(alloc, certificate, old, new)?;
+        let written = check(alloc, text.as_bytes(), &bytes, &[])?;
+        let message = format!(in alloc; "certificate refused: {cause}\n")?;
+        assert_eq!(rt; written.err.bytes(), message.as_bytes());
+        assert_eq!(rt; written.out.bytes(), b"".as_slice());
+        assert_eq!(rt; written.status.code(), 1);
+    }
+    Ok(())
+}
+
+#[test]
+fn refuses_cut_certificates(rt: HostRuntime) -> Result<(), Fail> {
+    let whole = RAY.as_bytes();
+    for (len, _) in whole.iter().enumerate() {
+        let written = check(rt.alloc(), RAY_PROGRAM.as_bytes(), &whole[..len], &[])?;
+        assert_eq!(rt;
+            written.err.bytes(),
+            b"certificate refused: not json\n".as_slice()
+        );
+        assert_eq!(rt; written.status.code(), 1);
+    }
+    Ok(())
+}
+
+#[test]
+fn answers_what_stops_a_check(rt: HostRuntime) -> Result<(), Fail> {
+    let alloc = rt.alloc();
+    let mut nested = vec![in alloc; b'['; 200]?;
+    nested.resize(400, b']')?;
+    let squares = "int main() { int x; x = 3037000500*x; x = 3037000500*x; }";
+    let cases: [(&str, &[u8], &[u32], u8, &str); 8] = [
+        (
+            "int main() { int x; }",
+            WIDE.as_bytes(),
+            &[],
+            5,
+            "wide: mul 3037000500 3037000500 at step 0 item 0\n",
+        ),
+        (
+            squares,
+            RAY.as_bytes(),
+            &[],
+            5,
+            "wide: mul 3037000500 3037000500 at compose edge 0\n",
+        ),
+        (
+            RAY_PROGRAM,
+            &nested,
+            &[],
+            1,
+            "certificate refused: not json\n",
+        ),
+        (
+            RAY_PROGRAM,
+            RAY.as_bytes(),
+            &[0],
+            3,
+            "cannot read the program\n",
+        ),
+        (
+            RAY_PROGRAM,
+            RAY.as_bytes(),
+            &[1],
+            3,
+            "cannot read the certificate\n",
+        ),
+        (
+            "int main() { x = 1; }",
+            b"",
+            &[],
+            4,
+            "program refused: unknown name at line 1\n",
+        ),
+        (
+            "int main() { }",
+            b"{",
+            &[],
+            4,
+            "program refused: no variables\n",
+        ),
+        ("", b"", &[1], 3, "cannot read the certificate\n"),
+    ];
+    for (text, bytes, fails, code, message) in cases {
+        let written = check(alloc, text.as_bytes(), bytes, fails)?;
+        assert_eq!(rt; written.err.bytes(), message.as_bytes());
+        assert_eq!(rt; written.out.bytes(), b"".as_slice());
+        assert_eq!(rt; written.status.code(), code);
+    }
+    Ok(())
+}
+
+/// So many blanks.
+fn blanks(alloc: Global, count: usize) -> Result<Vec<u8>, AllocError> {
+    let mut blanks = Vec::new(alloc);
+    blanks.resize(count, b' ')?;
+    Ok(blanks)
+}
+
+#[test]
+fn refuses_long_certificates(rt: HostRuntime) -> Result<(), Fail> {
+    let alloc = rt.alloc();
+    let program = RAY_PROGRAM.as_bytes();
+    let long = check(alloc, program, &blanks(alloc, 16777217)?, &[])?;
+    assert_eq!(rt;
+        long.status,
+        Status::Read(ReadCause::TooLong(Which::Certificate))
+    );
+    assert_eq!(rt; long.err.bytes(), b"too long: the certificate\n".as_slice());
+    let most = check(alloc, program, &blanks(alloc, 16777216)?, &[])?;
+    assert_eq!(rt;
+        most.err.bytes(),
+        b"certificate refused: not json\n".as_slice()
+    );
+    Ok(())
+}
+
+/// A program of one variable and so many labels.
+fn labelled(alloc: Global, count: u32) -> Result<Vec<u8>, AllocError> {
+    let mut text = Vec::new(alloc);
+    text.extend_from_slice(b"int main() { int x; ")?;
+    for number in 0..count {
+        text.extend_from_slice(format!(in alloc; "l{number}: ")?.as_bytes())?;
+    }
+    text.extend_from_slice(b"; }")?;
+    Ok(text)
+}
+
+/// A certificate of so many rows `x`, and nothing else.
+fn rows_only(alloc: Global, count: u32) -> Result<Vec<u8>, AllocError> {
+    let mut text = Vec::new(alloc);
+    text.extend_from_slice(b"{\"bounds\":[],\"format\":1,\"rows\":[[\"1\"]")?;
+    for _ in 1..count {
+        text.extend_from_slice(b",[\"1\"]")?;
+    }
+    text.extend_from_slice(b"],\"steps\":[],\"uppers\":[]}")?;
+    Ok(text)
+}
+
+#[test]
+fn counts_unknowns(rt: HostRuntime) -> Result<(), Fail> {
+    let alloc = rt.alloc();
+    let text = labelled(alloc, 46)?;
+    let many = check(alloc, &text, &rows_only(alloc, 43)?, &[])?;
+    assert_eq!(rt;
+        many.err.bytes(),
+        b"certificate refused: 2064 unknowns\n".as_slice()
+    );
+    assert_eq!(rt; many.status.code(), 1);
+    let few = check(alloc, &text, &rows_only(alloc, 21)?, &[])?;
+    assert_eq!(rt; few.err.bytes(), b"certificate refused: size\n".as_slice());
+    let wrong = check(alloc, &text, &rows_only(alloc, 129)?, &[])?;
+    assert_eq!(rt;
+        wrong.err.bytes(),
+        b"certificate refused: rows\n".as_slice()
+    );
+    let points = check(alloc, &labelled(alloc, 47)?, b"", &[])?;
+    assert_eq!(rt;
+        points.err.bytes(),
+        b"program refused: 49 points\n".as_slice()
+    );
+    Ok(())
+}
