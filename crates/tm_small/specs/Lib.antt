@@ -1,4 +1,0 @@
-pub mod SmallLines
-pub mod Straight
-pub mod Ends
-pub mod Laws
