@@ -9,6 +9,7 @@ pub mod GrownTo
 pub mod Improved
 pub mod JumpTurn
 pub mod Kept
+pub mod KnownValues
 pub mod LayoutReads
 pub mod LeftOver
 pub mod ListedLows

@@ -22,6 +22,7 @@ use Rattle.tm_rounds.specs.declared.offer.Offer.{Offer}
 use Rattle.tm_rounds.specs.declared.stop.Stop.{Stop}
 use Rattle.tm_rounds.specs.declared.stop.Stop.TheVariants.{Wide as WideStop, NoMemory as NoStop}
 use Rattle.tm_rounds.specs.declared.halt.Halt.TheVariants.{Spent}
+use Rattle.tm_rounds.specs.declared.known.Known.{Known}
 use Rattle.tm_rounds.specs.declared.solution.Solved.{Solved}
 use Rattle.tm_rounds.specs.declared.solving.Progress.{Progress}
 use Rattle.tm_rounds.specs.AtBounds.{transformers, vector_at, IsTightPick, IsNextPick, IsOfferStop, NothingExceeds}
@@ -63,6 +64,10 @@ module _ (system : System) (policy : Offer → ℕ → Type 0) (made : ℕ) (pro
   pub after_tight : IsTightPick system progress.bounds progress.pick
   after_tight =
       subst₂ (λ b p. Tight (equations_of system) (transformers system) (vector_at system b) p) (sym a.bounds) (sym a.pick) (tight_after system policy made a.choose a.chain)
+
+  -- with other known transformers
+  pub after_learned : (known : Known) → IsAfter system policy made (record progress { known = known })
+  after_learned known = record { choose = a.choose; chain = a.chain; bounds = a.bounds; size = a.size; pick = a.pick; steps = a.steps }
 
   -- an offer that is refused
   pub offer_halt : (limit number : ℕ) (stop : Stop) → made ≤ limit → number ≡ made + 1 → IsOfferStop system progress.bounds number stop → IsHalt system policy limit (halt_of_stop stop)

@@ -19,3 +19,4 @@ pub mod Solving
 pub mod Uppers
 pub mod LeastLaws
 pub mod Policies
+pub mod Known

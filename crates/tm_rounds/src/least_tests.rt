@@ -15,8 +15,8 @@ fn are_bounds(bounds: &Bounds, parts: [Ext; 4]) -> bool {
     }
 }
 
-// An integer as a bound.
-fn bound(number: i64) -> Result<Ext, Fail> {
+/// An integer as a bound.
+pub(crate) fn bound(number: i64) -> Result<Ext, Fail> {
     Ok(Ext::Fin(Frac::make(number, 1).ok_or("an integer")?))
 }
 

@@ -11,12 +11,15 @@ mod growth;
 mod growth_tests;
 mod halt;
 mod improvement;
+mod known;
 mod law;
 #[cfg(test)]
 mod least_tests;
 mod lows;
 mod offer;
 mod policy;
+#[cfg(test)]
+mod policy_tests;
 #[cfg(test)]
 mod round_tests;
 mod solution;

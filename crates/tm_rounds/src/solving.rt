@@ -15,13 +15,15 @@ ghost use Rattle.tm_rounds.specs.declared.stop.Stop.TheVariants.{NoMemory};
 ghost use Rattle.tm_rounds.specs.AtBounds.{vector_at, IsSupportedPick, IsOfferStop};
 ghost use Rattle.tm_rounds.specs.Round.{IsRoundStop};
 ghost use Rattle.tm_rounds.specs.Halts.{IsHalt};
+ghost use Rattle.tm_rounds.specs.Known.{AreKnown};
 ghost use Rattle.tm_rounds.specs.Solutions.{IsSolved, AreNumbered, cert_with, made_certificate};
 ghost use Rattle.tm_rounds.specs.Solving.{IsBegun, IsAdvanced, IsFinished};
 
 use crate::chooser::{Chooser, Policy};
 use crate::evaluation::round;
 use crate::halt::Halt;
-use crate::improvement::improve;
+use crate::improvement::improve_from;
+use crate::known::{Known, forget};
 use crate::solution::Solved;
 use crate::stop::Stop;
 use crate::uppers::uppers_at;
@@ -30,23 +32,26 @@ use tm_cert::{Step, Steps};
 use tm_eqsys::{Bounds, Pick, System};
 use tm_oper::{Paths, compose_all};
 
-// The bounds, the pick and the steps so far.
+// The bounds, the pick and the steps so far, and the transformers that are known at the bounds.
 #[derive(Drop)]
 pub(crate) struct Progress {
     pub bounds: Bounds,
     pub pick: Pick,
     pub steps: Vec<Step>,
+    pub known: Known,
 }
 
 // Before the first round.
 fn begin(alloc: Global, system: &System) -> Result<Progress, Stop>
     ensures begun { IfOk result (IsBegun system.now) }
+    ensures known { IfOk result (λ progress. AreKnown system.now progress.bounds progress.known) }
     ensures stop { IfErr result (λ stop. stop ≡ NoMemory) }
 {
     Ok(Progress {
         bounds: Bounds::start(alloc, system)?,
         pick: Pick::none(alloc, system)?,
         steps: Vec::new(alloc),
+        known: Known::none(alloc, system)?,
     })
 }
 
@@ -63,12 +68,15 @@ fn advance(
     requires bounds { length progress.old.bounds ≡ length system.now.flow.points * length system.now.template }
     requires pick { length better ≡ length system.now.flow.points * length system.now.template }
     requires supported { IsSupportedPick system.now progress.old.bounds better }
+    requires known { AreKnown system.now progress.old.bounds progress.old.known }
     ensures advanced { IfOk result (λ done. IsAdvanced system.now better progress.old progress.new) }
+    ensures known { IfOk result (λ done. AreKnown system.now progress.new.bounds progress.new.known) }
     ensures stop { IfErr result (IsRoundStop system.now progress.old.bounds better number) }
 {
     let grown = round(alloc, system, paths, &progress.bounds, &better, number)?;
     let mut steps = grown.steps.into_list();
     progress.steps.append(&mut steps)?;
+    forget(system, &progress.bounds, &grown.bounds, &mut progress.known);
     progress.bounds = grown.bounds;
     progress.pick = better;
     Ok(())
@@ -131,7 +139,7 @@ pub fn least(alloc: Global, system: &System, limit: u32, chooser: &Chooser) -> R
     let paths = compose_all(alloc, system)?;
     let mut progress = begin(alloc, system)?;
     for made in 0..limit + 1 {
-        match improve(
+        match improve_from(
             alloc,
             system,
             &paths,
@@ -139,6 +147,7 @@ pub fn least(alloc: Global, system: &System, limit: u32, chooser: &Chooser) -> R
             &progress.pick,
             made + 1,
             chooser,
+            &mut progress.known,
         )? {
             None => return Ok(finish(alloc, system, &paths, progress, made)?),
             Some(better) => {

@@ -14,8 +14,8 @@ use tm_oper::compose_all;
 use tm_rows::intervals;
 use tm_tree::{Coeffs, Form, Name, Names};
 
-// The last position whose value exceeds the bound.
-fn last(offer: &Offer) -> usize
+/// The last position whose value exceeds the bound.
+pub(crate) fn last(offer: &Offer) -> usize
     requires { SomeExceeds offer.now }
     ensures { Exceeds offer.now result }
 {

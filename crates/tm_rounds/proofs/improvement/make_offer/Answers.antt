@@ -1,5 +1,6 @@
-use Rattle.std.proofs.Common.{◌∙◌, ◌∷◌, [], ◌++◌, map, take, ap, sym}
+use Rattle.std.proofs.Common.{◌∙◌, ◌∷◌, [], ◌++◌, map, take, ap, sym, subst}
 use Rattle.tm_frac.specs.Extended.{extended}
+use Rattle.tm_rounds.specs.Known.{AreKnown}
 use Rattle.tm_rounds.proofs.OfferLists.{numbers_none, edges_none, numbers_yes, numbers_no, row_value, value_here, values_yes, values_no, same_count}
 use Rattle.tm_rounds.proofs.improvement.make_offer.Goals as goal
 use Rattle.tm_rounds.proofs.improvement.make_offer.Goals.{then-edge-point+in_ok-value+in_ok-push+in_ok-push-2, else-edge-point}
@@ -8,6 +9,7 @@ pub loop-number-init : goal.loop-number-init
 loop-number-init c = record {
   numbers = c.new-edges.ensures.items ∙ sym (numbers_none c.args.point 0);
   values = ap (map extended) c.new-values.ensures.items ∙ sym (ap (map (row_value c.args.system.now c.args.bounds.now c.args.row)) (edges_none c.args.point));
+  known = c.requires.known;
 }
 
 pub loop-number-preserved : goal.loop-number-preserved
@@ -24,11 +26,13 @@ loop-number-preserved c =
         numbers = ap (λ v. v.items) w.edges-is ∙ w.in_ok-push.ensures.items ∙ ap (λ ns. ns ++ i ∷ []) c.loop-number.invariant.numbers ∙ sym (numbers_yes p es i edge l c.edge-item.is w.if-edge-point.true);
         values = ap (λ v. map extended v.items) w.values-is ∙ ap (map extended) w.in_ok-push-2.ensures.items
             ∙ values_yes system bounds c.args.row p es i edge l c.edge-item.is w.if-edge-point.true c.loop-number.values.items _ c.loop-number.invariant.values
-            (value_here system bounds c.args.row es i edge _ c.as_slice-edge-items.ensures l c.edge-item.is w.in_ok-value.ensures);
+            (value_here system bounds c.args.row es i edge _ c.as_slice-edge-items.ensures l c.edge-item.is w.in_ok-value.ensures.value);
+        known = subst (AreKnown system bounds) (sym w.known-is) w.in_ok-value.ensures.known;
       }
       | else-edge-point w ↦ record {
         numbers = ap (λ v. v.items) w.edges-is ∙ c.loop-number.invariant.numbers ∙ sym (numbers_no p es i edge l c.edge-item.is w.if-edge-point.false);
         values = ap (λ v. map extended v.items) w.values-is ∙ c.loop-number.invariant.values ∙ values_no system bounds c.args.row p es i edge l c.edge-item.is w.if-edge-point.false;
+        known = subst (AreKnown system bounds) (sym w.known-is) c.loop-number.invariant.known;
       }
     ]
 

@@ -1,27 +1,7 @@
-use Rattle.std.proofs.Common.{◌∙◌, [], refl, sym, subst}
-use Rattle.std.proofs.lemmas.Option.{slice_get-get_or}
-use Rattle.tm_eqsys.specs.View.{equations_of}
-use Rattle.tm_oper.specs.Values.{IsOperatorFault}
-use Rattle.tm_rounds.specs.AtBounds.{vector_at, edge_at, row_at}
+use Rattle.tm_rounds.proofs.KnownValues.{known_more}
 use Rattle.tm_rounds.proofs.improvement.offered_value.Goals as goal
 
-pub returns-in-Ok : goal.returns-in-Ok
-returns-in-Ok c =
-    let system = c.args.system.now in
-    c.supremum.ensures
-    ∙ sym (c.in-Ok.ensures.supremum (edge_at system c.args.edge) (row_at system c.args.row) (slice_get-get_or system.flow.edges c.args.edge _ c.requires.edge) (slice_get-get_or system.template c.args.row [] c.requires.row))
-
-pub returns-in-Err-Wide : goal.returns-in-Err-Wide
-returns-in-Err-Wide c =
-    let system = c.args.system.now in
-    record {
-      round = refl;
-      edge = c.args.edge;
-      is_edge = c.requires.edge;
-      row = c.args.row;
-      is_row = c.requires.row;
-      part = c.in-Err-Wide.part;
-      site = refl;
-      wide = subst (IsOperatorFault (equations_of system) (vector_at system c.args.bounds.now) (edge_at system c.args.edge) (row_at system c.args.row)) c.in-Err-Wide.field-0-is
-          (c.in-Err-Wide.ensures.refused (edge_at system c.args.edge) (row_at system c.args.row) (slice_get-get_or system.flow.edges c.args.edge _ c.requires.edge) (slice_get-get_or system.template c.args.row [] c.requires.row));
-    }
+pub returns-in_ok-value-in-None-clause-known : goal.returns-in_ok-value-in-None-clause-known
+returns-in_ok-value-in-None-clause-known c =
+    known_more c.args.system.now c.args.bounds.now c.args.known.now c.keep.new.self c.args.edge c.args.row c.in_ok-value-in-None.value c.requires.edge c.requires.row c.requires.known c.keep.ensures
+    c.in_ok-value-in-None.ensures

@@ -1,5 +1,6 @@
 use Rattle.std.proofs.Common.{◌≡◌, ◌≤◌, Bor}
 use Rattle.tm_rounds.specs.contracts.solving.least.fn-1 as pointer
+use Rattle.tm_rounds.specs.Known.{AreKnown}
 use Rattle.tm_rounds.specs.Solving.{IsAfter}
 use Rattle.tm_rounds.proofs.solving.least.Given as goal
 
@@ -7,4 +8,5 @@ abbrev pub invariant-loop-made : goal.invariant-loop-made
 invariant-loop-made g l = record {
   after : IsAfter l.system (λ offer k. (shown : Bor _) × (pointer.words g.fn-1.I (goal.Fn-ptr g)).post l.chooser.policy shown k × (shown.now ≡ offer)) l.made l.progress;
   within : l.made ≤ l.limit;
+  known : AreKnown l.system l.progress.bounds l.progress.known;
 }
