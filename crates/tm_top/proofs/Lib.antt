@@ -11,7 +11,7 @@ pub mod Refused
 pub mod Answered
 pub mod Systems
 pub mod Analysed
-pub mod Mapped
+pub mod Halted
 pub mod Ranges
 pub mod Generated
 pub mod Benched

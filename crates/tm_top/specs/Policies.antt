@@ -3,9 +3,9 @@ use Rattle.std.specs.Prelude.{ℕ}
 use Rattle.tm_words.specs.declared.request.Policy.{Policy}
 use Rattle.tm_words.specs.declared.request.Policy.TheVariants.{Best, First}
 use Rattle.tm_rounds.specs.declared.offer.Offer.{Offer}
-use Rattle.tm_rounds.specs.Offers.{IsFirstGreatest, IsFirstExceeding}
+use Rattle.tm_rounds.specs.Policies.{by_best, by_first}
 
 -- `best` answers the first position of the greatest value, `first` the first position of a value that exceeds the bound
 abbrev pub rule_of : Policy → Offer → ℕ → Type 0
-rule_of Best offer k = IsFirstGreatest offer.values k
-rule_of First offer k = IsFirstExceeding offer k
+rule_of Best = by_best
+rule_of First = by_first

@@ -8,7 +8,6 @@ ghost use Rattle.tm_cert.specs.Shaped.{IsShaped};
 ghost use Rattle.tm_steps.specs.Certificates.{ValidCertificate};
 ghost use Rattle.tm_eqsys.specs.declared.system.System.{System as SystemValue};
 ghost use Rattle.tm_rounds.specs.Halts.{IsHalt};
-ghost use Rattle.tm_rounds.specs.Offers.{SomeExceeds};
 ghost use Rattle.tm_rounds.specs.Solutions.{AreNumbered, IsSolved, cert_with, made_certificate};
 ghost use Rattle.tm_words.specs.declared.request.Policy.{Policy as PolicyValue};
 ghost use Rattle.tm_top.specs.declared.task.Purpose.{Purpose};
@@ -21,22 +20,28 @@ use crate::task::Purpose;
 use std::alloc::Global;
 use tm_eqsys::{Footer, System};
 use tm_report::report;
-use tm_rounds::{Chooser, Halt, Policy as Function, Solved, best, first, least};
+use tm_rounds::{Halt, Solved, least_by_best, least_by_first};
 use tm_words::Policy;
 
-/// The chooser of a policy.
-#[tactic(auto, using(tm_rounds::proofs::Offered::best_exceeds))]
-fn chooser_of(policy: Policy) -> Chooser
-    ensures { (offer : _) (k : ℕ) → SomeExceeds offer.now → Function.post result.policy offer k → rule_of policy offer.now k }
+/// The rounds over a system by a policy.
+fn rounds_by(alloc: Global, system: &System, policy: Policy, limit: u32) -> Result<Solved, Halt>
+    requires limit { limit ≤ 1000000 }
+    requires cells { cells_of (equations_of system.now) ≤ 134217728 }
+    ensures solved { IfOk result (IsSolved system.now (rule_of policy) limit) }
+    ensures least { IfOk result (λ solved. Least (equations_of system.now) (vector_of (length system.now.template) solved.bounds)) }
+    ensures valid { IfOk result (λ solved. ValidCertificate (equations_of system.now) (made_certificate system.now solved)) }
+    ensures shaped { IfOk result (λ solved. IsShaped (cert_with system.now solved)) }
+    ensures numbered { IfOk result (λ solved. AreNumbered system.now solved.steps) }
+    ensures halt { IfErr result (IsHalt system.now (rule_of policy) limit) }
 {
     match policy {
-        Policy::Best => Chooser::new(best),
-        Policy::First => Chooser::new(first),
+        Policy::Best => least_by_best(alloc, system, limit),
+        Policy::First => least_by_first(alloc, system, limit),
     }
 }
 
 /// The refusal of rounds that halt, where so many are allowed.
-#[tactic(auto, using(crate::proofs::Mapped::halted_wide, crate::proofs::Mapped::halted_spent))]
+#[tactic(auto, using(crate::proofs::Halted::halted_wide, crate::proofs::Halted::halted_spent))]
 fn halted(halt: Halt, limit: u32) -> Refusal
     ensures { (purpose : Purpose) (policy : PolicyValue) (system : SystemValue) → IsHalt system (rule_of policy) limit halt
         → IsHalted purpose system policy limit result }
@@ -65,8 +70,7 @@ pub(crate) fn solve(
     ensures numbered { IfOk result (λ solved. AreNumbered system.now solved.steps) }
     ensures err { IfErr result (λ refusal. (purpose : Purpose) → IsHalted purpose system.now policy limit refusal) }
 {
-    let chooser = chooser_of(policy);
-    match least(alloc, system, limit, &chooser) {
+    match rounds_by(alloc, system, policy, limit) {
         Ok(solved) => Ok(solved),
         Err(halt) => Err(halted(halt, limit)),
     }

@@ -56,6 +56,11 @@ certificate: accepted
 const WIDE: &str =
     r#"{"bounds":[["+inf"],["+inf"]],"format":1,"rows":[["3037000500"]],"steps":[{"items":[{"edge":0,"low":{"free":["3037000500"],"start":["0"]},"to":"1","unknown":[1,0]}],"kind":"plain"}],"uppers":[]}"#;
 
+const UPPER_PROGRAM: &str = "int main() { int x; assume(3037000500*x <= 7); }";
+
+const WIDE_UPPER: &str =
+    r#"{"bounds":[["+inf"],["0"]],"format":1,"rows":[["1"]],"steps":[{"items":[{"edge":0,"low":{"free":["0"],"start":["0"]},"to":"0","unknown":[1,0]}],"kind":"plain"}],"uppers":[{"guards":["3037000500"],"kind":"bound","rows":["0"]}]}"#;
+
 /// What a run wrote.
 #[derive(Drop)]
 struct Written {
@@ -296,13 +301,20 @@ fn answers_what_stops_a_check(rt: HostRuntime) -> Result<(), Fail> {
     let mut nested = vec![in alloc; b'['; 200]?;
     nested.resize(400, b']')?;
     let squares = "int main() { int x; x = 3037000500*x; x = 3037000500*x; }";
-    let cases: [(&str, &[u8], &[u32], u8, &str); 8] = [
+    let cases: [(&str, &[u8], &[u32], u8, &str); 9] = [
         (
             "int main() { int x; }",
             WIDE.as_bytes(),
             &[],
             5,
             "wide: mul 3037000500 3037000500 at step 0 item 0\n",
+        ),
+        (
+            UPPER_PROGRAM,
+            WIDE_UPPER.as_bytes(),
+            &[],
+            5,
+            "wide: mul 3037000500 3037000500 at upper point 1 row 0 edge 0\n",
         ),
         (
             squares,
