@@ -6,8 +6,8 @@ cd "$(dirname "$0")/.." || exit 1
 rounds=${1:-2000}
 TIMEFORMAT='%U'
 timed() { { time "$@" >/dev/null; } 2>&1; }
-for size in small middle large; do
-    for op in plus times over cmp; do
+for size in whole small middle large; do
+    for op in plus times add_product over cmp; do
         line="$op $size"
         for program in crates/frac_bench/out/frac_bench bench/mpq; do
             idle=$(timed $program 0 $op $size)

@@ -20,9 +20,9 @@ static uint64_t next(void) {
 
 static int64_t below(uint64_t limit) { return (int64_t)(next() % limit) + 1; }
 
-static void fraction(mpq_t q, uint64_t limit) {
-    int64_t num = below(limit);
-    int64_t den = below(limit);
+static void fraction(mpq_t q, uint64_t num_limit, uint64_t den_limit) {
+    int64_t num = below(num_limit);
+    int64_t den = below(den_limit);
     mpz_set_si(mpq_numref(q), num);
     mpz_set_si(mpq_denref(q), den);
     mpq_canonicalize(q);
@@ -35,11 +35,20 @@ static uint64_t weight(const mpq_t q) {
     return mpz_get_ui(mpq_numref(q)) * 3 + mpz_get_ui(mpq_denref(q));
 }
 
+// The weight of the sum with a product, where the product or then the sum counts as wide.
+static uint64_t added(mpq_t r, const mpq_t left, const mpq_t right) {
+    mpq_mul(r, left, right);
+    if (mpz_sizeinbase(mpq_numref(r), 2) > 63 || mpz_sizeinbase(mpq_denref(r), 2) > 63) return 1;
+    mpq_add(r, left, r);
+    return weight(r);
+}
+
 int main(int argc, char **argv) {
     static mpq_t left[PAIRS], right[PAIRS];
-    static const char *sizes[] = {"small", "middle", "large"};
-    static const uint64_t limits[] = {999, 999999999, 9223372036854775807u};
-    static const char *ops[] = {"plus", "times", "over", "cmp"};
+    static const char *sizes[] = {"whole", "small", "middle", "large"};
+    static const uint64_t nums[] = {999, 999, 999999999, 9223372036854775807u};
+    static const uint64_t dens[] = {1, 999, 999999999, 9223372036854775807u};
+    static const char *ops[] = {"plus", "times", "add_product", "over", "cmp"};
     uint64_t rounds = argc > 1 ? strtoull(argv[1], NULL, 10) : 1;
     mpq_t r;
     mpq_init(r);
@@ -47,14 +56,14 @@ int main(int argc, char **argv) {
         mpq_init(left[i]);
         mpq_init(right[i]);
     }
-    for (int s = 0; s < 3; s++) {
+    for (int s = 0; s < 4; s++) {
         if (argc == 4 && strcmp(argv[3], sizes[s]) != 0) continue;
         state = 88172645463325252u;
         for (int i = 0; i < PAIRS; i++) {
-            fraction(left[i], limits[s]);
-            fraction(right[i], limits[s]);
+            fraction(left[i], nums[s], dens[s]);
+            fraction(right[i], nums[s], dens[s]);
         }
-        for (int o = 0; o < 4; o++) {
+        for (int o = 0; o < 5; o++) {
             if (argc == 4 && strcmp(argv[2], ops[o]) != 0) continue;
             uint64_t sum = 0;
             for (uint64_t k = 0; k < rounds; k++) {
@@ -62,7 +71,8 @@ int main(int argc, char **argv) {
                     switch (o) {
                     case 0: mpq_add(r, left[i], right[i]); sum += weight(r); break;
                     case 1: mpq_mul(r, left[i], right[i]); sum += weight(r); break;
-                    case 2: mpq_div(r, left[i], right[i]); sum += weight(r); break;
+                    case 2: sum += added(r, left[i], right[i]); break;
+                    case 3: mpq_div(r, left[i], right[i]); sum += weight(r); break;
                     default: sum += mpq_cmp(left[i], right[i]) > 0; break;
                     }
                 }

@@ -14,6 +14,13 @@ use tm_frac::{Frac, OrderedField, Wide};
 // How many pairs of operands there are.
 const PAIRS: usize = 1024;
 
+// The sizes of operands: the greatest numerator and the greatest denominator.
+#[derive(Drop)]
+struct Size {
+    num: u64,
+    den: u64,
+}
+
 // Pseudo-random numbers (Marsaglia 2003, xorshift).
 #[derive(Drop)]
 struct Random {
@@ -38,12 +45,14 @@ impl Random {
         (self.next() % limit) as i64 + 1
     }
 
-    fn fraction(&mut self, limit: u64) -> Option<Frac>
-        requires low { 0 < limit }
-        requires high { limit < 2 ^ 63 }
+    fn fraction(&mut self, size: &Size) -> Option<Frac>
+        requires num_low { 0 < size.now.num }
+        requires num_high { size.now.num < 2 ^ 63 }
+        requires den_low { 0 < size.now.den }
+        requires den_high { size.now.den < 2 ^ 63 }
     {
-        let num = self.below(limit);
-        let den = self.below(limit);
+        let num = self.below(size.num);
+        let den = self.below(size.den);
         let made = Frac::make(num, den)?;
         Some(if self.next() % 2 == 0 {
             made
@@ -53,16 +62,18 @@ impl Random {
     }
 }
 
-fn operands(alloc: Global, limit: u64) -> Result<Vec<(Frac, Frac)>, AllocError>
-    requires low { 0 < limit }
-    requires high { limit < 2 ^ 63 }
+fn operands(alloc: Global, size: &Size) -> Result<Vec<(Frac, Frac)>, AllocError>
+    requires num_low { 0 < size.now.num }
+    requires num_high { size.now.num < 2 ^ 63 }
+    requires den_low { 0 < size.now.den }
+    requires den_high { size.now.den < 2 ^ 63 }
 {
     let mut random = Random {
         state: 88172645463325252,
     };
     let mut pairs = Vec::new(alloc);
     for _ in 0..PAIRS {
-        if let (Some(left), Some(right)) = (random.fraction(limit), random.fraction(limit)) {
+        if let (Some(left), Some(right)) = (random.fraction(size), random.fraction(size)) {
             pairs.push((left, right))?;
         }
     }
@@ -85,6 +96,16 @@ fn plus(pairs: &[(Frac, Frac)], rounds: u64) -> u64 {
     for _ in 0..rounds {
         for (left, right) in pairs {
             sum = sum.wrapping_add(weight(left.plus(*right)));
+        }
+    }
+    sum
+}
+
+fn add_product(pairs: &[(Frac, Frac)], rounds: u64) -> u64 {
+    let mut sum = 0u64;
+    for _ in 0..rounds {
+        for (left, right) in pairs {
+            sum = sum.wrapping_add(weight(left.add_product(*left, *right)));
         }
     }
     sum
@@ -131,22 +152,24 @@ fn main(rt: HostRuntime) -> anyhow::Result<()> {
         None => 1,
     };
     let sizes = [
-        ("small", 999),
-        ("middle", 999999999),
-        ("large", 9223372036854775807),
+        ("whole", 999, 1),
+        ("small", 999, 999),
+        ("middle", 999999999, 999999999),
+        ("large", 9223372036854775807, 9223372036854775807),
     ];
-    for (size, limit) in sizes {
+    for (size, num, den) in sizes {
         if words.len() == 3 && words[2].as_str() != size {
             continue;
         }
-        let pairs = operands(rt.alloc(), limit)?;
-        for op in ["plus", "times", "over", "cmp"] {
+        let pairs = operands(rt.alloc(), &Size { num, den })?;
+        for op in ["plus", "times", "add_product", "over", "cmp"] {
             if words.len() == 3 && words[1].as_str() != op {
                 continue;
             }
             let sum = match op {
                 "plus" => plus(pairs.as_slice(), rounds),
                 "times" => times(pairs.as_slice(), rounds),
+                "add_product" => add_product(pairs.as_slice(), rounds),
                 "over" => over(pairs.as_slice(), rounds),
                 _ => cmp(pairs.as_slice(), rounds),
             };

@@ -9,8 +9,8 @@ use Rattle.tm_cert.specs.declared.step.Step.TheVariants.{Plain, Jump, Ray}
 use Rattle.tm_cert.specs.declared.upper.Upper.{Upper}
 use Rattle.tm_cert.specs.declared.upper.Upper.TheVariants.{Unreached, Empty, Bound}
 use Rattle.tm_cert.specs.declared.cert.Cert.{Cert}
-use Rattle.tm_steps.specs.Steps.{Pieces, Item as TheoryItem, Kind, Step as TheoryStep}
-use Rattle.tm_steps.specs.Certificates.{Evidence, Certificate}
+use Rattle.tm_validity.specs.Steps.{Pieces, Item as TheoryItem, Kind, Step as TheoryStep}
+use Rattle.tm_validity.specs.Certificates.{Evidence, Certificate}
 
 -- the start values and the free values of a trace
 abbrev pub pieces_of : Trace → Pieces
@@ -30,7 +30,15 @@ jump_item rows i = record { point = i.unknown / rows; row = i.unknown % rows; ed
 
 -- an item of a ray
 abbrev pub ray_item : ℕ → RayItem → TheoryItem
-ray_item rows i = record { point = i.unknown / rows; row = i.unknown % rows; edge = i.edge; low = pieces_of i.low; second = pieces_of i.direction; number = i.rate }
+ray_item rows i = record {
+  point = i.unknown / rows;
+  row = i.unknown % rows;
+  edge = i.edge;
+  low = pieces_of i.low;
+  second = pieces_of i.direction;
+  number =
+      i.rate;
+}
 
 -- a step
 abbrev pub step_of : ℕ → Step → TheoryStep

@@ -1,13 +1,11 @@
 //! Certificates of least bounds, as types.
 //!
 //! `specs/Certificates.antt` says which certificate of the theory each of these stands for; when one is valid is said in
-//! `specs/Certificates.antt` and `specs/Steps.antt` of `tm_steps`.
+//! `specs/Certificates.antt` and `specs/Steps.antt` of `tm_validity`.
 #![tactic(auto)]
 
 mod cert;
 mod step;
-#[cfg(test)]
-mod tests;
 mod upper;
 
 pub use cert::{Cert, Rows};

@@ -2,6 +2,7 @@
 use Rattle.std.proofs.Common.{◌≡◌, ◌∙◌, ◌↔◌, ℕ, suc, ◌*◌, List, [], ◌∷◌, ◌++◌, length, get_or, append_assoc, refl, sym, ap, ap₂, subst, arith}
 use Rattle.std.specs.Prelude.{ℤ, Option, None, Some}
 use native.Mathlib.Decide.{dec_lt, dec_le, ℕ_discrete}
+use Rattle.tm_base.specs.Elements.{In}
 use Rattle.tm_num.specs.Rational.{ℚ, zero_ℚ, ◌+ℚ◌}
 use Rattle.tm_num.specs.Extended.{Ext, neg_inf, fin, ◌≤ᴱ◌}
 use Rattle.tm_num.proofs.Laws.{ℚ_discrete}
@@ -12,21 +13,21 @@ use Rattle.tm_flow.specs.declared.edge.Edge.{Edge}
 use Rattle.tm_eqsys.specs.declared.spot.Site.{Site}
 use Rattle.tm_eqsys.specs.declared.spot.Site.TheVariants.{Upper}
 use Rattle.tm_eqsys.specs.Equations.{Equations, Vector, Least}
-use Rattle.tm_steps.specs.Words.{width, end_form}
-use Rattle.tm_steps.specs.Steps.{In, Item, Kind, Plain, Jump, Ray, Step, put, new_value, after, start_vector, Distinct, Placed}
-use Rattle.tm_steps.specs.Certificates.{Evidence, Bound, Empty, Unreached, combination, side, Need, needs, led, Certificate, bounds_vector, ValidCertificate, PointsInRange}
-use Rattle.tm_steps.specs.Decide.{dec_and, dec_lt_ℚ, dec_leᴱ, dec_finite, ext_same}
-use Rattle.tm_steps.specs.Faults.{Fault, SizeFault, FinalFault, UpperFault, HighFault, RayFault, unless, and_then, first_pass, second_pass, step_fault, steps_fault, unknowns, final_fault, uppers_fault, certificate_fault, dec_lands, dec_goes, dec_evidence}
-use Rattle.tm_steps.proofs.CertificateFaults.{certificate_fault_none}
-use Rattle.tm_steps.proofs.CertificateLaw.{certificate_least}
+use Rattle.tm_validity.specs.Words.{width, end_form}
+use Rattle.tm_validity.specs.Steps.{Item, Kind, Plain, Jump, Ray, Step, put, new_value, after, start_vector, Distinct, Placed}
+use Rattle.tm_validity.specs.Certificates.{Evidence, Bound, Empty, Unreached, combination, side, Need, needs, led, Certificate, bounds_vector, ValidCertificate, PointsInRange}
+use Rattle.tm_validity.specs.Decide.{dec_and, dec_lt_ℚ, dec_leᴱ, dec_finite, ext_same}
+use Rattle.tm_validity.specs.Faults.{Fault, SizeFault, FinalFault, UpperFault, HighFault, RayFault, unless, and_then, first_pass, second_pass, step_fault, steps_fault, unknowns, final_fault, uppers_fault, certificate_fault, dec_lands, dec_goes, dec_evidence}
+use Rattle.tm_validity.proofs.CertificateFaults.{certificate_fault_none}
+use Rattle.tm_validity.proofs.CertificateLaw.{certificate_least}
 use Rattle.tm_check.specs.Events.{Event, Test, sums, decided, fault_answer, first_stop, first_fault, operations_of}
 use Rattle.tm_check.specs.StepEvents.{first_pass_events, second_pass_events, step_events, steps_events}
 use Rattle.tm_check.specs.EvidenceEvents.{column_operations, side_operations, dec_multipliers, columns_events, columns_of, evidence_events}
 use Rattle.tm_check.specs.CheckEvents.{number_of, final_events, uppers_events, check_events}
-use Rattle.tm_check.proofs.Failed.{first_fault-append, sums_then, test_then, unless_pair, dec_from, each_then}
-use Rattle.tm_check.proofs.StepTests.{first_pass_then, landing_then}
-use Rattle.tm_check.proofs.RayTests.{going_then, ray_apart}
-use Rattle.tm_check.proofs.Stops.{stop_none, stop_fault, unanswer_is}
+use Rattle.tm_check.proofs.law.EvidenceTests.{first_fault-append, sums_then, test_then, unless_pair, dec_from, each_then}
+use Rattle.tm_check.proofs.law.StepTests.{first_pass_then, landing_then}
+use Rattle.tm_check.proofs.law.RayTests.{going_then, ray_apart}
+use Rattle.tm_check.proofs.law.Stops.{stop_none, stop_fault, unanswer_is}
 
 -- ---- steps
 plain_none : (system : Equations) (z : Vector) (all : List Item) (s k : ℕ) (items : List Item) → second_pass Plain system z all s k items ≡ None

@@ -3,10 +3,10 @@ use Rattle.std.specs.Prelude.{ℕ, false, ◌+◌, ◌*◌, List, [], ◌∷◌,
 use native.Mathlib.Decide.{dec_le, ℕ_discrete}
 use Rattle.tm_eqsys.specs.declared.spot.Site.TheVariants.{Upper}
 use Rattle.tm_eqsys.specs.Equations.{Equations, Vector}
-use Rattle.tm_steps.specs.Steps.{start_vector}
-use Rattle.tm_steps.specs.Certificates.{Evidence, Need, needs, led, Certificate, bounds_vector}
-use Rattle.tm_steps.specs.Decide.{dec_and, ext_same}
-use Rattle.tm_steps.specs.Faults.{SizeFault, FinalFault, UpperFault, unknowns}
+use Rattle.tm_validity.specs.Steps.{start_vector}
+use Rattle.tm_validity.specs.Certificates.{Evidence, Need, needs, led, Certificate, bounds_vector}
+use Rattle.tm_validity.specs.Decide.{dec_and, ext_same}
+use Rattle.tm_validity.specs.Faults.{SizeFault, FinalFault, UpperFault, unknowns}
 use Rattle.tm_check.specs.Events.{Event, Test, decided}
 use Rattle.tm_check.specs.StepEvents.{steps_events}
 use Rattle.tm_check.specs.EvidenceEvents.{evidence_events}
@@ -18,20 +18,23 @@ number_of system p r = p * length system.template + r
 -- each of these unknowns has the same bound in two vectors
 unfoldable pub final_events : Equations → Vector → Vector → List (ℕ × ℕ) → List Event
 final_events system z bounds [] = []
-final_events system z bounds (u ∷ us) = Test (decided (ext_same (z u.0 u.1) (bounds u.0 u.1))) (FinalFault (number_of system u.0 u.1)) ∷ final_events system z bounds us
+final_events system z bounds (u ∷ us) = Test (decided (ext_same (z u.0 u.1) (bounds u.0 u.1))) (FinalFault (number_of system u.0 u.1)) ∷
+    final_events system z bounds us
 
 -- each need takes the next evidence; an absent one fails
 unfoldable pub uppers_events : Equations → Vector → List Need → List Evidence → List Event
 uppers_events system z [] evidence = []
 uppers_events system z (need ∷ needs) [] = Test false (UpperFault (number_of system need.edge.to need.row) need.number) ∷ uppers_events system z needs []
 uppers_events system z (need ∷ needs) (e ∷ evidence) =
-    evidence_events (Upper (number_of system need.edge.to need.row) need.number) (UpperFault (number_of system need.edge.to need.row) need.number) system z need.edge (get_or system.template need.row []) (z need.edge.to need.row) e
+    evidence_events (Upper (number_of system need.edge.to need.row) need.number)
+    (UpperFault (number_of system need.edge.to need.row) need.number) system z need.edge (get_or system.template need.row []) (z need.edge.to need.row) e
     ++ uppers_events system z needs evidence
 
 -- sizes, steps from the start vector, the vector that they lead to, and evidence
 unfoldable pub check_events : Equations → Certificate → List Event
 check_events system certificate =
-    Test (decided (dec_and (ℕ_discrete (length certificate.bounds) (system.points * length system.template)) (dec_le (length certificate.uppers) (length (needs system (bounds_vector system certificate.bounds)))))) SizeFault
+    Test (decided (dec_and (ℕ_discrete (length certificate.bounds) (system.points * length system.template)) (dec_le (length certificate.uppers)
+    (length (needs system (bounds_vector system certificate.bounds)))))) SizeFault
     ∷ (steps_events system start_vector 0 certificate.steps
     ++ (final_events system (led certificate.steps start_vector) (bounds_vector system certificate.bounds) (unknowns system)
     ++ uppers_events system (bounds_vector system certificate.bounds) (needs system (bounds_vector system certificate.bounds)) certificate.uppers))

@@ -1,7 +1,7 @@
 -- What composed guards give to the side of a combination.
 use Rattle.std.specs.Prelude.{List, map}
 use Rattle.tm_num.specs.Rational.{ℚ, neg_ℚ}
-use Rattle.tm_oper.specs.declared.affine.Affine.{Affine}
+use Rattle.tm_compose.specs.declared.affine.Affine.{Affine}
 
 -- the negated constants of forms
 abbrev pub negated_constants : List Affine → List ℚ

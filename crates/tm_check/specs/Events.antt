@@ -5,7 +5,7 @@ use Rattle.tm_frac.specs.Operation.{Operation, is_wide, operation_of}
 use Rattle.tm_frac.specs.declared.wide.Wide.{Wide as WideOperation}
 use Rattle.tm_num.specs.Rational.{ℚ}
 use Rattle.tm_eqsys.specs.declared.spot.Site.{Site}
-use Rattle.tm_steps.specs.Faults.{Fault, and_then, SizeFault, TraceFault, LowFault, HighFault, RayFault, FinalFault, UpperFault}
+use Rattle.tm_validity.specs.Faults.{Fault, and_then, SizeFault, TraceFault, LowFault, HighFault, RayFault, FinalFault, UpperFault}
 use Rattle.tm_check.specs.declared.fault.CheckFault.{CheckFault}
 use Rattle.tm_check.specs.declared.fault.CheckFault.TheVariants.{Size, Trace, Low, High, Ray, Upper, Final, Wide}
 

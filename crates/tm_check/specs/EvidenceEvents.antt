@@ -10,10 +10,10 @@ use Rattle.tm_frac.specs.Operation.{Operation}
 use Rattle.tm_flow.specs.declared.edge.Edge.{Edge}
 use Rattle.tm_eqsys.specs.declared.spot.Site.{Site}
 use Rattle.tm_eqsys.specs.Equations.{Equations, Vector}
-use Rattle.tm_steps.specs.Words.{width, guard_forms, end_form}
-use Rattle.tm_steps.specs.Certificates.{Evidence, Bound, Empty, Unreached, num, NotFinite, combination, side, Multipliers}
-use Rattle.tm_steps.specs.Decide.{dec_and, dec_imp, dec_by, dec_lt_ℚ, dec_leᴱ, dec_finite, dec_not_finite, dec_below, dec_nonneg, ext_same}
-use Rattle.tm_steps.specs.Faults.{Fault}
+use Rattle.tm_validity.specs.Words.{width, guard_forms, end_form}
+use Rattle.tm_validity.specs.Certificates.{Evidence, Bound, Empty, Unreached, num, NotFinite, combination, side, Multipliers}
+use Rattle.tm_validity.specs.Decide.{dec_and, dec_imp, dec_by, dec_lt_ℚ, dec_leᴱ, dec_finite, dec_not_finite, dec_below, dec_nonneg, ext_same}
+use Rattle.tm_validity.specs.Faults.{Fault}
 use Rattle.tm_check.specs.Events.{Event, Test, sums, decided}
 
 -- ---- sums of products, from the left
@@ -71,12 +71,14 @@ dec_multipliers system z edge rows guards = dec_by
     (λ h. (h.row_count, (h.guard_count, (h.rows_nonneg, (h.guards_nonneg, h.zero_where)))))
     (dec_and (ℕ_discrete (length rows) (length system.template)) (dec_and (ℕ_discrete (length guards) (length (guard_forms system.variables edge.actions)))
     (dec_and (dec_nonneg rows) (dec_and (dec_nonneg guards)
-    (dec_below {P = λ r. NotFinite (z edge.from r) → get_or rows r zero_ℚ ≡ zero_ℚ} (λ r. dec_imp (dec_not_finite (z edge.from r)) (ℚ_discrete (get_or rows r zero_ℚ) zero_ℚ)) (length system.template))))))
+    (dec_below {P = λ r. NotFinite (z edge.from r) → get_or rows r zero_ℚ ≡ zero_ℚ} (λ r. dec_imp (dec_not_finite (z edge.from r))
+    (ℚ_discrete (get_or rows r zero_ℚ) zero_ℚ)) (length system.template))))))
 
 -- each column in order, compared with what it has to be as soon as it is summed
 abbrev pub columns_events : Site → Fault → Equations → Edge → List ℚ → List ℚ → List ℚ → List ℕ → List Event
 columns_events site fault system edge rows guards goal ks =
-    flat_map (λ k. sums site (column_operations system edge rows guards k) ++ Test (decided (ℚ_discrete (get_or (combination system edge rows guards) k zero_ℚ) (get_or goal k zero_ℚ))) fault ∷ []) ks
+    flat_map (λ k. sums site (column_operations system edge rows guards k) ++
+    Test (decided (ℚ_discrete (get_or (combination system edge rows guards) k zero_ℚ) (get_or goal k zero_ℚ))) fault ∷ []) ks
 
 -- the columns of an edge's words
 abbrev pub columns_of : Equations → Edge → List ℕ
@@ -87,10 +89,12 @@ unfoldable pub evidence_events : Site → Fault → Equations → Vector → Edg
 evidence_events site fault system z edge row number (Bound rows guards) =
     Test (decided (dec_multipliers system z edge rows guards)) fault ∷ Test (decided (dec_finite number)) fault
     ∷ (columns_events site fault system edge rows guards (end_form system.variables edge.actions row).coeffs (columns_of system edge)
-    ++ (sums site (side_operations system z edge rows guards ++ record { op = Add; left = side system z edge rows guards; right = (end_form system.variables edge.actions row).constant } ∷ [])
+    ++ (sums site (side_operations system z edge rows guards ++
+    record { op = Add; left = side system z edge rows guards; right = (end_form system.variables edge.actions row).constant } ∷ [])
     ++ Test (decided (dec_leᴱ (fin (side system z edge rows guards +ℚ (end_form system.variables edge.actions row).constant)) number)) fault ∷ []))
 evidence_events site fault system z edge row number (Empty rows guards) =
     Test (decided (dec_multipliers system z edge rows guards)) fault
     ∷ (columns_events site fault system edge rows guards [] (columns_of system edge)
     ++ (sums site (side_operations system z edge rows guards) ++ Test (decided (dec_lt_ℚ (side system z edge rows guards) zero_ℚ)) fault ∷ []))
-evidence_events site fault system z edge row number (Unreached r) = Test (decided (dec_lt r (length system.template))) fault ∷ Test (decided (ext_same (z edge.from r) neg_inf)) fault ∷ []
+evidence_events site fault system z edge row number (Unreached r) = Test (decided (dec_lt r (length system.template))) fault ∷
+    Test (decided (ext_same (z edge.from r) neg_inf)) fault ∷ []

@@ -4,7 +4,7 @@ use Rattle.tm_num.specs.Rational.{zero_ℚ}
 use Rattle.tm_cert.specs.declared.step.Step.{Step}
 use Rattle.tm_cert.specs.declared.step.Step.TheVariants.{Plain, Jump, Ray}
 use Rattle.tm_cert.specs.Certificates.{no_pieces, step_of}
-use Rattle.tm_steps.specs.Steps.{Item}
+use Rattle.tm_validity.specs.Steps.{Item}
 
 -- how many items a step has
 abbrev pub item_count : Step → ℕ

@@ -7,11 +7,11 @@ use Rattle.tm_eqsys.specs.declared.spot.Site.{Site}
 use Rattle.tm_eqsys.specs.declared.spot.Site.TheVariants.{Step as StepSite}
 use Rattle.tm_eqsys.specs.Equations.{Equations, Vector}
 use Rattle.tm_eqsys.specs.TraceTests.{trace_operations}
-use Rattle.tm_steps.specs.Words.{lin, end_form, start_of}
-use Rattle.tm_steps.specs.Follow.{linear_action}
-use Rattle.tm_steps.specs.Steps.{Pieces, word, Item, Kind, Plain, Jump, Ray, Step, edge_of, row_of, put, new_value, after, item_value}
-use Rattle.tm_steps.specs.Decide.{dec_and, dec_le_ℚ, dec_lt_ℚ, dec_leᴱ, dec_ltᴱ, dec_finite, dec_falls}
-use Rattle.tm_steps.specs.Faults.{Fault, TraceFault, LowFault, HighFault, RayFault, dec_named, bound_at}
+use Rattle.tm_validity.specs.Words.{lin, end_form, start_of}
+use Rattle.tm_eqsys.specs.Constants.{linear_action}
+use Rattle.tm_validity.specs.Steps.{Pieces, word, Item, Kind, Plain, Jump, Ray, Step, edge_of, row_of, put, new_value, after, item_value}
+use Rattle.tm_validity.specs.Decide.{dec_and, dec_le_ℚ, dec_lt_ℚ, dec_leᴱ, dec_ltᴱ, dec_finite, dec_falls}
+use Rattle.tm_validity.specs.Faults.{Fault, TraceFault, LowFault, HighFault, RayFault, dec_named, bound_at}
 use Rattle.tm_check.specs.Events.{Event, Test, sums, decided}
 use Rattle.tm_check.specs.Runs.{fit_events, run_events}
 
@@ -54,7 +54,8 @@ first_events kind system z s k earlier item =
 -- the items from number k on
 unfoldable pub first_pass_events : Kind → Equations → Vector → ℕ → ℕ → List Item → List Item → List Event
 first_pass_events kind system z s k earlier [] = []
-first_pass_events kind system z s k earlier (item ∷ items) = first_events kind system z s k earlier item ++ first_pass_events kind system z s (suc k) (item ∷ earlier) items
+first_pass_events kind system z s k earlier (item ∷ items) = first_events kind system z s k earlier item ++
+    first_pass_events kind system z s (suc k) (item ∷ earlier) items
 
 -- ---- after all items have passed
 -- a jump's item where p has every new bound in place: the new bound isn't below the old one, and the high trace reaches it
@@ -85,7 +86,8 @@ unfoldable pub going_events : Equations → Vector → List Item → ℕ → ℕ
 going_events system z items s k item =
     Test (decided (dec_lt_ℚ zero_ℚ item.number)) (RayFault s k)
     ∷ (carry_events (at_item s k) (RayFault s k) system (allowances items z) (edge_of system item) (row_of system item) item.second
-    ++ Test (decided (dec_le_ℚ item.number (lin (end_form system.variables (edge_of system item).actions (row_of system item)) (word item.second)))) (RayFault s k) ∷ [])
+    ++ Test (decided (dec_le_ℚ item.number (lin (end_form system.variables (edge_of system item).actions (row_of system item)) (word item.second))))
+    (RayFault s k) ∷ [])
 
 -- one item by the kind of its step
 abbrev pub second_events : Kind → Equations → Vector → List Item → ℕ → ℕ → Item → List Event

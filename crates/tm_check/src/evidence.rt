@@ -8,19 +8,19 @@ ghost use Rattle.tm_flow.specs.declared.edge.Edge.{Edge};
 ghost use Rattle.tm_eqsys.specs.Equations.{Vector};
 ghost use Rattle.tm_eqsys.specs.View.{equations_of};
 ghost use Rattle.tm_cert.specs.Certificates.{evidence_of};
-ghost use Rattle.tm_steps.specs.Certificates.{Evidence, combination};
-ghost use Rattle.tm_steps.specs.Words.{width, guard_forms};
-ghost use Rattle.tm_oper.specs.Composed.{AreComposed};
+ghost use Rattle.tm_validity.specs.Certificates.{Evidence, combination};
+ghost use Rattle.tm_validity.specs.Words.{width, guard_forms};
+ghost use Rattle.tm_compose.specs.Composed.{AreComposed};
 ghost use Rattle.tm_check.specs.Events.{Test, Answers, sums, decided};
 ghost use Rattle.tm_check.specs.EvidenceEvents.{column_operations, columns_events, columns_of, evidence_events};
 ghost use Rattle.tm_check.specs.Stands.{Stands};
 
-use crate::combine::{coefficient, column_sum, side_sum};
+use crate::combination::{coefficient, column_sum, side_sum};
 use crate::multipliers::are_multipliers;
 use tm_cert::Upper;
+use tm_compose::Paths;
 use tm_eqsys::{Bounds, System};
 use tm_frac::{Ext, Frac, OrderedField, Wide};
-use tm_oper::Paths;
 
 // Whether the combination has the goal's entry at a column.
 fn column_passes(
@@ -35,10 +35,13 @@ fn column_passes(
     requires paths { AreComposed (equations_of system.now) paths.now }
     requires edge { edge < length system.now.flow.edges }
     requires rows { length rows.now ≡ length system.now.template }
-    requires guards { (e : Edge) → slice_get system.now.flow.edges edge ≡ Some e → length guards.now ≡ length (guard_forms (length system.now.flow.names) e.actions) }
+    requires guards { (e : Edge) → slice_get system.now.flow.edges edge ≡ Some e →
+        length guards.now ≡ length (guard_forms (length system.now.flow.names) e.actions) }
     requires column { (e : Edge) → slice_get system.now.flow.edges edge ≡ Some e → column < width (length system.now.flow.names) e.actions }
     ensures { (e : Edge) → slice_get system.now.flow.edges edge ≡ Some e →
-        Answers (λ u. Unit {0}) (λ site fault. sums site (column_operations (equations_of system.now) e rows.now guards.now column) ++ Test (decided (ℚ_discrete (get_or (combination (equations_of system.now) e rows.now guards.now) column zero_ℚ) (get_or goal.now column zero_ℚ))) fault ∷ []) result }
+        Answers (λ u. Unit {0}) (λ site fault. sums site (column_operations (equations_of system.now) e rows.now guards.now column) ++
+        Test (decided (ℚ_discrete (get_or (combination (equations_of system.now) e rows.now guards.now) column zero_ℚ)
+        (get_or goal.now column zero_ℚ))) fault ∷ []) result }
 {
     let sum = column_sum(system, paths, edge, rows, guards, column)?;
     if sum == coefficient(goal, column) {
@@ -60,9 +63,11 @@ fn columns_pass(
     requires paths { AreComposed (equations_of system.now) paths.now }
     requires edge { edge < length system.now.flow.edges }
     requires rows { length rows.now ≡ length system.now.template }
-    requires guards { (e : Edge) → slice_get system.now.flow.edges edge ≡ Some e → length guards.now ≡ length (guard_forms (length system.now.flow.names) e.actions) }
+    requires guards { (e : Edge) → slice_get system.now.flow.edges edge ≡ Some e →
+        length guards.now ≡ length (guard_forms (length system.now.flow.names) e.actions) }
     ensures { (e : Edge) → slice_get system.now.flow.edges edge ≡ Some e →
-        Answers (λ u. Unit {0}) (λ site fault. columns_events site fault (equations_of system.now) e rows.now guards.now goal.now (columns_of (equations_of system.now) e)) result }
+        Answers (λ u. Unit {0}) (λ site fault. columns_events site fault (equations_of system.now) e rows.now guards.now goal.now (columns_of (equations_of
+        system.now) e)) result }
 {
     let width = system.flow.names.as_slice().len() + paths.frees(edge) as usize;
     for column in 0..width {
@@ -89,7 +94,8 @@ fn bound_passes(
     requires edge { edge < length system.now.flow.edges }
     ensures { (z : Vector) (e : Edge) → Stands (equations_of system.now) bounds.now z → slice_get system.now.flow.edges edge ≡ Some e →
         let p = unknown / length system.now.template in let r = unknown % length system.now.template in
-        Answers (λ u. Unit {0}) (λ site fault. evidence_events site fault (equations_of system.now) z e (get_or system.now.template r []) (z p r) (Evidence.Bound rows.now guards.now)) result }
+        Answers (λ u. Unit {0}) (λ site fault. evidence_events site fault (equations_of system.now) z e (get_or system.now.template r []) (z p r)
+        (Evidence.Bound rows.now guards.now)) result }
 {
     if !are_multipliers(system, paths, bounds, edge, rows, guards) {
         return Ok(None);
@@ -122,8 +128,10 @@ fn empty_passes(
     requires paths { AreComposed (equations_of system.now) paths.now }
     requires bounds { length bounds.now ≡ length system.now.flow.points * length system.now.template }
     requires edge { edge < length system.now.flow.edges }
-    ensures { (z : Vector) (e : Edge) (row : List ℤ) (number : Extended) → Stands (equations_of system.now) bounds.now z → slice_get system.now.flow.edges edge ≡ Some e →
-        Answers (λ u. Unit {0}) (λ site fault. evidence_events site fault (equations_of system.now) z e row number (Evidence.Empty rows.now guards.now)) result }
+    ensures { (z : Vector) (e : Edge) (row : List ℤ) (number : Extended) → Stands (equations_of system.now) bounds.now z →
+        slice_get system.now.flow.edges edge ≡ Some e →
+        Answers (λ u. Unit {0}) (λ site fault. evidence_events site fault (equations_of system.now) z e row number (Evidence.Empty rows.now guards.now))
+        result }
 {
     if !are_multipliers(system, paths, bounds, edge, rows, guards) {
         return Ok(None);
@@ -143,7 +151,8 @@ fn empty_passes(
 fn is_unreached(system: &System, bounds: &Bounds, edge: u32, row: u32) -> bool
     requires bounds { length bounds.now ≡ length system.now.flow.points * length system.now.template }
     requires edge { edge < length system.now.flow.edges }
-    ensures { (z : Vector) (e : Edge) → Stands (equations_of system.now) bounds.now z → slice_get system.now.flow.edges edge ≡ Some e → IsTrue result ↔ ((row < length system.now.template) × (z e.from row ≡ neg_inf)) }
+    ensures { (z : Vector) (e : Edge) → Stands (equations_of system.now) bounds.now z → slice_get system.now.flow.edges edge ≡ Some e →
+        IsTrue result ↔ ((row < length system.now.template) × (z e.from row ≡ neg_inf)) }
 {
     let count = system.template.as_slice().len();
     if row as usize >= count {
@@ -177,7 +186,8 @@ pub fn passes(
     requires edge { edge < length system.now.flow.edges }
     ensures { (z : Vector) (e : Edge) → Stands (equations_of system.now) bounds.now z → slice_get system.now.flow.edges edge ≡ Some e →
         let p = unknown / length system.now.template in let r = unknown % length system.now.template in
-        Answers (λ u. Unit {0}) (λ site fault. evidence_events site fault (equations_of system.now) z e (get_or system.now.template r []) (z p r) (evidence_of upper.now)) result }
+        Answers (λ u. Unit {0}) (λ site fault. evidence_events site fault (equations_of system.now) z e (get_or system.now.template r []) (z p r)
+        (evidence_of upper.now)) result }
 {
     match upper {
         Upper::Bound { rows, guards } => bound_passes(

@@ -1,6 +1,12 @@
 //! Why a certificate isn't accepted.
 
-use tm_eqsys::Spot;
+ghost use Rattle.std.specs.Prelude.{◌≡◌, ◌↔◌, Ok, Err, IsTrue, IsOk, IfErr, MatchResult, MatchOption};
+ghost use Rattle.tm_frac.specs.Operation.{operation_of};
+ghost use Rattle.tm_num.specs.Rational.{ℚ};
+ghost use Rattle.tm_check.specs.Events.{wide_answer};
+
+use tm_eqsys::{Site, Spot};
+use tm_frac::{Frac, Wide};
 
 /// The first test of a certificate that fails, or the first sum that is too wide. Steps, items, unknowns and edges are
 /// numbered from 0.
@@ -22,4 +28,40 @@ pub enum CheckFault {
     Final { unknown: u32 },
     /// A sum has a part above the limit of fractions.
     Wide(Spot),
+}
+
+/// The fault of an operation that was too wide at a site, outside rounds.
+pub fn wide_at(site: Site, wide: Wide<Frac>) -> CheckFault
+    ensures { result ≡ wide_answer site (operation_of (λ (q : ℚ). q) wide) }
+{
+    CheckFault::Wide(Spot {
+        round: 0,
+        site,
+        wide,
+    })
+}
+
+/// Ends a check with the fault unless the test passes.
+pub fn ensure(passes: bool, fault: CheckFault) -> Result<(), CheckFault>
+    ensures passed { IsOk result ↔ IsTrue passes }
+    ensures fault { IfErr result (λ f. f ≡ fault) }
+{
+    if passes { Ok(()) } else { Err(fault) }
+}
+
+/// The value of a trace or a direction that was followed; the fault where it ended before, and that of the site where an
+/// operation was too wide.
+pub fn value_or(
+    followed: Result<Option<Frac>, Wide<Frac>>,
+    site: Site,
+    fault: CheckFault,
+) -> Result<Frac, CheckFault>
+    ensures { MatchResult followed (λ o. MatchOption o (result ≡ Err fault) (λ v. result ≡ Ok v))
+        (λ w. result ≡ Err (wide_answer site (operation_of (λ (q : ℚ). q) w))) }
+{
+    match followed {
+        Ok(Some(value)) => Ok(value),
+        Ok(None) => Err(fault),
+        Err(wide) => Err(wide_at(site, wide)),
+    }
 }

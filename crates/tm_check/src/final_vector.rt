@@ -2,7 +2,7 @@
 
 ghost use Rattle.std.specs.Prelude.{◌≡◌, ◌<◌, ◌^◌, length};
 ghost use Rattle.tm_eqsys.specs.Equations.{Equations, Vector};
-ghost use Rattle.tm_steps.specs.Faults.{unknowns};
+ghost use Rattle.tm_validity.specs.Faults.{unknowns};
 ghost use Rattle.tm_check.specs.Events.{IsRun};
 ghost use Rattle.tm_check.specs.CheckEvents.{final_events};
 ghost use Rattle.tm_check.specs.Stands.{Stands};

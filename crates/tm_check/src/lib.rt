@@ -4,30 +4,26 @@
 //! the tests. `specs/` lists them as events: sums and tests in order, of which the first that stops decides.
 #![tactic(auto)]
 
-mod after;
-mod combine;
-mod direction;
+mod certificate;
+mod combination;
 mod evidence;
 mod fault;
 mod final_vector;
+mod first_pass;
+mod following;
 mod item;
 mod law;
 mod multipliers;
 mod names;
-mod run;
+mod new_bounds;
 mod scratch;
-mod settle;
-mod shown;
+mod second_pass;
 mod size;
 mod steps;
-mod sums;
-#[cfg(test)]
-mod tests;
 mod uppers;
-mod whole;
 
+pub use certificate::check;
 pub use fault::CheckFault;
 pub use law::{evidence_is_summed, stops_are_faults, tests_are_faults, unstopped_is_valid};
 pub use scratch::Scratch;
 pub use steps::check_steps;
-pub use whole::check;

@@ -7,13 +7,13 @@ ghost use Rattle.tm_flow.specs.declared.edge.Edge.{Edge};
 ghost use Rattle.tm_frac.specs.Extended.{extended};
 ghost use Rattle.tm_eqsys.specs.Equations.{Vector};
 ghost use Rattle.tm_eqsys.specs.View.{equations_of};
-ghost use Rattle.tm_steps.specs.Certificates.{Multipliers, NotFinite};
-ghost use Rattle.tm_oper.specs.Composed.{AreComposed};
+ghost use Rattle.tm_validity.specs.Certificates.{Multipliers, NotFinite};
+ghost use Rattle.tm_compose.specs.Composed.{AreComposed};
 ghost use Rattle.tm_check.specs.Stands.{Stands};
 
+use tm_compose::Paths;
 use tm_eqsys::{Bounds, System};
 use tm_frac::{Ext, Frac, OrderedField};
-use tm_oper::Paths;
 
 // Whether no multiplier is negative.
 fn none_negative(multipliers: &[Frac]) -> bool
@@ -42,7 +42,8 @@ fn are_allowed(system: &System, bounds: &Bounds, point: u32, rows: &[Frac]) -> b
     requires bounds { length bounds.now ≡ length system.now.flow.points * length system.now.template }
     requires point { point < length system.now.flow.points }
     requires rows { length rows.now ≡ length system.now.template }
-    ensures { (z : Vector) → Stands (equations_of system.now) bounds.now z → IsTrue result ↔ ((r : ℕ) → r < length system.now.template → NotFinite (z point r) → get_or rows.now r zero_ℚ ≡ zero_ℚ) }
+    ensures { (z : Vector) → Stands (equations_of system.now) bounds.now z → IsTrue result ↔ ((r : ℕ) → r < length system.now.template →
+        NotFinite (z point r) → get_or rows.now r zero_ℚ ≡ zero_ℚ) }
 {
     let first = point as usize * system.template.as_slice().len();
     for (r, multiplier) in rows.iter().enumerate() {
@@ -66,7 +67,8 @@ pub fn are_multipliers(
     requires paths { AreComposed (equations_of system.now) paths.now }
     requires bounds { length bounds.now ≡ length system.now.flow.points * length system.now.template }
     requires edge { edge < length system.now.flow.edges }
-    ensures { (z : Vector) (e : Edge) → Stands (equations_of system.now) bounds.now z → slice_get system.now.flow.edges edge ≡ Some e → IsTrue result ↔ Multipliers (equations_of system.now) z e rows.now guards.now }
+    ensures { (z : Vector) (e : Edge) → Stands (equations_of system.now) bounds.now z → slice_get system.now.flow.edges edge ≡ Some e →
+        IsTrue result ↔ Multipliers (equations_of system.now) z e rows.now guards.now }
 {
     if rows.len() != system.template.as_slice().len() {
         return false;

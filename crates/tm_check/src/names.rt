@@ -5,8 +5,8 @@ ghost use Rattle.tm_eqsys.specs.View.{equations_of};
 ghost use Rattle.tm_cert.specs.Certificates.{pieces_of, step_of};
 ghost use Rattle.std.specs.List.{count_by};
 ghost use Rattle.tm_eqsys.specs.Cells.{is_havoc};
-ghost use Rattle.tm_steps.specs.Steps.{Item, Placed, Sized, Unnamed};
-ghost use Rattle.tm_steps.specs.Faults.{Named, SecondSized};
+ghost use Rattle.tm_validity.specs.Steps.{Item, Placed, Sized, Unnamed};
+ghost use Rattle.tm_validity.specs.Faults.{Named, SecondSized};
 ghost use Rattle.tm_check.specs.Items.{item_count, item_at, earlier_items};
 
 use crate::item::{edge_at, low_at, second_at, unknown_at};
@@ -26,7 +26,8 @@ fn frees(actions: &[Action]) -> usize
 
 // Whether the unknown is there and not at the entry, and the edge is there and ends at its point.
 pub fn is_placed(system: &System, unknown: u32, edge: u32) -> bool
-    ensures { (item : Item) → item.point ≡ unknown / length system.now.template → item.row ≡ unknown % length system.now.template → item.edge ≡ edge → IsTrue result ↔ Placed (equations_of system.now) item }
+    ensures { (item : Item) → item.point ≡ unknown / length system.now.template → item.row ≡ unknown % length system.now.template → item.edge ≡ edge →
+        IsTrue result ↔ Placed (equations_of system.now) item }
 {
     let rows = system.template.as_slice().len() as u32;
     let points = system.flow.points.as_slice().len() as u32;
@@ -56,7 +57,8 @@ pub fn is_sized(system: &System, edge: u32, trace: &Trace) -> bool
 // Whether an item before this one has its unknown.
 fn is_repeated(step: &Step, k: usize) -> bool
     requires { k < item_count step.now }
-    ensures { (rows : ℕ) → 0 < rows → result ≡ false ↔ Unnamed (earlier_items (step_of rows step.now).items k) (item_at rows step.now k).point (item_at rows step.now k).row }
+    ensures { (rows : ℕ) → 0 < rows → result ≡ false ↔ Unnamed (earlier_items (step_of rows step.now).items k)
+        (item_at rows step.now k).point (item_at rows step.now k).row }
 {
     let unknown = unknown_at(step, k);
     for j in 0..k {
@@ -71,7 +73,8 @@ fn is_repeated(step: &Step, k: usize) -> bool
 fn is_second_sized(system: &System, step: &Step, k: usize, edge: u32) -> bool
     requires edge { edge < length system.now.flow.edges }
     requires item { k < item_count step.now }
-    ensures { (item : Item) → item.edge ≡ edge → item.second ≡ (item_at (length system.now.template) step.now k).second → IsTrue result ↔ SecondSized (step_of (length system.now.template) step.now).kind (equations_of system.now) item }
+    ensures { (item : Item) → item.edge ≡ edge → item.second ≡ (item_at (length system.now.template) step.now k).second →
+        IsTrue result ↔ SecondSized (step_of (length system.now.template) step.now).kind (equations_of system.now) item }
 {
     match step {
         Step::Plain(_) => true,

@@ -4,7 +4,7 @@ ghost use Rattle.std.specs.Prelude.{◌≡◌, ◌↔◌, ◌*◌, ◌<◌, ◌�
 ghost use Rattle.tm_frac.specs.Extended.{extended};
 ghost use Rattle.tm_eqsys.specs.Equations.{Vector};
 ghost use Rattle.tm_eqsys.specs.View.{equations_of};
-ghost use Rattle.tm_steps.specs.Certificates.{into_needs, needs_at, needs, bounds_vector};
+ghost use Rattle.tm_validity.specs.Certificates.{into_needs, needs_at, needs, bounds_vector};
 ghost use Rattle.tm_check.specs.Stands.{Stands};
 
 use tm_cert::Cert;
@@ -22,7 +22,8 @@ fn count_into(edges: &[Edge], point: u32) -> usize
 
 // How much evidence an unknown with this bound needs.
 fn count_at(system: &System, unknown: u32, bound: Ext) -> usize
-    ensures count { let rows = length system.now.template in result ≡ length (needs_at (equations_of system.now) (unknown / rows) (unknown % rows) (extended bound)) }
+    ensures count { let rows = length system.now.template in
+        result ≡ length (needs_at (equations_of system.now) (unknown / rows) (unknown % rows) (extended bound)) }
     ensures few { result ≤ 256 }
 {
     let rows = system.template.as_slice().len() as u32;
@@ -48,7 +49,8 @@ fn count_needed(system: &System, bounds: &Bounds) -> usize
 /// Whether there are as many bounds as points times rows, and at most as much evidence as the bounds need.
 pub fn has_size(system: &System, cert: &Cert) -> bool
     ensures { let S = equations_of system.now in
-        IsTrue result ↔ ((length cert.now.bounds ≡ S.points * length S.template) × (length cert.now.uppers ≤ length (needs S (bounds_vector S cert.now.bounds)))) }
+        IsTrue result ↔ ((length cert.now.bounds ≡ S.points * length S.template) ×
+        (length cert.now.uppers ≤ length (needs S (bounds_vector S cert.now.bounds)))) }
 {
     let rows = system.template.as_slice().len();
     let points = system.flow.points.as_slice().len();

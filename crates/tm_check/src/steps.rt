@@ -6,8 +6,8 @@ ghost use Rattle.tm_frac.specs.Extended.{extended};
 ghost use Rattle.tm_eqsys.specs.Equations.{Equations, Vector};
 ghost use Rattle.tm_eqsys.specs.View.{equations_of};
 ghost use Rattle.tm_cert.specs.Certificates.{step_of};
-ghost use Rattle.tm_steps.specs.Steps.{after, new_value, put, start_vector};
-ghost use Rattle.tm_steps.specs.Certificates.{led};
+ghost use Rattle.tm_validity.specs.Steps.{after, new_value, put, start_vector};
+ghost use Rattle.tm_validity.specs.Certificates.{led};
 ghost use Rattle.tm_check.specs.Events.{IsRun, first_stop};
 ghost use Rattle.tm_check.specs.Items.{item_count, item_at, is_short};
 ghost use Rattle.tm_check.specs.StepEvents.{second_pass_events, step_events, steps_events};
@@ -15,11 +15,11 @@ ghost use Rattle.tm_check.specs.Stands.{Stands, start_at};
 ghost use Rattle.tm_check.specs.Rooms.{HasRoom};
 ghost use Rattle.tm_check.specs.Usable.{IsUsable};
 
-use crate::after::{goings, landings};
 use crate::fault::CheckFault;
+use crate::first_pass::first_pass;
+use crate::new_bounds::{set_new_bounds, set_rates};
 use crate::scratch::Scratch;
-use crate::settle::{set_rates, settle};
-use crate::shown::first_pass;
+use crate::second_pass::{test_jump, test_ray};
 use tm_cert::Step;
 use tm_eqsys::{Bounds, System};
 use tm_frac::Ext;
@@ -34,20 +34,22 @@ fn second_pass(
     rates: &mut Bounds,
 ) -> Result<(), CheckFault>
     requires few { item_count step.now < 2 ^ 32 }
-    requires usable { (k : ℕ) → k < item_count step.now → IsUsable (step_of (length system.now.template) step.now).kind (equations_of system.now) (item_at (length system.now.template) step.now k) }
+    requires usable { (k : ℕ) → k < item_count step.now → IsUsable (step_of (length system.now.template) step.now).kind (equations_of system.now)
+        (item_at (length system.now.template) step.now k) }
     requires base { length base.now ≡ length system.now.flow.points * length system.now.template }
     requires next { length next.now ≡ length system.now.flow.points * length system.now.template }
     requires rates { length rates.old ≡ length system.now.flow.points * length system.now.template }
     ensures size { length rates.new ≡ length rates.old }
     ensures answer { (z : Vector) → Stands (equations_of system.now) base.now z → let theirs = step_of (length system.now.template) step.now in
-        Stands (equations_of system.now) next.now (put (new_value theirs.kind) theirs.items z) → IsRun (λ u. Unit {0}) (second_pass_events theirs.kind (equations_of system.now) z theirs.items number 0 theirs.items) result }
+        Stands (equations_of system.now) next.now (put (new_value theirs.kind) theirs.items z) →
+        IsRun (λ u. Unit {0}) (second_pass_events theirs.kind (equations_of system.now) z theirs.items number 0 theirs.items) result }
 {
     match step {
         Step::Plain(_) => Ok(()),
-        Step::Jump(_) => landings(system, step, number, base, next),
+        Step::Jump(_) => test_jump(system, step, number, base, next),
         Step::Ray(_) => {
             set_rates(step, base, rates);
-            goings(system, step, number, rates)
+            test_ray(system, step, number, rates)
         }
     }
 }
@@ -68,14 +70,16 @@ fn take(
     ensures base { length base.new ≡ length base.old }
     ensures next { length next.new ≡ length next.old }
     ensures rates { length rates.new ≡ length rates.old }
-    ensures taken { (z : Vector) → Stands (equations_of system.now) base.old z → Stands (equations_of system.now) next.old z → let theirs = step_of (length system.now.template) step.now in
-        MatchResult result (λ u. Stands (equations_of system.now) base.new (after theirs z) × Stands (equations_of system.now) next.new (after theirs z) × (first_stop (step_events (equations_of system.now) z number theirs) ≡ None))
+    ensures taken { (z : Vector) → Stands (equations_of system.now) base.old z → Stands (equations_of system.now) next.old z →
+        let theirs = step_of (length system.now.template) step.now in
+        MatchResult result (λ u. Stands (equations_of system.now) base.new (after theirs z) × Stands (equations_of system.now) next.new (after theirs z) ×
+        (first_stop (step_events (equations_of system.now) z number theirs) ≡ None))
         (λ fault. first_stop (step_events (equations_of system.now) z number theirs) ≡ Some fault) }
 {
     first_pass(system, step, number, base)?;
-    settle(step, next);
+    set_new_bounds(step, next);
     second_pass(system, step, number, base, next, rates)?;
-    settle(step, base);
+    set_new_bounds(step, base);
     Ok(())
 }
 
@@ -94,7 +98,8 @@ fn first_bound(rows: u32, unknown: u32) -> Ext
 fn restart(rows: u32, bounds: &mut Bounds)
     requires { length bounds.old < 2 ^ 32 }
     ensures size { length bounds.new ≡ length bounds.old }
-    ensures start { (system : Equations) → rows ≡ length system.template → length bounds.old ≡ system.points * length system.template → Stands system bounds.new start_vector }
+    ensures start { (system : Equations) → rows ≡ length system.template → length bounds.old ≡ system.points * length system.template →
+        Stands system bounds.new start_vector }
 {
     for u in 0..bounds.as_slice().len() as u32 {
         bounds.set(u, first_bound(rows, u));
@@ -113,7 +118,8 @@ pub fn check_steps(system: &System, steps: &[Step], scratch: &mut Scratch) -> Re
     requires room { HasRoom (equations_of system.now) scratch.old }
     ensures room { HasRoom (equations_of system.now) scratch.new }
     ensures answer { let theirs = map (step_of (length system.now.template)) steps.now in
-        IsRun (λ u. Stands (equations_of system.now) scratch.new.base (led theirs start_vector)) (steps_events (equations_of system.now) start_vector 0 theirs) result }
+        IsRun (λ u. Stands (equations_of system.now) scratch.new.base (led theirs start_vector))
+        (steps_events (equations_of system.now) start_vector 0 theirs) result }
 {
     let rows = system.template.as_slice().len() as u32;
     restart(rows, &mut scratch.base);

@@ -4,20 +4,19 @@ ghost use Rattle.std.specs.Prelude.{◌≡◌, ◌+◌, ◌*◌, ◌<◌, ◌≤
 ghost use Rattle.tm_flow.specs.declared.edge.Edge.{Edge};
 ghost use Rattle.tm_eqsys.specs.Equations.{Vector};
 ghost use Rattle.tm_eqsys.specs.View.{equations_of};
-ghost use Rattle.tm_oper.specs.Composed.{AreComposed};
+ghost use Rattle.tm_compose.specs.Composed.{AreComposed};
 ghost use Rattle.tm_cert.specs.Certificates.{evidence_of};
-ghost use Rattle.tm_steps.specs.Certificates.{into_needs, needs_at, needs};
+ghost use Rattle.tm_validity.specs.Certificates.{into_needs, needs_at, needs};
 ghost use Rattle.tm_check.specs.Events.{IsRun};
 ghost use Rattle.tm_check.specs.CheckEvents.{uppers_events};
 ghost use Rattle.tm_check.specs.Stands.{Stands};
 
 use crate::evidence::passes;
-use crate::fault::CheckFault;
-use crate::run::wide_at;
+use crate::fault::{CheckFault, wide_at};
 use tm_cert::Upper;
+use tm_compose::Paths;
 use tm_eqsys::{Bounds, Site, System};
 use tm_frac::Ext;
-use tm_oper::Paths;
 
 // The tests of the evidence at this place for an unknown and an edge into its point; an absent one fails.
 fn check_upper(
@@ -34,8 +33,10 @@ fn check_upper(
     requires unknown { unknown < length bounds.now }
     requires edge { edge < length system.now.flow.edges }
     ensures within { IfOk result (λ u. place < length uppers.now) }
-    ensures answer { (z : Vector) (e : Edge) → Stands (equations_of system.now) bounds.now z → slice_get system.now.flow.edges edge ≡ Some e → e.to ≡ unknown / length system.now.template →
-        IsRun (λ u. Unit {0}) (uppers_events (equations_of system.now) z (record { edge = e; number = edge; row = unknown % length system.now.template } ∷ []) (drop place (map evidence_of uppers.now))) result }
+    ensures answer { (z : Vector) (e : Edge) → Stands (equations_of system.now) bounds.now z → slice_get system.now.flow.edges edge ≡ Some e →
+        e.to ≡ unknown / length system.now.template →
+        IsRun (λ u. Unit {0}) (uppers_events (equations_of system.now) z (record { edge = e; number = edge; row = unknown % length system.now.template } ∷
+        []) (drop place (map evidence_of uppers.now))) result }
 {
     if place >= uppers.len() {
         return Err(CheckFault::Upper { unknown, edge });
@@ -91,7 +92,8 @@ fn check_unknown(
     requires place { place ≤ length uppers.now }
     ensures within { IfOk result (λ next. next ≤ length uppers.now) }
     ensures answer { (z : Vector) → Stands (equations_of system.now) bounds.now z →
-        let p = unknown / length system.now.template in let r = unknown % length system.now.template in let needed = needs_at (equations_of system.now) p r (z p r) in
+        let p = unknown / length system.now.template in let r = unknown % length system.now.template in
+        let needed = needs_at (equations_of system.now) p r (z p r) in
         IsRun (λ next. next ≡ place + length needed) (uppers_events (equations_of system.now) z needed (drop place (map evidence_of uppers.now))) result }
 {
     match bounds.at(unknown) {

@@ -52,7 +52,8 @@ module _ (L : ℤ) where
       by true = refl
       by false = refl
 
-  all_made : (f b : ℚ) (os : List Operation) → f ≢ zero_ℚ → b ≢ zero_ℚ → unless_zero f b os ≡ os
+  -- neither factor is 0
+  pub all_made : (f b : ℚ) (os : List Operation) → f ≢ zero_ℚ → b ≢ zero_ℚ → unless_zero f b os ≡ os
   all_made f b os n k = ap₂ (λ s t. cond s [] (cond t [] os)) (is_zero_no f n) (is_zero_no b k)
 
   -- formula 3 where the pivot row's new entry is 0

@@ -1,6 +1,7 @@
 -- The least vector of int x = 0; while (x < 100) { x = x + 1; } over the rows x and -x, from the definitions alone.
 use Rattle.std.proofs.Common.{◌≡◌, inl, inr, ⊎_elim, ℕ, zero, suc, ◌<◌, List, [], ◌∷◌, length, refl, sym, subst, arith}
 use Rattle.std.specs.Prelude.{ℤ, pos, negsuc, slice_get, slice_set, Some}
+use Rattle.tm_base.specs.Elements.{In}
 use Rattle.tm_num.specs.Rational.{ℚ, whole, zero_ℚ, ◌≤ℚ◌, ◌<ℚ◌}
 use Rattle.tm_num.specs.Extended.{Ext, neg_inf, fin, pos_inf, ◌≤ᴱ◌, ◌<ᴱ◌}
 use Rattle.tm_num.proofs.Laws.{≤ℚ_refl, le_or_lt, le_of_lt_ℚ}
@@ -8,7 +9,6 @@ use Rattle.tm_num.proofs.ExtendedLaws.{≤ᴱ_trans}
 use Rattle.tm_num.proofs.Linarith.{lin_le, lin_eq, le, reads_all}
 use Rattle.tm_flow.specs.declared.edge.Action.TheVariants.{Guard, Assign}
 use Rattle.tm_flow.specs.declared.edge.Edge.{Edge}
-use Rattle.tm_flow.specs.Elements.{In}
 use Rattle.tm_flow.proofs.ElementLemmas.{in_contains, contains_in}
 use Rattle.tm_flow.proofs.Examples.{form, minus_one, edge, counting}
 use Rattle.tm_eqsys.specs.States.{RationalState, dotℚ, valueℚ, Traces}

@@ -13,5 +13,6 @@ pub mod Widths
 pub mod Summed
 pub mod Tested
 pub mod Traced
+pub mod WithConstants
 pub mod CellCounts
 pub mod CellSums

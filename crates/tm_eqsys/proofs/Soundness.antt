@@ -3,6 +3,7 @@ use Rattle.std.proofs.Common.{◌≡◌, ◌∙◌, ◌⊎◌, inl, inr, ⊎_eli
 use Rattle.std.specs.Prelude.{pos, slice_set}
 use Rattle.std.proofs.lemmas.List.{map-set, length-set, length-map}
 use Rattle.std.proofs.lemmas.Option.{slice_get_within}
+use Rattle.tm_base.specs.Elements.{In}
 use Rattle.tm_num.specs.Rational.{whole, zero_ℚ, ◌≤ℚ◌}
 use Rattle.tm_num.specs.Extended.{fin, ◌≤ᴱ◌}
 use Rattle.tm_num.proofs.Laws.{whole-zero, whole_le}
@@ -11,7 +12,6 @@ use Rattle.tm_tree.specs.Meaning.{State, value}
 use Rattle.tm_tree.specs.Runs.{Item, node, mark, turn, start_work, Does, Configuration, Step, Follows}
 use Rattle.tm_flow.specs.declared.edge.Action.{Action}
 use Rattle.tm_flow.specs.declared.edge.Action.TheVariants.{Guard, Assign, Havoc}
-use Rattle.tm_flow.specs.Elements.{In}
 use Rattle.tm_flow.specs.Steps.{Labelled, steps_of, Acts}
 use Rattle.tm_flow.specs.Paths.{Leads, here, past, done, Arrives, at_mark, by_step, Path}
 use Rattle.tm_flow.specs.PathLaws.{EdgesArePaths, IsMark}

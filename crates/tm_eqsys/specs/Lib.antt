@@ -1,6 +1,7 @@
 pub mod ExtendedCode
 pub mod SystemLimits
 pub mod States
+pub mod Constants
 pub mod FreeValues
 pub mod Equations
 pub mod Solutions

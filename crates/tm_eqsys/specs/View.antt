@@ -1,7 +1,8 @@
 -- The equation systems and vectors that the types of the code stand for.
-use Rattle.std.specs.Prelude.{◌≡◌, ℕ, ◌+◌, ◌*◌, ◌<◌, List, length, get_or, map, flat_map}
+use Rattle.std.specs.Prelude.{◌≡◌, ℕ, ◌+◌, ◌*◌, ◌<◌, ℤ, List, [], length, get_or, map, flat_map}
 use Rattle.std.specs.List.{range_with_len}
 use Rattle.tm_num.specs.Extended.{Ext, neg_inf}
+use Rattle.tm_flow.specs.declared.edge.Edge.{Edge}
 use Rattle.tm_eqsys.specs.declared.system.System.{System}
 use Rattle.tm_eqsys.specs.Equations.{Equations, Vector}
 
@@ -12,6 +13,22 @@ equations_of s = record { variables = length s.flow.names; points = length s.flo
 -- the vector of a list of bounds, where the unknown of point p and row r has the number p * rows + r
 abbrev pub vector_of : ℕ → List Ext → Vector
 vector_of rows bounds p r = get_or bounds (p * rows + r) neg_inf
+
+-- the vector of a list of bounds of a system
+abbrev pub vector_at : System → List Ext → Vector
+vector_at system bounds = vector_of (length system.template) bounds
+
+-- there is one bound for each unknown of a system
+abbrev pub IsVectorOf : System → List Ext → Type 0
+IsVectorOf system bounds = length bounds ≡ length system.flow.points * length system.template
+
+-- the edge of a number
+abbrev pub edge_at : System → ℕ → Edge
+edge_at system edge = get_or system.flow.edges edge (record { from = 0; to = 0; actions = [] })
+
+-- the row of a number
+abbrev pub row_at : System → ℕ → List ℤ
+row_at system row = get_or system.template row []
 
 -- the list of a vector's bounds, point after point
 abbrev pub bounds_of : ℕ → ℕ → Vector → List Ext

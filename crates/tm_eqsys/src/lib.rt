@@ -13,13 +13,11 @@ mod pick;
 mod spot;
 mod sums;
 mod system;
-#[cfg(test)]
-mod tests;
 mod trace;
 
 pub use bounds::Bounds;
 pub use fit::fits;
-pub use follow::trace_value;
+pub use follow::{direction_value, trace_value};
 pub use footer::Footer;
 pub use law::{
     at_most_one_least, integer_states_are_rational, least_solutions_are_supported,
@@ -27,5 +25,6 @@ pub use law::{
 };
 pub use pick::Pick;
 pub use spot::{Part, PartFault, Site, Spot};
+pub use sums::{Constants, form_value, fraction, row_value};
 pub use system::{System, SystemFault};
 pub use trace::{Fracs, Trace};

@@ -1,5 +1,6 @@
 //! Where an operation was too wide for a fraction.
 
+use std::alloc::{AllocError, AllocFailed};
 use tm_frac::{Frac, Wide};
 
 /// A part of solving a linear problem.
@@ -48,4 +49,26 @@ pub enum PartFault {
     Wide { part: Part, wide: Wide<Frac> },
     /// There was no memory.
     NoMemory,
+}
+
+impl From<AllocError> for PartFault {
+    ghost use Rattle.std.specs.Prelude.{◌≡◌};
+    ghost use Rattle.tm_eqsys.specs.declared.spot.PartFault.TheVariants.{NoMemory};
+
+    ghost from_gives = { λ _ fault. fault ≡ NoMemory };
+
+    fn from(_error: AllocError) -> PartFault {
+        PartFault::NoMemory
+    }
+}
+
+impl<T: Drop> From<AllocFailed<T>> for PartFault {
+    ghost use Rattle.std.specs.Prelude.{◌≡◌};
+    ghost use Rattle.tm_eqsys.specs.declared.spot.PartFault.TheVariants.{NoMemory};
+
+    ghost from_gives = { λ _ fault. fault ≡ NoMemory };
+
+    fn from(_failed: AllocFailed<T>) -> PartFault {
+        PartFault::NoMemory
+    }
 }

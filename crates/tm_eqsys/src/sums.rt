@@ -5,13 +5,23 @@ ghost use Rattle.tm_num.specs.Rational.{whole, ◌+ℚ◌, ◌*ℚ◌};
 ghost use Rattle.tm_tree.specs.Numbers.{is_number, are_numbers};
 ghost use Rattle.tm_tree.specs.Limits.{is_form};
 ghost use Rattle.tm_eqsys.specs.States.{dotℚ, valueℚ};
+ghost use Rattle.tm_eqsys.specs.Constants.{form_with};
 ghost use Rattle.tm_eqsys.specs.Sums.{product_operations, row_operations, form_operations, SumAnswers};
 
 use tm_frac::{Frac, OrderedField, Wide};
 use tm_tree::Form;
 
-// A whole number within the limit of fractions.
-fn fraction(number: i64) -> Frac
+/// Which constants the forms of an edge have while it is followed.
+#[derive(Clone, Copy, Debug, PartialEq, Eq, Drop)]
+pub enum Constants {
+    /// Their own, as a trace goes.
+    Kept,
+    /// 0, as a direction goes.
+    Zero,
+}
+
+/// A number of a program, whose size is below 2^63, as a fraction.
+pub fn fraction(number: i64) -> Frac
     requires { IsTrue (is_number number) }
     ensures { result ≡ whole number }
 {
@@ -23,11 +33,15 @@ fn add_product(sum: Frac, coeff: i64, value: Frac) -> Result<Frac, Wide<Frac>>
     requires { IsTrue (is_number coeff) }
     ensures { SumAnswers (sum +ℚ (whole coeff *ℚ value)) (product_operations sum coeff value) result }
 {
-    let product = fraction(coeff).times(value)?;
-    sum.plus(product)
+    sum.add_product(fraction(coeff), value)
 }
 
-/// The value of a row at a state.
+/// The value of a row at a state, which has one value for each coefficient. It is summed from the left, starting with 0:
+/// each product has the coefficient on its left and is then added.
+///
+/// # Errors
+///
+/// The first operation whose exact result has a part above the limit, exactly where there is one. Takes no memory.
 pub fn row_value(row: &[i64], state: &[Frac]) -> Result<Frac, Wide<Frac>>
     requires numbers { IsTrue (are_numbers row.now) }
     requires size { length row.now ≡ length state.now }
@@ -40,11 +54,26 @@ pub fn row_value(row: &[i64], state: &[Frac]) -> Result<Frac, Wide<Frac>>
     Ok(sum)
 }
 
-/// The value of a form at a state.
-pub fn form_value(form: &Form, state: &[Frac]) -> Result<Frac, Wide<Frac>>
+// The form's constant, or 0 in its place.
+fn constant(form: &Form, constants: Constants) -> Frac
+    requires { IsTrue (is_number form.now.constant) }
+    ensures { result ≡ whole (form_with constants form.now).constant }
+{
+    match constants {
+        Constants::Kept => fraction(form.constant),
+        Constants::Zero => Frac::zero(),
+    }
+}
+
+/// The value of a form at a state, with its constant or with 0 in its place, which is added last.
+///
+/// # Errors
+///
+/// The first operation whose exact result has a part above the limit, exactly where there is one. Takes no memory.
+pub fn form_value(form: &Form, constants: Constants, state: &[Frac]) -> Result<Frac, Wide<Frac>>
     requires { IsTrue (is_form (length state.now) form.now) }
-    ensures { SumAnswers (valueℚ form.now state.now) (form_operations form.now state.now) result }
+    ensures { SumAnswers (valueℚ (form_with constants form.now) state.now) (form_operations (form_with constants form.now) state.now) result }
 {
     let sum = row_value(form.coeffs.as_slice(), state)?;
-    sum.plus(fraction(form.constant))
+    sum.plus(constant(form, constants))
 }

@@ -3,7 +3,7 @@ use Rattle.std.proofs.Common.{inl, inr, ℕ, zero, suc, Bool, List, [], ◌∷�
 use Rattle.std.specs.Prelude.{IsTrue, flat_map}
 use Rattle.std.specs.List.{list_all}
 use Rattle.std.proofs.lemmas.Bool.{and_from}
-use Rattle.tm_flow.specs.Elements.{In}
+use Rattle.tm_base.specs.Elements.{In}
 
 abbrev pub Each : {A : Type 0} → (A → Type 0) → List A → Type 0
 Each P [] = Unit {0}

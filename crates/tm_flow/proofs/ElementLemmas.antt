@@ -1,7 +1,7 @@
 -- The elements of lists that are made of others.
 use Rattle.std.proofs.Common.{◌≡◌, ◌⊎◌, inl, inr, ⊎_elim, ℕ, zero, suc, ◌<◌, List, [], ◌∷◌, ◌++◌, length, get_or, map, refl, ap, arith}
 use Rattle.std.specs.Prelude.{Contains, flat_map}
-use Rattle.tm_flow.specs.Elements.{In}
+use Rattle.tm_base.specs.Elements.{In}
 
 module _ {A : Type 0} where
   pub in-append_left : (xs ys : List A) (x : A) → In xs x → In (xs ++ ys) x

@@ -1,12 +1,12 @@
 -- The edges of a program are its paths.
 use Rattle.std.proofs.Common.{◌≡◌, ◌∙◌, inl, ⊎_elim, ℕ, zero, suc, ◌+◌, List, [], ◌∷◌, ◌++◌, map, refl, sym, ap, subst, arith}
 use Rattle.std.specs.Prelude.{slice_get, Some, Contains}
+use Rattle.tm_base.specs.Elements.{In}
 use Rattle.tm_tree.specs.Tree.{Statements}
 use Rattle.tm_tree.specs.PointNumbers.{exit_of}
 use Rattle.tm_tree.specs.Runs.{Item, node, mark, turn, nodes, start_work}
 use Rattle.tm_flow.specs.declared.edge.Action.{Action}
 use Rattle.tm_flow.specs.declared.edge.Edge.{Edge}
-use Rattle.tm_flow.specs.Elements.{In}
 use Rattle.tm_flow.specs.Steps.{Labelled, steps_of}
 use Rattle.tm_flow.specs.Paths.{Leads, here, past, done, Arrives, at_mark, by_step, Path}
 use Rattle.tm_flow.specs.Edges.{Way, prefixed, ways_from, behind_points, edges_from, edges_of_program}

@@ -1,10 +1,10 @@
 -- Edges go from points to points other than the entry.
 use Rattle.std.proofs.Common.{⊎_elim, ℕ, ◌+◌, ◌<◌, List, [], ◌∷◌, ◌++◌, subst, arith}
 use Rattle.std.proofs.lemmas.Option.{slice_get_within}
+use Rattle.tm_base.specs.Elements.{In}
 use Rattle.tm_tree.specs.Tree.{Statements}
 use Rattle.tm_tree.specs.PointNumbers.{exit_of}
 use Rattle.tm_tree.specs.Runs.{Item, mark}
-use Rattle.tm_flow.specs.Elements.{In}
 use Rattle.tm_flow.specs.Steps.{Labelled, steps_of}
 use Rattle.tm_flow.specs.Edges.{Way, prefixed, ways_from, behind_in, behind_points, edges_of_program}
 use Rattle.tm_flow.specs.PathLaws.{IsMark, EdgesInRange}

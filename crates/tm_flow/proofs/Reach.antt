@@ -1,6 +1,7 @@
 -- Labelled steps reach the mark of each point.
 use Rattle.std.proofs.Common.{◌≡◌, inl, ℕ, ◌+◌, Bool, true, false, List, [], ◌∷◌, ◌++◌, length, map, refl, sym, subst, arith, append_assoc}
 use Rattle.std.specs.Prelude.{if◌then◌else◌}
+use Rattle.tm_base.specs.Elements.{In}
 use Rattle.tm_tree.specs.declared.form.Form.{Form}
 use Rattle.tm_tree.specs.declared.cond.Rel.{Rel}
 use Rattle.tm_tree.specs.declared.cond.Rel.TheVariants.{Eq, Ne, Lt, Le, Gt, Ge}
@@ -10,7 +11,6 @@ use Rattle.tm_tree.specs.PointNumbers.{splits, points_of, points_in, join_of, ex
 use Rattle.tm_tree.specs.Runs.{Item, node, mark, turn, nodes, start_work, branch_work, turn_work}
 use Rattle.tm_flow.specs.declared.edge.Action.{Action}
 use Rattle.tm_flow.specs.declared.edge.Action.TheVariants.{Assign, Havoc}
-use Rattle.tm_flow.specs.Elements.{In}
 use Rattle.tm_flow.specs.Steps.{Labelled, labelled, guards, choices, steps_of}
 use Rattle.tm_flow.specs.Paths.{Leads, here, past, done}
 use Rattle.tm_flow.specs.Edges.{behind_of, behind_in, behind_points}

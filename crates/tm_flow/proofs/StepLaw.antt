@@ -1,6 +1,7 @@
 -- A step of a run does what one of its labelled steps records.
 use Rattle.std.proofs.Common.{◌≡◌, ◌∙◌, inl, inr, ⊎_elim, ℕ, Bool, true, false, List, [], ◌∷◌, ◌++◌, refl, sym, ap, subst}
 use Rattle.std.specs.Prelude.{if◌then◌else◌}
+use Rattle.tm_base.specs.Elements.{In}
 use Rattle.tm_tree.specs.declared.form.Form.{Form}
 use Rattle.tm_tree.specs.Tree.{Condition, Statements, set, havoc, assume, branch, loop, label}
 use Rattle.tm_tree.specs.Meaning.{State, MayBe}
@@ -9,7 +10,6 @@ use Rattle.tm_tree.specs.PointNumbers.{splits}
 use Rattle.tm_tree.specs.Runs.{Item, node, mark, turn, branch_work, turn_work, Does}
 use Rattle.tm_tree.proofs.CaseLaw.{cases_law}
 use Rattle.tm_flow.specs.declared.edge.Action.TheVariants.{Assign, Havoc}
-use Rattle.tm_flow.specs.Elements.{In}
 use Rattle.tm_flow.specs.Steps.{Labelled, labelled, guards, choices, steps_of, Acts}
 use Rattle.tm_flow.specs.PathLaws.{IsMark, StepsAreRecorded}
 use Rattle.tm_flow.proofs.ElementLemmas.{in-append, in-append_left, in-append_right, in-map, from_map}

@@ -2,12 +2,9 @@
 use Rattle.std.proofs.Common.{◌≡◌, ◌∙◌, sym, ap}
 use Rattle.tm_tree.specs.declared.cond.Cond.TheOpen as open_cond
 use Rattle.tm_tree.specs.declared.cond.Cond.TheFolds.{fold-roll-Cond}
-use Rattle.tm_tree.specs.declared.cond.Cond.TheVariants.{Not, Both, Either, rolls-Not, rolls-Both, rolls-Either}
-use Rattle.tm_tree.specs.Tree.{Condition, negation, both, either}
+use Rattle.tm_tree.specs.declared.cond.Cond.TheVariants.{Both, Either, rolls-Both, rolls-Either}
+use Rattle.tm_tree.specs.Tree.{Condition, both, either}
 use Rattle.tm_tree.specs.View.{condition_of, condition_step}
-
-pub condition-Not : (x : _) → condition_of (Not x) ≡ negation (condition_of x.value)
-condition-Not x = ap condition_of (sym (rolls-Not x)) ∙ fold-roll-Cond Condition condition_step (open_cond.Not x)
 
 pub condition-Both : (x y : _) → condition_of (Both x y) ≡ both (condition_of x.value) (condition_of y.value)
 condition-Both x y = ap condition_of (sym (rolls-Both x y)) ∙ fold-roll-Cond Condition condition_step (open_cond.Both x y)

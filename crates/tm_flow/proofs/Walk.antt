@@ -1,11 +1,12 @@
 -- A property of work lists that the labelled steps and the marks allow holds of the work behind each point.
-use Rattle.std.proofs.Common.{◌≡◌, ⊎_elim, ℕ, suc, ◌+◌, Bool, true, false, List, [], ◌∷◌, ◌++◌, length, refl, sym, ap, subst, arith, append_assoc, length-append}
+use Rattle.std.proofs.Common.{◌≡◌, ⊎_elim, ℕ, suc, ◌+◌, Bool, true, false, List, [], ◌∷◌, ◌++◌, length, refl, sym, ap, subst, arith, append_assoc}
+use Rattle.std.proofs.Common.{length-append}
 use Rattle.std.specs.Prelude.{if◌then◌else◌}
+use Rattle.tm_base.specs.Elements.{In}
 use Rattle.tm_tree.specs.Tree.{Condition, Statement, Statements, set, havoc, assume, branch, loop, label, nil, cons}
 use Rattle.tm_tree.specs.Cases.{cases_of}
 use Rattle.tm_tree.specs.PointNumbers.{splits, points_of, points_in, join_of, exit_of, point_count}
 use Rattle.tm_tree.specs.Runs.{Item, node, mark, turn, nodes, branch_work, turn_work}
-use Rattle.tm_flow.specs.Elements.{In}
 use Rattle.tm_flow.specs.Steps.{Labelled, labelled, guards, choices, steps_of}
 use Rattle.tm_flow.specs.Edges.{behind_of, behind_in, behind_points}
 use Rattle.tm_flow.specs.PathLaws.{IsMark}

@@ -33,7 +33,8 @@ abbrev mutual
   ways_of (havoc var line) n next = prefixed (Havoc var ∷ []) next
   ways_of (assume c line) n next = by_case true c (if splits c then arrived n else next)
   ways_of (branch c first second line) n next =
-      by_case true c (ways_in first n (arrived (join_of first second n))) ++ by_case false c (ways_in second (n + points_in first) (arrived (join_of first second n)))
+      by_case true c (ways_in first n (arrived (join_of first second n)))
+      ++ by_case false c (ways_in second (n + points_in first) (arrived (join_of first second n)))
   ways_of (loop c body line) n next = arrived n
   ways_of (label name line) n next = arrived n
 

@@ -17,7 +17,8 @@ abbrev pub line_if : Bool → ℕ → List ℕ
 line_if b line = if b then line ∷ [] else []
 
 abbrev mutual
-  -- the lines of a statement and of those in it, in order of the text, whose condition has more than 64 cases for a truth that is used: an assumption uses true alone
+  -- the lines of a statement and of those in it, in order of the text,
+  -- whose condition has more than 64 cases for a truth that is used: an assumption uses true alone
   pub wide_lines_of : Statement → List ℕ
   wide_lines_of (set var form line) = []
   wide_lines_of (havoc var line) = []
@@ -47,7 +48,8 @@ long_fault edges = option_map (λ e. fault.Actions e) (position is_long edges)
 -- what is seen by counting: the first statement with a condition of more than 64 cases, or else more than 48 points, or else more than 256 edges
 abbrev pub counted_after : List ℕ → Statements → Option FlowFault
 counted_after [] body =
-    if nat_lt 48 (point_count body) then Some (fault.Points (point_count body)) else (if nat_lt 256 (length (edges_of_program body)) then Some fault.Edges else None)
+    if nat_lt 48 (point_count body) then Some (fault.Points (point_count body))
+    else (if nat_lt 256 (length (edges_of_program body)) then Some fault.Edges else None)
 counted_after (line ∷ lines) body = Some (fault.Cases line)
 
 abbrev pub counted_fault : Statements → Option FlowFault

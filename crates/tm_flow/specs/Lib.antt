@@ -1,6 +1,5 @@
 pub mod Constants
 pub mod FlowLimits
-pub mod Elements
 pub mod Points
 pub mod Steps
 pub mod Paths

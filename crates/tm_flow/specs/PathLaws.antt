@@ -1,13 +1,13 @@
 -- What joins points, labelled steps, paths and edges.
 use Rattle.std.specs.Prelude.{◌≡◌, ◌↔◌, ℕ, ◌<◌, List, ◌∷◌, ◌++◌, length, map, flat_map, slice_get, Some, Contains}
 use Rattle.std.specs.List.{range_with_len}
+use Rattle.tm_base.specs.Elements.{In}
 use Rattle.tm_tree.specs.Tree.{Statements}
 use Rattle.tm_tree.specs.PointNumbers.{points_in, point_count}
 use Rattle.tm_tree.specs.Meaning.{State}
 use Rattle.tm_tree.specs.Runs.{Item, node, mark, turn, Does, start_work}
 use Rattle.tm_flow.specs.declared.edge.Action.{Action}
 use Rattle.tm_flow.specs.declared.edge.Edge.{Edge}
-use Rattle.tm_flow.specs.Elements.{In}
 use Rattle.tm_flow.specs.Points.{made_in, points_of_program}
 use Rattle.tm_flow.specs.Steps.{Labelled, steps_of, Acts}
 use Rattle.tm_flow.specs.Paths.{Leads, Path}

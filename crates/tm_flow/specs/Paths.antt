@@ -1,9 +1,9 @@
 -- The paths of a program: what is done between one point and the next.
 use Rattle.std.specs.Prelude.{ℕ, List, [], ◌∷◌, ◌++◌}
+use Rattle.tm_base.specs.Elements.{In}
 use Rattle.tm_tree.specs.Tree.{Statements}
 use Rattle.tm_tree.specs.Runs.{Item, mark, start_work}
 use Rattle.tm_flow.specs.declared.edge.Action.{Action}
-use Rattle.tm_flow.specs.Elements.{In}
 use Rattle.tm_flow.specs.Steps.{Labelled, steps_of}
 
 -- labelled steps lead from one work list to another, recording these actions; marks are dropped on the way

@@ -57,7 +57,7 @@ pub fn flow(alloc: Global, program: &Program) -> Result<Flow, FlowFault>
     })
 }
 
-/// The fault that is seen by counting.
+// The fault that is seen by counting.
 fn counted_fault(body: &Block) -> Option<FlowFault>
     requires { point_count body.now < 2 ^ 32 }
     ensures { result ≡ counted_fault body.now }
@@ -75,7 +75,7 @@ fn counted_fault(body: &Block) -> Option<FlowFault>
     None
 }
 
-/// The number of the first edge that is too long.
+// The number of the first edge that is too long.
 fn long_edge(edges: &[Edge]) -> Option<u32>
     requires { length edges.now < 2 ^ 32 }
     ensures { result ≡ position is_long edges.now }

@@ -83,7 +83,7 @@ pub(crate) fn edge_count(body: &Block) -> u32
     sum(way_count(body.as_slice()), edge_count_in(body.as_slice()))
 }
 
-/// The number of edges from the points that the statements and those in them make, counted up to `ENOUGH`.
+// The number of edges from the points that the statements and those in them make, counted up to `ENOUGH`.
 #[cycle(edge_counts)]
 fn edge_count_in(stmts: &[Stmt]) -> u32
     ensures { result ≡ min (edge_count_in (statements_of stmts.now)) ENOUGH }
@@ -94,7 +94,7 @@ fn edge_count_in(stmts: &[Stmt]) -> u32
     sum(edge_count_of(stmt, rest), edge_count_in(rest))
 }
 
-/// The number of edges from the points that the statement and those in it make, where the rest comes after it.
+// The number of edges from the points that the statement and those in it make, where the rest comes after it.
 #[cycle(edge_counts)]
 fn edge_count_of(stmt: &Stmt, rest: &[Stmt]) -> u32
     ensures { result ≡ min (edge_count_of (statement_of stmt.now) (way_count_in (statements_of rest.now))) ENOUGH }
@@ -114,7 +114,7 @@ fn edge_count_of(stmt: &Stmt, rest: &[Stmt]) -> u32
     }
 }
 
-/// The number of ways by a choice, where so many go on after the cases for true and for false.
+// The number of ways by a choice, where so many go on after the cases for true and for false.
 fn choice_count(cond: &Cond, held: u32, failed: u32) -> u32
     requires held { held ≤ ENOUGH }
     requires failed { failed ≤ ENOUGH }
@@ -127,7 +127,7 @@ fn choice_count(cond: &Cond, held: u32, failed: u32) -> u32
     )
 }
 
-/// The number of edges from the head of a `while`.
+// The number of edges from the head of a `while`.
 fn turn_count(cond: &Cond, body: &[Stmt], rest: &[Stmt]) -> u32
     ensures { let c = condition_of cond.now in
         result ≡ min (case_count true c * way_count_in (statements_of body.now) + case_count false c * way_count_in (statements_of rest.now)) ENOUGH }

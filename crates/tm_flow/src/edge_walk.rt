@@ -15,9 +15,9 @@ use crate::trail::Trail;
 use std::alloc::{AllocError, Global};
 use tm_tree::{Block, Stmt};
 
-/// Adds the edges that go on from the trail along the statements, up to the first point on each way.
-///
-/// `first` is the number of the first point that the statements make, `end` that of the point behind them.
+// Adds the edges that go on from the trail along the statements, up to the first point on each way.
+//
+// `first` is the number of the first point that the statements make, `end` that of the point behind them.
 #[cycle(walk)]
 fn walk(
     alloc: Global,
@@ -78,7 +78,7 @@ fn walk(
     }
 }
 
-/// Adds the edges that go on from the trail by each of the cases, and then along the statements.
+// Adds the edges that go on from the trail by each of the cases, and then along the statements.
 #[cycle(walk)]
 fn walk_cases(
     alloc: Global,
@@ -122,7 +122,7 @@ pub(crate) fn add_edges(
     add_edges(alloc, edges, rest, next, end)
 }
 
-/// Adds the edges from the points that the statement and those in it make, where the rest comes after it.
+// Adds the edges from the points that the statement and those in it make, where the rest comes after it.
 #[cycle(edges)]
 fn add_edges_in(
     alloc: Global,

@@ -16,8 +16,6 @@ mod listing;
 mod places;
 mod point;
 mod saturated;
-#[cfg(test)]
-mod tests;
 mod trail;
 mod wide;
 

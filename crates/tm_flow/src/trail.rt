@@ -86,7 +86,7 @@ impl Trail {
     }
 }
 
-/// The same actions once more.
+// The same actions once more.
 fn copies(alloc: Global, actions: &[Action]) -> Result<Vec<Action>, AllocError>
     ensures { IfOk result (λ list. list.items ≡ actions.now) }
 {
@@ -97,7 +97,7 @@ fn copies(alloc: Global, actions: &[Action]) -> Result<Vec<Action>, AllocError>
     Ok(list)
 }
 
-/// The same action once more.
+// The same action once more.
 fn copy(action: &Action) -> Result<Action, AllocError>
     ensures { IfOk result (λ same. same ≡ action.now) }
 {

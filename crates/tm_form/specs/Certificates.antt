@@ -1,5 +1,6 @@
 -- A certificate as JSON.
-use Rattle.std.specs.Prelude.{◌≡◌, ◌&&◌, ◌||◌, ◌==◌, ◌⊎◌, ℕ, ℤ, Bool, false, List, [], Option, Some, None, Result, Ok, Err, IsUtf8, if◌then◌else◌, is_some, length, map, option_and_then, codes, ⊤}
+use Rattle.std.specs.Prelude.{◌≡◌, ◌&&◌, ◌||◌, ◌==◌, ◌⊎◌, ℕ, ℤ, Bool, false, List, [], Option}
+use Rattle.std.specs.Prelude.{Some, None, Result, Ok, Err, IsUtf8, if◌then◌else◌, is_some, length, map, option_and_then, codes, ⊤}
 use Rattle.serde_json.specs.Data.{Data, member, no_members, object}
 use Rattle.serde_json.specs.Find.{as_i64, as_number, as_u64, get}
 use Rattle.serde_json.specs.Read.{read}
@@ -34,7 +35,8 @@ has_key key d = is_some (get key d)
 
 -- an object with exactly these five keys
 abbrev pub is_top : Data → Bool
-is_top d = (member_count d == 5) && has_key (codes "bounds") d && has_key (codes "format") d && has_key (codes "rows") d && has_key (codes "steps") d && has_key (codes "uppers") d
+is_top d = (member_count d == 5) && has_key (codes "bounds") d && has_key (codes "format") d && has_key (codes "rows") d && has_key (codes "steps") d &&
+    has_key (codes "uppers") d
 
 -- whether a value has the keys of a certificate
 abbrev pub top_in : Data → Result ⊤ FormFault
@@ -52,7 +54,8 @@ format_from n z = if is_one n then Ok tt else (if is_some n || is_some z then Er
 -- whether the format is 1
 abbrev pub format_in : Data → Result ⊤ FormFault
 format_in d =
-    format_from (option_and_then as_u64 (option_and_then as_number (get (codes "format") d))) (option_and_then as_i64 (option_and_then as_number (get (codes "format") d)))
+    format_from (option_and_then as_u64 (option_and_then as_number (get (codes "format") d)))
+    (option_and_then as_i64 (option_and_then as_number (get (codes "format") d)))
 
 -- the elements of a field that has its shape
 abbrev pub or_number : {A : Type 0} → Field → Option (List A) → Result (List A) FormFault
@@ -96,11 +99,13 @@ row_data row = list_data whole_data row
 -- the value with these fields
 abbrev pub cert_object : Data → Data → Data → Data → Data
 cert_object bounds rows steps uppers =
-    object (member (codes "bounds") bounds (member (codes "format") (index_data 1) (member (codes "rows") rows (member (codes "steps") steps (member (codes "uppers") uppers no_members)))))
+    object (member (codes "bounds") bounds (member (codes "format") (index_data 1)
+    (member (codes "rows") rows (member (codes "steps") steps (member (codes "uppers") uppers no_members)))))
 
 -- the value of a certificate
 abbrev pub cert_data : Cert → Data
-cert_data c = cert_object (bounds_data (length c.rows) c.bounds) (list_data row_data c.rows) (list_data (step_data (length c.rows)) c.steps) (list_data upper_data c.uppers)
+cert_data c = cert_object (bounds_data (length c.rows) c.bounds) (list_data row_data c.rows) (list_data (step_data (length c.rows)) c.steps)
+    (list_data upper_data c.uppers)
 
 -- a certificate of nothing but evidence
 pub record IsEmpty (c : Cert) : Type 0 where

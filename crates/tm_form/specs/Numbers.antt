@@ -1,5 +1,6 @@
 -- Numbers as texts.
-use Rattle.std.specs.Prelude.{◌==◌, ◌+◌, ◌&&◌, ℕ, ℤ, Bool, List, Option, Some, None, take, drop, nat_abs, nat_le, is_some, if◌then◌else◌, option_and_then, option_map, codes}
+use Rattle.std.specs.Prelude.{◌==◌, ◌+◌, ◌&&◌, ℕ, ℤ, Bool, List, Option, Some}
+use Rattle.std.specs.Prelude.{None, take, drop, nat_abs, nat_le, is_some, if◌then◌else◌, option_and_then, option_map, codes}
 use Rattle.std.specs.List.{position}
 use Rattle.std.specs.Str.{bytes_eq}
 use Rattle.std.specs.Str.Parse.{digits_value, signed_digits_value}

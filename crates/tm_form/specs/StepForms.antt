@@ -6,7 +6,8 @@ use Rattle.tm_cert.specs.declared.step.Step.{Step}
 use Rattle.tm_cert.specs.declared.step.Step.TheVariants.{Plain, Jump, Ray}
 use Rattle.tm_form.specs.Lists.{is_list, list_data, list_in}
 use Rattle.tm_form.specs.Keys.{is_kind, item_count, member_count, passes_at}
-use Rattle.tm_form.specs.StepItems.{is_jump_item, is_plain_item, is_ray_item, jump_item_data, jump_item_in, plain_item_data, plain_item_in, ray_item_data, ray_item_in}
+use Rattle.tm_form.specs.StepItems.{is_jump_item, is_plain_item, is_ray_item, jump_item_data}
+use Rattle.tm_form.specs.StepItems.{jump_item_in, plain_item_data, plain_item_in, ray_item_data, ray_item_in}
 
 -- a list of one value or more, which all pass
 abbrev pub is_filled : (Data → Bool) → Data → Bool

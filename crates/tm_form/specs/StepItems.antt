@@ -36,31 +36,55 @@ is_ray_item rows d = (member_count d == 5) && has_start rows d && passes_at is_t
 -- the item of a plain step that a value is
 abbrev pub plain_item_in : ℕ → Data → Option Item
 plain_item_in rows d =
-    option_and_then (λ edge. option_and_then (λ low. option_and_then (λ to. option_map (λ unknown. record { unknown = unknown; edge = edge; low = low; to = to })
+    option_and_then (λ edge. option_and_then (λ low. option_and_then (λ to. option_map (λ unknown. record {
+      unknown = unknown;
+      edge = edge;
+      low = low;
+      to =
+          to;
+    })
     (unknown_at rows (codes "unknown") d)) (option_and_then frac_in (get (codes "to") d))) (trace_at (codes "low") d)) (index_at (codes "edge") d)
 
 -- the item of a jump that a value is
 abbrev pub jump_item_in : ℕ → Data → Option JumpItem
 jump_item_in rows d =
-    option_and_then (λ edge. option_and_then (λ high. option_and_then (λ low. option_and_then (λ to. option_map (λ unknown. record { unknown = unknown; edge = edge; low = low; high = high; to = to })
-    (unknown_at rows (codes "unknown") d)) (option_and_then frac_in (get (codes "to") d))) (trace_at (codes "low") d)) (trace_at (codes "high") d)) (index_at (codes "edge") d)
+    option_and_then (λ edge. option_and_then (λ high. option_and_then (λ low. option_and_then (λ to. option_map (λ unknown. record {
+      unknown = unknown;
+      edge = edge;
+      low = low;
+      high = high;
+      to = to;
+    })
+    (unknown_at rows (codes "unknown") d)) (option_and_then frac_in (get (codes "to") d))) (trace_at (codes "low") d)) (trace_at (codes "high") d))
+    (index_at (codes "edge") d)
 
 -- the item of a ray that a value is
 abbrev pub ray_item_in : ℕ → Data → Option RayItem
 ray_item_in rows d =
-    option_and_then (λ direction. option_and_then (λ edge. option_and_then (λ low. option_and_then (λ rate. option_map (λ unknown. record { unknown = unknown; edge = edge; low = low; direction = direction; rate = rate })
-    (unknown_at rows (codes "unknown") d)) (option_and_then frac_in (get (codes "rate") d))) (trace_at (codes "low") d)) (index_at (codes "edge") d)) (trace_at (codes "direction") d)
+    option_and_then (λ direction. option_and_then (λ edge. option_and_then (λ low. option_and_then (λ rate. option_map (λ unknown. record {
+      unknown =
+          unknown;
+      edge = edge;
+      low = low;
+      direction = direction;
+      rate = rate;
+    })
+    (unknown_at rows (codes "unknown") d)) (option_and_then frac_in (get (codes "rate") d))) (trace_at (codes "low") d)) (index_at (codes "edge") d))
+    (trace_at (codes "direction") d)
 
 -- ---- writing
 
 -- the value of an item of a plain step
 abbrev pub plain_item_data : ℕ → Item → Data
-plain_item_data rows i = object (member (codes "edge") (index_data i.edge) (member (codes "low") (trace_data i.low) (member (codes "to") (frac_data i.to) (member (codes "unknown") (unknown_data rows i.unknown) no_members))))
+plain_item_data rows i = object (member (codes "edge") (index_data i.edge) (member (codes "low") (trace_data i.low) (member (codes "to") (frac_data i.to)
+    (member (codes "unknown") (unknown_data rows i.unknown) no_members))))
 
 -- the value of an item of a jump
 abbrev pub jump_item_data : ℕ → JumpItem → Data
-jump_item_data rows i = object (member (codes "edge") (index_data i.edge) (member (codes "high") (trace_data i.high) (member (codes "low") (trace_data i.low) (member (codes "to") (frac_data i.to) (member (codes "unknown") (unknown_data rows i.unknown) no_members)))))
+jump_item_data rows i = object (member (codes "edge") (index_data i.edge) (member (codes "high") (trace_data i.high) (member (codes "low")
+    (trace_data i.low) (member (codes "to") (frac_data i.to) (member (codes "unknown") (unknown_data rows i.unknown) no_members)))))
 
 -- the value of an item of a ray
 abbrev pub ray_item_data : ℕ → RayItem → Data
-ray_item_data rows i = object (member (codes "direction") (trace_data i.direction) (member (codes "edge") (index_data i.edge) (member (codes "low") (trace_data i.low) (member (codes "rate") (frac_data i.rate) (member (codes "unknown") (unknown_data rows i.unknown) no_members)))))
+ray_item_data rows i = object (member (codes "direction") (trace_data i.direction) (member (codes "edge") (index_data i.edge) (member (codes "low")
+    (trace_data i.low) (member (codes "rate") (frac_data i.rate) (member (codes "unknown") (unknown_data rows i.unknown) no_members)))))

@@ -113,7 +113,8 @@ pub(crate) fn bounds_value(alloc: Global, rows: usize, bounds: &Bounds) -> Resul
     requires { length bounds.now / rows * rows ≡ length bounds.now }
     ensures value { IfOk result (λ v. view v ≡ bounds_data rows bounds.now) }
     ensures shape { IfOk result (λ _. is_list (is_line rows) (bounds_data rows bounds.now) ≡ true) }
-    ensures back { IfOk result (λ _. (lines : List (List Ext)) × (list_in line_in (bounds_data rows bounds.now) ≡ Some lines) × (map extended (joined lines) ≡ bounds.now)) }
+    ensures back { IfOk result (λ _. (lines : List (List Ext)) × (list_in line_in (bounds_data rows bounds.now) ≡ Some lines) ×
+        (map extended (joined lines) ≡ bounds.now)) }
 {
     let lines = cut(alloc, rows, bounds.as_slice())?;
     write_list(alloc, rows, lines.as_slice())

@@ -6,7 +6,8 @@ ghost use Rattle.serde_json.specs.Find.{get};
 ghost use Rattle.serde_json.specs.View.{view};
 ghost use Rattle.tm_form.specs.Keys.{index_data, passes_at};
 ghost use Rattle.tm_form.specs.Numbers.{frac_in, is_text};
-ghost use Rattle.tm_form.specs.StepItems.{has_start, is_jump_item, is_plain_item, is_ray_item, jump_item_data, jump_item_in, plain_item_data, plain_item_in, ray_item_data, ray_item_in};
+ghost use Rattle.tm_form.specs.StepItems.{has_start, is_jump_item, is_plain_item, is_ray_item, jump_item_data};
+ghost use Rattle.tm_form.specs.StepItems.{jump_item_in, plain_item_data, plain_item_in, ray_item_data, ray_item_in};
 
 use crate::keys::{index_at, is_index_at, is_unknown_at, member_count, unknown_at, unknown_value};
 use crate::numbers::{frac_value, is_text, read_frac};
@@ -170,7 +171,8 @@ fn plain_item_object(
     to: Value,
     unknown: Value,
 ) -> Result<Value, AllocError>
-    ensures { IfOk result (λ v. view v ≡ object (member (codes "edge") (index_data edge) (member (codes "low") (view low) (member (codes "to") (view to) (member (codes "unknown") (view unknown) no_members))))) }
+    ensures { IfOk result (λ v. view v ≡ object (member (codes "edge") (index_data edge) (member (codes "low") (view low) (member (codes "to") (view to)
+        (member (codes "unknown") (view unknown) no_members))))) }
 {
     json!(in alloc; {"edge": edge, "low": low, "to": to, "unknown": unknown})
 }
@@ -184,7 +186,8 @@ fn jump_item_object(
     to: Value,
     unknown: Value,
 ) -> Result<Value, AllocError>
-    ensures { IfOk result (λ v. view v ≡ object (member (codes "edge") (index_data edge) (member (codes "high") (view high) (member (codes "low") (view low) (member (codes "to") (view to) (member (codes "unknown") (view unknown) no_members)))))) }
+    ensures { IfOk result (λ v. view v ≡ object (member (codes "edge") (index_data edge) (member (codes "high") (view high) (member (codes "low")
+        (view low) (member (codes "to") (view to) (member (codes "unknown") (view unknown) no_members)))))) }
 {
     json!(in alloc; {"edge": edge, "high": high, "low": low, "to": to, "unknown": unknown})
 }
@@ -198,7 +201,8 @@ fn ray_item_object(
     rate: Value,
     unknown: Value,
 ) -> Result<Value, AllocError>
-    ensures { IfOk result (λ v. view v ≡ object (member (codes "direction") (view direction) (member (codes "edge") (index_data edge) (member (codes "low") (view low) (member (codes "rate") (view rate) (member (codes "unknown") (view unknown) no_members)))))) }
+    ensures { IfOk result (λ v. view v ≡ object (member (codes "direction") (view direction) (member (codes "edge") (index_data edge)
+        (member (codes "low") (view low) (member (codes "rate") (view rate) (member (codes "unknown") (view unknown) no_members)))))) }
 {
     json!(in alloc; {"direction": direction, "edge": edge, "low": low, "rate": rate, "unknown": unknown})
 }

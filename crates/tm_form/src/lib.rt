@@ -12,8 +12,6 @@ mod numbers;
 mod reading;
 mod rows;
 mod step;
-#[cfg(test)]
-mod tests;
 mod trace;
 mod upper;
 mod writing;

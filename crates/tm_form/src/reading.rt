@@ -78,7 +78,8 @@ fn read_field<T: Entry>(
     key: &str,
     field: Field,
 ) -> Result<Vec<T>, FormFault>
-    ensures { MatchResult result (λ list. list_from field (T.shaped rows) (T.element_in rows) (get key.now (view value.now)) ≡ Ok list.items) (λ fault. fault ≢ FormFault.NoMemory → list_from field (T.shaped rows) (T.element_in rows) (get key.now (view value.now)) ≡ Err fault) }
+    ensures { MatchResult result (λ list. list_from field (T.shaped rows) (T.element_in rows) (get key.now (view value.now)) ≡ Ok list.items)
+        (λ fault. fault ≢ FormFault.NoMemory → list_from field (T.shaped rows) (T.element_in rows) (get key.now (view value.now)) ≡ Err fault) }
 {
     match value.get(key) {
         Some(member) => {
@@ -125,7 +126,8 @@ pub fn read(alloc: Global, bytes: &[u8]) -> Result<Cert, FormFault>
     ensures ok { IfOk result (λ c. SpellsCert bytes.now c) }
     ensures writable { IfOk result IsWritable }
     ensures not_json { IsErrOf result FormFault.NotJson → (d : Data) → Spells bytes.now d → ⊥ }
-    ensures refused { IfErr result (λ fault. fault ≢ FormFault.NotJson → fault ≢ FormFault.NoMemory → (d : Data) × Spells bytes.now d × (cert_in d ≡ Err fault)) }
+    ensures refused { IfErr result (λ fault. fault ≢ FormFault.NotJson → fault ≢ FormFault.NoMemory →
+        (d : Data) × Spells bytes.now d × (cert_in d ≡ Err fault)) }
 {
     match Value::from_slice(alloc, bytes) {
         Ok(value) => read_cert(alloc, &value),

@@ -1,5 +1,5 @@
 -- Operations on exact numbers, and the first of a list whose result is too wide for a field.
-use Rattle.std.specs.Prelude.{◌≡◌, ℤ, pos, nat_abs, Bool, not, ◌&&◌, List, Option, Some, None, Result, MatchResult, find}
+use Rattle.std.specs.Prelude.{◌≡◌, ℤ, pos, nat_abs, Bool, not, ◌&&◌, List, [], ◌∷◌, Option, Some, None, Result, MatchResult, find}
 use lib.Signed.{le_z}
 use Rattle.tm_num.specs.Rational.{ℚ, ◌+ℚ◌, ◌-ℚ◌, ◌*ℚ◌, ◌/ℚ◌}
 use Rattle.tm_frac.specs.declared.wide.Op.{Op}
@@ -38,6 +38,10 @@ first_wide limit os = find (is_wide limit) os
 -- the operation that a refusal carries, where m gives the number that a value stands for
 abbrev pub operation_of : {F : Type 0} → (F → ℚ) → Wide F → Operation
 operation_of m w = record { op = w.op; left = m w.left; right = m w.right }
+
+-- the operations of a + f * b: the product, and then the sum
+abbrev pub product_sum_operations : ℚ → ℚ → ℚ → List Operation
+product_sum_operations a f b = record { op = Mul; left = f; right = b } ∷ record { op = Add; left = a; right = f *ℚ b } ∷ []
 
 -- the result is the number v and none of the operations is wide, or it is the first that is
 abbrev pub Answers : {F : Type 0} → (F → ℚ) → ℤ → ℚ → List Operation → Result F (Wide F) → Type 0

@@ -37,6 +37,18 @@ pub fn gcd(a: u64, b: u64) -> u64
     odd << a_twos.min(b_twos)
 }
 
+// What is left of a size divided by g. A size of 64 bits is divided as such, which takes a fraction of the time.
+fn rest(size: u128, g: u64) -> u64
+    requires { 0 < g }
+    ensures { result ≡ size % g }
+{
+    if size < 18446744073709551616 {
+        (size as u64) % g
+    } else {
+        (size % (g as u128)) as u64
+    }
+}
+
 // The greatest common divisor of the size of t and a number above 0.
 pub fn wide_gcd(t: i128, g: u64) -> u64
     requires { 0 < g }
@@ -45,6 +57,5 @@ pub fn wide_gcd(t: i128, g: u64) -> u64
     if g == 1 {
         return 1;
     }
-    let rest = t.unsigned_abs() % (g as u128);
-    gcd(rest as u64, g)
+    gcd(rest(t.unsigned_abs(), g), g)
 }

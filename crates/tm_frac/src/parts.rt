@@ -1,6 +1,6 @@
 // Numerators and denominators of results in lowest terms, before it is known whether they fit.
 // Divisors are taken out before the products, so that no product has more than 127 bits.
-ghost use Rattle.std.specs.Prelude.{◌≡◌, ◌≢◌, ◌<◌, ◌≤◌, ◌^◌, ◌*◌, pos, ◌*ℤ◌, unsigned_abs, T};
+ghost use Rattle.std.specs.Prelude.{◌≡◌, ◌≢◌, ◌<◌, ◌≤◌, ◌^◌, ◌*◌, ◌/◌, pos, ◌*ℤ◌, unsigned_abs, T};
 ghost use Prim.Native.Nat.{◌∣◌};
 ghost use Rattle.tm_num.specs.Rational.{ratio, is_reduced, signed_by, ◌+ℚ◌, ◌*ℚ◌};
 
@@ -27,13 +27,30 @@ fn signed_quotient(n: i64, g: u64) -> i64
     if g == 1 { n } else { n / (g as i64) }
 }
 
+// size / g, where g is at least 2. A size of 64 bits is divided as such, which takes a fraction of the time.
+fn size_quotient(size: u128, g: u64) -> u128
+    requires { 2 ≤ g }
+    ensures value { result ≡ size / g }
+    ensures bound { result < 2 ^ 127 }
+{
+    if size < 18446744073709551616 {
+        ((size as u64) / g) as u128
+    } else {
+        size / (g as u128)
+    }
+}
+
 // t / g, where g divides t.
 fn wide_quotient(t: i128, g: u64) -> i128
     requires positive { 0 < g }
     requires divides { g ∣ unsigned_abs t }
     ensures value { result *ℤ pos g ≡ t }
 {
-    if g == 1 { t } else { t / (g as i128) }
+    if g == 1 {
+        return t;
+    }
+    let size = size_quotient(t.unsigned_abs(), g);
+    if t < 0 { -(size as i128) } else { size as i128 }
 }
 
 // The product of an integer and a natural number.
@@ -66,6 +83,9 @@ pub fn sum_parts(an: i64, ad: u64, bn: i64, bd: u64) -> (i128, u128)
     ensures sum { ratio result.0 result.1 ≡ ratio an ad +ℚ ratio bn bd }
     ensures lowest { T (is_reduced result.0 result.1) }
 {
+    if ad == 1 && bd == 1 {
+        return ((an as i128) + (bn as i128), 1);
+    }
     let g = gcd(ad, bd);
     let a_part = quotient(ad, g);
     let b_part = quotient(bd, g);
@@ -86,6 +106,9 @@ pub fn product_parts(an: i64, ad: u64, bn: i64, bd: u64) -> (i128, u128)
     ensures product { ratio result.0 result.1 ≡ ratio an ad *ℚ ratio bn bd }
     ensures lowest { T (is_reduced result.0 result.1) }
 {
+    if ad == 1 && bd == 1 {
+        return (signed_product(an, bn), 1);
+    }
     if an == 0 || bn == 0 {
         return (0, 1);
     }

@@ -1,13 +1,4 @@
-pub mod Complete
-pub mod Finish
-pub mod Sound
-pub mod Back
-pub mod Meaning
-pub mod Deep
-pub mod Scanned
-pub mod Exact
-pub mod Flat
-pub mod Unique
-pub mod Once
-pub mod Advance
-pub mod Plain
+pub mod view
+pub mod faults
+pub mod depth
+pub mod grammar

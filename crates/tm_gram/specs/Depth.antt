@@ -1,7 +1,11 @@
 -- Which tokens open a construct, and how many are open there.
 use Rattle.std.specs.Prelude.{◌++◌, true, false, nat_lt, ℕ, suc, List, [], ◌∷◌, Option, Some, None}
-use Rattle.tm_gram.specs.Grammar.{Kind, infix_sign, bang, left_paren, left_brace, if_word, while_word, Token, token, Expr, number, variable, free, grouped, prefixed, joined, Declarator, bare, given, Declarators, declares, declares_more, Core, empty, block, if_alone, if_else, repeat, assumed, set, step_after, step_before, Sub, labelled, plain, Items, no_items, label, declaration, item, Parameters, nothing, void_at, Return, no_return, returns, returns_minus, Program, program}
-use Rattle.tm_gram.specs.Machine.{Goal, operand, more, statement, after_name, maybe_else, condition, declarator, declared, some_name, parameters, returned, some_number, only, step, entry, takes, skips, stops}
+use Rattle.tm_gram.specs.Grammar.{Kind, infix_sign, bang, left_paren, left_brace, if_word, while_word, Token, token, Expr, number, variable, free, grouped}
+use Rattle.tm_gram.specs.Grammar.{prefixed, joined, Declarator, bare, given, Declarators, declares, declares_more, Core, empty, block, if_alone, if_else}
+use Rattle.tm_gram.specs.Grammar.{repeat, assumed, set, step_after, step_before, Sub, labelled, plain, Items, no_items, label, declaration, item, Parameters}
+use Rattle.tm_gram.specs.Grammar.{nothing, void_at, Return, no_return, returns, returns_minus, Program, program}
+use Rattle.tm_gram.specs.Machine.{Goal, operand, more, statement, after_name, maybe_else, condition, declarator, declared, some_name, parameters, returned}
+use Rattle.tm_gram.specs.Machine.{some_number, only, step, entry, takes, skips, stops}
 
 -- For each token of the spelling: whether it opens a construct, and how many are open at it.
 abbrev pub opens_expr : ℕ → Expr → List (Option ℕ)

@@ -168,7 +168,8 @@ abbrev mutual
   spell_core (empty a) = token semicolon a ∷ []
   spell_core (block a is b) = token left_brace a ∷ (spell_items is ++ token right_brace b ∷ [])
   spell_core (if_alone a b e c s) = token if_word a ∷ token left_paren b ∷ (spell_expr e ++ token right_paren c ∷ spell_sub s)
-  spell_core (if_else a b e c s d t) = token if_word a ∷ token left_paren b ∷ (spell_expr e ++ token right_paren c ∷ (spell_sub s ++ token else_word d ∷ spell_sub t))
+  spell_core (if_else a b e c s d t) =
+      token if_word a ∷ token left_paren b ∷ (spell_expr e ++ token right_paren c ∷ (spell_sub s ++ token else_word d ∷ spell_sub t))
   spell_core (repeat a b e c s) = token while_word a ∷ token left_paren b ∷ (spell_expr e ++ token right_paren c ∷ spell_sub s)
   spell_core (assumed a b e c d) = token assume_word a ∷ token left_paren b ∷ (spell_expr e ++ token right_paren c ∷ token semicolon d ∷ [])
   spell_core (set x a g b e c) = token (a_name x) a ∷ token (change_sign g) b ∷ (spell_expr e ++ token semicolon c ∷ [])
@@ -254,7 +255,9 @@ pub data Program : Type 0 where
   program : ℕ → ℕ → ℕ → Parameters → ℕ → ℕ → Items → Return → ℕ → ℕ → Program
 
 abbrev pub spell : Program → List Token
-spell (program a b c ps d e is r f g) = token int_word a ∷ token main_word b ∷ token left_paren c ∷ (spell_parameters ps ++ token right_paren d ∷ token left_brace e ∷ (spell_items is ++ (spell_return r ++ token right_brace f ∷ token the_end g ∷ [])))
+spell (program a b c ps d e is r f g) =
+    token int_word a ∷ token main_word b ∷ token left_paren c ∷ (spell_parameters ps
+    ++ token right_paren d ∷ token left_brace e ∷ (spell_items is ++ (spell_return r ++ token right_brace f ∷ token the_end g ∷ [])))
 
 abbrev pub Good : Program → Type 0
 Good (program a b c ps d e is r f g) = GoodItems is

@@ -1,6 +1,8 @@
 -- A machine that reads a text token by token: a stack of what has still to come.
 use Rattle.std.specs.Prelude.{◌++◌, ℕ, suc, List, [], ◌∷◌, Option, Some, None}
-use Rattle.tm_gram.specs.Grammar.{Op, plus_op, minus_op, replaces, Kind, a_name, a_number, infix_sign, bang, left_paren, right_paren, left_brace, right_brace, comma, semicolon, colon, change_sign, step_sign, int_word, main_word, void_word, if_word, else_word, while_word, return_word, assume_word, nondet_word, the_end, Token, token}
+use Rattle.tm_gram.specs.Grammar.{Op, plus_op, minus_op, replaces, Kind, a_name, a_number, infix_sign, bang, left_paren, right_paren, left_brace, right_brace}
+use Rattle.tm_gram.specs.Grammar.{comma, semicolon, colon, change_sign, step_sign, int_word, main_word, void_word, if_word, else_word, while_word}
+use Rattle.tm_gram.specs.Grammar.{return_word, assume_word, nondet_word, the_end, Token, token}
 
 -- what has to stand behind an expression
 pub data Ender : Type 0 where

@@ -1,7 +1,8 @@
 //! What has to come next, and what it makes of a token.
 
 ghost use Rattle.std.specs.Prelude.{◌≢◌};
-ghost use Rattle.tm_gram.specs.declared.goal.Goal.TheVariants.{Operand, More, Statement, AfterName, MaybeElse, Condition, Declarator, Declared, SomeName, Parameters, Returned, SomeNumber, Only};
+ghost use Rattle.tm_gram.specs.declared.goal.Goal.TheVariants.{Operand, More, Statement, AfterName, MaybeElse, Condition, Declarator, Declared, SomeName};
+ghost use Rattle.tm_gram.specs.declared.goal.Goal.TheVariants.{Parameters, Returned, SomeNumber, Only};
 ghost use Rattle.tm_gram.specs.View.{goal_of, symbol_kind, Entered};
 
 use crate::symbol::{Change, Op, Symbol};
@@ -124,7 +125,7 @@ fn more(ender: Ender, depth: u32, symbol: Symbol) -> Entry
     }
 }
 
-/// A statement under another one or behind a label: no declaration.
+// A statement under another one or behind a label: no declaration.
 fn sub(depth: u32, symbol: Symbol) -> Entry
     ensures { Entered result (goal_of (Statement Place.Sub depth)) (symbol_kind symbol) }
 {
@@ -148,7 +149,7 @@ fn sub(depth: u32, symbol: Symbol) -> Entry
     }
 }
 
-/// A statement where more may follow: also a declaration, the end of the block or, in `main`, `return`.
+// A statement where more may follow: also a declaration, the end of the block or, in `main`, `return`.
 fn item(place: Place, depth: u32, symbol: Symbol) -> Entry
     requires { place ≢ Place.Sub }
     ensures { Entered result (goal_of (Statement place depth)) (symbol_kind symbol) }

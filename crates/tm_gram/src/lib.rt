@@ -9,6 +9,3 @@ mod symbol;
 pub use laws::{every_front, one_program};
 pub use machine::{Syntax, examine};
 pub use symbol::{Change, Direction, Op, Relation, Symbol, symbol_of};
-
-#[cfg(test)]
-mod tests;

@@ -11,7 +11,7 @@ use crate::symbol::symbol_of;
 use std::alloc::{AllocError, Global};
 use tm_lex::{Kind, Token};
 
-/// Puts what has to come next onto the stack.
+// Puts what has to come next onto the stack.
 fn add(stack: &mut Vec<Goal>, entry: Entry) -> Result<(), AllocError>
     ensures { OnOk result (stack_of stack.new.items ≡ added (entry_of entry) (stack_of stack.old.items)) }
 {
@@ -45,7 +45,7 @@ pub enum Outcome {
     TooDeep,
 }
 
-/// Takes a token.
+// Takes a token.
 fn advance(stack: &mut Vec<Goal>, kind: Kind) -> Result<Outcome, AllocError>
     ensures { IfOk result (λ o. Advances o (verdict (stack_of stack.old.items) (plain_kind kind)) (stack_of stack.new.items)) }
 {
@@ -77,7 +77,7 @@ pub enum Syntax {
     Nested { at: u32 },
 }
 
-/// A stack on which a whole program has to come.
+// A stack on which a whole program has to come.
 fn whole_program(alloc: Global) -> Result<Vec<Goal>, AllocError>
     ensures { IfOk result (λ stack. stack_of stack.items ≡ start) }
 {
@@ -92,7 +92,7 @@ fn whole_program(alloc: Global) -> Result<Vec<Goal>, AllocError>
     Ok(stack)
 }
 
-/// The first fault of the grammar, by the machine.
+// The first fault of the grammar, by the machine.
 fn recognise(alloc: Global, tokens: &[Token]) -> Result<Syntax, AllocError>
     ensures { IfOk result (λ s. scan_of s ≡ scan start (map plain_token tokens.now)) }
 {

@@ -1,3 +1,4 @@
 pub mod InPlace
 pub mod Parts
+pub mod Pieces
 pub mod Present

@@ -1,5 +1,5 @@
 -- A piece that is written part by part.
-use Rattle.std.proofs.Common.{◌≡◌, ◌-◌, ℕ, List, [], ◌++◌, length, take, drop, sym, ap, subst, ◌∙◌, append_assoc, append-nil, take-append-drop}
+use Rattle.std.proofs.Common.{◌≡◌, ◌-◌, ℕ, List, ◌++◌, length, take, drop, sym, ap, subst, ◌∙◌, append_assoc, take-append-drop}
 use Rattle.std.proofs.KnownBytes.{Appends-trans, Appends-kept}
 use Rattle.std.proofs.Math.Seq.{take-append_seam}
 use Rattle.std.proofs.lemmas.List.{take_rest}
@@ -17,12 +17,6 @@ pub as_prefix : {before now : Option (List ℕ)} {piece rest : List ℕ} → Has
     → (n : ℕ) × Appends before now (take n piece)
 as_prefix {before} {now} {piece} {rest} done =
     (length done.front, subst (Appends before now) (sym (ap (take (length done.front)) done.split ∙ take-append_seam done.front rest)) done.appended)
-
--- with no rest it is the whole piece
-pub as_whole : {before now : Option (List ℕ)} {piece rest : List ℕ} → HasWritten before now piece rest → rest ≡ []
-    → Appends before now piece
-as_whole {before} {now} done ended =
-    subst (Appends before now) (sym (done.split ∙ ap (λ r. done.front ++ r) ended ∙ append-nil done.front)) done.appended
 
 -- a write took n bytes of the rest
 pub after_write : {before now next : Option (List ℕ)} {piece rest : List ℕ} (n : ℕ) → HasWritten before now piece rest

@@ -1,5 +1,5 @@
 -- What a `MemSink` keeps, and what its puts do.
-use Rattle.std.specs.Prelude.{◌≡◌, ◌==◌, ◌++◌, ℕ, List, Option, Some, None, Ok, Err, find, option_map, take}
+use Rattle.std.specs.Prelude.{◌≡◌, ◌==◌, ◌++◌, ℕ, List, Option, Some, None, Ok, Err, find, option_map, take, map}
 use Rattle.tm_io.specs.Puts.{Put}
 use Rattle.tm_io.specs.declared.sink.PutFault.TheVariants.{Failed, NoMemory}
 use Rattle.tm_io.specs.declared.mem_sink.MemSink.{MemSink}
@@ -7,6 +7,10 @@ use Rattle.tm_io.specs.declared.mem_sink.MemSink.{MemSink}
 -- the bytes that it holds
 abbrev pub bytes_in : MemSink → List ℕ
 bytes_in sink = sink.held.items
+
+-- the pieces that it took whole
+abbrev pub pieces_in : MemSink → List (List ℕ)
+pieces_in sink = map (λ piece. piece.items) sink.pieces.items
 
 -- how many puts were made
 abbrev pub puts_made : MemSink → ℕ

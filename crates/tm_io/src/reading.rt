@@ -35,7 +35,7 @@ pub(crate) fn read_front<R: Read>(
     Ok(bytes)
 }
 
-/// Reads once, up to `room` bytes, in place at the end of `bytes`.
+// Reads once, up to `room` bytes, in place at the end of `bytes`.
 fn read_piece<R: Read>(reader: &mut R, bytes: &mut Vec<u8>, room: usize) -> Result<(), LoadFault>
     requires { vec_len bytes.old + room < 2 ^ 64 }
     ensures { OnOk result (MovesPiece (R.remaining reader.old) (R.remaining reader.new)
@@ -52,7 +52,7 @@ fn read_piece<R: Read>(reader: &mut R, bytes: &mut Vec<u8>, room: usize) -> Resu
     }
 }
 
-/// Reads once into the part of `buf` from `start` on.
+// Reads once into the part of `buf` from `start` on.
 fn read_at<R: Read>(reader: &mut R, buf: &mut [u8], start: usize) -> io::Result<usize>
     requires { start ≤ length buf.old }
     ensures front { take start buf.new ≡ take start buf.old }
@@ -65,7 +65,7 @@ fn read_at<R: Read>(reader: &mut R, buf: &mut [u8], start: usize) -> io::Result<
     read_once(reader, &mut buf[start..])
 }
 
-/// One read, made again while it is interrupted.
+// One read, made again while it is interrupted.
 fn read_once<R: Read>(reader: &mut R, buf: &mut [u8]) -> io::Result<usize>
     ensures bound { ReadsAtMost result buf.new }
     ensures bytes { ReadConsumes (R.remaining reader.old) (R.remaining reader.new) result buf.new }

@@ -29,7 +29,7 @@ pub(crate) fn write_whole<W: Write>(writer: &mut W, piece: &[u8]) -> Result<(), 
     }
 }
 
-/// One write, made again while it is interrupted.
+// One write, made again while it is interrupted.
 fn write_once<W: Write>(writer: &mut W, buf: &[u8]) -> io::Result<usize>
     ensures bound { WritesAtMost result buf.now }
     ensures bytes { WriteAppends (W.contents writer.old) (W.contents writer.new) result buf.now }

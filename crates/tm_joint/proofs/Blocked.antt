@@ -9,7 +9,7 @@ use Rattle.tm_eqsys.specs.declared.spot.PartFault.{PartFault}
 use Rattle.tm_eqsys.specs.declared.spot.PartFault.TheVariants.{Wide, NoMemory}
 use Rattle.tm_eqsys.specs.declared.system.System.{System}
 use Rattle.tm_eqsys.proofs.Widths.{first_wide_later, first_wide_sooner}
-use Rattle.tm_point.specs.Limits.{Limit}
+use Rattle.tm_transformers.specs.Limits.{Limit}
 use Rattle.tm_joint.specs.Rows.{AllStand, IsSideFault}
 use Rattle.tm_joint.specs.Blocks.{edge_for, block_of, split_width, blocks_from, split_columns, side_of, side_operations}
 

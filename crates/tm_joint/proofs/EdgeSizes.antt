@@ -13,8 +13,8 @@ use Rattle.tm_eqsys.proofs.Sizes.{both, flow_sizes}
 use Rattle.tm_eqsys.specs.View.{vector_of}
 use Rattle.tm_num.specs.Rational.{ℚ, zero_ℚ, one_ℚ, neg_ℚ}
 use Rattle.tm_num.specs.Extended.{Ext, neg_inf, fin, pos_inf}
-use Rattle.tm_steps.specs.Words.{Affine, free_count, width, guards_from, guard_forms, columns, column, composed}
-use Rattle.tm_point.specs.EdgeProblems.{source_limit, source_limits, guard_limits}
+use Rattle.tm_validity.specs.Words.{Affine, free_count, width, guards_from, guard_forms, columns, column, composed}
+use Rattle.tm_transformers.specs.EdgeProblems.{source_limit, source_limits, guard_limits}
 use Rattle.tm_joint.specs.Numbers.{ArePicked}
 use Rattle.tm_joint.specs.Rows.{embedded}
 use Rattle.tm_joint.proofs.Picking.{system_size, edge_within}

@@ -3,7 +3,7 @@ use Rattle.std.proofs.Common.{◌≡◌, ◌∙◌, ℕ, zero, suc, ◌+◌, ◌
 use Rattle.std.proofs.lemmas.List.{append-nil, drop_more, drop_all}
 use Rattle.tm_eqsys.specs.declared.system.System.{System}
 use Rattle.tm_ray.specs.declared.layout.Rise.{Rise}
-use Rattle.tm_steps.specs.Words.{width, free_count}
+use Rattle.tm_validity.specs.Words.{width, free_count}
 use Rattle.tm_joint.specs.Blocks.{edge_at, edge_for, split_width, split_columns}
 use Rattle.tm_joint.specs.Layouts.{columns_from, rise_of, rises_from, layout_of}
 

@@ -1,10 +1,14 @@
 -- What the unknowns of a list have to do with the numbers.
-use Rattle.std.proofs.Common.{◌≡◌, ◌∙◌, ⊎_elim, ℕ, suc, ◌+◌, ◌-◌, ◌/◌, ◌<◌, ◌≤◌, List, [], ◌∷◌, length, get_or, map, Option, refl, ap, subst, arith, div-add-mod'}
+use Rattle.std.proofs.Common.{◌≡◌, ◌∙◌, ⊎_elim, ℕ, ◌*◌, ◌/◌, ◌<◌, List, [], ◌∷◌, length, get_or, map, Option, None, refl, ap, sym, subst, arith, div-add-mod'}
+use Rattle.std.proofs.lemmas.List.{length-map, get_or-map}
+use Rattle.std.proofs.lemmas.Nat.{row_below_turned}
+use Rattle.tm_base.specs.Elements.{In}
 use Rattle.tm_eqsys.specs.declared.system.System.{System}
-use Rattle.tm_steps.specs.Steps.{In}
-use Rattle.tm_point.specs.JointProblems.{Listed}
+use Rattle.tm_transformers.specs.JointProblems.{Listed, picked}
 use Rattle.tm_joint.specs.declared.node.Node.{Node}
-use Rattle.tm_joint.specs.Numbers.{listed_of, number_of, all_listed, source_of, node_of, nodes_from}
+use Rattle.tm_joint.specs.Numbers.{listed_of, number_of, all_listed, source_of, node_of, nodes_of, IsPicked, ArePicked, edge_of}
+use Rattle.tm_joint.proofs.Picking.{picked_at}
+use Rattle.tm_joint.proofs.EdgeSizes.{edge_from}
 
 -- the number of the unknown of a number
 pub number_back : (rows : ℕ) (pick : List (Option ℕ)) (u : ℕ) → number_of rows (listed_of rows pick u) ≡ u
@@ -15,44 +19,41 @@ module _ (system : System) (pick : List (Option ℕ)) where
   abbrev pub shown : Node → Listed
   shown a = listed_of (length system.template) pick a.unknown
 
-  -- a node of the list from a place on
-  pub record IsNode (from : ℕ) (list : List ℕ) (a : Node) : Type 0 where
-    pub place : from ≤ a.place
-    pub within : a.place < from + length list
-    pub at : (d : Listed) → get_or (all_listed system pick list) (a.place - from) d ≡ shown a
+  -- a node of a list of picked unknowns
+  pub record IsNode (a : Node) : Type 0 where
     pub point : a.point ≡ a.unknown / length system.template
     pub source : a.source ≡ source_of system pick a.unknown
+    pub point_within : a.point < length system.flow.points
+    pub source_within : a.source < length system.flow.points
 
-  pub node_in : (from : ℕ) (list : List ℕ) (a : Node) → In (nodes_from system pick from list) a → IsNode from list a
-  node_in from [] a m = absurd m
-  node_in from (u ∷ list) a m = ⊎_elim (λ e. subst (IsNode from (u ∷ list)) e first) (λ k. later (node_in (from + 1) list a k)) m
-    where
-      first : IsNode from (u ∷ list) (node_of system pick from u)
-      first = let e : from - from ≡ 0 = omega arith in record {
-        place = omega arith;
-        within = omega arith;
-        at = λ d. ap (λ j. get_or (all_listed system pick (u ∷ list)) j d) e;
-        point = refl;
-        source = refl;
-      }
+  source_few : (u : ℕ) → IsPicked system pick u → source_of system pick u < length system.flow.points
+  unfolding picked
+  source_few u h = edge_from system (edge_of (get_or pick u None)) (subst (λ e. edge_of e < length system.flow.edges) (sym h.picks) h.is_edge)
 
-      later : IsNode (from + 1) list a → IsNode from (u ∷ list) a
-      later h = let p = h.place in let w = h.within in let e : a.place - from ≡ suc (a.place - (from + 1)) = omega (arith, p) in record {
-        place = omega (arith, p);
-        within = omega (arith, w);
-        at = λ d. ap (λ j. get_or (all_listed system pick (u ∷ list)) j d) e ∙ h.at d;
-        point = h.point;
-        source = h.source;
-      }
+  node_is : (u : ℕ) → IsPicked system pick u → IsNode (node_of system pick u)
+  node_is u h = record {
+    point = refl;
+    source = refl;
+    point_within = (row_below_turned u (length system.template) (length system.flow.points) (length system.template) h.in_range (omega arith)).1;
+    source_within = source_few u h;
+  }
 
-  pub shown_all : (from : ℕ) (list : List ℕ) → map shown (nodes_from system pick from list) ≡ all_listed system pick list
-  shown_all from [] = refl
-  shown_all from (u ∷ list) = ap (λ xs. listed_of (length system.template) pick u ∷ xs) (shown_all (from + 1) list)
+  pub node_in : (list : List ℕ) → ArePicked system pick list → (a : Node) → In (nodes_of system pick list) a → IsNode a
+  node_in [] h a m = absurd m
+  node_in (u ∷ list) h a m = ⊎_elim (λ e. subst IsNode e (node_is u h.0)) (λ k. node_in list h.1 a k) m
 
-  pub unknowns_all : (from : ℕ) (list : List ℕ) → map (λ (a : Node). a.unknown) (nodes_from system pick from list) ≡ list
-  unknowns_all from [] = refl
-  unknowns_all from (u ∷ list) = ap (λ xs. u ∷ xs) (unknowns_all (from + 1) list)
+  pub source_at : (list : List ℕ) (nodes : List Node) → nodes ≡ nodes_of system pick list → ArePicked system pick list → (k : ℕ) (d : Node) → k < length nodes → (get_or nodes k d).source < length system.flow.points
+  source_at list nodes e h k d l =
+      let l' : k < length list = let s = ap (λ (xs : List Node). length xs) e ∙ length-map list (node_of system pick) in omega (arith, l, s) in
+      subst (λ (x : Node). x.source < length system.flow.points) (sym (get_or-map (node_of system pick) list k 0 d l') ∙ ap (λ (xs : List Node). get_or xs k d) (sym e)) (source_few (get_or list k 0) (picked_at system pick list k h l'))
 
-  pub length-nodes : (from : ℕ) (list : List ℕ) → length (nodes_from system pick from list) ≡ length list
-  length-nodes from [] = refl
-  length-nodes from (u ∷ list) = ap (λ n. suc n) (length-nodes (from + 1) list)
+  pub shown_all : (list : List ℕ) → map shown (nodes_of system pick list) ≡ all_listed system pick list
+  shown_all [] = refl
+  shown_all (u ∷ list) = ap (λ xs. listed_of (length system.template) pick u ∷ xs) (shown_all list)
+
+  pub unknowns_all : (list : List ℕ) → map (λ (a : Node). a.unknown) (nodes_of system pick list) ≡ list
+  unknowns_all [] = refl
+  unknowns_all (u ∷ list) = ap (λ xs. u ∷ xs) (unknowns_all list)
+
+  pub length-nodes : (list : List ℕ) → length (nodes_of system pick list) ≡ length list
+  length-nodes list = length-map list (node_of system pick)

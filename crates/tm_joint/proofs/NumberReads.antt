@@ -1,17 +1,17 @@
 -- The numbers that are read are those of base plus rise.
 use Rattle.std.proofs.Common.{◌≡◌, ◌∙◌, ℕ, suc, ◌+◌, ◌≤◌, inl, inr, Bool, true, false, List, [], ◌∷◌, length, get_or, drop, map, Option, refl, ap, ap₂, sym, subst, div-add-mod', arith, if◌then◌else◌}
 use Rattle.std.proofs.lemmas.List.{length-map}
+use Rattle.tm_base.specs.Elements.{In}
 use Rattle.tm_num.specs.Rational.{ℚ, zero_ℚ, ◌+ℚ◌}
 use Rattle.tm_num.specs.Extended.{Ext, neg_inf, fin, pos_inf}
 use Rattle.tm_eqsys.specs.declared.system.System.{System}
 use Rattle.tm_eqsys.specs.View.{equations_of, vector_of}
-use Rattle.tm_steps.specs.Steps.{In}
-use Rattle.tm_steps.specs.Certificates.{num}
-use Rattle.tm_point.specs.Limits.{tabulate}
-use Rattle.tm_point.specs.JointProblems.{Listed, is_at, rise_at, raise_by, raised, AllRising}
-use Rattle.tm_point.specs.JointPoints.{Distinct, Unlisted}
-use Rattle.tm_point.proofs.Rises.{is_at_itself}
-use Rattle.tm_point.proofs.JointLists.{rising_at, not_unlisted, distinct_same}
+use Rattle.tm_validity.specs.Certificates.{num}
+use Rattle.tm_transformers.specs.Limits.{tabulate}
+use Rattle.tm_transformers.specs.JointProblems.{Listed, is_at, rise_at, raise_by, raised, AllRising}
+use Rattle.tm_transformers.specs.JointPoints.{Distinct, Unlisted}
+use Rattle.tm_transformers.proofs.Rises.{is_at_itself}
+use Rattle.tm_transformers.proofs.JointLists.{rising_at, not_unlisted, distinct_same}
 use Rattle.tm_joint.specs.Numbers.{listed_of, all_listed}
 use Rattle.tm_joint.specs.Blocks.{edge_for, split_width}
 use Rattle.tm_joint.specs.Layouts.{rises_from, layout_of, number_at}

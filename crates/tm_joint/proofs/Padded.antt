@@ -1,14 +1,15 @@
 -- Lists of coefficients that have the same entries, with zeros behind their ends.
 use Rattle.std.proofs.Common.{◌≡◌, ◌∙◌, ℕ, zero, suc, ◌+◌, ◌-◌, ◌≤◌, List, [], ◌∷◌, ◌++◌, length, map, refl, ap, ap₂, sym, append_assoc, length-append, arith}
 use Rattle.std.specs.Prelude.{ℤ}
+use Rattle.tm_num.proofs.Vectors.{length-zeros}
 use Rattle.tm_num.specs.Rational.{ℚ, zero_ℚ, one_ℚ, whole, neg_ℚ, ◌+ℚ◌, ◌*ℚ◌}
-use Rattle.tm_num.specs.Vector.{add_vec, scale_vec}
+use Rattle.tm_num.specs.Vector.{add_vec, scale_vec, zeros}
 use Rattle.tm_num.proofs.Laws.{+ℚ_idl, +ℚ_idr, *ℚ-zero, *ℚ_idr, neg_ℚ-zero}
 use Rattle.tm_num.proofs.Ring.{ring, reads}
-use Rattle.tm_steps.specs.Words.{Affine, shifted, column, columns, combined, start_form}
+use Rattle.tm_validity.specs.Words.{Affine, shifted, column, columns, combined, start_form}
 use Rattle.tm_lp.specs.Listed.{at}
-use Rattle.tm_point.specs.JointProblems.{zeros, split_list}
-use Rattle.tm_point.proofs.JointProducts.{length-zeros, length-split}
+use Rattle.tm_transformers.specs.JointProblems.{split_list}
+use Rattle.tm_transformers.proofs.JointProducts.{length-split}
 use Rattle.tm_joint.specs.Rows.{dense_row}
 
 -- the same entries
@@ -21,7 +22,6 @@ same_behind (x ∷ a) u v h zero = refl
 same_behind (x ∷ a) u v h (suc k) = same_behind a u v h k
 
 at_zeros : (n k : ℕ) → at (zeros n) k ≡ zero_ℚ
-unfolding zeros
 at_zeros zero k = refl
 at_zeros (suc n) zero = refl
 at_zeros (suc n) (suc k) = at_zeros n k

@@ -2,14 +2,14 @@
 use Rattle.std.proofs.Common.{◌≡◌, ◌∙◌, inl, inr, ⊎_elim, ℕ, zero, suc, ◌+◌, ◌≤◌, cond, Bool, true, false, List, [], ◌∷◌, length, map, Option, Some, None, refl, ap, ap₂, sym, subst, arith}
 use Rattle.std.specs.Prelude.{find}
 use Rattle.std.specs.List.{filter}
+use Rattle.tm_base.specs.Elements.{In}
 use Rattle.tm_eqsys.specs.declared.system.System.{System}
 use Rattle.tm_eqsys.specs.View.{equations_of}
-use Rattle.tm_steps.specs.Steps.{In}
-use Rattle.tm_point.specs.JointProblems.{Listed}
-use Rattle.tm_point.specs.Parts.{InSome}
-use Rattle.tm_point.proofs.PartsLaw.{parts_in_order, parts_sound, parts_admissible, parts_classes}
+use Rattle.tm_transformers.specs.JointProblems.{Listed}
+use Rattle.tm_transformers.specs.Parts.{InSome}
+use Rattle.tm_transformers.proofs.PartsLaw.{parts_in_order, parts_sound, parts_admissible, parts_classes}
 use Rattle.tm_joint.specs.declared.node.Node.{Node}
-use Rattle.tm_joint.specs.Numbers.{number_of, listed_of, all_listed, Rises, nodes_from}
+use Rattle.tm_joint.specs.Numbers.{number_of, listed_of, all_listed, Rises, nodes_of, ArePicked}
 use Rattle.tm_joint.specs.Tables.{closed}
 use Rattle.tm_joint.specs.Cuts.{are_one_part, are_apart, may_come, cut_next, cut_from}
 use Rattle.tm_joint.specs.PartLists.{listed_parts, part_numbers, each_listed, EachRises, NumberClasses, NumbersAdmissible, NumbersInOrder}
@@ -45,10 +45,10 @@ module _ (system : System) (pick : List (Option ℕ)) (list : List ℕ) where
   us = all_listed system pick list
 
   abbrev nodes : List Node
-  nodes = nodes_from system pick 0 list
+  nodes = nodes_of system pick list
 
-  pub parts_rise : Rises 0 list → EachRises (part_numbers system pick list)
-  parts_rise h = subst EachRises (parts_shown system pick list) (cut_rises (closed nodes (length nodes)) (length nodes) nodes (subst (Rises 0) (sym (unknowns_all system pick 0 list)) h))
+  pub parts_rise : ArePicked system pick list → Rises 0 list → EachRises (part_numbers system pick list)
+  parts_rise picked h = subst EachRises (parts_shown system pick list picked) (cut_rises (closed (length system.flow.points) nodes) (length nodes) nodes (subst (Rises 0) (sym (unknowns_all system pick list)) h))
 
   -- ---- the numbers stand for the unknowns
   listed_back : (ns : List ℕ) (x : Listed) → In (all_listed system pick ns) x → listed_of (length system.template) pick (number_of (length system.template) x) ≡ x

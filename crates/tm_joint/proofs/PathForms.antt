@@ -9,11 +9,11 @@ use Rattle.tm_flow.specs.declared.edge.Edge.{Edge}
 use Rattle.tm_eqsys.specs.declared.system.System.{System}
 use Rattle.tm_eqsys.specs.View.{equations_of}
 use Rattle.tm_lp.specs.Listed.{at}
-use Rattle.tm_steps.specs.Words.{Affine as Form, width, guard_forms, end_form}
-use Rattle.tm_steps.proofs.Widths.{Narrow, guard_forms_width, end_form_width}
-use Rattle.tm_oper.specs.declared.affine.Affine.{Affine}
-use Rattle.tm_oper.specs.Composed.{EdgeForms, AreComposed, first_entries, dense, edge_forms}
-use Rattle.tm_oper.proofs.Dense.{length-first_entries, get_or-first_entries}
+use Rattle.tm_validity.specs.Words.{Affine as Form, width, guard_forms, end_form}
+use Rattle.tm_validity.proofs.Widths.{Narrow, guard_forms_width, end_form_width}
+use Rattle.tm_compose.specs.declared.affine.Affine.{Affine}
+use Rattle.tm_compose.specs.Composed.{EdgeForms, AreComposed, first_entries, dense, edge_forms}
+use Rattle.tm_compose.proofs.Dense.{length-first_entries, get_or-first_entries}
 use Rattle.tm_joint.specs.Blocks.{edge_at, row_at, end_at}
 use Rattle.tm_joint.specs.Rows.{SameForm}
 

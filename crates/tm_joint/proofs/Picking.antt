@@ -1,13 +1,11 @@
 -- Lists of picked unknowns.
-use Rattle.std.proofs.Common.{◌≡◌, ◌∙◌, ℕ, zero, suc, ◌+◌, ◌*◌, ◌<◌, ◌≤◌, List, [], ◌∷◌, ◌++◌, length, get_or, drop, ap, sym, subst, Option, None, append_assoc, arith}
+use Rattle.std.proofs.Common.{◌≡◌, ◌∙◌, ℕ, zero, suc, ◌+◌, ◌*◌, ◌<◌, ◌≤◌, List, [], ◌∷◌, length, get_or, ap, sym, subst, Option, None, arith}
 use Rattle.std.specs.Prelude.{IsTrue, nat_le}
 use Rattle.std.proofs.lemmas.Bool.{leb-true}
-use Rattle.std.proofs.lemmas.List.{drop_more, drop_all, append-nil}
 use Rattle.tm_eqsys.specs.declared.system.System.{System}
 use Rattle.tm_eqsys.specs.SystemLimits.{is_over}
 use Rattle.tm_eqsys.proofs.Sizes.{both}
-use Rattle.tm_joint.specs.declared.node.Node.{Node}
-use Rattle.tm_joint.specs.Numbers.{Rises, IsPicked, ArePicked, edge_of, node_of, nodes_from}
+use Rattle.tm_joint.specs.Numbers.{Rises, IsPicked, ArePicked, edge_of}
 
 pub picked_at : (system : System) (pick : List (Option ℕ)) (list : List ℕ) (i : ℕ) → ArePicked system pick list → i < length list → IsPicked system pick (get_or list i 0)
 picked_at system pick [] i h l = absurd (omega (arith, l))
@@ -38,16 +36,6 @@ few_listed system pick list r p =
     let s = system_size system in
     let k = rising_length system pick 0 list r p (omega arith) in
     omega (arith, s, k)
-
--- ---- the unknowns of a list, one after another
-pub nodes_more : (system : System) (pick : List (Option ℕ)) (list : List ℕ) (nodes : List Node) (i : ℕ) (d : ℕ) (node : Node) → i < length list → nodes_from system pick 0 list ≡ nodes ++ nodes_from system pick i (drop i list) →
-    node ≡ node_of system pick i (get_or list i d) → nodes_from system pick 0 list ≡ (nodes ++ node ∷ []) ++ nodes_from system pick (i + 1) (drop (i + 1) list)
-nodes_more system pick list nodes i d node l h e =
-    h ∙ ap (λ xs. nodes ++ nodes_from system pick i xs) (drop_more list i d l) ∙ ap (λ x. nodes ++ x ∷ nodes_from system pick (i + 1) (drop (i + 1) list)) (sym e)
-    ∙ sym (append_assoc nodes (node ∷ []) (nodes_from system pick (i + 1) (drop (i + 1) list)))
-
-pub nodes_all : (system : System) (pick : List (Option ℕ)) (list : List ℕ) (nodes : List Node) (i : ℕ) → length list ≤ i → nodes_from system pick 0 list ≡ nodes ++ nodes_from system pick i (drop i list) → nodes ≡ nodes_from system pick 0 list
-nodes_all system pick list nodes i l h = sym (h ∙ ap (λ xs. nodes ++ nodes_from system pick i xs) (drop_all i list l) ∙ append-nil nodes)
 
 -- the picked edge of an unknown is one of the system
 pub edge_within : (system : System) (pick : List (Option ℕ)) (u edge : ℕ) → IsPicked system pick u → edge ≡ edge_of (get_or pick u None) → edge < length system.flow.edges

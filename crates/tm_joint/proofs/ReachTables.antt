@@ -1,27 +1,27 @@
--- The table of a list's unknowns is that of which reaches which.
-use Rattle.std.proofs.Common.{◌≡◌, ◌∙◌, inl, inr, ⊎_elim, ℕ, zero, suc, ◌+◌, ◌-◌, ◌<◌, ◌≤◌, ◌&&◌, ◌||◌, ◌==◌, cond, Bool, true, false, List, [], ◌∷◌, length, get_or, drop, map, Option, refl, ap, ap₂, sym, arith}
+-- The table of a list's points tells which of its unknowns reach which.
+use Rattle.std.proofs.Common.{◌≡◌, ◌∙◌, inl, inr, ⊎_elim, ℕ, ◌+◌, ◌/◌, ◌<◌, ◌&&◌, ◌||◌, ◌==◌, cond, Bool, true, false, List, [], ◌∷◌, length, get_or, map, Option, refl, ap, ap₂, sym, arith, zero-add}
+use Rattle.std.specs.List.{range_with_len}
+use Rattle.std.proofs.lemmas.Bool.{eq-eqb, eqb-true}
 use Rattle.std.proofs.lemmas.Bool.Decides.{eqb_tells}
-use Rattle.std.proofs.lemmas.List.{length-map, get_or-map, get_or_default, drop_more, drop_all}
+use Rattle.std.proofs.lemmas.List.{length-map, get_or-map}
+use Rattle.std.proofs.lemmas.List.FromFn.{length-range_with_len, get_or-range_with_len}
+use Rattle.tm_base.specs.Elements.{In}
 use Rattle.tm_eqsys.specs.declared.system.System.{System}
 use Rattle.tm_eqsys.specs.Equations.{Equations}
 use Rattle.tm_eqsys.specs.View.{equations_of}
-use Rattle.tm_steps.specs.Steps.{In}
-use Rattle.tm_point.specs.JointProblems.{Listed}
-use Rattle.tm_point.specs.Parts.{leans, same, reaches, together}
-use Rattle.tm_point.proofs.Reaching.{same_itself, same_equal}
+use Rattle.tm_transformers.specs.JointProblems.{Listed}
+use Rattle.tm_transformers.specs.Parts.{leans, same, reaches, together}
+use Rattle.tm_transformers.proofs.Reaching.{same_itself, same_equal}
 use Rattle.tm_joint.specs.declared.node.Node.{Node}
-use Rattle.tm_joint.specs.Numbers.{listed_of, number_of, all_listed, nodes_from}
-use Rattle.tm_joint.specs.Tables.{added, starts, first_rows, joined, stepped, closed, cell}
+use Rattle.tm_joint.specs.Numbers.{listed_of, number_of, all_listed, source_of, nodes_of, ArePicked}
+use Rattle.tm_joint.specs.Tables.{row_by, table_by, added, joined, stepped, closed, cell, gets_to}
 use Rattle.tm_joint.specs.Cuts.{are_one_part}
-use Rattle.tm_joint.proofs.NodeFacts.{number_back, shown, node_in, shown_all, length-nodes}
+use Rattle.tm_joint.proofs.NodeFacts.{number_back, shown, IsNode, node_in, shown_all}
 
--- a test for each two of a list
-abbrev table : (Listed → Listed → Bool) → List Listed → List (List Bool)
-table test us = map (λ u. map (test u) us) us
-
-map_same : {X Y Z : Type 0} (f : X → Z) (g : Y → Z) (h : X → Y) (xs : List X) → ((x : X) → In xs x → f x ≡ g (h x)) → map f xs ≡ map g (map h xs)
-map_same f g h [] e = refl
-map_same f g h (x ∷ xs) e = ap₂ (λ y ys. y ∷ ys) (e x (inl refl)) (map_same f g h xs (λ y m. e y (inr m)))
+-- whether the unknowns of a list lead from a point to another
+abbrev pub leads : List Node → ℕ → ℕ → Bool
+leads [] p q = p == q
+leads (x ∷ xs) p q = leads xs p q || (leads xs p x.point && leads xs x.source q)
 
 map_equal : {X Z : Type 0} (f g : X → Z) (xs : List X) → ((x : X) → f x ≡ g x) → map f xs ≡ map g xs
 map_equal f g [] e = refl
@@ -31,15 +31,59 @@ map_twice : {X Y Z : Type 0} (g : Y → Z) (f : X → Y) (xs : List X) → map g
 map_twice g f [] = refl
 map_twice g f (x ∷ xs) = ap (λ ys. g (f x) ∷ ys) (map_twice g f xs)
 
-added_map : (f g : Listed → Bool) (us : List Listed) → added (map f us) (map g us) ≡ map (λ u. f u || g u) us
+added_map : (f g : ℕ → Bool) (ps : List ℕ) → added (map f ps) (map g ps) ≡ map (λ p. f p || g p) ps
 added_map f g [] = refl
-added_map f g (u ∷ us) = ap (λ ys. (f u || g u) ∷ ys) (added_map f g us)
+added_map f g (p ∷ ps) = ap (λ ys. (f p || g p) ∷ ys) (added_map f g ps)
 
 or_nothing : (a b : Bool) → a || (false && b) ≡ a
 or_nothing true b = refl
 or_nothing false b = refl
 
-module _ (system : System) (pick : List (Option ℕ)) (list : List ℕ) where
+-- ---- the table by which points lead where
+at_point : {X : Type 0} (f : ℕ → X) (points p : ℕ) (d : X) → p < points → get_or (map f (range_with_len 0 points)) p d ≡ f p
+at_point f points p d l =
+    get_or-map f (range_with_len 0 points) p p d (let e = length-range_with_len 0 points in omega (arith, l, e)) ∙ ap f (get_or-range_with_len 0 points p p l ∙ zero-add p)
+
+module _ (points : ℕ) (xs : List Node) (x : Node) (l : x.point < points) where
+  row_more : (p : ℕ) → joined x.point (row_by points (leads xs x.source)) (row_by points (leads xs p)) ≡ row_by points (leads (x ∷ xs) p)
+  row_more p =
+      ap (λ b. cond b (added (row_by points (leads xs p)) (row_by points (leads xs x.source))) (row_by points (leads xs p))) (at_point (leads xs p) points x.point false l) ∙ by (leads xs p x.point)
+    where
+      by : (b : Bool) → cond b (added (row_by points (leads xs p)) (row_by points (leads xs x.source))) (row_by points (leads xs p)) ≡ map (λ q. leads xs p q || (b && leads xs x.source q)) (range_with_len 0 points)
+      by true = added_map (leads xs p) (leads xs x.source) (range_with_len 0 points)
+      by false = map_equal (leads xs p) (λ q. leads xs p q || (false && leads xs x.source q)) (range_with_len 0 points) (λ q. sym (or_nothing (leads xs p q) (leads xs x.source q)))
+
+  table_more : x.source < points → stepped x.point (get_or (table_by points (leads xs)) x.source []) (table_by points (leads xs)) ≡ table_by points (leads (x ∷ xs))
+  table_more k =
+      ap (λ mid. stepped x.point mid (table_by points (leads xs))) (at_point (λ p. row_by points (leads xs p)) points x.source [] k)
+      ∙ map_twice (joined x.point (row_by points (leads xs x.source))) (λ p. row_by points (leads xs p)) (range_with_len 0 points)
+      ∙ map_equal (λ p. joined x.point (row_by points (leads xs x.source)) (row_by points (leads xs p))) (λ p. row_by points (leads (x ∷ xs) p)) (range_with_len 0 points) row_more
+
+closed_is : (points : ℕ) (xs : List Node) → ((a : Node) → In xs a → (a.point < points) × (a.source < points)) → closed points xs ≡ table_by points (leads xs)
+closed_is points [] h = refl
+closed_is points (x ∷ xs) h =
+    let here = h x (inl refl) in
+    ap (λ t. stepped x.point (get_or t x.source []) t) (closed_is points xs (λ a m. h a (inr m))) ∙ table_more points xs x here.0 here.1
+
+-- ---- leading from source to point is reaching
+-- where one unknown is the one in the middle, going through it adds nothing
+through : (same_ab leads_ab same_ax leads_ax same_xb leads_xb : Bool) → (same_ax ≡ true → (leads_xb ≡ leads_ab) × (same_xb ≡ same_ab)) → (same_xb ≡ true → leads_ax ≡ leads_ab) →
+    same_ab || (leads_ab || (leads_ax && leads_xb)) ≡ (same_ab || leads_ab) || ((same_ax || leads_ax) && (same_xb || leads_xb))
+through true b c d e f h k = refl
+through false true c d e f h k = refl
+through false false true d e f h k = by d e f (h refl).0 (h refl).1
+  where
+    by : (d e f : Bool) → f ≡ false → e ≡ false → d && f ≡ e || f
+    by d true f p q = absurd cc
+    by d false true p q = absurd cc
+    by true false false p q = refl
+    by false false false p q = refl
+through false false false true true f h k = absurd (let e = k refl in let n : true ≡ false = e in cc)
+through false false false false true f h k = refl
+through false false false true false f h k = refl
+through false false false false false f h k = refl
+
+module _ (system : System) (pick : List (Option ℕ)) (list : List ℕ) (picked : ArePicked system pick list) where
   abbrev eqs : Equations
   eqs = equations_of system
 
@@ -47,9 +91,11 @@ module _ (system : System) (pick : List (Option ℕ)) (list : List ℕ) where
   us = all_listed system pick list
 
   abbrev nodes : List Node
-  nodes = nodes_from system pick 0 list
+  nodes = nodes_of system pick list
 
-  -- ---- the first table
+  abbrev points : ℕ
+  points = length system.flow.points
+
   same_numbers : (a b : Node) → a.unknown == b.unknown ≡ same (shown system pick a) (shown system pick b)
   same_numbers a b = ⊎_elim
       (λ h. h.0 ∙ sym (ap (λ n. same (shown system pick a) (listed_of (length system.template) pick n)) (sym h.1) ∙ same_itself (shown system pick a)))
@@ -62,66 +108,37 @@ module _ (system : System) (pick : List (Option ℕ)) (list : List ℕ) where
 
   pub leans_shown : (a b : Node) → In nodes a → In nodes b → a.source == b.point ≡ leans eqs (shown system pick a) (shown system pick b)
   unfolding leans
-  leans_shown a b m n = ap₂ (λ x y. x == y) (node_in system pick 0 list a m).source (node_in system pick 0 list b n).point
+  leans_shown a b m n = ap₂ (λ x y. x == y) (node_in system pick list picked a m).source (node_in system pick list picked b n).point
 
-  starts_shown : (a b : Node) → In nodes a → In nodes b → starts a b ≡ reaches eqs [] (shown system pick a) (shown system pick b)
+  -- nodes of one number have one point and one source
+  one_source : (a b : Node) → In nodes a → In nodes b → a.unknown == b.unknown ≡ true → a.source ≡ b.source
+  one_source a b m n e = (node_in system pick list picked a m).source ∙ ap (source_of system pick) (eqb-true a.unknown b.unknown e) ∙ sym (node_in system pick list picked b n).source
+
+  one_point : (a b : Node) → In nodes a → In nodes b → a.unknown == b.unknown ≡ true → a.point ≡ b.point
+  one_point a b m n e = (node_in system pick list picked a m).point ∙ ap (λ u. u / length system.template) (eqb-true a.unknown b.unknown e) ∙ sym (node_in system pick list picked b n).point
+
+  leads_reaches : (xs : List Node) → ((x : Node) → In xs x → In nodes x) → (a b : Node) → In nodes a → In nodes b → a.unknown == b.unknown || leads xs a.source b.point ≡ reaches eqs (map (shown system pick) xs) (shown system pick a) (shown system pick b)
   unfolding reaches
-  starts_shown a b m n = ap₂ (λ x y. x || y) (same_numbers a b) (leans_shown a b m n)
-
-  first_shown : first_rows nodes nodes ≡ table (reaches eqs []) us
-  first_shown =
-      map_same (λ a. map (starts a) nodes) (λ u. map (reaches eqs [] u) us) (shown system pick) nodes
-      (λ a m. map_same (starts a) (reaches eqs [] (shown system pick a)) (shown system pick) nodes (λ b n. starts_shown a b m n) ∙ ap (map (reaches eqs [] (shown system pick a))) (shown_all system pick 0 list))
-      ∙ ap (map (λ u. map (reaches eqs [] u) us)) (shown_all system pick 0 list)
-
-  -- ---- going through one unknown more
-  module _ (xs : List Listed) (k : ℕ) (x : Listed) (at : get_or us k x ≡ x) (l : k < length us) where
-    row_more : (u : Listed) → joined k (map (reaches eqs xs x) us) (map (reaches eqs xs u) us) ≡ map (reaches eqs (x ∷ xs) u) us
-    unfolding reaches
-    row_more u = ap (λ b. cond b (added (map (reaches eqs xs u) us) (map (reaches eqs xs x) us)) (map (reaches eqs xs u) us)) (get_or-map (reaches eqs xs u) us k x false l ∙ ap (reaches eqs xs u) at) ∙ by (reaches eqs xs u x)
-      where
-        by : (b : Bool) → cond b (added (map (reaches eqs xs u) us) (map (reaches eqs xs x) us)) (map (reaches eqs xs u) us) ≡ map (λ v. reaches eqs xs u v || (b && reaches eqs xs x v)) us
-        by true = added_map (reaches eqs xs u) (reaches eqs xs x) us
-        by false = map_equal (reaches eqs xs u) (λ v. reaches eqs xs u v || (false && reaches eqs xs x v)) us (λ v. sym (or_nothing (reaches eqs xs u v) (reaches eqs xs x v)))
-
-    table_more : stepped k (get_or (table (reaches eqs xs) us) k []) (table (reaches eqs xs) us) ≡ table (reaches eqs (x ∷ xs)) us
-    table_more =
-        ap (λ mid. stepped k mid (table (reaches eqs xs) us)) (get_or-map (λ u. map (reaches eqs xs u) us) us k x [] l ∙ ap (λ y. map (reaches eqs xs y) us) at)
-        ∙ map_twice (joined k (map (reaches eqs xs x) us)) (λ u. map (reaches eqs xs u) us) us
-        ∙ map_equal (λ u. joined k (map (reaches eqs xs x) us) (map (reaches eqs xs u) us)) (λ u. map (reaches eqs (x ∷ xs) u) us) us row_more
-
-  size : length nodes ≡ length us
-  size = length-nodes system pick 0 list ∙ sym (length-map list (listed_of (length system.template) pick))
-
-  closed_shown : (n : ℕ) → n ≤ length us → closed nodes n ≡ table (reaches eqs (drop (length us - n) us)) us
-  closed_shown zero l = first_shown ∙ ap (λ xs. table (reaches eqs xs) us) (sym (drop_all (length us - 0) us (omega arith)))
-  closed_shown (suc n) l =
-      let k = length us - suc n in
-      let x = get_or us k (record { point = 0; row = 0; edge = 0 }) in
-      let in_us : k < length us = omega (arith, l) in
-      let at = get_or_default us k x (record { point = 0; row = 0; edge = 0 }) in_us in
-      let next : length us - n ≡ k + 1 = omega (arith, l) in
-      ap (λ m. stepped (m - suc n) (get_or (closed nodes n) (m - suc n) []) (closed nodes n)) size
-      ∙ ap (λ t. stepped k (get_or t k []) t) (closed_shown n (omega (arith, l)) ∙ ap (λ m. table (reaches eqs (drop m us)) us) next)
-      ∙ table_more (drop (k + 1) us) k x at in_us
-      ∙ ap (λ xs. table (reaches eqs xs) us) (sym (drop_more us k (record { point = 0; row = 0; edge = 0 }) in_us))
+  leads_reaches [] sub a b m n = ap₂ (λ x y. x || y) (same_numbers a b) (leans_shown a b m n)
+  leads_reaches (x ∷ xs) sub a b m n =
+      let k = sub x (inl refl) in
+      let more = λ (y : Node) (i : In xs y). sub y (inr i) in
+      through (a.unknown == b.unknown) (leads xs a.source b.point) (a.unknown == x.unknown) (leads xs a.source x.point) (x.unknown == b.unknown) (leads xs x.source b.point)
+      (λ e. (ap (λ p. leads xs p b.point) (sym (one_source a x m k e)), ap (λ u. u == b.unknown) (sym (eqb-true a.unknown x.unknown e))))
+      (λ e. ap (leads xs a.source) (one_point x b k n e))
+      ∙ ap₂ (λ y z. y || z) (leads_reaches xs more a b m n) (ap₂ (λ y z. y && z) (leads_reaches xs more a x m k) (leads_reaches xs more x b k n))
 
   -- ---- the whole table
+  gets_shown : (a b : Node) → In nodes a → In nodes b → gets_to (closed points nodes) a b ≡ reaches eqs us (shown system pick a) (shown system pick b)
+  gets_shown a b m n =
+      let p = node_in system pick list picked a m in
+      let q = node_in system pick list picked b n in
+      ap (λ t. a.unknown == b.unknown || cell t a.source b.point) (closed_is points nodes (λ x i. let y = node_in system pick list picked x i in (y.point_within, y.source_within)))
+      ∙ ap (λ (r : List Bool). a.unknown == b.unknown || get_or r b.point false) (at_point (λ s. row_by points (leads nodes s)) points a.source [] p.source_within)
+      ∙ ap (λ t. a.unknown == b.unknown || t) (at_point (leads nodes a.source) points b.point false q.point_within)
+      ∙ leads_reaches nodes (λ x i. i) a b m n
+      ∙ ap (λ vs. reaches eqs vs (shown system pick a) (shown system pick b)) (shown_all system pick list)
 
-  cell_shown : (a b : Node) → In nodes a → In nodes b → cell (closed nodes (length nodes)) a.place b.place ≡ reaches eqs us (shown system pick a) (shown system pick b)
-  cell_shown a b m n =
-      let p = node_in system pick 0 list a m in
-      let q = node_in system pick 0 list b n in
-      let z : a.place - 0 ≡ a.place = omega arith in
-      let y : b.place - 0 ≡ b.place = omega arith in
-      let none : length us - length us ≡ 0 = omega arith in
-      let pw = p.within in let qw = q.within in
-      let ls = length-map list (listed_of (length system.template) pick) in
-      let d : Listed = record { point = 0; row = 0; edge = 0 } in
-      ap (λ t. cell t a.place b.place) (ap (closed nodes) size ∙ closed_shown (length us) (omega arith) ∙ ap (λ k. table (reaches eqs (drop k us)) us) none)
-      ∙ ap (λ r. get_or r b.place false) (get_or-map (λ u. map (reaches eqs us u) us) us a.place d [] (omega (arith, pw, ls)) ∙ ap (λ u. map (reaches eqs us u) us) (ap (λ j. get_or us j d) (sym z) ∙ p.at d))
-      ∙ get_or-map (reaches eqs us (shown system pick a)) us b.place d false (omega (arith, qw, ls)) ∙ ap (reaches eqs us (shown system pick a)) (ap (λ j. get_or us j d) (sym y) ∙ q.at d)
-
-  pub one_part_shown : (a b : Node) → In nodes a → In nodes b → are_one_part (closed nodes (length nodes)) a b ≡ together eqs us (shown system pick a) (shown system pick b)
+  pub one_part_shown : (a b : Node) → In nodes a → In nodes b → are_one_part (closed points nodes) a b ≡ together eqs us (shown system pick a) (shown system pick b)
   unfolding together
-  one_part_shown a b m n = ap₂ (λ x y. x && y) (cell_shown a b m n) (cell_shown b a n m)
+  one_part_shown a b m n = ap₂ (λ x y. x && y) (gets_shown a b m n) (gets_shown b a n m)

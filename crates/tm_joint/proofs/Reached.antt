@@ -9,18 +9,18 @@ use Rattle.tm_eqsys.specs.declared.system.System.{System}
 use Rattle.tm_eqsys.specs.declared.spot.PartFault.{PartFault}
 use Rattle.tm_eqsys.specs.Equations.{Equations, Vector}
 use Rattle.tm_eqsys.specs.View.{equations_of, vector_of}
-use Rattle.tm_steps.specs.Words.{width, free_count}
+use Rattle.tm_validity.specs.Words.{width, free_count}
 use Rattle.tm_lp.specs.Problem as lp
 use Rattle.tm_lp.specs.Problem.{best, unbounded, empty}
 use Rattle.tm_simplex.specs.declared.outcome.Outcome.{Outcome}
 use Rattle.tm_simplex.specs.declared.outcome.Outcome.TheVariants.{Best, Unbounded, Empty}
 use Rattle.tm_simplex.specs.Outcomes.{IsListed, IsOutcomeOf}
-use Rattle.tm_point.specs.Limits.{shift, tabulate, limits_problem}
-use Rattle.tm_point.specs.JointProblems.{Listed, joint_problem, raised, AllRising, AllSupport, AllFollow, joint_words, words_of}
-use Rattle.tm_point.specs.JointPoints.{Distinct}
-use Rattle.tm_point.proofs.JointRay.{ray_follows, ray_rises}
-use Rattle.tm_point.proofs.JointMeaning.{point_supports}
-use Rattle.tm_point.specs.JointOutcomes.{JointOutcome}
+use Rattle.tm_transformers.specs.Limits.{shift, tabulate, limits_problem}
+use Rattle.tm_transformers.specs.JointProblems.{Listed, joint_problem, raised, AllRising, AllSupport, AllFollow, joint_words, words_of}
+use Rattle.tm_transformers.specs.JointPoints.{Distinct}
+use Rattle.tm_transformers.proofs.JointRay.{ray_follows, ray_rises}
+use Rattle.tm_transformers.proofs.JointMeaning.{point_supports}
+use Rattle.tm_transformers.specs.JointOutcomes.{JointOutcome}
 use Rattle.tm_ray.specs.Answers.{IsReadingFault, PartAnswers}
 use Rattle.tm_ray.specs.Ranges.{AllSplit, AreWithin}
 use Rattle.tm_joint.specs.declared.joined.Joined.{Joined}

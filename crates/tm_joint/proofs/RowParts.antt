@@ -1,11 +1,11 @@
 -- Rows with one entry for each column.
 use Rattle.std.proofs.Common.{◌≡◌, ◌∙◌, ℕ, zero, suc, ◌+◌, ◌<◌, List, [], ◌∷◌, ◌++◌, length, get_or, take, refl, ap, sym, append_assoc, arith}
 use Rattle.std.proofs.lemmas.List.{take_more}
+use Rattle.tm_num.specs.Vector.{zeros}
 use Rattle.tm_num.specs.Rational.{ℚ, zero_ℚ, one_ℚ, neg_ℚ}
-use Rattle.tm_point.specs.JointProblems.{ones, zeros, split_list}
+use Rattle.tm_transformers.specs.JointProblems.{ones, split_list}
 
 pub zeros_more : (n : ℕ) → zeros (n + 1) ≡ zeros n ++ zero_ℚ ∷ []
-unfolding zeros
 zeros_more zero = refl
 zeros_more (suc n) = let e : suc n + 1 ≡ suc (n + 1) = omega arith in ap zeros e ∙ ap (λ xs. zero_ℚ ∷ xs) (zeros_more n)
 

@@ -3,14 +3,14 @@ use Rattle.std.proofs.Common.{◌≡◌, ◌∙◌, ◌⊎◌, inl, inr, ⊎_eli
 use Rattle.std.specs.Prelude.{find}
 use Rattle.std.specs.List.{list_all, filter}
 use Rattle.std.proofs.lemmas.List.{length-map}
+use Rattle.tm_base.specs.Elements.{In}
 use Rattle.tm_eqsys.specs.declared.system.System.{System}
 use Rattle.tm_eqsys.specs.Equations.{Equations}
 use Rattle.tm_eqsys.specs.View.{equations_of}
-use Rattle.tm_steps.specs.Steps.{In}
-use Rattle.tm_point.specs.JointProblems.{Listed}
-use Rattle.tm_point.specs.Parts.{leans, together, all_in, keep, first_of, ready, part_before, parts_from, parts}
+use Rattle.tm_transformers.specs.JointProblems.{Listed}
+use Rattle.tm_transformers.specs.Parts.{leans, together, all_in, keep, first_of, ready, part_before, parts_from, parts}
 use Rattle.tm_joint.specs.declared.node.Node.{Node}
-use Rattle.tm_joint.specs.Numbers.{number_of, all_listed, listed_of, nodes_from}
+use Rattle.tm_joint.specs.Numbers.{number_of, all_listed, listed_of, nodes_of, ArePicked}
 use Rattle.tm_joint.specs.Tables.{closed}
 use Rattle.tm_joint.specs.Cuts.{are_one_part, are_apart, keeps_within, may_come, cut_next, cut_from}
 use Rattle.tm_joint.specs.PartLists.{part_numbers}
@@ -61,7 +61,7 @@ filter_in f (y ∷ xs) x m = by (f y) m (λ k. filter_in f xs x k)
     by true k t = ⊎_elim (λ e. inl e) (λ n. inr (t n)) k
     by false k t = inr (t k)
 
-module _ (system : System) (pick : List (Option ℕ)) (list : List ℕ) where
+module _ (system : System) (pick : List (Option ℕ)) (list : List ℕ) (picked : ArePicked system pick list) where
   abbrev eqs : Equations
   eqs = equations_of system
 
@@ -69,10 +69,10 @@ module _ (system : System) (pick : List (Option ℕ)) (list : List ℕ) where
   us = all_listed system pick list
 
   abbrev nodes : List Node
-  nodes = nodes_from system pick 0 list
+  nodes = nodes_of system pick list
 
   abbrev rows : List (List Bool)
-  rows = closed nodes (length nodes)
+  rows = closed (length system.flow.points) nodes
 
   abbrev h : Node → Listed
   h = shown system pick
@@ -81,13 +81,13 @@ module _ (system : System) (pick : List (Option ℕ)) (list : List ℕ) where
   Among left = (a : Node) → In left a → In nodes a
 
   together_shown : (a b : Node) → In nodes a → In nodes b → are_one_part rows a b ≡ together eqs us (h a) (h b)
-  together_shown a b m n = one_part_shown system pick list a b m n
+  together_shown a b m n = one_part_shown system pick list picked a b m n
 
   within_shown : (left : List Node) (part member : Node) → Among left → In nodes part → In nodes member →
       list_all (keeps_within rows part member) left ≡ all_in (λ w. not (leans eqs (h member) w) || together eqs us (h part) w) (map h left)
   within_shown left part member sub p m =
       all_shown (keeps_within rows part member) (λ w. not (leans eqs (h member) w) || together eqs us (h part) w) h left
-      (λ w n. ap₂ (λ a b. not a || b) (leans_shown system pick list member w m (sub w n)) (together_shown part w p (sub w n)))
+      (λ w n. ap₂ (λ a b. not a || b) (leans_shown system pick list picked member w m (sub w n)) (together_shown part w p (sub w n)))
 
   ready_shown : (left : List Node) (part : Node) → Among left → In nodes part → may_come rows left part ≡ ready eqs us (map h left) (h part)
   unfolding ready
@@ -123,4 +123,4 @@ module _ (system : System) (pick : List (Option ℕ)) (list : List ℕ) where
   unfolding parts
   parts_shown =
       cut_shown (length nodes) nodes (λ a m. m)
-      ∙ ap₂ (λ n xs. map (map (number_of (length system.template))) (parts_from n eqs us xs)) (length-nodes system pick 0 list ∙ sym (length-map list (listed_of (length system.template) pick))) (shown_all system pick 0 list)
+      ∙ ap₂ (λ n xs. map (map (number_of (length system.template))) (parts_from n eqs us xs)) (length-nodes system pick list ∙ sym (length-map list (listed_of (length system.template) pick))) (shown_all system pick list)

@@ -1,20 +1,22 @@
 -- Rows that stand for the limits of a problem make that problem.
 use Rattle.std.proofs.Common.{◌≡◌, ◌∙◌, ℕ, zero, suc, ◌+◌, ◌<◌, List, [], ◌∷◌, ◌++◌, length, get_or, Option, refl, ap, ap₂, sym, subst, length-append, arith}
 use mathlib.Core.Path.{fun_ext}
+use Rattle.tm_num.proofs.Vectors.{length-zeros}
+use Rattle.tm_num.specs.Vector.{zeros}
 use Rattle.tm_num.specs.Rational.{ℚ}
 use Rattle.tm_lp.specs.Problem.{Problem}
 use Rattle.tm_lp.specs.Listed.{at, list_problem}
-use Rattle.tm_point.specs.Limits.{Limit, no_limit, limits_problem}
+use Rattle.tm_transformers.specs.Limits.{Limit, no_limit, limits_problem}
 use Rattle.std.proofs.lemmas.List.{length-map}
 use Rattle.tm_num.specs.Extended.{Ext}
 use Rattle.tm_eqsys.specs.declared.system.System.{System}
 use Rattle.tm_eqsys.specs.View.{equations_of, vector_of}
-use Rattle.tm_point.specs.JointProblems.{zeros, ones, joint_limits, word_columns, joint_problem}
+use Rattle.tm_transformers.specs.JointProblems.{ones, joint_limits, word_columns, joint_problem}
 use Rattle.tm_joint.specs.Numbers.{listed_of, all_listed, Rises, ArePicked}
 use Rattle.tm_joint.specs.Blocks.{blocks_from, split_columns}
 use Rattle.tm_joint.specs.Problems.{problem_of, MakeProblem}
 use Rattle.tm_joint.proofs.Translated.{columns_are, blocks_are}
-use Rattle.tm_point.proofs.JointProducts.{length-zeros, length-ones}
+use Rattle.tm_transformers.proofs.JointProducts.{length-ones}
 use Rattle.tm_joint.specs.Rows.{AllStand}
 use Rattle.tm_joint.proofs.Padded.{same_zeros}
 

@@ -8,9 +8,9 @@ use Rattle.tm_eqsys.specs.SystemLimits.{is_over}
 use Rattle.std.proofs.lemmas.List.{append-nil, drop_more, drop_all, take_more}
 use Rattle.tm_num.specs.Rational.{ℚ, neg_ℚ}
 use Rattle.tm_num.specs.Extended.{Ext, neg_inf, fin, pos_inf}
-use Rattle.tm_steps.specs.Words.{Affine}
-use Rattle.tm_point.specs.Limits.{Limit}
-use Rattle.tm_point.specs.EdgeProblems.{source_limit, source_limits, guard_limits}
+use Rattle.tm_validity.specs.Words.{Affine}
+use Rattle.tm_transformers.specs.Limits.{Limit}
+use Rattle.tm_transformers.specs.EdgeProblems.{source_limit, source_limits, guard_limits}
 use Rattle.tm_joint.specs.Rows.{AllStand}
 
 source_parts : (embed : List ℚ → List ℚ) (n : ℕ) (b : Ext) (row : List ℤ) (rest : List Limit) → source_limit embed n b row rest ≡ source_limit embed n b row [] ++ rest

@@ -6,9 +6,9 @@ use Rattle.tm_num.specs.Rational.{ℚ, zero_ℚ, one_ℚ, whole, neg_ℚ}
 use Rattle.tm_num.specs.Extended.{neg_inf, fin, pos_inf}
 use Rattle.tm_num.specs.Vector.{scale_vec}
 use Rattle.tm_lp.specs.Listed.{at}
-use Rattle.tm_steps.specs.Words.{Affine, start_form}
-use Rattle.tm_point.specs.Limits.{Limit}
-use Rattle.tm_point.specs.EdgeProblems.{source_limit, guard_limits}
+use Rattle.tm_validity.specs.Words.{Affine, start_form}
+use Rattle.tm_transformers.specs.Limits.{Limit}
+use Rattle.tm_transformers.specs.EdgeProblems.{source_limit, guard_limits}
 use Rattle.tm_joint.specs.Rows.{on_numbers, dense_row, StandsFor, AllStand, SameForm, embedded, own_limit_of}
 use Rattle.tm_joint.proofs.Padded.{dense_same, length-dense, start_same, negated_same}
 

@@ -4,17 +4,18 @@ use Rattle.std.specs.Prelude.{ℤ}
 use Rattle.std.proofs.lemmas.Bool.Decides.{eqb_tells}
 use Rattle.std.proofs.lemmas.Nat.{div-mul-add, mod-mul-add}
 use mathlib.Core.Path.{fun_ext}
+use Rattle.tm_num.specs.Vector.{zeros}
 use Rattle.tm_num.specs.Rational.{ℚ, zero_ℚ, one_ℚ, neg_ℚ, ◌-ℚ◌}
 use Rattle.tm_num.specs.Extended.{Ext, neg_inf}
 use Rattle.tm_eqsys.specs.declared.system.System.{System}
 use Rattle.tm_eqsys.specs.Equations.{Equations, Vector}
 use Rattle.tm_eqsys.specs.View.{equations_of, vector_of}
-use Rattle.tm_steps.specs.Words.{guard_forms, end_form}
-use Rattle.tm_steps.specs.Certificates.{num}
-use Rattle.tm_point.specs.Limits.{Limit}
-use Rattle.tm_point.specs.EdgeProblems.{source_limit, source_limits, guard_limits}
-use Rattle.tm_point.specs.JointProblems.{Listed, picked, own_row, columns_of, is_at, zeros, split_list, on_rise, own_limit, block_limits, joint_limits, word_columns}
-use Rattle.tm_point.specs.JointPoints.{Unlisted, Distinct}
+use Rattle.tm_validity.specs.Words.{guard_forms, end_form}
+use Rattle.tm_validity.specs.Certificates.{num}
+use Rattle.tm_transformers.specs.Limits.{Limit}
+use Rattle.tm_transformers.specs.EdgeProblems.{source_limit, source_limits, guard_limits}
+use Rattle.tm_transformers.specs.JointProblems.{Listed, picked, own_row, columns_of, is_at, split_list, on_rise, own_limit, block_limits, joint_limits, word_columns}
+use Rattle.tm_transformers.specs.JointPoints.{Unlisted, Distinct}
 use Rattle.tm_joint.specs.Numbers.{listed_of, all_listed, Rises, ArePicked}
 use Rattle.tm_joint.specs.Rows.{on_numbers, embedded}
 use Rattle.tm_joint.specs.Blocks.{edge_at, edge_for, own_of, block_of, blocks_from, split_width, split_columns}
@@ -40,7 +41,6 @@ number_is rows u p r l = ⊎_elim
 module _ (rows : ℕ) (pick : List (Option ℕ)) where
   -- no number behind a number is that one
   later_zero : (c : ℚ) (t k : ℕ) (list : List ℕ) → t < k → Rises k list → on_numbers c t list ≡ zeros (length (map (listed_of rows pick) list))
-  unfolding zeros
   later_zero c t k [] l h = refl
   later_zero c t k (u ∷ list) l h =
       let a = h.0 in
@@ -59,7 +59,6 @@ module _ (rows : ℕ) (pick : List (Option ℕ)) where
       by (inr e) t = ap₂ (λ x xs. x ∷ xs) (ap (λ b. cond b c zero_ℚ) e.0) t ∙ ap (λ b. if b then c ∷ zeros (length (map (listed_of rows pick) list)) else zero_ℚ ∷ on_rise c (map (listed_of rows pick) list) p r) (sym e.0)
 
   no_rise : (list : List ℕ) → on_numbers zero_ℚ 0 list ≡ zeros (length (map (listed_of rows pick) list))
-  unfolding zeros
   no_rise [] = refl
   no_rise (u ∷ list) = ap₂ (λ x xs. x ∷ xs) (by (u == 0)) (no_rise list)
     where

@@ -4,11 +4,11 @@ use mathlib.Core.Path.{fun_ext}
 use Rattle.tm_num.specs.Rational.{ℚ, zero_ℚ, ◌-ℚ◌}
 use Rattle.tm_eqsys.specs.declared.system.System.{System}
 use Rattle.tm_eqsys.specs.View.{equations_of}
-use Rattle.tm_steps.specs.Words.{width, free_count}
+use Rattle.tm_validity.specs.Words.{width, free_count}
 use Rattle.tm_lp.specs.Free.{unsplit}
-use Rattle.tm_point.specs.Limits.{shift, tabulate}
-use Rattle.tm_point.specs.JointProblems.{picked, columns_of, words_of}
-use Rattle.tm_point.proofs.JointProducts.{shift-add}
+use Rattle.tm_transformers.specs.Limits.{shift, tabulate}
+use Rattle.tm_transformers.specs.JointProblems.{picked, columns_of, words_of}
+use Rattle.tm_transformers.proofs.JointProducts.{shift-add}
 use Rattle.tm_ray.specs.Reading.{differences}
 use Rattle.tm_joint.specs.Numbers.{all_listed}
 use Rattle.tm_joint.specs.Blocks.{edge_at, edge_for, split_width, split_columns}

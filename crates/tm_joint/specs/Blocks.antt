@@ -2,24 +2,16 @@
 use Rattle.std.specs.Prelude.{ℕ, ◌+◌, ◌*◌, ◌%◌, ℤ, List, [], ◌∷◌, ◌++◌, length, get_or, map, Option, None}
 use Rattle.tm_num.specs.Rational.{zero_ℚ, one_ℚ, neg_ℚ, ◌-ℚ◌}
 use Rattle.tm_num.specs.Extended.{Ext, neg_inf}
-use Rattle.tm_flow.specs.declared.edge.Edge.{Edge}
 use Rattle.tm_frac.specs.Operation.{Operation}
 use Rattle.tm_eqsys.specs.declared.system.System.{System}
 use Rattle.tm_eqsys.specs.View.{vector_of}
-use Rattle.tm_steps.specs.Words.{Affine, width, guard_forms, end_form}
-use Rattle.tm_steps.specs.Certificates.{num}
-use Rattle.tm_point.specs.Limits.{Limit}
-use Rattle.tm_point.specs.EdgeProblems.{source_limits, guard_limits}
+pub use Rattle.tm_eqsys.specs.View.{edge_at, row_at}
+use Rattle.tm_validity.specs.Words.{Affine, width, guard_forms, end_form}
+use Rattle.tm_validity.specs.Certificates.{num}
+use Rattle.tm_transformers.specs.Limits.{Limit}
+use Rattle.tm_transformers.specs.EdgeProblems.{source_limits, guard_limits}
 use Rattle.tm_joint.specs.Numbers.{edge_of}
 use Rattle.tm_joint.specs.Rows.{embedded, own_limit_of, side_operation}
-
--- the edge of a number
-abbrev pub edge_at : System → ℕ → Edge
-edge_at system e = get_or system.flow.edges e (record { from = 0; to = 0; actions = [] })
-
--- the template row of a number
-abbrev pub row_at : System → ℕ → List ℤ
-row_at system r = get_or system.template r []
 
 -- the rows of the template at a point whose bound is finite; a row whose own unknown is listed has -1 on the rise of that unknown
 abbrev pub sources_of : System → List Ext → List ℕ → ℕ → ℕ → List Limit

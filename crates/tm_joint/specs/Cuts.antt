@@ -2,10 +2,11 @@
 use Rattle.std.specs.Prelude.{ℕ, zero, suc, ◌==◌, ◌&&◌, ◌||◌, not, Bool, List, [], ◌∷◌, map, find, Option, Some, None}
 use Rattle.std.specs.List.{list_all, filter}
 use Rattle.tm_joint.specs.declared.node.Node.{Node}
-use Rattle.tm_joint.specs.Tables.{cell}
+use Rattle.tm_joint.specs.Tables.{gets_to}
 
+-- each of two gets to the other
 abbrev pub are_one_part : List (List Bool) → Node → Node → Bool
-are_one_part rows a b = cell rows a.place b.place && cell rows b.place a.place
+are_one_part rows a b = gets_to rows a b && gets_to rows b a
 
 abbrev pub are_apart : List (List Bool) → Node → Node → Bool
 are_apart rows a b = not (are_one_part rows a b)

@@ -1,5 +1,6 @@
 -- What is read from the outcome of a joint problem, and the operations by which it is built, solved and read.
 use Rattle.std.specs.Prelude.{◌≡◌, ℕ, ◌+◌, List, [], ◌++◌, length, map, Option, Some, None, Result, MatchResult, ◌⊎◌}
+use Rattle.tm_base.specs.Elements.{In}
 use Rattle.tm_num.specs.Rational.{ℚ, zero_ℚ, ◌<ℚ◌}
 use Rattle.tm_num.specs.Extended.{Ext}
 use Rattle.tm_frac.specs.Fits.{long_limit}
@@ -11,20 +12,19 @@ use Rattle.tm_eqsys.specs.declared.spot.PartFault.TheVariants.{Wide, NoMemory}
 use Rattle.tm_lp.specs.Problem.{Problem, Outcome, best, unbounded, empty}
 use Rattle.tm_lp.specs.Simplex.{lp}
 use Rattle.tm_simplex.specs.Operations.{first_refused, run_operations, capped}
-use Rattle.tm_point.specs.Limits.{tabulate}
+use Rattle.tm_transformers.specs.Limits.{tabulate}
 use Rattle.tm_ray.specs.Reading.{named_rates, named_operations}
 use Rattle.tm_eqsys.specs.Equations.{Vector}
 use Rattle.tm_eqsys.specs.View.{equations_of, vector_of}
-use Rattle.tm_steps.specs.Steps.{In}
-use Rattle.tm_steps.specs.Certificates.{num}
-use Rattle.tm_point.specs.Candidates.{GreatestSupported}
-use Rattle.tm_point.specs.JointProblems.{Listed, AllSupport, AllFollow, rise_at}
+use Rattle.tm_validity.specs.Certificates.{num}
+use Rattle.tm_transformers.specs.Candidates.{GreatestSupported}
+use Rattle.tm_transformers.specs.JointProblems.{Listed, AllSupport, AllFollow, rise_at}
 use Rattle.tm_ray.specs.declared.rate.RateOf.{RateOf}
 use Rattle.tm_ray.specs.Answers.{IsReadingFault}
 use Rattle.tm_joint.specs.Numbers.{all_listed}
 use Rattle.tm_joint.specs.Rows.{IsSideFault}
 use Rattle.tm_eqsys.specs.declared.trace.Trace.{Trace}
-use Rattle.tm_steps.specs.Words.{Word}
+use Rattle.tm_validity.specs.Words.{Word}
 use Rattle.tm_joint.specs.declared.joined.Joined.{Joined}
 use Rattle.tm_joint.specs.declared.joined.Joined.TheVariants.{Point, Ray}
 use Rattle.tm_joint.specs.Blocks.{split_columns, side_operations}

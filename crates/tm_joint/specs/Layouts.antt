@@ -6,8 +6,8 @@ use Rattle.tm_frac.specs.declared.wide.Op.TheVariants.{Add}
 use Rattle.tm_frac.specs.Operation.{Operation}
 use Rattle.tm_eqsys.specs.declared.system.System.{System}
 use Rattle.tm_eqsys.specs.declared.trace.Trace.{Trace}
-use Rattle.tm_steps.specs.Words.{free_count}
-use Rattle.tm_steps.specs.Certificates.{num}
+use Rattle.tm_validity.specs.Words.{free_count}
+use Rattle.tm_validity.specs.Certificates.{num}
 use Rattle.tm_ray.specs.declared.layout.Rise.{Rise}
 use Rattle.tm_ray.specs.Reading.{at_column, differences, direction_operations}
 use Rattle.tm_joint.specs.Blocks.{edge_at, edge_for, split_width}

@@ -2,7 +2,7 @@
 use Rattle.std.specs.Prelude.{◌≡◌, ℕ, ◌+◌, ◌*◌, ◌/◌, ◌%◌, ◌<◌, ◌≤◌, List, [], ◌∷◌, length, get_or, map, Option, Some, None}
 use Rattle.tm_eqsys.specs.declared.system.System.{System}
 use Rattle.tm_eqsys.specs.View.{equations_of}
-use Rattle.tm_point.specs.JointProblems.{Listed, picked}
+use Rattle.tm_transformers.specs.JointProblems.{Listed, picked}
 use Rattle.tm_joint.specs.declared.node.Node.{Node}
 
 -- the number of an edge, if there is one
@@ -43,10 +43,10 @@ ArePicked system pick (u ∷ list) = IsPicked system pick u × ArePicked system 
 abbrev pub source_of : System → List (Option ℕ) → ℕ → ℕ
 source_of system pick u = (picked (equations_of system) (listed_of (length system.template) pick u)).from
 
--- the unknowns of a list from a place on
-abbrev pub node_of : System → List (Option ℕ) → ℕ → ℕ → Node
-node_of system pick place u = record { unknown = u; place = place; point = u / length system.template; source = source_of system pick u }
+-- an unknown with its point and the source of its picked edge
+abbrev pub node_of : System → List (Option ℕ) → ℕ → Node
+node_of system pick u = record { unknown = u; point = u / length system.template; source = source_of system pick u }
 
-abbrev pub nodes_from : System → List (Option ℕ) → ℕ → List ℕ → List Node
-nodes_from system pick place [] = []
-nodes_from system pick place (u ∷ list) = node_of system pick place u ∷ nodes_from system pick (place + 1) list
+-- those of a list
+abbrev pub nodes_of : System → List (Option ℕ) → List ℕ → List Node
+nodes_of system pick list = map (node_of system pick) list

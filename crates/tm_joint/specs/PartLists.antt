@@ -2,8 +2,8 @@
 use Rattle.std.specs.Prelude.{ℕ, List, [], ◌∷◌, length, map, Option}
 use Rattle.tm_eqsys.specs.declared.system.System.{System}
 use Rattle.tm_eqsys.specs.View.{equations_of}
-use Rattle.tm_point.specs.JointProblems.{Listed}
-use Rattle.tm_point.specs.Parts.{Admissible, AreClasses, InOrder, parts}
+use Rattle.tm_transformers.specs.JointProblems.{Listed}
+use Rattle.tm_transformers.specs.Parts.{Admissible, AreClasses, InOrder, parts}
 use Rattle.tm_joint.specs.Numbers.{number_of, all_listed, Rises}
 
 -- the cut of the list by dependence

@@ -6,7 +6,7 @@ use Rattle.tm_eqsys.specs.declared.system.System.{System}
 use Rattle.tm_eqsys.specs.View.{equations_of, vector_of}
 use Rattle.tm_lp.specs.Problem.{Problem}
 use Rattle.tm_lp.specs.Listed.{list_problem}
-use Rattle.tm_point.specs.JointProblems.{joint_problem}
+use Rattle.tm_transformers.specs.JointProblems.{joint_problem}
 use Rattle.tm_joint.specs.Numbers.{all_listed}
 
 -- the joint problem of a list of unknowns, given by their numbers, at a base

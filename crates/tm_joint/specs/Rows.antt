@@ -1,17 +1,17 @@
 -- Rows of a joint problem as lists with one entry for each column.
 use Rattle.std.specs.Prelude.{◌≡◌, ℕ, ◌-◌, ◌==◌, cond, List, [], ◌∷◌, ◌++◌, length, map, Some}
 use Rattle.tm_num.specs.Rational.{ℚ, zero_ℚ, one_ℚ, neg_ℚ}
-use Rattle.tm_num.specs.Vector.{scale_vec}
+use Rattle.tm_num.specs.Vector.{scale_vec, zeros}
 use Rattle.tm_frac.specs.declared.wide.Op.TheVariants.{Sub}
 use Rattle.tm_frac.specs.Fits.{long_limit}
 use Rattle.tm_frac.specs.Operation.{Operation, first_wide, operation_of}
 use Rattle.tm_eqsys.specs.declared.spot.Part.TheVariants.{Side}
 use Rattle.tm_eqsys.specs.declared.spot.PartFault.{PartFault}
 use Rattle.tm_eqsys.specs.declared.spot.PartFault.TheVariants.{Wide, NoMemory}
-use Rattle.tm_steps.specs.Words.{Affine}
+use Rattle.tm_validity.specs.Words.{Affine}
 use Rattle.tm_lp.specs.Listed.{at}
-use Rattle.tm_point.specs.Limits.{Limit}
-use Rattle.tm_point.specs.JointProblems.{zeros, split_list}
+use Rattle.tm_transformers.specs.Limits.{Limit}
+use Rattle.tm_transformers.specs.JointProblems.{split_list}
 
 -- a coefficient at one unknown of a list of numbers, and 0 at the others
 abbrev pub on_number : ℚ → ℕ → ℕ → ℚ

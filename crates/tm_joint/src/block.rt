@@ -6,9 +6,9 @@ ghost use Rattle.tm_tree.specs.Numbers.{are_numbers};
 ghost use Rattle.tm_frac.specs.Extended.{extended};
 ghost use Rattle.tm_frac.specs.Fits.{long_limit};
 ghost use Rattle.tm_frac.specs.Operation.{first_wide};
-ghost use Rattle.tm_steps.specs.Words.{Affine};
-ghost use Rattle.tm_point.specs.Limits.{Limit};
-ghost use Rattle.tm_point.specs.EdgeProblems.{source_limit, guard_limits};
+ghost use Rattle.tm_validity.specs.Words.{Affine};
+ghost use Rattle.tm_transformers.specs.Limits.{Limit};
+ghost use Rattle.tm_transformers.specs.EdgeProblems.{source_limit, guard_limits};
 ghost use Rattle.tm_joint.specs.Rows.{AllStand, SameForm, embedded, own_limit_of, side_operation, IsSideFault};
 
 use crate::row::{negated, row_over, template_coeffs};

@@ -1,6 +1,7 @@
-//! Which unknowns reach which, directly or through others.
+//! Which points reach which by the picked edges of unknowns.
 
 ghost use Rattle.std.specs.Prelude.{◌≡◌, ◌<◌, ℕ, [], IfOk, OnOk, length, get_or};
+ghost use Rattle.tm_joint.specs.declared.node.Node.{Node};
 ghost use Rattle.tm_joint.specs.Tables.{stepped, closed};
 
 use crate::node::Node;
@@ -16,24 +17,26 @@ fn add_where(rows: &mut [Row], middle: &Row, place: usize)
     }
 }
 
-// Adds what is reached through the unknown at a place.
-fn go_through(rows: &mut Vec<Row>, place: usize) -> Result<(), AllocError>
-    requires { place < length rows.old.items }
-    ensures { OnOk result (rows.new.items ≡ stepped place (get_or rows.old.items place []) rows.old.items) }
+// Adds what the source of an unknown reaches to all that reach its point.
+fn go_through(rows: &mut Vec<Row>, node: &Node) -> Result<(), AllocError>
+    requires { node.now.source < length rows.old.items }
+    ensures { OnOk result (rows.new.items ≡ stepped node.now.point (get_or rows.old.items node.now.source []) rows.old.items) }
 {
-    let middle = rows[place].again()?;
-    add_where(rows.as_mut_slice(), &middle, place);
+    let middle = rows[node.source as usize].again()?;
+    add_where(rows.as_mut_slice(), &middle, node.point as usize);
     Ok(())
 }
 
-/// For each two unknowns, whether they are one, or the first leans on the second, directly or through others of the list.
-pub fn reaching(alloc: Global, nodes: &[Node]) -> Result<Vec<Row>, AllocError>
-    ensures { IfOk result (λ v. v.items ≡ closed nodes.now (length nodes.now)) }
+/// For each two of so many points, whether they are one, or the first is led to the second by the unknowns: an unknown leads
+/// from its point to the source of its picked edge. The unknowns stand over these points.
+pub fn reaching(alloc: Global, points: usize, nodes: &[Node]) -> Result<Vec<Row>, AllocError>
+    requires { (k : ℕ) (d : Node) → k < length nodes.now → (get_or nodes.now k d).source < points }
+    ensures { IfOk result (λ v. v.items ≡ closed points nodes.now) }
 {
-    let mut rows = first_table(alloc, nodes)?;
+    let mut rows = first_table(alloc, points)?;
     let mut done = 0;
     while done < nodes.len() {
-        go_through(&mut rows, nodes.len() - 1 - done)?;
+        go_through(&mut rows, &nodes[nodes.len() - 1 - done])?;
         done += 1;
     }
     Ok(rows)

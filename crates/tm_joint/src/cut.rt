@@ -18,7 +18,7 @@ ghost use Rattle.tm_joint.specs.Cuts.{are_one_part, keeps_within, may_come, are_
 use crate::closure::reaching;
 use crate::node::{Node, nodes};
 use crate::part_lists::{Members, Parts};
-use crate::table::{Row, cell_of};
+use crate::table::{Row, gets_to};
 use std::alloc::{AllocError, Global};
 use tm_eqsys::{Pick, System};
 
@@ -26,7 +26,7 @@ use tm_eqsys::{Pick, System};
 fn are_together(rows: &[Row], a: &Node, b: &Node) -> bool
     ensures { result ≡ are_one_part rows.now a.now b.now }
 {
-    cell_of(rows, a.place, b.place) && cell_of(rows, b.place, a.place)
+    gets_to(rows, a, b) && gets_to(rows, b, a)
 }
 
 // Whether an unknown leans, among those left, only on those of a part.
@@ -115,7 +115,8 @@ pub fn parts(alloc: Global, system: &System, pick: &Pick, list: &[u32]) -> Resul
     ensures lowest_first { IfOk result (λ p. NumbersInOrder system.now pick.now list.now p) }
 {
     let nodes = nodes(alloc, system, pick, list)?;
-    let rows = reaching(alloc, nodes.as_slice())?;
+    let points = system.flow.points.as_slice().len();
+    let rows = reaching(alloc, points, nodes.as_slice())?;
     let lists = cut(alloc, rows.as_slice(), nodes)?;
     Ok(Parts::new(lists))
 }

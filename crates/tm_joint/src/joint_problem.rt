@@ -1,11 +1,12 @@
 //! The joint problem of a list of unknowns.
 
 ghost use Rattle.std.specs.Prelude.{◌≡◌, ◌+◌, ◌*◌, ◌<◌, ◌≤◌, ◌++◌, ℕ, [], None, IfOk, OnOk, IfErr, length, map, get_or};
+ghost use Rattle.tm_num.specs.Vector.{zeros};
 ghost use Rattle.tm_frac.specs.Fits.{long_limit};
 ghost use Rattle.tm_frac.specs.Operation.{first_wide};
 ghost use Rattle.tm_eqsys.specs.View.{equations_of};
-ghost use Rattle.tm_point.specs.JointProblems.{ones, zeros};
-ghost use Rattle.tm_oper.specs.Composed.{AreComposed};
+ghost use Rattle.tm_transformers.specs.JointProblems.{ones};
+ghost use Rattle.tm_compose.specs.Composed.{AreComposed};
 ghost use Rattle.tm_joint.specs.Numbers.{ArePicked, Rises};
 ghost use Rattle.tm_joint.specs.Rows.{IsSideFault};
 ghost use Rattle.tm_joint.specs.Blocks.{side_operations, split_columns};
@@ -14,16 +15,16 @@ ghost use Rattle.tm_joint.specs.Problems.{problem_of, MakeProblem};
 use crate::joint_rows::{all_rows, count_columns};
 use crate::row::push_zeros;
 use std::alloc::{AllocError, Global};
+use tm_compose::Paths;
 use tm_eqsys::{Bounds, PartFault, Pick, System};
 use tm_frac::{Frac, OrderedField};
-use tm_oper::Paths;
 use tm_simplex::Problem;
 
 // The sum of the rises: 1 for each unknown, and 0 for the columns behind them.
 fn goal(alloc: Global, unknowns: usize, more: usize) -> Result<Vec<Frac>, AllocError>
     ensures { IfOk result (λ v. v.items ≡ ones unknowns ++ zeros more) }
 {
-    let mut goal = Vec::new(alloc);
+    let mut goal = Vec::with_capacity(alloc, unknowns.saturating_add(more))?;
     for _unknown in 0..unknowns {
         goal.push(Frac::one())?;
     }

@@ -5,17 +5,17 @@ ghost use Rattle.tm_num.specs.Rational.{zero_ℚ};
 ghost use Rattle.tm_frac.specs.Fits.{long_limit};
 ghost use Rattle.tm_frac.specs.Operation.{first_wide};
 ghost use Rattle.tm_eqsys.specs.View.{equations_of};
-ghost use Rattle.tm_point.specs.Limits.{Limit};
-ghost use Rattle.tm_oper.specs.Composed.{AreComposed};
+ghost use Rattle.tm_transformers.specs.Limits.{Limit};
+ghost use Rattle.tm_compose.specs.Composed.{AreComposed};
 ghost use Rattle.tm_joint.specs.Numbers.{ArePicked, Rises};
 ghost use Rattle.tm_joint.specs.Rows.{AllStand, IsSideFault};
 ghost use Rattle.tm_joint.specs.Blocks.{edge_at, sources_of, guards_of, side_of, block_of, split_width, blocks_from, split_columns, side_operations};
 
 use crate::problem::{picked_edge, push_guards, push_own, push_sources, word_width};
 use std::alloc::{AllocError, Global};
+use tm_compose::Paths;
 use tm_eqsys::{Bounds, PartFault, Pick, System};
 use tm_frac::Frac;
-use tm_oper::Paths;
 use tm_simplex::Row;
 
 // The rows of the source and of the guards of an edge.

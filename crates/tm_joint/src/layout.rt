@@ -2,15 +2,15 @@
 
 ghost use Rattle.std.specs.Prelude.{◌≡◌, ◌+◌, ◌*◌, ◌<◌, ◌≤◌, ◌^◌, IfOk, length};
 ghost use Rattle.tm_eqsys.specs.View.{equations_of};
-ghost use Rattle.tm_oper.specs.Composed.{AreComposed};
+ghost use Rattle.tm_compose.specs.Composed.{AreComposed};
 ghost use Rattle.tm_joint.specs.Numbers.{ArePicked};
 ghost use Rattle.tm_joint.specs.Blocks.{edge_at, split_columns};
 ghost use Rattle.tm_joint.specs.Layouts.{columns_from, layout_of};
 
 use crate::problem::{picked_edge, word_width};
 use std::alloc::{AllocError, Global};
+use tm_compose::Paths;
 use tm_eqsys::{Pick, System};
-use tm_oper::Paths;
 use tm_ray::{Columns, Rise};
 
 // So many columns from a first one on, two apart.
@@ -18,7 +18,7 @@ fn columns(alloc: Global, first: usize, count: usize) -> Result<Columns, AllocEr
     requires { first + (count + count) < 4294967296 }
     ensures { IfOk result (λ c. c ≡ columns_from first count) }
 {
-    let mut list = Vec::new(alloc);
+    let mut list = Vec::with_capacity(alloc, count)?;
     for i in 0..count {
         list.push((first + i + i) as u32)?;
     }
@@ -40,7 +40,7 @@ pub fn layout(
     ensures { IfOk result (λ v. v.items ≡ layout_of system.now pick.now list.now) }
 {
     let names = system.flow.names.as_slice().len();
-    let mut rises = Vec::new(alloc);
+    let mut rises = Vec::with_capacity(alloc, list.len())?;
     let mut offset = 0;
     for (place, unknown) in list.iter().enumerate() {
         let width = word_width(system, paths, picked_edge(pick, *unknown));

@@ -16,8 +16,6 @@ mod read;
 mod row;
 mod solve;
 mod table;
-#[cfg(test)]
-mod tests;
 
 pub use cut::parts;
 pub use joined::Joined;

@@ -1,16 +1,15 @@
 //! Listed unknowns with the point at which they stand and the point from which their picked edge comes.
 
 ghost use Rattle.std.specs.Prelude.{◌≡◌, ◌*◌, ◌<◌, IfOk, length};
-ghost use Rattle.tm_joint.specs.Numbers.{IsPicked, ArePicked, source_of, nodes_from};
+ghost use Rattle.tm_joint.specs.Numbers.{IsPicked, ArePicked, source_of, nodes_of};
 
 use std::alloc::{AllocError, Global};
 use tm_eqsys::{Pick, System};
 
-/// An unknown of a list: its number, its place in the list, its point, and the source of its picked edge.
+/// An unknown of a list: its number, its point, and the source of its picked edge.
 #[derive(Clone, Copy)]
 pub struct Node {
     pub unknown: u32,
-    pub place: u32,
     pub point: u32,
     pub source: u32,
 }
@@ -37,15 +36,13 @@ pub fn nodes(
 ) -> Result<Vec<Node>, AllocError>
     requires pick { length pick.now ≡ length system.now.flow.points * length system.now.template }
     requires picked { ArePicked system.now pick.now list.now }
-    requires few { length list.now < 2000 }
-    ensures { IfOk result (λ v. v.items ≡ nodes_from system.now pick.now 0 list.now) }
+    ensures { IfOk result (λ v. v.items ≡ nodes_of system.now pick.now list.now) }
 {
     let rows = system.template.as_slice().len() as u32;
-    let mut nodes = Vec::new(alloc);
-    for (place, unknown) in list.iter().enumerate() {
+    let mut nodes = Vec::with_capacity(alloc, list.len())?;
+    for unknown in list {
         nodes.push(Node {
             unknown: *unknown,
-            place: place as u32,
             point: *unknown / rows,
             source: source(system, pick, *unknown),
         })?;

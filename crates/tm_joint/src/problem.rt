@@ -7,19 +7,19 @@ ghost use Rattle.tm_frac.specs.Fits.{long_limit};
 ghost use Rattle.tm_frac.specs.Operation.{first_wide};
 ghost use Rattle.tm_eqsys.specs.declared.spot.PartFault.TheVariants.{NoMemory};
 ghost use Rattle.tm_eqsys.specs.View.{equations_of};
-ghost use Rattle.tm_steps.specs.Words.{width};
-ghost use Rattle.tm_steps.specs.Certificates.{num};
-ghost use Rattle.tm_point.specs.Limits.{Limit};
-ghost use Rattle.tm_oper.specs.Composed.{AreComposed};
+ghost use Rattle.tm_validity.specs.Words.{width};
+ghost use Rattle.tm_validity.specs.Certificates.{num};
+ghost use Rattle.tm_transformers.specs.Limits.{Limit};
+ghost use Rattle.tm_compose.specs.Composed.{AreComposed};
 ghost use Rattle.tm_joint.specs.Numbers.{edge_of};
 ghost use Rattle.tm_joint.specs.Rows.{AllStand, IsSideFault};
 ghost use Rattle.tm_joint.specs.Blocks.{edge_at, sources_of, guards_of, own_of, side_of};
 
 use crate::block::{own_side, push_guard, push_own_row, push_source};
 use std::alloc::{AllocError, Global};
+use tm_compose::Paths;
 use tm_eqsys::{Bounds, PartFault, Pick, System};
 use tm_frac::{Ext, Frac, OrderedField};
-use tm_oper::Paths;
 use tm_simplex::Row;
 
 /// The number of the picked edge.

@@ -1,12 +1,14 @@
 //! Rows of a joint problem: a coefficient on a rise, and the split columns of one listed unknown.
 
 ghost use Rattle.std.specs.Prelude.{◌≡◌, ◌==◌, ◌+◌, ◌<◌, ◌≤◌, ◌++◌, ◌∷◌, [], ℕ, cond, IfOk, OnOk, IsTrue, length, map};
+ghost use Rattle.tm_num.specs.Vector.{zeros};
 ghost use Rattle.tm_num.specs.Rational.{zero_ℚ, neg_ℚ, whole};
-ghost use Rattle.tm_tree.specs.Numbers.{is_number, are_numbers};
-ghost use Rattle.tm_point.specs.JointProblems.{zeros, split_list};
+ghost use Rattle.tm_tree.specs.Numbers.{are_numbers};
+ghost use Rattle.tm_transformers.specs.JointProblems.{split_list};
 ghost use Rattle.tm_joint.specs.Rows.{on_number, on_numbers, dense_row};
 
 use std::alloc::{AllocError, Global};
+use tm_eqsys::fraction;
 use tm_frac::{Frac, OrderedField};
 
 // A coefficient at one unknown, and 0 at the others.
@@ -70,7 +72,7 @@ pub fn row_over(
     requires { length list.now + (offset + (length coeffs.now + length coeffs.now)) ≤ cols }
     ensures { IfOk result (λ row. row.items ≡ dense_row cols (on_numbers coefficient target list.now) offset coeffs.now) }
 {
-    let mut row = Vec::new(alloc);
+    let mut row = Vec::with_capacity(alloc, cols)?;
     push_rises(&mut row, list, target, coefficient)?;
     push_zeros(&mut row, offset)?;
     push_split(&mut row, coeffs)?;
@@ -79,20 +81,12 @@ pub fn row_over(
     Ok(row)
 }
 
-// A whole number of a program.
-fn fraction(number: i64) -> Frac
-    requires { IsTrue (is_number number) }
-    ensures { result ≡ whole number }
-{
-    Frac::make(number, 1).unwrap()
-}
-
 /// The coefficients of a template row.
 pub fn template_coeffs(alloc: Global, row: &[i64]) -> Result<Vec<Frac>, AllocError>
     requires { IsTrue (are_numbers row.now) }
     ensures { IfOk result (λ v. v.items ≡ map whole row.now) }
 {
-    let mut coeffs = Vec::new(alloc);
+    let mut coeffs = Vec::with_capacity(alloc, row.len())?;
     for number in row {
         coeffs.push(fraction(*number))?;
     }
@@ -103,7 +97,7 @@ pub fn template_coeffs(alloc: Global, row: &[i64]) -> Result<Vec<Frac>, AllocErr
 pub fn negated(alloc: Global, coeffs: &[Frac]) -> Result<Vec<Frac>, AllocError>
     ensures { IfOk result (λ v. v.items ≡ map neg_ℚ coeffs.now) }
 {
-    let mut list = Vec::new(alloc);
+    let mut list = Vec::with_capacity(alloc, coeffs.len())?;
     for coefficient in coeffs {
         list.push(coefficient.negate())?;
     }

@@ -9,8 +9,8 @@ ghost use Rattle.tm_simplex.specs.Operations.{run_operations};
 ghost use Rattle.tm_lp.specs.Listed.{list_problem};
 ghost use Rattle.tm_simplex.specs.Outcomes.{IsOutcomeOf};
 ghost use Rattle.tm_eqsys.specs.View.{equations_of, vector_of};
-ghost use Rattle.tm_point.specs.JointProblems.{AllRising};
-ghost use Rattle.tm_oper.specs.Composed.{AreComposed};
+ghost use Rattle.tm_transformers.specs.JointProblems.{AllRising};
+ghost use Rattle.tm_compose.specs.Composed.{AreComposed};
 ghost use Rattle.tm_joint.specs.Numbers.{all_listed, ArePicked, Rises};
 ghost use Rattle.tm_joint.specs.Joints.{RunFits, IsRunFault, JointAnswers, JoinedMeans};
 
@@ -19,9 +19,9 @@ use crate::joint_problem::joint_problem;
 use crate::layout::layout;
 use crate::read::read;
 use std::alloc::Global;
+use tm_compose::Paths;
 use tm_eqsys::{Bounds, Part, PartFault, Pick, System};
 use tm_frac::Frac;
-use tm_oper::Paths;
 use tm_simplex::{Outcome, Problem, SolveFault, solve};
 use tm_sparse::Sparse;
 

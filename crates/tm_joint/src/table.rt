@@ -1,14 +1,13 @@
-//! Tables of tests between the unknowns of a list.
+//! Tables of tests between points.
 
-ghost use Rattle.std.specs.Prelude.{◌≡◌, ◌+◌, ◌<◌, ◌||◌, ℕ, false, IfOk, length, map, get_or};
-ghost use Rattle.tm_joint.specs.declared.node.Node.{Node};
-ghost use Rattle.tm_joint.specs.Tables.{added, joined, starts, first_rows, cell};
+ghost use Rattle.std.specs.Prelude.{◌≡◌, ◌==◌, ◌||◌, false, IfOk, get_or};
+ghost use Rattle.tm_joint.specs.Tables.{row_by, table_by, added, joined, cell, gets_to};
 
 use crate::node::Node;
 use std::alloc::{AllocError, Global};
 use std::marker::Model;
 
-/// One test for each unknown of a list, in order.
+/// One test for each point, in order.
 #[derive(Drop)]
 pub struct Row {
     cells: Vec<bool>,
@@ -75,34 +74,37 @@ fn add_cells(cells: &mut [bool], other: &Row)
     }
 }
 
-// Whether the two are one unknown, or the first leans on the second.
-fn is_start(a: &Node, b: &Node) -> bool
-    ensures { result ≡ starts a.now b.now }
+// Whether two points are one.
+fn is_same(a: usize, b: usize) -> bool
+    ensures { result ≡ (a == b) }
 {
-    a.unknown == b.unknown || a.source == b.point
+    a == b
 }
 
-// The tests of one unknown.
-fn first_row(alloc: Global, a: &Node, nodes: &[Node]) -> Result<Row, AllocError>
-    ensures { IfOk result (λ r. r ≡ map (starts a.now) nodes.now) }
+// The tests of one point, which reaches itself.
+fn first_row(alloc: Global, points: usize, point: usize) -> Result<Row, AllocError>
+    ensures { IfOk result (λ r. r ≡ row_by points (λ q. point == q)) }
 {
-    let cells = nodes.iter().map(|b| is_start(a, b)).collect(alloc)?;
+    let mut cells = Vec::with_capacity(alloc, points)?;
+    for other in 0..points {
+        cells.push(is_same(point, other))?;
+    }
     Ok(Row { cells })
 }
 
-/// For each two unknowns, whether they are one or the first leans on the second.
-pub fn first_table(alloc: Global, nodes: &[Node]) -> Result<Vec<Row>, AllocError>
-    ensures { IfOk result (λ v. v.items ≡ first_rows nodes.now nodes.now) }
+/// The table in which each point reaches itself alone.
+pub fn first_table(alloc: Global, points: usize) -> Result<Vec<Row>, AllocError>
+    ensures { IfOk result (λ v. v.items ≡ table_by points (λ p q. p == q)) }
 {
-    let mut rows = Vec::new(alloc);
-    for a in nodes {
-        rows.push(first_row(alloc, a, nodes)?)?;
+    let mut rows = Vec::with_capacity(alloc, points)?;
+    for point in 0..points {
+        rows.push(first_row(alloc, points, point)?)?;
     }
     Ok(rows)
 }
 
-/// The test of the unknowns at two places; false where there are none.
-pub fn cell_of(rows: &[Row], i: u32, j: u32) -> bool
+// The test of two points; false where there are none.
+fn cell_of(rows: &[Row], i: u32, j: u32) -> bool
     ensures { result ≡ cell rows.now i j }
 {
     if (i as usize) < rows.len() {
@@ -110,4 +112,11 @@ pub fn cell_of(rows: &[Row], i: u32, j: u32) -> bool
     } else {
         false
     }
+}
+
+/// Whether an unknown is another one, or its source reaches that one's point.
+pub fn gets_to(rows: &[Row], a: &Node, b: &Node) -> bool
+    ensures { result ≡ gets_to rows.now a.now b.now }
+{
+    a.unknown == b.unknown || cell_of(rows, a.source, b.point)
 }

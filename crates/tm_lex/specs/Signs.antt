@@ -1,7 +1,9 @@
 -- How the signs are spelled.
 use Rattle.std.specs.Prelude.{ℕ, List, codes}
 use Rattle.tm_lex.specs.declared.sign.Sign.{Sign}
-use Rattle.tm_lex.specs.declared.sign.Sign.TheVariants.{LeftParen, RightParen, LeftBrace, RightBrace, Comma, Semicolon, Colon, Assign, PlusAssign, MinusAssign, Increment, Decrement, Plus, Minus, Star, Bang, Less, LessEqual, Greater, GreaterEqual, EqualEqual, BangEqual, AndAnd, OrOr}
+use Rattle.tm_lex.specs.declared.sign.Sign.TheVariants.{LeftParen, RightParen, LeftBrace, RightBrace, Comma, Semicolon, Colon, Assign, PlusAssign}
+use Rattle.tm_lex.specs.declared.sign.Sign.TheVariants.{MinusAssign, Increment, Decrement, Plus, Minus, Star, Bang, Less, LessEqual, Greater, GreaterEqual}
+use Rattle.tm_lex.specs.declared.sign.Sign.TheVariants.{EqualEqual, BangEqual, AndAnd, OrOr}
 
 -- the bytes of a sign
 abbrev pub sign_bytes : Sign → List ℕ

@@ -46,4 +46,6 @@ StartWith (b ∷ c ∷ bs) first second = (b ≡ first) × (Some c ≡ second)
 -- the longest sign that starts so, or none
 abbrev pub IsLongestSign : ℕ → Option ℕ → Option Sign → Type 0
 IsLongestSign first second None = (sign : Sign) → StartWith (sign_bytes sign) first second → ⊥
-IsLongestSign first second (Some sign) = StartWith (sign_bytes sign) first second × ((other : Sign) → StartWith (sign_bytes other) first second → length (sign_bytes other) ≤ length (sign_bytes sign))
+IsLongestSign first second (Some sign) =
+    StartWith (sign_bytes sign) first second
+    × ((other : Sign) → StartWith (sign_bytes other) first second → length (sign_bytes other) ≤ length (sign_bytes sign))

@@ -1,7 +1,10 @@
 -- How the reserved words are spelled.
 use Rattle.std.specs.Prelude.{◌≡◌, ℕ, List, [], ◌∷◌, codes}
 use Rattle.tm_lex.specs.declared.word.Word.{Word}
-use Rattle.tm_lex.specs.declared.word.Word.TheVariants.{Auto, Break, Case, Char, Const, Continue, Default, Do, Double, Else, Enum, Extern, Float, For, Goto, If, Inline, Int, Long, Register, Return, Short, Signed, SizeOf, Static, Struct, Switch, TypeDef, Union, Unsigned, Void, Volatile, While, Assume, Assert, Main, Nondet, VerifierAssume, VerifierAssert, VerifierNondetInt}
+use Rattle.tm_lex.specs.declared.word.Word.TheVariants.{Auto, Break, Case, Char, Const, Continue, Default, Do, Double, Else, Enum, Extern, Float, For, Goto}
+use Rattle.tm_lex.specs.declared.word.Word.TheVariants.{If, Inline, Int, Long, Register, Return, Short, Signed, SizeOf, Static, Struct, Switch, TypeDef}
+use Rattle.tm_lex.specs.declared.word.Word.TheVariants.{Union, Unsigned, Void, Volatile, While, Assume, Assert, Main, Nondet, VerifierAssume, VerifierAssert}
+use Rattle.tm_lex.specs.declared.word.Word.TheVariants.{VerifierNondetInt}
 
 -- the bytes of a reserved word
 abbrev pub word_bytes : Word → List ℕ

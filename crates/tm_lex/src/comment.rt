@@ -8,7 +8,7 @@ ghost use Rattle.tm_lex.specs.Steps.{IsFirstClose, Finds};
 use crate::fault::LexFault;
 use crate::found::Found;
 
-/// How many bytes stand before the first line feed, or before the end.
+// How many bytes stand before the first line feed, or before the end.
 fn line_len(rest: &[u8]) -> usize
     ensures len { result ≡ prefix_len is_on_line rest.now }
     ensures within { result ≤ length rest.now }
@@ -16,7 +16,7 @@ fn line_len(rest: &[u8]) -> usize
     rest.iter().take_while(|byte| **byte != b'\n').count()
 }
 
-/// Where the first `*/` stands.
+// Where the first `*/` stands.
 fn first_close(body: &[u8]) -> Option<usize>
     ensures { IsFirstClose body.now result }
 {

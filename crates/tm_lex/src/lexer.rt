@@ -13,7 +13,7 @@ use crate::piece::piece;
 use crate::token::{Kind, Token};
 use std::alloc::Global;
 
-/// Reads a text piece by piece.
+// Reads a text piece by piece.
 fn scan(alloc: Global, text: &[u8]) -> Result<Vec<Token>, LexFault>
     requires { length text.now ≤ 65536 }
     ensures { MatchResult result (λ tokens. Reads text.now tokens.items) (λ fault. HasFault text.now fault ⊎ (fault ≡ NoMemory)) }

@@ -24,6 +24,3 @@ pub use line::line_of;
 pub use sign::Sign;
 pub use token::{Kind, Token};
 pub use word::Word;
-
-#[cfg(test)]
-mod tests;

@@ -16,28 +16,28 @@ use crate::token::Kind;
 /// The greatest value of a literal.
 const GREATEST_LITERAL: u64 = 9223372036854775807;
 
-/// How many digits stand first.
+// How many digits stand first.
 fn digits_len(rest: &[u8]) -> usize
     ensures { result ≡ prefix_len is_digit rest.now }
 {
     rest.iter().take_while(|byte| is_digit(**byte)).count()
 }
 
-/// Whether there is more than one digit, and the first is 0.
+// Whether there is more than one digit, and the first is 0.
 fn is_padded(digits: &[u8]) -> bool
     ensures { result ≡ is_padded digits.now }
 {
     digits.len() > 1 && digits[0] == b'0'
 }
 
-/// Whether a letter or `_` stands first.
+// Whether a letter or `_` stands first.
 fn starts_with_letter(rest: &[u8]) -> bool
     ensures { result ≡ starts_with_letter rest.now }
 {
     !rest.is_empty() && is_letter(rest[0])
 }
 
-/// The value of digits, if it is that of a literal.
+// The value of digits, if it is that of a literal.
 fn literal_value(digits: &[u8]) -> Option<i64>
     requires { IsTrue (list_all is_digit digits.now) }
     ensures { MatchOption result (greatest_literal < digits_value 10 digits.now)

@@ -3,7 +3,10 @@
 ghost use Rattle.std.specs.Prelude.{◌≡◌, ◌↔◌, [], ◌∷◌, IsTrue, MatchOption};
 ghost use Rattle.tm_lex.specs.Words.{word_bytes, NoneSpelled};
 ghost use Rattle.tm_lex.specs.Lexemes.{IsReserved};
-ghost use Rattle.tm_lex.specs.declared.word.Word.TheVariants.{Auto, Break, Case, Char, Const, Continue, Default, Do, Double, Else, Enum, Extern, Float, For, Goto, If, Inline, Int, Long, Register, Return, Short, Signed, SizeOf, Static, Struct, Switch, TypeDef, Union, Unsigned, Void, Volatile, While, Assume, Assert, Main, Nondet, VerifierAssume, VerifierAssert, VerifierNondetInt};
+ghost use Rattle.tm_lex.specs.declared.word.Word.TheVariants.{Auto, Break, Case, Char, Const, Continue, Default, Do, Double, Else, Enum, Extern, Float, For};
+ghost use Rattle.tm_lex.specs.declared.word.Word.TheVariants.{Goto, If, Inline, Int, Long, Register, Return, Short, Signed, SizeOf, Static, Struct, Switch};
+ghost use Rattle.tm_lex.specs.declared.word.Word.TheVariants.{TypeDef, Union, Unsigned, Void, Volatile, While, Assume, Assert, Main, Nondet, VerifierAssume};
+ghost use Rattle.tm_lex.specs.declared.word.Word.TheVariants.{VerifierAssert, VerifierNondetInt};
 
 use crate::word::Word;
 
@@ -38,7 +41,9 @@ fn of_three_bytes(bytes: &[u8]) -> Option<Word>
 }
 
 fn of_four_bytes(bytes: &[u8]) -> Option<Word>
-    ensures { MatchOption result (NoneSpelled (Auto ∷ Case ∷ Char ∷ Else ∷ Enum ∷ Goto ∷ Long ∷ Void ∷ Main ∷ []) bytes.now) (λ word. word_bytes word ≡ bytes.now) }
+    ensures { MatchOption result
+        (NoneSpelled (Auto ∷ Case ∷ Char ∷ Else ∷ Enum ∷ Goto ∷ Long ∷ Void ∷ Main ∷ []) bytes.now)
+        (λ word. word_bytes word ≡ bytes.now) }
 {
     if spells(bytes, "auto") {
         Some(Word::Auto)
@@ -84,7 +89,9 @@ fn of_five_bytes(bytes: &[u8]) -> Option<Word>
 }
 
 fn of_six_bytes(bytes: &[u8]) -> Option<Word>
-    ensures { MatchOption result (NoneSpelled (Double ∷ Extern ∷ Inline ∷ Return ∷ Signed ∷ SizeOf ∷ Static ∷ Struct ∷ Switch ∷ Assume ∷ Assert ∷ Nondet ∷ []) bytes.now) (λ word. word_bytes word ≡ bytes.now) }
+    ensures { MatchOption result
+        (NoneSpelled (Double ∷ Extern ∷ Inline ∷ Return ∷ Signed ∷ SizeOf ∷ Static ∷ Struct ∷ Switch ∷ Assume ∷ Assert ∷ Nondet ∷ []) bytes.now)
+        (λ word. word_bytes word ≡ bytes.now) }
 {
     if spells(bytes, "double") {
         Some(Word::Double)

@@ -9,7 +9,7 @@ use crate::found::Found;
 use crate::sign::Sign;
 use crate::token::Kind;
 
-/// The longest sign that starts with a byte and the one after it, if there is one.
+// The longest sign that starts with a byte and the one after it, if there is one.
 fn longest_sign(first: u8, second: Option<u8>) -> Option<Sign>
     ensures { IsLongestSign first second result }
 {

@@ -14,7 +14,7 @@ use crate::token::Kind;
 /// The most bytes that a word has.
 const LONGEST_WORD: usize = 32;
 
-/// How many letters and digits stand first.
+// How many letters and digits stand first.
 fn word_len(rest: &[u8]) -> usize
     ensures { result ≡ prefix_len is_word_byte rest.now }
 {

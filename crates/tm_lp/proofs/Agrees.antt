@@ -1,13 +1,10 @@
 -- Tables that are the same within their bounds stay so.
-use Rattle.std.proofs.Common.{◌≡◌, ℕ, suc, ◌+◌, ◌-◌, ◌<◌, ◌≤◌, cond, eqb, refl, ap, ap₂, sym, ◌∙◌, arith}
+use Rattle.std.proofs.Common.{◌≡◌, ℕ, suc, ◌+◌, ◌-◌, ◌<◌, ◌≤◌, cond, eqb, ap, ap₂, ◌∙◌, arith}
 use Rattle.tm_num.specs.Rational.{one_ℚ, neg_ℚ, ◌+ℚ◌, ◌*ℚ◌, ◌/ℚ◌}
 use Rattle.tm_lp.specs.Table.{Table, Agree, pivot_row_entry, pivot_other_entry, pivot_table, skip, drop_table}
 use Rattle.tm_lp.specs.Run.{place_of, leave_table}
 use Rattle.tm_lp.proofs.TableDrops.{skip_bound}
 use Rattle.tm_lp.proofs.Places.{place_same}
-
-pub agree_refl : (T : Table) → Agree T T
-agree_refl T = record { rows = refl; goals = refl; width = refl; row_name = λ i l. refl; col_name = λ k l. refl; entry = λ i k l m. refl }
 
 pub agree_trans : (T U V : Table) → Agree T U → Agree U V → Agree T V
 agree_trans T U V a b = record {

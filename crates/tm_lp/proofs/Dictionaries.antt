@@ -1,18 +1,14 @@
 -- The meaning of a dictionary: free extension, the basic solution, and a dictionary is determined by its basis set.
-use Rattle.std.proofs.Common.{◌≡◌, ℕ, ◌<◌, ◌⊎◌, inl, inr, ⊎_elim, Bool, true, false, [], ◌∷◌, refl, ap, sym, ◌∙◌, true≢false}
-use Rattle.std.proofs.lemmas.Bool.{cases_lt}
+use Rattle.std.proofs.Common.{◌≡◌, ℕ, ◌<◌, ⊎_elim, false, [], ◌∷◌, ap, sym, ◌∙◌, true≢false}
+use Rattle.std.proofs.lemmas.Bool.{cases_lt, cases_eq, cases_Bool}
+use Rattle.tm_num.proofs.Sums.{sum_nothing}
 use Rattle.tm_num.specs.Rational.{ℚ, zero_ℚ, ◌+ℚ◌, ◌*ℚ◌}
 use Rattle.tm_num.specs.Vector.{sum_to}
 use Rattle.tm_num.proofs.Laws.{+ℚ_idl, +ℚ_idr, *ℚ-zero, zero-*ℚ}
 use Rattle.tm_num.proofs.Linarith.{eq, lin_eq, reads_all}
 use Rattle.tm_num.proofs.Vectors.{sum_to_same}
 use Rattle.tm_lp.specs.Dictionary.{delta, Dict, row, Models, IsDict, extend, SameBasis}
-use Rattle.tm_lp.proofs.Sums.{delta_other, sum_nothing, sum-delta, sum_delta_right, same_or_not}
-
--- a test is true or false
-pub bool_cases : (b : Bool) → (b ≡ true) ⊎ (b ≡ false)
-bool_cases true = inl refl
-bool_cases false = inr refl
+use Rattle.tm_lp.proofs.Sums.{delta_other, sum-delta, sum_delta_right}
 
 -- a name that is not basic is below n
 pub free_below : (n : ℕ) (D : Dict) → IsDict n D → (i : ℕ) → D.basic i ≡ false → i < n
@@ -21,14 +17,14 @@ free_below n D d i f = ⊎_elim (λ h. h) (λ h. absurd (true≢false (sym (d.go
 -- a term of a row is 0 at a basic name, and where the value is 0
 term_zero : (n : ℕ) (D : Dict) → IsDict n D → (V : ℕ → ℚ) (i k : ℕ) → (D.basic k ≡ false → V k ≡ zero_ℚ) → D.coef i k *ℚ V k ≡ zero_ℚ
 term_zero n D d V i k z =
-    ⊎_elim (λ b. ap (λ s. s *ℚ V k) (d.column i k b) ∙ zero-*ℚ (V k)) (λ f. ap (λ s. D.coef i k *ℚ s) (z f) ∙ *ℚ-zero (D.coef i k)) (bool_cases (D.basic k))
+    ⊎_elim (λ b. ap (λ s. s *ℚ V k) (d.column i k b) ∙ zero-*ℚ (V k)) (λ f. ap (λ s. D.coef i k *ℚ s) (z f) ∙ *ℚ-zero (D.coef i k)) (cases_Bool (D.basic k))
 
 -- two valuations that agree at the free names give each row one value
 pub row_same : (n : ℕ) (D : Dict) → IsDict n D → (V W : ℕ → ℚ) → ((k : ℕ) → k < n → D.basic k ≡ false → V k ≡ W k) → (i : ℕ) → row n D V i ≡ row n D W i
 unfolding row
 row_same n D d V W h i =
     ap (λ s. D.const i +ℚ s) (sum_to_same n (λ k. D.coef i k *ℚ V k) (λ k. D.coef i k *ℚ W k)
-    (λ k l. ⊎_elim (λ b. ap (λ s. s *ℚ V k) (d.column i k b) ∙ zero-*ℚ (V k) ∙ sym (ap (λ s. s *ℚ W k) (d.column i k b) ∙ zero-*ℚ (W k))) (λ f. ap (λ s. D.coef i k *ℚ s) (h k l f)) (bool_cases (D.basic k))))
+    (λ k l. ⊎_elim (λ b. ap (λ s. s *ℚ V k) (d.column i k b) ∙ zero-*ℚ (V k) ∙ sym (ap (λ s. s *ℚ W k) (d.column i k b) ∙ zero-*ℚ (W k))) (λ f. ap (λ s. D.coef i k *ℚ s) (h k l f)) (cases_Bool (D.basic k))))
 
 -- with the free names at 0 a row's value is its constant
 pub row_zero : (n : ℕ) (D : Dict) → IsDict n D → (V : ℕ → ℚ) → ((k : ℕ) → k < n → D.basic k ≡ false → V k ≡ zero_ℚ) → (i : ℕ) → row n D V i ≡ D.const i
@@ -73,7 +69,7 @@ along_free n D d j k f =
     ap (λ s. s +ℚ D.coef k j) (d.still k f) ∙ +ℚ_idl (D.coef k j) ∙ d.unit k j f ∙ delta_sym k j
   where
     delta_sym : (k j : ℕ) → delta k j ≡ delta j k
-    delta_sym k j = ⊎_elim (λ e. ap (λ s. delta s j) e ∙ ap (λ s. delta j s) (sym e)) (λ h. delta_other k j h ∙ sym (delta_other j k (λ e. h (sym e)))) (same_or_not k j)
+    delta_sym k j = ⊎_elim (λ e. ap (λ s. delta s j) e ∙ ap (λ s. delta j s) (sym e)) (λ h. delta_other k j h ∙ sym (delta_other j k (λ e. h (sym e)))) (cases_eq k j)
 
 -- these values meet the dictionary
 pub along_models : (n : ℕ) (D : Dict) → IsDict n D → (j : ℕ) → j < n → Models n D (along D j)

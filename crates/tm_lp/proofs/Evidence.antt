@@ -87,10 +87,6 @@ ray_exceeds P x d u b =
 pub not_best_unbounded : (P : Problem) (x y x' d : ℕ → ℚ) (v : ℚ) → IsBest P x v y → IsUnbounded P x' d → ⊥
 not_best_unbounded P x y x' d v b u = let e = ray_exceeds P x' d u v in not_le_of_lt e.3 (weak_best P x y v b (moved x' e.0 d) e.2)
 
--- an empty problem has no point
-pub not_empty_point : (P : Problem) (x y : ℕ → ℚ) → IsEmpty P y → IsPoint P x → ⊥
-not_empty_point P x y e p = weak_empty P y e x p
-
 -- no problem is empty and unbounded
 pub not_empty_unbounded : (P : Problem) (x d y : ℕ → ℚ) → IsEmpty P y → IsUnbounded P x d → ⊥
 not_empty_unbounded P x d y e u = weak_empty P y e x u.point

@@ -1,15 +1,14 @@
 -- Each basic name but 0 has a row in the tables of a run.
-use Rattle.std.proofs.Common.{◌≡◌, ◌≢◌, ℕ, zero, suc, ◌+◌, ◌-◌, ◌<◌, ◌≤◌, ◌⊎◌, ⊎_elim, Bool, true, false, cond, eqb, ltb, refl, ap, ap₂, sym, ◌∙◌, subst, arith, true≢false}
+use Rattle.std.proofs.Common.{◌≡◌, ◌≢◌, ℕ, zero, suc, ◌<◌, ⊎_elim, true, false, cond, refl, ap, ap₂, sym, ◌∙◌, subst, arith, true≢false}
 use Rattle.std.proofs.lemmas.Bool.{cases_eq, eq-eqb, ne_eqb, lt-ltb}
 use Rattle.tm_lp.specs.Problem.{Problem}
 use Rattle.tm_lp.specs.Dictionary.{Dict, pivot, drop_zero}
-use Rattle.tm_lp.specs.Search.{Search, none, found}
-use Rattle.tm_lp.specs.Bland.{Choice, optimal, ray, step, choose, take_step, after, index_of, ChoiceIs, IsGood}
-use Rattle.tm_lp.specs.Simplex.{names, main_row, slack_name, first_dict, entered, lowest, last_of_one}
-use Rattle.tm_lp.specs.Table.{Table, Shows, Agree, pivot_table, skip, drop_table}
+use Rattle.tm_lp.specs.Bland.{Choice, optimal, ray, step, choose, take_step, after, ChoiceIs, IsGood}
+use Rattle.tm_lp.specs.Simplex.{names, main_row, slack_name, first_dict, entered}
+use Rattle.tm_lp.specs.Table.{Table, Shows, Agree, pivot_table, drop_table}
 use Rattle.tm_lp.specs.FirstTable.{first_table, plain_table}
 use Rattle.tm_lp.specs.HasRows.{HasRows}
-use Rattle.tm_lp.specs.Run.{row_place, col_place, leave_table, step_table, tables_after, Phase, phase_dict, phase_table, IsPhase, aux_phase, main_start, main_table, main_phase}
+use Rattle.tm_lp.specs.Run.{row_place, col_place, leave_table, step_table, tables_after, Phase, phase_dict, phase_table, IsPhase}
 use Rattle.tm_lp.proofs.Steps.{choose_is}
 use Rattle.tm_lp.proofs.Stops.{after_good}
 use Rattle.tm_lp.proofs.Roles.{name_cases}

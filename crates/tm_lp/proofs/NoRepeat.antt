@@ -1,12 +1,11 @@
 -- No basis set repeats in a chain of pivots by Bland's rule.
 use Rattle.std.proofs.Common.{◌≡◌, ◌≢◌, ℕ, zero, suc, ◌<◌, ◌≤◌, ◌⊎◌, inl, inr, ⊎_elim, Bool, true, false, not, refl, ap, sym, ◌∙◌, subst, arith, true≢false}
-use Rattle.std.proofs.lemmas.Bool.{cases_lt}
+use Rattle.std.proofs.lemmas.Bool.{cases_lt, cases_eq, cases_Bool, not-false, not-true}
 use Rattle.tm_num.specs.Rational.{ℚ, zero_ℚ, ◌+ℚ◌, ◌*ℚ◌, ◌≤ℚ◌}
 use Rattle.tm_num.proofs.Laws.{≤ℚ_trans, ≤ℚ_antisymm, le_of_eq_ℚ, *ℚ-zero, +ℚ_idr, ne_of_lt_ℚ}
 use Rattle.tm_lp.specs.Dictionary.{Dict, Models, pivot, SameBasis}
 use Rattle.tm_lp.specs.Bland.{ratio_of, Enters, Leaves, IsChain}
-use Rattle.tm_lp.proofs.Sums.{same_or_not}
-use Rattle.tm_lp.proofs.Dictionaries.{bool_cases, same_const}
+use Rattle.tm_lp.proofs.Dictionaries.{same_const}
 use Rattle.tm_lp.proofs.Pivots.{pivot_enters, pivot_leaves, pivot_stays, pivot_means, pivot_means_back}
 use Rattle.tm_lp.proofs.Steps.{enters_free, leaves_basic, const_moves, step_goal, step_same}
 use Rattle.tm_lp.proofs.Clash.{clash}
@@ -15,13 +14,13 @@ use Rattle.tm_lp.proofs.Clash.{clash}
 pub turned_basic : (D : Dict) (r c q : ℕ) → r ≢ c → D.basic q ≡ false → (pivot D r c).basic q ≡ true → q ≡ c
 turned_basic D r c q h b e = ⊎_elim (λ i. i) (λ i. absurd (⊎_elim
     (λ j. true≢false (sym e ∙ ap (pivot D r c).basic j ∙ pivot_leaves D r c h))
-    (λ j. true≢false (sym e ∙ pivot_stays D r c q i j ∙ b)) (same_or_not q r))) (same_or_not q c)
+    (λ j. true≢false (sym e ∙ pivot_stays D r c q i j ∙ b)) (cases_eq q r))) (cases_eq q c)
 
 -- what turns free leaves
 pub turned_free : (D : Dict) (r c q : ℕ) → D.basic q ≡ true → (pivot D r c).basic q ≡ false → q ≡ r
 turned_free D r c q b e = ⊎_elim (λ i. i) (λ i. absurd (⊎_elim
     (λ j. true≢false (sym (ap (pivot D r c).basic j ∙ pivot_enters D r c) ∙ e))
-    (λ j. true≢false (sym b ∙ sym (pivot_stays D r c q j i) ∙ e)) (same_or_not q c))) (same_or_not q r)
+    (λ j. true≢false (sym b ∙ sym (pivot_stays D r c q j i) ∙ e)) (cases_eq q c))) (cases_eq q r)
 
 -- a sequence that is false first and true later turns true in between
 rises : (s : ℕ → Bool) (i m : ℕ) → i ≤ m → s i ≡ false → s m ≡ true → (l : ℕ) × (l < m) × (s l ≡ false) × (s (suc l) ≡ true)
@@ -32,7 +31,7 @@ rises s i (suc m) h f t = ⊎_elim
     (λ k. absurd (true≢false (sym t ∙ ap s (omega (arith, h, k)) ∙ f)))
     (at_most i m))
     (λ b. (m, omega arith, b, t))
-    (bool_cases (s m))
+    (cases_Bool (s m))
   where
     at_most : (i m : ℕ) → (i ≤ m) ⊎ (m < i)
     at_most i m = ⊎_elim inr inl (cases_lt m i)
@@ -43,23 +42,15 @@ turns_true s k i j a b e f t = ⊎_elim
     (λ h. ⊎_elim
     (λ u. rises s i k a f u)
     (λ u. let r = rises s 0 j (omega arith) (e ∙ u) t in (r.0, omega (arith, r.1), r.2, r.3))
-    (bool_cases (s k)))
+    (cases_Bool (s k)))
     (λ h. let r = rises s i j h f t in (r.0, omega (arith, r.1), r.2, r.3))
     (cases_lt j i)
-
-not_false : (b : Bool) → not b ≡ false → b ≡ true
-not_false true e = refl
-not_false false e = absurd (true≢false e)
-
-not_true : (b : Bool) → not b ≡ true → b ≡ false
-not_true true e = absurd (true≢false (sym e))
-not_true false e = refl
 
 -- a sequence that ends as it began turns false somewhere, where it is both
 pub turns_false : (s : ℕ → Bool) (k i j : ℕ) → i ≤ k → j ≤ k → s 0 ≡ s k → s i ≡ false → s j ≡ true → (l : ℕ) × (l < k) × (s l ≡ true) × (s (suc l) ≡ false)
 turns_false s k i j a b e f t =
     let r = turns_true (λ l. not (s l)) k j i b a (ap not e) (ap not t) (ap not f) in
-    (r.0, r.1, not_false (s r.0) r.2, not_true (s (suc r.0)) r.3)
+    (r.0, r.1, not-false (s r.0) r.2, not-true (s (suc r.0)) r.3)
 
 -- numbers that never fall and end no higher are all the same
 flat : (a : ℕ → ℚ) (k : ℕ) → ((j : ℕ) → j < k → a j ≤ℚ a (suc j)) → a k ≤ℚ a 0 → (j : ℕ) → j ≤ k → a j ≡ a 0
@@ -70,7 +61,7 @@ flat a (suc k) h e j l =
     ⊎_elim
     (λ q. ap a q ∙ ≤ℚ_antisymm e (≤ℚ_trans (le_of_eq_ℚ (sym (ih k (omega arith)))) up))
     (λ q. ih j (omega (arith, l, q)))
-    (same_or_not j (suc k))
+    (cases_eq j (suc k))
 
 -- the index of the largest value
 largest : (f : ℕ → ℕ) (k : ℕ) → (i : ℕ) × (i < suc k) × ((l : ℕ) → l < suc k → f l ≤ f i)
@@ -78,8 +69,8 @@ largest f zero = (0, omega arith, λ l h. let e : l ≡ 0 = omega (arith, h) in 
 largest f (suc k) =
     let r = largest f k in
     ⊎_elim
-    (λ h. (suc k, omega arith, λ l m. ⊎_elim (λ e. subst (λ x. f x ≤ f (suc k)) (sym e) (omega arith)) (λ e. omega (arith, h, r.2 l (omega (arith, m, e)))) (same_or_not l (suc k))))
-    (λ h. (r.0, omega (arith, r.1), λ l m. ⊎_elim (λ e. subst (λ x. f x ≤ f r.0) (sym e) h) (λ e. r.2 l (omega (arith, m, e))) (same_or_not l (suc k))))
+    (λ h. (suc k, omega arith, λ l m. ⊎_elim (λ e. subst (λ x. f x ≤ f (suc k)) (sym e) (omega arith)) (λ e. omega (arith, h, r.2 l (omega (arith, m, e)))) (cases_eq l (suc k))))
+    (λ h. (r.0, omega (arith, r.1), λ l m. ⊎_elim (λ e. subst (λ x. f x ≤ f r.0) (sym e) h) (λ e. r.2 l (omega (arith, m, e))) (cases_eq l (suc k))))
     (cases_lt (f r.0) (f (suc k)))
 
 module _ (g n : ℕ) (D : ℕ → Dict) (c r : ℕ → ℕ) (k : ℕ) (h : IsChain g n D c r k) where

@@ -1,5 +1,6 @@
 -- Phase 1: the special first pivot, the auxiliary variable stays above 0 until it leaves, and the end.
 use Rattle.std.proofs.Common.{◌≡◌, ◌≢◌, ℕ, suc, ◌<◌, ⊎_elim, true, [], ◌∷◌, ap, sym, ◌∙◌, subst, arith, true≢false}
+use Rattle.std.proofs.lemmas.Bool.{cases_eq, cases_Bool}
 use Rattle.tm_num.specs.Rational.{ℚ, zero_ℚ, one_ℚ, ◌*ℚ◌, neg_ℚ, ◌-ℚ◌, lt_ℚ, ◌≤ℚ◌, ◌<ℚ◌}
 use Rattle.tm_num.proofs.Laws.{one_ne_zero, not_le_of_lt, ≤ℚ_refl, *ℚ_pos}
 use Rattle.tm_num.proofs.Linear.{gap_lt}
@@ -8,8 +9,8 @@ use Rattle.tm_lp.specs.Problem.{Problem, mixed, mixed_side, IsEmpty}
 use Rattle.tm_lp.specs.Dictionary.{delta, Dict, Models, IsDict, IsFeasible, share, pivot}
 use Rattle.tm_lp.specs.Bland.{ratio_of, Enters, Choice, optimal, ray, step, choose, after, stops, is_stop, ChoiceIs, IsStep, IsGood}
 use Rattle.tm_lp.specs.Simplex.{names, aux_row, slack_name, slack_coef, aux_coef, first_dict, multipliers, entered}
-use Rattle.tm_lp.proofs.Sums.{delta_same, delta_other, same_or_not}
-use Rattle.tm_lp.proofs.Dictionaries.{bool_cases, along, along_models, basic_models}
+use Rattle.tm_lp.proofs.Sums.{delta_same, delta_other}
+use Rattle.tm_lp.proofs.Dictionaries.{along, along_models, basic_models}
 use Rattle.tm_lp.proofs.Pivots.{pivot-const, pivot_leaves, share_times, pivot_form, pivot_means, pivot_means_back}
 use Rattle.tm_lp.proofs.Searches.{lt_no, lt_yes, IsLeast}
 use Rattle.tm_lp.proofs.Steps.{choose_is, ratio_times, const_moves, enters_free, leaves_basic}
@@ -56,7 +57,7 @@ entered_good P r w = record { form = entered_form P r w.below; feasible = record
     low = lt_yes (P.side r) zero_ℚ w.wanted
 
     least_side : (s : ℕ) → s < P.rows → P.side r ≤ℚ P.side s
-    least_side s l = ⊎_elim (λ b. w.least s l b) (λ b. let a = lt_no (P.side s) zero_ℚ b in let d = low in lin_le (P.side r ∷ P.side s ∷ []) (le a ∷ lt d ∷ []) (search reads_all depth 40) tt) (bool_cases (lt_ℚ (P.side s) zero_ℚ))
+    least_side s l = ⊎_elim (λ b. w.least s l b) (λ b. let a = lt_no (P.side s) zero_ℚ b in let d = low in lin_le (P.side r ∷ P.side s ∷ []) (le a ∷ lt d ∷ []) (search reads_all depth 40) tt) (cases_Bool (lt_ℚ (P.side s) zero_ℚ))
 
     at : (i : ℕ) → NameCase P i → zero_ℚ ≤ℚ (first_dict P).const i -ℚ (first_dict P).coef i 0 *ℚ P.side r
     at i (is_zero e) =
@@ -141,7 +142,7 @@ aux_stays_positive P D E d c r s b =
     apart e = true≢false (sym (leaves_basic (names P) D d.good.form c r s.leaves.falls) ∙ ap D.basic e ∙ enters_free (aux_row P) (names P) D d.good.form c s.enters.gains)
 
     positive : 0 < r
-    positive = ⊎_elim (λ z. absurd (true≢false (sym b ∙ ap (λ F. F.basic 0) s.is ∙ ap (pivot D r c).basic z ∙ pivot_leaves D r c apart))) (λ z. omega (arith, z)) (same_or_not 0 r)
+    positive = ⊎_elim (λ z. absurd (true≢false (sym b ∙ ap (λ F. F.basic 0) s.is ∙ ap (pivot D r c).basic z ∙ pivot_leaves D r c apart))) (λ z. omega (arith, z)) (cases_eq 0 r)
 
 -- the rule stops in phase 1 only where no coefficient is above 0
 pub aux_stop : (P : Problem) (D : Dict) → IsAux P D → stops (aux_row P) (names P) D ≡ true → (k : ℕ) → k < names P → D.coef (aux_row P) k ≤ℚ zero_ℚ

@@ -1,13 +1,12 @@
 -- How many pivots a phase has left, read from the names of a table: the measure of a loop that pivots.
-use Rattle.std.proofs.Common.{◌≡◌, ◌≢◌, ℕ, zero, suc, ◌+◌, ◌-◌, ◌<◌, ◌≤◌, ⊎_elim, Bool, true, false, not, eqb, refl, ap, ap₂, sym, ◌∙◌, subst, arith, true≢false}
-use Rattle.std.proofs.lemmas.Bool.{eq-eqb, eqb-true, ne_eqb}
+use Rattle.std.proofs.Common.{◌≡◌, ℕ, suc, ◌+◌, ◌-◌, ◌<◌, ◌≤◌, ⊎_elim, Bool, true, false, not, eqb, ap, sym, ◌∙◌, arith, true≢false}
+use Rattle.std.proofs.lemmas.Bool.{eq-eqb, eqb-true, ne_eqb, cases_Bool}
 use Rattle.tm_lp.specs.Dictionary.{Dict}
 use Rattle.tm_lp.specs.Search.{Search, none, found, first}
 use Rattle.tm_lp.specs.Bland.{index_of}
 use Rattle.tm_lp.specs.Table.{Table, Shows, Agree}
 use Rattle.tm_lp.specs.Run.{Phase, phase_dict, phase_table, IsPhase}
 use Rattle.tm_lp.proofs.Searches.{FirstIs, first_is}
-use Rattle.tm_lp.proofs.Dictionaries.{bool_cases}
 use Rattle.tm_lp.proofs.Pigeons.{code}
 use Rattle.tm_lp.proofs.FirstTables.{shows_agree}
 use Rattle.tm_lp.proofs.Places.{first_same}
@@ -32,7 +31,7 @@ unfoldable pub pivots_left : ℕ → Phase → Table → ℕ
 pivots_left n ph T = suc ph.last - run_place n ph T
 
 basis_found : (n : ℕ) (T : Table) (D : Dict) → Shows n T D → (q : ℕ) → q < n → (s : Search) → FirstIs (λ k. eqb (T.col_name k) q) T.width s → not (is_found s) ≡ D.basic q
-basis_found n T D h q l none w = ⊎_elim (λ b. sym b) (λ f. let k = h.all_cols q l f in absurd (true≢false (sym (eq-eqb (T.col_name k.0) q k.2) ∙ w k.0 k.1))) (bool_cases (D.basic q))
+basis_found n T D h q l none w = ⊎_elim (λ b. sym b) (λ f. let k = h.all_cols q l f in absurd (true≢false (sym (eq-eqb (T.col_name k.0) q k.2) ∙ w k.0 k.1))) (cases_Bool (D.basic q))
 basis_found n T D h q l (found k) w = sym (ap D.basic (sym (eqb-true (T.col_name k) q w.1)) ∙ h.col_free k w.0)
 
 -- the names of a table's columns tell the basic names

@@ -1,26 +1,26 @@
 -- The two phases are phases, and the number of a phase's table is told by its names.
-use Rattle.std.proofs.Common.{◌≡◌, ◌≢◌, ℕ, zero, suc, ◌+◌, ◌-◌, ◌*◌, ◌^◌, ◌<◌, ◌≤◌, ◌⊎◌, inl, inr, ⊎_elim, Bool, true, false, not, cond, eqb, ◌||◌, refl, ap, ap₂, sym, ◌∙◌, subst, arith, true≢false}
-use Rattle.std.proofs.lemmas.Bool.{cases_lt, eq-eqb, eqb-true, ne_eqb, or_cases}
-use Rattle.tm_num.specs.Rational.{ℚ, zero_ℚ, one_ℚ, lt_ℚ, ◌≤ℚ◌}
+use Rattle.std.proofs.Common.{◌≡◌, ℕ, zero, suc, ◌+◌, ◌-◌, ◌^◌, ◌<◌, ◌≤◌, inl, inr, ⊎_elim, Bool, true, false, not, cond, ◌||◌, refl, ap, ap₂, sym, ◌∙◌, subst, arith, true≢false}
+use Rattle.std.proofs.lemmas.Bool.{ne_eqb, or_cases, cases_Bool, not-false, not-true}
+use Rattle.tm_num.specs.Rational.{zero_ℚ, lt_ℚ, ◌≤ℚ◌}
 use Rattle.tm_num.proofs.Laws.{one_ne_zero}
 use Rattle.tm_lp.specs.Problem.{Problem}
-use Rattle.tm_lp.specs.Dictionary.{delta, Dict, IsDict, Models, extend, drop_zero}
-use Rattle.tm_lp.specs.Search.{Search, none, found, first}
+use Rattle.tm_lp.specs.Dictionary.{delta, Dict, IsDict, extend, drop_zero}
+use Rattle.tm_lp.specs.Search.{none, found}
 use Rattle.tm_lp.specs.Bland.{Choice, optimal, ray, step, choose, after, stops, stop_index, index_of, ChoiceIs, IsGood}
 use Rattle.tm_lp.proofs.Pivots.{pivot_enters}
-use Rattle.tm_lp.specs.Simplex.{names, slack_name, main_row, aux_row, first_dict, entered, lowest, is_over, phase_one_index, last_of_one}
-use Rattle.tm_lp.specs.Table.{Table, Shows, Agree, pivot_table}
+use Rattle.tm_lp.specs.Simplex.{names, slack_name, main_row, aux_row, first_dict, entered, lowest, phase_one_index, last_of_one}
+use Rattle.tm_lp.specs.Table.{Table, Shows, pivot_table}
 use Rattle.tm_lp.specs.FirstTable.{first_table, plain_table}
 use Rattle.tm_lp.specs.Run.{place_of, leave_table, step_table, tables_after, Phase, phase_dict, phase_table, IsPhase, aux_phase, main_start, main_table, main_made, main_phase}
-use Rattle.tm_lp.proofs.Searches.{FirstIs, first_is, LeastIs, least_is, IsLeast, lt_no}
-use Rattle.tm_lp.proofs.Dictionaries.{bool_cases, extend_models, extend_free}
+use Rattle.tm_lp.proofs.Searches.{LeastIs, least_is, IsLeast, lt_no}
+use Rattle.tm_lp.proofs.Dictionaries.{extend_models, extend_free}
 use Rattle.tm_lp.proofs.NoRepeat.{no_repeat}
 use Rattle.tm_lp.proofs.Stops.{chain_from, stop_index_is, after_good}
 use Rattle.tm_lp.proofs.Steps.{choose_is}
 use Rattle.tm_lp.proofs.Pigeons.{code, code_same}
 use Rattle.tm_lp.proofs.Roles.{first_free}
 use Rattle.tm_lp.proofs.Outcomes.{IsMain, after_main}
-use Rattle.tm_lp.proofs.PhaseOne.{IsAux, entered_good, entered_aux, after_aux}
+use Rattle.tm_lp.proofs.PhaseOne.{entered_good, entered_aux, after_aux}
 use Rattle.tm_lp.proofs.Programs.{phase_one_index_is, dropped_main, first_aux}
 use Rattle.tm_lp.proofs.PlainTables.{plain_table_shows}
 use Rattle.tm_lp.proofs.EnteredTables.{entered_shows}
@@ -31,7 +31,7 @@ use Rattle.tm_lp.proofs.Phases.{phase_shows, phase_good, places_of_step, tables_
 
 -- in the second phase the auxiliary variable counts as basic
 pub main_basic : (P : Problem) (D : Dict) → IsMain P D → D.basic 0 ≡ true
-main_basic P D d = ⊎_elim (λ t. t) (λ f. absurd (clash f)) (bool_cases (D.basic 0))
+main_basic P D d = ⊎_elim (λ t. t) (λ f. absurd (clash f)) (cases_Bool (D.basic 0))
   where
     clash : D.basic 0 ≡ false → ⊥
     clash f = one_ne_zero (sym (delta_same 0) ∙ sym (extend_free (names P) D d.good.form (delta 0) 0 f) ∙ d.zero_out (extend (names P) D (delta 0)) (extend_models (names P) D d.good.form (delta 0)))
@@ -56,14 +56,6 @@ or_second : (a b : Bool) → (a || b) ≡ false → b ≡ false
 or_second true b e = absurd (true≢false e)
 or_second false b e = e
 
-not_false : (b : Bool) → not b ≡ false → b ≡ true
-not_false true e = refl
-not_false false e = absurd (true≢false e)
-
-not_true : (b : Bool) → not b ≡ true → b ≡ false
-not_true true e = absurd (true≢false (sym e))
-not_true false e = refl
-
 -- a phase of the first kind
 pub aux_runs : (P : Problem) (D : Dict) (T : Table) → IsGood (names P) D → Shows (names P) T D → D.basic 0 ≡ true → IsPhase (names P) (record { goal = aux_row P; start = D; table = T; made = 1; last = phase_one_index P D })
 aux_runs P D T d h b =
@@ -77,9 +69,9 @@ aux_runs P D T d h b =
           let s = stops (aux_row P) (names P) (after (aux_row P) (names P) D j) in
           let b = (after (aux_row P) (names P) D j).basic 0 in (
             or_first (stops (aux_row P) (names P) (after (aux_row P) (names P) D j)) (not ((after (aux_row P) (names P) D j).basic 0)) (w.before j l),
-            not_false ((after (aux_row P) (names P) D j).basic 0) (or_second (stops (aux_row P) (names P) (after (aux_row P) (names P) D j)) (not ((after (aux_row P) (names P) D j).basic 0)) (w.before j l)),
+            not-false ((after (aux_row P) (names P) D j).basic 0) (or_second (stops (aux_row P) (names P) (after (aux_row P) (names P) D j)) (not ((after (aux_row P) (names P) D j).basic 0)) (w.before j l)),
           );
-      ends = ⊎_elim (λ a. inl a) (λ a. inr (not_true ((after (aux_row P) (names P) D k).basic 0) a))
+      ends = ⊎_elim (λ a. inl a) (λ a. inr (not-true ((after (aux_row P) (names P) D k).basic 0) a))
           (or_cases (stops (aux_row P) (names P) (after (aux_row P) (names P) D k)) (not ((after (aux_row P) (names P) D k).basic 0)) w.over);
     }
 
@@ -125,12 +117,6 @@ step_rows T optimal = refl
 step_rows T (ray c) = refl
 step_rows T (step c r) = refl
 
-step_width : (T : Table) (x : Choice) → (step_table T x).width ≡ T.width
-unfolding pivot_table
-step_width T optimal = refl
-step_width T (ray c) = refl
-step_width T (step c r) = refl
-
 -- the sizes of a table do not change
 pub goals_after : (g n : ℕ) (T : Table) (D : Dict) (j : ℕ) → (tables_after g n T D j).goals ≡ T.goals
 unfolding tables_after
@@ -141,11 +127,6 @@ pub rows_after : (g n : ℕ) (T : Table) (D : Dict) (j : ℕ) → (tables_after 
 unfolding tables_after
 rows_after g n T D zero = refl
 rows_after g n T D (suc j) = step_rows (tables_after g n T D j) (choose g n (after g n D j)) ∙ rows_after g n T D j
-
-pub width_after : (g n : ℕ) (T : Table) (D : Dict) (j : ℕ) → (tables_after g n T D j).width ≡ T.width
-unfolding tables_after
-width_after g n T D zero = refl
-width_after g n T D (suc j) = step_width (tables_after g n T D j) (choose g n (after g n D j)) ∙ width_after g n T D j
 
 entered_goals : (P : Problem) (r : ℕ) → (pivot_table (first_table P) r P.cols).goals ≡ 2
 unfolding pivot_table first_table

@@ -1,16 +1,11 @@
 -- The tables of a phase show its dictionaries, and which pivot leads from one to the next.
-use Rattle.std.proofs.Common.{◌≡◌, ◌≢◌, ℕ, zero, suc, ◌+◌, ◌-◌, ◌<◌, ◌≤◌, ◌⊎◌, inl, inr, ⊎_elim, Bool, true, false, not, eqb, refl, ap, ap₂, sym, ◌∙◌, subst, subst₂, arith, true≢false, add-one}
-use Rattle.std.proofs.lemmas.Bool.{cases_lt, eq-eqb, ne_eqb}
-use Rattle.tm_num.specs.Rational.{ℚ, zero_ℚ, one_ℚ, ◌<ℚ◌}
-use Rattle.tm_num.proofs.Laws.{<ℚ_irrefl, one_ne_zero, ne_of_lt_ℚ}
-use Rattle.tm_lp.specs.Problem.{Problem}
-use Rattle.tm_lp.specs.Dictionary.{Dict, IsDict, drop_zero}
-use Rattle.tm_lp.specs.Search.{Search, none, found, first}
-use Rattle.tm_lp.specs.Bland.{Choice, optimal, ray, step, choose, next, take_step, after, is_stop, stops, stop_index, index_of, Enters, Leaves, ChoiceIs, IsGood}
-use Rattle.tm_lp.specs.Simplex.{names, main_row, aux_row, first_dict, entered, lowest, is_over, phase_one_index, last_of_one}
+use Rattle.std.proofs.Common.{◌≡◌, ℕ, zero, suc, ◌+◌, ◌<◌, ⊎_elim, refl, ap, ap₂, sym, ◌∙◌, subst, subst₂, arith, add-one}
+use Rattle.tm_num.specs.Rational.{zero_ℚ, ◌<ℚ◌}
+use Rattle.tm_num.proofs.Laws.{<ℚ_irrefl}
+use Rattle.tm_lp.specs.Dictionary.{Dict, IsDict}
+use Rattle.tm_lp.specs.Bland.{Choice, optimal, ray, step, choose, next, take_step, after, Enters, Leaves, ChoiceIs, IsGood}
 use Rattle.tm_lp.specs.Table.{Table, Shows, Agree, pivot_table}
-use Rattle.tm_lp.specs.Run.{place_of, row_place, col_place, leave_table, step_table, tables_after, Phase, phase_dict, phase_table, IsPhase, aux_phase, main_phase}
-use Rattle.tm_lp.proofs.Dictionaries.{bool_cases}
+use Rattle.tm_lp.specs.Run.{row_place, col_place, step_table, tables_after, Phase, phase_dict, phase_table, IsPhase}
 use Rattle.tm_lp.proofs.Steps.{choose_is, enters_free, leaves_basic}
 use Rattle.tm_lp.proofs.Stops.{after_good}
 use Rattle.tm_lp.proofs.Places.{place_only, place_in}

@@ -1,5 +1,5 @@
 -- Places of names.
-use Rattle.std.proofs.Common.{◌≡◌, ◌≢◌, ℕ, zero, suc, ◌<◌, ◌≤◌, ⊎_elim, Bool, true, false, eqb, refl, ap, sym, ◌∙◌, subst, arith, true≢false}
+use Rattle.std.proofs.Common.{◌≡◌, ◌≢◌, ℕ, zero, suc, ◌<◌, ⊎_elim, Bool, true, false, eqb, refl, ap, sym, ◌∙◌, arith, true≢false}
 use Rattle.std.proofs.lemmas.Bool.{cases_lt, eqb-true, eq-eqb, ne_eqb}
 use Rattle.tm_lp.specs.Search.{Search, none, found, first, first_more}
 use Rattle.tm_lp.specs.Bland.{index_of}

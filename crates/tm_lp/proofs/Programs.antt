@@ -1,5 +1,6 @@
 -- Every linear program has an outcome, which `lp` computes with its evidence.
 use Rattle.std.proofs.Common.{◌≡◌, ℕ, zero, suc, ◌+◌, ◌^◌, ◌<◌, Bool, true, false, not, ◌||◌, refl, ap, sym, ◌∙◌, subst, arith, true≢false}
+use Rattle.std.proofs.lemmas.Bool.{or_parts}
 use Rattle.tm_num.specs.Rational.{zero_ℚ, lt_ℚ, ◌≤ℚ◌, ◌<ℚ◌}
 use Rattle.tm_lp.specs.Problem.{Problem, IsOutcome}
 use Rattle.tm_lp.specs.Dictionary.{Dict, drop_zero}
@@ -14,17 +15,9 @@ use Rattle.tm_lp.proofs.ReadOff.{first_means}
 use Rattle.tm_lp.proofs.Outcomes.{IsMain, phase_two_is}
 use Rattle.tm_lp.proofs.PhaseOne.{first_feasible, entered_positive, entered_aux, IsAux, after_aux, aux_stays_positive, aux_stop, empty_of}
 
-either_out : (a b : Bool) → a || b ≡ false → (a ≡ false) × (b ≡ false)
-either_out true b e = absurd (true≢false e)
-either_out false b e = (refl, e)
-
 either_true : (a b : Bool) → a || b ≡ true → b ≡ false → a ≡ true
 either_true true b e f = refl
 either_true false b e f = absurd (true≢false (sym e ∙ f))
-
-not_out : (b : Bool) → not b ≡ false → b ≡ true
-not_out true e = refl
-not_out false e = absurd (true≢false e)
 
 -- phase 1 is over at k and not before
 pub record IsOver (P : Problem) (D : Dict) (k : ℕ) : Type 0 where
@@ -38,7 +31,7 @@ unfolding phase_one_index
 phase_one_index_is P D d = by (first (is_over P D) (2 ^ names P)) (first_is (is_over P D) (2 ^ names P))
   where
     by : (s : Search) → FirstIs (is_over P D) (2 ^ names P) s → IsOver P D (index_of s)
-    by none h = absurd (some_stop (aux_row P) (names P) D d (λ j l. (either_out (stops (aux_row P) (names P) (after (aux_row P) (names P) D j)) (not ((after (aux_row P) (names P) D j).basic 0)) (h j l)).0))
+    by none h = absurd (some_stop (aux_row P) (names P) D d (λ j l. (or_parts (stops (aux_row P) (names P) (after (aux_row P) (names P) D j)) (not ((after (aux_row P) (names P) D j).basic 0)) (h j l)).0))
     by (found k) h = record { below = h.0; over = h.1; before = h.2 }
 
 -- before any step
@@ -51,7 +44,7 @@ pub aux_positive : (P : Problem) (D : Dict) → IsAux P D → zero_ℚ <ℚ D.co
 aux_positive P D d p zero h b = subst (λ E. zero_ℚ <ℚ E.const 0) (sym (after-zero (aux_row P) (names P) D)) p
 aux_positive P D d p (suc j) h b =
     let A = after (aux_row P) (names P) D j in
-    let s = either_out (stops (aux_row P) (names P) (after (aux_row P) (names P) D j)) (not ((after (aux_row P) (names P) D j).basic 0)) (h j (omega arith)) in
+    let s = or_parts (stops (aux_row P) (names P) (after (aux_row P) (names P) D j)) (not ((after (aux_row P) (names P) D j).basic 0)) (h j (omega arith)) in
     let e = after-suc (aux_row P) (names P) D j in
     subst (λ E. zero_ℚ <ℚ E.const 0) (sym e)
     (aux_stays_positive P (after (aux_row P) (names P) D j) _ (after_aux (aux_row P) P D d j) _ _ (makes_step (aux_row P) (names P) (after (aux_row P) (names P) D j) s.0) (ap (λ E. E.basic 0) (sym e) ∙ b))

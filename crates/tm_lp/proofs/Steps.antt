@@ -1,6 +1,6 @@
 -- One step of Bland's rule: what the choice says, and that a step keeps the form, the meaning and feasibility, and does not lower the goal.
 use Rattle.std.proofs.Common.{◌≡◌, ℕ, ◌<◌, ◌≤◌, ⊎_elim, true, false, [], ◌∷◌, ap, sym, ◌∙◌, subst, arith, true≢false}
-use Rattle.std.proofs.lemmas.Bool.{cases_lt}
+use Rattle.std.proofs.lemmas.Bool.{cases_lt, cases_eq, cases_Bool}
 use Rattle.tm_num.specs.Rational.{zero_ℚ, ◌+ℚ◌, ◌*ℚ◌, neg_ℚ, ◌-ℚ◌, lt_ℚ, ◌≤ℚ◌, ◌<ℚ◌}
 use Rattle.tm_num.proofs.Laws.{≤ℚ_antisymm, le_or_lt, <ℚ_irrefl, ne_of_lt_ℚ, not_le_of_lt, le_of_lt_ℚ, inv_pos, zero_lt_one, div_ℚ_is, *ℚ_pos}
 use Rattle.tm_num.proofs.Quotients.{quotient_times}
@@ -9,8 +9,7 @@ use Rattle.tm_num.proofs.Linarith.{lin_le, lin_lt, lin_false, lt, eq, eq_times, 
 use Rattle.tm_lp.specs.Dictionary.{delta, Dict, IsDict, IsFeasible, share, pivot}
 use Rattle.tm_lp.specs.Search.{Search, none, found}
 use Rattle.tm_lp.specs.Bland.{ratio_of, Enters, Leaves, entering, leaving, choice_at, choice_of, choose, ChoiceIs}
-use Rattle.tm_lp.proofs.Sums.{delta_same, delta_other, same_or_not}
-use Rattle.tm_lp.proofs.Dictionaries.{bool_cases}
+use Rattle.tm_lp.proofs.Sums.{delta_same, delta_other}
 use Rattle.tm_lp.proofs.Pivots.{pivot-const, share_times, pivot_form}
 use Rattle.tm_lp.proofs.Searches.{lt_yes, lt_no, lt_does, FirstIs, first_is, LeastIs, least_is}
 
@@ -55,17 +54,17 @@ leaves_only n D c r s h k = ⊎_elim
 
 -- the entering name is free, and the leaving name is basic
 pub enters_free : (g n : ℕ) (D : Dict) → IsDict n D → (c : ℕ) → zero_ℚ <ℚ D.coef g c → D.basic c ≡ false
-enters_free g n D d c p = ⊎_elim (λ b. absurd (<ℚ_irrefl (subst (λ x. zero_ℚ <ℚ x) (d.column g c b) p))) (λ f. f) (bool_cases (D.basic c))
+enters_free g n D d c p = ⊎_elim (λ b. absurd (<ℚ_irrefl (subst (λ x. zero_ℚ <ℚ x) (d.column g c b) p))) (λ f. f) (cases_Bool (D.basic c))
 
 -- the leaving name is basic
 pub leaves_basic : (n : ℕ) (D : Dict) → IsDict n D → (c r : ℕ) → D.coef r c <ℚ zero_ℚ → D.basic r ≡ true
-leaves_basic n D d c r p = ⊎_elim (λ b. b) (λ f. absurd (delta_not r c (subst (λ x. x <ℚ zero_ℚ) (d.unit r c f) p))) (bool_cases (D.basic r))
+leaves_basic n D d c r p = ⊎_elim (λ b. b) (λ f. absurd (delta_not r c (subst (λ x. x <ℚ zero_ℚ) (d.unit r c f) p))) (cases_Bool (D.basic r))
   where
     delta_not : (i k : ℕ) → delta i k <ℚ zero_ℚ → ⊥
     delta_not i k h = ⊎_elim
         (λ e. not_le_of_lt (subst (λ x. x <ℚ zero_ℚ) (ap (λ x. delta i x) (sym e) ∙ delta_same i) h) (le_of_lt_ℚ zero_lt_one))
         (λ e. <ℚ_irrefl (subst (λ x. x <ℚ zero_ℚ) (delta_other i k e) h))
-        (same_or_not i k)
+        (cases_eq i k)
 
 -- the ratio times the negated entry is the constant
 pub ratio_times : (D : Dict) (c i : ℕ) → D.coef i c <ℚ zero_ℚ → ratio_of D c i *ℚ neg_ℚ (D.coef i c) ≡ D.const i

@@ -1,12 +1,13 @@
 -- What a code finds in a table by positions is the choice of the rule in the dictionary that the table shows.
 use Rattle.std.proofs.Common.{◌≡◌, ◌≢◌, ℕ, ◌+◌, ◌<◌, ◌≤◌, ⊎_elim, refl, ap, sym, ◌∙◌, subst, subst₂, arith}
+use Rattle.std.proofs.lemmas.Bool.{cases_eq, cases_Bool}
 use Rattle.tm_num.specs.Rational.{ℚ, zero_ℚ, neg_ℚ, ◌/ℚ◌, ◌≤ℚ◌, ◌<ℚ◌}
 use Rattle.tm_num.proofs.Laws.{≤ℚ_refl, <ℚ_irrefl, not_le_of_lt, le_of_lt_ℚ, zero_lt_one, ne_of_lt_ℚ}
 use Rattle.tm_lp.specs.Dictionary.{delta, Dict, IsDict}
 use Rattle.tm_lp.specs.Bland.{ratio_of, Enters, Leaves, Choice, optimal, ray, step, choose, take_step, next, ChoiceIs}
 use Rattle.tm_lp.specs.Table.{Table, pivot_table, Shows}
-use Rattle.tm_lp.proofs.Sums.{delta_same, delta_other, same_or_not}
-use Rattle.tm_lp.proofs.Dictionaries.{bool_cases, free_below}
+use Rattle.tm_lp.proofs.Sums.{delta_same, delta_other}
+use Rattle.tm_lp.proofs.Dictionaries.{free_below}
 use Rattle.tm_lp.proofs.Steps.{choose_is, enters_only, leaves_only, enters_free, leaves_basic}
 use Rattle.tm_lp.proofs.TablePivots.{table_pivot}
 
@@ -32,7 +33,7 @@ abbrev pub table_ratio : Table → ℕ → ℕ → ℚ
 table_ratio T c i = T.entry i T.width /ℚ neg_ℚ (T.entry i c)
 
 delta_nonneg : (i k : ℕ) → zero_ℚ ≤ℚ delta i k
-delta_nonneg i k = ⊎_elim (λ e. subst (λ x. zero_ℚ ≤ℚ x) (sym (ap (delta i) (sym e) ∙ delta_same i)) (le_of_lt_ℚ zero_lt_one)) (λ e. subst (λ x. zero_ℚ ≤ℚ x) (sym (delta_other i k e)) (≤ℚ_refl zero_ℚ)) (same_or_not i k)
+delta_nonneg i k = ⊎_elim (λ e. subst (λ x. zero_ℚ ≤ℚ x) (sym (ap (delta i) (sym e) ∙ delta_same i)) (le_of_lt_ℚ zero_lt_one)) (λ e. subst (λ x. zero_ℚ ≤ℚ x) (sym (delta_other i k e)) (≤ℚ_refl zero_ℚ)) (cases_eq i k)
 
 module _ (n : ℕ) (T : Table) (D : Dict) (h : Shows n T D) (d : IsDict n D) where
   row_in : (i : ℕ) → i < T.rows → i < T.rows + T.goals
@@ -57,7 +58,7 @@ module _ (n : ℕ) (T : Table) (D : Dict) (h : Shows n T D) (d : IsDict n D) whe
   table_optimal g a s = λ q l. ⊎_elim
       (λ b. subst (λ x. x ≤ℚ zero_ℚ) (sym (d.column (T.row_name g) q b)) (≤ℚ_refl zero_ℚ))
       (λ f. let w = h.all_cols q l f in subst (λ x. x ≤ℚ zero_ℚ) (h.entries g w.0 a w.1 ∙ ap (D.coef (T.row_name g)) w.2) (s w.0 w.1))
-      (bool_cases (D.basic q))
+      (cases_Bool (D.basic q))
 
   row_of : (c q : ℕ) → c < T.width → q < n → D.coef q (T.col_name c) <ℚ zero_ℚ → (i : ℕ) × (i < T.rows) × (T.row_name i ≡ q)
   row_of c q m l u = ⊎_elim (λ w. w) (λ z. absurd (<ℚ_irrefl (subst (λ x. x <ℚ zero_ℚ) (z (T.col_name c)) u))) (h.all_rows q l (leaves_basic n D d (T.col_name c) q u))
@@ -88,7 +89,7 @@ module _ (n : ℕ) (T : Table) (D : Dict) (h : Shows n T D) (d : IsDict n D) whe
       (λ z. subst (λ x. zero_ℚ ≤ℚ x) (sym (z (T.col_name c))) (≤ℚ_refl zero_ℚ))
       (h.all_rows q l b))
       (λ f. subst (λ x. zero_ℚ ≤ℚ x) (sym (d.unit q (T.col_name c) f)) (delta_nonneg q (T.col_name c)))
-      (bool_cases (D.basic q))
+      (cases_Bool (D.basic q))
 
   -- where the rule steps at the names of r and c, the pivot of the table shows the next dictionary
   pub table_next : (g r c : ℕ) → r < T.rows → c < T.width → Enters g n D (T.col_name c) → Leaves n D (T.col_name c) (T.row_name r) → Shows n (pivot_table T r c) (next g n D)

@@ -1,18 +1,12 @@
 -- Sums over an index: with one term, of terms that vanish, in two parts, and what a sign of the sum says of its terms.
-use Rattle.std.proofs.Common.{◌≡◌, ◌≢◌, ℕ, zero, suc, ◌+◌, ◌<◌, ◌⊎◌, inl, inr, ⊎_elim, [], ◌∷◌, refl, ap, sym, ◌∙◌, subst, arith}
-use Rattle.tm_num.specs.Rational.{ℚ, zero_ℚ, ◌+ℚ◌, ◌-ℚ◌, ◌≤ℚ◌, ◌<ℚ◌}
+use Rattle.std.proofs.Common.{◌≡◌, ◌≢◌, ℕ, zero, suc, ◌+◌, ◌<◌, ⊎_elim, [], ◌∷◌, refl, ap, sym, ◌∙◌, arith}
+use Rattle.std.proofs.lemmas.Bool.{cases_eq}
+use Rattle.tm_num.specs.Rational.{ℚ, zero_ℚ, ◌+ℚ◌, ◌-ℚ◌, ◌<ℚ◌}
 use Rattle.tm_num.specs.Vector.{sum_to}
-use Rattle.tm_num.proofs.Laws.{+ℚ_idl, +ℚ_idr, ≤ℚ_refl, ≤ℚ_antisymm, le_or_lt, <ℚ_irrefl, +ℚ_le}
+use Rattle.tm_num.proofs.Laws.{+ℚ_idl, +ℚ_idr, le_or_lt, <ℚ_irrefl}
 use Rattle.tm_num.proofs.Ring.{ring, reads}
-use Rattle.tm_num.proofs.Linarith.{lin_le, lin_lt, le, lt, reads_all}
+use Rattle.tm_num.proofs.Linarith.{lin_lt, le, lt, reads_all}
 use Rattle.tm_num.proofs.Vectors.{sum_to_same, sum_to-zero}
-
--- two numbers are one or not
-pub same_or_not : (i k : ℕ) → (i ≡ k) ⊎ (i ≢ k)
-same_or_not zero zero = inl refl
-same_or_not zero (suc k) = inr (λ e. omega arith)
-same_or_not (suc i) zero = inr (λ e. omega arith)
-same_or_not (suc i) (suc k) = ⊎_elim (λ e. inl (ap suc e)) (λ h. inr (λ e. h (omega arith))) (same_or_not i k)
 
 -- a sum of terms that are 0
 pub sum_nothing : (n : ℕ) (f : ℕ → ℚ) → ((k : ℕ) → k < n → f k ≡ zero_ℚ) → sum_to n f ≡ zero_ℚ
@@ -26,7 +20,7 @@ sum_one (suc n) i f h z =
     ⊎_elim
     (λ e. ap (λ s. s +ℚ f n) (sum_nothing n f (λ k l. z k (omega arith) (λ d. omega (arith, e)))) ∙ +ℚ_idl (f n) ∙ ap f (sym e))
     (λ d. ap (λ s. s +ℚ f n) (sum_one n i f (omega (arith, d)) (λ k l. z k (omega arith))) ∙ ap (λ s. f i +ℚ s) (z n (omega arith) (λ e. d (sym e))) ∙ +ℚ_idr (f i))
-    (same_or_not i n)
+    (cases_eq i n)
 
 -- the first term apart
 pub sum_first : (n : ℕ) (f : ℕ → ℚ) → sum_to (suc n) f ≡ f 0 +ℚ sum_to n (λ k. f (suc k))
@@ -57,21 +51,3 @@ positive_term (suc n) f h =
     (λ l. let r = positive_term n f (lin_lt (sum_to n f ∷ f n ∷ []) (lt h ∷ le l ∷ []) (search reads_all depth 40) tt) in (r.0, omega (arith, r.1), r.2))
     (λ l. (n, omega arith, l))
     (le_or_lt (f n) zero_ℚ)
-
--- a sum of terms at least 0 is at least 0
-pub nonneg_sum : (n : ℕ) (f : ℕ → ℚ) → ((k : ℕ) → k < n → zero_ℚ ≤ℚ f k) → zero_ℚ ≤ℚ sum_to n f
-unfolding sum_to
-nonneg_sum zero f h = ≤ℚ_refl zero_ℚ
-nonneg_sum (suc n) f h = subst (λ s. s ≤ℚ sum_to n f +ℚ f n) (+ℚ_idl zero_ℚ) (+ℚ_le (nonneg_sum n f (λ k l. h k (omega arith))) (h n (omega arith)))
-
--- where such a sum is at most 0, each term is 0
-pub zero_terms : (n : ℕ) (f : ℕ → ℚ) → ((k : ℕ) → k < n → zero_ℚ ≤ℚ f k) → sum_to n f ≤ℚ zero_ℚ → (k : ℕ) → k < n → f k ≡ zero_ℚ
-unfolding sum_to
-zero_terms zero f h s k l = absurd (omega arith)
-zero_terms (suc n) f h s k l =
-    let rest = nonneg_sum n f (λ k l. h k (omega arith)) in
-    let last = h n (omega arith) in
-    ⊎_elim
-    (λ e. ap f e ∙ ≤ℚ_antisymm (lin_le (sum_to n f ∷ f n ∷ []) (le s ∷ le rest ∷ []) (search reads_all depth 40) tt) last)
-    (λ d. zero_terms n f (λ k l. h k (omega arith)) (lin_le (sum_to n f ∷ f n ∷ []) (le s ∷ le last ∷ []) (search reads_all depth 40) tt) k (omega (arith, l, d)))
-    (same_or_not k n)

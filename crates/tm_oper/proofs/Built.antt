@@ -5,24 +5,24 @@ use Rattle.tm_num.specs.Rational.{ℚ}
 use Rattle.tm_frac.specs.declared.ext.Ext.{Ext}
 use Rattle.tm_flow.specs.declared.edge.Edge.{Edge}
 use Rattle.tm_eqsys.specs.Equations.{Equations, Vector}
-use Rattle.tm_steps.specs.Words.{width, guard_forms, end_form}
-use Rattle.tm_steps.proofs.Widths.{end_form_width, guard_forms_width}
+use Rattle.tm_validity.specs.Words.{width, guard_forms, end_form}
+use Rattle.tm_validity.proofs.Widths.{end_form_width, guard_forms_width}
 use Rattle.tm_lp.specs.Problem as lp
 use Rattle.tm_lp.specs.Free.{split_problem}
 use Rattle.tm_dict.specs.declared.problem.Row.{Row}
 use Rattle.tm_dict.specs.declared.problem.Problem.{Problem}
 use Rattle.tm_dict.specs.Exact.{exact, IsShaped}
-use Rattle.tm_point.specs.Limits.{Limit, AllWithin, limits_problem}
-use Rattle.tm_point.specs.EdgeProblems.{source_limits, guard_limits, edge_limits, edge_problem}
-use Rattle.tm_point.proofs.LimitLaws.{within_both}
-use Rattle.tm_point.proofs.SourceLimits.{source_within, guards_within}
-use Rattle.tm_point.proofs.EdgePoints.{wider}
-use Rattle.tm_oper.specs.declared.affine.Affine.{Affine}
-use Rattle.tm_oper.specs.Composed.{first_entries, dense}
+use Rattle.tm_transformers.specs.Limits.{Limit, AllWithin, limits_problem}
+use Rattle.tm_transformers.specs.EdgeProblems.{source_limits, guard_limits, edge_limits, edge_problem}
+use Rattle.tm_transformers.proofs.LimitLaws.{within_both}
+use Rattle.tm_transformers.proofs.SourceLimits.{source_within, guards_within}
+use Rattle.tm_transformers.proofs.EdgePoints.{wider}
+use Rattle.tm_compose.specs.declared.affine.Affine.{Affine}
+use Rattle.tm_compose.specs.Composed.{first_entries, dense}
 use Rattle.tm_oper.specs.Values.{whole_problem}
 use Rattle.tm_oper.specs.Splits.{bounds_at, pairs, split_limit, limit_of, IsSource}
 use Rattle.tm_oper.specs.Readings.{HasSizes}
-use Rattle.tm_oper.proofs.Dense.{length-first_entries}
+use Rattle.tm_compose.proofs.Dense.{length-first_entries}
 use Rattle.tm_oper.proofs.Pairs.{length-pairs}
 use Rattle.tm_oper.proofs.Sources.{sizes_same, limits_few, length-guard_limits}
 use Rattle.tm_oper.proofs.Problems.{exact_is}

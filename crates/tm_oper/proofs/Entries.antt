@@ -11,9 +11,9 @@ use Rattle.tm_frac.specs.declared.wide.Wide.{Wide}
 use Rattle.tm_frac.specs.Operation.{Operation, first_wide, operation_of}
 use Rattle.tm_eqsys.proofs.Widths.{first_wide_past, first_wide_here}
 use Rattle.tm_lp.specs.Free.{unsplit}
-use Rattle.tm_point.specs.Limits.{tabulate}
-use Rattle.tm_point.proofs.Products.{tabulate_same}
-use Rattle.tm_oper.proofs.Passed.{IsPassed, passed_more, passed_wide, passed_all}
+use Rattle.tm_transformers.specs.Limits.{tabulate}
+use Rattle.tm_transformers.proofs.Products.{tabulate_same}
+use Rattle.tm_compose.proofs.Passed.{IsPassed, passed_more, passed_wide, passed_all}
 
 -- the difference at a column
 abbrev pub difference : (ℕ → ℚ) → ℕ → Operation

@@ -1,5 +1,6 @@
 -- The evidence that an outcome of an edge's problem gives.
 use Rattle.std.proofs.Common.{◌≡◌, ◌∙◌, ℕ, ◌<◌, false, ℤ, List, length, map, refl, ap, sym, subst}
+use Rattle.tm_num.proofs.Vectors.{get_or-add_vec}
 use Rattle.tm_num.specs.Rational.{ℚ, zero_ℚ, ◌+ℚ◌, ◌≤ℚ◌, ◌<ℚ◌}
 use Rattle.tm_num.specs.Extended.{Ext as Extended, fin}
 use Rattle.tm_num.specs.Vector.{dot, vec_mat}
@@ -7,28 +8,29 @@ use Rattle.tm_num.proofs.Laws.{le_of_eq_ℚ}
 use Rattle.tm_flow.specs.declared.edge.Edge.{Edge}
 use Rattle.tm_eqsys.specs.Equations.{Equations, Vector}
 use Rattle.tm_eqsys.specs.declared.trace.Trace.{Trace}
-use Rattle.tm_steps.specs.Words.{val, lin, width, guard_forms, start_form, end_form}
-use Rattle.tm_steps.specs.Steps.{Runs, end_value}
-use Rattle.tm_steps.specs.Certificates.{coefficients, combination, row_side, side, Multipliers, BoundPasses, EmptyPasses}
-use Rattle.tm_steps.proofs.WordLaws.{val-end_form}
-use Rattle.tm_steps.proofs.Widths.{end_form_width}
+use Rattle.tm_validity.specs.Words.{val, lin, width, guard_forms, start_form, end_form}
+use Rattle.tm_validity.specs.Steps.{Runs, end_value}
+use Rattle.tm_validity.specs.Certificates.{coefficients, combination, row_side, side, Multipliers, BoundPasses, EmptyPasses}
+use Rattle.tm_validity.proofs.WordLaws.{val-end_form}
+use Rattle.tm_validity.proofs.Widths.{end_form_width}
 use Rattle.tm_lp.specs.Problem.{Outcome, best, unbounded, empty, mixed, mixed_side, value_at}
 use Rattle.tm_lp.specs.Simplex.{lp}
 use Rattle.tm_lp.specs.Listed.{at}
 use Rattle.tm_lp.specs.Free.{split_problem, unsplit, unsplit_outcome, free_lp, IsFreeOutcome, IsFreeBest, IsFreeUnbounded, IsFreeEmpty}
 use Rattle.tm_lp.proofs.FreePrograms.{free_lp_is}
-use Rattle.tm_point.specs.Limits.{limits_problem, tabulate}
-use Rattle.tm_point.specs.EdgeProblems.{guard_limits, edge_limits, edge_problem, lost, value_of, transformer, NoneLost}
-use Rattle.tm_point.specs.Spread.{spread, skip}
-use Rattle.tm_point.proofs.Products.{length-tabulate, product_is_sum, product-tabulate}
-use Rattle.tm_point.proofs.EdgePoints.{point_runs, direction_falls}
-use Rattle.tm_point.proofs.TransformerOf.{none_lost}
-use Rattle.tm_point.proofs.SplitProblems.{transformer_by_lp, transformer_lost}
-use Rattle.tm_point.proofs.Spreads.{at-add, column_sum_is, side_sum_is, nonneg_for, guard_columns, guard_sides, guard_nonneg, source_columns, source_sides, source_nonneg, spread_length, spread_zero}
-use Rattle.tm_oper.specs.declared.value.Value.{Value}
-use Rattle.tm_oper.specs.declared.value.Value.TheVariants.{Unreached, Empty, Best, Unbounded}
+use Rattle.tm_transformers.specs.Limits.{limits_problem, tabulate}
+use Rattle.tm_transformers.specs.EdgeProblems.{guard_limits, edge_limits, edge_problem, lost, value_of, transformer, NoneLost}
+use Rattle.tm_transformers.specs.Spread.{spread, skip}
+use Rattle.tm_transformers.proofs.Products.{length-tabulate, product_is_sum, product-tabulate}
+use Rattle.tm_transformers.proofs.EdgePoints.{point_runs, direction_falls}
+use Rattle.tm_transformers.proofs.TransformerOf.{none_lost}
+use Rattle.tm_transformers.proofs.SplitProblems.{transformer_by_lp, transformer_lost}
+use Rattle.tm_transformers.proofs.Spreads.{column_sum_is, side_sum_is, nonneg_for, guard_columns, guard_sides, guard_nonneg, source_columns, source_sides, source_nonneg, spread_length, spread_zero}
+use Rattle.tm_compose.specs.declared.value.Value.{Value}
+use Rattle.tm_compose.specs.declared.value.Value.TheVariants.{Unreached, Empty, Best, Unbounded}
 use Rattle.tm_oper.specs.Values.{ReadsOutcome, whole_problem, IsValue}
-use Rattle.tm_oper.specs.Meanings.{number_of, word_of, IsUnboundedEvidence, HasEvidence}
+use Rattle.tm_compose.specs.Value.{number_of, word_of}
+use Rattle.tm_oper.specs.Meanings.{IsUnboundedEvidence, HasEvidence}
 use Rattle.tm_oper.proofs.Operated.{lost_at}
 
 -- ---- the number
@@ -69,7 +71,7 @@ module _ (system : Equations) (z : Vector) (edge : Edge) (row : List ℤ) where
       let gs = guard_forms n edge.actions in
       let a = vec_mat (spread (z edge.from) system.template y) (coefficients (map (start_form n) system.template)) in
       column_sum_is (edge_limits system z edge) y j ∙ source_columns n (z edge.from) system.template (guard_limits (λ u. u) gs) y j
-      ∙ ap (λ s. at a j +ℚ s) (guard_columns gs (skip (z edge.from) system.template y) j) ∙ sym (at-add a (vec_mat (tabulate (length gs) (skip (z edge.from) system.template y)) (coefficients gs)) j)
+      ∙ ap (λ s. at a j +ℚ s) (guard_columns gs (skip (z edge.from) system.template y) j) ∙ sym (get_or-add_vec a (vec_mat (tabulate (length gs) (skip (z edge.from) system.template y)) (coefficients gs)) j)
 
   mix_side_is : (y : ℕ → ℚ) → mixed_side (edge_problem system z edge row) y
       ≡ side system z edge (spread (z edge.from) system.template y) (tabulate (length (guard_forms system.variables edge.actions)) (skip (z edge.from) system.template y))

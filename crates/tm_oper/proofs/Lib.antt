@@ -1,16 +1,3 @@
-pub mod Products
-pub mod Columns
-pub mod Passed
-pub mod Dense
-pub mod Places
-pub mod Ranges
-pub mod Rows
-pub mod States
-pub mod Frees
-pub mod Walked
-pub mod Edges
-pub mod Alls
-pub mod Means
 pub mod Pairs
 pub mod Problems
 pub mod Sources
@@ -19,3 +6,4 @@ pub mod Outcomes
 pub mod Built
 pub mod Operated
 pub mod Evident
+pub mod Answered

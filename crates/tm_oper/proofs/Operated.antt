@@ -1,9 +1,10 @@
 -- The value of a problem as the transformer of an edge and a row.
 use Rattle.std.proofs.Common.{◌≡◌, ◌∙◌, ℕ, zero, suc, ◌+◌, ◌-◌, ◌*◌, ◌<◌, ◌≤◌, ◌||◌, true, false, ℤ, List, [], ◌∷◌, length, get_or, drop, take, map, Some, None, Result, Ok, Err, refl, ap, ap₂, sym, subst, subst₂, arith}
-use Rattle.std.specs.Prelude.{slice_get, IfOk, IfErr, OnOk}
-use Rattle.std.proofs.lemmas.List.{get_or-drop, drop-map, take_rest}
-use Rattle.std.proofs.lemmas.Option.{slice_get-map, slice_get_within}
+use Rattle.std.specs.Prelude.{slice_get, IsTrue, IfOk, IfErr, OnOk}
+use Rattle.std.proofs.lemmas.List.{get_or-drop, get_or_default, drop-map, take_rest}
+use Rattle.std.proofs.lemmas.Option.{slice_get-map, slice_get_within, slice_get-get_or}
 use mathlib.Core.Path.{fun_ext}
+use Rattle.std.proofs.lemmas.Bool.{or_right}
 use Rattle.tm_num.specs.Rational.{ℚ}
 use Rattle.tm_num.specs.Extended.{Ext as Extended, neg_inf, fin, pos_inf, ◌<ᴱ◌}
 use Rattle.tm_frac.specs.declared.ext.Ext.{Ext}
@@ -14,26 +15,29 @@ use Rattle.tm_flow.specs.declared.edge.Action.{Action}
 use Rattle.tm_flow.specs.declared.edge.Action.TheVariants.{Guard, Assign, Havoc}
 use Rattle.tm_flow.specs.declared.edge.Edge.{Edge}
 use Rattle.tm_eqsys.specs.Equations.{Equations, Vector}
-use Rattle.tm_eqsys.specs.View.{vector_of}
+use Rattle.tm_eqsys.specs.declared.system.System.{System}
+use Rattle.tm_eqsys.specs.SystemLimits.{is_over}
+use Rattle.tm_eqsys.proofs.Sizes.{both}
+use Rattle.tm_eqsys.specs.View.{equations_of, vector_of, vector_at, edge_at}
 use Rattle.tm_eqsys.specs.declared.spot.PartFault.{PartFault}
 use Rattle.tm_eqsys.specs.declared.spot.PartFault.TheVariants.{Wide, NoMemory}
-use Rattle.tm_steps.specs.Words.{free_count, width, guard_forms, end_form}
+use Rattle.tm_validity.specs.Words.{columns, free_count, width, guard_forms, end_form}
 use Rattle.tm_lp.specs.Problem as lp
 use Rattle.tm_lp.specs.Simplex.{lp as solved}
 use Rattle.tm_simplex.specs.Operations.{first_refused, run_operations}
-use Rattle.tm_point.specs.EdgeProblems.{is_lost, lost}
-use Rattle.tm_point.proofs.Reaching.{or_second}
+use Rattle.tm_transformers.specs.EdgeProblems.{is_lost, lost}
 use Rattle.std.proofs.lemmas.List.{length-map}
-use Rattle.tm_oper.specs.declared.affine.Affine.{Affine}
-use Rattle.tm_oper.specs.declared.value.Value.{Value}
-use Rattle.tm_oper.specs.declared.value.Value.TheVariants.{Unreached, Empty, Best, Unbounded}
-use Rattle.tm_oper.specs.Composed.{EdgeForms, dense, edge_forms, AreComposed}
+use Rattle.tm_compose.specs.declared.affine.Affine.{Affine}
+use Rattle.tm_compose.specs.declared.value.Value.{Value}
+use Rattle.tm_compose.specs.declared.value.Value.TheVariants.{Unreached, Empty, Best, Unbounded}
+use Rattle.tm_compose.specs.Composed.{EdgeForms, dense, edge_forms, AreComposed}
 use Rattle.tm_oper.specs.Values.{ReadsOutcome, reading_operations, whole_problem, IsValue, NoneWide, IsOperatorFault, problem_reading}
 use Rattle.tm_oper.specs.Splits.{bounds_at, IsSource}
 use Rattle.tm_oper.specs.Readings.{IsProblemFault}
-use Rattle.tm_oper.proofs.Places.{read_at}
-use Rattle.tm_oper.proofs.Edges.{width_is}
-use Rattle.tm_oper.proofs.Means.{forms_are, have_columns}
+use Rattle.tm_compose.proofs.Places.{read_at}
+use Rattle.tm_compose.proofs.Alls.{edge_fits}
+use Rattle.tm_compose.proofs.Means.{paths_count, forms_are, have_columns}
+use Rattle.tm_compose.proofs.Walked.{guards_few}
 
 -- ---- bounds at the source
 pub source_is : (list : List Ext) (bounds : List Extended) (rows rows' p p' : ℕ) → map extended list ≡ bounds → rows' ≡ rows → p' ≡ p → bounds_at (drop (p' * rows') list) ≡ vector_of rows bounds p
@@ -46,11 +50,18 @@ pub source_taken : (list : List Ext) (bounds : List Extended) (rows rows' p p' :
     bounds_at (take (length list - p' * rows') (drop (p' * rows') list)) ≡ vector_of rows bounds p
 source_taken list bounds rows rows' p p' e f g = ap bounds_at (take_rest list (p' * rows')) ∙ source_is list bounds rows rows' p p' e f g
 
+-- the bounds at an edge's source, as the code takes them
+pub source_at : (s : System) (edge : ℕ) → edge < length s.flow.edges → (edges : List Edge) → edges ≡ s.flow.edges → (x : Edge) (list : List Ext) (bounds : List Extended) → map extended list ≡ bounds → (rows : ℕ) → rows ≡ length s.template →
+    bounds_at (take (length list - (get_or edges edge x).from * rows) (drop ((get_or edges edge x).from * rows) list)) ≡ vector_at s bounds (edge_at s edge).from
+source_at s edge l edges same x list bounds e rows r =
+    let d : Edge = record { from = 0; to = 0; actions = [] } in
+    source_taken list bounds (length s.template) rows (edge_at s edge).from (get_or edges edge x).from e r (ap (λ (y : Edge). y.from) (ap (λ (es : List Edge). get_or es edge x) same ∙ get_or_default s.flow.edges edge x d l))
+
 pub lost_at : (B : ℕ → Extended) (rows : List (List ℤ)) (r : ℕ) → r < length rows → B r ≡ neg_inf → lost B rows ≡ true
 unfolding lost
 lost_at B [] r l e = absurd (omega (arith, l))
 lost_at B (row ∷ rows) zero l e = ap (λ b. is_lost b || lost (λ k. B (suc k)) rows) e
-lost_at B (row ∷ rows) (suc r) l e = or_second (is_lost (B 0)) (lost (λ k. B (suc k)) rows) (lost_at (λ k. B (suc k)) rows r (omega (arith, l)) e)
+lost_at B (row ∷ rows) (suc r) l e = or_right (is_lost (B 0)) (lost (λ k. B (suc k)) rows) (lost_at (λ k. B (suc k)) rows r (omega (arith, l)) e)
 
 above_is : (b : Extended) → neg_inf <ᴱ b → is_lost b ≡ false
 above_is neg_inf h = absurd h
@@ -63,39 +74,66 @@ none_at B [] h = refl
 none_at B (row ∷ rows) h = ap₂ (λ a b. a || b) (above_is (B 0) (h 0 (omega arith))) (none_at (λ k. B (suc k)) rows (λ k l. h (suc k) (omega (arith, l))))
 
 -- ---- the source of an edge and a row
-pub frees_few : (actions : List Action) → free_count actions ≤ length actions
+pub template_over : (s : System) → IsTrue (is_over (length s.flow.names) s.template)
+template_over s = (both (is_over (length s.flow.names) s.template) _ s.within_limits).0
+
+frees_few : (actions : List Action) → free_count actions ≤ length actions
 unfolding free_count
 frees_few [] = omega arith
 frees_few (Guard form ∷ actions) = let h = frees_few actions in omega (arith, h)
 frees_few (Assign var form ∷ actions) = let h = frees_few actions in omega (arith, h)
 frees_few (Havoc var ∷ actions) = let h = frees_few actions in omega (arith, h)
 
+forms_few : (n : ℕ) (actions : List Action) → length (guard_forms n actions) ≤ length actions
+unfolding guard_forms
+forms_few n actions = guards_few n (columns n) actions
+
+-- the forms of an edge of a system, which has few free values and few guards
+pub record PathSizes (s : System) (paths : List EdgeForms) (edge : ℕ) : Type 0 where
+  pub forms : EdgeForms
+  pub here : slice_get paths edge ≡ Some forms
+  pub frees : forms.frees ≡ free_count (edge_at s edge).actions
+  pub few_frees : forms.frees ≤ 256
+  pub few_guards : length forms.guards ≤ 256
+
+pub path_sizes : (s : System) (paths : List EdgeForms) (edge : ℕ) → AreComposed (equations_of s) paths → edge < length s.flow.edges → PathSizes s paths edge
+path_sizes s paths edge h l =
+    let system = equations_of s in
+    let n = system.variables in
+    let e = edge_at s edge in
+    let forms = get_or paths edge (edge_forms 0 [] []) in
+    let count = paths_count system paths h in
+    let here = slice_get-get_or paths edge (edge_forms 0 [] []) (omega (arith, count, l)) in
+    let is = forms_are system paths h edge e forms (slice_get-get_or s.flow.edges edge (record { from = 0; to = 0; actions = [] }) l) here in
+    let most = (edge_fits s.flow s.flow.edges edge e refl l (sym (get_or_default s.flow.edges edge e (record { from = 0; to = 0; actions = [] }) l))).few in
+    let frees = (have_columns n system.template e.actions forms is).0 in
+    let few = frees_few e.actions in
+    let guards = ap (λ (f : EdgeForms). length f.guards) is ∙ length-map (guard_forms n e.actions) (dense (width n e.actions)) in
+    let few_forms = forms_few n e.actions in
+    record { forms = forms; here = here; frees = frees; few_frees = omega (arith, frees, few, most); few_guards = omega (arith, guards, few_forms, most) }
+
 module _ (system : Equations) (paths : List EdgeForms) (h : AreComposed system paths) (k : ℕ) (path inside : EdgeForms) (view : inside ≡ path) (p : slice_get paths k ≡ Some path) (e : Edge) (i : slice_get system.edges k ≡ Some e) where
   inside_is : inside ≡ edge_forms system.variables system.template e.actions
   inside_is = view ∙ forms_are system paths h k e path i p
 
-  pub frees_are : inside.frees ≡ free_count e.actions
-  frees_are = ap (λ (f : EdgeForms). f.frees) inside_is
-
   pub rows_are : length inside.rows ≡ length system.template
   rows_are = (have_columns system.variables system.template e.actions inside inside_is).3
 
-  pub source_from : (z : Vector) (row : ℕ) (cs : List ℤ) → slice_get system.template row ≡ Some cs → (n : ℕ) → n ≡ system.variables → (template : List (List ℤ)) → template ≡ system.template → (source : List Ext) → bounds_at source ≡ z e.from →
-      (guards rows : List Affine) → guards ≡ inside.guards → rows ≡ inside.rows → (form : Affine) → form ≡ get_or rows row form → IsSource system z e cs (n + inside.frees) template source guards form
-  source_from z row cs j n nn template t source b guards rows g rs form fr =
-      let w : n + inside.frees ≡ width system.variables e.actions = ap (λ m. m + inside.frees) nn ∙ width_is system.variables inside.frees e.actions frees_are in
-      let within : row < length inside.rows = let l = slice_get_within system.template row cs j in let c = rows_are in omega (arith, l, c) in
-      let at_row = read_at inside.rows rows row form rs fr within in
-      let all = ap (λ (f : EdgeForms). slice_get f.rows row) (sym inside_is) ∙ at_row in
-      let same = sym (slice_get-map (λ u. dense (width system.variables e.actions) (end_form system.variables e.actions u)) system.template row) ∙ all in
-      let goal : dense (width system.variables e.actions) (end_form system.variables e.actions cs) ≡ form = cc in
-      record {
-        columns = w;
-        rows = t;
-        bounds = b;
-        limits = g ∙ ap (λ (f : EdgeForms). f.guards) inside_is ∙ ap (λ m. map (dense m) (guard_forms system.variables e.actions)) (sym w);
-        goal = sym goal ∙ ap (λ m. dense m (end_form system.variables e.actions cs)) (sym w);
-      }
+  module _ (z : Vector) (row : ℕ) (cs : List ℤ) (j : slice_get system.template row ≡ Some cs) (w : ℕ) (columns : w ≡ width system.variables e.actions) (template : List (List ℤ)) (t : template ≡ system.template) (source : List Ext) (b : bounds_at source ≡ z e.from) where
+    pub source_from : (guards rows : List Affine) → guards ≡ inside.guards → rows ≡ inside.rows → (form : Affine) → form ≡ get_or rows row form → IsSource system z e cs w template source guards form
+    source_from guards rows g rs form fr =
+        let within : row < length inside.rows = let l = slice_get_within system.template row cs j in let c = rows_are in omega (arith, l, c) in
+        let at_row = read_at inside.rows rows row form rs fr within in
+        let all = ap (λ (f : EdgeForms). slice_get f.rows row) (sym inside_is) ∙ at_row in
+        let same = sym (slice_get-map (λ u. dense (width system.variables e.actions) (end_form system.variables e.actions u)) system.template row) ∙ all in
+        let goal : dense (width system.variables e.actions) (end_form system.variables e.actions cs) ≡ form = cc in
+        record {
+          columns = columns;
+          rows = t;
+          bounds = b;
+          limits = g ∙ ap (λ (f : EdgeForms). f.guards) inside_is ∙ ap (λ m. map (dense m) (guard_forms system.variables e.actions)) (sym columns);
+          goal = sym goal ∙ ap (λ m. dense m (end_form system.variables e.actions cs)) (sym columns);
+        }
 
 -- ---- the value
 module _ (system : Equations) (z : Vector) (e : Edge) (cs : List ℤ) (w : ℕ) (template : List (List ℤ)) (source : List Ext) (guards : List Affine) (form : Affine) (s : IsSource system z e cs w template source guards form) where

@@ -13,18 +13,18 @@ use Rattle.tm_eqsys.proofs.Widths.{first_wide_past, first_wide_here}
 use Rattle.tm_lp.specs.Problem as lp
 use Rattle.tm_lp.specs.Listed.{at}
 use Rattle.tm_lp.specs.Free.{unsplit}
-use Rattle.tm_point.specs.Limits.{Limit, tabulate}
-use Rattle.tm_point.specs.EdgeProblems.{source_limit, source_limits}
-use Rattle.tm_point.specs.Spread.{spread_one, spread, skip_one, skip}
-use Rattle.tm_point.proofs.Products.{tabulate_same}
+use Rattle.tm_transformers.specs.Limits.{Limit, tabulate}
+use Rattle.tm_transformers.specs.EdgeProblems.{source_limit, source_limits}
+use Rattle.tm_transformers.specs.Spread.{spread_one, spread, skip_one, skip}
+use Rattle.tm_transformers.proofs.Products.{tabulate_same}
 use Rattle.tm_simplex.specs.declared.outcome.Outcome.{Outcome}
 use Rattle.tm_simplex.specs.declared.outcome.Outcome.TheVariants as code
 use Rattle.tm_simplex.specs.Outcomes.{IsListed, IsOutcomeOf}
-use Rattle.tm_oper.specs.declared.value.Value.{Value}
-use Rattle.tm_oper.specs.declared.value.Value.TheVariants.{Unreached, Empty, Best, Unbounded}
+use Rattle.tm_compose.specs.declared.value.Value.{Value}
+use Rattle.tm_compose.specs.declared.value.Value.TheVariants.{Unreached, Empty, Best, Unbounded}
 use Rattle.tm_oper.specs.Values.{IsTraceOf, AreMultipliers, ReadsOutcome, entry_operations, reading_operations}
 use Rattle.tm_oper.specs.Readings.{listed_outcome, HasSizes}
-use Rattle.tm_oper.proofs.Ranges.{range_map}
+use Rattle.tm_compose.proofs.Ranges.{range_map}
 use Rattle.tm_oper.proofs.Entries.{difference, tabulate_all}
 
 -- ---- reading

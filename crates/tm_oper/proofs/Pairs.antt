@@ -6,14 +6,14 @@ use Rattle.std.proofs.lemmas.List.FromFn.{map-range_with_len_more}
 use Rattle.tm_num.specs.Rational.{ℚ, whole, zero_ℚ, one_ℚ, neg_ℚ, ◌+ℚ◌, ◌*ℚ◌}
 use Rattle.tm_num.proofs.Laws.{+ℚ_idl, +ℚ_idr, *ℚ-zero, *ℚ_idr, neg_ℚ-zero}
 use Rattle.tm_eqsys.specs.States.{dotℚ}
-use Rattle.tm_steps.specs.Words.{Affine as Form, shifted, column, columns, start_form}
+use Rattle.tm_validity.specs.Words.{Affine as Form, shifted, column, columns, start_form}
 use Rattle.tm_lp.specs.Listed.{at}
 use Rattle.tm_lp.specs.Free.{split}
-use Rattle.tm_oper.specs.Composed.{first_entries}
-use Rattle.tm_oper.specs.Operations.{column_values}
+use Rattle.tm_compose.specs.Composed.{first_entries}
+use Rattle.tm_compose.specs.Operations.{column_values}
 use Rattle.tm_oper.specs.Splits.{pair, pairs}
-use Rattle.tm_oper.proofs.Ranges.{range_map}
-use Rattle.tm_oper.proofs.Dense.{coeff-combined, entries-first}
+use Rattle.tm_compose.proofs.Ranges.{range_map}
+use Rattle.tm_compose.proofs.Dense.{coeff-combined, entries-first}
 
 -- one more number and its negation
 pub pairs_push : (xs : List ℚ) (x n : ℚ) (items mid new : List ℚ) → items ≡ pairs xs → mid ≡ items ++ x ∷ [] → n ≡ neg_ℚ x → new ≡ mid ++ n ∷ [] → new ≡ pairs (xs ++ x ∷ [])

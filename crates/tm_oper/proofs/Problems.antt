@@ -6,14 +6,14 @@ use Rattle.tm_num.specs.Rational.{ℚ}
 use Rattle.tm_lp.specs.Problem as lp
 use Rattle.tm_lp.specs.Listed.{at, list_problem}
 use Rattle.tm_lp.specs.Free.{split, split_problem}
-use Rattle.tm_point.specs.Limits.{Limit, no_limit, limits_problem, AllWithin}
+use Rattle.tm_transformers.specs.Limits.{Limit, no_limit, limits_problem, AllWithin}
 use Rattle.tm_dict.specs.declared.problem.Row.{Row}
 use Rattle.tm_dict.specs.declared.problem.Problem.{Problem}
 use Rattle.tm_dict.specs.Exact.{exact}
-use Rattle.tm_oper.specs.Composed.{first_entries}
+use Rattle.tm_compose.specs.Composed.{first_entries}
 use Rattle.tm_oper.specs.Splits.{pairs, split_limit, limit_of}
 use Rattle.tm_oper.proofs.Pairs.{at-pairs, length-pairs}
-use Rattle.tm_oper.proofs.Dense.{length-first_entries}
+use Rattle.tm_compose.proofs.Dense.{length-first_entries}
 
 same_problem : (c c' r r' : ℕ) (f f' : ℕ → ℕ → ℚ) (s s' g g' : ℕ → ℚ) → c ≡ c' → r ≡ r' → f ≡ f' → s ≡ s' → g ≡ g' →
     (let P : lp.Problem = record { cols = c; rows = r; coef = f; side = s; goal = g } in P) ≡ (let Q : lp.Problem = record { cols = c'; rows = r'; coef = f'; side = s'; goal = g' } in Q)

@@ -7,12 +7,12 @@ use Rattle.tm_num.specs.Extended.{Ext as Extended, neg_inf, fin, pos_inf, â—Œ<á´
 use Rattle.tm_frac.specs.declared.ext.Ext.{Ext}
 use Rattle.tm_frac.specs.declared.ext.Ext.TheVariants.{NegInf, Fin, PosInf}
 use Rattle.tm_frac.specs.Extended.{extended}
-use Rattle.tm_point.specs.Limits.{Limit}
-use Rattle.tm_point.specs.EdgeProblems.{source_limit, source_limits, guard_limits}
-use Rattle.tm_point.specs.Spread.{spread_one, spread, skip_one, skip}
-use Rattle.tm_steps.specs.Words.{Affine as Form}
-use Rattle.tm_oper.specs.declared.affine.Affine.{Affine}
-use Rattle.tm_oper.specs.Composed.{dense}
+use Rattle.tm_transformers.specs.Limits.{Limit}
+use Rattle.tm_transformers.specs.EdgeProblems.{source_limit, source_limits, guard_limits}
+use Rattle.tm_transformers.specs.Spread.{spread_one, spread, skip_one, skip}
+use Rattle.tm_validity.specs.Words.{Affine as Form}
+use Rattle.tm_compose.specs.declared.affine.Affine.{Affine}
+use Rattle.tm_compose.specs.Composed.{dense}
 use Rattle.tm_oper.specs.Splits.{bounds_at, pairs, split_limit, source_row}
 use Rattle.tm_oper.specs.Readings.{finite_one, multiplier_one}
 use Rattle.tm_oper.proofs.Pairs.{start_entries}

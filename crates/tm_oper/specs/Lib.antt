@@ -1,9 +1,3 @@
-pub mod Composed
-pub mod Operations
-pub mod Faults
-pub mod Sums
-pub mod Walks
-pub mod ComposedLaws
 pub mod Values
 pub mod Splits
 pub mod Readings

@@ -1,27 +1,19 @@
 -- What the value of a transformer means.
-use Rattle.std.specs.Prelude.{◌≡◌, ◌<◌, ◌++◌, ℤ, List, length}
+use Rattle.std.specs.Prelude.{◌≡◌, ◌<◌, ℤ, List, length, Result, IfOk, IfErr, OnOk}
 use Rattle.tm_num.specs.Rational.{ℚ}
-use Rattle.tm_num.specs.Extended.{Ext, neg_inf, fin, pos_inf}
+use Rattle.tm_num.specs.Extended.{neg_inf, fin}
 use Rattle.tm_flow.specs.declared.edge.Edge.{Edge}
 use Rattle.tm_eqsys.specs.Equations.{Equations, Vector}
+use Rattle.tm_eqsys.specs.declared.spot.PartFault.{PartFault}
 use Rattle.tm_eqsys.specs.declared.trace.Trace.{Trace}
-use Rattle.tm_steps.specs.Words.{Word}
-use Rattle.tm_steps.specs.Steps.{Runs, end_value}
-use Rattle.tm_steps.specs.Certificates.{BoundPasses, EmptyPasses}
-use Rattle.tm_steps.specs.Transformers.{Unlimited}
-use Rattle.tm_oper.specs.declared.value.Value.{Value}
-use Rattle.tm_oper.specs.declared.value.Value.TheVariants.{Unreached, Empty, Best, Unbounded}
-
--- the extended number of a value
-abbrev pub number_of : Value → Ext
-number_of (Unreached r) = neg_inf
-number_of (Empty rows guards) = neg_inf
-number_of (Best value trace rows guards) = fin value
-number_of (Unbounded trace direction) = pos_inf
-
--- the word of a trace
-abbrev pub word_of : Trace → Word
-word_of trace = trace.start ++ trace.free
+use Rattle.tm_validity.specs.Steps.{Runs, end_value}
+use Rattle.tm_validity.specs.Certificates.{BoundPasses, EmptyPasses}
+use Rattle.tm_validity.specs.Transformers.{Unlimited}
+use Rattle.tm_transformers.specs.EdgeProblems.{transformer}
+use Rattle.tm_compose.specs.Value.{number_of, word_of}
+use Rattle.tm_compose.specs.declared.value.Value.{Value}
+use Rattle.tm_compose.specs.declared.value.Value.TheVariants.{Unreached, Empty, Best, Unbounded}
+use Rattle.tm_oper.specs.Values.{IsValue, NoneWide, IsOperatorFault}
 
 -- the trace runs at the vector and ends with the value, and the multipliers bound it
 pub record IsBestEvidence (system : Equations) (z : Vector) (edge : Edge) (row : List ℤ) (value : ℚ) (trace : Trace) (rows guards : List ℚ) : Type 0 where
@@ -41,3 +33,12 @@ HasEvidence system z edge row (Unreached r) = (r < length system.template) × (z
 HasEvidence system z edge row (Empty rows guards) = EmptyPasses system z edge rows guards
 HasEvidence system z edge row (Best value trace rows guards) = IsBestEvidence system z edge row value trace rows guards
 HasEvidence system z edge row (Unbounded trace direction) = IsUnboundedEvidence system z edge row trace direction
+
+-- ---- on the way
+-- all that is said of the answer for an edge and a row at a vector
+pub record Operates (system : Equations) (z : Vector) (edge : Edge) (row : List ℤ) (result : Result Value PartFault) : Type 0 where
+  pub value : IfOk result (IsValue system z edge row)
+  pub supremum : IfOk result (λ v. transformer system z edge row ≡ number_of v)
+  pub evidence : IfOk result (HasEvidence system z edge row)
+  pub fits : OnOk result (NoneWide system z edge row)
+  pub refused : IfErr result (IsOperatorFault system z edge row)

@@ -9,10 +9,10 @@ use Rattle.tm_lp.specs.Problem as lp
 use Rattle.tm_lp.specs.Listed.{at}
 use Rattle.tm_simplex.specs.declared.outcome.Outcome.{Outcome}
 use Rattle.tm_simplex.specs.declared.outcome.Outcome.TheVariants.{Best, Unbounded, Empty}
-use Rattle.tm_point.specs.EdgeProblems.{source_limits}
+use Rattle.tm_transformers.specs.EdgeProblems.{source_limits}
 use Rattle.tm_frac.specs.Operation.{Operation, first_wide, operation_of}
-use Rattle.tm_oper.specs.declared.fault.FormFault.{FormFault}
-use Rattle.tm_oper.specs.Faults.{IsFormFault}
+use Rattle.tm_compose.specs.declared.fault.FormFault.{FormFault}
+use Rattle.tm_compose.specs.Faults.{IsFormFault}
 use Rattle.tm_oper.specs.Values.{IsWideIn}
 
 -- what is so of the value where none of the operations is wide, and the first that is where one is

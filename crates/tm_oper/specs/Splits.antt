@@ -6,11 +6,11 @@ use Rattle.tm_frac.specs.declared.ext.Ext.{Ext}
 use Rattle.tm_frac.specs.Extended.{extended}
 use Rattle.tm_flow.specs.declared.edge.Edge.{Edge}
 use Rattle.tm_eqsys.specs.Equations.{Equations, Vector}
-use Rattle.tm_steps.specs.Words.{width, guard_forms, end_form}
-use Rattle.tm_point.specs.Limits.{Limit}
+use Rattle.tm_validity.specs.Words.{width, guard_forms, end_form}
+use Rattle.tm_transformers.specs.Limits.{Limit}
 use Rattle.tm_dict.specs.declared.problem.Row.{Row}
-use Rattle.tm_oper.specs.declared.affine.Affine.{Affine}
-use Rattle.tm_oper.specs.Composed.{first_entries, dense}
+use Rattle.tm_compose.specs.declared.affine.Affine.{Affine}
+use Rattle.tm_compose.specs.Composed.{first_entries, dense}
 
 -- a number and its negation
 abbrev pub pair : ℚ → List ℚ

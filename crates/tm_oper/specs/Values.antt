@@ -13,16 +13,16 @@ use Rattle.tm_eqsys.specs.declared.spot.Part.{Part}
 use Rattle.tm_eqsys.specs.declared.spot.Part.TheVariants.{Side, Pivot, Reading}
 use Rattle.tm_eqsys.specs.declared.spot.PartFault.{PartFault}
 use Rattle.tm_eqsys.specs.declared.spot.PartFault.TheVariants.{Wide, NoMemory}
-use Rattle.tm_steps.specs.Words.{width, guard_forms, end_form}
+use Rattle.tm_validity.specs.Words.{width, guard_forms, end_form}
 use Rattle.tm_lp.specs.Problem.{Problem, Outcome, best, unbounded, empty}
 use Rattle.tm_lp.specs.Simplex.{lp}
 use Rattle.tm_lp.specs.Free.{split_problem, unsplit}
 use Rattle.tm_simplex.specs.Operations.{first_refused, run_operations, capped}
-use Rattle.tm_point.specs.Limits.{tabulate}
-use Rattle.tm_point.specs.EdgeProblems.{edge_problem, lost}
-use Rattle.tm_point.specs.Spread.{spread, skip}
-use Rattle.tm_oper.specs.declared.value.Value.{Value}
-use Rattle.tm_oper.specs.declared.value.Value.TheVariants.{Unreached, Empty, Best, Unbounded}
+use Rattle.tm_transformers.specs.Limits.{tabulate}
+use Rattle.tm_transformers.specs.EdgeProblems.{edge_problem, lost}
+use Rattle.tm_transformers.specs.Spread.{spread, skip}
+use Rattle.tm_compose.specs.declared.value.Value.{Value}
+use Rattle.tm_compose.specs.declared.value.Value.TheVariants.{Unreached, Empty, Best, Unbounded}
 
 -- the lowest row whose bound is -inf
 pub record IsLowestLost (bounds : ℕ → Ext) (rows : ℕ) (r : ℕ) : Type 0 where

@@ -8,15 +8,15 @@ ghost use Rattle.tm_eqsys.specs.Equations.{Equations, Vector};
 ghost use Rattle.tm_flow.specs.declared.edge.Edge.{Edge};
 ghost use Rattle.tm_eqsys.specs.SystemLimits.{is_over};
 ghost use Rattle.tm_dict.specs.Exact.{exact, IsShaped};
-ghost use Rattle.tm_point.specs.EdgeProblems.{source_limits, guard_limits};
-ghost use Rattle.tm_steps.specs.Words.{Affine as Formal};
-ghost use Rattle.tm_oper.specs.Composed.{dense};
+ghost use Rattle.tm_transformers.specs.EdgeProblems.{source_limits, guard_limits};
+ghost use Rattle.tm_validity.specs.Words.{Affine as Formal};
+ghost use Rattle.tm_compose.specs.Composed.{dense};
 ghost use Rattle.tm_oper.specs.Values.{whole_problem, IsLowestLost};
 ghost use Rattle.tm_oper.specs.Splits.{bounds_at, split_limit, limit_of, source_row, IsSource};
 
-use crate::affine::Affine;
 use crate::split::{split_coeffs, split_row};
 use std::alloc::{AllocError, Global};
+use tm_compose::Affine;
 use tm_dict::{Problem, Row};
 use tm_frac::{Ext, Frac, OrderedField};
 use tm_tree::Coeffs;
@@ -101,7 +101,7 @@ pub fn edge_problem(
     requires few_columns { width ≤ 264 }
     ensures { (system : Equations) (z : Vector) (edge : Edge) (row : List ℤ) → IsTrue (is_over system.variables system.template) → IsSource system z edge row width template.now source.now guards.now form.now → IfOk result (λ p. (exact (λ q. q) p ≡ whole_problem system z edge row) × IsShaped p) }
 {
-    let mut rows = Vec::new(alloc);
+    let mut rows = Vec::with_capacity(alloc, template.len() + guards.len())?;
     source_rows(alloc, template, source, width, &mut rows)?;
     guard_rows(alloc, guards, &mut rows)?;
     let goal = split_coeffs(alloc, form.coeffs.as_slice())?;

@@ -3,18 +3,18 @@
 ghost use Rattle.std.specs.Prelude.{◌≡◌, IfOk, IsTrue, map, get_or};
 ghost use Rattle.tm_num.specs.Rational.{whole, zero_ℚ};
 ghost use Rattle.tm_tree.specs.Numbers.{are_numbers};
-ghost use Rattle.tm_oper.specs.Composed.{first_entries};
+ghost use Rattle.tm_compose.specs.Composed.{first_entries};
 ghost use Rattle.tm_oper.specs.Splits.{pairs};
 
-use crate::sums::fraction;
 use std::alloc::{AllocError, Global};
+use tm_eqsys::fraction;
 use tm_frac::{Frac, OrderedField};
 
 // Each coefficient and its negation.
 pub fn split_coeffs(alloc: Global, coeffs: &[Frac]) -> Result<Vec<Frac>, AllocError>
     ensures { IfOk result (λ list. list.items ≡ pairs coeffs.now) }
 {
-    let mut list = Vec::new(alloc);
+    let mut list = Vec::with_capacity(alloc, coeffs.len().saturating_mul(2))?;
     for coeff in coeffs {
         list.push(*coeff)?;
         list.push(coeff.negate())?;
@@ -39,7 +39,7 @@ pub fn split_row(alloc: Global, row: &[i64], width: usize) -> Result<Vec<Frac>, 
     requires { IsTrue (are_numbers row.now) }
     ensures { IfOk result (λ list. list.items ≡ pairs (first_entries width (map whole row.now))) }
 {
-    let mut list = Vec::new(alloc);
+    let mut list = Vec::with_capacity(alloc, width.saturating_mul(2))?;
     for column in 0..width {
         let coeff = row_entry(row, column);
         list.push(coeff)?;

@@ -1,27 +1,27 @@
 //! The transformer of an edge and a row at a vector.
 
-ghost use Rattle.std.specs.Prelude.{◌≡◌, ◌≤◌, ◌<◌, ◌+◌, ◌*◌, ℤ, List, IfOk, IfErr, OnOk, None, Some, length, slice_get};
+ghost use Rattle.std.specs.Prelude.{◌≡◌, ◌≤◌, ◌<◌, ◌+◌, ℤ, List, false, IfOk, IfErr, OnOk, None, Some, length, slice_get};
 ghost use Rattle.tm_num.specs.Rational.{ℚ};
-ghost use Rattle.tm_flow.specs.declared.edge.Edge.{Edge};
 ghost use Rattle.tm_frac.specs.Fits.{long_limit};
 ghost use Rattle.tm_frac.specs.Operation.{first_wide};
-ghost use Rattle.tm_eqsys.specs.View.{equations_of, vector_of};
+ghost use Rattle.tm_eqsys.specs.Equations.{Vector};
+ghost use Rattle.tm_eqsys.specs.View.{equations_of, vector_at, edge_at, row_at, IsVectorOf};
+ghost use Rattle.tm_validity.specs.Words.{free_count};
 ghost use Rattle.tm_lp.specs.Simplex.{lp};
 ghost use Rattle.tm_dict.specs.Exact.{exact, IsShaped};
 ghost use Rattle.tm_simplex.specs.Operations.{first_refused, run_operations};
-ghost use Rattle.tm_oper.specs.Composed.{AreComposed};
+ghost use Rattle.tm_compose.specs.Composed.{EdgeForms, AreComposed};
 ghost use Rattle.tm_oper.specs.Values.{IsValue, NoneWide, IsOperatorFault, ReadsOutcome, reading_operations};
-ghost use Rattle.tm_point.specs.EdgeProblems.{transformer};
-ghost use Rattle.tm_oper.specs.Meanings.{number_of, HasEvidence};
+ghost use Rattle.tm_transformers.specs.EdgeProblems.{lost, transformer};
+ghost use Rattle.tm_compose.specs.Value.{number_of};
+ghost use Rattle.tm_oper.specs.Meanings.{HasEvidence, Operates};
 ghost use Rattle.tm_oper.specs.Splits.{bounds_at};
 ghost use Rattle.tm_oper.specs.Readings.{HasSizes, IsProblemFault};
 
 use crate::build::{edge_problem, lowest_lost};
-use crate::fault::FormFault;
-use crate::paths::Paths;
 use crate::read::{Sizes, read_outcome};
-use crate::value::Value;
 use std::alloc::Global;
+use tm_compose::{FormFault, Paths, Value};
 use tm_dict::{Dict, Problem};
 use tm_eqsys::{Bounds, Part, PartFault, System};
 use tm_frac::{Ext, Frac};
@@ -60,6 +60,54 @@ fn solve_problem(
     }
 }
 
+// The sizes of an edge's problem.
+fn sizes_of(system: &System, paths: &Paths, edge: u32) -> Sizes
+    requires paths { AreComposed (equations_of system.now) paths.now }
+    requires edge { edge < length system.now.flow.edges }
+    ensures variables { result.variables ≡ length system.now.flow.names }
+    ensures frees { result.frees ≡ free_count (edge_at system.now edge).actions }
+    ensures rows { result.rows ≡ length system.now.template }
+    ensures guards { (forms : EdgeForms) → slice_get paths.now edge ≡ Some forms → result.guards ≡ length forms.guards }
+{
+    Sizes {
+        variables: system.flow.names.as_slice().len(),
+        frees: paths.frees(edge) as usize,
+        rows: system.template.as_slice().len(),
+        guards: paths.guards(edge) as usize,
+    }
+}
+
+// The transformer at a source of which no bound is `-inf`.
+fn solve_edge(
+    alloc: Global,
+    system: &System,
+    paths: &Paths,
+    source: &[Ext],
+    edge: u32,
+    row: u32,
+) -> Result<Value, PartFault>
+    requires paths { AreComposed (equations_of system.now) paths.now }
+    requires room { length system.now.template ≤ length source.now }
+    requires edge { edge < length system.now.flow.edges }
+    requires row { row < length system.now.template }
+    ensures { (z : Vector) → bounds_at source.now ≡ z (edge_at system.now edge).from → lost (z (edge_at system.now edge).from) system.now.template ≡ false → Operates (equations_of system.now) z (edge_at system.now edge) (row_at system.now row) result }
+{
+    let sizes = sizes_of(system, paths, edge);
+    let path = paths.path(edge);
+    let form = &path.rows.as_slice()[row as usize];
+    match edge_problem(
+        alloc,
+        system.template.as_slice(),
+        source,
+        path.guards.as_slice(),
+        form,
+        sizes.variables + sizes.frees,
+    ) {
+        Ok(problem) => solve_problem(alloc, sizes, source, form.constant, &problem),
+        Err(_) => Err(PartFault::NoMemory),
+    }
+}
+
 /// The transformer of an edge and a row at a vector: the supremum of the row after the edge, over all states before it that fit
 /// the bounds there, by one exact linear program (docs/FORMATS.md, "Linear programs"). Its columns are the start variables and
 /// the free values, each split into a positive and a negative one; its rows are the template rows with a finite bound at the
@@ -79,40 +127,20 @@ pub fn operator(
     row: u32,
 ) -> Result<Value, PartFault>
     requires paths { AreComposed (equations_of system.now) paths.now }
-    requires bounds { length bounds.now ≡ length system.now.flow.points * length system.now.template }
+    requires bounds { IsVectorOf system.now bounds.now }
     requires edge { edge < length system.now.flow.edges }
     requires row { row < length system.now.template }
-    ensures value { (e : Edge) (cs : List ℤ) → slice_get system.now.flow.edges edge ≡ Some e → slice_get system.now.template row ≡ Some cs → IfOk result (IsValue (equations_of system.now) (vector_of (length system.now.template) bounds.now) e cs) }
-    ensures supremum { (e : Edge) (cs : List ℤ) → slice_get system.now.flow.edges edge ≡ Some e → slice_get system.now.template row ≡ Some cs → IfOk result (λ v. transformer (equations_of system.now) (vector_of (length system.now.template) bounds.now) e cs ≡ number_of v) }
-    ensures evidence { (e : Edge) (cs : List ℤ) → slice_get system.now.flow.edges edge ≡ Some e → slice_get system.now.template row ≡ Some cs → IfOk result (HasEvidence (equations_of system.now) (vector_of (length system.now.template) bounds.now) e cs) }
-    ensures fits { (e : Edge) (cs : List ℤ) → slice_get system.now.flow.edges edge ≡ Some e → slice_get system.now.template row ≡ Some cs → OnOk result (NoneWide (equations_of system.now) (vector_of (length system.now.template) bounds.now) e cs) }
-    ensures refused { (e : Edge) (cs : List ℤ) → slice_get system.now.flow.edges edge ≡ Some e → slice_get system.now.template row ≡ Some cs → IfErr result (IsOperatorFault (equations_of system.now) (vector_of (length system.now.template) bounds.now) e cs) }
+    ensures value { IfOk result (IsValue (equations_of system.now) (vector_at system.now bounds.now) (edge_at system.now edge) (row_at system.now row)) }
+    ensures supremum { IfOk result (λ v. transformer (equations_of system.now) (vector_at system.now bounds.now) (edge_at system.now edge) (row_at system.now row) ≡ number_of v) }
+    ensures evidence { IfOk result (HasEvidence (equations_of system.now) (vector_at system.now bounds.now) (edge_at system.now edge) (row_at system.now row)) }
+    ensures fits { OnOk result (NoneWide (equations_of system.now) (vector_at system.now bounds.now) (edge_at system.now edge) (row_at system.now row)) }
+    ensures refused { IfErr result (IsOperatorFault (equations_of system.now) (vector_at system.now bounds.now) (edge_at system.now edge) (row_at system.now row)) }
 {
-    let variables = system.flow.names.as_slice().len();
-    let template = system.template.as_slice();
+    let rows = system.template.as_slice().len();
     let from = system.flow.edges.as_slice()[edge as usize].from as usize;
-    let source = &bounds.as_slice()[from * template.len()..];
-    if let Some(lost) = lowest_lost(source, template.len()) {
-        return Ok(Value::Unreached { row: lost });
-    }
-    let path = paths.path(edge);
-    let guards = path.guards.as_slice();
-    let form = &path.rows.as_slice()[row as usize];
-    let sizes = Sizes {
-        variables,
-        frees: path.frees as usize,
-        rows: template.len(),
-        guards: guards.len(),
-    };
-    match edge_problem(
-        alloc,
-        template,
-        source,
-        guards,
-        form,
-        sizes.variables + sizes.frees,
-    ) {
-        Ok(problem) => solve_problem(alloc, sizes, source, form.constant, &problem),
-        Err(_) => Err(PartFault::NoMemory),
+    let source = &bounds.as_slice()[from * rows..];
+    match lowest_lost(source, rows) {
+        Some(lost) => Ok(Value::Unreached { row: lost }),
+        None => solve_edge(alloc, system, paths, source, edge, row),
     }
 }

@@ -1,12 +1,15 @@
 -- The walk token by token, with a stack of what is pending.
 use Rattle.std.specs.Prelude.{if◌then◌else◌, nat_lt, Bool, true, false, ℕ, pos, List, [], ◌∷◌, length, Option, Some, None, Result, Ok}
-use Rattle.tm_gram.specs.Grammar.{Op, or_op, and_op, compare_op, plus_op, minus_op, times_op, level, Prefix, negative, positive, negation, Change, Direction, Kind, a_name, a_number, infix_sign, bang, left_paren, right_paren, left_brace, right_brace, comma, semicolon, colon, change_sign, step_sign, int_word, if_word, else_word, while_word, return_word, assume_word, nondet_word, Token, token}
+use Rattle.tm_gram.specs.Grammar.{Op, or_op, and_op, compare_op, plus_op, minus_op, times_op, level, Prefix, negative, positive, negation, Change, Direction}
+use Rattle.tm_gram.specs.Grammar.{Kind, a_name, a_number, infix_sign, bang, left_paren, right_paren, left_brace, right_brace, comma, semicolon, colon}
+use Rattle.tm_gram.specs.Grammar.{change_sign, step_sign, int_word, if_word, else_word, while_word, return_word, assume_word, nondet_word, Token, token}
 use Rattle.tm_tree.specs.Tree as tree
 use Rattle.tm_tree.specs.Tree.{Condition, Statement, Statements, nil, cons, leaf_count}
 use Rattle.tm_parse.specs.declared.fault.ParseFault.{ParseFault}
 use Rattle.tm_parse.specs.Results.{◌>>=◌}
 use Rattle.tm_parse.specs.Forms.{constant_form, variable_form}
-use Rattle.tm_parse.specs.Walk.{Value, a_form, a_truth, a_nondet, two_conditions, State, start_state, followed_by, one, counted, labelled_by, known_number, combined, prefix_value, ranged, regarded, tested, right_side, assignment, assigned, step_node, declared_by, closed, whole}
+use Rattle.tm_parse.specs.Walk.{Value, a_form, a_truth, a_nondet, two_conditions, State, start_state, followed_by, one, counted, labelled_by, known_number}
+use Rattle.tm_parse.specs.Walk.{combined, prefix_value, ranged, regarded, tested, right_side, assignment, assigned, step_node, declared_by, closed, program_of}
 
 -- what a condition in parentheses belongs to
 pub data Test : Type 0 where
@@ -109,15 +112,15 @@ complete (initial x a b ∷ fs) v = Ok (initial x a b ∷ fs, v)
 complete (under w ns ∷ fs) v = Ok (under w ns ∷ fs, v)
 
 -- the left sides whose sign holds at least as tightly as the next one are joined
-abbrev pub settle : ℕ → List Frame → Value → Result (List Frame × Value) ParseFault
-settle l (side u o a ∷ fs) v = elim (nat_lt (level o) l) [ true ↦ Ok (side u o a ∷ fs, v) | false ↦ combined_small o a u v >>= λ x. settle l fs x ]
-settle l [] v = Ok ([], v)
-settle l (before p a ∷ fs) v = Ok (before p a ∷ fs, v)
-settle l (group a ∷ fs) v = Ok (group a ∷ fs, v)
-settle l (test t a ∷ fs) v = Ok (test t a ∷ fs, v)
-settle l (assigns i g b a ∷ fs) v = Ok (assigns i g b a ∷ fs, v)
-settle l (initial x a b ∷ fs) v = Ok (initial x a b ∷ fs, v)
-settle l (under w ns ∷ fs) v = Ok (under w ns ∷ fs, v)
+abbrev pub join_tighter : ℕ → List Frame → Value → Result (List Frame × Value) ParseFault
+join_tighter l (side u o a ∷ fs) v = elim (nat_lt (level o) l) [ true ↦ Ok (side u o a ∷ fs, v) | false ↦ combined_small o a u v >>= λ x. join_tighter l fs x ]
+join_tighter l [] v = Ok ([], v)
+join_tighter l (before p a ∷ fs) v = Ok (before p a ∷ fs, v)
+join_tighter l (group a ∷ fs) v = Ok (group a ∷ fs, v)
+join_tighter l (test t a ∷ fs) v = Ok (test t a ∷ fs, v)
+join_tighter l (assigns i g b a ∷ fs) v = Ok (assigns i g b a ∷ fs, v)
+join_tighter l (initial x a b ∷ fs) v = Ok (initial x a b ∷ fs, v)
+join_tighter l (under w ns ∷ fs) v = Ok (under w ns ∷ fs, v)
 
 -- a node that stands behind those so far
 abbrev pub pushed : Statement → List Frame → List Frame
@@ -219,10 +222,10 @@ module _ (line : ℕ → ℕ) (width : ℕ) where
   after_comma st (fs, v) = Ok (at st fs (has v))
 
   abbrev pub followed : State → List Frame → Value → Kind → ℕ → Outcome
-  followed st fs v (infix_sign o) a = settle (level o) fs v >>= λ r. Ok (at st (side r.1 o a ∷ r.0) wants)
-  followed st fs v right_paren a = settle 0 fs v >>= λ r. after_paren st r
-  followed st fs v semicolon a = settle 0 fs v >>= λ r. after_semicolon st r
-  followed st fs v comma a = settle 0 fs v >>= λ r. after_comma st r
+  followed st fs v (infix_sign o) a = join_tighter (level o) fs v >>= λ r. Ok (at st (side r.1 o a ∷ r.0) wants)
+  followed st fs v right_paren a = join_tighter 0 fs v >>= λ r. after_paren st r
+  followed st fs v semicolon a = join_tighter 0 fs v >>= λ r. after_semicolon st r
+  followed st fs v comma a = join_tighter 0 fs v >>= λ r. after_comma st r
   followed st fs v _ a = Ok (at st fs (has v))
 
   -- the first token of a statement, or what follows items
@@ -294,7 +297,7 @@ nodes_under (under (of_items k) ns ∷ fs) = ns
 nodes_under fs = nil
 
 abbrev pub result_of : Machine → Result (List (List ℕ) × Statements) ParseFault
-result_of (at st fs m) = whole (st, nodes_under fs)
+result_of (at st fs m) = program_of (st, nodes_under fs)
 
 -- what the loop over all tokens gives
 abbrev pub reading : (ℕ → ℕ) → ℕ → List Token → Result (List (List ℕ) × Statements) ParseFault

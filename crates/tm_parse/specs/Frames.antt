@@ -3,7 +3,8 @@ use Rattle.std.specs.Prelude.{List, map, reverse}
 use Rattle.tm_gram.specs.Grammar.{Prefix, negative, positive, negation}
 use Rattle.tm_gram.specs.View.{op_of, change_of}
 use Rattle.tm_tree.specs.View.{condition_of, statements_of}
-use Rattle.tm_parse.specs.Feed.{Test, of_if, of_while, of_assume, Within, of_items, of_branch, of_other, of_loop, Frame, side, before, group, test, assigns, initial, under}
+use Rattle.tm_parse.specs.Feed.{Test, of_if, of_while, of_assume, Within, of_items, of_branch, of_other, of_loop, Frame, side, before, group, test, assigns}
+use Rattle.tm_parse.specs.Feed.{initial, under}
 use Rattle.tm_parse.specs.Values.{value_of}
 use Rattle.tm_parse.specs.declared.frame.Before as code_before
 use Rattle.tm_parse.specs.declared.frame.Test as code_test

@@ -1,7 +1,12 @@
 -- What a program's tree means: names, kinds and limits, in the order of a text's faults.
-use Rattle.std.specs.Prelude.{if◌then◌else◌, ◌++◌, nat_lt, nat_eq, ℕ, suc, ℤ, pos, negsuc, List, [], ◌∷◌, length, take, Option, Some, None, Result, Ok, Err, min, ◌+◌}
+use Rattle.std.specs.Prelude.{if◌then◌else◌, ◌++◌, nat_lt, nat_eq, ℕ, suc, ℤ, pos, negsuc, List, [], ◌∷◌, length, take, Option, Some, None, Result, Ok, Err}
+use Rattle.std.specs.Prelude.{min, ◌+◌}
 use Rattle.std.specs.List.{list_any}
-use Rattle.tm_gram.specs.Grammar.{Relation, equal, unequal, less, at_most, greater, at_least, Op, or_op, and_op, compare_op, plus_op, minus_op, times_op, Prefix, negative, positive, negation, Change, replaces, adds, subtracts, Direction, up, down, Expr, number, variable, free, grouped, prefixed, joined, Declarator, bare, given, Declarators, declares, declares_more, Core, empty, block, if_alone, if_else, repeat, assumed, set, step_after, step_before, Sub, labelled, plain, Items, no_items, label, declaration, item, Program, program}
+use Rattle.tm_gram.specs.Grammar.{Relation, equal, unequal, less, at_most, greater, at_least, Op, or_op, and_op, compare_op, plus_op, minus_op, times_op}
+use Rattle.tm_gram.specs.Grammar.{Prefix, negative, positive, negation, Change, replaces, adds, subtracts, Direction, up, down, Expr, number, variable, free}
+use Rattle.tm_gram.specs.Grammar.{grouped, prefixed, joined, Declarator, bare, given, Declarators, declares, declares_more, Core, empty, block, if_alone}
+use Rattle.tm_gram.specs.Grammar.{if_else, repeat, assumed, set, step_after, step_before, Sub, labelled, plain, Items, no_items, label, declaration, item}
+use Rattle.tm_gram.specs.Grammar.{Program, program}
 use Rattle.tm_tree.specs.declared.form.Form.{Form}
 use Rattle.tm_tree.specs.declared.cond.Rel.{Rel}
 use Rattle.tm_tree.specs.declared.cond.Rel.TheVariants as rel
@@ -161,7 +166,13 @@ stepped width down i = variable_form width i (negsuc 0)
 
 -- a variable is declared, with what it takes
 abbrev pub declared_by : (ℕ → ℕ) → List ℕ → ℕ → Option Form → State → Result (State × Statement) ParseFault
-declared_by line x a o st = elim (place_of x st.names) [ Some i ↦ Err (NameTwice a) | None ↦ if nat_lt (length st.names) 8 then (counted a (record st { names = st.names ++ x ∷ []; known = st.known ++ length st.names ∷ [] }) >>= λ now. Ok (now, assignment (length st.names) o (line a))) else Err (fault.Limit a Variables) ]
+declared_by line x a o st = elim (place_of x st.names) [
+  | Some i ↦ Err (NameTwice a)
+  | None ↦ if nat_lt (length st.names) 8
+      then (counted a (record st { names = st.names ++ x ∷ []; known = st.known ++ length st.names ∷ [] })
+      >>= λ now. Ok (now, assignment (length st.names) o (line a)))
+      else Err (fault.Limit a Variables)
+]
 
 -- the names that were known at the beginning of a block are known at its end
 abbrev pub closed : ℕ → State → State
@@ -195,11 +206,15 @@ module _ (line : ℕ → ℕ) (width : ℕ) where
     pub walk_core : Core → State → Result (State × Statements) ParseFault
     walk_core (empty a) st = Ok (st, nil)
     walk_core (block a is b) st = walk_items is st >>= λ r. Ok (closed (length st.known) r.0, r.1)
-    walk_core (if_alone a b e c s) st = walk_expr st e >>= λ v. tested a v >>= λ x. counted a st >>= λ now. walk_sub s now >>= λ r. Ok (r.0, one (tree.branch x r.1 nil (line a)))
-    walk_core (if_else a b e c s d t) st = walk_expr st e >>= λ v. tested a v >>= λ x. counted a st >>= λ now. walk_sub s now >>= λ r. walk_sub t r.0 >>= λ q. Ok (q.0, one (tree.branch x r.1 q.1 (line a)))
-    walk_core (repeat a b e c s) st = walk_expr st e >>= λ v. tested a v >>= λ x. counted a st >>= λ now. walk_sub s now >>= λ r. Ok (r.0, one (tree.loop x r.1 (line a)))
+    walk_core (if_alone a b e c s) st =
+        walk_expr st e >>= λ v. tested a v >>= λ x. counted a st >>= λ now. walk_sub s now >>= λ r. Ok (r.0, one (tree.branch x r.1 nil (line a)))
+    walk_core (if_else a b e c s d t) st =
+        walk_expr st e >>= λ v. tested a v >>= λ x. counted a st >>= λ now. walk_sub s now >>= λ r. walk_sub t r.0 >>= λ q. Ok (q.0, one (tree.branch x r.1 q.1 (line a)))
+    walk_core (repeat a b e c s) st =
+        walk_expr st e >>= λ v. tested a v >>= λ x. counted a st >>= λ now. walk_sub s now >>= λ r. Ok (r.0, one (tree.loop x r.1 (line a)))
     walk_core (assumed a b e c d) st = counted a st >>= λ now. walk_expr now e >>= λ v. tested a v >>= λ x. Ok (now, one (tree.assume x (line a)))
-    walk_core (set x a g b e c) st = known_number x a st >>= λ i. counted a st >>= λ now. walk_expr now e >>= λ v. assigned width g i b v >>= λ o. Ok (now, one (assignment i o (line a)))
+    walk_core (set x a g b e c) st =
+        known_number x a st >>= λ i. counted a st >>= λ now. walk_expr now e >>= λ v. assigned width g i b v >>= λ o. Ok (now, one (assignment i o (line a)))
     walk_core (step_after x a g b c) st = known_number x a st >>= λ i. counted a st >>= λ now. Ok (now, step_node g i a)
     walk_core (step_before g a x b c) st = counted a st >>= λ now. known_number x b now >>= λ i. Ok (now, step_node g i a)
 
@@ -245,9 +260,9 @@ abbrev pub width_of : Program → ℕ
 width_of (program a b c ps d e is r f g) = min 8 (declared_items is)
 
 -- the variables and nodes of a program, of which there has to be a variable
-abbrev pub whole : State × Statements → Result (List (List ℕ) × Statements) ParseFault
-whole (st, ns) = elim st.names [ [] ↦ Err NoVariables | x ∷ xs ↦ Ok (x ∷ xs, ns) ]
+abbrev pub program_of : State × Statements → Result (List (List ℕ) × Statements) ParseFault
+program_of (st, ns) = elim st.names [ [] ↦ Err NoVariables | x ∷ xs ↦ Ok (x ∷ xs, ns) ]
 
 -- what a program means, or its first fault
 abbrev pub walk : (ℕ → ℕ) → Program → Result (List (List ℕ) × Statements) ParseFault
-walk line (program a b c ps d e is r f g) = walk_items line (min 8 (declared_items is)) is start_state >>= λ r. whole r
+walk line (program a b c ps d e is r f g) = walk_items line (min 8 (declared_items is)) is start_state >>= λ r. program_of r

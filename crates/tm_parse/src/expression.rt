@@ -1,5 +1,5 @@
 //! Expressions, token by token.
-#![tactic(auto, using(crate::proofs::Binds::then_ok, crate::proofs::Binds::then_err))]
+#![tactic(auto, using(crate::proofs::results::Binds::then_ok, crate::proofs::results::Binds::then_err))]
 
 ghost use Rattle.std.specs.Prelude.{◌≡◌, ◌≤◌, length, IfOk};
 ghost use Rattle.tm_gram.specs.View.{symbol_kind, change_of};
@@ -16,7 +16,9 @@ ghost use Rattle.tm_parse.specs.Modes.{unnamed, lexeme_kind, mode_of};
 use crate::context::{Context, assignment};
 use crate::fault::{Limit, ParseFault};
 use crate::forms::{constant_form, together, variable_form};
-use crate::frame::{Before, Frame, Test, Within, complete, level, one, pushed, regarded, settle};
+use crate::frame::{
+    Before, Frame, Test, Within, complete, join_tighter, level, one, pushed, regarded,
+};
 use crate::lexeme::{Lexeme, literal};
 use crate::mode::Mode;
 use crate::value::{LEAVES, Value, as_condition, leaves_up_to, number_of};
@@ -25,7 +27,7 @@ use tm_gram::{Change, Op, Symbol};
 use tm_lex::line_of;
 use tm_tree::{Cond, Form, Stmt};
 
-/// The condition of the statement that begins at `at`.
+// The condition of the statement that begins at `at`.
 fn tested(at: u32, value: Value) -> Result<Cond, ParseFault>
     ensures { Gives condition_of result (tested at (value_of value)) }
 {
@@ -39,7 +41,7 @@ fn tested(at: u32, value: Value) -> Result<Cond, ParseFault>
     Ok(cond)
 }
 
-/// The right side of the `=` at `sign`: a form, or any value.
+// The right side of the `=` at `sign`: a form, or any value.
 fn right_side(sign: u32, value: Value) -> Result<Option<Form>, ParseFault>
     ensures { Gives (λ form. form) result (right_side sign (value_of value)) }
 {
@@ -50,7 +52,7 @@ fn right_side(sign: u32, value: Value) -> Result<Option<Form>, ParseFault>
     }
 }
 
-/// What the variable takes by the assignment whose sign is at `sign`.
+// What the variable takes by the assignment whose sign is at `sign`.
 fn assigned(
     alloc: Global,
     width: usize,
@@ -81,7 +83,8 @@ pub(crate) fn wanted(
     lexeme: Lexeme,
     place: u32,
 ) -> Result<Mode, ParseFault>
-    ensures { Gives (λ m. at (state_of context.new) (frames_of frames.new.items) (mode_of m)) result (wanted (line_at text.now) width (state_of context.old) (frames_of frames.old.items) (lexeme_kind lexeme) place) }
+    ensures { Gives (λ m. at (state_of context.new) (frames_of frames.new.items) (mode_of m)) result
+        (wanted (line_at text.now) width (state_of context.old) (frames_of frames.old.items) (lexeme_kind lexeme) place) }
 {
     let form = match lexeme {
         Lexeme::Name(name) => {
@@ -94,7 +97,7 @@ pub(crate) fn wanted(
     Ok(Mode::Has(complete(alloc, frames, Value::Form(form, place))?))
 }
 
-/// A sign, a parenthesis or `nondet` where an operand has to stand.
+// A sign, a parenthesis or `nondet` where an operand has to stand.
 fn signed(frames: &mut Vec<Frame>, symbol: Symbol, place: u32) -> Result<Mode, AllocError>
     ensures { IfOk result (λ m. signed (frames_of frames.old.items) (unnamed (symbol_kind symbol)) place ≡ (frames_of frames.new.items, mode_of m)) }
 {
@@ -109,7 +112,7 @@ fn signed(frames: &mut Vec<Frame>, symbol: Symbol, place: u32) -> Result<Mode, A
     Ok(Mode::Wants)
 }
 
-/// The condition of a statement is there.
+// The condition of a statement is there.
 fn decided(
     alloc: Global,
     text: &[u8],
@@ -121,7 +124,8 @@ fn decided(
     cond: Cond,
 ) -> Result<Mode, ParseFault>
     requires { length text.now ≤ 65536 }
-    ensures { Gives (λ m. at (state_of context.new) (frames_of frames.new.items) (mode_of m)) result (decided (line_at text.now) width (test_of test) place (state_of context.old) (frames_of frames.old.items) (condition_of cond)) }
+    ensures { Gives (λ m. at (state_of context.new) (frames_of frames.new.items) (mode_of m)) result
+        (decided (line_at text.now) width (test_of test) place (state_of context.old) (frames_of frames.old.items) (condition_of cond)) }
 {
     let within = match test {
         Test::If => Within::Branch(cond, place),
@@ -136,7 +140,7 @@ fn decided(
     Ok(Mode::Stands)
 }
 
-/// The value in the parenthesis that ends here, or the condition.
+// The value in the parenthesis that ends here, or the condition.
 fn after_paren(
     alloc: Global,
     text: &[u8],
@@ -146,7 +150,8 @@ fn after_paren(
     value: Value,
 ) -> Result<Mode, ParseFault>
     requires { length text.now ≤ 65536 }
-    ensures { Gives (λ m. at (state_of context.new) (frames_of frames.new.items) (mode_of m)) result (after_paren (line_at text.now) width (state_of context.old) (frames_of frames.old.items, value_of value)) }
+    ensures { Gives (λ m. at (state_of context.new) (frames_of frames.new.items) (mode_of m)) result
+        (after_paren (line_at text.now) width (state_of context.old) (frames_of frames.old.items, value_of value)) }
 {
     match frames.pop() {
         Some(Frame::Group(place)) => Ok(Mode::Has(complete(
@@ -166,7 +171,7 @@ fn after_paren(
     }
 }
 
-/// The right side of an assignment or the last initialiser of a declaration, which ends here.
+// The right side of an assignment or the last initialiser of a declaration, which ends here.
 fn after_semicolon(
     alloc: Global,
     text: &[u8],
@@ -176,7 +181,8 @@ fn after_semicolon(
     value: Value,
 ) -> Result<Mode, ParseFault>
     requires { length text.now ≤ 65536 }
-    ensures { Gives (λ m. at (state_of context.new) (frames_of frames.new.items) (mode_of m)) result (after_semicolon (line_at text.now) width (state_of context.old) (frames_of frames.old.items, value_of value)) }
+    ensures { Gives (λ m. at (state_of context.new) (frames_of frames.new.items) (mode_of m)) result
+        (after_semicolon (line_at text.now) width (state_of context.old) (frames_of frames.old.items, value_of value)) }
 {
     match frames.pop() {
         Some(Frame::Assigns(var, change, sign, place)) => {
@@ -198,7 +204,7 @@ fn after_semicolon(
     }
 }
 
-/// An initialiser before a further declarator.
+// An initialiser before a further declarator.
 fn after_comma(
     alloc: Global,
     text: &[u8],
@@ -208,7 +214,8 @@ fn after_comma(
     value: Value,
 ) -> Result<Mode, ParseFault>
     requires { length text.now ≤ 65536 }
-    ensures { Gives (λ m. at (state_of context.new) (frames_of frames.new.items) (mode_of m)) result (after_comma (line_at text.now) width (state_of context.old) (frames_of frames.old.items, value_of value)) }
+    ensures { Gives (λ m. at (state_of context.new) (frames_of frames.new.items) (mode_of m)) result
+        (after_comma (line_at text.now) width (state_of context.old) (frames_of frames.old.items, value_of value)) }
 {
     match frames.pop() {
         Some(Frame::Initial(name, place, sign)) => {
@@ -237,24 +244,25 @@ pub(crate) fn behind_value(
     place: u32,
 ) -> Result<Mode, ParseFault>
     requires { length text.now ≤ 65536 }
-    ensures { Gives (λ m. at (state_of context.new) (frames_of frames.new.items) (mode_of m)) result (followed (line_at text.now) width (state_of context.old) (frames_of frames.old.items) (value_of value) (lexeme_kind lexeme) place) }
+    ensures { Gives (λ m. at (state_of context.new) (frames_of frames.new.items) (mode_of m)) result
+        (followed (line_at text.now) width (state_of context.old) (frames_of frames.old.items) (value_of value) (lexeme_kind lexeme) place) }
 {
     match lexeme {
         Lexeme::Plain(Symbol::Infix(op)) => {
-            let value = settle(alloc, level(op), frames, value)?;
+            let value = join_tighter(alloc, level(op), frames, value)?;
             frames.push(Frame::Side(value, op, place))?;
             Ok(Mode::Wants)
         }
         Lexeme::Plain(Symbol::RightParen) => {
-            let value = settle(alloc, 0, frames, value)?;
+            let value = join_tighter(alloc, 0, frames, value)?;
             after_paren(alloc, text, width, context, frames, value)
         }
         Lexeme::Plain(Symbol::Semicolon) => {
-            let value = settle(alloc, 0, frames, value)?;
+            let value = join_tighter(alloc, 0, frames, value)?;
             after_semicolon(alloc, text, width, context, frames, value)
         }
         Lexeme::Plain(Symbol::Comma) => {
-            let value = settle(alloc, 0, frames, value)?;
+            let value = join_tighter(alloc, 0, frames, value)?;
             after_comma(alloc, text, width, context, frames, value)
         }
         _ => Ok(Mode::Has(value)),

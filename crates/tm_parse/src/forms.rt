@@ -1,5 +1,5 @@
 //! Forms and how they are combined.
-#![tactic(auto, using(crate::proofs::Binds::then_ok, crate::proofs::Binds::then_err))]
+#![tactic(auto, using(crate::proofs::results::Binds::then_ok, crate::proofs::results::Binds::then_err))]
 
 ghost use Rattle.std.specs.Prelude.{◌≡◌, ◌*ℤ◌, pos, IfOk, IsTrue, replicate, slice_set};
 ghost use Rattle.tm_tree.specs.Numbers.{are_numbers};
@@ -14,7 +14,7 @@ use tm_tree::{Coeffs, Form};
 /// The greatest absolute value of a number.
 const GREATEST: i128 = i64::MAX as i128;
 
-/// The number; out of its range it is a fault of the sign at `at`.
+// The number; out of its range it is a fault of the sign at `at`.
 fn ranged_number(at: u32, number: i128) -> Result<i64, ParseFault>
     ensures { Gives (λ n. n) result (ranged_number at number) }
 {
@@ -33,7 +33,7 @@ fn zeros(alloc: Global, width: usize) -> Result<Vec<i64>, AllocError>
 }
 
 /// The whole number `constant`; out of its range it is a fault of the token at `at`.
-#[tactic(auto, using(crate::proofs::Binds::then_ok, crate::proofs::Binds::then_err, crate::proofs::Ranges::zeros_ranged))]
+#[tactic(auto, using(crate::proofs::results::Binds::then_ok, crate::proofs::results::Binds::then_err, crate::proofs::forms::Ranges::zeros_ranged))]
 pub(crate) fn constant_form(
     alloc: Global,
     at: u32,
@@ -77,7 +77,7 @@ pub(crate) fn variable_form(
     })
 }
 
-/// `left + right`, or `left - right`.
+// `left + right`, or `left - right`.
 fn sum_or_difference(at: u32, subtracts: bool, left: i64, right: i64) -> Result<i64, ParseFault>
     ensures { Gives (λ n. n) result (ranged_number at (sum_or_difference subtracts left right)) }
 {
@@ -129,7 +129,7 @@ pub(crate) fn together(
     })
 }
 
-/// `factor * number`.
+// `factor * number`.
 fn times(at: u32, factor: i64, number: i64) -> Result<i64, ParseFault>
     ensures { Gives (λ n. n) result (ranged_number at (factor *ℤ number)) }
 {

@@ -1,5 +1,5 @@
 //! What is pending while a text is read.
-#![tactic(auto, using(crate::proofs::Binds::then_ok, crate::proofs::Binds::then_err))]
+#![tactic(auto, using(crate::proofs::results::Binds::then_ok, crate::proofs::results::Binds::then_err))]
 
 ghost use Rattle.std.specs.Prelude.{◌≡◌, ◌≤◌, length, OnOk, IfOk};
 ghost use Rattle.tm_gram.specs.Grammar.{level};
@@ -7,7 +7,7 @@ ghost use Rattle.tm_gram.specs.View.{op_of};
 ghost use Rattle.tm_lex.specs.Lines.{line_at};
 ghost use Rattle.tm_tree.specs.View.{statement_of, statements_of};
 ghost use Rattle.tm_parse.specs.Walk.{followed_by, one, prefix_value, regarded};
-ghost use Rattle.tm_parse.specs.Feed.{complete, settle, pushed, wrapped, close, attach};
+ghost use Rattle.tm_parse.specs.Feed.{complete, join_tighter, pushed, wrapped, close, attach};
 ghost use Rattle.tm_parse.specs.Gives.{Gives};
 ghost use Rattle.tm_parse.specs.Values.{value_of};
 ghost use Rattle.tm_parse.specs.Frames.{before_of, within_of, frames_of};
@@ -68,7 +68,7 @@ pub(crate) enum Frame {
     Under(Within, Vec<Stmt>),
 }
 
-/// What a sign before a value makes of it.
+// What a sign before a value makes of it.
 fn prefixed(alloc: Global, before: Before, at: u32, value: Value) -> Result<Value, ParseFault>
     ensures { Gives value_of result (prefix_value (before_of before) at (value_of value)) }
 {
@@ -131,13 +131,13 @@ pub(crate) fn level(op: Op) -> u32
 }
 
 /// Joins the left sides whose sign holds at least as tightly as `next`.
-pub(crate) fn settle(
+pub(crate) fn join_tighter(
     alloc: Global,
     next: u32,
     frames: &mut Vec<Frame>,
     value: Value,
 ) -> Result<Value, ParseFault>
-    ensures { Gives (λ v. (frames_of frames.new.items, value_of v)) result (settle next (frames_of frames.old.items) (value_of value)) }
+    ensures { Gives (λ v. (frames_of frames.new.items, value_of v)) result (join_tighter next (frames_of frames.old.items) (value_of value)) }
 {
     let mut value = value;
     while let Some(frame) = frames.pop() {
@@ -187,7 +187,7 @@ pub(crate) fn pushed(alloc: Global, frames: &mut Vec<Frame>, stmt: Stmt) -> Resu
     Ok(())
 }
 
-/// The statement whose last part has these nodes.
+// The statement whose last part has these nodes.
 fn wrapped(
     alloc: Global,
     text: &[u8],

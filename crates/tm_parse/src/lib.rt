@@ -19,6 +19,3 @@ mod width;
 pub use fault::{Limit, ParseFault};
 pub use laws::one_meaning;
 pub use parser::parse;
-
-#[cfg(test)]
-mod tests;

@@ -15,7 +15,7 @@ use tm_gram::{Syntax, examine};
 use tm_lex::Token;
 use tm_tree::Program;
 
-/// The first pass: nothing where the tokens read as a program and no construct is one too many.
+// The first pass: nothing where the tokens read as a program and no construct is one too many.
 fn first_pass(alloc: Global, tokens: &[Token], text: &[u8]) -> Result<(), ParseFault>
     requires { AreTokensOf text.now tokens.now }
     ensures read { IfOk result (λ _. IsRead (tokens_of text.now tokens.now)) }

@@ -20,7 +20,7 @@ use std::alloc::Global;
 use tm_lex::Token;
 use tm_tree::{Block, Names, Stmt};
 
-/// Takes all tokens.
+// Takes all tokens.
 fn fed(
     alloc: Global,
     tokens: &[Token],
@@ -31,7 +31,8 @@ fn fed(
 ) -> Result<Mode, ParseFault>
     requires size { length text.now ≤ 65536 }
     requires proper { AllProper text.now tokens.now }
-    ensures { Gives (λ m. at (state_of context.new) (frames_of frames.new.items) (mode_of m)) result (feed (line_at text.now) width (tokens_of text.now tokens.now) (at (state_of context.old) (frames_of frames.old.items) heading)) }
+    ensures { Gives (λ m. at (state_of context.new) (frames_of frames.new.items) (mode_of m)) result
+        (feed (line_at text.now) width (tokens_of text.now tokens.now) (at (state_of context.old) (frames_of frames.old.items) heading)) }
 {
     let mut mode = Mode::Heading;
     for token in tokens {
@@ -41,7 +42,7 @@ fn fed(
     Ok(mode)
 }
 
-/// The nodes of a whole text.
+// The nodes of a whole text.
 fn nodes_under(alloc: Global, frames: Vec<Frame>) -> Vec<Stmt>
     ensures { statements_of result.items ≡ nodes_under (frames_of frames.items) }
 {
@@ -57,7 +58,7 @@ fn nodes_under(alloc: Global, frames: Vec<Frame>) -> Vec<Stmt>
 
 /// The variables and the statements of the program that the tokens read as, or the first fault of
 /// its walk.
-#[tactic(auto, using(crate::proofs::Binds::then_ok, crate::proofs::Binds::then_err, crate::proofs::Named::whole_none, crate::proofs::Named::whole_some))]
+#[tactic(auto, using(crate::proofs::results::Binds::then_ok, crate::proofs::results::Binds::then_err, crate::proofs::walk::Declared::program_of_none, crate::proofs::walk::Declared::program_of_some))]
 pub(crate) fn walked(
     alloc: Global,
     tokens: &[Token],

@@ -1,12 +1,13 @@
 //! Statements, token by token.
-#![tactic(auto, using(crate::proofs::Binds::then_ok, crate::proofs::Binds::then_err))]
+#![tactic(auto, using(crate::proofs::results::Binds::then_ok, crate::proofs::results::Binds::then_err))]
 
 ghost use Rattle.std.specs.Prelude.{◌≡◌, ◌≤◌, length, IfOk};
 ghost use Rattle.tm_gram.specs.View.{symbol_kind, direction_of};
 ghost use Rattle.tm_lex.specs.Lines.{line_at};
 ghost use Rattle.tm_tree.specs.View.{statements_of};
 ghost use Rattle.tm_parse.specs.Walk.{step_node};
-ghost use Rattle.tm_parse.specs.Feed.{at, items_end, begun, behind_name, behind_step, is_else, behind_statement, a_declarator, behind_declarator, in_heading, in_return, in_mode};
+ghost use Rattle.tm_parse.specs.Feed.{at, items_end, begun, behind_name, behind_step, is_else, behind_statement, a_declarator, behind_declarator, in_heading};
+ghost use Rattle.tm_parse.specs.Feed.{in_return, in_mode};
 ghost use Rattle.tm_parse.specs.Gives.{Gives};
 ghost use Rattle.tm_parse.specs.Views.{state_of};
 ghost use Rattle.tm_parse.specs.Frames.{frames_of};
@@ -25,7 +26,7 @@ use tm_gram::{Direction, Symbol};
 use tm_lex::line_of;
 use tm_tree::{Name, Stmt};
 
-/// The node of `++` or `--`.
+// The node of `++` or `--`.
 fn step_node(
     alloc: Global,
     text: &[u8],
@@ -52,9 +53,10 @@ fn step_node(
     )
 }
 
-/// The end of items.
+// The end of items.
 fn items_end(context: &mut Context, frames: &mut Vec<Frame>) -> Result<Mode, AllocError>
-    ensures { IfOk result (λ m. items_end (state_of context.old) (frames_of frames.old.items) ≡ at (state_of context.new) (frames_of frames.new.items) (mode_of m)) }
+    ensures { IfOk result (λ m. items_end (state_of context.old) (frames_of frames.old.items)
+        ≡ at (state_of context.new) (frames_of frames.new.items) (mode_of m)) }
 {
     match frames.pop() {
         Some(Frame::Under(within, nodes)) => match within {
@@ -70,7 +72,7 @@ fn items_end(context: &mut Context, frames: &mut Vec<Frame>) -> Result<Mode, All
     Ok(Mode::Stands)
 }
 
-/// The first token of a statement, or what follows items.
+// The first token of a statement, or what follows items.
 fn begun(
     alloc: Global,
     text: &[u8],
@@ -80,7 +82,8 @@ fn begun(
     lexeme: Lexeme,
     place: u32,
 ) -> Result<Mode, ParseFault>
-    ensures { Gives (λ m. at (state_of context.new) (frames_of frames.new.items) (mode_of m)) result (begun (line_at text.now) width (state_of context.old) (frames_of frames.old.items) (lexeme_kind lexeme) place) }
+    ensures { Gives (λ m. at (state_of context.new) (frames_of frames.new.items) (mode_of m)) result
+        (begun (line_at text.now) width (state_of context.old) (frames_of frames.old.items) (lexeme_kind lexeme) place) }
 {
     match lexeme {
         Lexeme::Name(name) => Ok(Mode::Named(name, place)),
@@ -89,7 +92,7 @@ fn begun(
     }
 }
 
-/// The same for a token that is no name.
+// The same for a token that is no name.
 fn opened(
     alloc: Global,
     text: &[u8],
@@ -99,7 +102,8 @@ fn opened(
     symbol: Symbol,
     place: u32,
 ) -> Result<Mode, ParseFault>
-    ensures { Gives (λ m. at (state_of context.new) (frames_of frames.new.items) (mode_of m)) result (begun (line_at text.now) width (state_of context.old) (frames_of frames.old.items) (unnamed (symbol_kind symbol)) place) }
+    ensures { Gives (λ m. at (state_of context.new) (frames_of frames.new.items) (mode_of m)) result
+        (begun (line_at text.now) width (state_of context.old) (frames_of frames.old.items) (unnamed (symbol_kind symbol)) place) }
 {
     match symbol {
         Symbol::Semicolon => Ok(Mode::After(Vec::new(alloc))),
@@ -125,7 +129,7 @@ fn opened(
     }
 }
 
-/// What follows a name at the beginning of the statement at `from`.
+// What follows a name at the beginning of the statement at `from`.
 fn behind_name(
     alloc: Global,
     text: &[u8],
@@ -138,7 +142,8 @@ fn behind_name(
     place: u32,
 ) -> Result<Mode, ParseFault>
     requires { length text.now ≤ 65536 }
-    ensures { Gives (λ m. at (state_of context.new) (frames_of frames.new.items) (mode_of m)) result (behind_name (line_at text.now) width (state_of context.old) (frames_of frames.old.items) name from (lexeme_kind lexeme) place) }
+    ensures { Gives (λ m. at (state_of context.new) (frames_of frames.new.items) (mode_of m)) result
+        (behind_name (line_at text.now) width (state_of context.old) (frames_of frames.old.items) name from (lexeme_kind lexeme) place) }
 {
     match lexeme {
         Lexeme::Plain(Symbol::Colon) => {
@@ -162,7 +167,7 @@ fn behind_name(
     }
 }
 
-/// The name behind the `++` or `--` at `from`.
+// The name behind the `++` or `--` at `from`.
 fn behind_step(
     alloc: Global,
     text: &[u8],
@@ -175,7 +180,8 @@ fn behind_step(
     place: u32,
 ) -> Result<Mode, ParseFault>
     requires { length text.now ≤ 65536 }
-    ensures { Gives (λ m. at (state_of context.new) (frames_of frames.new.items) (mode_of m)) result (behind_step (line_at text.now) width (state_of context.old) (frames_of frames.old.items) (direction_of direction) from (lexeme_kind lexeme) place) }
+    ensures { Gives (λ m. at (state_of context.new) (frames_of frames.new.items) (mode_of m)) result
+        (behind_step (line_at text.now) width (state_of context.old) (frames_of frames.old.items) (direction_of direction) from (lexeme_kind lexeme) place) }
 {
     match lexeme {
         Lexeme::Name(name) => {
@@ -192,7 +198,7 @@ fn is_else(lexeme: &Lexeme) -> bool
     matches!(lexeme, Lexeme::Plain(Symbol::Else))
 }
 
-/// What follows a statement with these nodes.
+// What follows a statement with these nodes.
 fn behind_statement(
     alloc: Global,
     text: &[u8],
@@ -204,7 +210,8 @@ fn behind_statement(
     place: u32,
 ) -> Result<Mode, ParseFault>
     requires { length text.now ≤ 65536 }
-    ensures { Gives (λ m. at (state_of context.new) (frames_of frames.new.items) (mode_of m)) result (behind_statement (line_at text.now) width (state_of context.old) (frames_of frames.old.items) (statements_of nodes.items) (lexeme_kind lexeme) place) }
+    ensures { Gives (λ m. at (state_of context.new) (frames_of frames.new.items) (mode_of m)) result
+        (behind_statement (line_at text.now) width (state_of context.old) (frames_of frames.old.items) (statements_of nodes.items) (lexeme_kind lexeme) place) }
 {
     if is_else(&lexeme) {
         attach(alloc, text, frames, nodes)?;
@@ -215,7 +222,7 @@ fn behind_statement(
     }
 }
 
-/// What follows the name of a declarator at `from`.
+// What follows the name of a declarator at `from`.
 fn behind_declarator(
     alloc: Global,
     text: &[u8],
@@ -228,7 +235,8 @@ fn behind_declarator(
     place: u32,
 ) -> Result<Mode, ParseFault>
     requires { length text.now ≤ 65536 }
-    ensures { Gives (λ m. at (state_of context.new) (frames_of frames.new.items) (mode_of m)) result (behind_declarator (line_at text.now) width (state_of context.old) (frames_of frames.old.items) name from (lexeme_kind lexeme) place) }
+    ensures { Gives (λ m. at (state_of context.new) (frames_of frames.new.items) (mode_of m)) result
+        (behind_declarator (line_at text.now) width (state_of context.old) (frames_of frames.old.items) name from (lexeme_kind lexeme) place) }
 {
     match lexeme {
         Lexeme::Plain(Symbol::Change(_)) => {
@@ -249,7 +257,7 @@ fn behind_declarator(
     }
 }
 
-/// The head of `main`, up to its `{`.
+// The head of `main`, up to its `{`.
 fn in_heading(alloc: Global, frames: &mut Vec<Frame>, lexeme: Lexeme) -> Result<Mode, AllocError>
     ensures { IfOk result (λ m. in_heading (frames_of frames.old.items) (lexeme_kind lexeme) ≡ (frames_of frames.new.items, mode_of m)) }
 {
@@ -262,13 +270,14 @@ fn in_heading(alloc: Global, frames: &mut Vec<Frame>, lexeme: Lexeme) -> Result<
     }
 }
 
-/// The rest of `return`, up to the `}` of `main`.
+// The rest of `return`, up to the `}` of `main`.
 fn in_return(
     context: &mut Context,
     frames: &mut Vec<Frame>,
     lexeme: Lexeme,
 ) -> Result<Mode, AllocError>
-    ensures { IfOk result (λ m. in_return (state_of context.old) (frames_of frames.old.items) (lexeme_kind lexeme) ≡ at (state_of context.new) (frames_of frames.new.items) (mode_of m)) }
+    ensures { IfOk result (λ m. in_return (state_of context.old) (frames_of frames.old.items) (lexeme_kind lexeme)
+        ≡ at (state_of context.new) (frames_of frames.new.items) (mode_of m)) }
 {
     match lexeme {
         Lexeme::Plain(Symbol::RightBrace) => items_end(context, frames),
@@ -276,7 +285,7 @@ fn in_return(
     }
 }
 
-/// The name that a declarator begins with.
+// The name that a declarator begins with.
 fn a_declarator(lexeme: Lexeme, place: u32) -> Mode
     ensures { mode_of result ≡ a_declarator (lexeme_kind lexeme) place }
 {
@@ -298,7 +307,8 @@ pub(crate) fn in_mode(
     place: u32,
 ) -> Result<Mode, ParseFault>
     requires { length text.now ≤ 65536 }
-    ensures { Gives (λ m. at (state_of context.new) (frames_of frames.new.items) (mode_of m)) result (in_mode (line_at text.now) width (mode_of mode) (state_of context.old) (frames_of frames.old.items) (lexeme_kind lexeme) place) }
+    ensures { Gives (λ m. at (state_of context.new) (frames_of frames.new.items) (mode_of m)) result
+        (in_mode (line_at text.now) width (mode_of mode) (state_of context.old) (frames_of frames.old.items) (lexeme_kind lexeme) place) }
 {
     match mode {
         Mode::Heading => Ok(in_heading(alloc, frames, lexeme)?),

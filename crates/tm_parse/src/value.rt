@@ -1,5 +1,5 @@
 //! What expressions are: numbers, truth values or `nondet()`.
-#![tactic(auto, using(crate::proofs::Binds::then_ok, crate::proofs::Binds::then_err))]
+#![tactic(auto, using(crate::proofs::results::Binds::then_ok, crate::proofs::results::Binds::then_err))]
 
 ghost use Rattle.std.specs.Prelude.{◌≡◌, ◌≤◌, ◌+◌, min};
 ghost use Rattle.tm_tree.specs.Tree.{leaf_count};
@@ -110,7 +110,7 @@ fn rel_of(relation: Relation) -> Rel
     }
 }
 
-/// The relation between the difference of two numbers and 0.
+// The relation between the difference of two numbers and 0.
 fn compared(
     alloc: Global,
     relation: Relation,
@@ -128,7 +128,7 @@ fn compared(
     }
 }
 
-/// The product of two numbers of which one is constant.
+// The product of two numbers of which one is constant.
 fn product(alloc: Global, at: u32, left: &Form, right: &Form) -> Result<Form, ParseFault>
     ensures { Gives (λ form. form) result (product at left.now right.now) }
 {
@@ -141,8 +141,8 @@ fn product(alloc: Global, at: u32, left: &Form, right: &Form) -> Result<Form, Pa
     }
 }
 
-/// What `||` makes of its sides. Past the limit of leaves, where the statement will be refused, the
-/// left one stays as it is, so that no condition gets deeper than constructs nest and leaves allow.
+// What `||` makes of its sides. Past the limit of leaves, where the statement will be refused, the
+// left one stays as it is, so that no condition gets deeper than constructs nest and leaves allow.
 fn either(alloc: Global, left: Value, right: Value) -> Result<Value, ParseFault>
     ensures { Gives value_of result (combined_small or_op 0 (value_of left) (value_of right)) }
 {
@@ -154,7 +154,7 @@ fn either(alloc: Global, left: Value, right: Value) -> Result<Value, ParseFault>
     Ok(Value::Truth(Cond::Either(Box::new(alloc, first)?, Box::new(alloc, second)?)))
 }
 
-/// What `&&` makes of its sides; past the limit of leaves likewise.
+// What `&&` makes of its sides; past the limit of leaves likewise.
 fn both(alloc: Global, left: Value, right: Value) -> Result<Value, ParseFault>
     ensures { Gives value_of result (combined_small and_op 0 (value_of left) (value_of right)) }
 {

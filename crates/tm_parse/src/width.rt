@@ -9,7 +9,7 @@ use tm_lex::{Kind, Sign, Token, Word};
 /// The most variables.
 const VARIABLES: usize = 8;
 
-/// Whether a token stands before a declarator, or is the `int` of `main`.
+// Whether a token stands before a declarator, or is the `int` of `main`.
 fn mark(kind: Kind) -> usize
     ensures value { result ≡ mark (plain_kind kind) }
     ensures small { result ≤ 1 }

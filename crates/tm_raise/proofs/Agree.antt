@@ -8,13 +8,13 @@ use Rattle.tm_num.specs.Vector.{add_vec, scale_vec}
 use Rattle.tm_flow.specs.declared.edge.Edge.{Edge}
 use Rattle.tm_eqsys.specs.Equations.{Equations, Vector}
 use Rattle.tm_eqsys.specs.declared.trace.Trace.{Trace}
-use Rattle.tm_steps.specs.Words.{lin, end_form, moved}
-use Rattle.tm_steps.specs.Steps.{Pieces, Item, Step, Plain, Ray, end_value, edge_of, row_of}
-use Rattle.tm_steps.specs.Transformers.{Unlimited}
+use Rattle.tm_validity.specs.Words.{lin, end_form, moved}
+use Rattle.tm_validity.specs.Steps.{Pieces, Item, Step, Plain, Ray, end_value, edge_of, row_of}
+use Rattle.tm_validity.specs.Transformers.{Unlimited}
 use Rattle.tm_cert.specs.Certificates.{pieces_of, no_pieces}
-use Rattle.tm_round.specs.Growth.{split, with_words, raise, raised_to, ray_low}
-use Rattle.tm_oper.specs.declared.value.Value.TheVariants.{Unreached, Empty, Best, Unbounded}
-use Rattle.tm_oper.specs.Meanings.{word_of}
+use Rattle.tm_strategy.specs.Growth.{split, with_words, raise, raised_to, ray_low}
+use Rattle.tm_compose.specs.declared.value.Value.TheVariants.{Unreached, Empty, Best, Unbounded}
+use Rattle.tm_compose.specs.Value.{word_of}
 use Rattle.tm_raise.specs.Numbers.{fitting, multiple, moved_pieces}
 use Rattle.tm_raise.specs.Lows.{low_of}
 use Rattle.tm_raise.specs.Raises.{raised}

@@ -17,8 +17,9 @@ use Rattle.tm_eqsys.specs.Equations.{Equations}
 use Rattle.tm_eqsys.specs.declared.trace.Trace.{Trace}
 use Rattle.tm_eqsys.specs.TraceTests.{LeadsOn}
 use Rattle.tm_eqsys.proofs.Traced.{assigned, assign_refused, leads_none}
-use Rattle.tm_raise.specs.declared.carry.Constants.{Constants}
-use Rattle.tm_raise.specs.Moves.{form_with, moves, carried, carried_operations}
+use Rattle.tm_eqsys.specs.declared.sums.Constants.{Constants}
+use Rattle.tm_raise.specs.Moves.{moves, carried, carried_operations}
+use Rattle.tm_eqsys.specs.Constants.{form_with}
 use Rattle.tm_raise.specs.Carries.{StepIs, IsFirst}
 use Rattle.tm_raise.proofs.Moving.{carried_is}
 

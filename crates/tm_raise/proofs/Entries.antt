@@ -10,7 +10,7 @@ use Rattle.tm_frac.specs.declared.wide.Wide.{Wide}
 use Rattle.tm_frac.specs.Operation.{Operation, first_wide, operation_of}
 use Rattle.tm_eqsys.specs.Sums.{SumAnswers}
 use Rattle.tm_eqsys.proofs.Widths.{first_wide_later, first_wide_sooner, one_answer}
-use Rattle.tm_steps.specs.Words.{moved}
+use Rattle.tm_validity.specs.Words.{moved}
 use Rattle.tm_raise.specs.Numbers.{entry_operations, entries_operations}
 use Rattle.tm_raise.proofs.Widths.{then, stops}
 

@@ -1,5 +1,4 @@
 pub mod Agree
-pub mod Forms
 pub mod Moving
 pub mod Carrying
 pub mod Widths

@@ -1,30 +1,21 @@
 -- The values that the moves of an edge carry are those of its composed forms.
 use Rattle.std.proofs.Common.{◌≡◌, ◌∙◌, ℕ, suc, List, [], ◌∷◌, ◌++◌, map, length, refl, sym, ap}
 use Rattle.std.specs.Prelude.{ℤ, slice_set}
-use Rattle.tm_num.specs.Rational.{ℚ}
 use Rattle.tm_flow.specs.declared.edge.Action.{Action}
 use Rattle.tm_flow.specs.declared.edge.Action.TheVariants.{Guard, Assign, Havoc}
 use Rattle.tm_flow.specs.declared.edge.Edge.{Edge}
-use Rattle.tm_eqsys.specs.States.{RationalState, dotℚ, valueℚ}
+use Rattle.tm_eqsys.specs.States.{RationalState, dotℚ}
 use Rattle.tm_eqsys.specs.FreeValues.{Follows}
 use Rattle.tm_eqsys.specs.Equations.{Equations}
 use Rattle.tm_eqsys.specs.declared.trace.Trace.{Trace}
-use Rattle.tm_steps.specs.Follow.{Follows as Goes, linear_form, linear_action}
-use Rattle.tm_steps.specs.Words.{Affine, Word, column, columns, composed, ends_from, end_of, values}
-use Rattle.tm_steps.specs.Steps.{end_value}
-use Rattle.tm_steps.proofs.Following.{follows_iff}
-use Rattle.tm_steps.proofs.Linearized.{end-slope}
-use Rattle.tm_raise.specs.declared.carry.Constants.{Constants}
-use Rattle.tm_raise.specs.declared.carry.Constants.TheVariants.{Kept, Zero}
+use Rattle.tm_eqsys.specs.Constants.{linear_form, linear_action}
+use Rattle.tm_validity.specs.Words.{Affine, Word, column, columns, composed, ends_from, end_of, values}
+use Rattle.tm_validity.specs.Steps.{end_value}
+use Rattle.tm_validity.proofs.Following.{follows_iff}
+use Rattle.tm_validity.proofs.Linearized.{end-slope}
+use Rattle.tm_eqsys.specs.declared.sums.Constants.{Constants}
+use Rattle.tm_eqsys.specs.declared.sums.Constants.TheVariants.{Kept, Zero}
 use Rattle.tm_raise.specs.Moves.{moves, carried}
-
-goes_to : (actions : List Action) (x : RationalState) (free : List ℚ) (y : RationalState) → Follows actions x free y → Goes actions x free y
-goes_to [] x [] y h = h
-goes_to [] x (q ∷ free) y h = h
-goes_to (Guard form ∷ actions) x free y h = (h.0, goes_to actions x free y h.1)
-goes_to (Assign var form ∷ actions) x free y h = goes_to actions (slice_set x var (valueℚ form x)) free y h
-goes_to (Havoc var ∷ actions) x [] y h = h
-goes_to (Havoc var ∷ actions) x (q ∷ free) y h = goes_to actions (slice_set x var q) free y h
 
 ends-kept : (k : ℕ) (fs : List Affine) (actions : List Action) → ends_from k fs (moves Kept actions) ≡ ends_from k fs actions
 unfolding ends_from
@@ -43,7 +34,7 @@ ends-zero k fs (Havoc var ∷ actions) = ends-zero (suc k) (slice_set fs var (co
 -- where the moves end
 module _ (n : ℕ) (start free : Word) (y : RationalState) (l : length start ≡ n) where
   end_of_moves : (moved : List Action) → Follows moved start free y → y ≡ end_of n moved (start ++ free)
-  end_of_moves moved h = ((follows_iff n moved start free y l).0 (goes_to moved start free y h)).2
+  end_of_moves moved h = ((follows_iff n moved start free y l).0 h).2
 
   kept_end : (actions : List Action) → Follows (moves Kept actions) start free y → end_of n actions (start ++ free) ≡ y
   unfolding end_of

@@ -14,15 +14,15 @@ use Rattle.tm_eqsys.specs.Equations.{Equations}
 use Rattle.tm_eqsys.specs.FreeValues.{free_count}
 use Rattle.tm_eqsys.specs.declared.trace.Trace.{Trace}
 use Rattle.tm_eqsys.proofs.Widths.{first_wide_later}
-use Rattle.tm_steps.specs.Words.{free_count as word_count}
-use Rattle.tm_steps.specs.Steps.{Pieces, Step as TheoryStep, Plain as PlainKind, Ray as RayKind, Sized, edge_of, row_of}
+use Rattle.tm_validity.specs.Words.{free_count as word_count}
+use Rattle.tm_validity.specs.Steps.{Pieces, Step as TheoryStep, Plain as PlainKind, Ray as RayKind, Sized, edge_of, row_of}
 use Rattle.tm_cert.specs.declared.step.Step.{Step}
 use Rattle.tm_cert.specs.declared.step.Step.TheVariants.{Plain, Ray}
 use Rattle.tm_cert.specs.Certificates.{step_of, pieces_of, no_pieces}
-use Rattle.tm_round.specs.Picks.{choice}
-use Rattle.tm_round.specs.Growth.{with_words, raised_to}
-use Rattle.tm_oper.specs.declared.value.Value.TheVariants.{Best, Unbounded}
-use Rattle.tm_raise.specs.declared.carry.Constants.TheVariants.{Zero}
+use Rattle.tm_strategy.specs.Picks.{choice}
+use Rattle.tm_strategy.specs.Growth.{with_words, raised_to}
+use Rattle.tm_compose.specs.declared.value.Value.TheVariants.{Best, Unbounded}
+use Rattle.tm_eqsys.specs.declared.sums.Constants.TheVariants.{Zero}
 use Rattle.tm_raise.specs.declared.fault.RaiseFault.{RaiseFault}
 use Rattle.tm_raise.specs.declared.fault.RaiseFault.TheVariants.{Wide, NoMemory}
 use Rattle.tm_raise.specs.Moves.{carried, carried_operations}

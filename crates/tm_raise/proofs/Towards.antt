@@ -9,7 +9,7 @@ use Rattle.tm_frac.specs.declared.wide.Wide.{Wide}
 use Rattle.tm_frac.specs.Operation.{Operation, first_wide}
 use Rattle.tm_eqsys.specs.Sums.{SumAnswers}
 use Rattle.tm_eqsys.proofs.Widths.{one_answer}
-use Rattle.tm_round.specs.Growth.{between}
+use Rattle.tm_strategy.specs.Growth.{between}
 use Rattle.tm_raise.specs.Numbers.{fitting, next_whole, middle_operations, number_operations}
 use Rattle.tm_raise.proofs.Widths.{alone_fits, alone_wide}
 use Rattle.tm_raise.proofs.Wholes.{one_more}

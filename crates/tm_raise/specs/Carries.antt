@@ -8,7 +8,7 @@ use Rattle.tm_frac.specs.Operation.{first_wide, operation_of}
 use Rattle.tm_eqsys.specs.States.{RationalState}
 use Rattle.tm_eqsys.specs.FreeValues.{free_count}
 use Rattle.tm_eqsys.specs.TraceTests.{trace_operations, LeadsOn}
-use Rattle.tm_raise.specs.declared.carry.Constants.{Constants}
+use Rattle.tm_eqsys.specs.declared.sums.Constants.{Constants}
 use Rattle.tm_raise.specs.Moves.{moves}
 
 -- an operation of the moves is wide, and this is the first

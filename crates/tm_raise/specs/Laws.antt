@@ -2,12 +2,12 @@
 use Rattle.std.specs.Prelude.{◌≡◌, length}
 use Rattle.tm_num.specs.Extended.{Ext, neg_inf, fin, pos_inf}
 use Rattle.tm_eqsys.specs.Equations.{Equations, Vector}
-use Rattle.tm_steps.specs.Steps.{Item, edge_of, row_of}
-use Rattle.tm_steps.specs.Transformers.{Reaches}
-use Rattle.tm_round.specs.Growth.{raise}
-use Rattle.tm_oper.specs.declared.value.Value.{Value}
-use Rattle.tm_oper.specs.declared.value.Value.TheVariants.{Unreached, Empty, Best, Unbounded}
-use Rattle.tm_oper.specs.Meanings.{word_of}
+use Rattle.tm_validity.specs.Steps.{Item, edge_of, row_of}
+use Rattle.tm_validity.specs.Transformers.{Reaches}
+use Rattle.tm_strategy.specs.Growth.{raise}
+use Rattle.tm_compose.specs.declared.value.Value.{Value}
+use Rattle.tm_compose.specs.declared.value.Value.TheVariants.{Unreached, Empty, Best, Unbounded}
+use Rattle.tm_compose.specs.Value.{word_of}
 use Rattle.tm_raise.specs.Numbers.{fitting}
 use Rattle.tm_raise.specs.Raises.{raised}
 

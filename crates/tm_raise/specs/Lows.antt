@@ -7,9 +7,9 @@ use Rattle.tm_frac.specs.Fits.{long_limit}
 use Rattle.tm_frac.specs.Operation.{Operation, first_wide, operation_of}
 use Rattle.tm_eqsys.specs.Equations.{Equations}
 use Rattle.tm_eqsys.specs.declared.trace.Trace.{Trace}
-use Rattle.tm_steps.specs.Steps.{Pieces}
+use Rattle.tm_validity.specs.Steps.{Pieces}
 use Rattle.tm_cert.specs.Certificates.{pieces_of}
-use Rattle.tm_raise.specs.declared.carry.Constants.TheVariants.{Kept, Zero}
+use Rattle.tm_eqsys.specs.declared.sums.Constants.TheVariants.{Kept, Zero}
 use Rattle.tm_raise.specs.declared.fault.RaiseFault.{RaiseFault}
 use Rattle.tm_raise.specs.declared.fault.RaiseFault.TheVariants.{Wide, NoMemory}
 use Rattle.tm_raise.specs.Moves.{carried, carried_operations}

@@ -1,7 +1,6 @@
 -- Values that are carried along an edge: the assignments alone, each with its constant or with 0 in its place.
 use Rattle.std.specs.Prelude.{ℤ, List, [], ◌∷◌}
 use Rattle.tm_num.specs.Rational.{ℚ}
-use Rattle.tm_tree.specs.declared.form.Form.{Form}
 use Rattle.tm_flow.specs.declared.edge.Action.{Action}
 use Rattle.tm_flow.specs.declared.edge.Action.TheVariants.{Guard, Assign, Havoc}
 use Rattle.tm_flow.specs.declared.edge.Edge.{Edge}
@@ -9,17 +8,12 @@ use Rattle.tm_frac.specs.Operation.{Operation}
 use Rattle.tm_eqsys.specs.Equations.{Equations}
 use Rattle.tm_eqsys.specs.declared.trace.Trace.{Trace}
 use Rattle.tm_eqsys.specs.TraceTests.{trace_operations}
-use Rattle.tm_steps.specs.Words.{lin, end_form}
-use Rattle.tm_steps.specs.Steps.{end_value}
-use Rattle.tm_steps.specs.Follow.{linear_form}
-use Rattle.tm_oper.specs.Meanings.{word_of}
-use Rattle.tm_raise.specs.declared.carry.Constants.{Constants}
-use Rattle.tm_raise.specs.declared.carry.Constants.TheVariants.{Kept, Zero}
-
--- a form with its constant, or with 0 in its place
-abbrev pub form_with : Constants → Form → Form
-form_with Kept form = form
-form_with Zero form = linear_form form
+use Rattle.tm_validity.specs.Words.{lin, end_form}
+use Rattle.tm_validity.specs.Steps.{end_value}
+use Rattle.tm_eqsys.specs.Constants.{form_with}
+use Rattle.tm_compose.specs.Value.{word_of}
+use Rattle.tm_eqsys.specs.declared.sums.Constants.{Constants}
+use Rattle.tm_eqsys.specs.declared.sums.Constants.TheVariants.{Kept, Zero}
 
 -- the actions that give a variable a value, without the guards
 abbrev pub moves : Constants → List Action → List Action

@@ -6,8 +6,8 @@ use Rattle.tm_frac.specs.Fits.{long_limit}
 use Rattle.tm_frac.specs.declared.wide.Op.TheVariants.{Add, Sub, Mul, Div}
 use Rattle.tm_frac.specs.Operation.{Operation, fits}
 use Rattle.tm_eqsys.specs.declared.trace.Trace.{Trace}
-use Rattle.tm_steps.specs.Words.{moved}
-use Rattle.tm_steps.specs.Steps.{Pieces}
+use Rattle.tm_validity.specs.Words.{moved}
+use Rattle.tm_validity.specs.Steps.{Pieces}
 
 -- a fraction of the code holds the number
 abbrev pub fitting : ℚ → Bool

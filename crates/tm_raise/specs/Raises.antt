@@ -4,13 +4,13 @@ use Rattle.tm_num.specs.Rational.{zero_ℚ, ◌<ℚ◌}
 use Rattle.tm_num.specs.Extended.{Ext}
 use Rattle.tm_frac.specs.Operation.{Operation}
 use Rattle.tm_eqsys.specs.Equations.{Equations}
-use Rattle.tm_steps.specs.Steps.{Item, Step, Plain, Ray, Sized, edge_of, row_of}
+use Rattle.tm_validity.specs.Steps.{Item, Step, Plain, Ray, Sized, edge_of, row_of}
 use Rattle.tm_cert.specs.Certificates.{pieces_of, no_pieces}
-use Rattle.tm_round.specs.Picks.{choice}
-use Rattle.tm_round.specs.Growth.{with_words, raised_to}
-use Rattle.tm_oper.specs.declared.value.Value.{Value}
-use Rattle.tm_oper.specs.declared.value.Value.TheVariants.{Unreached, Empty, Best, Unbounded}
-use Rattle.tm_raise.specs.declared.carry.Constants.TheVariants.{Zero}
+use Rattle.tm_strategy.specs.Picks.{choice}
+use Rattle.tm_strategy.specs.Growth.{with_words, raised_to}
+use Rattle.tm_compose.specs.declared.value.Value.{Value}
+use Rattle.tm_compose.specs.declared.value.Value.TheVariants.{Unreached, Empty, Best, Unbounded}
+use Rattle.tm_eqsys.specs.declared.sums.Constants.TheVariants.{Zero}
 use Rattle.tm_raise.specs.Moves.{carried, carried_operations}
 use Rattle.tm_raise.specs.Numbers.{fitting, number_operations}
 use Rattle.tm_raise.specs.Lows.{low_of, low_operations}

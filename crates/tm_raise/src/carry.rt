@@ -10,19 +10,9 @@ ghost use Rattle.tm_eqsys.specs.View.{equations_of};
 ghost use Rattle.tm_raise.specs.Moves.{carried as value_of, carried_operations, trace_of};
 ghost use Rattle.tm_raise.specs.Carries.{StepAnswers, FollowAnswers};
 
-use crate::sums::{form_value, row_value};
-use tm_eqsys::{System, Trace};
+use tm_eqsys::{Constants, System, Trace, form_value, row_value};
 use tm_flow::Action;
 use tm_frac::{Frac, OrderedField, Wide};
-
-/// Which constants the forms of an edge have while values are carried along it.
-#[derive(Clone, Copy, Debug, PartialEq, Eq, Drop)]
-pub enum Constants {
-    /// Their own, as a trace goes.
-    Kept,
-    /// 0, as a direction goes.
-    Zero,
-}
 
 // Takes one action: how many of the free values to come it took.
 fn step(

@@ -9,10 +9,8 @@ mod law;
 mod low;
 mod number;
 mod raising;
-mod sums;
-#[cfg(test)]
-mod tests;
 
+pub use carry::carried;
 pub use fault::RaiseFault;
 pub use law::raises_agree;
 pub use raising::raise;

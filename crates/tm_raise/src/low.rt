@@ -8,18 +8,18 @@ ghost use Rattle.tm_flow.specs.declared.edge.Edge.{Edge};
 ghost use Rattle.tm_eqsys.specs.FreeValues.{free_count};
 ghost use Rattle.tm_eqsys.specs.Sums.{SumAnswers};
 ghost use Rattle.tm_eqsys.specs.View.{equations_of};
-ghost use Rattle.tm_steps.specs.Words.{moved as moved_by};
+ghost use Rattle.tm_validity.specs.Words.{moved as moved_by};
 ghost use Rattle.tm_cert.specs.Certificates.{pieces_of};
-ghost use Rattle.tm_raise.specs.declared.carry.Constants.TheVariants.{Zero};
+ghost use Rattle.tm_eqsys.specs.declared.sums.Constants.TheVariants.{Zero};
 ghost use Rattle.tm_raise.specs.Moves.{carried as value_of};
 ghost use Rattle.tm_raise.specs.Numbers.{multiple as multiple_of, multiple_operations, moved_pieces, moved_operations, entry_operations, entries_operations};
 ghost use Rattle.tm_raise.specs.Lows.{RaiseAnswers, low_of, low_operations};
 
-use crate::carry::{Constants, carried};
+use crate::carry::carried;
 use crate::fault::RaiseFault;
 use crate::number::next_whole;
 use std::alloc::Global;
-use tm_eqsys::{Fracs, System, Trace};
+use tm_eqsys::{Constants, Fracs, System, Trace};
 use tm_frac::{Ext, Frac, Wide};
 
 // How often a row has to rise by the rate, so that from the value it comes above the bound.

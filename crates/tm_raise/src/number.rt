@@ -6,7 +6,7 @@ ghost use Rattle.tm_num.specs.Extended.{fin};
 ghost use Rattle.tm_frac.specs.declared.wide.Op.TheVariants.{Add};
 ghost use Rattle.tm_frac.specs.Extended.{extended};
 ghost use Rattle.tm_eqsys.specs.Sums.{SumAnswers};
-ghost use Rattle.tm_round.specs.Growth.{between as between_of, raised_to};
+ghost use Rattle.tm_strategy.specs.Growth.{between as between_of, raised_to};
 ghost use Rattle.tm_raise.specs.Numbers.{fitting, next_whole as next_whole_of, middle_operations, number_operations};
 
 use tm_frac::{Ext, Frac, OrderedField, Wide};

@@ -10,20 +10,20 @@ ghost use Rattle.tm_eqsys.specs.Equations.{Equations};
 ghost use Rattle.tm_eqsys.specs.View.{equations_of};
 ghost use Rattle.tm_cert.specs.declared.step.Step.TheVariants.{Plain as PlainStep, Ray as RayStep};
 ghost use Rattle.tm_cert.specs.Certificates.{step_of};
-ghost use Rattle.tm_oper.specs.declared.value.Value.TheVariants.{Best, Unbounded};
-ghost use Rattle.tm_oper.specs.Meanings.{number_of};
+ghost use Rattle.tm_compose.specs.declared.value.Value.TheVariants.{Best, Unbounded};
+ghost use Rattle.tm_compose.specs.Value.{number_of};
 ghost use Rattle.tm_raise.specs.Lows.{IsRaiseFault, RaiseAnswers};
 ghost use Rattle.tm_raise.specs.Raises.{HasSizes, Rises, choice_of, raised, raise_operations};
 
-use crate::carry::{Constants, carried};
+use crate::carry::carried;
 use crate::fault::RaiseFault;
 use crate::low::low;
 use crate::number::raised_number;
 use std::alloc::Global;
 use tm_cert::{Item, Items, RayItem, RayItems, Step};
-use tm_eqsys::{System, Trace};
+use tm_compose::Value;
+use tm_eqsys::{Constants, System, Trace};
 use tm_frac::{Ext, Frac};
-use tm_oper::Value;
 
 // The step of one item that gives the unknown this bound.
 fn plain(alloc: Global, unknown: u32, edge: u32, low: Trace, to: Frac) -> Result<Step, RaiseFault>

@@ -5,8 +5,6 @@ mod columns;
 mod layout;
 mod rate;
 mod read;
-#[cfg(test)]
-mod tests;
 
 pub use columns::Columns;
 pub use layout::{Layout, Rise, Rises};

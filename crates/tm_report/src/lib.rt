@@ -7,5 +7,3 @@ mod whole;
 
 pub use whole::{point_text, report};
 
-#[cfg(test)]
-mod tests;

@@ -5,13 +5,13 @@ use Rattle.tm_eqsys.specs.Equations.{Equations, Vector}
 use Rattle.tm_eqsys.specs.View.{equations_of}
 use Rattle.tm_eqsys.specs.declared.system.System.{System}
 use Rattle.tm_eqsys.specs.declared.spot.Spot.{Spot}
-use Rattle.tm_round.specs.Picks.{Transformer}
-use Rattle.tm_exact.specs.Rounds.{Choice}
-use Rattle.tm_rounds.specs.declared.offer.Offer.{Offer}
+use Rattle.tm_strategy.specs.Picks.{Transformer}
+use Rattle.tm_strategy_lp.specs.Rounds.{Choice}
+use Rattle.tm_offers.specs.declared.offer.Offer.{Offer}
 use Rattle.tm_rounds.specs.declared.halt.Halt.{Halt}
 use Rattle.tm_rounds.specs.declared.halt.Halt.TheVariants.{Wide, Spent, NoMemory}
 use Rattle.tm_rounds.specs.declared.solution.Solved.{Solved}
-use Rattle.tm_rounds.specs.Improvement.{IsChoice}
+use Rattle.tm_offers.specs.Improvement.{IsChoice}
 use Rattle.tm_rounds.specs.Chains.{IsChain}
 use Rattle.tm_rounds.specs.Halts.{IsHalt, IsOfferHalt, IsRoundHalt}
 use Rattle.tm_rounds.specs.Solutions.{IsSolved}

@@ -7,28 +7,28 @@ use Rattle.tm_eqsys.specs.Equations.{Equations, Vector, PostSolution}
 use Rattle.tm_eqsys.specs.View.{equations_of, bounds_of}
 use Rattle.tm_eqsys.specs.declared.system.System.{System}
 use Rattle.tm_eqsys.proofs.Listed.{listed_law}
-use Rattle.tm_steps.specs.Certificates.{bounds_vector}
-use Rattle.tm_steps.proofs.CertificateLaw.{upper_of_post}
-use Rattle.tm_steps.proofs.TransformerLaw.{reach_least}
-use Rattle.tm_point.specs.EdgeProblems.{transformer}
-use Rattle.tm_point.proofs.TransformerOf.{transformer_reaches}
-use Rattle.tm_round.specs.Picks.{Pick, IsPick, Tight}
-use Rattle.tm_round.specs.PickCount.{pick_count}
-use Rattle.tm_round.specs.Solve.{State, next, state}
-use Rattle.tm_exact.specs.Agreement.{Agree}
-use Rattle.tm_exact.specs.Rounds.{Choice, Goes, exact_next, exact_round, exact_round_steps, exact_steps, first_choice, with_choice}
-use Rattle.tm_exact.proofs.ExactChain.{state_tight, state_few, state_least, round_made}
-use Rattle.tm_exact.proofs.ExactEnd.{state_same, steps_same, state_after, with_choice-at, with_choice-before, with_choice_takes}
-use Rattle.tm_exact.proofs.MadeCertificate.{last_listed, none_agrees}
-use Rattle.tm_exact.proofs.NextAgrees.{exact_next_agrees}
-use Rattle.tm_exact.proofs.RoundAgrees.{round_agrees, round_steps_agree}
+use Rattle.tm_validity.specs.Certificates.{bounds_vector}
+use Rattle.tm_validity.proofs.CertificateLaw.{upper_of_post}
+use Rattle.tm_validity.proofs.TransformerLaw.{reach_least}
+use Rattle.tm_transformers.specs.EdgeProblems.{transformer}
+use Rattle.tm_transformers.proofs.TransformerOf.{transformer_reaches}
+use Rattle.tm_strategy.specs.Picks.{Pick, IsPick, Tight}
+use Rattle.tm_strategy.specs.PickCount.{pick_count}
+use Rattle.tm_strategy.specs.Solve.{State, next, state}
+use Rattle.tm_strategy_lp.specs.Agreement.{Agree}
+use Rattle.tm_strategy_lp.specs.Rounds.{Choice, Goes, exact_next, exact_round, exact_round_steps, exact_steps, first_choice, with_choice}
+use Rattle.tm_strategy_lp.proofs.ExactChain.{state_tight, state_few, state_least, round_made}
+use Rattle.tm_strategy_lp.proofs.ExactEnd.{state_same, steps_same, state_after, with_choice-at, with_choice-before, with_choice_takes}
+use Rattle.tm_strategy_lp.proofs.MadeCertificate.{last_listed, none_agrees}
+use Rattle.tm_strategy_lp.proofs.NextAgrees.{exact_next_agrees}
+use Rattle.tm_strategy_lp.proofs.RoundAgrees.{round_agrees, round_steps_agree}
 use Rattle.tm_raise.specs.Numbers.{fitting}
-use Rattle.tm_rounds.specs.declared.offer.Offer.{Offer}
-use Rattle.tm_rounds.specs.AtBounds.{transformers, vector_at, NothingExceeds}
-use Rattle.tm_rounds.specs.Improvement.{IsChoice, IsNext, NoneExceeds}
+use Rattle.tm_offers.specs.declared.offer.Offer.{Offer}
+use Rattle.tm_offers.specs.AtBounds.{transformers, vector_at, NothingExceeds}
+use Rattle.tm_offers.specs.Improvement.{IsChoice, IsNext, NoneExceeds}
 use Rattle.tm_rounds.specs.Round.{AreBoundsOf}
 use Rattle.tm_rounds.specs.Chains.{state_at, bounds_after, steps_after, IsChain, IsEnded}
-use Rattle.tm_rounds.proofs.Ranges.{points_in_range}
+use Rattle.tm_offers.proofs.Ranges.{points_in_range}
 use Rattle.tm_rounds.proofs.Listing.{bounds_same, start_listed}
 use Rattle.tm_rounds.proofs.ChoicesAgree.{choice_agrees, tight_agrees}
 

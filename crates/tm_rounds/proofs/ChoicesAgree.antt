@@ -4,17 +4,17 @@ use Rattle.std.proofs.Math.Path.{fun_ext}
 use Rattle.std.proofs.lemmas.Bool.{ltb-true}
 use Rattle.tm_num.specs.Extended.{neg_inf, ◌≤ᴱ◌, ◌<ᴱ◌}
 use Rattle.tm_eqsys.specs.Equations.{Equations, Vector}
-use Rattle.tm_steps.specs.Steps.{Item, edge_of, row_of}
-use Rattle.tm_steps.specs.Certificates.{edges_into}
-use Rattle.tm_point.specs.EdgeProblems.{transformer}
-use Rattle.tm_round.specs.Picks.{Pick, Tight, value_at}
-use Rattle.tm_round.specs.Policy.{exceeding, offers}
-use Rattle.tm_exact.specs.Agreement.{Agree}
-use Rattle.tm_exact.specs.Rounds.{Choice}
-use Rattle.tm_exact.proofs.ProblemsAgree.{transformer_agrees}
-use Rattle.tm_exact.proofs.NextAgrees.{offers_agree}
-use Rattle.tm_rounds.specs.declared.offer.Offer.{Offer}
-use Rattle.tm_rounds.specs.Improvement.{IsOffer, IsChoice}
+use Rattle.tm_validity.specs.Steps.{Item, edge_of, row_of}
+use Rattle.tm_validity.specs.Certificates.{edges_into}
+use Rattle.tm_transformers.specs.EdgeProblems.{transformer}
+use Rattle.tm_strategy.specs.Picks.{Pick, Tight, value_at}
+use Rattle.tm_strategy.specs.Policy.{exceeding, offers}
+use Rattle.tm_strategy_lp.specs.Agreement.{Agree}
+use Rattle.tm_strategy_lp.specs.Rounds.{Choice}
+use Rattle.tm_strategy_lp.proofs.ProblemsAgree.{transformer_agrees}
+use Rattle.tm_strategy_lp.proofs.NextAgrees.{offers_agree}
+use Rattle.tm_offers.specs.declared.offer.Offer.{Offer}
+use Rattle.tm_offers.specs.Improvement.{IsOffer, IsChoice}
 
 -- an unknown that is offered an edge stands at a row of the template
 pub offered_row : (system : Equations) (z : Vector) (p r k : ℕ) (ks : List ℕ) → offers system (transformer system) z p r ≡ k ∷ ks → r < length system.template

@@ -3,13 +3,14 @@ use Rattle.std.proofs.Common.{◌≡◌, inl, inr, ℕ, zero, suc, ◌+◌, ◌*
 use Rattle.std.specs.Prelude.{flat_map, Option, Some, None}
 use Rattle.std.specs.List.{range_with_len}
 use Rattle.std.proofs.lemmas.List.FromFn.{length-range_with_len, length-map-range_with_len}
+use Rattle.tm_base.proofs.elements.Pigeonhole.{pigeonhole}
+use Rattle.tm_base.specs.Elements.{In}
 use Rattle.tm_eqsys.specs.Equations.{Equations}
-use Rattle.tm_steps.specs.Steps.{In, Item, Unnamed, Distinct}
-use Rattle.tm_steps.proofs.Puts.{not_unnamed}
-use Rattle.tm_round.specs.Picks.{Pick, choice, choice_at, choices}
-use Rattle.tm_round.specs.PickCount.{Unknown, unknowns}
-use Rattle.tm_round.proofs.FewRounds.{in_unknowns}
-use Rattle.tm_round.proofs.Pigeonhole.{pigeonhole}
+use Rattle.tm_validity.specs.Steps.{Item, Unnamed, Distinct}
+use Rattle.tm_validity.proofs.Puts.{not_unnamed}
+use Rattle.tm_strategy.specs.Picks.{Pick, choice, choice_at, choices}
+use Rattle.tm_strategy.specs.PickCount.{Unknown, unknowns}
+use Rattle.tm_strategy.proofs.FewRounds.{in_unknowns}
 
 -- a list of lists that each have at most m
 length-flat_most : {A B : Type 0} (f : A → List B) (xs : List A) (m : ℕ) → ((x : A) → length (f x) ≤ m) → length (flat_map f xs) ≤ length xs * m

@@ -2,13 +2,13 @@
 use Rattle.std.proofs.Common.{◌≡◌, ◌∙◌, inl, inr, ℕ, zero, suc, ◌+◌, ◌*◌, ◌<◌, ◌≤◌, List, [], ◌∷◌, length, get_or, map, sym, ap, subst, arith}
 use Rattle.std.specs.Prelude.{Option, Some, None}
 use Rattle.std.proofs.lemmas.List.{get_or-map, length-map}
+use Rattle.tm_base.specs.Elements.{In}
 use Rattle.tm_eqsys.specs.View.{equations_of}
 use Rattle.tm_eqsys.specs.declared.system.System.{System}
-use Rattle.tm_steps.specs.Steps.{In}
 use Rattle.tm_cert.specs.declared.step.Step.{Step as CodeStep}
-use Rattle.tm_point.specs.JointProblems.{Listed}
-use Rattle.tm_point.specs.Parts.{InSome}
-use Rattle.tm_point.proofs.PartsLaw.{parts_sound}
+use Rattle.tm_transformers.specs.JointProblems.{Listed}
+use Rattle.tm_transformers.specs.Parts.{InSome}
+use Rattle.tm_transformers.proofs.PartsLaw.{parts_sound}
 use Rattle.tm_joint.specs.Numbers.{number_of, listed_of, all_listed, Rises, IsPicked, ArePicked}
 use Rattle.tm_joint.specs.PartLists.{EachRises, listed_parts, part_numbers}
 use Rattle.tm_joint.proofs.NodeFacts.{number_back}

@@ -2,24 +2,26 @@
 use Rattle.std.proofs.Common.{◌≡◌, ◌∙◌, inl, inr, ℕ, zero, suc, ◌+◌, ◌*◌, ◌<◌, ◌≤◌, Bool, true, false, true≢false, List, [], ◌∷◌, ◌++◌, append_assoc, length, length-append, map, refl, sym, ap, ap₂, subst, arith}
 use Rattle.std.specs.Prelude.{Option}
 use Rattle.std.proofs.lemmas.List.{append-nil, length-map}
+use Rattle.tm_base.proofs.elements.Membership.{in_left, in_right}
+use Rattle.tm_base.specs.Elements.{In}
 use Rattle.tm_num.specs.Extended.{Ext as Extended}
 use Rattle.tm_num.proofs.ExtendedLaws.{ext_le_or_lt}
 use Rattle.tm_eqsys.specs.Equations.{Vector}
 use Rattle.tm_eqsys.specs.View.{equations_of}
 use Rattle.tm_eqsys.specs.declared.system.System.{System}
-use Rattle.tm_steps.specs.Steps.{In, Item, Step}
-use Rattle.tm_steps.specs.Certificates.{led}
+use Rattle.tm_validity.specs.Steps.{Item, Step}
+use Rattle.tm_validity.specs.Certificates.{led}
 use Rattle.tm_cert.specs.Certificates.{step_of}
-use Rattle.tm_round.specs.Picks.{choices, value_at}
-use Rattle.tm_round.specs.Growth.{Log, stay, go, continue, pass, passes, growth, grow}
-use Rattle.tm_round.proofs.GrowthLaw.{in_left, in_right, led-append}
-use Rattle.tm_exact.specs.Evidence.{exact_evidence}
-use Rattle.tm_exact.specs.Rounds.{exact_pass, exact_passes}
+use Rattle.tm_strategy.specs.Picks.{choices, value_at}
+use Rattle.tm_strategy.specs.Growth.{Log, stay, go, continue, pass, passes, growth, grow}
+use Rattle.tm_strategy.proofs.GrowthLaw.{led-append}
+use Rattle.tm_strategy_lp.specs.Evidence.{exact_evidence}
+use Rattle.tm_strategy_lp.specs.Rounds.{exact_pass, exact_passes}
 use Rattle.tm_raise.specs.Numbers.{fitting}
 use Rattle.tm_rounds.specs.declared.growing.Growing.{Growing}
-use Rattle.tm_rounds.specs.declared.stop.Stop.{Stop}
-use Rattle.tm_rounds.specs.AtBounds.{transformers, vector_at}
-use Rattle.tm_rounds.specs.Improvement.{pick_of}
+use Rattle.tm_offers.specs.declared.stop.Stop.{Stop}
+use Rattle.tm_offers.specs.AtBounds.{transformers, vector_at}
+use Rattle.tm_offers.specs.Improvement.{pick_of}
 use Rattle.tm_rounds.specs.GrowthTests.{Test, if_raised, pass_tests, passes_tests, growth_tests}
 use Rattle.tm_rounds.specs.Growth.{growth_at, tests_at, IsGrowthStop}
 use Rattle.tm_rounds.specs.Growing.{Agrees, steps_so_far, left_from, unraised, IsKept, AreQuiet, IsPassed, IsPassStop, IsTold, IsFresh, IsGrown}

@@ -5,13 +5,13 @@ use Rattle.std.proofs.Math.Seq.{take-append_seam, drop-append_seam}
 use Rattle.tm_num.specs.Rational.{ℚ, zero_ℚ}
 use Rattle.tm_eqsys.specs.Equations.{Vector}
 use Rattle.tm_eqsys.specs.declared.trace.Trace.{Trace}
-use Rattle.tm_steps.specs.Steps.{Item, Pieces}
-use Rattle.tm_steps.specs.Certificates.{num}
+use Rattle.tm_validity.specs.Steps.{Item, Pieces}
+use Rattle.tm_validity.specs.Certificates.{num}
 use Rattle.tm_cert.specs.declared.step.Step.{Step as CodeStep}
 use Rattle.tm_cert.specs.Certificates.{pieces_of, jump_item}
-use Rattle.tm_round.specs.Growth.{split, with_words}
+use Rattle.tm_strategy.specs.Growth.{split, with_words}
 use Rattle.tm_joint.specs.Joints.{word_of}
-use Rattle.tm_exact.specs.JointItems.{listed_items, point_items}
+use Rattle.tm_strategy_lp.specs.JointItems.{listed_items, point_items}
 use Rattle.tm_rounds.specs.Lows.{edge_in, low_in, item_in, raise_at, AreRaised, items_at}
 use Rattle.tm_rounds.specs.Turning.{jump_item_at, jump_items_at}
 use Rattle.tm_rounds.proofs.ListedLows.{item_is, raised_item}

@@ -13,12 +13,12 @@ use Rattle.tm_num.specs.Extended.{Ext as Extended}
 use Rattle.tm_eqsys.specs.declared.system.System.{System}
 use Rattle.tm_eqsys.specs.SystemLimits.{is_over}
 use Rattle.tm_eqsys.proofs.Sizes.{both}
-use Rattle.tm_steps.specs.Steps.{Item, Step, names}
-use Rattle.tm_steps.proofs.Puts.{named_is, names_itself}
+use Rattle.tm_validity.specs.Steps.{Item, Step, names}
+use Rattle.tm_validity.proofs.Puts.{named_is, names_itself}
 use Rattle.tm_cert.specs.declared.step.Step.{Step as CodeStep}
 use Rattle.tm_cert.specs.Certificates.{step_of}
-use Rattle.tm_round.specs.Growth.{items_of}
-use Rattle.tm_round.proofs.GrowthLaw.{items-append}
+use Rattle.tm_strategy.specs.Growth.{items_of}
+use Rattle.tm_strategy.proofs.GrowthLaw.{items-append}
 use Rattle.tm_rounds.specs.declared.growing.Growing.{Growing}
 use Rattle.tm_rounds.specs.GrowthTests.{is_named}
 use Rattle.tm_rounds.specs.Growing.{steps_so_far, IsKept, NamesOne}

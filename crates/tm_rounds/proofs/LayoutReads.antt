@@ -3,17 +3,17 @@ use Rattle.std.proofs.Common.{◌≡◌, ◌∙◌, ⊎_elim, inl, inr, ℕ, zer
 use Rattle.std.specs.Prelude.{Option}
 use Rattle.std.specs.List.{filter}
 use Rattle.std.proofs.lemmas.List.{length-map}
+use Rattle.tm_base.specs.Elements.{In}
 use Rattle.tm_num.specs.Rational.{ℚ}
 use Rattle.tm_num.specs.Extended.{Ext}
 use Rattle.tm_eqsys.specs.declared.system.System.{System}
 use Rattle.tm_eqsys.specs.View.{equations_of}
-use Rattle.tm_steps.specs.Steps.{In}
 use Rattle.tm_lp.specs.Problem.{Outcome, best, unbounded, empty}
-use Rattle.tm_point.specs.Limits.{tabulate, shift}
-use Rattle.tm_point.specs.JointProblems.{Listed, is_at, rise_at, joint_words, words_of}
-use Rattle.tm_point.specs.JointPoints.{Unlisted, Distinct}
-use Rattle.tm_point.proofs.Rises.{is_at_itself}
-use Rattle.tm_point.proofs.JointLists.{distinct_same, not_unlisted}
+use Rattle.tm_transformers.specs.Limits.{tabulate, shift}
+use Rattle.tm_transformers.specs.JointProblems.{Listed, is_at, rise_at, joint_words, words_of}
+use Rattle.tm_transformers.specs.JointPoints.{Unlisted, Distinct}
+use Rattle.tm_transformers.proofs.Rises.{is_at_itself}
+use Rattle.tm_transformers.proofs.JointLists.{distinct_same, not_unlisted}
 use Rattle.tm_ray.specs.declared.layout.Rise.{Rise}
 use Rattle.tm_ray.specs.declared.rate.RateOf.{RateOf}
 use Rattle.tm_ray.specs.Reading.{at_column, is_named, rate_of, named_rates}

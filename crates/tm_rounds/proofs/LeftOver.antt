@@ -2,11 +2,12 @@
 use Rattle.std.proofs.Common.{◌≡◌, ◌∙◌, ◌⊎◌, inl, inr, ⊎_elim, ℕ, suc, ◌+◌, ◌<◌, ◌≤◌, Bool, true, false, true≢false, cond, List, [], ◌∷◌, length, get_or, refl, sym, ap, subst, arith}
 use Rattle.std.specs.Prelude.{Option}
 use Rattle.std.specs.List.{filter}
+use Rattle.tm_base.specs.Elements.{In}
 use Rattle.tm_eqsys.specs.declared.system.System.{System}
-use Rattle.tm_steps.specs.Steps.{In, Item, Unnamed}
-use Rattle.tm_steps.proofs.Puts.{named_or_not}
+use Rattle.tm_validity.specs.Steps.{Item, Unnamed}
+use Rattle.tm_validity.proofs.Puts.{named_or_not}
 use Rattle.tm_cert.specs.declared.step.Step.{Step as CodeStep}
-use Rattle.tm_round.specs.Round.{without}
+use Rattle.tm_strategy.specs.Round.{without}
 use Rattle.tm_joint.specs.Numbers.{ArePicked, Rises}
 use Rattle.tm_rounds.specs.Lows.{raise_at, item_in, items_at}
 use Rattle.tm_rounds.proofs.TurnItems.{place_of, in_place}

@@ -5,9 +5,9 @@ use Rattle.tm_eqsys.specs.declared.system.System.{System}
 use Rattle.tm_cert.specs.declared.step.Step.{Step as CodeStep}
 use Rattle.tm_cert.specs.declared.step.Step.TheVariants.{Plain, Jump, Ray}
 use Rattle.tm_cert.specs.Certificates.{pieces_of}
-use Rattle.tm_point.specs.JointProblems.{Listed}
+use Rattle.tm_transformers.specs.JointProblems.{Listed}
 use Rattle.tm_joint.specs.Numbers.{edge_of, listed_of, all_listed}
-use Rattle.tm_exact.specs.JointItems.{listed_item, listed_items}
+use Rattle.tm_strategy_lp.specs.JointItems.{listed_item, listed_items}
 use Rattle.tm_rounds.specs.Lows.{IsFilled, unknown_in, edge_in, low_in, item_in, raise_at, IsRaised, AreRaised, ArePickedRaises, items_at}
 
 -- what the item of a step with items is

@@ -11,9 +11,9 @@ use Rattle.tm_eqsys.specs.Starts.{start_bounds}
 use Rattle.tm_eqsys.specs.View.{vector_of, bounds_of, IsListed}
 use Rattle.tm_eqsys.proofs.Listed.{listed_law}
 use Rattle.tm_eqsys.proofs.Started.{started_vector}
-use Rattle.tm_steps.specs.Steps.{start_vector}
-use Rattle.tm_rounds.specs.Improvement.{pick_of}
-use Rattle.tm_rounds.proofs.Unknowns.{row_within}
+use Rattle.tm_validity.specs.Steps.{start_vector}
+use Rattle.tm_offers.specs.Improvement.{pick_of}
+use Rattle.tm_offers.proofs.Unknowns.{row_within}
 
 -- the point of a number
 point_within : (u points rows : ℕ) → u < points * rows → u / rows < points

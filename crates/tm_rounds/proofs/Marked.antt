@@ -7,7 +7,7 @@ use Rattle.std.proofs.lemmas.List.Elements.{filter-append}
 use Rattle.tm_eqsys.specs.declared.system.System.{System}
 use Rattle.tm_cert.specs.declared.step.Step.{Step as CodeStep}
 use Rattle.tm_cert.specs.Certificates.{step_of}
-use Rattle.tm_round.specs.Growth.{items_of}
+use Rattle.tm_strategy.specs.Growth.{items_of}
 use Rattle.tm_rounds.specs.declared.growing.Growing.{Growing}
 use Rattle.tm_rounds.specs.GrowthTests.{is_named}
 use Rattle.tm_rounds.specs.Growth.{named_at}

@@ -10,28 +10,28 @@ use Rattle.tm_num.proofs.ExtendedLaws.{ext_not_le_of_lt}
 use Rattle.tm_eqsys.specs.Equations.{Equations, Vector, PostSolution}
 use Rattle.tm_eqsys.specs.View.{equations_of, bounds_of}
 use Rattle.tm_eqsys.specs.declared.system.System.{System}
-use Rattle.tm_steps.specs.Steps.{edge_of, row_of}
-use Rattle.tm_point.specs.EdgeProblems.{transformer}
-use Rattle.tm_round.specs.Picks.{Pick, IsPick, value_at}
-use Rattle.tm_round.specs.PickCount.{unknowns}
-use Rattle.tm_round.specs.Policy.{offers, taken, changed_pick, next_pick, policy_pick}
-use Rattle.tm_round.specs.Solve.{State, next, state}
-use Rattle.tm_round.proofs.RoundGives.{Improved}
-use Rattle.tm_exact.specs.Evidence.{exact_evidence}
-use Rattle.tm_exact.specs.JointItems.{exact_joint}
-use Rattle.tm_exact.specs.Cut.{exact_cut}
-use Rattle.tm_exact.specs.Rounds.{Choice, exact_next}
-use Rattle.tm_exact.proofs.ExactChain.{round_made}
+use Rattle.tm_validity.specs.Steps.{edge_of, row_of}
+use Rattle.tm_transformers.specs.EdgeProblems.{transformer}
+use Rattle.tm_strategy.specs.Picks.{Pick, IsPick, value_at}
+use Rattle.tm_strategy.specs.PickCount.{unknowns}
+use Rattle.tm_strategy.specs.Policy.{offers, taken, changed_pick, next_pick, policy_pick}
+use Rattle.tm_strategy.specs.Solve.{State, next, state}
+use Rattle.tm_strategy.proofs.RoundGives.{Improved}
+use Rattle.tm_strategy_lp.specs.Evidence.{exact_evidence}
+use Rattle.tm_strategy_lp.specs.JointItems.{exact_joint}
+use Rattle.tm_strategy_lp.specs.Cut.{exact_cut}
+use Rattle.tm_strategy_lp.specs.Rounds.{Choice, exact_next}
+use Rattle.tm_strategy_lp.proofs.ExactChain.{round_made}
 use Rattle.tm_raise.specs.Numbers.{fitting}
-use Rattle.tm_rounds.specs.declared.offer.Offer.{Offer}
+use Rattle.tm_offers.specs.declared.offer.Offer.{Offer}
 use Rattle.tm_rounds.specs.declared.solution.Solved.{Solved}
-use Rattle.tm_rounds.specs.Improvement.{Chosen, IsChoice, NoneExceeds}
-use Rattle.tm_rounds.specs.AtBounds.{vector_at}
+use Rattle.tm_offers.specs.Improvement.{Chosen, IsChoice, NoneExceeds}
+use Rattle.tm_offers.specs.AtBounds.{vector_at}
 use Rattle.tm_rounds.specs.Chains.{state_at, bounds_after, IsChain, IsEnded}
 use Rattle.tm_rounds.specs.Solutions.{IsSolved}
 use Rattle.tm_rounds.specs.Halts.{IsSpent}
 use Rattle.tm_rounds.specs.LeastLaws.{AnswersOne}
-use Rattle.tm_rounds.proofs.Ranges.{points_in_range}
+use Rattle.tm_offers.proofs.Ranges.{points_in_range}
 use Rattle.tm_rounds.proofs.Outcomes.{solved_least}
 
 -- ---- one choice

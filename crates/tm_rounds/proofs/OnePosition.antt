@@ -4,8 +4,8 @@ use Rattle.std.proofs.lemmas.Bool.{cases_lt}
 use Rattle.tm_num.specs.Extended.{neg_inf, ◌≤ᴱ◌, ◌<ᴱ◌}
 use Rattle.tm_num.proofs.ExtendedLaws.{ext_not_le_of_lt}
 use Rattle.tm_frac.specs.Extended.{extended}
-use Rattle.tm_rounds.specs.Offers.{IsFirstGreatest}
-use Rattle.tm_rounds.specs.Policies.{by_best, by_first}
+use Rattle.tm_offers.specs.Offers.{IsFirstGreatest}
+use Rattle.tm_offers.specs.Policies.{by_best, by_first}
 use Rattle.tm_rounds.specs.LeastLaws.{AnswersOne}
 
 -- numbers of which neither is below the other

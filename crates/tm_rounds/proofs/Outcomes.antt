@@ -5,35 +5,35 @@ use Rattle.tm_eqsys.specs.Equations.{Least}
 use Rattle.tm_eqsys.specs.View.{equations_of, vector_of, bounds_of}
 use Rattle.tm_eqsys.specs.declared.system.System.{System}
 use Rattle.tm_eqsys.proofs.Listed.{listed_law}
-use Rattle.tm_steps.specs.Certificates.{bounds_vector, ValidCertificate}
-use Rattle.tm_steps.proofs.CertificateLaw.{certificate_least, least_unique}
+use Rattle.tm_validity.specs.Certificates.{bounds_vector, ValidCertificate}
+use Rattle.tm_validity.proofs.CertificateLaw.{certificate_least, least_unique}
 use Rattle.tm_cert.specs.Certificates.{step_of, evidence_of}
-use Rattle.tm_round.specs.Picks.{Tight}
-use Rattle.tm_round.specs.PickCount.{pick_count}
-use Rattle.tm_exact.specs.Rounds.{Choice, first_choice, exact_steps}
-use Rattle.tm_exact.specs.Made.{exact_uppers, exact_certificate}
-use Rattle.tm_exact.proofs.MadeCertificate.{made_valid}
+use Rattle.tm_strategy.specs.Picks.{Tight}
+use Rattle.tm_strategy.specs.PickCount.{pick_count}
+use Rattle.tm_strategy_lp.specs.Rounds.{Choice, first_choice, exact_steps}
+use Rattle.tm_strategy_lp.specs.Made.{exact_uppers, exact_certificate}
+use Rattle.tm_strategy_lp.proofs.MadeCertificate.{made_valid}
 use Rattle.tm_raise.specs.Numbers.{fitting}
-use Rattle.tm_round.specs.Solve.{state}
-use Rattle.tm_oper.specs.declared.fault.PathFault.{PathFault}
-use Rattle.tm_oper.specs.declared.fault.PathFault.TheVariants.{Wide as WidePath, NoMemory as NoPath}
-use Rattle.tm_oper.specs.Faults.{IsPathFault}
-use Rattle.tm_rounds.specs.declared.offer.Offer.{Offer}
-use Rattle.tm_rounds.specs.declared.stop.Stop.{Stop}
-use Rattle.tm_rounds.specs.declared.stop.Stop.TheVariants.{Wide as WideStop, NoMemory as NoStop}
+use Rattle.tm_strategy.specs.Solve.{state}
+use Rattle.tm_compose.specs.declared.fault.PathFault.{PathFault}
+use Rattle.tm_compose.specs.declared.fault.PathFault.TheVariants.{Wide as WidePath, NoMemory as NoPath}
+use Rattle.tm_compose.specs.Faults.{IsPathFault}
+use Rattle.tm_offers.specs.declared.offer.Offer.{Offer}
+use Rattle.tm_offers.specs.declared.stop.Stop.{Stop}
+use Rattle.tm_offers.specs.declared.stop.Stop.TheVariants.{Wide as WideStop, NoMemory as NoStop}
 use Rattle.tm_rounds.specs.declared.halt.Halt.TheVariants.{Spent}
-use Rattle.tm_rounds.specs.declared.known.Known.{Known}
+use Rattle.tm_offers.specs.declared.known.Known.{Known}
 use Rattle.tm_rounds.specs.declared.solution.Solved.{Solved}
 use Rattle.tm_rounds.specs.declared.solving.Progress.{Progress}
-use Rattle.tm_rounds.specs.AtBounds.{transformers, vector_at, IsTightPick, IsNextPick, IsOfferStop, NothingExceeds}
-use Rattle.tm_rounds.specs.Improvement.{pick_of, IsNext}
+use Rattle.tm_offers.specs.AtBounds.{transformers, vector_at, IsTightPick, IsNextPick, IsOfferStop, NothingExceeds}
+use Rattle.tm_offers.specs.Improvement.{pick_of, IsNext}
 use Rattle.tm_rounds.specs.Round.{IsRoundStop, AreBoundsOf, round_at, rounded_at}
 use Rattle.tm_rounds.specs.Chains.{state_at, bounds_after, steps_after, IsChain, IsEnded}
 use Rattle.tm_rounds.specs.HaltOf.{halt_of_stop, halt_of_fault}
 use Rattle.tm_rounds.specs.Halts.{IsHalt}
 use Rattle.tm_rounds.specs.Solutions.{IsSolved, made_certificate}
 use Rattle.tm_rounds.specs.Solving.{IsBegun, IsAfter, IsAdvanced, IsFinished}
-use Rattle.tm_rounds.proofs.Ranges.{points_in_range}
+use Rattle.tm_offers.proofs.Ranges.{points_in_range}
 use Rattle.std.proofs.lemmas.List.{length-replicate}
 use Rattle.tm_rounds.proofs.Listing.{nothing_picked, bounds_same}
 use Rattle.tm_rounds.proofs.Chained.{no_rounds, bounds_first, post_none, bounds_count, tight_after, few_after, ended_after, more, same_bounds, extended, pick_next, bounds_next, steps_next}

@@ -2,28 +2,29 @@
 use Rattle.std.proofs.Common.{◌==◌, true≢false, true, false, ◌≡◌, ◌∙◌, inl, inr, ⊎_elim, ℕ, zero, suc, ◌+◌, ◌<◌, ◌≤◌, List, [], ◌∷◌, ◌++◌, append_assoc, append-nil, length, get_or, map, refl, sym, ap, subst, arith}
 use Rattle.std.specs.Prelude.{Option}
 use Rattle.std.proofs.lemmas.Bool.{eqb-true}
+use Rattle.tm_base.specs.Elements.{In}
 use Rattle.tm_eqsys.specs.Equations.{Equations, Vector}
 use Rattle.tm_eqsys.specs.View.{equations_of}
 use Rattle.tm_eqsys.specs.declared.system.System.{System}
-use Rattle.tm_steps.specs.Steps.{In, Item, Step, Jump as JumpKind, Ray as RayKind, after}
-use Rattle.tm_steps.specs.Certificates.{led}
+use Rattle.tm_validity.specs.Steps.{Item, Step, Jump as JumpKind, Ray as RayKind, after}
+use Rattle.tm_validity.specs.Certificates.{led}
 use Rattle.tm_cert.specs.declared.step.Step.{Step as CodeStep}
-use Rattle.tm_round.specs.Round.{Outcome, Point, Rays, ListCondition, without, turn, part}
-use Rattle.tm_round.proofs.GrowthLaw.{led-append}
-use Rattle.tm_exact.specs.Agreement.{HaveRows}
-use Rattle.tm_exact.specs.Turns.{Turn, later_turns, part_turns}
-use Rattle.tm_exact.proofs.ProblemsAgree.{after_agrees}
-use Rattle.tm_exact.proofs.RoundAgrees.{part_agrees}
-use Rattle.tm_exact.proofs.TurnsAgree.{Like, like_trans, LikeOne, condition_agrees, part_turns_agree}
+use Rattle.tm_strategy.specs.Round.{Outcome, Point, Rays, ListCondition, without, turn, part}
+use Rattle.tm_strategy.proofs.GrowthLaw.{led-append}
+use Rattle.tm_strategy_lp.specs.Agreement.{HaveRows}
+use Rattle.tm_strategy_lp.specs.Turns.{Turn, later_turns, part_turns}
+use Rattle.tm_strategy_lp.proofs.ProblemsAgree.{after_agrees}
+use Rattle.tm_strategy_lp.proofs.RoundAgrees.{part_agrees}
+use Rattle.tm_strategy_lp.proofs.TurnsAgree.{Like, like_trans, LikeOne, condition_agrees, part_turns_agree}
 use Rattle.tm_rounds.specs.declared.turning.Turning.{Turning}
-use Rattle.tm_rounds.specs.AtBounds.{vector_at, transformers}
-use Rattle.tm_rounds.specs.Improvement.{pick_of}
+use Rattle.tm_offers.specs.AtBounds.{vector_at, transformers}
+use Rattle.tm_offers.specs.Improvement.{pick_of}
 use Rattle.tm_rounds.specs.Growing.{Agrees}
 use Rattle.tm_rounds.specs.Lows.{raise_at, item_in, items_at}
 use Rattle.tm_rounds.specs.Turning.{turns_so_far, joint_of, HaveConditions, MeetsCondition, IsPart, IsTurned, IsTurnedBy, IsDone, turns_of_part}
 use Rattle.tm_rounds.proofs.TurnItems.{place_of}
 use Rattle.tm_rounds.proofs.ListedLows.{raised_item}
-use Rattle.tm_rounds.proofs.Unknowns.{row_within}
+use Rattle.tm_offers.proofs.Unknowns.{row_within}
 use Rattle.tm_rounds.proofs.Turned.{picked_in}
 
 -- a mapped element is the image of one

@@ -2,24 +2,26 @@
 use Rattle.std.proofs.Common.{◌≡◌, ◌∙◌, inl, inr, ⊎_elim, ℕ, zero, suc, ◌+◌, ◌*◌, ◌<◌, ◌≤◌, List, [], ◌∷◌, ◌++◌, append_assoc, append-nil, length, length-append, get_or, map, drop, refl, sym, ap, subst, arith}
 use Rattle.std.specs.Prelude.{Option}
 use Rattle.std.proofs.lemmas.List.{length-map, drop_more, drop_all}
+use Rattle.tm_base.proofs.elements.Membership.{of_append}
+use Rattle.tm_base.specs.Elements.{In}
 use Rattle.tm_eqsys.specs.Equations.{Equations, Vector}
 use Rattle.tm_eqsys.specs.View.{equations_of}
 use Rattle.tm_eqsys.specs.declared.system.System.{System}
-use Rattle.tm_steps.specs.Steps.{In, Item, Step}
-use Rattle.tm_steps.specs.Certificates.{led}
+use Rattle.tm_validity.specs.Steps.{Item, Step}
+use Rattle.tm_validity.specs.Certificates.{led}
 use Rattle.tm_cert.specs.declared.step.Step.{Step as CodeStep}
 use Rattle.tm_cert.specs.Certificates.{step_of}
-use Rattle.tm_round.specs.Round.{Outcome, ListCondition, part, turns, members}
-use Rattle.tm_round.proofs.GrowthLaw.{led-append, in_append}
-use Rattle.tm_exact.specs.Agreement.{HaveRows}
-use Rattle.tm_exact.specs.Turns.{Turn, part_turns, parts_turns}
-use Rattle.tm_exact.proofs.ProblemsAgree.{led_agrees}
-use Rattle.tm_exact.proofs.RoundAgrees.{turns_agree}
-use Rattle.tm_exact.proofs.TurnsAgree.{like_trans, LikeOne, condition_agrees, parts_turns_agree}
+use Rattle.tm_strategy.specs.Round.{Outcome, ListCondition, part, turns, members}
+use Rattle.tm_strategy.proofs.GrowthLaw.{led-append}
+use Rattle.tm_strategy_lp.specs.Agreement.{HaveRows}
+use Rattle.tm_strategy_lp.specs.Turns.{Turn, part_turns, parts_turns}
+use Rattle.tm_strategy_lp.proofs.ProblemsAgree.{led_agrees}
+use Rattle.tm_strategy_lp.proofs.RoundAgrees.{turns_agree}
+use Rattle.tm_strategy_lp.proofs.TurnsAgree.{like_trans, LikeOne, condition_agrees, parts_turns_agree}
 use Rattle.tm_joint.specs.PartLists.{part_numbers}
 use Rattle.tm_rounds.specs.declared.turning.Turning.{Turning}
-use Rattle.tm_rounds.specs.AtBounds.{vector_at, transformers}
-use Rattle.tm_rounds.specs.Improvement.{pick_of}
+use Rattle.tm_offers.specs.AtBounds.{vector_at, transformers}
+use Rattle.tm_offers.specs.Improvement.{pick_of}
 use Rattle.tm_rounds.specs.Growing.{Agrees}
 use Rattle.tm_rounds.specs.Lows.{raise_at, item_in, items_at}
 use Rattle.tm_rounds.specs.Turning.{turns_so_far, joint_of, IsPickAt, HaveConditions, IsPart, IsDone, AreAllDone, turns_of_part, turns_of_parts}
@@ -108,7 +110,7 @@ module _ (system : System) (pick : List (Option ℕ)) (raises : List CodeStep) (
   rows_of : (ls : List (List ℕ)) → ((k : ℕ) → k < length ls → IsPart system pick raises places (get_or ls k [])) → HaveRows eqs (members (map items ls))
   unfolding members
   rows_of [] h u m = absurd m
-  rows_of (p ∷ ls) h u m = ⊎_elim (λ i. part_rows system pick raises places p (h 0 (omega arith)) u i) (λ i. rows_of ls (λ k l. h (suc k) (omega arith)) u i) (in_append (items p) (members (map items ls)) u m)
+  rows_of (p ∷ ls) h u m = ⊎_elim (λ i. part_rows system pick raises places p (h 0 (omega arith)) u i) (λ i. rows_of ls (λ k l. h (suc k) (omega arith)) u i) (of_append (items p) (members (map items ls)) u m)
 
   dropped : (n : ℕ) (ls : List (List ℕ)) → ((k : ℕ) → k < length ls → IsPart system pick raises places (get_or ls k [])) → (k : ℕ) → k < length (drop n ls) → IsPart system pick raises places (get_or (drop n ls) k [])
   dropped zero ls h k l = h k l

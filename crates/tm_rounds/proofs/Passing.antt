@@ -4,10 +4,10 @@ use Rattle.tm_num.specs.Rational.{ℚ}
 use Rattle.tm_num.specs.Extended.{Ext, ◌≤ᴱ◌, ◌<ᴱ◌}
 use Rattle.tm_num.proofs.ExtendedLaws.{ext_le_or_lt, ext_not_le_of_lt}
 use Rattle.tm_eqsys.specs.Equations.{Equations, Vector}
-use Rattle.tm_steps.specs.Steps.{Item, after}
-use Rattle.tm_steps.specs.Certificates.{led}
-use Rattle.tm_round.specs.Picks.{Transformer, value_at}
-use Rattle.tm_round.specs.Growth.{Evident, Log, stay, go, raise_at, pass}
+use Rattle.tm_validity.specs.Steps.{Item, after}
+use Rattle.tm_validity.specs.Certificates.{led}
+use Rattle.tm_strategy.specs.Picks.{Transformer, value_at}
+use Rattle.tm_strategy.specs.Growth.{Evident, Log, stay, go, raise_at, pass}
 use Rattle.tm_rounds.specs.GrowthTests.{Test, pass_tests}
 
 -- what is chosen where a number is at most another, and where it exceeds it

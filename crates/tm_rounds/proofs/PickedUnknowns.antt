@@ -8,10 +8,10 @@ use Rattle.std.proofs.lemmas.List.{get_or-replicate}
 use Rattle.std.proofs.lemmas.Nat.{div-add-mod', div-mul-add, mod-mul-add}
 use Rattle.tm_eqsys.specs.View.{equations_of}
 use Rattle.tm_eqsys.specs.declared.system.System.{System}
-use Rattle.tm_round.specs.Picks.{choice_at, choices}
-use Rattle.tm_rounds.specs.Improvement.{pick_of}
+use Rattle.tm_strategy.specs.Picks.{choice_at, choices}
+use Rattle.tm_offers.specs.Improvement.{pick_of}
 use Rattle.tm_rounds.specs.Growing.{left_at, left_from}
-use Rattle.tm_rounds.proofs.Unknowns.{row_within}
+use Rattle.tm_offers.proofs.Unknowns.{row_within}
 use Rattle.tm_rounds.proofs.Walked.{range-append}
 
 -- functions that agree on a range

@@ -1,10 +1,11 @@
 -- Bounds after the values of items are put stand for the vector after the items' step.
 use Rattle.std.proofs.Common.{◌≡◌, ◌∙◌, ⊎_elim, ℕ, zero, suc, ◌+◌, ◌*◌, ◌/◌, ◌%◌, ◌<◌, List, [], ◌∷◌, length, get_or, sym, ap, ap₂, subst₂, arith}
 use Rattle.std.proofs.lemmas.Nat.{div-mul-add, mod-mul-add}
+use Rattle.tm_base.specs.Elements.{In}
 use Rattle.tm_num.specs.Extended.{Ext as Extended, neg_inf}
 use Rattle.tm_eqsys.specs.View.{vector_of}
-use Rattle.tm_steps.specs.Steps.{In, Item, put, Unnamed, Distinct}
-use Rattle.tm_steps.proofs.Puts.{named_or_not, not_unnamed, put-unnamed, put-named}
+use Rattle.tm_validity.specs.Steps.{Item, put, Unnamed, Distinct}
+use Rattle.tm_validity.proofs.Puts.{named_or_not, not_unnamed, put-unnamed, put-named}
 use Rattle.tm_rounds.specs.Putting.{puts}
 use Rattle.tm_rounds.proofs.Putting.{puts-at, puts-other}
 use Rattle.tm_rounds.proofs.TurnItems.{place_of, in_place}

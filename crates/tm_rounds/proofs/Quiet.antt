@@ -1,20 +1,20 @@
 -- Unknowns that are marked as quiet.
 use Rattle.std.proofs.Common.{◌≡◌, ◌∙◌, ⊎_elim, ℕ, ◌+◌, ◌*◌, ◌/◌, ◌<◌, true, false, true≢false, List, length, get_or, refl, sym, ap, subst, subst₂, arith}
-use Rattle.std.specs.Prelude.{Option, Some, None, slice_set, replicate}
+use Rattle.std.specs.Prelude.{Option, Some, None, slice_set}
 use Rattle.std.proofs.lemmas.Bool.Decides.{eqb_tells}
-use Rattle.std.proofs.lemmas.List.{get_or-set_other, get_or-replicate, length-replicate, length-set}
+use Rattle.std.proofs.lemmas.List.{get_or-set_other, length-set}
 use Rattle.std.proofs.lemmas.Nat.{div-mul-add}
 use Rattle.tm_num.specs.Extended.{Ext as Extended, neg_inf, ◌≤ᴱ◌}
 use Rattle.tm_eqsys.specs.Equations.{Vector}
 use Rattle.tm_eqsys.specs.View.{equations_of}
 use Rattle.tm_eqsys.specs.declared.system.System.{System}
-use Rattle.tm_steps.specs.Steps.{edge_of, row_of}
-use Rattle.tm_point.proofs.TransformerOf.{transformer_by_source}
-use Rattle.tm_round.specs.Picks.{value_at, choice}
-use Rattle.tm_exact.proofs.ProblemsAgree.{transformer_agrees}
+use Rattle.tm_validity.specs.Steps.{edge_of, row_of}
+use Rattle.tm_transformers.proofs.TransformerOf.{transformer_by_source}
+use Rattle.tm_strategy.specs.Picks.{value_at, choice}
+use Rattle.tm_strategy_lp.proofs.ProblemsAgree.{transformer_agrees}
 use Rattle.tm_raise.specs.Raises.{choice_of}
 use Rattle.tm_rounds.specs.declared.growing.Growing.{Growing}
-use Rattle.tm_rounds.specs.AtBounds.{transformers, vector_at, edge_at}
+use Rattle.tm_offers.specs.AtBounds.{transformers, vector_at, edge_at}
 use Rattle.tm_rounds.specs.Growing.{Agrees, IsKept, AreQuiet, IsStay, IsPassed, tested}
 use Rattle.tm_rounds.proofs.Tested.{bound_is}
 use Rattle.tm_rounds.proofs.Walked.{left_unpicked, passed_none, stays_passed}
@@ -57,13 +57,6 @@ module _ (system : System) (pick : List (Option ℕ)) (old new : Growing) (unkno
       source edge r apart l =
           get_or-set_other old.bounds unknown ((edge_at system edge).from * length system.template + r) bound neg_inf
           (λ s. apart (sym (div-mul-add (edge_at system edge).from (length system.template) r l) ∙ ap (λ k. k / length system.template) s))
-
--- no unknown is quiet yet
-pub quiet_none : (system : System) (pick : List (Option ℕ)) (growing : Growing) → growing.quiet.items ≡ replicate (length system.flow.points * length system.template) false → AreQuiet system pick growing
-quiet_none system pick growing e = record {
-  size = ap (λ l. length l) e ∙ length-replicate (length system.flow.points * length system.template) false;
-  within = λ u edge l q p. absurd (true≢false (sym q ∙ ap (λ m. get_or m u false) e ∙ get_or-replicate (length system.flow.points * length system.template) u false false l));
-}
 
 module _ (system : System) (pick : List (Option ℕ)) (u : ℕ) (within : u < length system.flow.points * length system.template) (z : Vector) (now : Growing) (kept : IsKept system now) (quiet : AreQuiet system pick now)
     (agrees : Agrees system z now.bounds) (marked : get_or now.quiet.items u false ≡ true) where

@@ -4,13 +4,14 @@ use Rattle.std.specs.Prelude.{Option}
 use Rattle.std.specs.List.{range_with_len, filter, list_any}
 use Rattle.std.proofs.lemmas.Bool.{cases_lt}
 use Rattle.std.proofs.lemmas.Nat.{div-add-mod'}
+use Rattle.tm_base.specs.Elements.{In}
 use Rattle.tm_eqsys.specs.declared.system.System.{System}
-use Rattle.tm_steps.specs.Steps.{In, Item}
+use Rattle.tm_validity.specs.Steps.{Item}
 use Rattle.tm_cert.specs.declared.step.Step.{Step as CodeStep}
 use Rattle.tm_cert.specs.declared.step.Step.TheVariants.{Plain, Jump, Ray}
 use Rattle.tm_cert.specs.Certificates.{step_of}
-use Rattle.tm_round.specs.Growth.{items_of}
-use Rattle.tm_point.specs.Parts.{LowerThanAll, IsRising}
+use Rattle.tm_strategy.specs.Growth.{items_of}
+use Rattle.tm_transformers.specs.Parts.{LowerThanAll, IsRising}
 use Rattle.tm_joint.specs.Numbers.{Rises, listed_of, all_listed}
 use Rattle.tm_rounds.specs.Lows.{IsFilled, item_in}
 

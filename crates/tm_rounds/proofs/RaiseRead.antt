@@ -5,25 +5,26 @@ use Rattle.tm_num.specs.Extended.{Ext, neg_inf, fin, pos_inf, ◌<ᴱ◌}
 use Rattle.tm_flow.specs.declared.edge.Edge.{Edge}
 use Rattle.tm_eqsys.specs.Equations.{Equations, Vector}
 use Rattle.tm_eqsys.specs.declared.trace.Trace.{Trace}
-use Rattle.tm_steps.specs.Words.{width, end_form, guard_forms, lin}
-use Rattle.tm_steps.specs.Steps.{Item, edge_of, row_of, Sized}
-use Rattle.tm_steps.specs.Transformers.{Reaches}
+use Rattle.tm_validity.specs.Words.{width, end_form, guard_forms, lin}
+use Rattle.tm_validity.specs.Steps.{Item, edge_of, row_of, Sized}
+use Rattle.tm_validity.specs.Transformers.{Reaches}
 use Rattle.tm_cert.specs.Certificates.{pieces_of}
 use Rattle.tm_lp.specs.Problem.{Outcome, best, unbounded, empty}
 use Rattle.tm_lp.specs.Simplex.{lp}
 use Rattle.tm_lp.specs.Free.{unsplit}
-use Rattle.tm_point.specs.EdgeProblems.{transformer}
-use Rattle.tm_point.proofs.Products.{length-tabulate}
-use Rattle.tm_round.specs.Picks.{value_at}
-use Rattle.tm_round.specs.Growth.{raise_at}
-use Rattle.tm_exact.specs.Evidence.{whole_problem, exact_evidence}
-use Rattle.tm_exact.specs.Raises.{HasWords as HasExactWords}
-use Rattle.tm_exact.specs.Rounds.{exact_raise}
-use Rattle.tm_exact.proofs.EvidenceWords.{evidence_words}
-use Rattle.tm_oper.specs.declared.value.Value.{Value}
-use Rattle.tm_oper.specs.declared.value.Value.TheVariants.{Unreached, Empty, Best, Unbounded}
+use Rattle.tm_transformers.specs.EdgeProblems.{transformer}
+use Rattle.tm_transformers.proofs.Products.{length-tabulate}
+use Rattle.tm_strategy.specs.Picks.{value_at}
+use Rattle.tm_strategy.specs.Growth.{raise_at}
+use Rattle.tm_strategy_lp.specs.Evidence.{whole_problem, exact_evidence}
+use Rattle.tm_strategy_lp.specs.Raises.{HasWords as HasExactWords}
+use Rattle.tm_strategy_lp.specs.Rounds.{exact_raise}
+use Rattle.tm_strategy_lp.proofs.EvidenceWords.{evidence_words}
+use Rattle.tm_compose.specs.declared.value.Value.{Value}
+use Rattle.tm_compose.specs.declared.value.Value.TheVariants.{Unreached, Empty, Best, Unbounded}
 use Rattle.tm_oper.specs.Values.{IsTraceOf, ReadsOutcome, IsValue}
-use Rattle.tm_oper.specs.Meanings.{number_of, HasEvidence}
+use Rattle.tm_compose.specs.Value.{number_of}
+use Rattle.tm_oper.specs.Meanings.{HasEvidence}
 use Rattle.tm_raise.specs.Numbers.{fitting}
 use Rattle.tm_raise.specs.Raises.{raised, HasSizes, Rises}
 use Rattle.tm_raise.specs.Laws.{HasWords}

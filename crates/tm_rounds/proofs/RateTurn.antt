@@ -2,15 +2,15 @@
 use Rattle.std.proofs.Common.{◌≡◌, ◌∙◌, ℕ, suc, ◌/◌, ◌%◌, Bool, true, false, cond, List, [], ◌∷◌, get_or, map, drop, refl, sym, ap, ap₂, arith, if◌then◌else◌}
 use Rattle.std.specs.List.{filter}
 use Rattle.tm_num.specs.Rational.{ℚ, zero_ℚ, lt_ℚ}
-use Rattle.tm_steps.specs.Steps.{Item}
+use Rattle.tm_validity.specs.Steps.{Item}
 use Rattle.tm_cert.specs.declared.step.Step.{Step as CodeStep}
 use Rattle.tm_cert.specs.Certificates.{pieces_of, ray_item}
 use Rattle.tm_ray.specs.declared.layout.Rise.{Rise}
 use Rattle.tm_ray.specs.Reading.{at_column, is_named, rate_of, named_rates}
-use Rattle.tm_round.specs.Growth.{split, with_words}
+use Rattle.tm_strategy.specs.Growth.{split, with_words}
 use Rattle.tm_joint.specs.Joints.{word_of}
 use Rattle.tm_joint.specs.Layouts.{trace_at}
-use Rattle.tm_exact.specs.JointItems.{listed_items, rate_items}
+use Rattle.tm_strategy_lp.specs.JointItems.{listed_items, rate_items}
 use Rattle.tm_rounds.specs.Lows.{edge_in, low_in, item_in, raise_at, AreRaised, items_at}
 use Rattle.tm_rounds.specs.Turning.{ray_item_of}
 use Rattle.tm_rounds.proofs.ListedLows.{item_is, raised_item}

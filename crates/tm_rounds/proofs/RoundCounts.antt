@@ -1,25 +1,27 @@
 -- The steps of a round: at most two for each unknown, and each has an item.
 use Rattle.std.proofs.Common.{◌≡◌, ◌∙◌, inl, inr, ⊎_elim, Bool, ℕ, zero, suc, ◌+◌, ◌*◌, ◌≤◌, List, [], ◌∷◌, ◌++◌, length, length-append, refl, sym, ap, subst, arith}
+use Rattle.tm_base.proofs.elements.Membership.{of_append}
+use Rattle.tm_base.specs.Elements.{In}
 use Rattle.tm_num.specs.Rational.{ℚ}
 use Rattle.tm_eqsys.specs.Equations.{Equations, Vector}
-use Rattle.tm_steps.specs.Steps.{In, Item, Step, Ray, after, Distinct}
-use Rattle.tm_steps.specs.Certificates.{led}
-use Rattle.tm_point.specs.EdgeProblems.{transformer}
-use Rattle.tm_round.specs.Picks.{Pick, Transformer, IsPick, choices}
-use Rattle.tm_round.specs.Growth.{passes, growth, grow}
-use Rattle.tm_round.specs.Round.{Outcome, Point, Rays, OutcomeFacts, without, turn, part, turns, members, Admissible, round_steps}
-use Rattle.tm_round.proofs.GrowthLaw.{Raises, in_append}
-use Rattle.tm_round.proofs.PassLaw.{passes_done, PassesDone}
-use Rattle.tm_round.proofs.Choices.{choices_picked}
-use Rattle.tm_round.proofs.WholeCut.{cut_is}
-use Rattle.tm_exact.specs.Evidence.{exact_evidence}
-use Rattle.tm_exact.specs.JointItems.{exact_joint}
-use Rattle.tm_exact.specs.Cut.{exact_cut}
-use Rattle.tm_exact.specs.Turns.{Turn, later_turns, part_turns, parts_turns, exact_turns}
-use Rattle.tm_exact.specs.Rounds.{exact_grow, exact_grown, exact_round_steps}
-use Rattle.tm_exact.proofs.Joined.{exact_joined}
-use Rattle.tm_exact.proofs.ExactRound.{exact_sizes, exact_cuts}
-use Rattle.tm_exact.proofs.TurnConditions.{turn_condition}
+use Rattle.tm_validity.specs.Steps.{Item, Step, Ray, after, Distinct}
+use Rattle.tm_validity.specs.Certificates.{led}
+use Rattle.tm_transformers.specs.EdgeProblems.{transformer}
+use Rattle.tm_strategy.specs.Picks.{Pick, Transformer, IsPick, choices}
+use Rattle.tm_strategy.specs.Growth.{passes, growth, grow}
+use Rattle.tm_strategy.specs.Round.{Outcome, Point, Rays, OutcomeFacts, without, turn, part, turns, members, Admissible, round_steps}
+use Rattle.tm_strategy.proofs.GrowthLaw.{Raises}
+use Rattle.tm_strategy.proofs.PassLaw.{passes_done, PassesDone}
+use Rattle.tm_strategy.proofs.Choices.{choices_picked}
+use Rattle.tm_strategy.proofs.WholeCut.{cut_is}
+use Rattle.tm_strategy_lp.specs.Evidence.{exact_evidence}
+use Rattle.tm_strategy_lp.specs.JointItems.{exact_joint}
+use Rattle.tm_strategy_lp.specs.Cut.{exact_cut}
+use Rattle.tm_strategy_lp.specs.Turns.{Turn, later_turns, part_turns, parts_turns, exact_turns}
+use Rattle.tm_strategy_lp.specs.Rounds.{exact_grow, exact_grown, exact_round_steps}
+use Rattle.tm_strategy_lp.proofs.Joined.{exact_joined}
+use Rattle.tm_strategy_lp.proofs.ExactRound.{exact_sizes, exact_cuts}
+use Rattle.tm_strategy_lp.proofs.TurnConditions.{turn_condition}
 use Rattle.tm_rounds.proofs.Counting.{count_choices, distinct_few, distinct_append}
 
 -- a step has an item
@@ -113,7 +115,7 @@ turns_of joint (list ∷ lists) k b s m =
     let others = parts_turns joint (k + length p) (led p b) lists in
     ⊎_elim (λ j. later_of joint mine (mine ++ others) s (λ t h. left mine others t h) (part_of joint (length list) k b list s j))
     (λ j. later_of joint others (mine ++ others) s (λ t h. right mine others t h) (turns_of joint lists (k + length p) (led p b) s j))
-    (in_append p (turns joint (led p b) lists) s m)
+    (of_append p (turns joint (led p b) lists) s m)
   where
     left : (xs ys : List Turn) (t : Turn) → In xs t → In (xs ++ ys) t
     left [] ys t m = absurd m
@@ -142,7 +144,7 @@ module _ (fitting : ℚ → Bool) (system : Equations) (d : Vector) (pick : Pick
   unfolding round_steps
   round_filled s m =
       ⊎_elim (λ j. grow_filled fitting system d pick is_pick s j) (λ j. turn_filled s j)
-      (in_append (exact_grow fitting system d pick) (turns (exact_joint system pick) (exact_grown fitting system d pick) (exact_cut fitting system d pick)) s m)
+      (of_append (exact_grow fitting system d pick) (turns (exact_joint system pick) (exact_grown fitting system d pick) (exact_cut fitting system d pick)) s m)
 
   members_few : length (members (exact_cut fitting system d pick)) ≤ system.points * length system.template
   members_few =

@@ -4,44 +4,45 @@ use Rattle.std.specs.Prelude.{Option, Some, None}
 use Rattle.std.specs.List.{range_with_len}
 use Rattle.std.proofs.lemmas.Bool.{lt-ltb, cases_lt}
 use Rattle.std.proofs.lemmas.Nat.{div-add-mod'}
+use Rattle.tm_base.proofs.elements.Membership.{in_map}
+use Rattle.tm_base.specs.Elements.{In}
 use Rattle.tm_num.specs.Rational.{zero_ℚ}
 use Rattle.tm_num.specs.Extended.{Ext as Extended, neg_inf, ◌<ᴱ◌, ◌≤ᴱ◌}
 use Rattle.tm_eqsys.specs.Equations.{Equations, Vector}
 use Rattle.tm_eqsys.specs.View.{equations_of}
 use Rattle.tm_eqsys.specs.declared.system.System.{System}
-use Rattle.tm_steps.specs.Steps.{In, Item, Step, edge_of, row_of, Distinct}
-use Rattle.tm_steps.specs.Certificates.{led}
-use Rattle.tm_steps.proofs.Needs.{in_map}
+use Rattle.tm_validity.specs.Steps.{Item, Step, edge_of, row_of, Distinct}
+use Rattle.tm_validity.specs.Certificates.{led}
 use Rattle.tm_cert.specs.declared.step.Step.{Step as CodeStep}
 use Rattle.tm_cert.specs.Certificates.{step_of}
-use Rattle.tm_round.specs.Picks.{Pick, Tight, Above}
-use Rattle.tm_round.specs.Growth.{items_of}
-use Rattle.tm_round.specs.Round.{turns, members, round, round_steps}
-use Rattle.tm_round.proofs.RoundLaw.{RoundDone}
-use Rattle.tm_point.specs.JointProblems.{Listed}
-use Rattle.tm_point.specs.Parts.{InSome, parts}
-use Rattle.tm_point.proofs.PartsLaw.{parts_sound}
-use Rattle.tm_point.proofs.PartsRise.{rising_distinct}
+use Rattle.tm_strategy.specs.Picks.{Pick, Tight, Above}
+use Rattle.tm_strategy.specs.Growth.{items_of}
+use Rattle.tm_strategy.specs.Round.{turns, members, round, round_steps}
+use Rattle.tm_strategy.proofs.RoundLaw.{RoundDone}
+use Rattle.tm_transformers.specs.JointProblems.{Listed}
+use Rattle.tm_transformers.specs.Parts.{InSome, parts}
+use Rattle.tm_transformers.proofs.PartsLaw.{parts_sound}
+use Rattle.tm_transformers.proofs.PartsRise.{rising_distinct}
 use Rattle.tm_joint.specs.Numbers.{number_of, listed_of, all_listed}
 use Rattle.tm_joint.specs.PartLists.{listed_parts, part_numbers}
 use Rattle.tm_joint.proofs.NodeFacts.{number_back}
-use Rattle.tm_exact.specs.Agreement.{Agree, HaveRows}
-use Rattle.tm_exact.specs.JointItems.{listed_item, listed_items}
-use Rattle.tm_exact.specs.Cut.{in_order, item_for, items_for, items_of_parts, cut_items, exact_cut}
-use Rattle.tm_exact.specs.Rounds.{exact_grown, exact_rising}
-use Rattle.tm_exact.specs.Turns.{Turn, parts_turns, exact_turns}
-use Rattle.tm_exact.proofs.ListedItems.{distinct_items}
-use Rattle.tm_exact.proofs.CutItems.{item_for_is}
-use Rattle.tm_exact.proofs.ExactRound.{rising_ordered, exact_cuts, exact_round_is}
-use Rattle.tm_exact.proofs.GrowthAgrees.{rising_rows}
-use Rattle.tm_exact.proofs.ProblemsAgree.{transformer_agrees, led_agrees}
-use Rattle.tm_exact.proofs.RoundAgrees.{turns_agree}
-use Rattle.tm_exact.proofs.TurnsAgree.{LikeOne, parts_turns_agree}
-use Rattle.tm_exact.proofs.TurnConditions.{turn_condition}
+use Rattle.tm_strategy_lp.specs.Agreement.{Agree, HaveRows}
+use Rattle.tm_strategy_lp.specs.JointItems.{listed_item, listed_items}
+use Rattle.tm_strategy_lp.specs.Cut.{in_order, item_for, items_for, items_of_parts, cut_items, exact_cut}
+use Rattle.tm_strategy_lp.specs.Rounds.{exact_grown, exact_rising}
+use Rattle.tm_strategy_lp.specs.Turns.{Turn, parts_turns, exact_turns}
+use Rattle.tm_strategy_lp.proofs.ListedItems.{distinct_items}
+use Rattle.tm_strategy_lp.proofs.CutItems.{item_for_is}
+use Rattle.tm_strategy_lp.proofs.ExactRound.{rising_ordered, exact_cuts, exact_round_is}
+use Rattle.tm_strategy_lp.proofs.GrowthAgrees.{rising_rows}
+use Rattle.tm_strategy_lp.proofs.ProblemsAgree.{transformer_agrees, led_agrees}
+use Rattle.tm_strategy_lp.proofs.RoundAgrees.{turns_agree}
+use Rattle.tm_strategy_lp.proofs.TurnsAgree.{LikeOne, parts_turns_agree}
+use Rattle.tm_strategy_lp.proofs.TurnConditions.{turn_condition}
 use Rattle.tm_raise.specs.Numbers.{fitting}
 use Rattle.tm_rounds.specs.declared.turning.Turning.{Turning}
-use Rattle.tm_rounds.specs.AtBounds.{transformers, vector_at, EdgesAreThere, IsTightPick, IsSupportedPick}
-use Rattle.tm_rounds.specs.Improvement.{pick_of}
+use Rattle.tm_offers.specs.AtBounds.{transformers, vector_at, EdgesAreThere, IsTightPick, IsSupportedPick}
+use Rattle.tm_offers.specs.Improvement.{pick_of}
 use Rattle.tm_rounds.specs.Growing.{Agrees}
 use Rattle.tm_rounds.specs.Growth.{growth_at, named_at, AreLed}
 use Rattle.tm_rounds.specs.GrowthTests.{is_named}
@@ -49,7 +50,7 @@ use Rattle.tm_rounds.specs.Lows.{item_in, ArePlaces, raise_at, items_at}
 use Rattle.tm_rounds.specs.Turning.{finite_in, joint_of, IsPickAt, IsPart, HaveConditions, AreAllDone, turns_so_far, turns_of_parts}
 use Rattle.tm_rounds.specs.Round.{round_at, rounded_at, turns_at, AreAbove}
 use Rattle.tm_rounds.proofs.ListedLows.{listed_here, listed_same}
-use Rattle.tm_rounds.proofs.Unknowns.{row_within}
+use Rattle.tm_offers.proofs.Unknowns.{row_within}
 use Rattle.tm_rounds.proofs.TurnItems.{place_of, in_place}
 use Rattle.tm_rounds.proofs.LeftOver.{of_filter}
 use Rattle.tm_rounds.proofs.RaiseList.{of_range}

@@ -5,35 +5,36 @@ use Rattle.std.specs.List.{range_with_len}
 use Rattle.std.proofs.lemmas.Bool.{lt-ltb, cases_lt}
 use Rattle.std.proofs.lemmas.Nat.{div-add-mod'}
 use Rattle.std.proofs.lemmas.List.{length-map, get_or-map}
+use Rattle.tm_base.proofs.elements.Membership.{in_map, in_range}
+use Rattle.tm_base.specs.Elements.{In}
 use Rattle.tm_num.specs.Extended.{Ext as Extended, neg_inf, fin, pos_inf}
 use Rattle.tm_num.specs.Rational.{ℚ}
 use Rattle.tm_eqsys.specs.Equations.{Equations, Vector}
 use Rattle.tm_eqsys.specs.View.{equations_of}
 use Rattle.tm_eqsys.specs.declared.system.System.{System}
-use Rattle.tm_steps.specs.Steps.{In, Item, names, Placed, Distinct}
-use Rattle.tm_steps.proofs.Puts.{named_is, names_itself}
-use Rattle.tm_steps.proofs.Needs.{in_map, in_range}
+use Rattle.tm_validity.specs.Steps.{Item, names, Placed, Distinct}
+use Rattle.tm_validity.proofs.Puts.{named_is, names_itself}
 use Rattle.tm_cert.specs.declared.step.Step.{Step as CodeStep}
 use Rattle.tm_cert.specs.Certificates.{step_of}
-use Rattle.tm_round.specs.Picks.{Pick, Picks}
-use Rattle.tm_round.specs.Growth.{items_of}
-use Rattle.tm_point.specs.Parts.{IsRising}
+use Rattle.tm_strategy.specs.Picks.{Pick, Picks}
+use Rattle.tm_strategy.specs.Growth.{items_of}
+use Rattle.tm_transformers.specs.Parts.{IsRising}
 use Rattle.tm_joint.specs.Numbers.{Rises, IsPicked}
-use Rattle.tm_exact.specs.Rounds.{exact_grown, exact_rising}
-use Rattle.tm_exact.specs.Cut.{in_order}
-use Rattle.tm_exact.proofs.GrowthAgrees.{grow_picked}
-use Rattle.tm_exact.proofs.GrowthShape.{grow_single, grow_apart, grow_few, choices_few, to_rising, of_rising}
-use Rattle.tm_exact.proofs.InOrder.{of_order, to_order, rising_unique}
-use Rattle.tm_exact.proofs.ExactRound.{rising_ordered}
+use Rattle.tm_strategy_lp.specs.Rounds.{exact_grown, exact_rising}
+use Rattle.tm_strategy_lp.specs.Cut.{in_order}
+use Rattle.tm_strategy_lp.proofs.GrowthAgrees.{grow_picked}
+use Rattle.tm_strategy_lp.proofs.GrowthShape.{grow_single, grow_apart, grow_few, choices_few, to_rising, of_rising}
+use Rattle.tm_strategy_lp.proofs.InOrder.{of_order, to_order, rising_unique}
+use Rattle.tm_strategy_lp.proofs.ExactRound.{rising_ordered}
 use Rattle.tm_raise.specs.Numbers.{fitting}
-use Rattle.tm_rounds.specs.AtBounds.{vector_at}
-use Rattle.tm_rounds.specs.Improvement.{pick_of}
+use Rattle.tm_offers.specs.AtBounds.{vector_at}
+use Rattle.tm_offers.specs.Improvement.{pick_of}
 use Rattle.tm_rounds.specs.Growing.{Agrees}
 use Rattle.tm_rounds.specs.Growth.{growth_at, named_at}
 use Rattle.tm_rounds.specs.GrowthTests.{is_named}
 use Rattle.tm_rounds.specs.Lows.{no_step, IsFilled, unknown_in, edge_in, item_in, AreRaises, ArePlaces, raise_at, IsRaised, items_at}
 use Rattle.tm_rounds.specs.Turning.{is_finite, finite_in, IsPickAt, IsPart}
-use Rattle.tm_rounds.proofs.Unknowns.{row_within}
+use Rattle.tm_offers.proofs.Unknowns.{row_within}
 use Rattle.tm_rounds.proofs.TurnItems.{place_of, in_place}
 use Rattle.tm_rounds.proofs.ListedLows.{item_is, listed_same}
 use Rattle.tm_rounds.proofs.PutVector.{apart_at}

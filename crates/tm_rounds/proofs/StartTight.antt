@@ -5,8 +5,8 @@ use Rattle.std.proofs.lemmas.List.{length-replicate}
 use Rattle.tm_num.specs.Extended.{Ext as Extended, neg_inf, pos_inf}
 use Rattle.tm_eqsys.specs.Starts.{start_bounds}
 use Rattle.tm_eqsys.specs.declared.system.System.{System}
-use Rattle.tm_rounds.specs.AtBounds.{IsTightPick}
-use Rattle.tm_rounds.specs.Improvement.{pick_of}
+use Rattle.tm_offers.specs.AtBounds.{IsTightPick}
+use Rattle.tm_offers.specs.Improvement.{pick_of}
 
 -- +inf in front, and -inf behind
 entry_at : (n u : ℕ) (ys : List Extended) → u < n → get_or (replicate n pos_inf ++ ys) u neg_inf ≡ pos_inf

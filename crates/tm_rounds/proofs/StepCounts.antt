@@ -5,6 +5,8 @@ use Rattle.std.specs.List.{list_all}
 use Rattle.std.proofs.lemmas.Bool.{le-leb, leb-true}
 use Rattle.std.proofs.lemmas.List.{length-map}
 use Rattle.std.proofs.lemmas.Nat.{mod-mul-add}
+use Rattle.tm_base.proofs.elements.Membership.{in_map, of_append}
+use Rattle.tm_base.specs.Elements.{In}
 use Rattle.tm_eqsys.specs.Equations.{Equations, Vector}
 use Rattle.tm_eqsys.specs.View.{equations_of}
 use Rattle.tm_eqsys.specs.declared.system.System.{System}
@@ -12,22 +14,20 @@ use Rattle.tm_eqsys.specs.SystemLimits.{is_over}
 use Rattle.tm_eqsys.proofs.Sizes.{both}
 use Rattle.tm_rows.specs.Rows.{is_template}
 use Rattle.tm_tree.specs.Numbers.{are_numbers}
-use Rattle.tm_steps.specs.Steps.{In, Step, ValidStep, after}
-use Rattle.tm_steps.specs.Certificates.{ValidSteps}
-use Rattle.tm_steps.proofs.Needs.{in_map}
+use Rattle.tm_validity.specs.Steps.{Step, ValidStep, after}
+use Rattle.tm_validity.specs.Certificates.{ValidSteps}
 use Rattle.tm_cert.specs.declared.step.Step.{Step as CodeStep}
 use Rattle.tm_cert.specs.declared.step.Step.TheVariants.{Plain, Jump, Ray}
 use Rattle.tm_cert.specs.Certificates.{step_of, plain_item, jump_item, ray_item}
 use Rattle.tm_cert.specs.Shaped.{has_some, has_item, IsShaped}
-use Rattle.tm_round.proofs.GrowthLaw.{in_append}
-use Rattle.tm_exact.specs.Rounds.{Choice, exact_round_steps, exact_steps}
-use Rattle.tm_exact.proofs.ExactChain.{round_made}
+use Rattle.tm_strategy_lp.specs.Rounds.{Choice, exact_round_steps, exact_steps}
+use Rattle.tm_strategy_lp.proofs.ExactChain.{round_made}
 use Rattle.tm_raise.specs.Numbers.{fitting}
-use Rattle.tm_rounds.specs.declared.offer.Offer.{Offer}
+use Rattle.tm_offers.specs.declared.offer.Offer.{Offer}
 use Rattle.tm_rounds.specs.declared.solution.Solved.{Solved}
 use Rattle.tm_rounds.specs.Chains.{state_at, steps_after, IsChain}
 use Rattle.tm_rounds.specs.Solutions.{IsSolved, AreNumbered, has_most, cert_with}
-use Rattle.tm_rounds.proofs.Ranges.{points_in_range}
+use Rattle.tm_offers.proofs.Ranges.{points_in_range}
 use Rattle.tm_rounds.proofs.Counting.{distinct_few}
 use Rattle.tm_rounds.proofs.RoundCounts.{Filled, round_filled, round_few}
 use Rattle.tm_rounds.proofs.Outcomes.{solved_valid}
@@ -43,7 +43,7 @@ module _ (system : System) (policy : Offer → ℕ → Type 0) (n : ℕ) (choose
   steps_filled (suc k) l s m =
       ⊎_elim (λ j. steps_filled k (omega arith) s j)
       (λ j. round_filled fitting E (state_at system choose k).vector (state_at system choose (suc k)).pick (round_made fitting E (points_in_range system) choose chain.among n chain.made k (omega arith)).better.is_pick s j)
-      (in_append (exact_steps fitting E choose k) (exact_round_steps fitting E (state_at system choose k).vector (state_at system choose (suc k)).pick) s m)
+      (of_append (exact_steps fitting E choose k) (exact_round_steps fitting E (state_at system choose k).vector (state_at system choose (suc k)).pick) s m)
 
   steps_few : length system.flow.points * length system.template ≤ 1024 → (k : ℕ) → k ≤ n → length (exact_steps fitting (equations_of system) choose k) ≤ k * 2048
   unfolding exact_steps

@@ -11,32 +11,32 @@ use Rattle.tm_frac.specs.Operation.{first_wide, operation_of}
 use Rattle.tm_eqsys.specs.Equations.{Equations, Vector}
 use Rattle.tm_eqsys.specs.View.{equations_of}
 use Rattle.tm_eqsys.specs.declared.system.System.{System}
-use Rattle.tm_steps.specs.Steps.{Item, Step, edge_of, row_of, names, put, new_value, after}
-use Rattle.tm_steps.proofs.Puts.{named_is, names_itself}
+use Rattle.tm_validity.specs.Steps.{Item, Step, edge_of, row_of, names, put, new_value, after}
+use Rattle.tm_validity.proofs.Puts.{named_is, names_itself}
 use Rattle.tm_cert.specs.declared.step.Step.{Step as CodeStep}
 use Rattle.tm_cert.specs.declared.step.Step.TheVariants.{Plain, Jump, Ray}
 use Rattle.tm_cert.specs.Certificates.{step_of, plain_item, jump_item, pieces_of, no_pieces}
-use Rattle.tm_round.specs.Picks.{value_at, choice}
-use Rattle.tm_round.specs.Growth.{with_words, raised_to}
-use Rattle.tm_exact.specs.Rounds.{exact_raise}
-use Rattle.tm_exact.proofs.ProblemsAgree.{transformer_agrees}
-use Rattle.tm_oper.specs.declared.value.Value.{Value}
-use Rattle.tm_oper.specs.declared.value.Value.TheVariants.{Unreached, Empty, Best, Unbounded}
+use Rattle.tm_strategy.specs.Picks.{value_at, choice}
+use Rattle.tm_strategy.specs.Growth.{with_words, raised_to}
+use Rattle.tm_strategy_lp.specs.Rounds.{exact_raise}
+use Rattle.tm_strategy_lp.proofs.ProblemsAgree.{transformer_agrees}
+use Rattle.tm_compose.specs.declared.value.Value.{Value}
+use Rattle.tm_compose.specs.declared.value.Value.TheVariants.{Unreached, Empty, Best, Unbounded}
 use Rattle.tm_oper.specs.Values.{IsValue}
-use Rattle.tm_oper.specs.Meanings.{number_of}
-use Rattle.tm_raise.specs.declared.carry.Constants.TheVariants.{Zero}
+use Rattle.tm_compose.specs.Value.{number_of}
+use Rattle.tm_eqsys.specs.declared.sums.Constants.TheVariants.{Zero}
 use Rattle.tm_raise.specs.Moves.{carried}
 use Rattle.tm_raise.specs.Lows.{low_of}
 use Rattle.tm_raise.specs.Numbers.{fitting}
 use Rattle.tm_raise.specs.Raises.{choice_of, raised, raise_operations, HasSizes, Rises}
 use Rattle.tm_rounds.specs.declared.growing.Growing.{Growing}
-use Rattle.tm_rounds.specs.declared.stop.Stop.{Stop}
-use Rattle.tm_rounds.specs.declared.stop.Stop.TheVariants.{Wide, NoMemory}
-use Rattle.tm_rounds.specs.AtBounds.{transformers, vector_at}
+use Rattle.tm_offers.specs.declared.stop.Stop.{Stop}
+use Rattle.tm_offers.specs.declared.stop.Stop.TheVariants.{Wide, NoMemory}
+use Rattle.tm_offers.specs.AtBounds.{transformers, vector_at}
 use Rattle.tm_rounds.specs.GrowthStops.{IsStopIn}
 use Rattle.tm_rounds.specs.Growing.{Agrees, bound_given, HasItem, NamesOne, tested, IsGo, IsValueAt, IsValueStop, IsStepStop}
-use Rattle.tm_rounds.proofs.Unknowns.{row_within}
-use Rattle.tm_rounds.proofs.ValuesAgree.{value_agrees, fault_agrees}
+use Rattle.tm_offers.proofs.Unknowns.{row_within}
+use Rattle.tm_offers.proofs.ValuesAgree.{value_agrees, fault_agrees}
 use Rattle.tm_rounds.proofs.RaiseRead.{not_below, raise_is, sizes_are, rises_are}
 
 -- ---- the step of a raise

@@ -3,6 +3,7 @@ use Rattle.std.proofs.Common.{◌≡◌, ◌∙◌, ℕ, zero, suc, ◌+◌, ◌
 use Rattle.std.specs.Prelude.{Option, flat_map}
 use Rattle.std.specs.List.{range_with_len}
 use Rattle.std.proofs.lemmas.Nat.{div-add-mod'}
+use Rattle.tm_base.specs.Elements.{In}
 use Rattle.tm_num.specs.Extended.{Ext as Extended}
 use Rattle.tm_eqsys.specs.Equations.{Vector}
 use Rattle.tm_eqsys.specs.View.{equations_of, bounds_of}
@@ -10,15 +11,14 @@ use Rattle.tm_eqsys.specs.declared.system.System.{System}
 use Rattle.tm_eqsys.specs.declared.spot.PartFault.TheVariants.{Wide as WideIn}
 use Rattle.tm_eqsys.specs.declared.spot.Site.TheVariants.{Joint}
 use Rattle.tm_eqsys.proofs.Listed.{listed_law}
-use Rattle.tm_steps.specs.Steps.{In}
 use Rattle.tm_cert.specs.declared.step.Step.{Step as CodeStep}
-use Rattle.tm_exact.specs.Agreement.{Agree}
-use Rattle.tm_exact.specs.Turns.{Turn}
-use Rattle.tm_exact.proofs.TurnsAgree.{LikeOne}
+use Rattle.tm_strategy_lp.specs.Agreement.{Agree}
+use Rattle.tm_strategy_lp.specs.Turns.{Turn}
+use Rattle.tm_strategy_lp.proofs.TurnsAgree.{LikeOne}
 use Rattle.tm_joint.specs.Joints.{IsJointFault}
-use Rattle.tm_rounds.specs.declared.stop.Stop.{Stop}
-use Rattle.tm_rounds.specs.declared.stop.Stop.TheVariants.{Wide, NoMemory}
-use Rattle.tm_rounds.specs.AtBounds.{vector_at}
+use Rattle.tm_offers.specs.declared.stop.Stop.{Stop}
+use Rattle.tm_offers.specs.declared.stop.Stop.TheVariants.{Wide, NoMemory}
+use Rattle.tm_offers.specs.AtBounds.{vector_at}
 use Rattle.tm_rounds.specs.Lows.{AreRaised, items_at}
 use Rattle.tm_rounds.specs.Round.{numbers_of, IsTurnStop}
 use Rattle.tm_rounds.specs.Turning.{IsJoinedStop}

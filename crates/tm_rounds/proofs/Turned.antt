@@ -4,39 +4,40 @@ use Rattle.std.specs.Prelude.{Option}
 use Rattle.std.proofs.lemmas.Nat.{div-add-mod'}
 use Rattle.std.proofs.lemmas.List.{get_or-map, length-map}
 use Rattle.std.proofs.lemmas.List.FromFn.{length-map-range_with_len, get_or-map-range_with_len}
+use Rattle.tm_base.specs.Elements.{In}
 use Rattle.tm_num.specs.Rational.{ℚ, zero_ℚ}
 use Rattle.tm_num.specs.Extended.{Ext as Extended, fin, pos_inf}
 use Rattle.tm_eqsys.specs.Equations.{Equations, Vector}
 use Rattle.tm_eqsys.specs.View.{equations_of, vector_of}
 use Rattle.tm_eqsys.specs.declared.system.System.{System}
 use Rattle.tm_eqsys.specs.declared.trace.Trace.{Trace}
-use Rattle.tm_steps.specs.Steps.{In, Item, Jump as JumpKind, Ray as RayKind, new_value, after, Distinct}
-use Rattle.tm_steps.specs.Certificates.{num}
+use Rattle.tm_validity.specs.Steps.{Item, Jump as JumpKind, Ray as RayKind, new_value, after, Distinct}
+use Rattle.tm_validity.specs.Certificates.{num}
 use Rattle.tm_cert.specs.declared.step.Step.{Step as CodeStep}
 use Rattle.tm_cert.specs.Certificates.{jump_item, ray_item}
 use Rattle.tm_ray.specs.declared.rate.RateOf.{RateOf}
 use Rattle.tm_ray.specs.declared.layout.Rise.{Rise}
 use Rattle.tm_ray.specs.Reading.{named_rates}
 use Rattle.tm_lp.specs.Problem.{best}
-use Rattle.tm_point.specs.JointProblems.{Listed, rise_at, raised, joint_words, AllRising}
-use Rattle.tm_point.specs.JointPoints.{Distinct as Apart}
-use Rattle.tm_round.specs.Picks.{choice}
-use Rattle.tm_round.specs.Round.{ListCondition}
+use Rattle.tm_transformers.specs.JointProblems.{Listed, rise_at, raised, joint_words, AllRising}
+use Rattle.tm_transformers.specs.JointPoints.{Distinct as Apart}
+use Rattle.tm_strategy.specs.Picks.{choice}
+use Rattle.tm_strategy.specs.Round.{ListCondition}
 use Rattle.tm_joint.specs.Numbers.{ArePicked, IsPicked, all_listed}
 use Rattle.tm_joint.specs.Joints.{IsReadFrom, entries_of, word_of}
 use Rattle.tm_joint.specs.Layouts.{layout_of}
 use Rattle.tm_joint.specs.declared.joined.Joined.TheVariants.{Point as PointRead}
 use Rattle.tm_joint.proofs.Translated.{listed_distinct}
 use Rattle.tm_joint.proofs.NumberReads.{numbers_are}
-use Rattle.tm_exact.specs.JointItems.{listed_items, point_items, rate_items}
-use Rattle.tm_exact.proofs.ListedItems.{rising_items}
-use Rattle.tm_rounds.specs.AtBounds.{vector_at, transformers}
-use Rattle.tm_rounds.specs.Improvement.{pick_of}
+use Rattle.tm_strategy_lp.specs.JointItems.{listed_items, point_items, rate_items}
+use Rattle.tm_strategy_lp.proofs.ListedItems.{rising_items}
+use Rattle.tm_offers.specs.AtBounds.{vector_at, transformers}
+use Rattle.tm_offers.specs.Improvement.{pick_of}
 use Rattle.tm_rounds.specs.Growing.{Agrees}
 use Rattle.tm_rounds.specs.Lows.{no_trace, AreRaised, items_at}
 use Rattle.tm_rounds.specs.Putting.{puts}
 use Rattle.tm_rounds.specs.Turning.{jump_item_at, jump_items_at, ray_item_of, IsPart}
-use Rattle.tm_rounds.proofs.Unknowns.{row_within}
+use Rattle.tm_offers.proofs.Unknowns.{row_within}
 use Rattle.tm_rounds.proofs.TurnItems.{place_of, in_place, each_unknown}
 use Rattle.tm_rounds.proofs.ListedLows.{listed_same}
 use Rattle.tm_rounds.proofs.JumpTurn.{jump_is}

@@ -3,15 +3,16 @@ use Rattle.std.proofs.Common.{◌≡◌, ◌∙◌, ℕ, ◌+◌, ◌*◌, ◌/�
 use Rattle.std.specs.Prelude.{Option, Some, None}
 use Rattle.std.proofs.lemmas.Nat.{div-add-mod'}
 use Rattle.std.proofs.lemmas.List.{length-map, map-append}
+use Rattle.tm_base.proofs.elements.Membership.{in_map}
+use Rattle.tm_base.specs.Elements.{In}
 use Rattle.tm_num.specs.Rational.{ℚ, zero_ℚ}
 use Rattle.tm_num.specs.Extended.{neg_inf, fin, pos_inf}
 use Rattle.tm_eqsys.specs.Equations.{Equations, Vector}
 use Rattle.tm_eqsys.specs.View.{equations_of, vector_of}
 use Rattle.tm_eqsys.specs.declared.system.System.{System}
 use Rattle.tm_eqsys.specs.declared.trace.Trace.{Trace}
-use Rattle.tm_steps.specs.Steps.{In, Item, Jump as JumpKind, Ray as RayKind, put, new_value, after, Unnamed, Distinct}
-use Rattle.tm_steps.proofs.Needs.{in_map}
-use Rattle.tm_steps.proofs.Puts.{put-named, put-unnamed}
+use Rattle.tm_validity.specs.Steps.{Item, Jump as JumpKind, Ray as RayKind, put, new_value, after, Unnamed, Distinct}
+use Rattle.tm_validity.proofs.Puts.{put-named, put-unnamed}
 use Rattle.tm_cert.specs.declared.step.Step.{Step as CodeStep}
 use Rattle.tm_cert.specs.declared.step.Step.TheVariants.{Jump as JumpStep, Ray as RayStep}
 use Rattle.tm_cert.specs.Certificates.{step_of, ray_item}
@@ -19,19 +20,19 @@ use Rattle.tm_ray.specs.declared.rate.RateOf.{RateOf}
 use Rattle.tm_ray.specs.declared.rate.Rates.{Rates}
 use Rattle.tm_lp.specs.Problem.{Outcome as Solution, best, unbounded, empty}
 use Rattle.tm_lp.specs.Simplex.{lp}
-use Rattle.tm_point.specs.JointProblems.{rise_at, raised, joint_problem, joint_words}
-use Rattle.tm_round.specs.Picks.{IsPick}
-use Rattle.tm_round.specs.Round.{Outcome, Point, Rays, ListCondition, PointFacts, RayFacts, OutcomeFacts, without}
-use Rattle.tm_round.proofs.TurnLaw.{fewer_without}
+use Rattle.tm_transformers.specs.JointProblems.{rise_at, raised, joint_problem, joint_words}
+use Rattle.tm_strategy.specs.Picks.{IsPick}
+use Rattle.tm_strategy.specs.Round.{Outcome, Point, Rays, ListCondition, PointFacts, RayFacts, OutcomeFacts, without}
+use Rattle.tm_strategy.proofs.TurnLaw.{fewer_without}
 use Rattle.tm_joint.specs.Joints.{IsReadFrom}
 use Rattle.tm_joint.specs.Problems.{problem_of}
 use Rattle.tm_joint.specs.declared.joined.Joined.{Joined}
 use Rattle.tm_joint.specs.declared.joined.Joined.TheVariants.{Point as PointRead, Ray as RayRead}
-use Rattle.tm_exact.specs.JointItems.{listed_items, point_items, rate_items, outcome_items, exact_joint}
-use Rattle.tm_exact.proofs.Joined.{exact_joined}
+use Rattle.tm_strategy_lp.specs.JointItems.{listed_items, point_items, rate_items, outcome_items, exact_joint}
+use Rattle.tm_strategy_lp.proofs.Joined.{exact_joined}
 use Rattle.tm_rounds.specs.declared.turning.Turning.{Turning}
-use Rattle.tm_rounds.specs.AtBounds.{vector_at, transformers}
-use Rattle.tm_rounds.specs.Improvement.{pick_of}
+use Rattle.tm_offers.specs.AtBounds.{vector_at, transformers}
+use Rattle.tm_offers.specs.Improvement.{pick_of}
 use Rattle.tm_rounds.specs.Growing.{Agrees}
 use Rattle.tm_rounds.specs.Lows.{edge_in, raise_at, item_in, IsRaised, items_at}
 use Rattle.tm_rounds.specs.Turning.{is_finite, jump_items_at, ray_item_of, turns_so_far, IsPart, IsTurned, IsTurnedBy, IsTaken}

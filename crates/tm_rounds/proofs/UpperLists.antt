@@ -4,17 +4,15 @@ use Rattle.std.specs.Prelude.{flat_map}
 use Rattle.std.specs.List.{range_with_len}
 use Rattle.std.proofs.Math.Path.{fun_ext}
 use Rattle.std.proofs.lemmas.Grind.{flat_map-append}
-use Rattle.std.proofs.lemmas.List.{map-append, append-nil, append_assoc, take_more, get_or_default}
+use Rattle.std.proofs.lemmas.List.{map-append, append-nil, append_assoc, take_more}
 use Rattle.std.proofs.lemmas.Bool.Decides.{eqb_tells}
 use Rattle.tm_num.specs.Extended.{Ext as Extended, neg_inf, fin, pos_inf}
 use Rattle.tm_flow.specs.declared.edge.Edge.{Edge}
 use Rattle.tm_eqsys.specs.Equations.{Equations, Vector}
-use Rattle.tm_eqsys.specs.declared.system.System.{System}
-use Rattle.tm_steps.specs.Certificates.{Evidence, Need, into_needs, needs_at, needs}
+use Rattle.tm_validity.specs.Certificates.{Evidence, Need, into_needs, needs_at, needs}
 use Rattle.tm_cert.specs.declared.upper.Upper.{Upper}
 use Rattle.tm_cert.specs.Certificates.{evidence_of}
-use Rattle.tm_exact.specs.Made.{exact_upper, uppers_for, exact_uppers}
-use Rattle.tm_rounds.specs.AtBounds.{edge_at}
+use Rattle.tm_strategy_lp.specs.Made.{exact_upper, uppers_for, exact_uppers}
 use Rattle.tm_rounds.specs.Uppers.{is_top, uppers_into, uppers_of_rows}
 use Rattle.tm_rounds.proofs.Walked.{range-append}
 
@@ -123,10 +121,6 @@ module _ (system : Equations) (z : Vector) where
       sym (uppers_for-flat (λ p. flat_map (λ r. needs_at system p r (z p r)) (range_with_len 0 (length system.template))) (range_with_len 1 (system.points - 1))
       ∙ ap (λ f. flat_map f (range_with_len 1 (system.points - 1)))
       (fun_ext (λ p. uppers_for-flat (λ r. needs_at system p r (z p r)) (range_with_len 0 (length system.template)))))
-
--- the edge at a place of the edges is that of its number
-pub edge_here : (system : System) (edges : List Edge) (i : ℕ) (edge : Edge) → edges ≡ system.flow.edges → i < length edges → edge ≡ get_or edges i edge → edge_at system i ≡ edge
-edge_here system edges i edge same l is = ap (λ es. get_or es i (record { from = 0; to = 0; actions = [] })) (sym same) ∙ get_or_default edges i (record { from = 0; to = 0; actions = [] }) edge l ∙ sym is
 
 -- one more piece of evidence
 pub pushed : (before all : List Upper) (upper : Upper) (old rest : List Evidence) → all ≡ before ++ upper ∷ [] → map evidence_of before ≡ old ++ rest → map evidence_of all ≡ old ++ (rest ++ evidence_of upper ∷ [])

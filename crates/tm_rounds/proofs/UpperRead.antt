@@ -6,15 +6,15 @@ use Rattle.tm_num.specs.Extended.{Ext, neg_inf, fin, pos_inf, ◌<ᴱ◌}
 use Rattle.tm_flow.specs.declared.edge.Edge.{Edge}
 use Rattle.tm_eqsys.specs.Equations.{Equations, Vector}
 use Rattle.tm_eqsys.specs.declared.trace.Trace.{Trace}
-use Rattle.tm_steps.specs.Certificates.{Evidence}
-use Rattle.tm_steps.specs.Words.{guard_forms}
+use Rattle.tm_validity.specs.Certificates.{Evidence}
+use Rattle.tm_validity.specs.Words.{guard_forms}
 use Rattle.tm_lp.specs.Problem.{Outcome, best, unbounded, empty}
 use Rattle.tm_lp.specs.Simplex.{lp}
-use Rattle.tm_point.specs.EdgeProblems.{is_lost, lost}
-use Rattle.tm_exact.specs.Evidence.{whole_problem}
-use Rattle.tm_exact.specs.Made.{lowest_lost, outcome_upper, exact_upper}
-use Rattle.tm_oper.specs.declared.value.Value.{Value}
-use Rattle.tm_oper.specs.declared.value.Value.TheVariants.{Unreached, Empty, Best, Unbounded}
+use Rattle.tm_transformers.specs.EdgeProblems.{is_lost, lost}
+use Rattle.tm_strategy_lp.specs.Evidence.{whole_problem}
+use Rattle.tm_strategy_lp.specs.Made.{lowest_lost, outcome_upper, exact_upper}
+use Rattle.tm_compose.specs.declared.value.Value.{Value}
+use Rattle.tm_compose.specs.declared.value.Value.TheVariants.{Unreached, Empty, Best, Unbounded}
 use Rattle.tm_oper.specs.Values.{IsLowestLost, ReadsOutcome, IsValue}
 use Rattle.tm_rounds.specs.Uppers.{upper_read}
 

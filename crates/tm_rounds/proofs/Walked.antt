@@ -4,21 +4,22 @@ use Rattle.std.specs.Prelude.{Option, Some, None, flat_map}
 use Rattle.std.specs.List.{range_with_len}
 use Rattle.std.proofs.lemmas.Grind.{flat_map-append}
 use Rattle.std.proofs.lemmas.List.{get_or-set_same, get_or-set_other, append-nil}
+use Rattle.tm_base.specs.Elements.{In}
 use Rattle.tm_eqsys.specs.Equations.{Vector}
 use Rattle.tm_eqsys.specs.View.{equations_of}
 use Rattle.tm_eqsys.specs.declared.system.System.{System}
-use Rattle.tm_steps.specs.Steps.{In, Item, after}
-use Rattle.tm_steps.specs.Certificates.{led}
+use Rattle.tm_validity.specs.Steps.{Item, after}
+use Rattle.tm_validity.specs.Certificates.{led}
 use Rattle.tm_cert.specs.Certificates.{step_of}
-use Rattle.tm_round.specs.Picks.{value_at, choice, choice_at}
-use Rattle.tm_round.specs.Growth.{Log, stay, go, pass}
-use Rattle.tm_exact.specs.Evidence.{exact_evidence}
-use Rattle.tm_exact.specs.Rounds.{exact_pass, exact_raise}
+use Rattle.tm_strategy.specs.Picks.{value_at, choice, choice_at}
+use Rattle.tm_strategy.specs.Growth.{Log, stay, go, pass}
+use Rattle.tm_strategy_lp.specs.Evidence.{exact_evidence}
+use Rattle.tm_strategy_lp.specs.Rounds.{exact_pass, exact_raise}
 use Rattle.tm_raise.specs.Numbers.{fitting}
 use Rattle.tm_rounds.specs.declared.growing.Growing.{Growing}
-use Rattle.tm_rounds.specs.declared.stop.Stop.{Stop}
-use Rattle.tm_rounds.specs.declared.stop.Stop.TheVariants.{Wide, NoMemory}
-use Rattle.tm_rounds.specs.AtBounds.{transformers}
+use Rattle.tm_offers.specs.declared.stop.Stop.{Stop}
+use Rattle.tm_offers.specs.declared.stop.Stop.TheVariants.{Wide, NoMemory}
+use Rattle.tm_offers.specs.AtBounds.{transformers}
 use Rattle.tm_rounds.specs.GrowthTests.{Test, pass_tests}
 use Rattle.tm_rounds.specs.GrowthStops.{IsStopIn}
 use Rattle.tm_rounds.specs.Growing.{Agrees, steps_so_far, left_at, left_from, unraised, IsPassed, OthersKeep, tested, IsStay, IsGo, IsTested}

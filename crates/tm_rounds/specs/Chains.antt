@@ -4,13 +4,13 @@ use Rattle.tm_num.specs.Extended.{Ext as Extended}
 use Rattle.tm_eqsys.specs.Equations.{PostSolution}
 use Rattle.tm_eqsys.specs.View.{equations_of, bounds_of}
 use Rattle.tm_eqsys.specs.declared.system.System.{System}
-use Rattle.tm_round.specs.Solve.{State}
-use Rattle.tm_steps.specs.Steps.{Step}
-use Rattle.tm_exact.specs.Rounds.{Choice, TakesOne, Goes, exact_state, exact_steps}
+use Rattle.tm_strategy.specs.Solve.{State}
+use Rattle.tm_validity.specs.Steps.{Step}
+use Rattle.tm_strategy_lp.specs.Rounds.{Choice, TakesOne, Goes, exact_state, exact_steps}
 use Rattle.tm_raise.specs.Numbers.{fitting}
-use Rattle.tm_rounds.specs.declared.offer.Offer.{Offer}
-use Rattle.tm_rounds.specs.AtBounds.{transformers}
-use Rattle.tm_rounds.specs.Improvement.{IsChoice, NoneExceeds}
+use Rattle.tm_offers.specs.declared.offer.Offer.{Offer}
+use Rattle.tm_offers.specs.AtBounds.{transformers}
+use Rattle.tm_offers.specs.Improvement.{IsChoice, NoneExceeds}
 
 -- the vector and the pick after so many rounds by the choices of rounds
 abbrev pub state_at : System → (ℕ → Choice) → ℕ → State

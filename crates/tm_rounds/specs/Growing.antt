@@ -3,7 +3,9 @@ use Rattle.std.specs.Prelude.{◌≡◌, ◌⊎◌, ℕ, ◌+◌, ◌*◌, ◌/�
 use Rattle.std.specs.List.{range_with_len, filter}
 use Rattle.tm_num.specs.Rational.{ℚ}
 use Rattle.tm_num.specs.Extended.{Ext as Extended, neg_inf, fin, pos_inf, ◌<ᴱ◌, ◌≤ᴱ◌}
+use Rattle.tm_frac.specs.Extended.{extended}
 use Rattle.tm_frac.specs.Fits.{long_limit}
+use Rattle.tm_frac.specs.declared.ext.Ext.{Ext as CodeExtended}
 use Rattle.tm_frac.specs.Operation.{Operation, first_wide, operation_of}
 use Rattle.tm_eqsys.specs.Equations.{Vector}
 use Rattle.tm_eqsys.specs.View.{equations_of}
@@ -11,25 +13,26 @@ use Rattle.tm_eqsys.specs.declared.system.System.{System}
 use Rattle.tm_eqsys.specs.declared.spot.Part.{Part}
 use Rattle.tm_eqsys.specs.declared.spot.Spot.{Spot}
 use Rattle.tm_eqsys.specs.declared.spot.Site.TheVariants.{Growth, Raise}
-use Rattle.tm_steps.specs.Steps.{Item, Step, after}
-use Rattle.tm_steps.specs.Certificates.{led}
+use Rattle.tm_validity.specs.Steps.{Item, Step, after}
+use Rattle.tm_validity.specs.Certificates.{led}
 use Rattle.tm_cert.specs.declared.step.Step.{Step as CodeStep}
 use Rattle.tm_cert.specs.declared.step.Step.TheVariants.{Plain, Jump, Ray}
 use Rattle.tm_cert.specs.Certificates.{step_of}
-use Rattle.tm_round.specs.Picks.{choice_at, value_at}
-use Rattle.tm_round.specs.Growth.{items_of}
-use Rattle.tm_oper.specs.declared.value.Value.{Value}
+use Rattle.tm_strategy.specs.Picks.{choice_at, value_at}
+use Rattle.tm_strategy.specs.Growth.{items_of}
+use Rattle.tm_compose.specs.declared.value.Value.{Value}
 use Rattle.tm_oper.specs.Values.{IsValue}
-use Rattle.tm_oper.specs.Meanings.{number_of, HasEvidence}
-use Rattle.tm_exact.specs.Agreement.{Agree}
-use Rattle.tm_exact.specs.Evidence.{exact_evidence}
-use Rattle.tm_exact.specs.Rounds.{exact_pass, exact_raise}
+use Rattle.tm_compose.specs.Value.{number_of}
+use Rattle.tm_oper.specs.Meanings.{HasEvidence}
+use Rattle.tm_strategy_lp.specs.Agreement.{Agree}
+use Rattle.tm_strategy_lp.specs.Evidence.{exact_evidence}
+use Rattle.tm_strategy_lp.specs.Rounds.{exact_pass, exact_raise}
 use Rattle.tm_raise.specs.Numbers.{fitting}
 use Rattle.tm_raise.specs.Raises.{choice_of}
 use Rattle.tm_rounds.specs.declared.growing.Growing.{Growing}
-use Rattle.tm_rounds.specs.declared.stop.Stop.{Stop}
-use Rattle.tm_rounds.specs.declared.stop.Stop.TheVariants.{Wide, NoMemory}
-use Rattle.tm_rounds.specs.AtBounds.{transformers, vector_at, edge_at, row_at, IsWidePart}
+use Rattle.tm_offers.specs.declared.stop.Stop.{Stop}
+use Rattle.tm_offers.specs.declared.stop.Stop.TheVariants.{Wide, NoMemory}
+use Rattle.tm_offers.specs.AtBounds.{transformers, vector_at, edge_at, row_at, IsWidePart}
 use Rattle.tm_rounds.specs.GrowthTests.{pass_tests, is_named}
 use Rattle.tm_rounds.specs.GrowthStops.{IsStopIn}
 use Rattle.tm_rounds.specs.Growth.{growth_at}
@@ -60,6 +63,22 @@ pub record IsKept (system : System) (growing : Growing) : Type 0 where
   pub raised : length growing.raised.items ≡ length system.flow.points * length system.template
   pub named : (u : ℕ) → u < length system.flow.points * length system.template → get_or growing.raised.items u false ≡ is_named (length system.template) (items_of (steps_so_far system growing)) u
   pub count : length growing.steps.items ≡ length (filter (λ marked. marked) growing.raised.items)
+
+-- the transformer of an unknown's picked edge is at most its bound
+abbrev pub IsWithin : System → List Extended → List (Option ℕ) → ℕ → Type 0
+IsWithin system bounds pick u =
+    (edge : ℕ) → get_or pick u None ≡ Some edge →
+    value_at (equations_of system) (transformers system) (vector_at system bounds) (choice_of (length system.template) u edge) ≤ᴱ get_or bounds u neg_inf
+
+-- there is a mark for each unknown, and those that are marked are within their bounds
+pub record AreWithin (system : System) (bounds : List Extended) (pick : List (Option ℕ)) (marks : List Bool) : Type 0 where
+  pub size : length marks ≡ length system.flow.points * length system.template
+  pub within : (u : ℕ) → u < length system.flow.points * length system.template → get_or marks u false ≡ true → IsWithin system bounds pick u
+
+-- a value that is known is at most a bound
+abbrev pub IsKnownWithin : Option CodeExtended → CodeExtended → Type 0
+IsKnownWithin None bound = ⊥
+IsKnownWithin (Some value) bound = extended value ≤ᴱ extended bound
 
 -- an unknown is marked as quiet only where its picked transformer is at most its bound
 pub record AreQuiet (system : System) (pick : List (Option ℕ)) (growing : Growing) : Type 0 where

@@ -3,16 +3,16 @@ use Rattle.std.specs.Prelude.{ℕ, ◌*◌, List, length, Option}
 use Rattle.tm_num.specs.Extended.{Ext as Extended}
 use Rattle.tm_eqsys.specs.View.{equations_of}
 use Rattle.tm_eqsys.specs.declared.system.System.{System}
-use Rattle.tm_steps.specs.Steps.{Step}
-use Rattle.tm_steps.specs.Certificates.{led}
-use Rattle.tm_round.specs.Growth.{items_of}
-use Rattle.tm_exact.specs.Agreement.{Agree}
-use Rattle.tm_exact.specs.Evidence.{exact_evidence}
-use Rattle.tm_exact.specs.Rounds.{exact_grow}
+use Rattle.tm_validity.specs.Steps.{Step}
+use Rattle.tm_validity.specs.Certificates.{led}
+use Rattle.tm_strategy.specs.Growth.{items_of}
+use Rattle.tm_strategy_lp.specs.Agreement.{Agree}
+use Rattle.tm_strategy_lp.specs.Evidence.{exact_evidence}
+use Rattle.tm_strategy_lp.specs.Rounds.{exact_grow}
 use Rattle.tm_raise.specs.Numbers.{fitting}
-use Rattle.tm_rounds.specs.declared.stop.Stop.{Stop}
-use Rattle.tm_rounds.specs.AtBounds.{transformers, vector_at}
-use Rattle.tm_rounds.specs.Improvement.{pick_of}
+use Rattle.tm_offers.specs.declared.stop.Stop.{Stop}
+use Rattle.tm_offers.specs.AtBounds.{transformers, vector_at}
+use Rattle.tm_offers.specs.Improvement.{pick_of}
 use Rattle.tm_rounds.specs.GrowthTests.{Test, growth_tests, named_numbers}
 use Rattle.tm_rounds.specs.GrowthStops.{IsStopIn}
 

@@ -1,5 +1,6 @@
 -- Why a growth stops.
 use Rattle.std.specs.Prelude.{◌≡◌, ◌⊎◌, ℕ, List}
+use Rattle.tm_base.specs.Elements.{In}
 use Rattle.tm_num.specs.Rational.{ℚ}
 use Rattle.tm_num.specs.Extended.{◌<ᴱ◌}
 use Rattle.tm_frac.specs.Fits.{long_limit}
@@ -10,14 +11,14 @@ use Rattle.tm_eqsys.specs.declared.spot.Part.{Part}
 use Rattle.tm_eqsys.specs.declared.spot.PartFault.TheVariants.{Wide as WideIn}
 use Rattle.tm_eqsys.specs.declared.spot.Spot.{Spot}
 use Rattle.tm_eqsys.specs.declared.spot.Site.TheVariants.{Growth, Raise}
-use Rattle.tm_steps.specs.Steps.{In, edge_of, row_of}
-use Rattle.tm_round.specs.Picks.{value_at}
-use Rattle.tm_point.specs.EdgeProblems.{transformer}
-use Rattle.tm_oper.specs.declared.value.Value.{Value}
+use Rattle.tm_validity.specs.Steps.{edge_of, row_of}
+use Rattle.tm_strategy.specs.Picks.{value_at}
+use Rattle.tm_transformers.specs.EdgeProblems.{transformer}
+use Rattle.tm_compose.specs.declared.value.Value.{Value}
 use Rattle.tm_oper.specs.Values.{IsValue, IsOperatorFault}
 use Rattle.tm_raise.specs.Raises.{raise_operations}
-use Rattle.tm_rounds.specs.declared.stop.Stop.{Stop}
-use Rattle.tm_rounds.specs.declared.stop.Stop.TheVariants.{Wide, NoMemory}
+use Rattle.tm_offers.specs.declared.stop.Stop.{Stop}
+use Rattle.tm_offers.specs.declared.stop.Stop.TheVariants.{Wide, NoMemory}
 use Rattle.tm_rounds.specs.GrowthTests.{Test}
 
 -- the first wide operation of a part of the problem of the tested unknown's edge and row, at the vector of the test

@@ -5,10 +5,10 @@ use Rattle.std.proofs.Common.{⊎_elim}
 use Rattle.tm_num.specs.Rational.{ℚ}
 use Rattle.tm_num.proofs.ExtendedLaws.{ext_le_or_lt}
 use Rattle.tm_eqsys.specs.Equations.{Equations, Vector}
-use Rattle.tm_steps.specs.Steps.{Item, Step, names, after}
-use Rattle.tm_steps.specs.Certificates.{led}
-use Rattle.tm_round.specs.Picks.{Pick, Transformer, value_at, choices}
-use Rattle.tm_round.specs.Growth.{Evident, raise_at, pass}
+use Rattle.tm_validity.specs.Steps.{Item, Step, names, after}
+use Rattle.tm_validity.specs.Certificates.{led}
+use Rattle.tm_strategy.specs.Picks.{Pick, Transformer, value_at, choices}
+use Rattle.tm_strategy.specs.Growth.{Evident, raise_at, pass}
 
 -- a test of a picked unknown: the vector at which its edge's transformer is taken, and how many raises came before
 pub record Test : Type 0 where

@@ -1,8 +1,8 @@
 -- The halt that a stop or a fault of composition gives.
-use Rattle.tm_oper.specs.declared.fault.PathFault.{PathFault}
-use Rattle.tm_oper.specs.declared.fault.PathFault.TheVariants.{Wide as WidePath, NoMemory as NoPath}
-use Rattle.tm_rounds.specs.declared.stop.Stop.{Stop}
-use Rattle.tm_rounds.specs.declared.stop.Stop.TheVariants.{Wide as WideStop, NoMemory as NoStop}
+use Rattle.tm_compose.specs.declared.fault.PathFault.{PathFault}
+use Rattle.tm_compose.specs.declared.fault.PathFault.TheVariants.{Wide as WidePath, NoMemory as NoPath}
+use Rattle.tm_offers.specs.declared.stop.Stop.{Stop}
+use Rattle.tm_offers.specs.declared.stop.Stop.TheVariants.{Wide as WideStop, NoMemory as NoStop}
 use Rattle.tm_rounds.specs.declared.halt.Halt.{Halt}
 use Rattle.tm_rounds.specs.declared.halt.Halt.TheVariants.{Wide, NoMemory}
 

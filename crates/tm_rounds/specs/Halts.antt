@@ -5,16 +5,16 @@ use Rattle.tm_eqsys.specs.Equations.{PostSolution}
 use Rattle.tm_eqsys.specs.View.{equations_of}
 use Rattle.tm_eqsys.specs.declared.system.System.{System}
 use Rattle.tm_eqsys.specs.declared.spot.Spot.{Spot}
-use Rattle.tm_round.specs.PickCount.{pick_count}
-use Rattle.tm_exact.specs.Rounds.{Choice}
-use Rattle.tm_oper.specs.Faults.{IsPathFault}
-use Rattle.tm_oper.specs.declared.fault.PathFault.TheVariants.{Wide as WidePath}
-use Rattle.tm_rounds.specs.declared.offer.Offer.{Offer}
-use Rattle.tm_rounds.specs.declared.stop.Stop.TheVariants.{Wide as WideStop}
+use Rattle.tm_strategy.specs.PickCount.{pick_count}
+use Rattle.tm_strategy_lp.specs.Rounds.{Choice}
+use Rattle.tm_compose.specs.Faults.{IsPathFault}
+use Rattle.tm_compose.specs.declared.fault.PathFault.TheVariants.{Wide as WidePath}
+use Rattle.tm_offers.specs.declared.offer.Offer.{Offer}
+use Rattle.tm_offers.specs.declared.stop.Stop.TheVariants.{Wide as WideStop}
 use Rattle.tm_rounds.specs.declared.halt.Halt.{Halt}
 use Rattle.tm_rounds.specs.declared.halt.Halt.TheVariants.{Wide, Spent, NoMemory}
-use Rattle.tm_rounds.specs.Improvement.{pick_of}
-use Rattle.tm_rounds.specs.AtBounds.{vector_at, IsOfferStop}
+use Rattle.tm_offers.specs.Improvement.{pick_of}
+use Rattle.tm_offers.specs.AtBounds.{vector_at, IsOfferStop}
 use Rattle.tm_rounds.specs.Round.{IsRoundStop}
 use Rattle.tm_rounds.specs.Chains.{state_at, bounds_after, IsChain}
 

@@ -3,7 +3,7 @@ use Rattle.std.specs.Prelude.{◌≡◌, ℕ, ◌<◌, List}
 use Rattle.tm_num.specs.Extended.{Ext as Extended}
 use Rattle.tm_frac.specs.Extended.{extended}
 use Rattle.tm_eqsys.specs.declared.system.System.{System}
-use Rattle.tm_rounds.specs.declared.offer.Offer.{Offer}
+use Rattle.tm_offers.specs.declared.offer.Offer.{Offer}
 use Rattle.tm_rounds.specs.declared.solution.Solved.{Solved}
 use Rattle.tm_rounds.specs.Halts.{IsSpent}
 use Rattle.tm_rounds.specs.Solutions.{IsSolved}

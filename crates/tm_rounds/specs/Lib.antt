@@ -1,8 +1,3 @@
-pub mod Improvement
-pub mod Offers
-pub mod PickLimit
-pub mod Stops
-pub mod AtBounds
 pub mod GrowthTests
 pub mod GrowthStops
 pub mod Growth
@@ -18,5 +13,3 @@ pub mod Solutions
 pub mod Solving
 pub mod Uppers
 pub mod LeastLaws
-pub mod Policies
-pub mod Known

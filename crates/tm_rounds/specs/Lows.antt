@@ -1,11 +1,11 @@
 -- The raises of a growth, found by the numbers of their unknowns.
 use Rattle.std.specs.Prelude.{◌≡◌, ℕ, ◌<◌, List, [], ◌∷◌, length, map, get_or, Option, Some, None}
 use Rattle.tm_eqsys.specs.declared.trace.Trace.{Trace}
-use Rattle.tm_steps.specs.Steps.{Item}
+use Rattle.tm_validity.specs.Steps.{Item}
 use Rattle.tm_cert.specs.declared.step.Step.{Step as CodeStep}
 use Rattle.tm_cert.specs.declared.step.Step.TheVariants.{Plain, Jump, Ray}
 use Rattle.tm_cert.specs.Certificates.{plain_item, jump_item, ray_item}
-use Rattle.tm_round.specs.Picks.{choice}
+use Rattle.tm_strategy.specs.Picks.{choice}
 
 -- a trace without values
 abbrev pub no_trace : Trace

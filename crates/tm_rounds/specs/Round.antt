@@ -1,5 +1,6 @@
 -- What a round answers at the bounds that the code has.
 use Rattle.std.specs.Prelude.{◌≡◌, ◌⊎◌, ℕ, ◌+◌, ◌*◌, ◌<◌, List, length, map, Option}
+use Rattle.tm_base.specs.Elements.{In}
 use Rattle.tm_num.specs.Extended.{Ext as Extended}
 use Rattle.tm_eqsys.specs.Equations.{Vector}
 use Rattle.tm_eqsys.specs.View.{equations_of, bounds_of}
@@ -8,17 +9,17 @@ use Rattle.tm_eqsys.specs.declared.spot.Part.{Part}
 use Rattle.tm_eqsys.specs.declared.spot.PartFault.TheVariants.{Wide as WideIn}
 use Rattle.tm_eqsys.specs.declared.spot.Spot.{Spot}
 use Rattle.tm_eqsys.specs.declared.spot.Site.TheVariants.{Joint}
-use Rattle.tm_steps.specs.Steps.{In, Item, Step}
-use Rattle.tm_steps.specs.Certificates.{ValidSteps}
-use Rattle.tm_round.specs.Picks.{Above}
-use Rattle.tm_exact.specs.Rounds.{exact_round, exact_round_steps}
-use Rattle.tm_exact.specs.Turns.{Turn, exact_turns}
+use Rattle.tm_validity.specs.Steps.{Item, Step}
+use Rattle.tm_validity.specs.Certificates.{ValidSteps}
+use Rattle.tm_strategy.specs.Picks.{Above}
+use Rattle.tm_strategy_lp.specs.Rounds.{exact_round, exact_round_steps}
+use Rattle.tm_strategy_lp.specs.Turns.{Turn, exact_turns}
 use Rattle.tm_joint.specs.Joints.{IsJointFault}
 use Rattle.tm_raise.specs.Numbers.{fitting}
-use Rattle.tm_rounds.specs.declared.stop.Stop.{Stop}
-use Rattle.tm_rounds.specs.declared.stop.Stop.TheVariants.{Wide, NoMemory}
-use Rattle.tm_rounds.specs.AtBounds.{transformers, vector_at}
-use Rattle.tm_rounds.specs.Improvement.{pick_of}
+use Rattle.tm_offers.specs.declared.stop.Stop.{Stop}
+use Rattle.tm_offers.specs.declared.stop.Stop.TheVariants.{Wide, NoMemory}
+use Rattle.tm_offers.specs.AtBounds.{transformers, vector_at}
+use Rattle.tm_offers.specs.Improvement.{pick_of}
 use Rattle.tm_rounds.specs.Growth.{IsGrowthStop}
 
 -- the steps of the round by a pick from bounds: those of the growth, and then one for each turn

@@ -3,17 +3,17 @@ use Rattle.std.specs.Prelude.{◌≡◌, ℕ, ◌<◌, ◌≤◌, ◌*◌, Bool,
 use Rattle.std.specs.List.{list_all}
 use Rattle.tm_eqsys.specs.View.{equations_of}
 use Rattle.tm_eqsys.specs.declared.system.System.{System}
-use Rattle.tm_steps.specs.Certificates.{Certificate}
+use Rattle.tm_validity.specs.Certificates.{Certificate}
 use Rattle.tm_cert.specs.declared.cert.Cert.{Cert}
 use Rattle.tm_cert.specs.declared.step.Step.{Step as CodeStep}
 use Rattle.tm_cert.specs.declared.step.Step.TheVariants.{Plain, Jump, Ray}
 use Rattle.tm_cert.specs.Certificates.{step_of, evidence_of, certificate_of}
-use Rattle.tm_round.specs.PickCount.{pick_count}
-use Rattle.tm_exact.specs.Rounds.{Choice}
-use Rattle.tm_exact.specs.Made.{exact_uppers}
-use Rattle.tm_rounds.specs.declared.offer.Offer.{Offer}
+use Rattle.tm_strategy.specs.PickCount.{pick_count}
+use Rattle.tm_strategy_lp.specs.Rounds.{Choice}
+use Rattle.tm_strategy_lp.specs.Made.{exact_uppers}
+use Rattle.tm_offers.specs.declared.offer.Offer.{Offer}
 use Rattle.tm_rounds.specs.declared.solution.Solved.{Solved}
-use Rattle.tm_rounds.specs.AtBounds.{vector_at}
+use Rattle.tm_offers.specs.AtBounds.{vector_at}
 use Rattle.tm_rounds.specs.Chains.{bounds_after, steps_after, IsChain, IsEnded}
 
 -- a chain of rounds by the policy that ends within the limit and before there are as many rounds as picks: the bounds after it, how many rounds, their steps, and the evidence that is read from the outcomes at the bounds

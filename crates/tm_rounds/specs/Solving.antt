@@ -4,13 +4,13 @@ use Rattle.tm_eqsys.specs.Starts.{start_bounds}
 use Rattle.tm_eqsys.specs.View.{equations_of}
 use Rattle.tm_eqsys.specs.declared.system.System.{System}
 use Rattle.tm_cert.specs.Certificates.{step_of, evidence_of}
-use Rattle.tm_exact.specs.Rounds.{Choice}
-use Rattle.tm_exact.specs.Made.{exact_uppers}
-use Rattle.tm_rounds.specs.declared.offer.Offer.{Offer}
+use Rattle.tm_strategy_lp.specs.Rounds.{Choice}
+use Rattle.tm_strategy_lp.specs.Made.{exact_uppers}
+use Rattle.tm_offers.specs.declared.offer.Offer.{Offer}
 use Rattle.tm_rounds.specs.declared.solution.Solved.{Solved}
 use Rattle.tm_rounds.specs.declared.solving.Progress.{Progress}
-use Rattle.tm_rounds.specs.Improvement.{pick_of}
-use Rattle.tm_rounds.specs.AtBounds.{vector_at}
+use Rattle.tm_offers.specs.Improvement.{pick_of}
+use Rattle.tm_offers.specs.AtBounds.{vector_at}
 use Rattle.tm_rounds.specs.Round.{round_at, rounded_at, AreBoundsOf}
 use Rattle.tm_rounds.specs.Chains.{state_at, bounds_after, steps_after, IsChain}
 

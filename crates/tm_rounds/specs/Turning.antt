@@ -1,6 +1,7 @@
 -- The turns of a round, on the way.
 use Rattle.std.specs.Prelude.{◌≡◌, ℕ, ◌+◌, ◌<◌, ◌≤◌, Bool, true, false, List, [], ◌∷◌, ◌++◌, length, map, get_or, Option}
 use Rattle.std.specs.List.{range_with_len, filter}
+use Rattle.tm_base.specs.Elements.{In}
 use Rattle.tm_num.specs.Rational.{ℚ, zero_ℚ}
 use Rattle.tm_num.specs.Extended.{Ext as Extended, neg_inf, fin, pos_inf}
 use Rattle.tm_eqsys.specs.Equations.{Vector}
@@ -11,28 +12,28 @@ use Rattle.tm_eqsys.specs.declared.spot.Part.{Part}
 use Rattle.tm_eqsys.specs.declared.spot.PartFault.TheVariants.{Wide as WideIn}
 use Rattle.tm_eqsys.specs.declared.spot.Spot.{Spot}
 use Rattle.tm_eqsys.specs.declared.spot.Site.TheVariants.{Joint}
-use Rattle.tm_steps.specs.Steps.{In, Item, Step, Jump as JumpKind, Ray as RayKind, after}
-use Rattle.tm_steps.specs.Certificates.{led}
+use Rattle.tm_validity.specs.Steps.{Item, Step, Jump as JumpKind, Ray as RayKind, after}
+use Rattle.tm_validity.specs.Certificates.{led}
 use Rattle.tm_cert.specs.declared.step.Step.{Step as CodeStep}
 use Rattle.tm_cert.specs.declared.step.Step.TheVariants.{Jump as JumpStep, Ray as RayStep}
 use Rattle.tm_cert.specs.declared.step.JumpItem.{JumpItem}
 use Rattle.tm_cert.specs.declared.step.RayItem.{RayItem}
 use Rattle.tm_cert.specs.Certificates.{step_of}
 use Rattle.tm_ray.specs.declared.rate.RateOf.{RateOf}
-use Rattle.tm_round.specs.Picks.{IsPick}
-use Rattle.tm_round.specs.Round.{Outcome, Point as PointOutcome, Rays, ListCondition, without, part, turns}
-use Rattle.tm_exact.specs.JointItems.{exact_joint}
-use Rattle.tm_exact.specs.Turns.{Turn, part_turns, parts_turns}
+use Rattle.tm_strategy.specs.Picks.{IsPick}
+use Rattle.tm_strategy.specs.Round.{Outcome, Point as PointOutcome, Rays, ListCondition, without, part, turns}
+use Rattle.tm_strategy_lp.specs.JointItems.{exact_joint}
+use Rattle.tm_strategy_lp.specs.Turns.{Turn, part_turns, parts_turns}
 use Rattle.tm_joint.specs.Joints.{IsJointFault}
 use Rattle.tm_joint.specs.Numbers.{ArePicked, Rises}
 use Rattle.tm_joint.specs.PartLists.{part_numbers}
 use Rattle.tm_joint.specs.declared.joined.Joined.{Joined}
 use Rattle.tm_joint.specs.declared.joined.Joined.TheVariants.{Point, Ray}
 use Rattle.tm_rounds.specs.declared.turning.Turning.{Turning}
-use Rattle.tm_rounds.specs.declared.stop.Stop.{Stop}
-use Rattle.tm_rounds.specs.declared.stop.Stop.TheVariants.{Wide, NoMemory}
-use Rattle.tm_rounds.specs.AtBounds.{vector_at, transformers}
-use Rattle.tm_rounds.specs.Improvement.{pick_of}
+use Rattle.tm_offers.specs.declared.stop.Stop.{Stop}
+use Rattle.tm_offers.specs.declared.stop.Stop.TheVariants.{Wide, NoMemory}
+use Rattle.tm_offers.specs.AtBounds.{vector_at, transformers}
+use Rattle.tm_offers.specs.Improvement.{pick_of}
 use Rattle.tm_rounds.specs.Growing.{Agrees}
 use Rattle.tm_rounds.specs.Putting.{puts}
 use Rattle.tm_rounds.specs.Lows.{no_trace, edge_in, low_in, raise_at, AreRaised, ArePickedRaises, items_at}

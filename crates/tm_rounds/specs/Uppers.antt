@@ -3,10 +3,10 @@ use Rattle.std.specs.Prelude.{ℕ, List, flat_map, Bool, true, false}
 use Rattle.std.specs.List.{range_with_len}
 use Rattle.tm_num.specs.Extended.{Ext as Extended, neg_inf, fin, pos_inf}
 use Rattle.tm_eqsys.specs.Equations.{Equations, Vector}
-use Rattle.tm_steps.specs.Certificates.{Evidence, into_needs, needs_at}
-use Rattle.tm_exact.specs.Made.{uppers_for}
-use Rattle.tm_oper.specs.declared.value.Value.{Value}
-use Rattle.tm_oper.specs.declared.value.Value.TheVariants.{Unreached, Empty, Best, Unbounded}
+use Rattle.tm_validity.specs.Certificates.{Evidence, into_needs, needs_at}
+use Rattle.tm_strategy_lp.specs.Made.{uppers_for}
+use Rattle.tm_compose.specs.declared.value.Value.{Value}
+use Rattle.tm_compose.specs.declared.value.Value.TheVariants.{Unreached, Empty, Best, Unbounded}
 
 -- the evidence that a value shows; an unbounded one shows none
 abbrev pub upper_read : Value → Evidence

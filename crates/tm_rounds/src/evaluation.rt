@@ -3,20 +3,21 @@
 ghost use Rattle.std.specs.Prelude.{◌≡◌, ◌*◌, ◌+◌, ◌<◌, ◌≤◌, length, map, get_or, IfOk, IfErr};
 ghost use Rattle.tm_eqsys.specs.View.{equations_of};
 ghost use Rattle.tm_cert.specs.Certificates.{step_of};
-ghost use Rattle.tm_oper.specs.Composed.{AreComposed};
-ghost use Rattle.tm_rounds.specs.AtBounds.{IsSupportedPick, IsTightPick};
+ghost use Rattle.tm_compose.specs.Composed.{AreComposed};
+ghost use Rattle.tm_offers.specs.AtBounds.{IsSupportedPick, IsTightPick};
+ghost use Rattle.tm_offers.specs.Known.{AreKnown};
 ghost use Rattle.tm_rounds.specs.Growth.{growth_at, named_at};
 ghost use Rattle.tm_rounds.specs.Round.{round_at, rounded_at, AreBoundsOf, AreAbove, AreValidFrom, IsRoundStop, IsTurnStop};
 ghost use Rattle.tm_rounds.specs.Turning.{HaveConditions, IsPickAt, IsPart, IsDone, AreAllDone, turns_of_part, turns_of_parts};
 
-use crate::growth::{Grown, grow};
+use crate::growth::{Grown, grow_from};
 use crate::lows::places;
-use crate::stop::Stop;
 use crate::turning::{Turning, finite, own, turn};
 use std::alloc::Global;
 use tm_cert::{Step, Steps};
 use tm_eqsys::{Bounds, Pick, System};
 use tm_joint::parts;
+use tm_offers::{Known, Stop};
 use tm_oper::Paths;
 
 // The turns of one part: of the whole list first, and then of what each ray leaves.
@@ -97,6 +98,62 @@ fn turns(
     Ok(())
 }
 
+/// The round by a pick from the bounds, as `round` gives it, where some of the transformers at the bounds may be known already.
+///
+/// # Errors
+///
+/// As `round`.
+pub fn round_from(
+    alloc: Global,
+    system: &System,
+    paths: &Paths,
+    bounds: &Bounds,
+    pick: &Pick,
+    round: u32,
+    known: &Known,
+) -> Result<Grown, Stop>
+    requires composed { AreComposed (equations_of system.now) paths.now }
+    requires bounds { length bounds.now ≡ length system.now.flow.points * length system.now.template }
+    requires pick { length pick.now ≡ length system.now.flow.points * length system.now.template }
+    requires supported { IsSupportedPick system.now bounds.now pick.now }
+    requires known { AreKnown system.now bounds.now known.now }
+    ensures steps { IfOk result (λ grown. map (step_of (length system.now.template)) grown.steps ≡ round_at system.now bounds.now pick.now) }
+    ensures bounds { IfOk result (λ grown. AreBoundsOf system.now (rounded_at system.now bounds.now pick.now) grown.bounds) }
+    ensures size { IfOk result (λ grown. length grown.bounds ≡ length bounds.now) }
+    ensures above { IfOk result (λ grown. AreAbove system.now bounds.now pick.now grown.bounds) }
+    ensures tight { IfOk result (λ grown. IsTightPick system.now grown.bounds pick.now) }
+    ensures valid { IfOk result (λ grown. AreValidFrom system.now bounds.now (map (step_of (length system.now.template)) grown.steps)) }
+    ensures raised { IfOk result (λ grown. grown.raised ≡ named_at system.now (growth_at system.now bounds.now pick.now)) }
+    ensures stop { IfErr result (IsRoundStop system.now bounds.now pick.now round) }
+{
+    let grown = grow_from(alloc, system, paths, bounds, pick, round, known)?;
+    let mut steps = grown.steps.into_list();
+    let count = bounds.as_slice().len();
+    let places = places(alloc, count, steps.as_slice())?;
+    let list = finite(alloc, &grown.bounds, grown.raised.as_slice())?;
+    let mut turning = Turning {
+        bounds: grown.bounds,
+        steps: Vec::new(alloc),
+    };
+    turns(
+        alloc,
+        system,
+        paths,
+        pick,
+        round,
+        steps.as_slice(),
+        places.as_slice(),
+        list.as_slice(),
+        &mut turning,
+    )?;
+    steps.append(&mut turning.steps)?;
+    Ok(Grown {
+        bounds: turning.bounds,
+        raised: grown.raised,
+        steps: Steps::new(steps),
+    })
+}
+
 /// The round by a pick from the bounds: the growth, and then, part by part of the unknowns that it raised to fractions, the
 /// turns of joint problems. A point sets the unknowns of its list to their numbers and ends the part; a ray sets those with a
 /// rate above 0 to `+inf`, and the others are solved again. The bounds are the least that are at least the old ones and closed
@@ -127,30 +184,6 @@ pub fn round(
     ensures raised { IfOk result (λ grown. grown.raised ≡ named_at system.now (growth_at system.now bounds.now pick.now)) }
     ensures stop { IfErr result (IsRoundStop system.now bounds.now pick.now round) }
 {
-    let grown = grow(alloc, system, paths, bounds, pick, round)?;
-    let mut steps = grown.steps.into_list();
-    let count = bounds.as_slice().len();
-    let places = places(alloc, count, steps.as_slice())?;
-    let list = finite(alloc, &grown.bounds, grown.raised.as_slice())?;
-    let mut turning = Turning {
-        bounds: grown.bounds,
-        steps: Vec::new(alloc),
-    };
-    turns(
-        alloc,
-        system,
-        paths,
-        pick,
-        round,
-        steps.as_slice(),
-        places.as_slice(),
-        list.as_slice(),
-        &mut turning,
-    )?;
-    steps.append(&mut turning.steps)?;
-    Ok(Grown {
-        bounds: turning.bounds,
-        raised: grown.raised,
-        steps: Steps::new(steps),
-    })
+    let known = Known::none(alloc, system)?;
+    round_from(alloc, system, paths, bounds, pick, round, &known)
 }

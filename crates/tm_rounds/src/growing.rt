@@ -4,20 +4,18 @@ ghost use Rattle.std.specs.Prelude.{◌≡◌, ◌*◌, ◌<◌, ◌≤◌, ◌%
 ghost use Rattle.tm_num.specs.Extended.{◌<ᴱ◌};
 ghost use Rattle.tm_frac.specs.Extended.{extended};
 ghost use Rattle.tm_eqsys.specs.View.{equations_of};
-ghost use Rattle.tm_oper.specs.Composed.{AreComposed};
-ghost use Rattle.tm_oper.specs.Meanings.{number_of};
-ghost use Rattle.tm_rounds.specs.AtBounds.{EdgesAreThere, edge_at};
+ghost use Rattle.tm_compose.specs.Composed.{AreComposed};
+ghost use Rattle.tm_compose.specs.Value.{number_of};
+ghost use Rattle.tm_offers.specs.AtBounds.{EdgesAreThere, edge_at};
 ghost use Rattle.tm_cert.specs.Certificates.{step_of};
 ghost use Rattle.tm_raise.specs.Raises.{HasSizes, Rises, choice_of, raised, raise_operations};
 ghost use Rattle.tm_rounds.specs.Growing.{IsKept, AreQuiet, ArePassed, OthersKeep, IsPassStop, AreTested, IsTestStop, IsValueAt, IsValueStop, IsStepStop, bound_given, HasItem};
 
-use crate::improvement::supremum;
-use crate::offer::exceeds;
-use crate::stop::Stop;
 use std::alloc::Global;
 use tm_cert::Step;
 use tm_eqsys::{Bounds, PartFault, Pick, Site, Spot, System};
 use tm_frac::Ext;
+use tm_offers::{Stop, exceeds, supremum};
 use tm_oper::{Paths, Value, operator};
 use tm_raise::{RaiseFault, raise};
 

@@ -3,18 +3,20 @@
 ghost use Rattle.std.specs.Prelude.{◌≡◌, ◌≤◌, ◌*◌, length, map, IfOk, IfErr};
 ghost use Rattle.tm_eqsys.specs.View.{equations_of};
 ghost use Rattle.tm_cert.specs.Certificates.{step_of};
-ghost use Rattle.tm_oper.specs.Composed.{AreComposed};
-ghost use Rattle.tm_rounds.specs.AtBounds.{EdgesAreThere};
-ghost use Rattle.tm_rounds.specs.declared.stop.Stop.TheVariants.{NoMemory};
+ghost use Rattle.tm_compose.specs.Composed.{AreComposed};
+ghost use Rattle.tm_offers.specs.AtBounds.{EdgesAreThere};
+ghost use Rattle.tm_offers.specs.Known.{AreKnown};
+ghost use Rattle.tm_offers.specs.declared.stop.Stop.TheVariants.{NoMemory};
 ghost use Rattle.tm_rounds.specs.Growing.{IsKept, AreQuiet, IsFresh, IsGrown, marked_numbers};
 ghost use Rattle.tm_rounds.specs.Growth.{growth_at, AreLed, named_at, IsGrowthStop};
 
 use crate::growing::{Growing, pass};
-use crate::stop::Stop;
+use crate::quiet_marks::quiet_unknowns;
 use std::alloc::Global;
 use std::marker::Model;
 use tm_cert::Steps;
 use tm_eqsys::{Bounds, Pick, System};
+use tm_offers::{Known, Stop};
 use tm_oper::Paths;
 
 /// Numbers of unknowns in order.
@@ -94,6 +96,49 @@ fn passes(
     Ok(())
 }
 
+/// The growth of a pick from the bounds, as `grow` gives it, where some of the transformers at the bounds may be known already:
+/// those that are and don't exceed their bounds aren't solved again.
+///
+/// # Errors
+///
+/// As `grow`.
+pub fn grow_from(
+    alloc: Global,
+    system: &System,
+    paths: &Paths,
+    bounds: &Bounds,
+    pick: &Pick,
+    round: u32,
+    known: &Known,
+) -> Result<Grown, Stop>
+    requires composed { AreComposed (equations_of system.now) paths.now }
+    requires bounds { length bounds.now ≡ length system.now.flow.points * length system.now.template }
+    requires pick { length pick.now ≡ length system.now.flow.points * length system.now.template }
+    requires edges { EdgesAreThere system.now pick.now }
+    requires known { AreKnown system.now bounds.now known.now }
+    ensures steps { IfOk result (λ grown. map (step_of (length system.now.template)) grown.steps ≡ growth_at system.now bounds.now pick.now) }
+    ensures bounds { IfOk result (λ grown. AreLed system.now bounds.now (map (step_of (length system.now.template)) grown.steps) grown.bounds) }
+    ensures size { IfOk result (λ grown. length grown.bounds ≡ length bounds.now) }
+    ensures raised { IfOk result (λ grown. grown.raised ≡ named_at system.now (map (step_of (length system.now.template)) grown.steps)) }
+    ensures stop { IfErr result (IsGrowthStop system.now bounds.now pick.now round) }
+{
+    let count = system.flow.points.as_slice().len() * system.template.as_slice().len();
+    let list = bounds.as_slice().to_vec(alloc)?;
+    let mut growing = Growing {
+        bounds: Bounds::new(list),
+        raised: vec![in alloc; false; count]?,
+        quiet: quiet_unknowns(alloc, system, bounds, pick, known)?,
+        steps: Vec::new(alloc),
+    };
+    passes(alloc, system, paths, pick, round, &mut growing)?;
+    let raised = raised_unknowns(alloc, &growing.raised)?;
+    Ok(Grown {
+        bounds: growing.bounds,
+        raised,
+        steps: Steps::new(growing.steps),
+    })
+}
+
 /// The growth of a pick from the bounds. In passes, the unknowns with a pick are tested in order of number; one that wasn't
 /// raised yet and whose picked edge's transformer exceeds its bound is raised at once, by one step, and later tests see its new
 /// bound. The passes end with one that raises nothing. `docs/DEFINITIONS.md` says to which bound an unknown is raised.
@@ -120,19 +165,6 @@ pub fn grow(
     ensures raised { IfOk result (λ grown. grown.raised ≡ named_at system.now (map (step_of (length system.now.template)) grown.steps)) }
     ensures stop { IfErr result (IsGrowthStop system.now bounds.now pick.now round) }
 {
-    let count = system.flow.points.as_slice().len() * system.template.as_slice().len();
-    let list = bounds.as_slice().to_vec(alloc)?;
-    let mut growing = Growing {
-        bounds: Bounds::new(list),
-        raised: vec![in alloc; false; count]?,
-        quiet: vec![in alloc; false; count]?,
-        steps: Vec::new(alloc),
-    };
-    passes(alloc, system, paths, pick, round, &mut growing)?;
-    let raised = raised_unknowns(alloc, &growing.raised)?;
-    Ok(Grown {
-        bounds: growing.bounds,
-        raised,
-        steps: Steps::new(growing.steps),
-    })
+    let known = Known::none(alloc, system)?;
+    grow_from(alloc, system, paths, bounds, pick, round, &known)
 }

@@ -1,8 +1,8 @@
 //! Why the rounds halt.
 
-use crate::stop::Stop;
 use std::alloc::AllocError;
 use tm_eqsys::{Bounds, Spot};
+use tm_offers::Stop;
 use tm_oper::PathFault;
 
 /// Why there is no solution.

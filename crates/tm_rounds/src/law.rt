@@ -4,10 +4,10 @@ ghost use Rattle.std.specs.Prelude.{◌≡◌, ℕ};
 ghost use Rattle.tm_rounds.specs.declared.solution.Solved.{Solved};
 ghost use Rattle.tm_rounds.specs.Solutions.{IsSolved};
 ghost use Rattle.tm_rounds.specs.LeastLaws.{AnswersOne, HasOneNumber, SpendsLess};
-ghost use Rattle.tm_rounds.specs.Policies.{by_best, by_first};
+ghost use Rattle.tm_offers.specs.Policies.{by_best, by_first};
 
-use crate::chooser::{Chooser, Policy};
 use tm_eqsys::System;
+use tm_offers::{Chooser, Policy};
 
 /// Two solutions of a system have the same bounds, whichever functions the choosers keep and whatever the limits.
 pub fn one_vector(system: &System, chooser: &Chooser, other: &Chooser)

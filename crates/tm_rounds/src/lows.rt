@@ -2,12 +2,12 @@
 
 ghost use Rattle.std.specs.Prelude.{◌≡◌, ◌<◌, ◌≤◌, length, get_or, IfOk, IfErr};
 ghost use Rattle.tm_rounds.specs.Lows.{IsFilled, unknown_in, edge_in, low_in, no_step, AreRaises, ArePlaces};
-ghost use Rattle.tm_rounds.specs.declared.stop.Stop.TheVariants.{NoMemory};
+ghost use Rattle.tm_offers.specs.declared.stop.Stop.TheVariants.{NoMemory};
 
-use crate::stop::Stop;
 use std::alloc::Global;
 use tm_cert::Step;
 use tm_eqsys::{Fracs, Trace};
+use tm_offers::Stop;
 
 /// A trace of its own with the same values.
 pub(crate) fn copied(alloc: Global, trace: &Trace) -> Result<Trace, Stop>

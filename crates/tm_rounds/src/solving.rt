@@ -7,29 +7,26 @@ ghost use Rattle.tm_rows.specs.Rows.{is_template};
 ghost use Rattle.tm_eqsys.specs.Equations.{Least};
 ghost use Rattle.tm_eqsys.specs.Cells.{cells_of};
 ghost use Rattle.tm_eqsys.specs.View.{equations_of};
-ghost use Rattle.tm_steps.specs.Certificates.{ValidCertificate};
+ghost use Rattle.tm_validity.specs.Certificates.{ValidCertificate};
 ghost use Rattle.tm_cert.specs.Shaped.{IsShaped};
-ghost use Rattle.tm_round.specs.PickCount.{pick_count};
-ghost use Rattle.tm_oper.specs.Composed.{AreComposed};
-ghost use Rattle.tm_rounds.specs.declared.stop.Stop.TheVariants.{NoMemory};
-ghost use Rattle.tm_rounds.specs.AtBounds.{vector_at, IsSupportedPick, IsOfferStop};
+ghost use Rattle.tm_strategy.specs.PickCount.{pick_count};
+ghost use Rattle.tm_compose.specs.Composed.{AreComposed};
+ghost use Rattle.tm_offers.specs.declared.stop.Stop.TheVariants.{NoMemory};
+ghost use Rattle.tm_offers.specs.AtBounds.{vector_at, IsSupportedPick, IsOfferStop};
 ghost use Rattle.tm_rounds.specs.Round.{IsRoundStop};
 ghost use Rattle.tm_rounds.specs.Halts.{IsHalt};
-ghost use Rattle.tm_rounds.specs.Known.{AreKnown};
+ghost use Rattle.tm_offers.specs.Known.{AreKnown};
 ghost use Rattle.tm_rounds.specs.Solutions.{IsSolved, AreNumbered, cert_with, made_certificate};
 ghost use Rattle.tm_rounds.specs.Solving.{IsBegun, IsAdvanced, IsFinished};
 
-use crate::chooser::{Chooser, Policy};
-use crate::evaluation::round;
+use crate::evaluation::round_from;
 use crate::halt::Halt;
-use crate::improvement::improve_from;
-use crate::known::{Known, forget};
 use crate::solution::Solved;
-use crate::stop::Stop;
 use crate::uppers::uppers_at;
 use std::alloc::Global;
 use tm_cert::{Step, Steps};
 use tm_eqsys::{Bounds, Pick, System};
+use tm_offers::{Chooser, Known, Policy, Stop, forget, improve_from};
 use tm_oper::{Paths, compose_all};
 
 // The bounds, the pick and the steps so far, and the transformers that are known at the bounds.
@@ -73,7 +70,15 @@ fn advance(
     ensures known { IfOk result (λ done. AreKnown system.now progress.new.bounds progress.new.known) }
     ensures stop { IfErr result (IsRoundStop system.now progress.old.bounds better number) }
 {
-    let grown = round(alloc, system, paths, &progress.bounds, &better, number)?;
+    let grown = round_from(
+        alloc,
+        system,
+        paths,
+        &progress.bounds,
+        &better,
+        number,
+        &progress.known,
+    )?;
     let mut steps = grown.steps.into_list();
     progress.steps.append(&mut steps)?;
     forget(system, &progress.bounds, &grown.bounds, &mut progress.known);

@@ -4,27 +4,26 @@ ghost use Rattle.std.specs.Prelude.{◌≤◌, IfOk, IfErr};
 ghost use Rattle.tm_eqsys.specs.Equations.{Least};
 ghost use Rattle.tm_eqsys.specs.Cells.{cells_of};
 ghost use Rattle.tm_eqsys.specs.View.{equations_of};
-ghost use Rattle.tm_steps.specs.Certificates.{ValidCertificate};
+ghost use Rattle.tm_validity.specs.Certificates.{ValidCertificate};
 ghost use Rattle.tm_cert.specs.Shaped.{IsShaped};
-ghost use Rattle.tm_rounds.specs.AtBounds.{vector_at};
+ghost use Rattle.tm_offers.specs.AtBounds.{vector_at};
 ghost use Rattle.tm_rounds.specs.Halts.{IsHalt};
-ghost use Rattle.tm_rounds.specs.Policies.{by_best, by_first};
+ghost use Rattle.tm_offers.specs.Policies.{by_best, by_first};
 ghost use Rattle.tm_rounds.specs.Solutions.{IsSolved, AreNumbered, cert_with, made_certificate};
 
-use crate::chooser::Chooser;
 use crate::halt::Halt;
-use crate::policy::{best, first};
 use crate::solution::Solved;
 use crate::solving::least;
 use std::alloc::Global;
 use tm_eqsys::System;
+use tm_offers::{Chooser, best, first};
 
 /// The least bounds of a system as `least` finds them, each unknown taking the first edge whose transformer is greatest.
 ///
 /// # Errors
 ///
 /// As `least`.
-#[tactic(auto, using(crate::proofs::Offered::best_exceeds))]
+#[tactic(auto, using(tm_offers::proofs::Offered::best_exceeds))]
 pub fn least_by_best(alloc: Global, system: &System, limit: u32) -> Result<Solved, Halt>
     requires limit { limit ≤ 1000000 }
     requires cells { cells_of (equations_of system.now) ≤ 134217728 }

@@ -6,23 +6,23 @@ ghost use Rattle.tm_num.specs.Extended.{fin, pos_inf};
 ghost use Rattle.tm_frac.specs.Extended.{extended};
 ghost use Rattle.tm_lp.specs.Simplex.{lp};
 ghost use Rattle.tm_eqsys.specs.View.{equations_of, vector_of};
-ghost use Rattle.tm_point.specs.JointProblems.{AllRising};
-ghost use Rattle.tm_oper.specs.Composed.{AreComposed};
+ghost use Rattle.tm_transformers.specs.JointProblems.{AllRising};
+ghost use Rattle.tm_compose.specs.Composed.{AreComposed};
 ghost use Rattle.tm_joint.specs.Numbers.{all_listed, ArePicked, Rises};
 ghost use Rattle.tm_joint.specs.Problems.{problem_of};
 ghost use Rattle.tm_joint.specs.Joints.{IsReadFrom};
-ghost use Rattle.tm_rounds.specs.declared.stop.Stop.TheVariants.{NoMemory};
+ghost use Rattle.tm_offers.specs.declared.stop.Stop.TheVariants.{NoMemory};
 ghost use Rattle.tm_rounds.specs.Lows.{AreRaised, IsRaised};
 ghost use Rattle.tm_rounds.specs.Putting.{AreNumberedIn, puts};
 ghost use Rattle.tm_rounds.specs.Turning.{MeetsCondition, IsPickAt, IsJoinedStop, IsPart, IsTurned, HasSizes, IsTaken, finite_in, is_finite, jump_item_at, jump_items_at, ray_item_of};
 
 use crate::lows::{copied, edge_of, low_of};
-use crate::stop::Stop;
 use std::alloc::Global;
 use tm_cert::{JumpItem, JumpItems, RayItem, RayItems, Step};
 use tm_eqsys::{Bounds, PartFault, Pick, Site, Spot, System, Trace};
 use tm_frac::{Ext, Frac};
 use tm_joint::{Joined, joint};
+use tm_offers::Stop;
 use tm_oper::Paths;
 use tm_ray::RateOf;
 

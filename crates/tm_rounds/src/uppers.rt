@@ -4,16 +4,16 @@ ghost use Rattle.std.specs.Prelude.{◌≡◌, ◌<◌, ◌≤◌, ◌*◌, ◌+
 ghost use Rattle.tm_frac.specs.Extended.{extended};
 ghost use Rattle.tm_eqsys.specs.View.{equations_of};
 ghost use Rattle.tm_cert.specs.Certificates.{evidence_of};
-ghost use Rattle.tm_oper.specs.Composed.{AreComposed};
-ghost use Rattle.tm_exact.specs.Made.{exact_upper, exact_uppers};
-ghost use Rattle.tm_rounds.specs.AtBounds.{vector_at, edge_at, row_at, IsOfferStop};
+ghost use Rattle.tm_compose.specs.Composed.{AreComposed};
+ghost use Rattle.tm_strategy_lp.specs.Made.{exact_upper, exact_uppers};
+ghost use Rattle.tm_offers.specs.AtBounds.{vector_at, edge_at, row_at, IsOfferStop};
 ghost use Rattle.tm_rounds.specs.Uppers.{upper_read, is_top, uppers_into, uppers_of_rows};
 
-use crate::stop::Stop;
 use std::alloc::Global;
 use tm_cert::{Upper, Uppers};
 use tm_eqsys::{Bounds, PartFault, Site, Spot, System};
 use tm_frac::Ext;
+use tm_offers::Stop;
 use tm_oper::{Paths, Value, operator};
 
 // The evidence of an upper bound that a value shows. An unbounded value shows none, and where no transformer exceeds its bound

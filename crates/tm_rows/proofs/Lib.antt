@@ -1,12 +1,3 @@
-pub mod RowLists
-pub mod SoundRows
-pub mod SumSteps
-pub mod KeptSteps
-pub mod RowSteps
-pub mod TokenSteps
-pub mod Spelling
-pub mod LineSteps
-pub mod ReadSteps
-pub mod FileSteps
-pub mod OneAnswer
-pub mod FileRows
+pub mod grammar
+pub mod row_files
+pub mod kept

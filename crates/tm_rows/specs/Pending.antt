@@ -12,5 +12,6 @@ pub record Continues (whole done : List Written) (negative : Bool) (rest : List 
 
 -- After these terms one of this sign has to come: what spells it, and nothing else, spells a row.
 pub record Pending (all : List Symbol) (done : List Written) (negative : Bool) (rest : List Symbol) : Type 0 where
-  pub goes_on : (term : Written) (others : List Written) → term.negative ≡ negative → rest ≡ unsigned_symbols term ++ tail_symbols others → Spells all (done ++ term ∷ others)
+  pub goes_on : (term : Written) (others : List Written) → term.negative ≡ negative
+      → rest ≡ unsigned_symbols term ++ tail_symbols others → Spells all (done ++ term ∷ others)
   pub only : (whole : List Written) → Spells all whole → Continues whole done negative rest

@@ -10,7 +10,7 @@ use crate::template::Template;
 use std::alloc::{AllocError, Global};
 use tm_tree::Coeffs;
 
-/// The row of `c` times one variable.
+// The row of `c` times one variable.
 fn multiple(alloc: Global, vars: u32, c: i64, var: u32) -> Result<Coeffs, AllocError>
     requires { IsTrue (is_number c) }
     ensures { IfOk result (λ row. row ≡ multiple vars c var) }
@@ -22,7 +22,7 @@ fn multiple(alloc: Global, vars: u32, c: i64, var: u32) -> Result<Coeffs, AllocE
     Ok(Coeffs::new(list))
 }
 
-/// The row of `c` times one variable plus `d` times another one.
+// The row of `c` times one variable plus `d` times another one.
 fn combination(
     alloc: Global,
     vars: u32,
@@ -50,7 +50,7 @@ fn combination(
     Ok(Coeffs::new(list))
 }
 
-/// The rows `x` and `-x` for each variable `x`.
+// The rows `x` and `-x` for each variable `x`.
 fn interval_rows(alloc: Global, vars: u32) -> Result<Vec<Coeffs>, AllocError>
     ensures { IfOk result (λ rows. rows.items ≡ intervals_of vars) }
 {
@@ -62,7 +62,7 @@ fn interval_rows(alloc: Global, vars: u32) -> Result<Vec<Coeffs>, AllocError>
     Ok(rows)
 }
 
-/// Appends the difference of a variable and each other one.
+// Appends the difference of a variable and each other one.
 fn add_differences(
     alloc: Global,
     rows: &mut Vec<Coeffs>,
@@ -79,7 +79,7 @@ fn add_differences(
     Ok(())
 }
 
-/// Appends the four signed sums of two different variables.
+// Appends the four signed sums of two different variables.
 fn add_signed_sums(
     alloc: Global,
     rows: &mut Vec<Coeffs>,
@@ -97,7 +97,7 @@ fn add_signed_sums(
     Ok(())
 }
 
-/// Appends the signed sums of a variable and each later one.
+// Appends the signed sums of a variable and each later one.
 fn add_all_signed_sums(
     alloc: Global,
     rows: &mut Vec<Coeffs>,
@@ -114,7 +114,7 @@ fn add_all_signed_sums(
     Ok(())
 }
 
-/// The rows of intervals, and then the difference of each ordered pair of different variables.
+// The rows of intervals, and then the difference of each ordered pair of different variables.
 fn zone_rows(alloc: Global, vars: u32) -> Result<Vec<Coeffs>, AllocError>
     ensures { IfOk result (λ rows. rows.items ≡ zones_of vars) }
 {
@@ -125,7 +125,7 @@ fn zone_rows(alloc: Global, vars: u32) -> Result<Vec<Coeffs>, AllocError>
     Ok(rows)
 }
 
-/// The rows of intervals, and then the signed sums of each pair of variables.
+// The rows of intervals, and then the signed sums of each pair of variables.
 fn octagon_rows(alloc: Global, vars: u32) -> Result<Vec<Coeffs>, AllocError>
     ensures { IfOk result (λ rows. rows.items ≡ octagons_of vars) }
 {

@@ -14,14 +14,14 @@ use crate::template::Template;
 use std::alloc::{AllocError, Global};
 use tm_tree::{Coeffs, Name};
 
-/// The lines of a text: the pieces between its line feeds.
+// The lines of a text: the pieces between its line feeds.
 fn lines_of<'a>(alloc: Global, text: &'a [u8]) -> Result<Vec<&'a [u8]>, AllocError>
     ensures { IfOk result (λ lines. map (λ line. line.now) lines.items ≡ lines_of text.now) }
 {
     text.split(|byte| *byte == b'\n').collect(alloc)
 }
 
-/// Adds the row of a line, if it gives one.
+// Adds the row of a line, if it gives one.
 fn add(rows: &mut Vec<Coeffs>, read: Option<Coeffs>) -> Result<(), AllocError>
     ensures { OnOk result (rows.new.items ≡ rows.old.items ++ option_to_list read) }
 {
@@ -31,7 +31,7 @@ fn add(rows: &mut Vec<Coeffs>, read: Option<Coeffs>) -> Result<(), AllocError>
     Ok(())
 }
 
-/// The rows of the lines.
+// The rows of the lines.
 fn rows_of(alloc: Global, lines: &[&[u8]], names: &[Name]) -> Result<Vec<Coeffs>, RowFault>
     requires few { length lines.now ≤ 65537 }
     requires short { IsTrue (list_all (λ line. nat_le (length line.now) 65536) lines.now) }
@@ -47,7 +47,7 @@ fn rows_of(alloc: Global, lines: &[&[u8]], names: &[Name]) -> Result<Vec<Coeffs>
     Ok(rows)
 }
 
-/// What the file is.
+// What the file is.
 fn answer(alloc: Global, text: &[u8], names: &[Name]) -> Result<Template, RowFault>
     requires { length text.now ≤ 65536 }
     ensures template { IfOk result (λ template. Answers names.now text.now (Ok template)) }

@@ -17,7 +17,7 @@ pub(crate) fn is_row(coefficients: &[i64]) -> bool
     coefficients.iter().any(|c| *c != 0)
 }
 
-/// What is wrong with the row on this line.
+// What is wrong with the row on this line.
 fn row_fault(row: &[i64], vars: u32, line: u32) -> Option<RowFault>
     ensures { option_to_list result ≡ row_faults vars (line, row.now) }
 {
@@ -41,7 +41,7 @@ pub(crate) fn count_fault(count: u32) -> Option<RowFault>
     }
 }
 
-/// The fault that decides, if there is one.
+// The fault that decides, if there is one.
 fn first_fault(rows: &[Coeffs], vars: u32) -> Option<RowFault>
     requires { length rows.now < 2 ^ 32 }
     ensures { result ≡ slice_get (faults_of vars rows.now) 0 }
@@ -55,7 +55,7 @@ fn first_fault(rows: &[Coeffs], vars: u32) -> Option<RowFault>
     count_fault(rows.len() as u32)
 }
 
-/// The same rows once more.
+// The same rows once more.
 fn copies(alloc: Global, rows: &[Coeffs]) -> Result<Vec<Coeffs>, AllocError>
     ensures { IfOk result (λ copies. copies.items ≡ rows.now) }
 {

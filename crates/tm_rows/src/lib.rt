@@ -18,6 +18,3 @@ pub use file::read_rows;
 pub use given::from_rows;
 pub use law::one_reading;
 pub use template::Template;
-
-#[cfg(test)]
-mod tests;

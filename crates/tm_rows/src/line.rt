@@ -17,21 +17,21 @@ use std::alloc::Global;
 use tm_lex::{LexFault, Token, lex};
 use tm_tree::{Coeffs, Name};
 
-/// Space, tab and carriage return.
+// Space, tab and carriage return.
 fn is_blank(byte: u8) -> bool
     ensures { result ≡ is_blank byte }
 {
     matches!(byte, b' ' | b'\t' | b'\r')
 }
 
-/// The first byte that isn't blank.
+// The first byte that isn't blank.
 fn first_mark(line: &[u8]) -> Option<u8>
     ensures { result ≡ find (λ b. not (is_blank b)) line.now }
 {
     line.iter().copied().find(|byte| !is_blank(*byte))
 }
 
-/// Whether the line is blank, or its first byte that isn't blank is `#`.
+// Whether the line is blank, or its first byte that isn't blank is `#`.
 fn is_skipped(line: &[u8]) -> bool
     ensures { result ≡ is_skipped line.now }
 {
@@ -41,7 +41,7 @@ fn is_skipped(line: &[u8]) -> bool
     }
 }
 
-/// The tokens of the line, if it has no fault.
+// The tokens of the line, if it has no fault.
 fn tokens_of(alloc: Global, line: &[u8]) -> Result<Option<Vec<Token>>, RowFault>
     requires { length line.now ≤ 65536 }
     ensures { MatchResult result
@@ -58,7 +58,7 @@ fn tokens_of(alloc: Global, line: &[u8]) -> Result<Option<Vec<Token>>, RowFault>
     }
 }
 
-/// The terms that the line reads as, if it is a row.
+// The terms that the line reads as, if it is a row.
 fn terms_of<'a>(alloc: Global, line: &'a [u8]) -> Result<Option<Vec<Term<'a>>>, RowFault>
     requires { length line.now ≤ 65536 }
     ensures { MatchResult result

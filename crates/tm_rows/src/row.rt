@@ -11,7 +11,7 @@ use std::alloc::{AllocError, Global};
 use std::collections::BTreeMap;
 use tm_tree::Name;
 
-/// Whether the name is one of these.
+// Whether the name is one of these.
 fn is_among(names: &[Name], name: &[u8]) -> bool
     ensures { result ≡ is_among names.now name.now }
 {

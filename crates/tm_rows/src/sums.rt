@@ -19,7 +19,7 @@ pub(crate) fn sum_of(sums: &BTreeMap<&[u8], i64>, name: &[u8]) -> i64
     }
 }
 
-/// The sum of two numbers, where it is within `2^63 - 1`.
+// The sum of two numbers, where it is within `2^63 - 1`.
 fn sum_within(left: i64, right: i64) -> Option<i64>
     ensures { MatchOption result (IsFalse (is_number (left +ℤ right))) (λ sum. (sum ≡ left +ℤ right) × IsTrue (is_number (left +ℤ right))) }
 {
@@ -29,7 +29,7 @@ fn sum_within(left: i64, right: i64) -> Option<i64>
     }
 }
 
-/// Adds a term to the coefficient of its name, and says whether that stays within `2^63 - 1`.
+// Adds a term to the coefficient of its name, and says whether that stays within `2^63 - 1`.
 fn add<'a>(sums: &mut BTreeMap<&'a [u8], i64>, term: Term<'a>) -> Result<bool, AllocError>
     ensures fits { IfOk result (λ fits. fits ≡ is_number (sum_at sums.old term.entry.name.now +ℤ term.entry.coefficient)) }
     ensures sums { IfOk result (λ fits. IsTrue fits → (name : List ℕ) → sum_at sums.new name ≡ sum_at sums.old name +ℤ share name (kept_amount term.entry)) }

@@ -1,6 +1,6 @@
 -- What a step of the code is in the exact run.
 use Rattle.std.proofs.Common.{◌≡◌, ◌≢◌, ℕ, zero, suc, ◌+◌, ◌<◌, ◌≤◌, ◌⊎◌, inl, inr, ⊎_elim, Bool, true, false, cond, eqb, ltb, ℤ, List, [], ◌++◌, Option, Some, None, refl, ap, ap₂, sym, ◌∙◌, subst, subst₂, arith, true≢false}
-use Rattle.std.proofs.lemmas.Bool.{cases_lt, eqb-true, ne_eqb, lt-ltb, le-ltb}
+use Rattle.std.proofs.lemmas.Bool.{cases_lt, eqb-true, ne_eqb, lt-ltb, le-ltb, cases_Bool}
 use Rattle.tm_num.specs.Rational.{ℚ, zero_ℚ, ◌≤ℚ◌, ◌<ℚ◌}
 use Rattle.tm_num.proofs.Laws.{not_le_of_lt}
 use Rattle.tm_lp.specs.Problem as lp
@@ -9,7 +9,6 @@ use Rattle.tm_lp.specs.Bland.{Enters, Leaves, Choice, optimal, ray, step, choose
 use Rattle.tm_lp.specs.Simplex.{names}
 use Rattle.tm_lp.specs.Table.{Table, Shows, Agree, pivot_table}
 use Rattle.tm_lp.specs.Run.{row_place, col_place, Phase, phase_dict, phase_table, IsPhase, phase_of}
-use Rattle.tm_lp.proofs.Dictionaries.{bool_cases}
 use Rattle.tm_lp.proofs.Steps.{choose_is, enters_only}
 use Rattle.tm_lp.proofs.NoRepeat.{turned_free}
 use Rattle.tm_lp.proofs.Stops.{after-suc}
@@ -101,7 +100,7 @@ module _ (n : ℕ) (ph : Phase) (h : IsPhase n ph) (j : ℕ) (T : Table) (a : Ag
   pub stays_in : (c r : ℕ) → EntersAt T T.rows T.width (Some c) → LeavesAt T c T.rows r → T.row_name r ≢ 0 → (phase_dict n ph j).basic 0 ≡ true → (phase_dict n ph (j + 1)).basic 0 ≡ true
   stays_in c r e l z b = ⊎_elim (λ t. t)
       (λ f. absurd (z (sym (turned_free (phase_dict n ph j) (T.row_name r) (T.col_name c) 0 b (ap (λ E. E.basic 0) (sym (dict_in c r e l)) ∙ f)))))
-      (bool_cases ((phase_dict n ph (j + 1)).basic 0))
+      (cases_Bool ((phase_dict n ph (j + 1)).basic 0))
 
   -- no step where the phase is over
   pub goes_in : (c r : ℕ) → EntersAt T T.rows T.width (Some c) → LeavesAt T c T.rows r → stops ph.goal n (phase_dict n ph j) ≡ false

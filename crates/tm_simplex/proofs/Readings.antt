@@ -1,6 +1,6 @@
 -- What is read from a table is what the dictionary says.
 use Rattle.std.proofs.Common.{◌≡◌, ◌≢◌, ℕ, zero, suc, ◌+◌, ◌<◌, ◌≤◌, ⊎_elim, Bool, true, false, List, length, refl, ap, ap₂, sym, ◌∙◌, subst, arith, true≢false}
-use Rattle.std.proofs.lemmas.Bool.{cases_eq}
+use Rattle.std.proofs.lemmas.Bool.{cases_eq, cases_Bool}
 use Rattle.tm_num.specs.Rational.{ℚ, zero_ℚ, one_ℚ, neg_ℚ}
 use Rattle.tm_num.proofs.Laws.{neg_ℚ-zero}
 use Rattle.tm_lp.specs.Problem as lp
@@ -9,7 +9,6 @@ use Rattle.tm_lp.specs.Simplex.{names, slack_name, multipliers, point_of, ray_of
 use Rattle.tm_lp.specs.Table.{Table, Shows}
 use Rattle.tm_lp.specs.HasRows.{HasRows}
 use Rattle.tm_lp.proofs.Sums.{delta_same, delta_other}
-use Rattle.tm_lp.proofs.Dictionaries.{bool_cases}
 use Rattle.tm_dict.specs.Cells.{cell}
 use Rattle.tm_simplex.specs.Placed.{IsPlaced, Places}
 use Rattle.tm_simplex.specs.Outcomes.{IsListed}
@@ -27,7 +26,7 @@ module _ {F : Type 0} (m : F → ℚ) (P : lp.Problem) (T : Table) (D : Dict) (h
     each = λ j l. let z : suc j ≡ suc (j + 0) = omega arith in ⊎_elim
         (λ b. let w = k.has (suc j) (omega (arith, l)) (λ e. omega (arith, e)) b in p.put w.0 j w.1 l (w.2 ∙ z) ∙ h.constants w.0 (let u = w.1 in omega (arith, u)) ∙ ap D.const w.2)
         (λ f. p.rest j l (λ i u e. no_row (suc j) f i u (e ∙ sym z)) ∙ sym (d.still (suc j) f))
-        (bool_cases (D.basic (suc j)));
+        (cases_Bool (D.basic (suc j)));
   }
 
   -- the direction of an entering column
@@ -40,7 +39,7 @@ module _ {F : Type 0} (m : F → ℚ) (P : lp.Problem) (T : Table) (D : Dict) (h
         (λ n. p.entering.kept j n ∙ ⊎_elim
         (λ b. let w = k.has (suc j) (omega (arith, l)) (λ e. omega (arith, e)) b in p.placed.put w.0 j w.1 l (w.2 ∙ z) ∙ h.entries w.0 c (let u = w.1 in omega (arith, u)) c_in ∙ ap (λ x. D.coef x (T.col_name c)) w.2)
         (λ f. p.placed.rest j l (λ i u e. no_row (suc j) f i u (e ∙ sym z)) ∙ sym (d.unit (suc j) (T.col_name c) f ∙ delta_other (suc j) (T.col_name c) (λ e. n (sym e ∙ z))))
-        (bool_cases (D.basic (suc j))))
+        (cases_Bool (D.basic (suc j))))
         (cases_eq (T.col_name c) (suc (j + 0)));
   }
 
@@ -51,5 +50,5 @@ module _ {F : Type 0} (m : F → ℚ) (P : lp.Problem) (T : Table) (D : Dict) (h
     each = λ r l. ⊎_elim
         (λ b. p.rest r l (λ i u f. true≢false (sym b ∙ ap D.basic (sym f) ∙ h.col_free i u)) ∙ sym (ap neg_ℚ (d.column g (slack_name P r) b) ∙ neg_ℚ-zero))
         (λ f. let w = h.all_cols (slack_name P r) (omega (arith, l)) f in p.put w.0 r w.1 l w.2 ∙ ap neg_ℚ (h.entries T.rows w.0 (omega (arith, goals)) w.1 ∙ ap₂ (λ x y. D.coef x y) e w.2))
-        (bool_cases (D.basic (slack_name P r)));
+        (cases_Bool (D.basic (slack_name P r)));
   }

@@ -7,8 +7,6 @@ mod phase;
 mod read;
 mod scan;
 mod step;
-#[cfg(test)]
-mod tests;
 
 pub use method::solve;
 pub use outcome::{Outcome, SolveFault};

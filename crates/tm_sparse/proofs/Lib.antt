@@ -1,6 +1,7 @@
 pub mod SingleEntries
 pub mod Lists
 pub mod Gaps
+pub mod NextColumns
 pub mod Merging
 pub mod Dividing
 pub mod RowsAt

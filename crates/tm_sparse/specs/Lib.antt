@@ -2,6 +2,7 @@ pub mod Entries
 pub mod Keeps
 pub mod Faults
 pub mod Rows
+pub mod Merge
 pub mod Build
 pub mod Named
 pub mod Unique

@@ -4,6 +4,7 @@ ghost use Rattle.tm_num.specs.Rational.{zero_ℚ, ◌*ℚ◌};
 ghost use Rattle.tm_frac.specs.Operation.{Answers};
 ghost use Rattle.tm_dict.specs.Formulas.{divided, divided_operations, product_operations, added_operations};
 ghost use Rattle.tm_sparse.specs.Rows.{merged};
+ghost use Rattle.tm_sparse.specs.Merge.{kept, term, term_operations};
 
 use tm_frac::{OrderedField, Wide};
 
@@ -51,6 +52,28 @@ pub fn merged_of<F: OrderedField>(
     if above.is_zero() {
         return Ok(entry);
     }
-    let term = factor.times(above)?;
-    entry.plus(term)
+    entry.add_product(factor, above)
+}
+
+/// The same where the pivot's row has no entry.
+pub fn kept_of<F: OrderedField>(entry: F, product: F, at_pivot: bool) -> F
+    ensures { F.meaning result ≡ kept (F.meaning entry) (F.meaning product) at_pivot }
+{
+    if at_pivot { product } else { entry }
+}
+
+/// The same where the row has no entry: the product alone.
+pub fn term_of<F: OrderedField>(
+    factor: F,
+    above: F,
+    product: F,
+    at_pivot: bool,
+) -> Result<F, Wide<F>>
+    requires { F.meaning factor ≢ zero_ℚ }
+    ensures { Answers F.meaning F.LIMIT (term (F.meaning factor) (F.meaning above) (F.meaning product) at_pivot) (term_operations (F.meaning factor) (F.meaning above) at_pivot) result }
+{
+    if at_pivot {
+        return Ok(product);
+    }
+    product_of(factor, above)
 }

@@ -10,7 +10,5 @@ mod place;
 mod push;
 mod rows;
 mod sparse;
-#[cfg(test)]
-mod tests;
 
 pub use sparse::Sparse;

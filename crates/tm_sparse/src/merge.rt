@@ -1,5 +1,5 @@
 //! Formulas 3 and 4 on a row: two rising lists become one.
-ghost use Rattle.std.specs.Prelude.{◌≡◌, ◌≢◌, ℕ, ◌<◌, ◌≤◌, drop, length, None, OnOk, IfErr};
+ghost use Rattle.std.specs.Prelude.{◌≡◌, ◌≢◌, ℕ, ◌<◌, ◌≤◌, drop, length, None, OnOk, IfOk, IfErr};
 ghost use Rattle.tm_num.specs.Rational.{zero_ℚ, ◌*ℚ◌};
 ghost use Rattle.tm_frac.specs.Operation.{first_wide};
 ghost use Rattle.tm_dict.specs.Formulas.{combined_row};
@@ -7,9 +7,10 @@ ghost use Rattle.tm_dict.specs.PivotOperations.{added_row_operations};
 ghost use Rattle.tm_dict.specs.Faults.{Refuses};
 ghost use Rattle.tm_sparse.specs.Entries.{value_at, Rises, HasNoZero, head_col, head_value, behind};
 ghost use Rattle.tm_sparse.specs.Keeps.{Keeps};
+ghost use Rattle.tm_sparse.specs.Merge.{MergesNext, next_operations};
 
 use crate::entry::Entry;
-use crate::formulas::merged_of;
+use crate::formulas::{kept_of, merged_of, term_of};
 use crate::push::push_answer;
 use tm_dict::PivotFault;
 use tm_frac::OrderedField;
@@ -39,6 +40,47 @@ fn taken<F: OrderedField>(entries: &[Entry<F>], at: usize, col: u32) -> (F, usiz
     }
 }
 
+/// Merges the first column that is left in a row from the place `i` on, or in `above` from `j` on, and answers the places behind it.
+fn merge_next<F: OrderedField>(
+    merged: &mut Vec<Entry<F>>,
+    entries: &[Entry<F>],
+    above: &[Entry<F>],
+    i: usize,
+    j: usize,
+    factor: F,
+    product: F,
+    col: u32,
+) -> Result<(usize, usize), PivotFault<F>>
+    requires within { i ≤ length entries.now }
+    requires within_above { j ≤ length above.now }
+    requires is_factor { F.meaning factor ≢ zero_ℚ }
+    ensures merged { IfOk result (λ r. MergesNext F.meaning F.LIMIT (F.meaning factor) (F.meaning product) col (drop i entries.now) (drop j above.now) (drop r.0 entries.now) (drop r.1 above.now) merged.old.items merged.new.items) }
+    ensures places { IfOk result (λ r. (r.0 ≤ length entries.now) × (r.1 ≤ length above.now)) }
+    ensures cols { (head_col (drop i entries.now) < 4294967296) × (head_col (drop j above.now) < 4294967296) }
+    ensures refused { IfErr result (Refuses F.meaning F.LIMIT (next_operations F.meaning (F.meaning factor) col (drop i entries.now) (drop j above.now))) }
+{
+    let left = col_from(entries, i);
+    let right = col_from(above, j);
+    if left < right {
+        let (entry, next) = taken(entries, i, left);
+        push_answer(merged, left, Ok(kept_of(entry, product, left == col)))?;
+        return Ok((next, j));
+    }
+    if right < left {
+        let (sum, next_above) = taken(above, j, right);
+        push_answer(merged, right, term_of(factor, sum, product, right == col))?;
+        return Ok((i, next_above));
+    }
+    let (entry, next) = taken(entries, i, left);
+    let (sum, next_above) = taken(above, j, left);
+    push_answer(
+        merged,
+        left,
+        merged_of(entry, factor, sum, product, left == col),
+    )?;
+    Ok((next, next_above))
+}
+
 /// Adds `factor` times the entries of `above` to those of a row, outside the pivot's column, where `product` stands.
 pub fn merge<F: OrderedField>(
     merged: &mut Vec<Entry<F>>,
@@ -60,10 +102,7 @@ pub fn merge<F: OrderedField>(
     let mut i = 0;
     let mut j = 0;
     while i < entries.len() || j < above.len() {
-        let k = col_from(entries, i).min(col_from(above, j));
-        let (entry, next) = taken(entries, i, k);
-        let (sum, next_above) = taken(above, j, k);
-        push_answer(merged, k, merged_of(entry, factor, sum, product, k == col))?;
+        let (next, next_above) = merge_next(merged, entries, above, i, j, factor, product, col)?;
         i = next;
         j = next_above;
     }

@@ -40,17 +40,9 @@ pub fn push_answer<F: OrderedField>(
     }
 }
 
-/// Gives the row other entries, in its own space where they have room.
-pub fn replace<F: OrderedField>(
-    row: &mut SparseRow<F>,
-    entries: &[Entry<F>],
-) -> Result<(), PivotFault<F>>
-    ensures replaced { OnOk result (row.new.entries.items ≡ entries.now) }
-    ensures refused { IfErr result (λ e. e ≡ PivotFault.NoMemory) }
+/// Gives the row other entries, and takes its own in their place.
+pub fn replace<F: OrderedField>(row: &mut SparseRow<F>, entries: &mut Vec<Entry<F>>)
+    ensures { row.new.entries.items ≡ entries.old.items }
 {
-    row.entries.clear();
-    match row.entries.extend_from_slice(entries) {
-        Ok(()) => Ok(()),
-        Err(_) => Err(PivotFault::NoMemory),
-    }
+    std::mem::swap(&mut row.entries, entries);
 }

@@ -61,7 +61,8 @@ pub fn combine_row<F: OrderedField>(
     match product_of(factor, value_in(above, col)) {
         Ok(product) => {
             merge(merged, &row.entries, above, factor, product, col)?;
-            replace(row, merged)
+            replace(row, merged);
+            Ok(())
         }
         Err(wide) => Err(PivotFault::Wide(wide)),
     }
@@ -108,5 +109,6 @@ pub fn exchange<F: OrderedField>(
 {
     divide_row(divided, &rows[row].entries, col)?;
     combine_rows(rows, merged, divided, row, col)?;
-    replace(&mut rows[row], divided)
+    replace(&mut rows[row], divided);
+    Ok(())
 }

@@ -14,7 +14,8 @@ use tm_frac::OrderedField;
 
 /// A dictionary that keeps for each row, those of the basic variables and then those of the goals, the entries that are not
 /// zero, by rising column, the constant last. With fractions an entry takes 24 bytes.
-/// A pivot changes the rows that have its column and no others, and takes memory only where a row grows.
+/// A pivot changes the rows that have its column and no others; their old lists hold the next rows, so memory is taken only where a
+/// list grows.
 #[derive(Drop)]
 pub struct Sparse<F> {
     rows: Vec<SparseRow<F>>,

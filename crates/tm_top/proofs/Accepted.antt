@@ -11,13 +11,13 @@ use Rattle.tm_eqsys.specs.Equations.{Equations, Least, Vector}
 use Rattle.tm_eqsys.specs.Report.{report_of}
 use Rattle.tm_eqsys.specs.Solutions.{equations_of_program}
 use Rattle.tm_eqsys.specs.View.{equations_of, vector_of}
-use Rattle.tm_steps.specs.Certificates.{ValidCertificate, bounds_vector}
+use Rattle.tm_validity.specs.Certificates.{ValidCertificate, bounds_vector}
 use Rattle.tm_cert.specs.declared.cert.Cert.{Cert}
 use Rattle.tm_top.specs.Checks.{IsSpelt, NoneIsWide, system_with, theirs}
 use Rattle.tm_top.specs.Parted.{FitsProgram, IsUnaccepted}
 use Rattle.tm_top.specs.Reports.{IsLeastReport, IsReportBy}
 use Rattle.tm_top.proofs.Solved.{least_report, same_equations}
-use Rattle.tm_top.specs.declared.source.Refusal.{Refusal}
+use Rattle.tm_top.specs.declared.refusal.Refusal.{Refusal}
 
 -- the vector of a certificate's bounds is that of its list
 bounds_are : (system : Equations) (bounds : List Ext) → bounds_vector system bounds ≡ vector_of (length system.template) bounds

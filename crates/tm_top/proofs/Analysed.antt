@@ -12,10 +12,10 @@ use Rattle.tm_eqsys.specs.Solutions.{equations_of_program}
 use Rattle.tm_eqsys.specs.SystemLimits.{is_over}
 use Rattle.tm_eqsys.specs.View.{equations_of, vector_of}
 use Rattle.tm_eqsys.proofs.Sizes.{both}
-use Rattle.tm_steps.specs.Certificates.{ValidCertificate}
+use Rattle.tm_validity.specs.Certificates.{ValidCertificate}
 use Rattle.tm_rounds.specs.Solutions.{cert_with, made_certificate}
-use Rattle.tm_words.specs.declared.request.Domain.{Domain}
-use Rattle.tm_words.specs.declared.request.Policy.{Policy}
+use Rattle.tm_cli.specs.declared.request.Domain.{Domain}
+use Rattle.tm_cli.specs.declared.request.Policy.{Policy}
 use Rattle.tm_top.specs.CheckMessages.{rows_of}
 use Rattle.tm_top.specs.Checks.{NoneIsWide, system_with}
 use Rattle.tm_top.specs.Messages.{line_in}
@@ -23,10 +23,10 @@ use Rattle.tm_top.specs.Parted.{IsAnswerToSystem, IsAnswerToTexts, IsHalted, IsO
 use Rattle.tm_top.specs.Reports.{IsCertificateOf, IsLeastReport, IsPutOf, IsReportOf}
 use Rattle.tm_top.specs.Rounds.{EndsWithin}
 use Rattle.tm_top.specs.Texts.{HasTemplate, IsSolvedSystem, unknowns}
-use Rattle.tm_top.specs.declared.task.Purpose.{Purpose}
-use Rattle.tm_top.specs.declared.task.Purpose.TheVariants.{Report, Certificate as AsCertificate}
-use Rattle.tm_top.specs.declared.source.Refusal.{Refusal}
-use Rattle.tm_top.specs.declared.source.Refusal.TheVariants as refusal
+use Rattle.tm_cli.specs.declared.request.Purpose.{Purpose}
+use Rattle.tm_cli.specs.declared.request.Purpose.TheVariants.{Report, Certificate as AsCertificate}
+use Rattle.tm_top.specs.declared.refusal.Refusal.{Refusal}
+use Rattle.tm_top.specs.declared.refusal.Refusal.TheVariants as refusal
 use Rattle.tm_top.specs.declared.status.Status.{Status}
 use Rattle.tm_top.specs.declared.status.Status.TheVariants.{Done, Certificate, Usage, Read, Text, Wide, Spent, Memory, Write}
 use Rattle.tm_top.proofs.Answered.{solved_ends}
@@ -37,7 +37,7 @@ use Rattle.tm_top.proofs.Solved.{least_report, same_equations}
 -- ---- answers to a system
 
 output_ends : (purpose : Purpose) (system : System) (policy : Policy) (limit : ℕ) (bytes : List ℕ) → IsOutputOf purpose system policy limit bytes → EndsWithin system policy limit
-output_ends Report system policy limit bytes r = (r.rounds, r.within, r.has_rounds)
+output_ends Report system policy limit bytes r = (r.rounds, r.within, vector_of (length system.template) r.bounds, r.has_rounds)
 output_ends AsCertificate system policy limit bytes r = solved_ends system policy limit r.solved r.is_solved
 
 pub put_system : (purpose : Purpose) (system : System) (policy : Policy) (limit : ℕ) (bytes shown : List ℕ) (result : Status) (held now : Option (List ℕ)) (f f' : ℕ) → shown ≡ bytes

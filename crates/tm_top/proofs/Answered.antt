@@ -1,28 +1,31 @@
--- A task over files that are told has one ending; and where it stands, it is answered.
+-- A request over files that are told has one ending; and where it stands, it is answered.
 use Rattle.std.proofs.Common.{◌≡◌, ◌≤◌, ◌⊎◌, inl, inr, ⊎_elim, ℕ, List, length, refl, sym, ap, ◌∙◌, subst, arith}
 use Rattle.std.specs.Prelude.{Option, Some, None}
 use Rattle.tm_io.specs.Files.{Contents}
-use Rattle.tm_words.specs.declared.request.Analysis.{Analysis}
-use Rattle.tm_words.specs.declared.request.Domain.{Domain}
-use Rattle.tm_words.specs.declared.request.Domain.TheVariants as domain
-use Rattle.tm_words.specs.declared.request.Policy.{Policy}
-use Rattle.tm_words.specs.declared.request.Policy.TheVariants.{Best}
+use Rattle.tm_cli.specs.declared.request.Analysis.{Analysis}
+use Rattle.tm_cli.specs.declared.request.Domain.{Domain}
+use Rattle.tm_cli.specs.declared.request.Domain.TheVariants as domain
+use Rattle.tm_cli.specs.declared.request.Policy.{Policy}
+use Rattle.tm_cli.specs.declared.request.Policy.TheVariants.{Best}
 use Rattle.tm_rows.specs.Domains.{intervals_of}
 use Rattle.tm_eqsys.specs.declared.spot.Spot.{Spot}
 use Rattle.tm_eqsys.specs.declared.system.System.{System}
 use Rattle.tm_workload.specs.Bodies.{generated_body, generated_names}
+use Rattle.tm_eqsys.specs.View.{vector_of}
+pub use Rattle.tm_top.specs.Given.{Tells, IsOfRounds, Answered, unwritten, widened, unless}
 use Rattle.tm_top.specs.Endings.{BenchEnd, CheckEnd, Ends, InputsEnd, IsAnswerTo, IsGenerated, IsSpotFor, TextsEnd}
 use Rattle.tm_top.specs.Files.{AreChecked, AreInputs, HasContent, HasProgram, HasShortProgram, HasShortRows, IsLongAfter, IsLongProgram, IsShort, IsTold, IsWithText}
 use Rattle.tm_top.specs.Parted.{IsAnswerToBench, IsAnswerToCheck, IsAnswerToTexts}
+use Rattle.tm_top.proofs.OneChain.{solved_rounds}
 use Rattle.tm_top.specs.Rounds.{EndsWithin, RunsOut}
 use Rattle.tm_top.specs.Reports.{IsReportOn}
-use Rattle.tm_top.specs.Request.{Task, rows_file}
+use Rattle.tm_top.specs.Request.{Request, rows_file}
 use Rattle.tm_top.specs.Run.{FailedBefore, OutputHolds, Unless}
 use Rattle.tm_top.proofs.CheckOnce.{CheckEnds, check_ends_once, check_staged}
 use Rattle.tm_top.proofs.Once.{TextEnds, not_both_ways, ready_rounds, staged, text_ends_once}
-use Rattle.tm_top.specs.declared.task.Purpose.{Purpose}
-use Rattle.tm_top.specs.declared.task.Purpose.TheVariants.{Report, Certificate as AsCertificate}
-use Rattle.tm_top.specs.declared.task.Task.TheVariants.{Analyse, Check, Bench}
+use Rattle.tm_cli.specs.declared.request.Purpose.{Purpose}
+use Rattle.tm_cli.specs.declared.request.Purpose.TheVariants.{Report, Certificate as AsCertificate}
+use Rattle.tm_cli.specs.declared.request.Request.TheVariants.{Analyse, Check, Bench}
 use Rattle.tm_top.specs.declared.status.Which.{Which}
 use Rattle.tm_top.specs.declared.status.Which.TheVariants.{Program, Rows, Certificate}
 use Rattle.tm_top.specs.declared.status.ReadCause.TheVariants.{Failed, TooLong}
@@ -66,20 +69,14 @@ short_rows files (domain.Rows f) rows file content t e h (text, k, i) s =
     let same : text ≡ content = content_once files file text content t (subst (λ n. HasContent files n text) (same_file f file e) k) h in
     subst IsShort same short
 
--- ---- a task has one ending, by stages
+-- ---- a request has one ending, by stages
 
--- the shelf tells its files, where the task reads any
-abbrev pub Tells : Option Contents → Task → Type 0
-Tells files (Analyse purpose a) = IsTold files
-Tells files (Check p c) = IsTold files
-Tells files (Bench seed loops) = Unit {0}
-
-pub tells : (files : Option Contents) (task : Task) → IsTold files → Tells files task
+pub tells : (files : Option Contents) (request : Request) → IsTold files → Tells files request
 tells files (Analyse purpose a) t = t
 tells files (Check p c) t = t
 tells files (Bench seed loops) t = tt
 
-pub program_once : (files : Option Contents) (task : Task) (x y : List ℕ) → Tells files task → HasProgram files task x → HasProgram files task y → x ≡ y
+pub program_once : (files : Option Contents) (request : Request) (x y : List ℕ) → Tells files request → HasProgram files request x → HasProgram files request y → x ≡ y
 program_once files (Analyse purpose a) x y t h k = content_once files a.program x y t h k
 program_once files (Check p c) x y t h k = content_once files p x y t h k
 program_once files (Bench seed loops) x y t h k = absurd h
@@ -106,21 +103,21 @@ bench_ends_once seed loops s t (ended x is e i) (out y js o j) = absurd (not_bot
 bench_ends_once seed loops s t (out x is o i) (ended y js e j) = absurd (not_both_ways generated_names (generated_body seed loops) (intervals_of 3) Best 1000 y x js is e o)
 bench_ends_once seed loops s t (out x is o i) (out y js f j) = i ∙ sym j
 
--- what the texts of a task have as their ending, by stages
-abbrev StagesEnd : Option Contents → Task → Status → Type 0
+-- what the texts of a request have as their ending, by stages
+abbrev StagesEnd : Option Contents → Request → Status → Type 0
 StagesEnd files (Analyse purpose a) s = (text : List ℕ) × (rows : Domain (List ℕ)) × AreInputs files a text rows × TextEnds text rows a.policy a.improvements s
 StagesEnd files (Check p c) s = (text : List ℕ) × (bytes : List ℕ) × AreChecked files p c text bytes × CheckEnds text bytes s
 StagesEnd files (Bench seed loops) s = BenchEnds seed loops s
 
-data TaskEnds (files : Option Contents) (task : Task) (s : Status) : Type 0 where
-  long : IsLongProgram files task → s ≡ Read (TooLong Program) → TaskEnds files task s
-  long_rows : IsLongAfter files task Rows → s ≡ Read (TooLong Rows) → TaskEnds files task s
-  long_certificate : IsLongAfter files task Certificate → s ≡ Read (TooLong Certificate) → TaskEnds files task s
-  inputs : StagesEnd files task s → TaskEnds files task s
+data RequestEnds (files : Option Contents) (request : Request) (s : Status) : Type 0 where
+  long : IsLongProgram files request → s ≡ Read (TooLong Program) → RequestEnds files request s
+  long_rows : IsLongAfter files request Rows → s ≡ Read (TooLong Rows) → RequestEnds files request s
+  long_certificate : IsLongAfter files request Certificate → s ≡ Read (TooLong Certificate) → RequestEnds files request s
+  inputs : StagesEnd files request s → RequestEnds files request s
 
-too_long : (files : Option Contents) (task : Task) (text : List ℕ) → Tells files task → IsLongProgram files task → HasProgram files task text → IsShort text → ⊥
-too_long files task text t l h s =
-    let same : l.text ≡ text = program_once files task l.text text t l.program h in
+too_long : (files : Option Contents) (request : Request) (text : List ℕ) → Tells files request → IsLongProgram files request → HasProgram files request text → IsShort text → ⊥
+too_long files request text t l h s =
+    let same : l.text ≡ text = program_once files request l.text text t l.program h in
     let e : length l.text ≡ length text = ap length same in
     let long = l.long in omega arith
 
@@ -136,28 +133,28 @@ certificate_too_long files p c text bytes t l i =
     let long = l.long in let short = i.short_bytes in omega arith
 
 -- the texts are within their limits
-inputs_short : (files : Option Contents) (task : Task) (s : Status) → Tells files task → IsLongProgram files task → StagesEnd files task s → ⊥
+inputs_short : (files : Option Contents) (request : Request) (s : Status) → Tells files request → IsLongProgram files request → StagesEnd files request s → ⊥
 inputs_short files (Analyse purpose a) s t l (text, rows, i, e) = too_long files (Analyse purpose a) text t l i.program i.short
 inputs_short files (Check p c) s t l (text, bytes, i, e) = too_long files (Check p c) text t l i.program_is i.short
 inputs_short files (Bench seed loops) s t l e = absurd l.program
 
-inputs_rows : (files : Option Contents) (task : Task) (s : Status) → Tells files task → IsLongAfter files task Rows → StagesEnd files task s → ⊥
+inputs_rows : (files : Option Contents) (request : Request) (s : Status) → Tells files request → IsLongAfter files request Rows → StagesEnd files request s → ⊥
 inputs_rows files (Analyse purpose a) s t l (text, rows, i, e) = rows_too_long files purpose a text rows t l i
 inputs_rows files (Check p c) s t l x = no_file l.file l.named
 inputs_rows files (Bench seed loops) s t l e = absurd l.program
 
-inputs_certificate : (files : Option Contents) (task : Task) (s : Status) → Tells files task → IsLongAfter files task Certificate → StagesEnd files task s → ⊥
+inputs_certificate : (files : Option Contents) (request : Request) (s : Status) → Tells files request → IsLongAfter files request Certificate → StagesEnd files request s → ⊥
 inputs_certificate files (Analyse purpose a) s t l x = no_file l.file l.named
 inputs_certificate files (Check p c) s t l (text, bytes, i, e) = certificate_too_long files p c text bytes t l i
 inputs_certificate files (Bench seed loops) s t l e = absurd l.program
 
--- a task has rows or a certificate
-not_rows_and_certificate : (files : Option Contents) (task : Task) → IsLongAfter files task Rows → IsLongAfter files task Certificate → ⊥
+-- a request has rows or a certificate
+not_rows_and_certificate : (files : Option Contents) (request : Request) → IsLongAfter files request Rows → IsLongAfter files request Certificate → ⊥
 not_rows_and_certificate files (Analyse purpose a) l m = no_file m.file m.named
 not_rows_and_certificate files (Check p c) l m = no_file l.file l.named
 not_rows_and_certificate files (Bench seed loops) l m = absurd l.program
 
-texts_once : (files : Option Contents) (task : Task) (s t : Status) → Tells files task → StagesEnd files task s → StagesEnd files task t → s ≡ t
+texts_once : (files : Option Contents) (request : Request) (s t : Status) → Tells files request → StagesEnd files request s → StagesEnd files request t → s ≡ t
 texts_once files (Analyse purpose a) s t told (text, rows, m, i) (other, given, n, j) =
     let same : other ≡ text = content_once files a.program other text told n.program m.program in
     let same_rows : given ≡ rows = with_text_once files a.domain given rows told n.rows_are m.rows_are in
@@ -169,47 +166,47 @@ texts_once files (Check p c) s t told (text, bytes, m, i) (other, given, n, j) =
     check_ends_once text bytes s t i (subst (λ r. CheckEnds text r t) same_bytes (subst (λ x. CheckEnds x given t) same j))
 texts_once files (Bench seed loops) s t told h k = bench_ends_once seed loops s t h k
 
-task_once : (files : Option Contents) (task : Task) (s t : Status) → Tells files task → TaskEnds files task s → TaskEnds files task t → s ≡ t
-task_once files task s t told (long l e) (long m i) = e ∙ sym i
-task_once files task s t told (long l e) (long_rows m i) = absurd (too_long files task m.text told l m.program m.short)
-task_once files task s t told (long l e) (long_certificate m i) = absurd (too_long files task m.text told l m.program m.short)
-task_once files task s t told (long l e) (inputs i) = absurd (inputs_short files task t told l i)
-task_once files task s t told (long_rows l e) (long m i) = absurd (too_long files task l.text told m l.program l.short)
-task_once files task s t told (long_rows l e) (long_rows m i) = e ∙ sym i
-task_once files task s t told (long_rows l e) (long_certificate m i) = absurd (not_rows_and_certificate files task l m)
-task_once files task s t told (long_rows l e) (inputs i) = absurd (inputs_rows files task t told l i)
-task_once files task s t told (long_certificate l e) (long m i) = absurd (too_long files task l.text told m l.program l.short)
-task_once files task s t told (long_certificate l e) (long_rows m i) = absurd (not_rows_and_certificate files task m l)
-task_once files task s t told (long_certificate l e) (long_certificate m i) = e ∙ sym i
-task_once files task s t told (long_certificate l e) (inputs i) = absurd (inputs_certificate files task t told l i)
-task_once files task s t told (inputs i) (long l e) = absurd (inputs_short files task s told l i)
-task_once files task s t told (inputs i) (long_rows l e) = absurd (inputs_rows files task s told l i)
-task_once files task s t told (inputs i) (long_certificate l e) = absurd (inputs_certificate files task s told l i)
-task_once files task s t told (inputs i) (inputs j) = texts_once files task s t told i j
+request_once : (files : Option Contents) (request : Request) (s t : Status) → Tells files request → RequestEnds files request s → RequestEnds files request t → s ≡ t
+request_once files request s t told (long l e) (long m i) = e ∙ sym i
+request_once files request s t told (long l e) (long_rows m i) = absurd (too_long files request m.text told l m.program m.short)
+request_once files request s t told (long l e) (long_certificate m i) = absurd (too_long files request m.text told l m.program m.short)
+request_once files request s t told (long l e) (inputs i) = absurd (inputs_short files request t told l i)
+request_once files request s t told (long_rows l e) (long m i) = absurd (too_long files request l.text told m l.program l.short)
+request_once files request s t told (long_rows l e) (long_rows m i) = e ∙ sym i
+request_once files request s t told (long_rows l e) (long_certificate m i) = absurd (not_rows_and_certificate files request l m)
+request_once files request s t told (long_rows l e) (inputs i) = absurd (inputs_rows files request t told l i)
+request_once files request s t told (long_certificate l e) (long m i) = absurd (too_long files request l.text told m l.program l.short)
+request_once files request s t told (long_certificate l e) (long_rows m i) = absurd (not_rows_and_certificate files request m l)
+request_once files request s t told (long_certificate l e) (long_certificate m i) = e ∙ sym i
+request_once files request s t told (long_certificate l e) (inputs i) = absurd (inputs_certificate files request t told l i)
+request_once files request s t told (inputs i) (long l e) = absurd (inputs_short files request s told l i)
+request_once files request s t told (inputs i) (long_rows l e) = absurd (inputs_rows files request s told l i)
+request_once files request s t told (inputs i) (long_certificate l e) = absurd (inputs_certificate files request s told l i)
+request_once files request s t told (inputs i) (inputs j) = texts_once files request s t told i j
 
-staged_inputs : (files : Option Contents) (task : Task) (s : Status) → InputsEnd files task s → TaskEnds files task s
+staged_inputs : (files : Option Contents) (request : Request) (s : Status) → InputsEnd files request s → RequestEnds files request s
 staged_inputs files (Analyse purpose a) s (text, rows, i, e) = inputs (text, rows, i, staged text rows a.policy a.improvements s e)
 staged_inputs files (Check p c) s (text, bytes, i, e) = inputs (text, bytes, i, check_staged text bytes s e)
 staged_inputs files (Bench seed loops) s e = inputs (bench_staged seed loops s e)
 
-staged_task : (files : Option Contents) (task : Task) (s : Status) → Ends files task s → TaskEnds files task s
-staged_task files task Done h = staged_inputs files task Done h
-staged_task files task (Refused cause) h = staged_inputs files task (Refused cause) h
-staged_task files task Usage h = absurd h
-staged_task files task (Read (Failed which)) h = absurd h
-staged_task files task (Read (TooLong Program)) h = long h refl
-staged_task files task (Read (TooLong Rows)) h = long_rows h refl
-staged_task files task (Read (TooLong Certificate)) h = long_certificate h refl
-staged_task files task (Text cause) h = staged_inputs files task (Text cause) h
-staged_task files task (Wide spot) h = staged_inputs files task (Wide spot) h
-staged_task files task (Spent n) h = staged_inputs files task (Spent n) h
-staged_task files task Memory h = absurd h
-staged_task files task Write h = absurd h
+staged_request : (files : Option Contents) (request : Request) (s : Status) → Ends files request s → RequestEnds files request s
+staged_request files request Done h = staged_inputs files request Done h
+staged_request files request (Refused cause) h = staged_inputs files request (Refused cause) h
+staged_request files request Usage h = absurd h
+staged_request files request (Read (Failed which)) h = absurd h
+staged_request files request (Read (TooLong Program)) h = long h refl
+staged_request files request (Read (TooLong Rows)) h = long_rows h refl
+staged_request files request (Read (TooLong Certificate)) h = long_certificate h refl
+staged_request files request (Text cause) h = staged_inputs files request (Text cause) h
+staged_request files request (Wide spot) h = staged_inputs files request (Wide spot) h
+staged_request files request (Spent n) h = staged_inputs files request (Spent n) h
+staged_request files request Memory h = absurd h
+staged_request files request Write h = absurd h
 
-pub ends_once : (files : Option Contents) (task : Task) (s t : Status) → Tells files task → Ends files task s → Ends files task t → s ≡ t
-ends_once files task s t told h k = task_once files task s t told (staged_task files task s h) (staged_task files task t k)
+pub ends_once : (files : Option Contents) (request : Request) (s t : Status) → Tells files request → Ends files request s → Ends files request t → s ≡ t
+ends_once files request s t told h k = request_once files request s t told (staged_request files request s h) (staged_request files request t k)
 
--- ---- an answer to texts is one to the task that reads them
+-- ---- an answer to texts is one to the request that reads them
 
 texts_end : (files : Option Contents) (purpose : Purpose) (a : Analysis (List ℕ)) (text : List ℕ) (rows : Domain (List ℕ)) (status : Status) → AreInputs files a text rows
     → TextsEnd text rows a.policy a.improvements status → InputsEnd files (Analyse purpose a) status
@@ -255,46 +252,34 @@ bench_answer files seed loops Write h = h
 -- ---- what stands is answered
 
 -- the program may fail before each ending
-program_before : (files : Option Contents) (task : Task) (wanted : Status) → Ends files task wanted → FailedBefore wanted (Read (Failed Program))
-program_before files task Done k = (Program, refl)
-program_before files task (Refused cause) k = (Program, refl)
-program_before files task Usage k = absurd k
-program_before files task (Read (Failed which)) k = absurd k
-program_before files task (Read (TooLong Program)) k = refl
-program_before files task (Read (TooLong Rows)) k = (Program, refl)
-program_before files task (Read (TooLong Certificate)) k = (Program, refl)
-program_before files task (Text cause) k = (Program, refl)
-program_before files task (Wide spot) k = (Program, refl)
-program_before files task (Spent n) k = (Program, refl)
-program_before files task Memory k = absurd k
-program_before files task Write k = absurd k
+program_before : (files : Option Contents) (request : Request) (wanted : Status) → Ends files request wanted → FailedBefore wanted (Read (Failed Program))
+program_before files request Done k = (Program, refl)
+program_before files request (Refused cause) k = (Program, refl)
+program_before files request Usage k = absurd k
+program_before files request (Read (Failed which)) k = absurd k
+program_before files request (Read (TooLong Program)) k = refl
+program_before files request (Read (TooLong Rows)) k = (Program, refl)
+program_before files request (Read (TooLong Certificate)) k = (Program, refl)
+program_before files request (Text cause) k = (Program, refl)
+program_before files request (Wide spot) k = (Program, refl)
+program_before files request (Spent n) k = (Program, refl)
+program_before files request Memory k = absurd k
+program_before files request Write k = absurd k
 
 -- the other file may fail before each but that of a program that is too long
-other_before : (files : Option Contents) (task : Task) (which : Which) (wanted : Status) → Tells files task → HasShortProgram files task → Ends files task wanted → FailedBefore wanted (Read (Failed which))
-other_before files task which Done told h k = (which, refl)
-other_before files task which (Refused cause) told h k = (which, refl)
-other_before files task which Usage told h k = absurd k
-other_before files task which (Read (Failed other)) told h k = absurd k
-other_before files task which (Read (TooLong Program)) told h k = absurd (too_long files task h.text told k h.program h.short)
-other_before files task which (Read (TooLong Rows)) told h k = (which, refl)
-other_before files task which (Read (TooLong Certificate)) told h k = (which, refl)
-other_before files task which (Text cause) told h k = (which, refl)
-other_before files task which (Wide spot) told h k = (which, refl)
-other_before files task which (Spent n) told h k = (which, refl)
-other_before files task which Memory told h k = absurd k
-other_before files task which Write told h k = absurd k
-
--- an ending that the rounds decide
-abbrev pub IsOfRounds : Status → Type 0
-IsOfRounds Done = Unit {0}
-IsOfRounds (Refused cause) = ⊥
-IsOfRounds Usage = ⊥
-IsOfRounds (Read cause) = ⊥
-IsOfRounds (Text cause) = ⊥
-IsOfRounds (Wide spot) = ⊥
-IsOfRounds (Spent n) = Unit {0}
-IsOfRounds Memory = ⊥
-IsOfRounds Write = ⊥
+other_before : (files : Option Contents) (request : Request) (which : Which) (wanted : Status) → Tells files request → HasShortProgram files request → Ends files request wanted → FailedBefore wanted (Read (Failed which))
+other_before files request which Done told h k = (which, refl)
+other_before files request which (Refused cause) told h k = (which, refl)
+other_before files request which Usage told h k = absurd k
+other_before files request which (Read (Failed other)) told h k = absurd k
+other_before files request which (Read (TooLong Program)) told h k = absurd (too_long files request h.text told k h.program h.short)
+other_before files request which (Read (TooLong Rows)) told h k = (which, refl)
+other_before files request which (Read (TooLong Certificate)) told h k = (which, refl)
+other_before files request which (Text cause) told h k = (which, refl)
+other_before files request which (Wide spot) told h k = (which, refl)
+other_before files request which (Spent n) told h k = (which, refl)
+other_before files request which Memory told h k = absurd k
+other_before files request which Write told h k = absurd k
 
 pub not_rounds : (cause : TextCause) (n : ℕ) → (Text cause ≡ Done) ⊎ (Text cause ≡ Spent n) → ⊥
 not_rounds cause n h = ⊎_elim (λ (e : Text cause ≡ Done). let f : ⊥ = cc in f) (λ (e : Text cause ≡ Spent n). let f : ⊥ = cc in f) h
@@ -308,7 +293,7 @@ spot_or_text files purpose a cause spot told (text, rows, i, e) (other, given, j
     not_rounds cause a.improvements (ready_rounds text rows a.policy a.improvements y.names y.body y.template (Text cause) ready (staged text rows a.policy a.improvements (Text cause) e))
 
 -- a wide operation of an analysis takes the place of an ending that the rounds decide; that of a check is its ending
-spot_after : (files : Option Contents) (task : Task) (wanted : Status) (spot : Spot) → Tells files task → Ends files task wanted → IsSpotFor files task spot → IsOfRounds wanted ⊎ (wanted ≡ Wide spot)
+spot_after : (files : Option Contents) (request : Request) (wanted : Status) (spot : Spot) → Tells files request → Ends files request wanted → IsSpotFor files request spot → IsOfRounds wanted ⊎ (wanted ≡ Wide spot)
 spot_after files (Check p c) wanted spot t k h = inr (sym (ends_once files (Check p c) (Wide spot) wanted t h k))
 spot_after files (Analyse purpose a) Done spot t k h = inl tt
 spot_after files (Analyse purpose a) (Refused cause) spot t k h = absurd k.3
@@ -335,50 +320,44 @@ spot_after files (Bench seed loops) (Spent n) spot t k h = inl tt
 spot_after files (Bench seed loops) Memory spot t k h = absurd k
 spot_after files (Bench seed loops) Write spot t k h = absurd k
 
--- what may come in place of an ending that stands: for a report a failed output, and for one that the rounds decide a wide operation
-pub data Answered (files : Option Contents) (task : Task) (wanted status : Status) : Type 0 where
-  unwritten : status ≡ Write → wanted ≡ Done → Answered files task wanted status
-  widened : (spot : Spot) → status ≡ Wide spot → IsSpotFor files task spot → IsOfRounds wanted → Answered files task wanted status
-  unless : Unless wanted status → Answered files task wanted status
-
 -- an ending that stands is answered, unless memory or a file or, for a report, the output fails
-pub answered_when : (files : Option Contents) (task : Task) (wanted status : Status) → Tells files task → IsAnswerTo files task status → Ends files task wanted → Answered files task wanted status
-answered_when files task wanted Done told h k = unless (inl (ends_once files task Done wanted told h k))
-answered_when files task wanted (Refused cause) told h k = unless (inl (ends_once files task (Refused cause) wanted told h k))
-answered_when files task wanted Usage told h k = absurd h
-answered_when files task wanted (Read (Failed Program)) told h k = unless (inr (inr (program_before files task wanted k)))
-answered_when files task wanted (Read (Failed Rows)) told h k = unless (inr (inr (other_before files task Rows wanted told h k)))
-answered_when files task wanted (Read (Failed Certificate)) told h k = unless (inr (inr (other_before files task Certificate wanted told h k)))
-answered_when files task wanted (Read (TooLong which)) told h k = unless (inl (ends_once files task (Read (TooLong which)) wanted told h k))
-answered_when files task wanted (Text cause) told h k = unless (inl (ends_once files task (Text cause) wanted told h k))
-answered_when files task wanted (Wide spot) told h k = ⊎_elim (λ r. widened spot refl h r) (λ e. unless (inl (sym e))) (spot_after files task wanted spot told k h)
-answered_when files task wanted (Spent n) told h k = unless (inl (ends_once files task (Spent n) wanted told h k))
-answered_when files task wanted Memory told h k = unless (inr (inl refl))
-answered_when files task wanted Write told h k = unwritten refl (sym (ends_once files task Done wanted told h k))
+pub answered_when : (files : Option Contents) (request : Request) (wanted status : Status) → Tells files request → IsAnswerTo files request status → Ends files request wanted → Answered files request wanted status
+answered_when files request wanted Done told h k = unless (inl (ends_once files request Done wanted told h k))
+answered_when files request wanted (Refused cause) told h k = unless (inl (ends_once files request (Refused cause) wanted told h k))
+answered_when files request wanted Usage told h k = absurd h
+answered_when files request wanted (Read (Failed Program)) told h k = unless (inr (inr (program_before files request wanted k)))
+answered_when files request wanted (Read (Failed Rows)) told h k = unless (inr (inr (other_before files request Rows wanted told h k)))
+answered_when files request wanted (Read (Failed Certificate)) told h k = unless (inr (inr (other_before files request Certificate wanted told h k)))
+answered_when files request wanted (Read (TooLong which)) told h k = unless (inl (ends_once files request (Read (TooLong which)) wanted told h k))
+answered_when files request wanted (Text cause) told h k = unless (inl (ends_once files request (Text cause) wanted told h k))
+answered_when files request wanted (Wide spot) told h k = ⊎_elim (λ r. widened spot refl h r) (λ e. unless (inl (sym e))) (spot_after files request wanted spot told k h)
+answered_when files request wanted (Spent n) told h k = unless (inl (ends_once files request (Spent n) wanted told h k))
+answered_when files request wanted Memory told h k = unless (inr (inl refl))
+answered_when files request wanted Write told h k = unwritten refl (sym (ends_once files request Done wanted told h k))
 
 -- ---- where a refusal stands, nothing is put
 
 -- rounds that lead to a solution end within the limit
 pub solved_ends : (system : System) (policy : Policy) (limit : ℕ) (solved : Solved) → IsSolved system (rule_of policy) limit solved → EndsWithin system policy limit
-solved_ends system policy limit solved is = (solved.improvements, is.within, record { choose = is.choose; chain = is.chain; ended = is.ended })
+solved_ends system policy limit solved is = (solved.improvements, is.within, vector_of (length system.template) solved.bounds, solved_rounds system policy limit solved is)
 
-reported : (files : Option Contents) (task : Task) (bytes : List ℕ) → IsReportOn files task bytes → Ends files task Done
+reported : (files : Option Contents) (request : Request) (bytes : List ℕ) → IsReportOn files request bytes → Ends files request Done
 reported files (Analyse Report a) bytes (text, rows, i, r) =
-    (text, rows, i, (r.system, record { names = r.names; body = r.body; template = r.template; ready = r.ready; system_for = r.system_for }, (r.rounds, r.within, r.has_rounds)))
+    (text, rows, i, (r.system, record { names = r.names; body = r.body; template = r.template; ready = r.ready; system_for = r.system_for }, (r.rounds, r.within, r.vector, r.has_rounds)))
 reported files (Analyse AsCertificate a) bytes (text, rows, i, r) =
     (text, rows, i, (r.system, record { names = r.names; body = r.body; template = r.template; ready = r.ready; system_for = r.system_for }, solved_ends r.system a.policy a.improvements r.solved r.is_solved))
 reported files (Check p c) bytes (text, given, i, r) = (text, given, i, (r.names, r.body, r.cert, r.valid, r.narrow))
-reported files (Bench seed loops) bytes r = (r.system, r.system_for, (r.rounds, r.within, r.has_rounds))
+reported files (Bench seed loops) bytes r = (r.system, r.system_for, (r.rounds, r.within, r.vector, r.has_rounds))
 
-pub nothing_put : (files : Option Contents) (task : Task) (wanted status : Status) (held now : Option (List ℕ)) → Tells files task → IsAnswerTo files task status
-    → OutputHolds (IsReportOn files task) status held now → Ends files task wanted → (wanted ≡ Done → ⊥) → now ≡ held
-nothing_put files task wanted Done held now told h o k other = absurd (other (sym (ends_once files task Done wanted told h k)))
-nothing_put files task wanted (Refused cause) held now told h o k other = o
-nothing_put files task wanted Usage held now told h o k other = o
-nothing_put files task wanted (Read cause) held now told h o k other = o
-nothing_put files task wanted (Text cause) held now told h o k other = o
-nothing_put files task wanted (Wide spot) held now told h o k other = o
-nothing_put files task wanted (Spent n) held now told h o k other = o
-nothing_put files task wanted Memory held now told h o k other =
-    ⊎_elim (λ e. e) (λ part. absurd (other (sym (ends_once files task Done wanted told (reported files task part.0 part.2) k)))) o
-nothing_put files task wanted Write held now told h o k other = absurd (other (sym (ends_once files task Done wanted told h k)))
+pub nothing_put : (files : Option Contents) (request : Request) (wanted status : Status) (held now : Option (List ℕ)) → Tells files request → IsAnswerTo files request status
+    → OutputHolds (IsReportOn files request) status held now → Ends files request wanted → (wanted ≡ Done → ⊥) → now ≡ held
+nothing_put files request wanted Done held now told h o k other = absurd (other (sym (ends_once files request Done wanted told h k)))
+nothing_put files request wanted (Refused cause) held now told h o k other = o
+nothing_put files request wanted Usage held now told h o k other = o
+nothing_put files request wanted (Read cause) held now told h o k other = o
+nothing_put files request wanted (Text cause) held now told h o k other = o
+nothing_put files request wanted (Wide spot) held now told h o k other = o
+nothing_put files request wanted (Spent n) held now told h o k other = o
+nothing_put files request wanted Memory held now told h o k other =
+    ⊎_elim (λ e. e) (λ part. absurd (other (sym (ends_once files request Done wanted told (reported files request part.0 part.2) k)))) o
+nothing_put files request wanted Write held now told h o k other = absurd (other (sym (ends_once files request Done wanted told h k)))

@@ -4,13 +4,13 @@ use Rattle.std.specs.Prelude.{Option}
 use Rattle.tm_top.specs.Endings.{BenchEnd}
 use Rattle.tm_top.specs.Parted.{IsAnswerToBench, IsUnsummed, PutsReport, failed, refused, wanting, whole}
 use Rattle.tm_top.specs.Reports.{IsSummaryOf}
-use Rattle.tm_top.specs.declared.source.Refusal.{Refusal}
-use Rattle.tm_top.specs.declared.source.Refusal.TheVariants as refusal
+use Rattle.tm_top.specs.declared.refusal.Refusal.{Refusal}
+use Rattle.tm_top.specs.declared.refusal.Refusal.TheVariants as refusal
 use Rattle.tm_top.specs.declared.status.Status.{Status}
 use Rattle.tm_top.specs.declared.status.Status.TheVariants.{Done}
 
 summary_ends : (seed loops : ℕ) (bytes : List ℕ) → IsSummaryOf seed loops bytes → BenchEnd seed loops Done
-summary_ends seed loops bytes r = (r.system, r.system_for, (r.rounds, r.within, r.has_rounds))
+summary_ends seed loops bytes r = (r.system, r.system_for, (r.rounds, r.within, r.vector, r.has_rounds))
 
 pub put_bench : (seed loops : ℕ) (bytes shown : List ℕ) (result : Status) (held now : Option (List ℕ)) (f f' : ℕ) → shown ≡ bytes → IsSummaryOf seed loops bytes → PutsReport shown result held now f f'
     → IsAnswerToBench seed loops result

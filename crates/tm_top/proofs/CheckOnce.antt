@@ -4,7 +4,7 @@ use Rattle.std.specs.Prelude.{Bool, Option, Result, Ok, Err, Some, None, nat_lt,
 use Rattle.tm_frac.specs.Operation.{Operation, operation_of}
 use Rattle.tm_lex.specs.declared.fault.LexFault.{LexFault}
 use Rattle.tm_lex.specs.Faults.{HasFault}
-use Rattle.tm_lex.proofs.Once.{one_text_fault, no_fault}
+use Rattle.tm_lex.proofs.reading.Once.{one_text_fault, no_fault}
 use Rattle.tm_parse.specs.declared.fault.ParseFault.{ParseFault}
 use Rattle.tm_tree.specs.Tree.{Statements}
 use Rattle.tm_flow.specs.declared.fault.FlowFault.{FlowFault}
@@ -13,14 +13,14 @@ use Rattle.tm_rows.specs.declared.fault.RowFault.{RowFault}
 use Rattle.tm_rows.specs.RowFaults.{faults_of}
 use Rattle.tm_eqsys.specs.declared.spot.Site.TheVariants.{Compose}
 use Rattle.tm_eqsys.specs.declared.spot.Spot.{Spot}
-use Rattle.tm_steps.specs.Faults.{Fault, SizeFault, TraceFault, LowFault, HighFault, RayFault, FinalFault, UpperFault}
+use Rattle.tm_validity.specs.Faults.{Fault, SizeFault, TraceFault, LowFault, HighFault, RayFault, FinalFault, UpperFault}
 use Rattle.tm_cert.specs.declared.cert.Cert.{Cert}
 use Rattle.serde_json.specs.Data.{Data}
 use Rattle.tm_form.specs.Certificates.{Spells, SpellsCert, cert_in}
 use Rattle.tm_form.specs.declared.fault.FormFault.{FormFault}
 use Rattle.tm_form.specs.declared.fault.FormFault.TheVariants.{NotJson, Shape, Number, Version, NoMemory}
 use Rattle.tm_form.proofs.Laws.{one_reading}
-use Rattle.tm_oper.specs.Operations.{wide_composition}
+use Rattle.tm_compose.specs.Operations.{wide_composition}
 use Rattle.tm_check.specs.CheckEvents.{check_events}
 use Rattle.tm_check.specs.Events.{fault_answer, first_stop}
 use Rattle.tm_check.specs.declared.fault.CheckFault.{CheckFault}

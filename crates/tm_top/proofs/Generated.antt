@@ -17,17 +17,18 @@ use Rattle.tm_workload.specs.Bodies.{generated_body, generated_names}
 use Rattle.tm_workload.specs.Law.{GeneratedTextsRead, generated_equations}
 use Rattle.tm_workload.specs.Summaries.{summary_of}
 use Rattle.tm_workload.specs.Texts.{generated_text}
-use Rattle.tm_words.specs.declared.request.Domain.TheVariants.{Intervals}
-use Rattle.tm_words.specs.declared.request.Policy.TheVariants.{Best}
+use Rattle.tm_cli.specs.declared.request.Domain.TheVariants.{Intervals}
+use Rattle.tm_cli.specs.declared.request.Policy.TheVariants.{Best}
 use Rattle.tm_top.specs.Endings.{IsGenerated}
 use Rattle.tm_top.specs.Parted.{IsHalted, IsRefusedBy, IsUnsummed}
 use Rattle.tm_top.specs.Policies.{rule_of}
 use Rattle.tm_top.specs.Reports.{IsSummaryOf}
+use Rattle.tm_top.proofs.OneChain.{solved_rounds}
 use Rattle.tm_top.specs.Rounds.{IsSystemFor}
 use Rattle.tm_top.specs.Texts.{IsReady, IsRefused, IsSolvedSystem, Reading}
-use Rattle.tm_top.specs.declared.task.Purpose.TheVariants.{Report}
-use Rattle.tm_top.specs.declared.source.Refusal.{Refusal}
-use Rattle.tm_top.specs.declared.source.Refusal.TheVariants as refusal
+use Rattle.tm_cli.specs.declared.request.Purpose.TheVariants.{Report}
+use Rattle.tm_top.specs.declared.refusal.Refusal.{Refusal}
+use Rattle.tm_top.specs.declared.refusal.Refusal.TheVariants as refusal
 use Rattle.tm_top.specs.declared.status.TextCause.{TextCause}
 use Rattle.tm_top.specs.declared.status.Status.TheVariants.{Text}
 use Rattle.tm_top.proofs.Answered.{not_rounds}
@@ -102,7 +103,7 @@ module _ (law : GeneratedTextsRead) (seed loops : ℕ) (few : loops ≤ 46) wher
         system_for = made;
         rounds = solved.improvements;
         within = solution.within;
-        has_rounds = record { choose = solution.choose; chain = solution.chain; ended = solution.ended };
+        has_rounds = solved_rounds system Best 1000 solved solution;
         vector = vector_of (length system.template) solved.bounds;
         least = subst (λ q. Least q (vector_of (length system.template) solved.bounds)) (equations_are generated_names (generated_body seed loops) (intervals_of 3) system made) least;
         summary = subst (λ n. bytes ≡ summary_of seed loops n system (vector_of (length system.template) solved.bounds) solved.improvements) size written;

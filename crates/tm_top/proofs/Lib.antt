@@ -19,3 +19,4 @@ pub mod Made
 pub mod Worded
 pub mod Loaded
 pub mod Plain
+pub mod Headlined

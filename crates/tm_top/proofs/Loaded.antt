@@ -5,15 +5,15 @@ use Rattle.std.specs.declared.alloc.Global.{Global}
 use Rattle.std.proofs.lemmas.List.{length-take, take_all}
 use Rattle.tm_io.specs.Files.{Contents}
 use Rattle.tm_io.specs.Loads.{Gives, GivesIfTold}
-use Rattle.tm_words.specs.declared.request.Analysis.{Analysis}
+use Rattle.tm_cli.specs.declared.request.Analysis.{Analysis}
 use Rattle.tm_top.specs.Endings.{IsAnswerTo}
 use Rattle.tm_top.specs.Files.{HasContent, IsShort}
 use Rattle.tm_top.specs.Parted.{AreNotLoaded, AreUnloaded, IsNotLoaded, unloaded}
-use Rattle.tm_top.specs.declared.task.Purpose.{Purpose}
-use Rattle.tm_top.specs.declared.task.Task.TheVariants.{Analyse, Check}
+use Rattle.tm_cli.specs.declared.request.Purpose.{Purpose}
+use Rattle.tm_cli.specs.declared.request.Request.TheVariants.{Analyse, Check}
 use Rattle.tm_top.specs.Run.{FailsOnlyIn, HasFailed}
-use Rattle.tm_top.specs.declared.load.LoadRefusal.{LoadRefusal}
-use Rattle.tm_top.specs.declared.load.LoadRefusal.TheVariants.{Failed, TooLong, NoMemory}
+use Rattle.tm_top.specs.declared.files.LoadRefusal.{LoadRefusal}
+use Rattle.tm_top.specs.declared.files.LoadRefusal.TheVariants.{Failed, TooLong, NoMemory}
 use Rattle.tm_top.specs.declared.status.Which.{Which}
 use Rattle.tm_top.specs.declared.status.Which.TheVariants.{Program, Rows, Certificate}
 

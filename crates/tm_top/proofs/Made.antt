@@ -10,9 +10,9 @@ use Rattle.tm_eqsys.specs.Equations.{Least}
 use Rattle.tm_eqsys.specs.SystemLimits.{is_over}
 use Rattle.tm_eqsys.specs.View.{equations_of, vector_of}
 use Rattle.tm_eqsys.proofs.Sizes.{both}
-use Rattle.tm_steps.specs.Certificates.{ValidCertificate}
-use Rattle.tm_steps.specs.Faults.{Fault, certificate_fault}
-use Rattle.tm_steps.proofs.CertificateFaults.{certificate_fault_none}
+use Rattle.tm_validity.specs.Certificates.{ValidCertificate}
+use Rattle.tm_validity.specs.Faults.{Fault, certificate_fault}
+use Rattle.tm_validity.proofs.CertificateFaults.{certificate_fault_none}
 use Rattle.tm_cert.specs.Shaped.{IsShaped}
 use Rattle.tm_cert.specs.declared.cert.Cert.{Cert}
 use Rattle.tm_cert.specs.declared.step.Step.{Step}
@@ -22,14 +22,14 @@ use Rattle.tm_check.specs.Items.{is_short}
 use Rattle.tm_check.proofs.CheckTests.{stops_are_faults}
 use Rattle.tm_rounds.specs.declared.solution.Solved.{Solved}
 use Rattle.tm_rounds.specs.Solutions.{AreNumbered, IsSolved, cert_with, has_most, made_certificate}
-use Rattle.tm_words.specs.declared.request.Policy.{Policy}
+use Rattle.tm_cli.specs.declared.request.Policy.{Policy}
 use Rattle.tm_top.specs.Checks.{IsCheckSpot, IsCompositionSpot, IsStopped, NoneIsWide, theirs}
 use Rattle.tm_top.specs.Parted.{IsHalted, IsRoundsCertificate, IsUnaccepted}
 use Rattle.tm_top.specs.Policies.{rule_of}
-use Rattle.tm_top.specs.Rounds.{HasSpot}
-use Rattle.tm_top.specs.declared.task.Purpose.TheVariants.{Certificate as AsCertificate}
-use Rattle.tm_top.specs.declared.source.Refusal.{Refusal}
-use Rattle.tm_top.specs.declared.source.Refusal.TheVariants as refusal
+use Rattle.tm_top.specs.Spots.{HasSpot}
+use Rattle.tm_cli.specs.declared.request.Purpose.TheVariants.{Certificate as AsCertificate}
+use Rattle.tm_top.specs.declared.refusal.Refusal.{Refusal}
+use Rattle.tm_top.specs.declared.refusal.Refusal.TheVariants as refusal
 use Rattle.tm_top.specs.declared.status.CertCause.TheVariants.{Form, Rows, Unknowns, Check}
 
 -- ---- its steps and items can be numbered

@@ -1,12 +1,12 @@
 -- What the stream of messages holds after a message was put in one piece.
-use Rattle.std.proofs.Common.{◌≡◌, ◌≤◌, ◌≢◌, ℕ, List, Option, length, refl, sym, subst, arith}
+use Rattle.std.proofs.Common.{◌≡◌, ◌∙◌, inl, inr, ◌≤◌, ◌≢◌, ℕ, List, Option, length, refl, sym, subst, arith}
 use Rattle.std.specs.Prelude.{Result, Ok, Err}
 use Rattle.std.specs.Io.KnownBytes.{Appends}
 use Rattle.std.proofs.Math.Seq.{take-length}
-use Rattle.tm_io.specs.Puts.{HasPutCause, Puts}
+use Rattle.tm_io.specs.Puts.{AddsPieces, HasPutCause, Puts, Takes, as_pieces}
 use Rattle.tm_io.specs.declared.sink.PutFault.{PutFault}
 use Rattle.tm_io.specs.declared.sink.PutFault.TheVariants.{Failed, NoMemory}
-use Rattle.tm_top.specs.Run.{ErrorsHold, GetsMessage}
+use Rattle.tm_top.specs.Run.{ErrorsHold, GetsMessage, IsInOnePiece}
 use Rattle.tm_top.specs.Messages.{message_of}
 use Rattle.tm_top.specs.declared.status.Status.{Status}
 use Rattle.tm_top.specs.declared.status.Status.TheVariants.{Done, Certificate, Usage, Read, Text, Wide, Spent, Memory, Write}
@@ -45,3 +45,9 @@ pub told_by : (line rows : ℕ) (status : Status) (bytes message : List ℕ) (he
 told_by line rows status bytes message held now f f' s r e i short other puts cause =
     told line rows status held now f f' s other
     (subst (λ m. GetsMessage m held now f f' s) i (subst (λ m. GetsMessage m held now f f' s) e (gets bytes held now f f' s r short puts cause)))
+
+-- and were taken in one piece, if at all
+pub one_piece : (line rows : ℕ) (status : Status) (bytes message : List ℕ) (taken now : Option (List (List ℕ))) (r : Result (Unit {0}) PutFault)
+    → bytes ≡ message → message ≡ message_of line rows status → Takes taken now bytes r → IsInOnePiece (message_of line rows status) taken now
+one_piece line rows status bytes message taken now (Ok done) e i takes = inr (subst (λ m. AddsPieces taken now (as_pieces m)) (e ∙ i) takes)
+one_piece line rows status bytes message taken now (Err fault) e i takes = inl takes

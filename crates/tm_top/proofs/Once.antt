@@ -3,7 +3,7 @@ use Rattle.std.proofs.Common.{◌≡◌, ◌≤◌, ◌<◌, ◌⊎◌, inl, inr
 use Rattle.std.specs.Prelude.{ℤ, Option, Ok, Err, Some, None}
 use Rattle.tm_lex.specs.declared.fault.LexFault.{LexFault}
 use Rattle.tm_lex.specs.Faults.{HasFault}
-use Rattle.tm_lex.proofs.Once.{one_text_fault, no_fault}
+use Rattle.tm_lex.proofs.reading.Once.{one_text_fault, no_fault}
 use Rattle.tm_parse.specs.declared.fault.ParseFault.{ParseFault}
 use Rattle.tm_tree.specs.Tree.{Statements}
 use Rattle.tm_flow.specs.declared.fault.FlowFault.{FlowFault}
@@ -12,8 +12,8 @@ use Rattle.tm_rows.specs.declared.fault.RowFault.{RowFault}
 use Rattle.tm_eqsys.specs.declared.system.System.{System}
 use Rattle.tm_eqsys.specs.Solutions.{equations_of_program}
 use Rattle.tm_eqsys.specs.View.{equations_of}
-use Rattle.tm_words.specs.declared.request.Domain.{Domain}
-use Rattle.tm_words.specs.declared.request.Policy.{Policy}
+use Rattle.tm_cli.specs.declared.request.Domain.{Domain}
+use Rattle.tm_cli.specs.declared.request.Policy.{Policy}
 use Rattle.tm_top.specs.Rounds.{EndsWithin, IsSystemFor, RunsOut}
 use Rattle.tm_top.proofs.OneChain.{ends_once}
 use Rattle.tm_top.proofs.Solved.{same_equations}

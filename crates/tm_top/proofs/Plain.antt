@@ -2,14 +2,15 @@
 use Rattle.std.proofs.Common.{◌≡◌, ◌<◌, ℕ, List, Option, Some, None, ap, ◌∙◌, subst, arith}
 use Rattle.std.specs.Prelude.{option_and_then}
 use Rattle.tm_io.specs.Files.{Contents}
-use Rattle.tm_words.specs.declared.request.Analysis.{Analysis}
-use Rattle.tm_words.specs.declared.request.Domain.{Domain}
-use Rattle.tm_words.specs.declared.request.Domain.TheVariants as domain
+use Rattle.tm_cli.specs.declared.request.Analysis.{Analysis}
+use Rattle.tm_cli.specs.declared.request.Domain.{Domain}
+use Rattle.tm_cli.specs.declared.request.Domain.TheVariants as domain
 use Rattle.tm_top.specs.Files.{AreChecked, AreInputs, IsWithText}
-use Rattle.tm_top.specs.Request.{asked, file_in, file_named, rows_file}
+use Rattle.tm_cli.specs.Request.{request_of}
+use Rattle.tm_top.specs.Request.{file_in, file_named, rows_file}
 use Rattle.tm_top.specs.Run.{HasFailed}
-use Rattle.tm_top.specs.declared.task.Purpose.{Purpose}
-use Rattle.tm_top.specs.declared.task.Task.TheVariants.{Analyse, Check}
+use Rattle.tm_cli.specs.declared.request.Purpose.{Purpose}
+use Rattle.tm_cli.specs.declared.request.Request.TheVariants.{Analyse, Check}
 use Rattle.tm_top.specs.declared.status.Which.{Which}
 use Rattle.tm_top.specs.declared.status.Which.TheVariants.{Program, Rows, Certificate}
 
@@ -44,14 +45,14 @@ same_files : (x y : Contents) → Some x ≡ Some y → x ≡ y
 same_files x y e = cc
 
 pub never_fails : (files now : Contents) (words : List (List ℕ)) (purpose : Purpose) (a : Analysis (List ℕ)) (text : List ℕ) (rows : Domain (List ℕ)) (which : Which) (f f' : ℕ) (last : List ℕ)
-    → asked words ≡ Some (Analyse purpose a) → AreInputs (Some files) a text rows → Some now ≡ Some files → (0 < f' → now last ≡ None)
+    → request_of words ≡ Some (Analyse purpose a) → AreInputs (Some files) a text rows → Some now ≡ Some files → (0 < f' → now last ≡ None)
     → HasFailed f f' last (file_named which words) → ⊥
 never_fails files now words purpose a text rows which f f' last e i kept absent (rose, name) =
     let none : now last ≡ None = absent (omega arith) in
     has_file files purpose a text rows which last i (name ∙ ap (λ x. option_and_then (file_in which) x) e) (subst (λ (m : Contents). m last ≡ None) (same_files now files kept) none)
 
 pub check_never_fails : (files now : Contents) (words : List (List ℕ)) (p c text bytes : List ℕ) (which : Which) (f f' : ℕ) (last : List ℕ)
-    → asked words ≡ Some (Check p c) → AreChecked (Some files) p c text bytes → Some now ≡ Some files → (0 < f' → now last ≡ None)
+    → request_of words ≡ Some (Check p c) → AreChecked (Some files) p c text bytes → Some now ≡ Some files → (0 < f' → now last ≡ None)
     → HasFailed f f' last (file_named which words) → ⊥
 check_never_fails files now words p c text bytes which f f' last e i kept absent (rose, name) =
     let none : now last ≡ None = absent (omega arith) in

@@ -6,15 +6,17 @@ use Rattle.std.specs.List.{list_all}
 use Rattle.std.specs.Str.{bytes_eq}
 use Rattle.std.specs.Str.Parse.{digits_value}
 use Rattle.clap.specs.Words.{Kinds, Row, Text, fault_of, first_of, subcommand_of}
-use Rattle.tm_words.specs.CommandLine.{tmpl_app}
-use Rattle.tm_words.specs.Request.{analysis_in, bench_in, check_in, command_in, request_of, unless_fault}
-use Rattle.tm_words.specs.Values.{domain_in, meaning_in, number_in, policies}
-use Rattle.tm_words.specs.declared.request.Analysis.{Analysis}
-use Rattle.tm_words.specs.declared.request.Domain.{Domain}
-use Rattle.tm_words.specs.declared.request.Policy.{Policy}
-use Rattle.tm_words.specs.declared.request.Request.{Request}
-use Rattle.tm_words.specs.declared.request.Request.TheVariants.{Solve, Certify, Check, Bench}
-use Rattle.tm_top.specs.Request.{IsInRange, Task, task_of}
+use Rattle.tm_cli.specs.CommandLine.{tmpl_app}
+use Rattle.tm_cli.specs.Request.{analyse_in, analysis_in, bench_in, check_in, command_in, request_of, unless_fault}
+use Rattle.tm_cli.specs.Values.{domain_in, meaning_in, number_in, policies}
+use Rattle.tm_cli.specs.declared.request.Analysis.{Analysis}
+use Rattle.tm_cli.specs.declared.request.Domain.{Domain}
+use Rattle.tm_cli.specs.declared.request.Policy.{Policy}
+use Rattle.tm_cli.specs.declared.request.Request.{Request}
+use Rattle.tm_cli.specs.declared.request.Request.TheVariants.{Analyse, Check, Bench}
+use Rattle.tm_cli.specs.declared.request.Purpose.{Purpose}
+use Rattle.tm_cli.specs.declared.request.Purpose.TheVariants.{Report, Certificate}
+use Rattle.tm_top.specs.Request.{IsInRange}
 
 none_some : {A : Type 0} (b : A) → None ≡ Some b → ⊥
 none_some b e = cc
@@ -98,37 +100,27 @@ analysis_bounds given a e =
 
 -- ---- the commands
 
-abbrev solve_of : Analysis Text → Request Text
-solve_of a = Solve a
-
-abbrev certify_of : Analysis Text → Request Text
-certify_of a = Certify a
-
-solve_range : (given : List Row) (r : Request Text) → option_map (λ a. Solve a) (analysis_in given) ≡ Some r → IsInRange (task_of r)
-solve_range given r e =
-    let a = map_some solve_of (analysis_in given) r e in
-    subst (λ r. IsInRange (task_of r)) a.2 (analysis_bounds given a.0 a.1)
-
-certify_range : (given : List Row) (r : Request Text) → option_map (λ a. Certify a) (analysis_in given) ≡ Some r → IsInRange (task_of r)
-certify_range given r e =
-    let a = map_some certify_of (analysis_in given) r e in
-    subst (λ r. IsInRange (task_of r)) a.2 (analysis_bounds given a.0 a.1)
+analyse_range : (purpose : Purpose) (given : List Row) (r : Request Text) → analyse_in purpose given ≡ Some r → IsInRange r
+analyse_range purpose given r e =
+    let made : Analysis Text → Request Text = λ a. Analyse purpose a in
+    let a = map_some made (analysis_in given) r e in
+    subst (λ r. IsInRange r) a.2 (analysis_bounds given a.0 a.1)
 
 check_of : List Row → Text → Option (Request Text)
 check_of given program = option_map (λ certificate. Check program certificate) (first_of (codes "certificate") given)
 
-check_range : (given : List Row) (r : Request Text) → check_in given ≡ Some r → IsInRange (task_of r)
+check_range : (given : List Row) (r : Request Text) → check_in given ≡ Some r → IsInRange r
 unfolding check_of
 check_range given r e =
     let p = and_then_some (check_of given) (first_of (codes "program") given) r e in
     let made : Text → Request Text = λ certificate. Check p.0 certificate in
     let c = map_some made (first_of (codes "certificate") given) r p.2 in
-    subst (λ r. IsInRange (task_of r)) c.2 tt
+    subst (λ r. IsInRange r) c.2 tt
 
 bench_of : List Row → ℕ → Option (Request Text)
 bench_of given seed = option_map (λ loops. Bench seed loops) (option_and_then (number_in 1 46) (first_of (codes "loops") given))
 
-bench_range : (given : List Row) (r : Request Text) → bench_in given ≡ Some r → IsInRange (task_of r)
+bench_range : (given : List Row) (r : Request Text) → bench_in given ≡ Some r → IsInRange r
 unfolding bench_of
 bench_range given r e =
     let seed = and_then_some (bench_of given) (option_and_then (number_in 0 2147483647) (first_of (codes "seed") given)) r e in
@@ -138,31 +130,28 @@ bench_range given r e =
     let l = and_then_some (number_in 1 46) (first_of (codes "loops") given) loops.0 loops.1 in
     let most : seed.0 ≤ 2147483647 = (number_bounds 0 2147483647 s.0 seed.0 s.2).1 in
     let range = number_bounds 1 46 l.0 loops.0 l.2 in
-    subst (λ r. IsInRange (task_of r)) loops.2 (omega arith, range.0, range.1)
+    subst (λ r. IsInRange r) loops.2 (omega arith, range.0, range.1)
 
-command_range : (p : Text × List Row) (r : Request Text) → command_in p ≡ Some r → IsInRange (task_of r)
+command_range : (p : Text × List Row) (r : Request Text) → command_in p ≡ Some r → IsInRange r
 command_range (name, given) r e =
-    ⊎_elim (λ h. solve_range given r h)
-    (λ h. ⊎_elim (λ i. certify_range given r i)
+    ⊎_elim (λ h. analyse_range Report given r h)
+    (λ h. ⊎_elim (λ i. analyse_range Certificate given r i)
     (λ i. ⊎_elim (λ j. check_range given r j)
     (λ j. ⊎_elim (λ k. bench_range given r k) (λ k. absurd (none_some r k))
     (if_some (bytes_eq name (codes "bench")) (bench_in given) None r j))
     (if_some (bytes_eq name (codes "check")) (check_in given) (if bytes_eq name (codes "bench") then bench_in given else None) r i))
-    (if_some (bytes_eq name (codes "certify")) (option_map (λ a. Certify a) (analysis_in given))
+    (if_some (bytes_eq name (codes "certify")) (analyse_in Certificate given)
     (if bytes_eq name (codes "check") then check_in given else (if bytes_eq name (codes "bench") then bench_in given else None)) r h))
-    (if_some (bytes_eq name (codes "solve")) (option_map (λ a. Solve a) (analysis_in given))
-    (if bytes_eq name (codes "certify") then option_map (λ a. Certify a) (analysis_in given)
+    (if_some (bytes_eq name (codes "solve")) (analyse_in Report given)
+    (if bytes_eq name (codes "certify") then analyse_in Certificate given
     else (if bytes_eq name (codes "check") then check_in given else (if bytes_eq name (codes "bench") then bench_in given else None))) r e)
 
 unfaulted : (kinds : Kinds) (o : Option (Request Text)) (r : Request Text) → unless_fault kinds o ≡ Some r → o ≡ Some r
 unfaulted [] o r e = e
 unfaulted (kind ∷ kinds) o r e = absurd (none_some r e)
 
-request_range : (words : List Text) (r : Request Text) → request_of words ≡ Some r → IsInRange (task_of r)
+pub request_range : (words : List Text) (r : Request Text) → request_of words ≡ Some r → IsInRange r
 unfolding request_of
 request_range words r e =
     let p = and_then_some command_in (subcommand_of tmpl_app words) r (unfaulted (fault_of tmpl_app words) (option_and_then command_in (subcommand_of tmpl_app words)) r e) in
     command_range p.0 r p.2
-
-pub task_range : (words : List Text) (r : Request Text) (task : Task) → request_of words ≡ Some r → task ≡ task_of r → IsInRange task
-task_range words r task e i = subst IsInRange (sym i) (request_range words r e)

@@ -1,16 +1,16 @@
 -- A text reads as one program, or has one fault; and a domain is one template over given variables, or has one fault.
 use Rattle.std.proofs.Common.{◌≡◌, ℕ, List, sym, ◌∙◌, subst}
 use Rattle.std.specs.Prelude.{ℤ, Result, Ok, Err}
-use Rattle.tm_lex.proofs.Once.{one_token_list}
+use Rattle.tm_lex.proofs.reading.Once.{one_token_list}
 use Rattle.tm_gram.specs.View.{tokens_of}
 use Rattle.tm_parse.specs.Meaning.{Answer, Means}
-use Rattle.tm_parse.proofs.Exactly.{means_once}
+use Rattle.tm_parse.proofs.meaning.OneMeaning.{means_once}
 use Rattle.tm_parse.specs.declared.fault.ParseFault.{ParseFault}
 use Rattle.tm_rows.specs.declared.fault.RowFault.{RowFault}
-use Rattle.tm_rows.proofs.OneAnswer.{one_answer}
+use Rattle.tm_rows.proofs.row_files.OneAnswer.{one_answer}
 use Rattle.tm_tree.specs.Tree.{Statements}
-use Rattle.tm_words.specs.declared.request.Domain.{Domain}
-use Rattle.tm_words.specs.declared.request.Domain.TheVariants.{Intervals, Zones, Octagons, Rows}
+use Rattle.tm_cli.specs.declared.request.Domain.{Domain}
+use Rattle.tm_cli.specs.declared.request.Domain.TheVariants.{Intervals, Zones, Octagons, Rows}
 use Rattle.tm_top.specs.Texts.{HasTemplate, Reading}
 
 abbrev answered : Answer → Answer

@@ -5,19 +5,19 @@ use Rattle.serde_json.specs.Data.{Data}
 use Rattle.tm_tree.specs.Tree.{Statements}
 use Rattle.tm_eqsys.specs.declared.spot.Spot.{Spot}
 use Rattle.tm_eqsys.specs.Equations.{Equations}
-use Rattle.tm_steps.specs.Certificates.{Certificate as TheoryCertificate}
+use Rattle.tm_validity.specs.Certificates.{Certificate as TheoryCertificate}
 use Rattle.tm_check.specs.CheckEvents.{check_events}
 use Rattle.tm_check.proofs.CheckTests.{stops_are_faults}
 use Rattle.tm_check.specs.Events.{fault_answer, first_stop}
 use Rattle.tm_check.specs.declared.fault.CheckFault.{CheckFault}
 use Rattle.tm_check.specs.declared.fault.CheckFault.TheVariants as check
-use Rattle.tm_steps.specs.Faults.{Fault, SizeFault, TraceFault, LowFault, HighFault, RayFault, FinalFault, UpperFault}
-use Rattle.tm_oper.specs.Operations.{wide_composition}
+use Rattle.tm_validity.specs.Faults.{Fault, SizeFault, TraceFault, LowFault, HighFault, RayFault, FinalFault, UpperFault}
+use Rattle.tm_compose.specs.Operations.{wide_composition}
 use Rattle.tm_cert.specs.declared.cert.Cert.{Cert}
 use Rattle.tm_form.specs.Certificates.{Spells, cert_in}
 use Rattle.tm_form.specs.declared.fault.FormFault.{FormFault}
 use Rattle.tm_form.specs.declared.fault.FormFault.TheVariants.{NotJson, Shape, Number, Version, NoMemory}
-use Rattle.tm_words.specs.declared.request.Domain.{Domain}
+use Rattle.tm_cli.specs.declared.request.Domain.{Domain}
 use Rattle.tm_top.specs.Checks.{IsFormFault, IsSpelt, IsSystemWith, system_with, theirs}
 use Rattle.tm_top.specs.CheckMessages.{rows_in}
 use Rattle.tm_top.specs.Messages.{line_in}
@@ -27,8 +27,8 @@ use Rattle.tm_top.specs.Run.{OutputHolds}
 use Rattle.tm_io.specs.Faults.{Rose}
 use Rattle.tm_io.specs.Puts.{HasPutCause}
 use Rattle.tm_io.specs.declared.sink.PutFault.{PutFault}
-use Rattle.tm_top.specs.declared.source.Refusal.{Refusal}
-use Rattle.tm_top.specs.declared.source.Refusal.TheVariants as refusal
+use Rattle.tm_top.specs.declared.refusal.Refusal.{Refusal}
+use Rattle.tm_top.specs.declared.refusal.Refusal.TheVariants as refusal
 use Rattle.tm_top.specs.declared.status.TextCause.TheVariants as text
 use Rattle.tm_top.specs.declared.status.CertCause.TheVariants.{Form, Rows, Unknowns, Check}
 use Rattle.tm_top.specs.declared.status.Status.{Status}

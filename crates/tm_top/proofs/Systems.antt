@@ -8,12 +8,12 @@ use Rattle.tm_flow.specs.declared.graph.Flow.{Flow}
 use Rattle.tm_eqsys.specs.Cells.{cells_of}
 use Rattle.tm_eqsys.specs.View.{equations_of}
 use Rattle.tm_eqsys.specs.declared.system.System.{System}
-use Rattle.tm_words.specs.declared.request.Domain.{Domain}
+use Rattle.tm_cli.specs.declared.request.Domain.{Domain}
 use Rattle.tm_top.specs.Parted.{IsRefusedBy}
 use Rattle.tm_top.specs.Rounds.{IsSystemFor}
 use Rattle.tm_top.specs.Texts.{HasTemplate, IsAnalysed, IsSolvedSystem, IsSystemOf, unknowns}
-use Rattle.tm_top.specs.declared.source.Refusal.{Refusal}
-use Rattle.tm_top.specs.declared.source.Refusal.TheVariants as refusal
+use Rattle.tm_top.specs.declared.refusal.Refusal.{Refusal}
+use Rattle.tm_top.specs.declared.refusal.Refusal.TheVariants as refusal
 use Rattle.tm_top.specs.declared.status.TextCause.TheVariants.{Cells}
 use Rattle.tm_top.proofs.Once.{equations_are}
 

@@ -9,15 +9,15 @@ use Rattle.tm_eqsys.specs.declared.spot.Spot.{Spot}
 use Rattle.tm_eqsys.specs.declared.spot.Site.TheVariants.{Compose}
 use Rattle.tm_eqsys.specs.Equations.{Equations}
 use Rattle.tm_eqsys.specs.Solutions.{equations_of_program}
-use Rattle.tm_steps.specs.Certificates.{Certificate, ValidCertificate}
-use Rattle.tm_steps.specs.Faults.{Fault, certificate_fault}
+use Rattle.tm_validity.specs.Certificates.{Certificate, ValidCertificate}
+use Rattle.tm_validity.specs.Faults.{Fault, certificate_fault}
 use Rattle.tm_cert.specs.Certificates.{certificate_of}
 use Rattle.tm_cert.specs.declared.cert.Cert.{Cert}
 use Rattle.tm_form.specs.Certificates.{Spells, SpellsCert, cert_in}
 use Rattle.serde_json.specs.Data.{Data}
 use Rattle.tm_form.specs.declared.fault.FormFault.{FormFault}
 use Rattle.tm_form.specs.declared.fault.FormFault.TheVariants.{NotJson, Shape, Number, Version, NoMemory}
-use Rattle.tm_oper.specs.Operations.{wide_composition}
+use Rattle.tm_compose.specs.Operations.{wide_composition}
 use Rattle.tm_check.specs.CheckEvents.{check_events}
 use Rattle.tm_check.specs.Events.{fault_answer, first_stop, operations_of}
 use Rattle.tm_check.specs.declared.fault.CheckFault.{CheckFault}

@@ -5,18 +5,21 @@ use Rattle.tm_rows.specs.Domains.{intervals_of}
 use Rattle.tm_eqsys.specs.declared.spot.Spot.{Spot}
 use Rattle.tm_eqsys.specs.declared.system.System.{System}
 use Rattle.tm_eqsys.specs.View.{equations_of}
-use Rattle.tm_round.specs.PickCount.{pick_count}
+use Rattle.tm_strategy.specs.PickCount.{pick_count}
 use Rattle.tm_workload.specs.Bodies.{generated_body, generated_names}
-use Rattle.tm_words.specs.declared.request.Domain.{Domain}
-use Rattle.tm_words.specs.declared.request.Policy.{Policy}
-use Rattle.tm_words.specs.declared.request.Policy.TheVariants.{Best}
+use Rattle.tm_cli.specs.declared.request.Domain.{Domain}
+use Rattle.tm_cli.specs.declared.request.Policy.{Policy}
+use Rattle.tm_cli.specs.declared.request.Policy.TheVariants.{Best}
 use Rattle.tm_top.specs.Checks.{IsAccepted, IsRefusedCertificate, IsWideAt}
 use Rattle.tm_top.specs.Files.{AreChecked, AreInputs, IsReached, IsTooLong}
-use Rattle.tm_top.specs.Request.{Task, asked}
-use Rattle.tm_top.specs.Rounds.{EndsWithin, HasSpot, IsSystemFor, RunsOut}
-use Rattle.tm_top.specs.Texts.{IsRefused, IsRefusedProgram, IsSolvable, IsSolvedSystem, IsSpent, IsSpotIn}
-use Rattle.tm_top.specs.declared.task.Purpose.TheVariants.{Report}
-use Rattle.tm_top.specs.declared.task.Task.TheVariants.{Analyse, Check, Bench}
+use Rattle.tm_cli.specs.Request.{request_of}
+use Rattle.tm_top.specs.Request.{Request}
+use Rattle.tm_top.specs.Rounds.{EndsWithin, IsSystemFor, RunsOut}
+use Rattle.tm_top.specs.Spots.{HasSpot}
+use Rattle.tm_top.specs.Texts.{IsRefused, IsRefusedProgram, IsSolvable, IsSolvedSystem, IsSpent}
+use Rattle.tm_top.specs.Spots.{IsSpotIn}
+use Rattle.tm_cli.specs.declared.request.Purpose.TheVariants.{Report}
+use Rattle.tm_cli.specs.declared.request.Request.TheVariants.{Analyse, Check, Bench}
 use Rattle.tm_top.specs.declared.status.ReadCause.TheVariants.{Failed, TooLong}
 use Rattle.tm_top.specs.declared.status.Status.{Status}
 use Rattle.tm_top.specs.declared.status.Status.TheVariants.{Done, Certificate, Usage, Read, Text, Wide, Spent, Memory, Write}
@@ -61,60 +64,60 @@ CheckEnd text bytes (Spent number) = ⊥
 CheckEnd text bytes Memory = ⊥
 CheckEnd text bytes Write = ⊥
 
--- this is the ending that the texts which a task reads have
-abbrev pub InputsEnd : Option Contents → Task → Status → Type 0
+-- this is the ending that the texts which a request reads have
+abbrev pub InputsEnd : Option Contents → Request → Status → Type 0
 InputsEnd files (Analyse purpose analysis) status =
     (text : List ℕ) × (rows : Domain (List ℕ)) × AreInputs files analysis text rows × TextsEnd text rows analysis.policy analysis.improvements status
 InputsEnd files (Check program certificate) status =
     (text : List ℕ) × (bytes : List ℕ) × AreChecked files program certificate text bytes × CheckEnd text bytes status
 InputsEnd files (Bench seed loops) status = BenchEnd seed loops status
 
--- a wide operation that may end a task: in an analysis any spot of it, in a check the first operation that is wide
-abbrev pub IsSpotFor : Option Contents → Task → Spot → Type 0
+-- a wide operation that may end a request: in an analysis any spot of it, in a check the first operation that is wide
+abbrev pub IsSpotFor : Option Contents → Request → Spot → Type 0
 IsSpotFor files (Analyse purpose analysis) spot =
     (text : List ℕ) × (rows : Domain (List ℕ)) × AreInputs files analysis text rows × IsSpotIn purpose text rows analysis.policy analysis.improvements spot
 IsSpotFor files (Check program certificate) spot =
     (text : List ℕ) × (bytes : List ℕ) × AreChecked files program certificate text bytes × IsWideAt text bytes spot
 IsSpotFor files (Bench seed loops) spot = (system : System) × IsGenerated seed loops system × HasSpot Report system Best 1000 spot
 
--- there are more picks than this number in the system that a task analyses
-abbrev pub HasMorePicks : Option Contents → Task → ℕ → Type 0
+-- there are more picks than this number in the system that a request analyses
+abbrev pub HasMorePicks : Option Contents → Request → ℕ → Type 0
 HasMorePicks files (Analyse purpose analysis) number =
     (text : List ℕ) × (rows : Domain (List ℕ)) × (system : System) × AreInputs files analysis text rows × IsSolvedSystem text rows system × (number < pick_count (equations_of system))
 HasMorePicks files (Check program certificate) number = ⊥
 HasMorePicks files (Bench seed loops) number = (system : System) × IsGenerated seed loops system × (number < pick_count (equations_of system))
 
--- this is the ending that a task over these files has, where nothing fails and there is memory
-abbrev pub Ends : Option Contents → Task → Status → Type 0
-Ends files task Done = InputsEnd files task Done
-Ends files task (Certificate cause) = InputsEnd files task (Certificate cause)
-Ends files task Usage = ⊥
-Ends files task (Read (Failed which)) = ⊥
-Ends files task (Read (TooLong which)) = IsTooLong files task which
-Ends files task (Text cause) = InputsEnd files task (Text cause)
-Ends files task (Wide spot) = InputsEnd files task (Wide spot)
-Ends files task (Spent number) = InputsEnd files task (Spent number)
-Ends files task Memory = ⊥
-Ends files task Write = ⊥
+-- this is the ending that a request over these files has, where nothing fails and there is memory
+abbrev pub Ends : Option Contents → Request → Status → Type 0
+Ends files request Done = InputsEnd files request Done
+Ends files request (Certificate cause) = InputsEnd files request (Certificate cause)
+Ends files request Usage = ⊥
+Ends files request (Read (Failed which)) = ⊥
+Ends files request (Read (TooLong which)) = IsTooLong files request which
+Ends files request (Text cause) = InputsEnd files request (Text cause)
+Ends files request (Wide spot) = InputsEnd files request (Wide spot)
+Ends files request (Spent number) = InputsEnd files request (Spent number)
+Ends files request Memory = ⊥
+Ends files request Write = ⊥
 
--- what an answer to a task says of these files
-abbrev pub IsAnswerTo : Option Contents → Task → Status → Type 0
-IsAnswerTo files task Done = Ends files task Done
-IsAnswerTo files task (Certificate cause) = Ends files task (Certificate cause)
-IsAnswerTo files task Usage = ⊥
-IsAnswerTo files task (Read (Failed which)) = IsReached files task which
-IsAnswerTo files task (Read (TooLong which)) = Ends files task (Read (TooLong which))
-IsAnswerTo files task (Text cause) = Ends files task (Text cause)
-IsAnswerTo files task (Wide spot) = IsSpotFor files task spot
-IsAnswerTo files task (Spent number) = Ends files task (Spent number)
-IsAnswerTo files task Memory = Unit {0}
-IsAnswerTo files task Write = Ends files task Done
+-- what an answer to a request says of these files
+abbrev pub IsAnswerTo : Option Contents → Request → Status → Type 0
+IsAnswerTo files request Done = Ends files request Done
+IsAnswerTo files request (Certificate cause) = Ends files request (Certificate cause)
+IsAnswerTo files request Usage = ⊥
+IsAnswerTo files request (Read (Failed which)) = IsReached files request which
+IsAnswerTo files request (Read (TooLong which)) = Ends files request (Read (TooLong which))
+IsAnswerTo files request (Text cause) = Ends files request (Text cause)
+IsAnswerTo files request (Wide spot) = IsSpotFor files request spot
+IsAnswerTo files request (Spent number) = Ends files request (Spent number)
+IsAnswerTo files request Memory = Unit {0}
+IsAnswerTo files request Write = Ends files request Done
 
 -- words without a request are refused by the usage
-abbrev pub IsAnswerToTask : Option Contents → Option Task → Status → Type 0
-IsAnswerToTask files None status = (status ≡ Usage) ⊎ (status ≡ Memory)
-IsAnswerToTask files (Some task) status = IsAnswerTo files task status
+abbrev pub IsAnswerToRequest : Option Contents → Option Request → Status → Type 0
+IsAnswerToRequest files None status = (status ≡ Usage) ⊎ (status ≡ Memory)
+IsAnswerToRequest files (Some request) status = IsAnswerTo files request status
 
 -- what an answer to the words says of these files
 abbrev pub IsAnswerToWords : Option Contents → List (List ℕ) → Status → Type 0
-IsAnswerToWords files words status = IsAnswerToTask files (asked words) status
+IsAnswerToWords files words status = IsAnswerToRequest files (request_of words) status

@@ -1,11 +1,11 @@
 -- What the named files hold.
 use Rattle.std.specs.Prelude.{◌≡◌, ◌≤◌, ◌<◌, ℕ, List, Option, Some, None, length}
 use Rattle.tm_io.specs.Files.{Contents}
-use Rattle.tm_words.specs.declared.request.Analysis.{Analysis}
-use Rattle.tm_words.specs.declared.request.Domain.{Domain}
-use Rattle.tm_words.specs.declared.request.Domain.TheVariants.{Intervals, Zones, Octagons, Rows}
-use Rattle.tm_top.specs.Request.{Task, file_in}
-use Rattle.tm_top.specs.declared.task.Task.TheVariants.{Analyse, Check, Bench}
+use Rattle.tm_cli.specs.declared.request.Analysis.{Analysis}
+use Rattle.tm_cli.specs.declared.request.Domain.{Domain}
+use Rattle.tm_cli.specs.declared.request.Domain.TheVariants.{Intervals, Zones, Octagons, Rows}
+use Rattle.tm_top.specs.Request.{Request, file_in}
+use Rattle.tm_cli.specs.declared.request.Request.TheVariants.{Analyse, Check, Bench}
 use Rattle.tm_top.specs.declared.status.Which.{Which}
 use Rattle.tm_top.specs.declared.status.Which.TheVariants as which
 
@@ -57,39 +57,39 @@ most_bytes which.Program = 65536
 most_bytes which.Rows = 65536
 most_bytes which.Certificate = 16777216
 
--- the program that a task reads has this text
-abbrev pub HasProgram : Option Contents → Task → List ℕ → Type 0
+-- the program that a request reads has this text
+abbrev pub HasProgram : Option Contents → Request → List ℕ → Type 0
 HasProgram files (Analyse purpose analysis) text = HasContent files analysis.program text
 HasProgram files (Check program certificate) text = HasContent files program text
 HasProgram files (Bench seed loops) text = ⊥
 
 -- the program is too long
-pub record IsLongProgram (files : Option Contents) (task : Task) : Type 0 where
+pub record IsLongProgram (files : Option Contents) (request : Request) : Type 0 where
   pub text : List ℕ
-  pub program : HasProgram files task text
+  pub program : HasProgram files request text
   pub long : 65536 < length text
 
 -- the program isn't, and this file is too long
-pub record IsLongAfter (files : Option Contents) (task : Task) (which : Which) : Type 0 where
+pub record IsLongAfter (files : Option Contents) (request : Request) (which : Which) : Type 0 where
   pub text : List ℕ
-  pub program : HasProgram files task text
+  pub program : HasProgram files request text
   pub short : IsShort text
   pub file : List ℕ
-  pub named : file_in which task ≡ Some file
+  pub named : file_in which request ≡ Some file
   pub bytes : List ℕ
   pub content : HasContent files file bytes
   pub long : most_bytes which < length bytes
 
 -- this file is the first that is too long
-abbrev pub IsTooLong : Option Contents → Task → Which → Type 0
-IsTooLong files task which.Program = IsLongProgram files task
-IsTooLong files task which.Rows = IsLongAfter files task which.Rows
-IsTooLong files task which.Certificate = IsLongAfter files task which.Certificate
+abbrev pub IsTooLong : Option Contents → Request → Which → Type 0
+IsTooLong files request which.Program = IsLongProgram files request
+IsTooLong files request which.Rows = IsLongAfter files request which.Rows
+IsTooLong files request which.Certificate = IsLongAfter files request which.Certificate
 
 -- a file of rows or a certificate is loaded after a program that isn't too long
-pub record HasShortProgram (files : Option Contents) (task : Task) : Type 0 where
+pub record HasShortProgram (files : Option Contents) (request : Request) : Type 0 where
   pub text : List ℕ
-  pub program : HasProgram files task text
+  pub program : HasProgram files request text
   pub short : IsShort text
 
 -- there is something
@@ -97,8 +97,8 @@ abbrev pub HasSome : {A : Type 0} → Option A → Type 0
 HasSome None = ⊥
 HasSome (Some x) = Unit {0}
 
--- the task reads this file, and the files that are loaded before it are not too long
-abbrev pub IsReached : Option Contents → Task → Which → Type 0
-IsReached files task which.Program = HasSome (file_in which.Program task)
-IsReached files task which.Rows = HasShortProgram files task
-IsReached files task which.Certificate = HasShortProgram files task
+-- the request reads this file, and the files that are loaded before it are not too long
+abbrev pub IsReached : Option Contents → Request → Which → Type 0
+IsReached files request which.Program = HasSome (file_in which.Program request)
+IsReached files request which.Rows = HasShortProgram files request
+IsReached files request which.Certificate = HasShortProgram files request

@@ -12,3 +12,7 @@ pub mod Messages
 pub mod Parts
 pub mod Parted
 pub mod Run
+pub mod Given
+pub mod Spots
+pub mod LeastReports
+pub mod Headline

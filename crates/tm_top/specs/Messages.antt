@@ -11,7 +11,7 @@ use Rattle.tm_flow.specs.declared.fault.FlowFault.{FlowFault}
 use Rattle.tm_flow.specs.declared.fault.FlowFault.TheVariants as flow
 use Rattle.tm_rows.specs.declared.fault.RowFault.{RowFault}
 use Rattle.tm_rows.specs.declared.fault.RowFault.TheVariants as rows
-use Rattle.tm_words.specs.Usage.{usage_text}
+use Rattle.tm_cli.specs.Usage.{usage_text}
 use Rattle.tm_top.specs.CheckMessages.{certificate_message, wide_message}
 use Rattle.tm_top.specs.declared.status.Which.TheVariants as which
 use Rattle.tm_top.specs.declared.status.ReadCause.{ReadCause}

@@ -1,5 +1,6 @@
 -- What the parts of a run, before and after the loads, say to one another.
-use Rattle.std.specs.Prelude.{◌≡◌, ◌≤◌, ◌<◌, ◌⊎◌, ℕ, List, [], IsTrue, Option, Some, length, slice_get, take}
+use Rattle.std.specs.Prelude.{◌≡◌, ◌≤◌, ◌<◌, ◌⊎◌, ℕ, List, [], IsTrue, Option, Some, length, slice_get, take, Vec}
+use Rattle.std.specs.declared.alloc.Global.{Global}
 use Rattle.std.specs.Io.KnownBytes.{Appends}
 use Rattle.tm_io.specs.Faults.{Rose}
 use Rattle.tm_io.specs.Files.{Contents}
@@ -12,44 +13,44 @@ use Rattle.tm_eqsys.specs.declared.system.System.{System}
 use Rattle.tm_eqsys.specs.Equations.{Equations, Least}
 use Rattle.tm_eqsys.specs.Report.{report_of}
 use Rattle.tm_eqsys.specs.View.{equations_of, vector_of}
-use Rattle.tm_steps.specs.Certificates.{Certificate as TheoryCertificate, ValidCertificate}
+use Rattle.tm_validity.specs.Certificates.{Certificate as TheoryCertificate, ValidCertificate}
 use Rattle.tm_cert.specs.declared.cert.Cert.{Cert}
 use Rattle.serde_json.specs.Written.{compact_text}
 use Rattle.tm_form.specs.Certificates.{SpellsCert, cert_data}
 use Rattle.tm_rounds.specs.declared.solution.Solved.{Solved}
 use Rattle.tm_rounds.specs.Solutions.{IsSolved, cert_with, made_certificate}
-use Rattle.tm_words.specs.declared.request.Domain.{Domain}
-use Rattle.tm_words.specs.declared.request.Domain.TheVariants as domain
-use Rattle.tm_words.specs.declared.request.Policy.{Policy}
-use Rattle.tm_words.specs.declared.request.Policy.TheVariants.{Best}
+use Rattle.tm_cli.specs.declared.request.Domain.{Domain}
+use Rattle.tm_cli.specs.declared.request.Domain.TheVariants as domain
+use Rattle.tm_cli.specs.declared.request.Policy.{Policy}
+use Rattle.tm_cli.specs.declared.request.Policy.TheVariants.{Best}
 use Rattle.tm_top.specs.Files.{HasContent}
 use Rattle.tm_top.specs.Run.{HasFailed}
 use Rattle.tm_top.specs.Request.{rows_file}
 use Rattle.tm_top.specs.Checks.{IsCheckSpot, IsCompositionSpot, IsRefusedCertificate, NoneIsWide, IsStopped, system_with, theirs}
 use Rattle.tm_top.specs.Endings.{BenchEnd, CheckEnd, IsGenerated, TextsEnd}
 use Rattle.tm_top.specs.Policies.{rule_of}
-use Rattle.tm_top.specs.Rounds.{EndsWithin, HasRounds, HasSpot, RunsOut}
-use Rattle.tm_top.specs.Texts.{IsRefused, IsRefusedProgram, IsSpotIn, unknowns}
-use Rattle.tm_top.specs.declared.task.Purpose.{Purpose}
-use Rattle.tm_top.specs.declared.task.Purpose.TheVariants.{Report, Certificate as AsCertificate}
+use Rattle.tm_top.specs.Rounds.{EndsWithin, HasRounds, RunsOut}
+use Rattle.tm_top.specs.Spots.{HasSpot}
+use Rattle.tm_top.specs.Texts.{IsRefused, IsRefusedProgram, unknowns}
+use Rattle.tm_top.specs.Spots.{IsSpotIn}
+use Rattle.tm_cli.specs.declared.request.Purpose.{Purpose}
+use Rattle.tm_cli.specs.declared.request.Purpose.TheVariants.{Report, Certificate as AsCertificate}
 use Rattle.tm_top.specs.declared.status.Which.{Which}
 use Rattle.tm_top.specs.declared.status.ReadCause.TheVariants as read
 use Rattle.tm_top.specs.declared.status.CertCause.TheVariants as form
 use Rattle.tm_top.specs.declared.status.Status.{Status}
 use Rattle.tm_top.specs.declared.status.Status.TheVariants as status
-use Rattle.tm_top.specs.declared.load.Source.{Source}
-use Rattle.tm_top.specs.declared.load.Source.TheVariants as source
-use Rattle.tm_top.specs.declared.load.LoadRefusal.{LoadRefusal}
-use Rattle.tm_top.specs.declared.load.LoadRefusal.TheVariants as load
-use Rattle.tm_top.specs.declared.source.Refusal.{Refusal}
-use Rattle.tm_top.specs.declared.source.Refusal.TheVariants.{Text, Certificate, Wide, Spent, NoMemory}
+use Rattle.tm_top.specs.declared.files.LoadRefusal.{LoadRefusal}
+use Rattle.tm_top.specs.declared.files.LoadRefusal.TheVariants as load
+use Rattle.tm_top.specs.declared.refusal.Refusal.{Refusal}
+use Rattle.tm_top.specs.declared.refusal.Refusal.TheVariants.{Text, Certificate, Wide, Spent, NoMemory}
 
 -- the domain by the text of its rows
-abbrev pub domain_of : Source → Domain (List ℕ)
-domain_of source.Intervals = domain.Intervals
-domain_of source.Zones = domain.Zones
-domain_of source.Octagons = domain.Octagons
-domain_of (source.File text) = domain.Rows text.items
+abbrev pub domain_of : Domain (Vec ℕ Global) → Domain (List ℕ)
+domain_of domain.Intervals = domain.Intervals
+domain_of domain.Zones = domain.Zones
+domain_of domain.Octagons = domain.Octagons
+domain_of (domain.Rows text) = domain.Rows text.items
 
 -- a file that may have so many bytes isn't loaded: its load failed, it is too long, or memory was wanted
 abbrev pub IsNotLoaded : Option Contents → (faults faults_now : ℕ) → (last name : List ℕ) → (most : ℕ) → LoadRefusal → Type 0
@@ -96,8 +97,8 @@ IsHalted purpose system policy limit NoMemory = Unit {0}
 pub record IsRoundsReport (system : System) (policy : Policy) (limit : ℕ) (bytes : List ℕ) : Type 0 where
   pub rounds : ℕ
   pub within : rounds ≤ limit
-  pub has_rounds : HasRounds system policy rounds
   pub bounds : List Ext
+  pub has_rounds : HasRounds system policy rounds (vector_of (length system.template) bounds)
   pub least : Least (equations_of system) (vector_of (length system.template) bounds)
   pub report : bytes ≡ report_of system (vector_of (length system.template) bounds) (Improvements rounds)
 
@@ -231,7 +232,7 @@ IsAnswerToCheck text bytes (status.Spent number) = ⊥
 IsAnswerToCheck text bytes status.Memory = Unit {0}
 IsAnswerToCheck text bytes status.Write = CheckEnd text bytes status.Done
 
--- the ending of a task whose files aren't loaded
+-- the ending of a request whose files aren't loaded
 abbrev pub AreUnloaded : Status → Type 0
 AreUnloaded status.Done = ⊥
 AreUnloaded (status.Certificate cause) = ⊥

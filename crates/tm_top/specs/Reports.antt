@@ -11,7 +11,7 @@ use Rattle.tm_eqsys.specs.Equations.{Least, Vector}
 use Rattle.tm_eqsys.specs.Report.{report_text}
 use Rattle.tm_eqsys.specs.Solutions.{Holds, equations_of_program}
 use Rattle.tm_eqsys.specs.View.{vector_of}
-use Rattle.tm_steps.specs.Certificates.{bounds_vector}
+use Rattle.tm_validity.specs.Certificates.{bounds_vector}
 use Rattle.tm_cert.specs.declared.cert.Cert.{Cert}
 use Rattle.tm_form.specs.Certificates.{cert_data}
 use Rattle.serde_json.specs.Written.{compact_text}
@@ -20,38 +20,20 @@ use Rattle.tm_rounds.specs.Solutions.{IsSolved, cert_with}
 use Rattle.tm_workload.specs.Bodies.{generated_body, generated_names}
 use Rattle.tm_workload.specs.Summaries.{summary_of}
 use Rattle.tm_workload.specs.Texts.{generated_text}
-use Rattle.tm_words.specs.declared.request.Domain.{Domain}
-use Rattle.tm_words.specs.declared.request.Policy.{Policy}
-use Rattle.tm_words.specs.declared.request.Policy.TheVariants.{Best}
+use Rattle.tm_cli.specs.declared.request.Domain.{Domain}
+use Rattle.tm_cli.specs.declared.request.Policy.{Policy}
+use Rattle.tm_cli.specs.declared.request.Policy.TheVariants.{Best}
 use Rattle.tm_top.specs.Checks.{IsValidFor, NoneIsWide, system_with, theirs}
 use Rattle.tm_top.specs.Files.{AreChecked, AreInputs}
+pub use Rattle.tm_top.specs.LeastReports.{IsLeastReport, IsReportOf}
 use Rattle.tm_top.specs.Policies.{rule_of}
-use Rattle.tm_top.specs.Request.{Task, asked}
+use Rattle.tm_cli.specs.Request.{request_of}
+use Rattle.tm_top.specs.Request.{Request}
 use Rattle.tm_top.specs.Rounds.{HasRounds, IsSystemFor}
-use Rattle.tm_top.specs.declared.task.Purpose.{Purpose}
-use Rattle.tm_top.specs.declared.task.Purpose.TheVariants.{Report, Certificate}
-use Rattle.tm_top.specs.declared.task.Task.TheVariants.{Analyse, Check, Bench}
+use Rattle.tm_cli.specs.declared.request.Purpose.{Purpose}
+use Rattle.tm_cli.specs.declared.request.Purpose.TheVariants.{Report, Certificate}
+use Rattle.tm_cli.specs.declared.request.Request.TheVariants.{Analyse, Check, Bench}
 use Rattle.tm_top.specs.Texts.{IsReady}
-
--- the bytes are the report of a vector of a program over a template; this vector is the least one, and holds in every run of the program
-pub record IsLeastReport (names : List (List ℕ)) (body : Statements) (template : List (List ℤ)) (vector : Vector) (footer : Footer) (bytes : List ℕ) : Type 0 where
-  pub least : Least (equations_of_program (length names) body template) vector
-  pub holds : Holds (equations_of_program (length names) body template) body vector
-  pub report : bytes ≡ report_text names (points_of_program body) template vector footer
-
--- they are that of the program and the template of these texts, with the number of rounds that the policy makes
-pub record IsReportOf (text : List ℕ) (rows : Domain (List ℕ)) (policy : Policy) (limit : ℕ) (bytes : List ℕ) : Type 0 where
-  pub names : List (List ℕ)
-  pub body : Statements
-  pub template : List (List ℤ)
-  pub ready : IsReady text rows names body template
-  pub system : System
-  pub system_for : IsSystemFor names body template system
-  pub rounds : ℕ
-  pub within : rounds ≤ limit
-  pub has_rounds : HasRounds system policy rounds
-  pub vector : Vector
-  pub least : IsLeastReport names body template vector (Improvements rounds) bytes
 
 -- the bytes are the certificate that the rounds make, of the program and the template of these texts; it is valid for the text, no sum of its check is wide, and its bounds are the least vector
 pub record IsCertificateOf (text : List ℕ) (rows : Domain (List ℕ)) (policy : Policy) (limit : ℕ) (bytes : List ℕ) : Type 0 where
@@ -68,14 +50,14 @@ pub record IsCertificateOf (text : List ℕ) (rows : Domain (List ℕ)) (policy 
   pub narrow : NoneIsWide (system_with names body (cert_with system solved)) (theirs (cert_with system solved))
   pub least : Least (equations_of_program (length names) body template) (vector_of (length template) solved.bounds)
 
--- the bytes are the summary of a generated program: of its least vector over intervals, with the number of rounds that `best` makes
+-- the bytes are the summary of a generated program: of its least vector over intervals, with the number of improvements by `best`
 pub record IsSummaryOf (seed loops : ℕ) (bytes : List ℕ) : Type 0 where
   pub system : System
   pub system_for : IsSystemFor generated_names (generated_body seed loops) (intervals_of 3) system
   pub rounds : ℕ
   pub within : rounds ≤ 1000
-  pub has_rounds : HasRounds system Best rounds
   pub vector : Vector
+  pub has_rounds : HasRounds system Best rounds vector
   pub least : Least (equations_of_program 3 (generated_body seed loops) (intervals_of 3)) vector
   pub summary : bytes ≡ summary_of seed loops (length (generated_text seed loops)) system vector rounds
 
@@ -93,14 +75,14 @@ abbrev pub IsPutOf : Purpose → List ℕ → Domain (List ℕ) → Policy → �
 IsPutOf Report text rows policy limit bytes = IsReportOf text rows policy limit bytes
 IsPutOf Certificate text rows policy limit bytes = IsCertificateOf text rows policy limit bytes
 
--- the bytes are what a task puts of the texts that it reads
-abbrev pub IsReportOn : Option Contents → Task → List ℕ → Type 0
+-- the bytes are what a request puts of the texts that it reads
+abbrev pub IsReportOn : Option Contents → Request → List ℕ → Type 0
 IsReportOn files (Analyse purpose analysis) bytes =
     (text : List ℕ) × (rows : Domain (List ℕ)) × AreInputs files analysis text rows × IsPutOf purpose text rows analysis.policy analysis.improvements bytes
 IsReportOn files (Check program certificate) bytes =
     (text : List ℕ) × (given : List ℕ) × AreChecked files program certificate text given × IsReportBy text given bytes
 IsReportOn files (Bench seed loops) bytes = IsSummaryOf seed loops bytes
 
--- they are that of the task that the words ask for
+-- they are that of the request that the words ask for
 abbrev pub IsReportFor : Option Contents → List (List ℕ) → List ℕ → Type 0
-IsReportFor files words bytes = (task : Task) × (asked words ≡ Some task) × IsReportOn files task bytes
+IsReportFor files words bytes = (request : Request) × (request_of words ≡ Some request) × IsReportOn files request bytes

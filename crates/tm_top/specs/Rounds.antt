@@ -1,24 +1,15 @@
--- The rounds over the system of a program and a template: how they end, and where an operation of theirs is wide.
-use Rattle.std.specs.Prelude.{◌≡◌, ◌≤◌, ◌⊎◌, ℕ, ℤ, List, Some}
+-- The improvements over the system of a program and a template: where they end, by their meaning.
+use Rattle.std.specs.Prelude.{◌≡◌, ◌≤◌, ℕ, ℤ, List}
 use Rattle.tm_tree.specs.Tree.{Statements}
 use Rattle.tm_flow.specs.Edges.{edges_of_program}
 use Rattle.tm_flow.specs.Points.{points_of_program}
-use Rattle.tm_eqsys.specs.declared.spot.Spot.{Spot}
 use Rattle.tm_eqsys.specs.declared.system.System.{System}
-use Rattle.tm_eqsys.specs.Equations.{PostSolution}
+use Rattle.tm_eqsys.specs.Equations.{Vector}
 use Rattle.tm_eqsys.specs.View.{equations_of}
-use Rattle.tm_exact.specs.Rounds.{Choice}
-use Rattle.tm_check.specs.CheckEvents.{check_events}
-use Rattle.tm_check.specs.Events.{first_stop}
-use Rattle.tm_check.specs.declared.fault.CheckFault.TheVariants.{Wide}
-use Rattle.tm_rounds.specs.declared.solution.Solved.{Solved}
-use Rattle.tm_rounds.specs.Chains.{IsChain, IsEnded, state_at}
-use Rattle.tm_rounds.specs.Halts.{IsSpotOf}
-use Rattle.tm_rounds.specs.Solutions.{IsSolved, made_certificate}
-use Rattle.tm_words.specs.declared.request.Policy.{Policy}
-use Rattle.tm_top.specs.declared.task.Purpose.{Purpose}
-use Rattle.tm_top.specs.declared.task.Purpose.TheVariants.{Report, Certificate}
-use Rattle.tm_top.specs.Policies.{rule_of}
+use Rattle.tm_chain.specs.Chains.{EndsAfter, GoesOnAfter}
+use Rattle.tm_chain.specs.Offers.{Offer, Best as MeantBest, First as MeantFirst}
+use Rattle.tm_cli.specs.declared.request.Policy.{Policy}
+use Rattle.tm_cli.specs.declared.request.Policy.TheVariants.{Best, First}
 
 -- the system has the points and edges of this program, and this template
 pub record IsSystemFor (names : List (List ℕ)) (body : Statements) (template : List (List ℤ)) (system : System) : Type 0 where
@@ -27,29 +18,20 @@ pub record IsSystemFor (names : List (List ℕ)) (body : Statements) (template :
   pub edges_are : system.flow.edges ≡ edges_of_program body
   pub template_is : system.template ≡ template
 
--- so many rounds by the policy are made, and then no transformer exceeds its bound
-pub record HasRounds (system : System) (policy : Policy) (rounds : ℕ) : Type 0 where
-  pub choose : ℕ → Choice
-  pub chain : IsChain system (rule_of policy) rounds choose
-  pub ended : IsEnded system choose rounds
+-- what the policies of the command line choose of an offer:
+-- `best` the first position of the greatest transformer, `first` the first whose transformer exceeds the bound
+abbrev pub chosen_by : Policy → Offer → ℕ → Type 0
+chosen_by Best = MeantBest
+chosen_by First = MeantFirst
 
--- so many rounds by the policy are made, and they don't lead to a post-solution
-pub record RunsOut (system : System) (policy : Policy) (limit : ℕ) : Type 0 where
-  pub choose : ℕ → Choice
-  pub chain : IsChain system (rule_of policy) limit choose
-  pub unsolved : PostSolution (equations_of system) (state_at system choose limit).vector → ⊥
+-- a chain of so many improvements by the policy leads to this vector, and ends there
+abbrev pub HasRounds : System → Policy → ℕ → Vector → Type 0
+HasRounds system policy rounds vector = EndsAfter (equations_of system) (chosen_by policy) rounds vector
 
--- the rounds by the policy end within the limit
+-- a chain of so many improvements by the policy doesn't end there
+abbrev pub RunsOut : System → Policy → ℕ → Type 0
+RunsOut system policy limit = GoesOnAfter (equations_of system) (chosen_by policy) limit
+
+-- the improvements by the policy end within the limit
 abbrev pub EndsWithin : System → Policy → ℕ → Type 0
-EndsWithin system policy limit = (rounds : ℕ) × (rounds ≤ limit) × HasRounds system policy rounds
-
--- the spot is that of a wide sum of the check of the certificate that the rounds make
-pub record IsCertifySpot (system : System) (policy : Policy) (limit : ℕ) (spot : Spot) : Type 0 where
-  pub solved : Solved
-  pub is_solved : IsSolved system (rule_of policy) limit solved
-  pub stop : first_stop (check_events (equations_of system) (made_certificate system solved)) ≡ Some (Wide spot)
-
--- the spots of an analysis: those of the composition and of the rounds, and for a certificate those of its check too
-abbrev pub HasSpot : Purpose → System → Policy → ℕ → Spot → Type 0
-HasSpot Report system policy limit spot = IsSpotOf system (rule_of policy) limit spot
-HasSpot Certificate system policy limit spot = IsSpotOf system (rule_of policy) limit spot ⊎ IsCertifySpot system policy limit spot
+EndsWithin system policy limit = (rounds : ℕ) × (rounds ≤ limit) × (vector : Vector) × HasRounds system policy rounds vector

@@ -3,6 +3,7 @@ use Rattle.std.specs.Prelude.{◌≡◌, ◌≤◌, ◌⊎◌, ℕ, List, Option
 use Rattle.std.specs.Io.KnownBytes.{Appends}
 use Rattle.tm_io.specs.Faults.{Rose}
 use Rattle.tm_io.specs.Files.{Contents}
+use Rattle.tm_io.specs.Puts.{AddsPieces, as_pieces}
 use Rattle.tm_eqsys.specs.declared.spot.Spot.{Spot}
 use Rattle.tm_eqsys.specs.declared.system.System.{System}
 use Rattle.tm_cert.specs.declared.cert.Cert.{Cert}
@@ -10,10 +11,11 @@ use Rattle.tm_form.specs.Certificates.{SpellsCert}
 use Rattle.tm_top.specs.Files.{AreInputs, HasContent, HasProgram, IsTold}
 use Rattle.tm_top.specs.CheckMessages.{rows_in, rows_of}
 use Rattle.tm_top.specs.Messages.{line_in, message_of}
-use Rattle.tm_top.specs.Request.{Task, asked, file_in}
+use Rattle.tm_cli.specs.Request.{request_of}
+use Rattle.tm_top.specs.Request.{Request, file_in}
 use Rattle.tm_top.specs.Texts.{IsSolvedSystem}
-use Rattle.tm_words.specs.declared.request.Domain.{Domain}
-use Rattle.tm_top.specs.declared.task.Task.TheVariants.{Analyse, Check, Bench}
+use Rattle.tm_cli.specs.declared.request.Domain.{Domain}
+use Rattle.tm_cli.specs.declared.request.Request.TheVariants.{Analyse, Check, Bench}
 use Rattle.tm_top.specs.declared.status.Which.{Which}
 use Rattle.tm_top.specs.declared.status.Which.TheVariants as which
 use Rattle.tm_top.specs.declared.status.ReadCause.TheVariants.{Failed, TooLong}
@@ -26,18 +28,18 @@ use Rattle.tm_top.specs.declared.status.Status.TheVariants.{Done, Certificate, U
 abbrev pub HasFailed : (faults faults_now : ℕ) → (last : List ℕ) → Option (List ℕ) → Type 0
 HasFailed faults faults_now last name = Rose faults faults_now × (Some last ≡ name)
 
--- an answer to a task that a file failed comes only where it did
-abbrev pub FailsOnlyIn : (faults faults_now : ℕ) → (last : List ℕ) → Task → Status → Type 0
-FailsOnlyIn faults faults_now last task Done = Unit {0}
-FailsOnlyIn faults faults_now last task (Certificate cause) = Unit {0}
-FailsOnlyIn faults faults_now last task Usage = Unit {0}
-FailsOnlyIn faults faults_now last task (Read (Failed which)) = HasFailed faults faults_now last (file_in which task)
-FailsOnlyIn faults faults_now last task (Read (TooLong which)) = Unit {0}
-FailsOnlyIn faults faults_now last task (Text cause) = Unit {0}
-FailsOnlyIn faults faults_now last task (Wide spot) = Unit {0}
-FailsOnlyIn faults faults_now last task (Spent number) = Unit {0}
-FailsOnlyIn faults faults_now last task Memory = Unit {0}
-FailsOnlyIn faults faults_now last task Write = Unit {0}
+-- an answer to a request that a file failed comes only where it did
+abbrev pub FailsOnlyIn : (faults faults_now : ℕ) → (last : List ℕ) → Request → Status → Type 0
+FailsOnlyIn faults faults_now last request Done = Unit {0}
+FailsOnlyIn faults faults_now last request (Certificate cause) = Unit {0}
+FailsOnlyIn faults faults_now last request Usage = Unit {0}
+FailsOnlyIn faults faults_now last request (Read (Failed which)) = HasFailed faults faults_now last (file_in which request)
+FailsOnlyIn faults faults_now last request (Read (TooLong which)) = Unit {0}
+FailsOnlyIn faults faults_now last request (Text cause) = Unit {0}
+FailsOnlyIn faults faults_now last request (Wide spot) = Unit {0}
+FailsOnlyIn faults faults_now last request (Spent number) = Unit {0}
+FailsOnlyIn faults faults_now last request Memory = Unit {0}
+FailsOnlyIn faults faults_now last request Write = Unit {0}
 
 -- a file failed that is loaded before an ending is seen
 abbrev pub FailedBefore : Status → Status → Type 0
@@ -94,14 +96,14 @@ OutputHolds IsReport Write held now = GetsPart IsReport held now
 
 -- this is the text of the program that the words name
 abbrev pub IsProgramText : Option Contents → List (List ℕ) → List ℕ → Type 0
-IsProgramText files words text = (task : Task) × (asked words ≡ Some task) × HasProgram files task text
+IsProgramText files words text = (request : Request) × (request_of words ≡ Some request) × HasProgram files request text
 
 -- this is the line that the message names, where the shelf tells its files
 abbrev pub IsLine : Option Contents → List (List ℕ) → Status → ℕ → Type 0
 IsLine files words status line = (text : List ℕ) → IsTold files → IsProgramText files words text → line ≡ line_in text status
 
--- so many rows each point has by which the message of a task numbers an unknown, where the shelf tells its files: those of the template of an analysis, or of the certificate that is checked
-abbrev pub IsRowCountIn : Option Contents → Task → Status → ℕ → Type 0
+-- so many rows each point has by which the message of a request numbers an unknown, where the shelf tells its files: those of the template of an analysis, or of the certificate that is checked
+abbrev pub IsRowCountIn : Option Contents → Request → Status → ℕ → Type 0
 IsRowCountIn files (Analyse purpose analysis) status rows =
     (text : List ℕ) (domain : Domain (List ℕ)) (system : System) → IsTold files → AreInputs files analysis text domain → IsSolvedSystem text domain system
     → rows ≡ rows_of (length system.template) status
@@ -109,9 +111,9 @@ IsRowCountIn files (Check program certificate) status rows =
     (bytes : List ℕ) (cert : Cert) → IsTold files → HasContent files certificate bytes → SpellsCert bytes cert → rows ≡ rows_in cert status
 IsRowCountIn files (Bench seed loops) status rows = Unit {0}
 
--- so many that of the task which the words ask for
+-- so many that of the request which the words ask for
 abbrev pub IsRowCount : Option Contents → List (List ℕ) → Status → ℕ → Type 0
-IsRowCount files words status rows = (task : Task) → asked words ≡ Some task → IsRowCountIn files task status rows
+IsRowCount files words status rows = (request : Request) → request_of words ≡ Some request → IsRowCountIn files request status rows
 
 -- a message: some first bytes of it, and all of it where there is room for 512 bytes and no put failed
 pub record GetsMessage (message : List ℕ) (held now : Option (List ℕ)) (faults faults_now spare : ℕ) : Type 0 where
@@ -129,3 +131,7 @@ ErrorsHold line rows (Wide spot) held now faults faults_now spare = GetsMessage 
 ErrorsHold line rows (Spent number) held now faults faults_now spare = GetsMessage (message_of line rows (Spent number)) held now faults faults_now spare
 ErrorsHold line rows Memory held now faults faults_now spare = GetsMessage (message_of line rows Memory) held now faults faults_now spare
 ErrorsHold line rows Write held now faults faults_now spare = GetsMessage (message_of line rows Write) held now faults faults_now spare
+
+-- a message is one piece, or none of it was taken whole
+abbrev pub IsInOnePiece : List ℕ → (taken now : Option (List (List ℕ))) → Type 0
+IsInOnePiece message taken now = (now ≡ taken) ⊎ AddsPieces taken now (as_pieces message)

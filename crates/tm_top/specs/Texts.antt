@@ -11,17 +11,15 @@ use Rattle.tm_flow.specs.Points.{points_of_program}
 use Rattle.tm_rows.specs.Domains.{intervals_of, zones_of, octagons_of}
 use Rattle.tm_rows.specs.RowFiles.{Answers}
 use Rattle.tm_rows.specs.declared.fault.RowFault.{RowFault}
-use Rattle.tm_eqsys.specs.declared.spot.Spot.{Spot}
 use Rattle.tm_eqsys.specs.declared.system.System.{System}
 use Rattle.tm_eqsys.specs.Cells.{cells_of}
 use Rattle.tm_eqsys.specs.Solutions.{equations_of_program}
-use Rattle.tm_words.specs.declared.request.Domain.{Domain}
-use Rattle.tm_words.specs.declared.request.Policy.{Policy}
-use Rattle.tm_words.specs.declared.request.Domain.TheVariants as domain
+use Rattle.tm_cli.specs.declared.request.Domain.{Domain}
+use Rattle.tm_cli.specs.declared.request.Policy.{Policy}
+use Rattle.tm_cli.specs.declared.request.Domain.TheVariants as domain
 use Rattle.tm_top.specs.declared.status.TextCause.{TextCause}
 use Rattle.tm_top.specs.declared.status.TextCause.TheVariants.{Lex, Parse, Flow, Rows, Unknowns, Cells}
-use Rattle.tm_top.specs.declared.task.Purpose.{Purpose}
-use Rattle.tm_top.specs.Rounds.{EndsWithin, HasSpot, IsSystemFor, RunsOut}
+use Rattle.tm_top.specs.Rounds.{EndsWithin, IsSystemFor, RunsOut}
 
 -- the text's tokens mean this: names and statements, or a fault
 abbrev pub Reading : List ℕ → Answer → Type 0
@@ -97,7 +95,3 @@ IsSpent text rows policy limit = (system : System) × IsSolvedSystem text rows s
 -- the texts are a system whose rounds end within the limit
 abbrev pub IsSolvable : List ℕ → Domain (List ℕ) → Policy → ℕ → Type 0
 IsSolvable text rows policy limit = (system : System) × IsSolvedSystem text rows system × EndsWithin system policy limit
-
--- the texts are a system, and this is a spot of its analysis
-abbrev pub IsSpotIn : Purpose → List ℕ → Domain (List ℕ) → Policy → ℕ → Spot → Type 0
-IsSpotIn purpose text rows policy limit spot = (system : System) × IsSolvedSystem text rows system × HasSpot purpose system policy limit spot

@@ -1,39 +1,31 @@
-//! The summary of a generated program.
+//! The command `bench`: the analysis of a generated program.
 
-ghost use Rattle.std.specs.Prelude.{◌≤◌, ◌<◌, IfOk, IfErr};
-ghost use Rattle.tm_top.specs.Parted.{IsUnsummed};
+ghost use Rattle.std.specs.Prelude.{◌≡◌, ◌≤◌, ◌<◌};
+ghost use Rattle.tm_io.specs.Faults.{Rose};
+ghost use Rattle.tm_top.specs.Parted.{IsAnswerToBench};
 ghost use Rattle.tm_top.specs.Reports.{IsSummaryOf};
+ghost use Rattle.tm_top.specs.Run.{OutputHolds};
 
-use crate::analysis::solve;
-use crate::load::Source;
-use crate::solve::system_on;
-use crate::source::Refusal;
+mod summary;
+
+use crate::output::put_report;
+use crate::refusal::refused;
+use crate::status::Status;
 use std::alloc::Global;
-use tm_words::Policy;
-use tm_workload::{generate, generated_texts_read, summary};
+use summary::summary_on;
+use tm_io::Sink;
 
-/// How many improvements are made at most.
-const MOST_IMPROVEMENTS: u32 = 1000;
-
-/// The whole summary of the program with so many loops that is drawn from a seed.
-pub(crate) fn summary_on(alloc: Global, seed: u32, loops: u32) -> Result<Vec<u8>, Refusal>
+// Solves the program with so many loops that is drawn from a seed, and puts the summary.
+pub(crate) fn bench<K: Sink>(alloc: Global, seed: u32, loops: u32, out: &mut K) -> Status
     requires seed { seed < 2147483648 }
     requires some { 1 ≤ loops }
     requires few { loops ≤ 46 }
-    ensures ok { IfOk result (λ bytes. IsSummaryOf seed loops bytes.items) }
-    ensures err { IfErr result (λ refusal. IsUnsummed seed loops refusal) }
+    ensures answer { IsAnswerToBench seed loops result }
+    ensures held { OutputHolds (IsSummaryOf seed loops) result (K.held out.old) (K.held out.new) }
+    ensures write { result ≡ Status.Write → Rose (K.faults out.old) (K.faults out.new) }
 {
-    generated_texts_read();
-    let text = generate(alloc, seed, loops)?;
-    let system = system_on(alloc, &text, &Source::Intervals)?;
-    let solved = solve(alloc, &system, Policy::Best, MOST_IMPROVEMENTS)?;
-    Ok(summary(
-        alloc,
-        seed,
-        loops,
-        text.as_slice().len() as u32,
-        &system,
-        &solved.bounds,
-        solved.improvements,
-    )?)
+    match summary_on(alloc, seed, loops) {
+        Ok(bytes) => put_report(&bytes, out),
+        Err(refusal) => refused(refusal),
+    }
 }

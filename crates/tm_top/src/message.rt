@@ -4,17 +4,20 @@ ghost use Rattle.std.specs.Prelude.{◌≡◌, ◌≤◌, ◌+◌, ◌++◌, [],
 ghost use Rattle.tm_top.specs.Messages.{counted, flow_words, lex_words, line_text, limit_words, message_of, parse_words, read_words, row_words, text_words, words, words_of};
 ghost use Rattle.tm_top.specs.Parts.{told};
 
-use crate::check_message::{certificate_message, wide_message};
+mod check;
+pub(crate) mod place;
+
 use crate::status::{ReadCause, Status, TextCause, Which};
+use check::{certificate_message, wide_message};
 use itoa::Buffer;
 use std::marker::Model;
+use tm_cli::usage_line;
 use tm_flow::FlowFault;
 use tm_lex::LexFault;
 use tm_parse::{Limit, ParseFault};
 use tm_rows::RowFault;
-use tm_words::usage_line;
 
-/// Words, a number and words, with a line feed at the end.
+// Words, a number and words, with a line feed at the end.
 #[derive(Clone, Copy, Drop)]
 pub(crate) struct Parts {
     before: &'static [u8],
@@ -152,8 +155,8 @@ fn read_parts(cause: ReadCause) -> Parts
     }
 }
 
-/// What is told of an ending whose cause stands at this line; of a refused certificate and a wide operation another
-/// message tells.
+// What is told of an ending whose cause stands at this line; of a refused certificate and a wide operation another
+// message tells.
 fn make_parts(line: u32, status: &Status) -> Parts
     ensures { told result ≡ words_of line status.now }
 {
@@ -176,7 +179,7 @@ fn make_parts(line: u32, status: &Status) -> Parts
     }
 }
 
-/// A message of at most 512 bytes, which takes no memory.
+// A message of at most 512 bytes, which takes no memory.
 #[derive(Drop)]
 pub(crate) struct Message {
     bytes: [u8; 512],
@@ -203,7 +206,7 @@ impl Message {
         }
     }
 
-    /// Adds a piece at the end.
+    // Adds a piece at the end.
     pub(crate) fn append(&mut self, piece: &[u8])
         requires { length self.old + length piece.now ≤ 512 }
         ensures { self.new ≡ self.old ++ piece.now }
@@ -213,7 +216,7 @@ impl Message {
         self.len = end;
     }
 
-    /// The bytes of the message.
+    // The bytes of the message.
     pub(crate) fn bytes(&self) -> &[u8]
         ensures bytes { result.now ≡ self.now }
         ensures short { length result.now ≤ 512 }
@@ -222,7 +225,7 @@ impl Message {
     }
 }
 
-/// The message of words and a number, of an ending whose cause stands at this line.
+// The message of words and a number, of an ending whose cause stands at this line.
 fn plain_message(line: u32, status: &Status) -> Message
     ensures { result ≡ line_text (words_of line status.now) }
 {
@@ -237,7 +240,7 @@ fn plain_message(line: u32, status: &Status) -> Message
     message
 }
 
-/// The message of an ending whose cause stands at this line, where each point has so many rows.
+// The message of an ending whose cause stands at this line, where each point has so many rows.
 pub(crate) fn make_message(line: u32, rows: usize, status: &Status) -> Message
     ensures { result ≡ message_of line rows status.now }
 {

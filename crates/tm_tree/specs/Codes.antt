@@ -113,7 +113,8 @@ abbrev mutual
   statement_code (set var form line) = gcons (gnum 0) (gcons (gnum var) (gcons (form_code form) (gnum line)))
   statement_code (havoc var line) = gcons (gnum 1) (gcons (gnum var) (gnum line))
   statement_code (assume cond line) = gcons (gnum 2) (gcons (condition_code cond) (gnum line))
-  statement_code (branch cond first second line) = gcons (gnum 3) (gcons (condition_code cond) (gcons (statements_code first) (gcons (statements_code second) (gnum line))))
+  statement_code (branch cond first second line) =
+      gcons (gnum 3) (gcons (condition_code cond) (gcons (statements_code first) (gcons (statements_code second) (gnum line))))
   statement_code (loop cond body line) = gcons (gnum 4) (gcons (condition_code cond) (gcons (statements_code body) (gnum line)))
   statement_code (label name line) = gcons (gnum 5) (gcons (name_code name) (gnum line))
 
@@ -126,7 +127,8 @@ mutual
   statement_from (gcons (gnum zero) (gcons (gnum var) (gcons form (gnum line)))) = set var (form_from form) line
   statement_from (gcons (gnum (suc zero)) (gcons (gnum var) (gnum line))) = havoc var line
   statement_from (gcons (gnum (suc (suc zero))) (gcons cond (gnum line))) = assume (condition_from cond) line
-  statement_from (gcons (gnum (suc (suc (suc zero)))) (gcons cond (gcons first (gcons second (gnum line))))) = branch (condition_from cond) (statements_from first) (statements_from second) line
+  statement_from (gcons (gnum (suc (suc (suc zero)))) (gcons cond (gcons first (gcons second (gnum line))))) =
+      branch (condition_from cond) (statements_from first) (statements_from second) line
   statement_from (gcons (gnum (suc (suc (suc (suc zero))))) (gcons cond (gcons body (gnum line)))) = loop (condition_from cond) (statements_from body) line
   statement_from (gcons (gnum (suc (suc (suc (suc (suc k)))))) (gcons name (gnum line))) = label (name_from name) line
   statement_from g = havoc 0 0

@@ -2,7 +2,8 @@
 use Rattle.std.specs.Prelude.{◌==◌, ◌&&◌, ◌+◌, ℕ, Bool, true, length, nat_abs, nat_lt, nat_le}
 use Rattle.tm_tree.specs.Numbers.{is_number, are_numbers}
 use Rattle.tm_tree.specs.declared.form.Form.{Form}
-use Rattle.tm_tree.specs.Tree.{Condition, free, compare, negation, both, either, leaf_count, Statement, Statements, set, havoc, assume, branch, loop, label, nil, cons, nodes_in}
+use Rattle.tm_tree.specs.Tree.{Condition, free, compare, negation, both, either, leaf_count, Statement, Statements, set, havoc, assume, branch, loop, label}
+use Rattle.tm_tree.specs.Tree.{nil, cons, nodes_in}
 
 -- one coefficient for each of n variables, and numbers within 2^63 - 1
 abbrev pub is_form : ℕ → Form → Bool

@@ -9,8 +9,6 @@ mod law;
 mod name;
 mod program;
 mod stmt;
-#[cfg(test)]
-mod tests;
 
 pub use cond::{Cond, Rel, leaves};
 pub use form::{Coeffs, Form};

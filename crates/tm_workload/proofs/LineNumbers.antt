@@ -10,7 +10,7 @@ use Rattle.tm_lex.specs.Bytes.{is_letter, is_digit, is_word_byte}
 use Rattle.tm_lex.specs.Words.{word_bytes}
 use Rattle.tm_lex.specs.Signs.{sign_bytes}
 use Rattle.tm_lex.specs.Lines.{line_at}
-use Rattle.tm_lex.proofs.Heads.{word_spelled}
+use Rattle.tm_lex.proofs.lexemes.Heads.{word_spelled}
 use Rattle.tm_gram.specs.Grammar as g
 use Rattle.tm_workload.proofs.WholeTokens.{word_passes, numeral_passes}
 use Rattle.tm_workload.proofs.Pieces.{Part, space, word, sign, letter, number, part_bytes, spelled, IsGood, AllGood, good_parts, part_tokens, tokens_at}

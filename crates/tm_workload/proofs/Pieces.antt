@@ -12,7 +12,7 @@ use Rattle.tm_lex.specs.Words.{word_bytes}
 use Rattle.tm_lex.specs.Signs.{sign_bytes}
 use Rattle.tm_lex.specs.Lexemes.{is_numeral, is_padded, greatest_literal}
 use Rattle.tm_lex.specs.Reading.{Piece, blank, token, piece_bytes, spelling, Fits, AllFit, starts_with_letter, piece_tokens, tokens_from}
-use Rattle.tm_lex.proofs.Heads.{heads}
+use Rattle.tm_lex.proofs.lexemes.Heads.{heads}
 use Rattle.tm_gram.specs.Grammar as g
 use Rattle.tm_gram.specs.View.{word_kind, sign_kind, token_of, tokens_of}
 use Rattle.tm_workload.proofs.WholeTokens.{is_second, a_whole_word, a_whole_sign, a_whole_letter, a_whole_number}

@@ -9,14 +9,14 @@ use Rattle.tm_gram.specs.Grammar as g
 use Rattle.tm_gram.specs.View.{tokens_of, token_of, plain_token, word_kind, sign_kind}
 use Rattle.tm_gram.specs.Machine.{start}
 use Rattle.tm_gram.specs.Depth.{scan, whole}
-use Rattle.tm_gram.proofs.Scanned.{found_by}
+use Rattle.tm_gram.proofs.faults.Scanned.{found_by}
 use Rattle.tm_parse.specs.Feed.{Outcome, feed, begin, result_of}
 use Rattle.tm_parse.specs.Walk.{followed_by}
 use Rattle.tm_parse.specs.Results.{◌>>=◌}
 use Rattle.tm_parse.specs.Meaning.{Means}
 use Rattle.tm_parse.specs.Width.{total, mark}
-use Rattle.tm_parse.proofs.Widths.{total_append}
-use Rattle.tm_parse.proofs.Meant.{whole_is_read, read_means, read_width}
+use Rattle.tm_parse.proofs.walk.Counts.{total_append}
+use Rattle.tm_parse.proofs.meaning.Answers.{whole_is_read, read_means, read_width}
 use Rattle.tm_workload.specs.declared.draws.Loop.{Loop}
 use Rattle.tm_workload.specs.Draws.{following, loops_from}
 use Rattle.tm_workload.specs.Texts.{generated_text}

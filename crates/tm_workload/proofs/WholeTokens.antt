@@ -13,8 +13,8 @@ use Rattle.tm_lex.specs.Words.{word_bytes}
 use Rattle.tm_lex.specs.Signs.{sign_bytes}
 use Rattle.tm_lex.specs.Lexemes.{a_word, a_numeral, a_sign, is_word, is_numeral, is_padded, greatest_literal, IsName}
 use Rattle.tm_lex.specs.Reading.{IsLongest, IsWholeToken, starts_with_letter}
-use Rattle.tm_lex.proofs.Heads.{heads, is_mark, sign_heads, word_spelled, mark_is}
-use Rattle.tm_lex.proofs.Longest.{word_starts, numeral_starts, sign_starts}
+use Rattle.tm_lex.proofs.lexemes.Heads.{heads, is_mark, sign_heads, word_spelled, mark_is}
+use Rattle.tm_lex.proofs.lexemes.Longest.{word_starts, numeral_starts, sign_starts}
 
 -- a front of which each byte passes ends before a rest that doesn't begin with such a byte
 front_short : (p : ℕ → Bool) (bytes rest other after : List ℕ) → heads p rest ≡ false → list_all p other ≡ true → other ++ after ≡ bytes ++ rest → length other ≤ length bytes

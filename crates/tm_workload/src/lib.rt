@@ -10,5 +10,3 @@ pub use law::generated_texts_read;
 pub use summaries::summary;
 pub use texts::generate;
 
-#[cfg(test)]
-mod tests;

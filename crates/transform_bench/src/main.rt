@@ -5,7 +5,7 @@
 
 ghost use Rattle.std.specs.Prelude.{◌≡◌, ◌<◌, ◌*◌, IfOk, length};
 ghost use Rattle.tm_eqsys.specs.View.{equations_of};
-ghost use Rattle.tm_oper.specs.Composed.{AreComposed};
+ghost use Rattle.tm_compose.specs.Composed.{AreComposed};
 
 use anyhow::{Context, bail};
 use std::alloc::Global;

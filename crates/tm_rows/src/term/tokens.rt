@@ -9,7 +9,7 @@ use crate::term::Term;
 use std::alloc::{AllocError, Global};
 use tm_lex::{Kind, Sign, Token};
 
-/// A factor times the name that the token is.
+// A factor times the name that the token is.
 fn named<'a>(line: &'a [u8], token: Token, negative: bool, factor: i64) -> Term<'a>
     requires within { token.at + token.len ≤ length line.now }
     requires unsigned { pos 0 ≤ℤ factor }
@@ -23,7 +23,7 @@ fn named<'a>(line: &'a [u8], token: Token, negative: bool, factor: i64) -> Term<
     }
 }
 
-/// A factor times the name that stands first behind a `*`, and the tokens after it.
+// A factor times the name that stands first behind a `*`, and the tokens after it.
 fn multiple<'a, 't>(
     line: &'a [u8],
     tokens: &'t [Token],
@@ -46,7 +46,7 @@ fn multiple<'a, 't>(
     }
 }
 
-/// The term that stands first, without its sign, and the tokens after it.
+// The term that stands first, without its sign, and the tokens after it.
 fn unsigned<'a, 't>(
     line: &'a [u8],
     tokens: &'t [Token],
@@ -66,7 +66,7 @@ fn unsigned<'a, 't>(
     }
 }
 
-/// The sign that stands first, as whether it is `-`, and the tokens after it.
+// The sign that stands first, as whether it is `-`, and the tokens after it.
 fn sign<'t>(line: &[u8], tokens: &'t [Token]) -> Option<(bool, &'t [Token])>
     requires { AllFit line.now tokens.now }
     ensures { MatchOption result (NoSign (symbols_of line.now tokens.now))
@@ -82,7 +82,7 @@ fn sign<'t>(line: &[u8], tokens: &'t [Token]) -> Option<(bool, &'t [Token])>
     }
 }
 
-/// Whether the line ends here.
+// Whether the line ends here.
 fn is_end(line: &[u8], tokens: &[Token]) -> bool
     ensures { IsTrue result ↔ (symbols_of line.now tokens.now ≡ end ∷ []) }
 {
@@ -92,7 +92,7 @@ fn is_end(line: &[u8], tokens: &[Token]) -> bool
     }
 }
 
-/// Whether the first term has a `-`, and the tokens behind its sign, if it has one.
+// Whether the first term has a `-`, and the tokens behind its sign, if it has one.
 fn start<'t>(line: &[u8], tokens: &'t [Token]) -> (bool, &'t [Token])
     requires { AllFit line.now tokens.now }
     ensures pending { Pending (symbols_of line.now tokens.now) [] result.0 (symbols_of line.now result.1.now) }

@@ -11,9 +11,10 @@ use Rattle.tm_eqsys.specs.View.{equations_of, vector_of}
 use Rattle.tm_eqsys.proofs.Tested.{test_le}
 use Rattle.tm_check.specs.Events.{fault_answer, wide_answer}
 use Rattle.tm_check.specs.EvidenceEvents.{columns_events, columns_of}
-use Rattle.tm_check.proofs.Composed.{no_edge, edge_there, row_count}
-use Rattle.tm_check.proofs.Outcomes.{told_no, told_yes}
-use Rattle.tm_check.proofs.Evidenced.{stands_itself, row_some, number_here, is_read, bound_first, bound_infinite, bound_columns, bound_wide, bound_last, bound_yes, bound_no, constant_added}
+use Rattle.tm_check.proofs.combination.Forms.{no_edge, edge_there, row_count}
+use Rattle.tm_check.proofs.evidence.Sums.{told_no, told_yes}
+use Rattle.tm_check.proofs.uppers.Numbers.{bound_of}
+use Rattle.tm_check.proofs.evidence.Events.{stands_itself, row_some, is_read, bound_first, bound_infinite, bound_columns, bound_wide, bound_last, bound_yes, bound_no, constant_added}
 use Rattle.tm_check.proofs.evidence.bound_passes.Goals as goal
 
 -- a value that is no fraction
@@ -34,7 +35,7 @@ returns-in_default c = λ z e h f site fault.
     let T = c.args.system.now.template in
     let r = c.args.unknown % length T in
     let m = (c.are_multipliers.ensures z e h f).0 c.if-not-are_multipliers.false in
-    let b : extended c.at.result ≡ z (c.args.unknown / length T) r = c.at.ensures ∙ number_here S c.args.bounds.now z h c.args.unknown c.requires.unknown in
+    let b : extended c.at.result ≡ z (c.args.unknown / length T) r = c.at.ensures ∙ bound_of S c.args.bounds.now z h c.args.unknown c.requires.unknown in
     bound_infinite site fault S z e (get_or T r []) (z (c.args.unknown / length T) r) c.args.rows.now c.args.guards.now m (λ k. unbound c.at.result c.in_default.not-Fin (k.0, b ∙ k.1))
 
 pub row-end-requires-clause-row : goal.row-end-requires-clause-row

@@ -4,9 +4,9 @@ use Rattle.tm_num.specs.Rational.{zero_ℚ}
 use Rattle.tm_num.proofs.Laws.{ℚ_discrete}
 use Rattle.tm_frac.specs.Operation.{operation_of}
 use Rattle.tm_eqsys.specs.View.{equations_of}
-use Rattle.tm_steps.specs.Certificates.{combination}
+use Rattle.tm_validity.specs.Certificates.{combination}
 use Rattle.tm_check.specs.EvidenceEvents.{column_operations}
-use Rattle.tm_check.proofs.Outcomes.{test_same, tested_wide, tested_yes, tested_no}
+use Rattle.tm_check.proofs.evidence.Sums.{test_same, tested_wide, tested_yes, tested_no}
 use Rattle.tm_check.proofs.evidence.column_passes.Goals as goal
 
 pub returns-in_err-sum : goal.returns-in_err-sum

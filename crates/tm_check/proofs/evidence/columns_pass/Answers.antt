@@ -2,13 +2,13 @@ use Rattle.std.proofs.Common.{◌<◌, ◌≤◌, length, refl, ap, arith}
 use Rattle.std.proofs.lemmas.Result.{err_from_is_err_and}
 use Rattle.tm_frac.specs.Operation.{operation_of}
 use Rattle.tm_eqsys.specs.View.{equations_of}
-use Rattle.tm_steps.specs.Words.{width}
-use Rattle.tm_oper.specs.Composed.{edge_forms}
-use Rattle.tm_oper.proofs.Edges.{width_is}
+use Rattle.tm_validity.specs.Words.{width}
+use Rattle.tm_compose.specs.Composed.{edge_forms}
+use Rattle.tm_compose.proofs.Edges.{width_is}
 use Rattle.tm_check.specs.Events.{fault_answer, wide_answer}
-use Rattle.tm_check.proofs.Composed.{forms_at}
-use Rattle.tm_check.proofs.Outcomes.{told_no, told_yes}
-use Rattle.tm_check.proofs.Columns.{At, columns_more, columns_stop, columns_all}
+use Rattle.tm_check.proofs.combination.Forms.{forms_at}
+use Rattle.tm_check.proofs.evidence.Sums.{told_no, told_yes}
+use Rattle.tm_check.proofs.evidence.Columns.{At, columns_more, columns_stop, columns_all}
 use Rattle.tm_check.proofs.evidence.columns_pass.Goals as goal
 
 pub loop-column-init : goal.loop-column-init

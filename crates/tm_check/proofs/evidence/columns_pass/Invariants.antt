@@ -3,7 +3,7 @@ use Rattle.std.specs.Prelude.{Some, slice_get}
 use Rattle.tm_flow.specs.declared.edge.Edge.{Edge}
 use Rattle.tm_eqsys.specs.declared.spot.Site.{Site}
 use Rattle.tm_eqsys.specs.View.{equations_of}
-use Rattle.tm_steps.specs.Faults.{Fault}
+use Rattle.tm_validity.specs.Faults.{Fault}
 use Rattle.tm_check.specs.Events.{first_stop}
 use Rattle.tm_check.specs.EvidenceEvents.{columns_events, columns_of}
 use Rattle.tm_check.proofs.evidence.columns_pass.Given as goal

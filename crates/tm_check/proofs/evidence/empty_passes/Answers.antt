@@ -5,10 +5,10 @@ use Rattle.tm_frac.specs.Operation.{operation_of}
 use Rattle.tm_eqsys.specs.View.{equations_of, vector_of}
 use Rattle.tm_check.specs.Events.{fault_answer, wide_answer}
 use Rattle.tm_check.specs.EvidenceEvents.{columns_events, columns_of}
-use Rattle.tm_check.proofs.Compares.{test_less}
-use Rattle.tm_check.proofs.Composed.{no_edge, edge_there}
-use Rattle.tm_check.proofs.Outcomes.{told_no, told_yes}
-use Rattle.tm_check.proofs.Evidenced.{stands_itself, empty_first, empty_columns, empty_wide, empty_yes, empty_no}
+use Rattle.tm_check.proofs.first_pass.Comparisons.{test_less}
+use Rattle.tm_check.proofs.combination.Forms.{no_edge, edge_there}
+use Rattle.tm_check.proofs.evidence.Sums.{told_no, told_yes}
+use Rattle.tm_check.proofs.evidence.Events.{stands_itself, empty_first, empty_columns, empty_wide, empty_yes, empty_no}
 use Rattle.tm_check.proofs.evidence.empty_passes.Goals as goal
 
 pub returns-then-not-are_multipliers : goal.returns-then-not-are_multipliers

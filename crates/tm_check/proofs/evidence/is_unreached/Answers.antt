@@ -6,8 +6,8 @@ use Rattle.tm_frac.specs.Extended.{extended}
 use Rattle.tm_frac.specs.declared.ext.Ext.{Ext}
 use Rattle.tm_frac.specs.declared.ext.Ext.TheVariants.{NegInf, Fin, PosInf}
 use Rattle.tm_eqsys.specs.View.{equations_of}
-use Rattle.tm_check.proofs.Edges.{edge_from}
-use Rattle.tm_check.proofs.Entries.{bound_at_row}
+use Rattle.tm_check.proofs.following.Edges.{edge_from}
+use Rattle.tm_check.proofs.combination.Entries.{bound_at_row}
 use Rattle.tm_check.proofs.evidence.is_unreached.Goals as goal
 
 -- only this bound stands for -∞

@@ -1,10 +1,10 @@
 use Rattle.std.proofs.Common.{◌≡◌, ◌∙◌, ◌/◌, ◌%◌, [], Some, None, length, get_or, true≢false, sym, ap, ap₂, subst}
 use Rattle.tm_cert.specs.Certificates.{evidence_of}
 use Rattle.tm_eqsys.specs.View.{equations_of}
-use Rattle.tm_steps.specs.Certificates.{Evidence, Bound, Empty, Unreached}
+use Rattle.tm_validity.specs.Certificates.{Evidence, Bound, Empty, Unreached}
 use Rattle.tm_check.specs.Events.{Answers, fault_answer, first_stop}
 use Rattle.tm_check.specs.EvidenceEvents.{evidence_events}
-use Rattle.tm_check.proofs.Evidenced.{unreached_yes, unreached_no}
+use Rattle.tm_check.proofs.evidence.Events.{unreached_yes, unreached_no}
 use Rattle.tm_check.proofs.evidence.passes.Goals as goal
 
 pub returns-in-Bound : goal.returns-in-Bound

@@ -1,8 +1,8 @@
 use Rattle.std.proofs.Common.{◌∙◌, length, sym, ap, arith}
 use Rattle.std.proofs.lemmas.List.{length-map}
 use Rattle.tm_frac.specs.Extended.{extended}
-use Rattle.tm_check.proofs.Numbered.{bound_of}
-use Rattle.tm_check.proofs.Reached.{differs, equals, final_first, final_more, final_stops, final_all}
+use Rattle.tm_check.proofs.uppers.Numbers.{bound_of}
+use Rattle.tm_check.proofs.final_vector.Compared.{differs, equals, final_first, final_more, final_stops, final_all}
 use Rattle.tm_check.proofs.final_vector.compare.Goals as goal
 
 pub loop-unknown-init : goal.loop-unknown-init

@@ -1,4 +1,4 @@
-use Rattle.tm_check.proofs.Totals.{column_total, side_total}
+use Rattle.tm_check.proofs.law.Totals.{column_total, side_total}
 use Rattle.tm_check.proofs.law.evidence_is_summed.Goals as goal
 
 pub returns : goal.returns

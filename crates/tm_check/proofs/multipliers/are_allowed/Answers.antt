@@ -3,9 +3,9 @@ use Rattle.std.proofs.lemmas.List.{get_or_read}
 use Rattle.tm_num.specs.Rational.{zero_ℚ}
 use Rattle.tm_frac.specs.Extended.{extended}
 use Rattle.tm_eqsys.specs.View.{equations_of}
-use Rattle.tm_steps.specs.Certificates.{NotFinite}
-use Rattle.tm_check.proofs.Entries.{bound_at_row}
-use Rattle.tm_check.proofs.Signs.{up_to_more}
+use Rattle.tm_validity.specs.Certificates.{NotFinite}
+use Rattle.tm_check.proofs.combination.Entries.{bound_at_row}
+use Rattle.tm_check.proofs.multipliers.Signs.{up_to_more}
 use Rattle.tm_check.proofs.multipliers.are_allowed.Goals as goal
 
 pub loop-r-preserved : goal.loop-r-preserved

@@ -2,7 +2,7 @@ use Rattle.std.proofs.Common.{◌≡◌, ℕ, ◌<◌, get_or}
 use Rattle.tm_num.specs.Rational.{zero_ℚ}
 use Rattle.tm_eqsys.specs.Equations.{Vector}
 use Rattle.tm_eqsys.specs.View.{equations_of}
-use Rattle.tm_steps.specs.Certificates.{NotFinite}
+use Rattle.tm_validity.specs.Certificates.{NotFinite}
 use Rattle.tm_check.specs.Stands.{Stands}
 use Rattle.tm_check.proofs.multipliers.are_allowed.Given as goal
 

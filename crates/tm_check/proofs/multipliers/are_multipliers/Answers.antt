@@ -2,9 +2,9 @@ use Rattle.std.proofs.Common.{◌≡◌, ◌∙◌, true≢false, length, get_or
 use Rattle.std.proofs.lemmas.Option.{get_or_from_slice_get}
 use Rattle.tm_eqsys.specs.View.{equations_of}
 use Rattle.tm_flow.specs.declared.edge.Edge.{Edge}
-use Rattle.tm_steps.specs.Certificates.{NotFinite}
-use Rattle.tm_oper.specs.Composed.{edge_forms}
-use Rattle.tm_check.proofs.Composed.{forms_at, guard_count}
+use Rattle.tm_validity.specs.Certificates.{NotFinite}
+use Rattle.tm_compose.specs.Composed.{edge_forms}
+use Rattle.tm_check.proofs.combination.Forms.{forms_at, guard_count}
 use Rattle.tm_check.proofs.multipliers.are_multipliers.Goals as goal
 
 pub returns-then-guards : goal.returns-then-guards

@@ -1,6 +1,6 @@
 use Rattle.std.proofs.Common.{◌<◌, length, refl, sym, subst, arith}
 use Rattle.tm_eqsys.specs.View.{equations_of}
-use Rattle.tm_steps.specs.Steps.{Placed, Sized}
+use Rattle.tm_validity.specs.Steps.{Placed, Sized}
 use Rattle.tm_check.specs.Items.{item_at}
 use Rattle.tm_check.proofs.names.is_named.Goals as goal
 

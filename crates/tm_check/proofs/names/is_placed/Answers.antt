@@ -1,7 +1,7 @@
 use Rattle.std.proofs.Common.{◌≡◌, ◌∙◌, ◌/◌, ◌*◌, ◌<◌, ◌≤◌, length, get_or, ap, ap₂, sym, subst, eq-eqb}
 use Rattle.tm_eqsys.specs.View.{equations_of}
-use Rattle.tm_check.proofs.Places.{eqb_out, placed_iff}
-use Rattle.tm_check.proofs.Edges.{template_some}
+use Rattle.tm_check.proofs.names.Items.{eqb_out, placed_iff}
+use Rattle.tm_check.proofs.following.Edges.{template_some}
 use Rattle.tm_check.proofs.names.is_placed.Goals as goal
 
 pub returns : goal.returns

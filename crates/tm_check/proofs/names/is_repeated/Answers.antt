@@ -1,10 +1,10 @@
 use Rattle.std.proofs.Common.{◌≡◌, ◌≢◌, ◌∙◌, ◌+◌, ◌*◌, ◌/◌, ◌%◌, ◌<◌, true, false, true≢false, refl, sym, ap, subst, arith}
 use Rattle.std.proofs.Math.Nat.{div-add-mod}
 use Rattle.tm_cert.specs.Certificates.{step_of}
-use Rattle.tm_steps.specs.Steps.{names, Unnamed}
-use Rattle.tm_steps.proofs.Puts.{names_itself}
+use Rattle.tm_validity.specs.Steps.{names, Unnamed}
+use Rattle.tm_validity.proofs.Puts.{names_itself}
 use Rattle.tm_check.specs.Items.{item_at, earlier_items}
-use Rattle.tm_check.proofs.Places.{names_no, not_earlier, earlier_more}
+use Rattle.tm_check.proofs.names.Items.{names_no, not_earlier, earlier_more}
 use Rattle.tm_check.proofs.names.is_repeated.Goals as goal
 
 pub loop-j-init : goal.loop-j-init

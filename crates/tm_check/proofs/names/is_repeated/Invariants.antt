@@ -1,6 +1,6 @@
 use Rattle.std.proofs.Common.{ℕ, ◌<◌}
 use Rattle.tm_cert.specs.Certificates.{step_of}
-use Rattle.tm_steps.specs.Steps.{Unnamed}
+use Rattle.tm_validity.specs.Steps.{Unnamed}
 use Rattle.tm_check.specs.Items.{item_at, earlier_items}
 use Rattle.tm_check.proofs.names.is_repeated.Given as goal
 

@@ -3,10 +3,10 @@ use Rattle.std.specs.List.{count_by}
 use Rattle.tm_eqsys.specs.Cells.{is_havoc}
 use Rattle.tm_eqsys.specs.View.{equations_of}
 use Rattle.tm_eqsys.proofs.CellCounts.{free_count-is}
-use Rattle.tm_steps.specs.Words.{free_count}
-use Rattle.tm_steps.specs.Steps.{edge_of}
-use Rattle.tm_check.proofs.Runs.{count_same}
-use Rattle.tm_check.proofs.Places.{edge_is, eqb_out}
+use Rattle.tm_validity.specs.Words.{free_count}
+use Rattle.tm_validity.specs.Steps.{edge_of}
+use Rattle.tm_check.proofs.following.Traces.{count_same}
+use Rattle.tm_check.proofs.names.Items.{edge_is, eqb_out}
 use Rattle.tm_check.proofs.names.is_sized.Goals as goal
 
 pub returns-then-as_slice : goal.returns-then-as_slice

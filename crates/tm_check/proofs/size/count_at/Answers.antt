@@ -1,9 +1,9 @@
 use Rattle.std.proofs.Common.{◌≡◌, ◌∙◌, ◌/◌, ◌%◌, length, sym, ap, arith}
 use Rattle.tm_frac.specs.Extended.{extended}
 use Rattle.tm_eqsys.specs.View.{equations_of}
-use Rattle.tm_steps.specs.Certificates.{into_needs, needs_at}
-use Rattle.tm_check.proofs.Counted.{needs_finite, needs_top}
-use Rattle.tm_check.proofs.Ranges.{few_edges}
+use Rattle.tm_validity.specs.Certificates.{into_needs, needs_at}
+use Rattle.tm_check.proofs.size.Counts.{needs_finite, needs_top}
+use Rattle.tm_check.proofs.certificate.Ranges.{few_edges}
 use Rattle.tm_check.proofs.size.count_at.Goals as goal
 
 pub returns-in-PosInf-clause-count : goal.returns-in-PosInf-clause-count

@@ -1,7 +1,7 @@
 use Rattle.std.proofs.Common.{◌≡◌, ◌∙◌, sym, rules}
 use Rattle.std.specs.Prelude.{◌==◌}
 use Rattle.std.specs.List.{count_by}
-use Rattle.tm_check.proofs.Counted.{length-into_needs}
+use Rattle.tm_check.proofs.size.Counts.{length-into_needs}
 use Rattle.tm_check.proofs.size.count_into.Goals as goal
 
 pub returns-clause-count : goal.returns-clause-count

@@ -2,9 +2,9 @@ use Rattle.std.proofs.Common.{◌≡◌, ◌∙◌, ◌/◌, ◌%◌, ◌<◌, l
 use Rattle.std.proofs.lemmas.List.{length-map}
 use Rattle.tm_frac.specs.Extended.{extended}
 use Rattle.tm_eqsys.specs.View.{equations_of}
-use Rattle.tm_steps.specs.Certificates.{needs_at}
-use Rattle.tm_check.proofs.Counted.{CountLeft, count_first, count_more, count_all}
-use Rattle.tm_check.proofs.Numbered.{bound_of}
+use Rattle.tm_validity.specs.Certificates.{needs_at}
+use Rattle.tm_check.proofs.size.Counts.{CountLeft, count_first, count_more, count_all}
+use Rattle.tm_check.proofs.uppers.Numbers.{bound_of}
 use Rattle.tm_check.proofs.size.count_needed.Goals as goal
 
 pub loop-unknown-init : goal.loop-unknown-init

@@ -2,7 +2,7 @@ use Rattle.std.proofs.Common.{◌*◌, ◌≤◌}
 use Rattle.tm_eqsys.specs.Equations.{Vector}
 use Rattle.tm_eqsys.specs.View.{equations_of}
 use Rattle.tm_check.specs.Stands.{Stands}
-use Rattle.tm_check.proofs.Counted.{CountLeft}
+use Rattle.tm_check.proofs.size.Counts.{CountLeft}
 use Rattle.tm_check.proofs.size.count_needed.Given as goal
 
 abbrev pub invariant-loop-unknown : goal.invariant-loop-unknown

@@ -3,8 +3,8 @@ use Rattle.std.proofs.lemmas.Bool.{leb-true, le-leb}
 use Rattle.std.proofs.lemmas.List.{length-map}
 use Rattle.tm_frac.specs.Extended.{extended}
 use Rattle.tm_eqsys.specs.View.{equations_of}
-use Rattle.tm_steps.specs.Certificates.{needs, bounds_vector}
-use Rattle.tm_check.proofs.Numbered.{stands_itself}
+use Rattle.tm_validity.specs.Certificates.{needs, bounds_vector}
+use Rattle.tm_check.proofs.uppers.Numbers.{stands_itself}
 use Rattle.tm_check.proofs.size.has_size.Goals as goal
 
 pub returns-then-as_slice-points : goal.returns-then-as_slice-points

@@ -3,9 +3,9 @@ use Rattle.std.proofs.lemmas.Result.{err_from_is_err_and}
 use Rattle.std.proofs.lemmas.List.{get_or-map, length-map}
 use Rattle.tm_eqsys.specs.View.{equations_of}
 use Rattle.tm_cert.specs.Certificates.{step_of}
-use Rattle.tm_steps.specs.Steps.{after, start_vector}
+use Rattle.tm_validity.specs.Steps.{after, start_vector}
 use Rattle.tm_check.specs.Stands.{Stands}
-use Rattle.tm_check.proofs.Taken.{steps_more, leads_more, steps_stop, steps_all, led_all}
+use Rattle.tm_check.proofs.steps.Sequence.{steps_more, leads_more, steps_stop, steps_all, led_all}
 use Rattle.tm_check.proofs.steps.check_steps.Goals as goal
 
 pub loop-number-init : goal.loop-number-init

@@ -2,8 +2,8 @@ use Rattle.std.proofs.Common.{◌≡◌, length, map, drop}
 use Rattle.tm_eqsys.specs.Equations.{Vector}
 use Rattle.tm_eqsys.specs.View.{equations_of}
 use Rattle.tm_cert.specs.Certificates.{step_of}
-use Rattle.tm_steps.specs.Steps.{start_vector}
-use Rattle.tm_steps.specs.Certificates.{led}
+use Rattle.tm_validity.specs.Steps.{start_vector}
+use Rattle.tm_validity.specs.Certificates.{led}
 use Rattle.tm_check.specs.Rooms.{HasRoom}
 use Rattle.tm_check.specs.Stands.{Stands}
 use Rattle.tm_check.specs.Events.{first_stop}

@@ -2,7 +2,7 @@ use Rattle.std.proofs.Common.{◌∙◌, length, ap, arith}
 use Rattle.std.proofs.lemmas.List.{length-map}
 use Rattle.tm_frac.specs.Extended.{extended}
 use Rattle.tm_check.specs.Stands.{start_at}
-use Rattle.tm_check.proofs.Taken.{starts}
+use Rattle.tm_check.proofs.steps.Sequence.{starts}
 use Rattle.tm_check.proofs.steps.restart.Goals as goal
 
 pub returns-clause-start : goal.returns-clause-start

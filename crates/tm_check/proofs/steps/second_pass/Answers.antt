@@ -1,28 +1,28 @@
 use Rattle.std.proofs.Common.{◌≡◌, ◌∙◌, length, ap, sym, subst}
 use Rattle.tm_eqsys.specs.View.{equations_of}
 use Rattle.tm_cert.specs.Certificates.{step_of}
-use Rattle.tm_steps.specs.Steps.{Kind, new_value, put}
+use Rattle.tm_validity.specs.Steps.{Kind, new_value, put}
 use Rattle.tm_check.specs.Events.{IsRun, first_stop}
 use Rattle.tm_check.specs.Items.{item_at}
 use Rattle.tm_check.specs.StepEvents.{second_pass_events}
 use Rattle.tm_check.specs.Stands.{Stands}
 use Rattle.tm_check.specs.Usable.{IsUsable}
-use Rattle.tm_check.proofs.Named.{plain_second}
+use Rattle.tm_check.proofs.names.Passed.{plain_second}
 use Rattle.tm_check.proofs.steps.second_pass.Goals as goal
 
-pub landings-requires-clause-jump : goal.landings-requires-clause-jump
-landings-requires-clause-jump c = ap (λ s. (step_of (length c.args.system.now.template) s).kind) c.in-Jump.is
+pub test_jump-requires-clause-jump : goal.test_jump-requires-clause-jump
+test_jump-requires-clause-jump c = ap (λ s. (step_of (length c.args.system.now.template) s).kind) c.in-Jump.is
 
-pub landings-requires-clause-usable : goal.landings-requires-clause-usable
-landings-requires-clause-usable c = λ k l.
+pub test_jump-requires-clause-usable : goal.test_jump-requires-clause-usable
+test_jump-requires-clause-usable c = λ k l.
     let rows = length c.args.system.now.template in
     subst (λ kind. IsUsable kind (equations_of c.args.system.now) (item_at rows c.args.step.now k)) (ap (λ s. (step_of rows s).kind) c.in-Jump.is) (c.requires.usable k l)
 
-pub goings-requires-clause-ray : goal.goings-requires-clause-ray
-goings-requires-clause-ray c = ap (λ s. (step_of (length c.args.system.now.template) s).kind) c.in-Ray.is
+pub test_ray-requires-clause-ray : goal.test_ray-requires-clause-ray
+test_ray-requires-clause-ray c = ap (λ s. (step_of (length c.args.system.now.template) s).kind) c.in-Ray.is
 
-pub goings-requires-clause-usable : goal.goings-requires-clause-usable
-goings-requires-clause-usable c = λ k l.
+pub test_ray-requires-clause-usable : goal.test_ray-requires-clause-usable
+test_ray-requires-clause-usable c = λ k l.
     let rows = length c.args.system.now.template in
     subst (λ kind. IsUsable kind (equations_of c.args.system.now) (item_at rows c.args.step.now k)) (ap (λ s. (step_of rows s).kind) c.in-Ray.is) (c.requires.usable k l)
 
@@ -40,8 +40,8 @@ returns-in-Jump-clause-answer c = λ z h g.
     let S = equations_of c.args.system.now in
     let items = (step_of rows c.args.step.now).items in
     let e : (step_of rows c.args.step.now).kind ≡ Kind.Jump = ap (λ s. (step_of rows s).kind) c.in-Jump.is in
-    subst (λ k. IsRun (λ u. Unit {0}) (second_pass_events k S z items c.args.number 0 items) c.landings.result) (sym e)
-    (c.landings.ensures z h (subst (λ k. Stands S c.args.next.now (put (new_value k) items z)) e g))
+    subst (λ k. IsRun (λ u. Unit {0}) (second_pass_events k S z items c.args.number 0 items) c.test_jump.result) (sym e)
+    (c.test_jump.ensures z h (subst (λ k. Stands S c.args.next.now (put (new_value k) items z)) e g))
 
 pub returns-in-Ray-clause-answer : goal.returns-in-Ray-clause-answer
 returns-in-Ray-clause-answer c = λ z h g.
@@ -49,5 +49,5 @@ returns-in-Ray-clause-answer c = λ z h g.
     let S = equations_of c.args.system.now in
     let items = (step_of rows c.args.step.now).items in
     let e : (step_of rows c.args.step.now).kind ≡ Kind.Ray = ap (λ s. (step_of rows s).kind) c.in-Ray.is in
-    subst (λ k. IsRun (λ u. Unit {0}) (second_pass_events k S z items c.args.number 0 items) c.goings.result) (sym e)
-    (c.goings.ensures z (c.set_rates.ensures.rates S z h))
+    subst (λ k. IsRun (λ u. Unit {0}) (second_pass_events k S z items c.args.number 0 items) c.test_ray.result) (sym e)
+    (c.test_ray.ensures z (c.set_rates.ensures.rates S z h))

@@ -4,7 +4,7 @@ use Rattle.std.proofs.lemmas.Result.{err_from_is_err_and}
 use Rattle.std.proofs.lemmas.Option.{slice_get-get_or}
 use Rattle.tm_eqsys.specs.View.{equations_of}
 use Rattle.tm_cert.specs.Certificates.{evidence_of}
-use Rattle.tm_check.proofs.Supplied.{eqb_no, IntoLeft, IntoTaken, left_same, taken_same, left_more, taken_more, left_stops, left_all, taken_all}
+use Rattle.tm_check.proofs.uppers.Supply.{eqb_no, IntoLeft, IntoTaken, left_same, taken_same, left_more, taken_more, left_stops, left_all, taken_all}
 use Rattle.tm_check.proofs.uppers.check_into.Goals as goal
 use Rattle.tm_check.proofs.uppers.check_into.Goals.{then-edge-point+in_ok-check_upper, else-edge-point}
 

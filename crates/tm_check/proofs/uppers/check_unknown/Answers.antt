@@ -2,12 +2,12 @@ use Rattle.std.proofs.Common.{◌≡◌, ◌∙◌, ◌+◌, ◌/◌, ◌%◌, [
 use Rattle.tm_frac.specs.Extended.{extended}
 use Rattle.tm_eqsys.specs.View.{equations_of}
 use Rattle.tm_cert.specs.Certificates.{evidence_of}
-use Rattle.tm_steps.specs.Certificates.{needs_at}
+use Rattle.tm_validity.specs.Certificates.{needs_at}
 use Rattle.tm_check.specs.Events.{IsRun, first_stop}
 use Rattle.tm_check.specs.CheckEvents.{uppers_events}
-use Rattle.tm_check.proofs.Counted.{needs_finite, needs_top}
-use Rattle.tm_check.proofs.Supplied.{uppers_none}
-use Rattle.tm_check.proofs.Numbered.{bound_of}
+use Rattle.tm_check.proofs.size.Counts.{needs_finite, needs_top}
+use Rattle.tm_check.proofs.uppers.Supply.{uppers_none}
+use Rattle.tm_check.proofs.uppers.Numbers.{bound_of}
 use Rattle.tm_check.proofs.uppers.check_unknown.Goals as goal
 
 pub returns-in-PosInf-clause-answer : goal.returns-in-PosInf-clause-answer

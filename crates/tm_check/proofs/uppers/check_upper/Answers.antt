@@ -4,9 +4,9 @@ use Rattle.std.proofs.lemmas.List.{length-map, get_or-map}
 use Rattle.tm_eqsys.specs.declared.spot.Site.TheVariants.{Upper as UpperSite}
 use Rattle.tm_eqsys.specs.View.{equations_of}
 use Rattle.tm_cert.specs.Certificates.{evidence_of}
-use Rattle.tm_steps.specs.Faults.{UpperFault}
+use Rattle.tm_validity.specs.Faults.{UpperFault}
 use Rattle.tm_check.specs.EvidenceEvents.{evidence_events}
-use Rattle.tm_check.proofs.Supplied.{told_passes, told_fails, one_absent, one_given}
+use Rattle.tm_check.proofs.uppers.Supply.{told_passes, told_fails, one_absent, one_given}
 use Rattle.tm_check.proofs.uppers.check_upper.Goals as goal
 
 pub returns-then-place-uppers-clause-answer : goal.returns-then-place-uppers-clause-answer

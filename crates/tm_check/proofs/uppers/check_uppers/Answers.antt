@@ -4,7 +4,7 @@ use Rattle.std.proofs.lemmas.List.{length-map}
 use Rattle.tm_frac.specs.Extended.{extended}
 use Rattle.tm_eqsys.specs.View.{equations_of}
 use Rattle.tm_cert.specs.Certificates.{evidence_of}
-use Rattle.tm_check.proofs.Supplied.{UnknownLeft, unknown_first, unknown_more, unknown_stops, unknown_all}
+use Rattle.tm_check.proofs.uppers.Supply.{UnknownLeft, unknown_first, unknown_more, unknown_stops, unknown_all}
 use Rattle.tm_check.proofs.uppers.check_uppers.Goals as goal
 
 pub loop-unknown-init : goal.loop-unknown-init

@@ -3,7 +3,7 @@ use Rattle.tm_eqsys.specs.Equations.{Vector}
 use Rattle.tm_eqsys.specs.View.{equations_of}
 use Rattle.tm_cert.specs.Certificates.{evidence_of}
 use Rattle.tm_check.specs.Stands.{Stands}
-use Rattle.tm_check.proofs.Supplied.{UnknownLeft}
+use Rattle.tm_check.proofs.uppers.Supply.{UnknownLeft}
 use Rattle.tm_check.proofs.uppers.check_uppers.Given as goal
 
 abbrev pub invariant-loop-unknown : goal.invariant-loop-unknown

@@ -1,11 +1,12 @@
-use Rattle.std.proofs.Common.{◌≡◌, ◌≤◌, length, drop}
+use Rattle.std.proofs.Common.{◌≡◌, ◌≤◌, length, drop, map}
 use Rattle.tm_eqsys.specs.FreeValues.{free_count}
 use Rattle.tm_eqsys.specs.TraceTests.{LeadsOn}
+use Rattle.tm_eqsys.specs.Constants.{action_with}
 use Rattle.tm_eqsys.proofs.follow.follow.Given as goal
 
 abbrev pub invariant-loop-action : goal.invariant-loop-action
 invariant-loop-action l = record {
-  leads : LeadsOn l.actions l.fn.state l.free (drop l.action-index l.actions) l.state (drop l.taken l.free);
+  leads : LeadsOn (map (action_with l.constants) l.actions) l.fn.state l.free (drop l.action-index (map (action_with l.constants) l.actions)) l.state (drop l.taken l.free);
   count : length (drop l.taken l.free) ≡ free_count (drop l.action-index l.actions);
   taken : l.taken ≤ length l.free;
 }

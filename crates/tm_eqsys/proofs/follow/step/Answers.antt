@@ -1,39 +1,47 @@
 use Rattle.std.proofs.Common.{◌∙◌, refl, sym, subst, true≢false}
 use Rattle.std.proofs.lemmas.Result.{err_from_is_err_and}
-use Rattle.tm_num.specs.Rational.{◌≤ℚ◌}
+use Rattle.tm_num.specs.Rational.{ℚ, ◌≤ℚ◌}
 use Rattle.tm_frac.specs.Operation.{operation_of}
+use Rattle.tm_eqsys.specs.Constants.{form_with}
 use Rattle.tm_eqsys.proofs.Tested.{test_le}
 use Rattle.tm_eqsys.proofs.Traced.{guard_refused, assign_refused, guard_passed, guard_failed, assigned}
+use Rattle.tm_eqsys.proofs.WithConstants.{guard_with, assign_with}
 use Rattle.tm_eqsys.proofs.follow.step.Goals as goal
 
 pub returns-in_err-value-in-Guard : goal.returns-in_err-value-in-Guard
 returns-in_err-value-in-Guard c =
     let p = err_from_is_err_and c.from_residual.result c.from_residual.ensures.1 in
-    rw (p.1, p.2, c.in-Guard.is) (guard_refused c.in-Guard.form c.args.state.now c.args.free.now (operation_of (λ q. q) c.in_err-value-in-Guard.field-0.0) c.in_err-value-in-Guard.ensures)
+    let form = form_with c.args.constants c.in-Guard.form in
+    rw (p.1, p.2, c.in-Guard.is, guard_with c.args.constants c.in-Guard.form)
+    (guard_refused form c.args.state.now c.args.free.now (operation_of (λ (q : ℚ). q) c.in_err-value-in-Guard.field-0.0) c.in_err-value-in-Guard.ensures)
 
 pub returns-in_err-value-in-Assign : goal.returns-in_err-value-in-Assign
 returns-in_err-value-in-Assign c =
     let p = err_from_is_err_and c.from_residual-in_err-value-in-Assign.result c.from_residual-in_err-value-in-Assign.ensures.1 in
-    rw (p.1, p.2, c.in-Assign.is)
-    (assign_refused c.in-Assign.form c.args.state.now c.args.free.now c.in-Assign.var (operation_of (λ q. q) c.in_err-value-in-Assign.field-0.0) c.in_err-value-in-Assign.ensures)
+    let form = form_with c.args.constants c.in-Assign.form in
+    rw (p.1, p.2, c.in-Assign.is, assign_with c.args.constants c.in-Assign.var c.in-Assign.form)
+    (assign_refused form c.args.state.now c.args.free.now c.in-Assign.var (operation_of (λ (q : ℚ). q) c.in_err-value-in-Assign.field-0.0) c.in_err-value-in-Assign.ensures)
 
 pub returns-then-le : goal.returns-then-le
 returns-then-le c =
     let t = test_le c.in_ok-value-in-Guard.value c.zero.result c.le.result c.le.ensures in
-    rw c.in-Guard.is (
+    let form = form_with c.args.constants c.in-Guard.form in
+    rw (c.in-Guard.is, guard_with c.args.constants c.in-Guard.form) (
       refl,
-      guard_passed c.in-Guard.form c.args.state.now c.args.free.now c.in_ok-value-in-Guard.value c.in_ok-value-in-Guard.ensures.0 c.in_ok-value-in-Guard.ensures.1
+      guard_passed form c.args.state.now c.args.free.now c.in_ok-value-in-Guard.value c.in_ok-value-in-Guard.ensures.0 c.in_ok-value-in-Guard.ensures.1
           (subst (λ y. c.in_ok-value-in-Guard.value ≤ℚ y) c.zero.ensures.value (t.0 c.if-le.true)),
     )
 
 pub returns-else-le : goal.returns-else-le
 returns-else-le c =
     let t = test_le c.in_ok-value-in-Guard.value c.zero.result c.le.result c.le.ensures in
-    rw c.in-Guard.is
-    (guard_failed c.in-Guard.form c.args.state.now c.args.free.now c.in_ok-value-in-Guard.value c.in_ok-value-in-Guard.ensures.0 c.in_ok-value-in-Guard.ensures.1
+    let form = form_with c.args.constants c.in-Guard.form in
+    rw (c.in-Guard.is, guard_with c.args.constants c.in-Guard.form)
+    (guard_failed form c.args.state.now c.args.free.now c.in_ok-value-in-Guard.value c.in_ok-value-in-Guard.ensures.0 c.in_ok-value-in-Guard.ensures.1
     (λ l. true≢false (sym (t.1 (subst (λ y. c.in_ok-value-in-Guard.value ≤ℚ y) (sym c.zero.ensures.value) l)) ∙ c.if-le.false)))
 
 pub returns-in_ok-value-in-Assign : goal.returns-in_ok-value-in-Assign
 returns-in_ok-value-in-Assign c =
-    rw c.in-Assign.is
-    (refl, assigned c.in-Assign.form c.args.state.now c.args.free.now c.in_ok-value-in-Assign.value c.in_ok-value-in-Assign.ensures.0 c.in_ok-value-in-Assign.ensures.1 c.in-Assign.var)
+    let form = form_with c.args.constants c.in-Assign.form in
+    rw (c.in-Assign.is, assign_with c.args.constants c.in-Assign.var c.in-Assign.form)
+    (refl, assigned form c.args.state.now c.args.free.now c.in_ok-value-in-Assign.value c.in_ok-value-in-Assign.ensures.0 c.in_ok-value-in-Assign.ensures.1 c.in-Assign.var)

@@ -1,4 +1,4 @@
-use Rattle.tm_gram.proofs.Meaning.{accepts_law, begins_law}
+use Rattle.tm_gram.proofs.machine.Meaning.{accepts_law, begins_law}
 use Rattle.tm_gram.proofs.laws.every_front.Goals as goal
 
 pub returns-clause-accepts : goal.returns-clause-accepts

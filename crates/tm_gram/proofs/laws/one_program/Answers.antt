@@ -1,4 +1,4 @@
-use Rattle.tm_gram.proofs.Once.{reads_once}
+use Rattle.tm_gram.proofs.grammar.Once.{reads_once}
 use Rattle.tm_gram.proofs.laws.one_program.Goals as goal
 
 pub returns : goal.returns

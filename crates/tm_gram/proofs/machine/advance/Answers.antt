@@ -1,5 +1,5 @@
 use Rattle.tm_gram.specs.View.{symbol_kind}
-use Rattle.tm_gram.proofs.Advance.{went}
+use Rattle.tm_gram.proofs.machine.Tokens.{went}
 use Rattle.tm_gram.proofs.machine.advance.Goals as goal
 
 pub returns-in_default-enter : goal.returns-in_default-enter

@@ -2,9 +2,9 @@ use Rattle.std.proofs.Common.{◌∙◌}
 use Rattle.std.proofs.lemmas.Result.{IfOk-weaker}
 use Rattle.tm_gram.specs.Machine.{start}
 use Rattle.tm_gram.specs.View.{scan_of, tokens_of}
-use Rattle.tm_gram.proofs.Exact.{exact_by}
-use Rattle.tm_gram.proofs.Plain.{plain_scan}
-use Rattle.tm_gram.proofs.Scanned.{found_by}
+use Rattle.tm_gram.proofs.faults.Exact.{exact_by}
+use Rattle.tm_gram.proofs.view.Plain.{plain_scan}
+use Rattle.tm_gram.proofs.faults.Scanned.{found_by}
 use Rattle.tm_gram.proofs.machine.examine.Goals as goal
 
 pub returns-clause-found : goal.returns-clause-found

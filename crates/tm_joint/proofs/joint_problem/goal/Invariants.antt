@@ -1,5 +1,5 @@
 use Rattle.std.proofs.Common.{◌≡◌}
-use Rattle.tm_point.specs.JointProblems.{ones}
+use Rattle.tm_transformers.specs.JointProblems.{ones}
 use Rattle.tm_joint.proofs.joint_problem.goal.Given as goal
 
 abbrev pub invariant-loop-unknown : goal.invariant-loop-unknown

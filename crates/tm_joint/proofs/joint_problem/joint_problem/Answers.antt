@@ -1,7 +1,9 @@
 use Rattle.std.proofs.Common.{◌≡◌, ◌∙◌, ◌-◌, ◌++◌, length, ap, sym, length-append, arith}
 use Rattle.std.proofs.lemmas.List.{length-map}
-use Rattle.tm_point.specs.JointProblems.{ones, zeros}
-use Rattle.tm_point.proofs.JointProducts.{length-zeros, length-ones}
+use Rattle.tm_num.proofs.Vectors.{length-zeros}
+use Rattle.tm_num.specs.Vector.{zeros}
+use Rattle.tm_transformers.specs.JointProblems.{ones}
+use Rattle.tm_transformers.proofs.JointProducts.{length-ones}
 use Rattle.tm_joint.specs.Blocks.{split_columns}
 use Rattle.tm_joint.proofs.EdgeSizes.{few_rows}
 use Rattle.tm_joint.proofs.Picking.{few_listed}

@@ -1,5 +1,5 @@
 use Rattle.std.proofs.Common.{◌∙◌, ◌+◌, get_or, length, ap, arith}
-use Rattle.tm_steps.specs.Words.{width}
+use Rattle.tm_validity.specs.Words.{width}
 use Rattle.tm_joint.specs.Blocks.{edge_at}
 use Rattle.tm_joint.proofs.Picking.{picked_at, edge_within}
 use Rattle.tm_joint.proofs.EdgeSizes.{names_within}

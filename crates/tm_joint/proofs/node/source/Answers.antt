@@ -1,7 +1,7 @@
 use Rattle.std.proofs.Common.{◌≡◌, ◌∙◌, ℕ, ◌<◌, Option, Some, None, [], length, get_or, ap, sym, subst}
 use Rattle.std.proofs.lemmas.List.{get_or_default}
 use Rattle.tm_flow.specs.declared.edge.Edge.{Edge}
-use Rattle.tm_point.specs.JointProblems.{picked}
+use Rattle.tm_transformers.specs.JointProblems.{picked}
 use Rattle.tm_joint.specs.Numbers.{edge_of}
 use Rattle.tm_joint.proofs.node.source.Goals as goal
 

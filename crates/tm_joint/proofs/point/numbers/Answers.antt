@@ -5,7 +5,7 @@ use Rattle.tm_num.specs.Rational.{zero_ℚ, ◌+ℚ◌}
 use Rattle.tm_frac.specs.declared.wide.Op.TheVariants.{Add}
 use Rattle.tm_frac.specs.Fits.{long_limit}
 use Rattle.tm_frac.specs.Operation.{first_wide}
-use Rattle.tm_steps.specs.Certificates.{num}
+use Rattle.tm_validity.specs.Certificates.{num}
 use Rattle.tm_ray.specs.Answers.{IsReadingFault}
 use Rattle.tm_ray.proofs.Gathered.{read_more, read_wide, read_all, fault_of, fault_none}
 use Rattle.tm_ray.proofs.NamedRates.{within_at}

@@ -1,5 +1,5 @@
 use Rattle.std.proofs.Common.{refl}
-use Rattle.tm_steps.specs.Certificates.{num}
+use Rattle.tm_validity.specs.Certificates.{num}
 use Rattle.tm_joint.proofs.problem.finite.Goals as goal
 
 pub returns-in-Fin : goal.returns-in-Fin

@@ -1,9 +1,9 @@
 use Rattle.std.proofs.Common.{◌≡◌, [], ◌++◌, ◌<◌, length, take, get_or, ap, sym, subst, arith}
 use Rattle.std.proofs.lemmas.List.{take_all, get_or_default}
 use Rattle.tm_num.specs.Rational.{zero_ℚ}
-use Rattle.tm_point.specs.EdgeProblems.{guard_limits}
-use Rattle.tm_steps.specs.Words.{Affine, guard_forms}
-use Rattle.tm_oper.specs.Composed.{edge_forms}
+use Rattle.tm_transformers.specs.EdgeProblems.{guard_limits}
+use Rattle.tm_validity.specs.Words.{Affine, guard_forms}
+use Rattle.tm_compose.specs.Composed.{edge_forms}
 use Rattle.tm_joint.specs.Rows.{SameForm, embedded}
 use Rattle.tm_joint.specs.Blocks.{edge_at}
 use Rattle.tm_joint.proofs.PathForms.{path_at, guard_count, guard_form}

@@ -1,8 +1,8 @@
 use Rattle.std.proofs.Common.{List, ◌++◌, map, length, take}
 use Rattle.tm_num.specs.Rational.{zero_ℚ}
-use Rattle.tm_steps.specs.Words.{guard_forms}
-use Rattle.tm_point.specs.Limits.{Limit}
-use Rattle.tm_point.specs.EdgeProblems.{guard_limits}
+use Rattle.tm_validity.specs.Words.{guard_forms}
+use Rattle.tm_transformers.specs.Limits.{Limit}
+use Rattle.tm_transformers.specs.EdgeProblems.{guard_limits}
 use Rattle.tm_joint.specs.Rows.{AllStand, embedded}
 use Rattle.tm_joint.specs.Blocks.{edge_at}
 use Rattle.tm_joint.proofs.problem.push_guards.Given as goal

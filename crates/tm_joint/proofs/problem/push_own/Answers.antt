@@ -3,8 +3,8 @@ use Rattle.std.proofs.lemmas.Result.{err_from_is_err_and}
 use Rattle.tm_num.specs.Rational.{◌-ℚ◌, ℚ}
 use Rattle.tm_frac.specs.Fits.{long_limit}
 use Rattle.tm_frac.specs.Operation.{first_wide}
-use Rattle.tm_steps.specs.Certificates.{num}
-use Rattle.tm_oper.specs.Composed.{edge_forms}
+use Rattle.tm_validity.specs.Certificates.{num}
+use Rattle.tm_compose.specs.Composed.{edge_forms}
 use Rattle.tm_joint.specs.Rows.{SameForm, side_operation, IsSideFault}
 use Rattle.tm_joint.specs.Blocks.{edge_at, end_at}
 use Rattle.tm_joint.proofs.PathForms.{path_at, end_form_at}

@@ -2,7 +2,7 @@ use Rattle.std.proofs.Common.{◌≡◌, ◌∙◌, ℕ, ◌+◌, ◌*◌, ◌<�
 use Rattle.std.proofs.lemmas.List.{get_or_default}
 use Rattle.tm_num.specs.Extended.{neg_inf}
 use Rattle.tm_frac.specs.Extended.{extended}
-use Rattle.tm_point.specs.EdgeProblems.{source_limit}
+use Rattle.tm_transformers.specs.EdgeProblems.{source_limit}
 use Rattle.tm_joint.proofs.Picking.{over}
 use Rattle.tm_num.specs.Rational.{one_ℚ, neg_ℚ}
 use Rattle.tm_eqsys.specs.View.{vector_of}

@@ -1,6 +1,6 @@
 use Rattle.std.proofs.Common.{◌∙◌, ◌++◌, ◌∷◌, [], ap, sym}
 use Rattle.std.proofs.lemmas.List.{append-nil}
-use Rattle.tm_point.specs.JointProblems.{split_list}
+use Rattle.tm_transformers.specs.JointProblems.{split_list}
 use Rattle.tm_joint.proofs.RowParts.{split_more}
 use Rattle.tm_joint.proofs.row.push_split.Goals as goal
 

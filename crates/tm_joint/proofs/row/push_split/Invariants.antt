@@ -1,5 +1,5 @@
 use Rattle.std.proofs.Common.{◌≡◌, ◌++◌, take}
-use Rattle.tm_point.specs.JointProblems.{split_list}
+use Rattle.tm_transformers.specs.JointProblems.{split_list}
 use Rattle.tm_joint.proofs.row.push_split.Given as goal
 
 abbrev pub invariant-loop-coefficient : goal.invariant-loop-coefficient

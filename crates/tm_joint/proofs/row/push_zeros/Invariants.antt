@@ -1,5 +1,5 @@
 use Rattle.std.proofs.Common.{◌≡◌, ◌++◌}
-use Rattle.tm_point.specs.JointProblems.{zeros}
+use Rattle.tm_num.specs.Vector.{zeros}
 use Rattle.tm_joint.proofs.row.push_zeros.Given as goal
 
 abbrev pub invariant-loop-column : goal.invariant-loop-column

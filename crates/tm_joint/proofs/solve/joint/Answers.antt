@@ -3,7 +3,7 @@ use Rattle.std.proofs.lemmas.Result.{err_from_is_err_and, MatchResult-weaker}
 use Rattle.tm_eqsys.specs.View.{equations_of, vector_of}
 use Rattle.tm_lp.specs.Simplex.{lp}
 use Rattle.tm_simplex.specs.Outcomes.{IsOutcomeOf}
-use Rattle.tm_point.proofs.JointRay.{joint_outcome}
+use Rattle.tm_transformers.proofs.JointRay.{joint_outcome}
 use Rattle.tm_joint.specs.Numbers.{all_listed}
 use Rattle.tm_joint.specs.Problems.{problem_of}
 use Rattle.tm_joint.specs.Layouts.{AreBounded}

@@ -1,5 +1,5 @@
 use Rattle.std.proofs.Common.{◌≡◌, get_or, refl, arith}
-use Rattle.tm_lex.proofs.Comments.{line_comment_stands, block_comment_stands, open_comment_stands}
+use Rattle.tm_lex.proofs.comment.Ends.{line_comment_stands, block_comment_stands, open_comment_stands}
 use Rattle.tm_lex.proofs.comment.comment.Goals as goal
 
 pub returns-in-47 : goal.returns-in-47

@@ -1,5 +1,5 @@
-use Rattle.tm_lex.proofs.Once.{one_token_list, one_text_fault, no_fault}
-use Rattle.tm_lex.proofs.Total.{has_answer}
+use Rattle.tm_lex.proofs.reading.Once.{one_token_list, one_text_fault, no_fault}
+use Rattle.tm_lex.proofs.reading.Total.{has_answer}
 use Rattle.tm_lex.proofs.laws.one_reading.Goals as goal
 
 pub returns : goal.returns

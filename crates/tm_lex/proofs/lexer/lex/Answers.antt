@@ -1,4 +1,4 @@
-use Rattle.tm_lex.proofs.Exactly.{reading_answered, fault_answered, tokens_placed}
+use Rattle.tm_lex.proofs.lexer.Exact.{reading_answered, fault_answered, tokens_placed}
 use Rattle.tm_lex.proofs.lexer.lex.Goals as goal
 
 pub returns-clause-reads : goal.returns-clause-reads

@@ -1,6 +1,6 @@
 use Rattle.std.proofs.Common.{◌≡◌, ◌++◌, sym}
 use Rattle.std.proofs.lemmas.List.{append-nil}
-use Rattle.tm_lex.proofs.Readings.{found_tokens, reads_step, found_fits}
+use Rattle.tm_lex.proofs.reading.Growth.{found_tokens, reads_step, found_fits}
 use Rattle.tm_lex.proofs.lexer.scan.Goals as goal
 use Rattle.tm_lex.proofs.lexer.scan.Goals.{in-Some+in_ok-push, in_default}
 

@@ -1,6 +1,6 @@
 use Rattle.std.proofs.Common.{arith, ◌≤◌, ◌+◌, take}
 use Rattle.std.specs.Str.Parse.{digits_value}
-use Rattle.tm_lex.proofs.Digits.{value_more, value_front}
+use Rattle.tm_lex.proofs.number.Digits.{value_more, value_front}
 use Rattle.tm_lex.proofs.number.literal_value.Goals as goal
 
 pub returns-then-value-digit : goal.returns-then-value-digit

@@ -7,9 +7,9 @@ use Rattle.tm_lex.specs.Reading.{starts_with_letter}
 use Rattle.tm_lex.specs.Faults.{is_bad}
 use Rattle.tm_lex.specs.declared.token.Kind.TheVariants as kind
 use Rattle.tm_lex.specs.Bytes.{is_digit}
-use Rattle.tm_lex.proofs.Runs.{all_run}
-use Rattle.tm_lex.proofs.Signed.{value_back}
-use Rattle.tm_lex.proofs.Standing.{numeral_front, bad_number, long_number, token_stands}
+use Rattle.tm_lex.proofs.words.Runs.{all_run}
+use Rattle.tm_lex.proofs.number.Values.{value_back}
+use Rattle.tm_lex.proofs.reading.Standing.{numeral_front, bad_number, long_number, token_stands}
 use Rattle.tm_lex.proofs.number.number.Goals as goal
 use Rattle.tm_lex.proofs.number.number.Goals.{then-is_padded-via-then-is_padded, then-is_padded-via-else-is_padded+then-starts_with_letter}
 

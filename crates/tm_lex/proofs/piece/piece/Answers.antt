@@ -1,5 +1,5 @@
 use Rattle.std.proofs.Common.{sym, ◌∙◌}
-use Rattle.tm_lex.proofs.Standing.{blank_stands}
+use Rattle.tm_lex.proofs.reading.Standing.{blank_stands}
 use Rattle.tm_lex.proofs.piece.piece.Goals as goal
 
 pub returns-then-is_blank : goal.returns-then-is_blank

@@ -1,5 +1,5 @@
 use Rattle.std.proofs.Common.{◌≡◌, refl, ◌∙◌}
-use Rattle.tm_lex.proofs.SignsAt.{second_of, second_read, sign_stands, nothing_stands}
+use Rattle.tm_lex.proofs.signs.Longest.{second_of, second_read, sign_stands, nothing_stands}
 use Rattle.tm_lex.proofs.signs.sign.Goals as goal
 
 pub returns-in-Some : goal.returns-in-Some

@@ -1,6 +1,6 @@
 use Rattle.std.proofs.Common.{refl}
 use Rattle.tm_lex.specs.declared.token.Kind.TheVariants as kind
-use Rattle.tm_lex.proofs.Standing.{word_front, long_name, token_stands}
+use Rattle.tm_lex.proofs.reading.Standing.{word_front, long_name, token_stands}
 use Rattle.tm_lex.proofs.words.word.Goals as goal
 
 pub returns-then-len-gt-LONGEST_WORD : goal.returns-then-len-gt-LONGEST_WORD

@@ -1,12 +1,12 @@
 use Rattle.std.proofs.Common.{◌∙◌, ◌<◌, ◌++◌, ◌∷◌, [], List, length, get_or, map, ap, ap₂, sym, arith}
 use Rattle.std.proofs.lemmas.List.{map_push, get_or-map, length-map}
 use Rattle.tm_num.specs.Rational.{ℚ}
-use Rattle.tm_point.specs.Limits.{Limit}
-use Rattle.tm_point.specs.EdgeProblems.{guard_limits}
-use Rattle.tm_oper.specs.declared.affine.Affine.{Affine}
-use Rattle.tm_oper.specs.Composed.{dense}
+use Rattle.tm_transformers.specs.Limits.{Limit}
+use Rattle.tm_transformers.specs.EdgeProblems.{guard_limits}
+use Rattle.tm_compose.specs.declared.affine.Affine.{Affine}
+use Rattle.tm_compose.specs.Composed.{dense}
 use Rattle.tm_oper.specs.Splits.{pairs, split_limit, limit_of}
-use Rattle.tm_oper.specs.ComposedLaws.{form_of}
+use Rattle.tm_compose.specs.ComposedLaws.{form_of}
 use Rattle.tm_oper.proofs.Sources.{guards_more, guards_none}
 use Rattle.tm_oper.proofs.build.guard_rows.Goals as goal
 

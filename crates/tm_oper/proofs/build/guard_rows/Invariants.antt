@@ -1,7 +1,7 @@
 use Rattle.std.proofs.Common.{◌≡◌, ◌++◌, ℕ, List, map, drop}
-use Rattle.tm_steps.specs.Words.{Affine as Form}
-use Rattle.tm_point.specs.EdgeProblems.{guard_limits}
-use Rattle.tm_oper.specs.Composed.{dense}
+use Rattle.tm_validity.specs.Words.{Affine as Form}
+use Rattle.tm_transformers.specs.EdgeProblems.{guard_limits}
+use Rattle.tm_compose.specs.Composed.{dense}
 use Rattle.tm_oper.specs.Splits.{split_limit, limit_of}
 use Rattle.tm_oper.proofs.build.guard_rows.Given as goal
 

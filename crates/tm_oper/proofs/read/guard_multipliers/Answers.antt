@@ -1,6 +1,6 @@
 use Rattle.std.proofs.Common.{◌+◌}
 use Rattle.tm_lp.specs.Listed.{at}
-use Rattle.tm_oper.proofs.Ranges.{range_push}
+use Rattle.tm_compose.proofs.Ranges.{range_push}
 use Rattle.tm_oper.proofs.read.guard_multipliers.Goals as goal
 
 pub loop-guard-preserved : goal.loop-guard-preserved

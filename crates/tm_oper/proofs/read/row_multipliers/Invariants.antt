@@ -1,6 +1,6 @@
 use Rattle.std.proofs.Common.{◌≡◌, ◌≤◌, ◌+◌, ◌++◌, List, ℤ, length, drop}
 use Rattle.tm_lp.specs.Listed.{at}
-use Rattle.tm_point.specs.Spread.{spread}
+use Rattle.tm_transformers.specs.Spread.{spread}
 use Rattle.tm_oper.specs.Splits.{bounds_at}
 use Rattle.tm_oper.proofs.Sources.{later}
 use Rattle.tm_oper.proofs.read.row_multipliers.Given as goal

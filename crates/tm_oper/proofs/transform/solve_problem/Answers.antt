@@ -7,7 +7,7 @@ use Rattle.tm_dict.specs.Exact.{exact}
 use Rattle.tm_oper.specs.Splits.{bounds_at}
 use Rattle.tm_oper.specs.Values.{reading_operations}
 use Rattle.tm_oper.specs.Readings.{listed_outcome}
-use Rattle.tm_oper.specs.Faults.{IsFormFault}
+use Rattle.tm_compose.specs.Faults.{IsFormFault}
 use Rattle.tm_oper.proofs.Outcomes.{reads_same, operations_same}
 use Rattle.tm_oper.proofs.transform.solve_problem.Goals as goal
 

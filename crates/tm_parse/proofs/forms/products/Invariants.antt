@@ -1,7 +1,7 @@
 use Rattle.std.proofs.Common.{◌≡◌, drop}
 use Rattle.tm_parse.specs.Forms.{products}
 use Rattle.tm_parse.specs.Walk.{ranged_numbers}
-use Rattle.tm_parse.proofs.Ranges.{with_rest}
+use Rattle.tm_parse.proofs.forms.Ranges.{with_rest}
 use Rattle.tm_parse.proofs.forms.products.Given as goal
 
 abbrev pub invariant-loop-i : goal.invariant-loop-i

@@ -1,4 +1,4 @@
-use Rattle.tm_parse.proofs.Ranges.{set_fits}
+use Rattle.tm_parse.proofs.forms.Ranges.{set_fits}
 use Rattle.tm_parse.proofs.forms.set_one.Goals as goal
 
 pub returns-then-place-list-clause-numbers : goal.returns-then-place-list-clause-numbers

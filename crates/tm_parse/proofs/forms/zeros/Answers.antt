@@ -1,6 +1,6 @@
 use Rattle.std.proofs.Common.{rules, sym, subst, IsTrue, List, ℤ, ◌≡◌, replicate, pos}
 use Rattle.tm_tree.specs.Numbers.{are_numbers}
-use Rattle.tm_parse.proofs.Ranges.{zeros_fit}
+use Rattle.tm_parse.proofs.forms.Ranges.{zeros_fit}
 use Rattle.tm_parse.proofs.forms.zeros.Goals as goal
 
 pub returns-clause-numbers : goal.returns-clause-numbers

@@ -1,6 +1,6 @@
 use Rattle.std.proofs.Common.{ap, ◌∙◌}
 use Rattle.tm_tree.specs.View.{statements_of}
-use Rattle.tm_parse.proofs.Appended.{statements_append}
+use Rattle.tm_parse.proofs.walk.Appended.{statements_append}
 use Rattle.tm_parse.proofs.frame.followed.Goals as goal
 
 pub returns : goal.returns

@@ -1,4 +1,4 @@
-use Rattle.tm_parse.proofs.Exactly.{means_once}
+use Rattle.tm_parse.proofs.meaning.OneMeaning.{means_once}
 use Rattle.tm_parse.proofs.laws.one_meaning.Goals as goal
 
 pub returns : goal.returns

@@ -1,20 +1,28 @@
 use Rattle.tm_gram.specs.View.{tokens_of}
 use Rattle.tm_lex.specs.Lines.{line_at}
 use Rattle.tm_parse.specs.Feed.{reading}
-use Rattle.tm_parse.proofs.Binds.{handed_on}
+use Rattle.tm_parse.proofs.results.Binds.{handed_on}
 use Rattle.std.proofs.Common.{Err, refl}
-use Rattle.tm_parse.proofs.Proper.{all_proper}
-use Rattle.tm_parse.proofs.Whole.{ends_well}
-use Rattle.tm_parse.proofs.Meant.{given_fits, read_means, read_width, some_meaning, meant_value, meant_fault}
+use Rattle.tm_parse.proofs.modes.Proper.{all_proper}
+use Rattle.tm_parse.proofs.meaning.WholeTexts.{ends_well}
+use Rattle.tm_parse.proofs.meaning.Answers.{given_fits, read_means, read_width, some_meaning, meant_value, meant_fault}
 use Rattle.tm_parse.proofs.parser.parse.Goals as goal
 
 pub returns-in_err-first_pass-clause-exact : goal.returns-in_err-first_pass-clause-exact
-returns-in_err-first_pass-clause-exact c = λ w m. handed_on _ _ c.in_err-first_pass.field-0.0 w c.from_residual.ensures.1 (λ n. meant_fault c.args.text.now (tokens_of c.args.text.now c.args.tokens.now) w (Err c.in_err-first_pass.field-0.0) c.in_err-first_pass.field-0.0 m (c.in_err-first_pass.ensures.fault n) refl)
+returns-in_err-first_pass-clause-exact c =
+    λ w m. handed_on _ _ c.in_err-first_pass.field-0.0 w c.from_residual.ensures.1
+    (λ n. meant_fault c.args.text.now (tokens_of c.args.text.now c.args.tokens.now) w (Err c.in_err-first_pass.field-0.0)
+    c.in_err-first_pass.field-0.0 m (c.in_err-first_pass.ensures.fault n) refl)
 
 pub returns-in_err-first_pass-clause-found : goal.returns-in_err-first_pass-clause-found
 returns-in_err-first_pass-clause-found c =
-    let s = some_meaning c.args.text.now (tokens_of c.args.text.now c.args.tokens.now) (ends_well c.args.text.now c.args.tokens.now c.requires.tokens) in
-    (s.0, s.1, handed_on _ _ c.in_err-first_pass.field-0.0 s.0 c.from_residual.ensures.1 (λ n. meant_fault c.args.text.now (tokens_of c.args.text.now c.args.tokens.now) s.0 (Err c.in_err-first_pass.field-0.0) c.in_err-first_pass.field-0.0 s.1 (c.in_err-first_pass.ensures.fault n) refl))
+    let s = some_meaning c.args.text.now (tokens_of c.args.text.now c.args.tokens.now) (ends_well c.args.text.now c.args.tokens.now c.requires.tokens) in (
+      s.0,
+      s.1,
+      handed_on _ _ c.in_err-first_pass.field-0.0 s.0 c.from_residual.ensures.1
+          (λ n. meant_fault c.args.text.now (tokens_of c.args.text.now c.args.tokens.now) s.0 (Err c.in_err-first_pass.field-0.0)
+          c.in_err-first_pass.field-0.0 s.1 (c.in_err-first_pass.ensures.fault n) refl),
+    )
 
 pub walked-requires-clause-proper : goal.walked-requires-clause-proper
 walked-requires-clause-proper c = all_proper c.args.text.now c.args.tokens.now c.requires.tokens
@@ -23,24 +31,36 @@ pub returns-in_err-names-clause-exact : goal.returns-in_err-names-clause-exact
 returns-in_err-names-clause-exact c =
     let r = c.in_ok-first_pass.ensures.read in
     let m = read_means c.args.text.now (tokens_of c.args.text.now c.args.tokens.now) c.width.result r (read_width c.args.text.now c.args.tokens.now c.width.result r c.width.ensures) in
-    λ w i. handed_on _ _ c.in_err-names.field-0.0 w c.from_residual-in_err-names.ensures.1 (λ n. meant_fault c.args.text.now (tokens_of c.args.text.now c.args.tokens.now) w (reading (line_at c.args.text.now) c.width.result (tokens_of c.args.text.now c.args.tokens.now)) c.in_err-names.field-0.0 i m (c.in_err-names.ensures n))
+    λ w i. handed_on _ _ c.in_err-names.field-0.0 w c.from_residual-in_err-names.ensures.1
+    (λ n. meant_fault c.args.text.now (tokens_of c.args.text.now c.args.tokens.now) w
+    (reading (line_at c.args.text.now) c.width.result (tokens_of c.args.text.now c.args.tokens.now)) c.in_err-names.field-0.0 i m
+    (c.in_err-names.ensures n))
 
 pub returns-in_err-names-clause-found : goal.returns-in_err-names-clause-found
 returns-in_err-names-clause-found c =
     let r = c.in_ok-first_pass.ensures.read in
-    let m = read_means c.args.text.now (tokens_of c.args.text.now c.args.tokens.now) c.width.result r (read_width c.args.text.now c.args.tokens.now c.width.result r c.width.ensures) in
-    (reading (line_at c.args.text.now) c.width.result (tokens_of c.args.text.now c.args.tokens.now), m, handed_on _ _ c.in_err-names.field-0.0 _ c.from_residual-in_err-names.ensures.1 c.in_err-names.ensures)
+    let m = read_means c.args.text.now (tokens_of c.args.text.now c.args.tokens.now) c.width.result r (read_width c.args.text.now c.args.tokens.now c.width.result r c.width.ensures) in (
+      reading (line_at c.args.text.now) c.width.result (tokens_of c.args.text.now c.args.tokens.now),
+      m,
+      handed_on _ _ c.in_err-names.field-0.0 _
+          c.from_residual-in_err-names.ensures.1 c.in_err-names.ensures,
+    )
 
 pub invariant_of-result : goal.invariant_of-result
 invariant_of-result c =
     let r = c.in_ok-first_pass.ensures.read in
-    record { within_limits = given_fits (line_at c.args.text.now) (tokens_of c.args.text.now c.args.tokens.now) c.width.result r (c.in_ok-names.names, c.in_ok-names.body) (read_width c.args.text.now c.args.tokens.now c.width.result r c.width.ensures) c.in_ok-names.ensures }
+    record {
+      within_limits = given_fits (line_at c.args.text.now) (tokens_of c.args.text.now c.args.tokens.now) c.width.result r
+          (c.in_ok-names.names, c.in_ok-names.body) (read_width c.args.text.now c.args.tokens.now c.width.result r c.width.ensures) c.in_ok-names.ensures;
+    }
 
 pub returns-clause-exact : goal.returns-clause-exact
 returns-clause-exact c =
     let r = c.in_ok-first_pass.ensures.read in
     let m = read_means c.args.text.now (tokens_of c.args.text.now c.args.tokens.now) c.width.result r (read_width c.args.text.now c.args.tokens.now c.width.result r c.width.ensures) in
-    λ w i. meant_value c.args.text.now (tokens_of c.args.text.now c.args.tokens.now) w (reading (line_at c.args.text.now) c.width.result (tokens_of c.args.text.now c.args.tokens.now)) (c.in_ok-names.names, c.in_ok-names.body) i m c.in_ok-names.ensures
+    λ w i. meant_value c.args.text.now (tokens_of c.args.text.now c.args.tokens.now) w
+    (reading (line_at c.args.text.now) c.width.result (tokens_of c.args.text.now c.args.tokens.now)) (c.in_ok-names.names, c.in_ok-names.body) i
+    m c.in_ok-names.ensures
 
 pub returns-clause-found : goal.returns-clause-found
 returns-clause-found c =

@@ -1,4 +1,4 @@
-use Rattle.tm_parse.proofs.Proper.{proper_at}
+use Rattle.tm_parse.proofs.modes.Proper.{proper_at}
 use Rattle.tm_parse.proofs.pass.fed.Goals as goal
 
 pub read_token-lexeme-requires : goal.read_token-lexeme-requires

@@ -8,4 +8,5 @@ use Rattle.tm_parse.specs.Views.{state_of}
 use Rattle.tm_parse.proofs.pass.fed.Given as goal
 
 abbrev pub invariant-loop-token : goal.invariant-loop-token
-invariant-loop-token l = feed (line_at l.text) l.width (tokens_of l.text l.tokens) (at (state_of l.fn.context) (frames_of l.fn.frames.items) heading) ≡ feed (line_at l.text) l.width (tokens_of l.text (drop l.token-index l.tokens)) (at (state_of l.context) (frames_of l.frames.items) (mode_of l.mode))
+invariant-loop-token l = feed (line_at l.text) l.width (tokens_of l.text l.tokens) (at (state_of l.fn.context) (frames_of l.fn.frames.items) heading)
+    ≡ feed (line_at l.text) l.width (tokens_of l.text (drop l.token-index l.tokens)) (at (state_of l.context) (frames_of l.frames.items) (mode_of l.mode))

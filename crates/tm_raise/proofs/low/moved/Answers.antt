@@ -3,8 +3,8 @@ use Rattle.std.proofs.lemmas.Result.{err_from_is_err_and}
 use Rattle.tm_frac.specs.Fits.{long_limit}
 use Rattle.tm_frac.specs.Operation.{first_wide}
 use Rattle.tm_eqsys.proofs.Widths.{first_wide_later}
-use Rattle.tm_steps.specs.Words.{moved as moved_by}
-use Rattle.tm_steps.specs.Steps.{Pieces}
+use Rattle.tm_validity.specs.Words.{moved as moved_by}
+use Rattle.tm_validity.specs.Steps.{Pieces}
 use Rattle.tm_raise.specs.Numbers.{entries_operations}
 use Rattle.tm_raise.specs.Lows.{IsRaiseFault}
 use Rattle.tm_raise.proofs.Faults.{sooner, later}

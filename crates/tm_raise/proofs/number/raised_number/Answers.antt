@@ -3,7 +3,7 @@ use Rattle.tm_num.specs.Rational.{◌-ℚ◌}
 use Rattle.tm_frac.specs.declared.wide.Op.TheVariants.{Sub}
 use Rattle.tm_eqsys.specs.Sums.{SumAnswers}
 use Rattle.tm_eqsys.proofs.Widths.{one_answer}
-use Rattle.tm_round.specs.Growth.{raised_to}
+use Rattle.tm_strategy.specs.Growth.{raised_to}
 use Rattle.tm_raise.specs.Numbers.{number_operations}
 use Rattle.tm_raise.proofs.number.raised_number.Goals as goal
 

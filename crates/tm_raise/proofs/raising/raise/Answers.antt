@@ -3,7 +3,7 @@ use Rattle.tm_frac.specs.Extended.{extended}
 use Rattle.tm_eqsys.specs.View.{equations_of}
 use Rattle.tm_cert.specs.declared.step.Step.{Step}
 use Rattle.tm_cert.specs.Certificates.{step_of}
-use Rattle.tm_oper.specs.declared.value.Value.TheVariants.{Best}
+use Rattle.tm_compose.specs.declared.value.Value.TheVariants.{Best}
 use Rattle.tm_raise.specs.Raises.{choice_of, raised, raise_operations}
 use Rattle.tm_raise.proofs.Faults.{of_ok, none_wide, of_fault}
 use Rattle.tm_raise.proofs.raising.raise.Goals as goal

@@ -3,7 +3,7 @@ use Rattle.std.proofs.lemmas.Result.{err_from_is_err_and}
 use Rattle.tm_num.proofs.Laws.{ne_of_lt_ℚ}
 use Rattle.tm_frac.specs.Extended.{extended}
 use Rattle.tm_eqsys.specs.View.{equations_of}
-use Rattle.tm_steps.specs.Steps.{edge_of, row_of}
+use Rattle.tm_validity.specs.Steps.{edge_of, row_of}
 use Rattle.tm_cert.specs.Certificates.{pieces_of}
 use Rattle.tm_raise.specs.declared.fault.RaiseFault.TheVariants.{Wide}
 use Rattle.tm_raise.specs.Raises.{choice_of}

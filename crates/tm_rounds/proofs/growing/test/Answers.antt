@@ -1,6 +1,6 @@
 use Rattle.std.proofs.Common.{◌∙◌, ◌<◌, length, refl, sym, arith}
 use Rattle.std.proofs.lemmas.Result.{IfOk-weaker, IfErr-weaker}
-use Rattle.tm_rounds.specs.AtBounds.{vector_at}
+use Rattle.tm_offers.specs.AtBounds.{vector_at}
 use Rattle.tm_rounds.proofs.Kept.{mark_is}
 use Rattle.tm_rounds.proofs.Quiet.{quiet_passed}
 use Rattle.tm_rounds.proofs.Walked.{left_marked, left_unpicked, passed_none, test_passed, test_stop, others_stay}

@@ -4,12 +4,12 @@ use Rattle.tm_num.specs.Extended.{◌<ᴱ◌}
 use Rattle.tm_frac.specs.Extended.{extended}
 use Rattle.std.proofs.lemmas.Result.{err_from_is_err_and}
 use Rattle.tm_eqsys.specs.View.{equations_of}
-use Rattle.tm_oper.specs.Meanings.{number_of}
+use Rattle.tm_compose.specs.Value.{number_of}
 use Rattle.tm_rounds.specs.Growing.{IsValueAt, IsValueStop, IsStepStop, NamesOne, bound_given, tested}
 use Rattle.tm_raise.specs.Raises.{raise_operations}
 use Rattle.tm_rounds.proofs.Kept.{kept_more, few_steps, system_size}
 use Rattle.tm_rounds.proofs.Tested.{stays_within, raised_names, has_item, stays, go_is, value_stop, step_stop, value_sizes, value_rises}
-use Rattle.tm_rounds.specs.AtBounds.{vector_at, edge_at}
+use Rattle.tm_offers.specs.AtBounds.{vector_at, edge_at}
 use Rattle.tm_rounds.proofs.Quiet.{quiet_more, quiet_raised}
 use Rattle.std.specs.Vec.{with_item, with_items}
 use Rattle.std.proofs.lemmas.List.{with_items_is}

@@ -1,6 +1,6 @@
 use Rattle.std.proofs.Common.{◌≡◌, ℕ, ◌<◌, true, false, get_or}
 use Rattle.std.specs.Prelude.{Some, None}
-use Rattle.tm_rounds.specs.AtBounds.{edge_at}
+use Rattle.tm_offers.specs.AtBounds.{edge_at}
 use Rattle.tm_rounds.proofs.growing.wake.Given as goal
 
 abbrev pub invariant-loop-unknown : goal.invariant-loop-unknown

@@ -1,8 +1,8 @@
 use Rattle.std.proofs.Common.{refl, arith}
 use Rattle.std.proofs.lemmas.Result.{err_from_is_err_and}
-use Rattle.tm_rounds.specs.AtBounds.{vector_at}
+use Rattle.tm_offers.specs.AtBounds.{vector_at}
 use Rattle.tm_rounds.specs.Growing.{steps_so_far}
-use Rattle.tm_steps.specs.Certificates.{led}
+use Rattle.tm_validity.specs.Certificates.{led}
 use Rattle.tm_rounds.proofs.Kept.{few_steps}
 use Rattle.tm_rounds.proofs.GrownTo.{growing_start, next_told, next_ended, more_steps, pass_stop}
 use Rattle.tm_rounds.proofs.growth.passes.Goals as goal

@@ -1,6 +1,6 @@
 use Rattle.std.proofs.Common.{◌≡◌, ◌≤◌, Bor}
 use Rattle.tm_rounds.specs.contracts.solving.least.fn-1 as pointer
-use Rattle.tm_rounds.specs.Known.{AreKnown}
+use Rattle.tm_offers.specs.Known.{AreKnown}
 use Rattle.tm_rounds.specs.Solving.{IsAfter}
 use Rattle.tm_rounds.proofs.solving.least.Given as goal
 

@@ -1,9 +1,9 @@
 use Rattle.std.proofs.Common.{◌≡◌, ◌∙◌, ◌<◌, ℕ, List, map, get_or, length, ap, sym, subst}
+use Rattle.tm_base.specs.Elements.{In}
 use Rattle.tm_num.specs.Rational.{zero_ℚ}
 use Rattle.tm_num.specs.Extended.{pos_inf}
 use Rattle.tm_ray.specs.declared.rate.RateOf.{RateOf}
 use Rattle.tm_ray.specs.declared.rate.Rates.{Rates}
-use Rattle.tm_steps.specs.Steps.{In}
 use Rattle.tm_joint.specs.declared.joined.Joined.TheVariants.{Ray}
 use Rattle.tm_rounds.specs.Lows.{no_trace, IsRaised}
 use Rattle.tm_rounds.specs.Turning.{HasSizes}

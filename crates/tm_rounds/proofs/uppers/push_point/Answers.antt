@@ -3,7 +3,7 @@ use Rattle.std.proofs.lemmas.List.{append_assoc}
 use Rattle.tm_num.specs.Extended.{neg_inf}
 use Rattle.tm_eqsys.specs.View.{equations_of}
 use Rattle.tm_cert.specs.Certificates.{evidence_of}
-use Rattle.tm_rounds.specs.AtBounds.{vector_at}
+use Rattle.tm_offers.specs.AtBounds.{vector_at}
 use Rattle.tm_rounds.specs.Uppers.{is_top, uppers_of_rows, uppers_into}
 use Rattle.tm_rounds.proofs.UpperLists.{rows_top, rows_edges}
 use Rattle.tm_rounds.proofs.uppers.push_point.Goals as goal

@@ -1,8 +1,7 @@
-use Rattle.std.proofs.Common.{◌∙◌, [], refl, subst}
-use Rattle.std.proofs.lemmas.Option.{slice_get-get_or}
+use Rattle.std.proofs.Common.{◌∙◌, refl, subst}
 use Rattle.tm_eqsys.specs.View.{equations_of}
 use Rattle.tm_oper.specs.Values.{IsOperatorFault}
-use Rattle.tm_rounds.specs.AtBounds.{vector_at, edge_at, row_at}
+use Rattle.tm_offers.specs.AtBounds.{vector_at, edge_at, row_at}
 use Rattle.tm_rounds.proofs.UpperRead.{upper_is}
 use Rattle.tm_rounds.proofs.uppers.shown.Goals as goal
 
@@ -11,7 +10,7 @@ returns-in-Ok-clause-upper c =
     let system = c.args.system.now in
     c.upper.ensures
     ∙ upper_is (equations_of system) (vector_at system c.args.bounds.now) (edge_at system c.args.edge) (row_at system c.args.row) _
-    (c.in-Ok.ensures.value (edge_at system c.args.edge) (row_at system c.args.row) (slice_get-get_or system.flow.edges c.args.edge _ c.requires.edge) (slice_get-get_or system.template c.args.row [] c.requires.row))
+    c.in-Ok.ensures.value
 
 pub returns-in-Err-Wide-clause-stop : goal.returns-in-Err-Wide-clause-stop
 returns-in-Err-Wide-clause-stop c =
@@ -25,5 +24,5 @@ returns-in-Err-Wide-clause-stop c =
       part = c.in-Err-Wide.part;
       site = refl;
       wide = subst (IsOperatorFault (equations_of system) (vector_at system c.args.bounds.now) (edge_at system c.args.edge) (row_at system c.args.row)) c.in-Err-Wide.field-0-is
-          (c.in-Err-Wide.ensures.refused (edge_at system c.args.edge) (row_at system c.args.row) (slice_get-get_or system.flow.edges c.args.edge _ c.requires.edge) (slice_get-get_or system.template c.args.row [] c.requires.row));
+          c.in-Err-Wide.ensures.refused;
     }

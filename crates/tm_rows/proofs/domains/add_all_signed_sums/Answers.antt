@@ -1,5 +1,5 @@
 use Rattle.std.proofs.Common.{append-nil, [], ap, ◌∙◌, sym, refl}
-use Rattle.tm_rows.proofs.RowLists.{parts_more, signed_sums_none}
+use Rattle.tm_rows.proofs.domains.Rows.{parts_more, signed_sums_none}
 use Rattle.tm_rows.specs.Domains.{signed_sums}
 use Rattle.tm_rows.proofs.domains.add_all_signed_sums.Goals.{then-first-second+in_ok-add_signed_sums, else-first-second}
 use Rattle.tm_rows.proofs.domains.add_all_signed_sums.Goals as goal

@@ -1,5 +1,5 @@
 use Rattle.std.proofs.Common.{append-nil, [], ◌∷◌, ap, ◌∙◌, sym}
-use Rattle.tm_rows.proofs.RowLists.{parts_more, difference_none, difference_one}
+use Rattle.tm_rows.proofs.domains.Rows.{parts_more, difference_none, difference_one}
 use Rattle.tm_rows.specs.Domains.{difference}
 use Rattle.tm_rows.proofs.domains.add_differences.Goals.{then-first-second+in_ok-combination+in_ok-push, else-first-second}
 use Rattle.tm_rows.proofs.domains.add_differences.Goals as goal

@@ -1,5 +1,5 @@
 use Rattle.std.proofs.Common.{rules, []}
-use Rattle.tm_rows.proofs.RowLists.{parts_more, two_pushes}
+use Rattle.tm_rows.proofs.domains.Rows.{parts_more, two_pushes}
 use Rattle.tm_rows.specs.Domains.{both_signs}
 use Rattle.tm_rows.proofs.domains.interval_rows.Goals as goal
 

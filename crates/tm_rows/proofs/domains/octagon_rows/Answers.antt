@@ -1,7 +1,7 @@
 use Rattle.std.proofs.Common.{refl}
 use Rattle.std.specs.List.{range_with_len, flat_map}
 use Rattle.tm_rows.specs.Domains.{signed_sums}
-use Rattle.tm_rows.proofs.RowLists.{parts_more}
+use Rattle.tm_rows.proofs.domains.Rows.{parts_more}
 use Rattle.tm_rows.proofs.domains.octagon_rows.Goals as goal
 
 pub loop-first-preserved : goal.loop-first-preserved

@@ -1,6 +1,6 @@
 use Rattle.std.proofs.Common.{length, ap, ◌∙◌}
 use Rattle.tm_rows.specs.Rows.{width_of}
-use Rattle.tm_rows.proofs.RowLists.{octagons_counted}
+use Rattle.tm_rows.proofs.domains.Rows.{octagons_counted}
 use Rattle.tm_rows.proofs.domains.octagons.Goals as goal
 
 pub new-requires : goal.new-requires

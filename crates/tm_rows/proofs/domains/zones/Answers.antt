@@ -1,6 +1,6 @@
 use Rattle.std.proofs.Common.{length, ap, ◌∙◌}
 use Rattle.tm_rows.specs.Rows.{width_of}
-use Rattle.tm_rows.proofs.RowLists.{zones_counted}
+use Rattle.tm_rows.proofs.domains.Rows.{zones_counted}
 use Rattle.tm_rows.proofs.domains.zones.Goals as goal
 
 pub new-requires : goal.new-requires

@@ -4,9 +4,9 @@ use Rattle.tm_rows.specs.declared.fault.RowFault.TheVariants.{Count}
 use Rattle.tm_rows.specs.Rows.{width_of}
 use Rattle.tm_rows.specs.RowFaults.{count_faults}
 use Rattle.tm_rows.specs.RowFiles.{lines_of, LinesRead, HasFault, a_template, a_count, a_fault}
-use Rattle.tm_rows.proofs.FileSteps.{pieces}
-use Rattle.tm_rows.proofs.FileRows.{pieces_short, pieces_few, rows_over, count_is}
-use Rattle.tm_rows.proofs.SoundRows.{template_from, count_within}
+use Rattle.tm_rows.proofs.file.Steps.{pieces}
+use Rattle.tm_rows.proofs.file.Rows.{pieces_short, pieces_few, rows_over, count_is}
+use Rattle.tm_rows.proofs.given.Sound.{template_from, count_within}
 use Rattle.tm_rows.proofs.file.answer.Goals as goal
 
 pub rows_of-requires-clause-few : goal.rows_of-requires-clause-few

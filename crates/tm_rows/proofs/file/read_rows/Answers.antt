@@ -1,4 +1,4 @@
-use Rattle.tm_rows.proofs.OneAnswer.{gives_one}
+use Rattle.tm_rows.proofs.row_files.OneAnswer.{gives_one}
 use Rattle.tm_rows.proofs.file.read_rows.Goals as goal
 
 pub returns-clause-exact : goal.returns-clause-exact

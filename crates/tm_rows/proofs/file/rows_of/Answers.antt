@@ -1,5 +1,5 @@
 use Rattle.std.proofs.lemmas.Result.{err_from_is_err_and}
-use Rattle.tm_rows.proofs.FileSteps.{line_read, read_few, line_fault}
+use Rattle.tm_rows.proofs.file.Steps.{line_read, read_few, line_fault}
 use Rattle.tm_rows.proofs.file.rows_of.Goals as goal
 
 pub returns-in_err-read-clause-refused : goal.returns-in_err-read-clause-refused

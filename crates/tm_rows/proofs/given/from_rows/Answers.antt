@@ -1,5 +1,5 @@
 use Rattle.std.proofs.Common.{sym}
-use Rattle.tm_rows.proofs.SoundRows.{none_first, template_of_sound}
+use Rattle.tm_rows.proofs.given.Sound.{none_first, template_of_sound}
 use Rattle.tm_rows.proofs.given.from_rows.Goals as goal
 
 pub new-requires : goal.new-requires

@@ -1,5 +1,5 @@
-use Rattle.tm_rows.proofs.LineSteps.{one_terms}
-use Rattle.tm_rows.proofs.OneAnswer.{one_answer}
+use Rattle.tm_rows.proofs.line.Steps.{one_terms}
+use Rattle.tm_rows.proofs.row_files.OneAnswer.{one_answer}
 use Rattle.tm_rows.proofs.law.one_reading.Goals as goal
 
 pub returns : goal.returns

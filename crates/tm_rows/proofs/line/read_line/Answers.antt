@@ -1,5 +1,5 @@
 use Rattle.std.proofs.Common.{sym, ◌∙◌, refl}
-use Rattle.tm_rows.proofs.ReadSteps.{bad_none, bad_range, told_of, unknown_of, known_of, known_numbers, zero_of, row_of_line}
+use Rattle.tm_rows.proofs.line.Lines.{bad_none, bad_range, told_of, unknown_of, known_of, known_numbers, zero_of, row_of_line}
 use Rattle.tm_rows.proofs.line.read_line.Goals as goal
 
 pub returns-in_default-clause-refused : goal.returns-in_default-clause-refused

@@ -1,5 +1,5 @@
 use Rattle.std.proofs.Common.{sym, ◌∙◌}
-use Rattle.tm_rows.proofs.LineSteps.{terms_told, untold_is_none}
+use Rattle.tm_rows.proofs.line.Steps.{terms_told, untold_is_none}
 use Rattle.tm_rows.proofs.line.terms_of.Goals as goal
 
 pub returns-in_ok-terms-in-Some : goal.returns-in_ok-terms-in-Some

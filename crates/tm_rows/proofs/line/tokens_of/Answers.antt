@@ -1,4 +1,4 @@
-use Rattle.tm_rows.proofs.LineSteps.{tokens_fit}
+use Rattle.tm_rows.proofs.line.Steps.{tokens_fit}
 use Rattle.tm_rows.proofs.line.tokens_of.Goals as goal
 
 pub returns-in-Ok : goal.returns-in-Ok

@@ -3,8 +3,8 @@ use Rattle.std.proofs.lemmas.Int.{to_z-of_z}
 use Rattle.std.proofs.lemmas.List.{get_or_read}
 use Rattle.tm_rows.specs.Kept.{sum_at}
 use Rattle.tm_rows.specs.Sums.{coefficient_by}
-use Rattle.tm_rows.proofs.RowLists.{terms_more}
-use Rattle.tm_rows.proofs.RowSteps.{coefficient_repeated, coefficient_first}
+use Rattle.tm_rows.proofs.domains.Rows.{terms_more}
+use Rattle.tm_rows.proofs.row.Steps.{coefficient_repeated, coefficient_first}
 use Rattle.tm_rows.proofs.row.row_of.Goals.{then-is_among, else-is_among}
 use Rattle.tm_rows.proofs.row.row_of.Goals as goal
 

@@ -2,7 +2,7 @@ use Rattle.std.proofs.Common.{◌≡◌, ap, ◌∙◌, ◌+ℤ◌, to_z, of_z, 
 use Rattle.std.proofs.lemmas.Int.{to_z-of_z}
 use Rattle.tm_tree.specs.Numbers.{is_number}
 use Rattle.tm_rows.specs.Kept.{sum_at}
-use Rattle.tm_rows.proofs.SumSteps.{term_added, number_fits}
+use Rattle.tm_rows.proofs.sums.Steps.{term_added, number_fits}
 use Rattle.tm_rows.proofs.sums.add.Goals as goal
 
 pub returns-in_ok-insert-in-Some-clause-sums : goal.returns-in_ok-insert-in-Some-clause-sums

@@ -1,4 +1,4 @@
-use Rattle.tm_rows.proofs.KeptSteps.{sums_more, kept_within_more, kept_leaves}
+use Rattle.tm_rows.proofs.kept.Steps.{sums_more, kept_within_more, kept_leaves}
 use Rattle.tm_rows.proofs.sums.sums.Goals as goal
 
 pub returns-then-not-branch : goal.returns-then-not-branch

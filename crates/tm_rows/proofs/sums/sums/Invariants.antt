@@ -1,6 +1,6 @@
 use Rattle.std.proofs.Common.{map, take}
 use Rattle.tm_rows.specs.Kept.{kept_amount, AddUp}
-use Rattle.tm_rows.proofs.SumSteps.{WithinUpTo}
+use Rattle.tm_rows.proofs.sums.Steps.{WithinUpTo}
 use Rattle.tm_rows.proofs.sums.sums.Given as goal
 
 abbrev pub invariant-loop-term : goal.invariant-loop-term

@@ -1,13 +1,12 @@
-use Rattle.std.proofs.Common.{◌+◌, ◌<◌, eqb, ◌⊎◌, inl, inr, length, drop, sym, subst, subst₂, arith}
+use Rattle.std.proofs.Common.{◌+◌, ◌<◌, ◌⊎◌, inl, inr, length, drop, refl, sym, subst, subst₂, arith}
 use Rattle.std.proofs.lemmas.List.{drop_all}
 use Rattle.std.proofs.lemmas.Result.{err_from_is_err_and}
-use Rattle.tm_dict.specs.Formulas.{added_operations}
 use Rattle.tm_dict.specs.PivotOperations.{added_row_operations}
-use Rattle.tm_sparse.specs.Entries.{value_at, HasNoZero, pushed}
-use Rattle.tm_sparse.specs.Rows.{merged}
+use Rattle.tm_sparse.specs.Entries.{value_at, HasNoZero, head_col, head_value, pushed}
+use Rattle.tm_sparse.specs.Merge.{next_col, next_operations}
 use Rattle.tm_sparse.proofs.Lists.{no_zero_pushed}
 use Rattle.tm_sparse.proofs.Gaps.{left_all}
-use Rattle.tm_sparse.proofs.Answering.{pushed_value, passed_fault, fault_of_more}
+use Rattle.tm_sparse.proofs.Answering.{fault_of_more}
 use Rattle.tm_sparse.proofs.Merging.{Merging, merging_none, merging_more, merging_refused, merging_end, next_of, taken_less}
 use Rattle.tm_sparse.proofs.merge.merge.Goals as goal
 use Rattle.tm_sparse.proofs.merge.merge.Goals.{then-i-entries, else-i-entries+then-j-above}
@@ -29,33 +28,30 @@ loop-i-init g c =
       );
     }
 
-pub returns-in_err-push_answer-clause-refused : goal.returns-in_err-push_answer-clause-refused
-returns-in_err-push_answer-clause-refused g c =
+pub returns-in_err-next-clause-refused : goal.returns-in_err-next-clause-refused
+returns-in_err-next-clause-refused g c =
     let m = g.F.OrderedField.meaning in
     let L = g.F.OrderedField.LIMIT in
     let es = c.args.entries.now in
     let bs = c.args.above.now in
     let i = c.loop-i.i in
     let j = c.loop-i.j in
-    let k = c.min-k.result in
     let f = m c.args.factor in
-    let x = m c.taken-entry.result.0 in
-    let y = m c.taken-sum.result.0 in
-    let q = m c.args.product in
+    let da = drop i es in
+    let db = drop j bs in
+    let k = next_col da db in
     let p = err_from_is_err_and c.from_residual.result c.from_residual.ensures.1 in
     let left : (i < length es) ⊎ (j < length bs) = elim c.if-i-entries.branch [
       | then-i-entries w ↦ inl w.if-i-entries.true
       | else-i-entries+then-j-above w ↦ inr w.if-j-above.true
     ] in
-    let b : c.col_from.result < 4294967296 = omega arith in
-    let d : c.col_from-in-loop-i.result < 4294967296 = omega arith in
-    let next = next_of es bs i j k c.col_from.result c.col_from-in-loop-i.result left c.col_from.ensures c.col_from-in-loop-i.ensures b d c.min-k.ensures in
+    let next = next_of es bs i j k (head_col da) (head_col db) left refl refl c.in_err-next.ensures.cols.0 c.in_err-next.ensures.cols.1 refl in
     rw (p.1, p.2)
     (λ n r s.
     let d = c.loop-i.invariant.merging n r s in
-    fault_of_more m L (added_operations x f y (eqb k c.args.col)) (added_row_operations n (value_at m es) f (value_at m bs) c.args.col) c.in_err-push_answer.field-0.0
-    (λ o w. merging_refused m L (value_at m es) (value_at m bs) f c.args.col n c.requires.factor d.0 k (drop i es) (drop j bs) c.loop-i.merged.items d.1 next x y c.taken-entry.ensures.value c.taken-sum.ensures.value o w)
-    (passed_fault m L (merged x f y q (eqb k c.args.col)) (added_operations x f y (eqb k c.args.col)) c.merged_of.result c.in_err-push_answer.field-0.0 c.merged_of.ensures c.in_err-push_answer.ensures.refused))
+    fault_of_more m L (next_operations m f c.args.col da db) (added_row_operations n (value_at m es) f (value_at m bs) c.args.col) c.in_err-next.field-0.0
+    (λ o w. merging_refused m L (value_at m es) (value_at m bs) f c.args.col n c.requires.factor d.0 k da db c.loop-i.merged.items d.1 next (head_value m da k) (head_value m db k) refl refl o w)
+    c.in_err-next.ensures.refused)
 
 pub loop-i-preserved : goal.loop-i-preserved
 loop-i-preserved g c =
@@ -65,31 +61,27 @@ loop-i-preserved g c =
     let bs = c.args.above.now in
     let i = c.loop-i.i in
     let j = c.loop-i.j in
-    let k = c.min-k.result in
     let f = m c.args.factor in
-    let x = m c.taken-entry.result.0 in
-    let y = m c.taken-sum.result.0 in
-    let q = m c.args.product in
+    let da = drop i es in
+    let db = drop j bs in
     let old = c.loop-i.merged.items in
-    let new = c.push_answer.new.entries.items in
+    let v = c.in_ok-next.ensures.merged in
+    let k = v.k in
     let left : (i < length es) ⊎ (j < length bs) = elim c.if-i-entries.branch [
       | then-i-entries w ↦ inl w.if-i-entries.true
       | else-i-entries+then-j-above w ↦ inr w.if-j-above.true
     ] in
-    let b : c.col_from.result < 4294967296 = omega arith in
-    let d : c.col_from-in-loop-i.result < 4294967296 = omega arith in
-    let next = next_of es bs i j k c.col_from.result c.col_from-in-loop-i.result left c.col_from.ensures c.col_from-in-loop-i.ensures b d c.min-k.ensures in
-    let v = pushed_value m L (merged x f y q (eqb k c.args.col)) (added_operations x f y (eqb k c.args.col)) old new k c.merged_of.result c.merged_of.ensures c.in_ok-push_answer.ensures.pushed in
+    let next = next_of es bs i j k (head_col da) (head_col db) left refl refl c.in_ok-next.ensures.cols.0 c.in_ok-next.ensures.cols.1 v.k_is in
     record {
-      place = c.taken-entry.ensures.within;
-      place_above = c.taken-sum.ensures.within;
-      no_zero = subst (HasNoZero m) (sym v.3) (no_zero_pushed m old k v.0 c.loop-i.invariant.no_zero);
+      place = c.in_ok-next.ensures.places.0;
+      place_above = c.in_ok-next.ensures.places.1;
+      no_zero = subst (HasNoZero m) (sym v.appended) (no_zero_pushed m old k v.value c.loop-i.invariant.no_zero);
       merging = λ n r s.
           let d = c.loop-i.invariant.merging n r s in
-          let more = merging_more m L (value_at m es) (value_at m bs) f c.args.col n c.requires.factor d.0 k (drop i es) (drop j bs) old d.1 next x y c.taken-entry.ensures.value c.taken-sum.ensures.value q v.0 c.requires.product v.1 v.2 in (
+          let more = merging_more m L (value_at m es) (value_at m bs) f c.args.col n c.requires.factor d.0 k da db old d.1 next (head_value m da k) (head_value m db k) refl refl (m c.args.product) v.value c.requires.product v.value_is v.fits in (
             k + 1,
-            subst (Merging m L (value_at m es) (value_at m bs) f c.args.col n (k + 1) (drop c.taken-entry.result.1 es) (drop c.taken-sum.result.1 bs)) (sym v.3)
-                (subst₂ (λ us vs. Merging m L (value_at m es) (value_at m bs) f c.args.col n (k + 1) us vs (pushed m old k v.0)) (sym c.taken-entry.ensures.rest) (sym c.taken-sum.ensures.rest) more),
+            subst (Merging m L (value_at m es) (value_at m bs) f c.args.col n (k + 1) (drop c.in_ok-next.next es) (drop c.in_ok-next.next_above bs)) (sym v.appended)
+                (subst₂ (λ us vs. Merging m L (value_at m es) (value_at m bs) f c.args.col n (k + 1) us vs (pushed m old k v.value)) (sym v.left) (sym v.above) more),
           );
     }
 
@@ -99,15 +91,15 @@ loop-i-smaller g c =
     let bs = c.args.above.now in
     let i = c.loop-i.i in
     let j = c.loop-i.j in
-    let k = c.min-k.result in
+    let da = drop i es in
+    let db = drop j bs in
+    let v = c.in_ok-next.ensures.merged in
     let left : (i < length es) ⊎ (j < length bs) = elim c.if-i-entries.branch [
       | then-i-entries w ↦ inl w.if-i-entries.true
       | else-i-entries+then-j-above w ↦ inr w.if-j-above.true
     ] in
-    let b : c.col_from.result < 4294967296 = omega arith in
-    let d : c.col_from-in-loop-i.result < 4294967296 = omega arith in
-    let next = next_of es bs i j k c.col_from.result c.col_from-in-loop-i.result left c.col_from.ensures c.col_from-in-loop-i.ensures b d c.min-k.ensures in
-    taken_less es bs i j k c.taken-entry.result.1 c.taken-sum.result.1 next c.taken-entry.ensures.rest c.taken-sum.ensures.rest
+    let next = next_of es bs i j v.k (head_col da) (head_col db) left refl refl c.in_ok-next.ensures.cols.0 c.in_ok-next.ensures.cols.1 v.k_is in
+    taken_less es bs i j v.k c.in_ok-next.next c.in_ok-next.next_above next v.left v.above
 
 pub returns-clause-merged : goal.returns-clause-merged
 returns-clause-merged g c =

@@ -1,5 +1,5 @@
 use Rattle.std.proofs.Common.{ap, sym, ◌∙◌, subst}
-use Rattle.std.proofs.lemmas.Result.{err_from_is_err_and, on_ok_weaker}
+use Rattle.std.proofs.lemmas.Result.{err_from_is_err_and}
 use Rattle.tm_frac.specs.Operation.{first_wide, operation_of}
 use Rattle.tm_dict.specs.Formulas.{combined_row}
 use Rattle.tm_dict.specs.PivotOperations.{added_row_operations, combination_row_operations}
@@ -48,10 +48,8 @@ returns-in_ok-merge-in-Ok-clause-combined g c =
     let m = g.F.OrderedField.meaning in
     let es = c.args.row.now.entries.items in
     let b = value_at m c.args.above.now in
-    on_ok_weaker c.replace.result
-    (λ e n r s. subst (Keeps m (combined_row (value_at m es) b c.args.col) n) (sym (e ∙ c.deref-in-Ok-2.ensures.value))
-    (subst (λ xs. Keeps m (combined_row (value_at m xs) b c.args.col) n c.merge.new.merged.items) c.deref-in-Ok.ensures.value (c.in_ok-merge-in-Ok.ensures.merged n (subst (Rises 0 n) (sym c.deref-in-Ok.ensures.value) r) s)))
-    c.replace.ensures.replaced
+    λ n r s. subst (Keeps m (combined_row (value_at m es) b c.args.col) n) (sym c.replace.ensures)
+    (subst (λ xs. Keeps m (combined_row (value_at m xs) b c.args.col) n c.merge.new.merged.items) c.deref-in-Ok.ensures.value (c.in_ok-merge-in-Ok.ensures.merged n (subst (Rises 0 n) (sym c.deref-in-Ok.ensures.value) r) s))
 
 pub returns-in_ok-merge-in-Ok-clause-fits : goal.returns-in_ok-merge-in-Ok-clause-fits
 returns-in_ok-merge-in-Ok-clause-fits g c =
@@ -61,11 +59,9 @@ returns-in_ok-merge-in-Ok-clause-fits g c =
     let b = value_at m c.args.above.now in
     let f = m c.value_in-factor.result in
     let f_is = c.value_in-factor.ensures ∙ ap (λ xs. value_at m xs c.args.col) c.deref.ensures.value in
-    on_ok_weaker c.replace.result
-    (λ e n r s. combination_later L n (value_at m es) b c.args.col f (m c.value_in.result) f_is c.value_in.ensures c.in-Ok.ensures.1
+    λ n r s. combination_later L n (value_at m es) b c.args.col f (m c.value_in.result) f_is c.value_in.ensures c.in-Ok.ensures.1
     ∙ ap (λ xs. first_wide L (added_row_operations n (value_at m xs) f b c.args.col)) (sym c.deref-in-Ok.ensures.value)
-    ∙ c.in_ok-merge-in-Ok.ensures.fits n (subst (Rises 0 n) (sym c.deref-in-Ok.ensures.value) r) s)
-    c.replace.ensures.replaced
+    ∙ c.in_ok-merge-in-Ok.ensures.fits n (subst (Rises 0 n) (sym c.deref-in-Ok.ensures.value) r) s
 
 pub returns-in-Err-clause-refused : goal.returns-in-Err-clause-refused
 returns-in-Err-clause-refused g c =

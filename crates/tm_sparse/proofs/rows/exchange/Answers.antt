@@ -1,5 +1,5 @@
 use Rattle.std.proofs.Common.{◌≡◌, ◌<◌, None, length, sym, ◌∙◌, subst, arith}
-use Rattle.std.proofs.lemmas.Result.{err_from_is_err_and, on_ok_weaker}
+use Rattle.std.proofs.lemmas.Result.{err_from_is_err_and}
 use Rattle.tm_frac.specs.Operation.{first_wide}
 use Rattle.tm_dict.specs.Formulas.{divided_row}
 use Rattle.tm_dict.specs.Faults.{Refuses}
@@ -51,20 +51,16 @@ returns-clause-exchanged g c =
     let r = c.args.row in
     let t = row_read old r c.index-rows-row.result c.requires.row ∙ sym c.deref.ensures.value in
     let l : c.args.row < length c.combine_rows.new.rows = omega arith in
-    on_ok_weaker c.replace.result
-    (λ e n h.
+    λ n h.
     let kept = subst (λ xs. Keeps m (divided_row (value_at m xs) c.args.col) n c.divide_row.new.divided.items) (sym t) (c.in_ok-divide_row.ensures.divided n (subst (Rises 0 n) t (h r))) in
     let lent = subst (Keeps m (divided_row (numbers m old r) c.args.col) n) (sym c.deref-2.ensures.value) kept in
-    exchange_made m r n c.args.col c.deref-2.result.now old c.combine_rows.new.rows c.replace.new.row l lent (c.in_ok-combine_rows.ensures.combined n h lent.rises) (e ∙ c.deref-3.ensures.value ∙ sym c.deref-2.ensures.value))
-    c.replace.ensures.replaced
+    exchange_made m r n c.args.col c.deref-2.result.now old c.combine_rows.new.rows c.replace.new.row l lent (c.in_ok-combine_rows.ensures.combined n h lent.rises) (c.replace.ensures ∙ sym c.deref-2.ensures.value)
 
 pub returns-clause-no_zero : goal.returns-clause-no_zero
 returns-clause-no_zero g c =
     let m = g.F.OrderedField.meaning in
     let l : c.args.row < length c.combine_rows.new.rows = omega arith in
-    on_ok_weaker c.replace.result
-    (λ e h. no_zeros_more m c.args.row c.combine_rows.new.rows c.replace.new.row (c.in_ok-combine_rows.ensures.no_zero h) l (subst (HasNoZero m) (sym (e ∙ c.deref-3.ensures.value)) c.in_ok-divide_row.ensures.no_zero))
-    c.replace.ensures.replaced
+    λ h. no_zeros_more m c.args.row c.combine_rows.new.rows c.replace.new.row (c.in_ok-combine_rows.ensures.no_zero h) l (subst (HasNoZero m) (sym c.replace.ensures) c.in_ok-divide_row.ensures.no_zero)
 
 pub returns-clause-fits : goal.returns-clause-fits
 returns-clause-fits g c =
@@ -73,11 +69,9 @@ returns-clause-fits g c =
     let old = c.args.rows.now in
     let r = c.args.row in
     let t = row_read old r c.index-rows-row.result c.requires.row ∙ sym c.deref.ensures.value in
-    on_ok_weaker c.replace.result
-    (λ e n h.
+    λ n h.
     let kept = subst (λ xs. Keeps m (divided_row (value_at m xs) c.args.col) n c.divide_row.new.divided.items) (sym t) (c.in_ok-divide_row.ensures.divided n (subst (Rises 0 n) t (h r))) in
     let lent = subst (Keeps m (divided_row (numbers m old r) c.args.col) n) (sym c.deref-2.ensures.value) kept in
     let fits = subst (λ xs. first_wide L (division_row_operations n (value_at m xs) c.args.col) ≡ None) (sym t) (c.in_ok-divide_row.ensures.fits n (subst (Rises 0 n) t (h r))) in
     exchange_later L (numbers m old) (length old) r n c.args.col (value_at m c.deref-2.result.now) (col_below m n c.args.col (row_at old r) (h r) c.requires.pivot) lent.values fits
-    ∙ c.in_ok-combine_rows.ensures.fits n h lent.rises)
-    c.replace.ensures.replaced
+    ∙ c.in_ok-combine_rows.ensures.fits n h lent.rises

@@ -1,6 +1,6 @@
 use Rattle.std.proofs.Common.{◌∙◌, length, ap, arith}
 use Rattle.tm_eqsys.proofs.Sizes.{flow_sizes}
-use Rattle.tm_check.proofs.Compares.{start_size}
+use Rattle.tm_check.proofs.first_pass.Comparisons.{start_size}
 use Rattle.tm_check.proofs.scratch.Scratch.new.Goals as goal
 
 pub returns : goal.returns

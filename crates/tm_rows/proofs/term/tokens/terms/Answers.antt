@@ -1,7 +1,7 @@
 use Rattle.std.proofs.Common.{[], ◌∷◌, ◌++◌, sym, ◌∙◌}
 use Rattle.std.proofs.lemmas.Bool.{false≢true}
-use Rattle.tm_rows.proofs.Spelling.{pending_more, pending_end, pending_stuck}
-use Rattle.tm_rows.proofs.TokenSteps.{kept_more}
+use Rattle.tm_rows.proofs.grammar.Spelling.{pending_more, pending_end, pending_stuck}
+use Rattle.tm_rows.proofs.term.Steps.{kept_more}
 use Rattle.tm_rows.proofs.term.tokens.terms.Goals as goal
 
 pub terms-preserved : goal.terms-preserved

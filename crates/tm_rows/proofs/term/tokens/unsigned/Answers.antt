@@ -1,6 +1,6 @@
 use Rattle.std.proofs.Common.{w64, rules}
 use Rattle.std.proofs.lemmas.Int.{to_z-of_z}
-use Rattle.tm_rows.proofs.TokenSteps.{name_first, number_first}
+use Rattle.tm_rows.proofs.term.Steps.{name_first, number_first}
 use Rattle.tm_rows.proofs.term.tokens.unsigned.Goals as goal
 
 pub returns-in-Name : goal.returns-in-Name

@@ -1,0 +1,135 @@
+//! What calls give, as one line: the bounds of all unknowns, then the raised unknowns, then the steps. An item of a step has its unknown and its edge.
+
+ghost use Rattle.std.specs.Prelude.{◌≤◌, length};
+
+use itoa::Buffer;
+use std::alloc::AllocError;
+use tm_cert::{Item, JumpItem, RayItem, Step};
+use tm_eqsys::{Bounds, Pick, Trace};
+use tm_frac::{Ext, Frac};
+
+/// Appends a word and then a number.
+pub(crate) fn add_number(line: &mut Vec<u8>, word: &[u8], number: u64) -> Result<(), AllocError> {
+    line.extend_from_slice(word)?;
+    let mut buffer = Buffer::new();
+    line.extend_from_slice(buffer.format(number).as_bytes())
+}
+
+// Appends a blank and then a fraction.
+fn add_fraction(line: &mut Vec<u8>, number: Frac) -> Result<(), AllocError> {
+    line.extend_from_slice(b" ")?;
+    line.extend_from_slice(number.text().bytes())
+}
+
+// Appends a word and then the values of a trace.
+fn add_trace(line: &mut Vec<u8>, word: &[u8], trace: &Trace) -> Result<(), AllocError> {
+    line.extend_from_slice(word)?;
+    for number in trace.start.as_slice() {
+        add_fraction(line, *number)?;
+    }
+    for number in trace.free.as_slice() {
+        line.extend_from_slice(b" free")?;
+        add_fraction(line, *number)?;
+    }
+    Ok(())
+}
+
+// Appends a bound and a blank.
+fn add_bound(line: &mut Vec<u8>, bound: Ext) -> Result<(), AllocError> {
+    line.extend_from_slice(bound.text().bytes())?;
+    line.extend_from_slice(b" ")
+}
+
+/// Appends the bounds of a vector.
+pub(crate) fn add_bounds(line: &mut Vec<u8>, bounds: &Bounds) -> Result<(), AllocError> {
+    for bound in bounds.as_slice() {
+        add_bound(line, *bound)?;
+    }
+    Ok(())
+}
+
+/// Appends the picked edges, with `-` where there is none.
+pub(crate) fn add_picks(line: &mut Vec<u8>, pick: &Pick, count: u32) -> Result<(), AllocError>
+    requires { count ≤ length pick.now }
+{
+    for unknown in 0..count {
+        match pick.at(unknown) {
+            Some(edge) => add_number(line, b" ", edge as u64)?,
+            None => line.extend_from_slice(b" -")?,
+        }
+    }
+    Ok(())
+}
+
+// Appends an item's unknown and edge.
+fn add_names(line: &mut Vec<u8>, unknown: u32, edge: u32) -> Result<(), AllocError> {
+    add_number(line, b" ", unknown as u64)?;
+    add_number(line, b" by ", edge as u64)
+}
+
+// Appends an item of a plain step.
+fn add_plain(line: &mut Vec<u8>, item: &Item) -> Result<(), AllocError> {
+    add_names(line, item.unknown, item.edge)?;
+    add_trace(line, b" low", &item.low)?;
+    line.extend_from_slice(b" to")?;
+    add_fraction(line, item.to)
+}
+
+// Appends an item of a jump.
+fn add_jump(line: &mut Vec<u8>, item: &JumpItem) -> Result<(), AllocError> {
+    add_names(line, item.unknown, item.edge)?;
+    add_trace(line, b" low", &item.low)?;
+    add_trace(line, b" high", &item.high)?;
+    line.extend_from_slice(b" to")?;
+    add_fraction(line, item.to)
+}
+
+// Appends an item of a ray.
+fn add_ray(line: &mut Vec<u8>, item: &RayItem) -> Result<(), AllocError> {
+    add_names(line, item.unknown, item.edge)?;
+    add_trace(line, b" low", &item.low)?;
+    add_trace(line, b" along", &item.direction)?;
+    line.extend_from_slice(b" rate")?;
+    add_fraction(line, item.rate)
+}
+
+// Appends a step.
+fn add_step(line: &mut Vec<u8>, step: &Step) -> Result<(), AllocError> {
+    match step {
+        Step::Plain(items) => {
+            line.extend_from_slice(b"; plain")?;
+            for item in items.as_slice() {
+                add_plain(line, item)?;
+            }
+        }
+        Step::Jump(items) => {
+            line.extend_from_slice(b"; jump")?;
+            for item in items.as_slice() {
+                add_jump(line, item)?;
+            }
+        }
+        Step::Ray(items) => {
+            line.extend_from_slice(b"; ray")?;
+            for item in items.as_slice() {
+                add_ray(line, item)?;
+            }
+        }
+    }
+    Ok(())
+}
+
+/// Appends the raised unknowns and the steps.
+pub(crate) fn add_steps(
+    line: &mut Vec<u8>,
+    raised: &[u32],
+    steps: &[Step],
+) -> Result<(), AllocError> {
+    line.extend_from_slice(b"raised")?;
+    for unknown in raised {
+        add_number(line, b" ", *unknown as u64)?;
+    }
+    for step in steps {
+        add_step(line, step)?;
+    }
+    Ok(())
+}

@@ -1,0 +1,3 @@
+pub mod OneOffer
+pub mod OneChain
+pub mod OnePosition

@@ -1,0 +1,13 @@
+use Rattle.tm_chain.specs.Offers.{Best, First, By}
+use Rattle.tm_chain.proofs.OneChain.{determined, by_is_one}
+use Rattle.tm_chain.proofs.OnePosition.{best_is_one, first_is_one}
+use Rattle.tm_chain.proofs.law.chains_are_one.Goals as goal
+
+pub returns-clause-by_offers : goal.returns-clause-by_offers
+returns-clause-by_offers c = λ answer. determined (By answer) (by_is_one answer)
+
+pub returns-clause-best : goal.returns-clause-best
+returns-clause-best c = determined Best best_is_one
+
+pub returns-clause-first : goal.returns-clause-first
+returns-clause-first c = determined First first_is_one

@@ -1,0 +1,4 @@
+pub mod Transformers
+pub mod Offers
+pub mod Chains
+pub mod Laws

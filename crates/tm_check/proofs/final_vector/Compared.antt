@@ -1,0 +1,62 @@
+-- A vector compared with another, unknown by unknown.
+use Rattle.std.proofs.Common.{◌≡◌, ◌∙◌, ℕ, ◌+◌, ◌*◌, ◌/◌, ◌%◌, ◌<◌, ◌≤◌, Bool, true, false, not, [], ◌∷◌, length, refl, ap, subst}
+use Rattle.std.specs.Prelude.{Some, None, IsTrue, flat_map}
+use Rattle.std.specs.Ordering.{eq_by_cmp}
+use Rattle.std.proofs.lemmas.Cmp.{eq_by_cmp_equiv}
+use Rattle.tm_num.specs.Compare.{cmp_ᴱ}
+use Rattle.tm_num.proofs.ExtendedLaws.{cmpᴱ-equal, cmp_ᴱ_total}
+use Rattle.tm_frac.specs.declared.ext.Ext.{Ext}
+use Rattle.tm_frac.specs.Extended.{extended, ext_cmp}
+use Rattle.tm_frac.specs.HashedParts.{is_eq-equal}
+use Rattle.tm_eqsys.specs.Equations.{Equations, Vector}
+use Rattle.tm_validity.specs.Decide.{ext_same}
+use Rattle.tm_validity.specs.Faults.{FinalFault, unknowns}
+use Rattle.tm_check.specs.declared.fault.CheckFault.TheVariants.{Final}
+use Rattle.tm_check.specs.Events.{first_stop}
+use Rattle.tm_check.specs.CheckEvents.{final_events}
+use Rattle.tm_check.proofs.following.Traces.{test_yes, test_no}
+use Rattle.tm_check.proofs.uppers.Numbers.{range_next, range_end, unknowns_from, unknowns_all, number_is}
+
+-- two bounds that are told apart
+pub differs : (x y : Ext) → true ≡ not (eq_by_cmp ext_cmp x y) → ¬ (extended x ≡ extended y)
+differs x y t e = by (eq_by_cmp ext_cmp x y) (subst (λ b. IsTrue (eq_by_cmp cmp_ᴱ (extended x) b)) e ((eq_by_cmp_equiv cmp_ᴱ_total).refl (extended x))) t
+  where
+    by : (b : Bool) → IsTrue b → true ≡ not b → ⊥
+    by true h k = cc
+    by false h k = cc
+
+-- and two that aren't
+pub equals : (x y : Ext) → false ≡ not (eq_by_cmp ext_cmp x y) → extended x ≡ extended y
+equals x y t = cmpᴱ-equal (extended x) (extended y) (is_eq-equal (ext_cmp x y) (by (eq_by_cmp ext_cmp x y) t))
+  where
+    by : (b : Bool) → false ≡ not b → IsTrue b
+    by true k = refl
+    by false k = cc
+
+module _ (system : Equations) (z goal : Vector) where
+  -- what is left from number u on
+  abbrev pub FinalLeft : ℕ → Type 0
+  FinalLeft u = first_stop (final_events system z goal (unknowns system)) ≡ first_stop (final_events system z goal (unknowns_from system u))
+
+  pub final_first : FinalLeft 0
+  final_first = ap (λ us. first_stop (final_events system z goal us)) (unknowns_all system)
+
+  module _ (u : ℕ) (h : FinalLeft u) where
+    next_left : u < system.points * length system.template → first_stop (final_events system z goal (unknowns system)) ≡ first_stop (final_events system z goal ((u / length system.template, u % length system.template) ∷ unknowns_from system (u + 1)))
+    next_left l = h ∙ ap (λ us. first_stop (final_events system z goal (flat_map (λ v. (v / length system.template, v % length system.template) ∷ []) us))) (range_next u (system.points * length system.template) l)
+
+    -- one more that is the same
+    pub final_more : u < system.points * length system.template → z (u / length system.template) (u % length system.template) ≡ goal (u / length system.template) (u % length system.template) → FinalLeft (u + 1)
+    unfolding final_events
+    final_more l e = next_left l ∙ test_yes (ext_same (z (u / length system.template) (u % length system.template)) (goal (u / length system.template) (u % length system.template))) (FinalFault (u / length system.template * length system.template + u % length system.template)) (final_events system z goal (unknowns_from system (u + 1))) e
+
+    -- and one that differs
+    pub final_stops : u < system.points * length system.template → ¬ (z (u / length system.template) (u % length system.template) ≡ goal (u / length system.template) (u % length system.template)) → first_stop (final_events system z goal (unknowns system)) ≡ Some (Final u)
+    unfolding final_events
+    final_stops l n =
+        next_left l ∙ test_no (ext_same (z (u / length system.template) (u % length system.template)) (goal (u / length system.template) (u % length system.template))) (FinalFault (u / length system.template * length system.template + u % length system.template)) (final_events system z goal (unknowns_from system (u + 1))) n
+        ∙ ap (λ k. Some (Final k)) (number_is u (length system.template))
+
+    pub final_all : system.points * length system.template ≤ u → first_stop (final_events system z goal (unknowns system)) ≡ None
+    unfolding final_events first_stop
+    final_all l = h ∙ ap (λ us. first_stop (final_events system z goal (flat_map (λ v. (v / length system.template, v % length system.template) ∷ []) us))) (range_end u (system.points * length system.template) l)

@@ -1,0 +1,73 @@
+-- Steps that follow each other, as far as the first of them are taken.
+use Rattle.std.proofs.Common.{◌≡◌, ◌∙◌, ℕ, zero, suc, ◌+◌, ◌*◌, ◌<◌, ◌≤◌, Bool, true, false, List, ◌∷◌, length, get_or, drop, refl, sym, ap, add-one, arith, if◌then◌else◌}
+use Rattle.std.specs.Prelude.{Some, None, nat_lt}
+use Rattle.std.proofs.Math.Seq.{drop-cons}
+use Rattle.std.proofs.lemmas.List.{drop_all}
+use Rattle.std.proofs.lemmas.Bool.{ltb-true, ltb-false}
+use Rattle.tm_num.specs.Extended.{Ext, neg_inf, pos_inf}
+use Rattle.tm_eqsys.specs.Equations.{Equations, Vector}
+use Rattle.tm_validity.specs.Steps.{Step, after, start_vector}
+use Rattle.tm_validity.specs.Certificates.{led}
+use Rattle.tm_check.specs.declared.fault.CheckFault.{CheckFault}
+use Rattle.tm_check.specs.Events.{first_stop}
+use Rattle.tm_check.specs.StepEvents.{step_events, steps_events}
+use Rattle.tm_check.specs.Stands.{Stands, start_at}
+use Rattle.tm_check.proofs.following.Traces.{stop_sooner, stop_later}
+use Rattle.tm_check.proofs.names.Items.{number_below}
+
+module _ (system : Equations) (steps : List Step) (i : ℕ) (z : Vector) (left : first_stop (steps_events system start_vector 0 steps) ≡ first_stop (steps_events system z i (drop i steps))) (leads : led steps start_vector ≡ led (drop i steps) z) where
+  module _ (step : Step) (l : i < length steps) (e : step ≡ get_or steps i step) where
+    next_left : drop i steps ≡ step ∷ drop (suc i) steps
+    next_left = drop-cons steps i step l ∙ ap (λ s. s ∷ drop (suc i) steps) (sym e)
+
+    pub steps_more : first_stop (step_events system z i step) ≡ None → first_stop (steps_events system start_vector 0 steps) ≡ first_stop (steps_events system (after step z) (i + 1) (drop (i + 1) steps))
+    unfolding steps_events
+    steps_more n =
+        left ∙ ap (λ s. first_stop (steps_events system z i s)) next_left
+        ∙ stop_later (step_events system z i step) (steps_events system (after step z) (suc i) (drop (suc i) steps)) n
+        ∙ ap (λ j. first_stop (steps_events system (after step z) j (drop j steps))) (sym (add-one i))
+
+    pub leads_more : led steps start_vector ≡ led (drop (i + 1) steps) (after step z)
+    unfolding led
+    leads_more = leads ∙ ap (λ s. led s z) next_left ∙ ap (λ j. led (drop j steps) (after step z)) (sym (add-one i))
+
+    pub steps_stop : (f : CheckFault) → first_stop (step_events system z i step) ≡ Some f → first_stop (steps_events system start_vector 0 steps) ≡ Some f
+    unfolding steps_events
+    steps_stop f n = left ∙ ap (λ s. first_stop (steps_events system z i s)) next_left ∙ stop_sooner (step_events system z i step) (steps_events system (after step z) (suc i) (drop (suc i) steps)) f n
+
+  pub steps_all : length steps ≤ i → first_stop (steps_events system start_vector 0 steps) ≡ None
+  unfolding first_stop steps_events
+  steps_all l = left ∙ ap (λ s. first_stop (steps_events system z i s)) (drop_all i steps l)
+
+  pub led_all : length steps ≤ i → led steps start_vector ≡ z
+  unfolding led
+  led_all l = leads ∙ ap (λ s. led s z) (drop_all i steps l)
+
+-- ---- the start
+start_yes : (rows u : ℕ) → u < rows → start_at rows u ≡ pos_inf
+start_yes rows u l = by (nat_lt u rows) refl
+  where
+    by : (b : Bool) → nat_lt u rows ≡ b → (if b then pos_inf else neg_inf) ≡ pos_inf
+    by true e = refl
+    by false e = absurd (let k = ltb-false u rows e in omega (arith, k, l))
+
+start_no : (rows u : ℕ) → rows ≤ u → start_at rows u ≡ neg_inf
+start_no rows u l = by (nat_lt u rows) refl
+  where
+    by : (b : Bool) → nat_lt u rows ≡ b → (if b then pos_inf else neg_inf) ≡ neg_inf
+    by true e = absurd (let k = ltb-true u rows e in omega (arith, k, l))
+    by false e = refl
+
+-- bounds that are those of the start stand for the start vector
+pub starts : (system : Equations) (bounds : List Ext) (n : ℕ) → length bounds ≤ n → ((j : ℕ) → j < n → get_or bounds j neg_inf ≡ start_at (length system.template) j) → length bounds ≡ system.points * length system.template → Stands system bounds start_vector
+unfolding start_vector
+starts system bounds n l h size = record { size = size; at = λ p r i k. at p r i k }
+  where
+    at : (p r : ℕ) → p < system.points → r < length system.template → get_or bounds (p * length system.template + r) neg_inf ≡ start_vector p r
+    at zero r i k =
+        let b = number_below zero system.points (length system.template) r i k in
+        let e : 0 * length system.template + r ≡ r = omega arith in
+        h (0 * length system.template + r) (omega (arith, b, size, l)) ∙ ap (start_at (length system.template)) e ∙ start_yes (length system.template) r k
+    at (suc p) r i k =
+        let b = number_below (suc p) system.points (length system.template) r i k in
+        h (suc p * length system.template + r) (omega (arith, b, size, l)) ∙ start_no (length system.template) (suc p * length system.template + r) (omega arith)

@@ -1,0 +1,141 @@
+//! The tests of a step's items at the vector that the step finds.
+
+ghost use Rattle.std.specs.Prelude.{◌≡◌, ◌↔◌, ◌*◌, ◌<◌, ◌^◌, [], IsTrue, length};
+ghost use Rattle.tm_num.specs.Extended.{fin, ◌<ᴱ◌};
+ghost use Rattle.tm_frac.specs.Extended.{extended};
+ghost use Rattle.tm_eqsys.specs.Equations.{Vector};
+ghost use Rattle.tm_eqsys.specs.View.{equations_of};
+ghost use Rattle.tm_cert.specs.Certificates.{step_of};
+ghost use Rattle.tm_validity.specs.Steps.{Placed, Sized, edge_of, row_of, item_value, word};
+ghost use Rattle.tm_check.specs.Events.{Answers, IsRun};
+ghost use Rattle.tm_check.specs.Runs.{run_events};
+ghost use Rattle.tm_check.specs.Items.{item_count, item_at, earlier_items};
+ghost use Rattle.tm_check.specs.StepEvents.{IsOpen, IsRaised, first_events, first_pass_events};
+ghost use Rattle.tm_check.specs.Stands.{Stands};
+
+use crate::fault::{CheckFault, ensure, value_or};
+use crate::following::run;
+use crate::item::{count, edge_at, low_at, number_at, unknown_at};
+use crate::names::is_named;
+use tm_cert::Step;
+use tm_eqsys::{Bounds, Site, System};
+use tm_frac::{Ext, Frac, Wide};
+
+// Whether a bound is below a number.
+pub fn is_below(bound: Ext, number: Frac) -> bool
+    ensures { IsTrue result ↔ (extended bound <ᴱ fin number) }
+{
+    match bound {
+        Ext::NegInf => true,
+        Ext::Fin(limit) => limit < number,
+        Ext::PosInf => false,
+    }
+}
+
+// Whether a step can start from an unknown with this bound.
+fn is_open(step: &Step, bound: Ext) -> bool
+    ensures { IsTrue result ↔ IsOpen (step_of 1 step.now).kind (extended bound) }
+{
+    match step {
+        Step::Plain(_) => true,
+        Step::Jump(_) => matches!(bound, Ext::Fin(_)),
+        Step::Ray(_) => !matches!(bound, Ext::PosInf),
+    }
+}
+
+// Whether an item's trace with this value shows what the step says of it.
+fn is_raised(step: &Step, bound: Ext, number: Frac, value: Frac) -> bool
+    ensures { IsTrue result ↔ IsRaised (step_of 1 step.now).kind (extended bound) number value }
+{
+    match step {
+        Step::Plain(_) => is_below(bound, number) && number <= value,
+        _ => is_below(bound, value),
+    }
+}
+
+// The value at the end of an item's low trace.
+fn low_value(
+    system: &System,
+    step: &Step,
+    k: usize,
+    bounds: &Bounds,
+) -> Result<Option<Frac>, Wide<Frac>>
+    requires item { k < item_count step.now }
+    requires placed { Placed (equations_of system.now) (item_at (length system.now.template) step.now k) }
+    requires sized { Sized (equations_of system.now) (item_at (length system.now.template) step.now k) (item_at (length system.now.template) step.now k).low }
+    requires bounds { length bounds.now ≡ length system.now.flow.points * length system.now.template }
+    ensures { (z : Vector) → Stands (equations_of system.now) bounds.now z →
+        let S = equations_of system.now in let item = item_at (length system.now.template) step.now k in
+        Answers (λ v. v ≡ item_value S item (word item.low)) (λ site fault. run_events site fault S z (edge_of S item) (row_of S item) item.low) result }
+{
+    let row = unknown_at(step, k) % system.template.as_slice().len() as u32;
+    run(system, bounds, edge_at(step, k), row, low_at(step, k))
+}
+
+// An item's tests.
+fn test_item(
+    system: &System,
+    step: &Step,
+    number: u32,
+    k: u32,
+    bounds: &Bounds,
+) -> Result<(), CheckFault>
+    requires item { k < item_count step.now }
+    requires bounds { length bounds.now ≡ length system.now.flow.points * length system.now.template }
+    ensures { (z : Vector) → Stands (equations_of system.now) bounds.now z → let rows = length system.now.template in
+        IsRun (λ u. Unit {0}) (first_events (step_of rows step.now).kind (equations_of system.now) z number k (earlier_items (step_of rows step.now).items
+        k) (item_at rows step.now k)) result }
+{
+    let place = k as usize;
+    ensure(
+        is_named(system, step, place),
+        CheckFault::Trace {
+            step: number,
+            item: k,
+        },
+    )?;
+    let unknown = unknown_at(step, place);
+    ensure(
+        is_open(step, bounds.at(unknown)),
+        CheckFault::Low {
+            step: number,
+            item: k,
+        },
+    )?;
+    let value = value_or(
+        low_value(system, step, place, bounds),
+        Site::Step {
+            step: number,
+            item: k,
+        },
+        CheckFault::Trace {
+            step: number,
+            item: k,
+        },
+    )?;
+    ensure(
+        is_raised(step, bounds.at(unknown), number_at(step, place), value),
+        CheckFault::Low {
+            step: number,
+            item: k,
+        },
+    )
+}
+
+/// The tests of all items, in order.
+pub fn first_pass(
+    system: &System,
+    step: &Step,
+    number: u32,
+    bounds: &Bounds,
+) -> Result<(), CheckFault>
+    requires few { item_count step.now < 2 ^ 32 }
+    requires bounds { length bounds.now ≡ length system.now.flow.points * length system.now.template }
+    ensures { (z : Vector) → Stands (equations_of system.now) bounds.now z → let theirs = step_of (length system.now.template) step.now in
+        IsRun (λ u. Unit {0}) (first_pass_events theirs.kind (equations_of system.now) z number 0 [] theirs.items) result }
+{
+    for k in 0..count(step) as u32 {
+        test_item(system, step, number, k, bounds)?;
+    }
+    Ok(())
+}

@@ -1,0 +1,82 @@
+-- What a list of words asks for.
+use Rattle.std.specs.Prelude.{List, [], ◌∷◌, Option, None, codes, option_and_then, option_map, unwrap_or, if◌then◌else◌}
+use Rattle.std.specs.Str.{bytes_eq}
+use Rattle.std.specs.Borrow.{Bor}
+use Rattle.clap.specs.Words.{Kinds, Row, Text, fault_of, first_of, subcommand_of}
+use Rattle.tm_cli.specs.CommandLine.{tmpl_app}
+use Rattle.tm_cli.specs.Values.{domain_in, meaning_in, number_in, policies}
+use Rattle.tm_cli.specs.declared.request.Analysis.{Analysis}
+use Rattle.tm_cli.specs.declared.request.Domain.{Domain}
+use Rattle.tm_cli.specs.declared.request.Domain.TheVariants.{Intervals, Zones, Octagons, Rows}
+use Rattle.tm_cli.specs.declared.request.Request.{Request}
+use Rattle.tm_cli.specs.declared.request.Request.TheVariants.{Analyse, Check, Bench}
+use Rattle.tm_cli.specs.declared.request.Purpose.{Purpose}
+use Rattle.tm_cli.specs.declared.request.Purpose.TheVariants.{Report, Certificate}
+
+-- ---- the texts of a request that borrows them
+
+abbrev pub domain_text : Domain (Bor Text) → Domain Text
+domain_text Intervals = Intervals
+domain_text Zones = Zones
+domain_text Octagons = Octagons
+domain_text (Rows file) = Rows file.now
+
+abbrev pub analysis_text : Analysis (Bor Text) → Analysis Text
+analysis_text a = record {
+  program = a.program.now;
+  domain = domain_text a.domain;
+  improvements = a.improvements;
+  policy = a.policy;
+}
+
+abbrev pub request_text : Request (Bor Text) → Request Text
+request_text (Analyse purpose a) = Analyse purpose (analysis_text a)
+request_text (Check program certificate) = Check program.now certificate.now
+request_text (Bench seed loops) = Bench seed loops
+
+-- ---- commands, by the words and options that were given
+
+-- `solve` and `certify`
+abbrev pub analysis_in : List Row → Option (Analysis Text)
+analysis_in given =
+    option_and_then (λ program.
+    option_and_then (λ domain.
+    option_and_then (λ improvements.
+    option_map (λ policy. record {
+      program = program;
+      domain = domain;
+      improvements = improvements;
+      policy = policy;
+    }) (meaning_in policies (unwrap_or (first_of (codes "policy") given) (codes "best"))))
+    (number_in 0 1000000 (unwrap_or (first_of (codes "improvements") given) (codes "1000"))))
+    (domain_in (unwrap_or (first_of (codes "domain") given) (codes "intervals")) (first_of (codes "rows") given)))
+    (first_of (codes "program") given)
+
+abbrev pub analyse_in : Purpose → List Row → Option (Request Text)
+analyse_in purpose given = option_map (λ a. Analyse purpose a) (analysis_in given)
+
+abbrev pub check_in : List Row → Option (Request Text)
+check_in given = option_and_then (λ program. option_map (λ certificate. Check program certificate)
+    (first_of (codes "certificate") given)) (first_of (codes "program") given)
+
+abbrev pub bench_in : List Row → Option (Request Text)
+bench_in given = option_and_then (λ seed. option_map (λ loops. Bench seed loops)
+    (option_and_then (number_in 1 46) (first_of (codes "loops") given)))
+    (option_and_then (number_in 0 2147483647) (first_of (codes "seed") given))
+
+-- the request of a command by its name
+abbrev pub command_in : Text × List Row → Option (Request Text)
+command_in (name, given) = if bytes_eq name (codes "solve") then analyse_in Report given
+    else (if bytes_eq name (codes "certify") then analyse_in Certificate given
+    else (if bytes_eq name (codes "check") then check_in given
+    else (if bytes_eq name (codes "bench") then bench_in given else None)))
+
+-- what is asked, where `clap` finds no fault
+abbrev pub unless_fault : Kinds → Option (Request Text) → Option (Request Text)
+unless_fault [] asked = asked
+unless_fault (kind ∷ kinds) asked = None
+
+-- the request that the words make: `clap` takes them for the command line, and each value is in form
+unfoldable pub request_of : List Text → Option (Request Text)
+request_of words = unless_fault (fault_of tmpl_app words)
+    (option_and_then command_in (subcommand_of tmpl_app words))

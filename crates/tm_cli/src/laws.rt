@@ -1,0 +1,34 @@
+//! What the definition of a request says of some lists of words.
+
+ghost use Rattle.std.specs.Prelude.{◌≡◌, ◌≢◌, ℕ, List, [], ◌∷◌, None, Some, codes};
+ghost use Rattle.tm_cli.specs.Laws.{plain_analysis};
+ghost use Rattle.tm_cli.specs.Request.{request_of};
+ghost use Rattle.tm_cli.specs.declared.request.Domain.TheVariants.{Intervals, Zones};
+ghost use Rattle.tm_cli.specs.declared.request.Purpose.TheVariants.{Report};
+ghost use Rattle.tm_cli.specs.declared.request.Request.TheVariants.{Analyse};
+
+/// Nothing happens here: the clauses are the laws.
+pub fn request_laws()
+    // A word that doesn't begin with a hyphen names the program, whatever it is.
+    ensures any_name { (first : ℕ) (rest : List ℕ) → first ≢ 45
+        → request_of (codes "solve" ∷ (first ∷ rest) ∷ [])
+        ≡ Some (Analyse Report (plain_analysis (first ∷ rest) Intervals)) }
+
+    // An option and its value are one word or two, before the program or after it.
+    ensures one_word { request_of (codes "solve" ∷ codes "--domain=zones" ∷ codes "p" ∷ [])
+        ≡ Some (Analyse Report (plain_analysis (codes "p") Zones)) }
+    ensures two_words { request_of (codes "solve" ∷ codes "p" ∷ codes "--domain" ∷ codes "zones" ∷ [])
+        ≡ Some (Analyse Report (plain_analysis (codes "p") Zones)) }
+
+    // Two hyphens end the options.
+    ensures dashes { request_of (codes "solve" ∷ codes "--" ∷ codes "--domain" ∷ [])
+        ≡ Some (Analyse Report (plain_analysis (codes "--domain") Intervals)) }
+
+    // No option is given twice, and no word makes no command.
+    ensures repeated { request_of (codes "solve" ∷ codes "p" ∷ codes "--policy=best"
+        ∷ codes "--policy=best" ∷ []) ≡ None }
+    ensures nothing { request_of [] ≡ None }
+
+    // A request for help is no command.
+    ensures help { request_of (codes "solve" ∷ codes "p" ∷ codes "--help" ∷ []) ≡ None }
+{}

@@ -1,0 +1,13 @@
+pub mod Products
+pub mod Columns
+pub mod Passed
+pub mod Dense
+pub mod Places
+pub mod Ranges
+pub mod Rows
+pub mod States
+pub mod Frees
+pub mod Walked
+pub mod Edges
+pub mod Alls
+pub mod Means

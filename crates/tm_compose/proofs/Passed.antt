@@ -1,0 +1,35 @@
+-- The operations of all elements of a list, as far as none of the first i elements has a wide one.
+use Rattle.std.proofs.Common.{◌≡◌, ◌∙◌, ℕ, ◌+◌, ◌<◌, ◌≤◌, List, ◌++◌, length, get_or, drop, Some, None, refl, ap, sym}
+use Rattle.std.specs.Prelude.{flat_map}
+use Rattle.std.proofs.lemmas.List.{drop_more, drop_all}
+use Rattle.tm_frac.specs.Fits.{long_limit}
+use Rattle.tm_frac.specs.Operation.{Operation, first_wide, operation_of}
+use Rattle.tm_compose.specs.declared.fault.FormFault.{FormFault}
+use Rattle.tm_compose.specs.declared.fault.FormFault.TheVariants.{WideSum, NoRoom}
+use Rattle.tm_compose.specs.Faults.{IsFormFault}
+use Rattle.tm_eqsys.proofs.Widths.{first_wide_later, first_wide_sooner}
+
+-- what is left has the first wide operation of all
+pub record IsPassed {X : Type 0} (f : X → List Operation) (xs : List X) (i : ℕ) : Type 0 where
+  pub first : first_wide long_limit (flat_map f xs) ≡ first_wide long_limit (flat_map f (drop i xs))
+
+pub passed_none : {X : Type 0} (f : X → List Operation) (xs : List X) → IsPassed f xs 0
+passed_none f xs = record { first = refl }
+
+module _ {X : Type 0} (f : X → List Operation) (xs : List X) (i : ℕ) (h : IsPassed f xs i) (x : X) (l : i < length xs) (e : x ≡ get_or xs i x) where
+  left : first_wide long_limit (flat_map f xs) ≡ first_wide long_limit (f x ++ flat_map f (drop (i + 1) xs))
+  left = h.first ∙ ap (λ ys. first_wide long_limit (flat_map f ys)) (drop_more xs i x l) ∙ ap (λ y. first_wide long_limit (f y ++ flat_map f (drop (i + 1) xs))) (sym e)
+
+  pub passed_more : first_wide long_limit (f x) ≡ None → IsPassed f xs (i + 1)
+  passed_more n = record { first = left ∙ first_wide_later long_limit (f x) (flat_map f (drop (i + 1) xs)) n }
+
+  pub passed_wide : (o : Operation) → first_wide long_limit (f x) ≡ Some o → first_wide long_limit (flat_map f xs) ≡ Some o
+  passed_wide o w = left ∙ first_wide_sooner long_limit (f x) (flat_map f (drop (i + 1) xs)) o w
+
+pub passed_all : {X : Type 0} (f : X → List Operation) (xs : List X) (i : ℕ) → length xs ≤ i → IsPassed f xs i → first_wide long_limit (flat_map f xs) ≡ None
+passed_all f xs i l h = h.first ∙ ap (λ ys. first_wide long_limit (flat_map f ys)) (drop_all i xs l)
+
+-- an element with a fault
+pub passed_refused : {X : Type 0} (f : X → List Operation) (xs : List X) (i : ℕ) → IsPassed f xs i → (x : X) → i < length xs → x ≡ get_or xs i x → (fault : FormFault) → IsFormFault (f x) fault → IsFormFault (flat_map f xs) fault
+passed_refused f xs i h x l e (WideSum w) k = passed_wide f xs i h x l e (operation_of (λ q. q) w) k
+passed_refused f xs i h x l e NoRoom k = tt

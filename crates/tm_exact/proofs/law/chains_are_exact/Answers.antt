@@ -1,5 +1,0 @@
-use Rattle.tm_exact.proofs.Laws.{chains_law}
-use Rattle.tm_exact.proofs.law.chains_are_exact.Goals as goal
-
-pub returns : goal.returns
-returns c = chains_law

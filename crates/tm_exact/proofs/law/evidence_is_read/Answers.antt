@@ -1,5 +1,0 @@
-use Rattle.tm_exact.proofs.EvidenceWords.{evidence_words}
-use Rattle.tm_exact.proofs.law.evidence_is_read.Goals as goal
-
-pub returns : goal.returns
-returns c = evidence_words

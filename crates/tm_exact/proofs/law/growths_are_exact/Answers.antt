@@ -1,5 +1,0 @@
-use Rattle.tm_exact.proofs.Laws.{growths_law}
-use Rattle.tm_exact.proofs.law.growths_are_exact.Goals as goal
-
-pub returns : goal.returns
-returns c = growths_law

@@ -1,0 +1,5 @@
+pub mod Complete
+pub mod Sound
+pub mod Unique
+pub mod Once
+pub mod Flat

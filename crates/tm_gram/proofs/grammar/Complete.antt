@@ -1,0 +1,143 @@
+-- The machine takes the spelling of each good tree.
+use Rattle.std.proofs.Common.{◌≡◌, ◌∙◌, ◌++◌, ℕ, suc, List, [], ◌∷◌, Option, Some, None, refl, ap, append_assoc}
+use Rattle.tm_gram.specs.Grammar.{else_word, negative, positive, negation, Kind, Token, token, Expr, number, variable, free, grouped, prefixed, joined}
+use Rattle.tm_gram.specs.Grammar.{spell_expr, bare, given, Declarators, declares, declares_more, spell_declarators, Core, empty, block, if_alone, if_else}
+use Rattle.tm_gram.specs.Grammar.{repeat, assumed, set, step_after, step_before, Sub, labelled, plain, Items, no_items, label, declaration, item, spell_core}
+use Rattle.tm_gram.specs.Grammar.{spell_sub, spell_items, shut, ending_core, ending_sub, GoodCore, GoodSub, GoodItems, Return, no_return, returns}
+use Rattle.tm_gram.specs.Grammar.{returns_minus, spell_return, nothing, void_at, Program, program, spell, Good, right_brace, right_paren, comma, semicolon}
+use Rattle.tm_gram.specs.Machine.{Ender, until_declared, Place, in_sub, in_block, in_main, next, Goal, operand, more, statement, maybe_else, declarator, only}
+use Rattle.tm_gram.specs.Machine.{statement_end, text_end, skips, else_entry, step, run, start}
+
+pub expr_run : (e : Expr) (n : Ender) (d c : ℕ) (gs : List Goal) (w : List Token) → run (operand d ∷ more n c ∷ gs) (spell_expr e ++ w) ≡ run (more n c ∷ gs) w
+expr_run (number m a) n d c gs w = refl
+expr_run (variable x a) n d c gs w = refl
+expr_run (free i j k) n d c gs w = refl
+expr_run (grouped a e b) n d c gs w = rw append_assoc (expr_run e _ (suc d) (suc d) (more n c ∷ gs) (token right_paren b ∷ w))
+expr_run (prefixed negative a e) n d c gs w = expr_run e n (suc d) c gs w
+expr_run (prefixed positive a e) n d c gs w = expr_run e n (suc d) c gs w
+expr_run (prefixed negation a e) n d c gs w = expr_run e n (suc d) c gs w
+expr_run (joined e o a f) n d c gs w = rw append_assoc (expr_run e n d c gs _ ∙ expr_run f n c c gs w)
+
+pub declarators_run : (xs : Declarators) (d : ℕ) (gs : List Goal) (w : List Token) → run (declarator d ∷ gs) (spell_declarators xs ++ w) ≡ run gs w
+declarators_run (declares (bare x a) c) d gs w = refl
+declarators_run (declares (given x a b e) c) d gs w = rw append_assoc (expr_run e until_declared d d gs (token semicolon c ∷ w))
+declarators_run (declares_more (bare x a) c xs) d gs w = declarators_run xs d gs w
+declarators_run (declares_more (given x a b e) c xs) d gs w = rw append_assoc (expr_run e until_declared d d gs (token comma c ∷ (spell_declarators xs ++ w)) ∙ declarators_run xs d gs w)
+
+-- the `if`s at the end that may still take an `else`
+abbrev mutual
+  pub pending_core : ℕ → Core → List Goal
+  pending_core d (empty a) = []
+  pending_core d (block a is b) = []
+  pending_core d (if_alone a b e c s) = pending_sub (suc d) s ++ maybe_else (suc d) ∷ []
+  pending_core d (if_else a b e c s i t) = pending_sub (suc d) t
+  pending_core d (repeat a b e c s) = pending_sub (suc d) s
+  pending_core d (assumed a b e c i) = []
+  pending_core d (set x a g b e c) = []
+  pending_core d (step_after x a g b c) = []
+  pending_core d (step_before g a x b c) = []
+
+  pub pending_sub : ℕ → Sub → List Goal
+  pending_sub d (labelled x a b s) = pending_sub d s
+  pending_sub d (plain c) = pending_core d c
+
+mutual
+  none_core : (d : ℕ) (c : Core) → ending_core c ≡ shut → pending_core d c ≡ []
+  none_core d (empty a) h = refl
+  none_core d (block a is b) h = refl
+  none_core d (if_alone a b e c s) h = cc
+  none_core d (if_else a b e c s i t) h = none_sub (suc d) t h
+  none_core d (repeat a b e c s) h = none_sub (suc d) s h
+  none_core d _ h = refl
+
+  pub none_sub : (d : ℕ) (s : Sub) → ending_sub s ≡ shut → pending_sub d s ≡ []
+  none_sub d (labelled x a b s) h = none_sub d s h
+  none_sub d (plain c) h = none_core d c h
+
+abbrev pub NotElse : Kind → Type 0
+NotElse k = else_entry 0 k ≡ skips
+
+pass_one : (d : ℕ) (k : Kind) (gs : List Goal) → NotElse k → step (maybe_else d ∷ gs) k ≡ step gs k
+pass_one d else_word gs h = cc
+pass_one d _ gs h = refl
+
+mutual
+  pub pass_core : (d : ℕ) (c : Core) (gs : List Goal) (k : Kind) → NotElse k → step (pending_core d c ++ gs) k ≡ step gs k
+  pass_core d (empty a) gs k h = refl
+  pass_core d (block a is b) gs k h = refl
+  pass_core d (if_alone a b e c s) gs k h = rw append_assoc (pass_sub (suc d) s (maybe_else (suc d) ∷ gs) k h ∙ pass_one (suc d) k gs h)
+  pass_core d (if_else a b e c s i t) gs k h = pass_sub (suc d) t gs k h
+  pass_core d (repeat a b e c s) gs k h = pass_sub (suc d) s gs k h
+  pass_core d _ gs k h = refl
+
+  pass_sub : (d : ℕ) (s : Sub) (gs : List Goal) (k : Kind) → NotElse k → step (pending_sub d s ++ gs) k ≡ step gs k
+  pass_sub d (labelled x a b s) gs k h = pass_sub d s gs k h
+  pass_sub d (plain c) gs k h = pass_core d c gs k h
+
+-- The text goes on, and not with `else`.
+abbrev pub GoesOn : List Token → Type 0
+GoesOn [] = ⊥
+GoesOn (token k a ∷ ts) = NotElse k
+
+pass_run : (d : ℕ) (c : Core) (gs : List Goal) (w : List Token) → GoesOn w → run (pending_core d c ++ gs) w ≡ run gs w
+pass_run d c gs [] h = absurd h
+pass_run d c gs (token k a ∷ ts) h = ap (λ (o : Option (List Goal)). elim o as (λ x. Option (List Goal)) [ None ↦ None | Some next ↦ run next ts ]) (pass_core d c gs k h)
+
+pub core_head : (c : Core) (w : List Token) → GoesOn (spell_core c ++ w)
+core_head (empty a) w = refl
+core_head _ w = refl
+
+pub items_head : (is : Items) (w : List Token) → GoesOn w → GoesOn (spell_items is ++ w)
+items_head no_items w h = h
+items_head (label x b c is) w h = refl
+items_head (declaration a xs is) w h = refl
+items_head (item c is) w h = rw append_assoc (core_head c _)
+
+-- where several statements may stand
+abbrev pub IsMany : Place → Type 0
+IsMany in_sub = ⊥
+IsMany in_block = Unit {0}
+IsMany in_main = Unit {0}
+
+mutual
+  core_run : (c : Core) (p : Place) (d : ℕ) (gs : List Goal) (w : List Token) → GoodCore c → run (statement p d ∷ gs) (spell_core c ++ w) ≡ run (pending_core d c ++ (next p d ++ gs)) w
+  core_run (empty a) p d gs w g = refl
+  core_run (block a is b) p d gs w g = rw append_assoc (items_run is in_block tt (suc d) (next p d ++ gs) (token right_brace b ∷ w) g refl)
+  core_run (if_alone a b e c s) p d gs w g = simp append_assoc (expr_run e _ (suc d) (suc d) (statement in_sub (suc d) ∷ maybe_else (suc d) ∷ (next p d ++ gs)) (token right_paren c ∷ (spell_sub s ++ w)) ∙ sub_run s (suc d) (maybe_else (suc d) ∷ (next p d ++ gs)) w g.1)
+  core_run (if_else a b e c s i t) p d gs w g = simp append_assoc (expr_run e _ (suc d) (suc d) (statement in_sub (suc d) ∷ maybe_else (suc d) ∷ (next p d ++ gs)) _ ∙ sub_run s (suc d) (maybe_else (suc d) ∷ (next p d ++ gs)) _ g.1 ∙ rw (none_sub (suc d) s g.2) (sub_run t (suc d) (next p d ++ gs) w g.3))
+  core_run (repeat a b e c s) p d gs w g = simp append_assoc (expr_run e _ (suc d) (suc d) (statement in_sub (suc d) ∷ (next p d ++ gs)) _ ∙ sub_run s (suc d) (next p d ++ gs) w g.1)
+  core_run (assumed a b e c i) p d gs w g = simp append_assoc (expr_run e _ d d (only statement_end ∷ (next p d ++ gs)) _)
+  core_run (set x a g b e c) p d gs w h = rw append_assoc (expr_run e _ d d (next p d ++ gs) _)
+  core_run (step_after x a g b c) p d gs w h = refl
+  core_run (step_before g a x b c) p d gs w h = refl
+
+  sub_run : (s : Sub) (d : ℕ) (gs : List Goal) (w : List Token) → GoodSub s → run (statement in_sub d ∷ gs) (spell_sub s ++ w) ≡ run (pending_sub d s ++ gs) w
+  sub_run (labelled x a b s) d gs w g = sub_run s d gs w g
+  sub_run (plain c) d gs w g = core_run c in_sub d gs w g
+
+  items_run : (is : Items) (p : Place) → IsMany p → (d : ℕ) (gs : List Goal) (w : List Token) → GoodItems is → GoesOn w → run (statement p d ∷ gs) (spell_items is ++ w) ≡ run (statement p d ∷ gs) w
+  items_run no_items p m d gs w g h = refl
+  items_run (label x b c is) in_block m d gs w g h = items_run is in_block m d gs w g h
+  items_run (label x b c is) in_main m d gs w g h = items_run is in_main m d gs w g h
+  items_run (declaration a xs is) in_block m d gs w g h = rw append_assoc (declarators_run xs d (statement in_block d ∷ gs) _ ∙ items_run is in_block m d gs w g.1 h)
+  items_run (declaration a xs is) in_main m d gs w g h = rw append_assoc (declarators_run xs d (statement in_main d ∷ gs) _ ∙ items_run is in_main m d gs w g.1 h)
+  items_run (item c is) in_block m d gs w g h = rw append_assoc (core_run c in_block d gs _ g.0 ∙ pass_run d c (statement in_block d ∷ gs) _ (items_head is w h) ∙ items_run is in_block m d gs w g.1 h)
+  items_run (item c is) in_main m d gs w g h = rw append_assoc (core_run c in_main d gs _ g.0 ∙ pass_run d c (statement in_main d ∷ gs) _ (items_head is w h) ∙ items_run is in_main m d gs w g.1 h)
+  items_run (label x b c is) in_sub m d gs w g h = absurd m
+  items_run (declaration a xs is) in_sub m d gs w g h = absurd m
+  items_run (item c is) in_sub m d gs w g h = absurd m
+
+pub return_head : (r : Return) (f : ℕ) (w : List Token) → GoesOn (spell_return r ++ token right_brace f ∷ w)
+return_head no_return f w = refl
+return_head (returns a n b c) f w = refl
+return_head (returns_minus a b n c d) f w = refl
+
+return_run : (r : Return) (f : ℕ) (gs : List Goal) (w : List Token) → run (statement in_main 0 ∷ gs) (spell_return r ++ token right_brace f ∷ w) ≡ run gs w
+return_run no_return f gs w = refl
+return_run (returns a n b c) f gs w = refl
+return_run (returns_minus a b n c d) f gs w = refl
+
+-- Each program's spelling is accepted.
+pub accepted : (p : Program) → Good p → run start (spell p) ≡ Some []
+accepted (program a b c nothing d e is r f i) g = items_run is in_main tt 0 (only text_end ∷ []) (spell_return r ++ token right_brace f ∷ _) g (return_head r f _) ∙ return_run r f (only text_end ∷ []) _
+accepted (program a b c (void_at x) d e is r f i) g = items_run is in_main tt 0 (only text_end ∷ []) (spell_return r ++ token right_brace f ∷ _) g (return_head r f _) ∙ return_run r f (only text_end ∷ []) _

@@ -1,0 +1,331 @@
+-- A text has at most one program.
+use Rattle.std.proofs.Common.{◌≡◌, ◌∙◌, ◌++◌, ℕ, suc, List, [], ◌∷◌, refl, sym, ap, ap₂, append_assoc, arith, subst}
+use Rattle.tm_gram.specs.Grammar.{Change, replaces, Kind, infix_sign, minus_op, a_name, a_number, right_paren, left_paren, right_brace, left_brace, comma}
+use Rattle.tm_gram.specs.Grammar.{semicolon, colon, change_sign, int_word, main_word, if_word, else_word, while_word, return_word, assume_word, the_end}
+use Rattle.tm_gram.specs.Grammar.{Token, token, Groups, Expr, spell_expr, bare, given, Declarators, declares, declares_more, spell_declarators}
+use Rattle.tm_gram.specs.Grammar.{GoodDeclarators, Core, empty, block, if_alone, if_else, repeat, assumed, set, step_after, step_before, Sub, labelled, plain}
+use Rattle.tm_gram.specs.Grammar.{Items, no_items, label, declaration, item, spell_core, spell_sub, spell_items, Ending, shut, waiting, ending_core}
+use Rattle.tm_gram.specs.Grammar.{ending_sub, GoodCore, GoodSub, GoodItems, Parameters, nothing, void_at, Return, no_return, returns, returns_minus}
+use Rattle.tm_gram.specs.Grammar.{spell_return, Program, program, spell, Good, Reads}
+use Rattle.tm_gram.proofs.grammar.Complete.{NotElse, GoesOn, items_head}
+use Rattle.tm_gram.proofs.grammar.Sound.{Clear}
+use Rattle.tm_gram.proofs.grammar.Unique.{weight, IsEnd, unique, unique_expr, tail_of, head_of}
+
+record Cond (a b : ℕ) (e : Expr) (c a2 b2 : ℕ) (f : Expr) (c2 : ℕ) (y z : List Token) : Type 0 where
+  one : a ≡ a2
+  two : b ≡ b2
+  same : e ≡ f
+  three : c ≡ c2
+  rest : y ≡ z
+
+-- a word, `(`, an expression and `)`
+cond_once : (k : Kind) (a b : ℕ) (e : Expr) (c : ℕ) (k2 : Kind) (a2 b2 : ℕ) (f : Expr) (c2 : ℕ) (m : Kind) (y z w x : List Token) → IsEnd (token m 0) → Groups 0 e → Groups 0 f → token k a ∷ token k2 b ∷ ((spell_expr e ++ token m c ∷ y) ++ w) ≡ token k a2 ∷ token k2 b2 ∷ ((spell_expr f ++ token m c2 ∷ z) ++ x) → Cond a b e c a2 b2 f c2 (y ++ w) (z ++ x)
+cond_once k a b e c k2 a2 b2 f c2 m y z w x n g h q =
+    let i : (spell_expr e ++ token m c ∷ y) ++ w ≡ (spell_expr f ++ token m c2 ∷ z) ++ x = cc in
+    let r = unique_expr (suc (weight e)) (unique (suc (weight e))) e f (token m c) (token m c2) (y ++ w) (z ++ x) (omega arith) g h (ends m c n) (ends m c2 n) (sym (append_assoc (spell_expr e) (token m c ∷ y) w) ∙ i ∙ append_assoc (spell_expr f) (token m c2 ∷ z) x) in
+    let s : token m c ∷ (y ++ w) ≡ token m c2 ∷ (z ++ x) = r.1 in
+    record { one = cc; two = cc; same = r.0; three = cc; rest = cc } where
+      ends : (m : Kind) (c : ℕ) → IsEnd (token m 0) → IsEnd (token m c)
+      ends (infix_sign o) c h = h
+      ends _ c h = tt
+
+goes_clear : (x : Ending) (w : List Token) → GoesOn w → Clear x w
+goes_clear shut w h = tt
+goes_clear waiting [] h = absurd h
+goes_clear waiting (token k a ∷ w) h = h
+
+any_clear : (x : Ending) (w : List Token) → Clear waiting w → Clear x w
+any_clear shut w h = tt
+any_clear waiting w h = h
+
+shut_clear : (x : Ending) (w : List Token) → x ≡ shut → Clear x w
+shut_clear shut w h = tt
+shut_clear waiting w h = cc
+
+not_else : (w y : List Token) (i : ℕ) → Clear waiting w → w ≡ token else_word i ∷ y → ⊥
+not_else [] y i h e = cc
+not_else (token k a ∷ w) y i h e = let j : k ≡ else_word = cc in let m : NotElse else_word = subst (λ x. NotElse x) j h in cc
+
+label_core : (x : List ℕ) (a b : ℕ) (y z : List Token) (c : Core) → token (a_name x) a ∷ token colon b ∷ y ≡ spell_core c ++ z → ⊥
+label_core x a b y z (empty i) e = cc
+label_core x a b y z (block i is j) e = cc
+label_core x a b y z (if_alone i j f k s) e = cc
+label_core x a b y z (if_else i j f k s l t) e = cc
+label_core x a b y z (repeat i j f k s) e = cc
+label_core x a b y z (assumed i j f k l) e = cc
+label_core x a b y z (set v i h j f k) e = cc
+label_core x a b y z (step_after v i h j k) e = cc
+label_core x a b y z (step_before h i v j k) e = cc
+
+int_core : (a : ℕ) (y z : List Token) (c : Core) → token int_word a ∷ y ≡ spell_core c ++ z → ⊥
+int_core a y z (empty i) e = cc
+int_core a y z (block i is j) e = cc
+int_core a y z (if_alone i j f k s) e = cc
+int_core a y z (if_else i j f k s l t) e = cc
+int_core a y z (repeat i j f k s) e = cc
+int_core a y z (assumed i j f k l) e = cc
+int_core a y z (set v i h j f k) e = cc
+int_core a y z (step_after v i h j k) e = cc
+int_core a y z (step_before h i v j k) e = cc
+
+-- the kinds of token that end items
+abbrev pub Ends : Kind → Type 0
+Ends right_brace = Unit {0}
+Ends return_word = Unit {0}
+Ends _ = ⊥
+
+end_core : (k : Kind) (a : ℕ) (y z : List Token) (c : Core) → Ends k → token k a ∷ y ≡ spell_core c ++ z → ⊥
+end_core right_brace a y z (empty i) n e = cc
+end_core right_brace a y z (block i is j) n e = cc
+end_core right_brace a y z (if_alone i j f k s) n e = cc
+end_core right_brace a y z (if_else i j f k s l t) n e = cc
+end_core right_brace a y z (repeat i j f k s) n e = cc
+end_core right_brace a y z (assumed i j f k l) n e = cc
+end_core right_brace a y z (set v i h j f k) n e = cc
+end_core right_brace a y z (step_after v i h j k) n e = cc
+end_core right_brace a y z (step_before h i v j k) n e = cc
+end_core return_word a y z (empty i) n e = cc
+end_core return_word a y z (block i is j) n e = cc
+end_core return_word a y z (if_alone i j f k s) n e = cc
+end_core return_word a y z (if_else i j f k s l t) n e = cc
+end_core return_word a y z (repeat i j f k s) n e = cc
+end_core return_word a y z (assumed i j f k l) n e = cc
+end_core return_word a y z (set v i h j f k) n e = cc
+end_core return_word a y z (step_after v i h j k) n e = cc
+end_core return_word a y z (step_before h i v j k) n e = cc
+end_core _ a y z c n e = absurd n
+
+end_name : (k : Kind) (a b : ℕ) (x : List ℕ) (y z : List Token) → Ends k → token k a ∷ y ≡ token (a_name x) b ∷ z → ⊥
+end_name right_brace a b x y z n e = cc
+end_name return_word a b x y z n e = cc
+end_name _ a b x y z n e = absurd n
+
+end_int : (k : Kind) (a b : ℕ) (y z : List Token) → Ends k → token k a ∷ y ≡ token int_word b ∷ z → ⊥
+end_int right_brace a b y z n e = cc
+end_int return_word a b y z n e = cc
+end_int _ a b y z n e = absurd n
+
+end_goes : (k : Kind) (a : ℕ) (w : List Token) → Ends k → GoesOn (token k a ∷ w)
+end_goes right_brace a w n = refl
+end_goes return_word a w n = refl
+end_goes _ a w n = absurd n
+
+if_alone_same : (a b : ℕ) (f : Expr) (c : ℕ) (s : Sub) (a2 b2 : ℕ) (f2 : Expr) (c2 : ℕ) (s2 : Sub) → a ≡ a2 → b ≡ b2 → f ≡ f2 → c ≡ c2 → s ≡ s2 → if_alone a b f c s ≡ if_alone a2 b2 f2 c2 s2
+if_alone_same a b f c s a2 b2 f2 c2 s2 h i j k l = cc
+
+if_else_same : (a b : ℕ) (f : Expr) (c : ℕ) (s : Sub) (i : ℕ) (t : Sub) (a2 b2 : ℕ) (f2 : Expr) (c2 : ℕ) (s2 : Sub) (j : ℕ) (u : Sub) → a ≡ a2 → b ≡ b2 → f ≡ f2 → c ≡ c2 → s ≡ s2 → token else_word i ≡ token else_word j → t ≡ u → if_else a b f c s i t ≡ if_else a2 b2 f2 c2 s2 j u
+if_else_same a b f c s i t a2 b2 f2 c2 s2 j u h k l m n o p = cc
+
+repeat_same : (a b : ℕ) (f : Expr) (c : ℕ) (s : Sub) (a2 b2 : ℕ) (f2 : Expr) (c2 : ℕ) (s2 : Sub) → a ≡ a2 → b ≡ b2 → f ≡ f2 → c ≡ c2 → s ≡ s2 → repeat a b f c s ≡ repeat a2 b2 f2 c2 s2
+repeat_same a b f c s a2 b2 f2 c2 s2 h i j k l = cc
+
+set_same : (v : List ℕ) (a b : ℕ) (g : Change) (f : Expr) (c : ℕ) (v2 : List ℕ) (a2 b2 : ℕ) (g2 : Change) (f2 : Expr) (c2 : ℕ) → v ≡ v2 → g ≡ g2 → a ≡ a2 → b ≡ b2 → f ≡ f2 → c ≡ c2 → set v a g b f c ≡ set v2 a2 g2 b2 f2 c2
+set_same v a b g f c v2 a2 b2 g2 f2 c2 h i j k l m = cc
+
+assumed_same : (a b : ℕ) (f : Expr) (c d a2 b2 : ℕ) (f2 : Expr) (c2 d2 : ℕ) → a ≡ a2 → b ≡ b2 → f ≡ f2 → c ≡ c2 → d ≡ d2 → assumed a b f c d ≡ assumed a2 b2 f2 c2 d2
+assumed_same a b f c d a2 b2 f2 c2 d2 h i j k l = cc
+
+labelled_same : (v : List ℕ) (a b : ℕ) (s : Sub) (v2 : List ℕ) (a2 b2 : ℕ) (t : Sub) → token (a_name v) a ≡ token (a_name v2) a2 → token colon b ≡ token colon b2 → s ≡ t → labelled v a b s ≡ labelled v2 a2 b2 t
+labelled_same v a b s v2 a2 b2 t h i j = cc
+
+label_same : (v : List ℕ) (a b : ℕ) (s : Items) (v2 : List ℕ) (a2 b2 : ℕ) (t : Items) → token (a_name v) a ≡ token (a_name v2) a2 → token colon b ≡ token colon b2 → s ≡ t → label v a b s ≡ label v2 a2 b2 t
+label_same v a b s v2 a2 b2 t h i j = cc
+
+declaration_same : (a b : ℕ) (xs ys : Declarators) (is js : Items) → token int_word a ≡ token int_word b → xs ≡ ys → is ≡ js → declaration a xs is ≡ declaration b ys js
+declaration_same a b xs ys is js h i j = cc
+
+record Given (x : List ℕ) (a b : ℕ) (e : Expr) (y : List ℕ) (c d : ℕ) (f : Expr) (t s : Token) (u v : List Token) : Type 0 where
+  name : x ≡ y
+  one : a ≡ c
+  two : b ≡ d
+  same : e ≡ f
+  rest : t ∷ u ≡ s ∷ v
+
+given_once : (x : List ℕ) (a b : ℕ) (e : Expr) (y : List ℕ) (c d : ℕ) (f : Expr) (t s : Token) (u v : List Token) → IsEnd t → IsEnd s → Groups 0 e → Groups 0 f → token (a_name x) a ∷ token (change_sign replaces) b ∷ (spell_expr e ++ t ∷ u) ≡ token (a_name y) c ∷ token (change_sign replaces) d ∷ (spell_expr f ++ s ∷ v) → Given x a b e y c d f t s u v
+given_once x a b e y c d f t s u v m n g h q =
+    let r = unique_expr (suc (weight e)) (unique (suc (weight e))) e f t s u v (omega arith) g h m n (tail_of _ _ _ _ (tail_of _ _ _ _ q)) in
+    record { name = cc; one = cc; two = cc; same = r.0; rest = r.1 }
+
+given_same : (x : List ℕ) (a b : ℕ) (e : Expr) (y : List ℕ) (c d : ℕ) (f : Expr) → x ≡ y → a ≡ c → b ≡ d → e ≡ f → given x a b e ≡ given y c d f
+given_same x a b e y c d f h i j k = cc
+
+given_texts : (x : List ℕ) (a b : ℕ) (e : Expr) (t : Token) (u w : List Token) → (token (a_name x) a ∷ token (change_sign replaces) b ∷ (spell_expr e ++ t ∷ u)) ++ w ≡ token (a_name x) a ∷ token (change_sign replaces) b ∷ (spell_expr e ++ t ∷ (u ++ w))
+given_texts x a b e t u w = ap (λ (z : List Token). token (a_name x) a ∷ token (change_sign replaces) b ∷ z) (append_assoc (spell_expr e) (t ∷ u) w)
+
+given_texts_2 : (x : List ℕ) (a b : ℕ) (e : Expr) (t : Token) (u w : List Token) → ((token (a_name x) a ∷ token (change_sign replaces) b ∷ spell_expr e) ++ t ∷ u) ++ w ≡ token (a_name x) a ∷ token (change_sign replaces) b ∷ (spell_expr e ++ t ∷ (u ++ w))
+given_texts_2 x a b e t u w = given_texts x a b e t u w
+
+declarators_once : (xs ys : Declarators) (w x : List Token) → GoodDeclarators xs → GoodDeclarators ys → spell_declarators xs ++ w ≡ spell_declarators ys ++ x → (xs ≡ ys) × (w ≡ x)
+declarators_once (declares (bare v a) c) (declares (bare v2 a2) c2) w x g h e = ((cc), (cc))
+declarators_once (declares (given v a b f) c) (declares (given v2 a2 b2 f2) c2) w x g h e =
+    let r = given_once v a b f v2 a2 b2 f2 (token semicolon c) (token semicolon c2) w x tt tt g h (sym (given_texts_2 v a b f (token semicolon c) [] w) ∙ e ∙ given_texts_2 v2 a2 b2 f2 (token semicolon c2) [] x) in
+    let k = given_same v a b f v2 a2 b2 f2 r.name r.one r.two r.same in
+    let q : token semicolon c ≡ token semicolon c2 = head_of _ _ _ _ r.rest in
+    ((cc), tail_of _ _ _ _ r.rest)
+declarators_once (declares_more (bare v a) c xs) (declares_more (bare v2 a2) c2 ys) w x g h e =
+    let r = declarators_once xs ys w x g.1 h.1 (tail_of _ _ _ _ (tail_of _ _ _ _ e)) in
+    let k : xs ≡ ys = r.0 in
+    ((cc), r.1)
+declarators_once (declares_more (given v a b f) c xs) (declares_more (given v2 a2 b2 f2) c2 ys) w x g h e =
+    let r = given_once v a b f v2 a2 b2 f2 (token comma c) (token comma c2) (spell_declarators xs ++ w) (spell_declarators ys ++ x) tt tt g.0 h.0 (sym (given_texts_2 v a b f (token comma c) (spell_declarators xs) w) ∙ e ∙ given_texts_2 v2 a2 b2 f2 (token comma c2) (spell_declarators ys) x) in
+    let k = given_same v a b f v2 a2 b2 f2 r.name r.one r.two r.same in
+    let q : token comma c ≡ token comma c2 = head_of _ _ _ _ r.rest in
+    let m = declarators_once xs ys w x g.1 h.1 (tail_of _ _ _ _ r.rest) in
+    let n : xs ≡ ys = m.0 in
+    ((cc), m.1)
+declarators_once (declares (given v a b f) c) (declares_more (given v2 a2 b2 f2) c2 ys) w x g h e =
+    let r = given_once v a b f v2 a2 b2 f2 (token semicolon c) (token comma c2) w (spell_declarators ys ++ x) tt tt g h.0 (sym (given_texts_2 v a b f (token semicolon c) [] w) ∙ e ∙ given_texts_2 v2 a2 b2 f2 (token comma c2) (spell_declarators ys) x) in
+    let q : token semicolon c ≡ token comma c2 = head_of _ _ _ _ r.rest in
+    cc
+declarators_once (declares_more (given v a b f) c xs) (declares (given v2 a2 b2 f2) c2) w x g h e =
+    let r = given_once v a b f v2 a2 b2 f2 (token comma c) (token semicolon c2) (spell_declarators xs ++ w) x tt tt g.0 h (sym (given_texts_2 v a b f (token comma c) (spell_declarators xs) w) ∙ e ∙ given_texts_2 v2 a2 b2 f2 (token semicolon c2) [] x) in
+    let q : token comma c ≡ token semicolon c2 = head_of _ _ _ _ r.rest in
+    cc
+declarators_once (declares (bare v a) c) (declares (given v2 a2 b2 f2) c2) w x g h e = cc
+declarators_once (declares (bare v a) c) (declares_more (bare v2 a2) c2 ys) w x g h e = cc
+declarators_once (declares (bare v a) c) (declares_more (given v2 a2 b2 f2) c2 ys) w x g h e = cc
+declarators_once (declares (given v a b f) c) (declares (bare v2 a2) c2) w x g h e = cc
+declarators_once (declares (given v a b f) c) (declares_more (bare v2 a2) c2 ys) w x g h e = cc
+declarators_once (declares_more (bare v a) c xs) (declares (bare v2 a2) c2) w x g h e = cc
+declarators_once (declares_more (bare v a) c xs) (declares (given v2 a2 b2 f2) c2) w x g h e = cc
+declarators_once (declares_more (bare v a) c xs) (declares_more (given v2 a2 b2 f2) c2 ys) w x g h e = cc
+declarators_once (declares_more (given v a b f) c xs) (declares (bare v2 a2) c2) w x g h e = cc
+declarators_once (declares_more (given v a b f) c xs) (declares_more (bare v2 a2) c2 ys) w x g h e = cc
+
+mutual
+  core_once : (c d : Core) (w x : List Token) → GoodCore c → GoodCore d → Clear (ending_core c) w → Clear (ending_core d) x → spell_core c ++ w ≡ spell_core d ++ x → (c ≡ d) × (w ≡ x)
+  core_once (empty a) (empty b) w x g h m n e = ((cc), (cc))
+  core_once (block a is b) (block c js d) w x g h m n e =
+      let r = items_once is js right_brace b right_brace d w x g h tt tt (sym (append_assoc (spell_items is) (token right_brace b ∷ []) w) ∙ tail_of (token left_brace a) (token left_brace c) _ _ e ∙ append_assoc (spell_items js) (token right_brace d ∷ []) x) in
+      let i : is ≡ js = r.0 in
+      let j : token right_brace b ∷ w ≡ token right_brace d ∷ x = r.1 in
+      let k : token left_brace a ≡ token left_brace c = head_of _ _ _ _ e in
+      ((cc), (cc))
+  core_once (if_alone a b f c s) (if_alone a2 b2 f2 c2 s2) w x g h m n e =
+      let r = cond_once if_word a b f c left_paren a2 b2 f2 c2 right_paren (spell_sub s) (spell_sub s2) w x tt g.0 h.0 e in
+      let q = sub_once s s2 w x g.1 h.1 (any_clear (ending_sub s) w m) (any_clear (ending_sub s2) x n) r.rest in
+      (if_alone_same a b f c s a2 b2 f2 c2 s2 r.one r.two r.same r.three q.0, q.1)
+  core_once (if_alone a b f c s) (if_else a2 b2 f2 c2 s2 i t) w x g h m n e =
+      let r = cond_once if_word a b f c left_paren a2 b2 f2 c2 right_paren (spell_sub s) (spell_sub s2 ++ token else_word i ∷ spell_sub t) w x tt g.0 h.0 e in
+      let q = sub_once s s2 w (token else_word i ∷ (spell_sub t ++ x)) g.1 h.1 (any_clear (ending_sub s) w m) (shut_clear (ending_sub s2) _ h.2) (r.rest ∙ append_assoc (spell_sub s2) (token else_word i ∷ spell_sub t) x) in
+      absurd (not_else w _ i m q.1)
+  core_once (if_else a b f c s i t) (if_alone a2 b2 f2 c2 s2) w x g h m n e =
+      let r = cond_once if_word a b f c left_paren a2 b2 f2 c2 right_paren (spell_sub s ++ token else_word i ∷ spell_sub t) (spell_sub s2) w x tt g.0 h.0 e in
+      let q = sub_once s s2 (token else_word i ∷ (spell_sub t ++ w)) x g.1 h.1 (shut_clear (ending_sub s) _ g.2) (any_clear (ending_sub s2) x n) (sym (append_assoc (spell_sub s) (token else_word i ∷ spell_sub t) w) ∙ r.rest) in
+      absurd (not_else x _ i n (sym q.1))
+  core_once (if_else a b f c s i t) (if_else a2 b2 f2 c2 s2 j u) w x g h m n e =
+      let r = cond_once if_word a b f c left_paren a2 b2 f2 c2 right_paren (spell_sub s ++ token else_word i ∷ spell_sub t) (spell_sub s2 ++ token else_word j ∷ spell_sub u) w x tt g.0 h.0 e in
+      let q = sub_once s s2 (token else_word i ∷ (spell_sub t ++ w)) (token else_word j ∷ (spell_sub u ++ x)) g.1 h.1 (shut_clear (ending_sub s) _ g.2) (shut_clear (ending_sub s2) _ h.2) (sym (append_assoc (spell_sub s) (token else_word i ∷ spell_sub t) w) ∙ r.rest ∙ append_assoc (spell_sub s2) (token else_word j ∷ spell_sub u) x) in
+      let y = sub_once t u w x g.3 h.3 m n (tail_of _ _ _ _ q.1) in
+      (if_else_same a b f c s i t a2 b2 f2 c2 s2 j u r.one r.two r.same r.three q.0 (head_of _ _ _ _ q.1) y.0, y.1)
+  core_once (repeat a b f c s) (repeat a2 b2 f2 c2 s2) w x g h m n e =
+      let r = cond_once while_word a b f c left_paren a2 b2 f2 c2 right_paren (spell_sub s) (spell_sub s2) w x tt g.0 h.0 e in
+      let q = sub_once s s2 w x g.1 h.1 m n r.rest in
+      (repeat_same a b f c s a2 b2 f2 c2 s2 r.one r.two r.same r.three q.0, q.1)
+  core_once (assumed a b f c d) (assumed a2 b2 f2 c2 d2) w x g h m n e =
+      let r = cond_once assume_word a b f c left_paren a2 b2 f2 c2 right_paren (token semicolon d ∷ []) (token semicolon d2 ∷ []) w x tt g h e in
+      let q : token semicolon d ≡ token semicolon d2 = head_of _ _ _ _ r.rest in
+      (assumed_same a b f c d a2 b2 f2 c2 d2 r.one r.two r.same r.three (cc), tail_of _ _ _ _ r.rest)
+  core_once (set v a y b f c) (set v2 a2 y2 b2 f2 c2) w x g h m n e =
+      let k : v ≡ v2 = cc in
+      let i : y ≡ y2 = cc in
+      let l = subst (λ z. token (a_name v) a ∷ token (change_sign y) b ∷ ((spell_expr f ++ token semicolon c ∷ []) ++ w) ≡ token (a_name z) a2 ∷ token (change_sign y2) b2 ∷ ((spell_expr f2 ++ token semicolon c2 ∷ []) ++ x)) (sym k) e in
+      let o = subst (λ z. token (a_name v) a ∷ token (change_sign y) b ∷ ((spell_expr f ++ token semicolon c ∷ []) ++ w) ≡ token (a_name v) a2 ∷ token (change_sign z) b2 ∷ ((spell_expr f2 ++ token semicolon c2 ∷ []) ++ x)) (sym i) l in
+      let r = cond_once (a_name v) a b f c (change_sign y) a2 b2 f2 c2 semicolon [] [] w x tt g h o in
+      (set_same v a b y f c v2 a2 b2 y2 f2 c2 k i r.one r.two r.same r.three, r.rest)
+  core_once (step_after v a y b c) (step_after v2 a2 y2 b2 c2) w x g h m n e = ((cc), (cc))
+  core_once (step_before y a v b c) (step_before y2 a2 v2 b2 c2) w x g h m n e = ((cc), (cc))
+  core_once _ _ w x g h m n e = cc
+
+  sub_once : (s t : Sub) (w x : List Token) → GoodSub s → GoodSub t → Clear (ending_sub s) w → Clear (ending_sub t) x → spell_sub s ++ w ≡ spell_sub t ++ x → (s ≡ t) × (w ≡ x)
+  sub_once (labelled v a b s) (labelled v2 a2 b2 t) w x g h m n e =
+      let q = sub_once s t w x g h m n (tail_of _ _ _ _ (tail_of (token (a_name v) a) (token (a_name v2) a2) _ _ e)) in
+      (labelled_same v a b s v2 a2 b2 t (head_of _ _ _ _ e) (head_of _ _ _ _ (tail_of (token (a_name v) a) (token (a_name v2) a2) _ _ e)) q.0, q.1)
+  sub_once (labelled v a b s) (plain c) w x g h m n e = absurd (label_core v a b _ x c e)
+  sub_once (plain c) (labelled v a b s) w x g h m n e = absurd (label_core v a b _ w c (sym e))
+  sub_once (plain c) (plain d) w x g h m n e = let q = core_once c d w x g h m n e in (ap plain q.0, q.1)
+
+  items_once : (is js : Items) (k : Kind) (a : ℕ) (l : Kind) (b : ℕ) (w x : List Token) → GoodItems is → GoodItems js → Ends k → Ends l → spell_items is ++ token k a ∷ w ≡ spell_items js ++ token l b ∷ x → (is ≡ js) × (token k a ∷ w ≡ token l b ∷ x)
+  items_once no_items no_items k a l b w x g h m n e = (refl, e)
+  items_once no_items (label v i j js) k a l b w x g h m n e = absurd (end_name k a i v w _ m e)
+  items_once (label v i j is) no_items k a l b w x g h m n e = absurd (end_name l b i v x _ n (sym e))
+  items_once no_items (declaration i xs js) k a l b w x g h m n e = absurd (end_int k a i w _ m e)
+  items_once (declaration i xs is) no_items k a l b w x g h m n e = absurd (end_int l b i x _ n (sym e))
+  items_once no_items (item c js) k a l b w x g h m n e = absurd (end_core k a w (spell_items js ++ token l b ∷ x) c m (e ∙ append_assoc (spell_core c) (spell_items js) (token l b ∷ x)))
+  items_once (item c is) no_items k a l b w x g h m n e = absurd (end_core l b x (spell_items is ++ token k a ∷ w) c n (sym e ∙ append_assoc (spell_core c) (spell_items is) (token k a ∷ w)))
+  items_once (label v i j is) (label v2 i2 j2 js) k a l b w x g h m n e =
+      let q = items_once is js k a l b w x g h m n (tail_of _ _ _ _ (tail_of (token (a_name v) i) (token (a_name v2) i2) _ _ e)) in
+      (label_same v i j is v2 i2 j2 js (head_of _ _ _ _ e) (head_of _ _ _ _ (tail_of (token (a_name v) i) (token (a_name v2) i2) _ _ e)) q.0, q.1)
+  items_once (label v i j is) (declaration i2 xs js) k a l b w x g h m n e = cc
+  items_once (declaration i2 xs is) (label v i j js) k a l b w x g h m n e = cc
+  items_once (declaration i xs is) (declaration i2 ys js) k a l b w x g h m n e =
+      let r = declarators_once xs ys (spell_items is ++ token k a ∷ w) (spell_items js ++ token l b ∷ x) g.0 h.0 (sym (append_assoc (spell_declarators xs) (spell_items is) (token k a ∷ w)) ∙ tail_of (token int_word i) (token int_word i2) _ _ e ∙ append_assoc (spell_declarators ys) (spell_items js) (token l b ∷ x)) in
+      let q = items_once is js k a l b w x g.1 h.1 m n r.1 in
+      (declaration_same i i2 xs ys is js (head_of _ _ _ _ e) r.0 q.0, q.1)
+  items_once (label v i j is) (item c js) k a l b w x g h m n e = absurd (label_core v i j _ (spell_items js ++ token l b ∷ x) c (e ∙ append_assoc (spell_core c) (spell_items js) (token l b ∷ x)))
+  items_once (item c is) (label v i j js) k a l b w x g h m n e = absurd (label_core v i j _ (spell_items is ++ token k a ∷ w) c (sym e ∙ append_assoc (spell_core c) (spell_items is) (token k a ∷ w)))
+  items_once (declaration i xs is) (item c js) k a l b w x g h m n e = absurd (int_core i _ (spell_items js ++ token l b ∷ x) c (e ∙ append_assoc (spell_core c) (spell_items js) (token l b ∷ x)))
+  items_once (item c is) (declaration i xs js) k a l b w x g h m n e = absurd (int_core i _ (spell_items is ++ token k a ∷ w) c (sym e ∙ append_assoc (spell_core c) (spell_items is) (token k a ∷ w)))
+  items_once (item c is) (item d js) k a l b w x g h m n e =
+      let r = core_once c d (spell_items is ++ token k a ∷ w) (spell_items js ++ token l b ∷ x) g.0 h.0 (goes_clear (ending_core c) _ (items_head is _ (end_goes k a w m))) (goes_clear (ending_core d) _ (items_head js _ (end_goes l b x n))) (sym (append_assoc (spell_core c) (spell_items is) (token k a ∷ w)) ∙ e ∙ append_assoc (spell_core d) (spell_items js) (token l b ∷ x)) in
+      let q = items_once is js k a l b w x g.1 h.1 m n r.1 in
+      (ap₂ item r.0 q.0, q.1)
+
+-- how `main` ends, as a token and the rest
+abbrev end_kind : Return → Kind
+end_kind no_return = right_brace
+end_kind (returns a n b c) = return_word
+end_kind (returns_minus a b n c d) = return_word
+
+abbrev end_place : Return → ℕ → ℕ
+end_place no_return f = f
+end_place (returns a n b c) f = a
+end_place (returns_minus a b n c d) f = a
+
+abbrev end_rest : Return → ℕ → ℕ → List Token
+end_rest no_return f i = token the_end i ∷ []
+end_rest (returns a n b c) f i = token (a_number n) b ∷ token semicolon c ∷ token right_brace f ∷ token the_end i ∷ []
+end_rest (returns_minus a b n c d) f i = token (infix_sign minus_op) b ∷ token (a_number n) c ∷ token semicolon d ∷ token right_brace f ∷ token the_end i ∷ []
+
+abbrev whole_end : Return → ℕ → ℕ → List Token
+whole_end r f i = spell_return r ++ token right_brace f ∷ token the_end i ∷ []
+
+end_split : (r : Return) (f i : ℕ) → whole_end r f i ≡ token (end_kind r) (end_place r f) ∷ end_rest r f i
+end_split no_return f i = refl
+end_split (returns a n b c) f i = refl
+end_split (returns_minus a b n c d) f i = refl
+
+end_ends : (r : Return) → Ends (end_kind r)
+end_ends no_return = tt
+end_ends (returns a n b c) = tt
+end_ends (returns_minus a b n c d) = tt
+
+return_once : (r s : Return) (f i g j : ℕ) → whole_end r f i ≡ whole_end s g j → (r ≡ s) × (f ≡ g) × (i ≡ j)
+return_once no_return no_return f i g j e = ((cc), (cc), (cc))
+return_once (returns a n b c) (returns a2 n2 b2 c2) f i g j e = ((cc), (cc), (cc))
+return_once (returns_minus a b n c d) (returns_minus a2 b2 n2 c2 d2) f i g j e = ((cc), (cc), (cc))
+return_once no_return (returns a n b c) f i g j e = cc
+return_once no_return (returns_minus a b n c d) f i g j e = cc
+return_once (returns a n b c) no_return f i g j e = cc
+return_once (returns a n b c) (returns_minus a2 b2 n2 c2 d2) f i g j e = cc
+return_once (returns_minus a b n c d) no_return f i g j e = cc
+return_once (returns_minus a b n c d) (returns a2 n2 b2 c2) f i g j e = cc
+
+-- items and how `main` ends
+body_once : (is js : Items) (r s : Return) (f i g j : ℕ) → GoodItems is → GoodItems js → spell_items is ++ whole_end r f i ≡ spell_items js ++ whole_end s g j → (is ≡ js) × ((r ≡ s) × (f ≡ g) × (i ≡ j))
+body_once is js r s f i g j m n e =
+    let q = items_once is js (end_kind r) (end_place r f) (end_kind s) (end_place s g) (end_rest r f i) (end_rest s g j) m n (end_ends r) (end_ends s) (ap (λ (x : List Token). spell_items is ++ x) (sym (end_split r f i)) ∙ e ∙ ap (λ (x : List Token). spell_items js ++ x) (end_split s g j)) in
+    (q.0, return_once r s f i g j (end_split r f i ∙ q.1 ∙ sym (end_split s g j)))
+
+program_same : (a b c : ℕ) (ps : Parameters) (d e : ℕ) (is : Items) (r : Return) (f i a2 b2 c2 : ℕ) (qs : Parameters) (d2 e2 : ℕ) (js : Items) (s : Return) (g j : ℕ) → token int_word a ≡ token int_word a2 → token main_word b ≡ token main_word b2 → token left_paren c ≡ token left_paren c2 → ps ≡ qs → token right_paren d ≡ token right_paren d2 → token left_brace e ≡ token left_brace e2 → (is ≡ js) × ((r ≡ s) × (f ≡ g) × (i ≡ j)) → program a b c ps d e is r f i ≡ program a2 b2 c2 qs d2 e2 js s g j
+program_same a b c ps d e is r f i a2 b2 c2 qs d2 e2 js s g j h k l m n o (p, (q, u, v)) = cc
+
+program_once : (p q : Program) → Good p → Good q → spell p ≡ spell q → p ≡ q
+program_once (program a b c nothing d e is r f i) (program a2 b2 c2 nothing d2 e2 js s g j) m n q = program_same a b c nothing d e is r f i a2 b2 c2 nothing d2 e2 js s g j (cc) (cc) (cc) refl (cc) (cc) (body_once is js r s f i g j m n (tail_of _ _ _ _ (tail_of _ _ _ _ (tail_of _ _ _ _ (tail_of _ _ _ _ (tail_of _ _ _ _ q))))))
+program_once (program a b c (void_at v) d e is r f i) (program a2 b2 c2 (void_at v2) d2 e2 js s g j) m n q = program_same a b c (void_at v) d e is r f i a2 b2 c2 (void_at v2) d2 e2 js s g j (cc) (cc) (cc) (cc) (cc) (cc) (body_once is js r s f i g j m n (tail_of _ _ _ _ (tail_of _ _ _ _ (tail_of _ _ _ _ (tail_of _ _ _ _ (tail_of _ _ _ _ (tail_of _ _ _ _ q)))))))
+program_once (program a b c nothing d e is r f i) (program a2 b2 c2 (void_at v) d2 e2 js s g j) m n q = cc
+program_once (program a b c (void_at v) d e is r f i) (program a2 b2 c2 nothing d2 e2 js s g j) m n q = cc
+
+-- At most one program is read.
+pub reads_once : (ts : List Token) (p q : Program) → Reads ts p → Reads ts q → p ≡ q
+reads_once ts p q r s = program_once p q r.good s.good (r.spelled ∙ sym s.spelled)

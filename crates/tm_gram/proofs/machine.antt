@@ -1,0 +1,4 @@
+pub mod Finish
+pub mod Back
+pub mod Meaning
+pub mod Tokens

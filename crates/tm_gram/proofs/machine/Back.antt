@@ -1,0 +1,299 @@
+-- Each entry of the machine, read backwards.
+use Rattle.std.proofs.Common.{◌≡◌, ◌∙◌, ◌++◌, inl, inr, ℕ, suc, List, [], ◌∷◌, Option, Some, None, refl, sym, ap, append_assoc, subst}
+use Rattle.tm_gram.specs.Grammar.{Op, plus_op, minus_op, negative, positive, negation, Change, replaces, Direction, Kind, a_name, a_number, infix_sign, bang}
+use Rattle.tm_gram.specs.Grammar.{left_paren, right_paren, left_brace, right_brace, comma, semicolon, colon, change_sign, step_sign, int_word, main_word}
+use Rattle.tm_gram.specs.Grammar.{void_word, if_word, else_word, while_word, return_word, assume_word, nondet_word, the_end, Token, token, Groups, Expr}
+use Rattle.tm_gram.specs.Grammar.{number, variable, free, grouped, prefixed, spell_expr, Declarators, declares, declares_more, bare, given, spell_declarators}
+use Rattle.tm_gram.specs.Grammar.{Core, empty, block, if_alone, if_else, repeat, assumed, set, step_after, step_before, Sub, labelled, plain, no_items, label}
+use Rattle.tm_gram.specs.Grammar.{declaration, item, spell_core, spell_sub, spell_items, Ending, shut, waiting, ending_core, ending_sub, GoodCore, no_return}
+use Rattle.tm_gram.specs.Grammar.{returns, returns_minus, spell_return, nothing, void_at, spell_parameters, Program, program, Reads}
+use Rattle.tm_gram.specs.Machine.{Ender, until_paren, until_semicolon, until_declared, Place, in_sub, in_block, in_main, next, opening, closing}
+use Rattle.tm_gram.specs.Machine.{brace_opening, brace_closing, statement_end, main_name, int_type, text_end, Mark, Goal, operand, more, statement}
+use Rattle.tm_gram.specs.Machine.{after_name, maybe_else, condition, declarator, declared, some_name, parameters, returned, some_number, only, Entry, takes}
+use Rattle.tm_gram.specs.Machine.{skips, stops, prefix_entry, operand_entry, more_entry, declaration_entry, close_entry, return_entry, statement_entry}
+use Rattle.tm_gram.specs.Machine.{label_entry, name_entry, else_entry, condition_entry, declarator_entry, declared_entry, some_name_entry, parameters_entry}
+use Rattle.tm_gram.specs.Machine.{returned_entry, some_number_entry, only_entry, entry, step, run, start}
+use Rattle.tm_gram.proofs.grammar.Complete.{NotElse}
+use Rattle.tm_gram.proofs.grammar.Sound.{Links, ended, link, spell_links, GoodLinks, extend_all, spell_all, groups_all, any_level, Clear, no_more, and_more, Ended}
+use Rattle.tm_gram.proofs.grammar.Sound.{just, minus, Holds}
+
+abbrev pub Back : Entry → Goal → List Goal → Kind → ℕ → List Token → Type 0
+Back (takes next) g gs k a w = Holds (next ++ gs) w → Holds (g ∷ gs) (token k a ∷ w)
+Back skips g gs k a w = Holds gs (token k a ∷ w) → Holds (g ∷ gs) (token k a ∷ w)
+Back stops g gs k a w = Unit {0}
+
+-- an operand and links are an expression
+pub whole : (e : Expr) (ls : Links) (w u v : List Token) → w ≡ spell_expr e ++ u → u ≡ spell_links ls ++ v → Groups 6 e → GoodLinks ls → (w ≡ spell_expr (extend_all e ls) ++ v) × Groups 0 (extend_all e ls)
+whole e ls w u v h i g k = (h ∙ ap (λ x. spell_expr e ++ x) i ∙ sym (append_assoc (spell_expr e) (spell_links ls) v) ∙ ap (λ x. x ++ v) (sym (spell_all e ls)), groups_all e ls (any_level 0 e g) k)
+
+abbrev pub ExprThen : Ender → List Goal → List Token → Type 0
+ExprThen n gs w = (e : Expr) × (u : List Token) × (v : List Token) × (w ≡ spell_expr e ++ u) × Groups 0 e × Ended n u v × Holds gs v
+
+expr_then : (n : Ender) (d c : ℕ) (gs : List Goal) (w : List Token) → Holds (operand d ∷ more n c ∷ gs) w → ExprThen n gs w
+expr_then n d c gs w (e, x, q, g, (ls, u, v, r, k, m, rest)) = (extend_all e ls, u, v, (whole e ls w x u q r g k).0, (whole e ls w x u q r g k).1, m, rest)
+
+back_prefix : (d : ℕ) (o : Op) (gs : List Goal) (a : ℕ) (w : List Token) → Back (prefix_entry o d) (operand d) gs (infix_sign o) a w
+back_prefix d plus_op gs a w = λ h. (prefixed positive a h.0, h.1, ap (λ x. token (infix_sign plus_op) a ∷ x) h.2, h.3, h.4)
+back_prefix d minus_op gs a w = λ h. (prefixed negative a h.0, h.1, ap (λ x. token (infix_sign minus_op) a ∷ x) h.2, h.3, h.4)
+back_prefix d _ gs a w = tt
+
+back_group : (a d : ℕ) (gs : List Goal) (w : List Token) → ExprThen until_paren gs w → Holds (operand d ∷ gs) (token left_paren a ∷ w)
+back_group a d gs w (e, u, v, q, g, (b, r), rest) = (grouped a e b, v, ap (λ x. token left_paren a ∷ x) (q ∙ ap (λ x. spell_expr e ++ x) r ∙ sym (append_assoc (spell_expr e) (token right_paren b ∷ []) v)), g, rest)
+
+back_operand : (d : ℕ) (k : Kind) (gs : List Goal) (a : ℕ) (w : List Token) → Back (operand_entry d k) (operand d) gs k a w
+back_operand d (a_name x) gs a w = λ h. (variable x a, w, refl, tt, h)
+back_operand d (a_number n) gs a w = λ h. (number n a, w, refl, tt, h)
+back_operand d (infix_sign o) gs a w = back_prefix d o gs a w
+back_operand d bang gs a w = λ h. (prefixed negation a h.0, h.1, ap (λ x. token bang a ∷ x) h.2, h.3, h.4)
+back_operand d left_paren gs a w = λ h. back_group a d gs w (expr_then until_paren (suc d) (suc d) gs w h)
+back_operand d nondet_word gs a w = λ h. (free a h.0 h.3.0, h.3.1, ap (λ x. token nondet_word a ∷ x) (h.2 ∙ ap (λ x. token left_paren h.0 ∷ x) h.3.2), tt, h.3.3)
+back_operand d _ gs a w = tt
+
+back_link : (n : Ender) (d a : ℕ) (o : Op) (gs : List Goal) (w : List Token) → Holds (operand d ∷ more n d ∷ gs) w → Holds (more n d ∷ gs) (token (infix_sign o) a ∷ w)
+back_link n d a o gs w (e, x, q, g, (ls, u, v, r, k, m, rest)) = (link o a e ls, u, v, ap (λ x. token (infix_sign o) a ∷ x) (q ∙ ap (λ x. spell_expr e ++ x) r ∙ sym (append_assoc (spell_expr e) (spell_links ls) _)), (g, k), m, rest)
+
+back_comma : (d a : ℕ) (gs : List Goal) (w : List Token) → Holds (declarator d ∷ gs) w → Holds (more until_declared d ∷ gs) (token comma a ∷ w)
+back_comma d a gs w (xs, v, q, g, rest) = (ended, token comma a ∷ w, v, refl, tt, (and_more a xs, ap (λ x. token comma a ∷ x) q, g), rest)
+
+back_more : (n : Ender) (d : ℕ) (k : Kind) (gs : List Goal) (a : ℕ) (w : List Token) → Back (more_entry n d k) (more n d) gs k a w
+back_more n d (infix_sign o) gs a w = λ h. back_link n d a o gs w h
+back_more until_paren d right_paren gs a w = λ h. (ended, token right_paren a ∷ w, w, refl, tt, (a, refl), h)
+back_more until_semicolon d semicolon gs a w = λ h. (ended, token semicolon a ∷ w, w, refl, tt, (a, refl), h)
+back_more until_declared d semicolon gs a w = λ h. (ended, token semicolon a ∷ w, w, refl, tt, (no_more a, refl, tt), h)
+back_more until_declared d comma gs a w = λ h. back_comma d a gs w h
+back_more n d _ gs a w = tt
+
+abbrev pub OneCore : List Goal → List Token → Type 0
+OneCore gs w = (c : Core) × (v : List Token) × (w ≡ spell_core c ++ v) × GoodCore c × Clear (ending_core c) v × Holds gs v
+
+shut_before : (x : Ending) (i : ℕ) (v u : List Token) → v ≡ token else_word i ∷ u → Clear x v → x ≡ shut
+shut_before shut i v u h k = refl
+shut_before waiting i [] u h k = cc
+shut_before waiting i (token l a ∷ v) u h k = let e : l ≡ else_word = cc in let m : NotElse else_word = subst (λ x. NotElse x) e k in cc
+
+if_text : (a b c : ℕ) (e : Expr) (s : Sub) (w v u : List Token) → w ≡ token left_paren b ∷ (spell_expr e ++ token right_paren c ∷ v) → v ≡ spell_sub s ++ u → token if_word a ∷ w ≡ spell_core (if_alone a b e c s) ++ u
+if_text a b c e s w v u h i = rw (h, i) (simp append_assoc refl)
+
+while_text : (a b c : ℕ) (e : Expr) (s : Sub) (w v u : List Token) → w ≡ token left_paren b ∷ (spell_expr e ++ token right_paren c ∷ v) → v ≡ spell_sub s ++ u → token while_word a ∷ w ≡ spell_core (repeat a b e c s) ++ u
+while_text a b c e s w v u h i = rw (h, i) (simp append_assoc refl)
+
+else_text : (a b c j : ℕ) (e : Expr) (s t : Sub) (w v u z : List Token) → w ≡ token left_paren b ∷ (spell_expr e ++ token right_paren c ∷ v) → v ≡ spell_sub s ++ u → u ≡ token else_word j ∷ (spell_sub t ++ z) → token if_word a ∷ w ≡ spell_core (if_else a b e c s j t) ++ z
+else_text a b c j e s t w v u z h i k = rw (h, i, k) (simp append_assoc refl)
+
+assume_text : (a b c d : ℕ) (e : Expr) (w v u : List Token) → w ≡ token left_paren b ∷ (spell_expr e ++ token right_paren c ∷ v) → v ≡ token semicolon d ∷ u → token assume_word a ∷ w ≡ spell_core (assumed a b e c d) ++ u
+assume_text a b c d e w v u h i = rw (h, i) (simp append_assoc refl)
+
+set_text : (x : List ℕ) (a b c : ℕ) (g : Change) (e : Expr) (w u v : List Token) → w ≡ spell_expr e ++ u → u ≡ token semicolon c ∷ v → token (a_name x) a ∷ token (change_sign g) b ∷ w ≡ spell_core (set x a g b e c) ++ v
+set_text x a b c g e w u v h i = rw (h, i) (simp append_assoc refl)
+
+core_if : (a i j d : ℕ) (gs : List Goal) (w : List Token) → Holds (condition i ∷ statement in_sub j ∷ maybe_else d ∷ gs) w → OneCore gs (token if_word a ∷ w)
+core_if a i j d gs w (b, e, c, v, q, g, (s, u, r, k, cl, inl (m, rest))) = (if_alone a b e c s, u, if_text a b c e s w v u q r, (g, k), m, rest)
+core_if a i j d gs w (b, e, c, v, q, g, (s, u, r, k, cl, inr (l, t, z, m, n, o, rest))) = (if_else a b e c s l t, z, else_text a b c l e s t w v u z q r m, (g, k, shut_before (ending_sub s) l u _ m cl, n), o, rest)
+
+core_while : (a i j : ℕ) (gs : List Goal) (w : List Token) → Holds (condition i ∷ statement in_sub j ∷ gs) w → OneCore gs (token while_word a ∷ w)
+core_while a i j gs w (b, e, c, v, q, g, (s, u, r, k, cl, rest)) = (repeat a b e c s, u, while_text a b c e s w v u q r, (g, k), cl, rest)
+
+core_assume : (a i : ℕ) (gs : List Goal) (w : List Token) → Holds (condition i ∷ only statement_end ∷ gs) w → OneCore gs (token assume_word a ∷ w)
+core_assume a i gs w (b, e, c, v, q, g, (d, u, r, rest)) = (assumed a b e c d, u, assume_text a b c d e w v u q r, g, tt, rest)
+
+core_block : (a i : ℕ) (gs : List Goal) (w : List Token) → Holds (statement in_block i ∷ gs) w → OneCore gs (token left_brace a ∷ w)
+core_block a i gs w (is, b, v, q, g, rest) = (block a is b, v, ap (λ x. token left_brace a ∷ x) (q ∙ sym (append_assoc (spell_items is) (token right_brace b ∷ []) v)), g, tt, rest)
+
+core_before : (a : ℕ) (s : Direction) (gs : List Goal) (w : List Token) → Holds (some_name ∷ only statement_end ∷ gs) w → OneCore gs (token (step_sign s) a ∷ w)
+core_before a s gs w (x, b, v, q, (c, u, r, rest)) = (step_before s a x b c, u, ap (λ y. token (step_sign s) a ∷ y) (q ∙ ap (λ y. token (a_name x) b ∷ y) r), tt, tt, rest)
+
+in_place : (p : Place) (d : ℕ) (gs : List Goal) (w : List Token) → OneCore (next p d ++ gs) w → Holds (statement p d ∷ gs) w
+in_place in_sub d gs w (c, v, q, g, cl, rest) = (plain c, v, q, g, cl, rest)
+in_place in_block d gs w (c, v, q, g, cl, (is, b, u, r, k, rest)) = (item c is, b, u, q ∙ ap (λ x. spell_core c ++ x) r ∙ sym (append_assoc (spell_core c) (spell_items is) _), (g, k), rest)
+in_place in_main d gs w (c, v, q, g, cl, (is, o, b, u, r, k, rest)) = (item c is, o, b, u, q ∙ ap (λ x. spell_core c ++ x) r ∙ sym (append_assoc (spell_core c) (spell_items is) _), (g, k), rest)
+
+name_block : (x : List ℕ) (a d : ℕ) (gs : List Goal) (w : List Token) → Holds (after_name in_block d ∷ statement in_block d ∷ gs) w → Holds (statement in_block d ∷ gs) (token (a_name x) a ∷ w)
+name_block x a d gs w (inl (b, v, q, (is, c, u, r, g, rest))) = (label x a b is, c, u, ap (λ y. token (a_name x) a ∷ y) (q ∙ ap (λ y. token colon b ∷ y) r), g, rest)
+name_block x a d gs w (inr f) = in_place in_block d gs _ (f x a)
+
+name_main : (x : List ℕ) (a d : ℕ) (gs : List Goal) (w : List Token) → Holds (after_name in_main d ∷ statement in_main d ∷ gs) w → Holds (statement in_main d ∷ gs) (token (a_name x) a ∷ w)
+name_main x a d gs w (inl (b, v, q, (is, o, c, u, r, g, rest))) = (label x a b is, o, c, u, ap (λ y. token (a_name x) a ∷ y) (q ∙ ap (λ y. token colon b ∷ y) r), g, rest)
+name_main x a d gs w (inr f) = in_place in_main d gs _ (f x a)
+
+back_named : (p : Place) (x : List ℕ) (a d : ℕ) (gs : List Goal) (w : List Token) → Holds (after_name p d ∷ (next p d ++ gs)) w → Holds (statement p d ∷ gs) (token (a_name x) a ∷ w)
+back_named in_sub x a d gs w h = h x a
+back_named in_block x a d gs w h = name_block x a d gs w h
+back_named in_main x a d gs w h = name_main x a d gs w h
+
+declaration_block : (a d : ℕ) (gs : List Goal) (w : List Token) → Holds (declarator d ∷ statement in_block d ∷ gs) w → Holds (statement in_block d ∷ gs) (token int_word a ∷ w)
+declaration_block a d gs w (xs, v, q, g, (is, b, u, r, k, rest)) = (declaration a xs is, b, u, ap (λ y. token int_word a ∷ y) (q ∙ ap (λ y. spell_declarators xs ++ y) r ∙ sym (append_assoc (spell_declarators xs) (spell_items is) _)), (g, k), rest)
+
+declaration_main : (a d : ℕ) (gs : List Goal) (w : List Token) → Holds (declarator d ∷ statement in_main d ∷ gs) w → Holds (statement in_main d ∷ gs) (token int_word a ∷ w)
+declaration_main a d gs w (xs, v, q, g, (is, o, b, u, r, k, rest)) = (declaration a xs is, o, b, u, ap (λ y. token int_word a ∷ y) (q ∙ ap (λ y. spell_declarators xs ++ y) r ∙ sym (append_assoc (spell_declarators xs) (spell_items is) _)), (g, k), rest)
+
+back_declaration : (p : Place) (a d : ℕ) (gs : List Goal) (w : List Token) → Back (declaration_entry p d) (statement p d) gs int_word a w
+back_declaration in_sub a d gs w = tt
+back_declaration in_block a d gs w = λ h. declaration_block a d gs w h
+back_declaration in_main a d gs w = λ h. declaration_main a d gs w h
+
+back_close : (p : Place) (a d : ℕ) (gs : List Goal) (w : List Token) → Back (close_entry p) (statement p d) gs right_brace a w
+back_close in_sub a d gs w = tt
+back_close in_block a d gs w = λ h. (no_items, a, w, refl, tt, h)
+back_close in_main a d gs w = λ h. (no_items, no_return, a, w, refl, tt, h)
+
+return_main : (a d : ℕ) (gs : List Goal) (w : List Token) → Holds (returned ∷ only statement_end ∷ only brace_closing ∷ gs) w → Holds (statement in_main d ∷ gs) (token return_word a ∷ w)
+return_main a d gs w (just n b, v, q, (c, u, r, (e, x, m, rest))) = (no_items, returns a n b c, e, x, ap (λ y. token return_word a ∷ y) (q ∙ ap (λ y. token (a_number n) b ∷ y) (r ∙ ap (λ y. token semicolon c ∷ y) m)), tt, rest)
+return_main a d gs w (minus i n b, v, q, (c, u, r, (e, x, m, rest))) = (no_items, returns_minus a i n b c, e, x, ap (λ y. token return_word a ∷ y) (q ∙ ap (λ y. token (infix_sign minus_op) i ∷ token (a_number n) b ∷ y) (r ∙ ap (λ y. token semicolon c ∷ y) m)), tt, rest)
+
+back_return : (p : Place) (a d : ℕ) (gs : List Goal) (w : List Token) → Back (return_entry p) (statement p d) gs return_word a w
+back_return in_sub a d gs w = tt
+back_return in_block a d gs w = tt
+back_return in_main a d gs w = λ h. return_main a d gs w h
+
+back_statement : (p : Place) (d : ℕ) (k : Kind) (gs : List Goal) (a : ℕ) (w : List Token) → Back (statement_entry p d k) (statement p d) gs k a w
+back_statement p d (a_name x) gs a w = λ h. back_named p x a d gs w h
+back_statement p d semicolon gs a w = λ h. in_place p d gs _ (empty a, w, refl, tt, tt, h)
+back_statement p d left_brace gs a w = λ h. in_place p d gs _ (core_block a (suc d) (next p d ++ gs) w h)
+back_statement p d right_brace gs a w = back_close p a d gs w
+back_statement p d int_word gs a w = back_declaration p a d gs w
+back_statement p d return_word gs a w = back_return p a d gs w
+back_statement p d if_word gs a w = λ h. in_place p d gs _ (core_if a (suc d) (suc d) (suc d) (next p d ++ gs) w h)
+back_statement p d while_word gs a w = λ h. in_place p d gs _ (core_while a (suc d) (suc d) (next p d ++ gs) w h)
+back_statement p d assume_word gs a w = λ h. in_place p d gs _ (core_assume a d (next p d ++ gs) w h)
+back_statement p d (step_sign s) gs a w = λ h. in_place p d gs _ (core_before a s (next p d ++ gs) w h)
+back_statement p d _ gs a w = tt
+
+-- a name that a statement begins with
+abbrev NameThen : List Goal → List Token → Type 0
+NameThen gs w = (x : List ℕ) (a : ℕ) → OneCore gs (token (a_name x) a ∷ w)
+
+core_named : (p : Place) (d : ℕ) (gs : List Goal) (w : List Token) → NameThen gs w → Holds (after_name p d ∷ gs) w
+core_named in_sub d gs w f = λ x a. sub_of d gs _ (f x a) where
+  sub_of : (d : ℕ) (gs : List Goal) (w : List Token) → OneCore gs w → Holds (statement in_sub d ∷ gs) w
+  sub_of d gs w (c, v, q, g, cl, rest) = (plain c, v, q, g, cl, rest)
+core_named in_block d gs w f = inr f
+core_named in_main d gs w f = inr f
+
+set_named : (g : Change) (a : ℕ) (gs : List Goal) (w : List Token) → ExprThen until_semicolon gs w → NameThen gs (token (change_sign g) a ∷ w)
+set_named g a gs w (e, u, v, q, k, (c, r), rest) = λ x b. (set x b g a e c, v, set_text x b a c g e w u v q r, k, tt, rest)
+
+step_named : (s : Direction) (a : ℕ) (gs : List Goal) (w : List Token) → Holds (only statement_end ∷ gs) w → NameThen gs (token (step_sign s) a ∷ w)
+step_named s a gs w (c, v, q, rest) = λ x b. (step_after x b s a c, v, ap (λ y. token (a_name x) b ∷ token (step_sign s) a ∷ y) q, tt, tt, rest)
+
+back_label : (p : Place) (d : ℕ) (gs : List Goal) (a : ℕ) (w : List Token) → Back (label_entry p d) (after_name p d) gs colon a w
+back_label in_sub d gs a w = λ h x b. (labelled x b a h.0, h.1, ap (λ y. token (a_name x) b ∷ token colon a ∷ y) h.2, h.3, h.4, h.5)
+back_label in_block d gs a w = λ h. inl (a, w, refl, h)
+back_label in_main d gs a w = λ h. inl (a, w, refl, h)
+
+back_name : (p : Place) (d : ℕ) (k : Kind) (gs : List Goal) (a : ℕ) (w : List Token) → Back (name_entry p d k) (after_name p d) gs k a w
+back_name p d colon gs a w = back_label p d gs a w
+back_name p d (change_sign g) gs a w = λ h. core_named p d gs _ (set_named g a gs w (expr_then until_semicolon d d gs w h))
+back_name p d (step_sign s) gs a w = λ h. core_named p d gs _ (step_named s a gs w h)
+back_name p d _ gs a w = tt
+
+back_else : (d : ℕ) (k : Kind) (gs : List Goal) (a : ℕ) (w : List Token) → Back (else_entry d k) (maybe_else d) gs k a w
+back_else d else_word gs a w = λ h. inr (a, h.0, h.1, ap (λ x. token else_word a ∷ x) h.2, h.3, h.4, h.5)
+back_else d _ gs a w = λ h. inl (refl, h)
+
+condition_open : (d a : ℕ) (gs : List Goal) (w : List Token) → ExprThen until_paren gs w → Holds (condition d ∷ gs) (token left_paren a ∷ w)
+condition_open d a gs w (e, u, v, q, g, (c, r), rest) = (a, e, c, v, ap (λ x. token left_paren a ∷ x) (q ∙ ap (λ x. spell_expr e ++ x) r), g, rest)
+
+back_condition : (d : ℕ) (k : Kind) (gs : List Goal) (a : ℕ) (w : List Token) → Back (condition_entry d k) (condition d) gs k a w
+back_condition d left_paren gs a w = λ h. condition_open d a gs w (expr_then until_paren d d gs w h)
+back_condition d _ gs a w = tt
+
+back_declarator : (d : ℕ) (k : Kind) (gs : List Goal) (a : ℕ) (w : List Token) → Back (declarator_entry d k) (declarator d) gs k a w
+back_declarator d (a_name x) gs a w = λ h. h x a
+back_declarator d _ gs a w = tt
+
+given_text : (x : List ℕ) (a b c : ℕ) (e : Expr) (w u v : List Token) → w ≡ spell_expr e ++ u → u ≡ token semicolon c ∷ v → token (a_name x) a ∷ token (change_sign replaces) b ∷ w ≡ spell_declarators (declares (given x a b e) c) ++ v
+given_text x a b c e w u v h i = rw (h, i) (simp append_assoc refl)
+
+more_text : (x : List ℕ) (a b c : ℕ) (e : Expr) (xs : Declarators) (w u v : List Token) → w ≡ spell_expr e ++ u → u ≡ token comma c ∷ (spell_declarators xs ++ v) → token (a_name x) a ∷ token (change_sign replaces) b ∷ w ≡ spell_declarators (declares_more (given x a b e) c xs) ++ v
+more_text x a b c e xs w u v h i = rw (h, i) (simp append_assoc refl)
+
+given_then : (d a : ℕ) (gs : List Goal) (w : List Token) → ExprThen until_declared gs w → Holds (declared d ∷ gs) (token (change_sign replaces) a ∷ w)
+given_then d a gs w (e, u, v, q, g, (no_more c, r, k), rest) = λ x b. (declares (given x b a e) c, v, given_text x b a c e w u v q r, g, rest)
+given_then d a gs w (e, u, v, q, g, (and_more c xs, r, k), rest) = λ x b. (declares_more (given x b a e) c xs, v, more_text x b a c e xs w u v q r, (g, k), rest)
+
+bare_then : (d a : ℕ) (gs : List Goal) (w : List Token) → Holds (declarator d ∷ gs) w → Holds (declared d ∷ gs) (token comma a ∷ w)
+bare_then d a gs w (xs, v, q, g, rest) = λ x b. (declares_more (bare x b) a xs, v, ap (λ y. token (a_name x) b ∷ token comma a ∷ y) q, (tt, g), rest)
+
+back_declared : (d : ℕ) (k : Kind) (gs : List Goal) (a : ℕ) (w : List Token) → Back (declared_entry d k) (declared d) gs k a w
+back_declared d (change_sign replaces) gs a w = λ h. given_then d a gs w (expr_then until_declared d d gs w h)
+back_declared d comma gs a w = λ h. bare_then d a gs w h
+back_declared d semicolon gs a w = λ h x b. (declares (bare x b) a, w, refl, tt, h)
+back_declared d _ gs a w = tt
+
+back_some_name : (k : Kind) (gs : List Goal) (a : ℕ) (w : List Token) → Back (some_name_entry k) some_name gs k a w
+back_some_name (a_name x) gs a w = λ h. (x, a, w, refl, h)
+back_some_name _ gs a w = tt
+
+back_parameters : (k : Kind) (gs : List Goal) (a : ℕ) (w : List Token) → Back (parameters_entry k) parameters gs k a w
+back_parameters void_word gs a w = λ h. (void_at a, h.0, h.1, ap (λ x. token void_word a ∷ x) h.2, h.3)
+back_parameters right_paren gs a w = λ h. (nothing, a, w, refl, h)
+back_parameters _ gs a w = tt
+
+back_returned : (k : Kind) (gs : List Goal) (a : ℕ) (w : List Token) → Back (returned_entry k) returned gs k a w
+back_returned (infix_sign minus_op) gs a w = λ h. (minus a h.0 h.1, h.2, ap (λ x. token (infix_sign minus_op) a ∷ x) h.3, h.4)
+back_returned (a_number n) gs a w = λ h. (just n a, w, refl, h)
+back_returned _ gs a w = tt
+
+back_some_number : (k : Kind) (gs : List Goal) (a : ℕ) (w : List Token) → Back (some_number_entry k) some_number gs k a w
+back_some_number (a_number n) gs a w = λ h. (n, a, w, refl, h)
+back_some_number _ gs a w = tt
+
+back_only : (m : Mark) (k : Kind) (gs : List Goal) (a : ℕ) (w : List Token) → Back (only_entry m k) (only m) gs k a w
+back_only opening left_paren gs a w = λ h. (a, w, refl, h)
+back_only closing right_paren gs a w = λ h. (a, w, refl, h)
+back_only brace_opening left_brace gs a w = λ h. (a, w, refl, h)
+back_only brace_closing right_brace gs a w = λ h. (a, w, refl, h)
+back_only statement_end semicolon gs a w = λ h. (a, w, refl, h)
+back_only main_name main_word gs a w = λ h. (a, w, refl, h)
+back_only int_type int_word gs a w = λ h. (a, w, refl, h)
+back_only text_end the_end gs a w = λ h. (a, w, refl, h)
+back_only m _ gs a w = tt
+
+back : (g : Goal) (k : Kind) (gs : List Goal) (a : ℕ) (w : List Token) → Back (entry g k) g gs k a w
+back (operand d) k gs a w = back_operand d k gs a w
+back (more n d) k gs a w = back_more n d k gs a w
+back (statement p d) k gs a w = back_statement p d k gs a w
+back (after_name p d) k gs a w = back_name p d k gs a w
+back (maybe_else d) k gs a w = back_else d k gs a w
+back (condition d) k gs a w = back_condition d k gs a w
+back (declarator d) k gs a w = back_declarator d k gs a w
+back (declared d) k gs a w = back_declared d k gs a w
+back some_name k gs a w = back_some_name k gs a w
+back parameters k gs a w = back_parameters k gs a w
+back returned k gs a w = back_returned k gs a w
+back some_number k gs a w = back_some_number k gs a w
+back (only m) k gs a w = back_only m k gs a w
+
+abbrev OnNext : Option (List Goal) → List Goal → Token → List Token → Type 0
+OnNext None gs t w = Unit {0}
+OnNext (Some next) gs t w = Holds next w → Holds gs (t ∷ w)
+
+entry_back : (e : Entry) (g : Goal) (gs : List Goal) (k : Kind) (a : ℕ) (w : List Token) → Back e g gs k a w → OnNext (step gs k) gs (token k a) w → OnNext (elim e as (λ x. Option (List Goal)) [ takes next ↦ Some (next ++ gs) | skips ↦ step gs k | stops ↦ None ]) (g ∷ gs) (token k a) w
+entry_back (takes next) g gs k a w h i = h
+entry_back skips g gs k a w h i = skip_back (step gs k) g gs (token k a) w h i where
+  skip_back : (o : Option (List Goal)) (g : Goal) (gs : List Goal) (t : Token) (w : List Token) → (Holds gs (t ∷ w) → Holds (g ∷ gs) (t ∷ w)) → OnNext o gs t w → OnNext o (g ∷ gs) t w
+  skip_back None g gs t w h i = tt
+  skip_back (Some next) g gs t w h i = λ x. h (i x)
+entry_back stops g gs k a w h i = tt
+
+step_back : (gs : List Goal) (k : Kind) (a : ℕ) (w : List Token) → OnNext (step gs k) gs (token k a) w
+step_back [] k a w = tt
+step_back (g ∷ gs) k a w = entry_back (entry g k) g gs k a w (back g k gs a w) (step_back gs k a w)
+
+run_back : (o : Option (List Goal)) (gs : List Goal) (t : Token) (w : List Token) → OnNext o gs t w → ((next : List Goal) → run next w ≡ Some [] → Holds next w) → elim o as (λ x. Option (List Goal)) [ None ↦ None | Some next ↦ run next w ] ≡ Some [] → Holds gs (t ∷ w)
+run_back None gs t w h f e = cc
+run_back (Some next) gs t w h f e = h (f next e)
+
+some_nil : (gs : List Goal) → ◌≡◌ {A = Option (List Goal)} (Some gs) (Some []) → Holds gs []
+some_nil [] e = refl
+some_nil (g ∷ gs) e = cc
+
+pub holds : (w : List Token) (gs : List Goal) → run gs w ≡ Some [] → Holds gs w
+holds [] gs e = some_nil gs e
+holds (token k a ∷ w) gs e = run_back (step gs k) gs (token k a) w (step_back gs k a w) (λ next i. holds w next i) e
+
+-- What is accepted reads as a program.
+pub accepted_reads : (w : List Token) → run start w ≡ Some [] → (p : Program) × Reads w p
+accepted_reads w e = found w (holds w start e) where
+  found : (w : List Token) → Holds start w → (p : Program) × Reads w p
+  found w (a, v0, q0, (b, v1, q1, (c, v2, q2, (ps, d, v3, q3, (e, v4, q4, (is, r, f, v5, q5, g, (h, v6, q6, n))))))) = (program a b c ps d e is r f h, record { spelled = sym (q0 ∙ ap (λ x. token int_word a ∷ x) (q1 ∙ ap (λ x. token main_word b ∷ x) (q2 ∙ ap (λ x. token left_paren c ∷ x) (q3 ∙ ap (λ x. spell_parameters ps ++ token right_paren d ∷ x) (q4 ∙ ap (λ x. token left_brace e ∷ x) (q5 ∙ ap (λ x. spell_items is ++ (spell_return r ++ token right_brace f ∷ x)) (q6 ∙ ap (λ x. token the_end h ∷ x) n))))))); good = g })

@@ -1,0 +1,10 @@
+use Rattle.tm_chain.specs.Offers.{Best, First}
+use Rattle.tm_improvements.proofs.Improved.{best_means, first_means, solved_law}
+use Rattle.tm_improvements.proofs.law.solutions_are_ends.Goals as goal
+use Rattle.tm_offers.specs.Policies.{by_best, by_first}
+
+pub returns-clause-best : goal.returns-clause-best
+returns-clause-best c = solved_law by_best Best best_means
+
+pub returns-clause-first : goal.returns-clause-first
+returns-clause-first c = solved_law by_first First first_means

@@ -1,0 +1,5 @@
+pub mod Once
+pub mod Growth
+pub mod Placed
+pub mod Standing
+pub mod Total

@@ -1,0 +1,11 @@
+pub mod Clamped
+pub mod Exceeding
+pub mod Improved
+pub mod KnownValues
+pub mod NextPick
+pub mod OfferLists
+pub mod Offered
+pub mod Products
+pub mod Ranges
+pub mod Unknowns
+pub mod ValuesAgree

@@ -1,0 +1,26 @@
+use Rattle.std.proofs.Common.{◌∙◌, refl, sym, subst}
+use Rattle.tm_eqsys.specs.View.{equations_of}
+use Rattle.tm_oper.specs.Values.{IsOperatorFault}
+use Rattle.tm_offers.specs.AtBounds.{vector_at, edge_at, row_at}
+use Rattle.tm_offers.proofs.improvement.solved_value.Goals as goal
+
+pub returns-in-Ok : goal.returns-in-Ok
+returns-in-Ok c =
+    let system = c.args.system.now in
+    c.supremum.ensures
+    ∙ sym c.in-Ok.ensures.supremum
+
+pub returns-in-Err-Wide : goal.returns-in-Err-Wide
+returns-in-Err-Wide c =
+    let system = c.args.system.now in
+    record {
+      round = refl;
+      edge = c.args.edge;
+      is_edge = c.requires.edge;
+      row = c.args.row;
+      is_row = c.requires.row;
+      part = c.in-Err-Wide.part;
+      site = refl;
+      wide = subst (IsOperatorFault (equations_of system) (vector_at system c.args.bounds.now) (edge_at system c.args.edge) (row_at system c.args.row)) c.in-Err-Wide.field-0-is
+          c.in-Err-Wide.ensures.refused;
+    }

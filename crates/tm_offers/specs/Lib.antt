@@ -1,0 +1,7 @@
+pub mod Improvement
+pub mod Offers
+pub mod PickLimit
+pub mod Stops
+pub mod AtBounds
+pub mod Policies
+pub mod Known

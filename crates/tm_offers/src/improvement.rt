@@ -1,0 +1,257 @@
+//! Improvement.
+
+ghost use Rattle.std.specs.Prelude.{◌≡◌, ◌↔◌, ◌*◌, ◌<◌, length, get_or, IfOk, IfErr, IfSome, IsNone, MatchResult, None};
+ghost use Rattle.tm_eqsys.specs.View.{equations_of};
+ghost use Rattle.tm_compose.specs.Composed.{AreComposed};
+ghost use Rattle.tm_offers.specs.AtBounds.{vector_at, IsTransformerAt, IsOfferAt, IsNextPick, NothingExceeds, IsTightPick, IsSupportedPick, IsOfferStop};
+ghost use Rattle.tm_frac.specs.Extended.{extended};
+ghost use Rattle.tm_compose.specs.Value.{number_of};
+ghost use Rattle.tm_offers.specs.Improvement.{UnknownBecomes};
+ghost use Rattle.tm_offers.specs.Known.{AreKnown};
+
+use crate::chooser::{Chooser, Policy};
+use crate::known::Known;
+use crate::offer::{EdgeNumbers, Offer, Values};
+use crate::stop::Stop;
+use std::alloc::Global;
+use tm_eqsys::{Bounds, PartFault, Pick, Site, Spot, System};
+use tm_frac::Ext;
+use tm_oper::{Paths, Value, operator};
+
+/// The supremum that a transformer's value tells. Takes no memory.
+pub fn supremum(value: &Value) -> Ext
+    ensures { extended result ≡ number_of value.now }
+{
+    match value {
+        Value::Unreached { .. } | Value::Empty { .. } => Ext::NegInf,
+        Value::Best { value, .. } => Ext::Fin(*value),
+        Value::Unbounded { .. } => Ext::PosInf,
+    }
+}
+
+// The transformer of an edge and a row at the bounds, solved anew.
+fn solved_value(
+    alloc: Global,
+    system: &System,
+    paths: &Paths,
+    bounds: &Bounds,
+    edge: u32,
+    row: u32,
+    round: u32,
+) -> Result<Ext, Stop>
+    requires composed { AreComposed (equations_of system.now) paths.now }
+    requires bounds { length bounds.now ≡ length system.now.flow.points * length system.now.template }
+    requires edge { edge < length system.now.flow.edges }
+    requires row { row < length system.now.template }
+    ensures { MatchResult result (IsTransformerAt system.now bounds.now edge row) (IsOfferStop system.now bounds.now round) }
+{
+    match operator(alloc, system, paths, bounds, edge, row) {
+        Ok(value) => Ok(supremum(&value)),
+        Err(PartFault::Wide { part, wide }) => Err(Stop::Wide(Spot {
+            round,
+            site: Site::Offer { edge, row, part },
+            wide,
+        })),
+        Err(PartFault::NoMemory) => Err(Stop::NoMemory),
+    }
+}
+
+// The transformer of an edge and a row at the bounds: the known one, or else solved, and known from then on.
+fn offered_value(
+    alloc: Global,
+    system: &System,
+    paths: &Paths,
+    bounds: &Bounds,
+    edge: u32,
+    row: u32,
+    round: u32,
+    known: &mut Known,
+) -> Result<Ext, Stop>
+    requires composed { AreComposed (equations_of system.now) paths.now }
+    requires bounds { length bounds.now ≡ length system.now.flow.points * length system.now.template }
+    requires edge { edge < length system.now.flow.edges }
+    requires row { row < length system.now.template }
+    requires known { AreKnown system.now bounds.now known.old }
+    ensures value { MatchResult result (IsTransformerAt system.now bounds.now edge row) (IsOfferStop system.now bounds.now round) }
+    ensures known { AreKnown system.now bounds.now known.new }
+{
+    match known.at(system, edge, row) {
+        Some(value) => Ok(value),
+        None => {
+            let value = solved_value(alloc, system, paths, bounds, edge, row, round)?;
+            known.keep(system, edge, row, &value);
+            Ok(value)
+        }
+    }
+}
+
+// What the unknown of a point and a row is offered.
+fn make_offer(
+    alloc: Global,
+    system: &System,
+    paths: &Paths,
+    bounds: &Bounds,
+    point: u32,
+    row: u32,
+    round: u32,
+    known: &mut Known,
+) -> Result<Offer, Stop>
+    requires composed { AreComposed (equations_of system.now) paths.now }
+    requires bounds { length bounds.now ≡ length system.now.flow.points * length system.now.template }
+    requires point { point < length system.now.flow.points }
+    requires row { row < length system.now.template }
+    requires known { AreKnown system.now bounds.now known.old }
+    ensures offer { MatchResult result (IsOfferAt system.now bounds.now point row) (IsOfferStop system.now bounds.now round) }
+    ensures known { AreKnown system.now bounds.now known.new }
+{
+    let rows = system.template.as_slice().len() as u32;
+    let mut edges = Vec::new(alloc);
+    let mut values = Vec::new(alloc);
+    for (number, edge) in system.flow.edges.as_slice().iter().enumerate() {
+        if edge.to == point {
+            let value = offered_value(
+                alloc,
+                system,
+                paths,
+                bounds,
+                number as u32,
+                row,
+                round,
+                known,
+            )?;
+            edges.push(number as u32)?;
+            values.push(value)?;
+        }
+    }
+    Ok(Offer {
+        bound: bounds.at(point * rows + row),
+        edges: EdgeNumbers::new(edges),
+        values: Values::new(values),
+    })
+}
+
+// Gives an unknown its next edge, and tells whether one was offered.
+fn improve_at(
+    alloc: Global,
+    system: &System,
+    paths: &Paths,
+    bounds: &Bounds,
+    pick: &Pick,
+    round: u32,
+    chooser: &Chooser,
+    unknown: u32,
+    better: &mut Pick,
+    known: &mut Known,
+) -> Result<bool, Stop>
+    requires composed { AreComposed (equations_of system.now) paths.now }
+    requires bounds { length bounds.now ≡ length system.now.flow.points * length system.now.template }
+    requires pick { length pick.now ≡ length system.now.flow.points * length system.now.template }
+    requires better { length better.old ≡ length system.now.flow.points * length system.now.template }
+    requires unknown { unknown < length system.now.flow.points * length system.now.template }
+    requires known { AreKnown system.now bounds.now known.old }
+    ensures size { length better.new ≡ length better.old }
+    ensures others { IfOk result (λ offered. (u : _) → (u ≡ unknown → ⊥) → get_or better.new u None ≡ get_or better.old u None) }
+    ensures becomes { IfOk result (λ offered. UnknownBecomes (equations_of system.now) (vector_at system.now bounds.now) (λ offer k. (shown : _) × Policy.post chooser.now.policy shown k × (shown.now ≡ offer)) unknown (get_or pick.now unknown None) (get_or better.new unknown None) offered) }
+    ensures stop { IfErr result (IsOfferStop system.now bounds.now round) }
+    ensures known { AreKnown system.now bounds.now known.new }
+{
+    let rows = system.template.as_slice().len() as u32;
+    let offer = make_offer(
+        alloc,
+        system,
+        paths,
+        bounds,
+        unknown / rows,
+        unknown % rows,
+        round,
+        known,
+    )?;
+    if offer.some_exceeds() {
+        let position = chooser.choose(&offer);
+        better.set(unknown, Some(offer.edges.as_slice()[position]));
+        Ok(true)
+    } else {
+        better.set(unknown, pick.at(unknown));
+        Ok(false)
+    }
+}
+
+/// The next pick at the bounds, as `improve` gives it, where some of their transformers may be known already; those that are found on the way are kept.
+///
+/// # Errors
+///
+/// As `improve`.
+pub fn improve_from(
+    alloc: Global,
+    system: &System,
+    paths: &Paths,
+    bounds: &Bounds,
+    pick: &Pick,
+    round: u32,
+    chooser: &Chooser,
+    known: &mut Known,
+) -> Result<Option<Pick>, Stop>
+    requires composed { AreComposed (equations_of system.now) paths.now }
+    requires bounds { length bounds.now ≡ length system.now.flow.points * length system.now.template }
+    requires pick { length pick.now ≡ length system.now.flow.points * length system.now.template }
+    requires known { AreKnown system.now bounds.now known.old }
+    ensures none { IfOk result (λ next. IsNone next ↔ NothingExceeds system.now bounds.now) }
+    ensures next { IfOk result (λ next. IsNextPick system.now bounds.now (λ offer k. (shown : _) × Policy.post chooser.now.policy shown k × (shown.now ≡ offer)) pick.now next) }
+    ensures size { IfOk result (λ next. IfSome next (λ better. length better ≡ length pick.now)) }
+    ensures supported { IfOk result (λ next. IfSome next (λ better. IsTightPick system.now bounds.now pick.now → IsSupportedPick system.now bounds.now better)) }
+    ensures stop { IfErr result (IsOfferStop system.now bounds.now round) }
+    ensures known { AreKnown system.now bounds.now known.new }
+{
+    let count = system.flow.points.as_slice().len() * system.template.as_slice().len();
+    let mut better = Pick::none(alloc, system)?;
+    let mut improved = false;
+    for unknown in 0..count as u32 {
+        if improve_at(
+            alloc,
+            system,
+            paths,
+            bounds,
+            pick,
+            round,
+            chooser,
+            unknown,
+            &mut better,
+            known,
+        )? {
+            improved = true;
+        }
+    }
+    if improved { Ok(Some(better)) } else { Ok(None) }
+}
+
+/// The next pick at the bounds. For each unknown in order, the offer has the transformers of all edges into its point, by edge
+/// number. Where one exceeds the unknown's bound, the edge at the position that the chooser answers becomes its edge; else the
+/// unknown keeps its own. `None` exactly where no transformer exceeds its bound anywhere.
+///
+/// # Errors
+///
+/// `Wide` only where an operation of the transformer of an edge and a row is too wide for a fraction at these bounds, at the
+/// site of the offer of that edge and row, in this round.
+pub fn improve(
+    alloc: Global,
+    system: &System,
+    paths: &Paths,
+    bounds: &Bounds,
+    pick: &Pick,
+    round: u32,
+    chooser: &Chooser,
+) -> Result<Option<Pick>, Stop>
+    requires composed { AreComposed (equations_of system.now) paths.now }
+    requires bounds { length bounds.now ≡ length system.now.flow.points * length system.now.template }
+    requires pick { length pick.now ≡ length system.now.flow.points * length system.now.template }
+    ensures none { IfOk result (λ next. IsNone next ↔ NothingExceeds system.now bounds.now) }
+    ensures next { IfOk result (λ next. IsNextPick system.now bounds.now (λ offer k. (shown : _) × Policy.post chooser.now.policy shown k × (shown.now ≡ offer)) pick.now next) }
+    ensures size { IfOk result (λ next. IfSome next (λ better. length better ≡ length pick.now)) }
+    ensures supported { IfOk result (λ next. IfSome next (λ better. IsTightPick system.now bounds.now pick.now → IsSupportedPick system.now bounds.now better)) }
+    ensures stop { IfErr result (IsOfferStop system.now bounds.now round) }
+{
+    let mut known = Known::none(alloc, system)?;
+    improve_from(
+        alloc, system, paths, bounds, pick, round, chooser, &mut known,
+    )
+}

@@ -1,0 +1,4 @@
+pub mod OneMeaning
+pub mod Answers
+pub mod WholeTexts
+pub mod Limits

@@ -1,0 +1,3 @@
+pub mod Appended
+pub mod Declared
+pub mod Counts

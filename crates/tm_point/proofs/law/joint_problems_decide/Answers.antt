@@ -1,5 +1,0 @@
-use Rattle.tm_point.proofs.JointRay.{joint_outcome}
-use Rattle.tm_point.proofs.law.joint_problems_decide.Goals as goal
-
-pub returns : goal.returns
-returns c = joint_outcome

@@ -1,5 +1,0 @@
-use Rattle.tm_point.proofs.TransformerOf.{transformer_by_source}
-use Rattle.tm_point.proofs.law.transformers_are_local.Goals as goal
-
-pub returns : goal.returns
-returns c = transformer_by_source

@@ -1,5 +1,0 @@
-use Rattle.tm_round.proofs.Picks.{value_flat}
-use Rattle.tm_round.proofs.law.transformers_are_flat.Goals as goal
-
-pub returns : goal.returns
-returns c = value_flat

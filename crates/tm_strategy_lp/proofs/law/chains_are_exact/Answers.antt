@@ -1,0 +1,5 @@
+use Rattle.tm_strategy_lp.proofs.Laws.{chains_law}
+use Rattle.tm_strategy_lp.proofs.law.chains_are_exact.Goals as goal
+
+pub returns : goal.returns
+returns c = chains_law

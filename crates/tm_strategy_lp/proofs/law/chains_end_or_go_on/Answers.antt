@@ -1,0 +1,13 @@
+use Rattle.tm_chain.specs.Offers.{Best, First}
+use Rattle.tm_chain.proofs.OnePosition.{best_is_one, first_is_one}
+use Rattle.tm_strategy_lp.proofs.Choosing.{decided_law, every_decided, best_chooses, first_chooses}
+use Rattle.tm_strategy_lp.proofs.law.chains_end_or_go_on.Goals as goal
+
+pub returns-clause-best : goal.returns-clause-best
+returns-clause-best c = decided_law Best best_chooses best_is_one
+
+pub returns-clause-first : goal.returns-clause-first
+returns-clause-first c = decided_law First first_chooses first_is_one
+
+pub returns-clause-by_offers : goal.returns-clause-by_offers
+returns-clause-by_offers c = every_decided

@@ -1,0 +1,5 @@
+use Rattle.tm_strategy_lp.proofs.Laws.{cuts_law}
+use Rattle.tm_strategy_lp.proofs.law.cuts_are_exact.Goals as goal
+
+pub returns : goal.returns
+returns c = cuts_law

@@ -1,0 +1,5 @@
+use Rattle.tm_strategy_lp.proofs.Laws.{growths_law}
+use Rattle.tm_strategy_lp.proofs.law.growths_are_exact.Goals as goal
+
+pub returns : goal.returns
+returns c = growths_law

@@ -1,0 +1,12 @@
+use Rattle.tm_chain.specs.Offers.{Best, First, By}
+use Rattle.tm_strategy_lp.proofs.Choosing.{improvements_law}
+use Rattle.tm_strategy_lp.proofs.law.rounds_are_improvements.Goals as goal
+
+pub returns-clause-best : goal.returns-clause-best
+returns-clause-best c = improvements_law Best
+
+pub returns-clause-first : goal.returns-clause-first
+returns-clause-first c = improvements_law First
+
+pub returns-clause-by_offers : goal.returns-clause-by_offers
+returns-clause-by_offers c = λ answer. improvements_law (By answer)

@@ -1,0 +1,5 @@
+use Rattle.tm_strategy_lp.proofs.Laws.{end_law}
+use Rattle.tm_strategy_lp.proofs.law.rounds_end.Goals as goal
+
+pub returns : goal.returns
+returns c = end_law

@@ -1,0 +1,5 @@
+use Rattle.tm_strategy_lp.proofs.Laws.{rows_law}
+use Rattle.tm_strategy_lp.proofs.law.rows_decide.Goals as goal
+
+pub returns : goal.returns
+returns c = rows_law

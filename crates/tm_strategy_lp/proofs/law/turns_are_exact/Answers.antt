@@ -1,0 +1,5 @@
+use Rattle.tm_strategy_lp.proofs.Laws.{turns_law}
+use Rattle.tm_strategy_lp.proofs.law.turns_are_exact.Goals as goal
+
+pub returns : goal.returns
+returns c = turns_law

@@ -1,0 +1,11 @@
+pub mod Evidence
+pub mod Raises
+pub mod JointItems
+pub mod Cut
+pub mod Rounds
+pub mod Agreement
+pub mod Made
+pub mod Turns
+pub mod EvidenceLaws
+pub mod RoundLaws
+pub mod ChainLaws

@@ -1,0 +1,40 @@
+use Rattle.std.proofs.Common.{ap, ◌∙◌, sym, subst}
+use Rattle.tm_cli.specs.Request.{analysis_text}
+use Rattle.tm_top.specs.Endings.{IsAnswerTo}
+use Rattle.tm_top.specs.Messages.{line_in}
+use Rattle.tm_top.specs.Parted.{domain_of}
+use Rattle.tm_top.specs.Reports.{IsPutOf, IsReportOn}
+use Rattle.tm_top.specs.Run.{FailsOnlyIn}
+use Rattle.tm_top.specs.Texts.{IsSolvedSystem}
+use Rattle.tm_cli.specs.declared.request.Request.TheVariants.{Analyse}
+use Rattle.tm_top.proofs.Answered.{content_once, texts_answer, with_text_once}
+use Rattle.tm_top.proofs.Worded.{output_map}
+use Rattle.tm_top.proofs.analyse.analyse.Goals as goal
+
+pub returns-in-Ok-clause-answer : goal.returns-in-Ok-clause-answer
+returns-in-Ok-clause-answer g c = texts_answer _ _ _ _ _ _ c.in-Ok.ensures.inputs c.answer.ensures.answer
+
+pub returns-in-Ok-clause-held : goal.returns-in-Ok-clause-held
+returns-in-Ok-clause-held g c =
+    output_map (IsPutOf c.args.purpose c.in-Ok.inputs.text.items (domain_of c.in-Ok.inputs.rows) c.args.analysis.policy c.args.analysis.improvements)
+    (IsReportOn (g.S.Shelf.files c.args.shelf.now) (Analyse c.args.purpose (analysis_text c.args.analysis))) _ _ _
+    (λ bytes report. (c.in-Ok.inputs.text.items, domain_of c.in-Ok.inputs.rows, c.in-Ok.ensures.inputs, report)) c.answer.ensures.held
+
+pub returns-in-Ok-clause-line : goal.returns-in-Ok-clause-line
+returns-in-Ok-clause-line g c =
+    λ text told h. c.answer.ensures.line ∙ ap (λ t. line_in t c.answer.result.status) (content_once _ _ _ _ told c.in-Ok.ensures.inputs.program h)
+
+pub returns-in-Ok-clause-rows : goal.returns-in-Ok-clause-rows
+returns-in-Ok-clause-rows g c =
+    λ text rows system told inputs is. c.answer.ensures.rows system
+    (subst (λ r. IsSolvedSystem c.in-Ok.inputs.text.items r system) (with_text_once _ _ _ _ told inputs.rows_are c.in-Ok.ensures.inputs.rows_are)
+    (subst (λ t. IsSolvedSystem t rows system) (content_once _ _ _ _ told inputs.program c.in-Ok.ensures.inputs.program) is))
+
+pub returns-in-Err-clause-answer : goal.returns-in-Err-clause-answer
+returns-in-Err-clause-answer g c =
+    subst (λ s. IsAnswerTo (g.S.Shelf.files c.args.shelf.now) (Analyse c.args.purpose (analysis_text c.args.analysis)) s) (sym c.plain_ending.ensures.status) (c.in-Err.ensures.answer c.args.purpose)
+
+pub returns-in-Err-clause-failed : goal.returns-in-Err-clause-failed
+returns-in-Err-clause-failed g c =
+    subst (λ s. FailsOnlyIn (g.S.Shelf.faults c.args.shelf.now) (g.S.Shelf.faults c.load.new.shelf) (g.S.Shelf.last_failed c.load.new.shelf) (Analyse c.args.purpose (analysis_text c.args.analysis)) s)
+    (sym c.plain_ending.ensures.status) (c.in-Err.ensures.failed c.args.purpose)

@@ -1,0 +1,8 @@
+use Rattle.tm_top.proofs.Benched.{put_bench, unsummed_answer}
+use Rattle.tm_top.proofs.bench.bench.Goals as goal
+
+pub returns-in-Ok-clause-answer : goal.returns-in-Ok-clause-answer
+returns-in-Ok-clause-answer g c = put_bench _ _ _ _ _ _ _ _ _ c.deref.ensures.value c.in-Ok.ensures.ok c.put_report.ensures
+
+pub returns-in-Err-clause-answer : goal.returns-in-Err-clause-answer
+returns-in-Err-clause-answer g c = unsummed_answer _ _ _ _ c.refused.ensures c.in-Err.ensures.err

@@ -1,0 +1,139 @@
+//! The commands `solve` and `certify`: the analysis of a program, for its report or for its certificate.
+
+ghost use Rattle.std.specs.Prelude.{◌≡◌, ◌≤◌, ℕ, List, length};
+ghost use Rattle.tm_io.specs.Faults.{Rose};
+ghost use Rattle.tm_eqsys.specs.declared.system.System.{System as SystemValue};
+ghost use Rattle.tm_eqsys.specs.Cells.{cells_of};
+ghost use Rattle.tm_eqsys.specs.View.{equations_of};
+ghost use Rattle.tm_cli.specs.Request.{analysis_text};
+ghost use Rattle.tm_cli.specs.declared.request.Domain.{Domain};
+ghost use Rattle.tm_cli.specs.declared.request.Request.TheVariants.{Analyse};
+ghost use Rattle.tm_top.specs.CheckMessages.{rows_of};
+ghost use Rattle.tm_top.specs.Endings.{IsAnswerTo};
+ghost use Rattle.tm_top.specs.Files.{AreInputs, HasContent, HasShortRows, IsTold};
+ghost use Rattle.tm_top.specs.Messages.{line_in};
+ghost use Rattle.tm_top.specs.Parted.{IsAnswerToSystem, IsAnswerToTexts, IsOutputOf, domain_of};
+ghost use Rattle.tm_top.specs.Reports.{IsPutOf, IsReportOn};
+ghost use Rattle.tm_top.specs.Run.{FailsOnlyIn, OutputHolds};
+ghost use Rattle.tm_top.specs.Texts.{IsSolvedSystem};
+
+mod certify;
+mod inputs;
+pub(crate) mod rounds;
+pub(crate) mod system;
+mod template;
+
+use crate::ending::{Ending, plain_ending};
+use crate::message::place::{answer_line, answer_rows};
+use crate::output::{put_certificate, put_report};
+use crate::refusal::refused;
+use crate::status::Status;
+use certify::certificate_of;
+use inputs::{Inputs, load};
+use rounds::report_of;
+use std::alloc::Global;
+use system::system_on;
+use tm_cli::{Analysis, Policy, Purpose};
+use tm_eqsys::System;
+use tm_io::{Shelf, Sink};
+
+// Puts the report of a system or its certificate.
+fn answer_system<K: Sink>(
+    alloc: Global,
+    purpose: Purpose,
+    system: &System,
+    policy: Policy,
+    limit: u32,
+    out: &mut K,
+) -> Status
+    requires limit { limit ≤ 1000000 }
+    requires cells { cells_of (equations_of system.now) ≤ 134217728 }
+    ensures answer { IsAnswerToSystem purpose system.now policy limit result }
+    ensures held { OutputHolds (IsOutputOf purpose system.now policy limit) result (K.held out.old) (K.held out.new) }
+    ensures write { result ≡ Status.Write → Rose (K.faults out.old) (K.faults out.new) }
+{
+    match purpose {
+        Purpose::Report => match report_of(alloc, system, policy, limit) {
+            Ok(bytes) => put_report(&bytes, out),
+            Err(refusal) => refused(refusal),
+        },
+        Purpose::Certificate => match certificate_of(alloc, system, policy, limit) {
+            Ok(bytes) => put_certificate(&bytes, out),
+            Err(refusal) => refused(refusal),
+        },
+    }
+}
+
+// Puts the report of these texts or their certificate.
+fn answer<K: Sink>(
+    alloc: Global,
+    purpose: Purpose,
+    inputs: &Inputs,
+    policy: Policy,
+    limit: u32,
+    out: &mut K,
+) -> Ending
+    requires short { length inputs.now.text.items ≤ 65536 }
+    requires short_rows { HasShortRows (domain_of inputs.now.rows) }
+    requires limit { limit ≤ 1000000 }
+    ensures answer { IsAnswerToTexts purpose inputs.now.text.items (domain_of inputs.now.rows) policy limit result.status }
+    ensures held { OutputHolds (IsPutOf purpose inputs.now.text.items (domain_of inputs.now.rows) policy limit) result.status (K.held out.old) (K.held out.new) }
+    ensures write { result.status ≡ Status.Write → Rose (K.faults out.old) (K.faults out.new) }
+    ensures line { result.line ≡ line_in inputs.now.text.items result.status }
+    ensures rows { (system : SystemValue) → IsSolvedSystem inputs.now.text.items (domain_of inputs.now.rows) system
+        → result.rows ≡ rows_of (length system.template) result.status }
+{
+    match system_on(alloc, &inputs.text, &inputs.rows) {
+        Ok(system) => {
+            let status = answer_system(alloc, purpose, &system, policy, limit, out);
+            let rows = answer_rows(system.template.as_slice().len(), &status);
+            Ending {
+                status,
+                line: 0,
+                rows,
+            }
+        }
+        Err(refusal) => {
+            let status = refused(refusal);
+            let line = answer_line(&inputs.text, &status);
+            Ending {
+                status,
+                line,
+                rows: 0,
+            }
+        }
+    }
+}
+
+// Loads what an analysis reads, and puts its report or its certificate.
+pub(crate) fn analyse<S: Shelf, K: Sink>(
+    alloc: Global,
+    purpose: Purpose,
+    analysis: Analysis<&str>,
+    shelf: &mut S,
+    out: &mut K,
+) -> Ending
+    requires limit { analysis.improvements ≤ 1000000 }
+    ensures kept { S.files shelf.new ≡ S.files shelf.old }
+    ensures answer { IsAnswerTo (S.files shelf.old) (Analyse purpose (analysis_text analysis.entry)) result.status }
+    ensures failed { FailsOnlyIn (S.faults shelf.old) (S.faults shelf.new) (S.last_failed shelf.new) (Analyse purpose (analysis_text analysis.entry)) result.status }
+    ensures held { OutputHolds (IsReportOn (S.files shelf.old) (Analyse purpose (analysis_text analysis.entry))) result.status (K.held out.old) (K.held out.new) }
+    ensures write { result.status ≡ Status.Write → Rose (K.faults out.old) (K.faults out.new) }
+    ensures line { (text : List ℕ) → IsTold (S.files shelf.old) → HasContent (S.files shelf.old) analysis.entry.program.now text
+        → result.line ≡ line_in text result.status }
+    ensures rows { (text : List ℕ) (rows : Domain (List ℕ)) (system : SystemValue) → IsTold (S.files shelf.old)
+        → AreInputs (S.files shelf.old) (analysis_text analysis.entry) text rows → IsSolvedSystem text rows system
+        → result.rows ≡ rows_of (length system.template) result.status }
+{
+    match load(shelf, analysis) {
+        Ok(inputs) => answer(
+            alloc,
+            purpose,
+            &inputs,
+            analysis.policy,
+            analysis.improvements,
+            out,
+        ),
+        Err(status) => plain_ending(status),
+    }
+}

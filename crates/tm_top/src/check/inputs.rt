@@ -1,0 +1,45 @@
+//! The files that a check reads.
+
+ghost use Rattle.std.specs.Prelude.{◌≡◌, IfOk, IfErr};
+ghost use Rattle.tm_cli.specs.declared.request.Request.TheVariants.{Check};
+ghost use Rattle.tm_top.specs.Endings.{IsAnswerTo};
+ghost use Rattle.tm_top.specs.Files.{AreChecked};
+ghost use Rattle.tm_top.specs.Parted.{AreUnloaded};
+ghost use Rattle.tm_top.specs.Run.{FailsOnlyIn};
+
+use crate::files::{MOST_BYTES, load_file, unloaded};
+use crate::status::{Status, Which};
+use tm_io::Shelf;
+
+// How many bytes a certificate may have.
+const MOST_CERTIFICATE_BYTES: usize = 16777216;
+
+// What a check reads: the text of the program and the bytes of the certificate.
+#[derive(Drop)]
+pub(crate) struct Inputs {
+    pub text: Vec<u8>,
+    pub bytes: Vec<u8>,
+}
+
+// What a check reads: the program, and then the certificate; or the ending where a file isn't loaded.
+pub(crate) fn load<S: Shelf>(
+    shelf: &mut S,
+    program: &str,
+    certificate: &str,
+) -> Result<Inputs, Status>
+    ensures kept { S.files shelf.new ≡ S.files shelf.old }
+    ensures inputs { IfOk result (λ inputs. AreChecked (S.files shelf.old) program.now certificate.now inputs.text.items inputs.bytes.items) }
+    ensures answer { IfErr result (λ status. IsAnswerTo (S.files shelf.old) (Check program.now certificate.now) status) }
+    ensures refused { IfErr result (λ status. AreUnloaded status) }
+    ensures failed { IfErr result (λ status. FailsOnlyIn (S.faults shelf.old) (S.faults shelf.new) (S.last_failed shelf.new)
+        (Check program.now certificate.now) status) }
+{
+    let text = match load_file(shelf, program, MOST_BYTES) {
+        Ok(text) => text,
+        Err(refusal) => return Err(unloaded(Which::Program, refusal)),
+    };
+    match load_file(shelf, certificate, MOST_CERTIFICATE_BYTES) {
+        Ok(bytes) => Ok(Inputs { text, bytes }),
+        Err(refusal) => Err(unloaded(Which::Certificate, refusal)),
+    }
+}

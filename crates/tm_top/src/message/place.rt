@@ -1,0 +1,112 @@
+//! What a message names of the files: the line of a cause in the text of the program, and how many rows a certificate has.
+
+ghost use Rattle.std.specs.Prelude.{◌≡◌, ◌≤◌, length};
+ghost use Rattle.tm_top.specs.CheckMessages.{fault_has_unknown, has_unknown, rows_of, site_has_unknown};
+ghost use Rattle.tm_top.specs.Messages.{lex_place, line_at_place, line_in, parse_place, place_of};
+
+use crate::status::{CertCause, Status, TextCause};
+use tm_check::CheckFault;
+use tm_eqsys::Site;
+use tm_lex::{LexFault, line_of};
+use tm_parse::ParseFault;
+
+// The place of a cause in the program's text.
+fn place_of(cause: TextCause) -> Option<u32>
+    ensures { result ≡ place_of cause }
+{
+    match cause {
+        TextCause::Lex(fault) => lex_place(fault),
+        TextCause::Parse(fault) => parse_place(fault),
+        TextCause::Flow(_) | TextCause::Rows(_) | TextCause::Unknowns(_) | TextCause::Cells(_) =>
+            None,
+    }
+}
+
+fn lex_place(fault: LexFault) -> Option<u32>
+    ensures { result ≡ lex_place fault }
+{
+    match fault {
+        LexFault::BadByte { at }
+        | LexFault::OpenComment { at }
+        | LexFault::LongNumber { at }
+        | LexFault::LongName { at }
+        | LexFault::BadNumber { at } => Some(at),
+        LexFault::NoMemory => None,
+    }
+}
+
+fn parse_place(fault: ParseFault) -> Option<u32>
+    ensures { result ≡ parse_place fault }
+{
+    match fault {
+        ParseFault::Unexpected { at }
+        | ParseFault::UnknownName { at }
+        | ParseFault::NameTwice { at }
+        | ParseFault::NotAffine { at }
+        | ParseFault::NondetHere { at }
+        | ParseFault::Limit { at, .. }
+        | ParseFault::BigNumber { at } => Some(at),
+        ParseFault::NoVariables | ParseFault::NoMemory => None,
+    }
+}
+
+// The line of a cause.
+fn cause_line(text: &[u8], cause: TextCause) -> u32
+    requires { length text.now ≤ 65536 }
+    ensures { result ≡ line_at_place text.now (place_of cause) }
+{
+    match place_of(cause) {
+        Some(at) => line_of(text, at),
+        None => 0,
+    }
+}
+
+// The line of an answer to a text; 0 where it has none.
+pub(crate) fn answer_line(text: &[u8], status: &Status) -> u32
+    requires { length text.now ≤ 65536 }
+    ensures { result ≡ line_in text.now status.now }
+{
+    match status {
+        Status::Text(cause) => cause_line(text, *cause),
+        _ => 0,
+    }
+}
+
+// Whether a site has an unknown.
+fn site_has_unknown(site: &Site) -> bool
+    ensures { result ≡ site_has_unknown site.now }
+{
+    match site {
+        Site::Upper { .. } => true,
+        _ => false,
+    }
+}
+
+// Whether the answer of a check names an unknown.
+fn fault_has_unknown(fault: &CheckFault) -> bool
+    ensures { result ≡ fault_has_unknown fault.now }
+{
+    match fault {
+        CheckFault::Upper { .. } | CheckFault::Final { .. } => true,
+        CheckFault::Wide(spot) => site_has_unknown(&spot.site),
+        _ => false,
+    }
+}
+
+// Whether the message of an ending names an unknown.
+fn has_unknown(status: &Status) -> bool
+    ensures { result ≡ has_unknown status.now }
+{
+    match status {
+        Status::Certificate(CertCause::Check(fault)) => fault_has_unknown(fault),
+        Status::Wide(spot) => site_has_unknown(&spot.site),
+        _ => false,
+    }
+}
+
+// So many rows, where the message of an ending names an unknown; else 0.
+pub(crate) fn answer_rows(rows: usize, status: &Status) -> usize
+    ensures { result ≡ rows_of rows status.now }
+{
+    if has_unknown(status) { rows } else { 0 }
+}

@@ -1,0 +1,26 @@
+pub mod Products
+pub mod LimitLaws
+pub mod SourceLimits
+pub mod EdgePoints
+pub mod TransformerOf
+pub mod JointProducts
+pub mod JointRows
+pub mod Joins
+pub mod JointMeaning
+pub mod Rises
+pub mod JointLists
+pub mod JointBest
+pub mod JointTight
+pub mod JointRay
+pub mod Reaching
+pub mod NextPart
+pub mod PartsLaw
+pub mod PartsRise
+pub mod SplitProblems
+pub mod Spreads
+pub mod JointLows
+pub mod JumpSteps
+pub mod RaySteps
+pub mod RayVector
+mod PointExample
+pub mod JointTurns

@@ -1,0 +1,5 @@
+use Rattle.tm_transformers.proofs.JointRay.{joint_outcome}
+use Rattle.tm_transformers.proofs.law.joint_problems_decide.Goals as goal
+
+pub returns : goal.returns
+returns c = joint_outcome

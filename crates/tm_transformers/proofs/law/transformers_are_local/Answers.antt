@@ -1,0 +1,5 @@
+use Rattle.tm_transformers.proofs.TransformerOf.{transformer_by_source}
+use Rattle.tm_transformers.proofs.law.transformers_are_local.Goals as goal
+
+pub returns : goal.returns
+returns c = transformer_by_source

@@ -1,0 +1,5 @@
+use Rattle.tm_transformers.proofs.TransformerOf.{transformer_lub}
+use Rattle.tm_transformers.proofs.law.transformers_are_suprema.Goals as goal
+
+pub returns : goal.returns
+returns c = transformer_lub

@@ -1,0 +1,10 @@
+pub mod Limits
+pub mod EdgeProblems
+pub mod JointProblems
+pub mod JointPoints
+pub mod Candidates
+pub mod Parts
+pub mod Spread
+pub mod JointSteps
+pub mod JointOutcomes
+pub mod Laws
