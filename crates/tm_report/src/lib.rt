@@ -6,4 +6,3 @@ mod rows;
 mod whole;
 
 pub use whole::{point_text, report};
-

@@ -9,4 +9,3 @@ mod texts;
 pub use law::generated_texts_read;
 pub use summaries::summary;
 pub use texts::generate;
-
