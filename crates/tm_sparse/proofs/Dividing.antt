@@ -11,7 +11,8 @@ use Rattle.tm_sparse.specs.declared.entry.Entry.{Entry}
 use Rattle.tm_sparse.specs.Entries.{pushed}
 use Rattle.tm_sparse.specs.Keeps.{Keeps}
 use Rattle.tm_sparse.proofs.Lists.{keeps_none, keeps_gap, keeps_pushed}
-use Rattle.tm_sparse.proofs.Gaps.{joined_gap, Left, left_to, left_zero, left_head, left_behind, left_none}
+use Rattle.tm_sparse.specs.Merge.{Left}
+use Rattle.tm_sparse.proofs.Gaps.{joined_gap, left_to, left_zero, left_head, left_behind, left_none}
 
 -- the columns below r of the row a are divided, and those of the list are left
 pub record Dividing {F : Type 0} (m : F → ℚ) (L : ℤ) (a : ℕ → ℚ) (c n r : ℕ) (es out : List (Entry F)) : Type 0 where
@@ -36,7 +37,7 @@ module _ {F : Type 0} (m : F → ℚ) (L : ℤ) (a : ℕ → ℚ) (c n : ℕ) (p
     here =
         let l : r ≤ e.col = h.left.rises.0 in
         let w : e.col < n = h.left.rises.1 in
-        let none = λ (q : ℕ) (s : r ≤ q) (t : q < e.col). passed q (left_zero m a n r q (e ∷ es) h.left s t) in
+        let none = λ (q : ℕ) (s : r ≤ q) (t : q < e.col). passed q (left_zero m a n r q e.col (e ∷ es) h.left (omega arith) s t) in
         record {
           left = left_to m a n r e.col (e ∷ es) h.left l (omega arith);
           kept = keeps_gap m (divided_row a c) r e.col out h.kept l (λ q s t. (none q s t).0);

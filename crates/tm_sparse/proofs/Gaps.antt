@@ -1,12 +1,14 @@
 -- What is left of a row from a column on, and operations of columns that are passed over.
-use Rattle.std.proofs.Common.{◌≡◌, ℕ, zero, suc, ◌+◌, ◌<◌, ◌≤◌, ⊎_elim, cond, eqb, ℤ, List, [], ◌∷◌, length, None, refl, ap, sym, ◌∙◌, subst, arith, add-one}
+use Rattle.std.proofs.Common.{◌≡◌, ◌≢◌, ℕ, zero, suc, drop, get_or, ◌+◌, ◌<◌, ◌≤◌, ⊎_elim, cond, eqb, ℤ, List, [], ◌∷◌, length, None, refl, ap, sym, ◌∙◌, subst, arith, add-one}
 use Rattle.std.proofs.lemmas.Bool.{cases_lt, cases_eq, eq-eqb, ne_eqb}
+use Rattle.std.proofs.lemmas.List.{drop_more, drop_all}
 use Rattle.tm_num.specs.Rational.{ℚ, zero_ℚ}
 use Rattle.tm_frac.specs.Operation.{Operation, first_wide}
 use Rattle.tm_dict.specs.Listed.{joined}
 use Rattle.tm_dict.proofs.Joins.{joined_fits_more}
 use Rattle.tm_sparse.specs.declared.entry.Entry.{Entry}
-use Rattle.tm_sparse.specs.Entries.{value_at, Rises, head_col, head_value, behind}
+use Rattle.tm_sparse.specs.Entries.{value_at, Rises, head_value, behind}
+use Rattle.tm_sparse.specs.Merge.{StartsAt, Left}
 use Rattle.tm_sparse.proofs.Lists.{value_before}
 
 -- lists of operations that are passed over
@@ -17,21 +19,16 @@ joined_gap L r (suc k) f h l z = ⊎_elim
     (λ a. ap (λ n. first_wide L (joined n f)) (let e : suc k ≡ r = omega (arith, a, l) in e) ∙ h)
     (cases_lt r (suc k))
 
--- the entries that are left have the numbers of a from the column r on
-pub record Left {F : Type 0} (m : F → ℚ) (a : ℕ → ℚ) (r n : ℕ) (es : List (Entry F)) : Type 0 where
-  pub rises : Rises r n es
-  pub values : (k : ℕ) → r ≤ k → value_at m es k ≡ a k
-
 module _ {F : Type 0} (m : F → ℚ) (a : ℕ → ℚ) (n : ℕ) where
-  -- up to the first entry's column
-  pub left_to : (r k : ℕ) (es : List (Entry F)) → Left m a r n es → r ≤ k → k ≤ head_col es → Left m a k n es
+  -- up to a column before which no entry stands
+  pub left_to : (r k : ℕ) (es : List (Entry F)) → Left m a r n es → r ≤ k → StartsAt k es → Left m a k n es
   left_to r k [] h l b = record { rises = tt; values = λ q c. h.values q (omega (arith, c, l)) }
   left_to r k (e ∷ es) h l b = record { rises = (b, h.rises.1, h.rises.2); values = λ q c. h.values q (omega (arith, c, l)) }
 
   -- 0 before that column
-  pub left_zero : (r q : ℕ) (es : List (Entry F)) → Left m a r n es → r ≤ q → q < head_col es → a q ≡ zero_ℚ
-  left_zero r q [] h l b = sym (h.values q l)
-  left_zero r q (e ∷ es) h l b = sym (h.values q l) ∙ value_before m e.col n q (e ∷ es) (omega arith, h.rises.1, h.rises.2) b
+  pub left_zero : (r q k : ℕ) (es : List (Entry F)) → Left m a r n es → StartsAt k es → r ≤ q → q < k → a q ≡ zero_ℚ
+  left_zero r q k [] h s l b = sym (h.values q l)
+  left_zero r q k (e ∷ es) h s l b = sym (h.values q l) ∙ value_before m e.col n q (e ∷ es) (omega arith, h.rises.1, h.rises.2) (omega (arith, s, b))
 
   -- the number at the column
   pub left_head : (k : ℕ) (es : List (Entry F)) → Left m a k n es → head_value m es k ≡ a k
@@ -52,15 +49,6 @@ module _ {F : Type 0} (m : F → ℚ) (a : ℕ → ℚ) (n : ℕ) where
       })
       (cases_eq e.col k)
 
-  -- the first entry's column is below the bound
-  pub head_below : (r : ℕ) (es : List (Entry F)) → Left m a r n es → 0 < length es → head_col es < n
-  head_below r [] h l = absurd (omega (arith, l))
-  head_below r (e ∷ es) h l = h.rises.1
-
-  pub head_above : (r : ℕ) (es : List (Entry F)) → Left m a r n es → 0 < length es → r ≤ head_col es
-  head_above r [] h l = absurd (omega (arith, l))
-  head_above r (e ∷ es) h l = h.rises.0
-
   -- nothing is left
   pub left_none : (r q : ℕ) → Left m a r n [] → r ≤ q → a q ≡ zero_ℚ
   left_none r q h l = sym (h.values q l)
@@ -68,3 +56,27 @@ module _ {F : Type 0} (m : F → ℚ) (a : ℕ → ℚ) (n : ℕ) where
 -- all is left
 pub left_all : {F : Type 0} (m : F → ℚ) (n : ℕ) (es : List (Entry F)) → Rises 0 n es → Left m (value_at m es) 0 n es
 left_all m n es r = record { rises = r; values = λ k l. refl }
+
+-- before the first column stands 0, and no entry is taken
+pub starts_value : {F : Type 0} (m : F → ℚ) (u k : ℕ) (es : List (Entry F)) → StartsAt u es → k < u → zero_ℚ ≡ head_value m es k
+starts_value m u k [] s l = refl
+starts_value m u k (e ∷ es) s l = sym (ap (λ b. cond b (m e.value) zero_ℚ) (ne_eqb e.col k (λ q. omega (arith, q, s, l))))
+
+pub starts_behind : {F : Type 0} (u k : ℕ) (es : List (Entry F)) → StartsAt u es → k < u → behind es k ≡ es
+starts_behind u k [] s l = refl
+starts_behind u k (e ∷ es) s l = ap (λ b. cond b es (e ∷ es)) (ne_eqb e.col k (λ q. omega (arith, q, s, l)))
+
+pub starts_before : {F : Type 0} (u k : ℕ) (es : List (Entry F)) → StartsAt u es → k ≤ u → StartsAt k es
+starts_before u k [] s l = tt
+starts_before u k (e ∷ es) s l = omega (arith, s, l)
+
+-- an entry at the place is passed over that stands at another column
+pub missed : {F : Type 0} (m : F → ℚ) (es : List (Entry F)) (i k : ℕ) (x : Entry F) → i < length es → (get_or es i x).col ≢ k → (head_value m (drop i es) k ≡ zero_ℚ) × (behind (drop i es) k ≡ drop i es)
+missed m es i k x l d =
+    let off = ne_eqb (get_or es i x).col k d in
+    subst (λ xs. (head_value m xs k ≡ zero_ℚ) × (behind xs k ≡ xs)) (sym (drop_more es i x l))
+    (ap (λ b. cond b (m (get_or es i x).value) zero_ℚ) off, ap (λ b. cond b (drop (i + 1) es) (get_or es i x ∷ drop (i + 1) es)) off)
+
+-- and so is the end
+pub missed_all : {F : Type 0} (m : F → ℚ) (es : List (Entry F)) (i k : ℕ) → length es ≤ i → (head_value m (drop i es) k ≡ zero_ℚ) × (behind (drop i es) k ≡ drop i es)
+missed_all m es i k l = subst (λ xs. (head_value m xs k ≡ zero_ℚ) × (behind xs k ≡ xs)) (sym (drop_all i es l)) (refl, refl)

@@ -1,7 +1,6 @@
 pub mod SingleEntries
 pub mod Lists
 pub mod Gaps
-pub mod NextColumns
 pub mod Merging
 pub mod Dividing
 pub mod RowsAt

@@ -27,11 +27,6 @@ HasNoZero m (e ∷ es) = (m e.value ≢ zero_ℚ) × HasNoZero m es
 abbrev pub col_at : {F : Type 0} → List (Entry F) → ℕ → ℕ
 col_at es i = get_or (map (λ e. e.col) es) i 0
 
--- the column of the first entry, and the greatest number of 32 bits where there is none
-abbrev pub head_col : {F : Type 0} → List (Entry F) → ℕ
-head_col [] = 4294967295
-head_col (e ∷ es) = e.col
-
 -- the number of the first entry if it stands at the column, else 0
 abbrev pub head_value : {F : Type 0} → (F → ℚ) → List (Entry F) → ℕ → ℚ
 head_value m [] k = zero_ℚ

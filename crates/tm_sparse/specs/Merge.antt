@@ -1,10 +1,12 @@
--- One column in the merge of a row and the pivot's row.
-use Rattle.std.specs.Prelude.{◌≡◌, ℕ, min, Bool, cond, eqb, ℤ, List, [], None}
+-- The merge of a row and the pivot's row, column by column.
+use Rattle.std.specs.Prelude.{◌≡◌, ℕ, ◌≤◌, Bool, cond, eqb, ℤ, List, [], ◌∷◌, None}
 use Rattle.tm_num.specs.Rational.{ℚ, ◌*ℚ◌}
 use Rattle.tm_frac.specs.Operation.{Operation, first_wide}
-use Rattle.tm_dict.specs.Formulas.{product_operations, added_operations}
+use Rattle.tm_dict.specs.Formulas.{combined_row, product_operations, added_operations}
+use Rattle.tm_dict.specs.PivotOperations.{added_row_operations}
 use Rattle.tm_sparse.specs.declared.entry.Entry.{Entry}
-use Rattle.tm_sparse.specs.Entries.{head_col, head_value, behind, pushed}
+use Rattle.tm_sparse.specs.Entries.{value_at, Rises, head_value, behind, pushed}
+use Rattle.tm_sparse.specs.Keeps.{Keeps}
 use Rattle.tm_sparse.specs.Rows.{merged}
 
 -- formulas 3 and 4 where the pivot's row has 0: the product p of formula 3 in the pivot's column, else the entry itself
@@ -19,21 +21,33 @@ term f b p at_pivot = cond at_pivot p (f *ℚ b)
 abbrev pub term_operations : ℚ → ℚ → Bool → List Operation
 term_operations f b at_pivot = cond at_pivot [] (product_operations f b)
 
--- the first column that is left in one of two lists
-abbrev pub next_col : {F : Type 0} → List (Entry F) → List (Entry F) → ℕ
-next_col da db = min (head_col da) (head_col db)
+-- no entry stands before the column u
+abbrev pub StartsAt : {F : Type 0} → ℕ → List (Entry F) → Type 0
+StartsAt u [] = Unit {0}
+StartsAt u (e ∷ es) = u ≤ e.col
 
--- the operations at that column
-abbrev pub next_operations : {F : Type 0} → (F → ℚ) → ℚ → ℕ → List (Entry F) → List (Entry F) → List Operation
-next_operations m f c da db = added_operations (head_value m da (next_col da db)) f (head_value m db (next_col da db)) (eqb (next_col da db) c)
+-- the entries that are left have the numbers of a from the column r on
+pub record Left {F : Type 0} (m : F → ℚ) (a : ℕ → ℚ) (r n : ℕ) (es : List (Entry F)) : Type 0 where
+  pub rises : Rises r n es
+  pub values : (k : ℕ) → r ≤ k → value_at m es k ≡ a k
 
--- that column k was merged: an entry with its value was appended unless it is 0, and the rest of both lists is left
-pub record MergesNext {F : Type 0} (m : F → ℚ) (L : ℤ) (f p : ℚ) (c : ℕ) (da db da' db' old new : List (Entry F)) : Type 0 where
-  pub k : ℕ
+-- the columns below r of the rows a and b are merged, and those of the lists are left
+pub record Merging {F : Type 0} (m : F → ℚ) (L : ℤ) (a b : ℕ → ℚ) (f : ℚ) (c n r : ℕ) (da db out : List (Entry F)) : Type 0 where
+  pub left : Left m a r n da
+  pub above : Left m b r n db
+  pub kept : Keeps m (combined_row a b c) r out
+  pub fits : first_wide L (added_row_operations r a f b c) ≡ None
+  pub reach : r ≤ n
+
+-- the entries from da to da' were merged, which stand before the column u from which the pivot's row has entries; p is the product
+abbrev pub MergesOn : {F : Type 0} → (F → ℚ) → ℤ → ℚ → ℕ → ℕ → List (Entry F) → List (Entry F) → List (Entry F) → List (Entry F) → Type 0
+MergesOn m L p c u da da' old new =
+    (a b : ℕ → ℚ) (f : ℚ) (n r : ℕ) (db : List (Entry _)) → f ≡ a c → p ≡ f *ℚ b c → StartsAt u db → Merging m L a b f c n r da db old → (q : ℕ) × Merging m L a b f c n q da' db new
+
+-- an entry e of the pivot's row was merged: an entry with its value was appended unless it is 0, and the rest of the row is left
+pub record MergesEntry {F : Type 0} (m : F → ℚ) (L : ℤ) (f p : ℚ) (c : ℕ) (e : Entry F) (da da' old new : List (Entry F)) : Type 0 where
   pub value : F
-  pub k_is : k ≡ next_col da db
-  pub value_is : m value ≡ merged (head_value m da k) f (head_value m db k) p (eqb k c)
-  pub fits : first_wide L (added_operations (head_value m da k) f (head_value m db k) (eqb k c)) ≡ None
-  pub appended : new ≡ pushed m old k value
-  pub left : da' ≡ behind da k
-  pub above : db' ≡ behind db k
+  pub value_is : m value ≡ merged (head_value m da e.col) f (m e.value) p (eqb e.col c)
+  pub fits : first_wide L (added_operations (head_value m da e.col) f (m e.value) (eqb e.col c)) ≡ None
+  pub appended : new ≡ pushed m old e.col value
+  pub left : da' ≡ behind da e.col

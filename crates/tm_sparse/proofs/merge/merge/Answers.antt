@@ -1,25 +1,24 @@
-use Rattle.std.proofs.Common.{◌+◌, ◌<◌, ◌⊎◌, inl, inr, length, drop, refl, sym, subst, subst₂, arith}
-use Rattle.std.proofs.lemmas.List.{drop_all}
+use Rattle.std.proofs.Common.{◌≡◌, ◌+◌, ◌≤◌, [], ◌∷◌, drop, get_or, eqb, sym, ap, ◌∙◌, subst, arith}
+use Rattle.std.proofs.lemmas.List.{drop_more, drop_all, get_or_default}
 use Rattle.std.proofs.lemmas.Result.{err_from_is_err_and}
+use Rattle.tm_dict.specs.Formulas.{added_operations}
 use Rattle.tm_dict.specs.PivotOperations.{added_row_operations}
-use Rattle.tm_sparse.specs.Entries.{value_at, HasNoZero, head_col, head_value, pushed}
-use Rattle.tm_sparse.specs.Merge.{next_col, next_operations}
+use Rattle.tm_sparse.specs.Entries.{value_at, HasNoZero, head_value, behind, pushed}
+use Rattle.tm_sparse.specs.Merge.{StartsAt, Merging}
 use Rattle.tm_sparse.proofs.Lists.{no_zero_pushed}
 use Rattle.tm_sparse.proofs.Gaps.{left_all}
 use Rattle.tm_sparse.proofs.Answering.{fault_of_more}
-use Rattle.tm_sparse.proofs.Merging.{Merging, merging_none, merging_more, merging_refused, merging_end, next_of, taken_less}
+use Rattle.tm_sparse.proofs.Merging.{merging_none, merging_entry, entry_refused, merging_end}
 use Rattle.tm_sparse.proofs.merge.merge.Goals as goal
-use Rattle.tm_sparse.proofs.merge.merge.Goals.{then-i-entries, else-i-entries+then-j-above}
 
-pub loop-i-init : goal.loop-i-init
-loop-i-init g c =
+pub loop-j-init : goal.loop-j-init
+loop-j-init g c =
     let m = g.F.OrderedField.meaning in
     let L = g.F.OrderedField.LIMIT in
     let es = c.args.entries.now in
     let bs = c.args.above.now in
     record {
       place = omega arith;
-      place_above = omega arith;
       no_zero = subst (HasNoZero m) (sym c.clear.ensures.items) tt;
       merging = λ n r s. (
         0,
@@ -28,93 +27,93 @@ loop-i-init g c =
       );
     }
 
-pub returns-in_err-next-clause-refused : goal.returns-in_err-next-clause-refused
-returns-in_err-next-clause-refused g c =
+pub returns-in_err-i-clause-refused : goal.returns-in_err-i-clause-refused
+returns-in_err-i-clause-refused g c =
     let m = g.F.OrderedField.meaning in
     let L = g.F.OrderedField.LIMIT in
     let es = c.args.entries.now in
     let bs = c.args.above.now in
-    let i = c.loop-i.i in
-    let j = c.loop-i.j in
+    let a = value_at m es in
+    let b = value_at m bs in
     let f = m c.args.factor in
-    let da = drop i es in
-    let db = drop j bs in
-    let k = next_col da db in
-    let p = err_from_is_err_and c.from_residual.result c.from_residual.ensures.1 in
-    let left : (i < length es) ⊎ (j < length bs) = elim c.if-i-entries.branch [
-      | then-i-entries w ↦ inl w.if-i-entries.true
-      | else-i-entries+then-j-above w ↦ inr w.if-j-above.true
-    ] in
-    let next = next_of es bs i j k (head_col da) (head_col db) left refl refl c.in_err-next.ensures.cols.0 c.in_err-next.ensures.cols.1 refl in
+    let j = c.loop-j.j in
+    let l = c.loop-j-test.true in
+    let e = c.index-above-j-in-loop-j.result in
+    let first = get_or bs j c.index-above-j.result in
+    let first_is = get_or_default bs j c.index-above-j.result e l ∙ sym c.index-above-j-in-loop-j.is in
+    let drop_is : drop j bs ≡ e ∷ drop (j + 1) bs = drop_more bs j e l ∙ ap (λ x. x ∷ drop (j + 1) bs) (sym c.index-above-j-in-loop-j.is) in
+    let starts = subst (StartsAt first.col) (sym drop_is) (let q : first.col ≤ e.col = subst (λ x. first.col ≤ x.col) first_is (omega arith) in q) in
+    let da = drop c.in_ok-place.place es in
+    let rest = subst (λ x. StartsAt x.col da) first_is c.in_ok-place.ensures.rest in
+    let mid = c.keep_before.new.merged.items in
+    let p = err_from_is_err_and c.from_residual-in_err-i.result c.from_residual-in_err-i.ensures.1 in
     rw (p.1, p.2)
     (λ n r s.
-    let d = c.loop-i.invariant.merging n r s in
-    fault_of_more m L (next_operations m f c.args.col da db) (added_row_operations n (value_at m es) f (value_at m bs) c.args.col) c.in_err-next.field-0.0
-    (λ o w. merging_refused m L (value_at m es) (value_at m bs) f c.args.col n c.requires.factor d.0 k da db c.loop-i.merged.items d.1 next (head_value m da k) (head_value m db k) refl refl o w)
-    c.in_err-next.ensures.refused)
+    let d = c.loop-j.invariant.merging n r s in
+    let k = c.in_ok-place.ensures.kept a b f n d.0 (drop j bs) c.requires.factor c.requires.product starts d.1 in
+    let h = subst (λ ys. Merging m L a b f c.args.col n k.0 da ys mid) drop_is k.1 in
+    fault_of_more m L (added_operations (head_value m da e.col) f (m e.value) (eqb e.col c.args.col)) (added_row_operations n a f b c.args.col) c.in_err-i.field-0.0
+    (λ o w. entry_refused m L a b f c.args.col n c.requires.factor k.0 e da (drop (j + 1) bs) mid h rest o w)
+    c.in_err-i.ensures.refused)
 
-pub loop-i-preserved : goal.loop-i-preserved
-loop-i-preserved g c =
+pub loop-j-preserved : goal.loop-j-preserved
+loop-j-preserved g c =
     let m = g.F.OrderedField.meaning in
     let L = g.F.OrderedField.LIMIT in
     let es = c.args.entries.now in
     let bs = c.args.above.now in
-    let i = c.loop-i.i in
-    let j = c.loop-i.j in
+    let a = value_at m es in
+    let b = value_at m bs in
     let f = m c.args.factor in
-    let da = drop i es in
-    let db = drop j bs in
-    let old = c.loop-i.merged.items in
-    let v = c.in_ok-next.ensures.merged in
-    let k = v.k in
-    let left : (i < length es) ⊎ (j < length bs) = elim c.if-i-entries.branch [
-      | then-i-entries w ↦ inl w.if-i-entries.true
-      | else-i-entries+then-j-above w ↦ inr w.if-j-above.true
-    ] in
-    let next = next_of es bs i j k (head_col da) (head_col db) left refl refl c.in_ok-next.ensures.cols.0 c.in_ok-next.ensures.cols.1 v.k_is in
+    let j = c.loop-j.j in
+    let l = c.loop-j-test.true in
+    let e = c.index-above-j-in-loop-j.result in
+    let first = get_or bs j c.index-above-j.result in
+    let first_is = get_or_default bs j c.index-above-j.result e l ∙ sym c.index-above-j-in-loop-j.is in
+    let drop_is : drop j bs ≡ e ∷ drop (j + 1) bs = drop_more bs j e l ∙ ap (λ x. x ∷ drop (j + 1) bs) (sym c.index-above-j-in-loop-j.is) in
+    let starts = subst (StartsAt first.col) (sym drop_is) (let q : first.col ≤ e.col = subst (λ x. first.col ≤ x.col) first_is (omega arith) in q) in
+    let da = drop c.in_ok-place.place es in
+    let rest = subst (λ x. StartsAt x.col da) first_is c.in_ok-place.ensures.rest in
+    let mid = c.keep_before.new.merged.items in
+    let v = c.in_ok-i.ensures.merged in
     record {
-      place = c.in_ok-next.ensures.places.0;
-      place_above = c.in_ok-next.ensures.places.1;
-      no_zero = subst (HasNoZero m) (sym v.appended) (no_zero_pushed m old k v.value c.loop-i.invariant.no_zero);
+      place = c.in_ok-i.ensures.place;
+      no_zero = subst (HasNoZero m) (sym v.appended) (no_zero_pushed m mid e.col v.value (c.in_ok-place.ensures.no_zero c.loop-j.invariant.no_zero));
       merging = λ n r s.
-          let d = c.loop-i.invariant.merging n r s in
-          let more = merging_more m L (value_at m es) (value_at m bs) f c.args.col n c.requires.factor d.0 k da db old d.1 next (head_value m da k) (head_value m db k) refl refl (m c.args.product) v.value c.requires.product v.value_is v.fits in (
-            k + 1,
-            subst (Merging m L (value_at m es) (value_at m bs) f c.args.col n (k + 1) (drop c.in_ok-next.next es) (drop c.in_ok-next.next_above bs)) (sym v.appended)
-                (subst₂ (λ us vs. Merging m L (value_at m es) (value_at m bs) f c.args.col n (k + 1) us vs (pushed m old k v.value)) (sym v.left) (sym v.above) more),
+          let d = c.loop-j.invariant.merging n r s in
+          let k = c.in_ok-place.ensures.kept a b f n d.0 (drop j bs) c.requires.factor c.requires.product starts d.1 in
+          let h = subst (λ ys. Merging m L a b f c.args.col n k.0 da ys mid) drop_is k.1 in
+          let more = merging_entry m L a b f c.args.col n c.requires.factor k.0 e da (drop (j + 1) bs) mid h rest (m c.args.product) v.value c.requires.product v.value_is v.fits in (
+            e.col + 1,
+            subst (Merging m L a b f c.args.col n (e.col + 1) (drop c.in_ok-i.i es) (drop (j + 1) bs)) (sym v.appended)
+                (subst (λ xs. Merging m L a b f c.args.col n (e.col + 1) xs (drop (j + 1) bs) (pushed m mid e.col v.value)) (sym v.left) more),
           );
     }
-
-pub loop-i-smaller : goal.loop-i-smaller
-loop-i-smaller g c =
-    let es = c.args.entries.now in
-    let bs = c.args.above.now in
-    let i = c.loop-i.i in
-    let j = c.loop-i.j in
-    let da = drop i es in
-    let db = drop j bs in
-    let v = c.in_ok-next.ensures.merged in
-    let left : (i < length es) ⊎ (j < length bs) = elim c.if-i-entries.branch [
-      | then-i-entries w ↦ inl w.if-i-entries.true
-      | else-i-entries+then-j-above w ↦ inr w.if-j-above.true
-    ] in
-    let next = next_of es bs i j v.k (head_col da) (head_col db) left refl refl c.in_ok-next.ensures.cols.0 c.in_ok-next.ensures.cols.1 v.k_is in
-    taken_less es bs i j v.k c.in_ok-next.next c.in_ok-next.next_above next v.left v.above
 
 pub returns-clause-merged : goal.returns-clause-merged
 returns-clause-merged g c =
     let m = g.F.OrderedField.meaning in
+    let L = g.F.OrderedField.LIMIT in
     let es = c.args.entries.now in
     let bs = c.args.above.now in
-    λ n r s.
-    let d = c.loop-i.invariant.merging n r s in
-    (merging_end m g.F.OrderedField.LIMIT (value_at m es) (value_at m bs) (m c.args.factor) c.args.col n c.requires.factor d.0 (drop c.loop-i.i es) (drop c.loop-i.j bs) c.loop-i.merged.items d.1 (drop_all c.loop-i.i es c.if-i-entries.false) (drop_all c.loop-i.j bs c.if-j-above.false)).0
+    let f = m c.args.factor in
+    let none = drop_all c.loop-j.j bs c.loop-j-test.false in
+    let r = c.in_ok-keep_before.field-0 in
+    λ n q s.
+    let d = c.loop-j.invariant.merging n q s in
+    let k = c.in_ok-keep_before.ensures.kept (value_at m es) (value_at m bs) f n d.0 (drop c.loop-j.j bs) c.requires.factor c.requires.product (subst (StartsAt 4294967296) (sym none) tt) d.1 in
+    (merging_end m L (value_at m es) (value_at m bs) f c.args.col n c.requires.factor k.0 (drop r es) (drop c.loop-j.j bs) c.keep_before-2.new.merged.items k.1 (drop_all r es (c.in_ok-keep_before.ensures.all (omega arith))) none).0
 
 pub returns-clause-fits : goal.returns-clause-fits
 returns-clause-fits g c =
     let m = g.F.OrderedField.meaning in
+    let L = g.F.OrderedField.LIMIT in
     let es = c.args.entries.now in
     let bs = c.args.above.now in
-    λ n r s.
-    let d = c.loop-i.invariant.merging n r s in
-    (merging_end m g.F.OrderedField.LIMIT (value_at m es) (value_at m bs) (m c.args.factor) c.args.col n c.requires.factor d.0 (drop c.loop-i.i es) (drop c.loop-i.j bs) c.loop-i.merged.items d.1 (drop_all c.loop-i.i es c.if-i-entries.false) (drop_all c.loop-i.j bs c.if-j-above.false)).1
+    let f = m c.args.factor in
+    let none = drop_all c.loop-j.j bs c.loop-j-test.false in
+    let r = c.in_ok-keep_before.field-0 in
+    λ n q s.
+    let d = c.loop-j.invariant.merging n q s in
+    let k = c.in_ok-keep_before.ensures.kept (value_at m es) (value_at m bs) f n d.0 (drop c.loop-j.j bs) c.requires.factor c.requires.product (subst (StartsAt 4294967296) (sym none) tt) d.1 in
+    (merging_end m L (value_at m es) (value_at m bs) f c.args.col n c.requires.factor k.0 (drop r es) (drop c.loop-j.j bs) c.keep_before-2.new.merged.items k.1 (drop_all r es (c.in_ok-keep_before.ensures.all (omega arith))) none).1
