@@ -1,3 +1,4 @@
+pub mod Units
 pub mod SingleEntries
 pub mod Lists
 pub mod Gaps

@@ -7,3 +7,4 @@ pub mod Build
 pub mod Named
 pub mod Unique
 pub mod SparseTable
+pub mod Units

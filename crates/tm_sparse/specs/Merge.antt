@@ -41,8 +41,9 @@ pub record Merging {F : Type 0} (m : F → ℚ) (L : ℤ) (a b : ℕ → ℚ) (f
 
 -- the entries from da to da' were merged, which stand before the column u from which the pivot's row has entries; p is the product
 abbrev pub MergesOn : {F : Type 0} → (F → ℚ) → ℤ → ℚ → ℕ → ℕ → List (Entry F) → List (Entry F) → List (Entry F) → List (Entry F) → Type 0
-MergesOn m L p c u da da' old new =
-    (a b : ℕ → ℚ) (f : ℚ) (n r : ℕ) (db : List (Entry _)) → f ≡ a c → p ≡ f *ℚ b c → StartsAt u db → Merging m L a b f c n r da db old → (q : ℕ) × Merging m L a b f c n q da' db new
+MergesOn {F} m L p c u da da' old new =
+    (a b : ℕ → ℚ) (f : ℚ) (n r : ℕ) (db : List (Entry F)) → f ≡ a c → p ≡ f *ℚ b c → StartsAt u db → Merging m L a b f c n r da db old →
+    (q : ℕ) × Merging m L a b f c n q da' db new
 
 -- an entry e of the pivot's row was merged: an entry with its value was appended unless it is 0, and the rest of the row is left
 pub record MergesEntry {F : Type 0} (m : F → ℚ) (L : ℤ) (f p : ℚ) (c : ℕ) (e : Entry F) (da da' old new : List (Entry F)) : Type 0 where

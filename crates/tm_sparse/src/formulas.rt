@@ -5,7 +5,9 @@ ghost use Rattle.tm_frac.specs.Operation.{Answers};
 ghost use Rattle.tm_dict.specs.Formulas.{divided, divided_operations, product_operations, added_operations};
 ghost use Rattle.tm_sparse.specs.Rows.{merged};
 ghost use Rattle.tm_sparse.specs.Merge.{kept, term, term_operations};
+ghost use Rattle.tm_sparse.specs.Units.{IsUnit};
 
+use crate::unit::unit_product;
 use tm_frac::{OrderedField, Wide};
 
 /// An entry of the pivot's row after the pivot: formula 1 at the pivot itself, else formula 2.
@@ -23,15 +25,20 @@ pub fn divided_by<F: OrderedField>(entry: F, pivot: F, at_pivot: bool) -> Result
     Ok(quotient.negate())
 }
 
-/// Formula 3, the entry of another row in the pivot's column: `factor` times the new entry of the pivot's row.
-pub fn product_of<F: OrderedField>(factor: F, above: F) -> Result<F, Wide<F>>
-    requires { F.meaning factor ≢ zero_ℚ }
+/// Formula 3, the entry of another row in the pivot's column: `factor` times the new entry of the pivot's row. A factor that is known to
+/// be 1 or -1 makes its product without an operation.
+pub fn product_of<F: OrderedField>(factor: F, above: F, unit: Option<bool>) -> Result<F, Wide<F>>
+    requires factor { F.meaning factor ≢ zero_ℚ }
+    requires unit { IsUnit (F.meaning factor) unit }
     ensures { Answers F.meaning F.LIMIT (F.meaning factor *ℚ F.meaning above) (product_operations (F.meaning factor) (F.meaning above)) result }
 {
     if above.is_zero() {
         return Ok(above);
     }
-    factor.times(above)
+    match unit {
+        Some(negated) => Ok(unit_product(factor, above, negated)),
+        None => factor.times(above),
+    }
 }
 
 /// Formula 4, an entry of another row outside the pivot's column: `factor` times the new entry of the pivot's row is added. In
@@ -42,9 +49,12 @@ pub fn merged_of<F: OrderedField>(
     above: F,
     product: F,
     at_pivot: bool,
+    unit: Option<bool>,
 ) -> Result<F, Wide<F>>
-    requires { F.meaning factor ≢ zero_ℚ }
-    ensures { Answers F.meaning F.LIMIT (merged (F.meaning entry) (F.meaning factor) (F.meaning above) (F.meaning product) at_pivot) (added_operations (F.meaning entry) (F.meaning factor) (F.meaning above) at_pivot) result }
+    requires factor { F.meaning factor ≢ zero_ℚ }
+    requires unit { IsUnit (F.meaning factor) unit }
+    ensures { Answers F.meaning F.LIMIT (merged (F.meaning entry) (F.meaning factor) (F.meaning above) (F.meaning product) at_pivot)
+        (added_operations (F.meaning entry) (F.meaning factor) (F.meaning above) at_pivot) result }
 {
     if at_pivot {
         return Ok(product);
@@ -52,7 +62,10 @@ pub fn merged_of<F: OrderedField>(
     if above.is_zero() {
         return Ok(entry);
     }
-    entry.add_product(factor, above)
+    match unit {
+        Some(negated) => entry.plus(unit_product(factor, above, negated)),
+        None => entry.add_product(factor, above),
+    }
 }
 
 /// The same where the pivot's row has no entry.
@@ -68,12 +81,15 @@ pub fn term_of<F: OrderedField>(
     above: F,
     product: F,
     at_pivot: bool,
+    unit: Option<bool>,
 ) -> Result<F, Wide<F>>
-    requires { F.meaning factor ≢ zero_ℚ }
-    ensures { Answers F.meaning F.LIMIT (term (F.meaning factor) (F.meaning above) (F.meaning product) at_pivot) (term_operations (F.meaning factor) (F.meaning above) at_pivot) result }
+    requires factor { F.meaning factor ≢ zero_ℚ }
+    requires unit { IsUnit (F.meaning factor) unit }
+    ensures { Answers F.meaning F.LIMIT (term (F.meaning factor) (F.meaning above) (F.meaning product) at_pivot)
+        (term_operations (F.meaning factor) (F.meaning above) at_pivot) result }
 {
     if at_pivot {
         return Ok(product);
     }
-    product_of(factor, above)
+    product_of(factor, above, unit)
 }

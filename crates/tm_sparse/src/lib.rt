@@ -10,5 +10,6 @@ mod place;
 mod push;
 mod rows;
 mod sparse;
+mod unit;
 
 pub use sparse::Sparse;

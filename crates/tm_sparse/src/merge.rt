@@ -8,10 +8,12 @@ ghost use Rattle.tm_dict.specs.Faults.{Refuses};
 ghost use Rattle.tm_sparse.specs.Entries.{value_at, Rises, HasNoZero, head_value};
 ghost use Rattle.tm_sparse.specs.Keeps.{Keeps};
 ghost use Rattle.tm_sparse.specs.Merge.{StartsAt, MergesOn, MergesEntry};
+ghost use Rattle.tm_sparse.specs.Units.{IsUnit};
 
 use crate::entry::Entry;
 use crate::formulas::{kept_of, merged_of, term_of};
 use crate::push::push_answer;
+use crate::unit::unit_of;
 use tm_dict::PivotFault;
 use tm_frac::OrderedField;
 
@@ -26,7 +28,8 @@ fn keep_before<F: OrderedField>(
     col: u32,
 ) -> Result<usize, PivotFault<F>>
     requires within { i ≤ length entries.now }
-    ensures kept { IfOk result (λ r. MergesOn F.meaning F.LIMIT (F.meaning product) col until (drop i entries.now) (drop r entries.now) merged.old.items merged.new.items) }
+    ensures kept { IfOk result (λ r. MergesOn F.meaning F.LIMIT (F.meaning product) col until
+        (drop i entries.now) (drop r entries.now) merged.old.items merged.new.items) }
     ensures place { IfOk result (λ r. r ≤ length entries.now) }
     ensures rest { IfOk result (λ r. StartsAt until (drop r entries.now)) }
     ensures all { IfOk result (λ r. 4294967296 ≤ until → length entries.now ≤ r) }
@@ -56,20 +59,32 @@ fn merge_entry<F: OrderedField>(
     factor: F,
     product: F,
     col: u32,
+    unit: Option<bool>,
 ) -> Result<usize, PivotFault<F>>
     requires within { i ≤ length entries.now }
     requires is_factor { F.meaning factor ≢ zero_ℚ }
-    ensures merged { IfOk result (λ r. MergesEntry F.meaning F.LIMIT (F.meaning factor) (F.meaning product) col entry (drop i entries.now) (drop r entries.now) merged.old.items merged.new.items) }
+    requires unit { IsUnit (F.meaning factor) unit }
+    ensures merged { IfOk result (λ r. MergesEntry F.meaning F.LIMIT (F.meaning factor) (F.meaning product) col entry
+        (drop i entries.now) (drop r entries.now) merged.old.items merged.new.items) }
     ensures place { IfOk result (λ r. r ≤ length entries.now) }
-    ensures refused { IfErr result (Refuses F.meaning F.LIMIT (added_operations (head_value F.meaning (drop i entries.now) entry.col) (F.meaning factor) (F.meaning entry.value) (eqb entry.col col))) }
+    ensures refused { IfErr result (Refuses F.meaning F.LIMIT
+        (added_operations (head_value F.meaning (drop i entries.now) entry.col) (F.meaning factor) (F.meaning entry.value) (eqb entry.col col))) }
 {
     let at = entry.col;
     if i < entries.len() && entries[i].col == at {
-        let sum = merged_of(entries[i].value, factor, entry.value, product, at == col);
+        let sum = merged_of(
+            entries[i].value,
+            factor,
+            entry.value,
+            product,
+            at == col,
+            unit,
+        );
         push_answer(merged, at, sum)?;
         return Ok(i + 1);
     }
-    push_answer(merged, at, term_of(factor, entry.value, product, at == col))?;
+    let term = term_of(factor, entry.value, product, at == col, unit);
+    push_answer(merged, at, term)?;
     Ok(i)
 }
 
@@ -85,16 +100,20 @@ pub fn merge<F: OrderedField>(
     requires factor { F.meaning factor ≡ value_at F.meaning entries.now col }
     requires is_factor { F.meaning factor ≢ zero_ℚ }
     requires product { F.meaning product ≡ F.meaning factor *ℚ value_at F.meaning above.now col }
-    ensures merged { OnOk result ((n : ℕ) → Rises 0 n entries.now → Rises 0 n above.now → Keeps F.meaning (combined_row (value_at F.meaning entries.now) (value_at F.meaning above.now) col) n merged.new.items) }
+    ensures merged { OnOk result ((n : ℕ) → Rises 0 n entries.now → Rises 0 n above.now →
+        Keeps F.meaning (combined_row (value_at F.meaning entries.now) (value_at F.meaning above.now) col) n merged.new.items) }
     ensures no_zero { OnOk result (HasNoZero F.meaning merged.new.items) }
-    ensures fits { OnOk result ((n : ℕ) → Rises 0 n entries.now → Rises 0 n above.now → first_wide F.LIMIT (added_row_operations n (value_at F.meaning entries.now) (F.meaning factor) (value_at F.meaning above.now) col) ≡ None) }
-    ensures refused { IfErr result (λ e. (n : ℕ) → Rises 0 n entries.now → Rises 0 n above.now → Refuses F.meaning F.LIMIT (added_row_operations n (value_at F.meaning entries.now) (F.meaning factor) (value_at F.meaning above.now) col) e) }
+    ensures fits { OnOk result ((n : ℕ) → Rises 0 n entries.now → Rises 0 n above.now →
+        first_wide F.LIMIT (added_row_operations n (value_at F.meaning entries.now) (F.meaning factor) (value_at F.meaning above.now) col) ≡ None) }
+    ensures refused { IfErr result (λ e. (n : ℕ) → Rises 0 n entries.now → Rises 0 n above.now →
+        Refuses F.meaning F.LIMIT (added_row_operations n (value_at F.meaning entries.now) (F.meaning factor) (value_at F.meaning above.now) col) e) }
 {
     merged.clear();
+    let unit = unit_of(factor);
     let mut i = 0;
     for j in 0..above.len() {
         let place = keep_before(merged, entries, i, above[j].col as u64, product, col)?;
-        i = merge_entry(merged, entries, above[j], place, factor, product, col)?;
+        i = merge_entry(merged, entries, above[j], place, factor, product, col, unit)?;
     }
     keep_before(merged, entries, i, 4294967296, product, col)?;
     Ok(())

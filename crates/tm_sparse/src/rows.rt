@@ -58,7 +58,7 @@ pub fn combine_row<F: OrderedField>(
     if factor.is_zero() {
         return Ok(());
     }
-    match product_of(factor, value_in(above, col)) {
+    match product_of(factor, value_in(above, col), None) {
         Ok(product) => {
             merge(merged, &row.entries, above, factor, product, col)?;
             replace(row, merged);

@@ -1,11 +1,9 @@
-use Rattle.std.proofs.Common.{◌+◌, drop, eqb, get_or, refl, ap, sym, ◌∙◌, subst, arith}
-use Rattle.std.proofs.lemmas.List.{drop_more, drop_all, get_or_default}
-use Rattle.std.proofs.lemmas.Result.{err_from_is_err_and}
+use Rattle.std.proofs.Common.{◌+◌, drop, eqb, get_or, ap, sym, ◌∙◌, subst, arith}
+use Rattle.std.proofs.lemmas.List.{drop_more, get_or_default}
 use Rattle.tm_sparse.specs.declared.entry.Entry.{Entry}
 use Rattle.tm_sparse.specs.Entries.{HasNoZero}
-use Rattle.tm_sparse.specs.Merge.{kept, StartsAt, Merging}
+use Rattle.tm_sparse.specs.Merge.{kept, Merging}
 use Rattle.tm_sparse.proofs.Lists.{no_zero_pushed}
-use Rattle.tm_sparse.proofs.Answering.{passed_fault}
 use Rattle.tm_sparse.proofs.Merging.{merging_kept}
 use Rattle.tm_sparse.proofs.merge.keep_before.Goals as goal
 

@@ -1,9 +1,9 @@
-use Rattle.std.proofs.Common.{◌≡◌, ◌+◌, ◌≤◌, [], ◌∷◌, drop, get_or, eqb, sym, ap, ◌∙◌, subst, arith}
+use Rattle.std.proofs.Common.{◌≡◌, ◌+◌, ◌≤◌, ◌∷◌, drop, get_or, eqb, sym, ap, ◌∙◌, subst, arith}
 use Rattle.std.proofs.lemmas.List.{drop_more, drop_all, get_or_default}
 use Rattle.std.proofs.lemmas.Result.{err_from_is_err_and}
 use Rattle.tm_dict.specs.Formulas.{added_operations}
 use Rattle.tm_dict.specs.PivotOperations.{added_row_operations}
-use Rattle.tm_sparse.specs.Entries.{value_at, HasNoZero, head_value, behind, pushed}
+use Rattle.tm_sparse.specs.Entries.{value_at, HasNoZero, head_value, pushed}
 use Rattle.tm_sparse.specs.Merge.{StartsAt, Merging}
 use Rattle.tm_sparse.proofs.Lists.{no_zero_pushed}
 use Rattle.tm_sparse.proofs.Gaps.{left_all}
