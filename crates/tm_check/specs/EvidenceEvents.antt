@@ -84,6 +84,12 @@ columns_events site fault system edge rows guards goal ks =
 abbrev pub columns_of : Equations → Edge → List ℕ
 columns_of system edge = range_with_len 0 (width system.variables edge.actions)
 
+-- a combination: its multipliers first, then its columns, then its side
+abbrev pub combination_events : Site → Fault → Equations → Vector → Edge → List ℚ → List ℚ → List ℚ → List Event
+combination_events site fault system z edge rows guards goal =
+    Test (decided (dec_multipliers system z edge rows guards)) fault
+    ∷ (columns_events site fault system edge rows guards goal (columns_of system edge) ++ sums site (side_operations system z edge rows guards))
+
 -- multipliers first, for a bound that there is one, then the columns, then the side; a row that isn't reached is there and has the bound -∞
 unfoldable pub evidence_events : Site → Fault → Equations → Vector → Edge → List ℤ → Ext → Evidence → List Event
 evidence_events site fault system z edge row number (Bound rows guards) =

@@ -44,12 +44,17 @@ dec_raised Plain v number value = dec_and (dec_ltᴱ v (fin number)) (dec_le_ℚ
 dec_raised Jump v number value = dec_ltᴱ v (fin value)
 dec_raised Ray v number value = dec_ltᴱ v (fin value)
 
--- item k of step s, after the earlier items: its names, the bound of its unknown, the low trace, and the trace's value
-unfoldable pub first_events : Kind → Equations → Vector → ℕ → ℕ → List Item → Item → List Event
-first_events kind system z s k earlier item =
-    Test (decided (dec_named kind system earlier item)) (TraceFault s k) ∷ Test (decided (dec_open kind (bound_at z item))) (LowFault s k)
+-- item k of step s where it is named: the bound of its unknown, the low trace, and the trace's value
+abbrev pub low_events : Kind → Equations → Vector → ℕ → ℕ → Item → List Event
+low_events kind system z s k item =
+    Test (decided (dec_open kind (bound_at z item))) (LowFault s k)
     ∷ (run_events (at_item s k) (TraceFault s k) system z (edge_of system item) (row_of system item) item.low
     ++ Test (decided (dec_raised kind (bound_at z item) item.number (item_value system item (word item.low)))) (LowFault s k) ∷ [])
+
+-- item k of step s, after the earlier items: its names, and then its low trace
+unfoldable pub first_events : Kind → Equations → Vector → ℕ → ℕ → List Item → Item → List Event
+first_events kind system z s k earlier item =
+    Test (decided (dec_named kind system earlier item)) (TraceFault s k) ∷ low_events kind system z s k item
 
 -- the items from number k on
 unfoldable pub first_pass_events : Kind → Equations → Vector → ℕ → ℕ → List Item → List Item → List Event

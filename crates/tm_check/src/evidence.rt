@@ -8,11 +8,11 @@ ghost use Rattle.tm_flow.specs.declared.edge.Edge.{Edge};
 ghost use Rattle.tm_eqsys.specs.Equations.{Vector};
 ghost use Rattle.tm_eqsys.specs.View.{equations_of};
 ghost use Rattle.tm_cert.specs.Certificates.{evidence_of};
-ghost use Rattle.tm_validity.specs.Certificates.{Evidence, combination};
+ghost use Rattle.tm_validity.specs.Certificates.{Evidence, combination, side};
 ghost use Rattle.tm_validity.specs.Words.{width, guard_forms};
 ghost use Rattle.tm_compose.specs.Composed.{AreComposed};
 ghost use Rattle.tm_check.specs.Events.{Test, Answers, sums, decided};
-ghost use Rattle.tm_check.specs.EvidenceEvents.{column_operations, columns_events, columns_of, evidence_events};
+ghost use Rattle.tm_check.specs.EvidenceEvents.{column_operations, columns_events, columns_of, combination_events, evidence_events};
 ghost use Rattle.tm_check.specs.Stands.{Stands};
 
 use crate::combination::{coefficient, column_sum, side_sum};
@@ -78,6 +78,34 @@ fn columns_pass(
     Ok(Some(()))
 }
 
+// The side of the combination of rows and guards by these multipliers; `None` where they aren't multipliers, or where the
+// combination differs from the goal at a column.
+fn combined_side(
+    system: &System,
+    paths: &Paths,
+    bounds: &Bounds,
+    edge: u32,
+    rows: &[Frac],
+    guards: &[Frac],
+    goal: &[Frac],
+) -> Result<Option<Frac>, Wide<Frac>>
+    requires paths { AreComposed (equations_of system.now) paths.now }
+    requires bounds { length bounds.now ≡ length system.now.flow.points * length system.now.template }
+    requires edge { edge < length system.now.flow.edges }
+    ensures { (z : Vector) (e : Edge) → Stands (equations_of system.now) bounds.now z → slice_get system.now.flow.edges edge ≡ Some e →
+        Answers (λ value. value ≡ side (equations_of system.now) z e rows.now guards.now)
+        (λ site fault. combination_events site fault (equations_of system.now) z e rows.now guards.now goal.now) result }
+{
+    if !are_multipliers(system, paths, bounds, edge, rows, guards) {
+        return Ok(None);
+    }
+    if columns_pass(system, paths, edge, rows, guards, goal)?.is_none() {
+        return Ok(None);
+    }
+    let value = side_sum(system, paths, bounds, edge, rows, guards)?;
+    Ok(Some(value))
+}
+
 // Whether multiples of rows and guards are the row's value at the end, and their side shows the unknown's bound.
 fn bound_passes(
     system: &System,
@@ -97,18 +125,16 @@ fn bound_passes(
         Answers (λ u. Unit {0}) (λ site fault. evidence_events site fault (equations_of system.now) z e (get_or system.now.template r []) (z p r)
         (Evidence.Bound rows.now guards.now)) result }
 {
-    if !are_multipliers(system, paths, bounds, edge, rows, guards) {
-        return Ok(None);
-    }
     let limit = match bounds.at(unknown) {
         Ext::Fin(limit) => limit,
         _ => return Ok(None),
     };
     let end = paths.row(edge, unknown % system.template.as_slice().len() as u32);
-    if columns_pass(system, paths, edge, rows, guards, end.coeffs.as_slice())?.is_none() {
+    let coeffs = end.coeffs.as_slice();
+    let Some(value) = combined_side(system, paths, bounds, edge, rows, guards, coeffs)? else {
         return Ok(None);
-    }
-    let most = side_sum(system, paths, bounds, edge, rows, guards)?.plus(end.constant)?;
+    };
+    let most = value.plus(end.constant)?;
     if most <= limit {
         Ok(Some(()))
     } else {
@@ -133,14 +159,10 @@ fn empty_passes(
         Answers (λ u. Unit {0}) (λ site fault. evidence_events site fault (equations_of system.now) z e row number (Evidence.Empty rows.now guards.now))
         result }
 {
-    if !are_multipliers(system, paths, bounds, edge, rows, guards) {
+    let Some(value) = combined_side(system, paths, bounds, edge, rows, guards, &[])? else {
         return Ok(None);
-    }
-    if columns_pass(system, paths, edge, rows, guards, &[])?.is_none() {
-        return Ok(None);
-    }
-    let side = side_sum(system, paths, bounds, edge, rows, guards)?;
-    if side < Frac::zero() {
+    };
+    if value < Frac::zero() {
         Ok(Some(()))
     } else {
         Ok(None)

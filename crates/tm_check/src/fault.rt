@@ -1,9 +1,13 @@
 //! Why a certificate isn't accepted.
 
-ghost use Rattle.std.specs.Prelude.{◌≡◌, ◌↔◌, Ok, Err, IsTrue, IsOk, IfErr, MatchResult, MatchOption};
+ghost use Rattle.std.specs.Prelude.{◌≡◌, ◌↔◌, [], ◌∷◌, ◌++◌, List, Ok, Err, IsTrue, IsOk, IfErr, MatchResult, MatchOption};
 ghost use Rattle.tm_frac.specs.Operation.{operation_of};
 ghost use Rattle.tm_num.specs.Rational.{ℚ};
-ghost use Rattle.tm_check.specs.Events.{wide_answer};
+ghost use Rattle.tm_eqsys.specs.declared.spot.Site.{Site};
+ghost use Rattle.tm_validity.specs.Decide.{dec_le_ℚ};
+ghost use Rattle.tm_validity.specs.Faults.{Fault};
+ghost use Rattle.tm_check.specs.StepEvents.{at_item};
+ghost use Rattle.tm_check.specs.Events.{Answers, Event, IsRun, Test, decided, fault_answer, wide_answer};
 
 use tm_eqsys::{Site, Spot};
 use tm_frac::{Frac, Wide};
@@ -41,6 +45,13 @@ pub fn wide_at(site: Site, wide: Wide<Frac>) -> CheckFault
     })
 }
 
+/// The site of an item of a step.
+pub fn item_site(step: u32, item: u32) -> Site
+    ensures { result ≡ at_item step item }
+{
+    Site::Step { step, item }
+}
+
 /// Ends a check with the fault unless the test passes.
 pub fn ensure(passes: bool, fault: CheckFault) -> Result<(), CheckFault>
     ensures passed { IsOk result ↔ IsTrue passes }
@@ -62,6 +73,26 @@ pub fn value_or(
     match followed {
         Ok(Some(value)) => Ok(value),
         Ok(None) => Err(fault),
+        Err(wide) => Err(wide_at(site, wide)),
+    }
+}
+
+/// Ends a check unless a trace or a direction was followed to its end and has at least this value there: with the fault, or with
+/// that of the site where an operation was too wide.
+pub fn ensure_reached(
+    followed: Result<Option<Frac>, Wide<Frac>>,
+    least: Frac,
+    site: Site,
+    fault: CheckFault,
+) -> Result<(), CheckFault>
+    ensures { (value : ℚ) (f : Fault) (events : Site → Fault → List Event) → Answers (λ v. v ≡ value) events followed → fault ≡ fault_answer f →
+        IsRun (λ u. Unit {0}) (events site f ++ Test (decided (dec_le_ℚ least value)) f ∷ []) result }
+{
+    match followed {
+        Ok(found) => match found {
+            Some(value) => ensure(least <= value, fault),
+            None => Err(fault),
+        },
         Err(wide) => Err(wide_at(site, wide)),
     }
 }

@@ -1,24 +1,27 @@
 //! The tests of a step's items at the vector that the step finds.
 
-ghost use Rattle.std.specs.Prelude.{◌≡◌, ◌↔◌, ◌*◌, ◌<◌, ◌^◌, [], IsTrue, length};
+ghost use Rattle.std.specs.Prelude.{◌≡◌, ◌↔◌, ◌*◌, ◌<◌, ◌^◌, [], ◌∷◌, ◌++◌, List, IsTrue, length};
+ghost use Rattle.tm_num.specs.Rational.{ℚ};
 ghost use Rattle.tm_num.specs.Extended.{fin, ◌<ᴱ◌};
 ghost use Rattle.tm_frac.specs.Extended.{extended};
+ghost use Rattle.tm_eqsys.specs.declared.spot.Site.{Site};
 ghost use Rattle.tm_eqsys.specs.Equations.{Vector};
 ghost use Rattle.tm_eqsys.specs.View.{equations_of};
 ghost use Rattle.tm_cert.specs.Certificates.{step_of};
 ghost use Rattle.tm_validity.specs.Steps.{Placed, Sized, edge_of, row_of, item_value, word};
-ghost use Rattle.tm_check.specs.Events.{Answers, IsRun};
+ghost use Rattle.tm_validity.specs.Faults.{Fault, TraceFault, LowFault};
+ghost use Rattle.tm_check.specs.Events.{Answers, Event, IsRun, Test, decided};
 ghost use Rattle.tm_check.specs.Runs.{run_events};
 ghost use Rattle.tm_check.specs.Items.{item_count, item_at, earlier_items};
-ghost use Rattle.tm_check.specs.StepEvents.{IsOpen, IsRaised, first_events, first_pass_events};
+ghost use Rattle.tm_check.specs.StepEvents.{IsOpen, IsRaised, at_item, dec_raised, first_events, first_pass_events, low_events};
 ghost use Rattle.tm_check.specs.Stands.{Stands};
 
-use crate::fault::{CheckFault, ensure, value_or};
+use crate::fault::{CheckFault, ensure, item_site, value_or};
 use crate::following::run;
 use crate::item::{count, edge_at, low_at, number_at, unknown_at};
 use crate::names::is_named;
 use tm_cert::Step;
-use tm_eqsys::{Bounds, Site, System};
+use tm_eqsys::{Bounds, System};
 use tm_frac::{Ext, Frac, Wide};
 
 // Whether a bound is below a number.
@@ -72,6 +75,67 @@ fn low_value(
     run(system, bounds, edge_at(step, k), row, low_at(step, k))
 }
 
+// The last test of an item at the vector that the step finds: what its low trace, followed, shows.
+fn ensure_raised(
+    step: &Step,
+    bound: Ext,
+    to: Frac,
+    followed: Result<Option<Frac>, Wide<Frac>>,
+    number: u32,
+    k: u32,
+) -> Result<(), CheckFault>
+    ensures { (value : ℚ) (events : Site → Fault → List Event) → Answers (λ v. v ≡ value) events followed →
+        let last = dec_raised (step_of 1 step.now).kind (extended bound) to value in
+        IsRun (λ u. Unit {0}) (events (at_item number k) (TraceFault number k) ++ Test (decided last) (LowFault number k) ∷ []) result }
+{
+    let wrong = CheckFault::Trace {
+        step: number,
+        item: k,
+    };
+    let value = value_or(followed, item_site(number, k), wrong)?;
+    ensure(
+        is_raised(step, bound, to, value),
+        CheckFault::Low {
+            step: number,
+            item: k,
+        },
+    )
+}
+
+// The tests of a named item's low trace.
+fn test_low(
+    system: &System,
+    step: &Step,
+    number: u32,
+    k: u32,
+    bounds: &Bounds,
+) -> Result<(), CheckFault>
+    requires item { k < item_count step.now }
+    requires placed { Placed (equations_of system.now) (item_at (length system.now.template) step.now k) }
+    requires sized { Sized (equations_of system.now) (item_at (length system.now.template) step.now k) (item_at (length system.now.template) step.now k).low }
+    requires bounds { length bounds.now ≡ length system.now.flow.points * length system.now.template }
+    ensures { (z : Vector) → Stands (equations_of system.now) bounds.now z → let rows = length system.now.template in
+        IsRun (λ u. Unit {0}) (low_events (step_of rows step.now).kind (equations_of system.now) z number k (item_at rows step.now k)) result }
+{
+    let place = k as usize;
+    let unknown = unknown_at(step, place);
+    ensure(
+        is_open(step, bounds.at(unknown)),
+        CheckFault::Low {
+            step: number,
+            item: k,
+        },
+    )?;
+    ensure_raised(
+        step,
+        bounds.at(unknown),
+        number_at(step, place),
+        low_value(system, step, place, bounds),
+        number,
+        k,
+    )
+}
+
 // An item's tests.
 fn test_item(
     system: &System,
@@ -82,44 +146,18 @@ fn test_item(
 ) -> Result<(), CheckFault>
     requires item { k < item_count step.now }
     requires bounds { length bounds.now ≡ length system.now.flow.points * length system.now.template }
-    ensures { (z : Vector) → Stands (equations_of system.now) bounds.now z → let rows = length system.now.template in
-        IsRun (λ u. Unit {0}) (first_events (step_of rows step.now).kind (equations_of system.now) z number k (earlier_items (step_of rows step.now).items
-        k) (item_at rows step.now k)) result }
+    ensures { (z : Vector) → Stands (equations_of system.now) bounds.now z → let theirs = step_of (length system.now.template) step.now in
+        let item = item_at (length system.now.template) step.now k in
+        IsRun (λ u. Unit {0}) (first_events theirs.kind (equations_of system.now) z number k (earlier_items theirs.items k) item) result }
 {
-    let place = k as usize;
     ensure(
-        is_named(system, step, place),
+        is_named(system, step, k as usize),
         CheckFault::Trace {
             step: number,
             item: k,
         },
     )?;
-    let unknown = unknown_at(step, place);
-    ensure(
-        is_open(step, bounds.at(unknown)),
-        CheckFault::Low {
-            step: number,
-            item: k,
-        },
-    )?;
-    let value = value_or(
-        low_value(system, step, place, bounds),
-        Site::Step {
-            step: number,
-            item: k,
-        },
-        CheckFault::Trace {
-            step: number,
-            item: k,
-        },
-    )?;
-    ensure(
-        is_raised(step, bounds.at(unknown), number_at(step, place), value),
-        CheckFault::Low {
-            step: number,
-            item: k,
-        },
-    )
+    test_low(system, step, number, k, bounds)
 }
 
 /// The tests of all items, in order.

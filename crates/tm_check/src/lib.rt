@@ -1,7 +1,7 @@
 //! The check of a certificate of least bounds.
 //!
-//! `docs/DEFINITIONS.md` says what a valid certificate is and that its bounds are least; `docs/FORMATS.md` gives the order of
-//! the tests. `specs/` lists them as events: sums and tests in order, of which the first that stops decides.
+//! `docs/FORMATS.md` says when a certificate is valid, with the order of the tests, and `docs/METHOD.md` that its bounds are then the
+//! least ones. `specs/` lists the tests as events: sums and tests in order, of which the first that stops decides.
 #![tactic(auto)]
 
 mod certificate;

@@ -8,6 +8,7 @@ ghost use Rattle.tm_frac.specs.Extended.{extended};
 ghost use Rattle.tm_eqsys.specs.Equations.{Vector};
 ghost use Rattle.tm_eqsys.specs.View.{equations_of};
 ghost use Rattle.tm_validity.specs.Certificates.{Multipliers, NotFinite};
+ghost use Rattle.tm_validity.specs.Words.{guard_forms};
 ghost use Rattle.tm_compose.specs.Composed.{AreComposed};
 ghost use Rattle.tm_check.specs.Stands.{Stands};
 
@@ -67,8 +68,11 @@ pub fn are_multipliers(
     requires paths { AreComposed (equations_of system.now) paths.now }
     requires bounds { length bounds.now ≡ length system.now.flow.points * length system.now.template }
     requires edge { edge < length system.now.flow.edges }
-    ensures { (z : Vector) (e : Edge) → Stands (equations_of system.now) bounds.now z → slice_get system.now.flow.edges edge ≡ Some e →
+    ensures exactly { (z : Vector) (e : Edge) → Stands (equations_of system.now) bounds.now z → slice_get system.now.flow.edges edge ≡ Some e →
         IsTrue result ↔ Multipliers (equations_of system.now) z e rows.now guards.now }
+    ensures rows { IsTrue result → length rows.now ≡ length system.now.template }
+    ensures guards { IsTrue result → (e : Edge) → slice_get system.now.flow.edges edge ≡ Some e →
+        length guards.now ≡ length (guard_forms (length system.now.flow.names) e.actions) }
 {
     if rows.len() != system.template.as_slice().len() {
         return false;

@@ -15,11 +15,11 @@ ghost use Rattle.tm_check.specs.StepEvents.{allowances, carry_events, landing_ev
 ghost use Rattle.tm_check.specs.Stands.{Stands};
 ghost use Rattle.tm_check.specs.Usable.{IsUsable};
 
-use crate::fault::{CheckFault, ensure, value_or};
+use crate::fault::{CheckFault, ensure, ensure_reached, item_site};
 use crate::following::{carry, run};
 use crate::item::{count, edge_at, number_at, second_at, unknown_at};
 use tm_cert::Step;
-use tm_eqsys::{Bounds, Site, System};
+use tm_eqsys::{Bounds, System};
 use tm_frac::{Ext, Frac, OrderedField, Wide};
 
 // Whether a bound is at most a number.
@@ -78,19 +78,10 @@ fn test_jump_item(
             item: k,
         },
     )?;
-    let value = value_or(
+    ensure_reached(
         high_value(system, step, place, next),
-        Site::Step {
-            step: number,
-            item: k,
-        },
-        CheckFault::High {
-            step: number,
-            item: k,
-        },
-    )?;
-    ensure(
-        to <= value,
+        to,
+        item_site(number, k),
         CheckFault::High {
             step: number,
             item: k,
@@ -161,19 +152,10 @@ fn test_ray_item(
             item: k,
         },
     )?;
-    let value = value_or(
+    ensure_reached(
         rise(system, step, place, rates),
-        Site::Step {
-            step: number,
-            item: k,
-        },
-        CheckFault::Ray {
-            step: number,
-            item: k,
-        },
-    )?;
-    ensure(
-        rate <= value,
+        rate,
+        item_site(number, k),
         CheckFault::Ray {
             step: number,
             item: k,

@@ -2,11 +2,11 @@
 use Rattle.std.proofs.Common.{◌≡◌, ◌∙◌, ℕ, ◌<◌, List, [], ◌∷◌, length, get_or, map, refl, sym, ap}
 use Rattle.std.specs.Prelude.{Some, slice_get, option_map}
 use Rattle.std.proofs.lemmas.List.{length-map}
-use Rattle.std.proofs.lemmas.Option.{slice_get-map, slice_get-get_or, slice_get_within}
+use Rattle.std.proofs.lemmas.Option.{slice_get-map, slice_get-get_or}
 use Rattle.tm_num.specs.Rational.{zero_ℚ, neg_ℚ}
 use Rattle.tm_flow.specs.declared.edge.Edge.{Edge}
 use Rattle.tm_eqsys.specs.Equations.{Equations}
-use Rattle.tm_validity.specs.Words.{Affine as Form, free_count, width, guard_forms, end_form}
+use Rattle.tm_validity.specs.Words.{Affine as Form, width, guard_forms, end_form}
 use Rattle.tm_compose.specs.declared.affine.Affine.{Affine}
 use Rattle.tm_compose.specs.Composed.{EdgeForms, dense, edge_forms, AreComposed}
 use Rattle.tm_compose.specs.Sums.{dense_column}
@@ -48,9 +48,6 @@ module _ (system : Equations) (paths : List EdgeForms) (h : AreComposed system p
       ap (λ ps. slice_get ps k) h.same ∙ slice_get-map (λ (x : Edge). edge_forms system.variables system.template x.actions) system.edges k
       ∙ ap (option_map (λ (x : Edge). edge_forms system.variables system.template x.actions)) found
 
-  pub path_within : k < length paths
-  path_within = slice_get_within paths k (edge_forms system.variables system.template e.actions) forms_at
-
   module _ (forms : EdgeForms) (at : slice_get paths k ≡ Some forms) where
     pub forms_are : forms ≡ edge_forms system.variables system.template e.actions
     forms_are = same_forms forms (edge_forms system.variables system.template e.actions) (sym at ∙ forms_at)
@@ -61,9 +58,6 @@ module _ (system : Equations) (paths : List EdgeForms) (h : AreComposed system p
 
     pub row_count : length forms.rows ≡ length system.template
     row_count = ap (λ (x : EdgeForms). length x.rows) forms_are ∙ length-map system.template (λ row. dense Width (end_form system.variables e.actions row))
-
-    pub frees_are : forms.frees ≡ free_count e.actions
-    frees_are = ap (λ (x : EdgeForms). x.frees) forms_are
 
     -- the guards at a column, and their negated constants
     pub column_is : (j : ℕ) → j < Width → dense_column j forms.guards ≡ guard_column system e j

@@ -1,7 +1,7 @@
 -- What is told of evidence by its multipliers, its columns and its side.
-use Rattle.std.proofs.Common.{◌≡◌, ◌∙◌, ℕ, zero, suc, ◌*◌, ◌/◌, ◌%◌, ◌<◌, ℤ, List, [], ◌∷◌, ◌++◌, length, get_or, Some, None, Result, MatchResult, refl, sym, ap, subst, subst₂, arith}
+use Rattle.std.proofs.Common.{◌≡◌, ◌∙◌, ℕ, zero, suc, ◌*◌, ◌/◌, ◌%◌, ◌<◌, ℤ, List, [], ◌∷◌, ◌++◌, length, get_or, append_assoc, Some, None, Result, MatchResult, refl, sym, ap, subst, subst₂, arith}
 use Rattle.std.specs.Prelude.{slice_get}
-use Rattle.tm_num.specs.Rational.{ℚ, zero_ℚ, ◌+ℚ◌, ◌≤ℚ◌, ◌<ℚ◌}
+use Rattle.tm_num.specs.Rational.{ℚ, zero_ℚ, ◌+ℚ◌, ◌≤ℚ◌}
 use Rattle.tm_num.specs.Extended.{Ext, neg_inf, fin, ◌≤ᴱ◌}
 use Rattle.tm_flow.specs.declared.edge.Edge.{Edge}
 use Rattle.tm_frac.specs.Fits.{Fits, long_limit}
@@ -12,7 +12,7 @@ use Rattle.tm_eqsys.specs.declared.spot.Site.{Site}
 use Rattle.tm_eqsys.specs.Equations.{Equations, Vector}
 use Rattle.tm_eqsys.specs.Sums.{SumAnswers}
 use Rattle.tm_eqsys.specs.View.{vector_of}
-use Rattle.tm_eqsys.proofs.Widths.{first_wide_sooner, one_answer, after}
+use Rattle.tm_eqsys.proofs.Widths.{one_answer}
 use Rattle.tm_validity.specs.Certificates.{Bound, Empty, Unreached, side, Multipliers}
 use Rattle.tm_validity.specs.Words.{Affine as Form, end_form}
 use Rattle.tm_validity.specs.Decide.{dec_leᴱ, dec_lt_ℚ, dec_finite, ext_same}
@@ -21,10 +21,10 @@ use native.Mathlib.Decide.{dec_lt}
 use Rattle.tm_compose.specs.declared.affine.Affine.{Affine}
 use Rattle.tm_compose.specs.Composed.{EdgeForms, edge_forms, AreComposed}
 use Rattle.tm_check.specs.declared.fault.CheckFault.{CheckFault}
-use Rattle.tm_check.specs.Events.{Event, Test, fault_answer, wide_answer, first_stop, sums, decided}
-use Rattle.tm_check.specs.EvidenceEvents.{side_operations, columns_events, columns_of, dec_multipliers, evidence_events}
+use Rattle.tm_check.specs.Events.{Event, Sum, Test, fault_answer, wide_answer, first_stop, sums, decided}
+use Rattle.tm_check.specs.EvidenceEvents.{side_operations, columns_events, columns_of, dec_multipliers, combination_events, evidence_events}
 use Rattle.tm_check.specs.Stands.{Stands}
-use Rattle.tm_check.proofs.following.Traces.{stop_sooner, stop_later, test_yes, test_no, alone_yes}
+use Rattle.tm_check.proofs.following.Traces.{stop_sooner, stop_later, test_yes, test_no, alone_yes, sums_none, sums_some}
 use Rattle.tm_check.proofs.combination.Forms.{forms_at, end_constant}
 use Rattle.tm_check.proofs.evidence.Columns.{ending_same}
 use Rattle.tm_check.proofs.uppers.Numbers.{bound_of}
@@ -41,108 +41,138 @@ row_some u points zero l = absurd (omega (arith, l))
 row_some u points (suc n) l = omega arith
 
 -- ---- multiples of rows and guards
-module _ (site : Site) (fault : Fault) (system : Equations) (z : Vector) (e : Edge) (row : List ℤ) (number : Ext) (rows guards : List ℚ) where
+-- the operations of two sums, one after the other
+sums_both : (site : Site) (os ps : List Operation) → sums site (os ++ ps) ≡ sums site os ++ sums site ps
+unfolding sums
+sums_both site [] ps = refl
+sums_both site (o ∷ os) ps = ap (λ es. Sum site o ∷ es) (sums_both site os ps)
+
+module _ (site : Site) (fault : Fault) (system : Equations) (z : Vector) (e : Edge) (rows guards : List ℚ) where
   -- the events of columns that are compared with a goal
   abbrev Columns : List ℚ → List Event
   Columns goal = columns_events site fault system e rows guards goal (columns_of system e)
 
+  -- the operations of the side, and its value
   abbrev Sides : List Operation
   Sides = side_operations system z e rows guards
 
   abbrev Value : ℚ
   Value = side system z e rows guards
 
-  -- ---- a bound
-  abbrev Ending : Form
-  Ending = end_form system.variables e.actions row
+  abbrev Allowed : Dec (Multipliers system z e rows guards)
+  Allowed = dec_multipliers system z e rows guards
 
-  abbrev Last : List Operation
-  Last = Sides ++ record { op = Add; left = Value; right = Ending.constant } ∷ []
+  -- ---- a combination
+  module _ (goal : List ℚ) where
+    abbrev Combined : List Event
+    Combined = combination_events site fault system z e rows guards goal
 
-  abbrev BoundSide : List Event
-  BoundSide = sums site Last ++ Test (decided (dec_leᴱ (fin (Value +ℚ Ending.constant)) number)) fault ∷ []
+    -- these are no multipliers
+    pub combined_first : ¬ (Multipliers system z e rows guards) → first_stop Combined ≡ Some (fault_answer fault)
+    combined_first n = test_no Allowed fault (Columns goal ++ sums site Sides) n
 
-  abbrev BoundEvents : List Event
-  BoundEvents = evidence_events site fault system z e row number (Bound rows guards)
-
-  pub bound_first : ¬ (Multipliers system z e rows guards) → first_stop BoundEvents ≡ Some (fault_answer fault)
-  unfolding evidence_events
-  bound_first n = test_no (dec_multipliers system z e rows guards) fault (Test (decided (dec_finite number)) fault ∷ (Columns Ending.coeffs ++ BoundSide)) n
-
-  module _ (m : Multipliers system z e rows guards) where
-    bound_second : first_stop BoundEvents ≡ first_stop (Test (decided (dec_finite number)) fault ∷ (Columns Ending.coeffs ++ BoundSide))
-    unfolding evidence_events
-    bound_second = test_yes (dec_multipliers system z e rows guards) fault (Test (decided (dec_finite number)) fault ∷ (Columns Ending.coeffs ++ BoundSide)) m
-
-    pub bound_infinite : ¬ ((c : ℚ) × (number ≡ fin c)) → first_stop BoundEvents ≡ Some (fault_answer fault)
-    bound_infinite n = bound_second ∙ test_no (dec_finite number) fault (Columns Ending.coeffs ++ BoundSide) n
-
-    module _ (limit : ℚ) (is : number ≡ fin limit) (goal : List ℚ) (same : Columns goal ≡ Columns Ending.coeffs) where
-      bound_third : first_stop BoundEvents ≡ first_stop (Columns Ending.coeffs ++ BoundSide)
-      bound_third = bound_second ∙ test_yes (dec_finite number) fault (Columns Ending.coeffs ++ BoundSide) (limit, is)
-
-      pub bound_columns : (a : CheckFault) → first_stop (Columns goal) ≡ Some a → first_stop BoundEvents ≡ Some a
-      bound_columns a s = bound_third ∙ stop_sooner (Columns Ending.coeffs) BoundSide a (ap first_stop (sym same) ∙ s)
+    module _ (m : Multipliers system z e rows guards) where
+      -- the columns stop
+      pub combined_columns : (a : CheckFault) → first_stop (Columns goal) ≡ Some a → first_stop Combined ≡ Some a
+      combined_columns a s = test_yes Allowed fault (Columns goal ++ sums site Sides) m ∙ stop_sooner (Columns goal) (sums site Sides) a s
 
       module _ (passed : first_stop (Columns goal) ≡ None) where
-        bound_fourth : first_stop BoundEvents ≡ first_stop BoundSide
-        bound_fourth = bound_third ∙ stop_later (Columns Ending.coeffs) BoundSide (ap first_stop (sym same) ∙ passed)
+        combined_last : first_stop Combined ≡ first_stop (sums site Sides)
+        combined_last = test_yes Allowed fault (Columns goal ++ sums site Sides) m ∙ stop_later (Columns goal) (sums site Sides) passed
 
-        -- a side that is wide
-        pub bound_wide : (w : Operation) → first_wide long_limit Sides ≡ Some w → first_stop BoundEvents ≡ Some (wide_answer site w)
-        bound_wide w s =
-            bound_fourth
-            ∙ tested_wide (dec_leᴱ (fin (Value +ℚ Ending.constant)) number) site fault Last w (first_wide_sooner long_limit Sides (record { op = Add; left = Value; right = Ending.constant } ∷ []) w s)
+        -- the side is wide
+        pub combined_wide : (w : Operation) → first_wide long_limit Sides ≡ Some w → first_stop Combined ≡ Some (wide_answer site w)
+        combined_wide w s = combined_last ∙ sums_some site Sides w s
 
-        pub bound_last : (w : Operation) → first_wide long_limit Last ≡ Some w → first_stop BoundEvents ≡ Some (wide_answer site w)
-        bound_last w s = bound_fourth ∙ tested_wide (dec_leᴱ (fin (Value +ℚ Ending.constant)) number) site fault Last w s
+        -- nothing stops
+        pub combined_none : first_wide long_limit Sides ≡ None → first_stop Combined ≡ None
+        combined_none s = combined_last ∙ sums_none site Sides s
+
+  module _ (row : List ℤ) (number : Ext) where
+    -- ---- a bound
+    abbrev Ending : Form
+    Ending = end_form system.variables e.actions row
+
+    -- the constant that is added last
+    abbrev Added : List Operation
+    Added = record { op = Add; left = Value; right = Ending.constant } ∷ []
+
+    -- the test of the bound
+    abbrev BoundTest : List Event
+    BoundTest = Test (decided (dec_leᴱ (fin (Value +ℚ Ending.constant)) number)) fault ∷ []
+
+    abbrev BoundTail : List Event
+    BoundTail = Columns Ending.coeffs ++ (sums site (Sides ++ Added) ++ BoundTest)
+
+    abbrev BoundEvents : List Event
+    BoundEvents = evidence_events site fault system z e row number (Bound rows guards)
+
+    -- a bound that isn't finite
+    pub bound_infinite : ¬ ((c : ℚ) × (number ≡ fin c)) → first_stop BoundEvents ≡ Some (fault_answer fault)
+    unfolding evidence_events
+    bound_infinite n = by Allowed
+      where
+        by : (d : Dec (Multipliers system z e rows guards)) → first_stop (Test (decided d) fault ∷ (Test (decided (dec_finite number)) fault ∷ BoundTail)) ≡ Some (fault_answer fault)
+        by (yes m) = test_yes (yes m) fault (Test (decided (dec_finite number)) fault ∷ BoundTail) m ∙ test_no (dec_finite number) fault BoundTail n
+        by (no k) = test_no (no k) fault (Test (decided (dec_finite number)) fault ∷ BoundTail) k
+
+    -- a finite bound: the combination, and then what is compared with the bound
+    pub bound_as : (limit : ℚ) → number ≡ fin limit → (goal : List ℚ) → Columns goal ≡ Columns Ending.coeffs → first_stop BoundEvents ≡ first_stop (Combined goal ++ (sums site Added ++ BoundTest))
+    unfolding evidence_events
+    bound_as limit is goal same = by Allowed
+      where
+        tail : BoundTail ≡ (Columns goal ++ sums site Sides) ++ (sums site Added ++ BoundTest)
+        tail =
+            ap (λ os. Columns Ending.coeffs ++ (os ++ BoundTest)) (sums_both site Sides Added)
+            ∙ ap (λ es. es ++ ((sums site Sides ++ sums site Added) ++ BoundTest)) (sym same)
+            ∙ ap (λ es. Columns goal ++ es) (append_assoc (sums site Sides) (sums site Added) BoundTest)
+            ∙ sym (append_assoc (Columns goal) (sums site Sides) (sums site Added ++ BoundTest))
+
+        by : (d : Dec (Multipliers system z e rows guards)) → first_stop (Test (decided d) fault ∷ (Test (decided (dec_finite number)) fault ∷ BoundTail))
+            ≡ first_stop (Test (decided d) fault ∷ ((Columns goal ++ sums site Sides) ++ (sums site Added ++ BoundTest)))
+        by (yes m) =
+            test_yes (yes m) fault (Test (decided (dec_finite number)) fault ∷ BoundTail) m
+            ∙ test_yes (dec_finite number) fault BoundTail (limit, is)
+            ∙ ap first_stop tail
+            ∙ sym (test_yes (yes m) fault ((Columns goal ++ sums site Sides) ++ (sums site Added ++ BoundTest)) m)
+        by (no k) =
+            test_no (no k) fault (Test (decided (dec_finite number)) fault ∷ BoundTail) k
+            ∙ sym (test_no (no k) fault ((Columns goal ++ sums site Sides) ++ (sums site Added ++ BoundTest)) k)
+
+    module _ (limit : ℚ) (is : number ≡ fin limit) (goal : List ℚ) (same : Columns goal ≡ Columns Ending.coeffs) where
+      -- the combination stops
+      pub bound_stops : (a : CheckFault) → first_stop (Combined goal) ≡ Some a → first_stop BoundEvents ≡ Some a
+      bound_stops a s = bound_as limit is goal same ∙ stop_sooner (Combined goal) (sums site Added ++ BoundTest) a s
+
+      module _ (passed : first_stop (Combined goal) ≡ None) where
+        bound_last : first_stop BoundEvents ≡ first_stop (sums site Added ++ BoundTest)
+        bound_last = bound_as limit is goal same ∙ stop_later (Combined goal) (sums site Added ++ BoundTest) passed
+
+        -- the last sum is wide
+        pub bound_wide : (w : Operation) → first_wide long_limit Added ≡ Some w → first_stop BoundEvents ≡ Some (wide_answer site w)
+        bound_wide w s = bound_last ∙ tested_wide (dec_leᴱ (fin (Value +ℚ Ending.constant)) number) site fault Added w s
 
         -- the value at the end
-        pub bound_yes : first_wide long_limit Last ≡ None → (v : ℚ) → v ≡ Value +ℚ Ending.constant → v ≤ℚ limit → first_stop BoundEvents ≡ None
-        bound_yes s v q l = bound_fourth ∙ tested_yes (dec_leᴱ (fin (Value +ℚ Ending.constant)) number) site fault Last s (subst₂ (λ x y. fin x ≤ᴱ y) q (sym is) l)
+        pub bound_yes : first_wide long_limit Added ≡ None → (v : ℚ) → v ≡ Value +ℚ Ending.constant → v ≤ℚ limit → first_stop BoundEvents ≡ None
+        bound_yes s v q l = bound_last ∙ tested_yes (dec_leᴱ (fin (Value +ℚ Ending.constant)) number) site fault Added s (subst₂ (λ x y. fin x ≤ᴱ y) q (sym is) l)
 
-        pub bound_no : first_wide long_limit Last ≡ None → (v : ℚ) → v ≡ Value +ℚ Ending.constant → ¬ (v ≤ℚ limit) → first_stop BoundEvents ≡ Some (fault_answer fault)
-        bound_no s v q n = bound_fourth ∙ tested_no (dec_leᴱ (fin (Value +ℚ Ending.constant)) number) site fault Last s (λ l. n (subst₂ (λ x y. fin x ≤ᴱ y) (sym q) is l))
+        pub bound_no : first_wide long_limit Added ≡ None → (v : ℚ) → v ≡ Value +ℚ Ending.constant → ¬ (v ≤ℚ limit) → first_stop BoundEvents ≡ Some (fault_answer fault)
+        bound_no s v q n = bound_last ∙ tested_no (dec_leᴱ (fin (Value +ℚ Ending.constant)) number) site fault Added s (λ l. n (subst₂ (λ x y. fin x ≤ᴱ y) (sym q) is l))
 
-  -- the constant is added last
-  pub constant_added : (sum constant : ℚ) (res : Result ℚ (Wide ℚ)) → sum ≡ Value → first_wide long_limit Sides ≡ None → constant ≡ Ending.constant →
-      MatchResult res (λ r. (r ≡ sum +ℚ constant) × Fits long_limit r) (λ w. (¬ (Fits long_limit (sum +ℚ constant))) × (w ≡ record { op = Add; left = sum; right = constant })) →
-      SumAnswers (Value +ℚ Ending.constant) Last res
-  constant_added sum constant res q n k a =
-      after (Value +ℚ Ending.constant) Sides (record { op = Add; left = Value; right = Ending.constant } ∷ []) res n
-      (subst₂ (λ x y. SumAnswers (x +ℚ y) (record { op = Add; left = x; right = y } ∷ []) res) q k (one_answer Add sum constant res a))
+    -- the constant is added last
+    pub constant_added : (sum constant : ℚ) (res : Result ℚ (Wide ℚ)) → sum ≡ Value → constant ≡ Ending.constant →
+        MatchResult res (λ r. (r ≡ sum +ℚ constant) × Fits long_limit r) (λ w. (¬ (Fits long_limit (sum +ℚ constant))) × (w ≡ record { op = Add; left = sum; right = constant })) →
+        SumAnswers (Value +ℚ Ending.constant) Added res
+    constant_added sum constant res q k a = subst₂ (λ x y. SumAnswers (x +ℚ y) (record { op = Add; left = x; right = y } ∷ []) res) q k (one_answer Add sum constant res a)
 
-  -- ---- nothing runs
-  abbrev EmptySide : List Event
-  EmptySide = sums site Sides ++ Test (decided (dec_lt_ℚ Value zero_ℚ)) fault ∷ []
+    -- ---- nothing runs
+    abbrev EmptyEvents : List Event
+    EmptyEvents = evidence_events site fault system z e row number (Empty rows guards)
 
-  abbrev EmptyEvents : List Event
-  EmptyEvents = evidence_events site fault system z e row number (Empty rows guards)
-
-  pub empty_first : ¬ (Multipliers system z e rows guards) → first_stop EmptyEvents ≡ Some (fault_answer fault)
-  unfolding evidence_events
-  empty_first n = test_no (dec_multipliers system z e rows guards) fault (Columns [] ++ EmptySide) n
-
-  module _ (m : Multipliers system z e rows guards) where
-    empty_second : first_stop EmptyEvents ≡ first_stop (Columns [] ++ EmptySide)
+    -- the combination of nothing, and then the sign of its side
+    pub empty_as : first_stop EmptyEvents ≡ first_stop (Combined [] ++ Test (decided (dec_lt_ℚ Value zero_ℚ)) fault ∷ [])
     unfolding evidence_events
-    empty_second = test_yes (dec_multipliers system z e rows guards) fault (Columns [] ++ EmptySide) m
-
-    pub empty_columns : (a : CheckFault) → first_stop (Columns []) ≡ Some a → first_stop EmptyEvents ≡ Some a
-    empty_columns a s = empty_second ∙ stop_sooner (Columns []) EmptySide a s
-
-    module _ (passed : first_stop (Columns []) ≡ None) where
-      empty_third : first_stop EmptyEvents ≡ first_stop EmptySide
-      empty_third = empty_second ∙ stop_later (Columns []) EmptySide passed
-
-      pub empty_wide : (w : Operation) → first_wide long_limit Sides ≡ Some w → first_stop EmptyEvents ≡ Some (wide_answer site w)
-      empty_wide w s = empty_third ∙ tested_wide (dec_lt_ℚ Value zero_ℚ) site fault Sides w s
-
-      pub empty_yes : first_wide long_limit Sides ≡ None → Value <ℚ zero_ℚ → first_stop EmptyEvents ≡ None
-      empty_yes s l = empty_third ∙ tested_yes (dec_lt_ℚ Value zero_ℚ) site fault Sides s l
-
-      pub empty_no : first_wide long_limit Sides ≡ None → ¬ (Value <ℚ zero_ℚ) → first_stop EmptyEvents ≡ Some (fault_answer fault)
-      empty_no s n = empty_third ∙ tested_no (dec_lt_ℚ Value zero_ℚ) site fault Sides s n
+    empty_as = ap (λ es. first_stop (Test (decided Allowed) fault ∷ es)) (sym (append_assoc (Columns []) (sums site Sides) (Test (decided (dec_lt_ℚ Value zero_ℚ)) fault ∷ [])))
 
 -- ---- what a bound is compared with
 -- the bound is finite, and the composed end value that is read has the coefficients and the constant of the row's end form

@@ -75,3 +75,16 @@ module _ (es : List Event) (fault : Fault) (o : Option (Unit {0})) (r : Bool) (e
       by : (x : Option (Unit {0})) → o ≡ x → first_stop es ≡ None
       by None q = absurd (true≢false (sym (sym (ap is_some q) ∙ e ∙ ap not t)))
       by (Some u) q = (subst Told q h).1
+
+-- ---- what a call answers that finds a value
+module _ (es : List Event) (fault : Fault) (x : ℚ) where
+  -- what it says at one site and fault
+  abbrev Found : Option ℚ → Type 0
+  Found o = MatchOption o (first_stop es ≡ Some (fault_answer fault)) (λ v. (v ≡ x) × (first_stop es ≡ None))
+
+  pub found_none : (o : Option ℚ) → ((v : ℚ) → o ≡ Some v → ⊥) → Found o → first_stop es ≡ Some (fault_answer fault)
+  found_none None n h = h
+  found_none (Some v) n h = absurd (n v refl)
+
+  pub found_some : (o : Option ℚ) (v : ℚ) → o ≡ Some v → Found o → (v ≡ x) × (first_stop es ≡ None)
+  found_some o v e h = subst Found e h

@@ -13,12 +13,19 @@ use Rattle.tm_validity.specs.Faults.{Fault, bound_at}
 use Rattle.tm_check.specs.declared.fault.CheckFault.{CheckFault}
 use Rattle.tm_check.specs.Events.{Event, Test, Answers, IsRun, fault_answer, wide_answer, first_stop, decided}
 use Rattle.tm_check.specs.Stands.{Stands}
-use Rattle.tm_check.proofs.following.Traces.{stop_sooner, stop_later, test_no, alone_yes}
+use Rattle.tm_check.proofs.following.Traces.{stop_later, test_no, alone_yes}
 
 -- ---- what a call that follows answers
 -- a value, or the fault of the first event that stops
 abbrev pub Found : ℚ → List Event → Result ℚ CheckFault → Type 0
 Found x events r = IsRun (λ v. v ≡ x) events r
+
+-- a call that finds a value, and one that doesn't
+abbrev pub finds : ℚ → Result ℚ CheckFault
+finds v = Ok v
+
+abbrev pub loses : CheckFault → Result ℚ CheckFault
+loses e = Err e
 
 -- what `value_or` makes of it
 pub found_by : (x : ℚ) (events : Site → Fault → List Event) (followed : Result (Option ℚ) (Wide ℚ)) (site : Site) (fault : Fault) (r : Result ℚ CheckFault) → Answers (λ v. v ≡ x) events followed →
@@ -37,50 +44,12 @@ pub run_after : {A : Type 0} (P : A → Type 0) (before rest : List Event) (r : 
 run_after P before rest (Ok x) none h = (h.0, stop_later before rest none ∙ h.1)
 run_after P before rest (Err f) none h = stop_later before rest none ∙ h
 
--- the answers of calls that go on, and of those that don't
-abbrev goes_on : Result (Unit {0}) CheckFault
+-- a test that passes, and one that doesn't
+abbrev pub goes_on : Result (Unit {0}) CheckFault
 goes_on = Ok tt
 
-abbrev ends_with : CheckFault → Result (Unit {0}) CheckFault
+abbrev pub ends_with : CheckFault → Result (Unit {0}) CheckFault
 ends_with e = Err e
-
-abbrev finds : ℚ → Result ℚ CheckFault
-finds v = Ok v
-
-abbrev loses : CheckFault → Result ℚ CheckFault
-loses e = Err e
-
--- ---- a test, what is followed, and a last test
-module _ {P Q : Type 0} (p : Dec P) (q : Dec Q) (first middle last : Fault) (site : Site) (x : ℚ) (events : Site → Fault → List Event) where
-  -- in this order
-  abbrev Both : List Event
-  Both = Test (decided p) first ∷ (events site middle ++ Test (decided q) last ∷ [])
-
-  module _ (passes : Bool) (told : IsTrue passes ↔ P) where
-    -- the first test fails
-    pub both_failed : (e : CheckFault) → (IsOk (ends_with e) ↔ IsTrue passes) → e ≡ fault_answer first → first_stop Both ≡ Some e
-    both_failed e ok same = stop_sooner (Test (decided p) first ∷ []) (events site middle ++ Test (decided q) last ∷ []) e (ensured p passes first (Err e) told ok same)
-
-    module _ (ok : IsOk goes_on ↔ IsTrue passes) (followed : Result (Option ℚ) (Wide ℚ)) (ans : Answers (λ v. v ≡ x) events followed) where
-      passed : first_stop (Test (decided p) first ∷ []) ≡ None
-      passed = (ensured p passes first (Ok tt) told ok tt).1
-
-      -- what is followed stops
-      pub both_stopped : (e : CheckFault) → MatchResult followed (λ o. MatchOption o (loses e ≡ Err (fault_answer middle)) (λ v. loses e ≡ Ok v)) (λ w. loses e ≡ Err (wide_answer site (operation_of (λ q. q) w))) → first_stop Both ≡ Some e
-      both_stopped e h =
-          stop_later (Test (decided p) first ∷ []) (events site middle ++ Test (decided q) last ∷ []) passed
-          ∙ stop_sooner (events site middle) (Test (decided q) last ∷ []) e (found_by x events followed site middle (Err e) ans h)
-
-      module _ (v : ℚ) (h : MatchResult followed (λ o. MatchOption o (finds v ≡ Err (fault_answer middle)) (λ y. finds v ≡ Ok y)) (λ w. finds v ≡ Err (wide_answer site (operation_of (λ q. q) w)))) where
-        -- its value
-        pub both_value : v ≡ x
-        both_value = (found_by x events followed site middle (Ok v) ans h).0
-
-        -- the last test decides
-        pub both_last : (b : Bool) (r : Result (Unit {0}) CheckFault) → (IsTrue b ↔ Q) → (IsOk r ↔ IsTrue b) → IfErr r (λ f. f ≡ fault_answer last) → IsRun (λ u. Unit {0}) Both r
-        both_last b r told-last ok-last same =
-            run_after (λ u. Unit {0}) (Test (decided p) first ∷ []) (events site middle ++ Test (decided q) last ∷ []) r passed
-            (run_after (λ u. Unit {0}) (events site middle) (Test (decided q) last ∷ []) r (found_by x events followed site middle (Ok v) ans h).1 (ensured q b last r told-last ok-last same))
 
 -- the bound of an item's unknown
 pub bound_is : (system : Equations) (b : List Ext) (z : Vector) → Stands system b z → (item : Item) (u : ℕ) → item.point ≡ u / length system.template → item.row ≡ u % length system.template → Placed system item → get_or b u neg_inf ≡ bound_at z item

@@ -2,7 +2,7 @@
 use Rattle.std.proofs.Common.{◌≡◌, ◌≢◌, ◌∙◌, ◌↔◌, ⊎_elim, ℕ, zero, suc, ◌+◌, ◌-◌, ◌*◌, ◌/◌, ◌%◌, ◌<◌, ◌≤◌, ◌&&◌, eqb, Bool, true, false, true≢false, List, [], ◌∷◌, ◌++◌, length, get_or, drop, refl, sym, ap, ap₂, subst, add-one, arith, if◌then◌else◌}
 use Rattle.std.specs.Prelude.{Some, None, slice_set, slice_get}
 use Rattle.std.proofs.lemmas.Nat.{div-mul-add, mod-mul-add}
-use Rattle.std.proofs.Math.Nat.{div-add-mod, mul-le-mul_right, mul-le-mul_left}
+use Rattle.std.proofs.Math.Nat.{div-add-mod, mul-le-mul_right}
 use Rattle.std.proofs.lemmas.Option.{slice_get-get_or}
 use Rattle.std.proofs.lemmas.Bool.{cases_lt}
 use Rattle.std.proofs.Math.Seq.{drop-cons}
@@ -189,25 +189,6 @@ point_below u points rows high = by (dec_lt (u / rows) points)
         absurd (omega (arith, a, m, high))
 
 module _ (system : Equations) (item : Item) (u edge : ℕ) (point : item.point ≡ u / length system.template) (row : item.row ≡ u % length system.template) (same : item.edge ≡ edge) (some : 0 < length system.template) where
-  -- where one isn't there
-  pub not_low : u < length system.template → ¬ (Placed system item)
-  not_low l h =
-      let a = div-add-mod u (length system.template) in
-      let k = h.later in
-      let m : length system.template * 1 ≤ length system.template * (u / length system.template) = mul-le-mul_left (length system.template) (let j : 1 ≤ u / length system.template = omega (arith, k, point) in j) in
-      omega (arith, a, m, l)
-
-  pub not_high : system.points * length system.template ≤ u → ¬ (Placed system item)
-  not_high l h =
-      let a = div-add-mod u (length system.template) in
-      let i : u / length system.template < system.points = subst (λ n. n < system.points) point h.point_within in
-      let j : u % length system.template < length system.template = subst (λ n. n < length system.template) row h.row_within in
-      let m = number_below (u / length system.template) system.points (length system.template) (u % length system.template) i j in
-      omega (arith, a, m, l)
-
-  pub not_edge : length system.edges ≤ edge → ¬ (Placed system item)
-  not_edge l h = let k = h.edge_within in omega (arith, k, same, l)
-
   -- where they are, the edge decides
   pub placed_iff : length system.template ≤ u → u < system.points * length system.template → edge < length system.edges → (e : Edge) → e ≡ get_or system.edges edge e → (e.to ≡ u / length system.template) ↔ Placed system item
   placed_iff low high there e is = (

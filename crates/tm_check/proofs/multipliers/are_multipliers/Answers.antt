@@ -7,15 +7,15 @@ use Rattle.tm_compose.specs.Composed.{edge_forms}
 use Rattle.tm_check.proofs.combination.Forms.{forms_at, guard_count}
 use Rattle.tm_check.proofs.multipliers.are_multipliers.Goals as goal
 
-pub returns-then-guards : goal.returns-then-guards
-returns-then-guards c = λ z e h f.
+pub returns-then-guards-clause-exactly : goal.returns-then-guards-clause-exactly
+returns-then-guards-clause-exactly c = λ z e h f.
     let S = equations_of c.args.system.now in
     let at = forms_at S c.args.paths.now c.requires.paths c.args.edge e f in
     let forms = edge_forms S.variables S.template e.actions in
     ((λ t. absurd (true≢false (sym t))), (λ m. absurd (c.if-guards.true (m.guard_count ∙ sym (guard_count S c.args.paths.now c.requires.paths c.args.edge e f forms at) ∙ sym (c.guards.ensures forms at)))))
 
-pub returns : goal.returns
-returns c = λ z e h f.
+pub returns-clause-exactly : goal.returns-clause-exactly
+returns-clause-exactly c = λ z e h f.
     let S = equations_of c.args.system.now in
     let at = forms_at S c.args.paths.now c.requires.paths c.args.edge e f in
     let forms = edge_forms S.variables S.template e.actions in
@@ -32,3 +32,12 @@ returns c = λ z e h f.
       }),
       (λ m. a.1 (λ r l n. m.zero_where r l (subst (λ (x : Edge). NotFinite (z x.from r)) q n))),
     )
+
+pub returns-clause-rows : goal.returns-clause-rows
+returns-clause-rows c = λ t. c.if-rows-as_slice.false ∙ ap (λ rs. length rs) c.as_slice.ensures.rows
+
+pub returns-clause-guards : goal.returns-clause-guards
+returns-clause-guards c = λ t e f.
+    let S = equations_of c.args.system.now in
+    let at = forms_at S c.args.paths.now c.requires.paths c.args.edge e f in
+    c.if-guards.false ∙ c.guards.ensures (edge_forms S.variables S.template e.actions) at ∙ guard_count S c.args.paths.now c.requires.paths c.args.edge e f (edge_forms S.variables S.template e.actions) at
