@@ -4,6 +4,7 @@ pub mod ChoicesAgree
 pub mod Counting
 pub mod EachPart
 pub mod GrownTo
+pub mod Improvements
 pub mod JumpTurn
 pub mod Kept
 pub mod KnownQuiet

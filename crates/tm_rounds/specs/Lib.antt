@@ -13,3 +13,4 @@ pub mod Solutions
 pub mod Solving
 pub mod Uppers
 pub mod LeastLaws
+pub mod ImprovementLaws

@@ -1,9 +1,11 @@
 //! Laws of chains of rounds, each the contract of a function that does nothing.
 
 ghost use Rattle.std.specs.Prelude.{◌≡◌, ℕ};
+ghost use Rattle.tm_chain.specs.Offers.{Best, First};
 ghost use Rattle.tm_rounds.specs.declared.solution.Solved.{Solved};
 ghost use Rattle.tm_rounds.specs.Solutions.{IsSolved};
 ghost use Rattle.tm_rounds.specs.LeastLaws.{AnswersOne, HasOneNumber, SpendsLess};
+ghost use Rattle.tm_rounds.specs.ImprovementLaws.{SolutionsAreEnds, SpentGoesOn};
 ghost use Rattle.tm_offers.specs.Policies.{by_best, by_first};
 
 use tm_eqsys::System;
@@ -32,4 +34,16 @@ pub fn policies_have_one_number()
     ensures solved_by_first { HasOneNumber by_first }
     ensures spent_by_best { SpendsLess by_best }
     ensures spent_by_first { SpendsLess by_first }
+{}
+
+/// The bounds that the rounds end with are the vector at which the chain of improvements ends, after as many improvements.
+pub fn solutions_are_ends()
+    ensures best { SolutionsAreEnds by_best Best }
+    ensures first { SolutionsAreEnds by_first First }
+{}
+
+/// Where the rounds are spent, the chain of improvements goes on after as many as the limit.
+pub fn spent_goes_on()
+    ensures best { SpentGoesOn by_best Best }
+    ensures first { SpentGoesOn by_first First }
 {}

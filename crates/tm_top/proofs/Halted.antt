@@ -31,7 +31,7 @@ use Rattle.tm_offers.proofs.Ranges.{points_in_range}
 use Rattle.tm_cli.specs.declared.request.Policy.{Policy}
 use Rattle.tm_cli.specs.declared.request.Policy.TheVariants.{Best, First}
 use Rattle.tm_chain.specs.Offers.{Best as MeantBest, First as MeantFirst}
-use Rattle.tm_improvements.proofs.Improved.{best_means, first_means, spent_law}
+use Rattle.tm_rounds.proofs.Improvements.{best_means, first_means, spent_law}
 use Rattle.tm_offers.specs.Policies.{by_best, by_first}
 use Rattle.tm_top.specs.Policies.{rule_of}
 use Rattle.tm_top.specs.Parted.{IsHalted}

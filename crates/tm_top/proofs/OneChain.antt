@@ -12,7 +12,7 @@ use Rattle.tm_chain.proofs.OneChain.{number_above}
 use Rattle.tm_chain.proofs.OnePosition.{best_is_one, first_is_one}
 use Rattle.tm_strategy.specs.PickCount.{pick_count}
 use Rattle.tm_strategy_lp.proofs.Retraced.{short_law}
-use Rattle.tm_improvements.proofs.Improved.{best_means, first_means, solved_law}
+use Rattle.tm_rounds.proofs.Improvements.{best_means, first_means, solved_law}
 use Rattle.tm_offers.proofs.Ranges.{points_in_range}
 use Rattle.tm_offers.specs.Policies.{by_best, by_first}
 use Rattle.tm_rounds.specs.Solutions.{IsSolved}

@@ -1,6 +1,6 @@
 use Rattle.tm_chain.specs.Offers.{Best, First}
-use Rattle.tm_improvements.proofs.Improved.{best_means, first_means, spent_law}
-use Rattle.tm_improvements.proofs.law.spent_goes_on.Goals as goal
+use Rattle.tm_rounds.proofs.Improvements.{best_means, first_means, spent_law}
+use Rattle.tm_rounds.proofs.law.spent_goes_on.Goals as goal
 use Rattle.tm_offers.specs.Policies.{by_best, by_first}
 
 pub returns-clause-best : goal.returns-clause-best
