@@ -13,14 +13,17 @@ use Rattle.tm_raise.specs.Moves.{moves}
 
 -- an operation of the moves is wide, and this is the first
 abbrev pub IsFirst : Constants → List Action → RationalState → List ℚ → Wide ℚ → Type 0
-IsFirst constants actions x free wide = (row : List ℤ) → first_wide long_limit (trace_operations (moves constants actions) x free row) ≡ Some (operation_of (λ q. q) wide)
+IsFirst constants actions x free wide =
+    (row : List ℤ) → first_wide long_limit (trace_operations (moves constants actions) x free row) ≡ Some (operation_of (λ q. q) wide)
 
 -- what one action answers: how many free values it takes, and that the moves lead on from the state z
 abbrev pub StepIs : Constants → Action → RationalState → List ℚ → RationalState → ℕ → Type 0
-StepIs constants action x free z n = (n ≡ free_count (action ∷ [])) × ((rest : List Action) → LeadsOn (moves constants (action ∷ rest)) x free (moves constants rest) z (drop n free))
+StepIs constants action x free z n =
+    (n ≡ free_count (action ∷ [])) × ((rest : List Action) → LeadsOn (moves constants (action ∷ rest)) x free (moves constants rest) z (drop n free))
 
 abbrev pub StepAnswers : Constants → Action → RationalState → List ℚ → RationalState → Result ℕ (Wide ℚ) → Type 0
-StepAnswers constants action x free z result = MatchResult result (StepIs constants action x free z) (λ wide. (rest : List Action) → IsFirst constants (action ∷ rest) x free wide)
+StepAnswers constants action x free z result =
+    MatchResult result (StepIs constants action x free z) (λ wide. (rest : List Action) → IsFirst constants (action ∷ rest) x free wide)
 
 -- what all actions answer: that the moves end in the state z
 abbrev pub FollowAnswers : Constants → List Action → RationalState → List ℚ → RationalState → Result (Unit {0}) (Wide ℚ) → Type 0

@@ -23,18 +23,21 @@ module _ (system : Equations) (edge : Edge) (row : List ℤ) where
   -- the given trace where its value exceeds the bound, and else that trace moved along the direction by the multiple
   unfoldable pub low_of : Ext → Trace → Trace → Pieces
   low_of neg_inf trace direction = pieces_of trace
-  low_of (fin b) trace direction = if lt_ℚ b (carried Kept system edge row trace) then pieces_of trace else moved_pieces (multiple_along b trace direction) trace direction
+  low_of (fin b) trace direction =
+      if lt_ℚ b (carried Kept system edge row trace) then pieces_of trace else moved_pieces (multiple_along b trace direction) trace direction
   low_of pos_inf trace direction = pieces_of trace
 
   -- the operations of moving a trace whose value isn't above the bound
   abbrev pub move_operations : ℚ → Trace → Trace → List Operation
   move_operations b trace direction =
-      multiple_operations b (carried Kept system edge row trace) (carried Zero system edge row direction) ++ moved_operations (multiple_along b trace direction) trace direction
+      multiple_operations b (carried Kept system edge row trace) (carried Zero system edge row direction)
+      ++ moved_operations (multiple_along b trace direction) trace direction
 
   -- those of the trace, in order: its value where the bound is a fraction, and where that isn't above the bound the move
   unfoldable pub low_operations : Ext → Trace → Trace → List Operation
   low_operations neg_inf trace direction = []
-  low_operations (fin b) trace direction = carried_operations Kept edge row trace ++ (if lt_ℚ b (carried Kept system edge row trace) then [] else move_operations b trace direction)
+  low_operations (fin b) trace direction =
+      carried_operations Kept edge row trace ++ (if lt_ℚ b (carried Kept system edge row trace) then [] else move_operations b trace direction)
   low_operations pos_inf trace direction = []
 
 -- the fault carries the first of the operations that is wide; want of memory may come at any time

@@ -22,7 +22,8 @@ next_whole q = whole (floor q +ℤ pos 1)
 abbrev pub middle_operations : ℚ → ℚ → List Operation
 middle_operations b v = record { op = Add; left = b; right = v } ∷ record { op = Div; left = b +ℚ v; right = whole (pos 2) } ∷ []
 
--- from a bound towards a value: from -∞ one less than the value; from a fraction nothing that can be refused where the next whole number fits and is below the value, and else the middle
+-- from a bound towards a value: from -∞ one less than the value; from a fraction nothing that can be refused where the next whole
+-- number fits and is below the value, and else the middle
 unfoldable pub number_operations : Ext → ℚ → List Operation
 number_operations neg_inf v = record { op = Sub; left = v; right = one_ℚ } ∷ []
 number_operations (fin b) v = if fitting (next_whole b) && lt_ℚ (next_whole b) v then [] else middle_operations b v

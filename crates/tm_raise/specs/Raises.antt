@@ -19,13 +19,19 @@ use Rattle.tm_raise.specs.Lows.{low_of, low_operations}
 abbrev pub choice_of : ℕ → ℕ → ℕ → Item
 choice_of rows unknown edge = choice (unknown / rows) (unknown % rows) edge
 
--- the step for a value that exceeds a bound: to a number below a best value by a trace that reaches it, or to +∞ by a trace, a direction and its rate; the other values exceed nothing
+-- the step for a value that exceeds a bound: to a number below a best value by a trace that reaches it, or to +∞ by a trace, a
+-- direction and its rate; the other values exceed nothing
 unfoldable pub raised : Equations → Item → Ext → Value → Step
 raised system u bound (Unreached r) = record { kind = Plain; items = [] }
 raised system u bound (Empty rows guards) = record { kind = Plain; items = [] }
-raised system u bound (Best value trace rows guards) = record { kind = Plain; items = with_words u (pieces_of trace) no_pieces (raised_to fitting bound value) ∷ [] }
+raised system u bound (Best value trace rows guards) =
+    record { kind = Plain; items = with_words u (pieces_of trace) no_pieces (raised_to fitting bound value) ∷ [] }
 raised system u bound (Unbounded trace direction) =
-    record { kind = Ray; items = with_words u (low_of system (edge_of system u) (row_of system u) bound trace direction) (pieces_of direction) (carried Zero system (edge_of system u) (row_of system u) direction) ∷ [] }
+    record {
+      kind = Ray;
+      items = with_words u (low_of system (edge_of system u) (row_of system u) bound trace direction) (pieces_of direction)
+          (carried Zero system (edge_of system u) (row_of system u) direction) ∷ [];
+    }
 
 -- the operations of that step, in order: for a best value those of the number, and else the rate and then those of the trace
 unfoldable pub raise_operations : Equations → Item → Ext → Value → List Operation

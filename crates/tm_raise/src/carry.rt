@@ -71,7 +71,8 @@ fn carried_from(
     requires start { length state.old ≡ length system.now.flow.names }
     requires free { (e : Edge) → slice_get system.now.flow.edges edge ≡ Some e → length free.now ≡ free_count e.actions }
     ensures { (e : Edge) (cs : List ℤ) → slice_get system.now.flow.edges edge ≡ Some e → slice_get system.now.template row ≡ Some cs →
-        SumAnswers (value_of constants (equations_of system.now) e cs (trace_of state.old free.now)) (carried_operations constants e cs (trace_of state.old free.now)) result }
+        SumAnswers (value_of constants (equations_of system.now) e cs (trace_of state.old free.now))
+        (carried_operations constants e cs (trace_of state.old free.now)) result }
 {
     let edges = system.flow.edges.as_slice();
     let rows = system.template.as_slice();

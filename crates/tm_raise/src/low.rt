@@ -93,10 +93,13 @@ fn above(
     requires edge { edge < length system.now.flow.edges }
     requires row { row < length system.now.template }
     requires start { (length trace.start ≡ length system.now.flow.names) × (length direction.now.start ≡ length system.now.flow.names) }
-    requires free { (e : Edge) → slice_get system.now.flow.edges edge ≡ Some e → (length trace.free ≡ free_count e.actions) × (length direction.now.free ≡ free_count e.actions) }
+    requires free { (e : Edge) → slice_get system.now.flow.edges edge ≡ Some e → (length trace.free ≡ free_count e.actions)
+        × (length direction.now.free ≡ free_count e.actions) }
     requires rate { rate ≢ zero_ℚ }
-    ensures { (e : Edge) (cs : List ℤ) → slice_get system.now.flow.edges edge ≡ Some e → slice_get system.now.template row ≡ Some cs → rate ≡ value_of Zero (equations_of system.now) e cs direction.now →
-        RaiseAnswers (λ low. pieces_of low ≡ low_of (equations_of system.now) e cs (fin bound) trace direction.now) (low_operations (equations_of system.now) e cs (fin bound) trace direction.now) result }
+    ensures { (e : Edge) (cs : List ℤ) → slice_get system.now.flow.edges edge ≡ Some e → slice_get system.now.template row ≡ Some cs →
+        rate ≡ value_of Zero (equations_of system.now) e cs direction.now →
+        RaiseAnswers (λ low. pieces_of low ≡ low_of (equations_of system.now) e cs (fin bound) trace direction.now)
+        (low_operations (equations_of system.now) e cs (fin bound) trace direction.now) result }
 {
     let value = carried(system, edge, row, Constants::Kept, &trace)?;
     if bound < value {
@@ -127,10 +130,13 @@ pub fn low(
     requires edge { edge < length system.now.flow.edges }
     requires row { row < length system.now.template }
     requires start { (length trace.start ≡ length system.now.flow.names) × (length direction.now.start ≡ length system.now.flow.names) }
-    requires free { (e : Edge) → slice_get system.now.flow.edges edge ≡ Some e → (length trace.free ≡ free_count e.actions) × (length direction.now.free ≡ free_count e.actions) }
+    requires free { (e : Edge) → slice_get system.now.flow.edges edge ≡ Some e → (length trace.free ≡ free_count e.actions)
+        × (length direction.now.free ≡ free_count e.actions) }
     requires rate { rate ≢ zero_ℚ }
-    ensures { (e : Edge) (cs : List ℤ) → slice_get system.now.flow.edges edge ≡ Some e → slice_get system.now.template row ≡ Some cs → rate ≡ value_of Zero (equations_of system.now) e cs direction.now →
-        RaiseAnswers (λ low. pieces_of low ≡ low_of (equations_of system.now) e cs (extended bound) trace direction.now) (low_operations (equations_of system.now) e cs (extended bound) trace direction.now) result }
+    ensures { (e : Edge) (cs : List ℤ) → slice_get system.now.flow.edges edge ≡ Some e → slice_get system.now.template row ≡ Some cs →
+        rate ≡ value_of Zero (equations_of system.now) e cs direction.now →
+        RaiseAnswers (λ low. pieces_of low ≡ low_of (equations_of system.now) e cs (extended bound) trace direction.now)
+        (low_operations (equations_of system.now) e cs (extended bound) trace direction.now) result }
 {
     match bound {
         Ext::Fin(limit) => above(alloc, system, edge, row, limit, trace, direction, rate),

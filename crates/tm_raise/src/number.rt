@@ -30,7 +30,8 @@ pub fn next_whole(number: Frac) -> Result<Frac, Wide<Frac>>
 
 // The least whole number above a bound, if it fits and is below the value.
 fn next_below(bound: Frac, value: Frac) -> Option<Frac>
-    ensures { MatchOption result (fitting (next_whole_of bound) && lt_ℚ (next_whole_of bound) value ≡ false) (λ next. (next ≡ next_whole_of bound) × (fitting (next_whole_of bound) && lt_ℚ (next_whole_of bound) value ≡ true)) }
+    ensures { MatchOption result (fitting (next_whole_of bound) && lt_ℚ (next_whole_of bound) value ≡ false)
+        (λ next. (next ≡ next_whole_of bound) × (fitting (next_whole_of bound) && lt_ℚ (next_whole_of bound) value ≡ true)) }
 {
     let Ok(next) = next_whole(bound) else {
         return None;

@@ -70,7 +70,9 @@ fn raise_towards(
     value: Frac,
     trace: Trace,
 ) -> Result<Step, RaiseFault>
-    ensures { (system : Equations) (n : ℕ) (rows guards : List ℚ) → RaiseAnswers (λ step. step_of n step ≡ raised system (choice_of n unknown edge) (extended bound) (Best value trace rows guards)) (raise_operations system (choice_of n unknown edge) (extended bound) (Best value trace rows guards)) result }
+    ensures { (system : Equations) (n : ℕ) (rows guards : List ℚ) →
+        RaiseAnswers (λ step. step_of n step ≡ raised system (choice_of n unknown edge) (extended bound) (Best value trace rows guards))
+        (raise_operations system (choice_of n unknown edge) (extended bound) (Best value trace rows guards)) result }
 {
     let to = raised_number(bound, value)?;
     plain(alloc, unknown, edge, trace, to)
@@ -90,7 +92,10 @@ fn raise_for_ever(
     requires edge { edge < length system.now.flow.edges }
     requires sizes { HasSizes (equations_of system.now) (choice_of (length system.now.template) unknown edge) (Unbounded trace direction) }
     requires rises { Rises (equations_of system.now) (choice_of (length system.now.template) unknown edge) (Unbounded trace direction) }
-    ensures { RaiseAnswers (λ step. step_of (length system.now.template) step ≡ raised (equations_of system.now) (choice_of (length system.now.template) unknown edge) (extended bound) (Unbounded trace direction)) (raise_operations (equations_of system.now) (choice_of (length system.now.template) unknown edge) (extended bound) (Unbounded trace direction)) result }
+    ensures { RaiseAnswers (λ step. step_of (length system.now.template) step ≡ raised (equations_of system.now)
+        (choice_of (length system.now.template) unknown edge) (extended bound) (Unbounded trace direction))
+        (raise_operations (equations_of system.now) (choice_of (length system.now.template) unknown edge) (extended bound)
+        (Unbounded trace direction)) result }
 {
     let row = unknown % system.template.as_slice().len() as u32;
     let rate = carried(system, edge, row, Constants::Zero, &direction)?;
@@ -128,9 +133,12 @@ pub fn raise(
     requires exceeds { extended bound <ᴱ number_of value }
     requires sizes { HasSizes (equations_of system.now) (choice_of (length system.now.template) unknown edge) value }
     requires rises { Rises (equations_of system.now) (choice_of (length system.now.template) unknown edge) value }
-    ensures step { IfOk result (λ step. step_of (length system.now.template) step ≡ raised (equations_of system.now) (choice_of (length system.now.template) unknown edge) (extended bound) value) }
-    ensures fits { OnOk result (first_wide long_limit (raise_operations (equations_of system.now) (choice_of (length system.now.template) unknown edge) (extended bound) value) ≡ None) }
-    ensures refused { IfErr result (IsRaiseFault (raise_operations (equations_of system.now) (choice_of (length system.now.template) unknown edge) (extended bound) value)) }
+    ensures step { IfOk result (λ step. step_of (length system.now.template) step ≡ raised (equations_of system.now)
+        (choice_of (length system.now.template) unknown edge) (extended bound) value) }
+    ensures fits { OnOk result (first_wide long_limit
+        (raise_operations (equations_of system.now) (choice_of (length system.now.template) unknown edge) (extended bound) value) ≡ None) }
+    ensures refused { IfErr result (IsRaiseFault
+        (raise_operations (equations_of system.now) (choice_of (length system.now.template) unknown edge) (extended bound) value)) }
 {
     match value {
         Value::Best { value, trace, .. } => {
