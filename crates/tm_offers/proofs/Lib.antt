@@ -1,4 +1,3 @@
-pub mod Clamped
 pub mod Exceeding
 pub mod Improved
 pub mod KnownValues
@@ -8,4 +7,6 @@ pub mod Offered
 pub mod Products
 pub mod Ranges
 pub mod Unknowns
+pub mod UpperRead
+pub mod UpperSources
 pub mod ValuesAgree

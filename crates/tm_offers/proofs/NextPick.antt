@@ -8,7 +8,7 @@ use Rattle.std.proofs.Math.Nat.{mul-le-mul_right}
 use Rattle.std.proofs.Math.Path.{fun_ext}
 use Rattle.tm_base.proofs.elements.Membership.{contains_from_in}
 use Rattle.tm_base.specs.Elements.{In}
-use Rattle.tm_num.specs.Extended.{neg_inf, ◌≤ᴱ◌, ◌<ᴱ◌}
+use Rattle.tm_num.specs.Extended.{Ext as Extended, neg_inf, fin, pos_inf, ◌≤ᴱ◌, ◌<ᴱ◌}
 use Rattle.tm_num.proofs.ExtendedLaws.{ext_le_or_lt}
 use Rattle.tm_flow.specs.declared.edge.Edge.{Edge}
 use Rattle.tm_eqsys.specs.Equations.{Equations, Vector}
@@ -20,8 +20,13 @@ use Rattle.tm_strategy.proofs.FewRounds.{in_unknowns}
 use Rattle.tm_offers.specs.declared.offer.Offer.{Offer}
 use Rattle.tm_offers.specs.Offers.{Exceeds, SomeExceeds}
 use Rattle.tm_offers.specs.Improvement.{pick_of, IsOffer, Chosen, IsChoice, IsNext, Becomes as BecomesIn}
-use Rattle.tm_offers.proofs.Exceeding.{none_listed, listed}
-use Rattle.tm_offers.proofs.Clamped.{clamp, clamp_among, clamp_is}
+use Rattle.tm_offers.proofs.Exceeding.{all, none_listed, listed}
+use Rattle.tm_strategy_lp.proofs.Clamped.{clamp, clamp_among, clamp_is}
+
+above_top : (bound x : Extended) → bound ≡ pos_inf → bound <ᴱ x → ⊥
+above_top neg_inf x e h = cc
+above_top (fin c) x e h = cc
+above_top pos_inf x e h = h
 
 module _ (system : Equations) (T : Transformer) (z : Vector) (policy : Offer → ℕ → Type 0) where
   abbrev Becomes : ℕ → ℕ → List ℕ → Option ℕ → Option ℕ → Type 0
@@ -36,6 +41,10 @@ module _ (system : Equations) (T : Transformer) (z : Vector) (policy : Offer →
   nothing_offered p r offer l is_offer none =
       offers_are p r l
       ∙ none_listed system T z p r 0 system.edges (λ j h. none (j, subst (λ b. b <ᴱ get_or offer.values j neg_inf) (sym is_offer.bound) (subst (λ v. z p r <ᴱ get_or v j neg_inf) (sym is_offer.values) h)))
+
+  -- nothing exceeds +∞: nothing is offered
+  pub nothing_at_top : (p r : ℕ) → r < length system.template → z p r ≡ pos_inf → offers system T z p r ≡ []
+  nothing_at_top p r l top = offers_are p r l ∙ none_listed system T z p r 0 system.edges (λ j h. above_top (z p r) (get_or (all system T z p r system.edges) j neg_inf) top h)
 
   -- an edge whose value exceeds the bound is offered
   pub taken_in : (p r : ℕ) (offer : Offer) (position : ℕ) → r < length system.template → IsOffer system T z p r offer → Exceeds offer position → In (offers system T z p r) (get_or offer.edges position 0)

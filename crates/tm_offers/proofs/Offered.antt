@@ -11,7 +11,7 @@ use Rattle.tm_num.proofs.ExtendedLaws.{≤ᴱ_refl, ≤ᴱ_trans, ext_le_or_lt, 
 use Rattle.tm_frac.specs.declared.ext.Ext.{Ext}
 use Rattle.tm_frac.specs.Extended.{extended}
 use Rattle.tm_offers.specs.declared.offer.Offer.{Offer}
-use Rattle.tm_offers.specs.Offers.{Exceeds, SomeExceeds, IsFirstGreatest, IsFirstExceeding}
+use Rattle.tm_offers.specs.Offers.{Exceeds, SomeExceeds, IsFirstGreatest, IsFirstExceeding, is_top}
 
 is_lt-less : (o : Ordering) → is_lt o ≡ true → o ≡ Less
 is_lt-less Less e = refl
@@ -92,3 +92,9 @@ first_exceeds offer k some first = first.exceeds
 pub none_exceeds : (values : List Extended) (bound : Extended) → ((j : ℕ) → j < length values → get_or values j neg_inf ≤ᴱ bound) → (m : ℕ) → bound <ᴱ get_or values m neg_inf → ⊥
 none_exceeds values bound all m above =
     ⊎_elim (λ l. ext_not_le_of_lt bound (get_or values m neg_inf) above (all m l)) (λ l. none_below bound (subst (λ v. bound <ᴱ v) (get_or_past values m neg_inf l) above)) (cases_lt m (length values))
+
+-- a bound that is told to be +∞ is
+pub top_is : (x : Extended) → is_top x ≡ true → x ≡ pos_inf
+top_is neg_inf e = cc
+top_is (fin c) e = cc
+top_is pos_inf e = refl

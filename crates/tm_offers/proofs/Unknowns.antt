@@ -7,9 +7,10 @@ use Rattle.tm_eqsys.specs.Equations.{Equations, Vector}
 use Rattle.tm_strategy.specs.Policy.{offers}
 use Rattle.tm_transformers.specs.EdgeProblems.{transformer}
 use Rattle.tm_offers.specs.declared.offer.Offer.{Offer}
-use Rattle.tm_offers.specs.Offers.{Exceeds, SomeExceeds}
+use Rattle.tm_offers.specs.Offers.{Exceeds, SomeExceeds, is_top}
 use Rattle.tm_offers.specs.Improvement.{IsOffer, Becomes, IsListed, UnknownBecomes}
-use Rattle.tm_offers.proofs.NextPick.{nothing_offered, taken_in, taken_becomes}
+use Rattle.tm_offers.proofs.Offered.{top_is}
+use Rattle.tm_offers.proofs.NextPick.{nothing_offered, nothing_at_top, taken_in, taken_becomes}
 
 -- the row of an unknown is one of the template
 pub row_within : (u points rows : ℕ) → u < points * rows → u % rows < rows
@@ -37,3 +38,10 @@ module _ (system : Equations) (z : Vector) (policy : Offer → ℕ → Type 0) (
   unknown_kept none is =
       let e = nothing_offered system (transformer system) z policy (u / length system.template) (u % length system.template) offer row is_offer none in
       record { becomes = subst (λ os. Becomes system (transformer system) z policy (u / length system.template) (u % length system.template) os before after) (sym e) is; told = subst (λ os. IsListed os false) (sym e) refl }
+
+-- nothing is offered to an unknown at +∞
+pub unknown_at_top : (system : Equations) (z : Vector) (policy : Offer → ℕ → Type 0) (u : ℕ) (before after : Option ℕ) → u % length system.template < length system.template →
+    is_top (z (u / length system.template) (u % length system.template)) ≡ true → after ≡ before → UnknownBecomes system z policy u before after false
+unknown_at_top system z policy u before after row top is =
+    let e = nothing_at_top system (transformer system) z policy (u / length system.template) (u % length system.template) row (top_is (z (u / length system.template) (u % length system.template)) top) in
+    record { becomes = subst (λ os. Becomes system (transformer system) z policy (u / length system.template) (u % length system.template) os before after) (sym e) is; told = subst (λ os. IsListed os false) (sym e) refl }

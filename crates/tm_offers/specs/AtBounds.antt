@@ -33,7 +33,8 @@ IsTransformerAt system bounds edge row value = extended value ≡ transformers s
 
 -- the first wide operation of a part of the problem of an edge and a row
 abbrev pub IsWidePart : System → List Extended → ℕ → ℕ → Part → Wide ℚ → Type 0
-IsWidePart system bounds edge row part wide = IsOperatorFault (equations_of system) (vector_at system bounds) (edge_at system edge) (row_at system row) (WideIn part wide)
+IsWidePart system bounds edge row part wide =
+    IsOperatorFault (equations_of system) (vector_at system bounds) (edge_at system edge) (row_at system row) (WideIn part wide)
 
 -- no transformer exceeds its bound anywhere
 abbrev pub NothingExceeds : System → List Extended → Type 0
@@ -42,7 +43,8 @@ NothingExceeds system bounds = NoneExceeds (equations_of system) (transformers s
 -- the next pick of a policy, none where no transformer exceeds its bound
 abbrev pub IsNextPick : System → List Extended → (Offer → ℕ → Type 0) → List (Option ℕ) → Option (List (Option ℕ)) → Type 0
 IsNextPick system bounds policy old next =
-    IsNext (equations_of system) (transformers system) (vector_at system bounds) policy (pick_of (length system.template) old) (option_map (pick_of (length system.template)) next)
+    IsNext (equations_of system) (transformers system) (vector_at system bounds) policy (pick_of (length system.template) old)
+    (option_map (pick_of (length system.template)) next)
 
 -- a pick is tight, or supported
 abbrev pub IsTightPick : System → List Extended → List (Option ℕ) → Type 0

@@ -1,5 +1,6 @@
 -- What an improvement makes of a pick.
-use Rattle.std.specs.Prelude.{◌≡◌, ℕ, suc, ◌+◌, ◌*◌, ◌/◌, ◌%◌, eqb, ltb, Bool, true, false, ℤ, List, [], ◌∷◌, length, map, get_or, slice_get, if◌then◌else◌, Option, Some, None, Contains}
+use Rattle.std.specs.Prelude.{◌≡◌, ℕ, suc, ◌+◌, ◌*◌, ◌/◌, ◌%◌, eqb, ltb, Bool, true, false, ℤ}
+use Rattle.std.specs.Prelude.{List, [], ◌∷◌, length, map, get_or, slice_get, if◌then◌else◌, Option, Some, None, Contains}
 use Rattle.tm_base.specs.Elements.{In}
 use Rattle.tm_num.specs.Extended.{◌≤ᴱ◌}
 use Rattle.tm_frac.specs.Extended.{extended}
@@ -47,7 +48,8 @@ pub record IsNext (system : Equations) (T : Transformer) (z : Vector) (policy : 
 
 -- no transformer of an edge exceeds the bound at the edge's end
 abbrev pub NoneExceeds : Equations → Transformer → Vector → Type 0
-NoneExceeds system T z = (edge : Edge) (r : ℕ) (row : List ℤ) → Contains system.edges edge → slice_get system.template r ≡ Some row → T z edge row ≤ᴱ z edge.to r
+NoneExceeds system T z = (edge : Edge) (r : ℕ) (row : List ℤ) → Contains system.edges edge → slice_get system.template r ≡ Some row →
+    T z edge row ≤ᴱ z edge.to r
 
 -- ---- on the way
 module _ (system : Equations) (T : Transformer) (z : Vector) (policy : Offer → ℕ → Type 0) where

@@ -5,3 +5,4 @@ pub mod Stops
 pub mod AtBounds
 pub mod Policies
 pub mod Known
+pub mod Found

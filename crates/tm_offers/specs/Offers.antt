@@ -1,5 +1,5 @@
 -- Offers: a bound, and the transformers of some edges.
-use Rattle.std.specs.Prelude.{ℕ, ◌<◌, List, length, get_or}
+use Rattle.std.specs.Prelude.{ℕ, ◌<◌, Bool, true, false, List, length, get_or}
 use Rattle.tm_num.specs.Extended.{Ext as Extended, neg_inf, fin, pos_inf, ◌≤ᴱ◌, ◌<ᴱ◌}
 use Rattle.tm_num.proofs.Laws.{<ℚ_prop}
 use Rattle.tm_frac.specs.Extended.{extended}
@@ -12,6 +12,12 @@ Exceeds offer k = extended offer.bound <ᴱ get_or offer.values k neg_inf
 -- some value exceeds the bound
 abbrev pub SomeExceeds : Offer → Type 0
 SomeExceeds offer = (k : ℕ) × Exceeds offer k
+
+-- whether a bound is +∞
+abbrev pub is_top : Extended → Bool
+is_top neg_inf = false
+is_top (fin c) = false
+is_top pos_inf = true
 
 -- the first position of the greatest value
 pub record IsFirstGreatest (values : List Extended) (k : ℕ) : Type 0 where

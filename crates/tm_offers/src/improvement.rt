@@ -4,57 +4,19 @@ ghost use Rattle.std.specs.Prelude.{◌≡◌, ◌↔◌, ◌*◌, ◌<◌, leng
 ghost use Rattle.tm_eqsys.specs.View.{equations_of};
 ghost use Rattle.tm_compose.specs.Composed.{AreComposed};
 ghost use Rattle.tm_offers.specs.AtBounds.{vector_at, IsTransformerAt, IsOfferAt, IsNextPick, NothingExceeds, IsTightPick, IsSupportedPick, IsOfferStop};
-ghost use Rattle.tm_frac.specs.Extended.{extended};
-ghost use Rattle.tm_compose.specs.Value.{number_of};
 ghost use Rattle.tm_offers.specs.Improvement.{UnknownBecomes};
 ghost use Rattle.tm_offers.specs.Known.{AreKnown};
 
 use crate::chooser::{Chooser, Policy};
+use crate::found::solve_offer;
 use crate::known::Known;
 use crate::offer::{EdgeNumbers, Offer, Values};
 use crate::stop::Stop;
+use crate::unlimited::is_unlimited;
 use std::alloc::Global;
-use tm_eqsys::{Bounds, PartFault, Pick, Site, Spot, System};
+use tm_eqsys::{Bounds, Pick, System};
 use tm_frac::Ext;
-use tm_oper::{Paths, Value, operator};
-
-/// The supremum that a transformer's value tells. Takes no memory.
-pub fn supremum(value: &Value) -> Ext
-    ensures { extended result ≡ number_of value.now }
-{
-    match value {
-        Value::Unreached { .. } | Value::Empty { .. } => Ext::NegInf,
-        Value::Best { value, .. } => Ext::Fin(*value),
-        Value::Unbounded { .. } => Ext::PosInf,
-    }
-}
-
-// The transformer of an edge and a row at the bounds, solved anew.
-fn solved_value(
-    alloc: Global,
-    system: &System,
-    paths: &Paths,
-    bounds: &Bounds,
-    edge: u32,
-    row: u32,
-    round: u32,
-) -> Result<Ext, Stop>
-    requires composed { AreComposed (equations_of system.now) paths.now }
-    requires bounds { length bounds.now ≡ length system.now.flow.points * length system.now.template }
-    requires edge { edge < length system.now.flow.edges }
-    requires row { row < length system.now.template }
-    ensures { MatchResult result (IsTransformerAt system.now bounds.now edge row) (IsOfferStop system.now bounds.now round) }
-{
-    match operator(alloc, system, paths, bounds, edge, row) {
-        Ok(value) => Ok(supremum(&value)),
-        Err(PartFault::Wide { part, wide }) => Err(Stop::Wide(Spot {
-            round,
-            site: Site::Offer { edge, row, part },
-            wide,
-        })),
-        Err(PartFault::NoMemory) => Err(Stop::NoMemory),
-    }
-}
+use tm_oper::Paths;
 
 // The transformer of an edge and a row at the bounds: the known one, or else solved, and known from then on.
 fn offered_value(
@@ -75,11 +37,12 @@ fn offered_value(
     ensures value { MatchResult result (IsTransformerAt system.now bounds.now edge row) (IsOfferStop system.now bounds.now round) }
     ensures known { AreKnown system.now bounds.now known.new }
 {
-    match known.at(system, edge, row) {
+    match known.value(system, edge, row) {
         Some(value) => Ok(value),
         None => {
-            let value = solved_value(alloc, system, paths, bounds, edge, row, round)?;
-            known.keep(system, edge, row, &value);
+            let found = solve_offer(alloc, system, paths, bounds, edge, row, round)?;
+            let value = found.value;
+            known.keep(system, edge, row, found);
             Ok(value)
         }
     }
@@ -130,7 +93,7 @@ fn make_offer(
     })
 }
 
-// Gives an unknown its next edge, and tells whether one was offered.
+// Gives an unknown its next edge, and tells whether one was offered. An unknown at `+inf` asks for no offer: nothing exceeds it.
 fn improve_at(
     alloc: Global,
     system: &System,
@@ -151,10 +114,16 @@ fn improve_at(
     requires known { AreKnown system.now bounds.now known.old }
     ensures size { length better.new ≡ length better.old }
     ensures others { IfOk result (λ offered. (u : _) → (u ≡ unknown → ⊥) → get_or better.new u None ≡ get_or better.old u None) }
-    ensures becomes { IfOk result (λ offered. UnknownBecomes (equations_of system.now) (vector_at system.now bounds.now) (λ offer k. (shown : _) × Policy.post chooser.now.policy shown k × (shown.now ≡ offer)) unknown (get_or pick.now unknown None) (get_or better.new unknown None) offered) }
+    ensures becomes { IfOk result (λ offered. UnknownBecomes (equations_of system.now) (vector_at system.now bounds.now)
+        (λ offer k. (shown : _) × Policy.post chooser.now.policy shown k × (shown.now ≡ offer))
+        unknown (get_or pick.now unknown None) (get_or better.new unknown None) offered) }
     ensures stop { IfErr result (IsOfferStop system.now bounds.now round) }
     ensures known { AreKnown system.now bounds.now known.new }
 {
+    if is_unlimited(bounds.at(unknown)) {
+        better.set(unknown, pick.at(unknown));
+        return Ok(false);
+    }
     let rows = system.template.as_slice().len() as u32;
     let offer = make_offer(
         alloc,
@@ -196,9 +165,11 @@ pub fn improve_from(
     requires pick { length pick.now ≡ length system.now.flow.points * length system.now.template }
     requires known { AreKnown system.now bounds.now known.old }
     ensures none { IfOk result (λ next. IsNone next ↔ NothingExceeds system.now bounds.now) }
-    ensures next { IfOk result (λ next. IsNextPick system.now bounds.now (λ offer k. (shown : _) × Policy.post chooser.now.policy shown k × (shown.now ≡ offer)) pick.now next) }
+    ensures next { IfOk result (λ next. IsNextPick system.now bounds.now
+        (λ offer k. (shown : _) × Policy.post chooser.now.policy shown k × (shown.now ≡ offer)) pick.now next) }
     ensures size { IfOk result (λ next. IfSome next (λ better. length better ≡ length pick.now)) }
-    ensures supported { IfOk result (λ next. IfSome next (λ better. IsTightPick system.now bounds.now pick.now → IsSupportedPick system.now bounds.now better)) }
+    ensures supported { IfOk result
+        (λ next. IfSome next (λ better. IsTightPick system.now bounds.now pick.now → IsSupportedPick system.now bounds.now better)) }
     ensures stop { IfErr result (IsOfferStop system.now bounds.now round) }
     ensures known { AreKnown system.now bounds.now known.new }
 {
@@ -226,7 +197,8 @@ pub fn improve_from(
 
 /// The next pick at the bounds. For each unknown in order, the offer has the transformers of all edges into its point, by edge
 /// number. Where one exceeds the unknown's bound, the edge at the position that the chooser answers becomes its edge; else the
-/// unknown keeps its own. `None` exactly where no transformer exceeds its bound anywhere.
+/// unknown keeps its own. `None` exactly where no transformer exceeds its bound anywhere. The transformers of an unknown at
+/// `+inf` aren't solved, since none exceeds it.
 ///
 /// # Errors
 ///
@@ -245,9 +217,11 @@ pub fn improve(
     requires bounds { length bounds.now ≡ length system.now.flow.points * length system.now.template }
     requires pick { length pick.now ≡ length system.now.flow.points * length system.now.template }
     ensures none { IfOk result (λ next. IsNone next ↔ NothingExceeds system.now bounds.now) }
-    ensures next { IfOk result (λ next. IsNextPick system.now bounds.now (λ offer k. (shown : _) × Policy.post chooser.now.policy shown k × (shown.now ≡ offer)) pick.now next) }
+    ensures next { IfOk result (λ next. IsNextPick system.now bounds.now
+        (λ offer k. (shown : _) × Policy.post chooser.now.policy shown k × (shown.now ≡ offer)) pick.now next) }
     ensures size { IfOk result (λ next. IfSome next (λ better. length better ≡ length pick.now)) }
-    ensures supported { IfOk result (λ next. IfSome next (λ better. IsTightPick system.now bounds.now pick.now → IsSupportedPick system.now bounds.now better)) }
+    ensures supported { IfOk result
+        (λ next. IfSome next (λ better. IsTightPick system.now bounds.now pick.now → IsSupportedPick system.now bounds.now better)) }
     ensures stop { IfErr result (IsOfferStop system.now bounds.now round) }
 {
     let mut known = Known::none(alloc, system)?;

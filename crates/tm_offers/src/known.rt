@@ -1,17 +1,18 @@
 //! Transformers that stay known from round to round.
 
 ghost use Rattle.std.specs.Prelude.{◌≡◌, ◌↔◌, ◌+◌, ◌*◌, ◌<◌, ℕ, length, slice_set, IfOk, IsTrue, Some, None};
-ghost use Rattle.tm_offers.specs.Known.{AreKnown, HasEntries, IsPartOf, IsSameAt, NothingFrom, known_at};
+ghost use Rattle.tm_offers.specs.Known.{AreKnown, HasEntries, IsPartOf, IsSameAt, NothingFrom, known_at, known_value};
 
+use crate::found::Found;
 use std::alloc::{AllocError, Global};
 use tm_eqsys::{Bounds, System};
 use tm_frac::Ext;
 
-/// For each edge and row, in the order edge * rows + row, the transformer that was found and still stands, if there is one. It
-/// depends on the bounds at the edge's source alone, so it stands as long as these stay.
+/// For each edge and row, in the order edge * rows + row, the transformer that was found and still stands, if there is one, with
+/// the evidence beside it. Both depend on the bounds at the edge's source alone, so they stand as long as these stay.
 #[derive(Drop)]
 pub struct Known {
-    pub values: Vec<Option<Ext>>,
+    pub values: Vec<Option<Found>>,
 }
 
 impl Known {
@@ -21,30 +22,49 @@ impl Known {
     {
         let rows = system.template.as_slice().len();
         let edges = system.flow.edges.as_slice().len();
-        let values = vec![in alloc; None; edges * rows]?;
+        let count = edges * rows;
+        let mut values = Vec::with_capacity(alloc, count)?;
+        for _entry in 0..count {
+            values.push(None)?;
+        }
         Ok(Known { values })
     }
 
     /// The transformer of an edge and a row, if it is known.
-    pub fn at(&self, system: &System, edge: u32, row: u32) -> Option<Ext>
+    pub fn value(&self, system: &System, edge: u32, row: u32) -> Option<Ext>
         requires entries { HasEntries system.now self.now }
         requires edge { edge < length system.now.flow.edges }
         requires row { row < length system.now.template }
-        ensures { result ≡ known_at system.now self.now edge row }
+        ensures { result ≡ known_value system.now self.now edge row }
     {
         let rows = system.template.as_slice().len();
-        self.values[edge as usize * rows + row as usize]
+        match &self.values[edge as usize * rows + row as usize] {
+            Some(found) => Some(found.value),
+            None => None,
+        }
     }
 
-    /// Keeps the transformer of an edge and a row.
-    pub fn keep(&mut self, system: &System, edge: u32, row: u32, value: &Ext)
+    /// Keeps what was found of an edge and a row.
+    pub fn keep(&mut self, system: &System, edge: u32, row: u32, found: Found)
         requires entries { HasEntries system.now self.old }
         requires edge { edge < length system.now.flow.edges }
         requires row { row < length system.now.template }
-        ensures { self.new.values.items ≡ slice_set self.old.values.items (edge * length system.now.template + row) (Some value.now) }
+        ensures { self.new.values.items ≡ slice_set self.old.values.items (edge * length system.now.template + row) (Some found) }
     {
         let rows = system.template.as_slice().len();
-        self.values[edge as usize * rows + row as usize] = Some(*value);
+        self.values[edge as usize * rows + row as usize] = Some(found);
+    }
+
+    /// Hands out what is known of an edge and a row, which isn't known any more.
+    pub fn take(&mut self, system: &System, edge: u32, row: u32) -> Option<Found>
+        requires entries { HasEntries system.now self.old }
+        requires edge { edge < length system.now.flow.edges }
+        requires row { row < length system.now.template }
+        ensures taken { result ≡ known_at system.now self.old edge row }
+        ensures left { self.new.values.items ≡ slice_set self.old.values.items (edge * length system.now.template + row) None }
+    {
+        let rows = system.template.as_slice().len();
+        self.values[edge as usize * rows + row as usize].take()
     }
 }
 

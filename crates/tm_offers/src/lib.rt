@@ -3,16 +3,20 @@
 
 mod chooser;
 mod count;
+mod found;
 mod improvement;
 mod known;
 mod offer;
 mod policy;
 mod stop;
+mod unlimited;
 
 pub use chooser::{Chooser, Policy};
 pub use count::picks;
-pub use improvement::{improve, improve_from, supremum};
+pub use found::{Found, solve_offer, supremum};
+pub use improvement::{improve, improve_from};
 pub use known::{Known, forget};
 pub use offer::{EdgeNumbers, Offer, Values, exceeds};
 pub use policy::{best, chosen_by_best, chosen_by_first, first};
 pub use stop::Stop;
+pub use unlimited::is_unlimited;

@@ -14,7 +14,8 @@ use Rattle.tm_strategy.specs.Picks.{choice, value_at}
 use Rattle.tm_raise.specs.Raises.{choice_of}
 use Rattle.tm_offers.specs.AtBounds.{transformers, vector_at}
 use Rattle.tm_offers.specs.declared.known.Known.{Known}
-use Rattle.tm_offers.specs.Known.{AreKnown, known_at}
+use Rattle.tm_offers.specs.Known.{AreKnown, known_value}
+use Rattle.tm_offers.proofs.KnownValues.{known_stands}
 use Rattle.tm_offers.proofs.Unknowns.{row_within}
 use Rattle.tm_rounds.specs.declared.growing.Growing.{Growing}
 use Rattle.tm_rounds.specs.Growing.{AreQuiet, AreWithin, IsKnownWithin, IsWithin}
@@ -30,13 +31,13 @@ at_most value bound exceeds told q = ⊎_elim (λ k. k) (λ k. absurd (not_both 
 module _ (system : System) (bounds : List Extended) (pick : List (Option ℕ)) where
   -- a known value that is at most its bound is the picked transformer
   pub known_within : (known : Known) (u edge : ℕ) (value : Option CodeExtended) (bound : CodeExtended) → AreKnown system bounds known → u < length system.flow.points * length system.template → edge < length system.flow.edges →
-      get_or pick u None ≡ Some edge → value ≡ known_at system known edge (u % length system.template) → extended bound ≡ get_or bounds u neg_inf → IsKnownWithin value bound → IsWithin system bounds pick u
+      get_or pick u None ≡ Some edge → value ≡ known_value system known edge (u % length system.template) → extended bound ≡ get_or bounds u neg_inf → IsKnownWithin value bound → IsWithin system bounds pick u
   unfolding edge_of row_of choice
   known_within known u edge None bound are l m picked is there within other e = absurd within
   known_within known u edge (Some value) bound are l m picked is there within other e =
       let same : edge ≡ other = some_same edge other (sym picked ∙ e) in
       subst (λ (k : ℕ). value_at (equations_of system) (transformers system) (vector_at system bounds) (choice_of (length system.template) u k) ≤ᴱ get_or bounds u neg_inf) same
-      (subst₂ (λ (t b : Extended). t ≤ᴱ b) (are.stand edge (u % length system.template) value m (row_within u (length system.flow.points) (length system.template) l) (sym is)) there within)
+      (subst₂ (λ (t b : Extended). t ≤ᴱ b) (known_stands system bounds known edge (u % length system.template) value are m (row_within u (length system.flow.points) (length system.template) l) is) there within)
     where
       some_same : (a b : ℕ) → Some a ≡ Some b → a ≡ b
       some_same a b e = cc

@@ -38,5 +38,4 @@ pub mod TurnStops
 pub mod Turned
 pub mod TurnedBy
 pub mod UpperLists
-pub mod UpperRead
 pub mod Walked

@@ -4,7 +4,7 @@ use Rattle.std.specs.Prelude.{Option, Some, None, slice_set}
 use Rattle.std.proofs.lemmas.Bool.Decides.{eqb_tells}
 use Rattle.std.proofs.lemmas.List.{get_or-set_other, length-set}
 use Rattle.std.proofs.lemmas.Nat.{div-mul-add}
-use Rattle.tm_num.specs.Extended.{Ext as Extended, neg_inf, ◌≤ᴱ◌}
+use Rattle.tm_num.specs.Extended.{Ext as Extended, neg_inf, fin, pos_inf, ◌≤ᴱ◌}
 use Rattle.tm_eqsys.specs.Equations.{Vector}
 use Rattle.tm_eqsys.specs.View.{equations_of}
 use Rattle.tm_eqsys.specs.declared.system.System.{System}
@@ -14,6 +14,8 @@ use Rattle.tm_strategy.specs.Picks.{value_at, choice}
 use Rattle.tm_strategy_lp.proofs.ProblemsAgree.{transformer_agrees}
 use Rattle.tm_raise.specs.Raises.{choice_of}
 use Rattle.tm_rounds.specs.declared.growing.Growing.{Growing}
+use Rattle.tm_offers.specs.Offers.{is_top}
+use Rattle.tm_offers.proofs.Offered.{top_is}
 use Rattle.tm_offers.specs.AtBounds.{transformers, vector_at, edge_at}
 use Rattle.tm_rounds.specs.Growing.{Agrees, IsKept, AreQuiet, IsStay, IsPassed, tested}
 use Rattle.tm_rounds.proofs.Tested.{bound_is}
@@ -78,3 +80,28 @@ module _ (system : System) (pick : List (Option ℕ)) (u : ℕ) (within : u < le
       by : (o : Option ℕ) → get_or pick u None ≡ o → IsPassed system pick u 1 z now now false
       by None e = passed_none system pick u z now (left_unpicked (length system.template) pick now.raised.items u unmarked e) agrees
       by (Some edge) e = stays_passed system pick u edge z now now agrees unmarked e (let r = kept.raised in omega (arith, within, r)) (quiet_stays edge e)
+
+module _ (system : System) (pick : List (Option ℕ)) (u : ℕ) (within : u < length system.flow.points * length system.template) (z : Vector) (now : Growing) (kept : IsKept system now)
+    (agrees : Agrees system z now.bounds) (top : is_top (get_or now.bounds u neg_inf) ≡ true) where
+  top_stays : (edge : ℕ) → IsStay system edge u z now now
+  unfolding edge_of row_of choice
+  top_stays edge = record {
+    within = subst (λ b. value_at (equations_of system) (transformers system) z (tested system edge u) ≤ᴱ b) (sym (bound_is system now.bounds u within kept.bounds z agrees ∙ top_is (get_or now.bounds u neg_inf) top))
+        (below_top (value_at (equations_of system) (transformers system) z (tested system edge u)));
+    bounds = refl;
+    raised = refl;
+    steps = refl;
+  }
+    where
+      below_top : (x : Extended) → x ≤ᴱ pos_inf
+      below_top neg_inf = tt
+      below_top (fin c) = tt
+      below_top pos_inf = tt
+
+  -- an unknown at +∞ is passed without a test
+  pub top_passed : get_or now.raised.items u false ≡ false → IsPassed system pick u 1 z now now false
+  top_passed unmarked = by (get_or pick u None) refl
+    where
+      by : (o : Option ℕ) → get_or pick u None ≡ o → IsPassed system pick u 1 z now now false
+      by None e = passed_none system pick u z now (left_unpicked (length system.template) pick now.raised.items u unmarked e) agrees
+      by (Some edge) e = stays_passed system pick u edge z now now agrees unmarked e (let r = kept.raised in omega (arith, within, r)) (top_stays edge)

@@ -13,7 +13,8 @@ use Rattle.tm_validity.specs.Certificates.{Evidence, Need, into_needs, needs_at,
 use Rattle.tm_cert.specs.declared.upper.Upper.{Upper}
 use Rattle.tm_cert.specs.Certificates.{evidence_of}
 use Rattle.tm_strategy_lp.specs.Made.{exact_upper, uppers_for, exact_uppers}
-use Rattle.tm_rounds.specs.Uppers.{is_top, uppers_into, uppers_of_rows}
+use Rattle.tm_offers.specs.Offers.{is_top}
+use Rattle.tm_rounds.specs.Uppers.{uppers_into, uppers_of_rows}
 use Rattle.tm_rounds.proofs.Walked.{range-append}
 
 module _ (system : Equations) (z : Vector) where

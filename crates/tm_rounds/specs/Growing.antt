@@ -1,5 +1,6 @@
 -- Unknowns that grow, on the way.
-use Rattle.std.specs.Prelude.{◌≡◌, ◌⊎◌, ℕ, ◌+◌, ◌*◌, ◌/◌, ◌%◌, ◌<◌, ◌≤◌, Bool, true, false, List, [], ◌∷◌, ◌++◌, length, map, get_or, slice_set, replicate, Option, Some, None, if◌then◌else◌, flat_map}
+use Rattle.std.specs.Prelude.{◌≡◌, ◌⊎◌, ℕ, ◌+◌, ◌*◌, ◌/◌, ◌%◌, ◌<◌, ◌≤◌, Bool, true, false, List}
+use Rattle.std.specs.Prelude.{[], ◌∷◌, ◌++◌, length, map, get_or, slice_set, replicate, Option, Some, None, if◌then◌else◌, flat_map}
 use Rattle.std.specs.List.{range_with_len, filter}
 use Rattle.tm_num.specs.Rational.{ℚ}
 use Rattle.tm_num.specs.Extended.{Ext as Extended, neg_inf, fin, pos_inf, ◌<ᴱ◌, ◌≤ᴱ◌}
@@ -61,7 +62,8 @@ unraised system pick growing first n = left_from (length system.template) pick g
 pub record IsKept (system : System) (growing : Growing) : Type 0 where
   pub bounds : length growing.bounds ≡ length system.flow.points * length system.template
   pub raised : length growing.raised.items ≡ length system.flow.points * length system.template
-  pub named : (u : ℕ) → u < length system.flow.points * length system.template → get_or growing.raised.items u false ≡ is_named (length system.template) (items_of (steps_so_far system growing)) u
+  pub named : (u : ℕ) → u < length system.flow.points * length system.template →
+      get_or growing.raised.items u false ≡ is_named (length system.template) (items_of (steps_so_far system growing)) u
   pub count : length growing.steps.items ≡ length (filter (λ marked. marked) growing.raised.items)
 
 -- the transformer of an unknown's picked edge is at most its bound
@@ -83,8 +85,10 @@ IsKnownWithin (Some value) bound = extended value ≤ᴱ extended bound
 -- an unknown is marked as quiet only where its picked transformer is at most its bound
 pub record AreQuiet (system : System) (pick : List (Option ℕ)) (growing : Growing) : Type 0 where
   pub size : length growing.quiet.items ≡ length system.flow.points * length system.template
-  pub within : (u edge : ℕ) → u < length system.flow.points * length system.template → get_or growing.quiet.items u false ≡ true → get_or pick u None ≡ Some edge →
-      value_at (equations_of system) (transformers system) (vector_at system growing.bounds) (choice_of (length system.template) u edge) ≤ᴱ get_or growing.bounds u neg_inf
+  pub within : (u edge : ℕ) → u < length system.flow.points * length system.template → get_or growing.quiet.items u false ≡ true →
+      get_or pick u None ≡ Some edge →
+      value_at (equations_of system) (transformers system) (vector_at system growing.bounds) (choice_of (length system.template) u edge)
+      ≤ᴱ get_or growing.bounds u neg_inf
 
 -- whether steps were made
 abbrev pub IsTold : List Step → Bool → Type 0
@@ -111,7 +115,8 @@ OthersKeep first n old new = (u : ℕ) → (u < first) ⊎ (first + n ≤ u) →
 abbrev pub IsPassStop : System → List (Option ℕ) → ℕ → ℕ → Growing → ℕ → Stop → Type 0
 IsPassStop system pick first n old round stop =
     (z : Vector) → Agrees system z old.bounds →
-    IsStopIn (equations_of system) (pass_tests fitting (equations_of system) (transformers system) (exact_evidence (equations_of system)) (length old.steps.items) z (unraised system pick old first n)) round stop
+    IsStopIn (equations_of system) (pass_tests fitting (equations_of system) (transformers system) (exact_evidence (equations_of system))
+    (length old.steps.items) z (unraised system pick old first n)) round stop
 
 -- the bound that a step of one item gives its unknown
 abbrev pub bound_given : CodeStep → Extended
@@ -165,7 +170,8 @@ module _ (system : System) (edge unknown : ℕ) where
 
   -- a wide operation of the test or of the raise that follows it, or want of memory
   abbrev pub IsTestStop : Growing → ℕ → Stop → Type 0
-  IsTestStop old round stop = (z : Vector) → Agrees system z old.bounds → IsStopIn (equations_of system) (record { vector = z; unknown = tested; raises = length old.steps.items } ∷ []) round stop
+  IsTestStop old round stop = (z : Vector) → Agrees system z old.bounds →
+      IsStopIn (equations_of system) (record { vector = z; unknown = tested; raises = length old.steps.items } ∷ []) round stop
 
 -- what a value is at the bounds: read from the last dictionary, the transformer, and with its evidence
 pub record IsValueAt (system : System) (bounds : List Extended) (edge row : ℕ) (value : Value) : Type 0 where

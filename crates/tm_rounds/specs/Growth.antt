@@ -22,7 +22,8 @@ growth_at system bounds pick = exact_grow fitting (equations_of system) (vector_
 
 -- the tests of that growth
 abbrev pub tests_at : System → List Extended → List (Option ℕ) → List Test
-tests_at system bounds pick = growth_tests fitting (equations_of system) (transformers system) (exact_evidence (equations_of system)) (vector_at system bounds) (pick_of (length system.template) pick)
+tests_at system bounds pick = growth_tests fitting (equations_of system) (transformers system) (exact_evidence (equations_of system))
+    (vector_at system bounds) (pick_of (length system.template) pick)
 
 -- at every point and row of the template, new bounds are those to which steps lead from old ones
 abbrev pub AreLed : System → List Extended → List Step → List Extended → Type 0

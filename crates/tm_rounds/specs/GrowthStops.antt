@@ -33,7 +33,8 @@ pub record IsRaiseSpot (system : Equations) (test : Test) (spot : Spot) : Type 0
   pub exceeds : test.vector test.unknown.point test.unknown.row <ᴱ value_at system (transformer system) test.vector test.unknown
   pub value : Value
   pub is_value : IsValue system test.vector (edge_of system test.unknown) (row_of system test.unknown) value
-  pub wide : first_wide long_limit (raise_operations system test.unknown (test.vector test.unknown.point test.unknown.row) value) ≡ Some (operation_of (λ (q : ℚ). q) spot.wide)
+  pub wide : first_wide long_limit (raise_operations system test.unknown (test.vector test.unknown.point test.unknown.row) value)
+      ≡ Some (operation_of (λ (q : ℚ). q) spot.wide)
 
 -- a wide operation of one of the tests or of the raise that follows it, in this round
 pub record IsGrowthSpot (system : Equations) (tests : List Test) (number : ℕ) (spot : Spot) : Type 0 where

@@ -27,7 +27,8 @@ module _ (fitting : ℚ → Bool) (system : Equations) (T : Transformer) (reache
   pass_tests n z [] = []
   pass_tests n z (u ∷ us) =
       record { vector = z; unknown = u; raises = n }
-      ∷ ⊎_elim (λ h. pass_tests n z us) (λ h. pass_tests (suc n) (after (raise_at fitting system T reaches z u) z) us) (ext_le_or_lt (value_at system T z u) (z u.point u.row))
+      ∷ ⊎_elim (λ h. pass_tests n z us) (λ h. pass_tests (suc n) (after (raise_at fitting system T reaches z u) z) us)
+      (ext_le_or_lt (value_at system T z u) (z u.point u.row))
 
   -- the tests of at most k passes, until one raises nothing
   unfoldable pub passes_tests : ℕ → ℕ → Vector → List Item → List Test

@@ -39,7 +39,8 @@ pub record IsRoundHalt (system : System) (policy : Offer → ℕ → Type 0) (li
 
 -- the first wide operation of the composition, or a wide one of an offer or of a round
 abbrev pub IsSpotOf : System → (Offer → ℕ → Type 0) → ℕ → Spot → Type 0
-IsSpotOf system policy limit spot = IsPathFault (equations_of system) (WidePath spot) ⊎ (IsOfferHalt system policy limit spot ⊎ IsRoundHalt system policy limit spot)
+IsSpotOf system policy limit spot =
+    IsPathFault (equations_of system) (WidePath spot) ⊎ (IsOfferHalt system policy limit spot ⊎ IsRoundHalt system policy limit spot)
 
 -- the bounds after a chain of as many rounds as the limit, which are no post-solution; there are more picks
 pub record IsSpent (system : System) (policy : Offer → ℕ → Type 0) (limit : ℕ) (bounds : List Extended) : Type 0 where

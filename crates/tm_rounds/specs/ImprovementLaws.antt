@@ -17,4 +17,5 @@ SolutionsAreEnds policy meaning = (system : System) (limit : ℕ) (solved : Solv
 
 -- and where they are spent the improvements go on after as many as the limit
 abbrev pub SpentGoesOn : (CodeOffer → ℕ → Type 0) → (Offer → ℕ → Type 0) → Type 0
-SpentGoesOn policy meaning = (system : System) (limit : ℕ) (bounds : List Extended) → IsSpent system policy limit bounds → GoesOnAfter (equations_of system) meaning limit
+SpentGoesOn policy meaning = (system : System) (limit : ℕ) (bounds : List Extended) → IsSpent system policy limit bounds →
+    GoesOnAfter (equations_of system) meaning limit

@@ -84,7 +84,8 @@ AreRaised raises places list = (k : ℕ) → k < length list → IsRaised raises
 
 -- each by its picked edge
 abbrev pub ArePickedRaises : List (Option ℕ) → List CodeStep → List ℕ → List ℕ → Type 0
-ArePickedRaises pick raises places list = (k : ℕ) → k < length list → get_or pick (get_or list k 0) None ≡ Some (edge_in (raise_at raises places (get_or list k 0)))
+ArePickedRaises pick raises places list =
+    (k : ℕ) → k < length list → get_or pick (get_or list k 0) None ≡ Some (edge_in (raise_at raises places (get_or list k 0)))
 
 -- the items of a list's raises, in order
 abbrev pub items_at : ℕ → List CodeStep → List ℕ → List ℕ → List Item

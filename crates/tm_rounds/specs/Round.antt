@@ -40,7 +40,8 @@ AreBoundsOf system z bounds = (p r : ℕ) → p < length system.flow.points → 
 
 -- the bounds are the least that are at least the old ones and closed under the pick
 abbrev pub AreAbove : System → List Extended → List (Option ℕ) → List Extended → Type 0
-AreAbove system old pick new = Above (equations_of system) (transformers system) (vector_at system old) (pick_of (length system.template) pick) (vector_at system new)
+AreAbove system old pick new = Above (equations_of system) (transformers system) (vector_at system old) (pick_of (length system.template) pick)
+    (vector_at system new)
 
 -- the steps are valid one after the other from the bounds on
 abbrev pub AreValidFrom : System → List Extended → List Step → Type 0
@@ -57,7 +58,8 @@ pub record IsTurnSpot (system : System) (pick : List (Option ℕ)) (turns : List
   pub listed : In turns turn
   pub part : Part
   pub site : spot.site ≡ Joint turn.number part
-  pub wide : IsJointFault system pick (bounds_of (length system.flow.points) (length system.template) turn.vector) (numbers_of (length system.template) turn.list) (WideIn part spot.wide)
+  pub wide : IsJointFault system pick (bounds_of (length system.flow.points) (length system.template) turn.vector)
+      (numbers_of (length system.template) turn.list) (WideIn part spot.wide)
 
 -- such a spot, or want of memory
 abbrev pub IsTurnStop : System → List (Option ℕ) → List Turn → ℕ → Stop → Type 0

@@ -16,7 +16,8 @@ use Rattle.tm_rounds.specs.declared.solution.Solved.{Solved}
 use Rattle.tm_offers.specs.AtBounds.{vector_at}
 use Rattle.tm_rounds.specs.Chains.{bounds_after, steps_after, IsChain, IsEnded}
 
--- a chain of rounds by the policy that ends within the limit and before there are as many rounds as picks: the bounds after it, how many rounds, their steps, and the evidence that is read from the outcomes at the bounds
+-- a chain of rounds by the policy that ends within the limit and before there are as many rounds as picks: the bounds after it,
+-- how many rounds, their steps, and the evidence that is read from the outcomes at the bounds
 pub record IsSolved (system : System) (policy : Offer → ℕ → Type 0) (limit : ℕ) (solved : Solved) : Type 0 where
   pub choose : ℕ → Choice
   pub chain : IsChain system policy solved.improvements choose

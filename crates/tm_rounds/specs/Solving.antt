@@ -34,7 +34,8 @@ pub record IsAdvanced (system : System) (better : List (Option ℕ)) (old new : 
   pub pick : new.pick ≡ better
   pub size : length new.bounds ≡ length old.bounds
   pub bounds : AreBoundsOf system (rounded_at system old.bounds better) new.bounds
-  pub steps : map (step_of (length system.template)) new.steps.items ≡ map (step_of (length system.template)) old.steps.items ++ round_at system old.bounds better
+  pub steps : map (step_of (length system.template)) new.steps.items ≡ map (step_of (length system.template)) old.steps.items
+      ++ round_at system old.bounds better
 
 -- a solution has what the rounds have come to, and the evidence at its bounds
 pub record IsFinished (system : System) (progress : Progress) (made : ℕ) (solved : Solved) : Type 0 where

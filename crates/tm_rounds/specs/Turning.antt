@@ -87,11 +87,13 @@ IsPickAt system pick = IsPick (equations_of system) (pick_of (length system.temp
 -- the list condition of a list's raises at bounds
 abbrev pub MeetsCondition : System → List (Option ℕ) → List CodeStep → List ℕ → List ℕ → List Extended → Type 0
 MeetsCondition system pick raises places list bounds =
-    ListCondition (equations_of system) (transformers system) (pick_of (length system.template) pick) (vector_at system bounds) (items_at (length system.template) raises places list)
+    ListCondition (equations_of system) (transformers system) (pick_of (length system.template) pick) (vector_at system bounds)
+    (items_at (length system.template) raises places list)
 
 -- the list condition at every turn of these
 abbrev pub HaveConditions : System → List (Option ℕ) → List Turn → Type 0
-HaveConditions system pick turns = (t : Turn) → In turns t → ListCondition (equations_of system) (transformers system) (pick_of (length system.template) pick) t.vector t.list
+HaveConditions system pick turns =
+    (t : Turn) → In turns t → ListCondition (equations_of system) (transformers system) (pick_of (length system.template) pick) t.vector t.list
 
 -- the first wide operation of the joint problem of a list at bounds, after so many turns
 pub record IsJoinedSpot (system : System) (pick : List (Option ℕ)) (bounds : List Extended) (list : List ℕ) (turn number : ℕ) (spot : Spot) : Type 0 where
@@ -124,9 +126,11 @@ module _ (system : System) (raises : List CodeStep) (places : List ℕ) where
       × Agrees system (after (record { kind = RayKind; items = items }) (vector_at system old.bounds)) new.bounds
 
 -- one turn of a list
-pub record IsTurned (system : System) (pick : List (Option ℕ)) (raises : List CodeStep) (places : List ℕ) (list : List ℕ) (old new : Turning) (left : List ℕ) : Type 0 where
+pub record IsTurned (system : System) (pick : List (Option ℕ)) (raises : List CodeStep) (places : List ℕ) (list : List ℕ) (old new : Turning)
+    (left : List ℕ) : Type 0 where
   pub size : length new.bounds ≡ length old.bounds
-  pub turned : IsTurnedBy system raises places (joint_of system pick (vector_at system old.bounds) (items_at (length system.template) raises places list)) list old new left
+  pub turned : IsTurnedBy system raises places
+      (joint_of system pick (vector_at system old.bounds) (items_at (length system.template) raises places list)) list old new left
   pub part : IsPart system pick raises places left
   pub fewer : length left < length list
   pub one : length new.steps.items ≡ length old.steps.items + 1
@@ -134,26 +138,33 @@ pub record IsTurned (system : System) (pick : List (Option ℕ)) (raises : List 
 -- the turns of a part
 pub record IsDone (system : System) (pick : List (Option ℕ)) (raises : List CodeStep) (places : List ℕ) (list : List ℕ) (old new : Turning) : Type 0 where
   pub size : length new.bounds ≡ length old.bounds
-  pub steps : turns_so_far system new ≡ turns_so_far system old ++ part (joint_of system pick) (length list) (vector_at system old.bounds) (items_at (length system.template) raises places list)
-  pub agrees : Agrees system (led (part (joint_of system pick) (length list) (vector_at system old.bounds) (items_at (length system.template) raises places list)) (vector_at system old.bounds)) new.bounds
+  pub steps : turns_so_far system new ≡ turns_so_far system old
+      ++ part (joint_of system pick) (length list) (vector_at system old.bounds) (items_at (length system.template) raises places list)
+  pub agrees : Agrees system (led
+      (part (joint_of system pick) (length list) (vector_at system old.bounds) (items_at (length system.template) raises places list))
+      (vector_at system old.bounds)) new.bounds
   pub few : length new.steps.items ≤ length old.steps.items + length list
 
 -- the turns of a part, as a list
 abbrev pub turns_of_part : System → List (Option ℕ) → List CodeStep → List ℕ → List ℕ → Turning → List Turn
 turns_of_part system pick raises places list old =
-    part_turns (joint_of system pick) (length list) (length old.steps.items) (vector_at system old.bounds) (items_at (length system.template) raises places list)
+    part_turns (joint_of system pick) (length list) (length old.steps.items) (vector_at system old.bounds)
+    (items_at (length system.template) raises places list)
 
 -- the turns of the parts of a list
 abbrev pub turns_of_parts : System → List (Option ℕ) → List CodeStep → List ℕ → List ℕ → Turning → List Turn
 turns_of_parts system pick raises places list old =
-    parts_turns (joint_of system pick) (length old.steps.items) (vector_at system old.bounds) (map (items_at (length system.template) raises places) (part_numbers system pick list))
+    parts_turns (joint_of system pick) (length old.steps.items) (vector_at system old.bounds)
+    (map (items_at (length system.template) raises places) (part_numbers system pick list))
 
 -- all turns of the parts of a list
 pub record AreAllDone (system : System) (pick : List (Option ℕ)) (raises : List CodeStep) (places : List ℕ) (list : List ℕ) (old new : Turning) : Type 0 where
   pub size : length new.bounds ≡ length old.bounds
   pub steps : turns_so_far system new ≡ turns_so_far system old
       ++ turns (joint_of system pick) (vector_at system old.bounds) (map (items_at (length system.template) raises places) (part_numbers system pick list))
-  pub agrees : Agrees system (led (turns (joint_of system pick) (vector_at system old.bounds) (map (items_at (length system.template) raises places) (part_numbers system pick list))) (vector_at system old.bounds)) new.bounds
+  pub agrees : Agrees system (led
+      (turns (joint_of system pick) (vector_at system old.bounds) (map (items_at (length system.template) raises places) (part_numbers system pick list)))
+      (vector_at system old.bounds)) new.bounds
 
 -- a point has a number and a trace for each unknown of the list, and a ray's rates are of unknowns of the list
 abbrev pub HasSizes : List ℕ → Joined → Type 0
@@ -163,7 +174,8 @@ HasSizes list (Ray rates) = (rate : RateOf) → In rates.list rate → In list r
 -- what an outcome makes of the bounds, the steps and the list
 abbrev pub IsTaken : List CodeStep → List ℕ → List ℕ → Joined → Turning → Turning → List ℕ → Type 0
 IsTaken raises places list (Point to highs) old new left =
-    (new.steps.items ≡ old.steps.items ++ JumpStep (jump_items_at raises places list to highs) ∷ []) × (new.bounds ≡ puts (λ k. fin (get_or to k zero_ℚ)) list old.bounds (length list)) × (left ≡ [])
+    (new.steps.items ≡ old.steps.items ++ JumpStep (jump_items_at raises places list to highs) ∷ [])
+    × (new.bounds ≡ puts (λ k. fin (get_or to k zero_ℚ)) list old.bounds (length list)) × (left ≡ [])
 IsTaken raises places list (Ray rates) old new left =
     (new.steps.items ≡ old.steps.items ++ RayStep (map (ray_item_of raises places) rates.list) ∷ [])
     × (new.bounds ≡ puts (λ k. pos_inf) (map (λ rate. rate.unknown) rates.list) old.bounds (length rates.list)) × (left ≡ finite_in new.bounds list)

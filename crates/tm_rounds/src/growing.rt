@@ -9,13 +9,26 @@ ghost use Rattle.tm_compose.specs.Value.{number_of};
 ghost use Rattle.tm_offers.specs.AtBounds.{EdgesAreThere, edge_at};
 ghost use Rattle.tm_cert.specs.Certificates.{step_of};
 ghost use Rattle.tm_raise.specs.Raises.{HasSizes, Rises, choice_of, raised, raise_operations};
-ghost use Rattle.tm_rounds.specs.Growing.{IsKept, AreQuiet, ArePassed, OthersKeep, IsPassStop, AreTested, IsTestStop, IsValueAt, IsValueStop, IsStepStop, bound_given, HasItem};
+ghost use Rattle.tm_rounds.specs.Growing.{
+  IsKept,
+  AreQuiet,
+  ArePassed,
+  OthersKeep,
+  IsPassStop,
+  AreTested,
+  IsTestStop,
+  IsValueAt,
+  IsValueStop,
+  IsStepStop,
+  bound_given,
+  HasItem,
+};
 
 use std::alloc::Global;
 use tm_cert::Step;
 use tm_eqsys::{Bounds, PartFault, Pick, Site, Spot, System};
 use tm_frac::Ext;
-use tm_offers::{Stop, exceeds, supremum};
+use tm_offers::{Stop, exceeds, is_unlimited, supremum};
 use tm_oper::{Paths, Value, operator};
 use tm_raise::{RaiseFault, raise};
 
@@ -85,8 +98,10 @@ fn raising_step(
     requires exceeds { extended bound <ᴱ number_of value }
     requires sizes { HasSizes (equations_of system.now) (choice_of (length system.now.template) unknown edge) value }
     requires rises { Rises (equations_of system.now) (choice_of (length system.now.template) unknown edge) value }
-    ensures step { IfOk result (λ step. step_of (length system.now.template) step ≡ raised (equations_of system.now) (choice_of (length system.now.template) unknown edge) (extended bound) value) }
-    ensures stop { IfErr result (IsStepStop (raise_operations (equations_of system.now) (choice_of (length system.now.template) unknown edge) (extended bound) value) raises round) }
+    ensures step { IfOk result (λ step. step_of (length system.now.template) step ≡ raised (equations_of system.now)
+        (choice_of (length system.now.template) unknown edge) (extended bound) value) }
+    ensures stop { IfErr result (IsStepStop
+        (raise_operations (equations_of system.now) (choice_of (length system.now.template) unknown edge) (extended bound) value) raises round) }
 {
     match raise(alloc, system, unknown, edge, bound, value) {
         Ok(step) => Ok(step),
@@ -105,7 +120,8 @@ fn wake(system: &System, pick: &Pick, point: u32, quiet: &mut [bool])
     requires edges { EdgesAreThere system.now pick.now }
     requires few { length quiet.old ≤ 1024 }
     ensures size { length quiet.new ≡ length quiet.old }
-    ensures quiet { (u : ℕ) → get_or quiet.new u false ≡ true → (get_or quiet.old u false ≡ true) × ((edge : ℕ) → get_or pick.now u None ≡ Some edge → (edge_at system.now edge).from ≡ point → ⊥) }
+    ensures quiet { (u : ℕ) → get_or quiet.new u false ≡ true →
+        (get_or quiet.old u false ≡ true) × ((edge : ℕ) → get_or pick.now u None ≡ Some edge → (edge_at system.now edge).from ≡ point → ⊥) }
 {
     let edges = system.flow.edges.as_slice();
     for (unknown, mark) in quiet.iter_mut().enumerate() {
@@ -166,7 +182,8 @@ fn test_picked(
     Ok(true)
 }
 
-// Tests an unknown unless it has no pick, was raised or is quiet. Tells whether it was raised now.
+// Tests an unknown unless it has no pick, was raised, is quiet or is at `+inf`, which nothing exceeds. Tells whether it was raised
+// now.
 fn test(
     alloc: Global,
     system: &System,
@@ -192,6 +209,9 @@ fn test(
         return Ok(false);
     }
     if growing.quiet[unknown as usize] {
+        return Ok(false);
+    }
+    if is_unlimited(growing.bounds.at(unknown)) {
         return Ok(false);
     }
     match pick.at(unknown) {

@@ -22,8 +22,10 @@ pub fn one_vector(system: &System, chooser: &Chooser, other: &Chooser)
 /// Where the chooser's function answers one position of an offer, all solutions of a system have the same number of rounds, and
 /// a limit that was spent is below it.
 pub fn one_number(chooser: &Chooser)
-    ensures solved { AnswersOne (λ offer k. (shown : _) × Policy.post chooser.now.policy shown k × (shown.now ≡ offer)) → HasOneNumber (λ offer k. (shown : _) × Policy.post chooser.now.policy shown k × (shown.now ≡ offer)) }
-    ensures spent { AnswersOne (λ offer k. (shown : _) × Policy.post chooser.now.policy shown k × (shown.now ≡ offer)) → SpendsLess (λ offer k. (shown : _) × Policy.post chooser.now.policy shown k × (shown.now ≡ offer)) }
+    ensures solved { AnswersOne (λ offer k. (shown : _) × Policy.post chooser.now.policy shown k × (shown.now ≡ offer)) →
+        HasOneNumber (λ offer k. (shown : _) × Policy.post chooser.now.policy shown k × (shown.now ≡ offer)) }
+    ensures spent { AnswersOne (λ offer k. (shown : _) × Policy.post chooser.now.policy shown k × (shown.now ≡ offer)) →
+        SpendsLess (λ offer k. (shown : _) × Policy.post chooser.now.policy shown k × (shown.now ≡ offer)) }
 {}
 
 /// The two policies answer one position of an offer, so that by each of them a system has one number of rounds.

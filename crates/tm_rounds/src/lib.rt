@@ -19,7 +19,9 @@ mod uppers;
 pub use evaluation::round;
 pub use growth::{Grown, UnknownNumbers, grow};
 pub use halt::Halt;
-pub use law::{one_number, one_vector, policies_have_one_number, solutions_are_ends, spent_goes_on};
+pub use law::{
+    one_number, one_vector, policies_have_one_number, solutions_are_ends, spent_goes_on,
+};
 pub use solution::Solved;
 pub use solving::least;
 pub use solving_by::{least_by_best, least_by_first};

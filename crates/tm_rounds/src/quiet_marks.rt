@@ -31,7 +31,10 @@ fn is_quiet(system: &System, bounds: &Bounds, pick: &Pick, known: &Known, unknow
 {
     let rows = system.template.as_slice().len() as u32;
     match pick.at(unknown) {
-        Some(edge) => is_known_within(known.at(system, edge, unknown % rows), bounds.at(unknown)),
+        Some(edge) => is_known_within(
+            known.value(system, edge, unknown % rows),
+            bounds.at(unknown),
+        ),
         None => false,
     }
 }

@@ -98,10 +98,12 @@ fn finish(
     requires composed { AreComposed (equations_of system.now) paths.now }
     requires bounds { length progress.bounds ≡ length system.now.flow.points * length system.now.template }
     requires made { made ≤ 1000000 }
+    requires known { AreKnown system.now progress.bounds progress.known }
     ensures finished { IfOk result (IsFinished system.now progress made) }
     ensures stop { IfErr result (IsOfferStop system.now progress.bounds (made + 1)) }
 {
-    let uppers = uppers_at(alloc, system, paths, &progress.bounds, made + 1)?;
+    let mut known = progress.known;
+    let uppers = uppers_at(alloc, system, paths, &progress.bounds, made + 1, &mut known)?;
     Ok(Solved {
         bounds: progress.bounds,
         improvements: made,

@@ -14,7 +14,20 @@ ghost use Rattle.tm_joint.specs.Joints.{IsReadFrom};
 ghost use Rattle.tm_offers.specs.declared.stop.Stop.TheVariants.{NoMemory};
 ghost use Rattle.tm_rounds.specs.Lows.{AreRaised, IsRaised};
 ghost use Rattle.tm_rounds.specs.Putting.{AreNumberedIn, puts};
-ghost use Rattle.tm_rounds.specs.Turning.{MeetsCondition, IsPickAt, IsJoinedStop, IsPart, IsTurned, HasSizes, IsTaken, finite_in, is_finite, jump_item_at, jump_items_at, ray_item_of};
+ghost use Rattle.tm_rounds.specs.Turning.{
+  MeetsCondition,
+  IsPickAt,
+  IsJoinedStop,
+  IsPart,
+  IsTurned,
+  HasSizes,
+  IsTaken,
+  finite_in,
+  is_finite,
+  jump_item_at,
+  jump_items_at,
+  ray_item_of,
+};
 
 use crate::lows::{copied, edge_of, low_of};
 use std::alloc::Global;

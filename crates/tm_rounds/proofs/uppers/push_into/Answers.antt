@@ -1,18 +1,21 @@
-use Rattle.std.proofs.Common.{◌∙◌, ◌++◌, ◌∷◌, [], map, sym, ap}
+use Rattle.std.proofs.Common.{◌∙◌, ◌++◌, ◌∷◌, [], map, sym, ap, subst}
 use Rattle.std.proofs.lemmas.List.{append-nil}
 use Rattle.tm_eqsys.specs.View.{equations_of}
 use Rattle.tm_cert.specs.Certificates.{evidence_of}
 use Rattle.tm_strategy_lp.specs.Made.{exact_upper}
 use Rattle.tm_offers.specs.AtBounds.{vector_at, row_at}
+use Rattle.tm_offers.specs.Known.{AreKnown}
 use Rattle.tm_offers.proofs.Ranges.{edge_here}
 use Rattle.tm_rounds.proofs.UpperLists.{uppers_to, uppers_none, uppers_yes, uppers_no, pushed}
 use Rattle.tm_rounds.proofs.uppers.push_into.Goals as goal
 use Rattle.tm_rounds.proofs.uppers.push_into.Goals.{then-edge-point+in_ok-upper+in_ok-push, else-edge-point}
 
 pub loop-number-init : goal.loop-number-init
-loop-number-init c =
-    sym (ap (λ s. map evidence_of c.args.uppers.now.items ++ s) (uppers_none (equations_of c.args.system.now) (vector_at c.args.system.now c.args.bounds.now) c.args.point c.args.row c.as_slice-edge-items.result.now)
-    ∙ append-nil (map evidence_of c.args.uppers.now.items))
+loop-number-init c = record {
+  uppers = sym (ap (λ s. map evidence_of c.args.uppers.now.items ++ s) (uppers_none (equations_of c.args.system.now) (vector_at c.args.system.now c.args.bounds.now) c.args.point c.args.row c.as_slice-edge-items.result.now)
+      ∙ append-nil (map evidence_of c.args.uppers.now.items));
+  known = c.requires.known;
+}
 
 pub loop-number-preserved : goal.loop-number-preserved
 loop-number-preserved c =
@@ -27,12 +30,16 @@ loop-number-preserved c =
     let l = c.loop-number-test.true in
     let old = map evidence_of c.args.uppers.now.items in
     elim c.if-edge-point.branch [
-      | then-edge-point+in_ok-upper+in_ok-push w ↦
-          ap (λ v. map evidence_of v.items) w.uppers-is
-          ∙ pushed c.loop-number.uppers.items _ _ old _ w.in_ok-push.ensures.items c.loop-number.invariant
-          ∙ ap (λ s. old ++ s)
-          (ap (λ u. uppers_to E z p r es i ++ u ∷ []) (w.in_ok-upper.ensures.upper ∙ ap (λ e. exact_upper E z e (row_at system r)) (edge_here system es i edge c.as_slice-edge-items.ensures l c.edge-item.is))
-          ∙ uppers_yes E z p r es i edge l c.edge-item.is w.if-edge-point.true)
-      | else-edge-point w ↦
-          ap (λ v. map evidence_of v.items) w.uppers-is ∙ c.loop-number.invariant ∙ ap (λ s. old ++ s) (uppers_no E z p r es i edge l c.edge-item.is w.if-edge-point.false)
+      | then-edge-point+in_ok-upper+in_ok-push w ↦ record {
+        uppers = ap (λ v. map evidence_of v.items) w.uppers-is
+            ∙ pushed c.loop-number.uppers.items _ _ old _ w.in_ok-push.ensures.items c.loop-number.invariant.uppers
+            ∙ ap (λ s. old ++ s)
+            (ap (λ u. uppers_to E z p r es i ++ u ∷ []) (w.in_ok-upper.ensures.upper ∙ ap (λ e. exact_upper E z e (row_at system r)) (edge_here system es i edge c.as_slice-edge-items.ensures l c.edge-item.is))
+            ∙ uppers_yes E z p r es i edge l c.edge-item.is w.if-edge-point.true);
+        known = subst (AreKnown system c.args.bounds.now) (sym w.known-is) w.in_ok-upper.ensures.known;
+      }
+      | else-edge-point w ↦ record {
+        uppers = ap (λ v. map evidence_of v.items) w.uppers-is ∙ c.loop-number.invariant.uppers ∙ ap (λ s. old ++ s) (uppers_no E z p r es i edge l c.edge-item.is w.if-edge-point.false);
+        known = subst (AreKnown system c.args.bounds.now) (sym w.known-is) c.loop-number.invariant.known;
+      }
     ]

@@ -1,10 +1,12 @@
-use Rattle.std.proofs.Common.{◌∙◌, ◌+◌, ◌*◌, ◌++◌, List, length, get_or, map, sym, ap}
+use Rattle.std.proofs.Common.{◌∙◌, ◌+◌, ◌*◌, ◌++◌, List, length, get_or, map, sym, ap, subst}
 use Rattle.std.proofs.lemmas.List.{append_assoc}
 use Rattle.tm_num.specs.Extended.{neg_inf}
 use Rattle.tm_eqsys.specs.View.{equations_of}
 use Rattle.tm_cert.specs.Certificates.{evidence_of}
 use Rattle.tm_offers.specs.AtBounds.{vector_at}
-use Rattle.tm_rounds.specs.Uppers.{is_top, uppers_of_rows, uppers_into}
+use Rattle.tm_offers.specs.Known.{AreKnown}
+use Rattle.tm_offers.specs.Offers.{is_top}
+use Rattle.tm_rounds.specs.Uppers.{uppers_of_rows, uppers_into}
 use Rattle.tm_rounds.proofs.UpperLists.{rows_top, rows_edges}
 use Rattle.tm_rounds.proofs.uppers.push_point.Goals as goal
 use Rattle.tm_rounds.proofs.uppers.push_point.Goals.{then-not-is_unlimited+in_ok-push_into, else-not-is_unlimited}
@@ -19,13 +21,17 @@ loop-row-preserved c =
     let old = map evidence_of c.args.uppers.now.items in
     let bound = ap is_top (c.at.ensures ∙ ap (λ n. get_or c.args.bounds.now (p * n + r) neg_inf) (ap (λ (t : List _). length t) c.as_slice.ensures.rows)) in
     elim c.if-not-is_unlimited.branch [
-      | then-not-is_unlimited+in_ok-push_into w ↦
-          ap (λ v. map evidence_of v.items) w.uppers-is
-          ∙ w.in_ok-push_into.ensures.uppers
-          ∙ ap (λ s. s ++ uppers_into E z p r) c.loop-row.invariant
-          ∙ append_assoc old (uppers_of_rows E z p r) (uppers_into E z p r)
-          ∙ ap (λ s. old ++ s) (rows_edges E z p r (sym (sym w.if-not-is_unlimited.true ∙ c.is_unlimited.ensures ∙ bound)))
-      | else-not-is_unlimited w ↦
-          ap (λ v. map evidence_of v.items) w.uppers-is ∙ c.loop-row.invariant
-          ∙ ap (λ s. old ++ s) (rows_top E z p r (sym (sym w.if-not-is_unlimited.false ∙ c.is_unlimited.ensures ∙ bound)))
+      | then-not-is_unlimited+in_ok-push_into w ↦ record {
+        uppers = ap (λ v. map evidence_of v.items) w.uppers-is
+            ∙ w.in_ok-push_into.ensures.uppers
+            ∙ ap (λ s. s ++ uppers_into E z p r) c.loop-row.invariant.uppers
+            ∙ append_assoc old (uppers_of_rows E z p r) (uppers_into E z p r)
+            ∙ ap (λ s. old ++ s) (rows_edges E z p r (sym (sym w.if-not-is_unlimited.true ∙ c.is_unlimited.ensures ∙ bound)));
+        known = subst (AreKnown system c.args.bounds.now) (sym w.known-is) w.in_ok-push_into.ensures.known;
+      }
+      | else-not-is_unlimited w ↦ record {
+        uppers = ap (λ v. map evidence_of v.items) w.uppers-is ∙ c.loop-row.invariant.uppers
+            ∙ ap (λ s. old ++ s) (rows_top E z p r (sym (sym w.if-not-is_unlimited.false ∙ c.is_unlimited.ensures ∙ bound)));
+        known = subst (AreKnown system c.args.bounds.now) (sym w.known-is) c.loop-row.invariant.known;
+      }
     ]

@@ -1,28 +1,17 @@
-use Rattle.std.proofs.Common.{◌∙◌, refl, subst}
-use Rattle.tm_eqsys.specs.View.{equations_of}
-use Rattle.tm_oper.specs.Values.{IsOperatorFault}
-use Rattle.tm_offers.specs.AtBounds.{vector_at, edge_at, row_at}
-use Rattle.tm_rounds.proofs.UpperRead.{upper_is}
+use Rattle.tm_offers.proofs.KnownValues.{known_less, known_found}
 use Rattle.tm_rounds.proofs.uppers.shown.Goals as goal
 
-pub returns-in-Ok-clause-upper : goal.returns-in-Ok-clause-upper
-returns-in-Ok-clause-upper c =
-    let system = c.args.system.now in
-    c.upper.ensures
-    ∙ upper_is (equations_of system) (vector_at system c.args.bounds.now) (edge_at system c.args.edge) (row_at system c.args.row) _
-    c.in-Ok.ensures.value
+pub returns-in-Some-clause-upper : goal.returns-in-Some-clause-upper
+returns-in-Some-clause-upper c = (known_found c.args.system.now c.args.bounds.now c.args.known.now c.args.edge c.args.row c.in-Some.found c.requires.known c.requires.edge c.requires.row c.in-Some.ensures.taken).upper
 
-pub returns-in-Err-Wide-clause-stop : goal.returns-in-Err-Wide-clause-stop
-returns-in-Err-Wide-clause-stop c =
-    let system = c.args.system.now in
-    record {
-      round = refl;
-      edge = c.args.edge;
-      is_edge = c.requires.edge;
-      row = c.args.row;
-      is_row = c.requires.row;
-      part = c.in-Err-Wide.part;
-      site = refl;
-      wide = subst (IsOperatorFault (equations_of system) (vector_at system c.args.bounds.now) (edge_at system c.args.edge) (row_at system c.args.row)) c.in-Err-Wide.field-0-is
-          c.in-Err-Wide.ensures.refused;
-    }
+pub returns-in-Some-clause-known : goal.returns-in-Some-clause-known
+returns-in-Some-clause-known c = known_less c.args.system.now c.args.bounds.now c.args.known.now c.take.new.self _ c.requires.known c.take.ensures.left
+
+pub returns-in_ok-found-in-None-clause-upper : goal.returns-in_ok-found-in-None-clause-upper
+returns-in_ok-found-in-None-clause-upper c = c.in_ok-found-in-None.ensures.upper
+
+pub returns-in_ok-found-in-None-clause-known : goal.returns-in_ok-found-in-None-clause-known
+returns-in_ok-found-in-None-clause-known c = known_less c.args.system.now c.args.bounds.now c.args.known.now c.take.new.self _ c.requires.known c.take.ensures.left
+
+pub returns-in_err-found-in-None-clause-known : goal.returns-in_err-found-in-None-clause-known
+returns-in_err-found-in-None-clause-known c = known_less c.args.system.now c.args.bounds.now c.args.known.now c.take.new.self _ c.requires.known c.take.ensures.left

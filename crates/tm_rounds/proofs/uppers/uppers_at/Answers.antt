@@ -21,6 +21,7 @@ loop-point-preserved c =
           ∙ ap (λ q. uppers_of_points E z (p - 1) ++ uppers_of_rows E z q (length system.template)) (let e : p ≡ 1 + (p - 1) = omega arith in e)
           ∙ points_more E z (p - 1)
           ∙ ap (uppers_of_points E z) (let e : p - 1 + 1 ≡ p + 1 - 1 = omega arith in e);
+      known = c.in_ok-push_point.ensures.known;
     }
 
 pub returns-clause-uppers : goal.returns-clause-uppers

@@ -2,6 +2,7 @@ use Rattle.std.proofs.Common.{◌≡◌, ◌≤◌, ◌-◌, map}
 use Rattle.tm_eqsys.specs.View.{equations_of}
 use Rattle.tm_cert.specs.Certificates.{evidence_of}
 use Rattle.tm_offers.specs.AtBounds.{vector_at}
+use Rattle.tm_offers.specs.Known.{AreKnown}
 use Rattle.tm_rounds.proofs.UpperLists.{uppers_of_points}
 use Rattle.tm_rounds.proofs.uppers.uppers_at.Given as goal
 
@@ -9,4 +10,5 @@ abbrev pub invariant-loop-point : goal.invariant-loop-point
 invariant-loop-point l = record {
   later : 1 ≤ l.point;
   uppers : map evidence_of l.uppers.items ≡ uppers_of_points (equations_of l.system) (vector_at l.system l.bounds) (l.point - 1);
+  known : AreKnown l.system l.bounds l.known;
 }

@@ -2,13 +2,16 @@ use Rattle.std.proofs.Common.{◌∙◌, refl, sym, subst}
 use Rattle.tm_eqsys.specs.View.{equations_of}
 use Rattle.tm_oper.specs.Values.{IsOperatorFault}
 use Rattle.tm_offers.specs.AtBounds.{vector_at, edge_at, row_at}
-use Rattle.tm_offers.proofs.improvement.solved_value.Goals as goal
+use Rattle.tm_offers.proofs.UpperRead.{upper_is}
+use Rattle.tm_offers.proofs.found.solve_offer.Goals as goal
 
 pub returns-in-Ok : goal.returns-in-Ok
 returns-in-Ok c =
     let system = c.args.system.now in
-    c.supremum.ensures
-    ∙ sym c.in-Ok.ensures.supremum
+    record {
+      value = c.supremum.ensures ∙ sym c.in-Ok.ensures.supremum;
+      upper = c.upper.ensures ∙ upper_is (equations_of system) (vector_at system c.args.bounds.now) (edge_at system c.args.edge) (row_at system c.args.row) _ c.in-Ok.ensures.value;
+    }
 
 pub returns-in-Err-Wide : goal.returns-in-Err-Wide
 returns-in-Err-Wide c =

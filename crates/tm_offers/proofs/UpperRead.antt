@@ -16,7 +16,7 @@ use Rattle.tm_strategy_lp.specs.Made.{lowest_lost, outcome_upper, exact_upper}
 use Rattle.tm_compose.specs.declared.value.Value.{Value}
 use Rattle.tm_compose.specs.declared.value.Value.TheVariants.{Unreached, Empty, Best, Unbounded}
 use Rattle.tm_oper.specs.Values.{IsLowestLost, ReadsOutcome, IsValue}
-use Rattle.tm_rounds.specs.Uppers.{upper_read}
+use Rattle.tm_offers.specs.Found.{upper_read}
 
 is_lost_at : (v : Ext) → v ≡ neg_inf → is_lost v ≡ true
 is_lost_at v e = ap is_lost e
