@@ -1,14 +1,14 @@
 //! The items of steps.
 
-ghost use Rattle.std.specs.Prelude.{◌≡◌, ◌<◌, IfOk, Some, codes, option_and_then, true};
+ghost use Rattle.std.specs.Prelude.{◌≡◌, IfOk, codes, option_and_then};
 ghost use Rattle.serde_json.specs.Data.{member, no_members, object};
 ghost use Rattle.serde_json.specs.Find.{get};
 ghost use Rattle.serde_json.specs.View.{view};
 ghost use Rattle.tm_form.specs.Keys.{index_data, passes_at};
 ghost use Rattle.tm_form.specs.Numbers.{frac_in, is_text};
-ghost use Rattle.tm_form.specs.StepItems.{has_start, is_jump_item, is_plain_item, is_ray_item, jump_item_data};
-ghost use Rattle.tm_form.specs.StepItems.{jump_item_in, plain_item_data, plain_item_in, ray_item_data, ray_item_in};
+ghost use Rattle.tm_form.specs.StepItems.{has_start};
 
+use crate::entry::Entry;
 use crate::keys::{index_at, is_index_at, is_unknown_at, member_count, unknown_at, unknown_value};
 use crate::numbers::{frac_value, is_text, read_frac};
 use crate::trace::{is_trace_at, trace_at, trace_value};
@@ -42,125 +42,6 @@ fn has_start(rows: usize, value: &Value) -> bool
     ensures { result ≡ has_start rows (view value.now) }
 {
     is_index_at(value, "edge") && is_trace_at(value, "low") && is_unknown_at(rows, value)
-}
-
-/// Whether the value has the shape of an item of a plain step.
-pub(crate) fn is_plain_item(rows: usize, value: &Value) -> bool
-    ensures { result ≡ is_plain_item rows (view value.now) }
-{
-    member_count(value) == 4 && has_start(rows, value) && is_text_at(value, "to")
-}
-
-/// Whether the value has the shape of an item of a jump.
-pub(crate) fn is_jump_item(rows: usize, value: &Value) -> bool
-    ensures { result ≡ is_jump_item rows (view value.now) }
-{
-    member_count(value) == 5
-        && has_start(rows, value)
-        && is_trace_at(value, "high")
-        && is_text_at(value, "to")
-}
-
-/// Whether the value has the shape of an item of a ray.
-pub(crate) fn is_ray_item(rows: usize, value: &Value) -> bool
-    ensures { result ≡ is_ray_item rows (view value.now) }
-{
-    member_count(value) == 5
-        && has_start(rows, value)
-        && is_trace_at(value, "direction")
-        && is_text_at(value, "rate")
-}
-
-/// The item of a plain step that the value is.
-pub(crate) fn read_plain_item(
-    alloc: Global,
-    rows: usize,
-    value: &Value,
-) -> Result<Option<Item>, AllocError>
-    ensures { IfOk result (λ item. item ≡ plain_item_in rows (view value.now)) }
-{
-    let Some(edge) = index_at(value, "edge") else {
-        return Ok(None);
-    };
-    let Some(low) = trace_at(alloc, value, "low")? else {
-        return Ok(None);
-    };
-    let Some(to) = frac_at(value, "to") else {
-        return Ok(None);
-    };
-    let Some(unknown) = unknown_at(rows, value) else {
-        return Ok(None);
-    };
-    Ok(Some(Item {
-        unknown,
-        edge,
-        low,
-        to,
-    }))
-}
-
-/// The item of a jump that the value is.
-pub(crate) fn read_jump_item(
-    alloc: Global,
-    rows: usize,
-    value: &Value,
-) -> Result<Option<JumpItem>, AllocError>
-    ensures { IfOk result (λ item. item ≡ jump_item_in rows (view value.now)) }
-{
-    let Some(edge) = index_at(value, "edge") else {
-        return Ok(None);
-    };
-    let Some(high) = trace_at(alloc, value, "high")? else {
-        return Ok(None);
-    };
-    let Some(low) = trace_at(alloc, value, "low")? else {
-        return Ok(None);
-    };
-    let Some(to) = frac_at(value, "to") else {
-        return Ok(None);
-    };
-    let Some(unknown) = unknown_at(rows, value) else {
-        return Ok(None);
-    };
-    Ok(Some(JumpItem {
-        unknown,
-        edge,
-        low,
-        high,
-        to,
-    }))
-}
-
-/// The item of a ray that the value is.
-pub(crate) fn read_ray_item(
-    alloc: Global,
-    rows: usize,
-    value: &Value,
-) -> Result<Option<RayItem>, AllocError>
-    ensures { IfOk result (λ item. item ≡ ray_item_in rows (view value.now)) }
-{
-    let Some(direction) = trace_at(alloc, value, "direction")? else {
-        return Ok(None);
-    };
-    let Some(edge) = index_at(value, "edge") else {
-        return Ok(None);
-    };
-    let Some(low) = trace_at(alloc, value, "low")? else {
-        return Ok(None);
-    };
-    let Some(rate) = frac_at(value, "rate") else {
-        return Ok(None);
-    };
-    let Some(unknown) = unknown_at(rows, value) else {
-        return Ok(None);
-    };
-    Ok(Some(RayItem {
-        unknown,
-        edge,
-        low,
-        direction,
-        rate,
-    }))
 }
 
 // The members of an item of a plain step as a value.
@@ -207,51 +88,153 @@ fn ray_item_object(
     json!(in alloc; {"direction": direction, "edge": edge, "low": low, "rate": rate, "unknown": unknown})
 }
 
-/// The item of a plain step as a value.
-pub(crate) fn plain_item_value(alloc: Global, rows: usize, item: &Item) -> Result<Value, AllocError>
-    requires { 0 < rows }
-    ensures value { IfOk result (λ v. view v ≡ plain_item_data rows item.now) }
-    ensures shape { IfOk result (λ _. is_plain_item rows (plain_item_data rows item.now) ≡ true) }
-    ensures back { IfOk result (λ _. plain_item_in rows (plain_item_data rows item.now) ≡ Some item.now) }
-{
-    let low = trace_value(alloc, &item.low)?;
-    let to = frac_value(alloc, item.to)?;
-    let unknown = unknown_value(alloc, rows, item.unknown)?;
-    plain_item_object(alloc, item.edge, low, to, unknown)
+impl Entry for Item {
+    ghost use Rattle.std.specs.Prelude.{nat_lt};
+    ghost use Rattle.tm_form.specs.StepItems.{is_plain_item, plain_item_data, plain_item_in};
+
+    ghost shaped = { is_plain_item };
+
+    ghost element_in = { plain_item_in };
+
+    ghost element_data = { plain_item_data };
+
+    ghost writable = { λ rows _. nat_lt 0 rows };
+
+    fn has_shape(rows: usize, value: &Value) -> bool {
+        member_count(value) == 4 && has_start(rows, value) && is_text_at(value, "to")
+    }
+
+    fn read(alloc: Global, rows: usize, value: &Value) -> Result<Option<Item>, AllocError> {
+        let Some(edge) = index_at(value, "edge") else {
+            return Ok(None);
+        };
+        let Some(low) = trace_at(alloc, value, "low")? else {
+            return Ok(None);
+        };
+        let Some(to) = frac_at(value, "to") else {
+            return Ok(None);
+        };
+        let Some(unknown) = unknown_at(rows, value) else {
+            return Ok(None);
+        };
+        Ok(Some(Item {
+            unknown,
+            edge,
+            low,
+            to,
+        }))
+    }
+
+    fn write(&self, alloc: Global, rows: usize) -> Result<Value, AllocError> {
+        let low = trace_value(alloc, &self.low)?;
+        let to = frac_value(alloc, self.to)?;
+        let unknown = unknown_value(alloc, rows, self.unknown)?;
+        plain_item_object(alloc, self.edge, low, to, unknown)
+    }
 }
 
-/// The item of a jump as a value.
-pub(crate) fn jump_item_value(
-    alloc: Global,
-    rows: usize,
-    item: &JumpItem,
-) -> Result<Value, AllocError>
-    requires { 0 < rows }
-    ensures value { IfOk result (λ v. view v ≡ jump_item_data rows item.now) }
-    ensures shape { IfOk result (λ _. is_jump_item rows (jump_item_data rows item.now) ≡ true) }
-    ensures back { IfOk result (λ _. jump_item_in rows (jump_item_data rows item.now) ≡ Some item.now) }
-{
-    let high = trace_value(alloc, &item.high)?;
-    let low = trace_value(alloc, &item.low)?;
-    let to = frac_value(alloc, item.to)?;
-    let unknown = unknown_value(alloc, rows, item.unknown)?;
-    jump_item_object(alloc, item.edge, high, low, to, unknown)
+impl Entry for JumpItem {
+    ghost use Rattle.std.specs.Prelude.{nat_lt};
+    ghost use Rattle.tm_form.specs.StepItems.{is_jump_item, jump_item_data, jump_item_in};
+
+    ghost shaped = { is_jump_item };
+
+    ghost element_in = { jump_item_in };
+
+    ghost element_data = { jump_item_data };
+
+    ghost writable = { λ rows _. nat_lt 0 rows };
+
+    fn has_shape(rows: usize, value: &Value) -> bool {
+        member_count(value) == 5
+            && has_start(rows, value)
+            && is_trace_at(value, "high")
+            && is_text_at(value, "to")
+    }
+
+    fn read(alloc: Global, rows: usize, value: &Value) -> Result<Option<JumpItem>, AllocError> {
+        let Some(edge) = index_at(value, "edge") else {
+            return Ok(None);
+        };
+        let Some(high) = trace_at(alloc, value, "high")? else {
+            return Ok(None);
+        };
+        let Some(low) = trace_at(alloc, value, "low")? else {
+            return Ok(None);
+        };
+        let Some(to) = frac_at(value, "to") else {
+            return Ok(None);
+        };
+        let Some(unknown) = unknown_at(rows, value) else {
+            return Ok(None);
+        };
+        Ok(Some(JumpItem {
+            unknown,
+            edge,
+            low,
+            high,
+            to,
+        }))
+    }
+
+    fn write(&self, alloc: Global, rows: usize) -> Result<Value, AllocError> {
+        let high = trace_value(alloc, &self.high)?;
+        let low = trace_value(alloc, &self.low)?;
+        let to = frac_value(alloc, self.to)?;
+        let unknown = unknown_value(alloc, rows, self.unknown)?;
+        jump_item_object(alloc, self.edge, high, low, to, unknown)
+    }
 }
 
-/// The item of a ray as a value.
-pub(crate) fn ray_item_value(
-    alloc: Global,
-    rows: usize,
-    item: &RayItem,
-) -> Result<Value, AllocError>
-    requires { 0 < rows }
-    ensures value { IfOk result (λ v. view v ≡ ray_item_data rows item.now) }
-    ensures shape { IfOk result (λ _. is_ray_item rows (ray_item_data rows item.now) ≡ true) }
-    ensures back { IfOk result (λ _. ray_item_in rows (ray_item_data rows item.now) ≡ Some item.now) }
-{
-    let direction = trace_value(alloc, &item.direction)?;
-    let low = trace_value(alloc, &item.low)?;
-    let rate = frac_value(alloc, item.rate)?;
-    let unknown = unknown_value(alloc, rows, item.unknown)?;
-    ray_item_object(alloc, direction, item.edge, low, rate, unknown)
+impl Entry for RayItem {
+    ghost use Rattle.std.specs.Prelude.{nat_lt};
+    ghost use Rattle.tm_form.specs.StepItems.{is_ray_item, ray_item_data, ray_item_in};
+
+    ghost shaped = { is_ray_item };
+
+    ghost element_in = { ray_item_in };
+
+    ghost element_data = { ray_item_data };
+
+    ghost writable = { λ rows _. nat_lt 0 rows };
+
+    fn has_shape(rows: usize, value: &Value) -> bool {
+        member_count(value) == 5
+            && has_start(rows, value)
+            && is_trace_at(value, "direction")
+            && is_text_at(value, "rate")
+    }
+
+    fn read(alloc: Global, rows: usize, value: &Value) -> Result<Option<RayItem>, AllocError> {
+        let Some(direction) = trace_at(alloc, value, "direction")? else {
+            return Ok(None);
+        };
+        let Some(edge) = index_at(value, "edge") else {
+            return Ok(None);
+        };
+        let Some(low) = trace_at(alloc, value, "low")? else {
+            return Ok(None);
+        };
+        let Some(rate) = frac_at(value, "rate") else {
+            return Ok(None);
+        };
+        let Some(unknown) = unknown_at(rows, value) else {
+            return Ok(None);
+        };
+        Ok(Some(RayItem {
+            unknown,
+            edge,
+            low,
+            direction,
+            rate,
+        }))
+    }
+
+    fn write(&self, alloc: Global, rows: usize) -> Result<Value, AllocError> {
+        let direction = trace_value(alloc, &self.direction)?;
+        let low = trace_value(alloc, &self.low)?;
+        let rate = frac_value(alloc, self.rate)?;
+        let unknown = unknown_value(alloc, rows, self.unknown)?;
+        ray_item_object(alloc, direction, self.edge, low, rate, unknown)
+    }
 }

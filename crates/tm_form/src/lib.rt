@@ -4,7 +4,6 @@
 mod bounds;
 mod entry;
 mod fault;
-mod item_entries;
 mod items;
 mod keys;
 mod law;
