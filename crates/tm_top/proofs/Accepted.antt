@@ -20,7 +20,7 @@ use Rattle.tm_top.proofs.Solved.{least_report, same_equations}
 use Rattle.tm_top.specs.declared.refusal.Refusal.{Refusal}
 
 -- the vector of a certificate's bounds is that of its list
-bounds_are : (system : Equations) (bounds : List Ext) → bounds_vector system bounds ≡ vector_of (length system.template) bounds
+pub bounds_are : (system : Equations) (bounds : List Ext) → bounds_vector system bounds ≡ vector_of (length system.template) bounds
 unfolding bounds_vector
 bounds_are system bounds = refl
 

@@ -14,13 +14,12 @@ use Rattle.tm_workload.specs.Bodies.{generated_body, generated_names}
 use Rattle.tm_eqsys.specs.View.{vector_of}
 pub use Rattle.tm_top.specs.Given.{Tells, IsOfRounds, Answered, unwritten, widened, unless}
 use Rattle.tm_top.specs.Endings.{BenchEnd, CheckEnd, Ends, InputsEnd, IsAnswerTo, IsGenerated, IsSpotFor, TextsEnd}
-use Rattle.tm_top.specs.Files.{AreChecked, AreInputs, HasContent, HasProgram, HasShortProgram, HasShortRows, IsLongAfter, IsLongProgram, IsShort, IsTold, IsWithText}
+use Rattle.tm_top.specs.Files.{AreChecked, AreInputs, HasContent, HasProgram, HasShortProgram, HasShortRows, IsLongAfter, IsLongProgram, IsShort, IsTold, IsWithText, Request, rows_file}
 use Rattle.tm_top.specs.Parted.{IsAnswerToBench, IsAnswerToCheck, IsAnswerToTexts}
 use Rattle.tm_top.proofs.OneChain.{solved_rounds}
 use Rattle.tm_top.specs.Rounds.{EndsWithin, RunsOut}
 use Rattle.tm_top.specs.Reports.{IsReportOn}
-use Rattle.tm_top.specs.Request.{Request, rows_file}
-use Rattle.tm_top.specs.Run.{FailedBefore, OutputHolds, Unless}
+use Rattle.tm_top.specs.Run.{FailedBefore, OutputHolds}
 use Rattle.tm_top.proofs.CheckOnce.{CheckEnds, check_ends_once, check_staged}
 use Rattle.tm_top.proofs.Once.{TextEnds, not_both_ways, ready_rounds, staged, text_ends_once}
 use Rattle.tm_cli.specs.declared.request.Purpose.{Purpose}

@@ -1,3 +1,4 @@
+pub mod Lines
 pub mod Pieces
 pub mod Joined
 pub mod Messages
@@ -19,4 +20,7 @@ pub mod Made
 pub mod Worded
 pub mod Loaded
 pub mod Plain
+pub mod Meant
+pub mod Put
+pub mod Lawful
 pub mod Headlined

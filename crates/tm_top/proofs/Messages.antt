@@ -6,45 +6,34 @@ use Rattle.std.proofs.Math.Seq.{take-length}
 use Rattle.tm_io.specs.Puts.{AddsPieces, HasPutCause, Puts, Takes, as_pieces}
 use Rattle.tm_io.specs.declared.sink.PutFault.{PutFault}
 use Rattle.tm_io.specs.declared.sink.PutFault.TheVariants.{Failed, NoMemory}
-use Rattle.tm_top.specs.Run.{ErrorsHold, GetsMessage, IsInOnePiece}
 use Rattle.tm_top.specs.Messages.{message_of}
+use Rattle.tm_top.specs.Outputs.{GetsMessage, IsInOnePiece}
 use Rattle.tm_top.specs.declared.status.Status.{Status}
-use Rattle.tm_top.specs.declared.status.Status.TheVariants.{Done, Certificate, Usage, Read, Text, Wide, Spent, Memory, Write}
+use Rattle.tm_top.specs.declared.status.Status.TheVariants.{Done}
 
-gets : (message : List ℕ) (held now : Option (List ℕ)) (f f' s : ℕ) (r : Result (Unit {0}) PutFault)
-    → length message ≤ 512 → Puts held now message r → HasPutCause f f' s message r → GetsMessage message held now f f' s
-gets message held now f f' s (Ok x) short puts cause =
+gets : (status : Status) (message : List ℕ) (held now : Option (List ℕ)) (f f' s : ℕ) (r : Result (Unit {0}) PutFault)
+    → status ≢ Done → length message ≤ 512 → Puts held now message r → HasPutCause f f' s message r → GetsMessage status message held now f f' s
+gets status message held now f f' s (Ok x) other short puts cause =
     record {
-      part = (length message, subst (λ m. Appends held now m) (sym (take-length message)) puts);
-      whole = λ room calm. puts;
+      silent = λ e. absurd (other e);
+      part = λ n. (length message, subst (λ m. Appends held now m) (sym (take-length message)) puts);
+      whole = λ n room calm. puts;
     }
-gets message held now f f' s (Err Failed) short puts cause =
-    record { part = puts; whole = λ room calm. absurd (calm cause) }
-gets message held now f f' s (Err NoMemory) short puts cause =
-    record { part = puts; whole = λ room calm. let small = cause.0 in absurd (omega arith) }
-
-told : (line rows : ℕ) (status : Status) (held now : Option (List ℕ)) (f f' s : ℕ)
-    → status ≢ Done → GetsMessage (message_of line rows status) held now f f' s → ErrorsHold line rows status held now f f' s
-told line rows Done held now f f' s other m = absurd (other refl)
-told line rows (Certificate cause) held now f f' s other m = m
-told line rows Usage held now f f' s other m = m
-told line rows (Read cause) held now f f' s other m = m
-told line rows (Text cause) held now f f' s other m = m
-told line rows (Wide spot) held now f f' s other m = m
-told line rows (Spent n) held now f f' s other m = m
-told line rows Memory held now f f' s other m = m
-told line rows Write held now f f' s other m = m
+gets status message held now f f' s (Err Failed) other short puts cause =
+    record { silent = λ e. absurd (other e); part = λ n. puts; whole = λ n room calm. absurd (calm cause) }
+gets status message held now f f' s (Err NoMemory) other short puts cause =
+    record { silent = λ e. absurd (other e); part = λ n. puts; whole = λ n room calm. let small = cause.0 in absurd (omega arith) }
 
 -- a run that is done puts no message
-pub quiet : (line rows : ℕ) (status : Status) (held : Option (List ℕ)) (f f' s : ℕ) → status ≡ Done → ErrorsHold line rows status held held f f' s
-quiet line rows status held f f' s e = subst (λ x. ErrorsHold line rows x held held f f' s) (sym e) refl
+pub quiet : (status : Status) (message : List ℕ) (held : Option (List ℕ)) (f f' s : ℕ) → status ≡ Done → GetsMessage status message held held f f' s
+quiet status message held f f' s e = record { silent = λ i. refl; part = λ other. absurd (other e); whole = λ other. absurd (other e) }
 
 -- the bytes of a message were put
 pub told_by : (line rows : ℕ) (status : Status) (bytes message : List ℕ) (held now : Option (List ℕ)) (f f' s : ℕ) (r : Result (Unit {0}) PutFault)
-    → bytes ≡ message → message ≡ message_of line rows status → length bytes ≤ 512 → status ≢ Done → Puts held now bytes r → HasPutCause f f' s bytes r → ErrorsHold line rows status held now f f' s
+    → bytes ≡ message → message ≡ message_of line rows status → length bytes ≤ 512 → status ≢ Done → Puts held now bytes r → HasPutCause f f' s bytes r
+    → GetsMessage status (message_of line rows status) held now f f' s
 told_by line rows status bytes message held now f f' s r e i short other puts cause =
-    told line rows status held now f f' s other
-    (subst (λ m. GetsMessage m held now f f' s) i (subst (λ m. GetsMessage m held now f f' s) e (gets bytes held now f f' s r short puts cause)))
+    subst (λ m. GetsMessage status m held now f f' s) (e ∙ i) (gets status bytes held now f f' s r other short puts cause)
 
 -- and were taken in one piece, if at all
 pub one_piece : (line rows : ℕ) (status : Status) (bytes message : List ℕ) (taken now : Option (List (List ℕ))) (r : Result (Unit {0}) PutFault)

@@ -1,9 +1,11 @@
 -- A text that is put piece by piece.
-use Rattle.std.proofs.Common.{◌≡◌, ◌≤◌, ◌+◌, ℕ, List, [], ◌++◌, Option, length, take, min, refl, sym, ap, ◌∙◌, subst, arith, append_assoc, append-nil, length-append}
+use Rattle.std.proofs.Common.{◌≡◌, ◌≤◌, ◌<◌, ◌+◌, ℕ, List, [], ◌∷◌, ◌++◌, Option, Some, None, length, take, min, refl, sym, ap, ◌∙◌, subst, arith, append_assoc, append-nil, length-append}
 use Rattle.std.specs.Io.KnownBytes.{Appends}
 use Rattle.std.proofs.KnownBytes.{Appends-nil, Appends-trans}
 use Rattle.std.proofs.lemmas.List.{take-append-le, take_min}
 use Rattle.std.proofs.Math.Seq.{take-append-add}
+use Rattle.tm_io.specs.Puts.{AddsPieces, as_pieces}
+use Rattle.tm_top.specs.Outputs.{lines_of}
 
 -- what stands before the rest of the text was appended, and the sink kept its promises over it
 pub record HasPut (held now : Option (List ℕ)) (faults faults_now spare spare_now : ℕ) (text rest : List ℕ) : Type 0 where
@@ -48,3 +50,40 @@ part_put held now next f f' s s' text rest line others n h cut part = (
       (sym (ap (λ t. take (length h.front + min n (length line)) t) (h.whole ∙ ap (λ r. h.front ++ r) cut) ∙ take_front n h.front line others))
       (Appends-trans held now next h.front (take n line) h.appended part),
 )
+
+-- ---- the pieces that were taken
+
+adds_nil : (taken : Option (List (List ℕ))) → AddsPieces taken taken []
+adds_nil None = tt
+adds_nil (Some old) = sym (append-nil old)
+
+adds_trans : (taken now next : Option (List (List ℕ))) (p q : List (List ℕ)) → AddsPieces taken now p → AddsPieces now next q → AddsPieces taken next (p ++ q)
+adds_trans None now next p q h k = tt
+adds_trans (Some old) None next p q h k = absurd h
+adds_trans (Some old) (Some mid) None p q h k = absurd k
+adds_trans (Some old) (Some mid) (Some new) p q h k = k ∙ ap (λ x. x ++ q) h ∙ append_assoc old p q
+
+whole_piece : (line : List ℕ) → 0 < length line → as_pieces line ≡ line ∷ []
+whole_piece [] h = absurd (omega arith)
+whole_piece (byte ∷ line) h = refl
+
+-- the lines before the rest of the text were taken, each as a piece
+pub record HasTaken (taken now : Option (List (List ℕ))) (text rest : List ℕ) : Type 0 where
+  pub lines : List (List ℕ)
+  pub cut : lines_of text ≡ lines ++ lines_of rest
+  pub added : AddsPieces taken now lines
+
+pub none_taken : (taken : Option (List (List ℕ))) (text : List ℕ) → HasTaken taken taken text text
+none_taken taken text = record { lines = []; cut = refl; added = adds_nil taken }
+
+pub next_taken : (taken now next : Option (List (List ℕ))) (text rest line others : List ℕ) → HasTaken taken now text rest → lines_of rest ≡ line ∷ lines_of others → 0 < length line
+    → AddsPieces now next (as_pieces line) → HasTaken taken next text others
+next_taken taken now next text rest line others h cut some takes = record {
+  lines = h.lines ++ (line ∷ []);
+  cut = h.cut ∙ ap (λ ls. h.lines ++ ls) cut ∙ sym (append_assoc h.lines (line ∷ []) (lines_of others));
+  added = adds_trans taken now next h.lines (line ∷ []) h.added (subst (λ ps. AddsPieces now next ps) (whole_piece line some) takes);
+}
+
+pub all_taken : (taken now : Option (List (List ℕ))) (text rest : List ℕ) → HasTaken taken now text rest → rest ≡ [] → AddsPieces taken now (lines_of text)
+all_taken taken now text rest h none =
+    subst (λ ls. AddsPieces taken now ls) (sym (h.cut ∙ ap (λ r. h.lines ++ lines_of r) none ∙ append-nil h.lines)) h.added

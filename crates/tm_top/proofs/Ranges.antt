@@ -16,7 +16,7 @@ use Rattle.tm_cli.specs.declared.request.Request.{Request}
 use Rattle.tm_cli.specs.declared.request.Request.TheVariants.{Analyse, Check, Bench}
 use Rattle.tm_cli.specs.declared.request.Purpose.{Purpose}
 use Rattle.tm_cli.specs.declared.request.Purpose.TheVariants.{Report, Certificate}
-use Rattle.tm_top.specs.Request.{IsInRange}
+use Rattle.tm_top.specs.Files.{IsInRange}
 
 none_some : {A : Type 0} (b : A) → None ≡ Some b → ⊥
 none_some b e = cc

@@ -21,7 +21,7 @@ use Rattle.tm_cli.specs.declared.request.Domain.{Domain}
 use Rattle.tm_top.specs.Checks.{IsFormFault, IsSpelt, IsSystemWith, system_with, theirs}
 use Rattle.tm_top.specs.CheckMessages.{rows_in}
 use Rattle.tm_top.specs.Messages.{line_in}
-use Rattle.tm_top.specs.Parted.{GetsNoReport, IsAnswerToCheck, IsNoSystem, IsRefusedBy, IsUnaccepted, IsUnread, IsUnspelt, PutsReport, failed, refused, wanting, whole}
+use Rattle.tm_top.specs.Parted.{AreUnloaded, GetsNoReport, IsAnswerToCheck, IsNoSystem, IsRefusedBy, IsUnaccepted, IsUnread, IsUnspelt, PutsReport, failed, refused, wanting, whole}
 use Rattle.tm_top.specs.Reports.{IsReportBy}
 use Rattle.tm_top.specs.Run.{OutputHolds}
 use Rattle.tm_io.specs.Faults.{Rose}
@@ -33,6 +33,18 @@ use Rattle.tm_top.specs.declared.status.TextCause.TheVariants as text
 use Rattle.tm_top.specs.declared.status.CertCause.TheVariants.{Form, Rows, Unknowns, Check}
 use Rattle.tm_top.specs.declared.status.Status.{Status}
 use Rattle.tm_top.specs.declared.status.Status.TheVariants.{Done, Memory, Write}
+
+-- ---- no refusal is done
+
+pub not_done : (r : Refusal) (s : Status) → s ≡ refused r → s ≡ Done → ⊥
+not_done (refusal.Text cause) s e d = cc
+not_done (refusal.Certificate cause) s e d = cc
+not_done (refusal.Wide spot) s e d = cc
+not_done (refusal.Spent number) s e d = cc
+not_done refusal.NoMemory s e d = cc
+
+pub unloaded_not_done : (s : Status) → AreUnloaded s → s ≡ Done → ⊥
+unloaded_not_done s h d = subst AreUnloaded d h
 
 -- ---- the text of a program
 

@@ -2,31 +2,17 @@
 use Rattle.std.proofs.Common.{◌≡◌, ◌<◌, ◌⊎◌, inl, inr, ⊎_elim, ℕ, List, refl, sym, ap, ◌∙◌, subst}
 use Rattle.std.specs.Prelude.{Option, Some, None, option_and_then}
 use Rattle.tm_io.specs.Files.{Contents}
-use Rattle.tm_eqsys.specs.declared.spot.Spot.{Spot}
-use Rattle.tm_eqsys.specs.View.{equations_of}
-use Rattle.tm_strategy.specs.PickCount.{pick_count}
-use Rattle.tm_cli.specs.declared.request.Policy.TheVariants.{Best}
-use Rattle.tm_top.proofs.OneChain.{runs_few}
 use Rattle.tm_cli.specs.Request.{request_of}
-use Rattle.tm_top.specs.Endings.{Ends, HasMorePicks, IsAnswerTo, IsAnswerToRequest, IsAnswerToWords, IsSpotFor}
-use Rattle.tm_cli.specs.declared.request.Analysis.{Analysis}
-use Rattle.tm_cli.specs.declared.request.Domain.{Domain}
-use Rattle.tm_cli.specs.declared.request.Purpose.{Purpose}
-use Rattle.tm_top.specs.Spots.{IsSpotIn}
+use Rattle.tm_top.specs.Endings.{Ends, IsAnswerTo, IsAnswerToRequest, IsAnswerToWords}
 use Rattle.tm_top.specs.Given.{Gives, HasEnding}
-use Rattle.tm_top.specs.Files.{AreInputs, HasProgram, IsTold}
+use Rattle.tm_top.specs.Files.{HasProgram, IsTold, Request, file_in, file_named}
 use Rattle.tm_top.specs.Messages.{line_in}
+use Rattle.tm_top.specs.Outputs.{IsTaken, pieces_of}
 use Rattle.tm_top.specs.Reports.{IsReportFor, IsReportOn}
-use Rattle.tm_top.specs.Request.{Request, file_in, file_named}
-use Rattle.tm_top.specs.Run.{FailsOnlyIn, HasFailed, IsLine, IsRowCount, IsRowCountIn, IsWide, OutputHolds, Refuses, RefusesUnlessWide, Unless}
-use Rattle.tm_cli.specs.declared.request.Request.TheVariants.{Analyse, Check, Bench}
-use Rattle.tm_top.proofs.Answered.{Answered, IsOfRounds, Tells, answered_when, content_once, ends_once, nothing_put, tells, unless, unwritten, widened, with_text_once}
+use Rattle.tm_top.specs.Run.{FailsOnlyIn, HasFailed, IsLine, IsRowCount, IsRowCountIn, OutputHolds, Refuses}
+use Rattle.tm_top.proofs.Answered.{Tells, answered_when, nothing_put}
 use Rattle.tm_top.specs.declared.status.Which.{Which}
-use Rattle.tm_top.specs.declared.status.Which.TheVariants.{Program, Rows, Certificate as CertificateFile}
-use Rattle.tm_top.specs.declared.status.ReadCause.{ReadCause}
 use Rattle.tm_top.specs.declared.status.ReadCause.TheVariants.{Failed}
-use Rattle.tm_top.specs.declared.status.CertCause.{CertCause}
-use Rattle.tm_top.specs.declared.status.TextCause.{TextCause}
 use Rattle.tm_top.specs.declared.status.Status.{Status}
 use Rattle.tm_top.specs.declared.status.Status.TheVariants.{Done, Certificate, Usage, Read, Text, Wide, Spent, Memory, Write}
 
@@ -70,83 +56,12 @@ memory_words files words status e = subst (λ s. IsAnswerToWords files words s) 
 
 -- ---- what stands is answered
 
-not_rounds : (files : Option Contents) (a : Request) (wanted status : Status) → (wanted ≡ Done → ⊥) → (IsOfRounds wanted → ⊥) → Answered files a wanted status → Unless wanted status
-not_rounds files a wanted status other calm (unwritten w d) = absurd (other d)
-not_rounds files a wanted status other calm (widened spot e h r) = absurd (calm r)
-not_rounds files a wanted status other calm (unless u) = u
-
-or_wide : (files : Option Contents) (a : Request) (wanted status : Status) → (wanted ≡ Done → ⊥) → Answered files a wanted status → IsWide status ⊎ Unless wanted status
-or_wide files a wanted status other (unwritten w d) = absurd (other d)
-or_wide files a wanted status other (widened spot e h r) = inl (spot, e)
-or_wide files a wanted status other (unless u) = inr u
-
 kept : (files : Option Contents) (words : List (List ℕ)) (a : Request) (wanted status : Status) (held now : Option (List ℕ)) → request_of words ≡ Some a → Tells files a
     → IsAnswerToWords files words status → OutputHolds (IsReportFor files words) status held now → Ends files a wanted → (wanted ≡ Done → ⊥) → now ≡ held
 kept files words a wanted status held now e told h o k other =
     nothing_put files a wanted status held now told (to_request files words a status e h)
     (output_map (IsReportFor files words) (IsReportOn files a) status held now
     (λ bytes r. subst (λ x. IsReportOn files x bytes) (same_request (request_of words) a r.0 e r.1) r.2) o) k other
-
-pub refuses : (files : Option Contents) (words : List (List ℕ)) (a : Request) (wanted status : Status) (held now : Option (List ℕ)) → request_of words ≡ Some a → IsTold files
-    → IsAnswerToWords files words status → OutputHolds (IsReportFor files words) status held now → Ends files a wanted → (wanted ≡ Done → ⊥) → (IsOfRounds wanted → ⊥) → Refuses wanted status held now
-refuses files words a wanted status held now e told h o k other calm =
-    record {
-      answer = not_rounds files a wanted status other calm (answered_when files a wanted status (tells files a told) (to_request files words a status e h) k);
-      unchanged = kept files words a wanted status held now e (tells files a told) h o k other;
-    }
-
-pub refuses_or_wide : (files : Option Contents) (words : List (List ℕ)) (a : Request) (wanted status : Status) (held now : Option (List ℕ)) → request_of words ≡ Some a → Tells files a
-    → IsAnswerToWords files words status → OutputHolds (IsReportFor files words) status held now → Ends files a wanted → (wanted ≡ Done → ⊥) → RefusesUnlessWide wanted status held now
-refuses_or_wide files words a wanted status held now e told h o k other =
-    record {
-      answer = or_wide files a wanted status other (answered_when files a wanted status told (to_request files words a status e h) k);
-      unchanged = kept files words a wanted status held now e told h o k other;
-    }
-
-done_or_memory : (files : Option Contents) (a : Request) (status : Status) → ((spot : Spot) → IsSpotFor files a spot → ⊥) → (status ≡ Write → ⊥) → ((which : Which) → status ≡ Read (Failed which) → ⊥)
-    → Answered files a Done status → (status ≡ Done) ⊎ (status ≡ Memory)
-done_or_memory files a status spots put read (unwritten w d) = absurd (put w)
-done_or_memory files a status spots put read (widened spot e h r) = absurd (spots spot h)
-done_or_memory files a status spots put read (unless u) = ⊎_elim (λ d. inl d) (λ v. ⊎_elim (λ m. inr m) (λ f. absurd (read f.0 f.1)) v) u
-
-pub completes : (files : Option Contents) (words : List (List ℕ)) (a : Request) (status : Status) → request_of words ≡ Some a → Tells files a → IsAnswerToWords files words status
-    → Ends files a Done → ((spot : Spot) → IsSpotFor files a spot → ⊥) → (status ≡ Write → ⊥) → ((which : Which) → status ≡ Read (Failed which) → ⊥) → (status ≡ Done) ⊎ (status ≡ Memory)
-completes files words a status e told h k spots put read =
-    done_or_memory files a status spots put read (answered_when files a Done status told (to_request files words a status e h) k)
-
--- a certificate that is accepted has no wide operation
-pub accepted_spot : (files : Option Contents) (p c : List ℕ) (spot : Spot) → IsTold files → Ends files (Check p c) Done → IsSpotFor files (Check p c) spot → ⊥
-accepted_spot files p c spot told k h = done_wide (ends_once files (Check p c) Done (Wide spot) told k h)
-  where
-    done_wide : Done ≡ Wide spot → ⊥
-    done_wide e = cc
-
--- where no spot stands in the texts, none does in the request that reads them
-pub spots_in : (files : Option Contents) (purpose : Purpose) (a : Analysis (List ℕ)) (text : List ℕ) (rows : Domain (List ℕ)) → IsTold files → AreInputs files a text rows
-    → ((spot : Spot) → IsSpotIn purpose text rows a.policy a.improvements spot → ⊥) → (spot : Spot) → IsSpotFor files (Analyse purpose a) spot → ⊥
-spots_in files purpose a text rows told i spots spot (other, given, j, h) =
-    spots spot (subst (λ r. IsSpotIn purpose text r a.policy a.improvements spot) (with_text_once files a.domain given rows told j.rows_are i.rows_are)
-    (subst (λ x. IsSpotIn purpose x given a.policy a.improvements spot) (content_once files a.program other text told j.program i.program) h))
-
--- a generated program reads no file
-pub bench_reads : (files : Option Contents) (words : List (List ℕ)) (seed loops : ℕ) (status : Status) → request_of words ≡ Some (Bench seed loops) → IsAnswerToWords files words status
-    → (which : Which) → status ≡ Read (Failed which) → ⊥
-bench_reads files words seed loops status e h which i = by which (subst (λ s. IsAnswerTo files (Bench seed loops) s) i (to_request files words (Bench seed loops) status e h))
-  where
-    by : (which : Which) → IsAnswerTo files (Bench seed loops) (Read (Failed which)) → ⊥
-    by Program x = x
-    by Rows x = x.program
-    by CertificateFile x = x.program
-
--- improvements that are spent are fewer than the picks
-pub more_picks : (files : Option Contents) (words : List (List ℕ)) (a : Request) (status : Status) (n : ℕ) → request_of words ≡ Some a → IsAnswerToWords files words status → status ≡ Spent n → HasMorePicks files a n
-more_picks files words a status n e h i = by a (subst (λ s. IsAnswerTo files a s) i (to_request files words a status e h))
-  where
-    by : (a : Request) → IsAnswerTo files a (Spent n) → HasMorePicks files a n
-    by (Analyse purpose analysis) (text, rows, j, ((system, y, o), k)) =
-        (text, rows, system, j, y, subst (λ m. m < pick_count (equations_of system)) (sym k) (runs_few system analysis.policy analysis.improvements o))
-    by (Check p c) x = absurd x.3
-    by (Bench seed loops) (system, is, o, k) = (system, is, subst (λ m. m < pick_count (equations_of system)) (sym k) (runs_few system Best 1000 o))
 
 -- words that ask for no request put nothing
 unasked : (files : Option Contents) (words : List (List ℕ)) (status : Status) (held now : Option (List ℕ)) → request_of words ≡ None → OutputHolds (IsReportFor files words) status held now → now ≡ held
@@ -168,15 +83,6 @@ refuses_words files words status held now e h o =
       answer = ⊎_elim (λ u. inl u) (λ m. inr (inl m)) answer;
       unchanged = unasked files words status held now e o;
     }
-
--- ---- the usage
-
-usage_request : (files : Option Contents) (x : Option Request) → IsAnswerToRequest files x Usage → x ≡ None
-usage_request files None h = refl
-usage_request files (Some a) h = absurd h
-
-pub usage_only : (files : Option Contents) (words : List (List ℕ)) (status : Status) → IsAnswerToWords files words status → status ≡ Usage → request_of words ≡ None
-usage_only files words status h e = (usage_request files (request_of words) (subst (λ s. IsAnswerToWords files words s) e h))
 
 -- ---- a file that failed
 
@@ -204,31 +110,18 @@ rows_for files words a status rows e h b i = subst (λ x. IsRowCountIn files x s
 pub no_rows : (files : Option Contents) (words : List (List ℕ)) (status : Status) (rows : ℕ) → request_of words ≡ None → IsRowCount files words status rows
 no_rows files words status rows e b i = absurd (no_request (request_of words) b e i)
 
--- ---- done
-
-pub done_output : (P : List ℕ → Type 0) (status : Status) (held now : Option (List ℕ)) → status ≡ Done → OutputHolds P status held now → OutputHolds P Done held now
-done_output P status held now e o = subst (λ s. OutputHolds P s held now) e o
-
-pub not_done_read : (cause : ReadCause) → Read cause ≡ Done → ⊥
-not_done_read cause e = cc
-
-pub not_done_text : (cause : TextCause) → Text cause ≡ Done → ⊥
-not_done_text cause e = cc
-
-pub not_done_spent : (n : ℕ) → Spent n ≡ Done → ⊥
-not_done_spent n e = cc
-
-pub not_done_certificate : (cause : CertCause) → Certificate cause ≡ Done → ⊥
-not_done_certificate cause e = cc
-
-pub not_done_wide : (spot : Spot) → Wide spot ≡ Done → ⊥
-not_done_wide spot e = cc
-
 -- an ending that stands is given
-pub gives : (files : Option Contents) (words : List (List ℕ)) (status : Status) (held now : Option (List ℕ)) → IsAnswerToWords files words status → OutputHolds (IsReportFor files words) status held now
+pub ending_given : (files : Option Contents) (words : List (List ℕ)) (status : Status) (held now : Option (List ℕ)) → IsAnswerToWords files words status → OutputHolds (IsReportFor files words) status held now
     → (a : Request) (wanted : Status) → HasEnding files words a wanted → Gives files a wanted status held now
-gives files words status held now h o a wanted k =
+ending_given files words status held now h o a wanted k =
     record {
       answer = answered_when files a wanted status k.told (to_request files words a status k.asked h) k.ends;
       unchanged = λ other. kept files words a wanted status held now k.asked k.told h o k.ends other;
     }
+
+-- ---- the pieces
+
+pub pieces_for : (words : List (List ℕ)) (a : Request) (held held_now : Option (List ℕ)) (taken taken_now : Option (List (List ℕ))) → request_of words ≡ Some a
+    → IsTaken (pieces_of a) held held_now taken taken_now → (request : Request) → request_of words ≡ Some request → IsTaken (pieces_of request) held held_now taken taken_now
+pieces_for words a held held_now taken taken_now e h request i =
+    subst (λ r. IsTaken (pieces_of r) held held_now taken taken_now) (sym (same_request (request_of words) a request e i)) h

@@ -108,8 +108,10 @@ part_text Reading = codes " reading"
 
 abbrev pub site_text : (rows round : ℕ) → Site → List ℕ
 site_text rows round (site.Compose edge) = numbered (codes "compose edge ") edge
-site_text rows round (site.Offer edge row part) = numbered (codes "offer edge ") edge ++ numbered (codes " row ") row ++ part_text part ++ numbered (codes " in round ") round
-site_text rows round (site.Growth edge row part) = numbered (codes "growth edge ") edge ++ numbered (codes " row ") row ++ part_text part ++ numbered (codes " in round ") round
+site_text rows round (site.Offer edge row part) =
+    numbered (codes "offer edge ") edge ++ numbered (codes " row ") row ++ part_text part ++ numbered (codes " in round ") round
+site_text rows round (site.Growth edge row part) =
+    numbered (codes "growth edge ") edge ++ numbered (codes " row ") row ++ part_text part ++ numbered (codes " in round ") round
 site_text rows round (site.Joint turn part) = numbered (codes "joint ") turn ++ part_text part ++ numbered (codes " in round ") round
 site_text rows round (site.Raise raise) = numbered (codes "raise ") raise ++ numbered (codes " in round ") round
 site_text rows round (site.Step step item) = numbered (codes "step ") step ++ numbered (codes " item ") item
@@ -117,7 +119,8 @@ site_text rows round (site.Upper unknown edge) = unknown_text (codes "upper poin
 
 -- an operation, its two operands, and the site
 abbrev pub spot_text : ℕ → Spot → List ℕ
-spot_text rows spot = op_text spot.wide.op ++ frac_text spot.wide.left ++ codes " " ++ frac_text spot.wide.right ++ codes " at " ++ site_text rows spot.round spot.site
+spot_text rows spot =
+    op_text spot.wide.op ++ frac_text spot.wide.left ++ codes " " ++ frac_text spot.wide.right ++ codes " at " ++ site_text rows spot.round spot.site
 
 abbrev pub check_text : ℕ → CheckFault → List ℕ
 check_text rows check.Size = codes "size"

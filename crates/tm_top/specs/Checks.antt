@@ -1,15 +1,15 @@
--- What the text of a program and the bytes of a certificate are: a valid certificate of the program, or refused by a cause, or a number is wide on the way. The program comes
--- first, then the certificate, its rows, the unknowns, the composition of the edges, and the tests.
-use Rattle.std.specs.Prelude.{◌≡◌, ◌≤◌, ◌<◌, ◌⊎◌, ℕ, List, [], Err, Some, None, length, slice_get}
+-- What the text of a program and the bytes of a certificate are: a valid certificate of the program, or refused by a cause, or a number is wide on the way.
+-- The program comes first, then the certificate, its rows, the unknowns, the composition of the edges, and the tests.
+use Rattle.std.specs.Prelude.{◌≡◌, ◌≤◌, ◌<◌, ◌⊎◌, ℕ, ℤ, List, [], Err, Some, None, length, slice_get}
 use Rattle.tm_frac.specs.Fits.{long_limit}
 use Rattle.tm_frac.specs.Operation.{first_wide, operation_of}
 use Rattle.tm_tree.specs.Tree.{Statements}
 use Rattle.tm_rows.specs.RowFaults.{faults_of}
 use Rattle.tm_eqsys.specs.declared.spot.Spot.{Spot}
 use Rattle.tm_eqsys.specs.declared.spot.Site.TheVariants.{Compose}
-use Rattle.tm_eqsys.specs.Equations.{Equations}
+use Rattle.tm_eqsys.specs.Equations.{Equations, Vector}
 use Rattle.tm_eqsys.specs.Solutions.{equations_of_program}
-use Rattle.tm_validity.specs.Certificates.{Certificate, ValidCertificate}
+use Rattle.tm_validity.specs.Certificates.{Certificate, ValidCertificate, bounds_vector}
 use Rattle.tm_validity.specs.Faults.{Fault, certificate_fault}
 use Rattle.tm_cert.specs.Certificates.{certificate_of}
 use Rattle.tm_cert.specs.declared.cert.Cert.{Cert}
@@ -66,7 +66,8 @@ pub record NoneIsWide (system : Equations) (certificate : Certificate) : Type 0 
 -- the bytes are accepted for the text
 abbrev pub IsAccepted : List ℕ → List ℕ → Type 0
 IsAccepted text bytes =
-    (names : List (List ℕ)) × (body : Statements) × (cert : Cert) × IsValidFor text bytes names body cert × NoneIsWide (system_with names body cert) (theirs cert)
+    (names : List (List ℕ)) × (body : Statements) × (cert : Cert)
+    × IsValidFor text bytes names body cert × NoneIsWide (system_with names body cert) (theirs cert)
 
 -- this is the first failing test of the certificate, and no operation before it is wide
 pub record StopsAt (system : Equations) (certificate : Certificate) (fault : Fault) : Type 0 where
@@ -82,12 +83,14 @@ IsStopped system certificate answer = (fault : Fault) × (answer ≡ fault_answe
 abbrev pub IsRefusedCertificate : List ℕ → List ℕ → CertCause → Type 0
 IsRefusedCertificate text bytes (Form fault) = (names : List (List ℕ)) × (body : Statements) × IsAnalysed text names body × IsFormFault bytes fault
 IsRefusedCertificate text bytes (Rows fault) =
-    (names : List (List ℕ)) × (body : Statements) × (cert : Cert) × IsSpelt text bytes names body cert × (slice_get (faults_of (length names) cert.rows) 0 ≡ Some fault)
+    (names : List (List ℕ)) × (body : Statements) × (cert : Cert) × IsSpelt text bytes names body cert
+    × (slice_get (faults_of (length names) cert.rows) 0 ≡ Some fault)
 IsRefusedCertificate text bytes (Unknowns count) =
     (names : List (List ℕ)) × (body : Statements) × (cert : Cert) × IsSpelt text bytes names body cert × (faults_of (length names) cert.rows ≡ [])
     × (1024 < unknowns body cert.rows) × (count ≡ unknowns body cert.rows)
 IsRefusedCertificate text bytes (Check fault) =
-    (names : List (List ℕ)) × (body : Statements) × (cert : Cert) × IsSystemWith text bytes names body cert × IsStopped (system_with names body cert) (theirs cert) fault
+    (names : List (List ℕ)) × (body : Statements) × (cert : Cert) × IsSystemWith text bytes names body cert
+    × IsStopped (system_with names body cert) (theirs cert) fault
 
 -- the spot is that of the first wide operation of the composition
 pub record IsCompositionSpot (system : Equations) (spot : Spot) : Type 0 where
@@ -106,3 +109,17 @@ abbrev pub IsWideAt : List ℕ → List ℕ → Spot → Type 0
 IsWideAt text bytes spot =
     (names : List (List ℕ)) × (body : Statements) × (cert : Cert) × IsSystemWith text bytes names body cert
     × (IsCompositionSpot (system_with names body cert) spot ⊎ IsCheckSpot (system_with names body cert) (theirs cert) spot)
+
+-- the bytes are accepted for the text, by this program, with these rows and this vector of bounds
+pub record IsAcceptedWith (text bytes : List ℕ) (names : List (List ℕ)) (body : Statements) (rows : List (List ℤ)) (vector : Vector) : Type 0 where
+  pub cert : Cert
+  pub rows_are : cert.rows ≡ rows
+  pub vector_is : bounds_vector (system_with names body cert) cert.bounds ≡ vector
+  pub valid : IsValidFor text bytes names body cert
+  pub narrow : NoneIsWide (system_with names body cert) (theirs cert)
+
+-- the bytes spell a certificate with so many rows
+pub record HasRowCount (bytes : List ℕ) (count : ℕ) : Type 0 where
+  pub cert : Cert
+  pub spells : SpellsCert bytes cert
+  pub count_is : count ≡ length cert.rows

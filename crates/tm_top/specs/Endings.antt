@@ -1,22 +1,19 @@
 -- How a run ends, by the texts that it reads: the first cause in order decides.
-use Rattle.std.specs.Prelude.{◌≡◌, ◌<◌, ◌⊎◌, ℕ, List, Option, Some, None}
+use Rattle.std.specs.Prelude.{◌≡◌, ◌⊎◌, ℕ, List, Option, Some, None}
 use Rattle.tm_io.specs.Files.{Contents}
 use Rattle.tm_rows.specs.Domains.{intervals_of}
 use Rattle.tm_eqsys.specs.declared.spot.Spot.{Spot}
 use Rattle.tm_eqsys.specs.declared.system.System.{System}
-use Rattle.tm_eqsys.specs.View.{equations_of}
-use Rattle.tm_strategy.specs.PickCount.{pick_count}
 use Rattle.tm_workload.specs.Bodies.{generated_body, generated_names}
 use Rattle.tm_cli.specs.declared.request.Domain.{Domain}
 use Rattle.tm_cli.specs.declared.request.Policy.{Policy}
 use Rattle.tm_cli.specs.declared.request.Policy.TheVariants.{Best}
 use Rattle.tm_top.specs.Checks.{IsAccepted, IsRefusedCertificate, IsWideAt}
-use Rattle.tm_top.specs.Files.{AreChecked, AreInputs, IsReached, IsTooLong}
+use Rattle.tm_top.specs.Files.{AreChecked, AreInputs, IsReached, IsTooLong, Request}
 use Rattle.tm_cli.specs.Request.{request_of}
-use Rattle.tm_top.specs.Request.{Request}
 use Rattle.tm_top.specs.Rounds.{EndsWithin, IsSystemFor, RunsOut}
 use Rattle.tm_top.specs.Spots.{HasSpot}
-use Rattle.tm_top.specs.Texts.{IsRefused, IsRefusedProgram, IsSolvable, IsSolvedSystem, IsSpent}
+use Rattle.tm_top.specs.Texts.{IsRefused, IsRefusedProgram, IsSolvable, IsSpent}
 use Rattle.tm_top.specs.Spots.{IsSpotIn}
 use Rattle.tm_cli.specs.declared.request.Purpose.TheVariants.{Report}
 use Rattle.tm_cli.specs.declared.request.Request.TheVariants.{Analyse, Check, Bench}
@@ -79,13 +76,6 @@ IsSpotFor files (Analyse purpose analysis) spot =
 IsSpotFor files (Check program certificate) spot =
     (text : List ℕ) × (bytes : List ℕ) × AreChecked files program certificate text bytes × IsWideAt text bytes spot
 IsSpotFor files (Bench seed loops) spot = (system : System) × IsGenerated seed loops system × HasSpot Report system Best 1000 spot
-
--- there are more picks than this number in the system that a request analyses
-abbrev pub HasMorePicks : Option Contents → Request → ℕ → Type 0
-HasMorePicks files (Analyse purpose analysis) number =
-    (text : List ℕ) × (rows : Domain (List ℕ)) × (system : System) × AreInputs files analysis text rows × IsSolvedSystem text rows system × (number < pick_count (equations_of system))
-HasMorePicks files (Check program certificate) number = ⊥
-HasMorePicks files (Bench seed loops) number = (system : System) × IsGenerated seed loops system × (number < pick_count (equations_of system))
 
 -- this is the ending that a request over these files has, where nothing fails and there is memory
 abbrev pub Ends : Option Contents → Request → Status → Type 0

@@ -1,13 +1,51 @@
--- What the named files hold.
-use Rattle.std.specs.Prelude.{◌≡◌, ◌≤◌, ◌<◌, ℕ, List, Option, Some, None, length}
+-- The names of the files of a request, and what the named files hold.
+use Rattle.std.specs.Prelude.{◌≡◌, ◌≤◌, ◌<◌, ℕ, List, Option, Some, None, length, option_and_then}
 use Rattle.tm_io.specs.Files.{Contents}
+use Rattle.tm_cli.specs.Request.{request_of}
 use Rattle.tm_cli.specs.declared.request.Analysis.{Analysis}
 use Rattle.tm_cli.specs.declared.request.Domain.{Domain}
 use Rattle.tm_cli.specs.declared.request.Domain.TheVariants.{Intervals, Zones, Octagons, Rows}
-use Rattle.tm_top.specs.Request.{Request, file_in}
+use Rattle.tm_cli.specs.declared.request.Request.{Request as RequestOf}
 use Rattle.tm_cli.specs.declared.request.Request.TheVariants.{Analyse, Check, Bench}
 use Rattle.tm_top.specs.declared.status.Which.{Which}
 use Rattle.tm_top.specs.declared.status.Which.TheVariants as which
+
+-- an analysis of a program, the check of a certificate of a program, or the analysis of a generated program
+abbrev pub Request : Type 0
+Request = RequestOf (List ℕ)
+
+-- the numbers of a request are within their limits
+abbrev pub IsInRange : Request → Type 0
+IsInRange (Analyse purpose analysis) = analysis.improvements ≤ 1000000
+IsInRange (Check program certificate) = Unit {0}
+IsInRange (Bench seed loops) = (seed < 2147483648) × (1 ≤ loops) × (loops ≤ 46)
+
+-- ---- the names of its files
+
+-- the file of a domain's rows
+abbrev pub rows_file : Domain (List ℕ) → Option (List ℕ)
+rows_file Intervals = None
+rows_file Zones = None
+rows_file Octagons = None
+rows_file (Rows file) = Some file
+
+-- the name of a file in a request
+abbrev pub file_in : Which → Request → Option (List ℕ)
+file_in which.Program (Analyse purpose analysis) = Some analysis.program
+file_in which.Program (Check program certificate) = Some program
+file_in which.Program (Bench seed loops) = None
+file_in which.Rows (Analyse purpose analysis) = rows_file analysis.domain
+file_in which.Rows (Check program certificate) = None
+file_in which.Rows (Bench seed loops) = None
+file_in which.Certificate (Analyse purpose analysis) = None
+file_in which.Certificate (Check program certificate) = Some certificate
+file_in which.Certificate (Bench seed loops) = None
+
+-- the name that the words give for a file
+abbrev pub file_named : Which → List (List ℕ) → Option (List ℕ)
+file_named which words = option_and_then (file_in which) (request_of words)
+
+-- ---- what they hold
 
 -- the shelf tells its files
 abbrev pub IsTold : Option Contents → Type 0

@@ -3,19 +3,12 @@ use Rattle.std.specs.Prelude.{◌≡◌, ℕ, List, Option, Some}
 use Rattle.tm_io.specs.Files.{Contents}
 use Rattle.tm_eqsys.specs.declared.spot.Spot.{Spot}
 use Rattle.tm_cli.specs.Request.{request_of}
-use Rattle.tm_cli.specs.declared.request.Request.TheVariants.{Analyse, Check, Bench}
+pub use Rattle.tm_top.specs.Answers.{Tells}
 use Rattle.tm_top.specs.Endings.{Ends, IsSpotFor}
-use Rattle.tm_top.specs.Files.{IsTold}
-use Rattle.tm_top.specs.Request.{Request}
+use Rattle.tm_top.specs.Files.{Request}
 use Rattle.tm_top.specs.Run.{Unless}
 use Rattle.tm_top.specs.declared.status.Status.{Status}
 use Rattle.tm_top.specs.declared.status.Status.TheVariants.{Done, Certificate as Refused, Usage, Read, Text, Wide, Spent, Memory, Write}
-
--- the shelf tells its files, where the request reads any
-abbrev pub Tells : Option Contents → Request → Type 0
-Tells files (Analyse purpose a) = IsTold files
-Tells files (Check p c) = IsTold files
-Tells files (Bench seed loops) = Unit {0}
 
 -- an ending that the rounds decide
 abbrev pub IsOfRounds : Status → Type 0

@@ -1,5 +1,4 @@
 pub mod Status
-pub mod Request
 pub mod Files
 pub mod Policies
 pub mod Rounds
@@ -16,3 +15,7 @@ pub mod Given
 pub mod Spots
 pub mod LeastReports
 pub mod Headline
+pub mod Meanings
+pub mod Answers
+pub mod Outputs
+pub mod Exact

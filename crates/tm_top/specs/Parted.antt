@@ -23,9 +23,8 @@ use Rattle.tm_cli.specs.declared.request.Domain.{Domain}
 use Rattle.tm_cli.specs.declared.request.Domain.TheVariants as domain
 use Rattle.tm_cli.specs.declared.request.Policy.{Policy}
 use Rattle.tm_cli.specs.declared.request.Policy.TheVariants.{Best}
-use Rattle.tm_top.specs.Files.{HasContent}
+use Rattle.tm_top.specs.Files.{HasContent, rows_file}
 use Rattle.tm_top.specs.Run.{HasFailed}
-use Rattle.tm_top.specs.Request.{rows_file}
 use Rattle.tm_top.specs.Checks.{IsCheckSpot, IsCompositionSpot, IsRefusedCertificate, NoneIsWide, IsStopped, system_with, theirs}
 use Rattle.tm_top.specs.Endings.{BenchEnd, CheckEnd, IsGenerated, TextsEnd}
 use Rattle.tm_top.specs.Policies.{rule_of}

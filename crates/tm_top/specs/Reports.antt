@@ -2,14 +2,11 @@
 use Rattle.std.specs.Prelude.{◌≡◌, ◌≤◌, ℕ, ℤ, List, Option, Some, length}
 use Rattle.tm_io.specs.Files.{Contents}
 use Rattle.tm_tree.specs.Tree.{Statements}
-use Rattle.tm_flow.specs.Points.{points_of_program}
 use Rattle.tm_rows.specs.Domains.{intervals_of}
-use Rattle.tm_eqsys.specs.declared.footer.Footer.{Footer}
-use Rattle.tm_eqsys.specs.declared.footer.Footer.TheVariants.{Accepted, Improvements}
+use Rattle.tm_eqsys.specs.declared.footer.Footer.TheVariants.{Accepted}
 use Rattle.tm_eqsys.specs.declared.system.System.{System}
 use Rattle.tm_eqsys.specs.Equations.{Least, Vector}
-use Rattle.tm_eqsys.specs.Report.{report_text}
-use Rattle.tm_eqsys.specs.Solutions.{Holds, equations_of_program}
+use Rattle.tm_eqsys.specs.Solutions.{equations_of_program}
 use Rattle.tm_eqsys.specs.View.{vector_of}
 use Rattle.tm_validity.specs.Certificates.{bounds_vector}
 use Rattle.tm_cert.specs.declared.cert.Cert.{Cert}
@@ -24,18 +21,18 @@ use Rattle.tm_cli.specs.declared.request.Domain.{Domain}
 use Rattle.tm_cli.specs.declared.request.Policy.{Policy}
 use Rattle.tm_cli.specs.declared.request.Policy.TheVariants.{Best}
 use Rattle.tm_top.specs.Checks.{IsValidFor, NoneIsWide, system_with, theirs}
-use Rattle.tm_top.specs.Files.{AreChecked, AreInputs}
+use Rattle.tm_top.specs.Files.{AreChecked, AreInputs, Request}
 pub use Rattle.tm_top.specs.LeastReports.{IsLeastReport, IsReportOf}
 use Rattle.tm_top.specs.Policies.{rule_of}
 use Rattle.tm_cli.specs.Request.{request_of}
-use Rattle.tm_top.specs.Request.{Request}
 use Rattle.tm_top.specs.Rounds.{HasRounds, IsSystemFor}
 use Rattle.tm_cli.specs.declared.request.Purpose.{Purpose}
 use Rattle.tm_cli.specs.declared.request.Purpose.TheVariants.{Report, Certificate}
 use Rattle.tm_cli.specs.declared.request.Request.TheVariants.{Analyse, Check, Bench}
 use Rattle.tm_top.specs.Texts.{IsReady}
 
--- the bytes are the certificate that the rounds make, of the program and the template of these texts; it is valid for the text, no sum of its check is wide, and its bounds are the least vector
+-- the bytes are the certificate that the rounds make, of the program and the template of these texts; it is valid for the text, no sum of its check is wide,
+-- and its bounds are the least vector
 pub record IsCertificateOf (text : List ℕ) (rows : Domain (List ℕ)) (policy : Policy) (limit : ℕ) (bytes : List ℕ) : Type 0 where
   pub names : List (List ℕ)
   pub body : Statements

@@ -1,18 +1,15 @@
 -- What a run does to its shelf and its streams.
 use Rattle.std.specs.Prelude.{◌≡◌, ◌≤◌, ◌⊎◌, ℕ, List, Option, Some, length, take}
 use Rattle.std.specs.Io.KnownBytes.{Appends}
-use Rattle.tm_io.specs.Faults.{Rose}
 use Rattle.tm_io.specs.Files.{Contents}
-use Rattle.tm_io.specs.Puts.{AddsPieces, as_pieces}
-use Rattle.tm_eqsys.specs.declared.spot.Spot.{Spot}
 use Rattle.tm_eqsys.specs.declared.system.System.{System}
 use Rattle.tm_cert.specs.declared.cert.Cert.{Cert}
 use Rattle.tm_form.specs.Certificates.{SpellsCert}
-use Rattle.tm_top.specs.Files.{AreInputs, HasContent, HasProgram, IsTold}
+use Rattle.tm_top.specs.Files.{AreInputs, HasContent, HasProgram, IsTold, Request, file_in}
 use Rattle.tm_top.specs.CheckMessages.{rows_in, rows_of}
-use Rattle.tm_top.specs.Messages.{line_in, message_of}
+use Rattle.tm_top.specs.Messages.{line_in}
+pub use Rattle.tm_top.specs.Outputs.{HasFailed}
 use Rattle.tm_cli.specs.Request.{request_of}
-use Rattle.tm_top.specs.Request.{Request, file_in}
 use Rattle.tm_top.specs.Texts.{IsSolvedSystem}
 use Rattle.tm_cli.specs.declared.request.Domain.{Domain}
 use Rattle.tm_cli.specs.declared.request.Request.TheVariants.{Analyse, Check, Bench}
@@ -23,10 +20,6 @@ use Rattle.tm_top.specs.declared.status.Status.{Status}
 use Rattle.tm_top.specs.declared.status.Status.TheVariants.{Done, Certificate, Usage, Read, Text, Wide, Spent, Memory, Write}
 
 -- ---- the outside
-
--- the count of the shelf rose, and its last failed name is this one
-abbrev pub HasFailed : (faults faults_now : ℕ) → (last : List ℕ) → Option (List ℕ) → Type 0
-HasFailed faults faults_now last name = Rose faults faults_now × (Some last ≡ name)
 
 -- an answer to a request that a file failed comes only where it did
 abbrev pub FailsOnlyIn : (faults faults_now : ℕ) → (last : List ℕ) → Request → Status → Type 0
@@ -60,18 +53,9 @@ FailedBefore Write status = ⊥
 abbrev pub Unless : Status → Status → Type 0
 Unless wanted status = (status ≡ wanted) ⊎ ((status ≡ Memory) ⊎ FailedBefore wanted status)
 
--- an operation is too wide
-abbrev pub IsWide : Status → Type 0
-IsWide status = (spot : Spot) × (status ≡ Wide spot)
-
 -- such an answer, and the output holds nothing new
 pub record Refuses (wanted status : Status) (held now : Option (List ℕ)) : Type 0 where
   pub answer : Unless wanted status
-  pub unchanged : now ≡ held
-
--- such an answer, or an operation is too wide, and the output holds nothing new
-pub record RefusesUnlessWide (wanted status : Status) (held now : Option (List ℕ)) : Type 0 where
-  pub answer : IsWide status ⊎ Unless wanted status
   pub unchanged : now ≡ held
 
 -- ---- the output
@@ -102,7 +86,8 @@ IsProgramText files words text = (request : Request) × (request_of words ≡ So
 abbrev pub IsLine : Option Contents → List (List ℕ) → Status → ℕ → Type 0
 IsLine files words status line = (text : List ℕ) → IsTold files → IsProgramText files words text → line ≡ line_in text status
 
--- so many rows each point has by which the message of a request numbers an unknown, where the shelf tells its files: those of the template of an analysis, or of the certificate that is checked
+-- so many rows each point has by which the message of a request numbers an unknown, where the shelf tells its files: those of the template of an analysis,
+-- or of the certificate that is checked
 abbrev pub IsRowCountIn : Option Contents → Request → Status → ℕ → Type 0
 IsRowCountIn files (Analyse purpose analysis) status rows =
     (text : List ℕ) (domain : Domain (List ℕ)) (system : System) → IsTold files → AreInputs files analysis text domain → IsSolvedSystem text domain system
@@ -114,24 +99,3 @@ IsRowCountIn files (Bench seed loops) status rows = Unit {0}
 -- so many that of the request which the words ask for
 abbrev pub IsRowCount : Option Contents → List (List ℕ) → Status → ℕ → Type 0
 IsRowCount files words status rows = (request : Request) → request_of words ≡ Some request → IsRowCountIn files request status rows
-
--- a message: some first bytes of it, and all of it where there is room for 512 bytes and no put failed
-pub record GetsMessage (message : List ℕ) (held now : Option (List ℕ)) (faults faults_now spare : ℕ) : Type 0 where
-  pub part : (n : ℕ) × Appends held now (take n message)
-  pub whole : 512 ≤ spare → (Rose faults faults_now → ⊥) → Appends held now message
-
--- what the stream of messages holds after a run: the message of every ending but `Done`
-abbrev pub ErrorsHold : (line rows : ℕ) → Status → Option (List ℕ) → Option (List ℕ) → ℕ → ℕ → ℕ → Type 0
-ErrorsHold line rows Done held now faults faults_now spare = now ≡ held
-ErrorsHold line rows (Certificate cause) held now faults faults_now spare = GetsMessage (message_of line rows (Certificate cause)) held now faults faults_now spare
-ErrorsHold line rows Usage held now faults faults_now spare = GetsMessage (message_of line rows Usage) held now faults faults_now spare
-ErrorsHold line rows (Read cause) held now faults faults_now spare = GetsMessage (message_of line rows (Read cause)) held now faults faults_now spare
-ErrorsHold line rows (Text cause) held now faults faults_now spare = GetsMessage (message_of line rows (Text cause)) held now faults faults_now spare
-ErrorsHold line rows (Wide spot) held now faults faults_now spare = GetsMessage (message_of line rows (Wide spot)) held now faults faults_now spare
-ErrorsHold line rows (Spent number) held now faults faults_now spare = GetsMessage (message_of line rows (Spent number)) held now faults faults_now spare
-ErrorsHold line rows Memory held now faults faults_now spare = GetsMessage (message_of line rows Memory) held now faults faults_now spare
-ErrorsHold line rows Write held now faults faults_now spare = GetsMessage (message_of line rows Write) held now faults faults_now spare
-
--- a message is one piece, or none of it was taken whole
-abbrev pub IsInOnePiece : List ℕ → (taken now : Option (List (List ℕ))) → Type 0
-IsInOnePiece message taken now = (now ≡ taken) ⊎ AddsPieces taken now (as_pieces message)

@@ -12,6 +12,7 @@ ghost use Rattle.tm_top.specs.CheckMessages.{rows_of};
 ghost use Rattle.tm_top.specs.Endings.{IsAnswerTo};
 ghost use Rattle.tm_top.specs.Files.{AreInputs, HasContent, HasShortRows, IsTold};
 ghost use Rattle.tm_top.specs.Messages.{line_in};
+ghost use Rattle.tm_top.specs.Outputs.{IsTaken, pieces_by};
 ghost use Rattle.tm_top.specs.Parted.{IsAnswerToSystem, IsAnswerToTexts, IsOutputOf, domain_of};
 ghost use Rattle.tm_top.specs.Reports.{IsPutOf, IsReportOn};
 ghost use Rattle.tm_top.specs.Run.{FailsOnlyIn, OutputHolds};
@@ -50,6 +51,7 @@ fn answer_system<K: Sink>(
     requires cells { cells_of (equations_of system.now) ≤ 134217728 }
     ensures answer { IsAnswerToSystem purpose system.now policy limit result }
     ensures held { OutputHolds (IsOutputOf purpose system.now policy limit) result (K.held out.old) (K.held out.new) }
+    ensures pieces { result ≡ Status.Done → IsTaken (pieces_by purpose) (K.held out.old) (K.held out.new) (K.taken out.old) (K.taken out.new) }
     ensures write { result ≡ Status.Write → Rose (K.faults out.old) (K.faults out.new) }
 {
     match purpose {
@@ -77,7 +79,9 @@ fn answer<K: Sink>(
     requires short_rows { HasShortRows (domain_of inputs.now.rows) }
     requires limit { limit ≤ 1000000 }
     ensures answer { IsAnswerToTexts purpose inputs.now.text.items (domain_of inputs.now.rows) policy limit result.status }
-    ensures held { OutputHolds (IsPutOf purpose inputs.now.text.items (domain_of inputs.now.rows) policy limit) result.status (K.held out.old) (K.held out.new) }
+    ensures held { OutputHolds (IsPutOf purpose inputs.now.text.items (domain_of inputs.now.rows) policy limit) result.status
+        (K.held out.old) (K.held out.new) }
+    ensures pieces { result.status ≡ Status.Done → IsTaken (pieces_by purpose) (K.held out.old) (K.held out.new) (K.taken out.old) (K.taken out.new) }
     ensures write { result.status ≡ Status.Write → Rose (K.faults out.old) (K.faults out.new) }
     ensures line { result.line ≡ line_in inputs.now.text.items result.status }
     ensures rows { (system : SystemValue) → IsSolvedSystem inputs.now.text.items (domain_of inputs.now.rows) system
@@ -116,8 +120,11 @@ pub(crate) fn analyse<S: Shelf, K: Sink>(
     requires limit { analysis.improvements ≤ 1000000 }
     ensures kept { S.files shelf.new ≡ S.files shelf.old }
     ensures answer { IsAnswerTo (S.files shelf.old) (Analyse purpose (analysis_text analysis.entry)) result.status }
-    ensures failed { FailsOnlyIn (S.faults shelf.old) (S.faults shelf.new) (S.last_failed shelf.new) (Analyse purpose (analysis_text analysis.entry)) result.status }
-    ensures held { OutputHolds (IsReportOn (S.files shelf.old) (Analyse purpose (analysis_text analysis.entry))) result.status (K.held out.old) (K.held out.new) }
+    ensures failed { FailsOnlyIn (S.faults shelf.old) (S.faults shelf.new) (S.last_failed shelf.new)
+        (Analyse purpose (analysis_text analysis.entry)) result.status }
+    ensures held { OutputHolds (IsReportOn (S.files shelf.old) (Analyse purpose (analysis_text analysis.entry))) result.status
+        (K.held out.old) (K.held out.new) }
+    ensures pieces { result.status ≡ Status.Done → IsTaken (pieces_by purpose) (K.held out.old) (K.held out.new) (K.taken out.old) (K.taken out.new) }
     ensures write { result.status ≡ Status.Write → Rose (K.faults out.old) (K.faults out.new) }
     ensures line { (text : List ℕ) → IsTold (S.files shelf.old) → HasContent (S.files shelf.old) analysis.entry.program.now text
         → result.line ≡ line_in text result.status }

@@ -12,6 +12,7 @@ ghost use Rattle.tm_top.specs.Checks.{IsSpelt};
 ghost use Rattle.tm_top.specs.Endings.{IsAnswerTo};
 ghost use Rattle.tm_top.specs.Files.{HasContent, IsTold};
 ghost use Rattle.tm_top.specs.Messages.{line_in};
+ghost use Rattle.tm_top.specs.Outputs.{IsTaken, lines_of};
 ghost use Rattle.tm_top.specs.Parted.{IsAnswerToCheck};
 ghost use Rattle.tm_top.specs.Reports.{IsReportBy, IsReportOn};
 ghost use Rattle.tm_top.specs.Run.{FailsOnlyIn, OutputHolds};
@@ -48,6 +49,7 @@ fn answer_report<K: Sink>(
     ensures answer { (text bytes : List ℕ) → IsSpelt text bytes program.now.names program.now.body cert.now → IsAnswerToCheck text bytes result }
     ensures held { (text bytes : List ℕ) → IsSpelt text bytes program.now.names program.now.body cert.now
         → OutputHolds (IsReportBy text bytes) result (K.held out.old) (K.held out.new) }
+    ensures pieces { result ≡ Status.Done → IsTaken lines_of (K.held out.old) (K.held out.new) (K.taken out.old) (K.taken out.new) }
     ensures write { result ≡ Status.Write → Rose (K.faults out.old) (K.faults out.new) }
     ensures line { (text : List ℕ) → 0 ≡ line_in text result }
 {
@@ -65,6 +67,7 @@ fn answer_given<K: Sink>(alloc: Global, given: Given, out: &mut K) -> Ending
     ensures answer { (text bytes : List ℕ) → IsSpelt text bytes given.program.names given.program.body given.cert → IsAnswerToCheck text bytes result.status }
     ensures held { (text bytes : List ℕ) → IsSpelt text bytes given.program.names given.program.body given.cert
         → OutputHolds (IsReportBy text bytes) result.status (K.held out.old) (K.held out.new) }
+    ensures pieces { result.status ≡ Status.Done → IsTaken lines_of (K.held out.old) (K.held out.new) (K.taken out.old) (K.taken out.new) }
     ensures write { result.status ≡ Status.Write → Rose (K.faults out.old) (K.faults out.new) }
     ensures line { (text : List ℕ) → result.line ≡ line_in text result.status }
     ensures rows { result.rows ≡ rows_in given.cert result.status }
@@ -88,6 +91,7 @@ fn answer_check<K: Sink>(alloc: Global, inputs: &Inputs, out: &mut K) -> Ending
     requires short { length inputs.now.text.items ≤ 65536 }
     ensures answer { IsAnswerToCheck inputs.now.text.items inputs.now.bytes.items result.status }
     ensures held { OutputHolds (IsReportBy inputs.now.text.items inputs.now.bytes.items) result.status (K.held out.old) (K.held out.new) }
+    ensures pieces { result.status ≡ Status.Done → IsTaken lines_of (K.held out.old) (K.held out.new) (K.taken out.old) (K.taken out.new) }
     ensures write { result.status ≡ Status.Write → Rose (K.faults out.old) (K.faults out.new) }
     ensures line { result.line ≡ line_in inputs.now.text.items result.status }
     ensures rows { (cert : CertValue) → SpellsCert inputs.now.bytes.items cert → result.rows ≡ rows_in cert result.status }
@@ -118,6 +122,7 @@ pub(crate) fn check<S: Shelf, K: Sink>(
     ensures answer { IsAnswerTo (S.files shelf.old) (Check program.now certificate.now) result.status }
     ensures failed { FailsOnlyIn (S.faults shelf.old) (S.faults shelf.new) (S.last_failed shelf.new) (Check program.now certificate.now) result.status }
     ensures held { OutputHolds (IsReportOn (S.files shelf.old) (Check program.now certificate.now)) result.status (K.held out.old) (K.held out.new) }
+    ensures pieces { result.status ≡ Status.Done → IsTaken lines_of (K.held out.old) (K.held out.new) (K.taken out.old) (K.taken out.new) }
     ensures write { result.status ≡ Status.Write → Rose (K.faults out.old) (K.faults out.new) }
     ensures line { (text : List ℕ) → IsTold (S.files shelf.old) → HasContent (S.files shelf.old) program.now text → result.line ≡ line_in text result.status }
     ensures rows { (bytes : List ℕ) (cert : CertValue) → IsTold (S.files shelf.old) → HasContent (S.files shelf.old) certificate.now bytes

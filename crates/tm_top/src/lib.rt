@@ -7,6 +7,8 @@ mod check;
 mod commands;
 mod ending;
 mod files;
+mod laws;
+mod meaning;
 mod memory;
 mod message;
 mod output;
@@ -16,6 +18,8 @@ mod refusal;
 mod status;
 
 pub use commands::run;
+pub use laws::{accepted_is_least, ending_is_one, spent_is_few};
+pub use meaning::{Exact, Meaning};
 pub use memory::run_in_memory;
 pub use promise::headline;
 pub use status::{CertCause, ReadCause, Status, TextCause, Which};

@@ -1,7 +1,8 @@
 //! The line that tells how a run ended, where it isn't done.
 
 ghost use Rattle.std.specs.Prelude.{◌≡◌, ◌≤◌, ◌+◌, ◌++◌, [], None, Some, codes, length};
-ghost use Rattle.tm_top.specs.Messages.{counted, flow_words, lex_words, line_text, limit_words, message_of, parse_words, read_words, row_words, text_words, words, words_of};
+ghost use Rattle.tm_top.specs.Messages.{counted, flow_words, lex_words, line_text, limit_words, message_of, parse_words, read_words};
+ghost use Rattle.tm_top.specs.Messages.{row_words, text_words, words, words_of};
 ghost use Rattle.tm_top.specs.Parts.{told};
 
 mod check;

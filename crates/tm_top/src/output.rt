@@ -1,19 +1,29 @@
 //! What a command puts: a report or a summary one line at a time, a certificate in one piece.
 
-ghost use Rattle.std.specs.Prelude.{◌≤◌, ◌<◌, ◌+◌, length};
-ghost use Rattle.tm_io.specs.Puts.{HasPutCause, Puts};
+ghost use Rattle.std.specs.Prelude.{◌≡◌, ◌==◌, ◌∷◌, ◌≤◌, ◌<◌, ◌+◌, IfOk, drop, length, take};
+ghost use Rattle.std.specs.List.{position};
+ghost use Rattle.tm_io.specs.Puts.{AddsPieces, HasPutCause, Puts, as_pieces};
+ghost use Rattle.tm_top.specs.Outputs.{IsTaken, lines_of};
 ghost use Rattle.tm_top.specs.Parted.{PutsReport};
 
 use crate::status::Status;
 use tm_io::{PutFault, Sink};
+
+// The place of the first line feed.
+fn line_feed(text: &[u8]) -> Option<usize>
+    ensures { result ≡ position (λ byte. byte == 10) text.now }
+{
+    text.iter().position(|byte| *byte == b'\n')
+}
 
 // The length of the first line with its line feed, or of the whole text where no line feed stands.
 fn first_line(text: &[u8]) -> usize
     requires { 0 < length text.now }
     ensures some { 0 < result }
     ensures within { result ≤ length text.now }
+    ensures cut { lines_of text.now ≡ take result text.now ∷ lines_of (drop result text.now) }
 {
-    match text.iter().position(|byte| *byte == b'\n') {
+    match line_feed(text) {
         Some(place) => place + 1,
         None => text.len(),
     }
@@ -26,6 +36,7 @@ fn put_lines<K: Sink>(out: &mut K, text: &[u8]) -> Result<(), PutFault>
     ensures cause { HasPutCause (K.faults out.old) (K.faults out.new) (K.spare out.old) text.now result }
     ensures never_falls { K.faults out.old ≤ K.faults out.new }
     ensures spare { K.spare out.old ≤ K.spare out.new + length text.now }
+    ensures pieces { IfOk result (λ _. AddsPieces (K.taken out.old) (K.taken out.new) (lines_of text.now)) }
 {
     let mut rest = text;
     while !rest.is_empty() {
@@ -41,7 +52,8 @@ fn put_lines<K: Sink>(out: &mut K, text: &[u8]) -> Result<(), PutFault>
 
 // Puts a report or a summary, line by line.
 pub(crate) fn put_report<K: Sink>(bytes: &[u8], out: &mut K) -> Status
-    ensures { PutsReport bytes.now result (K.held out.old) (K.held out.new) (K.faults out.old) (K.faults out.new) }
+    ensures pieces { result ≡ Status.Done → IsTaken lines_of (K.held out.old) (K.held out.new) (K.taken out.old) (K.taken out.new) }
+    ensures puts { PutsReport bytes.now result (K.held out.old) (K.held out.new) (K.faults out.old) (K.faults out.new) }
 {
     match put_lines(out, bytes) {
         Ok(()) => Status::Done,
@@ -52,7 +64,8 @@ pub(crate) fn put_report<K: Sink>(bytes: &[u8], out: &mut K) -> Status
 
 // Puts a certificate in one piece.
 pub(crate) fn put_certificate<K: Sink>(bytes: &[u8], out: &mut K) -> Status
-    ensures { PutsReport bytes.now result (K.held out.old) (K.held out.new) (K.faults out.old) (K.faults out.new) }
+    ensures pieces { result ≡ Status.Done → IsTaken as_pieces (K.held out.old) (K.held out.new) (K.taken out.old) (K.taken out.new) }
+    ensures puts { PutsReport bytes.now result (K.held out.old) (K.held out.new) (K.faults out.old) (K.faults out.new) }
 {
     match out.put(bytes) {
         Ok(()) => Status::Done,

@@ -80,7 +80,8 @@ pub(crate) fn report_by(
     requires names { flow.names ≡ program.now.names }
     requires points { flow.points ≡ points_of_program program.now.body }
     requires edges { flow.edges ≡ edges_of_program program.now.body }
-    ensures ok { IfOk result (λ bytes. (text given : List ℕ) → IsSpelt text given program.now.names program.now.body cert.now → IsReportBy text given bytes.items) }
+    ensures ok { IfOk result (λ bytes. (text given : List ℕ) → IsSpelt text given program.now.names program.now.body cert.now
+        → IsReportBy text given bytes.items) }
     ensures err { IfErr result (λ refusal. GetsNoReport program.now.names program.now.body cert.now refusal) }
 {
     if !is_countable(cert) {

@@ -108,7 +108,8 @@ pub(crate) fn is_countable(cert: &Cert) -> bool
 
 // The refusal of a certificate's rows that have this fault.
 fn row_refusal(fault: RowFault) -> Refusal
-    ensures { (names : List (List ℕ)) (body : Statements) (cert : CertValue) → (fault ≢ NoMemory → slice_get (faults_of (length names) cert.rows) 0 ≡ Some fault)
+    ensures { (names : List (List ℕ)) (body : Statements) (cert : CertValue)
+        → (fault ≢ NoMemory → slice_get (faults_of (length names) cert.rows) 0 ≡ Some fault)
         → IsNoSystem names body cert result }
 {
     match fault {

@@ -8,6 +8,7 @@ use Rattle.tm_top.specs.Run.{FailsOnlyIn}
 use Rattle.tm_top.specs.Texts.{IsSolvedSystem}
 use Rattle.tm_cli.specs.declared.request.Request.TheVariants.{Analyse}
 use Rattle.tm_top.proofs.Answered.{content_once, texts_answer, with_text_once}
+use Rattle.tm_top.proofs.Refused.{unloaded_not_done}
 use Rattle.tm_top.proofs.Worded.{output_map}
 use Rattle.tm_top.proofs.analyse.analyse.Goals as goal
 
@@ -38,3 +39,6 @@ pub returns-in-Err-clause-failed : goal.returns-in-Err-clause-failed
 returns-in-Err-clause-failed g c =
     subst (λ s. FailsOnlyIn (g.S.Shelf.faults c.args.shelf.now) (g.S.Shelf.faults c.load.new.shelf) (g.S.Shelf.last_failed c.load.new.shelf) (Analyse c.args.purpose (analysis_text c.args.analysis)) s)
     (sym c.plain_ending.ensures.status) (c.in-Err.ensures.failed c.args.purpose)
+
+pub returns-in-Err-clause-pieces : goal.returns-in-Err-clause-pieces
+returns-in-Err-clause-pieces g c = λ d. absurd (unloaded_not_done _ c.in-Err.ensures.refused (sym c.plain_ending.ensures.status ∙ d))

@@ -5,6 +5,7 @@ use Rattle.tm_top.specs.Parted.{IsOutputOf, domain_of}
 use Rattle.tm_top.specs.Reports.{IsPutOf}
 use Rattle.tm_top.specs.Texts.{IsSolvedSystem}
 use Rattle.tm_top.proofs.Analysed.{output_put, refused_answer, refused_rows, system_line, system_rows, system_texts}
+use Rattle.tm_top.proofs.Refused.{not_done}
 use Rattle.tm_top.proofs.Worded.{output_map}
 use Rattle.tm_top.proofs.analyse.answer.Goals as goal
 
@@ -31,3 +32,6 @@ returns-in-Err-clause-answer g c = refused_answer _ _ _ _ _ _ _ _ c.refused-stat
 
 pub returns-in-Err-clause-rows : goal.returns-in-Err-clause-rows
 returns-in-Err-clause-rows g c = λ system is. subst (λ s. 0 ≡ rows_of (length system.template) s) (sym c.refused-status.ensures) (refused_rows _ _ _ _ c.in-Err.ensures.err)
+
+pub returns-in-Err-clause-pieces : goal.returns-in-Err-clause-pieces
+returns-in-Err-clause-pieces g c = λ d. absurd (not_done _ _ c.refused-status.ensures d)

@@ -2,7 +2,7 @@ use Rattle.std.proofs.Common.{sym, subst, subst₂}
 use Rattle.tm_top.specs.Parted.{IsAnswerToCheck, IsUnspelt}
 use Rattle.tm_top.specs.Reports.{IsReportBy}
 use Rattle.tm_top.specs.Run.{OutputHolds}
-use Rattle.tm_top.proofs.Refused.{unspelt_answers}
+use Rattle.tm_top.proofs.Refused.{not_done, unspelt_answers}
 use Rattle.tm_top.proofs.check.answer_check.Goals as goal
 
 pub returns-in-Ok-clause-answer : goal.returns-in-Ok-clause-answer
@@ -18,3 +18,6 @@ pub returns-in-Err-clause-answer : goal.returns-in-Err-clause-answer
 returns-in-Err-clause-answer g c =
     subst (λ s. IsAnswerToCheck c.args.inputs.now.text.items c.args.inputs.now.bytes.items s) (sym c.refused-status.ensures)
     (unspelt_answers _ _ _ (subst₂ (λ t b. IsUnspelt t b c.in-Err.refusal) c.deref.ensures.value c.deref-2.ensures.value c.in-Err.ensures.err))
+
+pub returns-in-Err-clause-pieces : goal.returns-in-Err-clause-pieces
+returns-in-Err-clause-pieces g c = λ d. absurd (not_done _ _ c.refused-status.ensures d)

@@ -1,13 +1,10 @@
-use Rattle.std.proofs.Common.{◌≡◌, ◌≤◌, ◌<◌, subst, sym}
+use Rattle.std.proofs.Common.{◌≡◌, ◌∙◌, ◌≤◌, ◌<◌, sym}
 use Rattle.std.specs.Prelude.{Some, map, string_bytes}
 use Rattle.tm_cli.specs.Request.{analysis_text, request_of}
 use Rattle.tm_cli.specs.declared.request.Request.TheVariants.{Analyse, Bench, Check}
-use Rattle.tm_top.specs.Endings.{IsAnswerTo}
-use Rattle.tm_top.specs.Parted.{IsAnswerToBench}
 use Rattle.tm_top.specs.Reports.{IsReportFor, IsReportOn}
-use Rattle.tm_top.proofs.Answered.{bench_answer}
 use Rattle.tm_top.proofs.Ranges.{request_range}
-use Rattle.tm_top.proofs.Worded.{answers_words, failed_in, line_for, output_map, rows_for}
+use Rattle.tm_top.proofs.Worded.{answers_words, failed_in, line_for, output_map, pieces_for, rows_for}
 use Rattle.tm_top.proofs.commands.obey.Goals as goal
 
 pub analyse-requires : goal.analyse-requires
@@ -84,3 +81,18 @@ bench-requires-clause-few g c =
     let asked : request_of (map string_bytes c.args.words.now) ≡ Some (Bench c.in-Ok-Bench.seed c.in-Ok-Bench.loops) = rw c.in-Ok-Bench.field-0-is at c.in-Ok-Bench.ensures.ok in
     let range : (c.in-Ok-Bench.seed < 2147483648) × (1 ≤ c.in-Ok-Bench.loops) × (c.in-Ok-Bench.loops ≤ 46) = request_range _ _ asked in
     range.2
+
+pub returns-in-Ok-Analyse-clause-pieces : goal.returns-in-Ok-Analyse-clause-pieces
+returns-in-Ok-Analyse-clause-pieces g c =
+    let asked : request_of (map string_bytes c.args.words.now) ≡ Some (Analyse c.in-Ok-Analyse.purpose (analysis_text c.in-Ok-Analyse.analysis)) = rw c.in-Ok-Analyse.field-0-is at c.in-Ok-Analyse.ensures.ok in
+    λ request i d. pieces_for _ _ _ _ _ _ asked (c.analyse.ensures.pieces d) request i
+
+pub returns-in-Ok-Check-clause-pieces : goal.returns-in-Ok-Check-clause-pieces
+returns-in-Ok-Check-clause-pieces g c =
+    let asked : request_of (map string_bytes c.args.words.now) ≡ Some (Check c.in-Ok-Check.program.now c.in-Ok-Check.certificate.now) = rw c.in-Ok-Check.field-0-is at c.in-Ok-Check.ensures.ok in
+    λ request i d. pieces_for _ _ _ _ _ _ asked (c.check.ensures.pieces d) request i
+
+pub returns-in-Ok-Bench-clause-pieces : goal.returns-in-Ok-Bench-clause-pieces
+returns-in-Ok-Bench-clause-pieces g c =
+    let asked : request_of (map string_bytes c.args.words.now) ≡ Some (Bench c.in-Ok-Bench.seed c.in-Ok-Bench.loops) = rw c.in-Ok-Bench.field-0-is at c.in-Ok-Bench.ensures.ok in
+    λ request i d. pieces_for _ _ _ _ _ _ asked (c.bench.ensures.pieces (sym c.plain_ending.ensures.status ∙ d)) request i

@@ -3,10 +3,10 @@ use Rattle.tm_top.specs.Parted.{failed, wanting}
 use Rattle.tm_top.proofs.Refused.{put_failed}
 use Rattle.tm_top.proofs.output.put_certificate.Goals as goal
 
-pub returns-in-Err-Failed : goal.returns-in-Err-Failed
-returns-in-Err-Failed g c =
+pub returns-in-Err-Failed-clause-puts : goal.returns-in-Err-Failed-clause-puts
+returns-in-Err-Failed-clause-puts g c =
     failed refl c.in-Err-Failed.ensures.appends.0 c.in-Err-Failed.ensures.appends.1
     (put_failed _ _ _ _ _ c.in-Err-Failed.field-0-is c.in-Err-Failed.ensures.cause)
 
-pub returns-in-Err-NoMemory : goal.returns-in-Err-NoMemory
-returns-in-Err-NoMemory g c = wanting refl c.in-Err-NoMemory.ensures.appends.0 c.in-Err-NoMemory.ensures.appends.1
+pub returns-in-Err-NoMemory-clause-puts : goal.returns-in-Err-NoMemory-clause-puts
+returns-in-Err-NoMemory-clause-puts g c = wanting refl c.in-Err-NoMemory.ensures.appends.0 c.in-Err-NoMemory.ensures.appends.1

@@ -1,0 +1,5 @@
+use Rattle.tm_top.proofs.Lawful.{accepted_least}
+use Rattle.tm_top.proofs.laws.accepted_is_least.Goals as goal
+
+pub returns : goal.returns
+returns c = accepted_least

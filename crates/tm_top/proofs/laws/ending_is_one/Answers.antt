@@ -1,0 +1,5 @@
+use Rattle.tm_top.proofs.Lawful.{one_ending}
+use Rattle.tm_top.proofs.laws.ending_is_one.Goals as goal
+
+pub returns : goal.returns
+returns c = one_ending

@@ -1,0 +1,5 @@
+use Rattle.tm_top.proofs.OneChain.{runs_few}
+use Rattle.tm_top.proofs.laws.spent_is_few.Goals as goal
+
+pub returns : goal.returns
+returns c = runs_few

@@ -1,0 +1,125 @@
+-- How a run ends, and what its answer says of the words and of the files.
+use Rattle.std.specs.Prelude.{◌≡◌, ℕ, ℤ, List, Option, Some, None}
+use Rattle.tm_io.specs.Files.{Contents}
+use Rattle.tm_tree.specs.Tree.{Statements}
+use Rattle.tm_eqsys.specs.declared.spot.Spot.{Spot}
+use Rattle.tm_eqsys.specs.declared.system.System.{System}
+use Rattle.tm_eqsys.specs.Equations.{Vector}
+use Rattle.tm_cli.specs.Request.{request_of}
+use Rattle.tm_cli.specs.declared.request.Analysis.{Analysis}
+use Rattle.tm_cli.specs.declared.request.Domain.{Domain}
+use Rattle.tm_cli.specs.declared.request.Policy.{Policy}
+use Rattle.tm_cli.specs.declared.request.Policy.TheVariants.{Best}
+use Rattle.tm_cli.specs.declared.request.Purpose.{Purpose}
+use Rattle.tm_cli.specs.declared.request.Purpose.TheVariants.{Report}
+use Rattle.tm_cli.specs.declared.request.Request.TheVariants.{Analyse, Check, Bench}
+use Rattle.tm_top.specs.Files.{AreChecked, AreInputs, IsReached, IsTold, IsTooLong, Request}
+use Rattle.tm_top.specs.Meanings.{Meanings}
+use Rattle.tm_top.specs.Rounds.{EndsWithin, RunsOut}
+use Rattle.tm_top.specs.Texts.{IsRefused, IsRefusedProgram, IsSolvedSystem}
+use Rattle.tm_top.specs.declared.status.CertCause.{CertCause}
+use Rattle.tm_top.specs.declared.status.ReadCause.TheVariants.{Failed, TooLong}
+use Rattle.tm_top.specs.declared.status.Status.{Status}
+use Rattle.tm_top.specs.declared.status.Status.TheVariants.{Done, Certificate, Usage, Read, Text, Wide, Spent, Memory, Write}
+use Rattle.tm_top.specs.declared.status.TextCause.{TextCause}
+use Rattle.tm_top.specs.declared.status.Which.{Which}
+use Rattle.tm_top.specs.declared.status.Which.TheVariants.{Program}
+
+-- ---- the ending of words, where nothing fails outside, there is memory, and no operation of an analysis is too wide
+
+-- the improvements over a system end within the limit, or are spent
+pub data RoundsEnd (system : System) (policy : Policy) (limit : ℕ) (ending : Status) : Type 0 where
+  rounds_end : ending ≡ Done → EndsWithin system policy limit → RoundsEnd system policy limit ending
+  rounds_spent : ending ≡ Spent limit → RunsOut system policy limit → RoundsEnd system policy limit ending
+
+-- texts are refused by a cause, or are a system whose improvements decide
+pub data AnalysisEnds (text : List ℕ) (rows : Domain (List ℕ)) (policy : Policy) (limit : ℕ) (ending : Status) : Type 0 where
+  text_refused : (cause : TextCause) → ending ≡ Text cause → IsRefused text rows cause → AnalysisEnds text rows policy limit ending
+  solved : (system : System) → IsSolvedSystem text rows system → RoundsEnd system policy limit ending → AnalysisEnds text rows policy limit ending
+
+-- the text of a program or the bytes of a certificate are refused by a cause, or an operation of the check is too wide, or the certificate is accepted
+pub data CheckEnds (m : Meanings) (text bytes : List ℕ) (ending : Status) : Type 0 where
+  program_refused : (cause : TextCause) → ending ≡ Text cause → IsRefusedProgram text cause → CheckEnds m text bytes ending
+  certificate_refused : (cause : CertCause) → ending ≡ Certificate cause → m.refuses text bytes cause → CheckEnds m text bytes ending
+  sum_too_wide : (spot : Spot) → ending ≡ Wide spot → m.is_wide_in text bytes spot → CheckEnds m text bytes ending
+  accepted : (names : List (List ℕ)) (body : Statements) (rows : List (List ℤ)) (vector : Vector) → ending ≡ Done → m.accepts text bytes names body rows vector
+      → CheckEnds m text bytes ending
+
+-- a file is too long, or the texts of the files decide
+pub data Ends (m : Meanings) (files : Option Contents) (request : Request) (ending : Status) : Type 0 where
+  too_long : (which : Which) → ending ≡ Read (TooLong which) → IsTooLong files request which → Ends m files request ending
+  analysed : (purpose : Purpose) (analysis : Analysis (List ℕ)) (text : List ℕ) (rows : Domain (List ℕ)) → request ≡ Analyse purpose analysis
+      → AreInputs files analysis text rows → AnalysisEnds text rows analysis.policy analysis.improvements ending → Ends m files request ending
+  checked : (program certificate text bytes : List ℕ) → request ≡ Check program certificate
+      → AreChecked files program certificate text bytes → CheckEnds m text bytes ending → Ends m files request ending
+  generated : (seed loops : ℕ) (system : System) → request ≡ Bench seed loops
+      → m.generates seed loops system → RoundsEnd system Best 1000 ending → Ends m files request ending
+
+-- the shelf tells its files, where a request reads any
+abbrev pub Tells : Option Contents → Request → Type 0
+Tells files (Analyse purpose analysis) = IsTold files
+Tells files (Check program certificate) = IsTold files
+Tells files (Bench seed loops) = Unit {0}
+
+-- the words ask for nothing, or for a request over files that are told
+pub data WordsEnd (m : Meanings) (files : Option Contents) (words : List (List ℕ)) (ending : Status) : Type 0 where
+  unasked : request_of words ≡ None → ending ≡ Usage → WordsEnd m files words ending
+  asked : (request : Request) → request_of words ≡ Some request → Tells files request → Ends m files request ending → WordsEnd m files words ending
+
+-- ---- what an answer says
+
+-- an operation on the way of a request is too wide: of an analysis any that stands, of a check the first
+pub data IsTooWide (m : Meanings) (files : Option Contents) (request : Request) (spot : Spot) : Type 0 where
+  wide_in_analysis : (purpose : Purpose) (analysis : Analysis (List ℕ)) (text : List ℕ) (rows : Domain (List ℕ)) (system : System)
+      → request ≡ Analyse purpose analysis → AreInputs files analysis text rows → IsSolvedSystem text rows system
+      → m.too_wide purpose system analysis.policy analysis.improvements spot → IsTooWide m files request spot
+  wide_in_check : (program certificate text bytes : List ℕ) → request ≡ Check program certificate
+      → AreChecked files program certificate text bytes → m.is_wide_in text bytes spot → IsTooWide m files request spot
+  wide_in_bench : (seed loops : ℕ) (system : System) → request ≡ Bench seed loops
+      → m.generates seed loops system → m.too_wide Report system Best 1000 spot → IsTooWide m files request spot
+
+-- it is an ending of the words over these files; or what may come in place of one, for a cause that stands; want of memory needs none
+pub data IsAnswer (m : Meanings) (files : Option Contents) (words : List (List ℕ)) (status : Status) : Type 0 where
+  is_usage : request_of words ≡ None → status ≡ Usage → IsAnswer m files words status
+  is_ending : (request : Request) → request_of words ≡ Some request → Ends m files request status → IsAnswer m files words status
+  is_wide : (request : Request) → request_of words ≡ Some request → (spot : Spot) → status ≡ Wide spot → IsTooWide m files request spot
+      → IsAnswer m files words status
+  is_unread : (request : Request) → request_of words ≡ Some request → (which : Which) → status ≡ Read (Failed which) → IsReached files request which
+      → IsAnswer m files words status
+  is_unwritten : (request : Request) → request_of words ≡ Some request → status ≡ Write → Ends m files request Done → IsAnswer m files words status
+  is_memory : status ≡ Memory → IsAnswer m files words status
+
+-- ---- what is answered where an ending stands
+
+-- an ending that improvements decide
+pub data IsOfRounds (ending : Status) : Type 0 where
+  of_ended : ending ≡ Done → IsOfRounds ending
+  of_spent : (number : ℕ) → ending ≡ Spent number → IsOfRounds ending
+
+-- a file failed that is loaded before this ending is seen: without a request none is, and the program before it is too long
+pub record IsLoadedBefore (ending : Status) (which : Which) : Type 0 where
+  pub requested : ending ≡ Usage → ⊥
+  pub program_first : ending ≡ Read (TooLong Program) → which ≡ Program
+
+-- the ending is answered; or, in its place, want of memory, a file that failed before, for a report an output that failed,
+-- or for an ending that improvements decide an operation that is too wide
+pub data Answers (m : Meanings) (files : Option Contents) (words : List (List ℕ)) (ending status : Status) : Type 0 where
+  given : status ≡ ending → Answers m files words ending status
+  no_memory : status ≡ Memory → Answers m files words ending status
+  unread : (which : Which) → status ≡ Read (Failed which) → IsLoadedBefore ending which → Answers m files words ending status
+  unwritten : status ≡ Write → ending ≡ Done → Answers m files words ending status
+  too_wide : (request : Request) → request_of words ≡ Some request → (spot : Spot) → status ≡ Wide spot → IsTooWide m files request spot → IsOfRounds ending
+      → Answers m files words ending status
+
+-- and where the ending is a refusal, the output holds nothing new
+pub record Gives (m : Meanings) (files : Option Contents) (words : List (List ℕ)) (ending status : Status) (held now : Option (List ℕ)) : Type 0 where
+  pub answer : Answers m files words ending status
+  pub unchanged : (ending ≡ Done → ⊥) → now ≡ held
+
+-- the ending is answered; or, in its place, want of memory, or for an ending that improvements decide an operation that is too wide:
+-- so it is over files and an output in memory, where nothing fails outside
+pub data AnswersInMemory (m : Meanings) (files : Option Contents) (words : List (List ℕ)) (ending status : Status) : Type 0 where
+  given_in_memory : status ≡ ending → AnswersInMemory m files words ending status
+  wants_memory : status ≡ Memory → AnswersInMemory m files words ending status
+  wide_in_memory : (request : Request) → request_of words ≡ Some request → (spot : Spot) → status ≡ Wide spot → IsTooWide m files request spot
+      → IsOfRounds ending → AnswersInMemory m files words ending status

@@ -1,0 +1,34 @@
+//! Laws of what a run's answers mean. Each function does nothing: its contract is the law.
+
+ghost use Rattle.std.specs.Prelude.{◌≡◌, ◌<◌, ℕ, ℤ, List, Option, length};
+ghost use Rattle.tm_io.specs.Files.{Contents};
+ghost use Rattle.tm_tree.specs.Tree.{Statements};
+ghost use Rattle.tm_eqsys.specs.declared.system.System.{System};
+ghost use Rattle.tm_eqsys.specs.Equations.{Least, Vector};
+ghost use Rattle.tm_eqsys.specs.Solutions.{equations_of_program};
+ghost use Rattle.tm_eqsys.specs.View.{equations_of};
+ghost use Rattle.tm_strategy.specs.PickCount.{pick_count};
+ghost use Rattle.tm_cli.specs.declared.request.Policy.{Policy};
+ghost use Rattle.tm_top.specs.Answers.{Ends, Tells};
+ghost use Rattle.tm_top.specs.Files.{Request};
+ghost use Rattle.tm_top.specs.Rounds.{RunsOut};
+ghost use Rattle.tm_top.specs.declared.status.Status.{Status};
+
+use crate::meaning::{Exact, Meaning};
+
+/// The bounds of a certificate that is accepted are the least vector, whoever made it.
+pub fn accepted_is_least()
+    ensures { (text bytes : List ℕ) (names : List (List ℕ)) (body : Statements) (rows : List (List ℤ)) (vector : Vector)
+        → (⟦<Exact as Meaning>⟧.means).accepts text bytes names body rows vector → Least (equations_of_program (length names) body rows) vector }
+{}
+
+/// A request over files that are told has one ending: so each cause of a refusal excludes the others, and acceptance.
+pub fn ending_is_one()
+    ensures { (files : Option Contents) (request : Request) (one other : Status) → Tells files request
+        → Ends ⟦<Exact as Meaning>⟧.means files request one → Ends ⟦<Exact as Meaning>⟧.means files request other → one ≡ other }
+{}
+
+/// Improvements that are spent are fewer than the picks of the system: a limit of as many as the picks is never spent.
+pub fn spent_is_few()
+    ensures { (system : System) (policy : Policy) (number : ℕ) → RunsOut system policy number → number < pick_count (equations_of system) }
+{}
