@@ -1,5 +1,5 @@
 -- What the parts that a fraction keeps say as the code reads them: n and d are the parts of q, at most the limit L.
-use Rattle.std.proofs.Common.{◌≡◌, ◌≢◌, ◌↔◌, ℕ, zero, suc, negsuc, ◌<◌, ◌≤◌, ◌^◌, ◌⊎◌, ⊎_elim, T, Bool, true, false, IsTrue, nat_eq, eqb, eqb→eq, ℤ, pos, neg_ℤ, nat_abs, ◌-ℤ◌, ◌*ℤ◌, ◌≤ℤ◌, FitsSigned, Ordering, to_z, of_z, Option, None, Some, Result, ok_or, MatchOption, MatchResult, refl, sym, ap, ap₂, ◌∙◌, subst, subst₂, arith}
+use Rattle.std.proofs.Common.{◌≡◌, ◌≢◌, ◌↔◌, ℕ, zero, suc, negsuc, ◌<◌, ◌≤◌, ◌^◌, ◌⊎◌, ⊎_elim, T, Bool, true, false, IsTrue, nat_eq, eqb, eqb→eq, ℤ, pos, neg_ℤ, nat_abs, ◌-ℤ◌, ◌*ℤ◌, ◌≤ℤ◌, FitsSigned, Ordering, to_z, of_z, Result, MatchResult, refl, sym, ap, ap₂, ◌∙◌, subst, subst₂, arith}
 use mir.Syntax.{w64, w128}
 use Rattle.std.proofs.lemmas.Int.{ints, to_z-of_z, to_z_pos}
 use Rattle.std.specs.Ordering.{int_cmp}
@@ -103,13 +103,9 @@ lowest_read n d f t = subst (λ z. T (is_reduced z d)) (sym (to_z-of_z w128 n f)
 pub result_read : (n : ℤ) (d : ℕ) (s q : ℚ) → FitsSigned w128 n → ratio n d ≡ s → s ≡ q → ratio (to_z w128 (of_z w128 n)) d ≡ q
 result_read n d s q f e g = ap (λ z. ratio z d) (to_z-of_z w128 n f) ∙ e ∙ g
 
--- what is stored or not is the answer, or the refusal
-pub answered : (L : ℤ) {q s : ℚ} {E : Type 0} (o : Option ℚ) (w : E) (r : Result ℚ E) → r ≡ ok_or o w → s ≡ q → MatchOption o (¬ (Fits L s)) (λ x. (x ≡ s) × Fits L x) → MatchResult r (λ x. (x ≡ q) × Fits L x) (λ e. (¬ (Fits L q)) × (e ≡ w))
-answered L {q} {s} {E} o w r e g m = subst (λ r. MatchResult r (λ x. (x ≡ q) × Fits L x) (λ e. (¬ (Fits L q)) × (e ≡ w))) (sym e) (by o m)
-  where
-    by : (o : Option ℚ) → MatchOption o (¬ (Fits L s)) (λ x. (x ≡ s) × Fits L x) → MatchResult (ok_or o w) (λ x. (x ≡ q) × Fits L x) (λ e. (¬ (Fits L q)) × (e ≡ w))
-    by None m = (λ f. m (subst (λ x. Fits L x) (sym g) f), refl)
-    by (Some x) m = (m.0 ∙ g, m.1)
+-- what is answered of one number is so of an equal one
+pub answered : (L : ℤ) {q s : ℚ} {E : Type 0} (w : E) (r : Result ℚ E) → s ≡ q → MatchResult r (λ x. (x ≡ s) × Fits L x) (λ e. (¬ (Fits L s)) × (e ≡ w)) → MatchResult r (λ x. (x ≡ q) × Fits L x) (λ e. (¬ (Fits L q)) × (e ≡ w))
+answered L {q} {s} {E} w r g m = subst (λ p. MatchResult r (λ x. (x ≡ p) × Fits L x) (λ e. (¬ (Fits L p)) × (e ≡ w))) g m
 
 -- the negation and the inverse
 module _ {L n : ℤ} {d : ℕ} {q : ℚ} (high : L ≤ℤ pos 9223372036854775807) (h : IsKept L n d) (e : ratio n d ≡ q) (f : FitsSigned w64 n) where

@@ -64,7 +64,8 @@ pub fn wide_product(a: i64, b: u64) -> i128
 }
 
 // The product of two integers.
-fn signed_product(a: i64, b: i64) -> i128
+#[inline]
+pub fn signed_product(a: i64, b: i64) -> i128
     requires left { unsigned_abs a < 2 ^ 63 }
     requires right { unsigned_abs b < 2 ^ 63 }
     ensures { result ≡ a *ℤ b }
@@ -83,9 +84,6 @@ pub fn sum_parts(an: i64, ad: u64, bn: i64, bd: u64) -> (i128, u128)
     ensures sum { ratio result.0 result.1 ≡ ratio an ad +ℚ ratio bn bd }
     ensures lowest { T (is_reduced result.0 result.1) }
 {
-    if ad == 1 && bd == 1 {
-        return ((an as i128) + (bn as i128), 1);
-    }
     let g = gcd(ad, bd);
     let a_part = quotient(ad, g);
     let b_part = quotient(bd, g);
@@ -106,9 +104,6 @@ pub fn product_parts(an: i64, ad: u64, bn: i64, bd: u64) -> (i128, u128)
     ensures product { ratio result.0 result.1 ≡ ratio an ad *ℚ ratio bn bd }
     ensures lowest { T (is_reduced result.0 result.1) }
 {
-    if ad == 1 && bd == 1 {
-        return (signed_product(an, bn), 1);
-    }
     if an == 0 || bn == 0 {
         return (0, 1);
     }

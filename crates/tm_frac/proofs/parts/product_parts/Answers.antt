@@ -6,7 +6,6 @@ use Rattle.tm_num.specs.Gcd.{gcd}
 use Rattle.tm_num.specs.Rational.{ratio, is_reduced, reduced_zero}
 use Rattle.tm_num.proofs.Lowest.{reduced_den, product_is, product_reduced, product_zero}
 use Rattle.tm_frac.proofs.Divided.{gcd_positive, gcd_left, gcd_right, gcd_small, zero_bits}
-use Rattle.tm_frac.proofs.Wholes.{whole_reduced, whole_product}
 use Rattle.tm_frac.proofs.parts.product_parts.Goals as goal
 
 pub signed_quotient-requires-clause-positive : goal.signed_quotient-requires-clause-positive
@@ -72,12 +71,3 @@ returns-then-an-eq0-clause-product c =
 
 pub returns-then-an-eq0-clause-lowest : goal.returns-then-an-eq0-clause-lowest
 returns-then-an-eq0-clause-lowest c = reduced_zero
-
-pub returns-then-bd-eq1-clause-product : goal.returns-then-bd-eq1-clause-product
-returns-then-bd-eq1-clause-product c =
-    whole_product c.args.an c.args.bn _ c.args.ad c.args.bd c.if-ad-eq1.true c.if-bd-eq1.true
-    (to_z-of_z w128 c.signed_product.result record { sfits = c.signed_product.type_inv } ∙ c.signed_product.ensures
-    ∙ ap₂ (λ x y. x *ℤ y) (to_z-of_z w64 c.args.an c.ranges.an) (to_z-of_z w64 c.args.bn c.ranges.bn))
-
-pub returns-then-bd-eq1-clause-lowest : goal.returns-then-bd-eq1-clause-lowest
-returns-then-bd-eq1-clause-lowest c = whole_reduced _
