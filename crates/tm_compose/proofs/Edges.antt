@@ -27,10 +27,6 @@ guard_forms_are : (n : ℕ) (actions : List Action) → guard_forms n actions �
 unfolding guard_forms
 guard_forms_are n actions = refl
 
-end_form_is : (n : ℕ) (actions : List Action) (row : List ℤ) → end_form n actions row ≡ combined row (ends_from n (columns n) actions)
-unfolding end_form
-end_form_is n actions row = refl
-
 end_forms_are : (n w : ℕ) (actions : List Action) (template : List (List ℤ)) → map (λ row. dense w (combined row (ends_from n (columns n) actions))) template ≡ map (λ row. dense w (end_form n actions row)) template
 unfolding end_form
 end_forms_are n w actions template = refl

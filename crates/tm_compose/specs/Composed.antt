@@ -16,7 +16,8 @@ first_entries (suc w) (x ∷ xs) = x ∷ first_entries w xs
 abbrev pub dense : ℕ → Form → Affine
 dense w f = record { coeffs = first_entries w f.coeffs; constant = f.constant }
 
--- the number of an edge's free values, its guards in the order of its actions, and the end value of each template row, all over the start variables and then the free values
+-- the number of an edge's free values, its guards in the order of its actions, and the end value of each template row, all over the start
+-- variables and then the free values
 pub record EdgeForms : Type 0 where
   pub frees : ℕ
   pub guards : List Affine

@@ -18,7 +18,8 @@ OneComposition = (system : Equations) (paths others : List EdgeForms) → AreCom
 abbrev pub form_of : Affine → Form
 form_of f = record { coeffs = f.coeffs; constant = f.constant }
 
--- what the composed forms of an edge say of a start state and free values: all guards are at most 0 exactly where a trace goes that way, and the row forms have the values at its end
+-- what the composed forms of an edge say of a start state and free values: all guards are at most 0 exactly where a trace goes that way, and
+-- the row forms have the values at its end
 pub record MeanTraces (template : List (List ℤ)) (actions : List Action) (forms : EdgeForms) (x : RationalState) (free : List ℚ) : Type 0 where
   pub passes : AllAtMost (map form_of forms.guards) (x ++ free) ↔ ((y : RationalState) × Follows actions x free y)
   pub ends : (y : RationalState) → Follows actions x free y → (r : ℕ) (row : List ℤ) (form : Affine) →
@@ -26,8 +27,10 @@ pub record MeanTraces (template : List (List ℤ)) (actions : List Action) (form
 
 -- composed forms mean the traces of their edge
 abbrev pub ComposedFormsMean : Type 0
-ComposedFormsMean = (system : Equations) (paths : List EdgeForms) (k : ℕ) (edge : Edge) (forms : EdgeForms) → AreComposed system paths → slice_get system.edges k ≡ Some edge → slice_get paths k ≡ Some forms →
-    (x : RationalState) (free : List ℚ) → length x ≡ system.variables → length free ≡ free_count edge.actions → MeanTraces system.template edge.actions forms x free
+ComposedFormsMean = (system : Equations) (paths : List EdgeForms) (k : ℕ) (edge : Edge) (forms : EdgeForms) → AreComposed system paths →
+    slice_get system.edges k ≡ Some edge → slice_get paths k ≡ Some forms →
+    (x : RationalState) (free : List ℚ) → length x ≡ system.variables → length free ≡ free_count edge.actions →
+    MeanTraces system.template edge.actions forms x free
 
 -- each form has one coefficient for each start variable and each free value
 pub record HaveColumns (system : Equations) (edge : Edge) (forms : EdgeForms) : Type 0 where
@@ -39,4 +42,5 @@ pub record HaveColumns (system : Equations) (edge : Edge) (forms : EdgeForms) : 
 -- there are composed forms for each edge, and each form has its columns
 abbrev pub ComposedFormsHaveColumns : Type 0
 ComposedFormsHaveColumns = (system : Equations) (paths : List EdgeForms) → AreComposed system paths →
-    (length paths ≡ length system.edges) × ((k : ℕ) (edge : Edge) (forms : EdgeForms) → slice_get system.edges k ≡ Some edge → slice_get paths k ≡ Some forms → HaveColumns system edge forms)
+    (length paths ≡ length system.edges) × ((k : ℕ) (edge : Edge) (forms : EdgeForms) → slice_get system.edges k ≡ Some edge →
+    slice_get paths k ≡ Some forms → HaveColumns system edge forms)

@@ -12,7 +12,8 @@ use Rattle.tm_compose.specs.Operations.{wide_composition}
 
 -- the first wide operation of a system's composition, outside rounds and at its edge
 abbrev pub IsPathFault : Equations → PathFault → Type 0
-IsPathFault system (Wide spot) = (spot.round ≡ 0) × ((edge : ℕ) × (spot.site ≡ Compose edge) × (wide_composition system ≡ Some (edge, operation_of (λ q. q) spot.wide)))
+IsPathFault system (Wide spot) =
+    (spot.round ≡ 0) × ((edge : ℕ) × (spot.site ≡ Compose edge) × (wide_composition system ≡ Some (edge, operation_of (λ q. q) spot.wide)))
 IsPathFault system NoMemory = Unit {0}
 
 -- ---- on the way

@@ -1,4 +1,5 @@
--- The operations by which edges are composed: edges by number; in an edge its actions in order, and then the template's rows; in a form its columns in order, and then the constant.
+-- The operations by which edges are composed: edges by number; in an edge its actions in order, and then the template's rows; in a form its
+-- columns in order, and then the constant.
 use Rattle.std.specs.Prelude.{ℕ, suc, ℤ, List, [], ◌∷◌, ◌++◌, map, flat_map, get_or, slice_set, Option, Some, None}
 use Rattle.std.specs.List.{range_with_len}
 use Rattle.tm_num.specs.Rational.{ℚ, zero_ℚ}
@@ -53,7 +54,8 @@ next_column k (Havoc var) = suc k
 -- actions from a state of forms on, and then the rows of the template
 abbrev pub actions_composition : ℕ → List (List ℤ) → ℕ → List Form → List Action → List Operation
 actions_composition w template k state [] = flat_map (row_composition w state) template
-actions_composition w template k state (action ∷ actions) = action_composition w state action ++ actions_composition w template (next_column k action) (next_state k state action) actions
+actions_composition w template k state (action ∷ actions) =
+    action_composition w state action ++ actions_composition w template (next_column k action) (next_state k state action) actions
 
 -- an edge over n variables
 abbrev pub edge_composition : ℕ → List (List ℤ) → List Action → List Operation

@@ -17,4 +17,5 @@ dense_constants state = map (λ f. f.constant) state
 -- this number, which fits, where none of the operations is wide, and the first that is where one is
 abbrev pub FittingSum : ℚ → List Operation → Result ℚ (Wide ℚ) → Type 0
 FittingSum v operations result =
-    MatchResult result (λ r. (r ≡ v) × (first_wide long_limit operations ≡ None) × Fits long_limit r) (λ w. first_wide long_limit operations ≡ Some (operation_of (λ q. q) w))
+    MatchResult result (λ r. (r ≡ v) × (first_wide long_limit operations ≡ None) × Fits long_limit r)
+    (λ w. first_wide long_limit operations ≡ Some (operation_of (λ q. q) w))

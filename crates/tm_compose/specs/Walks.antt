@@ -33,7 +33,8 @@ action_guards state (Havoc var) = []
 abbrev pub StepComposes : ℕ → ℕ → List Form → Action → List Affine → List Affine → List Affine → Result ℕ FormFault → Type 0
 StepComposes w k state action before after guards result =
     MatchResult result
-    (λ next. (next ≡ next_column k action) × (after ≡ map (dense w) (next_state k state action)) × (guards ≡ before ++ map (dense w) (action_guards state action)) × (first_wide long_limit (action_composition w state action) ≡ None))
+    (λ next. (next ≡ next_column k action) × (after ≡ map (dense w) (next_state k state action))
+    × (guards ≡ before ++ map (dense w) (action_guards state action)) × (first_wide long_limit (action_composition w state action) ≡ None))
     (IsFormFault (action_composition w state action))
 
 -- after all actions: their guards, and the state of forms at the end, from which on the rows are composed
@@ -41,7 +42,8 @@ abbrev pub WalkComposes : ℕ → ℕ → List Form → List Action → List Aff
 WalkComposes w k state actions after result =
     MatchResult result
     (λ guards. (guards ≡ map (dense w) (guards_from k state actions)) × (after ≡ map (dense w) (ends_from k state actions))
-    × ((template : List (List ℤ)) → first_wide long_limit (actions_composition w template k state actions) ≡ first_wide long_limit (flat_map (row_composition w (ends_from k state actions)) template)))
+    × ((template : List (List ℤ)) → first_wide long_limit (actions_composition w template k state actions) ≡
+    first_wide long_limit (flat_map (row_composition w (ends_from k state actions)) template)))
     (λ fault. (template : List (List ℤ)) → IsFormFault (actions_composition w template k state actions) fault)
 
 -- the fault of a form, with the number of its edge

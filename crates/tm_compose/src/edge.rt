@@ -28,7 +28,8 @@ fn compose_rows(
 ) -> Result<Affines, FormFault>
     requires template { IsTrue (is_over (length state.now) template.now) }
     requires state { IsState width state.now }
-    ensures { (forms : List Formal) → state.now ≡ map (dense width) forms → Composes (map (λ row. dense width (combined row forms)) template.now) (flat_map (row_composition width forms) template.now) result }
+    ensures { (forms : List Formal) → state.now ≡ map (dense width) forms →
+        Composes (map (λ row. dense width (combined row forms)) template.now) (flat_map (row_composition width forms) template.now) result }
 {
     let mut rows = Vec::with_capacity(alloc, template.len())?;
     for row in template {

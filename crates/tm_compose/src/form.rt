@@ -54,7 +54,8 @@ pub fn compose_row(
     requires numbers { IsTrue (are_numbers row.now) }
     requires size { length row.now ≡ length state.now }
     requires state { IsState width state.now }
-    ensures { (forms : List Formal) → state.now ≡ map (dense width) forms → Composes (dense width (combined row.now forms)) (row_composition width forms row.now) result }
+    ensures { (forms : List Formal) → state.now ≡ map (dense width) forms →
+        Composes (dense width (combined row.now forms)) (row_composition width forms row.now) result }
 {
     let mut list = Vec::with_capacity(alloc, width)?;
     for column in 0..width {
@@ -76,7 +77,8 @@ pub fn compose_form(
 ) -> Result<Affine, FormFault>
     requires form { IsTrue (is_form (length state.now) form.now) }
     requires state { IsState width state.now }
-    ensures { (forms : List Formal) → state.now ≡ map (dense width) forms → Composes (dense width (composed form.now forms)) (form_composition width forms form.now) result }
+    ensures { (forms : List Formal) → state.now ≡ map (dense width) forms →
+        Composes (dense width (composed form.now forms)) (form_composition width forms form.now) result }
 {
     let row = compose_row(alloc, form.coeffs.as_slice(), state, width)?;
     let constant = row.constant.plus(fraction(form.constant))?;

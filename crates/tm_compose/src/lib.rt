@@ -1,7 +1,7 @@
 //! The composed edges of an equation system: guards and end values of rows as forms over the start variables and the free values.
 //! Beside them stands what a transformer of an edge and a row is said to be, with its evidence.
 //!
-//! `docs/DEFINITIONS.md` reads the definitions of `specs/` in order.
+//! `docs/METHOD.md` says how composed edges are used.
 #![tactic(auto)]
 
 mod affine;

@@ -52,7 +52,8 @@ fn step(
     requires action { IsTrue (is_action (length state.old) action.now) }
     requires next { next + free_count (action.now ∷ []) ≤ width }
     requires state { IsState width state.old }
-    ensures { (forms : List Formal) → state.old ≡ map (dense width) forms → StepComposes width next forms action.now guards.old.items state.new guards.new.items result }
+    ensures { (forms : List Formal) → state.old ≡ map (dense width) forms →
+        StepComposes width next forms action.now guards.old.items state.new guards.new.items result }
 {
     match action {
         Action::Guard(form) => {

@@ -67,7 +67,9 @@ fn add_rate(
     ray: &[Frac],
 ) -> Result<(), PartFault>
     requires { IsWithin (length ray.now) rise.now }
-    ensures { MatchResult result (λ u. (list.new.items ≡ list.old.items ++ named_rates ray.now (rise.now ∷ [])) × (first_wide long_limit (named_operations ray.now (rise.now ∷ [])) ≡ None)) (λ f. IsReadingFault (named_operations ray.now (rise.now ∷ [])) f) }
+    ensures { let operations = named_operations ray.now (rise.now ∷ []) in MatchResult result
+        (λ u. (list.new.items ≡ list.old.items ++ named_rates ray.now (rise.now ∷ [])) × (first_wide long_limit operations ≡ None))
+        (λ f. IsReadingFault operations f) }
 {
     let rate = ray[rise.col as usize];
     if rate <= Frac::zero() {
@@ -88,7 +90,7 @@ fn add_rate(
 
 /// The unknowns of the layout that grow along the ray: those whose rate, the ray's entry at the column of their rise, is above
 /// 0, in order. Each has its rate and its direction, whose entries are each the positive column minus the negative one.
-/// Unknowns with rate 0 are left out. `docs/DEFINITIONS.md` says where such a ray comes from.
+/// Unknowns with rate 0 are left out. `docs/METHOD.md` says where such a ray comes from.
 ///
 /// # Errors
 ///
