@@ -1,5 +1,5 @@
 #!/usr/bin/env python3
-"""Writes the linear programs of bench/lp: joint problems of lists of bounds (docs/DEFINITIONS.md, "The joint problem").
+"""Writes the linear programs of bench/lp: joint problems of lists of bounds (docs/METHOD.md).
 
 Each program has one loop: a guard and one or more branches that assign affine forms to all variables. The list is the rows of a
 domain (intervals, zones or octagons) at the head of the loop that some branch exceeds. The base are the bounds of the single state

@@ -22,7 +22,7 @@ struct Stage {
 }
 
 // Before the first round.
-#[tactic(auto, using(tm_rounds::proofs::StartTight::start_length))]
+#[tactic(auto, using(tm_rounds::proofs::chains::StartTight::start_length))]
 fn begun(alloc: Global, system: &System) -> Result<Stage, Fail>
     requires points { 0 < length system.now.flow.points }
     ensures bounds { IfOk result (λ stage. length stage.grown.bounds ≡ length system.now.flow.points * length system.now.template) }
@@ -138,11 +138,13 @@ fn two_rounds(alloc: Global, text: &[u8], domain: Domain) -> Result<Vec<u8>, Fai
 const COUNTED: &[u8] =
     b" - - 0 0 - -; +inf +inf 0 0 -inf -inf raised 2 3; plain 2 by 0 low 0 to -1; plain 3 by 0 low 0 to -1; jump 2 by 0 low 0 high 0 to 0; jump 3 by 0 low 0 high 0 to 0\n - - 1 0 - -; +inf +inf 100 0 -inf -inf raised 2; plain 2 by 1 low 0 to 1/2; jump 2 by 1 low 0 high 99 to 100";
 
-// The loop without a guard: three unknowns are raised, the exit after the loop and by its new bound, each a part of its own. The loop's ray comes first, and then the exit sees +inf.
+// The loop without a guard: three unknowns are raised, the exit after the loop and by its new bound, each a part of its own. The loop's ray comes
+// first, and then the exit sees +inf.
 const UNENDED: &[u8] =
     b" - - 0 0 - -; +inf +inf 0 0 -inf -inf raised 2 3; plain 2 by 0 low 0 to -1; plain 3 by 0 low 0 to -1; jump 2 by 0 low 0 high 0 to 0; jump 3 by 0 low 0 high 0 to 0\n - - 1 0 2 2; +inf +inf +inf 0 +inf 0 raised 2 4 5; plain 2 by 1 low 0 to 1/2; plain 4 by 2 low 1/2 to -1/2; plain 5 by 2 low 0 to -1; ray 2 by 1 low 0 along 1 rate 1; ray 4 by 2 low 1/2 along 1 rate 1; jump 5 by 2 low 0 high 0 to 0";
 
-// Two counters over zones: x and y are raised one after the other and are one part, whose bounds solve a = min(a, b, 9) + 1 and b = min(a, b, 9) + 1 with x = y.
+// Two counters over zones: x and y are raised one after the other and are one part, whose bounds solve a = min(a, b, 9) + 1 and b = min(a, b, 9) + 1
+// with x = y.
 const JOINED: &[u8] =
     b" - - - - - - 1 0 1 0 0 0 - - - - - -; +inf +inf +inf +inf +inf +inf 10 0 10 0 0 0 -inf -inf -inf -inf -inf -inf raised 6 8; plain 6 by 1 low 0 0 to 1/2; plain 8 by 1 low 0 0 to 1/2; jump 6 by 1 low 0 0 high 9 9 to 10 8 by 1 low 0 0 high 9 9 to 10";
 

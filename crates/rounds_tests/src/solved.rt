@@ -89,7 +89,8 @@ fn begins(alloc: Global, by: By, wanted: &[u8]) -> Result<bool, Fail> {
     Ok(line.as_slice().starts_with(wanted))
 }
 
-// The counter needs three rounds: the loop at 0, the loop at 100, the exit. The first and the third raise two unknowns and have two parts, the second raises one. There are two edges into the
+// The counter needs three rounds: the loop at 0, the loop at 100, the exit. The first and the third raise two unknowns and have two parts, the second
+// raises one. There are two edges into the
 // loop and one into the exit, each with two rows. After two rounds the exit isn't reached yet.
 #[test]
 fn a_counter_is_solved(rt: HostRuntime) -> Result<(), Fail> {
@@ -127,8 +128,10 @@ fn a_counter_is_solved(rt: HostRuntime) -> Result<(), Fail> {
     Ok(())
 }
 
-// x is at most 3 behind the assumption and at the exit, whichever function chooses. Its greatest case is the third, so that the greatest and the last value find it in round 1, and the exit
-// follows in round 2. The first value that exceeds the bound is that of the first case in round 1, of the second in round 2 and of the third in round 3; the exit follows from round 2.
+// x is at most 3 behind the assumption and at the exit, whichever function chooses. Its greatest case is the third, so that the greatest and the last
+// value find it in round 1, and the exit
+// follows in round 2. The first value that exceeds the bound is that of the first case in round 1, of the second in round 2 and of the third in round
+// 3; the exit follows from round 2.
 #[test]
 fn three_policies_find_the_same_bounds(rt: HostRuntime) -> Result<(), Fail> {
     let alloc = rt.alloc();

@@ -1,3 +1,3 @@
-pub mod OneOffer
-pub mod OneChain
-pub mod OnePosition
+pub mod transformers
+pub mod chains
+pub mod offers

@@ -1,1 +1,1 @@
-pub mod CheckTests
+pub mod events

@@ -4,7 +4,7 @@ use native.Mathlib.Decide.{dec_le, ℕ_discrete}
 use Rattle.tm_eqsys.specs.declared.spot.Site.TheVariants.{Upper}
 use Rattle.tm_eqsys.specs.Equations.{Equations, Vector}
 use Rattle.tm_validity.specs.Steps.{start_vector}
-use Rattle.tm_validity.specs.Certificates.{Evidence, Need, needs, led, Certificate, bounds_vector}
+use Rattle.tm_validity.specs.Certificates.{Evidence, Need, needs, after_steps, Certificate, bounds_vector}
 use Rattle.tm_validity.specs.Decide.{dec_and, ext_same}
 use Rattle.tm_validity.specs.Faults.{SizeFault, FinalFault, UpperFault, unknowns}
 use Rattle.tm_check.specs.Events.{Event, Test, decided}
@@ -36,5 +36,5 @@ check_events system certificate =
     Test (decided (dec_and (ℕ_discrete (length certificate.bounds) (system.points * length system.template)) (dec_le (length certificate.uppers)
     (length (needs system (bounds_vector system certificate.bounds)))))) SizeFault
     ∷ (steps_events system start_vector 0 certificate.steps
-    ++ (final_events system (led certificate.steps start_vector) (bounds_vector system certificate.bounds) (unknowns system)
+    ++ (final_events system (after_steps certificate.steps start_vector) (bounds_vector system certificate.bounds) (unknowns system)
     ++ uppers_events system (bounds_vector system certificate.bounds) (needs system (bounds_vector system certificate.bounds)) certificate.uppers))

@@ -4,7 +4,7 @@ use Rattle.std.specs.List.{range_with_len}
 use native.Mathlib.Decide.{dec_lt, ℕ_discrete}
 use Rattle.tm_num.specs.Rational.{ℚ, whole, zero_ℚ, ◌+ℚ◌, ◌*ℚ◌, neg_ℚ}
 use Rattle.tm_num.specs.Extended.{Ext, neg_inf, fin, pos_inf}
-use Rattle.tm_num.proofs.Laws.{ℚ_discrete}
+use Rattle.tm_num.proofs.rational.Laws.{ℚ_discrete}
 use Rattle.tm_frac.specs.declared.wide.Op.TheVariants.{Add, Mul}
 use Rattle.tm_frac.specs.Operation.{Operation}
 use Rattle.tm_flow.specs.declared.edge.Edge.{Edge}

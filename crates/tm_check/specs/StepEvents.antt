@@ -9,7 +9,7 @@ use Rattle.tm_eqsys.specs.Equations.{Equations, Vector}
 use Rattle.tm_eqsys.specs.TraceTests.{trace_operations}
 use Rattle.tm_validity.specs.Words.{lin, end_form, start_of}
 use Rattle.tm_eqsys.specs.Constants.{linear_action}
-use Rattle.tm_validity.specs.Steps.{Pieces, word, Item, Kind, Plain, Jump, Ray, Step, edge_of, row_of, put, new_value, after, item_value}
+use Rattle.tm_validity.specs.Steps.{Pieces, word, Item, Kind, Plain, Jump, Ray, Step, edge_of, row_of, put, new_value, after_step, item_value}
 use Rattle.tm_validity.specs.Decide.{dec_and, dec_le_ℚ, dec_lt_ℚ, dec_leᴱ, dec_ltᴱ, dec_finite, dec_falls}
 use Rattle.tm_validity.specs.Faults.{Fault, TraceFault, LowFault, HighFault, RayFault, dec_named, bound_at}
 use Rattle.tm_check.specs.Events.{Event, Test, sums, decided}
@@ -112,4 +112,4 @@ step_events system z s step = first_pass_events step.kind system z s 0 [] step.i
 -- the steps from number s on, each at the vector to which those before lead
 unfoldable pub steps_events : Equations → Vector → ℕ → List Step → List Event
 steps_events system z s [] = []
-steps_events system z s (step ∷ steps) = step_events system z s step ++ steps_events system (after step z) (suc s) steps
+steps_events system z s (step ∷ steps) = step_events system z s step ++ steps_events system (after_step step z) (suc s) steps

@@ -3,7 +3,7 @@
 ghost use Rattle.std.specs.Prelude.{◌≡◌, ◌↔◌, ◌*◌, ◌<◌, ◌/◌, ◌%◌, [], ◌∷◌, ◌++◌, ℤ, List, IsTrue, length, slice_get, get_or, Some};
 ghost use Rattle.tm_num.specs.Rational.{zero_ℚ};
 ghost use Rattle.tm_num.specs.Extended.{Ext as Extended, neg_inf};
-ghost use Rattle.tm_num.proofs.Laws.{ℚ_discrete};
+ghost use Rattle.tm_num.proofs.rational.Laws.{ℚ_discrete};
 ghost use Rattle.tm_flow.specs.declared.edge.Edge.{Edge};
 ghost use Rattle.tm_eqsys.specs.Equations.{Vector};
 ghost use Rattle.tm_eqsys.specs.View.{equations_of};

@@ -6,8 +6,8 @@ ghost use Rattle.tm_frac.specs.Extended.{extended};
 ghost use Rattle.tm_eqsys.specs.Equations.{Equations, Vector};
 ghost use Rattle.tm_eqsys.specs.View.{equations_of};
 ghost use Rattle.tm_cert.specs.Certificates.{step_of};
-ghost use Rattle.tm_validity.specs.Steps.{after, new_value, put, start_vector};
-ghost use Rattle.tm_validity.specs.Certificates.{led};
+ghost use Rattle.tm_validity.specs.Steps.{after_step, new_value, put, start_vector};
+ghost use Rattle.tm_validity.specs.Certificates.{after_steps};
 ghost use Rattle.tm_check.specs.Events.{IsRun, first_stop};
 ghost use Rattle.tm_check.specs.Items.{item_count, item_at, is_short};
 ghost use Rattle.tm_check.specs.StepEvents.{second_pass_events, step_events, steps_events};
@@ -72,7 +72,7 @@ fn take(
     ensures rates { length rates.new ≡ length rates.old }
     ensures taken { (z : Vector) → Stands (equations_of system.now) base.old z → Stands (equations_of system.now) next.old z →
         let theirs = step_of (length system.now.template) step.now in
-        MatchResult result (λ u. Stands (equations_of system.now) base.new (after theirs z) × Stands (equations_of system.now) next.new (after theirs z) ×
+        MatchResult result (λ u. Stands (equations_of system.now) base.new (after_step theirs z) × Stands (equations_of system.now) next.new (after_step theirs z) ×
         (first_stop (step_events (equations_of system.now) z number theirs) ≡ None))
         (λ fault. first_stop (step_events (equations_of system.now) z number theirs) ≡ Some fault) }
 {
@@ -118,7 +118,7 @@ pub fn check_steps(system: &System, steps: &[Step], scratch: &mut Scratch) -> Re
     requires room { HasRoom (equations_of system.now) scratch.old }
     ensures room { HasRoom (equations_of system.now) scratch.new }
     ensures answer { let theirs = map (step_of (length system.now.template)) steps.now in
-        IsRun (λ u. Stands (equations_of system.now) scratch.new.base (led theirs start_vector))
+        IsRun (λ u. Stands (equations_of system.now) scratch.new.base (after_steps theirs start_vector))
         (steps_events (equations_of system.now) start_vector 0 theirs) result }
 {
     let rows = system.template.as_slice().len() as u32;

@@ -1,3 +1,0 @@
-pub mod AnyName
-pub mod Numbers
-pub mod Parsed

@@ -8,7 +8,7 @@ use Rattle.tm_flow.specs.declared.edge.Edge.{Edge}
 use Rattle.tm_flow.specs.declared.graph.Flow.{Flow}
 use Rattle.tm_flow.specs.FlowLimits.{is_action, is_edge}
 use Rattle.tm_eqsys.proofs.Sizes.{both, flow_sizes}
-use Rattle.tm_eqsys.proofs.Traced.{all_at}
+use Rattle.tm_eqsys.proofs.trace_tests.Traced.{all_at}
 
 -- an edge of a flow has few actions, over its names
 pub record EdgeFits (n : ℕ) (actions : List Action) : Type 0 where

@@ -1,13 +1,6 @@
-pub mod Products
-pub mod Columns
-pub mod Passed
-pub mod Dense
+pub mod faults
+pub mod composed
 pub mod Places
 pub mod Ranges
-pub mod Rows
-pub mod States
-pub mod Frees
-pub mod Walked
-pub mod Edges
+pub mod operations
 pub mod Alls
-pub mod Means

@@ -1,7 +1,7 @@
 -- The four formulas at single entries.
 use Rattle.std.proofs.Common.{◌≡◌, ◌≢◌, Bool, true, false, cond, ℤ, List, [], ◌∷◌, Option, Some, None, Result, MatchResult, refl, ap, ap₂, sym, ◌∙◌, subst, true≢false}
 use Rattle.tm_num.specs.Rational.{ℚ, zero_ℚ, one_ℚ, inv_ℚ, neg_ℚ, ◌+ℚ◌, ◌*ℚ◌, ◌/ℚ◌}
-use Rattle.tm_num.proofs.Laws.{div_ℚ_is, zero-*ℚ, *ℚ-zero, neg_ℚ-zero, +ℚ_idr}
+use Rattle.tm_num.proofs.rational.Laws.{div_ℚ_is, zero-*ℚ, *ℚ-zero, neg_ℚ-zero, +ℚ_idr}
 use Rattle.tm_frac.specs.Fits.{Fits}
 use Rattle.tm_frac.specs.declared.wide.Op.TheVariants.{Add, Mul, Div}
 use Rattle.tm_frac.specs.declared.wide.Wide.{Wide}

@@ -1,64 +1,11 @@
--- The test for a wide operation against what the operations of a field answer.
-use Rattle.std.proofs.Common.{◌≡◌, ◌≢◌, ◌↔◌, IsTrue, Bool, true, false, not, cond, T, ◌&&◌, ℤ, pos, negsuc, zero, suc, nat_abs, List, [], ◌∷◌, ◌++◌, Option, Some, None, Result, Ok, Err, MatchResult, refl, ap, sym, ◌∙◌, subst, true≢false, arith}
-use Rattle.std.specs.Prelude.{find}
-use lib.Signed.{le_z}
-use Rattle.std.proofs.lemmas.List.Folds.{find-append}
+-- The test for 0; what the operations of a field answer is said where fractions are.
+use Rattle.std.proofs.Common.{◌≡◌, ◌≢◌, true, false, ℤ, pos, negsuc, zero, suc, refl, ap}
 use Rattle.tm_num.specs.Rational.{ℚ, zero_ℚ}
-use Rattle.tm_num.proofs.Parts.{num-zero}
-use Rattle.tm_num.proofs.Quotients.{zero_by_num}
-use Rattle.tm_frac.specs.Fits.{Fits}
-use Rattle.tm_frac.specs.declared.wide.Op.{Op}
-use Rattle.tm_frac.specs.declared.wide.Wide.{Wide}
-use Rattle.tm_frac.specs.Operation.{Operation, result_by, result_of, fits, is_wide, first_wide, operation_of, Answers}
+use Rattle.tm_num.proofs.rational.Parts.{num-zero}
+use Rattle.tm_num.proofs.rational.Quotients.{zero_by_num}
 use Rattle.tm_dict.specs.Formulas.{is_zero, is_zero_num}
+pub use Rattle.tm_frac.proofs.operation.Widths.{first_wide_later, first_wide_sooner, first_wide_past, first_wide_here, one_answer}
 
-both_true : (a b : Bool) → T a → T b → a && b ≡ true
-both_true true true s t = refl
-both_true true false s t = absurd t
-both_true false b s t = absurd s
-
-both_parts : (a b : Bool) → a && b ≡ true → T a × T b
-both_parts true true e = (tt, tt)
-both_parts true false e = absurd (true≢false (sym e))
-both_parts false b e = absurd (true≢false (sym e))
-
--- a number that fits passes the test
-pub fits_yes : (L : ℤ) (q : ℚ) → Fits L q → fits L q ≡ true
-unfolding fits
-fits_yes L q h = both_true (le_z (pos (nat_abs q.num)) L) (le_z (pos q.den) L) h.num_fits.le h.den_fits.le
-
-fits_out : (L : ℤ) (q : ℚ) → fits L q ≡ true → Fits L q
-unfolding fits
-fits_out L q e = let p = both_parts (le_z (pos (nat_abs q.num)) L) (le_z (pos q.den) L) e in record { num_fits = record { le = p.0 }; den_fits = record { le = p.1 } }
-
--- and no other number does
-pub fits_no : (L : ℤ) (q : ℚ) → ¬ (Fits L q) → fits L q ≡ false
-fits_no L q n = by (fits L q) refl
-  where
-    by : (b : Bool) → fits L q ≡ b → b ≡ false
-    by true e = absurd (n (fits_out L q e))
-    by false e = refl
-
--- none of no operations is wide
-pub first_wide-none : (L : ℤ) → first_wide L [] ≡ None
-first_wide-none L = refl
-
--- an operation whose result fits is passed over
-pub first_wide_past : (L : ℤ) (o : Operation) (os : List Operation) → Fits L (result_of o) → first_wide L (o ∷ os) ≡ first_wide L os
-first_wide_past L o os h = ap (λ b. cond (not b) (Some o) (first_wide L os)) (fits_yes L (result_of o) h)
-
--- one whose result does not fit is the first
-pub first_wide_here : (L : ℤ) (o : Operation) (os : List Operation) → ¬ (Fits L (result_of o)) → first_wide L (o ∷ os) ≡ Some o
-first_wide_here L o os n = ap (λ b. cond (not b) (Some o) (first_wide L os)) (fits_no L (result_of o) n)
-
--- the first of two lists is in the second if none is in the first
-pub first_wide_later : (L : ℤ) (os ps : List Operation) → first_wide L os ≡ None → first_wide L (os ++ ps) ≡ first_wide L ps
-first_wide_later L os ps e = find-append (is_wide L) os ps ∙ cc
-
-pub first_wide_sooner : (L : ℤ) (os ps : List Operation) (o : Operation) → first_wide L os ≡ Some o → first_wide L (os ++ ps) ≡ Some o
-first_wide_sooner L os ps o e = find-append (is_wide L) os ps ∙ cc
-
--- the test for 0
 pub is_zero_yes : (q : ℚ) → q ≡ zero_ℚ → is_zero q ≡ true
 is_zero_yes q e = ap is_zero_num ((zero_by_num q).1 e)
 
@@ -69,10 +16,3 @@ is_zero_no q n = by q.num refl
     by (pos zero) e = absurd (n ((zero_by_num q).0 e))
     by (pos (suc k)) e = refl
     by (negsuc k) e = refl
-
--- what one operation of a field answers
-pub one_answer : {F : Type 0} (m : F → ℚ) (L : ℤ) (op : Op) (a b : F) (res : Result F (Wide F)) →
-    MatchResult res (λ r. (m r ≡ result_by op (m a) (m b)) × Fits L (m r)) (λ e. (¬ (Fits L (result_by op (m a) (m b)))) × (e ≡ record { op = op; left = a; right = b })) →
-    Answers m L (result_by op (m a) (m b)) (record { op = op; left = m a; right = m b } ∷ []) res
-one_answer m L op a b (Ok r) h = (h.0, first_wide_past L (record { op = op; left = m a; right = m b }) [] (subst (Fits L) h.0 h.1))
-one_answer m L op a b (Err w) h = first_wide_here L (record { op = op; left = m a; right = m b }) [] h.0 ∙ ap (λ (x : Wide _). Some (operation_of m x)) (sym h.1)

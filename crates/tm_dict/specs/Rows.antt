@@ -15,13 +15,15 @@ pub record SetsRow {F : Type 0} (m : F → ℚ) (start n : ℕ) (f : ℕ → ℚ
 
 -- the first n rows but r are combined with the row r, and all other entries are as before
 pub record CombinesRows {F : Type 0} (m : F → ℚ) (n r stride c : ℕ) (old new : List F) : Type 0 where
-  pub others : (i k : ℕ) → i < n → i ≢ r → k < stride → cell m new (i * stride + k) ≡ combined_row (row_from m old (i * stride)) (row_from m old (r * stride)) c k
+  pub others : (i k : ℕ) → i < n → i ≢ r → k < stride →
+      cell m new (i * stride + k) ≡ combined_row (row_from m old (i * stride)) (row_from m old (r * stride)) c k
   pub pivot_row : (k : ℕ) → k < stride → cell m new (r * stride + k) ≡ cell m old (r * stride + k)
   pub later : (p : ℕ) → n * stride ≤ p → cell m new p ≡ cell m old p
 
 -- the operations of combining the first n rows but r with the row r
 unfoldable pub rows_operations : {F : Type 0} → (F → ℚ) → List F → ℕ → ℕ → ℕ → ℕ → List Operation
-rows_operations m xs n r stride c = joined n (λ i. cond (eqb i r) [] (combination_row_operations stride (row_from m xs (i * stride)) (row_from m xs (r * stride)) c))
+rows_operations m xs n r stride c = joined n (λ i. cond (eqb i r) []
+    (combination_row_operations stride (row_from m xs (i * stride)) (row_from m xs (r * stride)) c))
 
 -- the first n rows are moved forward, without the row r and the column c
 pub record ShiftsRows {F : Type 0} (m : F → ℚ) (n r stride c : ℕ) (old new : List F) : Type 0 where
@@ -31,7 +33,8 @@ pub record ShiftsRows {F : Type 0} (m : F → ℚ) (n r stride c : ℕ) (old new
 -- the n rows after the pivot at the row r and the column c
 pub record Exchanges {F : Type 0} (m : F → ℚ) (n r stride c : ℕ) (old new : List F) : Type 0 where
   pub pivot_row : (k : ℕ) → k < stride → cell m new (r * stride + k) ≡ divided_row (row_from m old (r * stride)) c k
-  pub others : (i k : ℕ) → i < n → i ≢ r → k < stride → cell m new (i * stride + k) ≡ combined_row (row_from m old (i * stride)) (divided_row (row_from m old (r * stride)) c) c k
+  pub others : (i k : ℕ) → i < n → i ≢ r → k < stride →
+      cell m new (i * stride + k) ≡ combined_row (row_from m old (i * stride)) (divided_row (row_from m old (r * stride)) c) c k
 
 -- the operations of that pivot
 unfoldable pub exchange_operations : {F : Type 0} → (F → ℚ) → List F → ℕ → ℕ → ℕ → ℕ → List Operation

@@ -45,7 +45,8 @@ fn push_slack<F: OrderedField>(
     row: &Row<F>,
     auxiliary: bool,
 ) -> Result<(), AllocError>
-    ensures { OnOk result (map F.meaning entries.new.items ≡ map F.meaning entries.old.items ++ slack_entries auxiliary (map F.meaning row.now.coeffs.items) (F.meaning row.now.side)) }
+    ensures { OnOk result (map F.meaning entries.new.items ≡ map F.meaning entries.old.items
+        ++ slack_entries auxiliary (map F.meaning row.now.coeffs.items) (F.meaning row.now.side)) }
 {
     for coeff in &row.coeffs {
         entries.push(coeff.negate())?;
@@ -64,7 +65,8 @@ fn push_slacks<F: OrderedField>(
     auxiliary: bool,
 ) -> Result<(), AllocError>
     requires { entries.old.items ≡ [] }
-    ensures { OnOk result (map F.meaning entries.new.items ≡ slacks_entries auxiliary (map (λ r. map F.meaning r.coeffs.items) rows.now) (map (λ r. F.meaning r.side) rows.now) (length rows.now)) }
+    ensures { OnOk result (map F.meaning entries.new.items ≡ slacks_entries auxiliary (map (λ r. map F.meaning r.coeffs.items) rows.now)
+        (map (λ r. F.meaning r.side) rows.now) (length rows.now)) }
 {
     for i in 0..rows.len() {
         push_slack(entries, &rows[i], auxiliary)?;
@@ -128,7 +130,9 @@ pub fn first_entries<F: OrderedField>(
     problem: &Problem<F>,
     auxiliary: bool,
 ) -> Result<Vec<F>, AllocError>
-    ensures { IfOk result (λ v. map F.meaning v.items ≡ slacks_entries auxiliary (map (λ r. map F.meaning r.coeffs.items) problem.now.rows.items) (map (λ r. F.meaning r.side) problem.now.rows.items) (length problem.now.rows.items) ++ goals_entries auxiliary (map F.meaning problem.now.goal.items)) }
+    ensures { IfOk result (λ v. map F.meaning v.items ≡ slacks_entries auxiliary (map (λ r. map F.meaning r.coeffs.items) problem.now.rows.items)
+        (map (λ r. F.meaning r.side) problem.now.rows.items) (length problem.now.rows.items)
+        ++ goals_entries auxiliary (map F.meaning problem.now.goal.items)) }
 {
     let rows = problem.rows.len().saturating_add(2);
     let stride = problem.goal.len().saturating_add(2);

@@ -9,7 +9,8 @@ use tm_frac::{OrderedField, Wide};
 /// An entry of the pivot's row after the pivot: formula 1 at the pivot itself, else formula 2.
 pub fn divided_by<F: OrderedField>(entry: F, pivot: F, at_pivot: bool) -> Result<F, Wide<F>>
     requires { F.meaning pivot ≢ zero_ℚ }
-    ensures { Answers F.meaning F.LIMIT (divided (F.meaning entry) (F.meaning pivot) at_pivot) (divided_operations (F.meaning entry) (F.meaning pivot) at_pivot) result }
+    ensures { Answers F.meaning F.LIMIT (divided (F.meaning entry) (F.meaning pivot) at_pivot)
+        (divided_operations (F.meaning entry) (F.meaning pivot) at_pivot) result }
 {
     if at_pivot {
         return F::one().over(pivot);
@@ -36,7 +37,8 @@ pub fn product_of<F: OrderedField>(factor: F, above: F) -> Result<F, Wide<F>>
 /// the pivot's column the entry stays.
 pub fn sum_of<F: OrderedField>(entry: F, factor: F, above: F, at_pivot: bool) -> Result<F, Wide<F>>
     requires { F.meaning factor ≢ zero_ℚ }
-    ensures { Answers F.meaning F.LIMIT (added (F.meaning entry) (F.meaning factor) (F.meaning above) at_pivot) (added_operations (F.meaning entry) (F.meaning factor) (F.meaning above) at_pivot) result }
+    ensures { Answers F.meaning F.LIMIT (added (F.meaning entry) (F.meaning factor) (F.meaning above) at_pivot)
+        (added_operations (F.meaning entry) (F.meaning factor) (F.meaning above) at_pivot) result }
 {
     if at_pivot {
         return Ok(entry);

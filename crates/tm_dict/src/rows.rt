@@ -22,7 +22,8 @@ pub fn divide_row<F: OrderedField>(
     requires pivot { cell F.meaning entries.old (start + col) ≢ zero_ℚ }
     ensures divided { OnOk result (SetsRow F.meaning start stride (divided_row (row_from F.meaning entries.old start) col) entries.old entries.new) }
     ensures fits { OnOk result (first_wide F.LIMIT (division_row_operations stride (row_from F.meaning entries.old start) col) ≡ None) }
-    ensures wide { IfErr result (λ w. first_wide F.LIMIT (division_row_operations stride (row_from F.meaning entries.old start) col) ≡ Some (operation_of F.meaning w)) }
+    ensures wide { IfErr result (λ w. first_wide F.LIMIT (division_row_operations stride (row_from F.meaning entries.old start) col) ≡ Some
+        (operation_of F.meaning w)) }
 {
     let pivot = entries[start + col];
     for k in 0..stride {
@@ -45,9 +46,13 @@ fn add_row<F: OrderedField>(
     requires above_within { above + stride ≤ length entries.old }
     requires apart { (start + stride ≤ above) ⊎ (above + stride ≤ start) }
     requires factor { F.meaning factor ≢ zero_ℚ }
-    ensures added { OnOk result (SetsRow F.meaning start stride (added_row (row_from F.meaning entries.old start) (F.meaning factor) (row_from F.meaning entries.old above) col) entries.old entries.new) }
-    ensures fits { OnOk result (first_wide F.LIMIT (added_row_operations stride (row_from F.meaning entries.old start) (F.meaning factor) (row_from F.meaning entries.old above) col) ≡ None) }
-    ensures wide { IfErr result (λ w. first_wide F.LIMIT (added_row_operations stride (row_from F.meaning entries.old start) (F.meaning factor) (row_from F.meaning entries.old above) col) ≡ Some (operation_of F.meaning w)) }
+    ensures added { OnOk result (SetsRow F.meaning start stride
+        (added_row (row_from F.meaning entries.old start) (F.meaning factor) (row_from F.meaning entries.old above) col) entries.old entries.new) }
+    ensures fits { OnOk result (first_wide F.LIMIT
+        (added_row_operations stride (row_from F.meaning entries.old start) (F.meaning factor) (row_from F.meaning entries.old above) col) ≡ None) }
+    ensures wide { IfErr result (λ w. first_wide F.LIMIT
+        (added_row_operations stride (row_from F.meaning entries.old start) (F.meaning factor) (row_from F.meaning entries.old above) col) ≡ Some
+        (operation_of F.meaning w)) }
 {
     for k in 0..stride {
         let entry = sum_of(entries[start + k], factor, entries[above + k], k == col)?;
@@ -69,9 +74,13 @@ pub fn combine_row<F: OrderedField>(
     requires above_within { above + stride ≤ length entries.old }
     requires apart { (start + stride ≤ above) ⊎ (above + stride ≤ start) }
     requires col { col < stride }
-    ensures combined { OnOk result (SetsRow F.meaning start stride (combined_row (row_from F.meaning entries.old start) (row_from F.meaning entries.old above) col) entries.old entries.new) }
-    ensures fits { OnOk result (first_wide F.LIMIT (combination_row_operations stride (row_from F.meaning entries.old start) (row_from F.meaning entries.old above) col) ≡ None) }
-    ensures wide { IfErr result (λ w. first_wide F.LIMIT (combination_row_operations stride (row_from F.meaning entries.old start) (row_from F.meaning entries.old above) col) ≡ Some (operation_of F.meaning w)) }
+    ensures combined { OnOk result (SetsRow F.meaning start stride
+        (combined_row (row_from F.meaning entries.old start) (row_from F.meaning entries.old above) col) entries.old entries.new) }
+    ensures fits { OnOk result (first_wide F.LIMIT
+        (combination_row_operations stride (row_from F.meaning entries.old start) (row_from F.meaning entries.old above) col) ≡ None) }
+    ensures wide { IfErr result (λ w. first_wide F.LIMIT
+        (combination_row_operations stride (row_from F.meaning entries.old start) (row_from F.meaning entries.old above) col) ≡ Some
+        (operation_of F.meaning w)) }
 {
     let factor = entries[start + col];
     if factor.is_zero() {

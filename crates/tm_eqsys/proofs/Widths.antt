@@ -5,8 +5,8 @@ use Rattle.tm_frac.specs.Fits.{Fits, long_limit}
 use Rattle.tm_frac.specs.declared.wide.Op.{Op}
 use Rattle.tm_frac.specs.declared.wide.Wide.{Wide}
 use Rattle.tm_frac.specs.Operation.{Operation, result_by, first_wide}
-use Rattle.tm_frac.proofs.Widths.{one_answer as one_answer_of, after as after_of}
-pub use Rattle.tm_frac.proofs.Widths.{first_wide_later, first_wide_sooner, first_wide_past, first_wide_here}
+use Rattle.tm_frac.proofs.operation.Widths.{one_answer as one_answer_of, after as after_of}
+pub use Rattle.tm_frac.proofs.operation.Widths.{first_wide_later, first_wide_sooner, first_wide_past, first_wide_here}
 use Rattle.tm_eqsys.specs.Sums.{SumAnswers}
 
 -- what one operation on fractions answers

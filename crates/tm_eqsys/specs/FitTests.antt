@@ -28,4 +28,5 @@ fit_operations (row ∷ rows) bounds r x = row_test row x (bounds r) ++ cond (is
 -- the test's answer says exactly whether P holds where none of the operations is wide, and carries the first that is where one is
 abbrev pub TestAnswers : Type 0 → List Operation → Result Bool (Wide ℚ) → Type 0
 TestAnswers P operations result =
-    MatchResult result (λ b. (IsTrue b ↔ P) × (first_wide long_limit operations ≡ None)) (λ w. first_wide long_limit operations ≡ Some (operation_of (λ q. q) w))
+    MatchResult result (λ b. (IsTrue b ↔ P) × (first_wide long_limit operations ≡ None))
+    (λ w. first_wide long_limit operations ≡ Some (operation_of (λ q. q) w))

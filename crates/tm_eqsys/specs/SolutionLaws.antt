@@ -35,12 +35,14 @@ IsSame system v w = (p r : ℕ) → p < system.points → r < length system.temp
 
 -- there is at most one least vector, and it is any vector that solves the system and is at most every post-solution
 abbrev pub AtMostOneLeast : Type 0
-AtMostOneLeast = (system : Equations) (v w : Vector) → Least system v → Solves system w → ((q : Vector) → PostSolution system q → IsBelow system w q) → IsSame system v w
+AtMostOneLeast = (system : Equations) (v w : Vector) → Least system v → Solves system w →
+    ((q : Vector) → PostSolution system q → IsBelow system w q) → IsSame system v w
 
 -- a post-solution at most every post-solution: no number below a bound can do for it
 abbrev pub LeastSolutionsAreSupported : Type 0
 LeastSolutionsAreSupported = (system : Equations) (v : Vector) → PostSolution system v → ((w : Vector) → PostSolution system w → IsBelow system v w) →
-    (p r : ℕ) (row : List ℤ) (number : Ext) → 0 < p → p < system.points → slice_get system.template r ≡ Some row → number <ᴱ v p r → ¬ (¬ (Exceeds system v p row number))
+    (p r : ℕ) (row : List ℤ) (number : Ext) → 0 < p → p < system.points → slice_get system.template r ≡ Some row → number <ᴱ v p r →
+    ¬ (¬ (Exceeds system v p row number))
 
 -- so it is least wherever it is decided whether a transition exceeds a number
 abbrev pub LeastWhereDecided : Type 0
@@ -49,5 +51,6 @@ LeastWhereDecided = (system : Equations) (v : Vector) → PostSolution system v 
 
 -- a bound of a solution at a point is -inf for all rows of the template or for none
 abbrev pub UnreachedAtAllRows : Type 0
-UnreachedAtAllRows = (system : Equations) (v : Vector) → Solves system v → (p r s : ℕ) → p < system.points → r < length system.template → s < length system.template →
+UnreachedAtAllRows = (system : Equations) (v : Vector) → Solves system v → (p r s : ℕ) → p < system.points → r < length system.template →
+    s < length system.template →
     v p r ≡ neg_inf → v p s ≡ neg_inf

@@ -47,7 +47,8 @@ StepIs action x free z (Some n) = (n ≡ free_count (action ∷ [])) × ((rest :
 
 abbrev pub StepAnswers : Action → RationalState → List ℚ → RationalState → Result (Option ℕ) (Wide ℚ) → Type 0
 StepAnswers action x free z result =
-    MatchResult result (λ o. StepIs action x free z o) (λ w. (rest : List Action) (row : List ℤ) → first_wide long_limit (trace_operations (action ∷ rest) x free row) ≡ Some (operation_of (λ q. q) w))
+    MatchResult result (λ o. StepIs action x free z o) (λ w. (rest : List Action) (row : List ℤ) →
+    first_wide long_limit (trace_operations (action ∷ rest) x free row) ≡ Some (operation_of (λ q. q) w))
 
 -- what all actions answer: whether the trace has an end, the state z
 abbrev pub FollowIs : List Action → RationalState → List ℚ → RationalState → Bool → Type 0
@@ -56,4 +57,5 @@ FollowIs actions x free z false = Fails actions x free
 
 abbrev pub FollowAnswers : List Action → RationalState → List ℚ → RationalState → Result Bool (Wide ℚ) → Type 0
 FollowAnswers actions x free z result =
-    MatchResult result (λ b. FollowIs actions x free z b) (λ w. (row : List ℤ) → first_wide long_limit (trace_operations actions x free row) ≡ Some (operation_of (λ q. q) w))
+    MatchResult result (λ b. FollowIs actions x free z b) (λ w. (row : List ℤ) →
+    first_wide long_limit (trace_operations actions x free row) ≡ Some (operation_of (λ q. q) w))

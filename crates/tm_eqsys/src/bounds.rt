@@ -49,7 +49,8 @@ impl Bounds {
     /// The bounds from which an analysis starts: `+inf` at the entry and `-inf` at every other point.
     pub fn start(alloc: Global, system: &System) -> Result<Bounds, AllocError>
         ensures list { IfOk result (λ b. b ≡ start_bounds (length system.now.flow.points) (length system.now.template)) }
-        ensures vector { IfOk result (λ b. (p r : ℕ) → p < length system.now.flow.points → r < length system.now.template → vector_of (length system.now.template) b p r ≡ start_vector p r) }
+        ensures vector { IfOk result (λ b. (p r : ℕ) → p < length system.now.flow.points → r < length system.now.template →
+            vector_of (length system.now.template) b p r ≡ start_vector p r) }
     {
         let rows = system.template.as_slice().len();
         let points = system.flow.points.as_slice().len();

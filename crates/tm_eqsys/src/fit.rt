@@ -48,7 +48,8 @@ pub fn fits(
     requires bounds { length bounds.now ≡ length system.now.flow.points * length system.now.template }
     requires point { point < length system.now.flow.points }
     requires state { length state.now ≡ length system.now.flow.names }
-    ensures { TestAnswers (Fits (equations_of system.now) (vector_of (length system.now.template) bounds.now) point state.now) (fit_operations system.now.template (vector_of (length system.now.template) bounds.now point) 0 state.now) result }
+    ensures { TestAnswers (Fits (equations_of system.now) (vector_of (length system.now.template) bounds.now) point state.now)
+        (fit_operations system.now.template (vector_of (length system.now.template) bounds.now point) 0 state.now) result }
 {
     let rows = system.template.as_slice();
     let first = point as usize * rows.len();

@@ -80,7 +80,8 @@ fn value_from(
     requires row { row < length system.now.template }
     requires start { length state.old ≡ length system.now.flow.names }
     requires free { (e : Edge) → slice_get system.now.flow.edges edge ≡ Some e → length free.now ≡ free_count e.actions }
-    ensures { (e : Edge) (cs : List ℤ) → slice_get system.now.flow.edges edge ≡ Some e → slice_get system.now.template row ≡ Some cs → TraceAnswers (map (action_with constants) e.actions) state.old free.now cs result }
+    ensures { (e : Edge) (cs : List ℤ) → slice_get system.now.flow.edges edge ≡ Some e → slice_get system.now.template row ≡ Some cs →
+        TraceAnswers (map (action_with constants) e.actions) state.old free.now cs result }
 {
     let edges = system.flow.edges.as_slice();
     let rows = system.template.as_slice();
@@ -108,7 +109,8 @@ fn value_along(
     requires row { row < length system.now.template }
     requires start { length trace.now.start ≡ length system.now.flow.names }
     requires free { (e : Edge) → slice_get system.now.flow.edges edge ≡ Some e → length trace.now.free ≡ free_count e.actions }
-    ensures { (e : Edge) (cs : List ℤ) → slice_get system.now.flow.edges edge ≡ Some e → slice_get system.now.template row ≡ Some cs → TraceAnswers (map (action_with constants) e.actions) trace.now.start trace.now.free cs result }
+    ensures { (e : Edge) (cs : List ℤ) → slice_get system.now.flow.edges edge ≡ Some e → slice_get system.now.template row ≡ Some cs →
+        TraceAnswers (map (action_with constants) e.actions) trace.now.start trace.now.free cs result }
 {
     let start = trace.start.as_slice();
     let mut values = [Frac::zero(); 8];
@@ -138,7 +140,8 @@ pub fn trace_value(
     requires row { row < length system.now.template }
     requires start { length trace.now.start ≡ length system.now.flow.names }
     requires free { (e : Edge) → slice_get system.now.flow.edges edge ≡ Some e → length trace.now.free ≡ free_count e.actions }
-    ensures { (e : Edge) (cs : List ℤ) → slice_get system.now.flow.edges edge ≡ Some e → slice_get system.now.template row ≡ Some cs → TraceAnswers e.actions trace.now.start trace.now.free cs result }
+    ensures { (e : Edge) (cs : List ℤ) → slice_get system.now.flow.edges edge ≡ Some e → slice_get system.now.template row ≡ Some cs →
+        TraceAnswers e.actions trace.now.start trace.now.free cs result }
 {
     value_along(system, edge, row, Constants::Kept, trace)
 }
@@ -162,7 +165,8 @@ pub fn direction_value(
     requires row { row < length system.now.template }
     requires start { length direction.now.start ≡ length system.now.flow.names }
     requires free { (e : Edge) → slice_get system.now.flow.edges edge ≡ Some e → length direction.now.free ≡ free_count e.actions }
-    ensures { (e : Edge) (cs : List ℤ) → slice_get system.now.flow.edges edge ≡ Some e → slice_get system.now.template row ≡ Some cs → TraceAnswers (map linear_action e.actions) direction.now.start direction.now.free cs result }
+    ensures { (e : Edge) (cs : List ℤ) → slice_get system.now.flow.edges edge ≡ Some e → slice_get system.now.template row ≡ Some cs →
+        TraceAnswers (map linear_action e.actions) direction.now.start direction.now.free cs result }
 {
     value_along(system, edge, row, Constants::Zero, direction)
 }

@@ -1,6 +1,6 @@
 //! The equation system of a program's edges and a template, and its least solution.
 //!
-//! `docs/DEFINITIONS.md` reads the definitions of `specs/` in order.
+//! `docs/MEANING.md` reads the definitions of `specs/` in order.
 #![tactic(auto)]
 
 mod bounds;

@@ -28,7 +28,7 @@ const MOST_ACTIONS: usize = 256;
 /// The points and the edges of the program: exactly its paths, one edge for each way of choosing, in order of their
 /// points and, for one point, in order of the choices.
 ///
-/// `docs/DEFINITIONS.md` has the paths, and the order of edges and of faults.
+/// `docs/MEANING.md` has the paths, and the order of edges and of faults.
 ///
 /// Where a fault stands the first is answered. The faults `Cases`, `Points` and `Edges` are seen by counting, before
 /// anything is made.

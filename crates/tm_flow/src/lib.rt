@@ -1,6 +1,6 @@
 //! A program's points, and the edges between them.
 //!
-//! `docs/DEFINITIONS.md` reads the definitions of `specs/` in order.
+//! `docs/MEANING.md` reads the definitions of `specs/` in order.
 #![tactic(auto)]
 
 mod build;

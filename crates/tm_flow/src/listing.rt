@@ -16,7 +16,7 @@ pub(crate) const MOST_CASES: u32 = 64;
 
 /// The cases of the condition for this truth: it may have this truth exactly where all forms of one of them are at most 0.
 ///
-/// The fault `TooMany` comes exactly where there are more than 64. The lists are in `docs/DEFINITIONS.md`, "Cases".
+/// The fault `TooMany` comes exactly where there are more than 64. The lists are in `docs/MEANING.md`, "Cases".
 pub fn cases(alloc: Global, cond: &Cond, truth: bool) -> Result<Cases, CasesFault>
     requires { IsTrue (have_room (condition_of cond.now)) }
     ensures ok { IfOk result (λ cases. cases ≡ cases_of truth (condition_of cond.now)) }

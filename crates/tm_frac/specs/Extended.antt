@@ -6,7 +6,7 @@ use Rattle.std.proofs.lemmas.Cmp.{eq_by_cmp_equiv}
 use Rattle.std.specs.declared.cmp.Ordering.{Ordering}
 use Rattle.tm_num.specs.Extended.{Ext as Extended, neg_inf, fin, pos_inf}
 use Rattle.tm_num.specs.Compare.{cmp_ᴱ}
-use Rattle.tm_num.proofs.ExtendedLaws.{cmp_ᴱ_total}
+use Rattle.tm_num.proofs.extended.ExtendedLaws.{cmp_ᴱ_total}
 use Rattle.tm_frac.specs.declared.ext.Ext.{Ext}
 use Rattle.tm_frac.specs.declared.ext.Ext.TheVariants.{NegInf, Fin, PosInf}
 use Rattle.tm_frac.specs.Fits.{Fits, long_limit}

@@ -8,11 +8,11 @@ use Rattle.std.specs.declared.cmp.Ordering.TheVariants.{Less}
 use Rattle.std.proofs.Common.{refl, [], ◌∷◌, ap, ap₂, sym, ◌∙◌, subst₂}
 use Rattle.tm_num.specs.Rational.{ℚ, zero_ℚ, one_ℚ, ◌+ℚ◌, ◌-ℚ◌, ◌*ℚ◌, ◌/ℚ◌, neg_ℚ, ◌<ℚ◌}
 use Rattle.tm_num.specs.Compare.{cmp_ℚ}
-use Rattle.tm_num.proofs.Laws.{+ℚ_comm, +ℚ_assoc, +ℚ_idr, +ℚ_invr, *ℚ_comm, *ℚ_assoc, *ℚ_idr, *ℚ-+ℚ, *ℚ_pos, one_ne_zero}
-use Rattle.tm_num.proofs.Ring.{ring, reads}
-use Rattle.tm_num.proofs.Linarith.{lin_lt, lt, reads_all}
-use Rattle.tm_num.proofs.Quotients.{quotient_times}
-use Rattle.tm_num.proofs.Compared.{cmp-less, less-cmp, cmp_ℚ_total}
+use Rattle.tm_num.proofs.rational.Laws.{+ℚ_comm, +ℚ_assoc, +ℚ_idr, +ℚ_invr, *ℚ_comm, *ℚ_assoc, *ℚ_idr, *ℚ-+ℚ, *ℚ_pos, one_ne_zero}
+use Rattle.tm_num.proofs.tactics.Ring.{ring, reads}
+use Rattle.tm_num.proofs.tactics.Linarith.{lin_lt, lt, reads_all}
+use Rattle.tm_num.proofs.rational.Quotients.{quotient_times}
+use Rattle.tm_num.proofs.compare.Compared.{cmp-less, less-cmp, cmp_ℚ_total}
 
 module _ {X : Type 0} (m : X → ℚ) (cmp : X → X → Ordering) where
   -- r is the sum, the difference, the product, the quotient of a and b
@@ -78,6 +78,7 @@ module _ {X : Type 0} (m : X → ℚ) (cmp : X → X → Ordering) where
       quotient = λ a b r s n e f. same s a (f ∙ ap (λ t. t *ℚ m b) e ∙ quotient_times (m a) (m b) n);
       zero_not_one = λ z u e f g. one_ne_zero (sym f ∙ ap m (sym g) ∙ e);
       total = total_order;
-      sum_monotone = λ a b c r s e f g. to_less r s (subst₂ (λ x y. x <ℚ y) (sym f) (sym g) (lin_lt (m a ∷ m b ∷ m c ∷ []) (lt (less a b e) ∷ []) (search reads_all depth 40) tt));
+      sum_monotone = λ a b c r s e f g. to_less r s
+          (subst₂ (λ x y. x <ℚ y) (sym f) (sym g) (lin_lt (m a ∷ m b ∷ m c ∷ []) (lt (less a b e) ∷ []) (search reads_all depth 40) tt));
       product_positive = λ z a b r e h i f. to_less z r (positive (m z) (m a) (m b) (m r) e (less z a h) (less z b i) f);
     }

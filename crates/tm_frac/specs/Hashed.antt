@@ -3,7 +3,7 @@ use Rattle.std.specs.Prelude.{◌≡◌, ◌++◌, ℕ, List, IsTrue}
 use Rattle.std.specs.Ordering.{eq_by_cmp}
 use Rattle.std.specs.Hash as fed
 use Rattle.std.proofs.Common.{refl, ap}
-use Rattle.tm_num.proofs.ExtendedLaws.{cmpᴱ-equal}
+use Rattle.tm_num.proofs.extended.ExtendedLaws.{cmpᴱ-equal}
 use Rattle.tm_frac.specs.declared.ext.Ext.{Ext}
 use Rattle.tm_frac.specs.declared.ext.Ext.TheVariants.{NegInf, Fin, PosInf}
 use Rattle.tm_frac.specs.Extended.{extended, ext_cmp}

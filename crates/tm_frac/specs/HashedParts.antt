@@ -7,7 +7,7 @@ use Rattle.std.specs.Hash as fed
 use Rattle.std.proofs.Common.{refl, ap}
 use Rattle.tm_num.specs.Rational.{ℚ}
 use Rattle.tm_num.specs.Compare.{cmp_ℚ}
-use Rattle.tm_num.proofs.Compared.{cmp-equal}
+use Rattle.tm_num.proofs.compare.Compared.{cmp-equal}
 
 -- numerator and denominator
 abbrev pub frac_hash : ℚ → List (List ℕ)

@@ -23,7 +23,10 @@ impl Exact<LongLimit> {
 
     /// The number half way to `right`: the sum over 2, with the refusal of the sum or else of the quotient.
     pub fn mid(self, right: Frac) -> Result<Frac, Wide<Frac>>
-        ensures { MatchResult result (λ r. (r ≡ (self +ℚ right) /ℚ whole (pos 2)) × Fits long_limit r) (λ e. ((¬ (Fits long_limit (self +ℚ right))) × (e ≡ record { op = Op.Add; left = self; right = right })) ⊎ (Fits long_limit (self +ℚ right) × (¬ (Fits long_limit ((self +ℚ right) /ℚ whole (pos 2)))) × (e ≡ record { op = Op.Div; left = self +ℚ right; right = whole (pos 2) }))) }
+        ensures { MatchResult result (λ r. (r ≡ (self +ℚ right) /ℚ whole (pos 2)) × Fits long_limit r)
+            (λ e. ((¬ (Fits long_limit (self +ℚ right))) × (e ≡ record { op = Op.Add; left = self; right = right }))
+            ⊎ (Fits long_limit (self +ℚ right) × (¬ (Fits long_limit ((self +ℚ right) /ℚ whole (pos 2))))
+            × (e ≡ record { op = Op.Div; left = self +ℚ right; right = whole (pos 2) }))) }
     {
         let sum = self.plus(right)?;
         sum.over(Frac::two())

@@ -1,4 +1,2 @@
-pub mod InPlace
-pub mod Parts
-pub mod Pieces
-pub mod Present
+pub mod puts
+pub mod faults

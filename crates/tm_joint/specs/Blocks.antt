@@ -16,7 +16,8 @@ use Rattle.tm_joint.specs.Rows.{embedded, own_limit_of, side_operation}
 -- the rows of the template at a point whose bound is finite; a row whose own unknown is listed has -1 on the rise of that unknown
 abbrev pub sources_of : System → List Ext → List ℕ → ℕ → ℕ → List Limit
 sources_of system base list offset point =
-    source_limits (λ r. embedded (neg_ℚ one_ℚ) (point * length system.template + r) list offset) (length system.flow.names) (vector_of (length system.template) base point) system.template
+    source_limits (λ r. embedded (neg_ℚ one_ℚ) (point * length system.template + r) list offset) (length system.flow.names)
+    (vector_of (length system.template) base point) system.template
 
 -- the guards of an edge
 abbrev pub guards_of : System → List ℕ → ℕ → ℕ → List Limit
@@ -28,7 +29,8 @@ end_at system edge row = end_form (length system.flow.names) (edge_at system edg
 
 -- the own row of an unknown: its rise minus the end value, at most the end value's constant minus the bound
 abbrev pub own_of : System → List Ext → List ℕ → ℕ → ℕ → ℕ → ℕ → Limit
-own_of system base list offset edge row u = own_limit_of (embedded one_ℚ u list offset) (end_at system edge row) ((end_at system edge row).constant -ℚ num (get_or base u neg_inf))
+own_of system base list offset edge row u = own_limit_of (embedded one_ℚ u list offset) (end_at system edge row)
+    ((end_at system edge row).constant -ℚ num (get_or base u neg_inf))
 
 -- the operation of its side
 abbrev pub side_of : System → List Ext → ℕ → ℕ → ℕ → Operation
@@ -37,7 +39,8 @@ side_of system base edge row u = side_operation (end_at system edge row).constan
 -- the rows of one unknown of a list: the sources, the guards, and its own row
 abbrev pub block_of : System → List Ext → List ℕ → ℕ → ℕ → ℕ → List Limit
 block_of system base list offset edge u =
-    sources_of system base list offset (edge_at system edge).from ++ (guards_of system list offset edge ++ own_of system base list offset edge (u % length system.template) u ∷ [])
+    sources_of system base list offset (edge_at system edge).from
+    ++ (guards_of system list offset edge ++ own_of system base list offset edge (u % length system.template) u ∷ [])
 
 -- the number of the edge that is picked for an unknown
 abbrev pub edge_for : List (Option ℕ) → ℕ → ℕ
@@ -50,7 +53,8 @@ split_width system edge = width (length system.flow.names) (edge_at system edge)
 -- the rows of unknowns of a list in order, the columns of the first from an offset on
 abbrev pub blocks_from : System → List (Option ℕ) → List Ext → List ℕ → ℕ → List ℕ → List Limit
 blocks_from system pick base list offset [] = []
-blocks_from system pick base list offset (u ∷ rest) = block_of system base list offset (edge_for pick u) u ++ blocks_from system pick base list (offset + split_width system (edge_for pick u)) rest
+blocks_from system pick base list offset (u ∷ rest) =
+    block_of system base list offset (edge_for pick u) u ++ blocks_from system pick base list (offset + split_width system (edge_for pick u)) rest
 
 -- how many columns their words take
 abbrev pub split_columns : System → List (Option ℕ) → List ℕ → ℕ

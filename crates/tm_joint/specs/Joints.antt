@@ -38,15 +38,19 @@ entries_of system pick list x = tabulate (length list + split_columns system pic
 -- the answer has the numbers and traces of the point, or the rates and directions of the ray
 abbrev pub IsReadFrom : System → List (Option ℕ) → List Ext → List ℕ → Outcome → Joined → Type 0
 IsReadFrom system pick base list (best x v y) (Point to highs) =
-    (to ≡ map (number_at base (entries_of system pick list x)) (layout_of system pick list)) × (highs ≡ map (trace_at (entries_of system pick list x)) (layout_of system pick list))
+    (to ≡ map (number_at base (entries_of system pick list x)) (layout_of system pick list))
+    × (highs ≡ map (trace_at (entries_of system pick list x)) (layout_of system pick list))
 IsReadFrom system pick base list (best x v y) (Ray rates) = ⊥
 IsReadFrom system pick base list (unbounded x d) (Point to highs) = ⊥
 IsReadFrom system pick base list (unbounded x d) (Ray rates) = rates.list ≡ named_rates (entries_of system pick list d) (layout_of system pick list)
 IsReadFrom system pick base list (empty y) joined = ⊥
 
--- the operations by which it is read: the numbers of the list first, then the traces in the order of the list; of a ray the directions of unknowns with a rate above 0
+-- the operations by which it is read: the numbers of the list first, then the traces in the order of the list; of a ray the directions of unknowns
+-- with a rate above 0
 abbrev pub reading_operations : System → List (Option ℕ) → List Ext → List ℕ → Outcome → List Operation
-reading_operations system pick base list (best x v y) = number_operations base (entries_of system pick list x) (layout_of system pick list) ++ trace_operations (entries_of system pick list x) (layout_of system pick list)
+reading_operations system pick base list (best x v y) =
+    number_operations base (entries_of system pick list x) (layout_of system pick list)
+    ++ trace_operations (entries_of system pick list x) (layout_of system pick list)
 reading_operations system pick base list (unbounded x d) = named_operations (entries_of system pick list d) (layout_of system pick list)
 reading_operations system pick base list (empty y) = []
 
@@ -55,25 +59,29 @@ abbrev pub RunFits : Problem → Type 0
 RunFits P = first_refused long_limit (run_operations P) ≡ None
 
 abbrev pub IsRunFault : Problem → PartFault → Type 0
-IsRunFault P (Wide part wide) = (j : ℕ) × (part ≡ Pivot (capped j)) × (first_refused long_limit (run_operations P) ≡ Some (record { pivot = j; operation = operation_of (λ q. q) wide }))
+IsRunFault P (Wide part wide) = (j : ℕ) × (part ≡ Pivot (capped j))
+    × (first_refused long_limit (run_operations P) ≡ Some (record { pivot = j; operation = operation_of (λ q. q) wide }))
 IsRunFault P NoMemory = Unit {0}
 
 -- no operation by which the problem is built, solved and read is wide
 abbrev pub JointFits : System → List (Option ℕ) → List Ext → List ℕ → Type 0
 JointFits system pick base list =
-    (first_wide long_limit (side_operations system pick base list) ≡ None) × RunFits (problem_of system pick base list) × (first_wide long_limit (reading_operations system pick base list (lp (problem_of system pick base list))) ≡ None)
+    (first_wide long_limit (side_operations system pick base list) ≡ None) × RunFits (problem_of system pick base list)
+    × (first_wide long_limit (reading_operations system pick base list (lp (problem_of system pick base list))) ≡ None)
 
 -- the first that is wide is of the sides, of the run, or of the reading, and is named with that part; want of memory may come at any time
 abbrev pub IsJointFault : System → List (Option ℕ) → List Ext → List ℕ → PartFault → Type 0
 IsJointFault system pick base list fault =
     IsSideFault (side_operations system pick base list) fault
     ⊎ (((first_wide long_limit (side_operations system pick base list) ≡ None) × IsRunFault (problem_of system pick base list) fault)
-    ⊎ ((first_wide long_limit (side_operations system pick base list) ≡ None) × RunFits (problem_of system pick base list) × IsReadingFault (reading_operations system pick base list (lp (problem_of system pick base list))) fault))
+    ⊎ ((first_wide long_limit (side_operations system pick base list) ≡ None) × RunFits (problem_of system pick base list)
+    × IsReadingFault (reading_operations system pick base list (lp (problem_of system pick base list))) fault))
 
 -- the answer is read from the exact outcome and no operation is wide, or the first that is wide is named
 abbrev pub JointAnswers : System → List (Option ℕ) → List Ext → List ℕ → Result Joined PartFault → Type 0
 JointAnswers system pick base list result =
-    MatchResult result (λ joined. IsReadFrom system pick base list (lp (problem_of system pick base list)) joined × JointFits system pick base list) (λ fault. IsJointFault system pick base list fault)
+    MatchResult result (λ joined. IsReadFrom system pick base list (lp (problem_of system pick base list)) joined × JointFits system pick base list)
+    (λ fault. IsJointFault system pick base list fault)
 
 -- a trace as one word: its start values and then its free values
 abbrev pub word_of : Trace → Word
@@ -91,7 +99,8 @@ pub record HasRates (system : System) (pick : List (Option ℕ)) (base : List Ex
   pub none : (reached : Vector) → GreatestSupported (equations_of system) (vector_of (length system.template) base) (all_listed system pick list) reached → ⊥
   pub ray : ℕ → ℚ
   pub named : rates ≡ named_rates (entries_of system pick list ray) (layout_of system pick list)
-  pub follow : AllFollow (equations_of system) (vector_of (length system.template) base) (all_listed system pick list) ray (all_listed system pick list) (map word_of (map (trace_at (entries_of system pick list ray)) (layout_of system pick list)))
+  pub follow : AllFollow (equations_of system) (vector_of (length system.template) base) (all_listed system pick list) ray
+      (all_listed system pick list) (map word_of (map (trace_at (entries_of system pick list ray)) (layout_of system pick list)))
   pub some : (u : Listed) × In (all_listed system pick list) u × (zero_ℚ <ℚ rise_at (all_listed system pick list) ray u.point u.row)
 
 -- what the answer says

@@ -28,7 +28,8 @@ rise_of system pick n place offset u = record {
 
 abbrev pub rises_from : System → List (Option ℕ) → ℕ → ℕ → ℕ → List ℕ → List Rise
 rises_from system pick n place offset [] = []
-rises_from system pick n place offset (u ∷ rest) = rise_of system pick n place offset u ∷ rises_from system pick n (place + 1) (offset + split_width system (edge_for pick u)) rest
+rises_from system pick n place offset (u ∷ rest) =
+    rise_of system pick n place offset u ∷ rises_from system pick n (place + 1) (offset + split_width system (edge_for pick u)) rest
 
 -- the columns of a whole list
 abbrev pub layout_of : System → List (Option ℕ) → List ℕ → List Rise

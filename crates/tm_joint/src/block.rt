@@ -39,7 +39,10 @@ pub fn push_source(
 ) -> Result<(), AllocError>
     requires numbers { IsTrue (are_numbers row.now) }
     requires fits { length list.now + (offset + (length row.now + length row.now)) ≤ cols }
-    ensures { OnOk result ((n : ℕ) (ls : List Limit) → length row.now ≤ n → AllStand cols (map (λ r. r.coeffs.items) rows.old.items) (map (λ r. r.side) rows.old.items) ls → AllStand cols (map (λ r. r.coeffs.items) rows.new.items) (map (λ r. r.side) rows.new.items) (ls ++ source_limit (embedded (neg_ℚ one_ℚ) target list.now offset) n (extended bound) row.now [])) }
+    ensures { OnOk result ((n : ℕ) (ls : List Limit) → length row.now ≤ n →
+        AllStand cols (map (λ r. r.coeffs.items) rows.old.items) (map (λ r. r.side) rows.old.items) ls →
+        AllStand cols (map (λ r. r.coeffs.items) rows.new.items) (map (λ r. r.side) rows.new.items) (ls
+        ++ source_limit (embedded (neg_ℚ one_ℚ) target list.now offset) n (extended bound) row.now [])) }
 {
     match bound {
         Ext::Fin(side) => {
@@ -80,7 +83,8 @@ pub fn push_guard(
 
 /// The side of an own row: the end value's constant minus the bound.
 pub fn own_side(constant: Frac, bound: Frac) -> Result<Frac, PartFault>
-    ensures { MatchResult result (λ side. (side ≡ constant -ℚ bound) × (first_wide long_limit (side_operation constant bound ∷ []) ≡ None)) (λ f. IsSideFault (side_operation constant bound ∷ []) f) }
+    ensures { MatchResult result (λ side. (side ≡ constant -ℚ bound) × (first_wide long_limit (side_operation constant bound ∷ []) ≡ None))
+        (λ f. IsSideFault (side_operation constant bound ∷ []) f) }
 {
     match constant.minus(bound) {
         Ok(side) => Ok(side),
@@ -103,7 +107,10 @@ pub fn push_own_row(
     cols: usize,
 ) -> Result<(), AllocError>
     requires { length list.now + (offset + (length coeffs.now + length coeffs.now)) ≤ cols }
-    ensures { OnOk result ((form : Affine) (ls : List Limit) → SameForm coeffs.now form.constant form → AllStand cols (map (λ r. r.coeffs.items) rows.old.items) (map (λ r. r.side) rows.old.items) ls → AllStand cols (map (λ r. r.coeffs.items) rows.new.items) (map (λ r. r.side) rows.new.items) (ls ++ own_limit_of (embedded one_ℚ target list.now offset) form side ∷ [])) }
+    ensures { OnOk result ((form : Affine) (ls : List Limit) → SameForm coeffs.now form.constant form →
+        AllStand cols (map (λ r. r.coeffs.items) rows.old.items) (map (λ r. r.side) rows.old.items) ls →
+        AllStand cols (map (λ r. r.coeffs.items) rows.new.items) (map (λ r. r.side) rows.new.items) (ls
+        ++ own_limit_of (embedded one_ℚ target list.now offset) form side ∷ [])) }
 {
     let turned = negated(alloc, coeffs)?;
     let entries = row_over(

@@ -98,7 +98,7 @@ fn cut(alloc: Global, rows: &[Row], nodes: Vec<Node>) -> Result<Vec<Members>, Al
 /// other one stands at the source of its picked edge. Two are in one part where they are the same, or each leans on the
 /// other directly or through others of the list. Every part comes after the parts on which its members lean; where several
 /// may come next, the one with the lowest unknown comes. Each part rises. The empty list has no parts. Unknowns are given by
-/// their numbers. `docs/DEFINITIONS.md` says what is solved part by part.
+/// their numbers. `docs/METHOD.md` says what is solved part by part.
 ///
 /// # Errors
 ///

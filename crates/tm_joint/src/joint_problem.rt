@@ -54,8 +54,10 @@ pub fn joint_problem(
     requires pick { length pick.now ≡ length system.now.flow.points * length system.now.template }
     requires rises { Rises 0 list.now }
     requires picked { ArePicked system.now pick.now list.now }
-    ensures problem { IfOk result (λ p. MakeProblem (problem_of system.now pick.now base.now list.now) (map (λ r. r.coeffs.items) p.rows.items) (map (λ r. r.side) p.rows.items) p.goal.items) }
-    ensures shape { IfOk result (λ p. (r : ℕ) → r < length (map (λ r. r.coeffs.items) p.rows.items) → length (get_or (map (λ r. r.coeffs.items) p.rows.items) r []) ≡ length p.goal.items) }
+    ensures problem { IfOk result (λ p. MakeProblem (problem_of system.now pick.now base.now list.now) (map (λ r. r.coeffs.items) p.rows.items)
+        (map (λ r. r.side) p.rows.items) p.goal.items) }
+    ensures shape { IfOk result (λ p. (r : ℕ) → r < length (map (λ r. r.coeffs.items) p.rows.items) →
+        length (get_or (map (λ r. r.coeffs.items) p.rows.items) r []) ≡ length p.goal.items) }
     ensures few { IfOk result (λ p. length p.rows.items + length p.goal.items < 4294967295) }
     ensures columns { OnOk result (length list.now + split_columns system.now pick.now list.now ≤ 600000) }
     ensures sides { OnOk result (first_wide long_limit (side_operations system.now pick.now base.now list.now) ≡ None) }

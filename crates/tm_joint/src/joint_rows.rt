@@ -60,7 +60,9 @@ fn push_block(
     requires edge { edge < length system.now.flow.edges }
     requires unknown { unknown < length system.now.flow.points * length system.now.template }
     requires fits { length list.now + (offset + split_width system.now edge) ≤ cols }
-    ensures stands { OnOk result ((ls : List Limit) → AllStand cols (map (λ r. r.coeffs.items) rows.old.items) (map (λ r. r.side) rows.old.items) ls → AllStand cols (map (λ r. r.coeffs.items) rows.new.items) (map (λ r. r.side) rows.new.items) (ls ++ block_of system.now base.now list.now offset edge unknown)) }
+    ensures stands { OnOk result ((ls : List Limit) → AllStand cols (map (λ r. r.coeffs.items) rows.old.items) (map (λ r. r.side) rows.old.items) ls →
+        AllStand cols (map (λ r. r.coeffs.items) rows.new.items) (map (λ r. r.side) rows.new.items) (ls
+        ++ block_of system.now base.now list.now offset edge unknown)) }
     ensures side { OnOk result (first_wide long_limit (side_of system.now base.now edge (unknown % length system.now.template) unknown ∷ []) ≡ None) }
     ensures refused { IfErr result (λ f. IsSideFault (side_of system.now base.now edge (unknown % length system.now.template) unknown ∷ []) f) }
 {
@@ -105,7 +107,10 @@ pub fn all_rows(
     requires pick { length pick.now ≡ length system.now.flow.points * length system.now.template }
     requires picked { ArePicked system.now pick.now list.now }
     requires cols { cols ≡ length list.now + split_columns system.now pick.now list.now }
-    ensures { MatchResult result (λ rows. AllStand cols (map (λ r. r.coeffs.items) rows.items) (map (λ r. r.side) rows.items) (blocks_from system.now pick.now base.now list.now 0 list.now) × (first_wide long_limit (side_operations system.now pick.now base.now list.now) ≡ None)) (λ f. IsSideFault (side_operations system.now pick.now base.now list.now) f) }
+    ensures { MatchResult result (λ rows. AllStand cols (map (λ r. r.coeffs.items) rows.items) (map (λ r. r.side) rows.items)
+        (blocks_from system.now pick.now base.now list.now 0 list.now)
+        × (first_wide long_limit (side_operations system.now pick.now base.now list.now) ≡ None))
+        (λ f. IsSideFault (side_operations system.now pick.now base.now list.now) f) }
 {
     let mut rows = Vec::new(alloc);
     let mut offset = 0;

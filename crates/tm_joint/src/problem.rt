@@ -68,7 +68,9 @@ pub fn push_sources(
     requires base { length base.now ≡ length system.now.flow.points * length system.now.template }
     requires point { point < length system.now.flow.points }
     requires fits { length list.now + (offset + (length system.now.flow.names + length system.now.flow.names)) ≤ cols }
-    ensures { OnOk result ((ls : List Limit) → AllStand cols (map (λ r. r.coeffs.items) rows.old.items) (map (λ r. r.side) rows.old.items) ls → AllStand cols (map (λ r. r.coeffs.items) rows.new.items) (map (λ r. r.side) rows.new.items) (ls ++ sources_of system.now base.now list.now offset point)) }
+    ensures { OnOk result ((ls : List Limit) → AllStand cols (map (λ r. r.coeffs.items) rows.old.items) (map (λ r. r.side) rows.old.items) ls →
+        AllStand cols (map (λ r. r.coeffs.items) rows.new.items) (map (λ r. r.side) rows.new.items) (ls
+        ++ sources_of system.now base.now list.now offset point)) }
 {
     let template = system.template.as_slice();
     let first = point as usize * template.len();
@@ -102,8 +104,10 @@ pub fn push_guards(
 ) -> Result<(), AllocError>
     requires composed { AreComposed (equations_of system.now) paths.now }
     requires edge { edge < length system.now.flow.edges }
-    requires fits { length list.now + (offset + (width (length system.now.flow.names) (edge_at system.now edge).actions + width (length system.now.flow.names) (edge_at system.now edge).actions)) ≤ cols }
-    ensures { OnOk result ((ls : List Limit) → AllStand cols (map (λ r. r.coeffs.items) rows.old.items) (map (λ r. r.side) rows.old.items) ls → AllStand cols (map (λ r. r.coeffs.items) rows.new.items) (map (λ r. r.side) rows.new.items) (ls ++ guards_of system.now list.now offset edge)) }
+    requires fits { length list.now + (offset + (width (length system.now.flow.names) (edge_at system.now edge).actions + width
+        (length system.now.flow.names) (edge_at system.now edge).actions)) ≤ cols }
+    ensures { OnOk result ((ls : List Limit) → AllStand cols (map (λ r. r.coeffs.items) rows.old.items) (map (λ r. r.side) rows.old.items) ls →
+        AllStand cols (map (λ r. r.coeffs.items) rows.new.items) (map (λ r. r.side) rows.new.items) (ls ++ guards_of system.now list.now offset edge)) }
 {
     for g in 0..paths.guards(edge) {
         let guard = paths.guard(edge, g);
@@ -138,8 +142,11 @@ pub fn push_own(
     requires base { unknown < length base.now }
     requires edge { edge < length system.now.flow.edges }
     requires row { row < length system.now.template }
-    requires fits { length list.now + (offset + (width (length system.now.flow.names) (edge_at system.now edge).actions + width (length system.now.flow.names) (edge_at system.now edge).actions)) ≤ cols }
-    ensures stands { OnOk result ((ls : List Limit) → AllStand cols (map (λ r. r.coeffs.items) rows.old.items) (map (λ r. r.side) rows.old.items) ls → AllStand cols (map (λ r. r.coeffs.items) rows.new.items) (map (λ r. r.side) rows.new.items) (ls ++ own_of system.now base.now list.now offset edge row unknown ∷ [])) }
+    requires fits { length list.now + (offset + (width (length system.now.flow.names) (edge_at system.now edge).actions + width
+        (length system.now.flow.names) (edge_at system.now edge).actions)) ≤ cols }
+    ensures stands { OnOk result ((ls : List Limit) → AllStand cols (map (λ r. r.coeffs.items) rows.old.items) (map (λ r. r.side) rows.old.items) ls →
+        AllStand cols (map (λ r. r.coeffs.items) rows.new.items) (map (λ r. r.side) rows.new.items) (ls
+        ++ own_of system.now base.now list.now offset edge row unknown ∷ [])) }
     ensures side { OnOk result (first_wide long_limit (side_of system.now base.now edge row unknown ∷ []) ≡ None) }
     ensures refused { IfErr result (λ f. IsSideFault (side_of system.now base.now edge row unknown ∷ []) f) }
 {

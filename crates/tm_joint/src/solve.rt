@@ -40,9 +40,18 @@ fn run_fault(fault: SolveFault<Frac>) -> PartFault
 
 // The outcome of a problem.
 fn solved(alloc: Global, problem: &Problem<Frac>) -> Result<Outcome<Frac>, PartFault>
-    requires rows { (r : ℕ) → r < length (map (λ r. r.coeffs.items) problem.now.rows.items) → length (get_or (map (λ r. r.coeffs.items) problem.now.rows.items) r []) ≡ length problem.now.goal.items }
+    requires rows { (r : ℕ) → r < length (map (λ r. r.coeffs.items) problem.now.rows.items) →
+        length (get_or (map (λ r. r.coeffs.items) problem.now.rows.items) r []) ≡ length problem.now.goal.items }
     requires few { length problem.now.rows.items + length problem.now.goal.items < 4294967295 }
-    ensures { MatchResult result (λ o. IsOutcomeOf (λ q. q) (list_problem (length problem.now.goal.items) (map (λ r. r.coeffs.items) problem.now.rows.items) (map (λ r. r.side) problem.now.rows.items) problem.now.goal.items) (lp (list_problem (length problem.now.goal.items) (map (λ r. r.coeffs.items) problem.now.rows.items) (map (λ r. r.side) problem.now.rows.items) problem.now.goal.items)) o × RunFits (list_problem (length problem.now.goal.items) (map (λ r. r.coeffs.items) problem.now.rows.items) (map (λ r. r.side) problem.now.rows.items) problem.now.goal.items)) (λ f. IsRunFault (list_problem (length problem.now.goal.items) (map (λ r. r.coeffs.items) problem.now.rows.items) (map (λ r. r.side) problem.now.rows.items) problem.now.goal.items) f) }
+    ensures { MatchResult result (λ o. IsOutcomeOf (λ q. q)
+        (list_problem (length problem.now.goal.items) (map (λ r. r.coeffs.items) problem.now.rows.items)
+        (map (λ r. r.side) problem.now.rows.items) problem.now.goal.items)
+        (lp (list_problem (length problem.now.goal.items) (map (λ r. r.coeffs.items) problem.now.rows.items)
+        (map (λ r. r.side) problem.now.rows.items) problem.now.goal.items)) o
+        × RunFits (list_problem (length problem.now.goal.items) (map (λ r. r.coeffs.items) problem.now.rows.items)
+        (map (λ r. r.side) problem.now.rows.items) problem.now.goal.items))
+        (λ f. IsRunFault (list_problem (length problem.now.goal.items) (map (λ r. r.coeffs.items) problem.now.rows.items)
+        (map (λ r. r.side) problem.now.rows.items) problem.now.goal.items) f) }
 {
     match solve::<Frac, Sparse<Frac>>(alloc, problem) {
         Ok(outcome) => Ok(outcome),
@@ -54,7 +63,7 @@ fn solved(alloc: Global, problem: &Problem<Frac>) -> Result<Outcome<Frac>, PartF
 /// and that each picked edge's transformer exceeds there; or, exactly where there is no greatest one, the unknowns that grow
 /// without end, with their rates and directions. The answer is read from the exact outcome of the joint problem: the number of
 /// an unknown is base plus rise, and an entry of a trace or of a direction is the positive column minus the negative one. The
-/// empty list gives a point with two empty lists. `docs/DEFINITIONS.md` has the joint problem.
+/// empty list gives a point with two empty lists. `docs/METHOD.md` has the joint problem.
 ///
 /// # Errors
 ///

@@ -9,9 +9,9 @@ use Rattle.tm_eqsys.specs.States.{RationalState, dotℚ}
 use Rattle.tm_eqsys.specs.Equations.{Equations, Vector, Fits, Transition, PostSolution, Exceeds, IsBelow, Least}
 use Rattle.tm_validity.specs.Steps.{Below}
 use Rattle.tm_validity.specs.Certificates.{PointsInRange}
-use Rattle.tm_validity.proofs.LeastOfBelow.{least_of_below}
+use Rattle.tm_validity.proofs.steps.LeastOfBelow.{least_of_below}
 use Rattle.tm_transformers.specs.EdgeProblems.{transformer}
-use Rattle.tm_transformers.proofs.TransformerOf.{transformer_reaches}
+use Rattle.tm_transformers.proofs.edge_problems.TransformerOf.{transformer_reaches}
 
 module _ (system : Equations) (range : PointsInRange system) (v : Vector) (post : PostSolution system v) (below : (w : Vector) → PostSolution system w → IsBelow system v w) where
   -- the vector at the system's points, and -inf beyond them

@@ -2,11 +2,11 @@
 use Rattle.std.proofs.Common.{refl, ◌≡◌, ℕ, ◌<◌, ⊎_elim, [], ◌∷◌, ap, sym, ◌∙◌, subst}
 use Rattle.tm_num.specs.Rational.{ℚ, zero_ℚ, one_ℚ, ◌+ℚ◌, ◌*ℚ◌, ◌-ℚ◌, inv_ℚ, ◌≤ℚ◌, ◌<ℚ◌}
 use Rattle.tm_num.specs.Vector.{sum_to}
-use Rattle.tm_num.proofs.Laws.{≤ℚ_trans, ≤ℚ_antisymm, le_or_lt, ne_of_lt_ℚ, not_le_of_lt, inv_pos, zero_lt_one, le_of_lt_ℚ, *ℚ_invr}
-use Rattle.tm_num.proofs.Ring.{ring, reads}
-use Rattle.tm_num.proofs.Linear.{gap, ◌⊗◌}
-use Rattle.tm_num.proofs.Linarith.{lin_le, lin_lt, lin_false, le, lt, eq_times, ge0, reads_all}
-use Rattle.tm_num.proofs.Vectors.{sum_to_same, sum_to-add, sum_to-scale, sum_to_mono, sum_to_swap}
+use Rattle.tm_num.proofs.rational.Laws.{≤ℚ_trans, ≤ℚ_antisymm, le_or_lt, ne_of_lt_ℚ, not_le_of_lt, inv_pos, zero_lt_one, le_of_lt_ℚ, *ℚ_invr}
+use Rattle.tm_num.proofs.tactics.Ring.{ring, reads}
+use Rattle.tm_num.proofs.tactics.Linear.{gap, ◌⊗◌}
+use Rattle.tm_num.proofs.tactics.Linarith.{lin_le, lin_lt, lin_false, le, lt, eq_times, ge0, reads_all}
+use Rattle.tm_num.proofs.vector.Vectors.{sum_to_same, sum_to-add, sum_to-scale, sum_to_mono, sum_to_swap}
 use Rattle.tm_lp.specs.Problem.{Problem, IsPoint, IsBest, IsUnbounded, IsEmpty, Outcome, best, unbounded, empty, IsOutcome, left, value_at, mixed, mixed_side, SameKind, moved}
 
 -- the order of a double sum of products

@@ -2,13 +2,13 @@
 use Rattle.std.proofs.Common.{◌≡◌, ◌≢◌, ℕ, zero, suc, ◌<◌, ◌≤◌, ◌⊎◌, inl, inr, ⊎_elim, Bool, true, false, not, refl, ap, sym, ◌∙◌, subst, arith, true≢false}
 use Rattle.std.proofs.lemmas.Bool.{cases_lt, cases_eq, cases_Bool, not-false, not-true}
 use Rattle.tm_num.specs.Rational.{ℚ, zero_ℚ, ◌+ℚ◌, ◌*ℚ◌, ◌≤ℚ◌}
-use Rattle.tm_num.proofs.Laws.{≤ℚ_trans, ≤ℚ_antisymm, le_of_eq_ℚ, *ℚ-zero, +ℚ_idr, ne_of_lt_ℚ}
+use Rattle.tm_num.proofs.rational.Laws.{≤ℚ_trans, ≤ℚ_antisymm, le_of_eq_ℚ, *ℚ-zero, +ℚ_idr, ne_of_lt_ℚ}
 use Rattle.tm_lp.specs.Dictionary.{Dict, Models, pivot, SameBasis}
 use Rattle.tm_lp.specs.Bland.{ratio_of, Enters, Leaves, IsChain}
-use Rattle.tm_lp.proofs.Dictionaries.{same_const}
+use Rattle.tm_lp.proofs.dictionary.Dictionaries.{same_const}
 use Rattle.tm_lp.proofs.Pivots.{pivot_enters, pivot_leaves, pivot_stays, pivot_means, pivot_means_back}
-use Rattle.tm_lp.proofs.Steps.{enters_free, leaves_basic, const_moves, step_goal, step_same}
-use Rattle.tm_lp.proofs.Clash.{clash}
+use Rattle.tm_lp.proofs.search.Steps.{enters_free, leaves_basic, const_moves, step_goal, step_same}
+use Rattle.tm_lp.proofs.dictionary.Clash.{clash}
 
 -- what turns basic enters, and what turns free leaves
 pub turned_basic : (D : Dict) (r c q : ℕ) → r ≢ c → D.basic q ≡ false → (pivot D r c).basic q ≡ true → q ≡ c

@@ -2,14 +2,14 @@
 use Rattle.std.proofs.Common.{◌≡◌, ◌≢◌, ℕ, ◌+◌, ◌<◌, ◌≤◌, ⊎_elim, refl, ap, sym, ◌∙◌, subst, subst₂, arith}
 use Rattle.std.proofs.lemmas.Bool.{cases_eq, cases_Bool}
 use Rattle.tm_num.specs.Rational.{ℚ, zero_ℚ, neg_ℚ, ◌/ℚ◌, ◌≤ℚ◌, ◌<ℚ◌}
-use Rattle.tm_num.proofs.Laws.{≤ℚ_refl, <ℚ_irrefl, not_le_of_lt, le_of_lt_ℚ, zero_lt_one, ne_of_lt_ℚ}
+use Rattle.tm_num.proofs.rational.Laws.{≤ℚ_refl, <ℚ_irrefl, not_le_of_lt, le_of_lt_ℚ, zero_lt_one, ne_of_lt_ℚ}
 use Rattle.tm_lp.specs.Dictionary.{delta, Dict, IsDict}
 use Rattle.tm_lp.specs.Bland.{ratio_of, Enters, Leaves, Choice, optimal, ray, step, choose, take_step, next, ChoiceIs}
 use Rattle.tm_lp.specs.Table.{Table, pivot_table, Shows}
 use Rattle.tm_lp.proofs.Sums.{delta_same, delta_other}
-use Rattle.tm_lp.proofs.Dictionaries.{free_below}
-use Rattle.tm_lp.proofs.Steps.{choose_is, enters_only, leaves_only, enters_free, leaves_basic}
-use Rattle.tm_lp.proofs.TablePivots.{table_pivot}
+use Rattle.tm_lp.proofs.dictionary.Dictionaries.{free_below}
+use Rattle.tm_lp.proofs.search.Steps.{choose_is, enters_only, leaves_only, enters_free, leaves_basic}
+use Rattle.tm_lp.proofs.table.TablePivots.{table_pivot}
 
 same_choice : (g n : ℕ) (D : Dict) (x y : Choice) → ChoiceIs g n D x → ChoiceIs g n D y → x ≡ y
 same_choice g n D optimal optimal h k = refl

@@ -11,7 +11,8 @@ pub fn best_is_greatest()
 /// Along the ray from its point all are points, and their values pass each bound.
 pub fn ray_has_no_bound()
     ensures points { (P : Problem) (x d : ℕ → ℚ) → IsUnbounded P x d → (t : ℚ) → zero_ℚ ≤ℚ t → IsPoint P (moved x t d) }
-    ensures exceeds { (P : Problem) (x d : ℕ → ℚ) → IsUnbounded P x d → (b : ℚ) → (t : ℚ) × (zero_ℚ ≤ℚ t) × IsPoint P (moved x t d) × (b <ℚ value_at P (moved x t d)) }
+    ensures exceeds { (P : Problem) (x d : ℕ → ℚ) → IsUnbounded P x d → (b : ℚ) → (t : ℚ) × (zero_ℚ ≤ℚ t) × IsPoint P (moved x t d)
+        × (b <ℚ value_at P (moved x t d)) }
 {}
 
 /// Multipliers of an empty problem exclude every point.

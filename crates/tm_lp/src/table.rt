@@ -15,10 +15,12 @@ pub fn first_tables_show()
 
 /// The four formulas of a pivot make of a table that shows a dictionary one that shows the dictionary after the pivot.
 pub fn formulas_show_the_pivot()
-    ensures { (n : ℕ) (T : Table) (D : Dict) → Shows n T D → IsDict n D → (r c : ℕ) → r < T.rows → c < T.width → T.entry r c ≢ zero_ℚ → Shows n (pivot_table T r c) (pivot D (T.row_name r) (T.col_name c)) }
+    ensures { (n : ℕ) (T : Table) (D : Dict) → Shows n T D → IsDict n D → (r c : ℕ) → r < T.rows → c < T.width → T.entry r c ≢ zero_ℚ →
+        Shows n (pivot_table T r c) (pivot D (T.row_name r) (T.col_name c)) }
 {}
 
 /// Without the auxiliary variable's column and the first goal a table shows the dictionary in which that variable is 0.
 pub fn dropped_table_shows()
-    ensures { (n : ℕ) (T : Table) (D : Dict) → Shows n T D → IsDict n D → (goals width z : ℕ) → T.goals ≡ suc goals → T.width ≡ suc width → z < T.width → T.col_name z ≡ 0 → Shows n (drop_table T goals width z) (drop_zero D) }
+    ensures { (n : ℕ) (T : Table) (D : Dict) → Shows n T D → IsDict n D → (goals width z : ℕ) → T.goals ≡ suc goals → T.width ≡ suc width →
+        z < T.width → T.col_name z ≡ 0 → Shows n (drop_table T goals width z) (drop_zero D) }
 {}

@@ -1,12 +1,3 @@
-pub mod Exceeding
-pub mod Improved
-pub mod KnownValues
-pub mod NextPick
-pub mod OfferLists
-pub mod Offered
-pub mod Products
-pub mod Ranges
-pub mod Unknowns
-pub mod UpperRead
-pub mod UpperSources
+pub mod at_bounds
+pub mod offers
 pub mod ValuesAgree

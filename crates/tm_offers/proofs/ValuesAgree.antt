@@ -17,7 +17,7 @@ use Rattle.tm_transformers.specs.Limits.{tabulate}
 use Rattle.tm_transformers.specs.EdgeProblems.{edge_problem}
 use Rattle.tm_transformers.specs.Spread.{spread_one, spread, skip_one, skip}
 use Rattle.tm_strategy_lp.specs.Agreement.{Agree}
-use Rattle.tm_strategy_lp.proofs.ProblemsAgree.{lost_agrees, problem_agrees}
+use Rattle.tm_strategy_lp.proofs.raises.ProblemsAgree.{lost_agrees, problem_agrees}
 use Rattle.tm_compose.specs.declared.value.Value.{Value}
 use Rattle.tm_compose.specs.declared.value.Value.TheVariants.{Unreached, Empty, Best, Unbounded}
 use Rattle.tm_oper.specs.Values.{AreMultipliers, ReadsOutcome, ReadsProblem, IsValue, reading_operations, IsWideIn, IsOperatorFault}

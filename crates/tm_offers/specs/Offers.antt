@@ -1,7 +1,7 @@
 -- Offers: a bound, and the transformers of some edges.
 use Rattle.std.specs.Prelude.{ℕ, ◌<◌, Bool, true, false, List, length, get_or}
 use Rattle.tm_num.specs.Extended.{Ext as Extended, neg_inf, fin, pos_inf, ◌≤ᴱ◌, ◌<ᴱ◌}
-use Rattle.tm_num.proofs.Laws.{<ℚ_prop}
+use Rattle.tm_num.proofs.rational.Laws.{<ℚ_prop}
 use Rattle.tm_frac.specs.Extended.{extended}
 use Rattle.tm_offers.specs.declared.offer.Offer.{Offer}
 

@@ -35,7 +35,7 @@ pub fn first(offer: &Offer) -> usize
 }
 
 /// The position that a chooser with the policy `best` answers.
-#[tactic(auto, using(crate::proofs::Offered::best_exceeds))]
+#[tactic(auto, using(crate::proofs::offers::Offered::best_exceeds))]
 pub fn chosen_by_best(offer: &Offer) -> usize
     requires { SomeExceeds offer.now }
     ensures { IsFirstGreatest offer.now.values result }

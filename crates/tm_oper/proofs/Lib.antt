@@ -1,9 +1,2 @@
-pub mod Pairs
-pub mod Problems
-pub mod Sources
-pub mod Entries
-pub mod Outcomes
-pub mod Built
-pub mod Operated
-pub mod Evident
-pub mod Answered
+pub mod splits
+pub mod values

@@ -33,7 +33,8 @@ abbrev pub limit_of : Row ℚ → Limit
 limit_of row = record { coeffs = row.coeffs.items; side = row.side }
 
 -- the guards and the row's form that are those of the edge and the row
-pub record IsSource (system : Equations) (z : Vector) (edge : Edge) (row : List ℤ) (w : ℕ) (template : List (List ℤ)) (source : List Ext) (guards : List Affine) (form : Affine) : Type 0 where
+pub record IsSource (system : Equations) (z : Vector) (edge : Edge) (row : List ℤ) (w : ℕ) (template : List (List ℤ)) (source : List Ext)
+    (guards : List Affine) (form : Affine) : Type 0 where
   pub columns : w ≡ width system.variables edge.actions
   pub rows : template ≡ system.template
   pub bounds : bounds_at source ≡ z edge.from

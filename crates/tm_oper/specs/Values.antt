@@ -40,11 +40,13 @@ pub record AreMultipliers (bounds : ℕ → Ext) (template : List (List ℤ)) (c
   pub of_rows : rows ≡ spread bounds template y
   pub of_guards : guards ≡ tabulate count (skip bounds template y)
 
--- what an outcome over split columns says: the value with the end value's constant c, and the trace whose entries are each positive column minus the negative one
+-- what an outcome over split columns says: the value with the end value's constant c, and the trace whose entries are each positive column minus the
+-- negative one
 abbrev pub ReadsOutcome : ℕ → ℕ → ℚ → (ℕ → Ext) → List (List ℤ) → ℕ → Outcome → Value → Type 0
 ReadsOutcome n w c bounds template count (best x v y) (Unreached r) = ⊥
 ReadsOutcome n w c bounds template count (best x v y) (Empty rows guards) = ⊥
-ReadsOutcome n w c bounds template count (best x v y) (Best value trace rows guards) = (value ≡ v +ℚ c) × IsTraceOf n w (unsplit x) trace × AreMultipliers bounds template count y rows guards
+ReadsOutcome n w c bounds template count (best x v y) (Best value trace rows guards) = (value ≡ v +ℚ c) × IsTraceOf n w (unsplit x) trace
+    × AreMultipliers bounds template count y rows guards
 ReadsOutcome n w c bounds template count (best x v y) (Unbounded trace direction) = ⊥
 ReadsOutcome n w c bounds template count (unbounded x d) (Unreached r) = ⊥
 ReadsOutcome n w c bounds template count (unbounded x d) (Empty rows guards) = ⊥
@@ -73,7 +75,8 @@ whole_problem system z edge row = split_problem (edge_problem system z edge row)
 abbrev pub ReadsProblem : Equations → Vector → Edge → List ℤ → Value → Type 0
 ReadsProblem system z edge row value =
     (lost (z edge.from) system.template ≡ false)
-    × ReadsOutcome system.variables (width system.variables edge.actions) (end_form system.variables edge.actions row).constant (z edge.from) system.template (length (guard_forms system.variables edge.actions)) (lp (whole_problem system z edge row)) value
+    × ReadsOutcome system.variables (width system.variables edge.actions) (end_form system.variables edge.actions row).constant
+    (z edge.from) system.template (length (guard_forms system.variables edge.actions)) (lp (whole_problem system z edge row)) value
 
 -- the lowest row at -inf where there is one, and else what the last dictionary says
 abbrev pub IsValue : Equations → Vector → Edge → List ℤ → Value → Type 0
@@ -84,12 +87,14 @@ IsValue system z edge row (Unbounded trace direction) = ReadsProblem system z ed
 
 -- the operations of reading the problem's outcome
 abbrev pub problem_reading : Equations → Vector → Edge → List ℤ → List Operation
-problem_reading system z edge row = reading_operations (width system.variables edge.actions) (end_form system.variables edge.actions row).constant (lp (whole_problem system z edge row))
+problem_reading system z edge row = reading_operations (width system.variables edge.actions) (end_form system.variables edge.actions row).constant
+    (lp (whole_problem system z edge row))
 
 -- no pivot and no reading is wide; without a problem there is none
 abbrev pub NoneWide : Equations → Vector → Edge → List ℤ → Type 0
 NoneWide system z edge row =
-    lost (z edge.from) system.template ≡ false → (first_refused long_limit (run_operations (whole_problem system z edge row)) ≡ None) × (first_wide long_limit (problem_reading system z edge row) ≡ None)
+    lost (z edge.from) system.template ≡ false → (first_refused long_limit (run_operations (whole_problem system z edge row)) ≡ None)
+    × (first_wide long_limit (problem_reading system z edge row) ≡ None)
 
 -- the first wide operation of some numbered pivots, and of reading where no pivot is wide; the sides have no operation
 abbrev pub IsWideIn : Problem → List Operation → Part → Operation → Type 0
@@ -99,5 +104,6 @@ IsWideIn P reading Reading o = (first_refused long_limit (run_operations P) ≡ 
 
 -- the first wide operation of the problem, which there is
 abbrev pub IsOperatorFault : Equations → Vector → Edge → List ℤ → PartFault → Type 0
-IsOperatorFault system z edge row (Wide part wide) = (lost (z edge.from) system.template ≡ false) × IsWideIn (whole_problem system z edge row) (problem_reading system z edge row) part (operation_of (λ q. q) wide)
+IsOperatorFault system z edge row (Wide part wide) = (lost (z edge.from) system.template ≡ false)
+    × IsWideIn (whole_problem system z edge row) (problem_reading system z edge row) part (operation_of (λ q. q) wide)
 IsOperatorFault system z edge row NoMemory = Unit {0}

@@ -65,7 +65,9 @@ fn source_rows(
     rows: &mut Vec<Row<Frac>>,
 ) -> Result<(), AllocError>
     requires { length template.now ≤ length source.now }
-    ensures { (n : ℕ) → IsTrue (is_over n template.now) → OnOk result (map limit_of rows.new.items ≡ map limit_of rows.old.items ++ map (split_limit width) (source_limits (λ r u. u) n (bounds_at source.now) template.now)) }
+    ensures { (n : ℕ) → IsTrue (is_over n template.now) →
+        OnOk result (map limit_of rows.new.items ≡ map limit_of rows.old.items
+        ++ map (split_limit width) (source_limits (λ r u. u) n (bounds_at source.now) template.now)) }
 {
     for (r, row) in template.iter().enumerate() {
         add_source_row(alloc, row.as_slice(), source[r], width, rows)?;
@@ -75,7 +77,8 @@ fn source_rows(
 
 // The guards, with the negated constant as side.
 fn guard_rows(alloc: Global, guards: &[Affine], rows: &mut Vec<Row<Frac>>) -> Result<(), AllocError>
-    ensures { (width : ℕ) (forms : List Formal) → guards.now ≡ map (dense width) forms → OnOk result (map limit_of rows.new.items ≡ map limit_of rows.old.items ++ map (split_limit width) (guard_limits (λ u. u) forms)) }
+    ensures { (width : ℕ) (forms : List Formal) → guards.now ≡ map (dense width) forms →
+        OnOk result (map limit_of rows.new.items ≡ map limit_of rows.old.items ++ map (split_limit width) (guard_limits (λ u. u) forms)) }
 {
     for guard in guards {
         let coeffs = split_coeffs(alloc, guard.coeffs.as_slice())?;
@@ -99,7 +102,9 @@ pub fn edge_problem(
     requires few_rows { length template.now ≤ 128 }
     requires few_guards { length guards.now ≤ 256 }
     requires few_columns { width ≤ 264 }
-    ensures { (system : Equations) (z : Vector) (edge : Edge) (row : List ℤ) → IsTrue (is_over system.variables system.template) → IsSource system z edge row width template.now source.now guards.now form.now → IfOk result (λ p. (exact (λ q. q) p ≡ whole_problem system z edge row) × IsShaped p) }
+    ensures { (system : Equations) (z : Vector) (edge : Edge) (row : List ℤ) → IsTrue (is_over system.variables system.template) →
+        IsSource system z edge row width template.now source.now guards.now form.now →
+        IfOk result (λ p. (exact (λ q. q) p ≡ whole_problem system z edge row) × IsShaped p) }
 {
     let mut rows = Vec::with_capacity(alloc, template.len() + guards.len())?;
     source_rows(alloc, template, source, width, &mut rows)?;

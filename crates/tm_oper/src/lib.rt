@@ -1,6 +1,6 @@
 //! The transformers of a system's edges and rows.
 //!
-//! `docs/DEFINITIONS.md` reads the definitions of `specs/` in order.
+//! `docs/METHOD.md` reads the definitions of `specs/` in order.
 #![tactic(auto)]
 
 mod build;

@@ -51,7 +51,8 @@ fn read_entries(
 ) -> Result<Fracs, FormFault>
     requires first { first ≤ 264 }
     requires count { count ≤ 264 }
-    ensures { ReadsBy (λ list. list ≡ map (unsplit (at point.now)) (range_with_len first count)) (map (λ j. record { op = Sub; left = at point.now (j + j); right = at point.now (suc (j + j)) }) (range_with_len first count)) result }
+    ensures { ReadsBy (λ list. list ≡ map (unsplit (at point.now)) (range_with_len first count))
+        (map (λ j. record { op = Sub; left = at point.now (j + j); right = at point.now (suc (j + j)) }) (range_with_len first count)) result }
 {
     let mut list = Vec::with_capacity(alloc, count)?;
     for i in 0..count {
@@ -164,7 +165,10 @@ fn read_best(
 ) -> Result<Value, FormFault>
     requires room { sizes.rows ≤ length source.now }
     requires few { sizes.rows ≤ 128 }
-    ensures { (template : List (List ℤ)) → sizes.rows ≡ length template → ReadsBy (ReadsOutcome sizes.variables (sizes.variables + sizes.frees) constant (bounds_at source.now) template sizes.guards (lp.best (at point.now) best (at multipliers.now))) (reading_operations (sizes.variables + sizes.frees) constant (lp.best (at point.now) best (at multipliers.now))) result }
+    ensures { (template : List (List ℤ)) → sizes.rows ≡ length template →
+        ReadsBy (ReadsOutcome sizes.variables (sizes.variables + sizes.frees) constant (bounds_at source.now) template sizes.guards
+        (lp.best (at point.now) best (at multipliers.now)))
+        (reading_operations (sizes.variables + sizes.frees) constant (lp.best (at point.now) best (at multipliers.now))) result }
 {
     let value = best.plus(constant)?;
     let trace = read_trace(alloc, point, sizes.variables, sizes.frees)?;
@@ -186,7 +190,10 @@ fn read_unbounded(
     point: &[Frac],
     ray: &[Frac],
 ) -> Result<Value, FormFault>
-    ensures { (constant : ℚ) (bounds : ℕ → Extended) (template : List (List ℤ)) → ReadsBy (ReadsOutcome sizes.variables (sizes.variables + sizes.frees) constant bounds template sizes.guards (lp.unbounded (at point.now) (at ray.now))) (reading_operations (sizes.variables + sizes.frees) constant (lp.unbounded (at point.now) (at ray.now))) result }
+    ensures { (constant : ℚ) (bounds : ℕ → Extended) (template : List (List ℤ)) →
+        ReadsBy (ReadsOutcome sizes.variables (sizes.variables + sizes.frees) constant bounds template sizes.guards
+        (lp.unbounded (at point.now) (at ray.now)))
+        (reading_operations (sizes.variables + sizes.frees) constant (lp.unbounded (at point.now) (at ray.now))) result }
 {
     let trace = read_trace(alloc, point, sizes.variables, sizes.frees)?;
     let direction = read_trace(alloc, ray, sizes.variables, sizes.frees)?;
@@ -202,7 +209,8 @@ fn read_empty(
 ) -> Result<Value, AllocError>
     requires room { sizes.rows ≤ length source.now }
     requires few { sizes.rows ≤ 128 }
-    ensures { (n w : ℕ) (constant : ℚ) (template : List (List ℤ)) → sizes.rows ≡ length template → IfOk result (ReadsOutcome n w constant (bounds_at source.now) template sizes.guards (lp.empty (at multipliers.now))) }
+    ensures { (n w : ℕ) (constant : ℚ) (template : List (List ℤ)) → sizes.rows ≡ length template →
+        IfOk result (ReadsOutcome n w constant (bounds_at source.now) template sizes.guards (lp.empty (at multipliers.now))) }
 {
     let rows = row_multipliers(alloc, source, sizes.rows, multipliers)?;
     let first = count_finite(source, sizes.rows);
@@ -220,7 +228,9 @@ pub fn read_outcome(
 ) -> Result<Value, FormFault>
     requires room { sizes.rows ≤ length source.now }
     requires few { sizes.rows ≤ 128 }
-    ensures { (template : List (List ℤ)) → sizes.rows ≡ length template → ReadsBy (ReadsOutcome sizes.variables (sizes.variables + sizes.frees) constant (bounds_at source.now) template sizes.guards (listed_outcome outcome)) (reading_operations (sizes.variables + sizes.frees) constant (listed_outcome outcome)) result }
+    ensures { (template : List (List ℤ)) → sizes.rows ≡ length template →
+        ReadsBy (ReadsOutcome sizes.variables (sizes.variables + sizes.frees) constant (bounds_at source.now) template sizes.guards
+        (listed_outcome outcome)) (reading_operations (sizes.variables + sizes.frees) constant (listed_outcome outcome)) result }
 {
     match outcome {
         Outcome::Best {

@@ -38,10 +38,18 @@ fn solve_problem(
     requires shaped { IsShaped problem.now }
     requires room { sizes.rows ≤ length source.now }
     requires few { sizes.rows ≤ 128 }
-    ensures value { (template : List (List ℤ)) → sizes.rows ≡ length template → HasSizes (exact (λ q. q) problem.now) (sizes.variables + sizes.frees) (bounds_at source.now) template sizes.guards → IfOk result (ReadsOutcome sizes.variables (sizes.variables + sizes.frees) constant (bounds_at source.now) template sizes.guards (lp (exact (λ q. q) problem.now))) }
+    ensures value { (template : List (List ℤ)) → sizes.rows ≡ length template →
+        HasSizes (exact (λ q. q) problem.now) (sizes.variables + sizes.frees) (bounds_at source.now) template sizes.guards →
+        IfOk result (ReadsOutcome sizes.variables (sizes.variables + sizes.frees) constant (bounds_at source.now) template sizes.guards
+        (lp (exact (λ q. q) problem.now))) }
     ensures pivots { OnOk result (first_refused long_limit (run_operations (exact (λ q. q) problem.now)) ≡ None) }
-    ensures reading { (template : List (List ℤ)) → sizes.rows ≡ length template → HasSizes (exact (λ q. q) problem.now) (sizes.variables + sizes.frees) (bounds_at source.now) template sizes.guards → OnOk result (first_wide long_limit (reading_operations (sizes.variables + sizes.frees) constant (lp (exact (λ q. q) problem.now))) ≡ None) }
-    ensures refused { (template : List (List ℤ)) → sizes.rows ≡ length template → HasSizes (exact (λ q. q) problem.now) (sizes.variables + sizes.frees) (bounds_at source.now) template sizes.guards → IfErr result (IsProblemFault (exact (λ q. q) problem.now) (reading_operations (sizes.variables + sizes.frees) constant (lp (exact (λ q. q) problem.now)))) }
+    ensures reading { (template : List (List ℤ)) → sizes.rows ≡ length template →
+        HasSizes (exact (λ q. q) problem.now) (sizes.variables + sizes.frees) (bounds_at source.now) template sizes.guards →
+        OnOk result (first_wide long_limit (reading_operations (sizes.variables + sizes.frees) constant (lp (exact (λ q. q) problem.now))) ≡ None) }
+    ensures refused { (template : List (List ℤ)) → sizes.rows ≡ length template →
+        HasSizes (exact (λ q. q) problem.now) (sizes.variables + sizes.frees) (bounds_at source.now) template sizes.guards →
+        IfErr result (IsProblemFault (exact (λ q. q) problem.now)
+        (reading_operations (sizes.variables + sizes.frees) constant (lp (exact (λ q. q) problem.now)))) }
 {
     match solve::<Frac, Dict<Frac>>(alloc, problem) {
         Ok(outcome) => match read_outcome(alloc, sizes, source, constant, outcome) {
@@ -90,7 +98,9 @@ fn solve_edge(
     requires room { length system.now.template ≤ length source.now }
     requires edge { edge < length system.now.flow.edges }
     requires row { row < length system.now.template }
-    ensures { (z : Vector) → bounds_at source.now ≡ z (edge_at system.now edge).from → lost (z (edge_at system.now edge).from) system.now.template ≡ false → Operates (equations_of system.now) z (edge_at system.now edge) (row_at system.now row) result }
+    ensures { (z : Vector) → bounds_at source.now ≡ z (edge_at system.now edge).from →
+        lost (z (edge_at system.now edge).from) system.now.template ≡ false →
+        Operates (equations_of system.now) z (edge_at system.now edge) (row_at system.now row) result }
 {
     let sizes = sizes_of(system, paths, edge);
     let path = paths.path(edge);
@@ -131,10 +141,12 @@ pub fn operator(
     requires edge { edge < length system.now.flow.edges }
     requires row { row < length system.now.template }
     ensures value { IfOk result (IsValue (equations_of system.now) (vector_at system.now bounds.now) (edge_at system.now edge) (row_at system.now row)) }
-    ensures supremum { IfOk result (λ v. transformer (equations_of system.now) (vector_at system.now bounds.now) (edge_at system.now edge) (row_at system.now row) ≡ number_of v) }
+    ensures supremum { IfOk result (λ v. transformer (equations_of system.now) (vector_at system.now bounds.now) (edge_at system.now edge)
+        (row_at system.now row) ≡ number_of v) }
     ensures evidence { IfOk result (HasEvidence (equations_of system.now) (vector_at system.now bounds.now) (edge_at system.now edge) (row_at system.now row)) }
     ensures fits { OnOk result (NoneWide (equations_of system.now) (vector_at system.now bounds.now) (edge_at system.now edge) (row_at system.now row)) }
-    ensures refused { IfErr result (IsOperatorFault (equations_of system.now) (vector_at system.now bounds.now) (edge_at system.now edge) (row_at system.now row)) }
+    ensures refused { IfErr result (IsOperatorFault (equations_of system.now) (vector_at system.now bounds.now) (edge_at system.now edge)
+        (row_at system.now row)) }
 {
     let rows = system.template.as_slice().len();
     let from = system.flow.edges.as_slice()[edge as usize].from as usize;

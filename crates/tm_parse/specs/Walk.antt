@@ -209,7 +209,10 @@ module _ (line : ℕ → ℕ) (width : ℕ) where
     walk_core (if_alone a b e c s) st =
         walk_expr st e >>= λ v. tested a v >>= λ x. counted a st >>= λ now. walk_sub s now >>= λ r. Ok (r.0, one (tree.branch x r.1 nil (line a)))
     walk_core (if_else a b e c s d t) st =
-        walk_expr st e >>= λ v. tested a v >>= λ x. counted a st >>= λ now. walk_sub s now >>= λ r. walk_sub t r.0 >>= λ q. Ok (q.0, one (tree.branch x r.1 q.1 (line a)))
+        walk_expr st e >>= λ v. tested a v >>= λ x. counted a st >>= λ now. walk_sub s now >>= λ r. walk_sub t r.0 >>= λ q. Ok (
+          q.0,
+          one (tree.branch x r.1 q.1 (line a)),
+        )
     walk_core (repeat a b e c s) st =
         walk_expr st e >>= λ v. tested a v >>= λ x. counted a st >>= λ now. walk_sub s now >>= λ r. Ok (r.0, one (tree.loop x r.1 (line a)))
     walk_core (assumed a b e c d) st = counted a st >>= λ now. walk_expr now e >>= λ v. tested a v >>= λ x. Ok (now, one (tree.assume x (line a)))

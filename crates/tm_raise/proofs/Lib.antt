@@ -1,11 +1,3 @@
-pub mod Agree
-pub mod Moving
-pub mod Carrying
-pub mod Widths
-pub mod Wholes
-pub mod Towards
-pub mod Entries
-pub mod Faults
-pub mod Multiples
-pub mod Above
-pub mod Raised
+pub mod numbers
+pub mod moves
+pub mod lows

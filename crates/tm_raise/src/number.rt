@@ -65,7 +65,7 @@ fn between(bound: Frac, value: Frac) -> Result<Frac, Wide<Frac>>
 }
 
 /// The number to which a bound is raised towards a greater value: from `-inf` one less than the value; from a fraction the
-/// least whole number above it where that fits and is below the value, and else the middle (`docs/DEFINITIONS.md`, growth).
+/// least whole number above it where that fits and is below the value, and else the middle (`docs/METHOD.md`, growth).
 ///
 /// # Errors
 ///

@@ -104,7 +104,7 @@ fn raise_for_ever(
 }
 
 /// The step of a certificate that raises the unknown of this number, whose bound is this, towards the value of the transformer
-/// of an edge into its point and of its row. `docs/DEFINITIONS.md` says how unknowns grow.
+/// of an edge into its point and of its row. `docs/METHOD.md` says how unknowns grow.
 ///
 /// Towards a best value it is a plain step by the value's trace: from `-inf` to one less than the value; from a fraction to
 /// the least whole number above it where that fits a fraction and is below the value, and else to the middle between both.

@@ -1,2 +1,2 @@
-pub mod Gathered
-pub mod NamedRates
+pub mod answers
+pub mod reading

@@ -14,8 +14,8 @@ use Rattle.tm_eqsys.specs.declared.system.System.{System}
 use Rattle.tm_eqsys.specs.declared.spot.Part.{Part}
 use Rattle.tm_eqsys.specs.declared.spot.Spot.{Spot}
 use Rattle.tm_eqsys.specs.declared.spot.Site.TheVariants.{Growth, Raise}
-use Rattle.tm_validity.specs.Steps.{Item, Step, after}
-use Rattle.tm_validity.specs.Certificates.{led}
+use Rattle.tm_validity.specs.Steps.{Item, Step, after_step}
+use Rattle.tm_validity.specs.Certificates.{after_steps}
 use Rattle.tm_cert.specs.declared.step.Step.{Step as CodeStep}
 use Rattle.tm_cert.specs.declared.step.Step.TheVariants.{Plain, Jump, Ray}
 use Rattle.tm_cert.specs.Certificates.{step_of}
@@ -100,7 +100,7 @@ pub record IsPassed (system : System) (pick : List (Option ℕ)) (first n : ℕ)
   pub made : List Step
   pub steps : steps_so_far system new ≡ steps_so_far system old ++ made
   pub log : exact_pass fitting (equations_of system) z (unraised system pick old first n) ≡ record { steps = made; left = unraised system pick new first n }
-  pub agrees : Agrees system (led made z) new.bounds
+  pub agrees : Agrees system (after_steps made z) new.bounds
   pub is_told : IsTold made told
 
 -- for every vector that has the old bounds
@@ -156,7 +156,7 @@ module _ (system : System) (edge unknown : ℕ) where
   pub record IsGo (z : Vector) (old new : Growing) : Type 0 where
     pub exceeds : z tested.point tested.row <ᴱ value_at (equations_of system) (transformers system) z tested
     pub steps : steps_so_far system new ≡ steps_so_far system old ++ exact_raise fitting (equations_of system) z tested ∷ []
-    pub agrees : Agrees system (after (exact_raise fitting (equations_of system) z tested) z) new.bounds
+    pub agrees : Agrees system (after_step (exact_raise fitting (equations_of system) z tested) z) new.bounds
     pub raised : new.raised.items ≡ slice_set old.raised.items unknown true
 
   -- one of both
@@ -210,7 +210,7 @@ pub record IsFresh (system : System) (growing : Growing) : Type 0 where
 -- everything has grown from bounds by a pick
 pub record IsGrown (system : System) (bounds : List Extended) (pick : List (Option ℕ)) (growing : Growing) : Type 0 where
   pub steps : steps_so_far system growing ≡ growth_at system bounds pick
-  pub agrees : Agrees system (led (steps_so_far system growing) (vector_at system bounds)) growing.bounds
+  pub agrees : Agrees system (after_steps (steps_so_far system growing) (vector_at system bounds)) growing.bounds
 
 -- the numbers below a count that are marked, in rising order
 abbrev pub marked_numbers : List Bool → ℕ → List ℕ

@@ -4,7 +4,7 @@ use Rattle.tm_num.specs.Extended.{Ext as Extended}
 use Rattle.tm_eqsys.specs.View.{equations_of}
 use Rattle.tm_eqsys.specs.declared.system.System.{System}
 use Rattle.tm_validity.specs.Steps.{Step}
-use Rattle.tm_validity.specs.Certificates.{led}
+use Rattle.tm_validity.specs.Certificates.{after_steps}
 use Rattle.tm_strategy.specs.Growth.{items_of}
 use Rattle.tm_strategy_lp.specs.Agreement.{Agree}
 use Rattle.tm_strategy_lp.specs.Evidence.{exact_evidence}
@@ -27,7 +27,7 @@ tests_at system bounds pick = growth_tests fitting (equations_of system) (transf
 
 -- at every point and row of the template, new bounds are those to which steps lead from old ones
 abbrev pub AreLed : System → List Extended → List Step → List Extended → Type 0
-AreLed system old steps new = Agree (equations_of system) (led steps (vector_at system old)) (vector_at system new)
+AreLed system old steps new = Agree (equations_of system) (after_steps steps (vector_at system old)) (vector_at system new)
 
 -- the numbers of the unknowns that steps name, in rising order
 abbrev pub named_at : System → List Step → List ℕ

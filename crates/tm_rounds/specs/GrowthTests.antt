@@ -3,10 +3,10 @@ use Rattle.std.specs.Prelude.{ℕ, zero, suc, ◌+◌, ◌/◌, ◌%◌, Bool, L
 use Rattle.std.specs.List.{list_any, filter, range_with_len}
 use Rattle.std.proofs.Common.{⊎_elim}
 use Rattle.tm_num.specs.Rational.{ℚ}
-use Rattle.tm_num.proofs.ExtendedLaws.{ext_le_or_lt}
+use Rattle.tm_num.proofs.extended.ExtendedLaws.{ext_le_or_lt}
 use Rattle.tm_eqsys.specs.Equations.{Equations, Vector}
-use Rattle.tm_validity.specs.Steps.{Item, Step, names, after}
-use Rattle.tm_validity.specs.Certificates.{led}
+use Rattle.tm_validity.specs.Steps.{Item, Step, names, after_step}
+use Rattle.tm_validity.specs.Certificates.{after_steps}
 use Rattle.tm_strategy.specs.Picks.{Pick, Transformer, value_at, choices}
 use Rattle.tm_strategy.specs.Growth.{Evident, raise_at, pass}
 
@@ -27,7 +27,7 @@ module _ (fitting : ℚ → Bool) (system : Equations) (T : Transformer) (reache
   pass_tests n z [] = []
   pass_tests n z (u ∷ us) =
       record { vector = z; unknown = u; raises = n }
-      ∷ ⊎_elim (λ h. pass_tests n z us) (λ h. pass_tests (suc n) (after (raise_at fitting system T reaches z u) z) us)
+      ∷ ⊎_elim (λ h. pass_tests n z us) (λ h. pass_tests (suc n) (after_step (raise_at fitting system T reaches z u) z) us)
       (ext_le_or_lt (value_at system T z u) (z u.point u.row))
 
   -- the tests of at most k passes, until one raises nothing
@@ -35,7 +35,7 @@ module _ (fitting : ℚ → Bool) (system : Equations) (T : Transformer) (reache
   passes_tests zero n z us = []
   passes_tests (suc k) n z us =
       let log = pass fitting system T reaches z us in
-      pass_tests n z us ++ if_raised log.steps (passes_tests k (n + length log.steps) (led log.steps z) log.left)
+      pass_tests n z us ++ if_raised log.steps (passes_tests k (n + length log.steps) (after_steps log.steps z) log.left)
 
   -- the tests of the growth of a pick, in order
   unfoldable pub growth_tests : Vector → Pick → List Test

@@ -12,8 +12,8 @@ use Rattle.tm_eqsys.specs.declared.spot.Part.{Part}
 use Rattle.tm_eqsys.specs.declared.spot.PartFault.TheVariants.{Wide as WideIn}
 use Rattle.tm_eqsys.specs.declared.spot.Spot.{Spot}
 use Rattle.tm_eqsys.specs.declared.spot.Site.TheVariants.{Joint}
-use Rattle.tm_validity.specs.Steps.{Item, Step, Jump as JumpKind, Ray as RayKind, after}
-use Rattle.tm_validity.specs.Certificates.{led}
+use Rattle.tm_validity.specs.Steps.{Item, Step, Jump as JumpKind, Ray as RayKind, after_step}
+use Rattle.tm_validity.specs.Certificates.{after_steps}
 use Rattle.tm_cert.specs.declared.step.Step.{Step as CodeStep}
 use Rattle.tm_cert.specs.declared.step.Step.TheVariants.{Jump as JumpStep, Ray as RayStep}
 use Rattle.tm_cert.specs.declared.step.JumpItem.{JumpItem}
@@ -119,11 +119,11 @@ module _ (system : System) (raises : List CodeStep) (places : List ℕ) where
   abbrev pub IsTurnedBy : Outcome → List ℕ → Turning → Turning → List ℕ → Type 0
   IsTurnedBy (PointOutcome items) list old new left =
       (turns_so_far system new ≡ turns_so_far system old ++ record { kind = JumpKind; items = items } ∷ []) × (left ≡ [])
-      × Agrees system (after (record { kind = JumpKind; items = items }) (vector_at system old.bounds)) new.bounds
+      × Agrees system (after_step (record { kind = JumpKind; items = items }) (vector_at system old.bounds)) new.bounds
   IsTurnedBy (Rays items) list old new left =
       (turns_so_far system new ≡ turns_so_far system old ++ record { kind = RayKind; items = items } ∷ [])
       × (items_at (length system.template) raises places left ≡ without items (items_at (length system.template) raises places list))
-      × Agrees system (after (record { kind = RayKind; items = items }) (vector_at system old.bounds)) new.bounds
+      × Agrees system (after_step (record { kind = RayKind; items = items }) (vector_at system old.bounds)) new.bounds
 
 -- one turn of a list
 pub record IsTurned (system : System) (pick : List (Option ℕ)) (raises : List CodeStep) (places : List ℕ) (list : List ℕ) (old new : Turning)
@@ -140,7 +140,7 @@ pub record IsDone (system : System) (pick : List (Option ℕ)) (raises : List Co
   pub size : length new.bounds ≡ length old.bounds
   pub steps : turns_so_far system new ≡ turns_so_far system old
       ++ part (joint_of system pick) (length list) (vector_at system old.bounds) (items_at (length system.template) raises places list)
-  pub agrees : Agrees system (led
+  pub agrees : Agrees system (after_steps
       (part (joint_of system pick) (length list) (vector_at system old.bounds) (items_at (length system.template) raises places list))
       (vector_at system old.bounds)) new.bounds
   pub few : length new.steps.items ≤ length old.steps.items + length list
@@ -162,7 +162,7 @@ pub record AreAllDone (system : System) (pick : List (Option ℕ)) (raises : Lis
   pub size : length new.bounds ≡ length old.bounds
   pub steps : turns_so_far system new ≡ turns_so_far system old
       ++ turns (joint_of system pick) (vector_at system old.bounds) (map (items_at (length system.template) raises places) (part_numbers system pick list))
-  pub agrees : Agrees system (led
+  pub agrees : Agrees system (after_steps
       (turns (joint_of system pick) (vector_at system old.bounds) (map (items_at (length system.template) raises places) (part_numbers system pick list)))
       (vector_at system old.bounds)) new.bounds
 

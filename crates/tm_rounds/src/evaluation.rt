@@ -157,7 +157,7 @@ pub fn round_from(
 /// The round by a pick from the bounds: the growth, and then, part by part of the unknowns that it raised to fractions, the
 /// turns of joint problems. A point sets the unknowns of its list to their numbers and ends the part; a ray sets those with a
 /// rate above 0 to `+inf`, and the others are solved again. The bounds are the least that are at least the old ones and closed
-/// under the pick, and the pick is tight at them. `docs/DEFINITIONS.md` has growth, parts and turns.
+/// under the pick, and the pick is tight at them. `docs/METHOD.md` has growth, parts and turns.
 ///
 /// # Errors
 ///

@@ -141,7 +141,7 @@ pub fn grow_from(
 
 /// The growth of a pick from the bounds. In passes, the unknowns with a pick are tested in order of number; one that wasn't
 /// raised yet and whose picked edge's transformer exceeds its bound is raised at once, by one step, and later tests see its new
-/// bound. The passes end with one that raises nothing. `docs/DEFINITIONS.md` says to which bound an unknown is raised.
+/// bound. The passes end with one that raises nothing. `docs/METHOD.md` says to which bound an unknown is raised.
 ///
 /// # Errors
 ///

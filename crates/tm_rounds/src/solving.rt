@@ -125,7 +125,7 @@ fn look_at_rows(system: &System)
 /// The least bounds of a system, by rounds of policy iteration: from `+inf` at the entry and `-inf` elsewhere, each round takes
 /// the next pick by the chooser's function and leads to the least bounds above that are closed under it. The rounds end where no
 /// transformer exceeds its bound, before there are as many rounds as picks; at most `limit` of them are made.
-/// `docs/DEFINITIONS.md` has rounds, picks and certificates.
+/// `docs/METHOD.md` has rounds, picks and certificates.
 ///
 /// # Errors
 ///

@@ -23,7 +23,7 @@ use tm_offers::{Chooser, best, first};
 /// # Errors
 ///
 /// As `least`.
-#[tactic(auto, using(tm_offers::proofs::Offered::best_exceeds))]
+#[tactic(auto, using(tm_offers::proofs::offers::Offered::best_exceeds))]
 pub fn least_by_best(alloc: Global, system: &System, limit: u32) -> Result<Solved, Halt>
     requires limit { limit ≤ 1000000 }
     requires cells { cells_of (equations_of system.now) ≤ 134217728 }

@@ -1,12 +1,2 @@
-pub mod Signs
-pub mod Scans
-pub mod Placing
-pub mod AgreeOperations
-pub mod Numbering
-pub mod PhaseSteps
-pub mod PhaseLoops
-pub mod LoopSteps
-pub mod Readings
-pub mod Evidences
-pub mod Begins
-pub mod Ends
+pub mod operations
+pub mod placed

@@ -66,16 +66,19 @@ pub record IsDirection {F : Type 0} (m : F → ℚ) (T : Table) (rows cols c : �
 -- the best outcome that is read from a table
 abbrev pub ReadsBest : {F : Type 0} → (F → ℚ) → Table → ℕ → ℕ → Outcome F → Type 0
 ReadsBest m T rows cols (Best point value multipliers) =
-    IsPlaced m T.row_name (λ i. T.entry i T.width) rows 0 cols point.items × (m value ≡ T.entry rows T.width) × IsPlaced m T.col_name (λ k. neg_ℚ (T.entry rows k)) T.width cols rows multipliers.items
+    IsPlaced m T.row_name (λ i. T.entry i T.width) rows 0 cols point.items × (m value ≡ T.entry rows T.width)
+    × IsPlaced m T.col_name (λ k. neg_ℚ (T.entry rows k)) T.width cols rows multipliers.items
 ReadsBest m T rows cols (Unbounded point rise) = ⊥
 ReadsBest m T rows cols (Empty multipliers) = ⊥
 
 -- the outcome without bound that is read from a table in the column c
 abbrev pub ReadsRay : {F : Type 0} → (F → ℚ) → Table → ℕ → ℕ → ℕ → Outcome F → Type 0
 ReadsRay m T rows cols c (Best point value multipliers) = ⊥
-ReadsRay m T rows cols c (Unbounded point rise) = IsPlaced m T.row_name (λ i. T.entry i T.width) rows 0 cols point.items × IsDirection m T rows cols c rise.items
+ReadsRay m T rows cols c (Unbounded point rise) = IsPlaced m T.row_name (λ i. T.entry i T.width) rows 0 cols point.items
+    × IsDirection m T rows cols c rise.items
 ReadsRay m T rows cols c (Empty multipliers) = ⊥
 
 -- the outcome of the second phase
 unfoldable pub main_outcome : lp.Problem → lp.Outcome
-main_outcome P = outcome_at P (phase_dict (names P) (main_phase P) (main_phase P).last) (choose (main_row P) (names P) (phase_dict (names P) (main_phase P) (main_phase P).last))
+main_outcome P = outcome_at P (phase_dict (names P) (main_phase P) (main_phase P).last)
+    (choose (main_row P) (names P) (phase_dict (names P) (main_phase P) (main_phase P).last))

@@ -66,7 +66,8 @@ StepIs limit T U rows width (Pivot name) = PivotMade limit T U rows width name
 pub record StepWide (limit : ℤ) (T : Table) (rows width : ℕ) (o : Operation) : Type 0 where
   pub col : ℕ
   pub enters : EntersAt T rows width (Some col)
-  pub wide : (first_wide limit (ratio_operations T col) ≡ Some o) ⊎ ((row : ℕ) × LeavesAt T col rows row × (first_wide limit (ratio_operations T col ++ pivot_operations T row col) ≡ Some o))
+  pub wide : (first_wide limit (ratio_operations T col) ≡ Some o)
+      ⊎ ((row : ℕ) × LeavesAt T col rows row × (first_wide limit (ratio_operations T col ++ pivot_operations T row col) ≡ Some o))
 
 -- the fault of a step carries that operation and the number of its pivot
 abbrev pub StepRefused : {F : Type 0} → (F → ℚ) → ℤ → Table → ℕ → ℕ → ℕ → SolveFault F → Type 0

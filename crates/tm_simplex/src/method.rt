@@ -98,7 +98,8 @@ fn second_phase<F: OrderedField, T: Tableau<F>>(
     requires fresh { T.spent tableau.old ≡ false }
     ensures outcome { IfOk result (λ o. IsOutcomeOf F.meaning (exact F.meaning problem.now) (main_outcome (exact F.meaning problem.now)) o) }
     ensures fits { OnOk result (first_refused F.LIMIT (whole_phase (exact F.meaning problem.now) (main_phase (exact F.meaning problem.now))) ≡ None) }
-    ensures refused { IfErr result (λ e. RefusesRun F.meaning F.LIMIT (whole_phase (exact F.meaning problem.now) (main_phase (exact F.meaning problem.now))) e) }
+    ensures refused { IfErr result (λ e. RefusesRun F.meaning F.LIMIT
+        (whole_phase (exact F.meaning problem.now) (main_phase (exact F.meaning problem.now))) e) }
 {
     let rows = problem.rows.len() as u32;
     let cols = problem.goal.len() as u32;

@@ -38,7 +38,8 @@ pub fn run_phase<F: OrderedField, T: Tableau<F>>(
     requires fresh { T.spent tableau.old ≡ false }
     ensures ends { IfOk result (λ r. EndsPhase F.LIMIT (exact F.meaning problem.now) auxiliary (T.table tableau.new) r.end r.pivots) }
     ensures fresh { OnOk result (T.spent tableau.new ≡ false) }
-    ensures refused { IfErr result (λ e. RefusesRun F.meaning F.LIMIT (whole_phase (exact F.meaning problem.now) (phase_of (exact F.meaning problem.now) auxiliary)) e) }
+    ensures refused { IfErr result (λ e. RefusesRun F.meaning F.LIMIT
+        (whole_phase (exact F.meaning problem.now) (phase_of (exact F.meaning problem.now) auxiliary)) e) }
 {
     let rows = problem.rows.len() as u32;
     let width = problem.goal.len() as u32 + u32::from(auxiliary);

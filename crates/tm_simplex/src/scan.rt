@@ -66,7 +66,9 @@ fn ratio<F: OrderedField, T: Tableau<F>>(
     requires row { row < (T.table tableau.now).rows }
     requires col { col < (T.table tableau.now).width }
     requires fresh { T.spent tableau.now ≡ false }
-    ensures { MatchResult result (λ o. RatioAt F.meaning (T.table tableau.now) col row o × (first_wide F.LIMIT (ratio_operation (T.table tableau.now) col row) ≡ None)) (λ w. first_wide F.LIMIT (ratio_operation (T.table tableau.now) col row) ≡ Some (operation_of F.meaning w)) }
+    ensures { MatchResult result (λ o. RatioAt F.meaning (T.table tableau.now) col row o
+        × (first_wide F.LIMIT (ratio_operation (T.table tableau.now) col row) ≡ None))
+        (λ w. first_wide F.LIMIT (ratio_operation (T.table tableau.now) col row) ≡ Some (operation_of F.meaning w)) }
 {
     let entry = tableau.entry(row, col);
     if entry.num() >= 0 {
@@ -86,7 +88,9 @@ fn is_before<F: OrderedField, T: Tableau<F>>(
     requires row { row < (T.table tableau.now).rows }
     requires best { best.row < (T.table tableau.now).rows }
     requires fresh { T.spent tableau.now ≡ false }
-    ensures { MatchBool result (IsBefore (F.meaning ratio) ((T.table tableau.now).row_name row) (F.meaning best.ratio) ((T.table tableau.now).row_name best.row)) (¬ (IsBefore (F.meaning ratio) ((T.table tableau.now).row_name row) (F.meaning best.ratio) ((T.table tableau.now).row_name best.row))) }
+    ensures { MatchBool result (IsBefore (F.meaning ratio) ((T.table tableau.now).row_name row) (F.meaning best.ratio)
+        ((T.table tableau.now).row_name best.row))
+        (¬ (IsBefore (F.meaning ratio) ((T.table tableau.now).row_name row) (F.meaning best.ratio) ((T.table tableau.now).row_name best.row))) }
 {
     match ratio.cmp(&best.ratio) {
         Ordering::Less => true,
@@ -131,7 +135,9 @@ fn next_candidate<F: OrderedField, T: Tableau<F>>(
     requires col { col < (T.table tableau.now).width }
     requires fresh { T.spent tableau.now ≡ false }
     requires best { CandidateOf F.meaning (T.table tableau.now) col row best }
-    ensures { MatchResult result (λ o. CandidateOf F.meaning (T.table tableau.now) col (row + 1) o × (first_wide F.LIMIT (ratio_operation (T.table tableau.now) col row) ≡ None)) (λ w. first_wide F.LIMIT (ratio_operation (T.table tableau.now) col row) ≡ Some (operation_of F.meaning w)) }
+    ensures { MatchResult result (λ o. CandidateOf F.meaning (T.table tableau.now) col (row + 1) o
+        × (first_wide F.LIMIT (ratio_operation (T.table tableau.now) col row) ≡ None))
+        (λ w. first_wide F.LIMIT (ratio_operation (T.table tableau.now) col row) ≡ Some (operation_of F.meaning w)) }
 {
     match ratio(tableau, row, col)? {
         None => Ok(best),
@@ -149,7 +155,9 @@ pub fn leaving_row<F: OrderedField, T: Tableau<F>>(
     requires rows { rows ≡ (T.table tableau.now).rows }
     requires col { col < (T.table tableau.now).width }
     requires fresh { T.spent tableau.now ≡ false }
-    ensures { MatchResult result (λ o. LeavesOf (T.table tableau.now) col rows o × (first_wide F.LIMIT (ratio_operations (T.table tableau.now) col) ≡ None)) (λ w. first_wide F.LIMIT (ratio_operations (T.table tableau.now) col) ≡ Some (operation_of F.meaning w)) }
+    ensures { MatchResult result (λ o. LeavesOf (T.table tableau.now) col rows o
+        × (first_wide F.LIMIT (ratio_operations (T.table tableau.now) col) ≡ None))
+        (λ w. first_wide F.LIMIT (ratio_operations (T.table tableau.now) col) ≡ Some (operation_of F.meaning w)) }
 {
     let mut best = None;
     for row in 0..rows {

@@ -1,14 +1,1 @@
-pub mod Units
-pub mod SingleEntries
-pub mod Lists
-pub mod Gaps
-pub mod Merging
-pub mod Dividing
-pub mod RowsAt
-pub mod Listing
-pub mod Answering
-pub mod RowsOver
-pub mod Exchanging
-pub mod Leaving
-pub mod Tabled
-pub mod Starting
+pub mod entries

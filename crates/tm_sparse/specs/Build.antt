@@ -21,7 +21,8 @@ end_pushed m false es k x s = pushed m es k s
 -- the numbers of a row of the first dictionary, with the coefficients A, the sides b and the goal c
 abbrev pub first_list : Bool → List (List ℚ) → List ℚ → List ℚ → ℕ → List ℚ
 first_list aux A b c i =
-    cond (ltb i (length b)) (slack_entries aux (get_or A i []) (get_or b i zero_ℚ)) (cond (ltb (suc i) (length b + goals_of aux)) (auxiliary_entries (length c)) (goal_entries aux c))
+    cond (ltb i (length b)) (slack_entries aux (get_or A i []) (get_or b i zero_ℚ))
+    (cond (ltb (suc i) (length b + goals_of aux)) (auxiliary_entries (length c)) (goal_entries aux c))
 
 -- the rows are those of the first dictionary
 abbrev pub IsFirst : {F : Type 0} → (F → ℚ) → Bool → List (List ℚ) → List ℚ → List ℚ → List (SparseRow F) → Type 0

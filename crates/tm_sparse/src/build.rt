@@ -132,7 +132,9 @@ fn slack_rows<F: OrderedField>(
 ) -> Result<Vec<SparseRow<F>>, AllocError>
     requires { (i : ℕ) → length (get_or (map (λ r. r.coeffs.items) rows.now) i []) < 4294967295 }
     ensures count { IfOk result (λ v. length v.items ≡ length rows.now) }
-    ensures rows { IfOk result (λ v. (i : ℕ) → i < length rows.now → Lists F.meaning (slack_entries auxiliary (get_or (map (λ r. map F.meaning r.coeffs.items) rows.now) i []) (get_or (map (λ r. F.meaning r.side) rows.now) i zero_ℚ)) (row_at v.items i)) }
+    ensures rows { IfOk result (λ v. (i : ℕ) → i < length rows.now →
+        Lists F.meaning (slack_entries auxiliary (get_or (map (λ r. map F.meaning r.coeffs.items) rows.now) i [])
+        (get_or (map (λ r. F.meaning r.side) rows.now) i zero_ℚ)) (row_at v.items i)) }
 {
     let mut slacks = Vec::with_capacity(alloc, rows.len().saturating_add(2))?;
     for i in 0..rows.len() {
@@ -150,7 +152,8 @@ pub fn first_rows<F: OrderedField>(
     requires rows { (i : ℕ) → length (get_or (map (λ r. r.coeffs.items) problem.now.rows.items) i []) < 4294967295 }
     requires cols { length problem.now.goal.items < 4294967295 }
     ensures count { IfOk result (λ v. length v.items ≡ length problem.now.rows.items + goals_of auxiliary) }
-    ensures rows { IfOk result (λ v. IsFirst F.meaning auxiliary (map (λ r. map F.meaning r.coeffs.items) problem.now.rows.items) (map (λ r. F.meaning r.side) problem.now.rows.items) (map F.meaning problem.now.goal.items) v.items) }
+    ensures rows { IfOk result (λ v. IsFirst F.meaning auxiliary (map (λ r. map F.meaning r.coeffs.items) problem.now.rows.items)
+        (map (λ r. F.meaning r.side) problem.now.rows.items) (map F.meaning problem.now.goal.items) v.items) }
 {
     let mut rows = slack_rows(alloc, &problem.rows, auxiliary)?;
     if auxiliary {

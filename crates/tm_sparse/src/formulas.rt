@@ -13,7 +13,8 @@ use tm_frac::{OrderedField, Wide};
 /// An entry of the pivot's row after the pivot: formula 1 at the pivot itself, else formula 2.
 pub fn divided_by<F: OrderedField>(entry: F, pivot: F, at_pivot: bool) -> Result<F, Wide<F>>
     requires { F.meaning pivot ≢ zero_ℚ }
-    ensures { Answers F.meaning F.LIMIT (divided (F.meaning entry) (F.meaning pivot) at_pivot) (divided_operations (F.meaning entry) (F.meaning pivot) at_pivot) result }
+    ensures { Answers F.meaning F.LIMIT (divided (F.meaning entry) (F.meaning pivot) at_pivot)
+        (divided_operations (F.meaning entry) (F.meaning pivot) at_pivot) result }
 {
     if at_pivot {
         return F::one().over(pivot);

@@ -28,7 +28,8 @@ pub fn divide_row<F: OrderedField>(
     ensures divided { OnOk result ((n : ℕ) → Rises 0 n entries.now → Keeps F.meaning (divided_row (value_at F.meaning entries.now) col) n divided.new.items) }
     ensures no_zero { OnOk result (HasNoZero F.meaning divided.new.items) }
     ensures fits { OnOk result ((n : ℕ) → Rises 0 n entries.now → first_wide F.LIMIT (division_row_operations n (value_at F.meaning entries.now) col) ≡ None) }
-    ensures refused { IfErr result (λ e. (n : ℕ) → Rises 0 n entries.now → Refuses F.meaning F.LIMIT (division_row_operations n (value_at F.meaning entries.now) col) e) }
+    ensures refused { IfErr result (λ e. (n : ℕ) → Rises 0 n entries.now →
+        Refuses F.meaning F.LIMIT (division_row_operations n (value_at F.meaning entries.now) col) e) }
 {
     divided.clear();
     let pivot = value_in(entries, col);
@@ -49,10 +50,13 @@ pub fn combine_row<F: OrderedField>(
 ) -> Result<(), PivotFault<F>>
     requires rising { IsRising row.old.entries.items }
     requires above { IsRising above.now }
-    ensures combined { OnOk result ((n : ℕ) → Rises 0 n row.old.entries.items → Rises 0 n above.now → Keeps F.meaning (combined_row (value_at F.meaning row.old.entries.items) (value_at F.meaning above.now) col) n row.new.entries.items) }
+    ensures combined { OnOk result ((n : ℕ) → Rises 0 n row.old.entries.items → Rises 0 n above.now →
+        Keeps F.meaning (combined_row (value_at F.meaning row.old.entries.items) (value_at F.meaning above.now) col) n row.new.entries.items) }
     ensures no_zero { OnOk result (HasNoZero F.meaning row.old.entries.items → HasNoZero F.meaning row.new.entries.items) }
-    ensures fits { OnOk result ((n : ℕ) → Rises 0 n row.old.entries.items → Rises 0 n above.now → first_wide F.LIMIT (combination_row_operations n (value_at F.meaning row.old.entries.items) (value_at F.meaning above.now) col) ≡ None) }
-    ensures refused { IfErr result (λ e. (n : ℕ) → Rises 0 n row.old.entries.items → Rises 0 n above.now → Refuses F.meaning F.LIMIT (combination_row_operations n (value_at F.meaning row.old.entries.items) (value_at F.meaning above.now) col) e) }
+    ensures fits { OnOk result ((n : ℕ) → Rises 0 n row.old.entries.items → Rises 0 n above.now →
+        first_wide F.LIMIT (combination_row_operations n (value_at F.meaning row.old.entries.items) (value_at F.meaning above.now) col) ≡ None) }
+    ensures refused { IfErr result (λ e. (n : ℕ) → Rises 0 n row.old.entries.items → Rises 0 n above.now →
+        Refuses F.meaning F.LIMIT (combination_row_operations n (value_at F.meaning row.old.entries.items) (value_at F.meaning above.now) col) e) }
 {
     let factor = value_in(&row.entries, col);
     if factor.is_zero() {
@@ -78,10 +82,13 @@ pub fn combine_rows<F: OrderedField>(
 ) -> Result<(), PivotFault<F>>
     requires rising { (n : ℕ) × EachRises n rows.old }
     requires above { IsRising above.now }
-    ensures combined { OnOk result ((n : ℕ) → EachRises n rows.old → Rises 0 n above.now → CombinesRows F.meaning (length rows.old) row n col above.now rows.old rows.new) }
+    ensures combined { OnOk result ((n : ℕ) → EachRises n rows.old → Rises 0 n above.now →
+        CombinesRows F.meaning (length rows.old) row n col above.now rows.old rows.new) }
     ensures no_zero { OnOk result (NoZeros F.meaning rows.old → NoZeros F.meaning rows.new) }
-    ensures fits { OnOk result ((n : ℕ) → EachRises n rows.old → Rises 0 n above.now → first_wide F.LIMIT (rows_operations (numbers F.meaning rows.old) (value_at F.meaning above.now) (length rows.old) row n col) ≡ None) }
-    ensures refused { IfErr result (λ e. (n : ℕ) → EachRises n rows.old → Rises 0 n above.now → Refuses F.meaning F.LIMIT (rows_operations (numbers F.meaning rows.old) (value_at F.meaning above.now) (length rows.old) row n col) e) }
+    ensures fits { OnOk result ((n : ℕ) → EachRises n rows.old → Rises 0 n above.now →
+        first_wide F.LIMIT (rows_operations (numbers F.meaning rows.old) (value_at F.meaning above.now) (length rows.old) row n col) ≡ None) }
+    ensures refused { IfErr result (λ e. (n : ℕ) → EachRises n rows.old → Rises 0 n above.now →
+        Refuses F.meaning F.LIMIT (rows_operations (numbers F.meaning rows.old) (value_at F.meaning above.now) (length rows.old) row n col) e) }
 {
     for i in 0..rows.len() {
         if i != row {
@@ -104,8 +111,10 @@ pub fn exchange<F: OrderedField>(
     requires pivot { numbers F.meaning rows.old row col ≢ zero_ℚ }
     ensures exchanged { OnOk result ((n : ℕ) → EachRises n rows.old → Exchanges F.meaning (length rows.old) row n col rows.old rows.new) }
     ensures no_zero { OnOk result (NoZeros F.meaning rows.old → NoZeros F.meaning rows.new) }
-    ensures fits { OnOk result ((n : ℕ) → EachRises n rows.old → first_wide F.LIMIT (exchange_operations (numbers F.meaning rows.old) (length rows.old) row n col) ≡ None) }
-    ensures refused { IfErr result (λ e. (n : ℕ) → EachRises n rows.old → Refuses F.meaning F.LIMIT (exchange_operations (numbers F.meaning rows.old) (length rows.old) row n col) e) }
+    ensures fits { OnOk result ((n : ℕ) → EachRises n rows.old →
+        first_wide F.LIMIT (exchange_operations (numbers F.meaning rows.old) (length rows.old) row n col) ≡ None) }
+    ensures refused { IfErr result (λ e. (n : ℕ) → EachRises n rows.old →
+        Refuses F.meaning F.LIMIT (exchange_operations (numbers F.meaning rows.old) (length rows.old) row n col) e) }
 {
     divide_row(divided, &rows[row].entries, col)?;
     combine_rows(rows, merged, divided, row, col)?;

@@ -3,12 +3,12 @@ use Rattle.std.specs.Prelude.{◌≡◌, ℕ, zero, suc, ◌&&◌, Bool, ℤ, po
 use Rattle.std.proofs.Common.{⊎_elim}
 use Rattle.tm_num.specs.Rational.{ℚ, whole, one_ℚ, ◌+ℚ◌, ◌-ℚ◌, ◌/ℚ◌, lt_ℚ, floor}
 use Rattle.tm_num.specs.Extended.{Ext, neg_inf, fin, pos_inf}
-use Rattle.tm_num.proofs.ExtendedLaws.{ext_le_or_lt}
+use Rattle.tm_num.proofs.extended.ExtendedLaws.{ext_le_or_lt}
 use Rattle.tm_flow.specs.declared.edge.Edge.{Edge}
 use Rattle.tm_eqsys.specs.Equations.{Equations, Vector}
 use Rattle.tm_validity.specs.Words.{Word, width, lin, end_form, moved}
-use Rattle.tm_validity.specs.Steps.{Item, Step, Plain, Ray, edge_of, row_of, end_value, after, Pieces}
-use Rattle.tm_validity.specs.Certificates.{led}
+use Rattle.tm_validity.specs.Steps.{Item, Step, Plain, Ray, edge_of, row_of, end_value, after_step, Pieces}
+use Rattle.tm_validity.specs.Certificates.{after_steps}
 use Rattle.tm_validity.specs.Transformers.{Unlimited, Reaches}
 use Rattle.tm_strategy.specs.Picks.{Pick, Transformer, value_at, choices}
 
@@ -56,11 +56,18 @@ with_words u low second number = record { point = u.point; row = u.row; edge = u
 -- the step that raises an unknown towards its transformer
 unfoldable pub raise : (ℚ → Bool) → (system : Equations) (z : Vector) (u : Item) (v : Ext) → Reaches system z (edge_of system u) (row_of system u) v → Step
 raise fitting system z u neg_inf h = record { kind = Plain; items = [] }
-raise fitting system z u (fin c) h = record { kind = Plain; items = with_words u (split system.variables h.1.0) (split 0 []) (raised_to fitting (z u.point u.row) c) ∷ [] }
+raise fitting system z u (fin c) h = record {
+  kind = Plain;
+  items = with_words u (split system.variables h.1.0) (split 0 []) (raised_to fitting (z u.point u.row) c) ∷ [];
+}
 raise fitting system z u pos_inf h =
     let edge = edge_of system u in
     let row = row_of system u in
-    record { kind = Ray; items = with_words u (split system.variables (ray_low system z edge row h (z u.point u.row))) (split system.variables h.direction) (lin (end_form system.variables edge.actions row) h.direction) ∷ [] }
+    record {
+      kind = Ray;
+      items = with_words u (split system.variables (ray_low system z edge row h (z u.point u.row)))
+          (split system.variables h.direction) (lin (end_form system.variables edge.actions row) h.direction) ∷ [];
+    }
 
 -- the steps of raises, in order, and the unknowns that were not raised
 pub record Log : Type 0 where
@@ -78,7 +85,7 @@ go step log = record { steps = step ∷ log.steps; left = log.left }
 -- a log that goes on where something was raised
 unfoldable pub continue : List Step → Log → Vector → (Vector → List Item → Log) → Log
 continue [] log z next = log
-continue (step ∷ steps) log z next = let rest = next (led log.steps z) log.left in record { steps = log.steps ++ rest.steps; left = rest.left }
+continue (step ∷ steps) log z next = let rest = next (after_steps log.steps z) log.left in record { steps = log.steps ++ rest.steps; left = rest.left }
 
 module _ (fitting : ℚ → Bool) (system : Equations) (T : Transformer) (reaches : Evident system T) where
   -- the raise of an unknown towards its transformer
@@ -88,7 +95,8 @@ module _ (fitting : ℚ → Bool) (system : Equations) (T : Transformer) (reache
   -- one pass over unraised unknowns
   unfoldable pub pass : Vector → List Item → Log
   pass z [] = record { steps = []; left = [] }
-  pass z (u ∷ us) = ⊎_elim (λ h. stay u (pass z us)) (λ h. go (raise_at z u) (pass (after (raise_at z u) z) us)) (ext_le_or_lt (value_at system T z u) (z u.point u.row))
+  pass z (u ∷ us) = ⊎_elim (λ h. stay u (pass z us)) (λ h. go (raise_at z u) (pass (after_step (raise_at z u) z) us))
+      (ext_le_or_lt (value_at system T z u) (z u.point u.row))
 
   -- at most n passes, until one raises nothing
   unfoldable pub passes : ℕ → Vector → List Item → Log

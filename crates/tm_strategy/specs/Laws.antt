@@ -17,17 +17,20 @@ IsEvident system T = (z : Vector) (edge : Edge) (row : List ℤ) → Reaches sys
 abbrev pub TransformersAreFlat : Type 0
 TransformersAreFlat =
     (system : Equations) (T : Transformer) → IsEvident system T → (d e y : Vector) (u : Item) → Below system d e → Below system e y →
-    ((r : ℕ) → r < length system.template → e (edge_of system u).from r ≡ d (edge_of system u).from r → y (edge_of system u).from r ≡ d (edge_of system u).from r) →
+    ((r : ℕ) → r < length system.template → e (edge_of system u).from r ≡ d (edge_of system u).from r →
+    y (edge_of system u).from r ≡ d (edge_of system u).from r) →
     neg_inf <ᴱ value_at system T d u → value_at system T d u ≡ value_at system T e u → value_at system T y u ≡ value_at system T d u
 
 -- no pick comes twice in a chain of rounds
 abbrev pub NoPickTwice : Type 0
 NoPickTwice =
-    (system : Equations) (T : Transformer) → IsEvident system T → (n : ℕ) (d z : ℕ → Vector) (pick : ℕ → Pick) (steps : ℕ → List Step) → Rounds system T n d z pick steps →
+    (system : Equations) (T : Transformer) → IsEvident system T → (n : ℕ) (d z : ℕ → Vector) (pick : ℕ → Pick) (steps : ℕ → List Step) →
+    Rounds system T n d z pick steps →
     (i j : ℕ) → i < j → j ≤ n → ((p r : ℕ) → pick i p r ≡ pick j p r) → ⊥
 
 -- there are fewer rounds than picks
 abbrev pub FewerRoundsThanPicks : Type 0
 FewerRoundsThanPicks =
-    (system : Equations) (T : Transformer) → IsEvident system T → (n : ℕ) (d z : ℕ → Vector) (pick : ℕ → Pick) (steps : ℕ → List Step) → Rounds system T n d z pick steps →
+    (system : Equations) (T : Transformer) → IsEvident system T → (n : ℕ) (d z : ℕ → Vector) (pick : ℕ → Pick) (steps : ℕ → List Step) →
+    Rounds system T n d z pick steps →
     n < pick_count system

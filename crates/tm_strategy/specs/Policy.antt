@@ -1,7 +1,7 @@
 -- The next pick: changed at exactly the unknowns that some edge's transformer exceeds, to an edge that a choice function takes among those.
 use Rattle.std.specs.Prelude.{ℕ, suc, eqb, ltb, List, [], ◌∷◌, length, get_or, if◌then◌else◌, Option, Some, None}
 use Rattle.std.proofs.Common.{⊎_elim}
-use Rattle.tm_num.proofs.ExtendedLaws.{ext_le_or_lt}
+use Rattle.tm_num.proofs.extended.ExtendedLaws.{ext_le_or_lt}
 use Rattle.tm_flow.specs.declared.edge.Edge.{Edge}
 use Rattle.tm_eqsys.specs.Equations.{Equations, Vector}
 use Rattle.tm_strategy.specs.Picks.{Pick, Transformer}

@@ -6,9 +6,9 @@ use Rattle.tm_num.specs.Rational.{ℚ, zero_ℚ, ◌≤ℚ◌, ◌<ℚ◌}
 use Rattle.tm_num.specs.Extended.{fin, ◌<ᴱ◌, Ext, neg_inf, pos_inf}
 use Rattle.tm_eqsys.specs.Equations.{Equations, Vector}
 use Rattle.tm_validity.specs.Words.{lin, start_form, end_form, Falls}
-use Rattle.tm_validity.specs.Steps.{Runs, Item, Step, Jump, Ray, edge_of, row_of, put, new_value, after, Unnamed, Distinct, Sized, item_value, word}
-use Rattle.tm_validity.specs.Certificates.{led}
-use Rattle.tm_validity.proofs.Puts.{named_or_not}
+use Rattle.tm_validity.specs.Steps.{Runs, Item, Step, Jump, Ray, edge_of, row_of, put, new_value, after_step, Unnamed, Distinct, Sized, item_value, word}
+use Rattle.tm_validity.specs.Certificates.{after_steps}
+use Rattle.tm_validity.proofs.steps.Puts.{named_or_not}
 use Rattle.tm_strategy.specs.Picks.{Pick, Transformer, value_at, Picks}
 use Rattle.tm_strategy.specs.Growth.{Evident, grow, items_of}
 
@@ -70,7 +70,7 @@ without items (u ∷ us) = ⊎_elim (λ h. without items us) (λ h. u ∷ withou
 -- the step of a turn, and the steps of the turns after it
 unfoldable pub turn : Outcome → Vector → List Item → (Vector → List Item → List Step) → List Step
 turn (Point items) b list next = record { kind = Jump; items = items } ∷ []
-turn (Rays items) b list next = record { kind = Ray; items = items } ∷ next (after (record { kind = Ray; items = items }) b) (without items list)
+turn (Rays items) b list next = record { kind = Ray; items = items } ∷ next (after_step (record { kind = Ray; items = items }) b) (without items list)
 
 module _ (joint : Vector → List Item → Outcome) where
   -- the turns of a part, at most n
@@ -82,7 +82,7 @@ module _ (joint : Vector → List Item → Outcome) where
   -- the turns of the parts in order
   unfoldable pub turns : Vector → List (List Item) → List Step
   turns b [] = []
-  turns b (list ∷ lists) = let steps = part (length list) b list in steps ++ turns (led steps b) lists
+  turns b (list ∷ lists) = let steps = part (length list) b list in steps ++ turns (after_steps steps b) lists
 
 -- the members of all parts
 unfoldable pub members : List (List Item) → List Item
@@ -110,13 +110,13 @@ finite_items z (u ∷ us) = keep (z u.point u.row) u (finite_items z us)
 module _ (fitting : ℚ → Bool) (system : Equations) (T : Transformer) (reaches : Evident system T) where
   -- the unknowns that the growth raised to fractions, in order of raises, with their low words
   unfoldable pub rising : Vector → Pick → List Item
-  rising d pick = let steps = grow fitting system T reaches d pick in finite_items (led steps d) (items_of steps)
+  rising d pick = let steps = grow fitting system T reaches d pick in finite_items (after_steps steps d) (items_of steps)
 
   module _ (joint : Pick → Vector → List Item → Outcome) (cut : Vector → Pick → List (List Item)) where
     -- the steps of a round, and the vector to which they lead
     unfoldable pub round_steps : Vector → Pick → List Step
-    round_steps d pick = let steps = grow fitting system T reaches d pick in steps ++ turns (joint pick) (led steps d) (cut d pick)
+    round_steps d pick = let steps = grow fitting system T reaches d pick in steps ++ turns (joint pick) (after_steps steps d) (cut d pick)
 
     -- the vector at its end
     unfoldable pub round : Vector → Pick → Vector
-    round d pick = let steps = grow fitting system T reaches d pick in led (turns (joint pick) (led steps d) (cut d pick)) (led steps d)
+    round d pick = let steps = grow fitting system T reaches d pick in after_steps (turns (joint pick) (after_steps steps d) (cut d pick)) (after_steps steps d)

@@ -6,7 +6,7 @@ use Rattle.tm_num.specs.Extended.{fin, ◌<ᴱ◌}
 use Rattle.tm_eqsys.specs.Equations.{Equations, Vector}
 use Rattle.tm_validity.specs.Words.{Word, width}
 use Rattle.tm_validity.specs.Steps.{Below, Runs, Item, Step, edge_of, item_value, Sized, word}
-use Rattle.tm_validity.specs.Certificates.{ValidSteps, led}
+use Rattle.tm_validity.specs.Certificates.{ValidSteps, after_steps}
 use Rattle.tm_strategy.specs.Picks.{Pick, Picks}
 
 -- a word of the picked edge that exceeded a raised unknown's finite number after the growth
@@ -34,7 +34,7 @@ pub record RoundFacts (system : Equations) (d z e : Vector) (old pick : Pick) (s
   pub lows : (u : Item) (c : ℚ) → Picks pick u → d u.point u.row <ᴱ e u.point u.row → e u.point u.row ≡ fin c → LowWord system z u
   pub changed : (p r : ℕ) → r < length system.template → (pick p r ≡ old p r) ⊎ (d p r <ᴱ e p r)
   pub valid : ValidSteps system d steps
-  pub leads : (p r : ℕ) → r < length system.template → led steps d p r ≡ e p r
+  pub leads : (p r : ℕ) → r < length system.template → after_steps steps d p r ≡ e p r
   pub items : (step : Step) → In steps step → (item : Item) → In step.items item → Picks pick item
   pub point : ℕ
   pub row : ℕ

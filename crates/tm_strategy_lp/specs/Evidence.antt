@@ -8,17 +8,17 @@ use Rattle.tm_eqsys.specs.Equations.{Equations, Vector}
 use Rattle.tm_validity.specs.Words.{Word, val, lin, width, end_form}
 use Rattle.tm_validity.specs.Steps.{end_value, Upper}
 use Rattle.tm_validity.specs.Transformers.{Unlimited, Reaches}
-use Rattle.tm_validity.proofs.WordLaws.{val-end_form}
-use Rattle.tm_validity.proofs.Widths.{end_form_width}
+use Rattle.tm_validity.proofs.words.WordLaws.{val-end_form}
+use Rattle.tm_validity.proofs.words.Widths.{end_form_width}
 use Rattle.tm_lp.specs.Problem.{Problem, Outcome, best, unbounded, empty, value_at}
 use Rattle.tm_lp.specs.Simplex.{lp}
 use Rattle.tm_lp.specs.Free.{split_problem, unsplit, unsplit_outcome, free_lp, IsFreeOutcome, IsFreeUnbounded}
 use Rattle.tm_lp.proofs.FreePrograms.{free_lp_is}
 use Rattle.tm_transformers.specs.Limits.{limits_problem, product, tabulate}
 use Rattle.tm_transformers.specs.EdgeProblems.{edge_problem, lost, value_of, transformer, NoneLost}
-use Rattle.tm_transformers.proofs.Products.{product_is_sum, product-tabulate}
-use Rattle.tm_transformers.proofs.EdgePoints.{point_runs, direction_falls}
-use Rattle.tm_transformers.proofs.TransformerOf.{none_lost, transformer_upper}
+use Rattle.tm_transformers.proofs.limits.Products.{product_is_sum, product-tabulate}
+use Rattle.tm_transformers.proofs.edge_problems.EdgePoints.{point_runs, direction_falls}
+use Rattle.tm_transformers.proofs.edge_problems.TransformerOf.{none_lost, transformer_upper}
 use Rattle.tm_strategy.specs.Growth.{Evident}
 
 -- the problem of an edge and a row at a vector, over split columns
@@ -33,7 +33,8 @@ word_at system edge x = tabulate (width system.variables edge.actions) (unsplit 
 goal_at : (system : Equations) (z : Vector) (edge : Edge) (row : List ℤ) (x : ℕ → ℚ) →
     value_at (edge_problem system z edge row) x ≡ product (end_form system.variables edge.actions row).coeffs x
 unfolding edge_problem limits_problem
-goal_at system z edge row x = product_is_sum (end_form system.variables edge.actions row).coeffs (width system.variables edge.actions) x (end_form_width system.variables edge.actions row)
+goal_at system z edge row x = product_is_sum (end_form system.variables edge.actions row).coeffs (width system.variables edge.actions) x
+    (end_form_width system.variables edge.actions row)
 
 -- and the value at the end of the point's word has the constant beside it
 pub value_of_point : (system : Equations) (z : Vector) (edge : Edge) (row : List ℤ) (x : ℕ → ℚ) →
@@ -43,14 +44,17 @@ unfolding end_value val
 value_of_point system z edge row x =
     let f = end_form system.variables edge.actions row in
     sym (val-end_form system.variables edge.actions row (tabulate (width system.variables edge.actions) x))
-    ∙ ap (λ s. s +ℚ f.constant) (product-tabulate f.coeffs (width system.variables edge.actions) x (end_form_width system.variables edge.actions row) ∙ sym (goal_at system z edge row x))
+    ∙ ap (λ s. s +ℚ f.constant) (product-tabulate f.coeffs (width system.variables edge.actions) x (end_form_width system.variables edge.actions row)
+    ∙ sym (goal_at system z edge row x))
 
 -- the end value rises along the word of a direction in which the goal does
 pub direction_gains : (system : Equations) (z : Vector) (edge : Edge) (row : List ℤ) (d : ℕ → ℚ) → zero_ℚ <ℚ value_at (edge_problem system z edge row) d →
     zero_ℚ <ℚ lin (end_form system.variables edge.actions row) (tabulate (width system.variables edge.actions) d)
 unfolding lin
 direction_gains system z edge row d h =
-    subst (λ s. zero_ℚ <ℚ s) (goal_at system z edge row d ∙ sym (product-tabulate (end_form system.variables edge.actions row).coeffs (width system.variables edge.actions) d (end_form_width system.variables edge.actions row))) h
+    subst (λ s. zero_ℚ <ℚ s) (goal_at system z edge row d
+    ∙ sym (product-tabulate (end_form system.variables edge.actions row).coeffs (width system.variables edge.actions) d
+    (end_form_width system.variables edge.actions row))) h
 
 -- the outcome of the problem over split columns is one of the problem over columns of any sign
 pub outcome_is : (system : Equations) (z : Vector) (edge : Edge) (row : List ℤ) →
@@ -77,15 +81,22 @@ unfoldable pub outcome_evidence : (system : Equations) (z : Vector) (edge : Edge
     Reaches system z edge row (value_of (end_form system.variables edge.actions row).constant (unsplit_outcome o))
 outcome_evidence system z edge row none (best x v y) h upper = (
   upper,
-  (word_at system edge x, point_runs system z edge row (unsplit x) none h.point, value_of_point system z edge row (unsplit x) ∙ ap (λ s. s +ℚ (end_form system.variables edge.actions row).constant) h.value),
+  (
+    word_at system edge x,
+    point_runs system z edge row (unsplit x) none h.point,
+    value_of_point system z edge row (unsplit x)
+        ∙ ap (λ s. s +ℚ (end_form system.variables edge.actions row).constant) h.value,
+  ),
 )
 outcome_evidence system z edge row none (unbounded x d) h upper = unlimited_evidence system z edge row x d none h
 outcome_evidence system z edge row none (empty y) h upper = upper
 
 -- by whether some bound at the source is −∞
 unfoldable pub evidence_by : (system : Equations) (z : Vector) (edge : Edge) (row : List ℤ) (b : Bool) → lost (z edge.from) system.template ≡ b →
-    Upper system z edge row (if b then neg_inf else value_of (end_form system.variables edge.actions row).constant (unsplit_outcome (lp (whole_problem system z edge row)))) →
-    Reaches system z edge row (if b then neg_inf else value_of (end_form system.variables edge.actions row).constant (unsplit_outcome (lp (whole_problem system z edge row))))
+    Upper system z edge row (if b then neg_inf else value_of (end_form system.variables edge.actions row).constant
+    (unsplit_outcome (lp (whole_problem system z edge row)))) →
+    Reaches system z edge row (if b then neg_inf else value_of (end_form system.variables edge.actions row).constant
+    (unsplit_outcome (lp (whole_problem system z edge row))))
 evidence_by system z edge row true e upper = upper
 evidence_by system z edge row false e upper =
     outcome_evidence system z edge row (none_lost (z edge.from) system.template e) (lp (whole_problem system z edge row)) (outcome_is system z edge row) upper

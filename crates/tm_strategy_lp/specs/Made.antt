@@ -36,7 +36,8 @@ outcome_upper system z edge (empty y) = Empty (row_multipliers system z edge y) 
 
 -- the evidence for an edge and a row: the lowest row at −∞ if there is one, else what the outcome of the problem gives
 unfoldable pub exact_upper : Equations → Vector → Edge → List ℤ → Evidence
-exact_upper system z edge row = if lost (z edge.from) system.template then Unreached (lowest_lost (z edge.from) system.template) else outcome_upper system z edge (lp (whole_problem system z edge row))
+exact_upper system z edge row = if lost (z edge.from) system.template then Unreached (lowest_lost (z edge.from) system.template)
+    else outcome_upper system z edge (lp (whole_problem system z edge row))
 
 -- the evidence for needs, in order
 unfoldable pub uppers_for : Equations → Vector → List Need → List Evidence

@@ -44,7 +44,8 @@ raise_read fitting system z u (unbounded x d) =
     let row = row_of system u in
     record {
       kind = Ray;
-      items = with_words u (split system.variables (low_word system edge row (word_at system edge x) (word_at system edge d) (z u.point u.row))) (split system.variables (word_at system edge d))
+      items = with_words u (split system.variables (low_word system edge row (word_at system edge x) (word_at system edge d) (z u.point u.row)))
+          (split system.variables (word_at system edge d))
           (lin (end_form system.variables edge.actions row) (word_at system edge d)) ∷ [];
     }
 raise_read fitting system z u (empty y) = record { kind = Plain; items = [] }

@@ -4,17 +4,18 @@ use Rattle.tm_base.specs.Elements.{In}
 use Rattle.tm_num.specs.Rational.{ℚ}
 use Rattle.tm_eqsys.specs.Equations.{Equations, Vector, PostSolution, Least}
 use Rattle.tm_validity.specs.Steps.{Below, Item, start_vector}
-use Rattle.tm_validity.specs.Certificates.{ValidSteps, led, PointsInRange, ValidCertificate}
+use Rattle.tm_validity.specs.Certificates.{ValidSteps, after_steps, PointsInRange, ValidCertificate}
 use Rattle.tm_transformers.specs.EdgeProblems.{transformer}
 use Rattle.tm_strategy.specs.Picks.{Pick, IsPick, Supported, Tight}
 use Rattle.tm_strategy.specs.PickCount.{pick_count}
 use Rattle.tm_strategy.specs.Round.{ListCondition, OutcomeFacts, Admissible, members}
-use Rattle.tm_strategy.proofs.Grown.{Grown}
-use Rattle.tm_strategy.proofs.RoundLaw.{RoundDone}
+use Rattle.tm_strategy.proofs.growth.Grown.{Grown}
+use Rattle.tm_strategy.proofs.round.RoundLaw.{RoundDone}
 use Rattle.tm_strategy_lp.specs.JointItems.{exact_joint}
 use Rattle.tm_strategy_lp.specs.Cut.{exact_cut}
 use Rattle.tm_strategy_lp.specs.Agreement.{Agree}
-use Rattle.tm_strategy_lp.specs.Rounds.{Choice, TakesOne, Goes, exact_next, exact_grow, exact_grown, exact_rising, exact_round, exact_round_steps, exact_state, exact_steps}
+use Rattle.tm_strategy_lp.specs.Rounds.{Choice, TakesOne, Goes, exact_next, exact_grow, exact_grown, exact_rising, exact_round, exact_round_steps}
+use Rattle.tm_strategy_lp.specs.Rounds.{exact_state, exact_steps}
 use Rattle.tm_strategy_lp.specs.Made.{exact_certificate}
 
 -- the growth of a supported pick makes valid steps by the pick's edges, to a vector that every closed vector from the first on bounds
@@ -41,14 +42,15 @@ CutsAreExact = (fitting : ℚ → Bool) (system : Equations) (d : Vector) (pick 
 -- the round by a supported pick makes valid steps to the vector above the first by the pick, where the pick is tight
 abbrev pub RoundsAreExact : Type 0
 RoundsAreExact = (fitting : ℚ → Bool) (system : Equations) (d : Vector) (pick : Pick) → Supported system (transformer system) d pick →
-    RoundDone system (transformer system) d (exact_grown fitting system d pick) pick (exact_grow fitting system d pick) (exact_round_steps fitting system d pick) (exact_round fitting system d pick)
+    RoundDone system (transformer system) d (exact_grown fitting system d pick) pick (exact_grow fitting system d pick)
+    (exact_round_steps fitting system d pick) (exact_round fitting system d pick)
 
 -- what is known after so many rounds that were all made
 pub record AfterRounds (fitting : ℚ → Bool) (system : Equations) (choose : ℕ → Choice) (n : ℕ) : Type 0 where
   pub tight : Tight system (transformer system) (exact_state fitting system choose n).vector (exact_state fitting system choose n).pick
   pub few : n < pick_count system
   pub valid : ValidSteps system start_vector (exact_steps fitting system choose n)
-  pub leads : led (exact_steps fitting system choose n) start_vector ≡ (exact_state fitting system choose n).vector
+  pub leads : after_steps (exact_steps fitting system choose n) start_vector ≡ (exact_state fitting system choose n).vector
   pub below : (q : Vector) → PostSolution system q → Below system (exact_state fitting system choose n).vector q
   pub least : exact_next system (choose n) (exact_state fitting system choose n).vector (exact_state fitting system choose n).pick ≡ None →
       Least system (exact_state fitting system choose n).vector

@@ -4,7 +4,7 @@ use Rattle.tm_base.specs.Elements.{In}
 use Rattle.tm_num.specs.Rational.{ℚ}
 use Rattle.tm_eqsys.specs.Equations.{Equations, Vector}
 use Rattle.tm_validity.specs.Steps.{Item, Step}
-use Rattle.tm_validity.specs.Certificates.{led}
+use Rattle.tm_validity.specs.Certificates.{after_steps}
 use Rattle.tm_transformers.specs.EdgeProblems.{transformer}
 use Rattle.tm_strategy.specs.Picks.{Pick}
 use Rattle.tm_strategy.specs.Growth.{Log, raise_at, pass, passes, growth, grow}
@@ -54,7 +54,7 @@ module _ (fitting : ℚ → Bool) (system : Equations) where
 
   -- the vector after the growth of a pick
   abbrev pub exact_grown : Vector → Pick → Vector
-  exact_grown d pick = led (exact_grow d pick) d
+  exact_grown d pick = after_steps (exact_grow d pick) d
 
   -- the unknowns that the growth of a pick raised to fractions, in order of raises, with their low words
   abbrev pub exact_rising : Vector → Pick → List Item
@@ -70,7 +70,8 @@ module _ (fitting : ℚ → Bool) (system : Equations) where
 
   -- the vector and the pick after so many rounds by the choices of rounds
   abbrev pub exact_state : (ℕ → Choice) → ℕ → State
-  exact_state choose k = state fitting system (transformer system) (exact_evidence system) (exact_joint system) (exact_cut fitting system) (λ j d pick. exact_next system (choose j) d pick) k
+  exact_state choose k = state fitting system (transformer system) (exact_evidence system) (exact_joint system) (exact_cut fitting system)
+      (λ j d pick. exact_next system (choose j) d pick) k
 
   -- the steps of the first so many rounds, in order
   unfoldable pub exact_steps : (ℕ → Choice) → ℕ → List Step

@@ -2,8 +2,8 @@
 use Rattle.std.specs.Prelude.{ℕ, zero, suc, ◌+◌, List, [], ◌∷◌, ◌++◌, length, Bool}
 use Rattle.tm_num.specs.Rational.{ℚ}
 use Rattle.tm_eqsys.specs.Equations.{Equations, Vector}
-use Rattle.tm_validity.specs.Steps.{Item, Ray, after}
-use Rattle.tm_validity.specs.Certificates.{led}
+use Rattle.tm_validity.specs.Steps.{Item, Ray, after_step}
+use Rattle.tm_validity.specs.Certificates.{after_steps}
 use Rattle.tm_strategy.specs.Picks.{Pick}
 use Rattle.tm_strategy.specs.Round.{Outcome, Point, Rays, without, part}
 use Rattle.tm_strategy_lp.specs.JointItems.{exact_joint}
@@ -19,7 +19,7 @@ pub record Turn : Type 0 where
 -- the turns of a part after one with an outcome: none after a point, and after a ray those of the unknowns that are left
 unfoldable pub later_turns : Outcome → ℕ → Vector → List Item → (ℕ → Vector → List Item → List Turn) → List Turn
 later_turns (Point items) k b list next = []
-later_turns (Rays items) k b list next = next (suc k) (after (record { kind = Ray; items = items }) b) (without items list)
+later_turns (Rays items) k b list next = next (suc k) (after_step (record { kind = Ray; items = items }) b) (without items list)
 
 module _ (joint : Vector → List Item → Outcome) where
   -- the turns of a part, at most n, after k others
@@ -32,7 +32,7 @@ module _ (joint : Vector → List Item → Outcome) where
   -- the turns of the parts in order, after k others
   unfoldable pub parts_turns : ℕ → Vector → List (List Item) → List Turn
   parts_turns k b [] = []
-  parts_turns k b (list ∷ lists) = let steps = part joint (length list) b list in part_turns (length list) k b list ++ parts_turns (k + length steps) (led steps b) lists
+  parts_turns k b (list ∷ lists) = let steps = part joint (length list) b list in part_turns (length list) k b list ++ parts_turns (k + length steps) (after_steps steps b) lists
 
 -- the turns of the round by a pick
 unfoldable pub exact_turns : (ℚ → Bool) → Equations → Vector → Pick → List Turn

@@ -31,7 +31,8 @@ edge_limits system z edge =
 
 -- the problem over a word's columns, of any sign: `split_problem` of it is the one over split columns
 unfoldable pub edge_problem : Equations → Vector → Edge → List ℤ → Problem
-edge_problem system z edge row = limits_problem (width system.variables edge.actions) (edge_limits system z edge) (end_form system.variables edge.actions row).coeffs
+edge_problem system z edge row = limits_problem (width system.variables edge.actions) (edge_limits system z edge)
+    (end_form system.variables edge.actions row).coeffs
 
 abbrev pub is_lost : Ext → Bool
 is_lost neg_inf = true
@@ -52,7 +53,8 @@ value_of c (empty y) = neg_inf
 -- the transformer of an edge and a row at a vector
 unfoldable pub transformer : Equations → Vector → Edge → List ℤ → Ext
 transformer system z edge row =
-    if lost (z edge.from) system.template then neg_inf else value_of (end_form system.variables edge.actions row).constant (free_lp (edge_problem system z edge row))
+    if lost (z edge.from) system.template then neg_inf
+    else value_of (end_form system.variables edge.actions row).constant (free_lp (edge_problem system z edge row))
 
 -- no template row has the bound −∞
 pub record NoneLost (bounds : ℕ → Ext) (rows : List (List ℤ)) : Type 0 where

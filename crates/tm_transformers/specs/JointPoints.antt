@@ -2,7 +2,7 @@
 use Rattle.std.specs.Prelude.{◌≡◌, ℕ, zero, suc, ◌+◌, false, List, [], ◌∷◌, length}
 use Rattle.std.proofs.Common.{⊎_elim}
 use Rattle.tm_num.specs.Rational.{ℚ, zero_ℚ, neg_ℚ}
-use Rattle.tm_num.proofs.Laws.{le_or_lt}
+use Rattle.tm_num.proofs.rational.Laws.{le_or_lt}
 use Rattle.tm_eqsys.specs.Equations.{Equations}
 use Rattle.tm_validity.specs.Words.{Word}
 use Rattle.tm_lp.specs.Listed.{at}

@@ -63,20 +63,24 @@ raised list x b p r = raise_by (b p r) (rise_at list x p r)
 -- the own row: the rise minus the end value, at most the end value's constant minus the bound
 unfoldable pub own_limit : Equations → Vector → List Listed → ℕ → Listed → Limit
 own_limit system b all offset u = record {
-  coeffs = on_rise one_ℚ all u.point u.row ++ (zeros offset ++ split_list (scale_vec (neg_ℚ one_ℚ) (end_form system.variables (picked system u).actions (own_row system u)).coeffs));
+  coeffs = on_rise one_ℚ all u.point u.row ++ (zeros offset
+      ++ split_list (scale_vec (neg_ℚ one_ℚ) (end_form system.variables (picked system u).actions (own_row system u)).coeffs));
   side = (end_form system.variables (picked system u).actions (own_row system u)).constant -ℚ num (b u.point u.row);
 }
 
 -- the rows of one listed unknown, its columns beginning at an offset behind the rises
 unfoldable pub block_limits : Equations → Vector → List Listed → ℕ → Listed → List Limit
 block_limits system b all offset u =
-    source_limits (λ r w. on_rise (neg_ℚ one_ℚ) all (picked system u).from r ++ (zeros offset ++ split_list w)) system.variables (b (picked system u).from) system.template
-    ++ (guard_limits (λ w. zeros (length all) ++ (zeros offset ++ split_list w)) (guard_forms system.variables (picked system u).actions) ++ (own_limit system b all offset u ∷ []))
+    source_limits (λ r w. on_rise (neg_ℚ one_ℚ) all (picked system u).from r ++ (zeros offset ++ split_list w)) system.variables
+    (b (picked system u).from) system.template
+    ++ (guard_limits (λ w. zeros (length all) ++ (zeros offset ++ split_list w)) (guard_forms system.variables (picked system u).actions)
+    ++ (own_limit system b all offset u ∷ []))
 
 -- the rows of listed unknowns in order
 unfoldable pub joint_limits : Equations → Vector → List Listed → ℕ → List Listed → List Limit
 joint_limits system b all offset [] = []
-joint_limits system b all offset (u ∷ rest) = block_limits system b all offset u ++ joint_limits system b all (offset + (columns_of system u + columns_of system u)) rest
+joint_limits system b all offset (u ∷ rest) = block_limits system b all offset u
+    ++ joint_limits system b all (offset + (columns_of system u + columns_of system u)) rest
 
 -- how many columns the words take
 unfoldable pub word_columns : Equations → List Listed → ℕ
@@ -115,7 +119,8 @@ abbrev pub AllRising : Equations → Vector → List Listed → Type 0
 AllRising system b [] = Unit {0}
 AllRising system b (u ∷ rest) = Rising system b u × AllRising system b rest
 
--- along a direction, with a rate for each listed unknown: a finite source row rises at most by its own rate, no guard rises, and the end value rises at least by the unknown's rate
+-- along a direction, with a rate for each listed unknown: a finite source row rises at most by its own rate, no guard rises, and the end value rises
+-- at least by the unknown's rate
 pub record Follows (system : Equations) (b : Vector) (all : List Listed) (rates : ℕ → ℚ) (u : Listed) (d : Word) : Type 0 where
   pub still : (r : ℕ) (row : List ℤ) (bound : ℚ) → slice_get system.template r ≡ Some row → b (picked system u).from r ≡ fin bound →
       lin (start_form system.variables row) d ≤ℚ rise_at all rates (picked system u).from r

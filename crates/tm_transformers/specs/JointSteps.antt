@@ -3,7 +3,7 @@ use Rattle.std.specs.Prelude.{◌≡◌, ℕ, ◌<◌, List, [], ◌∷◌, leng
 use Rattle.std.proofs.Common.{⊎_elim}
 use Rattle.tm_num.specs.Rational.{ℚ, zero_ℚ}
 use Rattle.tm_num.specs.Extended.{fin, ◌<ᴱ◌}
-use Rattle.tm_num.proofs.Laws.{le_or_lt}
+use Rattle.tm_num.proofs.rational.Laws.{le_or_lt}
 use Rattle.tm_eqsys.specs.Equations.{Equations, Vector}
 use Rattle.tm_validity.specs.Words.{Word}
 use Rattle.tm_validity.specs.Steps.{Pieces, Item, Runs, end_value}
@@ -52,4 +52,5 @@ unfoldable pub ray_items : ℕ → (ℕ → ℕ → ℚ) → List Listed → Lis
 ray_items n rate [] ls ds = []
 ray_items n rate (u ∷ rest) [] ds = []
 ray_items n rate (u ∷ rest) (l ∷ ls) [] = []
-ray_items n rate (u ∷ rest) (l ∷ ls) (d ∷ ds) = ⊎_elim (λ h. ray_items n rate rest ls ds) (λ h. item_of n u l d (rate u.point u.row) ∷ ray_items n rate rest ls ds) (le_or_lt (rate u.point u.row) zero_ℚ)
+ray_items n rate (u ∷ rest) (l ∷ ls) (d ∷ ds) = ⊎_elim (λ h. ray_items n rate rest ls ds) (λ h. item_of n u l d (rate u.point u.row)
+    ∷ ray_items n rate rest ls ds) (le_or_lt (rate u.point u.row) zero_ℚ)

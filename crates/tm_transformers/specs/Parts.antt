@@ -71,7 +71,8 @@ Admissible system list placed (part ∷ more) =
 abbrev pub AreClasses : Equations → List Listed → List (List Listed) → Type 0
 AreClasses system list [] = Unit {0}
 AreClasses system list (part ∷ more) =
-    ((u v : Listed) → In part u → In part v → together system list u v ≡ true) × ((u v : Listed) → In part u → InSome more v → together system list u v ≡ false) × AreClasses system list more
+    ((u v : Listed) → In part u → In part v → together system list u v ≡ true)
+    × ((u v : Listed) → In part u → InSome more v → together system list u v ≡ false) × AreClasses system list more
 
 -- a list cut at its first element that has a property
 pub record FirstHas (f : Listed → Bool) (list : List Listed) (u : Listed) : Type 0 where
@@ -85,7 +86,8 @@ pub record FirstHas (f : Listed → Bool) (list : List Listed) (u : Listed) : Ty
 abbrev pub InOrder : Equations → List Listed → List Listed → List (List Listed) → Type 0
 InOrder system list rest [] = rest ≡ []
 InOrder system list rest (part ∷ more) =
-    (u : Listed) × FirstHas (ready system list rest) rest u × (part ≡ keep (together system list u) rest) × InOrder system list (keep (λ v. not (together system list u v)) rest) more
+    (u : Listed) × FirstHas (ready system list rest) rest u × (part ≡ keep (together system list u) rest)
+    × InOrder system list (keep (λ v. not (together system list u v)) rest) more
 
 -- one unknown comes before another: by point and then by row
 abbrev pub Lower : Listed → Listed → Type 0

@@ -1,2 +1,2 @@
-pub mod CaseLaw
-pub mod Examples
+pub mod cases
+pub mod tree

@@ -1,6 +1,6 @@
 //! Programs as trees, and what they mean: the truth of conditions and the runs of statements.
 //!
-//! `docs/DEFINITIONS.md` reads the definitions of `specs/` in order.
+//! `docs/MEANING.md` reads the definitions of `specs/` in order.
 #![tactic(auto)]
 
 mod cond;

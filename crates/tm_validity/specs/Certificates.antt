@@ -7,7 +7,7 @@ use Rattle.tm_num.specs.Vector.{add_vec, vec_mat, AllNonneg}
 use Rattle.tm_flow.specs.declared.edge.Edge.{Edge}
 use Rattle.tm_eqsys.specs.Equations.{Equations, Vector}
 use Rattle.tm_validity.specs.Words.{Affine, width, guard_forms, start_form, end_form}
-use Rattle.tm_validity.specs.Steps.{Step, after, ValidStep, start_vector}
+use Rattle.tm_validity.specs.Steps.{Step, after_step, ValidStep, start_vector}
 
 -- multipliers of rows and guards, or the number of a row that nothing reaches
 pub data Evidence : Type 0 where
@@ -34,7 +34,8 @@ coefficients fs = map (λ f. f.coeffs) fs
 -- the sum of multiplier times row and of multiplier times guard without its constant, over the columns of a word
 unfoldable pub combination : Equations → Edge → List ℚ → List ℚ → List ℚ
 combination system edge rows guards =
-    add_vec (vec_mat rows (coefficients (map (start_form system.variables) system.template))) (vec_mat guards (coefficients (guard_forms system.variables edge.actions)))
+    add_vec (vec_mat rows (coefficients (map (start_form system.variables) system.template)))
+    (vec_mat guards (coefficients (guard_forms system.variables edge.actions)))
 
 -- the sum of multiplier times bound, and of multiplier times the negated constant
 unfoldable pub row_side : List ℚ → (ℕ → Ext) → ℚ
@@ -97,7 +98,8 @@ pub record Need : Type 0 where
 -- the edges from number k on that end at a point, with a row
 unfoldable pub into_needs : ℕ → ℕ → ℕ → List Edge → List Need
 into_needs p r k [] = []
-into_needs p r k (edge ∷ edges) = if eqb edge.to p then record { edge = edge; number = k; row = r } ∷ into_needs p r (suc k) edges else into_needs p r (suc k) edges
+into_needs p r k (edge ∷ edges) = if eqb edge.to p then record { edge = edge; number = k; row = r } ∷ into_needs p r (suc k) edges
+    else into_needs p r (suc k) edges
 
 -- what is needed for an unknown with this bound
 unfoldable pub needs_at : Equations → ℕ → ℕ → Ext → List Need
@@ -120,12 +122,12 @@ AllPass system z (need ∷ rest) (evidence ∷ more) =
 -- each step is valid at the vector that it finds
 abbrev pub ValidSteps : Equations → Vector → List Step → Type 0
 ValidSteps system z [] = Unit {0}
-ValidSteps system z (step ∷ steps) = ValidStep system z step × ValidSteps system (after step z) steps
+ValidSteps system z (step ∷ steps) = ValidStep system z step × ValidSteps system (after_step step z) steps
 
 -- the vector to which steps lead
-unfoldable pub led : List Step → Vector → Vector
-led [] z = z
-led (step ∷ steps) z = led steps (after step z)
+unfoldable pub after_steps : List Step → Vector → Vector
+after_steps [] z = z
+after_steps (step ∷ steps) z = after_steps steps (after_step step z)
 
 -- a certificate for a system: the bounds of the unknowns in order of number, steps, and evidence of upper bounds
 pub record Certificate : Type 0 where
@@ -141,7 +143,8 @@ bounds_vector system bounds p r = get_or bounds (p * length system.template + r)
 pub record ValidCertificate (system : Equations) (certificate : Certificate) : Type 0 where
   pub size : length certificate.bounds ≡ system.points * length system.template
   pub steps : ValidSteps system start_vector certificate.steps
-  pub final : (p r : ℕ) → p < system.points → r < length system.template → led certificate.steps start_vector p r ≡ bounds_vector system certificate.bounds p r
+  pub final : (p r : ℕ) → p < system.points → r < length system.template →
+      after_steps certificate.steps start_vector p r ≡ bounds_vector system certificate.bounds p r
   pub uppers : AllPass system (bounds_vector system certificate.bounds) (needs system (bounds_vector system certificate.bounds)) certificate.uppers
 
 -- an entry is there, and each edge ends at a point

@@ -5,8 +5,8 @@ use Rattle.tm_base.specs.Elements.{In}
 use Rattle.tm_num.specs.Rational.{ℚ, zero_ℚ, ◌≤ℚ◌, ◌<ℚ◌}
 use Rattle.tm_num.specs.Extended.{Ext, neg_inf, fin, pos_inf, ◌≤ᴱ◌, ◌<ᴱ◌}
 use Rattle.tm_num.specs.Vector.{AllNonneg}
-use Rattle.tm_num.proofs.Laws.{le_or_lt, not_le_of_lt, ℚ_discrete}
-use Rattle.tm_num.proofs.ExtendedLaws.{ext_le_or_lt, ext_not_le_of_lt}
+use Rattle.tm_num.proofs.rational.Laws.{le_or_lt, not_le_of_lt, ℚ_discrete}
+use Rattle.tm_num.proofs.extended.ExtendedLaws.{ext_le_or_lt, ext_not_le_of_lt}
 use Rattle.tm_eqsys.specs.States.{dotℚ}
 use Rattle.tm_eqsys.specs.Equations.{Equations, Vector}
 use Rattle.tm_flow.specs.declared.edge.Edge.{Edge}
@@ -92,14 +92,16 @@ some_same : (s t : List ℤ) → Some s ≡ Some t → s ≡ t
 some_same s t e = cc
 
 -- whether all rows of a template meet a condition
-pub dec_rows : {P : ℕ → List ℤ → Type 0} → ((r : ℕ) (row : List ℤ) → Dec (P r row)) → (rows : List (List ℤ)) → Dec ((r : ℕ) (row : List ℤ) → slice_get rows r ≡ Some row → P r row)
+pub dec_rows : {P : ℕ → List ℤ → Type 0} → ((r : ℕ) (row : List ℤ) → Dec (P r row)) → (rows : List (List ℤ)) →
+    Dec ((r : ℕ) (row : List ℤ) → slice_get rows r ≡ Some row → P r row)
 dec_rows d [] = yes (λ r row e. cc)
 dec_rows {P} d (first ∷ rows) = dec_by
     (λ p. joined p.0 p.1)
     (λ f. (f 0 first refl, λ r row e. f (suc r) row e))
     (dec_and (d 0 first) (dec_rows {P = λ r row. P (suc r) row} (λ r row. d (suc r) row) rows))
   where
-    joined : P 0 first → ((r : ℕ) (row : List ℤ) → slice_get rows r ≡ Some row → P (suc r) row) → (r : ℕ) (row : List ℤ) → slice_get (first ∷ rows) r ≡ Some row → P r row
+    joined : P 0 first → ((r : ℕ) (row : List ℤ) → slice_get rows r ≡ Some row → P (suc r) row) → (r : ℕ) (row : List ℤ) →
+        slice_get (first ∷ rows) r ≡ Some row → P r row
     joined a f zero row e = subst (P 0) (some_same first row e) a
     joined a f (suc r) row e = f r row e
 
@@ -145,5 +147,6 @@ dec_falls system edge d = dec_by (λ h. record { all = h }) (λ h. h.all) (dec_a
 -- whether a word runs along an edge
 pub dec_runs : (system : Equations) (z : Vector) (edge : Edge) (w : Word) → Dec (Runs system z edge w)
 dec_runs system z edge w = dec_by (λ p. record { passes = record { all = p.1 }; fits = p.0 }) (λ h. (h.fits, h.passes.all))
-    (dec_and (dec_rows {P = λ r row. fin (dotℚ row (start_of system.variables w)) ≤ᴱ z edge.from r} (λ r row. dec_leᴱ (fin (dotℚ row (start_of system.variables w))) (z edge.from r)) system.template)
+    (dec_and (dec_rows {P = λ r row. fin (dotℚ row (start_of system.variables w)) ≤ᴱ z edge.from r}
+    (λ r row. dec_leᴱ (fin (dotℚ row (start_of system.variables w))) (z edge.from r)) system.template)
     (dec_all_at_most (guard_forms system.variables edge.actions) w))

@@ -6,13 +6,16 @@ use native.Mathlib.Decide.{dec_lt, dec_le, ℕ_discrete}
 use Rattle.tm_base.specs.Elements.{In}
 use Rattle.tm_num.specs.Rational.{ℚ, zero_ℚ, ◌+ℚ◌, ◌≤ℚ◌, ◌<ℚ◌}
 use Rattle.tm_num.specs.Extended.{Ext, fin, pos_inf, ◌≤ᴱ◌}
-use Rattle.tm_num.proofs.Laws.{ℚ_discrete}
+use Rattle.tm_num.proofs.rational.Laws.{ℚ_discrete}
 use Rattle.tm_flow.specs.declared.edge.Edge.{Edge}
 use Rattle.tm_eqsys.specs.Equations.{Equations, Vector}
 use Rattle.tm_validity.specs.Words.{lin, width, free_count, guard_forms, start_form, end_form, Falls}
-use Rattle.tm_validity.specs.Steps.{Pieces, word, Runs, Item, Kind, Plain, Jump, Ray, Step, edge_of, row_of, put, new_value, after, Placed, Unnamed, Sized, item_value, start_vector}
-use Rattle.tm_validity.specs.Certificates.{Evidence, Bound, Empty, Unreached, NotFinite, combination, side, SameColumns, Multipliers, EvidencePasses, Need, needs, led, Certificate, bounds_vector}
-use Rattle.tm_validity.specs.Decide.{dec_and, dec_imp, dec_by, dec_le_ℚ, dec_lt_ℚ, dec_leᴱ, dec_ltᴱ, dec_finite, dec_not_finite, ext_same, dec_all_in, dec_rows, dec_below, dec_nonneg, dec_unnamed, dec_falls, dec_runs}
+use Rattle.tm_validity.specs.Steps.{Pieces, word, Runs, Item, Kind, Plain, Jump, Ray, Step, edge_of, row_of, put, new_value, after_step, Placed}
+use Rattle.tm_validity.specs.Steps.{Unnamed, Sized, item_value, start_vector}
+use Rattle.tm_validity.specs.Certificates.{Evidence, Bound, Empty, Unreached, NotFinite, combination, side, SameColumns, Multipliers, EvidencePasses}
+use Rattle.tm_validity.specs.Certificates.{Need, needs, after_steps, Certificate, bounds_vector}
+use Rattle.tm_validity.specs.Decide.{dec_and, dec_imp, dec_by, dec_le_ℚ, dec_lt_ℚ, dec_leᴱ, dec_ltᴱ, dec_finite, dec_not_finite, ext_same, dec_all_in}
+use Rattle.tm_validity.specs.Decide.{dec_rows, dec_below, dec_nonneg, dec_unnamed, dec_falls, dec_runs}
 
 -- which test fails first: by step and item, or by unknown and edge
 pub data Fault : Type 0 where
@@ -70,13 +73,16 @@ bound_at z item = z item.point item.row
 unfoldable pub first_tests : Kind → Equations → Vector → List Item → ℕ → ℕ → Item → Option Fault → Option Fault
 first_tests Plain system z earlier s k item next =
     unless (dec_named Plain system earlier item) (TraceFault s k) (unless (dec_runs system z (edge_of system item) (word item.low)) (TraceFault s k)
-    (unless (dec_ltᴱ (bound_at z item) (fin item.number)) (LowFault s k) (unless (dec_le_ℚ item.number (item_value system item (word item.low))) (LowFault s k) next)))
+    (unless (dec_ltᴱ (bound_at z item) (fin item.number)) (LowFault s k)
+    (unless (dec_le_ℚ item.number (item_value system item (word item.low))) (LowFault s k) next)))
 first_tests Jump system z earlier s k item next =
     unless (dec_named Jump system earlier item) (TraceFault s k) (unless (dec_finite (bound_at z item)) (LowFault s k)
-    (unless (dec_runs system z (edge_of system item) (word item.low)) (TraceFault s k) (unless (dec_ltᴱ (bound_at z item) (fin (item_value system item (word item.low)))) (LowFault s k) next)))
+    (unless (dec_runs system z (edge_of system item) (word item.low)) (TraceFault s k)
+    (unless (dec_ltᴱ (bound_at z item) (fin (item_value system item (word item.low)))) (LowFault s k) next)))
 first_tests Ray system z earlier s k item next =
     unless (dec_named Ray system earlier item) (TraceFault s k) (unless (dec_ltᴱ (bound_at z item) pos_inf) (LowFault s k)
-    (unless (dec_runs system z (edge_of system item) (word item.low)) (TraceFault s k) (unless (dec_ltᴱ (bound_at z item) (fin (item_value system item (word item.low)))) (LowFault s k) next)))
+    (unless (dec_runs system z (edge_of system item) (word item.low)) (TraceFault s k)
+    (unless (dec_ltᴱ (bound_at z item) (fin (item_value system item (word item.low)))) (LowFault s k) next)))
 
 -- the tests of the items in order; those before are kept
 unfoldable pub first_pass : Kind → Equations → Vector → ℕ → ℕ → List Item → List Item → Option Fault
@@ -85,40 +91,50 @@ first_pass kind system z s k earlier (item ∷ items) = first_tests kind system 
 
 -- along a ray's direction
 abbrev pub RiseNamed : Equations → List Item → Item → Item → Type 0
-RiseNamed system items item other = other.point ≡ (edge_of system item).from → lin (start_form system.variables (row_of system other)) (word item.second) ≤ℚ other.number
+RiseNamed system items item other = other.point ≡ (edge_of system item).from →
+    lin (start_form system.variables (row_of system other)) (word item.second) ≤ℚ other.number
 
 -- a source row that no item names rises by at most 0 where its bound is a fraction
 abbrev pub RiseOther : Equations → Vector → List Item → Item → ℕ → List ℤ → Type 0
-RiseOther system z items item r row = Unnamed items (edge_of system item).from r → ((c : ℚ) × (z (edge_of system item).from r ≡ fin c)) → lin (start_form system.variables row) (word item.second) ≤ℚ zero_ℚ
+RiseOther system z items item r row = Unnamed items (edge_of system item).from r → ((c : ℚ) × (z (edge_of system item).from r ≡ fin c)) →
+    lin (start_form system.variables row) (word item.second) ≤ℚ zero_ℚ
 
 -- the tests of a ray's item after all items have passed
 abbrev pub Goes : Equations → Vector → List Item → Item → Type 0
 Goes system z items item =
     (zero_ℚ <ℚ item.number) × (((other : Item) → In items other → RiseNamed system items item other) ×
     (((r : ℕ) (row : List ℤ) → slice_get system.template r ≡ Some row → RiseOther system z items item r row) ×
-    (Falls system.variables (edge_of system item).actions (word item.second) × (item.number ≤ℚ lin (end_form system.variables (edge_of system item).actions (row_of system item)) (word item.second)))))
+    (Falls system.variables (edge_of system item).actions (word item.second)
+    × (item.number ≤ℚ lin (end_form system.variables (edge_of system item).actions (row_of system item)) (word item.second)))))
 
 -- whether they pass
 pub dec_goes : (system : Equations) (z : Vector) (items : List Item) (item : Item) → Dec (Goes system z items item)
 dec_goes system z items item =
     dec_and (dec_lt_ℚ zero_ℚ item.number) (dec_and
-    (dec_all_in {P = RiseNamed system items item} (λ other. dec_imp (ℕ_discrete other.point (edge_of system item).from) (dec_le_ℚ (lin (start_form system.variables (row_of system other)) (word item.second)) other.number)) items)
-    (dec_and (dec_rows {P = RiseOther system z items item} (λ r row. dec_imp (dec_unnamed items (edge_of system item).from r) (dec_imp (dec_finite (z (edge_of system item).from r)) (dec_le_ℚ (lin (start_form system.variables row) (word item.second)) zero_ℚ))) system.template)
-    (dec_and (dec_falls system (edge_of system item) (word item.second)) (dec_le_ℚ item.number (lin (end_form system.variables (edge_of system item).actions (row_of system item)) (word item.second))))))
+    (dec_all_in {P = RiseNamed system items item} (λ other. dec_imp (ℕ_discrete other.point (edge_of system item).from)
+    (dec_le_ℚ (lin (start_form system.variables (row_of system other)) (word item.second)) other.number)) items)
+    (dec_and (dec_rows {P = RiseOther system z items item}
+    (λ r row. dec_imp (dec_unnamed items (edge_of system item).from r)
+    (dec_imp (dec_finite (z (edge_of system item).from r)) (dec_le_ℚ (lin (start_form system.variables row) (word item.second)) zero_ℚ))) system.template)
+    (dec_and (dec_falls system (edge_of system item) (word item.second))
+    (dec_le_ℚ item.number (lin (end_form system.variables (edge_of system item).actions (row_of system item)) (word item.second))))))
 
 -- the tests of a jump's item after all items have passed
 abbrev pub Lands : Equations → Vector → Vector → Item → Type 0
-Lands system z p item = (bound_at z item ≤ᴱ fin item.number) × (Runs system p (edge_of system item) (word item.second) × (item.number ≤ℚ item_value system item (word item.second)))
+Lands system z p item = (bound_at z item ≤ᴱ fin item.number)
+    × (Runs system p (edge_of system item) (word item.second) × (item.number ≤ℚ item_value system item (word item.second)))
 
 -- whether they pass
 pub dec_lands : (system : Equations) (z p : Vector) (item : Item) → Dec (Lands system z p item)
-dec_lands system z p item = dec_and (dec_leᴱ (bound_at z item) (fin item.number)) (dec_and (dec_runs system p (edge_of system item) (word item.second)) (dec_le_ℚ item.number (item_value system item (word item.second))))
+dec_lands system z p item = dec_and (dec_leᴱ (bound_at z item) (fin item.number))
+    (dec_and (dec_runs system p (edge_of system item) (word item.second)) (dec_le_ℚ item.number (item_value system item (word item.second))))
 
 -- the tests after all items have passed
 unfoldable pub second_pass : Kind → Equations → Vector → List Item → ℕ → ℕ → List Item → Option Fault
 second_pass kind system z all s k [] = None
 second_pass Plain system z all s k (item ∷ items) = None
-second_pass Jump system z all s k (item ∷ items) = unless (dec_lands system z (put (new_value Jump) all z) item) (HighFault s k) (second_pass Jump system z all s (suc k) items)
+second_pass Jump system z all s k (item ∷ items) =
+    unless (dec_lands system z (put (new_value Jump) all z) item) (HighFault s k) (second_pass Jump system z all s (suc k) items)
 second_pass Ray system z all s k (item ∷ items) = unless (dec_goes system z all item) (RayFault s k) (second_pass Ray system z all s (suc k) items)
 
 -- the first failing test of a step, with the step's number
@@ -128,7 +144,7 @@ step_fault system z s step = and_then (first_pass step.kind system z s 0 [] step
 -- the first failing test of steps that follow each other
 unfoldable pub steps_fault : Equations → Vector → ℕ → List Step → Option Fault
 steps_fault system z s [] = None
-steps_fault system z s (step ∷ steps) = and_then (step_fault system z s step) (steps_fault system (after step z) (suc s) steps)
+steps_fault system z s (step ∷ steps) = and_then (step_fault system z s step) (steps_fault system (after_step step z) (suc s) steps)
 
 -- ---- the end
 -- the unknowns in order of number
@@ -138,7 +154,8 @@ unknowns system = flat_map (λ p. map (λ r. (p, r)) (range_with_len 0 (length s
 -- the lowest unknown of a list at which two vectors differ
 unfoldable pub final_fault : Equations → Vector → Vector → List (ℕ × ℕ) → Option Fault
 final_fault system z bounds [] = None
-final_fault system z bounds (u ∷ us) = unless (ext_same (z u.0 u.1) (bounds u.0 u.1)) (FinalFault (u.0 * length system.template + u.1)) (final_fault system z bounds us)
+final_fault system z bounds (u ∷ us) = unless (ext_same (z u.0 u.1) (bounds u.0 u.1)) (FinalFault (u.0 * length system.template + u.1))
+    (final_fault system z bounds us)
 
 dec_multipliers : (system : Equations) (z : Vector) (edge : Edge) (rows guards : List ℚ) → Dec (Multipliers system z edge rows guards)
 dec_multipliers system z edge rows guards = dec_by
@@ -146,7 +163,8 @@ dec_multipliers system z edge rows guards = dec_by
     (λ h. (h.row_count, (h.guard_count, (h.rows_nonneg, (h.guards_nonneg, h.zero_where)))))
     (dec_and (ℕ_discrete (length rows) (length system.template)) (dec_and (ℕ_discrete (length guards) (length (guard_forms system.variables edge.actions)))
     (dec_and (dec_nonneg rows) (dec_and (dec_nonneg guards)
-    (dec_below {P = λ r. NotFinite (z edge.from r) → get_or rows r zero_ℚ ≡ zero_ℚ} (λ r. dec_imp (dec_not_finite (z edge.from r)) (ℚ_discrete (get_or rows r zero_ℚ) zero_ℚ)) (length system.template))))))
+    (dec_below {P = λ r. NotFinite (z edge.from r) → get_or rows r zero_ℚ ≡ zero_ℚ}
+    (λ r. dec_imp (dec_not_finite (z edge.from r)) (ℚ_discrete (get_or rows r zero_ℚ) zero_ℚ)) (length system.template))))))
 
 dec_same_columns : (n : ℕ) (u v : List ℚ) → Dec (SameColumns n u v)
 dec_same_columns n u v = dec_below {P = λ k. get_or u k zero_ℚ ≡ get_or v k zero_ℚ} (λ k. ℚ_discrete (get_or u k zero_ℚ) (get_or v k zero_ℚ)) n
@@ -162,7 +180,8 @@ dec_limited v x = by (dec_finite v)
     by (no n) = no (λ r. n (r.0, r.1))
 
 -- whether evidence passes
-pub dec_evidence : (system : Equations) (z : Vector) (edge : Edge) (row : List ℤ) (number : Ext) (evidence : Evidence) → Dec (EvidencePasses system z edge row number evidence)
+pub dec_evidence : (system : Equations) (z : Vector) (edge : Edge) (row : List ℤ) (number : Ext) (evidence : Evidence) →
+    Dec (EvidencePasses system z edge row number evidence)
 dec_evidence system z edge row number (Bound rows guards) = dec_by
     (λ p. record { multipliers = p.0; limit = p.1.1.0; finite = p.1.1.1; same = p.1.0; small = p.1.1.2 })
     (λ h. (h.multipliers, (h.same, (h.limit, h.finite, h.small))))
@@ -172,7 +191,9 @@ dec_evidence system z edge row number (Bound rows guards) = dec_by
 dec_evidence system z edge row number (Empty rows guards) = dec_by
     (λ p. record { multipliers = p.0; same = p.1.0; negative = p.1.1 })
     (λ h. (h.multipliers, (h.same, h.negative)))
-    (dec_and (dec_multipliers system z edge rows guards) (dec_and (dec_same_columns (width system.variables edge.actions) (combination system edge rows guards) []) (dec_lt_ℚ (side system z edge rows guards) zero_ℚ)))
+    (dec_and (dec_multipliers system z edge rows guards)
+    (dec_and (dec_same_columns (width system.variables edge.actions) (combination system edge rows guards) [])
+    (dec_lt_ℚ (side system z edge rows guards) zero_ℚ)))
 dec_evidence system z edge row number (Unreached r) = dec_and (dec_lt r (length system.template)) (ext_same (z edge.from r) Ext.neg_inf)
 
 -- the first need whose evidence is absent or fails
@@ -180,13 +201,16 @@ unfoldable pub uppers_fault : Equations → Vector → List Need → List Eviden
 uppers_fault system z [] evidence = None
 uppers_fault system z (need ∷ needs) [] = Some (UpperFault (need.edge.to * length system.template + need.row) need.number)
 uppers_fault system z (need ∷ needs) (e ∷ evidence) =
-    unless (dec_evidence system z need.edge (get_or system.template need.row []) (z need.edge.to need.row) e) (UpperFault (need.edge.to * length system.template + need.row) need.number)
+    unless (dec_evidence system z need.edge (get_or system.template need.row []) (z need.edge.to need.row) e)
+    (UpperFault (need.edge.to * length system.template + need.row) need.number)
     (uppers_fault system z needs evidence)
 
 -- the first failing test of a certificate
 unfoldable pub certificate_fault : Equations → Certificate → Option Fault
 certificate_fault system certificate =
     let bounds = bounds_vector system certificate.bounds in
-    unless (dec_and (ℕ_discrete (length certificate.bounds) (system.points * length system.template)) (dec_le (length certificate.uppers) (length (needs system bounds)))) SizeFault
+    unless (dec_and (ℕ_discrete (length certificate.bounds) (system.points * length system.template))
+    (dec_le (length certificate.uppers) (length (needs system bounds)))) SizeFault
     (and_then (steps_fault system start_vector 0 certificate.steps)
-    (and_then (final_fault system (led certificate.steps start_vector) bounds (unknowns system)) (uppers_fault system bounds (needs system bounds) certificate.uppers)))
+    (and_then (final_fault system (after_steps certificate.steps start_vector) bounds (unknowns system))
+    (uppers_fault system bounds (needs system bounds) certificate.uppers)))

@@ -5,7 +5,7 @@ use Rattle.tm_flow.specs.declared.edge.Action.{Action}
 use Rattle.tm_eqsys.specs.States.{RationalState, Traces}
 use Rattle.tm_eqsys.specs.Equations.{Equations, Vector, Least}
 use Rattle.tm_validity.specs.Words.{Word, free_count, start_of, end_of, Passes}
-use Rattle.tm_validity.specs.Steps.{Below, BoundsItems, Step, ValidStep, after}
+use Rattle.tm_validity.specs.Steps.{Below, BoundsItems, Step, ValidStep, after_step}
 use Rattle.tm_validity.specs.Certificates.{Certificate, PointsInRange, ValidCertificate, bounds_vector}
 use Rattle.tm_validity.specs.Faults.{certificate_fault}
 
@@ -27,11 +27,13 @@ TracesHaveWords = (n : ℕ) (actions : List Action) (x y : RationalState) → le
 
 -- a valid step from a vector at most another one, which bounds the edges of the step's items, ends at most at that one
 abbrev pub StepsStayBelow : Type 0
-StepsStayBelow = (system : Equations) (z q : Vector) (step : Step) → ValidStep system z step → Below system z q → BoundsItems system q step.items → Below system (after step z) q
+StepsStayBelow = (system : Equations) (z q : Vector) (step : Step) → ValidStep system z step → Below system z q → BoundsItems system q step.items →
+    Below system (after_step step z) q
 
 -- the bounds of a valid certificate are the least vector
 abbrev pub CertificatesAreLeast : Type 0
-CertificatesAreLeast = (system : Equations) (certificate : Certificate) → PointsInRange system → ValidCertificate system certificate → Least system (bounds_vector system certificate.bounds)
+CertificatesAreLeast = (system : Equations) (certificate : Certificate) → PointsInRange system → ValidCertificate system certificate →
+    Least system (bounds_vector system certificate.bounds)
 
 -- the tests in order find no fault exactly where the certificate is valid
 abbrev pub FaultlessIsValid : Type 0

@@ -78,8 +78,8 @@ new_value Jump item = fin item.number
 new_value Ray item = pos_inf
 
 -- the vector after a step
-unfoldable pub after : Step → Vector → Vector
-after step z = put (new_value step.kind) step.items z
+unfoldable pub after_step : Step → Vector → Vector
+after_step step z = put (new_value step.kind) step.items z
 
 -- an item's unknown is in range and not at the entry, and its edge is there and ends at its point
 pub record Placed (system : Equations) (item : Item) : Type 0 where

@@ -1,10 +1,1 @@
-pub mod WholeTokens
-pub mod Pieces
-pub mod LineNumbers
-pub mod Decimals
-pub mod TextParts
-pub mod Machines
-pub mod TextReads
-pub mod BodyLimits
-pub mod FewCells
-pub mod TextSteps
+pub mod bodies

@@ -9,7 +9,7 @@ use Rattle.tm_eqsys.specs.Equations.{Equations, Least}
 use Rattle.tm_cert.specs.declared.cert.Cert.{Cert}
 use Rattle.tm_cert.specs.Certificates.{certificate_of, evidence_of}
 use Rattle.tm_validity.specs.Steps.{start_vector}
-use Rattle.tm_validity.specs.Certificates.{needs, led, Certificate, bounds_vector, ValidCertificate, PointsInRange}
+use Rattle.tm_validity.specs.Certificates.{needs, after_steps, Certificate, bounds_vector, ValidCertificate, PointsInRange}
 use Rattle.tm_validity.specs.Decide.{dec_and}
 use Rattle.tm_validity.specs.Faults.{Fault, SizeFault, unknowns, certificate_fault}
 use Rattle.tm_check.specs.declared.fault.CheckFault.{CheckFault}
@@ -18,7 +18,7 @@ use Rattle.tm_check.specs.Events.{Event, IsRun, fault_answer, first_stop, operat
 use Rattle.tm_check.specs.StepEvents.{steps_events}
 use Rattle.tm_check.specs.CheckEvents.{final_events, uppers_events, check_events}
 use Rattle.tm_check.proofs.following.Traces.{stop_sooner, stop_later, test_yes, test_no}
-use Rattle.tm_check.proofs.CheckTests.{unstopped_is_valid, unstopped_is_least, stops_are_faults}
+use Rattle.tm_check.proofs.events.CheckTests.{unstopped_is_valid, unstopped_is_least, stops_are_faults}
 
 -- ---- where it stops
 -- the sizes of a value of the code are those of the certificate that it stands for
@@ -34,7 +34,7 @@ module _ (system : Equations) (certificate : Certificate) where
   Steps = steps_events system start_vector 0 certificate.steps
 
   abbrev Finals : List Event
-  Finals = final_events system (led certificate.steps start_vector) (bounds_vector system certificate.bounds) (unknowns system)
+  Finals = final_events system (after_steps certificate.steps start_vector) (bounds_vector system certificate.bounds) (unknowns system)
 
   abbrev Uppers : List Event
   Uppers = uppers_events system (bounds_vector system certificate.bounds) (needs system (bounds_vector system certificate.bounds)) certificate.uppers

@@ -11,7 +11,7 @@ use Rattle.tm_eqsys.specs.declared.system.System.{System}
 use Rattle.tm_eqsys.specs.View.{equations_of}
 use Rattle.tm_eqsys.proofs.Sizes.{both, flow_sizes}
 use Rattle.tm_validity.specs.Certificates.{PointsInRange}
-use Rattle.tm_validity.proofs.Needs.{in_of_contains}
+use Rattle.tm_validity.proofs.certificates.Needs.{in_of_contains}
 
 edge_passes : (n points : ℕ) (edges : List Edge) → IsTrue (list_all (is_edge n points) edges) → (edge : Edge) → In edges edge → IsTrue (is_edge n points edge)
 edge_passes n points [] h edge m = absurd m

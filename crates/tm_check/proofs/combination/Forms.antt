@@ -10,7 +10,7 @@ use Rattle.tm_validity.specs.Words.{Affine as Form, width, guard_forms, end_form
 use Rattle.tm_compose.specs.declared.affine.Affine.{Affine}
 use Rattle.tm_compose.specs.Composed.{EdgeForms, dense, edge_forms, AreComposed}
 use Rattle.tm_compose.specs.Sums.{dense_column}
-use Rattle.tm_compose.proofs.Dense.{column-dense, get_or-first_entries}
+use Rattle.tm_compose.proofs.composed.Dense.{column-dense, get_or-first_entries}
 use Rattle.tm_check.specs.Combined.{negated_constants}
 use Rattle.tm_check.specs.EvidenceEvents.{guard_column, guard_numbers}
 

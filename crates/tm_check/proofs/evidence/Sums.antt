@@ -7,7 +7,7 @@ use Rattle.std.specs.declared.cmp.Ordering.TheVariants.{Less, Equal, Greater}
 use Rattle.std.proofs.lemmas.List.{drop_more, drop_all}
 use Rattle.tm_num.specs.Rational.{ℚ}
 use Rattle.tm_num.specs.Compare.{cmp_ℚ}
-use Rattle.tm_num.proofs.Compared.{cmp-equal, equal-cmp}
+use Rattle.tm_num.proofs.compare.Compared.{cmp-equal, equal-cmp}
 use Rattle.tm_frac.specs.Fits.{long_limit}
 use Rattle.tm_frac.specs.Operation.{Operation, first_wide}
 use Rattle.tm_eqsys.specs.declared.spot.Site.{Site}

@@ -4,7 +4,7 @@ use Rattle.std.specs.Prelude.{Some, None, IsTrue, flat_map}
 use Rattle.std.specs.Ordering.{eq_by_cmp}
 use Rattle.std.proofs.lemmas.Cmp.{eq_by_cmp_equiv}
 use Rattle.tm_num.specs.Compare.{cmp_ᴱ}
-use Rattle.tm_num.proofs.ExtendedLaws.{cmpᴱ-equal, cmp_ᴱ_total}
+use Rattle.tm_num.proofs.extended.ExtendedLaws.{cmpᴱ-equal, cmp_ᴱ_total}
 use Rattle.tm_frac.specs.declared.ext.Ext.{Ext}
 use Rattle.tm_frac.specs.Extended.{extended, ext_cmp}
 use Rattle.tm_frac.specs.HashedParts.{is_eq-equal}

@@ -8,7 +8,7 @@ use Rattle.std.proofs.lemmas.List.{length-replicate, length-append}
 use Rattle.tm_num.specs.Rational.{ℚ, ◌<ℚ◌}
 use Rattle.tm_num.specs.Extended.{neg_inf, pos_inf}
 use Rattle.tm_num.specs.Compare.{cmp_ℚ}
-use Rattle.tm_num.proofs.Compared.{cmp-less, less-cmp}
+use Rattle.tm_num.proofs.compare.Compared.{cmp-less, less-cmp}
 use Rattle.tm_eqsys.specs.Starts.{start_bounds}
 
 -- what `<` answers

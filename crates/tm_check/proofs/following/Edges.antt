@@ -8,7 +8,7 @@ use Rattle.tm_flow.specs.declared.edge.Edge.{Edge}
 use Rattle.tm_flow.specs.FlowLimits.{is_edge}
 use Rattle.tm_rows.specs.Rows.{is_template}
 use Rattle.tm_eqsys.proofs.Sizes.{both, flow_sizes}
-use Rattle.tm_eqsys.proofs.Traced.{all_at}
+use Rattle.tm_eqsys.proofs.trace_tests.Traced.{all_at}
 
 -- an edge starts at a point
 pub edge_from : (flow : Flow) (i : ℕ) (e : Edge) → slice_get flow.edges i ≡ Some e → e.from < length flow.points

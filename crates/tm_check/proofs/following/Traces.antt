@@ -22,8 +22,8 @@ use Rattle.tm_eqsys.specs.Constants.{linear_action}
 use Rattle.tm_validity.specs.Steps.{Pieces, word, end_value}
 use Rattle.tm_validity.specs.Decide.{dec_runs, dec_falls}
 use Rattle.tm_validity.specs.Faults.{Fault}
-use Rattle.tm_validity.proofs.Traces.{start_is}
-use Rattle.tm_validity.proofs.Followed.{runs_iff, end_value_is, falls_followed, end_slope_is}
+use Rattle.tm_validity.proofs.words.Traces.{start_is}
+use Rattle.tm_validity.proofs.words.Followed.{runs_iff, end_value_is, falls_followed, end_slope_is}
 use Rattle.tm_check.specs.declared.fault.CheckFault.{CheckFault}
 use Rattle.tm_check.specs.Events.{Event, Test, fault_answer, wide_answer, stop, or_else, first_stop, sums, decided}
 use Rattle.tm_check.specs.Stands.{Stands}

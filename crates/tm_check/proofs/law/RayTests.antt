@@ -14,8 +14,8 @@ use Rattle.tm_eqsys.specs.Constants.{linear_action}
 use Rattle.tm_validity.specs.Steps.{word, Item, Ray, edge_of, row_of, names, put, Placed, Unnamed, Distinct}
 use Rattle.tm_validity.specs.Decide.{dec_and, dec_le_ℚ, dec_lt_ℚ, dec_falls}
 use Rattle.tm_validity.specs.Faults.{RayFault, unless, Named as IsNamed, first_pass, RiseNamed, RiseOther, dec_goes}
-use Rattle.tm_validity.proofs.Puts.{named_is, named_or_not, not_unnamed, put-named, put-unnamed}
-use Rattle.tm_validity.proofs.WordLaws.{start-coeffs}
+use Rattle.tm_validity.proofs.steps.Puts.{named_is, named_or_not, not_unnamed, put-named, put-unnamed}
+use Rattle.tm_validity.proofs.words.WordLaws.{start-coeffs}
 use Rattle.tm_check.specs.Events.{Event, Test, sums, decided, first_fault}
 use Rattle.tm_check.specs.Runs.{dec_fits, fit_events}
 use Rattle.tm_check.specs.StepEvents.{at_item, allowance, allowances, carry_events, going_events}

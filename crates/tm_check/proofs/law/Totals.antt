@@ -5,7 +5,7 @@ use Rattle.std.specs.List.{range_with_len}
 use Rattle.tm_num.specs.Rational.{ℚ, whole, zero_ℚ, ◌+ℚ◌, ◌*ℚ◌, neg_ℚ}
 use Rattle.tm_num.specs.Extended.{Ext}
 use Rattle.tm_num.specs.Vector.{dot, add_vec, scale_vec, vec_mat}
-use Rattle.tm_num.proofs.Laws.{+ℚ_assoc, +ℚ_idl, +ℚ_idr, *ℚ-zero, *ℚ_idr}
+use Rattle.tm_num.proofs.rational.Laws.{+ℚ_assoc, +ℚ_idl, +ℚ_idr, *ℚ-zero, *ℚ_idr}
 use Rattle.tm_flow.specs.declared.edge.Edge.{Edge}
 use Rattle.tm_eqsys.specs.States.{dotℚ}
 use Rattle.tm_eqsys.specs.Equations.{Equations, Vector}

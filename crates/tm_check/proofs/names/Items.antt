@@ -17,7 +17,7 @@ use Rattle.tm_cert.specs.declared.step.Step.TheVariants.{Plain, Jump, Ray}
 use Rattle.tm_cert.specs.Certificates.{plain_item, jump_item, ray_item, step_of}
 use Rattle.tm_eqsys.specs.Equations.{Equations, Vector}
 use Rattle.tm_validity.specs.Steps.{Item, Kind, edge_of, row_of, names, put, new_value, Unnamed, Placed}
-use Rattle.tm_validity.proofs.Puts.{named_is}
+use Rattle.tm_validity.proofs.steps.Puts.{named_is}
 use Rattle.tm_check.specs.declared.fault.CheckFault.{CheckFault}
 use Rattle.tm_check.specs.Events.{first_stop}
 use Rattle.tm_check.specs.Stands.{Stands}

@@ -6,7 +6,7 @@ use Rattle.tm_eqsys.specs.Equations.{Equations, Vector}
 use Rattle.tm_validity.specs.Steps.{word, Item, Kind, Plain, Jump, Ray, Step, edge_of, item_value}
 use Rattle.tm_validity.specs.Decide.{dec_le_ℚ, dec_ltᴱ, dec_finite, dec_runs}
 use Rattle.tm_validity.specs.Faults.{Fault, Named, dec_named, bound_at, first_tests, first_pass}
-use Rattle.tm_validity.proofs.StepFaults.{unless_none}
+use Rattle.tm_validity.proofs.steps.StepFaults.{unless_none}
 use Rattle.tm_check.specs.declared.fault.CheckFault.{CheckFault}
 use Rattle.tm_check.specs.Events.{first_stop}
 use Rattle.tm_check.specs.Items.{no_item}

@@ -6,8 +6,8 @@ use Rattle.std.proofs.lemmas.List.{drop_all}
 use Rattle.std.proofs.lemmas.Bool.{ltb-true, ltb-false}
 use Rattle.tm_num.specs.Extended.{Ext, neg_inf, pos_inf}
 use Rattle.tm_eqsys.specs.Equations.{Equations, Vector}
-use Rattle.tm_validity.specs.Steps.{Step, after, start_vector}
-use Rattle.tm_validity.specs.Certificates.{led}
+use Rattle.tm_validity.specs.Steps.{Step, after_step, start_vector}
+use Rattle.tm_validity.specs.Certificates.{after_steps}
 use Rattle.tm_check.specs.declared.fault.CheckFault.{CheckFault}
 use Rattle.tm_check.specs.Events.{first_stop}
 use Rattle.tm_check.specs.StepEvents.{step_events, steps_events}
@@ -15,33 +15,33 @@ use Rattle.tm_check.specs.Stands.{Stands, start_at}
 use Rattle.tm_check.proofs.following.Traces.{stop_sooner, stop_later}
 use Rattle.tm_check.proofs.names.Items.{number_below}
 
-module _ (system : Equations) (steps : List Step) (i : ℕ) (z : Vector) (left : first_stop (steps_events system start_vector 0 steps) ≡ first_stop (steps_events system z i (drop i steps))) (leads : led steps start_vector ≡ led (drop i steps) z) where
+module _ (system : Equations) (steps : List Step) (i : ℕ) (z : Vector) (left : first_stop (steps_events system start_vector 0 steps) ≡ first_stop (steps_events system z i (drop i steps))) (leads : after_steps steps start_vector ≡ after_steps (drop i steps) z) where
   module _ (step : Step) (l : i < length steps) (e : step ≡ get_or steps i step) where
     next_left : drop i steps ≡ step ∷ drop (suc i) steps
     next_left = drop-cons steps i step l ∙ ap (λ s. s ∷ drop (suc i) steps) (sym e)
 
-    pub steps_more : first_stop (step_events system z i step) ≡ None → first_stop (steps_events system start_vector 0 steps) ≡ first_stop (steps_events system (after step z) (i + 1) (drop (i + 1) steps))
+    pub steps_more : first_stop (step_events system z i step) ≡ None → first_stop (steps_events system start_vector 0 steps) ≡ first_stop (steps_events system (after_step step z) (i + 1) (drop (i + 1) steps))
     unfolding steps_events
     steps_more n =
         left ∙ ap (λ s. first_stop (steps_events system z i s)) next_left
-        ∙ stop_later (step_events system z i step) (steps_events system (after step z) (suc i) (drop (suc i) steps)) n
-        ∙ ap (λ j. first_stop (steps_events system (after step z) j (drop j steps))) (sym (add-one i))
+        ∙ stop_later (step_events system z i step) (steps_events system (after_step step z) (suc i) (drop (suc i) steps)) n
+        ∙ ap (λ j. first_stop (steps_events system (after_step step z) j (drop j steps))) (sym (add-one i))
 
-    pub leads_more : led steps start_vector ≡ led (drop (i + 1) steps) (after step z)
-    unfolding led
-    leads_more = leads ∙ ap (λ s. led s z) next_left ∙ ap (λ j. led (drop j steps) (after step z)) (sym (add-one i))
+    pub leads_more : after_steps steps start_vector ≡ after_steps (drop (i + 1) steps) (after_step step z)
+    unfolding after_steps
+    leads_more = leads ∙ ap (λ s. after_steps s z) next_left ∙ ap (λ j. after_steps (drop j steps) (after_step step z)) (sym (add-one i))
 
     pub steps_stop : (f : CheckFault) → first_stop (step_events system z i step) ≡ Some f → first_stop (steps_events system start_vector 0 steps) ≡ Some f
     unfolding steps_events
-    steps_stop f n = left ∙ ap (λ s. first_stop (steps_events system z i s)) next_left ∙ stop_sooner (step_events system z i step) (steps_events system (after step z) (suc i) (drop (suc i) steps)) f n
+    steps_stop f n = left ∙ ap (λ s. first_stop (steps_events system z i s)) next_left ∙ stop_sooner (step_events system z i step) (steps_events system (after_step step z) (suc i) (drop (suc i) steps)) f n
 
   pub steps_all : length steps ≤ i → first_stop (steps_events system start_vector 0 steps) ≡ None
   unfolding first_stop steps_events
   steps_all l = left ∙ ap (λ s. first_stop (steps_events system z i s)) (drop_all i steps l)
 
-  pub led_all : length steps ≤ i → led steps start_vector ≡ z
-  unfolding led
-  led_all l = leads ∙ ap (λ s. led s z) (drop_all i steps l)
+  pub led_all : length steps ≤ i → after_steps steps start_vector ≡ z
+  unfolding after_steps
+  led_all l = leads ∙ ap (λ s. after_steps s z) (drop_all i steps l)
 
 -- ---- the start
 start_yes : (rows u : ℕ) → u < rows → start_at rows u ≡ pos_inf

@@ -9,7 +9,7 @@ impl<L: Limit> PartialEq for Exact<L> {
     ghost use Rattle.std.specs.Ordering.{eq_by_cmp};
     ghost use Rattle.std.specs.Cmp.{partial_equiv_from_equiv};
     ghost use Rattle.tm_num.specs.Compare.{cmp_ℚ};
-    ghost use Rattle.tm_num.proofs.Compared.{eq_ℚ_equiv};
+    ghost use Rattle.tm_num.proofs.compare.Compared.{eq_ℚ_equiv};
 
     ghost eq = { eq_by_cmp cmp_ℚ };
 
@@ -21,7 +21,7 @@ impl<L: Limit> PartialEq for Exact<L> {
 }
 
 impl<L: Limit> Eq for Exact<L> {
-    ghost use Rattle.tm_num.proofs.Compared.{eq_ℚ_equiv};
+    ghost use Rattle.tm_num.proofs.compare.Compared.{eq_ℚ_equiv};
 
     ghost laws = { eq_ℚ_equiv };
 }
@@ -29,7 +29,7 @@ impl<L: Limit> Eq for Exact<L> {
 impl<L: Limit> Ord for Exact<L> {
     ghost use Rattle.std.proofs.Common.{refl};
     ghost use Rattle.tm_num.specs.Compare.{cmp_ℚ};
-    ghost use Rattle.tm_num.proofs.Compared.{cmp_ℚ_total};
+    ghost use Rattle.tm_num.proofs.compare.Compared.{cmp_ℚ_total};
 
     ghost cmp = { cmp_ℚ };
 
@@ -49,7 +49,7 @@ impl<L: Limit> PartialOrd for Exact<L> {
     ghost use Rattle.std.specs.Ordering.{as_partial_cmp};
     ghost use Rattle.std.specs.Cmp.{partial_order_from_agreeing_total};
     ghost use Rattle.tm_num.specs.Compare.{cmp_ℚ};
-    ghost use Rattle.tm_num.proofs.Compared.{cmp_ℚ_total};
+    ghost use Rattle.tm_num.proofs.compare.Compared.{cmp_ℚ_total};
 
     ghost partial_cmp = { as_partial_cmp cmp_ℚ };
 

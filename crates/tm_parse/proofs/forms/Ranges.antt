@@ -12,11 +12,12 @@ use Rattle.tm_parse.specs.Forms.{products, pairwise, sum_or_difference}
 use Rattle.tm_parse.specs.Walk.{ranged_number, ranged_numbers}
 use Rattle.tm_parse.proofs.results.Binds.{bind_assoc, bind_same, then_ok}
 
-both_true : (a b : Bool) → IsTrue a → IsTrue b → IsTrue (a && b)
+-- a conjunction is true where both parts are
+pub both_true : (a b : Bool) → IsTrue a → IsTrue b → IsTrue (a && b)
 both_true true b h i = i
 both_true false b h i = cc
 
-and_split : (a b : Bool) → IsTrue (a && b) → IsTrue a × IsTrue b
+pub and_split : (a b : Bool) → IsTrue (a && b) → IsTrue a × IsTrue b
 and_split true b h = (refl, h)
 and_split false b h = cc
 

@@ -26,7 +26,7 @@ use Rattle.tm_parse.specs.Walk.{number_of, as_condition, ranged_number, ranged_n
 use Rattle.tm_parse.specs.Walk.{prefix_value, regarded, few_leaves, tested, right_side, assignment, assigned, stepped, declared_by, closed, walk_expr}
 use Rattle.tm_parse.specs.Walk.{walk_declarator, walk_declarators, walk_core, walk_sub, walk_items, declared_in, declared_core, declared_sub, declared_items}
 use Rattle.tm_parse.specs.Walk.{program_of}
-use Rattle.tm_parse.proofs.forms.Ranges.{zeros_fit, set_fits, ranged_are_numbers, ranged_is_number}
+use Rattle.tm_parse.proofs.forms.Ranges.{both_true, and_split, zeros_fit, set_fits, ranged_are_numbers, ranged_is_number}
 
 -- what holds of a value, if there is one
 abbrev pub OnValue : {A : Type 0} → (A → Type 0) → Result A ParseFault → Type 0
@@ -36,14 +36,6 @@ OnValue P (Err e) = Unit {0}
 on_bind : {A B : Type 0} (P : A → Type 0) (Q : B → Type 0) (r : Result A ParseFault) (f : A → Result B ParseFault) → OnValue P r → ((x : A) → P x → OnValue Q (f x)) → OnValue Q (r >>= f)
 on_bind P Q (Ok x) f h g = g x h
 on_bind P Q (Err e) f h g = tt
-
-both_true : (a b : Bool) → IsTrue a → IsTrue b → IsTrue (a && b)
-both_true true b h i = i
-both_true false b h i = cc
-
-and_split : (a b : Bool) → IsTrue (a && b) → IsTrue a × IsTrue b
-and_split true b h = (refl, h)
-and_split false b h = cc
 
 on_cond : {A : Type 0} (P : A → Type 0) (b : Bool) (x y : Result A ParseFault) → (IsTrue b → OnValue P x) → OnValue P y → OnValue P (cond b x y)
 on_cond P true x y f h = f refl

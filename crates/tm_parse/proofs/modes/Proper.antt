@@ -14,10 +14,7 @@ use Rattle.std.specs.Char.{is_ascii_digit}
 use Rattle.tm_lex.specs.Lexemes as lexemes
 use Rattle.std.specs.List.{list_all}
 use Rattle.tm_parse.specs.Modes.{IsWordIn, IsProper, AllProper}
-
-both_true : (a b : Bool) → IsTrue a → IsTrue b → IsTrue (a && b)
-both_true true b h i = i
-both_true false b h i = cc
+use Rattle.tm_parse.proofs.forms.Ranges.{both_true}
 
 -- a word of the lexer is one of the trees
 first_twice : (a d l : Bool) → (a && l) ≡ (a && ((a || d) && l))

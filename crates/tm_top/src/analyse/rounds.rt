@@ -39,7 +39,7 @@ fn rounds_by(alloc: Global, system: &System, policy: Policy, limit: u32) -> Resu
 }
 
 // The refusal of rounds that halt, where so many are allowed.
-#[tactic(auto, using(crate::proofs::Halted::halted_wide, crate::proofs::Halted::halted_spent))]
+#[tactic(auto, using(crate::proofs::analyse::Halted::halted_wide, crate::proofs::analyse::Halted::halted_spent))]
 fn halted(halt: Halt, limit: u32) -> Refusal
     ensures { (purpose : Purpose) (policy : PolicyValue) (system : SystemValue) → IsHalt system (rule_of policy) limit halt
         → IsHalted purpose system policy limit result }
@@ -75,7 +75,7 @@ pub(crate) fn solve(
 }
 
 // The whole report of the least bounds of a system.
-#[tactic(auto, using(crate::proofs::OneChain::rounds_report))]
+#[tactic(auto, using(crate::proofs::rounds::OneChain::rounds_report))]
 pub(crate) fn report_of(
     alloc: Global,
     system: &System,

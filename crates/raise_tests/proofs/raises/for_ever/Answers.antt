@@ -1,13 +1,13 @@
 use Rattle.std.proofs.Common.{◌≡◌, ◌∙◌, ◌%◌, ◌<◌, ⊎_elim, true≢false, length, Some, ap, sym, subst, arith}
 use Rattle.std.specs.Prelude.{slice_get}
 use Rattle.tm_num.specs.Rational.{zero_ℚ, ◌≤ℚ◌, ◌<ℚ◌}
-use Rattle.tm_num.proofs.Laws.{le_or_lt}
+use Rattle.tm_num.proofs.rational.Laws.{le_or_lt}
 use Rattle.tm_eqsys.specs.View.{equations_of}
-use Rattle.tm_eqsys.proofs.Tested.{test_le}
+use Rattle.tm_eqsys.proofs.fit_tests.Tested.{test_le}
 use Rattle.tm_validity.specs.Steps.{edge_of, row_of}
 use Rattle.tm_cert.specs.Certificates.{pieces_of}
 use Rattle.tm_raise.specs.Raises.{choice_of}
-use Rattle.tm_raise.proofs.Raised.{edge_chosen, row_chosen, sized}
+use Rattle.tm_raise.proofs.lows.Raised.{edge_chosen, row_chosen, sized}
 use Rattle.raise_tests.proofs.raises.for_ever.Goals as goal
 
 pub raise-requires-clause-sizes : goal.raise-requires-clause-sizes

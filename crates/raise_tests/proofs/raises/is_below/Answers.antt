@@ -3,7 +3,7 @@ use Rattle.std.specs.Prelude.{IsTrue}
 use Rattle.std.specs.Ordering.{partial_lt, as_partial_cmp}
 use Rattle.tm_num.specs.Rational.{ℚ, ◌<ℚ◌}
 use Rattle.tm_num.specs.Compare.{cmp_ℚ}
-use Rattle.tm_num.proofs.Compared.{cmp_lt}
+use Rattle.tm_num.proofs.compare.Compared.{cmp_lt}
 use Rattle.raise_tests.proofs.raises.is_below.Goals as goal
 
 test_less : (a b : ℚ) (r : Bool) → r ≡ partial_lt (as_partial_cmp cmp_ℚ) a b → IsTrue r → a <ℚ b

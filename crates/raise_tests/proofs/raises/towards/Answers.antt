@@ -1,7 +1,7 @@
 use Rattle.std.proofs.Common.{◌∙◌, ◌<◌, length, sym, arith}
 use Rattle.tm_eqsys.specs.View.{equations_of}
 use Rattle.tm_cert.specs.Certificates.{pieces_of}
-use Rattle.tm_raise.proofs.Raised.{sized}
+use Rattle.tm_raise.proofs.lows.Raised.{sized}
 use Rattle.raise_tests.proofs.raises.towards.Goals as goal
 
 pub raise-requires-clause-sizes : goal.raise-requires-clause-sizes

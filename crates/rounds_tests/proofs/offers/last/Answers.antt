@@ -2,7 +2,7 @@ use Rattle.std.proofs.Common.{◌≡◌, ◌∙◌, ◌-◌, ◌<◌, ⊎_elim, 
 use Rattle.std.proofs.lemmas.Bool.{cases_lt}
 use Rattle.tm_num.specs.Extended.{neg_inf, ◌≤ᴱ◌, ◌<ᴱ◌}
 use Rattle.tm_frac.specs.Extended.{extended}
-use Rattle.tm_offers.proofs.Offered.{not_below, value, value_read, none_exceeds}
+use Rattle.tm_offers.proofs.offers.Offered.{not_below, value, value_read, none_exceeds}
 use Rattle.rounds_tests.proofs.offers.last.Goals as goal
 
 pub loop-k-preserved : goal.loop-k-preserved

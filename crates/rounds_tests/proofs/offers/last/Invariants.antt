@@ -1,7 +1,7 @@
 use Rattle.std.proofs.Common.{ℕ, ◌≤◌}
 use Rattle.tm_num.specs.Extended.{◌≤ᴱ◌}
 use Rattle.tm_frac.specs.Extended.{extended}
-use Rattle.tm_offers.proofs.Offered.{value}
+use Rattle.tm_offers.proofs.offers.Offered.{value}
 use Rattle.rounds_tests.proofs.offers.last.Given as goal
 
 abbrev pub invariant-loop-k : goal.invariant-loop-k

@@ -1,4 +1,4 @@
-use Rattle.tm_rounds.proofs.StartTight.{start_is_tight}
+use Rattle.tm_rounds.proofs.chains.StartTight.{start_is_tight}
 use Rattle.rounds_tests.proofs.rounds.begun.Goals as goal
 
 pub returns-clause-tight : goal.returns-clause-tight

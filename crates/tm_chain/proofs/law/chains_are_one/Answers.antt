@@ -1,6 +1,6 @@
 use Rattle.tm_chain.specs.Offers.{Best, First, By}
-use Rattle.tm_chain.proofs.OneChain.{determined, by_is_one}
-use Rattle.tm_chain.proofs.OnePosition.{best_is_one, first_is_one}
+use Rattle.tm_chain.proofs.chains.OneChain.{determined, by_is_one}
+use Rattle.tm_chain.proofs.offers.OnePosition.{best_is_one, first_is_one}
 use Rattle.tm_chain.proofs.law.chains_are_one.Goals as goal
 
 pub returns-clause-by_offers : goal.returns-clause-by_offers

@@ -1,4 +1,4 @@
-use Rattle.tm_chain.proofs.OneOffer.{transformer_one, offer_one}
+use Rattle.tm_chain.proofs.transformers.OneOffer.{transformer_one, offer_one}
 use Rattle.tm_chain.proofs.law.offers_are_one.Goals as goal
 
 pub returns-clause-transformer : goal.returns-clause-transformer

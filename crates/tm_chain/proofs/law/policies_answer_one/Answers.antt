@@ -1,4 +1,4 @@
-use Rattle.tm_chain.proofs.OnePosition.{best_is_one, first_is_one}
+use Rattle.tm_chain.proofs.offers.OnePosition.{best_is_one, first_is_one}
 use Rattle.tm_chain.proofs.law.policies_answer_one.Goals as goal
 
 pub returns-clause-best : goal.returns-clause-best

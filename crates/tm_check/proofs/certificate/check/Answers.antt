@@ -4,7 +4,7 @@ use Rattle.std.proofs.lemmas.Result.{err_from_is_err_and}
 use Rattle.tm_eqsys.specs.View.{equations_of}
 use Rattle.tm_cert.specs.Certificates.{step_of, evidence_of, certificate_of}
 use Rattle.tm_validity.specs.Steps.{start_vector}
-use Rattle.tm_validity.specs.Certificates.{needs, led, bounds_vector}
+use Rattle.tm_validity.specs.Certificates.{needs, after_steps, bounds_vector}
 use Rattle.tm_check.specs.declared.fault.CheckFault.TheVariants.{Size}
 use Rattle.tm_check.specs.Events.{IsRun, first_stop}
 use Rattle.tm_check.specs.StepEvents.{steps_events}
@@ -49,8 +49,8 @@ returns-in_err-compare-clause-answer c =
     let S = equations_of c.args.system.now in
     let rows = length c.args.system.now.template in
     let size = c.has_size.ensures.0 c.if-not-has_size.false in
-    let z = led (map (step_of rows) c.args.cert.now.steps) start_vector in
-    let reached = subst (λ xs. Stands S c.check_steps.new.scratch.base (led (map (step_of rows) xs) start_vector)) c.as_slice.ensures c.in_ok-check_steps.ensures.answer.0 in
+    let z = after_steps (map (step_of rows) c.args.cert.now.steps) start_vector in
+    let reached = subst (λ xs. Stands S c.check_steps.new.scratch.base (after_steps (map (step_of rows) xs) start_vector)) c.as_slice.ensures c.in_ok-check_steps.ensures.answer.0 in
     let none = subst (λ xs. first_stop (steps_events S start_vector 0 (map (step_of rows) xs)) ≡ None) c.as_slice.ensures c.in_ok-check_steps.ensures.answer.1 in
     let q = err_from_is_err_and c.from_residual-in_err-compare.result c.from_residual-in_err-compare.ensures.1 in
     rw (q.1, q.2) (whole_final S (certificate_of rows c.args.cert.now) (size_to S rows c.args.cert.now size) none c.in_err-compare.field-0.0
@@ -68,10 +68,10 @@ returns-clause-answer c =
     let S = equations_of c.args.system.now in
     let rows = length c.args.system.now.template in
     let size = c.has_size.ensures.0 c.if-not-has_size.false in
-    let z = led (map (step_of rows) c.args.cert.now.steps) start_vector in
+    let z = after_steps (map (step_of rows) c.args.cert.now.steps) start_vector in
     let ends = bounds_vector S c.args.cert.now.bounds in
     let stands = stands_itself S c.args.cert.now.bounds size.0 in
-    let reached = subst (λ xs. Stands S c.check_steps.new.scratch.base (led (map (step_of rows) xs) start_vector)) c.as_slice.ensures c.in_ok-check_steps.ensures.answer.0 in
+    let reached = subst (λ xs. Stands S c.check_steps.new.scratch.base (after_steps (map (step_of rows) xs) start_vector)) c.as_slice.ensures c.in_ok-check_steps.ensures.answer.0 in
     let none = subst (λ xs. first_stop (steps_events S start_vector 0 (map (step_of rows) xs)) ≡ None) c.as_slice.ensures c.in_ok-check_steps.ensures.answer.1 in
     whole_uppers S (certificate_of rows c.args.cert.now) (size_to S rows c.args.cert.now size) none (c.in_ok-compare.ensures S z ends reached stands).1 c.check_uppers.result
     (subst (λ us. IsRun (λ u. Unit {0}) (uppers_events S ends (needs S ends) (map evidence_of us)) c.check_uppers.result) c.as_slice-2.ensures (c.check_uppers.ensures ends stands))

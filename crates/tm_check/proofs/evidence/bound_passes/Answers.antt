@@ -8,7 +8,7 @@ use Rattle.tm_frac.specs.declared.ext.Ext.TheVariants.{NegInf, Fin, PosInf}
 use Rattle.tm_frac.specs.Extended.{extended}
 use Rattle.tm_frac.specs.Operation.{operation_of}
 use Rattle.tm_eqsys.specs.View.{equations_of}
-use Rattle.tm_eqsys.proofs.Tested.{test_le}
+use Rattle.tm_eqsys.proofs.fit_tests.Tested.{test_le}
 use Rattle.tm_validity.specs.Certificates.{side}
 use Rattle.tm_check.specs.Events.{fault_answer, wide_answer}
 use Rattle.tm_check.specs.EvidenceEvents.{combination_events}

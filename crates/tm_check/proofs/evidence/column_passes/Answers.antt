@@ -1,7 +1,7 @@
 use Rattle.std.proofs.Common.{◌∙◌, get_or, sym, true≢false}
 use Rattle.std.proofs.lemmas.Result.{err_from_is_err_and}
 use Rattle.tm_num.specs.Rational.{zero_ℚ}
-use Rattle.tm_num.proofs.Laws.{ℚ_discrete}
+use Rattle.tm_num.proofs.rational.Laws.{ℚ_discrete}
 use Rattle.tm_frac.specs.Operation.{operation_of}
 use Rattle.tm_eqsys.specs.View.{equations_of}
 use Rattle.tm_validity.specs.Certificates.{combination}

@@ -4,7 +4,7 @@ use Rattle.tm_frac.specs.Operation.{operation_of}
 use Rattle.tm_eqsys.specs.View.{equations_of}
 use Rattle.tm_validity.specs.Words.{width}
 use Rattle.tm_compose.specs.Composed.{edge_forms}
-use Rattle.tm_compose.proofs.Edges.{width_is}
+use Rattle.tm_compose.proofs.composed.Edges.{width_is}
 use Rattle.tm_check.specs.Events.{fault_answer, wide_answer}
 use Rattle.tm_check.proofs.combination.Forms.{forms_at}
 use Rattle.tm_check.proofs.evidence.Sums.{told_no, told_yes}

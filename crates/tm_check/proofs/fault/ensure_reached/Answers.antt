@@ -4,7 +4,7 @@ use Rattle.tm_num.specs.Rational.{ℚ, ◌≤ℚ◌}
 use Rattle.tm_frac.specs.declared.wide.Wide.{Wide}
 use Rattle.tm_frac.specs.Operation.{operation_of}
 use Rattle.tm_eqsys.specs.declared.spot.Site.{Site}
-use Rattle.tm_eqsys.proofs.Tested.{test_le}
+use Rattle.tm_eqsys.proofs.fit_tests.Tested.{test_le}
 use Rattle.tm_validity.specs.Decide.{dec_le_ℚ}
 use Rattle.tm_validity.specs.Faults.{Fault}
 use Rattle.tm_check.specs.declared.fault.CheckFault.{CheckFault}

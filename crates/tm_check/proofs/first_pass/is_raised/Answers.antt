@@ -1,4 +1,4 @@
-use Rattle.tm_eqsys.proofs.Tested.{test_le}
+use Rattle.tm_eqsys.proofs.fit_tests.Tested.{test_le}
 use Rattle.tm_check.proofs.first_pass.is_raised.Goals as goal
 
 pub returns-then-is_below : goal.returns-then-is_below

@@ -1,4 +1,4 @@
-use Rattle.tm_check.proofs.CheckTests.{stops_are_faults}
+use Rattle.tm_check.proofs.events.CheckTests.{stops_are_faults}
 use Rattle.tm_check.proofs.law.stops_are_faults.Goals as goal
 
 pub returns : goal.returns

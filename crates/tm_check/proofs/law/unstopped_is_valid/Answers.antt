@@ -1,4 +1,4 @@
-use Rattle.tm_check.proofs.CheckTests.{unstopped_is_valid, unstopped_is_least}
+use Rattle.tm_check.proofs.events.CheckTests.{unstopped_is_valid, unstopped_is_least}
 use Rattle.tm_check.proofs.law.unstopped_is_valid.Goals as goal
 
 pub returns : goal.returns

@@ -1,7 +1,7 @@
 use Rattle.std.proofs.Common.{◌≡◌, ◌∙◌, true≢false, get_or, refl, sym, subst₂, arith}
 use Rattle.std.proofs.lemmas.List.{get_or_read}
 use Rattle.tm_num.specs.Rational.{zero_ℚ, ◌≤ℚ◌, ◌<ℚ◌}
-use Rattle.tm_num.proofs.Laws.{not_le_of_lt, le_of_not_lt_ℚ}
+use Rattle.tm_num.proofs.rational.Laws.{not_le_of_lt, le_of_not_lt_ℚ}
 use Rattle.tm_check.proofs.first_pass.Comparisons.{test_less}
 use Rattle.tm_check.proofs.multipliers.Signs.{nonneg_at, nonneg_all, up_to_more}
 use Rattle.tm_check.proofs.multipliers.none_negative.Goals as goal

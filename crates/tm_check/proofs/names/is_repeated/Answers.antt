@@ -2,7 +2,7 @@ use Rattle.std.proofs.Common.{◌≡◌, ◌≢◌, ◌∙◌, ◌+◌, ◌*◌,
 use Rattle.std.proofs.Math.Nat.{div-add-mod}
 use Rattle.tm_cert.specs.Certificates.{step_of}
 use Rattle.tm_validity.specs.Steps.{names, Unnamed}
-use Rattle.tm_validity.proofs.Puts.{names_itself}
+use Rattle.tm_validity.proofs.steps.Puts.{names_itself}
 use Rattle.tm_check.specs.Items.{item_at, earlier_items}
 use Rattle.tm_check.proofs.names.Items.{names_no, not_earlier, earlier_more}
 use Rattle.tm_check.proofs.names.is_repeated.Goals as goal

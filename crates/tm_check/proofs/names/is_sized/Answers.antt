@@ -2,7 +2,7 @@ use Rattle.std.proofs.Common.{◌≡◌, ◌∙◌, length, get_or, ap, sym, eq-
 use Rattle.std.specs.List.{count_by}
 use Rattle.tm_eqsys.specs.Cells.{is_havoc}
 use Rattle.tm_eqsys.specs.View.{equations_of}
-use Rattle.tm_eqsys.proofs.CellCounts.{free_count-is}
+use Rattle.tm_eqsys.proofs.free_values.CellCounts.{free_count-is}
 use Rattle.tm_validity.specs.Words.{free_count}
 use Rattle.tm_validity.specs.Steps.{edge_of}
 use Rattle.tm_check.proofs.following.Traces.{count_same}

@@ -1,4 +1,4 @@
-use Rattle.tm_eqsys.proofs.Tested.{test_le}
+use Rattle.tm_eqsys.proofs.fit_tests.Tested.{test_le}
 use Rattle.tm_check.proofs.second_pass.is_at_most.Goals as goal
 
 pub returns-in-Fin : goal.returns-in-Fin

@@ -3,7 +3,7 @@ use Rattle.std.proofs.lemmas.Result.{err_from_is_err_and}
 use Rattle.std.proofs.lemmas.List.{get_or-map, length-map}
 use Rattle.tm_eqsys.specs.View.{equations_of}
 use Rattle.tm_cert.specs.Certificates.{step_of}
-use Rattle.tm_validity.specs.Steps.{after, start_vector}
+use Rattle.tm_validity.specs.Steps.{after_step, start_vector}
 use Rattle.tm_check.specs.Stands.{Stands}
 use Rattle.tm_check.proofs.steps.Sequence.{steps_more, leads_more, steps_stop, steps_all, led_all}
 use Rattle.tm_check.proofs.steps.check_steps.Goals as goal
@@ -35,7 +35,7 @@ loop-number-preserved c =
     let t = c.in_ok-take.ensures.taken v.z v.base v.next in
     record {
       room = record { base = c.take.ensures.base ∙ v.room.base; next = c.take.ensures.next ∙ v.room.next; rates = c.take.ensures.rates ∙ v.room.rates };
-      z = after step v.z;
+      z = after_step step v.z;
       base = t.0;
       next = t.1;
       leads = leads_more S steps i v.z v.left v.leads step l e;

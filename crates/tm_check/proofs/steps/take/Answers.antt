@@ -3,7 +3,7 @@ use Rattle.std.specs.Prelude.{Some, None}
 use Rattle.std.proofs.lemmas.Result.{err_from_is_err_and}
 use Rattle.tm_eqsys.specs.View.{equations_of}
 use Rattle.tm_cert.specs.Certificates.{step_of}
-use Rattle.tm_validity.specs.Steps.{after}
+use Rattle.tm_validity.specs.Steps.{after_step}
 use Rattle.tm_check.proofs.names.Passed.{step_first, step_second}
 use Rattle.tm_check.proofs.steps.Usable.{usable_all}
 use Rattle.tm_check.proofs.steps.take.Goals as goal
@@ -26,7 +26,7 @@ returns-in_err-second_pass-clause-taken c = λ z h g.
     rw (p.1, p.2) (step_second S z c.args.number theirs (Some c.in_err-second_pass.field-0.0) (c.in_ok-first_pass.ensures z h).1 (c.in_err-second_pass.ensures.answer z h (c.set_new_bounds.ensures.settled S z g)))
 
 pub returns-clause-taken : goal.returns-clause-taken
-unfolding after
+unfolding after_step
 returns-clause-taken c = λ z h g.
     let S = equations_of c.args.system.now in
     let theirs = step_of (length c.args.system.now.template) c.args.step.now in (

@@ -2,7 +2,7 @@ use Rattle.std.proofs.Common.{refl, ⊎_elim}
 use Rattle.std.proofs.lemmas.Bool.Decides.{eqb_tells}
 use Rattle.clap.proofs.OnLiterals.{clap_on_literals}
 use Rattle.tm_cli.specs.Request.{request_of}
-use Rattle.tm_cli.proofs.AnyName.{any_name}
+use Rattle.tm_cli.proofs.request.AnyName.{any_name}
 use Rattle.tm_cli.proofs.laws.request_laws.Goals as goal
 
 pub returns-clause-any_name : goal.returns-clause-any_name

@@ -2,7 +2,7 @@ use Rattle.std.proofs.Common.{◌≡◌, ◌<◌, ◌^◌, length, rules, arith,
 use Rattle.std.proofs.lemmas.Str.Parse.{parse_digits}
 use Rattle.std.specs.Str.Parse.{digits_value}
 use Rattle.std.specs.declared.num.ParseIntError.{ParseIntError}
-use Rattle.tm_cli.proofs.Numbers.{digits, in_range, none_in_range}
+use Rattle.tm_cli.proofs.values.Numbers.{digits, in_range, none_in_range}
 use Rattle.tm_cli.proofs.values.number.Goals as goal
 
 pub returns-then-value-most : goal.returns-then-value-most

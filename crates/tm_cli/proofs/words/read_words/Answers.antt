@@ -2,7 +2,7 @@ use Rattle.std.proofs.Common.{◌≡◌, List, map, ap, subst, sym, ◌∙◌, o
 use Rattle.clap.specs.Words.{App, IsAmong, Text, app_of, fault_of, is_simple, is_simple_and_free, kind_of, subcommand_of, subcommand_rows_of}
 use Rattle.tm_cli.specs.CommandLine.{tmpl_app}
 use Rattle.tm_cli.specs.Request.{command_in, request_of}
-use Rattle.tm_cli.proofs.Parsed.{absent, free, given, refused, simple, taken}
+use Rattle.tm_cli.proofs.words.Parsed.{absent, free, given, refused, simple, taken}
 use Rattle.tm_cli.proofs.words.read_words.Goals as goal
 
 pub returns-in-Ok-clause-ok : goal.returns-in-Ok-clause-ok

@@ -6,8 +6,8 @@ use Rattle.std.proofs.lemmas.Result.{err_from_is_err_and}
 use Rattle.tm_flow.specs.FlowLimits.{is_action}
 use Rattle.tm_eqsys.specs.SystemLimits.{is_over}
 use Rattle.tm_validity.specs.Words.{columns, ends_from}
-use Rattle.tm_compose.proofs.States.{state_is}
-use Rattle.tm_compose.proofs.Edges.{width_is, start_size, edge_refused, rows_refused, edge_composed, guards_within}
+use Rattle.tm_compose.proofs.walk.States.{state_is}
+use Rattle.tm_compose.proofs.composed.Edges.{width_is, start_size, edge_refused, rows_refused, edge_composed, guards_within}
 use Rattle.tm_compose.proofs.edge.compose_edge.Goals as goal
 
 pub walk-requires-clause-actions : goal.walk-requires-clause-actions

@@ -7,7 +7,7 @@ use Rattle.tm_validity.specs.Words.{combined}
 use Rattle.tm_compose.specs.Composed.{dense}
 use Rattle.tm_compose.specs.Operations.{row_composition}
 use Rattle.tm_compose.specs.Faults.{IsFormFault}
-use Rattle.tm_compose.proofs.Passed.{passed_more, passed_refused}
+use Rattle.tm_compose.proofs.faults.Passed.{passed_more, passed_refused}
 use Rattle.tm_compose.proofs.edge.compose_rows.Goals as goal
 
 pub returns-in_err-compose_row : goal.returns-in_err-compose_row

@@ -2,7 +2,7 @@ use Rattle.std.proofs.Common.{◌≡◌, List, map, take}
 use Rattle.tm_validity.specs.Words.{Affine as Form, combined}
 use Rattle.tm_compose.specs.Composed.{dense}
 use Rattle.tm_compose.specs.Operations.{row_composition}
-use Rattle.tm_compose.proofs.Passed.{IsPassed}
+use Rattle.tm_compose.proofs.faults.Passed.{IsPassed}
 use Rattle.tm_compose.proofs.edge.compose_rows.Given as goal
 
 abbrev pub invariant-loop-row : goal.invariant-loop-row

@@ -4,7 +4,7 @@ use Rattle.tm_num.specs.Rational.{zero_ℚ}
 use Rattle.tm_validity.specs.Words.{column}
 use Rattle.tm_compose.specs.declared.affine.Affine.{Affine}
 use Rattle.tm_compose.proofs.Ranges.{range_push}
-use Rattle.tm_compose.proofs.Dense.{entries-first, column-constant}
+use Rattle.tm_compose.proofs.composed.Dense.{entries-first, column-constant}
 use Rattle.tm_compose.proofs.form.compose_column.Goals as goal
 
 pub loop-at-preserved : goal.loop-at-preserved

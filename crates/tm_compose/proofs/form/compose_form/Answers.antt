@@ -1,14 +1,14 @@
 use Rattle.std.proofs.Common.{◌∙◌, ℤ, List, length, ap, refl, sym, subst}
 use Rattle.std.proofs.lemmas.Result.{err_from_is_err_and}
 use Rattle.tm_num.specs.Rational.{whole}
-use Rattle.tm_eqsys.proofs.Summed.{constant_at, number_same}
+use Rattle.tm_eqsys.proofs.states.Summed.{constant_at, number_same}
 use Rattle.tm_frac.specs.Fits.{long_limit}
 use Rattle.tm_frac.specs.Operation.{first_wide}
 use Rattle.tm_validity.specs.Words.{combined}
 use Rattle.tm_compose.specs.Composed.{dense}
 use Rattle.tm_compose.specs.Operations.{row_composition}
 use Rattle.tm_compose.specs.Faults.{IsFormFault}
-use Rattle.tm_compose.proofs.Rows.{form_refused, last_refused, form_composed}
+use Rattle.tm_compose.proofs.operations.Rows.{form_refused, last_refused, form_composed}
 use Rattle.tm_compose.proofs.form.compose_form.Goals as goal
 
 pub returns-in_err-row : goal.returns-in_err-row

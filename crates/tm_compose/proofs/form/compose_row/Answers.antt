@@ -2,9 +2,9 @@ use Rattle.std.proofs.Common.{arith}
 use Rattle.std.proofs.lemmas.Result.{err_from_is_err_and}
 use Rattle.tm_eqsys.specs.States.{dotℚ}
 use Rattle.tm_compose.specs.Sums.{dense_column}
-use Rattle.tm_compose.proofs.States.{state_has}
+use Rattle.tm_compose.proofs.walk.States.{state_has}
 use Rattle.tm_compose.proofs.Ranges.{range_push}
-use Rattle.tm_compose.proofs.Rows.{columns_more, column_refused, constant_refused, row_composed}
+use Rattle.tm_compose.proofs.operations.Rows.{columns_more, column_refused, constant_refused, row_composed}
 use Rattle.tm_compose.proofs.form.compose_row.Goals as goal
 
 pub column_sum-requires-clause-column : goal.column_sum-requires-clause-column

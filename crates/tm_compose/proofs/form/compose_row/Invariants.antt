@@ -3,7 +3,7 @@ use Rattle.std.specs.List.{range_with_len}
 use Rattle.tm_eqsys.specs.States.{dotℚ}
 use Rattle.tm_eqsys.specs.Sums.{row_operations}
 use Rattle.tm_compose.specs.Sums.{dense_column}
-use Rattle.tm_compose.proofs.Passed.{IsPassed}
+use Rattle.tm_compose.proofs.faults.Passed.{IsPassed}
 use Rattle.tm_compose.proofs.form.compose_row.Given as goal
 
 abbrev pub invariant-loop-column : goal.invariant-loop-column

@@ -1,7 +1,7 @@
 use Rattle.std.proofs.Common.{◌∙◌, ap, sym, get_or}
 use Rattle.tm_num.specs.Rational.{zero_ℚ}
 use Rattle.tm_validity.specs.Words.{column}
-use Rattle.tm_compose.proofs.Dense.{column-here, column-other}
+use Rattle.tm_compose.proofs.composed.Dense.{column-here, column-other}
 use Rattle.tm_compose.proofs.form.unit_entry.Goals as goal
 
 pub returns-then-at-place : goal.returns-then-at-place

@@ -1,4 +1,4 @@
-use Rattle.tm_compose.proofs.Means.{paths_count, forms_are, have_columns}
+use Rattle.tm_compose.proofs.composed.Means.{paths_count, forms_are, have_columns}
 use Rattle.tm_compose.proofs.law.composed_forms_have_columns.Goals as goal
 
 pub returns : goal.returns

@@ -1,6 +1,6 @@
 use Rattle.std.proofs.Common.{sym, subst}
 use Rattle.tm_compose.specs.ComposedLaws.{MeanTraces}
-use Rattle.tm_compose.proofs.Means.{forms_are, mean_traces}
+use Rattle.tm_compose.proofs.composed.Means.{forms_are, mean_traces}
 use Rattle.tm_compose.proofs.law.composed_forms_mean.Goals as goal
 
 pub returns : goal.returns

@@ -2,9 +2,9 @@ use Rattle.std.proofs.Common.{◌∙◌, ap, sym, to_z}
 use mir.Syntax.{w64}
 use Rattle.std.proofs.lemmas.Result.{err_from_is_err_and}
 use Rattle.tm_num.specs.Rational.{whole, ◌*ℚ◌}
-use Rattle.tm_num.proofs.Laws.{whole-zero, zero-*ℚ, *ℚ-zero}
-use Rattle.tm_eqsys.proofs.Summed.{number_same, product_refused}
-use Rattle.tm_compose.proofs.Products.{product_skipped, product_joined}
+use Rattle.tm_num.proofs.rational.Laws.{whole-zero, zero-*ℚ, *ℚ-zero}
+use Rattle.tm_eqsys.proofs.states.Summed.{number_same, product_refused}
+use Rattle.tm_compose.proofs.sums.Products.{product_skipped, product_joined}
 use Rattle.tm_compose.proofs.sums.add_product.Goals as goal
 
 pub returns-then-coeff-eq0 : goal.returns-then-coeff-eq0

@@ -3,10 +3,10 @@ use mir.Syntax.{w64}
 use Rattle.std.proofs.lemmas.Result.{err_from_is_err_and}
 use Rattle.std.proofs.lemmas.List.{length-map}
 use Rattle.tm_frac.specs.Operation.{operation_of}
-use Rattle.tm_eqsys.proofs.Summed.{number_at, number_same, summed_none, summed_more, summed_wide, summed_all}
+use Rattle.tm_eqsys.proofs.states.Summed.{number_at, number_same, summed_none, summed_more, summed_wide, summed_all}
 use Rattle.tm_compose.specs.declared.affine.Affine.{Affine}
 use Rattle.tm_compose.specs.Sums.{dense_constants}
-use Rattle.tm_compose.proofs.Columns.{constant_read}
+use Rattle.tm_compose.proofs.sums.Columns.{constant_read}
 use Rattle.tm_compose.proofs.sums.constant_sum.Goals as goal
 
 pub loop-i-init : goal.loop-i-init

@@ -1,5 +1,5 @@
 use Rattle.tm_frac.specs.Fits.{Fits, long_limit}
-use Rattle.tm_eqsys.proofs.Summed.{IsSummed}
+use Rattle.tm_eqsys.proofs.states.Summed.{IsSummed}
 use Rattle.tm_compose.specs.Sums.{dense_constants}
 use Rattle.tm_compose.proofs.sums.constant_sum.Given as goal
 

@@ -1,6 +1,6 @@
 use Rattle.std.proofs.Common.{◌∙◌, ◌∷◌, [], ap, arith}
 use Rattle.tm_validity.specs.Words.{free_count}
-use Rattle.tm_compose.proofs.Frees.{frees_left, frees_none, frees-havoc, frees-other}
+use Rattle.tm_compose.proofs.walk.Frees.{frees_left, frees_none, frees-havoc, frees-other}
 use Rattle.tm_compose.proofs.walk.count_frees.Goals as goal
 use Rattle.tm_compose.proofs.walk.count_frees.Goals.{in-Havoc, in_default}
 

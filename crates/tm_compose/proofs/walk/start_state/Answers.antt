@@ -3,7 +3,7 @@ use Rattle.std.specs.List.{range_with_len}
 use Rattle.tm_validity.specs.Words.{column}
 use Rattle.tm_compose.specs.Composed.{dense}
 use Rattle.tm_compose.proofs.Ranges.{range_push}
-use Rattle.tm_compose.proofs.States.{start_is}
+use Rattle.tm_compose.proofs.walk.States.{start_is}
 use Rattle.tm_compose.proofs.walk.start_state.Goals as goal
 
 pub loop-variable-preserved : goal.loop-variable-preserved

@@ -3,7 +3,7 @@ use Rattle.std.specs.Prelude.{slice_set}
 use Rattle.std.proofs.lemmas.List.{append-nil, map-set}
 use Rattle.tm_validity.specs.Words.{column, composed, free_count}
 use Rattle.tm_compose.specs.Composed.{dense}
-use Rattle.tm_compose.proofs.Frees.{frees-havoc}
+use Rattle.tm_compose.proofs.walk.Frees.{frees-havoc}
 use Rattle.tm_compose.proofs.walk.step.Goals as goal
 
 pub compose_column-requires : goal.compose_column-requires

@@ -3,9 +3,9 @@ use Rattle.std.proofs.lemmas.Result.{err_from_is_err_and}
 use Rattle.tm_compose.specs.declared.affine.Affine.{Affine}
 use Rattle.tm_compose.specs.Operations.{next_state}
 use Rattle.tm_compose.specs.ComposedLaws.{form_of}
-use Rattle.tm_compose.proofs.Frees.{frees_left}
-use Rattle.tm_compose.proofs.States.{state_is}
-use Rattle.tm_compose.proofs.Walked.{IsWalked, walked_none, walked_more, walked_wide, walked_guards, walked_state, walked_first, state_of, column_frees}
+use Rattle.tm_compose.proofs.walk.Frees.{frees_left}
+use Rattle.tm_compose.proofs.walk.States.{state_is}
+use Rattle.tm_compose.proofs.operations.Walked.{IsWalked, walked_none, walked_more, walked_wide, walked_guards, walked_state, walked_first, state_of, column_frees}
 use Rattle.tm_compose.proofs.walk.walk.Goals as goal
 
 pub loop-action-init : goal.loop-action-init

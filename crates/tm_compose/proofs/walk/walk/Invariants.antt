@@ -2,7 +2,7 @@ use Rattle.std.proofs.Common.{◌≡◌, ◌+◌, List, length, drop, map}
 use Rattle.tm_validity.specs.Words.{Affine as Form, free_count}
 use Rattle.tm_compose.specs.Composed.{dense}
 use Rattle.tm_compose.specs.Walks.{IsState}
-use Rattle.tm_compose.proofs.Walked.{Walked}
+use Rattle.tm_compose.proofs.operations.Walked.{Walked}
 use Rattle.tm_compose.proofs.walk.walk.Given as goal
 
 abbrev pub invariant-loop-action : goal.invariant-loop-action

@@ -1,6 +1,6 @@
 use Rattle.std.proofs.Common.{◌≡◌, ◌+◌, map, take}
 use Rattle.tm_num.specs.Rational.{neg_ℚ}
-use Rattle.tm_dict.proofs.Built.{negated_more, appended_more}
+use Rattle.tm_dict.proofs.build.Built.{negated_more, appended_more}
 use Rattle.tm_dict.proofs.build.push_slack.Goals as goal
 
 pub loop-coeff-preserved : goal.loop-coeff-preserved

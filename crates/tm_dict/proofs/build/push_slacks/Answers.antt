@@ -3,7 +3,7 @@ use Rattle.std.proofs.lemmas.List.{get_or-map}
 use Rattle.tm_num.specs.Rational.{ℚ, zero_ℚ}
 use Rattle.tm_dict.specs.declared.problem.Row.{Row}
 use Rattle.tm_dict.specs.Build.{slack_entries}
-use Rattle.tm_dict.proofs.Built.{slacks_more, slacks_none}
+use Rattle.tm_dict.proofs.build.Built.{slacks_more, slacks_none}
 use Rattle.tm_dict.proofs.build.push_slacks.Goals as goal
 
 pub loop-i-init : goal.loop-i-init

@@ -1,6 +1,6 @@
 use Rattle.std.proofs.Common.{◌≡◌, ◌+◌, ◌++◌, ◌∷◌, [], map, ap, sym, ◌∙◌}
 use Rattle.tm_dict.specs.Build.{zeros}
-use Rattle.tm_dict.proofs.Built.{zeros_more, appended_more}
+use Rattle.tm_dict.proofs.build.Built.{zeros_more, appended_more}
 use Rattle.tm_dict.proofs.build.push_zeros.Goals as goal
 
 pub loop-k-preserved : goal.loop-k-preserved

@@ -5,8 +5,8 @@ use Rattle.tm_frac.specs.Operation.{first_wide, operation_of}
 use Rattle.tm_dict.specs.Formulas.{combined_row}
 use Rattle.tm_dict.specs.PivotOperations.{added_row_operations, combination_row_operations}
 use Rattle.tm_dict.specs.Cells.{row_from}
-use Rattle.tm_dict.proofs.Cells.{cell_read, sets_none}
-use Rattle.tm_dict.proofs.RowSteps.{combined_still, combination_still, combined_after, combined_later, combined_sooner}
+use Rattle.tm_dict.proofs.cells.Cells.{cell_read, sets_none}
+use Rattle.tm_dict.proofs.pivot_operations.RowSteps.{combined_still, combination_still, combined_after, combined_later, combined_sooner}
 use Rattle.tm_dict.proofs.rows.combine_row.Goals as goal
 
 pub returns-then-is_zero-clause-combined : goal.returns-then-is_zero-clause-combined

@@ -1,6 +1,6 @@
 use Rattle.std.proofs.lemmas.Result.{err_from_is_err_and}
 use Rattle.tm_frac.specs.Operation.{operation_of}
-use Rattle.tm_dict.proofs.RowLoops.{rows_disjoint, combines_none, rows_none, combines_past, rows_past, combines_more, rows_more, rows_refused}
+use Rattle.tm_dict.proofs.cells.RowLoops.{rows_disjoint, combines_none, rows_none, combines_past, rows_past, combines_more, rows_more, rows_refused}
 use Rattle.tm_dict.proofs.rows.combine_rows.Goals as goal
 use Rattle.tm_dict.proofs.rows.combine_rows.Goals.{then-i-row+in_ok-combine_row, else-i-row}
 

@@ -3,8 +3,8 @@ use Rattle.std.proofs.lemmas.Result.{err_from_is_err_and}
 use Rattle.tm_frac.specs.Operation.{operation_of}
 use Rattle.tm_dict.specs.Formulas.{divided_row}
 use Rattle.tm_dict.specs.Cells.{row_from}
-use Rattle.tm_dict.proofs.Cells.{sets_none}
-use Rattle.tm_dict.proofs.RowSteps.{division_none, division_more, division_refused}
+use Rattle.tm_dict.proofs.cells.Cells.{sets_none}
+use Rattle.tm_dict.proofs.pivot_operations.RowSteps.{division_none, division_more, division_refused}
 use Rattle.tm_dict.proofs.rows.divide_row.Goals as goal
 
 pub loop-k-init : goal.loop-k-init

@@ -2,7 +2,7 @@ use Rattle.std.proofs.Common.{◌≡◌, Ok, Err, Result, Some, None, sym, ◌�
 use Rattle.std.proofs.lemmas.Result.{err_from_is_err_and, on_ok_weaker, IfErr-weaker}
 use Rattle.tm_frac.specs.Operation.{first_wide, operation_of}
 use Rattle.tm_dict.specs.Rows.{exchange_operations, rows_operations}
-use Rattle.tm_dict.proofs.ExchangeSteps.{exchange_made, exchange_later, exchange_sooner}
+use Rattle.tm_dict.proofs.rows.ExchangeSteps.{exchange_made, exchange_later, exchange_sooner}
 use Rattle.tm_dict.proofs.rows.exchange.Goals as goal
 
 pub returns-in_err-divide_row-clause-wide : goal.returns-in_err-divide_row-clause-wide

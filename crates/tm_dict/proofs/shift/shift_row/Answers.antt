@@ -1,6 +1,6 @@
 use Rattle.std.proofs.Common.{◌≡◌, ◌+◌, ◌<◌, length, arith}
 use Rattle.tm_lp.specs.Table.{skip}
-use Rattle.tm_dict.proofs.Shifts.{place_before, place_behind, skip_most, shift_more}
+use Rattle.tm_dict.proofs.shift.Shifts.{place_before, place_behind, skip_most, shift_more}
 use Rattle.tm_dict.proofs.shift.shift_row.Goals as goal
 use Rattle.tm_dict.proofs.shift.shift_row.Goals.{then-k-col, else-k-col}
 

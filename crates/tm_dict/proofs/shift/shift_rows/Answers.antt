@@ -1,6 +1,6 @@
 use Rattle.std.proofs.Common.{◌≡◌, ◌<◌, arith}
 use Rattle.tm_lp.specs.Table.{skip}
-use Rattle.tm_dict.proofs.Shifts.{place_before, place_behind, rows_shift_more}
+use Rattle.tm_dict.proofs.shift.Shifts.{place_before, place_behind, rows_shift_more}
 use Rattle.tm_dict.proofs.shift.shift_rows.Goals as goal
 use Rattle.tm_dict.proofs.shift.shift_rows.Goals.{then-i-row, else-i-row}
 

@@ -1,6 +1,6 @@
 use Rattle.std.proofs.Common.{sym, slice_index}
 use Rattle.std.proofs.Common.{length}
-use Rattle.tm_lp.proofs.Places.{place_is}
+use Rattle.tm_lp.proofs.search.Places.{place_is}
 use Rattle.tm_dict.proofs.shift.zero_place.Goals as goal
 
 pub returns-then-name-eq0-clause-place : goal.returns-then-name-eq0-clause-place

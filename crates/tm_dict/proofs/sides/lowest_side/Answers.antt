@@ -1,11 +1,11 @@
 use Rattle.std.proofs.Common.{◌≡◌, ◌<◌, length, map, subst, sym, ◌∙◌, arith}
 use Rattle.std.proofs.lemmas.List.{length-map}
 use Rattle.tm_num.specs.Rational.{ℚ, ◌≤ℚ◌, ◌<ℚ◌}
-use Rattle.tm_num.proofs.Compared.{test_lt, test_not_lt}
+use Rattle.tm_num.proofs.compare.Compared.{test_lt, test_not_lt}
 use Rattle.tm_dict.specs.declared.problem.Row.{Row}
 use Rattle.tm_dict.specs.Exact.{exact}
 use Rattle.tm_dict.specs.Sides.{IsLeastSoFar}
-use Rattle.tm_dict.proofs.LeastSides.{side_read, least_kept, least_found, least_lowest}
+use Rattle.tm_dict.proofs.sides.LeastSides.{side_read, least_kept, least_found, least_lowest}
 use Rattle.tm_dict.proofs.sides.lowest_side.Goals as goal
 use Rattle.tm_dict.proofs.sides.lowest_side.Goals.{then-lt, else-lt}
 

@@ -3,7 +3,7 @@ use Rattle.std.proofs.lemmas.Bool.{ne_eqb}
 use Rattle.tm_eqsys.specs.FreeValues.{free_count}
 use Rattle.tm_eqsys.specs.Cells.{guard_count, is_havoc}
 use Rattle.std.specs.List.{count_by}
-use Rattle.tm_eqsys.proofs.CellCounts.{free_count-is, max-is, most_yes, most_no}
+use Rattle.tm_eqsys.proofs.free_values.CellCounts.{free_count-is, max-is, most_yes, most_no}
 use Rattle.tm_eqsys.proofs.cells.greatest.Goals as goal
 use Rattle.tm_eqsys.proofs.cells.greatest.Goals.{then-edge-point, else-edge-point}
 

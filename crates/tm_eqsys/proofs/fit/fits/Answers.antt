@@ -7,7 +7,7 @@ use Rattle.tm_frac.specs.Operation.{first_wide, operation_of}
 use Rattle.tm_eqsys.specs.States.{dotℚ}
 use Rattle.tm_eqsys.specs.View.{vector_of}
 use Rattle.tm_eqsys.specs.FitTests.{row_test}
-use Rattle.tm_eqsys.proofs.Tested.{tested_more, tested_fails, fails_at, tested_wide, tested_all}
+use Rattle.tm_eqsys.proofs.fit_tests.Tested.{tested_more, tested_fails, fails_at, tested_wide, tested_all}
 use Rattle.tm_eqsys.proofs.fit.fits.Goals as goal
 
 pub returns-in_err-is_at_most : goal.returns-in_err-is_at_most

@@ -1,6 +1,6 @@
 use Rattle.std.proofs.Common.{sym, subst}
 use Rattle.tm_num.specs.Rational.{◌≤ℚ◌}
-use Rattle.tm_eqsys.proofs.Tested.{test_le}
+use Rattle.tm_eqsys.proofs.fit_tests.Tested.{test_le}
 use Rattle.tm_eqsys.proofs.fit.is_at_most.Goals as goal
 
 pub returns-in_ok-value-in-Fin : goal.returns-in_ok-value-in-Fin

@@ -7,9 +7,9 @@ use Rattle.tm_num.specs.Rational.{ℚ}
 use Rattle.tm_frac.specs.Fits.{long_limit}
 use Rattle.tm_frac.specs.Operation.{first_wide, operation_of}
 use Rattle.tm_eqsys.specs.TraceTests.{StepIs, trace_operations}
-use Rattle.tm_eqsys.proofs.Traced.{free_count-cons, leads_more, leads_fails, leads_wide}
+use Rattle.tm_eqsys.proofs.trace_tests.Traced.{free_count-cons, leads_more, leads_fails, leads_wide}
 use Rattle.tm_eqsys.specs.Constants.{action_with}
-use Rattle.tm_eqsys.proofs.WithConstants.{free_with, action_with-at, action_left}
+use Rattle.tm_eqsys.proofs.follow.WithConstants.{free_with, action_with-at, action_left}
 use Rattle.tm_eqsys.proofs.follow.follow.Goals as goal
 
 pub returns-in-None : goal.returns-in-None

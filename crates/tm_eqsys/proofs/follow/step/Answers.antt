@@ -3,9 +3,9 @@ use Rattle.std.proofs.lemmas.Result.{err_from_is_err_and}
 use Rattle.tm_num.specs.Rational.{ℚ, ◌≤ℚ◌}
 use Rattle.tm_frac.specs.Operation.{operation_of}
 use Rattle.tm_eqsys.specs.Constants.{form_with}
-use Rattle.tm_eqsys.proofs.Tested.{test_le}
-use Rattle.tm_eqsys.proofs.Traced.{guard_refused, assign_refused, guard_passed, guard_failed, assigned}
-use Rattle.tm_eqsys.proofs.WithConstants.{guard_with, assign_with}
+use Rattle.tm_eqsys.proofs.fit_tests.Tested.{test_le}
+use Rattle.tm_eqsys.proofs.trace_tests.Traced.{guard_refused, assign_refused, guard_passed, guard_failed, assigned}
+use Rattle.tm_eqsys.proofs.follow.WithConstants.{guard_with, assign_with}
 use Rattle.tm_eqsys.proofs.follow.step.Goals as goal
 
 pub returns-in_err-value-in-Guard : goal.returns-in_err-value-in-Guard

@@ -1,6 +1,6 @@
 use Rattle.std.proofs.Common.{subst}
 use Rattle.tm_eqsys.specs.TraceTests.{TraceAnswers}
-use Rattle.tm_eqsys.proofs.WithConstants.{actions_kept}
+use Rattle.tm_eqsys.proofs.follow.WithConstants.{actions_kept}
 use Rattle.tm_eqsys.proofs.follow.trace_value.Goals as goal
 
 pub returns : goal.returns

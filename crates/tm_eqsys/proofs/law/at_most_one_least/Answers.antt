@@ -1,4 +1,4 @@
-use Rattle.tm_eqsys.proofs.Leastness.{at_most_one}
+use Rattle.tm_eqsys.proofs.equations.Leastness.{at_most_one}
 use Rattle.tm_eqsys.proofs.law.at_most_one_least.Goals as goal
 
 pub returns : goal.returns

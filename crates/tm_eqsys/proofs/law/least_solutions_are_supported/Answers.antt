@@ -1,4 +1,4 @@
-use Rattle.tm_eqsys.proofs.Leastness.{supported_law, decided_law}
+use Rattle.tm_eqsys.proofs.equations.Leastness.{supported_law, decided_law}
 use Rattle.tm_eqsys.proofs.law.least_solutions_are_supported.Goals as goal
 
 pub returns-clause-supported : goal.returns-clause-supported

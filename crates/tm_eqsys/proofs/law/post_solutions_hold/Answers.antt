@@ -1,4 +1,4 @@
-use Rattle.tm_eqsys.proofs.Soundness.{soundness, program_soundness}
+use Rattle.tm_eqsys.proofs.states.Soundness.{soundness, program_soundness}
 use Rattle.tm_eqsys.proofs.law.post_solutions_hold.Goals as goal
 
 pub returns-clause-paths : goal.returns-clause-paths

@@ -2,7 +2,7 @@ use Rattle.std.proofs.Common.{◌≡◌, ◌∙◌, ap, subst}
 use Rattle.tm_num.specs.Rational.{whole, ◌+ℚ◌, ◌*ℚ◌}
 use Rattle.tm_frac.specs.Operation.{product_sum_operations}
 use Rattle.tm_eqsys.specs.Sums.{SumAnswers}
-use Rattle.tm_eqsys.proofs.Summed.{number_same}
+use Rattle.tm_eqsys.proofs.states.Summed.{number_same}
 use Rattle.tm_eqsys.proofs.sums.add_product.Goals as goal
 
 pub returns : goal.returns

@@ -1,8 +1,8 @@
 use Rattle.std.proofs.Common.{◌∙◌, length, sym}
 use Rattle.std.proofs.lemmas.Result.{err_from_is_err_and}
 use Rattle.tm_eqsys.specs.Constants.{form_with}
-use Rattle.tm_eqsys.proofs.Summed.{form_refused, form_added, constant_at}
-use Rattle.tm_eqsys.proofs.WithConstants.{coeffs_same}
+use Rattle.tm_eqsys.proofs.states.Summed.{form_refused, form_added, constant_at}
+use Rattle.tm_eqsys.proofs.follow.WithConstants.{coeffs_same}
 use Rattle.tm_eqsys.proofs.sums.form_value.Goals as goal
 
 pub constant-requires : goal.constant-requires

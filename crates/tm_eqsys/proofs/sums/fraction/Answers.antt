@@ -4,8 +4,8 @@ use mir.Syntax.{w64}
 use Rattle.tm_num.specs.Rational.{ℚ, whole}
 use Rattle.tm_tree.specs.Numbers.{is_number}
 use Rattle.tm_frac.specs.Fits.{long_limit}
-use Rattle.tm_frac.proofs.Made.{small_value}
-use Rattle.tm_eqsys.proofs.Summed.{number_made, number_same}
+use Rattle.tm_frac.proofs.fits.Made.{small_value}
+use Rattle.tm_eqsys.proofs.states.Summed.{number_made, number_same}
 use Rattle.tm_eqsys.proofs.sums.fraction.Goals as goal
 
 pub unwrap-requires : goal.unwrap-requires

@@ -4,7 +4,7 @@ use mir.Syntax.{w64}
 use Rattle.std.proofs.lemmas.Result.{err_from_is_err_and}
 use Rattle.tm_tree.specs.Numbers.{is_number}
 use Rattle.tm_frac.specs.Operation.{operation_of}
-use Rattle.tm_eqsys.proofs.Summed.{number_at, number_same, summed_none, summed_more, summed_wide, summed_all}
+use Rattle.tm_eqsys.proofs.states.Summed.{number_at, number_same, summed_none, summed_more, summed_wide, summed_all}
 use Rattle.tm_eqsys.proofs.sums.row_value.Goals as goal
 
 pub loop-i-init : goal.loop-i-init

@@ -1,4 +1,4 @@
-use Rattle.tm_eqsys.proofs.Summed.{IsSummed}
+use Rattle.tm_eqsys.proofs.states.Summed.{IsSummed}
 use Rattle.tm_eqsys.proofs.sums.row_value.Given as goal
 
 abbrev pub invariant-loop-i : goal.invariant-loop-i

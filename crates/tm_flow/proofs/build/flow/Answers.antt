@@ -1,8 +1,8 @@
 use Rattle.std.proofs.Common.{◌∙◌, inr, sym, ap, arith, length}
 use Rattle.std.specs.Prelude.{position}
 use Rattle.tm_flow.specs.Faults.{is_long}
-use Rattle.tm_flow.proofs.EdgeLimits.{room_in}
-use Rattle.tm_flow.proofs.FlowLaws.{limits, few_points, few_kept, long_faulted, no_fault, nothing_cut, flow_within}
+use Rattle.tm_flow.proofs.build.EdgeLimits.{room_in}
+use Rattle.tm_flow.proofs.faults.FlowLaws.{limits, few_points, few_kept, long_faulted, no_fault, nothing_cut, flow_within}
 use Rattle.tm_flow.proofs.build.flow.Goals as goal
 
 pub counted_fault-requires : goal.counted_fault-requires

@@ -1,7 +1,7 @@
 use Rattle.std.proofs.Common.{true, false, ◌*◌}
 use Rattle.tm_tree.specs.View.{condition_of}
 use Rattle.tm_flow.specs.Counts.{case_count}
-use Rattle.tm_flow.proofs.Counting.{sum_counted, product_counted}
+use Rattle.tm_flow.proofs.count.Counting.{sum_counted, product_counted}
 use Rattle.tm_flow.proofs.count.choice_count.Goals as goal
 
 pub returns : goal.returns

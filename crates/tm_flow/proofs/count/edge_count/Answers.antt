@@ -1,5 +1,5 @@
 use Rattle.std.proofs.Common.{rules}
-use Rattle.tm_flow.proofs.CountLaws.{counted_up_to}
+use Rattle.tm_flow.proofs.edges.CountLaws.{counted_up_to}
 use Rattle.tm_flow.proofs.count.edge_count.Goals as goal
 
 pub returns : goal.returns

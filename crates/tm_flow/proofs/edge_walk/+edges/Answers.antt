@@ -1,7 +1,7 @@
 use Rattle.std.proofs.Common.{ap}
 use Rattle.std.proofs.lemmas.Result.{on_ok_weaker}
 use Rattle.tm_tree.specs.View.{condition_of, statement_of, statements_of}
-use Rattle.tm_flow.proofs.WalkSteps.{turned}
+use Rattle.tm_flow.proofs.edge_walk.WalkSteps.{turned}
 use Rattle.tm_flow.proofs.edge_walk.+edges.Goals as goal
 
 pub add_edges_in-returns-in_ok-walk_cases-in-While-2 : goal.add_edges_in-returns-in_ok-walk_cases-in-While-2

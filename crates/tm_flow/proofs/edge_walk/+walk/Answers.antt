@@ -4,8 +4,8 @@ use Rattle.tm_tree.specs.View.{condition_of, statement_of, statements_of}
 use Rattle.tm_flow.specs.Edges.{arrived, ways_in}
 use Rattle.tm_flow.specs.Steps.{guards}
 use Rattle.tm_flow.specs.Trails.{followed, reached, split}
-use Rattle.tm_flow.proofs.Loops.{loop_step}
-use Rattle.tm_flow.proofs.WalkSteps.{walked_set, walked_havoc, walked_split, walked_assume, walked_branch}
+use Rattle.tm_flow.proofs.edge_walk.Loops.{loop_step}
+use Rattle.tm_flow.proofs.edge_walk.WalkSteps.{walked_set, walked_havoc, walked_split, walked_assume, walked_branch}
 use Rattle.tm_flow.proofs.edge_walk.+walk.Goals as goal
 
 pub walk-returns-in-Set : goal.walk-returns-in-Set

@@ -1,6 +1,6 @@
 use Rattle.std.proofs.Common.{◌∙◌, ap, sym, map, neg_ℤ}
 use Rattle.std.proofs.lemmas.List.{take_all}
-use Rattle.tm_flow.proofs.GuardLemmas.{are_numbers-negated}
+use Rattle.tm_flow.proofs.guard.GuardLemmas.{are_numbers-negated}
 use Rattle.tm_flow.proofs.guard.opposites.Goals as goal
 
 pub new-requires : goal.new-requires

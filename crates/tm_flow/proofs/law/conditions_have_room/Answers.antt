@@ -1,4 +1,4 @@
-use Rattle.tm_flow.proofs.FormLimits.{condition_room}
+use Rattle.tm_flow.proofs.constants.FormLimits.{condition_room}
 use Rattle.tm_flow.proofs.law.conditions_have_room.Goals as goal
 
 pub returns : goal.returns

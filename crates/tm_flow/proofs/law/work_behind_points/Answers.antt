@@ -1,4 +1,4 @@
-use Rattle.tm_flow.proofs.PathLaw.{behind_law}
+use Rattle.tm_flow.proofs.paths.PathLaw.{behind_law}
 use Rattle.tm_flow.proofs.law.work_behind_points.Goals as goal
 
 pub returns : goal.returns

@@ -1,6 +1,6 @@
 use Rattle.tm_tree.specs.View.{condition_of}
-use Rattle.tm_flow.proofs.Views.{condition-Both, condition-Either}
-use Rattle.tm_flow.proofs.Counting.{both_true, both_false, either_true, either_false}
+use Rattle.tm_flow.proofs.listing.Views.{condition-Both, condition-Either}
+use Rattle.tm_flow.proofs.count.Counting.{both_true, both_false, either_true, either_false}
 use Rattle.tm_flow.proofs.listing.+case_count.Goals as goal
 
 pub returns-then-truth : goal.returns-then-truth

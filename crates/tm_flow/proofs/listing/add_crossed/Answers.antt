@@ -1,6 +1,6 @@
 use Rattle.std.proofs.Common.{◌++◌, map, refl}
 use Rattle.tm_tree.specs.Cases.{crossed}
-use Rattle.tm_flow.proofs.Loops.{loop_step}
+use Rattle.tm_flow.proofs.edge_walk.Loops.{loop_step}
 use Rattle.tm_flow.proofs.listing.add_crossed.Goals as goal
 
 pub loop-before-preserved : goal.loop-before-preserved

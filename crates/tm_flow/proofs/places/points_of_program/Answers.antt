@@ -1,6 +1,6 @@
 use Rattle.std.proofs.Common.{◌∙◌, ap, ◌++◌}
 use Rattle.tm_flow.specs.Places.{places_in}
-use Rattle.tm_flow.proofs.PlaceLemmas.{placed}
+use Rattle.tm_flow.proofs.places.PlaceLemmas.{placed}
 use Rattle.tm_flow.proofs.places.points_of_program.Goals as goal
 
 pub returns : goal.returns

@@ -2,7 +2,7 @@ use Rattle.std.proofs.Common.{◌≡◌, ◌∙◌, Some, true, subst}
 use Rattle.std.proofs.lemmas.Result.{IfOk-weaker}
 use Rattle.tm_form.specs.Lists.{is_list, list_in}
 use Rattle.tm_form.specs.BoundLines.{is_line, line_in}
-use Rattle.tm_form.proofs.LinesOf.{bounds_data_is, cut_even, cut_joined}
+use Rattle.tm_form.proofs.bounds.LinesOf.{bounds_data_is, cut_even, cut_joined}
 use Rattle.tm_form.proofs.bounds.bounds_value.Goals as goal
 
 pub write_list-requires : goal.write_list-requires

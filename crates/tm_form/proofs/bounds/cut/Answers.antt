@@ -1,6 +1,6 @@
 use Rattle.std.proofs.Common.{◌≡◌, ◌∙◌, ◌+◌, ◌-◌, ◌*◌, ◌++◌, ◌∷◌, [], suc, take, drop, ap, ap₂, sym, arith}
 use Rattle.tm_form.specs.BoundLines.{lines_of}
-use Rattle.tm_form.proofs.LinesOf.{lines_more}
+use Rattle.tm_form.proofs.bounds.LinesOf.{lines_more}
 use Rattle.tm_form.proofs.bounds.cut.Goals as goal
 
 pub loop-point-preserved : goal.loop-point-preserved

@@ -1,5 +1,5 @@
 use Rattle.std.proofs.Common.{◌∙◌, ◌++◌, ap}
-use Rattle.tm_form.proofs.LinesOf.{joined_more}
+use Rattle.tm_form.proofs.bounds.LinesOf.{joined_more}
 use Rattle.tm_form.proofs.bounds.joined.Goals as goal
 
 pub loop-line-preserved : goal.loop-line-preserved

@@ -3,8 +3,8 @@ use Rattle.std.proofs.lemmas.Result.{IfOk-weaker}
 use Rattle.tm_form.specs.Lists.{is_list}
 use Rattle.tm_form.specs.Numbers.{ext_data, is_text}
 use Rattle.tm_form.specs.BoundLines.{ext_line_data}
-use Rattle.tm_form.proofs.WrittenLists.{all_true}
-use Rattle.tm_form.proofs.LinesOf.{items_len-items_data}
+use Rattle.tm_form.proofs.bounds.WrittenLists.{all_true}
+use Rattle.tm_form.proofs.bounds.LinesOf.{items_len-items_data}
 use Rattle.tm_form.proofs.bounds.line_value.Goals as goal
 
 pub write_list-requires : goal.write_list-requires

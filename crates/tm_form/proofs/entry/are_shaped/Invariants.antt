@@ -1,7 +1,7 @@
 use Rattle.std.proofs.Common.{◌≡◌}
 use Rattle.serde_json.specs.View.{items_view}
 use Rattle.tm_form.specs.Lists.{all_items}
-use Rattle.tm_form.proofs.ReadLists.{left_to_test}
+use Rattle.tm_form.proofs.entry.ReadLists.{left_to_test}
 use Rattle.tm_form.proofs.entry.are_shaped.Given as goal
 
 abbrev pub invariant-loop-value : goal.invariant-loop-value

@@ -1,7 +1,7 @@
 use Rattle.std.proofs.Common.{◌≡◌}
 use Rattle.serde_json.specs.View.{items_view}
 use Rattle.tm_form.specs.Lists.{items_in}
-use Rattle.tm_form.proofs.ReadLists.{after, left_to_read}
+use Rattle.tm_form.proofs.entry.ReadLists.{after, left_to_read}
 use Rattle.tm_form.proofs.entry.read_each.Given as goal
 
 abbrev pub invariant-loop-value : goal.invariant-loop-value

@@ -3,7 +3,7 @@ use Rattle.std.proofs.lemmas.List.{take_all}
 use Rattle.serde_json.specs.Data.{array}
 use Rattle.serde_json.proofs.Views.{view-Array}
 use Rattle.tm_form.specs.Lists.{all_items, items_data, items_in}
-use Rattle.tm_form.proofs.WrittenLists.{back_more, data_more, one_more, shape_more}
+use Rattle.tm_form.proofs.bounds.WrittenLists.{back_more, data_more, one_more, shape_more}
 use Rattle.tm_form.proofs.entry.write_list.Goals as goal
 
 pub loop-element-preserved : goal.loop-element-preserved

@@ -1,4 +1,4 @@
-use Rattle.tm_form.proofs.Laws.{bounds, fractions, wholes}
+use Rattle.tm_form.proofs.form_laws.Laws.{bounds, fractions, wholes}
 use Rattle.tm_form.proofs.law.numbers_have_one_text.Goals as goal
 
 pub returns-clause-fractions : goal.returns-clause-fractions

@@ -1,6 +1,6 @@
 use Rattle.std.proofs.Common.{subst, sym}
 use Rattle.tm_form.specs.Certificates.{SpellsCert}
-use Rattle.tm_form.proofs.Laws.{memory_alone, same_read}
+use Rattle.tm_form.proofs.form_laws.Laws.{memory_alone, same_read}
 use Rattle.tm_form.proofs.law.round_trip.Goals as goal
 
 pub returns-clause-same : goal.returns-clause-same

@@ -1,4 +1,4 @@
-use Rattle.tm_form.proofs.FracTexts.{frac_read}
+use Rattle.tm_form.proofs.numbers.FracTexts.{frac_read}
 use Rattle.tm_form.proofs.numbers.frac_of.Goals as goal
 
 pub returns : goal.returns

@@ -1,6 +1,6 @@
 use Rattle.std.proofs.Common.{◌∙◌, sym, subst}
 use Rattle.std.specs.Str.{IsAscii}
-use Rattle.tm_form.proofs.FracTexts.{frac_ascii, frac_back}
+use Rattle.tm_form.proofs.numbers.FracTexts.{frac_ascii, frac_back}
 use Rattle.tm_form.proofs.numbers.frac_value.Goals as goal
 
 pub text_value-requires : goal.text_value-requires

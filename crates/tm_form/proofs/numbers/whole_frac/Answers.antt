@@ -1,8 +1,8 @@
 use Rattle.std.proofs.Common.{◌∙◌, IsSome, refl, sym, subst, to_z, of_z}
 use mir.Syntax.{w64}
 use Rattle.std.proofs.lemmas.Int.{to_z-of_z}
-use Rattle.tm_frac.proofs.Slashes.{some_same}
-use Rattle.tm_form.proofs.FracTexts.{whole_back, whole_made}
+use Rattle.tm_frac.proofs.texts.Slashes.{some_same}
+use Rattle.tm_form.proofs.numbers.FracTexts.{whole_back, whole_made}
 use Rattle.tm_form.proofs.numbers.whole_frac.Goals as goal
 
 pub unwrap-requires : goal.unwrap-requires

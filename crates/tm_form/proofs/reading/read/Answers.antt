@@ -1,5 +1,5 @@
 use Rattle.serde_json.specs.View.{view}
-use Rattle.tm_form.proofs.ReadShapes.{answer_writable}
+use Rattle.tm_form.proofs.reading.ReadShapes.{answer_writable}
 use Rattle.tm_form.proofs.reading.read.Goals as goal
 
 pub returns-in-Ok-clause-writable : goal.returns-in-Ok-clause-writable

@@ -1,6 +1,6 @@
 use Rattle.std.proofs.Common.{◌∙◌, Option, Vec, Global, ap, option_map, sym, vec_items, ℤ}
 use Rattle.serde_json.specs.View.{view}
-use Rattle.tm_form.proofs.RowNumbers.{row_small}
+use Rattle.tm_form.proofs.rows.RowNumbers.{row_small}
 use Rattle.tm_form.proofs.rows.read_row.Goals as goal
 
 pub new-requires : goal.new-requires

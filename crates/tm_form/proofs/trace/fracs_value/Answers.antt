@@ -1,4 +1,4 @@
-use Rattle.tm_form.proofs.WrittenLists.{all_true}
+use Rattle.tm_form.proofs.bounds.WrittenLists.{all_true}
 use Rattle.tm_form.proofs.trace.fracs_value.Goals as goal
 
 pub write_list-requires : goal.write_list-requires

@@ -13,8 +13,8 @@ use Rattle.tm_form.specs.StepForms.{is_step, step_data, step_in}
 use Rattle.tm_form.specs.Evidence.{is_upper, upper_data, upper_in}
 use Rattle.tm_form.specs.BoundLines.{bounds_data, is_line, line_in}
 use Rattle.tm_form.specs.Certificates.{row_data}
-use Rattle.tm_form.proofs.WrittenLists.{all_true}
-use Rattle.tm_form.proofs.WrittenCertificates.{cert_back, cert_data_is, writable_steps, writable_whole}
+use Rattle.tm_form.proofs.bounds.WrittenLists.{all_true}
+use Rattle.tm_form.proofs.writing.WrittenCertificates.{cert_back, cert_data_is, writable_steps, writable_whole}
 use Rattle.tm_form.proofs.writing.cert_value.Goals as goal
 
 pub bounds_value-requires : goal.bounds_value-requires

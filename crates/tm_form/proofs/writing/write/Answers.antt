@@ -2,7 +2,7 @@ use Rattle.std.proofs.Common.{◌∙◌, ap}
 use Rattle.std.proofs.lemmas.Result.{IfOk-weaker}
 use Rattle.serde_json.specs.View.{view}
 use Rattle.serde_json.specs.Written.{compact_text, has_float}
-use Rattle.tm_form.proofs.WrittenCertificates.{cert_whole, spelled}
+use Rattle.tm_form.proofs.writing.WrittenCertificates.{cert_whole, spelled}
 use Rattle.tm_form.proofs.writing.write.Goals as goal
 
 pub returns-clause-text : goal.returns-clause-text

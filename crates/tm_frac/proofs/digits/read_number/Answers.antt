@@ -3,7 +3,7 @@ use Rattle.std.specs.Str.{IsAscii}
 use Rattle.std.proofs.lemmas.Str.{IsUtf8-from_ascii}
 use Rattle.std.proofs.lemmas.Fmt.{IsAscii-signed, parse-signed_decimal}
 use Rattle.std.specs.Result.{result_ok}
-use Rattle.tm_frac.proofs.Slashes.{mag_small}
+use Rattle.tm_frac.proofs.texts.Slashes.{mag_small}
 use Rattle.tm_frac.proofs.digits.read_number.Goals as goal
 
 pub returns-in-Ok : goal.returns-in-Ok

@@ -1,5 +1,5 @@
 use Rattle.std.proofs.Common.{pos, Some, refl, ap, sym, ◌∙◌}
-use Rattle.tm_frac.proofs.Slashes.{cut, uncut}
+use Rattle.tm_frac.proofs.texts.Slashes.{cut, uncut}
 use Rattle.tm_frac.proofs.digits.read_parts.Goals as goal
 
 pub returns-in-Some : goal.returns-in-Some

@@ -1,7 +1,7 @@
 use Rattle.std.proofs.Common.{⊎_elim, ap, sym, ◌∙◌, arith}
 use Rattle.tm_num.specs.Gcd.{gcd as gcd_of}
-use Rattle.tm_num.proofs.Gcds.{gcd-zero}
-use Rattle.tm_num.proofs.Coprimes.{coprime-one, gcd_one_left, gcd_zero_left, odd_part, gcd_shifted}
+use Rattle.tm_num.proofs.gcd.Gcds.{gcd-zero}
+use Rattle.tm_num.proofs.gcd.Coprimes.{coprime-one, gcd_one_left, gcd_zero_left, odd_part, gcd_shifted}
 use Rattle.tm_frac.proofs.divisor.gcd.Goals as goal
 
 pub returns-then-a-eq1 : goal.returns-then-a-eq1

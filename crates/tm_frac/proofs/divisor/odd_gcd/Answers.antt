@@ -1,6 +1,6 @@
 use Rattle.std.proofs.Common.{◌∙◌, ap, sym}
 use Rattle.tm_num.specs.Gcd.{gcd}
-use Rattle.tm_num.proofs.Coprimes.{halved_gcd, gcd_self}
+use Rattle.tm_num.proofs.gcd.Coprimes.{halved_gcd, gcd_self}
 use Rattle.tm_frac.proofs.divisor.odd_gcd.Goals as goal
 
 pub loop-x-preserved : goal.loop-x-preserved

@@ -1,7 +1,7 @@
 use Rattle.std.proofs.Common.{ap, sym, ◌∙◌, ◌%◌, nat_abs, to_z-of_z}
 use Rattle.tm_num.specs.Gcd.{gcd as gcd_of}
-use Rattle.tm_num.proofs.Gcds.{gcd-step}
-use Rattle.tm_num.proofs.Coprimes.{coprime-one, gcd_comm}
+use Rattle.tm_num.proofs.gcd.Gcds.{gcd-step}
+use Rattle.tm_num.proofs.gcd.Coprimes.{coprime-one, gcd_comm}
 use Rattle.tm_frac.proofs.divisor.wide_gcd.Goals as goal
 
 pub returns-then-g-eq1 : goal.returns-then-g-eq1

@@ -2,8 +2,8 @@ use Rattle.std.proofs.Common.{◌≡◌, ◌<◌, T, nat_abs, to_z, of_z, ap, ap
 use mir.Syntax.{w64, w128}
 use Rattle.std.proofs.lemmas.Int.{to_z-of_z}
 use Rattle.tm_num.specs.Rational.{ratio, is_reduced, signed_by}
-use Rattle.tm_num.proofs.Lowest.{fraction_is, fraction_reduced}
-use Rattle.tm_frac.proofs.Divided.{gcd_positive, gcd_left, gcd_right, abs_positive}
+use Rattle.tm_num.proofs.rational.Lowest.{fraction_is, fraction_reduced}
+use Rattle.tm_frac.proofs.parts.Divided.{gcd_positive, gcd_left, gcd_right, abs_positive}
 use Rattle.tm_frac.proofs.parts.fraction_parts.Goals as goal
 
 pub wide_gcd-g-requires : goal.wide_gcd-g-requires

@@ -4,8 +4,8 @@ use mir.Syntax.{w64, w128}
 use Rattle.std.proofs.lemmas.Int.{to_z-of_z}
 use Rattle.tm_num.specs.Gcd.{gcd}
 use Rattle.tm_num.specs.Rational.{ratio, is_reduced, reduced_zero}
-use Rattle.tm_num.proofs.Lowest.{reduced_den, product_is, product_reduced, product_zero}
-use Rattle.tm_frac.proofs.Divided.{gcd_positive, gcd_left, gcd_right, gcd_small, zero_bits}
+use Rattle.tm_num.proofs.rational.Lowest.{reduced_den, product_is, product_reduced, product_zero}
+use Rattle.tm_frac.proofs.parts.Divided.{gcd_positive, gcd_left, gcd_right, gcd_small, zero_bits}
 use Rattle.tm_frac.proofs.parts.product_parts.Goals as goal
 
 pub signed_quotient-requires-clause-positive : goal.signed_quotient-requires-clause-positive

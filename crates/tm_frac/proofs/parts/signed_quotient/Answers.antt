@@ -1,7 +1,7 @@
 use Rattle.std.proofs.Common.{pos, FitsSigned, arith}
 use mir.Syntax.{w64}
 use Rattle.std.proofs.lemmas.Int.{ints, to_z-of_z}
-use Rattle.tm_frac.proofs.Divided.{divided}
+use Rattle.tm_frac.proofs.parts.Divided.{divided}
 use Rattle.tm_frac.proofs.parts.signed_quotient.Goals as goal
 
 pub returns-else-g-eq1-clause-value : goal.returns-else-g-eq1-clause-value

@@ -1,7 +1,7 @@
 use Rattle.std.proofs.Common.{◌≡◌, ◌≢◌, pos, nat_abs, ap, ◌∙◌, arith}
 use mir.Syntax.{w128}
 use Rattle.std.proofs.lemmas.Int.{ints, to_z-of_z}
-use Rattle.tm_frac.proofs.Wholes.{quotient_above, quotient_below}
+use Rattle.tm_frac.proofs.exact.Wholes.{quotient_above, quotient_below}
 use Rattle.tm_frac.proofs.parts.wide_quotient.Goals as goal
 
 pub returns-then-t-lt0 : goal.returns-then-t-lt0

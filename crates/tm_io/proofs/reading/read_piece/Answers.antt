@@ -1,6 +1,6 @@
 use Rattle.std.proofs.Common.{◌≡◌, ◌+◌, take, length, ap, ◌∙◌, rules, arith}
 use Rattle.std.proofs.lemmas.List.{with_items_is, places}
-use Rattle.tm_io.proofs.InPlace.{front_of_longer, moves_piece}
+use Rattle.tm_io.proofs.reading.InPlace.{front_of_longer, moves_piece}
 use Rattle.tm_io.proofs.reading.read_piece.Goals as goal
 
 pub returns-in-Ok : goal.returns-in-Ok

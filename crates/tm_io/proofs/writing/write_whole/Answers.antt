@@ -1,4 +1,4 @@
-use Rattle.tm_io.proofs.Parts.{after_nothing, after_write, as_prefix}
+use Rattle.tm_io.proofs.writing.Parts.{after_nothing, after_write, as_prefix}
 use Rattle.tm_io.proofs.writing.write_whole.Goals as goal
 
 pub returns-in-Ok-eq0 : goal.returns-in-Ok-eq0

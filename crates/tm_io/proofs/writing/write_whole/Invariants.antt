@@ -1,5 +1,5 @@
 use Rattle.std.proofs.Common.{length}
-use Rattle.tm_io.proofs.Parts.{HasWritten}
+use Rattle.tm_io.proofs.writing.Parts.{HasWritten}
 use Rattle.tm_io.proofs.writing.write_whole.Given as goal
 
 abbrev pub invariant-loop-rest : goal.invariant-loop-rest

@@ -1,6 +1,6 @@
 use Rattle.tm_num.specs.Rational.{zero_ℚ}
 use Rattle.tm_joint.specs.Rows.{embedded}
-use Rattle.tm_joint.proofs.Standing.{on_ok_both, stand_more, guard_stands, guard_one}
+use Rattle.tm_joint.proofs.block.Standing.{on_ok_both, stand_more, guard_stands, guard_one}
 use Rattle.tm_joint.proofs.block.push_guard.Goals as goal
 
 pub returns : goal.returns

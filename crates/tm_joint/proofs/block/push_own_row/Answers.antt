@@ -2,7 +2,7 @@ use Rattle.std.proofs.Common.{◌∙◌, length, ap, arith}
 use Rattle.std.proofs.lemmas.List.{length-map}
 use Rattle.tm_num.specs.Rational.{neg_ℚ}
 use Rattle.tm_joint.specs.Rows.{dense_row, on_numbers}
-use Rattle.tm_joint.proofs.Standing.{on_ok_both, stand_more, own_stands}
+use Rattle.tm_joint.proofs.block.Standing.{on_ok_both, stand_more, own_stands}
 use Rattle.tm_joint.proofs.block.push_own_row.Goals as goal
 
 pub row_over-requires : goal.row_over-requires

@@ -2,7 +2,7 @@ use Rattle.std.proofs.Common.{◌∙◌, length, ap, arith}
 use Rattle.std.proofs.lemmas.List.{length-map}
 use Rattle.tm_num.specs.Rational.{one_ℚ, neg_ℚ, whole}
 use Rattle.tm_joint.specs.Rows.{dense_row, on_numbers, embedded}
-use Rattle.tm_joint.proofs.Standing.{on_ok_both, stand_more, source_stands, source_finite, source_below, source_above}
+use Rattle.tm_joint.proofs.block.Standing.{on_ok_both, stand_more, source_stands, source_finite, source_below, source_above}
 use Rattle.tm_joint.proofs.block.push_source.Goals as goal
 
 pub returns-in_ok-entries-in-Fin : goal.returns-in_ok-entries-in-Fin

@@ -1,7 +1,7 @@
 use Rattle.std.proofs.Common.{◌∙◌, ◌<◌, length, ap, sym, arith}
 use Rattle.std.proofs.lemmas.List.{length-map, get_or-map}
 use Rattle.tm_joint.specs.Tables.{joined, stepped}
-use Rattle.tm_joint.proofs.Writing.{write_at, write_more}
+use Rattle.tm_joint.proofs.closure.Writing.{write_at, write_more}
 use Rattle.tm_joint.proofs.closure.add_where.Goals as goal
 
 pub loop-i-preserved : goal.loop-i-preserved

@@ -1,5 +1,5 @@
 use Rattle.tm_joint.specs.Tables.{stepped}
-use Rattle.tm_joint.proofs.Writing.{IsWritten}
+use Rattle.tm_joint.proofs.closure.Writing.{IsWritten}
 use Rattle.tm_joint.proofs.closure.add_where.Given as goal
 
 abbrev pub invariant-loop-i : goal.invariant-loop-i

@@ -2,7 +2,7 @@ use Rattle.std.proofs.Common.{◌≡◌, ◌-◌, ◌<◌, List, ap, arith, drop
 use Rattle.std.specs.Prelude.{Bool}
 use Rattle.std.proofs.lemmas.List.{get_or_default}
 use Rattle.tm_joint.specs.declared.node.Node.{Node}
-use Rattle.tm_joint.proofs.Closing.{length-closed, closed_none, closed_more, closed_all}
+use Rattle.tm_joint.proofs.closure.Closing.{length-closed, closed_none, closed_more, closed_all}
 use Rattle.tm_joint.proofs.closure.reaching.Goals as goal
 
 pub loop-done-init : goal.loop-done-init

@@ -3,7 +3,7 @@ use Rattle.std.specs.Prelude.{find}
 use Rattle.std.specs.List.{filter}
 use Rattle.tm_joint.specs.declared.node.Node.{Node}
 use Rattle.tm_joint.specs.Cuts.{are_one_part, are_apart, may_come, cut_from}
-use Rattle.tm_joint.proofs.Cutting.{cut_more, cut_stops, cut_all}
+use Rattle.tm_joint.proofs.cut.Cutting.{cut_more, cut_stops, cut_all}
 use Rattle.tm_joint.proofs.cut.cut.Goals as goal
 
 pub returns-in-None : goal.returns-in-None

@@ -2,11 +2,11 @@ use Rattle.std.proofs.Common.{◌≡◌, ◌∙◌, arith, ap, ap₂, length, sy
 use Rattle.tm_joint.specs.Tables.{closed}
 use Rattle.tm_joint.specs.Cuts.{cut_from}
 use Rattle.tm_joint.specs.PartLists.{part_numbers, each_listed, EachRises, NumberClasses, NumbersAdmissible, NumbersInOrder}
-use Rattle.tm_joint.proofs.Picking.{few_listed}
-use Rattle.tm_joint.proofs.Cutting.{length-cut}
-use Rattle.tm_joint.proofs.NodeFacts.{length-nodes, source_at}
-use Rattle.tm_joint.proofs.SameParts.{parts_shown}
-use Rattle.tm_joint.proofs.PartFacts.{parts_rise, parts_listed, number_classes, numbers_admissible, numbers_in_order}
+use Rattle.tm_joint.proofs.joint_rows.Picking.{few_listed}
+use Rattle.tm_joint.proofs.cut.Cutting.{length-cut}
+use Rattle.tm_joint.proofs.numbers.NodeFacts.{length-nodes, source_at}
+use Rattle.tm_joint.proofs.cut.SameParts.{parts_shown}
+use Rattle.tm_joint.proofs.cut.PartFacts.{parts_rise, parts_listed, number_classes, numbers_admissible, numbers_in_order}
 use Rattle.tm_joint.proofs.cut.parts.Goals as goal
 
 pub reaching-requires : goal.reaching-requires

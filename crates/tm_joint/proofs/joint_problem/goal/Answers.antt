@@ -1,6 +1,6 @@
 use Rattle.std.proofs.Common.{◌∙◌, ◌++◌, ◌∷◌, [], ap₂, sym}
 use Rattle.tm_transformers.specs.JointProblems.{ones}
-use Rattle.tm_joint.proofs.RowParts.{ones_more}
+use Rattle.tm_joint.proofs.row.RowParts.{ones_more}
 use Rattle.tm_joint.proofs.joint_problem.goal.Goals as goal
 
 pub loop-unknown-init : goal.loop-unknown-init

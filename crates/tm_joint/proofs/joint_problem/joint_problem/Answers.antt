@@ -1,13 +1,13 @@
 use Rattle.std.proofs.Common.{◌≡◌, ◌∙◌, ◌-◌, ◌++◌, length, ap, sym, length-append, arith}
 use Rattle.std.proofs.lemmas.List.{length-map}
-use Rattle.tm_num.proofs.Vectors.{length-zeros}
+use Rattle.tm_num.proofs.vector.Vectors.{length-zeros}
 use Rattle.tm_num.specs.Vector.{zeros}
 use Rattle.tm_transformers.specs.JointProblems.{ones}
-use Rattle.tm_transformers.proofs.JointProducts.{length-ones}
+use Rattle.tm_transformers.proofs.joint_problems.JointProducts.{length-ones}
 use Rattle.tm_joint.specs.Blocks.{split_columns}
-use Rattle.tm_joint.proofs.EdgeSizes.{few_rows}
-use Rattle.tm_joint.proofs.Picking.{few_listed}
-use Rattle.tm_joint.proofs.SameProblem.{counted, row_length, made_problem}
+use Rattle.tm_joint.proofs.joint_problem.EdgeSizes.{few_rows}
+use Rattle.tm_joint.proofs.joint_rows.Picking.{few_listed}
+use Rattle.tm_joint.proofs.joint_problem.SameProblem.{counted, row_length, made_problem}
 use Rattle.tm_joint.proofs.joint_problem.joint_problem.Goals as goal
 
 pub returns-in-Ok-clause-problem : goal.returns-in-Ok-clause-problem

@@ -4,8 +4,8 @@ use Rattle.tm_frac.specs.Fits.{long_limit}
 use Rattle.tm_frac.specs.Operation.{first_wide}
 use Rattle.tm_joint.specs.Rows.{AllStand, IsSideFault}
 use Rattle.tm_joint.specs.Blocks.{side_of, block_of, split_width}
-use Rattle.tm_joint.proofs.Picking.{picked_at, edge_within}
-use Rattle.tm_joint.proofs.Blocked.{blocks_more, blocks_refused, blocks_fit}
+use Rattle.tm_joint.proofs.joint_rows.Picking.{picked_at, edge_within}
+use Rattle.tm_joint.proofs.joint_rows.Blocked.{blocks_more, blocks_refused, blocks_fit}
 use Rattle.tm_joint.proofs.joint_rows.all_rows.Goals as goal
 
 pub picked_edge-edge-requires : goal.picked_edge-edge-requires

@@ -1,5 +1,5 @@
 use Rattle.std.proofs.Common.{map}
-use Rattle.tm_joint.proofs.Blocked.{AreBlocks}
+use Rattle.tm_joint.proofs.joint_rows.Blocked.{AreBlocks}
 use Rattle.tm_joint.proofs.joint_rows.all_rows.Given as goal
 
 abbrev pub invariant-loop-unknown : goal.invariant-loop-unknown

@@ -1,5 +1,5 @@
 use Rattle.std.proofs.Common.{get_or, arith}
-use Rattle.tm_joint.proofs.Picking.{picked_at, few_listed, edge_within}
+use Rattle.tm_joint.proofs.joint_rows.Picking.{picked_at, few_listed, edge_within}
 use Rattle.tm_joint.proofs.joint_rows.count_columns.Goals as goal
 
 pub picked_edge-requires : goal.picked_edge-requires

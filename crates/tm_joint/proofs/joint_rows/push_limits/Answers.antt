@@ -1,5 +1,5 @@
 use Rattle.std.proofs.Common.{arith}
-use Rattle.tm_joint.proofs.EdgeSizes.{names_within}
+use Rattle.tm_joint.proofs.joint_problem.EdgeSizes.{names_within}
 use Rattle.tm_joint.proofs.joint_rows.push_limits.Goals as goal
 
 pub push_sources-requires-clause-fits : goal.push_sources-requires-clause-fits

@@ -1,5 +1,5 @@
 use Rattle.std.proofs.Common.{◌∙◌, ◌+◌, ◌++◌, ◌∷◌, [], ap, sym}
-use Rattle.tm_joint.proofs.LaidOut.{columns_push}
+use Rattle.tm_joint.proofs.layout.LaidOut.{columns_push}
 use Rattle.tm_joint.proofs.layout.columns.Goals as goal
 
 pub loop-i-preserved : goal.loop-i-preserved

@@ -1,9 +1,9 @@
 use Rattle.std.proofs.Common.{◌∙◌, ◌+◌, get_or, length, ap, arith}
 use Rattle.tm_validity.specs.Words.{width}
 use Rattle.tm_joint.specs.Blocks.{edge_at}
-use Rattle.tm_joint.proofs.Picking.{picked_at, edge_within}
-use Rattle.tm_joint.proofs.EdgeSizes.{names_within}
-use Rattle.tm_joint.proofs.LaidOut.{laid_more, rise_is}
+use Rattle.tm_joint.proofs.joint_rows.Picking.{picked_at, edge_within}
+use Rattle.tm_joint.proofs.joint_problem.EdgeSizes.{names_within}
+use Rattle.tm_joint.proofs.layout.LaidOut.{laid_more, rise_is}
 use Rattle.tm_joint.proofs.layout.layout.Goals as goal
 
 pub picked_edge-requires : goal.picked_edge-requires

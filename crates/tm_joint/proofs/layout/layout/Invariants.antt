@@ -1,4 +1,4 @@
-use Rattle.tm_joint.proofs.LaidOut.{IsLaid}
+use Rattle.tm_joint.proofs.layout.LaidOut.{IsLaid}
 use Rattle.tm_joint.proofs.layout.layout.Given as goal
 
 abbrev pub invariant-loop-place : goal.invariant-loop-place

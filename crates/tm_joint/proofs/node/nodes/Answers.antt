@@ -1,6 +1,6 @@
 use Rattle.std.proofs.Common.{subst, sym}
 use Rattle.std.proofs.lemmas.List.{get_or_default}
-use Rattle.tm_joint.proofs.Picking.{picked_at}
+use Rattle.tm_joint.proofs.joint_rows.Picking.{picked_at}
 use Rattle.tm_joint.proofs.node.nodes.Goals as goal
 
 pub source-requires-clause-picked : goal.source-requires-clause-picked

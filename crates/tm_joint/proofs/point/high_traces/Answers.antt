@@ -2,10 +2,10 @@ use Rattle.std.proofs.Common.{◌∙◌, ◌∷◌, [], length, map, refl, sym, 
 use Rattle.std.proofs.lemmas.Result.{err_from_is_err_and}
 use Rattle.tm_ray.specs.Ranges.{IsWithin}
 use Rattle.tm_ray.specs.Reading.{direction_operations}
-use Rattle.tm_ray.proofs.Gathered.{read_more, read_wide, read_all, fault_of, fault_none}
-use Rattle.tm_ray.proofs.NamedRates.{within_at}
+use Rattle.tm_ray.proofs.answers.Gathered.{read_more, read_wide, read_all, fault_of, fault_none}
+use Rattle.tm_ray.proofs.reading.NamedRates.{within_at}
 use Rattle.tm_joint.specs.Layouts.{trace_at, trace_operations}
-use Rattle.tm_joint.proofs.PointReads.{adds_trace}
+use Rattle.tm_joint.proofs.point.PointReads.{adds_trace}
 use Rattle.tm_joint.proofs.point.high_traces.Goals as goal
 
 pub trace-requires : goal.trace-requires

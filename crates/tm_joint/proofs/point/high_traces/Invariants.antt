@@ -1,5 +1,5 @@
 use Rattle.std.proofs.Common.{map}
-use Rattle.tm_ray.proofs.Gathered.{IsRead}
+use Rattle.tm_ray.proofs.answers.Gathered.{IsRead}
 use Rattle.tm_joint.specs.Layouts.{trace_at, trace_operations}
 use Rattle.tm_joint.proofs.point.high_traces.Given as goal
 

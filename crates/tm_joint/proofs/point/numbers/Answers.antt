@@ -7,10 +7,10 @@ use Rattle.tm_frac.specs.Fits.{long_limit}
 use Rattle.tm_frac.specs.Operation.{first_wide}
 use Rattle.tm_validity.specs.Certificates.{num}
 use Rattle.tm_ray.specs.Answers.{IsReadingFault}
-use Rattle.tm_ray.proofs.Gathered.{read_more, read_wide, read_all, fault_of, fault_none}
-use Rattle.tm_ray.proofs.NamedRates.{within_at}
+use Rattle.tm_ray.proofs.answers.Gathered.{read_more, read_wide, read_all, fault_of, fault_none}
+use Rattle.tm_ray.proofs.reading.NamedRates.{within_at}
 use Rattle.tm_joint.specs.Layouts.{number_at, number_operation, number_operations}
-use Rattle.tm_joint.proofs.PointReads.{bounded_at, adds_number}
+use Rattle.tm_joint.proofs.point.PointReads.{bounded_at, adds_number}
 use Rattle.tm_joint.proofs.point.numbers.Goals as goal
 
 pub at-requires : goal.at-requires

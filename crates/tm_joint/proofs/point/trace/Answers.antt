@@ -4,8 +4,8 @@ use Rattle.tm_eqsys.proofs.Widths.{first_wide_later, first_wide_sooner}
 use Rattle.tm_frac.specs.Fits.{long_limit}
 use Rattle.tm_frac.specs.Operation.{first_wide}
 use Rattle.tm_ray.specs.Reading.{differences, subtractions, direction_operations}
-use Rattle.tm_ray.proofs.Gathered.{fault_of}
-use Rattle.tm_joint.proofs.PointReads.{same_trace}
+use Rattle.tm_ray.proofs.answers.Gathered.{fault_of}
+use Rattle.tm_joint.proofs.point.PointReads.{same_trace}
 use Rattle.tm_joint.proofs.point.trace.Goals as goal
 
 pub returns-in_err-start : goal.returns-in_err-start

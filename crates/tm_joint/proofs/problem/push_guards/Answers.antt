@@ -6,8 +6,8 @@ use Rattle.tm_validity.specs.Words.{Affine, guard_forms}
 use Rattle.tm_compose.specs.Composed.{edge_forms}
 use Rattle.tm_joint.specs.Rows.{SameForm, embedded}
 use Rattle.tm_joint.specs.Blocks.{edge_at}
-use Rattle.tm_joint.proofs.PathForms.{path_at, guard_count, guard_form}
-use Rattle.tm_joint.proofs.Sources.{guards_none, guard_more}
+use Rattle.tm_joint.proofs.problem.PathForms.{path_at, guard_count, guard_form}
+use Rattle.tm_joint.proofs.problem.Sources.{guards_none, guard_more}
 use Rattle.tm_joint.proofs.problem.push_guards.Goals as goal
 
 pub loop-g-init : goal.loop-g-init

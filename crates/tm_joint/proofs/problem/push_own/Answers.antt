@@ -7,7 +7,7 @@ use Rattle.tm_validity.specs.Certificates.{num}
 use Rattle.tm_compose.specs.Composed.{edge_forms}
 use Rattle.tm_joint.specs.Rows.{SameForm, side_operation, IsSideFault}
 use Rattle.tm_joint.specs.Blocks.{edge_at, end_at}
-use Rattle.tm_joint.proofs.PathForms.{path_at, end_form_at}
+use Rattle.tm_joint.proofs.problem.PathForms.{path_at, end_form_at}
 use Rattle.tm_joint.proofs.problem.push_own.Goals as goal
 
 pub returns-in_err-side-clause-refused : goal.returns-in_err-side-clause-refused

@@ -3,11 +3,11 @@ use Rattle.std.proofs.lemmas.List.{get_or_default}
 use Rattle.tm_num.specs.Extended.{neg_inf}
 use Rattle.tm_frac.specs.Extended.{extended}
 use Rattle.tm_transformers.specs.EdgeProblems.{source_limit}
-use Rattle.tm_joint.proofs.Picking.{over}
+use Rattle.tm_joint.proofs.joint_rows.Picking.{over}
 use Rattle.tm_num.specs.Rational.{one_ℚ, neg_ℚ}
 use Rattle.tm_eqsys.specs.View.{vector_of}
 use Rattle.tm_joint.specs.Rows.{AllStand, embedded}
-use Rattle.tm_joint.proofs.Sources.{sources_none, sources_more, sources_all, row_size}
+use Rattle.tm_joint.proofs.problem.Sources.{sources_none, sources_more, sources_all, row_size}
 use Rattle.tm_joint.proofs.problem.push_sources.Goals as goal
 
 pub loop-i-init : goal.loop-i-init

@@ -2,7 +2,7 @@ use Rattle.std.proofs.Common.{◌+◌, ◌*◌, map, length}
 use Rattle.tm_num.specs.Rational.{one_ℚ, neg_ℚ}
 use Rattle.tm_eqsys.specs.View.{vector_of}
 use Rattle.tm_joint.specs.Rows.{embedded}
-use Rattle.tm_joint.proofs.Sources.{AreSources}
+use Rattle.tm_joint.proofs.problem.Sources.{AreSources}
 use Rattle.tm_joint.proofs.problem.push_sources.Given as goal
 
 abbrev pub invariant-loop-i : goal.invariant-loop-i

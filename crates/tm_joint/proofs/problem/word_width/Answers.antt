@@ -2,8 +2,8 @@ use Rattle.std.proofs.Common.{ap, ap₂, length, ◌+◌, arith}
 use Rattle.tm_validity.specs.Words.{width}
 use Rattle.tm_joint.specs.Blocks.{edge_at}
 use Rattle.tm_compose.specs.Composed.{edge_forms}
-use Rattle.tm_joint.proofs.PathForms.{path_at}
-use Rattle.tm_joint.proofs.EdgeSizes.{few_columns}
+use Rattle.tm_joint.proofs.problem.PathForms.{path_at}
+use Rattle.tm_joint.proofs.joint_problem.EdgeSizes.{few_columns}
 use Rattle.tm_joint.proofs.problem.word_width.Goals as goal
 
 pub returns-clause-width : goal.returns-clause-width

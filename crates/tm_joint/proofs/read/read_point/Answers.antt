@@ -2,7 +2,7 @@ use Rattle.std.proofs.Common.{◌∙◌, ap₂}
 use Rattle.std.proofs.lemmas.Result.{err_from_is_err_and}
 use Rattle.tm_frac.specs.Fits.{long_limit}
 use Rattle.tm_eqsys.proofs.Widths.{first_wide_later, first_wide_sooner}
-use Rattle.tm_ray.proofs.Gathered.{fault_of}
+use Rattle.tm_ray.proofs.answers.Gathered.{fault_of}
 use Rattle.tm_joint.specs.declared.joined.Joined.TheVariants.{Point}
 use Rattle.tm_joint.specs.Layouts.{number_operations, trace_operations}
 use Rattle.tm_joint.specs.Readings.{point_operations}

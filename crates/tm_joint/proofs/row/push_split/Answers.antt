@@ -1,7 +1,7 @@
 use Rattle.std.proofs.Common.{◌∙◌, ◌++◌, ◌∷◌, [], ap, sym}
 use Rattle.std.proofs.lemmas.List.{append-nil}
 use Rattle.tm_transformers.specs.JointProblems.{split_list}
-use Rattle.tm_joint.proofs.RowParts.{split_more}
+use Rattle.tm_joint.proofs.row.RowParts.{split_more}
 use Rattle.tm_joint.proofs.row.push_split.Goals as goal
 
 pub loop-coefficient-init : goal.loop-coefficient-init

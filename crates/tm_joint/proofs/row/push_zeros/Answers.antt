@@ -1,7 +1,7 @@
 use Rattle.std.proofs.Common.{◌∙◌, ◌++◌, ◌∷◌, [], ap, ap₂, sym, append_assoc}
 use Rattle.std.proofs.lemmas.List.{append-nil}
 use Rattle.tm_num.specs.Vector.{zeros}
-use Rattle.tm_joint.proofs.RowParts.{zeros_more}
+use Rattle.tm_joint.proofs.row.RowParts.{zeros_more}
 use Rattle.tm_joint.proofs.row.push_zeros.Goals as goal
 
 pub loop-column-init : goal.loop-column-init

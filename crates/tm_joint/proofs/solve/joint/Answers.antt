@@ -3,14 +3,14 @@ use Rattle.std.proofs.lemmas.Result.{err_from_is_err_and, MatchResult-weaker}
 use Rattle.tm_eqsys.specs.View.{equations_of, vector_of}
 use Rattle.tm_lp.specs.Simplex.{lp}
 use Rattle.tm_simplex.specs.Outcomes.{IsOutcomeOf}
-use Rattle.tm_transformers.proofs.JointRay.{joint_outcome}
+use Rattle.tm_transformers.proofs.joint_problems.JointRay.{joint_outcome}
 use Rattle.tm_joint.specs.Numbers.{all_listed}
 use Rattle.tm_joint.specs.Problems.{problem_of}
 use Rattle.tm_joint.specs.Layouts.{AreBounded}
 use Rattle.tm_joint.specs.Readings.{IsReadable, ReadsOutcome}
 use Rattle.tm_joint.specs.Joints.{RunFits, IsRunFault}
-use Rattle.tm_joint.proofs.Translated.{listed_distinct}
-use Rattle.tm_joint.proofs.Reached.{layout_bounded, readable, answered, means_of}
+use Rattle.tm_joint.proofs.blocks.Translated.{listed_distinct}
+use Rattle.tm_joint.proofs.solve.Reached.{layout_bounded, readable, answered, means_of}
 use Rattle.tm_joint.proofs.solve.joint.Goals as goal
 
 pub layout-requires-clause-few : goal.layout-requires-clause-few

@@ -5,7 +5,7 @@ use Rattle.tm_lp.specs.Simplex.{lp}
 use Rattle.tm_simplex.specs.declared.Row.{Row}
 use Rattle.tm_simplex.specs.Outcomes.{IsOutcomeOf}
 use Rattle.tm_joint.specs.Joints.{RunFits, IsRunFault}
-use Rattle.tm_joint.proofs.PlainProblem.{plain_problem}
+use Rattle.tm_joint.proofs.solve.PlainProblem.{plain_problem}
 use Rattle.tm_joint.proofs.solve.solved.Goals as goal
 
 pub solve-requires : goal.solve-requires

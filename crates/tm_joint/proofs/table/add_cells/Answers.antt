@@ -1,7 +1,7 @@
 use Rattle.std.proofs.Common.{◌∙◌, ◌<◌, ◌||◌, false, length, ap₂, sym, arith}
 use Rattle.tm_joint.specs.Tables.{added}
-use Rattle.tm_joint.proofs.Writing.{write_at, write_more, write_all}
-use Rattle.tm_joint.proofs.Adding.{length-added, added_at}
+use Rattle.tm_joint.proofs.closure.Writing.{write_at, write_more, write_all}
+use Rattle.tm_joint.proofs.table.Adding.{length-added, added_at}
 use Rattle.tm_joint.proofs.table.add_cells.Goals as goal
 
 pub loop-i-preserved : goal.loop-i-preserved

@@ -1,5 +1,5 @@
 use Rattle.tm_joint.specs.Tables.{added}
-use Rattle.tm_joint.proofs.Writing.{IsWritten}
+use Rattle.tm_joint.proofs.closure.Writing.{IsWritten}
 use Rattle.tm_joint.proofs.table.add_cells.Given as goal
 
 abbrev pub invariant-loop-i : goal.invariant-loop-i

@@ -1,4 +1,4 @@
-use Rattle.tm_lp.proofs.Steps.{choose_is}
+use Rattle.tm_lp.proofs.search.Steps.{choose_is}
 use Rattle.tm_lp.proofs.TableChoices.{choose_only}
 use Rattle.tm_lp.proofs.bland.choice_is_determined.Goals as goal
 

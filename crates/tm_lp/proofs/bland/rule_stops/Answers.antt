@@ -1,4 +1,4 @@
-use Rattle.tm_lp.proofs.Stops.{stop_index_is}
+use Rattle.tm_lp.proofs.search.Stops.{stop_index_is}
 use Rattle.tm_lp.proofs.bland.rule_stops.Goals as goal
 
 pub returns : goal.returns

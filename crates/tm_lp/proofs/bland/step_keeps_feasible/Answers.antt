@@ -1,5 +1,5 @@
-use Rattle.tm_lp.proofs.Stops.{after_good}
-use Rattle.tm_lp.proofs.Measures.{next_goal}
+use Rattle.tm_lp.proofs.search.Stops.{after_good}
+use Rattle.tm_lp.proofs.bland.Measures.{next_goal}
 use Rattle.tm_lp.proofs.bland.step_keeps_feasible.Goals as goal
 
 pub returns-clause-good : goal.returns-clause-good

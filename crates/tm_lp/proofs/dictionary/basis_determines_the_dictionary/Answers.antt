@@ -1,4 +1,4 @@
-use Rattle.tm_lp.proofs.Dictionaries.{same_const, same_coef}
+use Rattle.tm_lp.proofs.dictionary.Dictionaries.{same_const, same_coef}
 use Rattle.tm_lp.proofs.dictionary.basis_determines_the_dictionary.Goals as goal
 
 pub returns-clause-constants : goal.returns-clause-constants

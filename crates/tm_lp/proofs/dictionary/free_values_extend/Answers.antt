@@ -1,4 +1,4 @@
-use Rattle.tm_lp.proofs.Dictionaries.{extend_models, extend_free, extend_only}
+use Rattle.tm_lp.proofs.dictionary.Dictionaries.{extend_models, extend_free, extend_only}
 use Rattle.tm_lp.proofs.dictionary.free_values_extend.Goals as goal
 
 pub returns-clause-exists : goal.returns-clause-exists

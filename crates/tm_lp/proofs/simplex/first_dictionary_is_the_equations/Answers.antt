@@ -1,4 +1,4 @@
-use Rattle.tm_lp.proofs.ReadOff.{first_means}
+use Rattle.tm_lp.proofs.simplex.ReadOff.{first_means}
 use Rattle.tm_lp.proofs.simplex.first_dictionary_is_the_equations.Goals as goal
 
 pub returns : goal.returns

@@ -1,5 +1,5 @@
-use Rattle.tm_lp.proofs.FirstTables.{first_table_shows}
-use Rattle.tm_lp.proofs.PlainTables.{plain_table_shows}
+use Rattle.tm_lp.proofs.first_table.FirstTables.{first_table_shows}
+use Rattle.tm_lp.proofs.table.PlainTables.{plain_table_shows}
 use Rattle.tm_lp.proofs.table.first_tables_show.Goals as goal
 
 pub returns-clause-first : goal.returns-clause-first

@@ -1,4 +1,4 @@
-use Rattle.tm_lp.proofs.TablePivots.{table_pivot}
+use Rattle.tm_lp.proofs.table.TablePivots.{table_pivot}
 use Rattle.tm_lp.proofs.table.formulas_show_the_pivot.Goals as goal
 
 pub returns : goal.returns

@@ -5,8 +5,8 @@ use Rattle.tm_eqsys.specs.Equations.{Equations}
 use Rattle.tm_eqsys.specs.View.{equations_of}
 use Rattle.tm_validity.specs.Certificates.{edges_into}
 use Rattle.tm_strategy.specs.PickCount.{pick_count}
-use Rattle.tm_strategy.proofs.FewRounds.{rounds_fewer}
-use Rattle.tm_offers.proofs.Products.{product_to, product_to-zero, product_to-more, product_to-all, product_to-grows}
+use Rattle.tm_strategy.proofs.round.FewRounds.{rounds_fewer}
+use Rattle.tm_offers.proofs.count.Products.{product_to, product_to-zero, product_to-more, product_to-all, product_to-grows}
 use Rattle.tm_offers.proofs.count.picks.Goals as goal
 
 pub loop-point-init : goal.loop-point-init

@@ -1,6 +1,6 @@
 use Rattle.std.proofs.Common.{◌≡◌, ◌≤◌}
 use Rattle.tm_eqsys.specs.View.{equations_of}
-use Rattle.tm_offers.proofs.Products.{product_to}
+use Rattle.tm_offers.proofs.count.Products.{product_to}
 use Rattle.tm_offers.proofs.count.picks.Given as goal
 
 abbrev pub invariant-loop-point : goal.invariant-loop-point

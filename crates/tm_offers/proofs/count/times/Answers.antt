@@ -1,5 +1,5 @@
 use Rattle.std.proofs.Common.{◌∙◌, ◌*◌, ◌<◌, ap, subst, arith}
-use Rattle.tm_offers.proofs.Products.{power_more, power_passes}
+use Rattle.tm_offers.proofs.count.Products.{power_more, power_passes}
 use Rattle.tm_offers.proofs.count.times.Goals as goal
 
 pub returns-then-total-gt-MOST_PICKS : goal.returns-then-total-gt-MOST_PICKS

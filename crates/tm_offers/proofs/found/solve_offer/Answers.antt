@@ -2,7 +2,7 @@ use Rattle.std.proofs.Common.{◌∙◌, refl, sym, subst}
 use Rattle.tm_eqsys.specs.View.{equations_of}
 use Rattle.tm_oper.specs.Values.{IsOperatorFault}
 use Rattle.tm_offers.specs.AtBounds.{vector_at, edge_at, row_at}
-use Rattle.tm_offers.proofs.UpperRead.{upper_is}
+use Rattle.tm_offers.proofs.found.UpperRead.{upper_is}
 use Rattle.tm_offers.proofs.found.solve_offer.Goals as goal
 
 pub returns-in-Ok : goal.returns-in-Ok

@@ -6,7 +6,7 @@ use Rattle.tm_num.specs.Extended.{neg_inf}
 use Rattle.tm_eqsys.specs.View.{equations_of}
 use Rattle.tm_offers.specs.AtBounds.{vector_at, IsOfferAt}
 use Rattle.tm_offers.specs.Offers.{is_top}
-use Rattle.tm_offers.proofs.Unknowns.{row_within, unknown_taken, unknown_kept, unknown_at_top}
+use Rattle.tm_offers.proofs.offers.Unknowns.{row_within, unknown_taken, unknown_kept, unknown_at_top}
 use Rattle.tm_offers.proofs.improvement.improve_at.Goals as goal
 
 pub returns-then-is_unlimited-clause-becomes : goal.returns-then-is_unlimited-clause-becomes

@@ -2,8 +2,8 @@ use Rattle.std.proofs.Common.{◌≡◌, ◌∙◌, ◌*◌, inl, inr, true≢fa
 use Rattle.tm_eqsys.specs.View.{equations_of}
 use Rattle.tm_offers.specs.AtBounds.{vector_at}
 use Rattle.tm_offers.specs.Improvement.{pick_of}
-use Rattle.tm_offers.proofs.Improved.{improved_more, next_none, next_some, nothing_exceeds, something_exceeds, next_supported}
-use Rattle.tm_offers.proofs.Ranges.{points_in_range}
+use Rattle.tm_offers.proofs.improvement.Improved.{improved_more, next_none, next_some, nothing_exceeds, something_exceeds, next_supported}
+use Rattle.tm_offers.proofs.at_bounds.Ranges.{points_in_range}
 use Rattle.tm_offers.proofs.improvement.improve_from.Goals as goal
 use Rattle.tm_offers.proofs.improvement.improve_from.Goals.{then-branch, else-branch}
 

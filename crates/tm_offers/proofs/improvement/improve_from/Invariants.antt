@@ -3,7 +3,7 @@ use Rattle.tm_eqsys.specs.View.{equations_of}
 use Rattle.tm_offers.specs.AtBounds.{vector_at}
 use Rattle.tm_offers.specs.Known.{AreKnown}
 use Rattle.tm_offers.specs.contracts.improvement.improve_from.fn-1 as pointer
-use Rattle.tm_offers.proofs.Improved.{ImprovedTo}
+use Rattle.tm_offers.proofs.improvement.Improved.{ImprovedTo}
 use Rattle.tm_offers.proofs.improvement.improve_from.Given as goal
 
 abbrev pub invariant-loop-unknown : goal.invariant-loop-unknown

@@ -1,7 +1,7 @@
 use Rattle.std.proofs.Common.{◌∙◌, ◌∷◌, [], ◌++◌, map, take, ap, sym, subst}
 use Rattle.tm_frac.specs.Extended.{extended}
 use Rattle.tm_offers.specs.Known.{AreKnown}
-use Rattle.tm_offers.proofs.OfferLists.{numbers_none, edges_none, numbers_yes, numbers_no, row_value, value_here, values_yes, values_no, same_count}
+use Rattle.tm_offers.proofs.improvement.OfferLists.{numbers_none, edges_none, numbers_yes, numbers_no, row_value, value_here, values_yes, values_no, same_count}
 use Rattle.tm_offers.proofs.improvement.make_offer.Goals as goal
 use Rattle.tm_offers.proofs.improvement.make_offer.Goals.{then-edge-point+in_ok-value+in_ok-push+in_ok-push-2, else-edge-point}
 

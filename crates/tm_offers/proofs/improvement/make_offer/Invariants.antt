@@ -3,7 +3,7 @@ use Rattle.tm_frac.specs.Extended.{extended}
 use Rattle.tm_validity.specs.Certificates.{edges_into}
 use Rattle.tm_offers.specs.Improvement.{numbers_into}
 use Rattle.tm_offers.specs.Known.{AreKnown}
-use Rattle.tm_offers.proofs.OfferLists.{row_value}
+use Rattle.tm_offers.proofs.improvement.OfferLists.{row_value}
 use Rattle.tm_offers.proofs.improvement.make_offer.Given as goal
 
 abbrev pub invariant-loop-number : goal.invariant-loop-number

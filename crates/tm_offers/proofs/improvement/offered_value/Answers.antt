@@ -1,4 +1,4 @@
-use Rattle.tm_offers.proofs.KnownValues.{known_more, known_stands}
+use Rattle.tm_offers.proofs.at_bounds.KnownValues.{known_more, known_stands}
 use Rattle.tm_offers.proofs.improvement.offered_value.Goals as goal
 
 pub returns-in-Some-clause-value : goal.returns-in-Some-clause-value

@@ -1,5 +1,5 @@
 use Rattle.std.proofs.Common.{◌+◌, length, sym, ap, subst, arith}
-use Rattle.tm_offers.proofs.KnownValues.{StillKnown, still_same, still_less, still_all}
+use Rattle.tm_offers.proofs.at_bounds.KnownValues.{StillKnown, still_same, still_less, still_all}
 use Rattle.tm_offers.proofs.known.forget.Goals as goal
 use Rattle.tm_offers.proofs.known.forget.Goals.{then-not-is_same_at, else-not-is_same_at}
 

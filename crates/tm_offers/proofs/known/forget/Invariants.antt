@@ -1,4 +1,4 @@
-use Rattle.tm_offers.proofs.KnownValues.{StillKnown}
+use Rattle.tm_offers.proofs.at_bounds.KnownValues.{StillKnown}
 use Rattle.tm_offers.proofs.known.forget.Given as goal
 
 abbrev pub invariant-loop-point : goal.invariant-loop-point

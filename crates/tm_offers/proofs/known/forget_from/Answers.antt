@@ -1,7 +1,7 @@
 use Rattle.std.proofs.Common.{◌≡◌, ◌+◌, sym, subst}
 use Rattle.tm_offers.specs.Known.{HasEntries, IsPartOf, NothingFrom}
-use Rattle.tm_offers.proofs.KnownValues.{nothing_more, nothing_apart}
-use Rattle.tm_offers.proofs.Ranges.{edge_here}
+use Rattle.tm_offers.proofs.at_bounds.KnownValues.{nothing_more, nothing_apart}
+use Rattle.tm_offers.proofs.at_bounds.Ranges.{edge_here}
 use Rattle.tm_offers.proofs.known.forget_from.Goals as goal
 use Rattle.tm_offers.proofs.known.forget_from.Goals.{then-edge-point, else-edge-point}
 

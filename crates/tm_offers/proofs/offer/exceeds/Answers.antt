@@ -1,5 +1,5 @@
 use Rattle.tm_frac.specs.Extended.{extended}
-use Rattle.tm_offers.proofs.Offered.{tested}
+use Rattle.tm_offers.proofs.offers.Offered.{tested}
 use Rattle.tm_offers.proofs.offer.exceeds.Goals as goal
 
 pub returns : goal.returns

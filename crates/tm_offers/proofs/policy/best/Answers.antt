@@ -3,7 +3,7 @@ use Rattle.std.proofs.lemmas.List.{length-map}
 use Rattle.tm_num.specs.Extended.{neg_inf, ◌<ᴱ◌}
 use Rattle.tm_frac.specs.Extended.{extended}
 use Rattle.tm_offers.specs.Offers.{IsFirstGreatest}
-use Rattle.tm_offers.proofs.Offered.{value, value_read, BestSoFar, best_moves, best_stays, best_is}
+use Rattle.tm_offers.proofs.offers.Offered.{value, value_read, BestSoFar, best_moves, best_stays, best_is}
 use Rattle.tm_offers.proofs.policy.best.Goals as goal
 use Rattle.tm_offers.proofs.policy.best.Goals.{then-exceeds, else-exceeds}
 

@@ -1,4 +1,4 @@
-use Rattle.tm_offers.proofs.Offered.{value, BestSoFar}
+use Rattle.tm_offers.proofs.offers.Offered.{value, BestSoFar}
 use Rattle.tm_offers.proofs.policy.best.Given as goal
 
 abbrev pub invariant-loop-k : goal.invariant-loop-k

@@ -4,7 +4,7 @@ use Rattle.tm_eqsys.specs.SystemLimits.{is_over}
 use Rattle.tm_validity.specs.Words.{guard_forms}
 use Rattle.tm_transformers.specs.EdgeProblems.{source_limits, guard_limits}
 use Rattle.tm_oper.specs.Splits.{pairs, bounds_at, split_limit, limit_of}
-use Rattle.tm_oper.proofs.Built.{built_exact, built_shaped}
+use Rattle.tm_oper.proofs.build.Built.{built_exact, built_shaped}
 use Rattle.tm_oper.proofs.build.edge_problem.Goals as goal
 
 pub returns : goal.returns

@@ -7,7 +7,7 @@ use Rattle.tm_compose.specs.declared.affine.Affine.{Affine}
 use Rattle.tm_compose.specs.Composed.{dense}
 use Rattle.tm_oper.specs.Splits.{pairs, split_limit, limit_of}
 use Rattle.tm_compose.specs.ComposedLaws.{form_of}
-use Rattle.tm_oper.proofs.Sources.{guards_more, guards_none}
+use Rattle.tm_oper.proofs.build.Sources.{guards_more, guards_none}
 use Rattle.tm_oper.proofs.build.guard_rows.Goals as goal
 
 pub loop-guard-preserved : goal.loop-guard-preserved

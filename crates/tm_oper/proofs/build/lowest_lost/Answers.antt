@@ -1,7 +1,7 @@
 use Rattle.std.proofs.Common.{below_more, arith}
 use Rattle.tm_num.specs.Extended.{neg_inf, ◌<ᴱ◌}
 use Rattle.tm_oper.specs.Splits.{bounds_at}
-use Rattle.tm_oper.proofs.Sources.{above_read}
+use Rattle.tm_oper.proofs.build.Sources.{above_read}
 use Rattle.tm_oper.proofs.build.lowest_lost.Goals as goal
 
 pub loop-row-preserved : goal.loop-row-preserved

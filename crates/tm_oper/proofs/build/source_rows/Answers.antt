@@ -1,9 +1,9 @@
 use Rattle.std.proofs.Common.{◌∙◌, ◌==◌, ◌++◌, ℤ, List, length, get_or, map, append-nil, ap, ap₂, sym, arith}
 use Rattle.std.proofs.lemmas.Bool.{eqb-true}
-use Rattle.tm_eqsys.proofs.Traced.{all_at}
+use Rattle.tm_eqsys.proofs.trace_tests.Traced.{all_at}
 use Rattle.tm_transformers.specs.EdgeProblems.{source_limits}
 use Rattle.tm_oper.specs.Splits.{bounds_at, split_limit, limit_of, source_row}
-use Rattle.tm_oper.proofs.Sources.{bound_read, limits_more, limits_none, limits_all}
+use Rattle.tm_oper.proofs.build.Sources.{bound_read, limits_more, limits_none, limits_all}
 use Rattle.tm_oper.proofs.build.source_rows.Goals as goal
 
 pub loop-r-init : goal.loop-r-init

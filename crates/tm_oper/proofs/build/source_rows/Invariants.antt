@@ -3,7 +3,7 @@ use Rattle.std.specs.Prelude.{IsTrue}
 use Rattle.tm_eqsys.specs.SystemLimits.{is_over}
 use Rattle.tm_transformers.specs.EdgeProblems.{source_limits}
 use Rattle.tm_oper.specs.Splits.{bounds_at, split_limit, limit_of}
-use Rattle.tm_oper.proofs.Sources.{limits_left}
+use Rattle.tm_oper.proofs.build.Sources.{limits_left}
 use Rattle.tm_oper.proofs.build.source_rows.Given as goal
 
 abbrev pub invariant-loop-r : goal.invariant-loop-r

@@ -1,7 +1,7 @@
 use Rattle.std.proofs.Common.{◌∙◌, ap, sym, arith}
 use Rattle.tm_oper.specs.Splits.{bounds_at}
 use Rattle.tm_oper.specs.Readings.{finite_one}
-use Rattle.tm_oper.proofs.Sources.{bound_read, skip_none, skip_more, skip_all, onward}
+use Rattle.tm_oper.proofs.build.Sources.{bound_read, skip_none, skip_more, skip_all, onward}
 use Rattle.tm_oper.proofs.read.count_finite.Goals as goal
 
 pub loop-row-init : goal.loop-row-init

@@ -2,7 +2,7 @@ use Rattle.std.proofs.Common.{◌≡◌, ◌≤◌, ◌+◌, ℕ, List, ℤ, len
 use Rattle.tm_num.specs.Rational.{ℚ}
 use Rattle.tm_transformers.specs.Spread.{skip}
 use Rattle.tm_oper.specs.Splits.{bounds_at}
-use Rattle.tm_oper.proofs.Sources.{later}
+use Rattle.tm_oper.proofs.build.Sources.{later}
 use Rattle.tm_oper.proofs.read.count_finite.Given as goal
 
 abbrev pub invariant-loop-row : goal.invariant-loop-row

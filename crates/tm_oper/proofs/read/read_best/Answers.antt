@@ -6,8 +6,8 @@ use Rattle.tm_lp.specs.Listed.{at}
 use Rattle.tm_eqsys.proofs.Widths.{first_wide_later}
 use Rattle.tm_oper.specs.Splits.{bounds_at}
 use Rattle.tm_oper.specs.Values.{entry_operations}
-use Rattle.tm_compose.proofs.Rows.{fault_later}
-use Rattle.tm_oper.proofs.Outcomes.{sum_wide, sum_fits, multipliers_read}
+use Rattle.tm_compose.proofs.operations.Rows.{fault_later}
+use Rattle.tm_oper.proofs.read.Outcomes.{sum_wide, sum_fits, multipliers_read}
 use Rattle.tm_oper.proofs.read.read_best.Goals as goal
 
 pub returns-in_err-value : goal.returns-in_err-value

@@ -1,6 +1,6 @@
 use Rattle.tm_lp.specs.Listed.{at}
 use Rattle.tm_oper.specs.Splits.{bounds_at}
-use Rattle.tm_oper.proofs.Outcomes.{multipliers_read}
+use Rattle.tm_oper.proofs.read.Outcomes.{multipliers_read}
 use Rattle.tm_oper.proofs.read.read_empty.Goals as goal
 
 pub returns : goal.returns

@@ -4,7 +4,7 @@ use Rattle.std.proofs.lemmas.Result.{err_from_is_err_and}
 use Rattle.tm_frac.specs.Operation.{operation_of}
 use Rattle.tm_lp.specs.Listed.{at}
 use Rattle.tm_lp.specs.Free.{unsplit}
-use Rattle.tm_oper.proofs.Entries.{entry_fits, entry_wide, entries_more, entries_wide, entries_all, values_more}
+use Rattle.tm_oper.proofs.read.Entries.{entry_fits, entry_wide, entries_more, entries_wide, entries_all, values_more}
 use Rattle.tm_oper.proofs.read.read_entries.Goals as goal
 
 pub returns-in_err-number : goal.returns-in_err-number

@@ -2,8 +2,8 @@ use Rattle.std.proofs.Common.{◌≡◌, map}
 use Rattle.std.specs.List.{range_with_len}
 use Rattle.tm_lp.specs.Listed.{at}
 use Rattle.tm_lp.specs.Free.{unsplit}
-use Rattle.tm_compose.proofs.Passed.{IsPassed}
-use Rattle.tm_oper.proofs.Entries.{single}
+use Rattle.tm_compose.proofs.faults.Passed.{IsPassed}
+use Rattle.tm_oper.proofs.read.Entries.{single}
 use Rattle.tm_oper.proofs.read.read_entries.Given as goal
 
 abbrev pub invariant-loop-i : goal.invariant-loop-i

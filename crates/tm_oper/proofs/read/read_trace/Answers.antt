@@ -7,8 +7,8 @@ use Rattle.tm_lp.specs.Listed.{at}
 use Rattle.tm_lp.specs.Free.{unsplit}
 use Rattle.tm_eqsys.proofs.Widths.{first_wide_later}
 use Rattle.tm_compose.specs.Faults.{IsFormFault}
-use Rattle.tm_compose.proofs.Rows.{fault_sooner, fault_later}
-use Rattle.tm_oper.proofs.Entries.{difference, joined_values, joined_differences, values_length}
+use Rattle.tm_compose.proofs.operations.Rows.{fault_sooner, fault_later}
+use Rattle.tm_oper.proofs.read.Entries.{difference, joined_values, joined_differences, values_length}
 use Rattle.tm_oper.proofs.read.read_trace.Goals as goal
 
 pub returns-in_err-start : goal.returns-in_err-start

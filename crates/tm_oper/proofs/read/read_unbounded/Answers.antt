@@ -4,7 +4,7 @@ use Rattle.tm_frac.specs.Fits.{long_limit}
 use Rattle.tm_lp.specs.Listed.{at}
 use Rattle.tm_eqsys.proofs.Widths.{first_wide_later}
 use Rattle.tm_oper.specs.Values.{entry_operations}
-use Rattle.tm_compose.proofs.Rows.{fault_sooner, fault_later}
+use Rattle.tm_compose.proofs.operations.Rows.{fault_sooner, fault_later}
 use Rattle.tm_oper.proofs.read.read_unbounded.Goals as goal
 
 pub returns-in_err-trace : goal.returns-in_err-trace

@@ -2,7 +2,7 @@ use Rattle.std.proofs.Common.{◌∙◌, ap, sym, arith}
 use Rattle.tm_lp.specs.Listed.{at}
 use Rattle.tm_oper.specs.Splits.{bounds_at}
 use Rattle.tm_oper.specs.Readings.{finite_one, multiplier_one}
-use Rattle.tm_oper.proofs.Sources.{bound_read, spread_more, spread_all, onward}
+use Rattle.tm_oper.proofs.build.Sources.{bound_read, spread_more, spread_all, onward}
 use Rattle.tm_oper.proofs.read.row_multipliers.Goals as goal
 
 pub loop-row-preserved : goal.loop-row-preserved

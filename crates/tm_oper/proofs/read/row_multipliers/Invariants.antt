@@ -2,7 +2,7 @@ use Rattle.std.proofs.Common.{◌≡◌, ◌≤◌, ◌+◌, ◌++◌, List, ℤ
 use Rattle.tm_lp.specs.Listed.{at}
 use Rattle.tm_transformers.specs.Spread.{spread}
 use Rattle.tm_oper.specs.Splits.{bounds_at}
-use Rattle.tm_oper.proofs.Sources.{later}
+use Rattle.tm_oper.proofs.build.Sources.{later}
 use Rattle.tm_oper.proofs.read.row_multipliers.Given as goal
 
 abbrev pub invariant-loop-row : goal.invariant-loop-row

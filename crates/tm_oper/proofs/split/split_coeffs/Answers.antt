@@ -1,7 +1,7 @@
 use Rattle.std.proofs.Common.{◌∙◌, ◌∷◌, ◌++◌, [], ap, sym, take}
 use Rattle.std.proofs.lemmas.List.{take_more}
 use Rattle.tm_oper.specs.Splits.{pairs}
-use Rattle.tm_oper.proofs.Pairs.{pairs_push}
+use Rattle.tm_oper.proofs.split.Pairs.{pairs_push}
 use Rattle.tm_oper.proofs.split.split_coeffs.Goals as goal
 
 pub loop-coeff-preserved : goal.loop-coeff-preserved

@@ -2,8 +2,8 @@ use Rattle.std.proofs.Common.{◌≡◌, ◌∙◌, ap, map, get_or, arith}
 use Rattle.std.specs.List.{range_with_len}
 use Rattle.tm_num.specs.Rational.{whole, zero_ℚ}
 use Rattle.tm_oper.specs.Splits.{pairs}
-use Rattle.tm_compose.proofs.Dense.{entries-first}
-use Rattle.tm_oper.proofs.Pairs.{pairs_range}
+use Rattle.tm_compose.proofs.composed.Dense.{entries-first}
+use Rattle.tm_oper.proofs.split.Pairs.{pairs_range}
 use Rattle.tm_oper.proofs.split.split_row.Goals as goal
 
 pub loop-column-preserved : goal.loop-column-preserved

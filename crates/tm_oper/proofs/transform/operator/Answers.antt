@@ -2,8 +2,8 @@ use Rattle.std.proofs.Common.{◌≡◌, ◌-◌, ◌*◌, ◌<◌, ◌≤◌, l
 use Rattle.tm_num.specs.Extended.{neg_inf, ◌<ᴱ◌}
 use Rattle.tm_eqsys.specs.View.{equations_of, vector_at, edge_at, row_at}
 use Rattle.tm_oper.specs.Values.{IsLowestLost}
-use Rattle.tm_oper.proofs.Answered.{answered_lost}
-use Rattle.tm_oper.proofs.Operated.{source_at, none_at}
+use Rattle.tm_oper.proofs.transform.Answered.{answered_lost}
+use Rattle.tm_oper.proofs.transform.Operated.{source_at, none_at}
 use Rattle.tm_oper.proofs.transform.operator.Goals as goal
 
 pub returns-in-Some : goal.returns-in-Some

@@ -1,6 +1,6 @@
 use Rattle.std.proofs.Common.{◌∙◌, length, ap, arith}
 use Rattle.tm_eqsys.proofs.Sizes.{flow_sizes}
-use Rattle.tm_oper.proofs.Operated.{path_sizes}
+use Rattle.tm_oper.proofs.transform.Operated.{path_sizes}
 use Rattle.tm_oper.proofs.transform.sizes_of.Goals as goal
 
 pub invariant_of-result : goal.invariant_of-result

@@ -6,11 +6,11 @@ use Rattle.tm_eqsys.specs.Equations.{Vector}
 use Rattle.tm_eqsys.specs.View.{equations_of, edge_at, row_at}
 use Rattle.tm_compose.specs.Composed.{EdgeForms}
 use Rattle.tm_compose.specs.declared.affine.Affine.{Affine}
-use Rattle.tm_compose.proofs.Edges.{width_is}
+use Rattle.tm_compose.proofs.composed.Edges.{width_is}
 use Rattle.tm_oper.specs.Splits.{bounds_at}
-use Rattle.tm_oper.proofs.Built.{sizes_for}
-use Rattle.tm_oper.proofs.Operated.{source_from, template_over}
-use Rattle.tm_oper.proofs.Answered.{answered_solved}
+use Rattle.tm_oper.proofs.build.Built.{sizes_for}
+use Rattle.tm_oper.proofs.transform.Operated.{source_from, template_over}
+use Rattle.tm_oper.proofs.transform.Answered.{answered_solved}
 use Rattle.tm_oper.proofs.transform.solve_edge.Goals as goal
 
 pub solve_problem-requires-clause-shaped : goal.solve_problem-requires-clause-shaped

@@ -8,7 +8,7 @@ use Rattle.tm_oper.specs.Splits.{bounds_at}
 use Rattle.tm_oper.specs.Values.{reading_operations}
 use Rattle.tm_oper.specs.Readings.{listed_outcome}
 use Rattle.tm_compose.specs.Faults.{IsFormFault}
-use Rattle.tm_oper.proofs.Outcomes.{reads_same, operations_same}
+use Rattle.tm_oper.proofs.read.Outcomes.{reads_same, operations_same}
 use Rattle.tm_oper.proofs.transform.solve_problem.Goals as goal
 
 pub returns-in-Ok-read_outcome-clause-value : goal.returns-in-Ok-read_outcome-clause-value

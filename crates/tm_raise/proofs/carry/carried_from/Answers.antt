@@ -5,7 +5,7 @@ use Rattle.tm_eqsys.specs.Sums.{SumAnswers, row_operations}
 use Rattle.tm_eqsys.specs.TraceTests.{LeadsOn}
 use Rattle.tm_eqsys.specs.View.{equations_of}
 use Rattle.tm_raise.specs.Moves.{moves, trace_of}
-use Rattle.tm_raise.proofs.Carrying.{row_answers}
+use Rattle.tm_raise.proofs.carry.Carrying.{row_answers}
 use Rattle.tm_raise.proofs.carry.carried_from.Goals as goal
 
 pub returns : goal.returns

@@ -1,9 +1,9 @@
 use Rattle.std.proofs.Common.{◌+◌, drop, ap, subst, length-drop, arith}
 use Rattle.std.proofs.lemmas.List.{take_rest}
 use Rattle.tm_eqsys.specs.FreeValues.{free_count}
-use Rattle.tm_eqsys.proofs.Traced.{free_count-cons}
+use Rattle.tm_eqsys.proofs.trace_tests.Traced.{free_count-cons}
 use Rattle.tm_raise.specs.Carries.{StepIs}
-use Rattle.tm_raise.proofs.Carrying.{next_actions, leads_more}
+use Rattle.tm_raise.proofs.carry.Carrying.{next_actions, leads_more}
 use Rattle.tm_raise.proofs.carry.follow.Goals as goal
 
 pub loop-action-preserved : goal.loop-action-preserved

@@ -1,5 +1,5 @@
 use Rattle.std.proofs.lemmas.Result.{err_from_is_err_and}
-use Rattle.tm_raise.proofs.Carrying.{assign_made, assign_wide}
+use Rattle.tm_raise.proofs.carry.Carrying.{assign_made, assign_wide}
 use Rattle.tm_raise.proofs.carry.step.Goals as goal
 
 pub returns-in_err-value-in-Assign : goal.returns-in_err-value-in-Assign

@@ -1,4 +1,4 @@
-use Rattle.tm_raise.proofs.Agree.{agree}
+use Rattle.tm_raise.proofs.numbers.Agree.{agree}
 use Rattle.tm_raise.proofs.law.raises_agree.Goals as goal
 
 pub returns : goal.returns

@@ -7,7 +7,7 @@ use Rattle.tm_validity.specs.Words.{moved as moved_by}
 use Rattle.tm_validity.specs.Steps.{Pieces}
 use Rattle.tm_raise.specs.Numbers.{entries_operations}
 use Rattle.tm_raise.specs.Lows.{IsRaiseFault}
-use Rattle.tm_raise.proofs.Faults.{sooner, later}
+use Rattle.tm_raise.proofs.low.Faults.{sooner, later}
 use Rattle.tm_raise.proofs.low.moved.Goals as goal
 
 pub returns-in_err-start : goal.returns-in_err-start

@@ -2,7 +2,7 @@ use Rattle.std.proofs.Common.{◌∙◌, ◌+◌, ◌<◌, ◌≤◌, length, sy
 use Rattle.std.proofs.lemmas.Result.{err_from_is_err_and}
 use Rattle.tm_num.specs.Rational.{ℚ}
 use Rattle.tm_frac.specs.Operation.{operation_of}
-use Rattle.tm_raise.proofs.Entries.{IsMoved, moved_more, moved_wide, moved_all}
+use Rattle.tm_raise.proofs.low.Entries.{IsMoved, moved_more, moved_wide, moved_all}
 use Rattle.tm_raise.proofs.low.moved_entries.Goals as goal
 
 pub loop-i-preserved : goal.loop-i-preserved

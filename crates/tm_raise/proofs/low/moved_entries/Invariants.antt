@@ -1,4 +1,4 @@
-use Rattle.tm_raise.proofs.Entries.{IsMoved}
+use Rattle.tm_raise.proofs.low.Entries.{IsMoved}
 use Rattle.tm_raise.proofs.low.moved_entries.Given as goal
 
 abbrev pub invariant-loop-i : goal.invariant-loop-i

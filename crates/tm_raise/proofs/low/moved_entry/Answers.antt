@@ -1,5 +1,5 @@
 use Rattle.std.proofs.lemmas.Result.{err_from_is_err_and}
-use Rattle.tm_raise.proofs.Entries.{product_wide, entry_answer}
+use Rattle.tm_raise.proofs.low.Entries.{product_wide, entry_answer}
 use Rattle.tm_raise.proofs.low.moved_entry.Goals as goal
 
 pub returns-in_err-product : goal.returns-in_err-product

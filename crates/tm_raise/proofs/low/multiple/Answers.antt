@@ -1,5 +1,5 @@
 use Rattle.std.proofs.lemmas.Result.{err_from_is_err_and}
-use Rattle.tm_raise.proofs.Multiples.{gap_wide, quotient_wide, multiple_answer}
+use Rattle.tm_raise.proofs.low.Multiples.{gap_wide, quotient_wide, multiple_answer}
 use Rattle.tm_raise.proofs.low.multiple.Goals as goal
 
 pub returns-in_err-gap : goal.returns-in_err-gap

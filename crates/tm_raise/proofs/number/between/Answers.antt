@@ -1,4 +1,4 @@
-use Rattle.tm_raise.proofs.Towards.{next_taken, middle_taken}
+use Rattle.tm_raise.proofs.number.Towards.{next_taken, middle_taken}
 use Rattle.tm_raise.proofs.number.between.Goals as goal
 
 pub returns-in-Some : goal.returns-in-Some

@@ -4,9 +4,9 @@ use mir.Syntax.{w64}
 use Rattle.tm_num.specs.Rational.{ℚ, whole}
 use Rattle.tm_tree.specs.Numbers.{is_number}
 use Rattle.tm_frac.specs.Fits.{long_limit}
-use Rattle.tm_frac.proofs.Made.{small_value}
-use Rattle.tm_eqsys.proofs.Summed.{number_made, number_same}
-use Rattle.tm_raise.proofs.Wholes.{floor_number, den_one, own_floor}
+use Rattle.tm_frac.proofs.fits.Made.{small_value}
+use Rattle.tm_eqsys.proofs.states.Summed.{number_made, number_same}
+use Rattle.tm_raise.proofs.number.Wholes.{floor_number, den_one, own_floor}
 use Rattle.tm_raise.proofs.number.floor_of.Goals as goal
 
 pub returns-then-den-eq1 : goal.returns-then-den-eq1

@@ -2,13 +2,13 @@ use Rattle.std.proofs.Common.{◌∙◌, pos, [], ◌∷◌, ap, sym, subst, sub
 use Rattle.std.proofs.lemmas.Int.{ints}
 use Rattle.std.proofs.lemmas.Result.{err_from_is_err_and}
 use Rattle.tm_num.specs.Rational.{ℚ, whole, ◌+ℚ◌, ◌/ℚ◌}
-use Rattle.tm_num.proofs.Quotients.{whole_ne_zero}
+use Rattle.tm_num.proofs.rational.Quotients.{whole_ne_zero}
 use Rattle.tm_frac.specs.Fits.{Fits, long_limit}
 use Rattle.tm_frac.specs.declared.wide.Op.TheVariants.{Add, Div}
 use Rattle.tm_frac.specs.Operation.{operation_of}
 use Rattle.tm_eqsys.specs.Sums.{SumAnswers}
 use Rattle.tm_eqsys.proofs.Widths.{one_answer}
-use Rattle.tm_raise.proofs.Widths.{then, stops}
+use Rattle.tm_raise.proofs.number.Widths.{then, stops}
 use Rattle.tm_raise.proofs.number.middle.Goals as goal
 
 pub over-requires : goal.over-requires

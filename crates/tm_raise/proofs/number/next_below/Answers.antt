@@ -2,8 +2,8 @@ use Rattle.std.proofs.Common.{◌∙◌, true, false, ap, sym}
 use Rattle.tm_num.specs.Rational.{ℚ, lt_ℚ}
 use Rattle.tm_frac.specs.Operation.{operation_of}
 use Rattle.tm_raise.specs.Numbers.{fitting, next_whole}
-use Rattle.tm_raise.proofs.Widths.{less_is}
-use Rattle.tm_raise.proofs.Towards.{next_fits, next_wide, both_is, neither}
+use Rattle.tm_raise.proofs.number.Widths.{less_is}
+use Rattle.tm_raise.proofs.number.Towards.{next_fits, next_wide, both_is, neither}
 use Rattle.tm_raise.proofs.number.next_below.Goals as goal
 
 pub returns-in_default : goal.returns-in_default

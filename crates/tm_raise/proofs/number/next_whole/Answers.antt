@@ -1,4 +1,4 @@
-use Rattle.tm_raise.proofs.Towards.{next_answer}
+use Rattle.tm_raise.proofs.number.Towards.{next_answer}
 use Rattle.tm_raise.proofs.number.next_whole.Goals as goal
 
 pub returns : goal.returns

@@ -1,13 +1,13 @@
 use Rattle.std.proofs.Common.{◌∙◌, length, sym}
 use Rattle.std.proofs.lemmas.Result.{err_from_is_err_and}
-use Rattle.tm_num.proofs.Laws.{ne_of_lt_ℚ}
+use Rattle.tm_num.proofs.rational.Laws.{ne_of_lt_ℚ}
 use Rattle.tm_frac.specs.Extended.{extended}
 use Rattle.tm_eqsys.specs.View.{equations_of}
 use Rattle.tm_validity.specs.Steps.{edge_of, row_of}
 use Rattle.tm_cert.specs.Certificates.{pieces_of}
 use Rattle.tm_raise.specs.declared.fault.RaiseFault.TheVariants.{Wide}
 use Rattle.tm_raise.specs.Raises.{choice_of}
-use Rattle.tm_raise.proofs.Raised.{edge_chosen, row_chosen, row_read, free_of, rate_wide, low_wide, for_ever}
+use Rattle.tm_raise.proofs.lows.Raised.{edge_chosen, row_chosen, row_read, free_of, rate_wide, low_wide, for_ever}
 use Rattle.tm_raise.proofs.raising.raise_for_ever.Goals as goal
 
 pub carried-requires-clause-free : goal.carried-requires-clause-free

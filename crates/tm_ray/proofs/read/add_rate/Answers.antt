@@ -5,8 +5,8 @@ use Rattle.tm_num.specs.Rational.{zero_ℚ}
 use Rattle.tm_frac.specs.Fits.{long_limit}
 use Rattle.tm_frac.specs.Operation.{first_wide}
 use Rattle.tm_ray.specs.Reading.{differences, subtractions, named_operations}
-use Rattle.tm_ray.proofs.Gathered.{fault_of, fault_none}
-use Rattle.tm_ray.proofs.NamedRates.{is_left_out, is_taken, left_out, start_wide, start_fits, rate_read}
+use Rattle.tm_ray.proofs.answers.Gathered.{fault_of, fault_none}
+use Rattle.tm_ray.proofs.reading.NamedRates.{is_left_out, is_taken, left_out, start_wide, start_fits, rate_read}
 use Rattle.tm_ray.proofs.read.add_rate.Goals as goal
 
 pub returns-then-le : goal.returns-then-le

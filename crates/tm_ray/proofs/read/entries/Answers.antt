@@ -2,8 +2,8 @@ use Rattle.std.proofs.Common.{◌∙◌, ◌∷◌, [], get_or, refl, arith}
 use Rattle.std.proofs.lemmas.List.{get_or_default}
 use Rattle.std.proofs.lemmas.Result.{err_from_is_err_and}
 use Rattle.tm_ray.specs.Reading.{differences, subtraction, subtractions}
-use Rattle.tm_ray.proofs.Gathered.{read_more, read_wide, read_all, fault_of, fault_none}
-use Rattle.tm_ray.proofs.NamedRates.{split_at, adds_entry}
+use Rattle.tm_ray.proofs.answers.Gathered.{read_more, read_wide, read_all, fault_of, fault_none}
+use Rattle.tm_ray.proofs.reading.NamedRates.{split_at, adds_entry}
 use Rattle.tm_ray.proofs.read.entries.Goals as goal
 
 pub entry-requires : goal.entry-requires

@@ -1,5 +1,5 @@
 use Rattle.tm_ray.specs.Reading.{differences, subtractions}
-use Rattle.tm_ray.proofs.Gathered.{IsRead}
+use Rattle.tm_ray.proofs.answers.Gathered.{IsRead}
 use Rattle.tm_ray.proofs.read.entries.Given as goal
 
 abbrev pub invariant-loop-col : goal.invariant-loop-col

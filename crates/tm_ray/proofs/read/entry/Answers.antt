@@ -1,7 +1,7 @@
 use Rattle.std.proofs.Common.{◌+◌, refl, arith}
 use Rattle.std.proofs.lemmas.List.{get_or_read}
 use Rattle.tm_num.specs.Rational.{zero_ℚ}
-use Rattle.tm_ray.proofs.NamedRates.{entry_read, entry_wide}
+use Rattle.tm_ray.proofs.reading.NamedRates.{entry_read, entry_wide}
 use Rattle.tm_ray.proofs.read.entry.Goals as goal
 
 pub returns-in-Ok : goal.returns-in-Ok

@@ -4,8 +4,8 @@ use Rattle.tm_ray.specs.Ranges.{IsWithin}
 use Rattle.tm_ray.specs.declared.rate.RateOf.{RateOf}
 use Rattle.tm_ray.specs.declared.rate.Rates.{Rates}
 use Rattle.tm_ray.specs.Reading.{named_rates, named_operations}
-use Rattle.tm_ray.proofs.Gathered.{IsRead, read_more, read_wide, read_all, fault_of}
-use Rattle.tm_ray.proofs.NamedRates.{within_at, adds_rate}
+use Rattle.tm_ray.proofs.answers.Gathered.{IsRead, read_more, read_wide, read_all, fault_of}
+use Rattle.tm_ray.proofs.reading.NamedRates.{within_at, adds_rate}
 use Rattle.tm_ray.proofs.read.rates.Goals as goal
 
 pub add_rate-requires : goal.add_rate-requires

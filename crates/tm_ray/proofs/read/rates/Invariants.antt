@@ -1,5 +1,5 @@
 use Rattle.tm_ray.specs.Reading.{named_rates, named_operations}
-use Rattle.tm_ray.proofs.Gathered.{IsRead}
+use Rattle.tm_ray.proofs.answers.Gathered.{IsRead}
 use Rattle.tm_ray.proofs.read.rates.Given as goal
 
 abbrev pub invariant-loop-rise : goal.invariant-loop-rise

@@ -1,8 +1,8 @@
 use Rattle.std.proofs.Common.{◌≡◌, ◌∙◌, ◌<◌, length, sym, subst, arith, vec_len}
 use Rattle.std.proofs.lemmas.Result.{err_from_is_err_and}
-use Rattle.tm_rounds.proofs.Parting.{IsParting, not_none, none_there, no_element, parting_starts, parting_ends, left_turn, left_condition, left_more}
+use Rattle.tm_rounds.proofs.evaluation.Parting.{IsParting, not_none, none_there, no_element, parting_starts, parting_ends, left_turn, left_condition, left_more}
 use Rattle.tm_rounds.specs.Turning.{turns_of_part}
-use Rattle.tm_rounds.proofs.TurnStops.{joined_stop}
+use Rattle.tm_rounds.proofs.evaluation.TurnStops.{joined_stop}
 use Rattle.tm_rounds.proofs.evaluation.part.Goals as goal
 
 pub loop-alloc-init : goal.loop-alloc-init

@@ -1,5 +1,5 @@
 use Rattle.std.proofs.Common.{length}
-use Rattle.tm_rounds.proofs.Parting.{IsParting}
+use Rattle.tm_rounds.proofs.evaluation.Parting.{IsParting}
 use Rattle.tm_rounds.proofs.evaluation.part.Given as goal
 
 abbrev pub invariant-loop-alloc : goal.invariant-loop-alloc

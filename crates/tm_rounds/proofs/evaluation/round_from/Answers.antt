@@ -7,10 +7,10 @@ use Rattle.tm_cert.specs.Certificates.{step_of}
 use Rattle.tm_rounds.specs.Growing.{Agrees}
 use Rattle.tm_rounds.specs.Round.{AreValidFrom, rounded_at, turns_at}
 use Rattle.tm_rounds.specs.Turning.{turns_of_parts}
-use Rattle.tm_rounds.proofs.Kept.{system_size}
-use Rattle.tm_rounds.proofs.RoundRaises.{raises_are, raises_few}
-use Rattle.tm_rounds.proofs.RoundMade.{setting, setting_list, setting_conditions, setting_steps, setting_bounds, turns_like, above_bounds, tight_bounds, round_done, picked_edges, named_within}
-use Rattle.tm_rounds.proofs.TurnStops.{turn_stop_more}
+use Rattle.tm_rounds.proofs.growing.Kept.{system_size}
+use Rattle.tm_rounds.proofs.evaluation.RoundRaises.{raises_are, raises_few}
+use Rattle.tm_rounds.proofs.evaluation.RoundMade.{setting, setting_list, setting_conditions, setting_steps, setting_bounds, turns_like, above_bounds, tight_bounds, round_done, picked_edges, named_within}
+use Rattle.tm_rounds.proofs.evaluation.TurnStops.{turn_stop_more}
 use Rattle.tm_rounds.proofs.evaluation.round_from.Goals as goal
 
 pub grow_from-requires-clause-edges : goal.grow_from-requires-clause-edges

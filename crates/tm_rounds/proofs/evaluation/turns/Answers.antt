@@ -3,10 +3,10 @@ use Rattle.std.proofs.lemmas.Result.{err_from_is_err_and}
 use Rattle.tm_joint.specs.PartLists.{EachRises, part_numbers}
 use Rattle.tm_rounds.specs.Turning.{HaveConditions, IsPart, IsDone, turns_of_part, turns_of_parts}
 use Rattle.tm_rounds.specs.Round.{IsTurnStop}
-use Rattle.tm_rounds.proofs.Kept.{system_size}
-use Rattle.tm_rounds.proofs.EachPart.{each_part, part_few}
-use Rattle.tm_rounds.proofs.Partings.{partings_start, partings_end, partings_more, next_like, conditions_like}
-use Rattle.tm_rounds.proofs.TurnStops.{turn_stop_more}
+use Rattle.tm_rounds.proofs.growing.Kept.{system_size}
+use Rattle.tm_rounds.proofs.evaluation.EachPart.{each_part, part_few}
+use Rattle.tm_rounds.proofs.evaluation.Partings.{partings_start, partings_end, partings_more, next_like, conditions_like}
+use Rattle.tm_rounds.proofs.evaluation.TurnStops.{turn_stop_more}
 use Rattle.tm_rounds.proofs.evaluation.turns.Goals as goal
 
 pub loop-number-init : goal.loop-number-init

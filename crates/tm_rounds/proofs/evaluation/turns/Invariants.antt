@@ -1,4 +1,4 @@
-use Rattle.tm_rounds.proofs.Partings.{ArePartings}
+use Rattle.tm_rounds.proofs.evaluation.Partings.{ArePartings}
 use Rattle.tm_rounds.proofs.evaluation.turns.Given as goal
 
 abbrev pub invariant-loop-number : goal.invariant-loop-number

@@ -1,6 +1,6 @@
 use Rattle.std.proofs.Common.{◌≡◌, ◌∙◌, ◌*◌, ◌<◌, true≢false, length, sym, ap, ap₂, arith}
 use Rattle.std.proofs.lemmas.Result.{err_from_is_err_and}
-use Rattle.tm_rounds.proofs.PassedTo.{passed_start, passed_more, stop_next}
+use Rattle.tm_rounds.proofs.growing.PassedTo.{passed_start, passed_more, stop_next}
 use Rattle.tm_rounds.proofs.growing.pass.Goals as goal
 use Rattle.tm_rounds.proofs.growing.pass.Goals.{then-branch, else-branch}
 

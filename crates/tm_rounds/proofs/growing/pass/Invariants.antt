@@ -1,4 +1,4 @@
-use Rattle.tm_rounds.proofs.PassedTo.{PassedTo}
+use Rattle.tm_rounds.proofs.growing.PassedTo.{PassedTo}
 use Rattle.tm_rounds.proofs.growing.pass.Given as goal
 
 abbrev pub invariant-loop-unknown : goal.invariant-loop-unknown

@@ -2,9 +2,9 @@ use Rattle.std.proofs.Common.{◌∙◌, ◌<◌, length, refl, sym, ap, arith}
 use Rattle.std.proofs.lemmas.Result.{IfOk-weaker, IfErr-weaker}
 use Rattle.tm_offers.specs.AtBounds.{vector_at}
 use Rattle.tm_offers.specs.Offers.{is_top}
-use Rattle.tm_rounds.proofs.Kept.{mark_is}
-use Rattle.tm_rounds.proofs.Quiet.{quiet_passed, top_passed}
-use Rattle.tm_rounds.proofs.Walked.{left_marked, left_unpicked, passed_none, test_passed, test_stop, others_stay}
+use Rattle.tm_rounds.proofs.growing.Kept.{mark_is}
+use Rattle.tm_rounds.proofs.growing.Quiet.{quiet_passed, top_passed}
+use Rattle.tm_rounds.proofs.growing.Walked.{left_marked, left_unpicked, passed_none, test_passed, test_stop, others_stay}
 use Rattle.tm_rounds.proofs.growing.test.Goals as goal
 
 pub returns-then-index-clause-passed : goal.returns-then-index-clause-passed

@@ -7,10 +7,10 @@ use Rattle.tm_eqsys.specs.View.{equations_of}
 use Rattle.tm_compose.specs.Value.{number_of}
 use Rattle.tm_rounds.specs.Growing.{IsValueAt, IsValueStop, IsStepStop, NamesOne, bound_given, tested}
 use Rattle.tm_raise.specs.Raises.{raise_operations}
-use Rattle.tm_rounds.proofs.Kept.{kept_more, few_steps, system_size}
-use Rattle.tm_rounds.proofs.Tested.{stays_within, raised_names, has_item, stays, go_is, value_stop, step_stop, value_sizes, value_rises}
+use Rattle.tm_rounds.proofs.growing.Kept.{kept_more, few_steps, system_size}
+use Rattle.tm_rounds.proofs.growing.Tested.{stays_within, raised_names, has_item, stays, go_is, value_stop, step_stop, value_sizes, value_rises}
 use Rattle.tm_offers.specs.AtBounds.{vector_at, edge_at}
-use Rattle.tm_rounds.proofs.Quiet.{quiet_more, quiet_raised}
+use Rattle.tm_rounds.proofs.growing.Quiet.{quiet_more, quiet_raised}
 use Rattle.std.specs.Vec.{with_item, with_items}
 use Rattle.std.proofs.lemmas.List.{with_items_is}
 use Rattle.tm_rounds.proofs.growing.test_picked.Goals as goal

@@ -3,8 +3,8 @@ use Rattle.tm_cert.specs.Certificates.{step_of}
 use Rattle.tm_rounds.specs.declared.growing.Growing.{Growing}
 use Rattle.tm_rounds.specs.Growing.{AreWithin, IsFresh, marked_numbers}
 use Rattle.tm_rounds.specs.Growth.{named_at}
-use Rattle.tm_rounds.proofs.Marked.{kept_fresh, marked_are_named}
-use Rattle.tm_rounds.proofs.KnownQuiet.{quiet_within}
+use Rattle.tm_rounds.proofs.growth.Marked.{kept_fresh, marked_are_named}
+use Rattle.tm_rounds.proofs.quiet_marks.KnownQuiet.{quiet_within}
 use Rattle.tm_rounds.proofs.growth.grow_from.Goals as goal
 
 pub passes-requires-clause-kept : goal.passes-requires-clause-kept

@@ -2,9 +2,9 @@ use Rattle.std.proofs.Common.{refl, arith}
 use Rattle.std.proofs.lemmas.Result.{err_from_is_err_and}
 use Rattle.tm_offers.specs.AtBounds.{vector_at}
 use Rattle.tm_rounds.specs.Growing.{steps_so_far}
-use Rattle.tm_validity.specs.Certificates.{led}
-use Rattle.tm_rounds.proofs.Kept.{few_steps}
-use Rattle.tm_rounds.proofs.GrownTo.{growing_start, next_told, next_ended, more_steps, pass_stop}
+use Rattle.tm_validity.specs.Certificates.{after_steps}
+use Rattle.tm_rounds.proofs.growing.Kept.{few_steps}
+use Rattle.tm_rounds.proofs.growth.GrownTo.{growing_start, next_told, next_ended, more_steps, pass_stop}
 use Rattle.tm_rounds.proofs.growth.passes.Goals as goal
 
 pub loop-init : goal.loop-init
@@ -15,14 +15,14 @@ loop-preserved c =
     let system = c.args.system.now in
     let bounds = c.args.growing.now.bounds in
     next_told system c.args.pick.now bounds c.loop.growing c.pass.new.growing c.in_ok-pass.field-0 c.loop.invariant
-    (c.in_ok-pass.ensures.passed (led (steps_so_far system c.loop.growing) (vector_at system bounds)) c.loop.invariant.agrees) c.in_ok-pass.ensures.kept c.in_ok-pass.ensures.quiet c.if-branch.true
+    (c.in_ok-pass.ensures.passed (after_steps (steps_so_far system c.loop.growing) (vector_at system bounds)) c.loop.invariant.agrees) c.in_ok-pass.ensures.kept c.in_ok-pass.ensures.quiet c.if-branch.true
 
 pub loop-smaller : goal.loop-smaller
 loop-smaller c =
     let system = c.args.system.now in
     let bounds = c.args.growing.now.bounds in
     let more = more_steps system c.args.pick.now bounds c.loop.growing c.pass.new.growing c.in_ok-pass.field-0 c.loop.invariant
-    (c.in_ok-pass.ensures.passed (led (steps_so_far system c.loop.growing) (vector_at system bounds)) c.loop.invariant.agrees) c.if-branch.true in
+    (c.in_ok-pass.ensures.passed (after_steps (steps_so_far system c.loop.growing) (vector_at system bounds)) c.loop.invariant.agrees) c.if-branch.true in
     let few = few_steps system c.pass.new.growing c.in_ok-pass.ensures.kept in
     omega arith
 
@@ -37,4 +37,4 @@ returns-clause-grown c =
     let system = c.args.system.now in
     let bounds = c.args.growing.now.bounds in
     next_ended system c.args.pick.now bounds c.loop.growing c.pass.new.growing c.in_ok-pass.field-0 c.loop.invariant
-    (c.in_ok-pass.ensures.passed (led (steps_so_far system c.loop.growing) (vector_at system bounds)) c.loop.invariant.agrees) c.if-branch.false
+    (c.in_ok-pass.ensures.passed (after_steps (steps_so_far system c.loop.growing) (vector_at system bounds)) c.loop.invariant.agrees) c.if-branch.false

@@ -1,5 +1,5 @@
 use Rattle.std.proofs.Common.{◌-◌, ◌*◌, length}
-use Rattle.tm_rounds.proofs.GrownTo.{GrowingTo}
+use Rattle.tm_rounds.proofs.growth.GrownTo.{GrowingTo}
 use Rattle.tm_rounds.proofs.growth.passes.Given as goal
 
 abbrev pub invariant-loop : goal.invariant-loop

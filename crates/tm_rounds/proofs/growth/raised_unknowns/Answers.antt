@@ -1,5 +1,5 @@
 use Rattle.std.proofs.Common.{◌∙◌, ◌∷◌, [], ◌++◌, ap, sym}
-use Rattle.tm_rounds.proofs.Marked.{marked_yes, marked_no}
+use Rattle.tm_rounds.proofs.growth.Marked.{marked_yes, marked_no}
 use Rattle.tm_rounds.proofs.growth.raised_unknowns.Goals as goal
 use Rattle.tm_rounds.proofs.growth.raised_unknowns.Goals.{then-is_raised+in_ok-push, else-is_raised}
 

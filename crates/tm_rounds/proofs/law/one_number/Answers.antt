@@ -1,4 +1,4 @@
-use Rattle.tm_rounds.proofs.OneNumber.{one_number, spent_below}
+use Rattle.tm_rounds.proofs.chains.OneNumber.{one_number, spent_below}
 use Rattle.tm_rounds.proofs.law.one_number.Goals as goal
 
 pub returns-clause-solved : goal.returns-clause-solved

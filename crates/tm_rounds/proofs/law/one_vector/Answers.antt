@@ -1,4 +1,4 @@
-use Rattle.tm_rounds.proofs.Outcomes.{solved_same}
+use Rattle.tm_rounds.proofs.solving.Outcomes.{solved_same}
 use Rattle.tm_rounds.proofs.law.one_vector.Goals as goal
 
 pub returns : goal.returns

@@ -1,6 +1,6 @@
 use Rattle.tm_offers.specs.Policies.{by_best, by_first}
-use Rattle.tm_rounds.proofs.OneNumber.{one_number, spent_below}
-use Rattle.tm_rounds.proofs.OnePosition.{best_is_one, first_is_one}
+use Rattle.tm_rounds.proofs.chains.OneNumber.{one_number, spent_below}
+use Rattle.tm_rounds.proofs.least_laws.OnePosition.{best_is_one, first_is_one}
 use Rattle.tm_rounds.proofs.law.policies_have_one_number.Goals as goal
 
 pub returns-clause-best : goal.returns-clause-best

@@ -1,5 +1,5 @@
 use Rattle.tm_chain.specs.Offers.{Best, First}
-use Rattle.tm_rounds.proofs.Improvements.{best_means, first_means, solved_law}
+use Rattle.tm_rounds.proofs.chains.Improvements.{best_means, first_means, solved_law}
 use Rattle.tm_rounds.proofs.law.solutions_are_ends.Goals as goal
 use Rattle.tm_offers.specs.Policies.{by_best, by_first}
 

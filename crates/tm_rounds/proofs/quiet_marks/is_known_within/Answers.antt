@@ -1,7 +1,7 @@
 use Rattle.std.proofs.Common.{sym, subst}
 use Rattle.tm_frac.specs.Extended.{extended}
 use Rattle.tm_rounds.specs.Growing.{IsKnownWithin}
-use Rattle.tm_rounds.proofs.KnownQuiet.{at_most}
+use Rattle.tm_rounds.proofs.quiet_marks.KnownQuiet.{at_most}
 use Rattle.tm_rounds.proofs.quiet_marks.is_known_within.Goals as goal
 
 pub returns-in-Some : goal.returns-in-Some

@@ -1,7 +1,7 @@
 use Rattle.std.proofs.Common.{◌≡◌, ◌∙◌, ◌%◌, length, get_or, sym, ap}
 use Rattle.std.specs.Prelude.{Some, None}
 use Rattle.tm_offers.specs.Known.{known_value}
-use Rattle.tm_rounds.proofs.KnownQuiet.{known_within}
+use Rattle.tm_rounds.proofs.quiet_marks.KnownQuiet.{known_within}
 use Rattle.tm_rounds.proofs.quiet_marks.is_quiet.Goals as goal
 
 pub returns-in-Some : goal.returns-in-Some

@@ -2,8 +2,8 @@ use Rattle.std.proofs.Common.{◌≡◌, ◌∙◌, ◌+◌, true≢false, lengt
 use Rattle.std.specs.Prelude.{IfSome, IsNone}
 use Rattle.std.proofs.lemmas.Result.{err_from_is_err_and}
 use Rattle.tm_offers.specs.AtBounds.{IsTightPick, IsSupportedPick, IsNextPick}
-use Rattle.tm_rounds.proofs.Outcomes.{after_none, after_learned, after_count, after_tight, offer_halt, after_solved, after_spent, round_halt, after_round, solved_valid, solved_least}
-use Rattle.tm_rounds.proofs.StepCounts.{solved_numbered, solved_shaped}
+use Rattle.tm_rounds.proofs.solving.Outcomes.{after_none, after_learned, after_count, after_tight, offer_halt, after_solved, after_spent, round_halt, after_round, solved_valid, solved_least}
+use Rattle.tm_rounds.proofs.solving.StepCounts.{solved_numbered, solved_shaped}
 use Rattle.tm_rounds.proofs.solving.least.Goals as goal
 
 pub loop-made-init : goal.loop-made-init

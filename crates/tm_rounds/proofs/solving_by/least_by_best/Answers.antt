@@ -2,7 +2,7 @@ use Rattle.std.proofs.Common.{subst}
 use Rattle.tm_offers.specs.declared.offer.Offer.{Offer}
 use Rattle.tm_offers.specs.Offers.{IsFirstGreatest}
 use Rattle.tm_offers.specs.Policies.{by_best}
-use Rattle.tm_rounds.proofs.ByPolicy.{answer_solved, answer_halt}
+use Rattle.tm_rounds.proofs.solving_by.ByPolicy.{answer_solved, answer_halt}
 use Rattle.tm_rounds.proofs.solving_by.least_by_best.Goals as goal
 
 pub returns-clause-solved : goal.returns-clause-solved

@@ -2,7 +2,7 @@ use Rattle.std.proofs.Common.{◌∙◌, ◌∷◌, [], ◌++◌, ◌<◌, ap₂
 use Rattle.std.proofs.lemmas.List.{get_or_read}
 use Rattle.tm_num.specs.Rational.{zero_ℚ}
 use Rattle.tm_rounds.specs.Lows.{no_trace}
-use Rattle.tm_rounds.proofs.TurnItems.{jump_item_here, jump_items_more}
+use Rattle.tm_rounds.proofs.turning.TurnItems.{jump_item_here, jump_items_more}
 use Rattle.tm_rounds.proofs.turning.jump_items.Goals as goal
 
 pub loop-k-preserved : goal.loop-k-preserved

@@ -3,7 +3,7 @@ use Rattle.std.specs.Prelude.{slice_set}
 use Rattle.std.proofs.lemmas.List.{get_or_read}
 use Rattle.tm_num.specs.Rational.{zero_ℚ}
 use Rattle.tm_num.specs.Extended.{fin}
-use Rattle.tm_rounds.proofs.Putting.{length-puts, puts-none, puts-more}
+use Rattle.tm_rounds.proofs.turning.Putting.{length-puts, puts-none, puts-more}
 use Rattle.tm_rounds.proofs.turning.put_numbers.Goals as goal
 
 pub loop-k-init : goal.loop-k-init

@@ -2,7 +2,7 @@ use Rattle.std.proofs.Common.{◌∙◌, ◌<◌, length, map, get_or, ap, ap₂
 use Rattle.std.specs.Prelude.{slice_set}
 use Rattle.std.proofs.lemmas.List.{get_or-map, length-map}
 use Rattle.tm_num.specs.Extended.{pos_inf}
-use Rattle.tm_rounds.proofs.Putting.{length-puts, puts-none, puts-more}
+use Rattle.tm_rounds.proofs.turning.Putting.{length-puts, puts-none, puts-more}
 use Rattle.tm_rounds.proofs.turning.put_tops.Goals as goal
 
 pub loop-k-init : goal.loop-k-init

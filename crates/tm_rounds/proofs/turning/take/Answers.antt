@@ -7,8 +7,8 @@ use Rattle.tm_ray.specs.declared.rate.Rates.{Rates}
 use Rattle.tm_joint.specs.declared.joined.Joined.TheVariants.{Ray}
 use Rattle.tm_rounds.specs.Lows.{no_trace, IsRaised}
 use Rattle.tm_rounds.specs.Turning.{HasSizes}
-use Rattle.tm_rounds.proofs.Putting.{length-puts}
-use Rattle.tm_rounds.proofs.TurnItems.{each_unknown}
+use Rattle.tm_rounds.proofs.turning.Putting.{length-puts}
+use Rattle.tm_rounds.proofs.turning.TurnItems.{each_unknown}
 use Rattle.tm_rounds.proofs.turning.take.Goals as goal
 
 no_rate : RateOf

@@ -1,9 +1,9 @@
 use Rattle.std.proofs.lemmas.Result.{MatchResult-weaker}
 use Rattle.tm_lp.specs.Simplex.{lp}
 use Rattle.tm_joint.specs.Problems.{problem_of}
-use Rattle.tm_rounds.proofs.LayoutReads.{read_sizes}
-use Rattle.tm_rounds.proofs.Turned.{rising}
-use Rattle.tm_rounds.proofs.TurnedBy.{turned_is}
+use Rattle.tm_rounds.proofs.turning.LayoutReads.{read_sizes}
+use Rattle.tm_rounds.proofs.turning.Turned.{rising}
+use Rattle.tm_rounds.proofs.turning.TurnedBy.{turned_is}
 use Rattle.tm_rounds.proofs.turning.turn.Goals as goal
 
 pub joined-requires-clause-rising : goal.joined-requires-clause-rising

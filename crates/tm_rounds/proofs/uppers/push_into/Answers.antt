@@ -5,8 +5,8 @@ use Rattle.tm_cert.specs.Certificates.{evidence_of}
 use Rattle.tm_strategy_lp.specs.Made.{exact_upper}
 use Rattle.tm_offers.specs.AtBounds.{vector_at, row_at}
 use Rattle.tm_offers.specs.Known.{AreKnown}
-use Rattle.tm_offers.proofs.Ranges.{edge_here}
-use Rattle.tm_rounds.proofs.UpperLists.{uppers_to, uppers_none, uppers_yes, uppers_no, pushed}
+use Rattle.tm_offers.proofs.at_bounds.Ranges.{edge_here}
+use Rattle.tm_rounds.proofs.uppers.UpperLists.{uppers_to, uppers_none, uppers_yes, uppers_no, pushed}
 use Rattle.tm_rounds.proofs.uppers.push_into.Goals as goal
 use Rattle.tm_rounds.proofs.uppers.push_into.Goals.{then-edge-point+in_ok-upper+in_ok-push, else-edge-point}
 

@@ -3,7 +3,7 @@ use Rattle.tm_eqsys.specs.View.{equations_of}
 use Rattle.tm_cert.specs.Certificates.{evidence_of}
 use Rattle.tm_offers.specs.AtBounds.{vector_at}
 use Rattle.tm_offers.specs.Known.{AreKnown}
-use Rattle.tm_rounds.proofs.UpperLists.{uppers_to}
+use Rattle.tm_rounds.proofs.uppers.UpperLists.{uppers_to}
 use Rattle.tm_rounds.proofs.uppers.push_into.Given as goal
 
 abbrev pub invariant-loop-number : goal.invariant-loop-number

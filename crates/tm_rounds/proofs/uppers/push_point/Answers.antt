@@ -7,7 +7,7 @@ use Rattle.tm_offers.specs.AtBounds.{vector_at}
 use Rattle.tm_offers.specs.Known.{AreKnown}
 use Rattle.tm_offers.specs.Offers.{is_top}
 use Rattle.tm_rounds.specs.Uppers.{uppers_of_rows, uppers_into}
-use Rattle.tm_rounds.proofs.UpperLists.{rows_top, rows_edges}
+use Rattle.tm_rounds.proofs.uppers.UpperLists.{rows_top, rows_edges}
 use Rattle.tm_rounds.proofs.uppers.push_point.Goals as goal
 use Rattle.tm_rounds.proofs.uppers.push_point.Goals.{then-not-is_unlimited+in_ok-push_into, else-not-is_unlimited}
 

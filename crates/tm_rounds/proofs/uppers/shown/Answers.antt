@@ -1,4 +1,4 @@
-use Rattle.tm_offers.proofs.KnownValues.{known_less, known_found}
+use Rattle.tm_offers.proofs.at_bounds.KnownValues.{known_less, known_found}
 use Rattle.tm_rounds.proofs.uppers.shown.Goals as goal
 
 pub returns-in-Some-clause-upper : goal.returns-in-Some-clause-upper

@@ -4,7 +4,7 @@ use Rattle.tm_eqsys.specs.View.{equations_of}
 use Rattle.tm_cert.specs.Certificates.{evidence_of}
 use Rattle.tm_offers.specs.AtBounds.{vector_at}
 use Rattle.tm_rounds.specs.Uppers.{uppers_of_rows}
-use Rattle.tm_rounds.proofs.UpperLists.{uppers_of_points, points_more, all_points}
+use Rattle.tm_rounds.proofs.uppers.UpperLists.{uppers_of_points, points_more, all_points}
 use Rattle.tm_rounds.proofs.uppers.uppers_at.Goals as goal
 
 pub loop-point-preserved : goal.loop-point-preserved

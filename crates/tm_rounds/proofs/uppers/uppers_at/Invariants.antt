@@ -3,7 +3,7 @@ use Rattle.tm_eqsys.specs.View.{equations_of}
 use Rattle.tm_cert.specs.Certificates.{evidence_of}
 use Rattle.tm_offers.specs.AtBounds.{vector_at}
 use Rattle.tm_offers.specs.Known.{AreKnown}
-use Rattle.tm_rounds.proofs.UpperLists.{uppers_of_points}
+use Rattle.tm_rounds.proofs.uppers.UpperLists.{uppers_of_points}
 use Rattle.tm_rounds.proofs.uppers.uppers_at.Given as goal
 
 abbrev pub invariant-loop-point : goal.invariant-loop-point

@@ -6,7 +6,7 @@ use Rattle.tm_num.specs.Rational.{zero_ℚ}
 use Rattle.tm_lp.specs.Simplex.{names}
 use Rattle.tm_lp.specs.Table.{Agree, pivot_table}
 use Rattle.tm_lp.specs.Run.{main_phase, aux_phase}
-use Rattle.tm_lp.proofs.PhaseRuns.{lowest_is}
+use Rattle.tm_lp.proofs.run.PhaseRuns.{lowest_is}
 use Rattle.tm_dict.specs.declared.problem.Row.{Row}
 use Rattle.tm_dict.specs.Exact.{exact}
 use Rattle.tm_frac.specs.Operation.{first_wide}
@@ -16,8 +16,8 @@ use Rattle.tm_simplex.specs.declared.phase.End.TheVariants.{Left}
 use Rattle.tm_simplex.specs.Operations.{first_refused, whole_phase, run_operations}
 use Rattle.tm_simplex.specs.Outcomes.{IsOutcomeOf}
 use Rattle.tm_simplex.specs.Answers.{EndsPhase, EntersRefused, RefusesRun}
-use Rattle.tm_simplex.proofs.Begins.{first_pivot, begins_aux, two_goals, begins_main}
-use Rattle.tm_simplex.proofs.Ends.{shown_end, cols_apart_end, multipliers_end, lp_main_is, lp_empty_is, refused_first, refused_aux, refused_main, run_main, fits_empty, not_left, entered_agrees}
+use Rattle.tm_simplex.proofs.method.Begins.{first_pivot, begins_aux, two_goals, begins_main}
+use Rattle.tm_simplex.proofs.method.Ends.{shown_end, cols_apart_end, multipliers_end, lp_main_is, lp_empty_is, refused_first, refused_aux, refused_main, run_main, fits_empty, not_left, entered_agrees}
 use Rattle.tm_simplex.proofs.method.both_phases.Goals as goal
 
 pub enter_auxiliary-requires-clause-row : goal.enter_auxiliary-requires-clause-row

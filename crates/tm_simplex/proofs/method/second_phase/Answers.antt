@@ -4,7 +4,7 @@ use Rattle.tm_dict.specs.declared.problem.Row.{Row}
 use Rattle.tm_dict.specs.Exact.{exact}
 use Rattle.tm_simplex.specs.declared.phase.End.TheVariants.{AtBest, AtRay}
 use Rattle.tm_simplex.specs.Answers.{EndsPhase}
-use Rattle.tm_simplex.proofs.Ends.{rows_apart_end, cols_apart_end, best_end, unbounded_end}
+use Rattle.tm_simplex.proofs.method.Ends.{rows_apart_end, cols_apart_end, best_end, unbounded_end}
 use Rattle.tm_simplex.proofs.method.second_phase.Goals as goal
 
 pub best-requires-clause-rows_apart : goal.best-requires-clause-rows_apart

@@ -4,14 +4,14 @@ use Rattle.std.proofs.lemmas.Result.{on_ok_weaker, IfOk-weaker, IfErr-weaker}
 use Rattle.tm_lp.specs.Simplex.{lp}
 use Rattle.tm_lp.specs.Table.{Agree}
 use Rattle.tm_lp.specs.Run.{main_phase}
-use Rattle.tm_lp.proofs.Programs.{lp_is}
+use Rattle.tm_lp.proofs.search.Programs.{lp_is}
 use Rattle.tm_dict.specs.Exact.{exact}
 use Rattle.tm_simplex.specs.Operations.{first_refused, whole_phase, run_operations}
 use Rattle.tm_simplex.specs.Outcomes.{IsOutcomeOf, HasEvidence, SaysSupremum}
 use Rattle.tm_simplex.specs.Answers.{RefusesRun, main_outcome}
-use Rattle.tm_simplex.proofs.Begins.{begins_plain}
-use Rattle.tm_simplex.proofs.Ends.{lp_plain_is, run_plain, refused_same, start_plain, start_first}
-use Rattle.tm_simplex.proofs.Evidences.{evidence_of, supremum_of}
+use Rattle.tm_simplex.proofs.method.Begins.{begins_plain}
+use Rattle.tm_simplex.proofs.method.Ends.{lp_plain_is, run_plain, refused_same, start_plain, start_first}
+use Rattle.tm_simplex.proofs.method.Evidences.{evidence_of, supremum_of}
 use Rattle.tm_simplex.proofs.method.solve.Goals as goal
 
 pub second_phase-requires-clause-begins : goal.second_phase-requires-clause-begins

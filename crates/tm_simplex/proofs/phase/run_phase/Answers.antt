@@ -8,7 +8,7 @@ use Rattle.tm_dict.specs.declared.problem.Row.{Row}
 use Rattle.tm_dict.specs.Build.{width_of}
 use Rattle.tm_dict.specs.Exact.{exact}
 use Rattle.tm_simplex.specs.Choices.{StepIs, StepRefused}
-use Rattle.tm_simplex.proofs.LoopSteps.{stands_first, ends_best, ends_ray, refuses, capped_next, stands_next, stands_less, ends_left}
+use Rattle.tm_simplex.proofs.phase.LoopSteps.{stands_first, ends_best, ends_ray, refuses, capped_next, stands_next, stands_less, ends_left}
 use Rattle.tm_simplex.proofs.phase.run_phase.Goals as goal
 
 wide_by : (b : Bool) (n : ℕ) → n + bool_byte b ≡ width_of b n

@@ -1,10 +1,10 @@
 use Rattle.std.proofs.Common.{◌≡◌, false}
 use Rattle.tm_lp.specs.Simplex.{names}
 use Rattle.tm_lp.specs.Run.{phase_of}
-use Rattle.tm_lp.proofs.PhasePlaces.{pivots_left}
+use Rattle.tm_lp.proofs.search.PhasePlaces.{pivots_left}
 use Rattle.tm_dict.specs.Build.{width_of}
 use Rattle.tm_dict.specs.Exact.{exact}
-use Rattle.tm_simplex.proofs.PhaseLoops.{Stands}
+use Rattle.tm_simplex.proofs.phase.PhaseLoops.{Stands}
 use Rattle.tm_simplex.proofs.phase.run_phase.Given as goal
 
 abbrev pub invariant-loop-col : goal.invariant-loop-col

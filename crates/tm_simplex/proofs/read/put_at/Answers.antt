@@ -1,5 +1,5 @@
 use Rattle.std.proofs.Common.{◌≡◌, ◌<◌, ◌-◌, length, arith}
-use Rattle.tm_simplex.proofs.Placing.{put_in}
+use Rattle.tm_simplex.proofs.read.Placing.{put_in}
 use Rattle.tm_simplex.proofs.read.put_at.Goals as goal
 
 pub returns-then-place-len : goal.returns-then-place-len

@@ -1,6 +1,6 @@
 use Rattle.std.proofs.Common.{sym, subst, subst₂}
 use Rattle.tm_simplex.specs.Choices.{CandidateOf, IsBefore}
-use Rattle.tm_simplex.proofs.Scans.{candidate_kept, candidate_found, candidate_first, candidate_none}
+use Rattle.tm_simplex.proofs.scan.Scans.{candidate_kept, candidate_found, candidate_first, candidate_none}
 use Rattle.tm_simplex.proofs.scan.better.Goals as goal
 use Rattle.tm_simplex.proofs.scan.better.Goals.{in-Some+else-not-is_before, in_default}
 

@@ -1,5 +1,5 @@
 use Rattle.std.proofs.Common.{sym, ◌∙◌}
-use Rattle.tm_simplex.proofs.Scans.{before_less, before_equal, before_greater}
+use Rattle.tm_simplex.proofs.scan.Scans.{before_less, before_equal, before_greater}
 use Rattle.tm_simplex.proofs.scan.is_before.Goals as goal
 
 pub returns-in-Less : goal.returns-in-Less

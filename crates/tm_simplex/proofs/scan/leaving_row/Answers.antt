@@ -2,10 +2,10 @@ use Rattle.std.proofs.Common.{◌≡◌, ℕ, ◌<◌, None, subst, arith}
 use Rattle.std.proofs.lemmas.Result.{err_from_is_err_and}
 use Rattle.tm_frac.specs.Operation.{first_wide, operation_of}
 use Rattle.tm_dict.specs.Listed.{joined}
-use Rattle.tm_dict.proofs.Joins.{joined_fits_none, joined_fits_more}
+use Rattle.tm_dict.proofs.listed.Joins.{joined_fits_none, joined_fits_more}
 use Rattle.tm_simplex.specs.Operations.{ratio_operation}
 use Rattle.tm_simplex.specs.Choices.{CandidateOf}
-use Rattle.tm_simplex.proofs.Scans.{ratios_refused, ratios_fit}
+use Rattle.tm_simplex.proofs.scan.Scans.{ratios_refused, ratios_fit}
 use Rattle.tm_simplex.proofs.scan.leaving_row.Goals as goal
 
 pub loop-row-init : goal.loop-row-init

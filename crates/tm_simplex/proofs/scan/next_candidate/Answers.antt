@@ -1,6 +1,6 @@
 use Rattle.std.proofs.Common.{subst}
 use Rattle.tm_simplex.specs.Choices.{RatioAt}
-use Rattle.tm_simplex.proofs.Scans.{candidate_past}
+use Rattle.tm_simplex.proofs.scan.Scans.{candidate_past}
 use Rattle.tm_simplex.proofs.scan.next_candidate.Goals as goal
 
 pub returns-in-None : goal.returns-in-None

@@ -4,8 +4,8 @@ use Rattle.tm_num.specs.Rational.{zero_ℚ, neg_ℚ, ◌≤ℚ◌, ◌<ℚ◌}
 use Rattle.tm_frac.specs.Operation.{first_wide, operation_of}
 use Rattle.tm_simplex.specs.Operations.{ratio_operation}
 use Rattle.tm_simplex.specs.Choices.{ratio_at}
-use Rattle.tm_simplex.proofs.Signs.{sign_ge, sign_lt}
-use Rattle.tm_simplex.proofs.Scans.{ratio_none, ratio_some, negated_not_zero}
+use Rattle.tm_simplex.proofs.scan.Signs.{sign_ge, sign_lt}
+use Rattle.tm_simplex.proofs.scan.Scans.{ratio_none, ratio_some, negated_not_zero}
 use Rattle.tm_simplex.proofs.scan.ratio.Goals as goal
 
 pub returns-then-num-ge0 : goal.returns-then-num-ge0

@@ -2,8 +2,8 @@ use Rattle.std.proofs.Common.{◌≡◌, ◌<◌, ◌≤◌, ℕ, Option, Some, 
 use Rattle.tm_num.specs.Rational.{zero_ℚ, ◌≤ℚ◌, ◌<ℚ◌}
 use Rattle.tm_lp.specs.Table.{Table}
 use Rattle.tm_simplex.specs.Choices.{EntersAt}
-use Rattle.tm_simplex.proofs.Signs.{sign_le, sign_gt}
-use Rattle.tm_simplex.proofs.Scans.{enters_past, enters_kept, enters_smaller, enters_first, enters_none}
+use Rattle.tm_simplex.proofs.scan.Signs.{sign_le, sign_gt}
+use Rattle.tm_simplex.proofs.scan.Scans.{enters_past, enters_kept, enters_smaller, enters_first, enters_none}
 use Rattle.tm_simplex.proofs.scan.smaller_column.Goals as goal
 
 pub returns-then-num-le0 : goal.returns-then-num-le0

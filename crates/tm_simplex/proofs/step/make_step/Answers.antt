@@ -1,5 +1,5 @@
 use Rattle.std.proofs.Common.{◌≡◌, inl, inr, refl, sym, ◌∙◌, subst}
-use Rattle.tm_num.proofs.Laws.{ne_of_lt_ℚ}
+use Rattle.tm_num.proofs.rational.Laws.{ne_of_lt_ℚ}
 use Rattle.tm_dict.proofs.Widths.{first_wide_later}
 use Rattle.tm_dict.specs.PivotOperations.{pivot_operations}
 use Rattle.tm_simplex.specs.Operations.{ratio_operations}

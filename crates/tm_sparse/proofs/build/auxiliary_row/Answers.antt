@@ -1,10 +1,10 @@
 use Rattle.std.proofs.Common.{true, [], ap, sym, ◌∙◌, subst}
 use Rattle.tm_num.specs.Rational.{zero_ℚ, one_ℚ, neg_ℚ}
 use Rattle.tm_dict.specs.Build.{zeros, auxiliary_entries}
-use Rattle.tm_dict.proofs.DictBuilds.{length-zeros}
+use Rattle.tm_dict.proofs.listed.DictBuilds.{length-zeros}
 use Rattle.tm_sparse.specs.Build.{end_pushed}
 use Rattle.tm_sparse.specs.Keeps.{Lists}
-use Rattle.tm_sparse.proofs.Listing.{lists_zeros, lists_end}
+use Rattle.tm_sparse.proofs.build.Listing.{lists_zeros, lists_end}
 use Rattle.tm_sparse.proofs.build.auxiliary_row.Goals as goal
 
 pub returns : goal.returns

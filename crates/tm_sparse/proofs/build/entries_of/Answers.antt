@@ -2,7 +2,7 @@ use Rattle.std.proofs.Common.{◌+◌, ◌≤◌, length, map, take, sym, ◌∙
 use Rattle.std.proofs.lemmas.List.{length-map, length-take-le}
 use Rattle.tm_sparse.specs.Build.{signed_by}
 use Rattle.tm_sparse.specs.Keeps.{Lists}
-use Rattle.tm_sparse.proofs.Listing.{lists_more}
+use Rattle.tm_sparse.proofs.build.Listing.{lists_more}
 use Rattle.tm_sparse.proofs.build.entries_of.Goals as goal
 
 pub loop-k-preserved : goal.loop-k-preserved

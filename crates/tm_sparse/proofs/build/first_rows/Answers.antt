@@ -7,7 +7,7 @@ use Rattle.tm_sparse.specs.declared.entry.SparseRow.{SparseRow}
 use Rattle.tm_sparse.specs.Keeps.{Lists}
 use Rattle.tm_sparse.specs.Rows.{row_at}
 use Rattle.tm_sparse.specs.Build.{IsFirst}
-use Rattle.tm_sparse.proofs.Starting.{first_one, first_two}
+use Rattle.tm_sparse.proofs.build.Starting.{first_one, first_two}
 use Rattle.tm_sparse.proofs.build.first_rows.Goals as goal
 use Rattle.tm_sparse.proofs.build.first_rows.Goals.{then-auxiliary+in_ok-auxiliary_row+in_ok-push, else-auxiliary}
 

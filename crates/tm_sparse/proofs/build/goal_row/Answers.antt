@@ -3,7 +3,7 @@ use Rattle.std.proofs.lemmas.List.{length-map}
 use Rattle.tm_num.specs.Rational.{zero_ℚ}
 use Rattle.tm_dict.specs.Build.{goal_entries}
 use Rattle.tm_sparse.specs.Keeps.{Lists}
-use Rattle.tm_sparse.proofs.Listing.{signed_none, lists_end}
+use Rattle.tm_sparse.proofs.build.Listing.{signed_none, lists_end}
 use Rattle.tm_sparse.proofs.build.goal_row.Goals as goal
 
 pub returns : goal.returns

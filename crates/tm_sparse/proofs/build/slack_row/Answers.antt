@@ -3,7 +3,7 @@ use Rattle.std.proofs.lemmas.List.{length-map}
 use Rattle.tm_num.specs.Rational.{one_ℚ, neg_ℚ}
 use Rattle.tm_dict.specs.Build.{slack_entries}
 use Rattle.tm_sparse.specs.Keeps.{Lists}
-use Rattle.tm_sparse.proofs.Listing.{lists_end}
+use Rattle.tm_sparse.proofs.build.Listing.{lists_end}
 use Rattle.tm_sparse.proofs.build.slack_row.Goals as goal
 
 pub returns : goal.returns

@@ -6,7 +6,7 @@ use Rattle.tm_dict.specs.declared.problem.Row.{Row}
 use Rattle.tm_dict.specs.Build.{slack_entries}
 use Rattle.tm_sparse.specs.Keeps.{Lists}
 use Rattle.tm_sparse.specs.Rows.{row_at}
-use Rattle.tm_sparse.proofs.RowsAt.{row_pushed, row_before}
+use Rattle.tm_sparse.proofs.place.RowsAt.{row_pushed, row_before}
 use Rattle.tm_sparse.proofs.build.slack_rows.Goals as goal
 
 pub slack_row-requires : goal.slack_row-requires

@@ -1,7 +1,7 @@
 use Rattle.std.proofs.Common.{◌≢◌, true≢false, sym, ◌∙◌}
 use Rattle.tm_num.specs.Rational.{zero_ℚ}
-use Rattle.tm_sparse.proofs.SingleEntries.{merged_zero, merged_sum}
-use Rattle.tm_sparse.proofs.Units.{unit_sum}
+use Rattle.tm_sparse.proofs.merge.SingleEntries.{merged_zero, merged_sum}
+use Rattle.tm_sparse.proofs.formulas.Units.{unit_sum}
 use Rattle.tm_sparse.proofs.formulas.merged_of.Goals as goal
 
 pub returns-then-is_zero : goal.returns-then-is_zero

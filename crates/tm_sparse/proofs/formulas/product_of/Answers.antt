@@ -3,7 +3,7 @@ use Rattle.tm_num.specs.Rational.{zero_ℚ, ◌*ℚ◌}
 use Rattle.tm_frac.specs.declared.wide.Op.TheVariants.{Mul}
 use Rattle.tm_frac.specs.Operation.{Answers}
 use Rattle.tm_dict.proofs.Entries.{all_made, product_zero, product_made}
-use Rattle.tm_sparse.proofs.Units.{unit_answer}
+use Rattle.tm_sparse.proofs.formulas.Units.{unit_answer}
 use Rattle.tm_sparse.proofs.formulas.product_of.Goals as goal
 
 pub returns-then-is_zero : goal.returns-then-is_zero

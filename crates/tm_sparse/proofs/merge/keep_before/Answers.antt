@@ -3,8 +3,8 @@ use Rattle.std.proofs.lemmas.List.{drop_more, get_or_default}
 use Rattle.tm_sparse.specs.declared.entry.Entry.{Entry}
 use Rattle.tm_sparse.specs.Entries.{HasNoZero}
 use Rattle.tm_sparse.specs.Merge.{kept, Merging}
-use Rattle.tm_sparse.proofs.Lists.{no_zero_pushed}
-use Rattle.tm_sparse.proofs.Merging.{merging_kept}
+use Rattle.tm_sparse.proofs.merge.Lists.{no_zero_pushed}
+use Rattle.tm_sparse.proofs.merge.Merging.{merging_kept}
 use Rattle.tm_sparse.proofs.merge.keep_before.Goals as goal
 
 pub loop-place-init : goal.loop-place-init

@@ -5,10 +5,10 @@ use Rattle.tm_dict.specs.Formulas.{added_operations}
 use Rattle.tm_dict.specs.PivotOperations.{added_row_operations}
 use Rattle.tm_sparse.specs.Entries.{value_at, HasNoZero, head_value, pushed}
 use Rattle.tm_sparse.specs.Merge.{StartsAt, Merging}
-use Rattle.tm_sparse.proofs.Lists.{no_zero_pushed}
-use Rattle.tm_sparse.proofs.Gaps.{left_all}
-use Rattle.tm_sparse.proofs.Answering.{fault_of_more}
-use Rattle.tm_sparse.proofs.Merging.{merging_none, merging_entry, entry_refused, merging_end}
+use Rattle.tm_sparse.proofs.merge.Lists.{no_zero_pushed}
+use Rattle.tm_sparse.proofs.merge.Gaps.{left_all}
+use Rattle.tm_sparse.proofs.rows.Answering.{fault_of_more}
+use Rattle.tm_sparse.proofs.merge.Merging.{merging_none, merging_entry, entry_refused, merging_end}
 use Rattle.tm_sparse.proofs.merge.merge.Goals as goal
 
 pub loop-j-init : goal.loop-j-init

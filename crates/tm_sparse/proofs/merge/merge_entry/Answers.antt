@@ -4,9 +4,9 @@ use Rattle.tm_frac.specs.Operation.{first_wide}
 use Rattle.tm_dict.specs.Formulas.{added_operations}
 use Rattle.tm_sparse.specs.Entries.{head_value, behind}
 use Rattle.tm_sparse.specs.Rows.{merged}
-use Rattle.tm_sparse.proofs.SingleEntries.{merged_term}
-use Rattle.tm_sparse.proofs.Answering.{pushed_value}
-use Rattle.tm_sparse.proofs.Gaps.{missed, missed_all}
+use Rattle.tm_sparse.proofs.merge.SingleEntries.{merged_term}
+use Rattle.tm_sparse.proofs.rows.Answering.{pushed_value}
+use Rattle.tm_sparse.proofs.merge.Gaps.{missed, missed_all}
 use Rattle.tm_sparse.proofs.merge.merge_entry.Goals as goal
 use Rattle.tm_sparse.proofs.merge.merge_entry.Goals.{else-i-entries-via-then-i-entries+else-entries-i, else-i-entries-via-else-i-entries}
 

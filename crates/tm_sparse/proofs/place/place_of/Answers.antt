@@ -1,8 +1,8 @@
 use Rattle.std.proofs.Common.{◌≡◌, ◌+◌, ◌-◌, ◌/◌, ◌<◌, ⊎_elim, length, ap, arith}
 use Rattle.std.proofs.lemmas.Bool.{cases_lt}
 use Rattle.tm_sparse.specs.Entries.{col_at}
-use Rattle.tm_sparse.proofs.Lists.{cols_rise}
-use Rattle.tm_sparse.proofs.RowsAt.{col_read}
+use Rattle.tm_sparse.proofs.merge.Lists.{cols_rise}
+use Rattle.tm_sparse.proofs.place.RowsAt.{col_read}
 use Rattle.tm_sparse.proofs.place.place_of.Goals as goal
 
 pub loop-low-preserved-then-entries-middle : goal.loop-low-preserved-then-entries-middle

@@ -3,8 +3,8 @@ use Rattle.std.proofs.lemmas.Bool.{cases_lt}
 use Rattle.std.proofs.lemmas.List.{get_or_default}
 use Rattle.tm_sparse.specs.declared.entry.Entry.{Entry}
 use Rattle.tm_sparse.specs.Entries.{col_at}
-use Rattle.tm_sparse.proofs.Lists.{cols_rise, value_read, value_none}
-use Rattle.tm_sparse.proofs.RowsAt.{col_read}
+use Rattle.tm_sparse.proofs.merge.Lists.{cols_rise, value_read, value_none}
+use Rattle.tm_sparse.proofs.place.RowsAt.{col_read}
 use Rattle.tm_sparse.proofs.place.value_in.Goals as goal
 use Rattle.tm_sparse.proofs.place.value_in.Goals.{else-place-entries-via-then-place-entries+else-entries-place, else-place-entries-via-else-place-entries}
 

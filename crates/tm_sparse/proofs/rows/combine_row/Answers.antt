@@ -3,12 +3,12 @@ use Rattle.std.proofs.lemmas.Result.{err_from_is_err_and}
 use Rattle.tm_frac.specs.Operation.{first_wide, operation_of}
 use Rattle.tm_dict.specs.Formulas.{combined_row}
 use Rattle.tm_dict.specs.PivotOperations.{added_row_operations, combination_row_operations}
-use Rattle.tm_dict.proofs.RowSteps.{combined_still, combination_still, combined_sooner}
+use Rattle.tm_dict.proofs.pivot_operations.RowSteps.{combined_still, combination_still, combined_sooner}
 use Rattle.tm_sparse.specs.Entries.{value_at, Rises}
 use Rattle.tm_sparse.specs.Keeps.{Keeps}
-use Rattle.tm_sparse.proofs.Lists.{keeps_same, keeps_itself}
-use Rattle.tm_sparse.proofs.Answering.{fault_of_more}
-use Rattle.tm_sparse.proofs.RowsOver.{combination_later}
+use Rattle.tm_sparse.proofs.merge.Lists.{keeps_same, keeps_itself}
+use Rattle.tm_sparse.proofs.rows.Answering.{fault_of_more}
+use Rattle.tm_sparse.proofs.rows.RowsOver.{combination_later}
 use Rattle.tm_sparse.proofs.rows.combine_row.Goals as goal
 
 pub returns-then-is_zero-clause-combined : goal.returns-then-is_zero-clause-combined

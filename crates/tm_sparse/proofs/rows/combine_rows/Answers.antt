@@ -7,9 +7,9 @@ use Rattle.tm_dict.specs.PivotOperations.{combination_row_operations}
 use Rattle.tm_sparse.specs.Entries.{value_at, Rises, HasNoZero}
 use Rattle.tm_sparse.specs.Keeps.{Keeps}
 use Rattle.tm_sparse.specs.Rows.{numbers, rows_operations}
-use Rattle.tm_sparse.proofs.RowsAt.{row_read, row_kept}
-use Rattle.tm_sparse.proofs.Answering.{fault_of_more}
-use Rattle.tm_sparse.proofs.RowsOver.{rows_more, rows_past, no_zeros_more, fits_none, fits_more, fits_past, row_refused}
+use Rattle.tm_sparse.proofs.place.RowsAt.{row_read, row_kept}
+use Rattle.tm_sparse.proofs.rows.Answering.{fault_of_more}
+use Rattle.tm_sparse.proofs.rows.RowsOver.{rows_more, rows_past, no_zeros_more, fits_none, fits_more, fits_past, row_refused}
 use Rattle.tm_sparse.proofs.rows.combine_rows.Goals as goal
 use Rattle.tm_sparse.proofs.rows.combine_rows.Goals.{then-i-row+in_ok-combine_row, else-i-row}
 

@@ -6,10 +6,10 @@ use Rattle.tm_dict.specs.Formulas.{divided, divided_operations}
 use Rattle.tm_dict.specs.PivotOperations.{division_row_operations}
 use Rattle.tm_sparse.specs.declared.entry.Entry.{Entry}
 use Rattle.tm_sparse.specs.Entries.{value_at, HasNoZero}
-use Rattle.tm_sparse.proofs.Lists.{no_zero_pushed}
-use Rattle.tm_sparse.proofs.Gaps.{left_all}
-use Rattle.tm_sparse.proofs.Answering.{pushed_value, passed_fault, fault_of_more}
-use Rattle.tm_sparse.proofs.Dividing.{Dividing, dividing_none, dividing_more, dividing_refused, dividing_end}
+use Rattle.tm_sparse.proofs.merge.Lists.{no_zero_pushed}
+use Rattle.tm_sparse.proofs.merge.Gaps.{left_all}
+use Rattle.tm_sparse.proofs.rows.Answering.{pushed_value, passed_fault, fault_of_more}
+use Rattle.tm_sparse.proofs.rows.Dividing.{Dividing, dividing_none, dividing_more, dividing_refused, dividing_end}
 use Rattle.tm_sparse.proofs.rows.divide_row.Goals as goal
 
 pub loop-i-init : goal.loop-i-init

@@ -1,6 +1,6 @@
 use Rattle.std.proofs.Common.{ℕ, drop}
 use Rattle.tm_sparse.specs.Entries.{value_at, Rises, HasNoZero}
-use Rattle.tm_sparse.proofs.Dividing.{Dividing}
+use Rattle.tm_sparse.proofs.rows.Dividing.{Dividing}
 use Rattle.tm_sparse.proofs.rows.divide_row.Given as goal
 
 abbrev pub invariant-loop-i : goal.invariant-loop-i

@@ -7,10 +7,10 @@ use Rattle.tm_dict.specs.PivotOperations.{division_row_operations}
 use Rattle.tm_sparse.specs.Entries.{value_at, Rises, HasNoZero}
 use Rattle.tm_sparse.specs.Keeps.{Keeps}
 use Rattle.tm_sparse.specs.Rows.{row_at, numbers, rows_operations, exchange_operations}
-use Rattle.tm_sparse.proofs.RowsAt.{row_read}
-use Rattle.tm_sparse.proofs.Answering.{fault_of_more}
-use Rattle.tm_sparse.proofs.RowsOver.{no_zeros_more}
-use Rattle.tm_sparse.proofs.Exchanging.{col_below, exchange_made, exchange_later, exchange_sooner}
+use Rattle.tm_sparse.proofs.place.RowsAt.{row_read}
+use Rattle.tm_sparse.proofs.rows.Answering.{fault_of_more}
+use Rattle.tm_sparse.proofs.rows.RowsOver.{no_zeros_more}
+use Rattle.tm_sparse.proofs.rows.Exchanging.{col_below, exchange_made, exchange_later, exchange_sooner}
 use Rattle.tm_sparse.proofs.rows.exchange.Goals as goal
 
 pub returns-in_err-divide_row-clause-refused : goal.returns-in_err-divide_row-clause-refused

@@ -1,5 +1,5 @@
 use Rattle.std.proofs.Common.{nat_abs, ap, sym, ◌∙◌}
-use Rattle.tm_sparse.proofs.Units.{one_by_parts, one_read}
+use Rattle.tm_sparse.proofs.formulas.Units.{one_by_parts, one_read}
 use Rattle.tm_sparse.proofs.unit.is_one.Goals as goal
 
 pub returns : goal.returns

@@ -1,6 +1,6 @@
 use Rattle.std.proofs.Common.{◌∙◌, subst}
 use Rattle.tm_sparse.specs.Units.{IsUnitBy}
-use Rattle.tm_sparse.proofs.Units.{times_one, times_negated}
+use Rattle.tm_sparse.proofs.formulas.Units.{times_one, times_negated}
 use Rattle.tm_sparse.proofs.unit.unit_product.Goals as goal
 
 pub returns-then-negated-clause-value : goal.returns-then-negated-clause-value

@@ -1,4 +1,4 @@
-use Rattle.tm_strategy.proofs.FewRounds.{rounds_fewer}
+use Rattle.tm_strategy.proofs.round.FewRounds.{rounds_fewer}
 use Rattle.tm_strategy.proofs.law.fewer_rounds_than_picks.Goals as goal
 
 pub returns : goal.returns

@@ -1,4 +1,4 @@
-use Rattle.tm_strategy.proofs.NoTwice.{no_twice}
+use Rattle.tm_strategy.proofs.round.NoTwice.{no_twice}
 use Rattle.tm_strategy.proofs.law.no_pick_twice.Goals as goal
 
 pub returns : goal.returns

@@ -1,6 +1,6 @@
 use Rattle.tm_chain.specs.Offers.{Best, First}
 use Rattle.tm_strategy_lp.specs.ChainLaws.{Passing}
-use Rattle.tm_strategy_lp.proofs.Retraced.{short_law}
+use Rattle.tm_strategy_lp.proofs.rounds.Retraced.{short_law}
 use Rattle.tm_strategy_lp.proofs.law.chains_are_short.Goals as goal
 
 pub returns-clause-best : goal.returns-clause-best

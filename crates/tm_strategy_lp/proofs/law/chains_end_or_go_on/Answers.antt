@@ -1,6 +1,6 @@
 use Rattle.tm_chain.specs.Offers.{Best, First}
-use Rattle.tm_chain.proofs.OnePosition.{best_is_one, first_is_one}
-use Rattle.tm_strategy_lp.proofs.Choosing.{decided_law, every_decided, best_chooses, first_chooses}
+use Rattle.tm_chain.proofs.offers.OnePosition.{best_is_one, first_is_one}
+use Rattle.tm_strategy_lp.proofs.chain_laws.Choosing.{decided_law, every_decided, best_chooses, first_chooses}
 use Rattle.tm_strategy_lp.proofs.law.chains_end_or_go_on.Goals as goal
 
 pub returns-clause-best : goal.returns-clause-best

@@ -1,6 +1,6 @@
 use Rattle.tm_chain.specs.Offers.{Best, First}
 use Rattle.tm_strategy_lp.specs.ChainLaws.{Passing}
-use Rattle.tm_strategy_lp.proofs.Retraced.{least_law}
+use Rattle.tm_strategy_lp.proofs.rounds.Retraced.{least_law}
 use Rattle.tm_strategy_lp.proofs.law.ends_are_least.Goals as goal
 
 pub returns-clause-best : goal.returns-clause-best

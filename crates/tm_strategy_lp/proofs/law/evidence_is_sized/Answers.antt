@@ -1,4 +1,4 @@
-use Rattle.tm_strategy_lp.proofs.EvidenceWords.{evidence_sizes}
+use Rattle.tm_strategy_lp.proofs.evidence.EvidenceWords.{evidence_sizes}
 use Rattle.tm_strategy_lp.proofs.law.evidence_is_sized.Goals as goal
 
 pub returns : goal.returns

@@ -1,4 +1,4 @@
-use Rattle.tm_strategy_lp.proofs.Choosing.{offers_law}
+use Rattle.tm_strategy_lp.proofs.chain_laws.Choosing.{offers_law}
 use Rattle.tm_strategy_lp.proofs.law.offers_are_there.Goals as goal
 
 pub returns : goal.returns

@@ -1,4 +1,4 @@
-use Rattle.tm_strategy_lp.proofs.EvidenceWords.{raise_is_read}
+use Rattle.tm_strategy_lp.proofs.evidence.EvidenceWords.{raise_is_read}
 use Rattle.tm_strategy_lp.proofs.law.raises_are_read.Goals as goal
 
 pub returns : goal.returns

@@ -1,5 +1,5 @@
 use Rattle.tm_chain.specs.Offers.{Best, First, By}
-use Rattle.tm_strategy_lp.proofs.Choosing.{improvements_law}
+use Rattle.tm_strategy_lp.proofs.chain_laws.Choosing.{improvements_law}
 use Rattle.tm_strategy_lp.proofs.law.rounds_are_improvements.Goals as goal
 
 pub returns-clause-best : goal.returns-clause-best

@@ -7,9 +7,9 @@ use Rattle.tm_top.specs.Reports.{IsPutOf, IsReportOn}
 use Rattle.tm_top.specs.Run.{FailsOnlyIn}
 use Rattle.tm_top.specs.Texts.{IsSolvedSystem}
 use Rattle.tm_cli.specs.declared.request.Request.TheVariants.{Analyse}
-use Rattle.tm_top.proofs.Answered.{content_once, texts_answer, with_text_once}
-use Rattle.tm_top.proofs.Refused.{unloaded_not_done}
-use Rattle.tm_top.proofs.Worded.{output_map}
+use Rattle.tm_top.proofs.analyse.Answered.{content_once, texts_answer, with_text_once}
+use Rattle.tm_top.proofs.check.Refused.{unloaded_not_done}
+use Rattle.tm_top.proofs.analyse.Worded.{output_map}
 use Rattle.tm_top.proofs.analyse.analyse.Goals as goal
 
 pub returns-in-Ok-clause-answer : goal.returns-in-Ok-clause-answer

@@ -1,5 +1,5 @@
-use Rattle.tm_top.proofs.Benched.{put_bench, unsummed_answer}
-use Rattle.tm_top.proofs.Refused.{not_done}
+use Rattle.tm_top.proofs.bench.Benched.{put_bench, unsummed_answer}
+use Rattle.tm_top.proofs.check.Refused.{not_done}
 use Rattle.tm_top.proofs.bench.bench.Goals as goal
 
 pub returns-in-Ok-clause-answer : goal.returns-in-Ok-clause-answer

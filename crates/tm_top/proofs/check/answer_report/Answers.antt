@@ -1,6 +1,6 @@
 use Rattle.std.proofs.Common.{sym, subst}
 use Rattle.tm_top.specs.Parted.{IsAnswerToCheck}
-use Rattle.tm_top.proofs.Refused.{not_done, shown_check, shown_output, unreported_answers}
+use Rattle.tm_top.proofs.check.Refused.{not_done, shown_check, shown_output, unreported_answers}
 use Rattle.tm_top.specs.Reports.{IsReportBy}
 use Rattle.tm_top.proofs.check.answer_report.Goals as goal
 

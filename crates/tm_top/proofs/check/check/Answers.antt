@@ -1,8 +1,8 @@
 use Rattle.std.proofs.Common.{ap, sym, ◌∙◌, subst}
 use Rattle.tm_form.specs.Certificates.{SpellsCert}
 use Rattle.tm_top.specs.Messages.{line_in}
-use Rattle.tm_top.proofs.Answered.{content_once}
-use Rattle.tm_top.proofs.Refused.{unloaded_not_done}
+use Rattle.tm_top.proofs.analyse.Answered.{content_once}
+use Rattle.tm_top.proofs.check.Refused.{unloaded_not_done}
 use Rattle.tm_top.proofs.check.check.Goals as goal
 
 pub returns-in-Ok-clause-line : goal.returns-in-Ok-clause-line

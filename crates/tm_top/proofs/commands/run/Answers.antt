@@ -1,9 +1,9 @@
 use Rattle.std.proofs.Common.{◌≡◌, ◌≢◌, inl, refl, rules}
 use Rattle.tm_top.specs.declared.status.Status.TheVariants.{Done}
-use Rattle.tm_top.proofs.Meant.{answer, gives}
-use Rattle.tm_top.proofs.Messages.{one_piece, quiet, told_by}
-use Rattle.tm_top.proofs.Put.{message_put, output}
-use Rattle.tm_top.proofs.Worded.{ending_given, refuses_words}
+use Rattle.tm_top.proofs.commands.Meant.{answer, gives}
+use Rattle.tm_top.proofs.commands.Messages.{one_piece, quiet, told_by}
+use Rattle.tm_top.proofs.commands.Put.{message_put, output}
+use Rattle.tm_top.proofs.analyse.Worded.{ending_given, refuses_words}
 use Rattle.tm_top.proofs.commands.run.Goals as goal
 
 pub returns-then-ne-clause-answer : goal.returns-then-ne-clause-answer

@@ -1,5 +1,5 @@
 use Rattle.std.proofs.Common.{arith}
-use Rattle.tm_top.proofs.Loaded.{long_content, short_content}
+use Rattle.tm_top.proofs.files.Loaded.{long_content, short_content}
 use Rattle.tm_top.proofs.files.load_file.Goals as goal
 
 pub returns-then-len-most-clause-refused : goal.returns-then-len-most-clause-refused

@@ -1,5 +1,5 @@
 use Rattle.std.proofs.Common.{◌∙◌, sym}
-use Rattle.tm_top.proofs.Lines.{first_line, last_line}
+use Rattle.tm_top.proofs.output.Lines.{first_line, last_line}
 use Rattle.tm_top.proofs.output.first_line.Goals as goal
 
 pub returns-in-Some-clause-cut : goal.returns-in-Some-clause-cut

@@ -1,7 +1,7 @@
 use Rattle.std.proofs.Common.{◌≡◌, ◌++◌, ◌∷◌, sym, ap₂, ◌∙◌, arith}
 use Rattle.std.proofs.lemmas.List.{take-append-drop}
 use Rattle.tm_top.specs.Outputs.{lines_of}
-use Rattle.tm_top.proofs.Pieces.{next_taken, one_more, part_put}
+use Rattle.tm_top.proofs.output.Pieces.{next_taken, one_more, part_put}
 use Rattle.tm_top.proofs.output.put_lines.Goals as goal
 
 pub returns-in-Err-clause-appends : goal.returns-in-Err-clause-appends

@@ -1,5 +1,5 @@
 use Rattle.std.proofs.Common.{length}
-use Rattle.tm_top.proofs.Pieces.{HasPut, HasTaken}
+use Rattle.tm_top.proofs.output.Pieces.{HasPut, HasTaken}
 use Rattle.tm_top.proofs.output.put_lines.Given as goal
 
 abbrev pub invariant-loop-rest : goal.invariant-loop-rest

@@ -1,4 +1,4 @@
-use Rattle.tm_top.proofs.Headlined.{complete, sound}
+use Rattle.tm_top.proofs.promise.Headlined.{complete, sound}
 use Rattle.tm_top.proofs.promise.headline.Goals as goal
 
 pub returns-clause-sound : goal.returns-clause-sound

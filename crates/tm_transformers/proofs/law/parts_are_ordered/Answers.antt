@@ -1,4 +1,4 @@
-use Rattle.tm_transformers.proofs.PartsLaw.{parts_classes, parts_admissible}
+use Rattle.tm_transformers.proofs.parts.PartsLaw.{parts_classes, parts_admissible}
 use Rattle.tm_transformers.proofs.law.parts_are_ordered.Goals as goal
 
 pub returns : goal.returns

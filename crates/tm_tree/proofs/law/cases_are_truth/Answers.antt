@@ -1,4 +1,4 @@
-use Rattle.tm_tree.proofs.CaseLaw.{cases_law}
+use Rattle.tm_tree.proofs.cases.CaseLaw.{cases_law}
 use Rattle.tm_tree.proofs.law.cases_are_truth.Goals as goal
 
 pub returns : goal.returns

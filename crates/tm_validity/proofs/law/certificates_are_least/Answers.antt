@@ -1,4 +1,4 @@
-use Rattle.tm_validity.proofs.CertificateLaw.{certificate_least}
+use Rattle.tm_validity.proofs.steps.CertificateLaw.{certificate_least}
 use Rattle.tm_validity.proofs.law.certificates_are_least.Goals as goal
 
 pub returns : goal.returns

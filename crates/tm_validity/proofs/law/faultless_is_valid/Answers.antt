@@ -1,4 +1,4 @@
-use Rattle.tm_validity.proofs.CertificateFaults.{certificate_fault_none}
+use Rattle.tm_validity.proofs.faults.CertificateFaults.{certificate_fault_none}
 use Rattle.tm_validity.proofs.law.faultless_is_valid.Goals as goal
 
 pub returns : goal.returns

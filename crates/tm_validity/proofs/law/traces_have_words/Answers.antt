@@ -1,4 +1,4 @@
-use Rattle.tm_validity.proofs.Traces.{word_of_trace}
+use Rattle.tm_validity.proofs.words.Traces.{word_of_trace}
 use Rattle.tm_validity.proofs.law.traces_have_words.Goals as goal
 
 pub returns : goal.returns

@@ -1,4 +1,4 @@
-use Rattle.tm_validity.proofs.Traces.{trace_of_word}
+use Rattle.tm_validity.proofs.words.Traces.{trace_of_word}
 use Rattle.tm_validity.proofs.law.words_give_traces.Goals as goal
 
 pub returns : goal.returns

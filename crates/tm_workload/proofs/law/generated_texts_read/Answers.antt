@@ -1,6 +1,6 @@
-use Rattle.tm_workload.proofs.BodyLimits.{generated_points, generated_unknowns, generated_within}
-use Rattle.tm_workload.proofs.FewCells.{generated_cells}
-use Rattle.tm_workload.proofs.TextReads.{generated_means, generated_reads, generated_short, lexed}
+use Rattle.tm_workload.proofs.bodies.BodyLimits.{generated_points, generated_unknowns, generated_within}
+use Rattle.tm_workload.proofs.bodies.FewCells.{generated_cells}
+use Rattle.tm_workload.proofs.bodies.TextReads.{generated_means, generated_reads, generated_short, lexed}
 use Rattle.tm_workload.specs.Draws.{loops_from}
 use Rattle.tm_workload.specs.Texts.{generated_text}
 use Rattle.tm_workload.proofs.law.generated_texts_read.Goals as goal

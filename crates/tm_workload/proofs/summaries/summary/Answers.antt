@@ -1,4 +1,4 @@
-use Rattle.tm_workload.proofs.TextSteps.{six_parts}
+use Rattle.tm_workload.proofs.texts.TextSteps.{six_parts}
 use Rattle.tm_workload.proofs.summaries.summary.Goals as goal
 
 pub returns : goal.returns

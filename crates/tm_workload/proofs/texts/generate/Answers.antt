@@ -1,6 +1,6 @@
 use Rattle.std.proofs.Common.{List, ℕ, ◌++◌, ap, ◌∙◌}
 use Rattle.tm_workload.specs.Texts.{front_text}
-use Rattle.tm_workload.proofs.TextSteps.{begun, begun_more, begun_whole}
+use Rattle.tm_workload.proofs.texts.TextSteps.{begun, begun_more, begun_whole}
 use Rattle.tm_workload.proofs.texts.generate.Goals as goal
 
 pub loop-init : goal.loop-init

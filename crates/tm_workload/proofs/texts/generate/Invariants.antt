@@ -1,4 +1,4 @@
-use Rattle.tm_workload.proofs.TextSteps.{IsBegun}
+use Rattle.tm_workload.proofs.texts.TextSteps.{IsBegun}
 use Rattle.tm_workload.proofs.texts.generate.Given as goal
 
 abbrev pub invariant-loop : goal.invariant-loop

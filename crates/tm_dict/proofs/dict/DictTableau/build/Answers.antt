@@ -7,7 +7,7 @@ use Rattle.tm_dict.specs.declared.problem.Row.{Row}
 use Rattle.tm_dict.specs.Build.{goals_of, width_of, other_name, slacks_entries, goals_entries}
 use Rattle.tm_dict.specs.Cells.{cells_table}
 use Rattle.tm_dict.specs.Exact.{exact, start_table}
-use Rattle.tm_dict.proofs.DictStarts.{shaped_rows, start_agrees, start_sized}
+use Rattle.tm_dict.proofs.cells.DictStarts.{shaped_rows, start_agrees, start_sized}
 use Rattle.tm_dict.proofs.dict.DictTableau.build.Goals as goal
 
 two_goals : (b : Bool) → goals_of b ≤ 2

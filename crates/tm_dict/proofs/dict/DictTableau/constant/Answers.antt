@@ -1,6 +1,6 @@
 use Rattle.std.proofs.Common.{◌≡◌, ◌+◌, ◌*◌, ◌≤◌, suc, length, ap, ◌∙◌, arith}
 use Rattle.tm_dict.specs.Cells.{row_from}
-use Rattle.tm_dict.proofs.DictReads.{placed_read}
+use Rattle.tm_dict.proofs.dict.DictReads.{placed_read}
 use Rattle.tm_dict.proofs.dict.DictTableau.constant.Goals as goal
 
 pub returns : goal.returns

@@ -1,5 +1,5 @@
 use Rattle.std.proofs.Common.{◌≡◌, ◌+◌, ◌≤◌, suc, length, arith}
-use Rattle.tm_dict.proofs.DictReads.{placed_read}
+use Rattle.tm_dict.proofs.dict.DictReads.{placed_read}
 use Rattle.tm_dict.proofs.dict.DictTableau.entry.Goals as goal
 
 pub returns : goal.returns

@@ -2,8 +2,8 @@ use Rattle.std.proofs.Common.{◌≡◌, ◌+◌, ◌-◌, ◌*◌, ◌<◌, ◌
 use Rattle.tm_lp.specs.Table.{Agree}
 use Rattle.tm_lp.specs.Run.{place_of, leave_table}
 use Rattle.tm_dict.specs.Cells.{cells_table}
-use Rattle.tm_dict.proofs.DictPivots.{written_back}
-use Rattle.tm_dict.proofs.DictLeaves.{leave_agrees, shifts_in}
+use Rattle.tm_dict.proofs.cells.DictPivots.{written_back}
+use Rattle.tm_dict.proofs.cells.DictLeaves.{leave_agrees, shifts_in}
 use Rattle.tm_dict.proofs.dict.DictTableau.leave_first.Goals as goal
 
 pub returns-clause-left : goal.returns-clause-left

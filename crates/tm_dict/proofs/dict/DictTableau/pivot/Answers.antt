@@ -3,7 +3,7 @@ use Rattle.std.proofs.Common.{set}
 use Rattle.tm_lp.specs.Table.{Agree, pivot_table}
 use Rattle.tm_frac.specs.Operation.{first_wide}
 use Rattle.tm_dict.specs.Cells.{cells_table}
-use Rattle.tm_dict.proofs.DictPivots.{pivot_agrees, pivot_operations_are, written_back, exchange_in, exchange_operations_in}
+use Rattle.tm_dict.proofs.cells.DictPivots.{pivot_agrees, pivot_operations_are, written_back, exchange_in, exchange_operations_in}
 use Rattle.tm_dict.proofs.dict.DictTableau.pivot.Goals as goal
 
 pub returns-in-Ok-clause-exchanged : goal.returns-in-Ok-clause-exchanged

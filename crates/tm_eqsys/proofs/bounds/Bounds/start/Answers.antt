@@ -2,7 +2,7 @@ use Rattle.std.proofs.Common.{length, ap, arith, map}
 use Rattle.std.specs.Vec.{vec_len}
 use Rattle.tm_frac.specs.Extended.{extended}
 use Rattle.tm_eqsys.proofs.Sizes.{flow_sizes}
-use Rattle.tm_eqsys.proofs.Started.{started_list, started_vector}
+use Rattle.tm_eqsys.proofs.starts.Started.{started_list, started_vector}
 use Rattle.tm_eqsys.proofs.bounds.Bounds.start.Goals as goal
 
 pub returns-clause-list : goal.returns-clause-list

@@ -3,7 +3,7 @@ use Rattle.std.specs.List.{list_any}
 use Rattle.std.specs.Prelude.{◌==◌}
 use Rattle.tm_eqsys.specs.View.{equations_of}
 use Rattle.tm_eqsys.specs.Cells.{unknown_rows, unknown_columns}
-use Rattle.tm_eqsys.proofs.CellSums.{sum_yes, sum_no}
+use Rattle.tm_eqsys.proofs.system.CellSums.{sum_yes, sum_no}
 use Rattle.tm_eqsys.proofs.system.System.cells.Goals as goal
 use Rattle.tm_eqsys.proofs.system.System.cells.Goals.{then-is_reached, else-is_reached}
 

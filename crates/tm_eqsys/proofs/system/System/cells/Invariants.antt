@@ -1,7 +1,7 @@
 use Rattle.std.proofs.Common.{◌≡◌, ◌≤◌, ◌*◌, ◌-◌}
 use Rattle.tm_eqsys.specs.View.{equations_of}
 use Rattle.tm_eqsys.specs.Cells.{unknown_rows, unknown_columns}
-use Rattle.tm_eqsys.proofs.CellSums.{sum_to}
+use Rattle.tm_eqsys.proofs.system.CellSums.{sum_to}
 use Rattle.tm_eqsys.proofs.system.System.cells.Given as goal
 
 abbrev pub invariant-loop-point : goal.invariant-loop-point

@@ -2,7 +2,7 @@ use Rattle.std.proofs.Common.{◌≤◌, ◌+◌, ◌*◌, length, ap, arith}
 use Rattle.tm_eqsys.specs.FreeValues.{free_count}
 use Rattle.tm_eqsys.specs.Cells.{guard_count}
 use Rattle.tm_eqsys.proofs.Sizes.{flow_sizes, template_size}
-use Rattle.tm_eqsys.proofs.CellCounts.{few_of, guards_few, frees_few, rows_bound, columns_bound}
+use Rattle.tm_eqsys.proofs.free_values.CellCounts.{few_of, guards_few, frees_few, rows_bound, columns_bound}
 use Rattle.tm_eqsys.proofs.system.System.sizes.Goals as goal
 
 rows_few : (c : goal.After-greatest-guards) → length c.as_slice.result.now ≤ 128

@@ -1,5 +1,5 @@
 use Rattle.std.proofs.Common.{◌∷◌, [], arith}
-use Rattle.tm_flow.proofs.TrailLemmas.{followed_by_one, followed_past}
+use Rattle.tm_flow.proofs.trail.TrailLemmas.{followed_by_one, followed_past}
 use Rattle.tm_flow.proofs.trail.Trail.add.Goals as goal
 
 pub returns-in_ok-push : goal.returns-in_ok-push

@@ -1,5 +1,5 @@
 use Rattle.std.proofs.Common.{sym}
-use Rattle.tm_flow.proofs.TrailLemmas.{followed_by_nothing, followed_more}
+use Rattle.tm_flow.proofs.trail.TrailLemmas.{followed_by_nothing, followed_more}
 use Rattle.tm_flow.proofs.trail.Trail.after.Goals as goal
 
 pub loop-form-init : goal.loop-form-init

@@ -1,7 +1,7 @@
 use Rattle.std.proofs.Common.{◌∙◌, sym, ap, List}
 use Rattle.tm_flow.specs.declared.edge.Action.{Action}
 use Rattle.tm_flow.specs.declared.edge.Edge.{Edge}
-use Rattle.tm_flow.proofs.TrailLemmas.{kept_all}
+use Rattle.tm_flow.proofs.trail.TrailLemmas.{kept_all}
 use Rattle.tm_flow.proofs.trail.Trail.end.Goals as goal
 
 pub returns : goal.returns

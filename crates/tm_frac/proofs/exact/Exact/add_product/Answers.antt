@@ -1,6 +1,6 @@
 use Rattle.std.proofs.lemmas.Result.{err_from_is_err_and}
 use Rattle.tm_num.specs.Rational.{ℚ}
-use Rattle.tm_frac.proofs.Widths.{product_refused, product_added}
+use Rattle.tm_frac.proofs.operation.Widths.{product_refused, product_added}
 use Rattle.tm_frac.proofs.exact.Exact.add_product.Goals as goal
 
 pub returns-in_err-product : goal.returns-in_err-product

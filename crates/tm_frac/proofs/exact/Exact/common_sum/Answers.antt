@@ -1,7 +1,7 @@
 use Rattle.std.proofs.Common.{FitsSigned, w64, to_z, of_z, ap₂, rules}
 use mir.Syntax.{w128}
 use Rattle.tm_num.specs.Rational.{ratio, ◌+ℚ◌}
-use Rattle.tm_frac.proofs.Kept.{small_num, small_den, read_lowest, read_value, lowest_read, result_read, answered}
+use Rattle.tm_frac.proofs.exact.Kept.{small_num, small_den, read_lowest, read_value, lowest_read, result_read, answered}
 use Rattle.tm_frac.proofs.exact.Exact.common_sum.Goals as goal
 
 pub sum_parts-n-requires : goal.sum_parts-n-requires

@@ -1,5 +1,5 @@
 use Rattle.std.proofs.Common.{FitsSigned, w64, rules}
-use Rattle.tm_frac.proofs.Kept.{inv_num, inv_kept, inv_made}
+use Rattle.tm_frac.proofs.exact.Kept.{inv_num, inv_kept, inv_made}
 use Rattle.tm_frac.proofs.exact.Exact.inverse.Goals as goal
 
 pub invariant_of-result : goal.invariant_of-result

@@ -1,7 +1,7 @@
 use Rattle.std.proofs.Common.{◌≢◌, pos, of_z, FitsSigned, ap, rules}
 use mir.Syntax.{w64, w128}
-use Rattle.tm_frac.proofs.Kept.{lowest_read}
-use Rattle.tm_frac.proofs.Made.{made_of, fraction_read}
+use Rattle.tm_frac.proofs.exact.Kept.{lowest_read}
+use Rattle.tm_frac.proofs.fits.Made.{made_of, fraction_read}
 use Rattle.tm_frac.proofs.exact.Exact.make.Goals as goal
 
 pub returns : goal.returns

@@ -1,4 +1,4 @@
-use Rattle.tm_frac.proofs.Kept.{stored, not_stored}
+use Rattle.tm_frac.proofs.exact.Kept.{stored, not_stored}
 use Rattle.tm_frac.proofs.exact.Exact.store.Goals as goal
 
 pub returns-then-d-limit : goal.returns-then-d-limit

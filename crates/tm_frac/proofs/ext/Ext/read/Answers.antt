@@ -1,5 +1,5 @@
 use Rattle.std.proofs.Common.{◌≡◌, [], ◌∷◌, Some, ap, sym, ◌∙◌, rules}
-use Rattle.tm_frac.proofs.Words.{only_neg, only_pos}
+use Rattle.tm_frac.proofs.extended.Words.{only_neg, only_pos}
 use Rattle.tm_frac.proofs.ext.Ext.read.Goals as goal
 
 pub returns-then-eq-clause-back : goal.returns-then-eq-clause-back

@@ -1,5 +1,5 @@
 use Rattle.std.proofs.Common.{FitsSigned, w64, rules}
-use Rattle.tm_frac.proofs.Kept.{zero_test}
+use Rattle.tm_frac.proofs.exact.Kept.{zero_test}
 use Rattle.tm_frac.proofs.field.OrderedField.is_zero.Goals as goal
 
 pub returns : goal.returns

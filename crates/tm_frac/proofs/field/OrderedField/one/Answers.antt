@@ -1,6 +1,6 @@
 use Rattle.std.proofs.Common.{pos, ◌∙◌, lit≤}
-use Rattle.tm_num.proofs.Laws.{whole-one}
-use Rattle.tm_frac.proofs.Made.{small_made, small_value}
+use Rattle.tm_num.proofs.rational.Laws.{whole-one}
+use Rattle.tm_frac.proofs.fits.Made.{small_made, small_value}
 use Rattle.tm_frac.proofs.field.OrderedField.one.Goals as goal
 
 pub unwrap-requires : goal.unwrap-requires

@@ -3,8 +3,8 @@ use mir.Syntax.{w64}
 use Rattle.std.specs.Int.{int_div_euclid}
 use Rattle.std.proofs.lemmas.Int.{to_z-of_z}
 use Rattle.tm_num.specs.Rational.{whole, floor, ◌≤ℚ◌}
-use Rattle.tm_num.proofs.Reps.{den_pos}
-use Rattle.tm_num.proofs.Laws.{floor-euclid, floor_le, floor_greatest}
+use Rattle.tm_num.proofs.rational.Reps.{den_pos}
+use Rattle.tm_num.proofs.rational.Laws.{floor-euclid, floor_le, floor_greatest}
 use Rattle.tm_frac.proofs.frac.Exact+LongLimit.floor.Goals as goal
 
 is_floor : (c : goal.After-div_euclid) → to_z w64 (of_z w64 c.div_euclid.result) ≡ floor c.args.self

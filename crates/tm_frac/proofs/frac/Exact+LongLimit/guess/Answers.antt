@@ -1,7 +1,7 @@
 use Rattle.std.proofs.Common.{◌<◌, ◌^◌, ℤ, nat_abs, ap, sym, ◌∙◌, arith}
 use Rattle.std.proofs.lemmas.Int.{ints}
-use Rattle.tm_frac.proofs.Slashes.{some_same}
-use Rattle.tm_frac.proofs.Made.{made_from_parts}
+use Rattle.tm_frac.proofs.texts.Slashes.{some_same}
+use Rattle.tm_frac.proofs.fits.Made.{made_from_parts}
 use Rattle.tm_frac.proofs.frac.Exact+LongLimit.guess.Goals as goal
 
 pub returns-in-Some-clause-back : goal.returns-in-Some-clause-back

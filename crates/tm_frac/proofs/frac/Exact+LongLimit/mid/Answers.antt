@@ -1,5 +1,5 @@
 use Rattle.std.proofs.Common.{nat_abs, sym, ap, ◌∙◌, arith}
-use Rattle.tm_num.proofs.Quotients.{whole_ne_zero}
+use Rattle.tm_num.proofs.rational.Quotients.{whole_ne_zero}
 use Rattle.tm_frac.proofs.frac.Exact+LongLimit.mid.Goals as goal
 
 pub over-requires : goal.over-requires

@@ -2,7 +2,7 @@ use Rattle.std.proofs.Common.{pos, lit≤}
 use lib.Signed.{le_z_yes}
 use Rattle.tm_num.specs.Rational.{ℚ}
 use Rattle.tm_frac.specs.Fits.{long_limit}
-use Rattle.tm_frac.proofs.Made.{small_made, small_value}
+use Rattle.tm_frac.proofs.fits.Made.{small_made, small_value}
 use Rattle.tm_frac.proofs.frac.Exact+LongLimit.two.Goals as goal
 
 pub unwrap-requires : goal.unwrap-requires

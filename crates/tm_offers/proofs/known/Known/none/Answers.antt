@@ -1,7 +1,7 @@
 use Rattle.std.proofs.Common.{◌≡◌, ◌∙◌, ◌*◌, ◌∷◌, [], ◌++◌, length, ap, ap₂, arith}
 use Rattle.std.specs.Prelude.{None, replicate}
 use Rattle.std.proofs.lemmas.List.{replicate-append-replicate}
-use Rattle.tm_offers.proofs.KnownValues.{known_none}
+use Rattle.tm_offers.proofs.at_bounds.KnownValues.{known_none}
 use Rattle.tm_offers.proofs.known.Known.none.Goals as goal
 
 pub loop-entry-preserved : goal.loop-entry-preserved

@@ -2,7 +2,7 @@ use Rattle.std.proofs.Common.{◌≡◌, ◌∙◌, true≢false, sym, subst, be
 use Rattle.std.proofs.lemmas.List.{length-map}
 use Rattle.tm_num.specs.Extended.{neg_inf, ◌≤ᴱ◌, ◌<ᴱ◌}
 use Rattle.tm_frac.specs.Extended.{extended}
-use Rattle.tm_offers.proofs.Offered.{not_below, value_read, none_exceeds}
+use Rattle.tm_offers.proofs.offers.Offered.{not_below, value_read, none_exceeds}
 use Rattle.tm_offers.proofs.offer.Offer.some_exceeds.Goals as goal
 
 pub loop-value-preserved : goal.loop-value-preserved

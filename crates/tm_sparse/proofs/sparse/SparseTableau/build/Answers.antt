@@ -5,10 +5,10 @@ use Rattle.tm_lp.specs.Table.{Agree}
 use Rattle.tm_dict.specs.declared.problem.Row.{Row}
 use Rattle.tm_dict.specs.Build.{goals_of, width_of, other_name, slacks_entries, goals_entries}
 use Rattle.tm_dict.specs.Exact.{exact, start_table}
-use Rattle.tm_dict.proofs.DictStarts.{shaped_rows, start_agrees}
+use Rattle.tm_dict.proofs.cells.DictStarts.{shaped_rows, start_agrees}
 use Rattle.tm_sparse.specs.Rows.{numbers}
 use Rattle.tm_sparse.specs.Named.{named_table}
-use Rattle.tm_sparse.proofs.Starting.{short_rows, first_agrees, first_rises}
+use Rattle.tm_sparse.proofs.build.Starting.{short_rows, first_agrees, first_rises}
 use Rattle.tm_sparse.proofs.sparse.SparseTableau.build.Goals as goal
 
 two_goals : (b : Bool) → goals_of b ≤ 2

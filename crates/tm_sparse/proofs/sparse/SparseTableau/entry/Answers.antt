@@ -1,6 +1,6 @@
 use Rattle.std.proofs.Common.{◌<◌, suc, length, sym, ◌∙◌, subst, arith}
 use Rattle.tm_sparse.specs.Entries.{Rises}
-use Rattle.tm_sparse.proofs.RowsAt.{row_is}
+use Rattle.tm_sparse.proofs.place.RowsAt.{row_is}
 use Rattle.tm_sparse.proofs.sparse.SparseTableau.entry.Goals as goal
 
 pub value_in-requires : goal.value_in-requires

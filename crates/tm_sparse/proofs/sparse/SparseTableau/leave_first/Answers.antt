@@ -6,7 +6,7 @@ use Rattle.tm_lp.specs.Run.{place_of, leave_table}
 use Rattle.tm_sparse.specs.Entries.{left_out}
 use Rattle.tm_sparse.specs.Rows.{row_at, numbers}
 use Rattle.tm_sparse.specs.Named.{named_table}
-use Rattle.tm_sparse.proofs.Tabled.{sparse_leaves, leave_rises, leave_no_zeros}
+use Rattle.tm_sparse.proofs.sparse.Tabled.{sparse_leaves, leave_rises, leave_no_zeros}
 use Rattle.tm_sparse.proofs.sparse.SparseTableau.leave_first.Goals as goal
 
 pub invariant_of-self-clause-rising : goal.invariant_of-self-clause-rising

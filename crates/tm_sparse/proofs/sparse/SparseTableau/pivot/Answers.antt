@@ -5,7 +5,7 @@ use Rattle.tm_frac.specs.Operation.{first_wide}
 use Rattle.tm_dict.specs.Faults.{Refuses}
 use Rattle.tm_sparse.specs.Rows.{numbers, EachRises, Exchanges, exchange_operations}
 use Rattle.tm_sparse.specs.Named.{named_table}
-use Rattle.tm_sparse.proofs.Tabled.{sparse_pivots, pivot_rises, pivot_operations_are}
+use Rattle.tm_sparse.proofs.sparse.Tabled.{sparse_pivots, pivot_rises, pivot_operations_are}
 use Rattle.tm_sparse.proofs.sparse.SparseTableau.pivot.Goals as goal
 
 pub exchange-requires-clause-rising : goal.exchange-requires-clause-rising

@@ -1,7 +1,7 @@
 use Rattle.std.proofs.Common.{rules}
 use Rattle.tm_top.specs.Parted.{IsHalted}
 use Rattle.tm_cli.specs.declared.request.Purpose.TheVariants.{Certificate}
-use Rattle.tm_top.proofs.Made.{made_certified, made_halts, made_short}
+use Rattle.tm_top.proofs.analyse.Made.{made_certified, made_halts, made_short}
 use Rattle.tm_top.proofs.analyse.certify.certificate_of.Goals as goal
 
 pub returns-in_err-solved-clause-err : goal.returns-in_err-solved-clause-err

@@ -1,7 +1,7 @@
 use Rattle.std.proofs.Common.{refl, subst}
 use Rattle.tm_rounds.specs.Halts.{IsHalt}
 use Rattle.tm_top.specs.Policies.{rule_of}
-use Rattle.tm_top.proofs.Halted.{runs_out}
+use Rattle.tm_top.proofs.analyse.Halted.{runs_out}
 use Rattle.tm_top.proofs.analyse.rounds.halted.Goals as goal
 
 pub returns-in-Spent : goal.returns-in-Spent

@@ -3,7 +3,7 @@ use Rattle.std.specs.Prelude.{Err, IsTrue}
 use Rattle.tm_rows.specs.Rows.{is_template}
 use Rattle.tm_top.specs.Parted.{domain_of}
 use Rattle.tm_top.specs.Texts.{HasTemplate}
-use Rattle.tm_top.proofs.Solved.{template_over}
+use Rattle.tm_top.proofs.analyse.Solved.{template_over}
 use Rattle.tm_top.proofs.analyse.system.rows_of.Goals as goal
 
 pub returns-in-Ok-clause-over : goal.returns-in-Ok-clause-over

@@ -1,8 +1,8 @@
 use Rattle.std.proofs.Common.{rules}
 use Rattle.tm_top.specs.Parted.{IsRefusedBy, domain_of}
 use Rattle.tm_top.specs.Texts.{IsAnalysed}
-use Rattle.tm_top.proofs.Refused.{unread_refuses}
-use Rattle.tm_top.proofs.Systems.{solved_system, too_many_cells}
+use Rattle.tm_top.proofs.check.Refused.{unread_refuses}
+use Rattle.tm_top.proofs.analyse.Systems.{solved_system, too_many_cells}
 use Rattle.tm_top.proofs.analyse.system.system_on.Goals as goal
 
 pub returns-in_err-flow-clause-err : goal.returns-in_err-flow-clause-err

@@ -4,7 +4,7 @@ use Rattle.tm_cli.specs.declared.request.Domain.TheVariants.{Intervals}
 use Rattle.tm_top.specs.Parted.{IsRefusedBy, IsUnsummed}
 use Rattle.tm_top.specs.Texts.{IsSolvedSystem}
 use Rattle.tm_cli.specs.declared.request.Purpose.TheVariants.{Report}
-use Rattle.tm_top.proofs.Generated.{halted, summed, unread}
+use Rattle.tm_top.proofs.bench.Generated.{halted, summed, unread}
 use Rattle.tm_top.proofs.bench.summary.summary_on.Goals as goal
 
 pub system_on-requires-clause-short : goal.system_on-requires-clause-short

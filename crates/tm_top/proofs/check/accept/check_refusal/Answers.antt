@@ -1,7 +1,7 @@
 use Rattle.std.proofs.Common.{◌≡◌, rules}
 use Rattle.tm_eqsys.specs.declared.spot.Spot.{Spot}
 use Rattle.tm_check.specs.declared.fault.CheckFault.TheVariants as check
-use Rattle.tm_top.proofs.Refused.{check_refused}
+use Rattle.tm_top.proofs.check.Refused.{check_refused}
 use Rattle.tm_top.proofs.check.accept.check_refusal.Goals as goal
 
 pub returns-in_default : goal.returns-in_default

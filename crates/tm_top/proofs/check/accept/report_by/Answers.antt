@@ -1,7 +1,7 @@
 use Rattle.std.proofs.Common.{inr, ap, ◌∙◌, rules}
 use Rattle.tm_flow.specs.declared.graph.Flow.{Flow}
 use Rattle.tm_top.specs.Parted.{GetsNoReport}
-use Rattle.tm_top.proofs.Accepted.{accepted_report, unaccepted_with}
+use Rattle.tm_top.proofs.check.Accepted.{accepted_report, unaccepted_with}
 use Rattle.tm_top.proofs.check.accept.report_by.Goals as goal
 
 pub returns-in_err-accept-clause-err : goal.returns-in_err-accept-clause-err

@@ -1,7 +1,7 @@
 use Rattle.std.proofs.Common.{rules}
 use Rattle.tm_top.specs.Parted.{IsUnspelt}
 use Rattle.tm_top.specs.Texts.{IsAnalysed}
-use Rattle.tm_top.proofs.Refused.{unread_unspelt}
+use Rattle.tm_top.proofs.check.Refused.{unread_unspelt}
 use Rattle.tm_top.proofs.check.certificate.read_given.Goals as goal
 
 pub returns-in_err-flow-clause-err : goal.returns-in_err-flow-clause-err

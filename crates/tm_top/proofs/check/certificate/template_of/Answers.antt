@@ -2,7 +2,7 @@ use Rattle.std.proofs.Common.{◌≡◌, length, rules, ap, subst₂, ◌∙◌}
 use Rattle.std.specs.Prelude.{IsTrue, Some, slice_get}
 use Rattle.tm_rows.specs.RowFaults.{faults_of}
 use Rattle.tm_rows.specs.Rows.{is_template}
-use Rattle.tm_top.proofs.Solved.{template_over}
+use Rattle.tm_top.proofs.analyse.Solved.{template_over}
 use Rattle.tm_top.proofs.check.certificate.template_of.Goals as goal
 
 pub returns-in-Ok-clause-over : goal.returns-in-Ok-clause-over

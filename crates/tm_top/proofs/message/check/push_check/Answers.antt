@@ -1,6 +1,6 @@
 use Rattle.std.proofs.Common.{◌≡◌, ◌++◌, sym, subst}
 use Rattle.tm_top.specs.CheckMessages.{check_text}
-use Rattle.tm_top.proofs.Joined.{joined}
+use Rattle.tm_top.proofs.message.Joined.{joined}
 use Rattle.tm_top.proofs.message.check.push_check.Goals as goal
 
 pub returns-in-Upper-clause-text : goal.returns-in-Upper-clause-text

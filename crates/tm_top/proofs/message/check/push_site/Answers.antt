@@ -1,6 +1,6 @@
 use Rattle.std.proofs.Common.{◌≡◌, ◌++◌, sym, subst}
 use Rattle.tm_top.specs.CheckMessages.{site_text}
-use Rattle.tm_top.proofs.Joined.{joined}
+use Rattle.tm_top.proofs.message.Joined.{joined}
 use Rattle.tm_top.proofs.message.check.push_site.Goals as goal
 
 pub returns-in-Offer-clause-text : goal.returns-in-Offer-clause-text

@@ -1,6 +1,6 @@
 use Rattle.std.proofs.Common.{ℕ, ℤ, w64, of_z, ap, ap₂, sym, ◌∙◌}
 use Rattle.std.specs.Hash.{le_bytes}
-use Rattle.tm_frac.proofs.Kept.{part_num, part_den}
+use Rattle.tm_frac.proofs.exact.Kept.{part_num, part_den}
 use Rattle.tm_frac.proofs.exact.compare.ExactHash.hash.Goals as goal
 
 pub returns : goal.returns

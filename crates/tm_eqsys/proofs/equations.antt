@@ -1,0 +1,3 @@
+pub mod Leastness
+pub mod FitsProgram
+pub mod Counting

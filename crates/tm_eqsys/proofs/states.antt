@@ -1,0 +1,4 @@
+pub mod RationalStates
+pub mod FreeValueLaw
+pub mod Soundness
+pub mod Summed

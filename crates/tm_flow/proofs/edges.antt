@@ -1,0 +1,4 @@
+pub mod WaysLaw
+pub mod Trailing
+pub mod CountLaws
+pub mod Ranges

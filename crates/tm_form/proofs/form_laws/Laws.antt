@@ -1,0 +1,100 @@
+-- The laws of the format, and the round trip.
+use Rattle.std.proofs.Common.{◌≡◌, ◌≢◌, ◌==◌, ℕ, ℤ, Bool, true, false, List, Option, Some, None, Result, Ok, Err, IfOk, IfErr, refl, sym, ap, ◌∙◌, subst, codes, arith}
+use Rattle.std.specs.Prelude.{IsErrOf, if◌then◌else◌, option_and_then, option_map}
+use Rattle.std.specs.Fmt.{signed_decimal}
+use Rattle.std.specs.Str.{bytes_eq}
+use Rattle.std.proofs.lemmas.Slice.Eq.{bytes_eq-Decides}
+use Rattle.serde_json.specs.Data.{Data}
+use Rattle.tm_num.specs.Rational.{ℚ, whole}
+use Rattle.tm_num.proofs.rational.Parts.{den-whole, num-whole}
+use Rattle.tm_frac.specs.Texts.{frac_text}
+use Rattle.tm_frac.specs.Extended.{ExtFits, ext_text}
+use Rattle.tm_frac.specs.declared.ext.Ext.{Ext}
+use Rattle.tm_frac.specs.declared.ext.Ext.TheVariants.{NegInf, Fin, PosInf}
+use Rattle.tm_frac.proofs.texts.Slashes.{some_same, whole_text}
+use Rattle.tm_cert.specs.declared.cert.Cert.{Cert}
+use Rattle.tm_form.specs.declared.fault.FormFault.{FormFault}
+use Rattle.tm_form.specs.declared.fault.FormFault.TheVariants.{NoMemory, NotJson, Number, Shape, Version}
+use Rattle.tm_form.specs.Numbers.{ext_of, frac_of, if_whole, whole_of}
+use Rattle.tm_form.specs.Certificates.{Spells, SpellsCert, cert_in}
+use Rattle.tm_form.specs.FormLaws.{BoundsByText, FractionsByText, OneReading, WholesByText}
+use Rattle.tm_form.proofs.numbers.FracTexts.{fin_back, frac_back, frac_text_of, whole_back}
+use Rattle.tm_form.proofs.rows.RowNumbers.{whole_small}
+
+ok_same : (x y : Cert) (r : Result Cert FormFault) → r ≡ Ok x → r ≡ Ok y → x ≡ y
+ok_same x y r e f = cc
+
+same_data : (bytes : List ℕ) (d f : Data) → Spells bytes d → Spells bytes f → d ≡ f
+same_data bytes d f s t = some_same (sym s.value ∙ t.value)
+
+pub one_reading : OneReading
+one_reading bytes c e s t = ok_same c e (cert_in s.data_is) s.reads (ap cert_in (same_data bytes s.data_is t.data_is s.spells t.spells) ∙ t.reads)
+
+pub fractions : FractionsByText
+fractions text q = (λ e. frac_text_of text q e, λ h. ap frac_of h.0 ∙ frac_back q h.1)
+
+-- ---- whole numbers
+
+whole_decimal : (z : ℤ) → frac_text (whole z) ≡ signed_decimal z
+whole_decimal z = whole_text (whole z).num (whole z).den (den-whole z) ∙ ap signed_decimal (num-whole z)
+
+eqb_one : (n : ℕ) → (n == 1) ≡ true → n ≡ 1
+eqb_one n e = grind (arith, e)
+
+whole_parts : (text : List ℕ) (q : ℚ) (z : ℤ) → text ≡ frac_text q → (b : Bool) → (q.den == 1) ≡ b → (if b then Some q.num else None) ≡ Some z → text ≡ signed_decimal z
+whole_parts text q z t true d e = t ∙ whole_text q.num q.den (eqb_one q.den d) ∙ ap signed_decimal (some_same e)
+whole_parts text q z t false d e = absurd cc
+
+whole_from : (text : List ℕ) (o : Option ℚ) (z : ℤ) → frac_of text ≡ o → option_and_then if_whole o ≡ Some z → text ≡ signed_decimal z
+whole_from text None z f e = absurd cc
+whole_from text (Some q) z f e = whole_parts text q z (frac_text_of text q f).0 (q.den == 1) refl e
+
+pub wholes : WholesByText
+wholes text z = (
+  λ e. (whole_from text (frac_of text) z refl e, whole_small text (frac_of text) z refl e),
+  λ h. ap whole_of (h.0 ∙ sym (whole_decimal z)) ∙ whole_back z h.1,
+)
+
+-- ---- bounds
+
+fin_from : (text : List ℕ) (o : Option ℚ) (e : Ext) → frac_of text ≡ o → option_map (λ (q : ℚ). Fin q) o ≡ Some e → (text ≡ ext_text e) × ExtFits e
+fin_from text None e f h = absurd cc
+fin_from text (Some q) e f h = subst (λ (x : Ext). (text ≡ ext_text x) × ExtFits x) (some_same h) (frac_text_of text q f)
+
+ext_from : (text : List ℕ) (e : Ext) (a b : Bool) → bytes_eq text (codes "-inf") ≡ a → bytes_eq text (codes "+inf") ≡ b
+    → (if a then Some NegInf else (if b then Some PosInf else option_map (λ (q : ℚ). Fin q) (frac_of text))) ≡ Some e → (text ≡ ext_text e) × ExtFits e
+ext_from text e true b p q h = subst (λ (x : Ext). (text ≡ ext_text x) × ExtFits x) (some_same h) ((bytes_eq-Decides text (codes "-inf")).0 p, tt)
+ext_from text e false true p q h = subst (λ (x : Ext). (text ≡ ext_text x) × ExtFits x) (some_same h) ((bytes_eq-Decides text (codes "+inf")).0 q, tt)
+ext_from text e false false p q h = fin_from text (frac_of text) e refl h
+
+ext_back : (e : Ext) → ExtFits e → ext_of (ext_text e) ≡ Some e
+ext_back NegInf f = refl
+ext_back (Fin q) f = fin_back q f
+ext_back PosInf f = refl
+
+pub bounds : BoundsByText
+bounds text e = (
+  λ h. ext_from text e (bytes_eq text (codes "-inf")) (bytes_eq text (codes "+inf")) refl refl h,
+  λ h. ap ext_of h.0 ∙ ext_back e h.1,
+)
+
+-- ---- the round trip
+
+pub same_read : (bytes : List ℕ) (c : Cert) (r : Result Cert FormFault) → SpellsCert bytes c → IfOk r (λ e. SpellsCert bytes e) → IfOk r (λ e. e ≡ c)
+same_read bytes c (Ok e) s h = one_reading bytes e c h s
+same_read bytes c (Err f) s h = tt
+
+ok_not_err : (c : Cert) (f : FormFault) (r : Result Cert FormFault) → r ≡ Ok c → r ≡ Err f → ⊥
+ok_not_err c f r d e = cc
+
+module _ (bytes : List ℕ) (c : Cert) (s : SpellsCert bytes c) where
+  not_refused : (f : FormFault) → (d : Data) × Spells bytes d × (cert_in d ≡ Err f) → ⊥
+  not_refused f h = ok_not_err c f (cert_in s.data_is) s.reads (ap cert_in (same_data bytes s.data_is h.0 s.spells h.1) ∙ h.2)
+
+  pub memory_alone : (r : Result Cert FormFault) → (IsErrOf r NotJson → (d : Data) → Spells bytes d → ⊥) → IfErr r (λ f. f ≢ NotJson → f ≢ NoMemory → (d : Data) × Spells bytes d × (cert_in d ≡ Err f)) → IfErr r (λ f. f ≡ NoMemory)
+  memory_alone (Ok e) n h = tt
+  memory_alone (Err NotJson) n h = absurd (n refl s.data_is s.spells)
+  memory_alone (Err (Shape f)) n h = absurd (not_refused (Shape f) (h (λ e. cc) (λ e. cc)))
+  memory_alone (Err (Number f)) n h = absurd (not_refused (Number f) (h (λ e. cc) (λ e. cc)))
+  memory_alone (Err Version) n h = absurd (not_refused Version (h (λ e. cc) (λ e. cc)))
+  memory_alone (Err NoMemory) n h = refl

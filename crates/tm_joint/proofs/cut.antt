@@ -1,0 +1,3 @@
+pub mod Cutting
+pub mod SameParts
+pub mod PartFacts

@@ -1,0 +1,2 @@
+pub mod EdgeSizes
+pub mod SameProblem

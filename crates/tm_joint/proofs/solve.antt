@@ -1,0 +1,2 @@
+pub mod PlainProblem
+pub mod Reached

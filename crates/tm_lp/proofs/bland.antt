@@ -1,0 +1,3 @@
+pub mod Pigeons
+pub mod PhaseOne
+pub mod Measures

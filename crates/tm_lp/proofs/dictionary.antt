@@ -1,0 +1,4 @@
+pub mod Dictionaries
+pub mod Clash
+pub mod Drops
+pub mod Tables

@@ -1,0 +1,4 @@
+pub mod Agrees
+pub mod Phases
+pub mod PhaseRuns
+pub mod HasRows

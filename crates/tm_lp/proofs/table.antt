@@ -1,0 +1,2 @@
+pub mod TablePivots
+pub mod PlainTables

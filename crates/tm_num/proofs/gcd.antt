@@ -1,0 +1,2 @@
+pub mod Gcds
+pub mod Coprimes

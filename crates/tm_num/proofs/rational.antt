@@ -1,0 +1,5 @@
+pub mod Reps
+pub mod Laws
+pub mod Parts
+pub mod Quotients
+pub mod Lowest

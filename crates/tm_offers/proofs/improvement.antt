@@ -1,0 +1,3 @@
+pub mod Exceeding
+pub mod Improved
+pub mod OfferLists

@@ -1,0 +1,3 @@
+pub mod NextPick
+pub mod Offered
+pub mod Unknowns

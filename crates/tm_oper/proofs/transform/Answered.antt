@@ -1,0 +1,49 @@
+-- All that is said of the answer for an edge and a row.
+use Rattle.std.proofs.Common.{◌≡◌, ◌∙◌, ℕ, ◌<◌, false, true≢false, ℤ, List, length, None, Result, Ok, sym}
+use Rattle.std.specs.Prelude.{IfOk, IfErr, OnOk}
+use Rattle.std.proofs.lemmas.Result.{IfOk-weaker}
+use Rattle.tm_frac.specs.declared.ext.Ext.{Ext}
+use Rattle.tm_frac.specs.Fits.{long_limit}
+use Rattle.tm_frac.specs.Operation.{first_wide}
+use Rattle.tm_flow.specs.declared.edge.Edge.{Edge}
+use Rattle.tm_eqsys.specs.Equations.{Equations, Vector}
+use Rattle.tm_eqsys.specs.declared.spot.PartFault.{PartFault}
+use Rattle.tm_lp.specs.Problem as lp
+use Rattle.tm_lp.specs.Simplex.{lp as solved}
+use Rattle.tm_simplex.specs.Operations.{first_refused, run_operations}
+use Rattle.tm_transformers.specs.EdgeProblems.{lost, transformer}
+use Rattle.tm_compose.specs.Value.{number_of}
+use Rattle.tm_compose.specs.declared.affine.Affine.{Affine}
+use Rattle.tm_compose.specs.declared.value.Value.{Value}
+use Rattle.tm_compose.specs.declared.value.Value.TheVariants.{Unreached}
+use Rattle.tm_oper.specs.Meanings.{HasEvidence, Operates}
+use Rattle.tm_oper.specs.Splits.{bounds_at, IsSource}
+use Rattle.tm_oper.specs.Readings.{IsProblemFault}
+use Rattle.tm_oper.specs.Values.{IsLowestLost, IsValue, ReadsOutcome, reading_operations, whole_problem}
+use Rattle.tm_oper.proofs.values.Evident.{is_transformer, has_evidence}
+use Rattle.tm_oper.proofs.transform.Operated.{lost_at, value_of, none_of, fault_of}
+
+-- where a bound at the source is -inf
+pub answered_lost : (system : Equations) (z : Vector) (e : Edge) (cs : List ℤ) (r : ℕ) → IsLowestLost (z e.from) (length system.template) r → Operates system z e cs (Ok (Unreached r))
+answered_lost system z e cs r h = record {
+  value = h;
+  supremum = is_transformer system z e cs (Unreached r) h;
+  evidence = has_evidence system z e cs (Unreached r) h;
+  fits = λ none. absurd (true≢false (sym (lost_at (z e.from) system.template r h.within h.is_lost) ∙ none));
+  refused = tt;
+}
+
+-- where the problem of a source is solved and read
+module _ (system : Equations) (z : Vector) (e : Edge) (cs : List ℤ) (w : ℕ) (template : List (List ℤ)) (source : List Ext) (guards : List Affine) (form : Affine) (s : IsSource system z e cs w template source guards form) where
+  module _ (P : lp.Problem) (same : P ≡ whole_problem system z e cs) (n : ℕ) (nn : n ≡ system.variables) (count : ℕ) (c : count ≡ length guards) (none : lost (z e.from) system.template ≡ false) where
+    pub answered_solved : (res : Result Value PartFault) → IfOk res (ReadsOutcome n w form.constant (bounds_at source) template count (solved P)) → OnOk res (first_refused long_limit (run_operations P) ≡ None) →
+        OnOk res (first_wide long_limit (reading_operations w form.constant (solved P)) ≡ None) → IfErr res (IsProblemFault P (reading_operations w form.constant (solved P))) → Operates system z e cs res
+    answered_solved res reads pivots reading refused =
+        let value = value_of system z e cs w template source guards form s P same n nn count c none res reads in
+        record {
+          value = value;
+          supremum = IfOk-weaker res (IsValue system z e cs) (λ v. transformer system z e cs ≡ number_of v) (is_transformer system z e cs) value;
+          evidence = IfOk-weaker res (IsValue system z e cs) (HasEvidence system z e cs) (has_evidence system z e cs) value;
+          fits = none_of system z e cs w template source guards form s P same n nn count c none res pivots reading;
+          refused = fault_of system z e cs w template source guards form s P same n nn count c none res refused;
+        }

@@ -1,0 +1,6 @@
+pub mod Chained
+pub mod ChoicesAgree
+pub mod Improvements
+pub mod Listing
+pub mod OneNumber
+pub mod StartTight

@@ -1,0 +1,6 @@
+pub mod EachPart
+pub mod Parting
+pub mod Partings
+pub mod RoundMade
+pub mod RoundRaises
+pub mod TurnStops

@@ -1,0 +1,2 @@
+pub mod GrownTo
+pub mod Marked

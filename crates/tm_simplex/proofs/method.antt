@@ -1,0 +1,3 @@
+pub mod Evidences
+pub mod Begins
+pub mod Ends

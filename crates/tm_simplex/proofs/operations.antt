@@ -1,0 +1,3 @@
+pub mod AgreeOperations
+pub mod Numbering
+pub mod PhaseSteps

@@ -1,0 +1,2 @@
+pub mod PhaseLoops
+pub mod LoopSteps

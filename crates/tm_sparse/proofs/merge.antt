@@ -1,0 +1,4 @@
+pub mod SingleEntries
+pub mod Lists
+pub mod Gaps
+pub mod Merging

@@ -1,0 +1,4 @@
+pub mod Dividing
+pub mod Answering
+pub mod RowsOver
+pub mod Exchanging

@@ -1,0 +1,14 @@
+pub mod Choices
+pub mod RoundChain
+pub mod FirstLaw
+pub mod SecondLaw
+pub mod NoTwice
+pub mod FewRounds
+pub mod TurnLaw
+pub mod PartLaw
+pub mod CutLaw
+pub mod RoundLaw
+pub mod RoundGives
+pub mod Chain
+pub mod WholeCut
+pub mod Solve

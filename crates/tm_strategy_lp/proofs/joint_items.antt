@@ -1,0 +1,5 @@
+pub mod ListedItems
+pub mod PointTurn
+pub mod RayTurn
+pub mod Joined
+pub mod RoundAgrees

@@ -1,0 +1,2 @@
+pub mod Uppers
+pub mod MadeNeeds

@@ -1,0 +1,51 @@
+-- The laws of growth, rounds and chains, put together.
+use Rattle.tm_strategy_lp.specs.RoundLaws.{GrowthsAreExact, TurnsAreExact, CutsAreExact, RoundsAreExact, ChainsAreExact, RoundsEnd, RowsDecide}
+use Rattle.tm_strategy_lp.proofs.joint_items.Joined.{exact_joined}
+use Rattle.tm_strategy_lp.proofs.rounds.ExactRound.{exact_cuts, exact_grow_is, exact_round_is}
+use Rattle.tm_strategy_lp.proofs.rounds.ExactChain.{state_tight, state_few, state_valid, state_leads, state_below, state_least, state_ends}
+use Rattle.tm_strategy_lp.proofs.rounds.ExactEnd.{rounds_end}
+use Rattle.tm_strategy_lp.proofs.rounds.GrowthAgrees.{grow_agrees}
+use Rattle.tm_strategy_lp.proofs.joint_items.RoundAgrees.{grown_agrees, round_steps_agree, round_agrees}
+use Rattle.tm_strategy_lp.proofs.rounds.NextAgrees.{exact_next_agrees}
+use Rattle.tm_strategy_lp.proofs.rounds.MadeCertificate.{made_valid}
+
+pub growths_law : GrowthsAreExact
+growths_law = exact_grow_is
+
+pub turns_law : TurnsAreExact
+turns_law = exact_joined
+
+pub cuts_law : CutsAreExact
+cuts_law fitting system d pick is_pick =
+    let c = exact_cuts fitting system d pick is_pick in
+    record { admissible = c.admissible; from = c.from; all = c.all }
+
+pub rounds_law : RoundsAreExact
+rounds_law = exact_round_is
+
+pub chains_law : ChainsAreExact
+chains_law fitting system range choose among n goes =
+    record {
+      tight = state_tight fitting system range choose among n goes;
+      few = state_few fitting system range choose among n goes;
+      valid = state_valid fitting system range choose among n goes;
+      leads = state_leads fitting system range choose among n goes;
+      below = state_below fitting system range choose among n goes;
+      least = λ e. state_least fitting system range choose among n goes (state_ends fitting system range choose among n goes e);
+      certified = λ e. made_valid fitting system range choose among n goes (state_ends fitting system range choose among n goes e);
+    }
+
+pub end_law : RoundsEnd
+end_law fitting system range choose among =
+    let e = rounds_end fitting system range choose among in
+    record { rounds = e.rounds; few = e.within; made = e.before; ended = e.none }
+
+pub rows_law : RowsDecide
+rows_law fitting system pick is_pick d e agree =
+    record {
+      growth = grow_agrees fitting system pick is_pick d e agree;
+      grown = grown_agrees fitting system pick is_pick d e agree;
+      steps = round_steps_agree fitting system pick is_pick d e agree;
+      round = round_agrees fitting system pick is_pick d e agree;
+      next = λ choose. exact_next_agrees system d e agree choose pick;
+    }

@@ -1,0 +1,12 @@
+pub mod ExactRound
+pub mod ExactChain
+pub mod GrowthAgrees
+pub mod NextAgrees
+pub mod ExactEnd
+pub mod MadeCertificate
+pub mod GrowthShape
+pub mod Meant
+pub mod Linked
+pub mod Clamped
+pub mod Retraced
+pub mod Existing

@@ -1,0 +1,2 @@
+pub mod TurnConditions
+pub mod TurnsAgree

@@ -1,0 +1,7 @@
+pub mod Solved
+pub mod Answered
+pub mod Systems
+pub mod Analysed
+pub mod Halted
+pub mod Made
+pub mod Worded

@@ -1,0 +1,50 @@
+-- The system that is made of the flow of a program and of a template is theirs.
+use Rattle.std.proofs.Common.{◌≡◌, ◌∙◌, ◌*◌, ◌≤◌, ◌<◌, ℕ, List, length, sym, ap, subst}
+use Rattle.std.specs.Prelude.{ℤ, Ok}
+use Rattle.tm_tree.specs.Tree.{Statements}
+use Rattle.tm_flow.specs.Edges.{edges_of_program}
+use Rattle.tm_flow.specs.Points.{points_of_program}
+use Rattle.tm_flow.specs.declared.graph.Flow.{Flow}
+use Rattle.tm_eqsys.specs.Cells.{cells_of}
+use Rattle.tm_eqsys.specs.View.{equations_of}
+use Rattle.tm_eqsys.specs.declared.system.System.{System}
+use Rattle.tm_cli.specs.declared.request.Domain.{Domain}
+use Rattle.tm_top.specs.Parted.{IsRefusedBy}
+use Rattle.tm_top.specs.Rounds.{IsSystemFor}
+use Rattle.tm_top.specs.Texts.{HasTemplate, IsAnalysed, IsSolvedSystem, IsSystemOf, unknowns}
+use Rattle.tm_top.specs.declared.refusal.Refusal.{Refusal}
+use Rattle.tm_top.specs.declared.refusal.Refusal.TheVariants as refusal
+use Rattle.tm_top.specs.declared.status.TextCause.TheVariants.{Cells}
+use Rattle.tm_top.proofs.texts.Once.{equations_are}
+
+module _ (text : List ℕ) (rows : Domain (List ℕ)) (names : List (List ℕ)) (body : Statements) (flow : Flow) (template : List (List ℤ)) (s : System)
+    (analysed : IsAnalysed text names body) (names_are : flow.names ≡ names) (points_are : flow.points ≡ points_of_program body) (edges_are : flow.edges ≡ edges_of_program body)
+    (given : HasTemplate rows names (Ok template)) (flow_is : s.flow ≡ flow) (template_is : s.template ≡ template) (within : length flow.points * length template ≤ 1024) where
+  pub system_for : IsSystemFor names body template s
+  system_for = record {
+    names_are = ap (λ (f : Flow). f.names) flow_is ∙ names_are;
+    points_are = ap (λ (f : Flow). f.points) flow_is ∙ points_are;
+    edges_are = ap (λ (f : Flow). f.edges) flow_is ∙ edges_are;
+    template_is = template_is;
+  }
+
+  system_of : IsSystemOf text rows names body template
+  system_of = record { analysed = analysed; template_is = given }
+
+  few : unknowns body template ≤ 1024
+  few = subst (λ ps. length ps * length template ≤ 1024) points_are within
+
+  pub solved_system : cells_of (equations_of s) ≤ 134217728 → IsSolvedSystem text rows s
+  solved_system h = record {
+    names = names;
+    body = body;
+    template = template;
+    ready = record { system = system_of; within = few; cells_within = subst (λ q. cells_of q ≤ 134217728) (equations_are names body template s system_for) h };
+    system_for = system_for;
+  }
+
+  pub too_many_cells : 134217728 < cells_of (equations_of s) → (r : Refusal) → r ≡ refusal.Text (Cells (cells_of (equations_of s))) → IsRefusedBy text rows r
+  too_many_cells h r e =
+      let same = equations_are names body template s system_for in
+      subst (λ x. IsRefusedBy text rows x) (sym e)
+      (names, body, template, system_of, few, subst (λ q. 134217728 < cells_of q) same h, ap cells_of same)

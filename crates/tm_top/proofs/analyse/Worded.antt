@@ -1,0 +1,127 @@
+-- What an answer to the words says where they ask for an analysis, and where they don't.
+use Rattle.std.proofs.Common.{◌≡◌, ◌<◌, ◌⊎◌, inl, inr, ⊎_elim, ℕ, List, refl, sym, ap, ◌∙◌, subst}
+use Rattle.std.specs.Prelude.{Option, Some, None, option_and_then}
+use Rattle.tm_io.specs.Files.{Contents}
+use Rattle.tm_cli.specs.Request.{request_of}
+use Rattle.tm_top.specs.Endings.{Ends, IsAnswerTo, IsAnswerToRequest, IsAnswerToWords}
+use Rattle.tm_top.specs.Given.{Gives, HasEnding}
+use Rattle.tm_top.specs.Files.{HasProgram, IsTold, Request, file_in, file_named}
+use Rattle.tm_top.specs.Messages.{line_in}
+use Rattle.tm_top.specs.Outputs.{IsTaken, pieces_of}
+use Rattle.tm_top.specs.Reports.{IsReportFor, IsReportOn}
+use Rattle.tm_top.specs.Run.{FailsOnlyIn, HasFailed, IsLine, IsRowCount, IsRowCountIn, OutputHolds, Refuses}
+use Rattle.tm_top.proofs.analyse.Answered.{Tells, answered_when, nothing_put}
+use Rattle.tm_top.specs.declared.status.Which.{Which}
+use Rattle.tm_top.specs.declared.status.ReadCause.TheVariants.{Failed}
+use Rattle.tm_top.specs.declared.status.Status.{Status}
+use Rattle.tm_top.specs.declared.status.Status.TheVariants.{Done, Certificate, Usage, Read, Text, Wide, Spent, Memory, Write}
+
+-- ---- the output, by other words for its report
+
+pub output_map : (P Q : List ℕ → Type 0) (status : Status) (held now : Option (List ℕ)) → ((bytes : List ℕ) → P bytes → Q bytes) → OutputHolds P status held now → OutputHolds Q status held now
+output_map P Q Done held now f (bytes, p, appended) = (bytes, f bytes p, appended)
+output_map P Q (Certificate cause) held now f o = o
+output_map P Q Usage held now f o = o
+output_map P Q (Read cause) held now f o = o
+output_map P Q (Text cause) held now f o = o
+output_map P Q (Wide spot) held now f o = o
+output_map P Q (Spent n) held now f o = o
+output_map P Q Memory held now f o = ⊎_elim (λ e. inl e) (λ part. inr (part.0, part.1, f part.0 part.2, part.3)) o
+output_map P Q Write held now f (bytes, n, p, appended) = (bytes, n, f bytes p, appended)
+
+-- ---- the request that words ask for
+
+same_request : (o : Option Request) (a b : Request) → o ≡ Some a → o ≡ Some b → b ≡ a
+same_request o a b h k = cc
+
+no_request : (o : Option Request) (a : Request) → o ≡ None → o ≡ Some a → ⊥
+no_request o a h k = cc
+
+to_request : (files : Option Contents) (words : List (List ℕ)) (a : Request) (status : Status) → request_of words ≡ Some a → IsAnswerToWords files words status → IsAnswerTo files a status
+to_request files words a status e h = subst (λ x. IsAnswerToRequest files x status) e h
+
+pub answers_words : (files : Option Contents) (words : List (List ℕ)) (a : Request) (status : Status) → request_of words ≡ Some a → IsAnswerTo files a status → IsAnswerToWords files words status
+answers_words files words a status e h = subst (λ x. IsAnswerToRequest files x status) (sym e) h
+
+pub no_words : (files : Option Contents) (words : List (List ℕ)) (status : Status) → request_of words ≡ None → (status ≡ Usage) ⊎ (status ≡ Memory) → IsAnswerToWords files words status
+no_words files words status e h = subst (λ o. IsAnswerToRequest files o status) (sym e) h
+
+memory_request : (files : Option Contents) (o : Option Request) → IsAnswerToRequest files o Memory
+memory_request files None = inr refl
+memory_request files (Some a) = tt
+
+-- want of memory answers any words
+pub memory_words : (files : Option Contents) (words : List (List ℕ)) (status : Status) → status ≡ Memory → IsAnswerToWords files words status
+memory_words files words status e = subst (λ s. IsAnswerToWords files words s) (sym e) (memory_request files (request_of words))
+
+-- ---- what stands is answered
+
+kept : (files : Option Contents) (words : List (List ℕ)) (a : Request) (wanted status : Status) (held now : Option (List ℕ)) → request_of words ≡ Some a → Tells files a
+    → IsAnswerToWords files words status → OutputHolds (IsReportFor files words) status held now → Ends files a wanted → (wanted ≡ Done → ⊥) → now ≡ held
+kept files words a wanted status held now e told h o k other =
+    nothing_put files a wanted status held now told (to_request files words a status e h)
+    (output_map (IsReportFor files words) (IsReportOn files a) status held now
+    (λ bytes r. subst (λ x. IsReportOn files x bytes) (same_request (request_of words) a r.0 e r.1) r.2) o) k other
+
+-- words that ask for no request put nothing
+unasked : (files : Option Contents) (words : List (List ℕ)) (status : Status) (held now : Option (List ℕ)) → request_of words ≡ None → OutputHolds (IsReportFor files words) status held now → now ≡ held
+unasked files words Done held now e (bytes, r, appended) = absurd (no_request (request_of words) r.0 e r.1)
+unasked files words (Certificate cause) held now e o = o
+unasked files words Usage held now e o = o
+unasked files words (Read cause) held now e o = o
+unasked files words (Text cause) held now e o = o
+unasked files words (Wide spot) held now e o = o
+unasked files words (Spent n) held now e o = o
+unasked files words Memory held now e o = ⊎_elim (λ i. i) (λ part. absurd (no_request (request_of words) part.2.0 e part.2.1)) o
+unasked files words Write held now e (bytes, n, r, appended) = absurd (no_request (request_of words) r.0 e r.1)
+
+pub refuses_words : (files : Option Contents) (words : List (List ℕ)) (status : Status) (held now : Option (List ℕ)) → request_of words ≡ None
+    → IsAnswerToWords files words status → OutputHolds (IsReportFor files words) status held now → Refuses Usage status held now
+refuses_words files words status held now e h o =
+    let answer : (status ≡ Usage) ⊎ (status ≡ Memory) = subst (λ x. IsAnswerToRequest files x status) e h in
+    record {
+      answer = ⊎_elim (λ u. inl u) (λ m. inr (inl m)) answer;
+      unchanged = unasked files words status held now e o;
+    }
+
+-- ---- a file that failed
+
+pub failed_in : (faults faults_now : ℕ) (last : List ℕ) (words : List (List ℕ)) (a : Request) (status : Status) (which : Which) → request_of words ≡ Some a
+    → FailsOnlyIn faults faults_now last a status → status ≡ Read (Failed which) → HasFailed faults faults_now last (file_named which words)
+failed_in faults faults_now last words a status which e h i =
+    let failed : HasFailed faults faults_now last (file_in which a) = subst (λ s. FailsOnlyIn faults faults_now last a s) i h in
+    subst (λ name. HasFailed faults faults_now last name) (sym (ap (λ x. option_and_then (file_in which) x) e)) failed
+
+-- ---- the line
+
+pub line_for : (files : Option Contents) (words : List (List ℕ)) (a : Request) (status : Status) (line : ℕ) → request_of words ≡ Some a
+    → ((text : List ℕ) → IsTold files → HasProgram files a text → line ≡ line_in text status) → IsLine files words status line
+line_for files words a status line e h text told (b, i, k) =
+    h text told (subst (λ x. HasProgram files x text) (same_request (request_of words) a b e i) k)
+
+pub no_line : (files : Option Contents) (words : List (List ℕ)) (status : Status) (line : ℕ) → line ≡ 0 → ((text : List ℕ) → line_in text status ≡ 0) → IsLine files words status line
+no_line files words status line e h text told k = e ∙ sym (h text)
+
+-- ---- the number of rows
+
+pub rows_for : (files : Option Contents) (words : List (List ℕ)) (a : Request) (status : Status) (rows : ℕ) → request_of words ≡ Some a → IsRowCountIn files a status rows → IsRowCount files words status rows
+rows_for files words a status rows e h b i = subst (λ x. IsRowCountIn files x status rows) (sym (same_request (request_of words) a b e i)) h
+
+pub no_rows : (files : Option Contents) (words : List (List ℕ)) (status : Status) (rows : ℕ) → request_of words ≡ None → IsRowCount files words status rows
+no_rows files words status rows e b i = absurd (no_request (request_of words) b e i)
+
+-- an ending that stands is given
+pub ending_given : (files : Option Contents) (words : List (List ℕ)) (status : Status) (held now : Option (List ℕ)) → IsAnswerToWords files words status → OutputHolds (IsReportFor files words) status held now
+    → (a : Request) (wanted : Status) → HasEnding files words a wanted → Gives files a wanted status held now
+ending_given files words status held now h o a wanted k =
+    record {
+      answer = answered_when files a wanted status k.told (to_request files words a status k.asked h) k.ends;
+      unchanged = λ other. kept files words a wanted status held now k.asked k.told h o k.ends other;
+    }
+
+-- ---- the pieces
+
+pub pieces_for : (words : List (List ℕ)) (a : Request) (held held_now : Option (List ℕ)) (taken taken_now : Option (List (List ℕ))) → request_of words ≡ Some a
+    → IsTaken (pieces_of a) held held_now taken taken_now → (request : Request) → request_of words ≡ Some request → IsTaken (pieces_of request) held held_now taken taken_now
+pieces_for words a held held_now taken taken_now e h request i =
+    subst (λ r. IsTaken (pieces_of r) held held_now taken taken_now) (sym (same_request (request_of words) a request e i)) h

@@ -1,0 +1,226 @@
+-- Refusals, from one stage to the next.
+use Rattle.std.proofs.Common.{◌≡◌, ◌≢◌, inl, inr, ⊎_elim, ℕ, List, refl, sym, ap, ◌∙◌, subst}
+use Rattle.std.specs.Prelude.{Err, None, Option, Some}
+use Rattle.serde_json.specs.Data.{Data}
+use Rattle.tm_tree.specs.Tree.{Statements}
+use Rattle.tm_eqsys.specs.declared.spot.Spot.{Spot}
+use Rattle.tm_eqsys.specs.Equations.{Equations}
+use Rattle.tm_validity.specs.Certificates.{Certificate as TheoryCertificate}
+use Rattle.tm_check.specs.CheckEvents.{check_events}
+use Rattle.tm_check.proofs.events.CheckTests.{stops_are_faults}
+use Rattle.tm_check.specs.Events.{fault_answer, first_stop}
+use Rattle.tm_check.specs.declared.fault.CheckFault.{CheckFault}
+use Rattle.tm_check.specs.declared.fault.CheckFault.TheVariants as check
+use Rattle.tm_validity.specs.Faults.{Fault, SizeFault, TraceFault, LowFault, HighFault, RayFault, FinalFault, UpperFault}
+use Rattle.tm_compose.specs.Operations.{wide_composition}
+use Rattle.tm_cert.specs.declared.cert.Cert.{Cert}
+use Rattle.tm_form.specs.Certificates.{Spells, cert_in}
+use Rattle.tm_form.specs.declared.fault.FormFault.{FormFault}
+use Rattle.tm_form.specs.declared.fault.FormFault.TheVariants.{NotJson, Shape, Number, Version, NoMemory}
+use Rattle.tm_cli.specs.declared.request.Domain.{Domain}
+use Rattle.tm_top.specs.Checks.{IsFormFault, IsSpelt, IsSystemWith, system_with, theirs}
+use Rattle.tm_top.specs.CheckMessages.{rows_in}
+use Rattle.tm_top.specs.Messages.{line_in}
+use Rattle.tm_top.specs.Parted.{AreUnloaded, GetsNoReport, IsAnswerToCheck, IsNoSystem, IsRefusedBy, IsUnaccepted, IsUnread, IsUnspelt, PutsReport, failed, refused, wanting, whole}
+use Rattle.tm_top.specs.Reports.{IsReportBy}
+use Rattle.tm_top.specs.Run.{OutputHolds}
+use Rattle.tm_io.specs.Faults.{Rose}
+use Rattle.tm_io.specs.Puts.{HasPutCause}
+use Rattle.tm_io.specs.declared.sink.PutFault.{PutFault}
+use Rattle.tm_top.specs.declared.refusal.Refusal.{Refusal}
+use Rattle.tm_top.specs.declared.refusal.Refusal.TheVariants as refusal
+use Rattle.tm_top.specs.declared.status.TextCause.TheVariants as text
+use Rattle.tm_top.specs.declared.status.CertCause.TheVariants.{Form, Rows, Unknowns, Check}
+use Rattle.tm_top.specs.declared.status.Status.{Status}
+use Rattle.tm_top.specs.declared.status.Status.TheVariants.{Done, Memory, Write}
+
+-- ---- no refusal is done
+
+pub not_done : (r : Refusal) (s : Status) → s ≡ refused r → s ≡ Done → ⊥
+not_done (refusal.Text cause) s e d = cc
+not_done (refusal.Certificate cause) s e d = cc
+not_done (refusal.Wide spot) s e d = cc
+not_done (refusal.Spent number) s e d = cc
+not_done refusal.NoMemory s e d = cc
+
+pub unloaded_not_done : (s : Status) → AreUnloaded s → s ≡ Done → ⊥
+unloaded_not_done s h d = subst AreUnloaded d h
+
+-- ---- the text of a program
+
+pub unread_refuses : (t : List ℕ) (rows : Domain (List ℕ)) (r : Refusal) → IsUnread t r → IsRefusedBy t rows r
+unread_refuses t rows (refusal.Text (text.Lex f)) h = h
+unread_refuses t rows (refusal.Text (text.Parse f)) h = h
+unread_refuses t rows (refusal.Text (text.Flow f)) h = h
+unread_refuses t rows (refusal.Text (text.Rows f)) h = absurd h
+unread_refuses t rows (refusal.Text (text.Unknowns c)) h = absurd h
+unread_refuses t rows (refusal.Text (text.Cells c)) h = absurd h
+unread_refuses t rows (refusal.Certificate c) h = absurd h
+unread_refuses t rows (refusal.Wide s) h = absurd h
+unread_refuses t rows (refusal.Spent k) h = absurd h
+unread_refuses t rows refusal.NoMemory h = tt
+
+pub unread_unspelt : (t bytes : List ℕ) (r : Refusal) → IsUnread t r → IsUnspelt t bytes r
+unread_unspelt t bytes (refusal.Text c) h = h
+unread_unspelt t bytes (refusal.Certificate c) h = absurd h
+unread_unspelt t bytes (refusal.Wide s) h = absurd h
+unread_unspelt t bytes (refusal.Spent k) h = absurd h
+unread_unspelt t bytes refusal.NoMemory h = tt
+
+-- ---- the form of a certificate
+
+pub form_fault : (bytes : List ℕ) (f : FormFault) → (f ≡ NotJson → (d : Data) → Spells bytes d → ⊥)
+    → (f ≢ NotJson → f ≢ NoMemory → (d : Data) × Spells bytes d × (cert_in d ≡ Err f)) → f ≢ NoMemory → IsFormFault bytes f
+form_fault bytes NotJson a b n = a refl
+form_fault bytes (Shape field) a b n = b (λ e. let f : ⊥ = cc in f) (λ e. let f : ⊥ = cc in f)
+form_fault bytes (Number field) a b n = b (λ e. let f : ⊥ = cc in f) (λ e. let f : ⊥ = cc in f)
+form_fault bytes Version a b n = b (λ e. let f : ⊥ = cc in f) (λ e. let f : ⊥ = cc in f)
+form_fault bytes NoMemory a b n = absurd (n refl)
+
+-- ---- the check
+
+-- an answer that isn't wide is that of a test
+answer_is : (x : CheckFault) → ((spot : Spot) → x ≡ check.Wide spot → ⊥) → (f : Fault) × (x ≡ fault_answer f)
+answer_is check.Size n = (SizeFault, refl)
+answer_is (check.Trace s k) n = (TraceFault s k, refl)
+answer_is (check.Low s k) n = (LowFault s k, refl)
+answer_is (check.High s k) n = (HighFault s k, refl)
+answer_is (check.Ray s k) n = (RayFault s k, refl)
+answer_is (check.Upper u e) n = (UpperFault u e, refl)
+answer_is (check.Final u) n = (FinalFault u, refl)
+answer_is (check.Wide spot) n = absurd (n spot refl)
+
+pub check_refused : (system : Equations) (certificate : TheoryCertificate) (x : CheckFault) → ((spot : Spot) → x ≡ check.Wide spot → ⊥) → wide_composition system ≡ None
+    → first_stop (check_events system certificate) ≡ Some x → IsUnaccepted system certificate (refusal.Certificate (Check x))
+check_refused system certificate x n composition stop =
+    let a = answer_is x n in
+    let at : first_stop (check_events system certificate) ≡ Some (fault_answer a.0) = stop ∙ ap Some a.1 in
+    (a.0, a.1, record { first = stops_are_faults system certificate a.0 at; composition = composition; stop = at })
+
+-- ---- the answers
+
+pub unspelt_answers : (t bytes : List ℕ) (r : Refusal) → IsUnspelt t bytes r → IsAnswerToCheck t bytes (refused r)
+unspelt_answers t bytes (refusal.Text c) h = h
+unspelt_answers t bytes (refusal.Certificate (Form f)) h = h
+unspelt_answers t bytes (refusal.Certificate (Rows f)) h = absurd h
+unspelt_answers t bytes (refusal.Certificate (Unknowns c)) h = absurd h
+unspelt_answers t bytes (refusal.Certificate (Check f)) h = absurd h
+unspelt_answers t bytes (refusal.Wide s) h = absurd h
+unspelt_answers t bytes (refusal.Spent k) h = absurd h
+unspelt_answers t bytes refusal.NoMemory h = tt
+
+-- what is refused before the certificate is known names no unknown
+pub unspelt_rows : (t bytes : List ℕ) (r : Refusal) (cert : Cert) → IsUnspelt t bytes r → 0 ≡ rows_in cert (refused r)
+unspelt_rows t bytes (refusal.Text c) cert h = refl
+unspelt_rows t bytes (refusal.Certificate (Form f)) cert h = refl
+unspelt_rows t bytes (refusal.Certificate (Rows f)) cert h = absurd h
+unspelt_rows t bytes (refusal.Certificate (Unknowns c)) cert h = absurd h
+unspelt_rows t bytes (refusal.Certificate (Check f)) cert h = absurd h
+unspelt_rows t bytes (refusal.Wide s) cert h = absurd h
+unspelt_rows t bytes (refusal.Spent k) cert h = absurd h
+unspelt_rows t bytes refusal.NoMemory cert h = refl
+
+no_system_answers : (t bytes : List ℕ) (names : List (List ℕ)) (body : Statements) (cert : Cert) (r : Refusal) → IsSpelt t bytes names body cert → IsNoSystem names body cert r → IsAnswerToCheck t bytes (refused r)
+no_system_answers t bytes names body cert (refusal.Text c) y h = absurd h
+no_system_answers t bytes names body cert (refusal.Certificate (Form f)) y h = absurd h
+no_system_answers t bytes names body cert (refusal.Certificate (Rows f)) y h = (names, body, cert, y, h)
+no_system_answers t bytes names body cert (refusal.Certificate (Unknowns c)) y h = (names, body, cert, y, h.0, h.1, h.2)
+no_system_answers t bytes names body cert (refusal.Certificate (Check f)) y h = absurd h
+no_system_answers t bytes names body cert (refusal.Wide s) y h = absurd h
+no_system_answers t bytes names body cert (refusal.Spent k) y h = absurd h
+no_system_answers t bytes names body cert refusal.NoMemory y h = tt
+
+unaccepted_answers : (t bytes : List ℕ) (names : List (List ℕ)) (body : Statements) (cert : Cert) (r : Refusal) → IsSystemWith t bytes names body cert
+    → IsUnaccepted (system_with names body cert) (theirs cert) r → IsAnswerToCheck t bytes (refused r)
+unaccepted_answers t bytes names body cert (refusal.Text c) y h = absurd h
+unaccepted_answers t bytes names body cert (refusal.Certificate (Form f)) y h = absurd h
+unaccepted_answers t bytes names body cert (refusal.Certificate (Rows f)) y h = absurd h
+unaccepted_answers t bytes names body cert (refusal.Certificate (Unknowns c)) y h = absurd h
+unaccepted_answers t bytes names body cert (refusal.Certificate (Check f)) y h = (names, body, cert, y, h)
+unaccepted_answers t bytes names body cert (refusal.Wide s) y h = (names, body, cert, y, h)
+unaccepted_answers t bytes names body cert (refusal.Spent k) y h = absurd h
+unaccepted_answers t bytes names body cert refusal.NoMemory y h = tt
+
+pub unreported_answers : (t bytes : List ℕ) (names : List (List ℕ)) (body : Statements) (cert : Cert) (r : Refusal) → IsSpelt t bytes names body cert → GetsNoReport names body cert r
+    → IsAnswerToCheck t bytes (refused r)
+unreported_answers t bytes names body cert r y h =
+    ⊎_elim (λ a. no_system_answers t bytes names body cert r y a)
+    (λ a. unaccepted_answers t bytes names body cert r (record { spelt = y; rows = a.0.rows; within = a.0.within }) a.1) h
+
+-- a check has no line once the certificate is known
+no_system_line : (t : List ℕ) (names : List (List ℕ)) (body : Statements) (cert : Cert) (r : Refusal) → IsNoSystem names body cert r → 0 ≡ line_in t (refused r)
+no_system_line t names body cert (refusal.Text c) h = absurd h
+no_system_line t names body cert (refusal.Certificate c) h = refl
+no_system_line t names body cert (refusal.Wide s) h = refl
+no_system_line t names body cert (refusal.Spent k) h = refl
+no_system_line t names body cert refusal.NoMemory h = refl
+
+unaccepted_line : (t : List ℕ) (names : List (List ℕ)) (body : Statements) (cert : Cert) (r : Refusal) → IsUnaccepted (system_with names body cert) (theirs cert) r → 0 ≡ line_in t (refused r)
+unaccepted_line t names body cert (refusal.Text c) h = absurd h
+unaccepted_line t names body cert (refusal.Certificate c) h = refl
+unaccepted_line t names body cert (refusal.Wide s) h = refl
+unaccepted_line t names body cert (refusal.Spent k) h = refl
+unaccepted_line t names body cert refusal.NoMemory h = refl
+
+pub unreported_line : (t : List ℕ) (names : List (List ℕ)) (body : Statements) (cert : Cert) (r : Refusal) → GetsNoReport names body cert r → 0 ≡ line_in t (refused r)
+unreported_line t names body cert r h = ⊎_elim (λ a. no_system_line t names body cert r a) (λ a. unaccepted_line t names body cert r a.1) h
+
+-- ---- what is put
+
+-- a refusal puts nothing
+pub refused_output : (P : List ℕ → Type 0) (r : Refusal) (held : Option (List ℕ)) → OutputHolds P (refused r) held held
+refused_output P (refusal.Text c) held = refl
+refused_output P (refusal.Certificate c) held = refl
+refused_output P (refusal.Wide s) held = refl
+refused_output P (refusal.Spent k) held = refl
+refused_output P refusal.NoMemory held = inl refl
+
+pub not_written : (r : Refusal) → refused r ≡ Write → ⊥
+not_written (refusal.Text c) e = cc
+not_written (refusal.Certificate c) e = cc
+not_written (refusal.Wide s) e = cc
+not_written (refusal.Spent k) e = cc
+not_written refusal.NoMemory e = cc
+
+-- a report that is put
+pub put_output : (P : List ℕ → Type 0) (bytes : List ℕ) (result : Status) (held now : Option (List ℕ)) (f f' : ℕ) → P bytes → PutsReport bytes result held now f f' → OutputHolds P result held now
+put_output P bytes result held now f f' p (whole e a) = subst (λ s. OutputHolds P s held now) (sym e) (bytes, p, a)
+put_output P bytes result held now f f' p (failed e n a r) = subst (λ s. OutputHolds P s held now) (sym e) (bytes, n, p, a)
+put_output P bytes result held now f f' p (wanting e n a) = subst (λ s. OutputHolds P s held now) (sym e) (inr (bytes, n, p, a))
+
+pub put_check : (t given bytes : List ℕ) (result : Status) (held now : Option (List ℕ)) (f f' : ℕ) → IsReportBy t given bytes → PutsReport bytes result held now f f' → IsAnswerToCheck t given result
+put_check t given bytes result held now f f' r (whole e a) = subst (λ s. IsAnswerToCheck t given s) (sym e) (r.names, r.body, r.cert, r.valid, r.narrow)
+put_check t given bytes result held now f f' r (failed e n a i) = subst (λ s. IsAnswerToCheck t given s) (sym e) (r.names, r.body, r.cert, r.valid, r.narrow)
+put_check t given bytes result held now f f' r (wanting e n a) = subst (λ s. IsAnswerToCheck t given s) (sym e) tt
+
+-- only a put that failed is told
+pub put_rose : (bytes : List ℕ) (result : Status) (held now : Option (List ℕ)) (f f' : ℕ) → PutsReport bytes result held now f f' → result ≡ Write → Rose f f'
+put_rose bytes result held now f f' (whole e a) w = absurd (done_write (sym e ∙ w))
+  where
+    done_write : Done ≡ Write → ⊥
+    done_write e = cc
+put_rose bytes result held now f f' (failed e n a r) w = r
+put_rose bytes result held now f f' (wanting e n a) w = absurd (memory_write (sym e ∙ w))
+  where
+    memory_write : Memory ≡ Write → ⊥
+    memory_write e = cc
+
+-- a put report has no line and names no unknown
+pub put_line : (t bytes : List ℕ) (result : Status) (held now : Option (List ℕ)) (f f' : ℕ) → PutsReport bytes result held now f f' → 0 ≡ line_in t result
+put_line t bytes result held now f f' (whole e a) = subst (λ s. 0 ≡ line_in t s) (sym e) refl
+put_line t bytes result held now f f' (failed e n a r) = subst (λ s. 0 ≡ line_in t s) (sym e) refl
+put_line t bytes result held now f f' (wanting e n a) = subst (λ s. 0 ≡ line_in t s) (sym e) refl
+
+-- ---- the same of bytes that are borrowed
+
+pub shown_check : (t given bytes shown : List ℕ) (result : Status) (held now : Option (List ℕ)) (f f' : ℕ) → shown ≡ bytes → IsReportBy t given bytes → PutsReport shown result held now f f'
+    → IsAnswerToCheck t given result
+shown_check t given bytes shown result held now f f' e r p = put_check t given bytes result held now f f' r (subst (λ b. PutsReport b result held now f f') e p)
+
+pub shown_output : (P : List ℕ → Type 0) (bytes shown : List ℕ) (result : Status) (held now : Option (List ℕ)) (f f' : ℕ) → shown ≡ bytes → P bytes → PutsReport shown result held now f f'
+    → OutputHolds P result held now
+shown_output P bytes shown result held now f f' e r p = put_output P bytes result held now f f' r (subst (λ b. PutsReport b result held now f f') e p)
+
+-- a put that fails
+pub put_failed : (f f' s : ℕ) (bytes : List ℕ) (e : PutFault) → e ≡ PutFault.Failed → HasPutCause f f' s bytes (Err e) → Rose f f'
+put_failed f f' s bytes e h c = subst (λ x. HasPutCause f f' s bytes (Err x)) h c

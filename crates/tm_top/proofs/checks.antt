@@ -1,0 +1,2 @@
+pub mod CheckOnce
+pub mod Lawful

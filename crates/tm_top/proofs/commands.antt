@@ -1,0 +1,4 @@
+pub mod Messages
+pub mod Ranges
+pub mod Meant
+pub mod Put

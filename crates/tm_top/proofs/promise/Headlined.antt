@@ -1,0 +1,86 @@
+-- The headline, from what `run` promises.
+use Rattle.std.proofs.Common.{◌≡◌, ◌∙◌, ◌⊎◌, ⊎_elim, ℕ, List, refl, subst, subst₂}
+use Rattle.std.specs.Prelude.{Option, Some}
+use Rattle.tm_io.specs.Faults.{Rose}
+use Rattle.tm_io.specs.Files.{Contents}
+use Rattle.tm_cli.specs.Request.{request_of}
+use Rattle.tm_cli.specs.declared.request.Analysis.{Analysis}
+use Rattle.tm_cli.specs.declared.request.Domain.{Domain}
+use Rattle.tm_cli.specs.declared.request.Purpose.TheVariants.{Report, Certificate as AsCertificate}
+use Rattle.tm_cli.specs.declared.request.Request.TheVariants.{Analyse, Check, Bench}
+use Rattle.tm_top.specs.Answers as answers
+use Rattle.tm_top.specs.Answers.{Answers, Gives, WordsEnd}
+use Rattle.tm_top.specs.Files.{AreInputs, Request, file_named}
+use Rattle.tm_top.specs.Headline.{Asks, IsGiven, Prints, done, no_memory, too_wide, unread, unwritten}
+use Rattle.tm_top.specs.LeastReports.{IsReportOf}
+use Rattle.tm_top.specs.Meanings.{Meanings}
+use Rattle.tm_top.specs.Outputs as outputs
+use Rattle.tm_top.specs.Outputs.{HasFailed, IsOutput, OutputGets}
+use Rattle.tm_top.specs.Texts.{IsSolvable}
+use Rattle.tm_top.specs.declared.status.ReadCause.TheVariants.{Failed}
+use Rattle.tm_top.specs.declared.status.Status.{Status}
+use Rattle.tm_top.specs.declared.status.Status.TheVariants.{Done, Memory, Read, Write}
+use Rattle.tm_top.specs.declared.status.Which.{Which}
+use Rattle.tm_top.proofs.analyse.Answered.{content_once, with_text_once}
+
+-- ---- the words ask for one thing
+
+one_analysis : (o : Option Request) (a b : Analysis (List ℕ)) → o ≡ Some (Analyse Report a) → o ≡ Some (Analyse Report b) → a ≡ b
+one_analysis o a b h k = cc
+
+no_certificate : (o : Option Request) (a b : Analysis (List ℕ)) → o ≡ Some (Analyse AsCertificate a) → o ≡ Some (Analyse Report b) → ⊥
+no_certificate o a b h k = cc
+
+no_check : (o : Option Request) (p c : List ℕ) (b : Analysis (List ℕ)) → o ≡ Some (Check p c) → o ≡ Some (Analyse Report b) → ⊥
+no_check o p c b h k = cc
+
+no_bench : (o : Option Request) (seed loops : ℕ) (b : Analysis (List ℕ)) → o ≡ Some (Bench seed loops) → o ≡ Some (Analyse Report b) → ⊥
+no_bench o seed loops b h k = cc
+
+written_or_memory : (s : Status) → s ≡ Done → (s ≡ Write) ⊎ (s ≡ Memory) → ⊥
+written_or_memory s d h = ⊎_elim (λ (e : s ≡ Write). let f : ⊥ = cc in f) (λ (e : s ≡ Memory). let f : ⊥ = cc in f) h
+
+module _ (m : Meanings) (files : Option Contents) (words : List (List ℕ)) (analysis : Analysis (List ℕ)) (text : List ℕ) (rows : Domain (List ℕ)) (a : Asks files words analysis text rows) where
+  -- these inputs are those
+  same_inputs : (b : Analysis (List ℕ)) (x : List ℕ) (r : Domain (List ℕ)) (bytes : List ℕ) → b ≡ analysis → AreInputs files b x r → IsReportOf x r b.policy b.improvements bytes
+      → IsReportOf text rows analysis.policy analysis.improvements bytes
+  same_inputs b x r bytes e i report =
+      let j : AreInputs files analysis x r = subst (λ (y : Analysis (List ℕ)). AreInputs files y x r) e i in
+      subst₂ (λ t d. IsReportOf t d analysis.policy analysis.improvements bytes)
+      (content_once files analysis.program x text a.told j.program a.inputs.program) (with_text_once files analysis.domain r rows a.told j.rows_are a.inputs.rows_are)
+      (subst (λ (y : Analysis (List ℕ)). IsReportOf x r y.policy y.improvements bytes) e report)
+
+  report_of : (bytes : List ℕ) → IsOutput m files words bytes → IsReportOf text rows analysis.policy analysis.improvements bytes
+  report_of bytes (outputs.is_report b x r e i report) = same_inputs b x r bytes (one_analysis (request_of words) b analysis e a.request) i report
+  report_of bytes (outputs.is_certificate b x r e i c) = absurd (no_certificate (request_of words) b analysis e a.request)
+  report_of bytes (outputs.is_checked p c x given e i r) = absurd (no_check (request_of words) p c analysis e a.request)
+  report_of bytes (outputs.is_summary seed loops e s) = absurd (no_bench (request_of words) seed loops analysis e a.request)
+
+  prints : (status : Status) (held now : Option (List ℕ)) → OutputGets (IsOutput m files words) status held now → status ≡ Done → Prints analysis text rows held now
+  prints status held now (outputs.gets_whole d bytes is appended) e = record { bytes = bytes; is_report = report_of bytes is; appended = appended }
+  prints status held now (outputs.gets_part w bytes n is appended) e = absurd (written_or_memory status e w)
+  prints status held now (outputs.gets_nothing other written same) e = absurd (other e)
+
+  ending : IsSolvable text rows analysis.policy analysis.improvements → WordsEnd m files words Done
+  ending (system, is, e) =
+      answers.asked (Analyse Report analysis) a.request a.told
+      (answers.analysed Report analysis text rows refl a.inputs (answers.solved system is (answers.rounds_end refl e)))
+
+pub sound : (m : Meanings) (files : Option Contents) (words : List (List ℕ)) (status : Status) (held now : Option (List ℕ)) → OutputGets (IsOutput m files words) status held now
+    → (analysis : Analysis (List ℕ)) (text : List ℕ) (rows : Domain (List ℕ)) → Asks files words analysis text rows → status ≡ Done → Prints analysis text rows held now
+sound m files words status held now o analysis text rows a e = prints m files words analysis text rows a status held now o e
+
+pub complete : (m : Meanings) (files : Option Contents) (words : List (List ℕ)) (status : Status) (held now : Option (List ℕ)) (faults faults_now output output_now : ℕ) (last : List ℕ)
+    → ((ending : Status) → WordsEnd m files words ending → Gives m files words ending status held now)
+    → ((which : Which) → status ≡ Read (Failed which) → HasFailed faults faults_now last (file_named which words)) → (status ≡ Write → Rose output output_now)
+    → (analysis : Analysis (List ℕ)) (text : List ℕ) (rows : Domain (List ℕ)) → Asks files words analysis text rows → IsSolvable text rows analysis.policy analysis.improvements
+    → IsGiven status faults faults_now output output_now
+complete m files words status held now faults faults_now output output_now last gives read write analysis text rows a solvable =
+    by (gives Done (ending m files words analysis text rows a solvable)).answer
+  where
+    by : Answers m files words Done status → IsGiven status faults faults_now output output_now
+    by (answers.given e) = done e
+    by (answers.no_memory e) = no_memory e
+    by (answers.unread which e before) = unread which e (read which e).0
+    by (answers.unwritten w d) = unwritten w (write w)
+    by (answers.too_wide request e spot f h r) = too_wide spot f

@@ -1,0 +1,3 @@
+pub mod EdgePoints
+pub mod TransformerOf
+pub mod SplitProblems

@@ -1,0 +1,4 @@
+pub mod Reaching
+pub mod NextPart
+pub mod PartsLaw
+pub mod PartsRise

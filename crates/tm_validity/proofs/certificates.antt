@@ -1,0 +1,5 @@
+pub mod StepNumbers
+pub mod Uppers
+pub mod Needs
+pub mod Greatest
+mod Example

@@ -1,0 +1,9 @@
+pub mod WordForms
+pub mod Traces
+pub mod WordLaws
+pub mod Widths
+pub mod Following
+pub mod Linearized
+pub mod Followed
+pub mod Flat
+pub mod TransformerLaw
