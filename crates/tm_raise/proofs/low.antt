@@ -1,4 +1,4 @@
 pub mod Entries
 pub mod Faults
 pub mod Multiples
-pub mod Above
+pub mod Exceeding

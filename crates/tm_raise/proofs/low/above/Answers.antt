@@ -12,7 +12,7 @@ use Rattle.tm_raise.specs.declared.fault.RaiseFault.TheVariants.{Wide}
 use Rattle.tm_raise.specs.Numbers.{multiple, multiple_operations, moved_pieces, moved_operations}
 use Rattle.tm_raise.specs.Lows.{IsRaiseFault, RaiseAnswers}
 use Rattle.tm_raise.proofs.number.Widths.{less_is}
-use Rattle.tm_raise.proofs.low.Above.{value_wide, kept, multiple_wide, low_answers}
+use Rattle.tm_raise.proofs.low.Exceeding.{value_wide, kept, multiple_wide, low_answers}
 use Rattle.tm_raise.proofs.low.above.Goals as goal
 
 pub moved-requires-clause-free : goal.moved-requires-clause-free
