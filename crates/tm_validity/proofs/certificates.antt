@@ -2,4 +2,4 @@ pub mod StepNumbers
 pub mod Uppers
 pub mod Needs
 pub mod Greatest
-mod Example
+pub mod Example
