@@ -4,6 +4,22 @@ use std::alloc::{AllocError, Global};
 use tm_io::{MemShelf, MemSink};
 use tm_top::{Status, run};
 
+/// A row of a table: a run, and how it is to end.
+pub(crate) trait Case {
+    /// Whether the run ends as it is to. Without memory it doesn't.
+    fn is_right(&self, alloc: Global) -> bool;
+}
+
+/// The number of the first row of a table that isn't right, counted from 0.
+pub(crate) fn first_wrong<C: Case>(alloc: Global, table: &[C]) -> Option<usize> {
+    for (number, case) in table.iter().enumerate() {
+        if !case.is_right(alloc) {
+            return Some(number);
+        }
+    }
+    None
+}
+
 // What a run answered, and what it put.
 #[derive(Drop)]
 pub(crate) struct Written {
@@ -99,28 +115,38 @@ pub(crate) fn is_as_wanted(written: &Written, code: u8, out: &[u8], err: &[u8]) 
     written.status.code() == code && written.out.bytes() == out && written.err.bytes() == err
 }
 
-// Whether the run of a line is refused with this code and this message, and puts nothing else.
-pub(crate) fn is_refused(
-    alloc: Global,
-    line: &str,
-    text: &[u8],
-    other: &[u8],
-    code: u8,
-    message: &[u8],
-) -> Result<bool, AllocError> {
-    let written = run_line(alloc, line, text, other)?;
-    Ok(is_as_wanted(&written, code, b"", message))
+/// How a run is to end: refused with this code and this message, and no output; or with this report or one that ends so, and
+/// no message.
+#[derive(Clone, Copy)]
+pub(crate) enum Ending<'a> {
+    Refused(u8, &'a [u8]),
+    Report(&'a [u8]),
+    End(&'a [u8]),
 }
 
-// Whether the run of a line puts a report that ends so, and no message.
-pub(crate) fn is_reported(
-    alloc: Global,
-    line: &str,
-    text: &[u8],
-    other: &[u8],
-    end: &[u8],
-) -> Result<bool, AllocError> {
-    let written = run_line(alloc, line, text, other)?;
-    let out = written.out.bytes();
-    Ok(written.status.code() == 0 && out.ends_with(end) && written.err.bytes().is_empty())
+// Whether a run has this ending.
+fn has_ending(written: &Written, ending: Ending) -> bool {
+    match ending {
+        Ending::Refused(code, message) => is_as_wanted(written, code, b"", message),
+        Ending::Report(report) => is_as_wanted(written, 0, report, b""),
+        Ending::End(end) => {
+            let out = written.out.bytes();
+            written.status.code() == 0 && out.ends_with(end) && written.err.bytes().is_empty()
+        }
+    }
+}
+
+/// Whether the run of a line over the files `p` and `f`, where nothing fails, ends so.
+pub(crate) fn ends(alloc: Global, line: &str, text: &[u8], other: &[u8], ending: Ending) -> bool {
+    match run_line(alloc, line, text, other) {
+        Ok(written) => has_ending(&written, ending),
+        Err(_) => false,
+    }
+}
+
+// A line of words, the files `p` and `f`, and how the run ends.
+impl Case for (&str, &[u8], &[u8], Ending<'_>) {
+    fn is_right(&self, alloc: Global) -> bool {
+        ends(alloc, self.0, self.1, self.2, self.3)
+    }
 }

@@ -1,8 +1,9 @@
 //! Certificates: those that are accepted, and why others are refused.
 
-use crate::cases::{is_as_wanted, is_refused, repeated, run_line, run_over, shelf, strings};
+use crate::cases::{
+    Case, Ending, ends, first_wrong, is_as_wanted, repeated, run_over, shelf, strings,
+};
 use std::alloc::{AllocError, Global};
-use std::test::Fail;
 
 const JUMP_PROGRAM: &str = "int main() { int x = 0; while (nondet()) { x = x; } }";
 
@@ -81,318 +82,316 @@ pub(crate) fn changed(
     Ok(bytes)
 }
 
-#[test]
-fn valid_certificates_are_accepted(rt: HostRuntime) -> Result<(), Fail> {
-    let cases: [(&str, &str, &[u8]); 3] = [
-        (RAY_PROGRAM, RAY, RAY_REPORT),
-        (LINE_PROGRAM, LINE, LINE_REPORT),
-        (LOOP_PROGRAM, LOOP, LOOP_REPORT),
-    ];
-    for (text, certificate, report) in cases {
-        let written = run_line(
-            rt.alloc(),
+// Whether the check of a certificate is refused for this cause.
+pub(crate) fn is_refused(
+    alloc: Global,
+    program: &str,
+    certificate: &[u8],
+    cause: &str,
+) -> Result<bool, AllocError> {
+    let message = format!(in alloc; "certificate refused: {cause}\n")?;
+    let refused = Ending::Refused(1, message.as_bytes());
+    Ok(ends(alloc, "check p f", program.as_bytes(), certificate, refused))
+}
+
+// A program, its certificate, and the report of its check.
+impl Case for (&str, &str, &[u8]) {
+    fn is_right(&self, alloc: Global) -> bool {
+        let (program, certificate) = (self.0.as_bytes(), self.1.as_bytes());
+        ends(
+            alloc,
             "check p f",
-            text.as_bytes(),
-            certificate.as_bytes(),
-        )?;
-        assert!(rt; is_as_wanted(&written, 0, report, b""), "{text}");
+            program,
+            certificate,
+            Ending::Report(self.2),
+        )
     }
-    Ok(())
 }
 
-#[test]
-fn changed_certificates_are_refused(rt: HostRuntime) -> Result<(), Fail> {
-    let cases: [(&str, &str, &str, &str, &str); 24] = [
-        (
-            JUMP_PROGRAM,
-            JUMP_FROM_ITS_BOUND,
-            "~",
-            "~",
-            "low, step 1, item 0",
-        ),
-        (
-            RAY_PROGRAM,
-            RAY,
-            "\"guards\":[\"1\"]",
-            "\"guards\":[\"-1\"]",
-            "upper, point 1, row 0, edge 0",
-        ),
-        (RAY_PROGRAM, RAY, "\"format\":1", "\"format\":3", "format"),
-        (
-            RAY_PROGRAM,
-            RAY,
-            "\"format\":1",
-            "\"format\":\"1\"",
-            "field format",
-        ),
-        (
-            RAY_PROGRAM,
-            RAY,
-            "\"rate\":\"1\"",
-            "\"rate\":\"01\"",
-            "number in steps",
-        ),
-        (
-            RAY_PROGRAM,
-            RAY,
-            "\"rate\":\"1\"",
-            "\"rate\":\"2\"",
-            "ray, step 1, item 0",
-        ),
-        (
-            RAY_PROGRAM,
-            RAY,
-            r#"[{"guards":["1"],"kind":"bound","rows":["0","0"]}]"#,
-            "[]",
-            "upper, point 1, row 0, edge 0",
-        ),
-        (
-            RAY_PROGRAM,
-            RAY,
-            "\"edge\":0",
-            "\"edge\":4294967296",
-            "field steps",
-        ),
-        (
-            RAY_PROGRAM,
-            RAY,
-            "\"edge\":0",
-            "\"edge\":4294967295",
-            "trace, step 0, item 0",
-        ),
-        (
-            RAY_PROGRAM,
-            RAY,
-            "\"to\":\"7\"",
-            "\"to\":\"7/0\"",
-            "number in steps",
-        ),
-        (
-            RAY_PROGRAM,
-            RAY,
-            "\"to\":\"7\"",
-            "\"to\":\"8\"",
-            "low, step 0, item 0",
-        ),
-        (RAY_PROGRAM, RAY, "\"format\":1,", "", "field top"),
-        (
-            RAY_PROGRAM,
-            RAY,
-            "[[\"1\"],[\"-1\"]]",
-            "[[\"1\"],[\"1/2\"]]",
-            "number in rows",
-        ),
-        (
-            RAY_PROGRAM,
-            RAY,
-            "[[\"1\"],[\"-1\"]]",
-            "[[\"1\"],[\"0\"]]",
-            "rows",
-        ),
-        (
-            RAY_PROGRAM,
-            RAY,
-            "[[\"1\"],[\"-1\"]]",
-            "[[\"1\",\"2\"],[\"-1\"]]",
-            "rows",
-        ),
-        (
-            RAY_PROGRAM,
-            RAY,
-            "[\"7\",\"+inf\"]",
-            "[\"7\"]",
-            "field bounds",
-        ),
-        (
-            LINE_PROGRAM,
-            LINE,
-            "\"to\":\"1\"",
-            "\"to\":\"2\"",
-            "low, step 0, item 0",
-        ),
-        (
-            LINE_PROGRAM,
-            LINE,
-            "[\"1\",\"-1\"]",
-            "[\"2\",\"-1\"]",
-            "final, point 1, row 0",
-        ),
-        (
-            LINE_PROGRAM,
-            LINE,
-            "\"rows\":[\"0\",\"0\"]},{\"guards\":[],\"kind\":\"bound\",\"rows\":[\"0\",\"0\"]}",
-            "\"rows\":[\"0\",\"0\"]}",
-            "upper, point 1, row 1, edge 0",
-        ),
-        (
-            LINE_PROGRAM,
-            LINE,
-            "\"uppers\":[",
-            "\"uppers\":[{\"guards\":[],\"kind\":\"bound\",\"rows\":[\"0\",\"0\"]},",
-            "size",
-        ),
-        (
-            LINE_PROGRAM,
-            LINE,
-            "\"kind\":\"plain\"",
-            "\"kind\":\"leap\"",
-            "field steps",
-        ),
-        (
-            LOOP_PROGRAM,
-            LOOP,
-            "\"start\":[\"0\"]},\"to\":\"3\"",
-            "\"start\":[\"0\"]},\"to\":\"4\"",
-            "high, step 1, item 0",
-        ),
-        (
-            LOOP_PROGRAM,
-            LOOP,
-            "\"low\":{\"free\":[],\"start\":[\"0\"]},\"to\":\"3\"",
-            "\"low\":{\"free\":[],\"start\":[\"2\"]},\"to\":\"3\"",
-            "trace, step 1, item 0",
-        ),
-        ("int main() { int x; }", WIDE, "3037000500", "0", "rows"),
-    ];
-    for (text, certificate, old, new, cause) in cases {
-        let alloc = rt.alloc();
-        let bytes = changed(alloc, certificate, old, new)?;
-        let message = format!(in alloc; "certificate refused: {cause}\n")?;
-        assert!(rt;
-            is_refused(
-                alloc,
-                "check p f",
-                text.as_bytes(),
-                &bytes,
-                1,
-                message.as_bytes()
-            )?,
-            "{old} {new}"
-        );
-    }
-    Ok(())
-}
+const VALID: &[(&str, &str, &[u8])] = &[
+    (RAY_PROGRAM, RAY, RAY_REPORT),
+    (LINE_PROGRAM, LINE, LINE_REPORT),
+    (LOOP_PROGRAM, LOOP, LOOP_REPORT),
+];
 
 #[test]
-fn cut_certificates_are_refused(rt: HostRuntime) -> Result<(), Fail> {
+fn valid_certificates_are_accepted(rt: HostRuntime) {
+    assert_eq!(rt; first_wrong(rt.alloc(), VALID), None);
+}
+
+// A program, a certificate, what stands in it, what is put in its place, and the cause.
+impl Case for (&str, &str, &str, &str, &str) {
+    fn is_right(&self, alloc: Global) -> bool {
+        match changed(alloc, self.1, self.2, self.3) {
+            Ok(bytes) => is_refused(alloc, self.0, &bytes, self.4) == Ok(true),
+            Err(_) => false,
+        }
+    }
+}
+
+const CHANGED: &[(&str, &str, &str, &str, &str)] = &[
+    (
+        JUMP_PROGRAM,
+        JUMP_FROM_ITS_BOUND,
+        "~",
+        "~",
+        "low, step 1, item 0",
+    ),
+    (
+        RAY_PROGRAM,
+        RAY,
+        "\"guards\":[\"1\"]",
+        "\"guards\":[\"-1\"]",
+        "upper, point 1, row 0, edge 0",
+    ),
+    (RAY_PROGRAM, RAY, "\"format\":1", "\"format\":3", "format"),
+    (
+        RAY_PROGRAM,
+        RAY,
+        "\"format\":1",
+        "\"format\":\"1\"",
+        "field format",
+    ),
+    (
+        RAY_PROGRAM,
+        RAY,
+        "\"rate\":\"1\"",
+        "\"rate\":\"01\"",
+        "number in steps",
+    ),
+    (
+        RAY_PROGRAM,
+        RAY,
+        "\"rate\":\"1\"",
+        "\"rate\":\"2\"",
+        "ray, step 1, item 0",
+    ),
+    (
+        RAY_PROGRAM,
+        RAY,
+        r#"[{"guards":["1"],"kind":"bound","rows":["0","0"]}]"#,
+        "[]",
+        "upper, point 1, row 0, edge 0",
+    ),
+    (
+        RAY_PROGRAM,
+        RAY,
+        "\"edge\":0",
+        "\"edge\":4294967296",
+        "field steps",
+    ),
+    (
+        RAY_PROGRAM,
+        RAY,
+        "\"edge\":0",
+        "\"edge\":4294967295",
+        "trace, step 0, item 0",
+    ),
+    (
+        RAY_PROGRAM,
+        RAY,
+        "\"to\":\"7\"",
+        "\"to\":\"7/0\"",
+        "number in steps",
+    ),
+    (
+        RAY_PROGRAM,
+        RAY,
+        "\"to\":\"7\"",
+        "\"to\":\"8\"",
+        "low, step 0, item 0",
+    ),
+    (RAY_PROGRAM, RAY, "\"format\":1,", "", "field top"),
+    (
+        RAY_PROGRAM,
+        RAY,
+        "[[\"1\"],[\"-1\"]]",
+        "[[\"1\"],[\"1/2\"]]",
+        "number in rows",
+    ),
+    (
+        RAY_PROGRAM,
+        RAY,
+        "[[\"1\"],[\"-1\"]]",
+        "[[\"1\"],[\"0\"]]",
+        "rows",
+    ),
+    (
+        RAY_PROGRAM,
+        RAY,
+        "[[\"1\"],[\"-1\"]]",
+        "[[\"1\",\"2\"],[\"-1\"]]",
+        "rows",
+    ),
+    (
+        RAY_PROGRAM,
+        RAY,
+        "[\"7\",\"+inf\"]",
+        "[\"7\"]",
+        "field bounds",
+    ),
+    (
+        LINE_PROGRAM,
+        LINE,
+        "\"to\":\"1\"",
+        "\"to\":\"2\"",
+        "low, step 0, item 0",
+    ),
+    (
+        LINE_PROGRAM,
+        LINE,
+        "[\"1\",\"-1\"]",
+        "[\"2\",\"-1\"]",
+        "final, point 1, row 0",
+    ),
+    (
+        LINE_PROGRAM,
+        LINE,
+        "\"rows\":[\"0\",\"0\"]},{\"guards\":[],\"kind\":\"bound\",\"rows\":[\"0\",\"0\"]}",
+        "\"rows\":[\"0\",\"0\"]}",
+        "upper, point 1, row 1, edge 0",
+    ),
+    (
+        LINE_PROGRAM,
+        LINE,
+        "\"uppers\":[",
+        "\"uppers\":[{\"guards\":[],\"kind\":\"bound\",\"rows\":[\"0\",\"0\"]},",
+        "size",
+    ),
+    (
+        LINE_PROGRAM,
+        LINE,
+        "\"kind\":\"plain\"",
+        "\"kind\":\"leap\"",
+        "field steps",
+    ),
+    (
+        LOOP_PROGRAM,
+        LOOP,
+        "\"start\":[\"0\"]},\"to\":\"3\"",
+        "\"start\":[\"0\"]},\"to\":\"4\"",
+        "high, step 1, item 0",
+    ),
+    (
+        LOOP_PROGRAM,
+        LOOP,
+        "\"low\":{\"free\":[],\"start\":[\"0\"]},\"to\":\"3\"",
+        "\"low\":{\"free\":[],\"start\":[\"2\"]},\"to\":\"3\"",
+        "trace, step 1, item 0",
+    ),
+    ("int main() { int x; }", WIDE, "3037000500", "0", "rows"),
+];
+
+#[test]
+fn changed_certificates_are_refused(rt: HostRuntime) {
+    assert_eq!(rt; first_wrong(rt.alloc(), CHANGED), None);
+}
+
+// Whether the certificate with a ray is refused wherever it is cut.
+fn cuts_are_refused(alloc: Global) -> Result<bool, AllocError> {
     let whole = RAY.as_bytes();
     for (len, _) in whole.iter().enumerate() {
-        let message = b"certificate refused: not json\n".as_slice();
-        assert!(rt;
-            is_refused(
-                rt.alloc(),
-                "check p f",
-                RAY_PROGRAM.as_bytes(),
-                &whole[..len],
-                1,
-                message
-            )?,
-            "{len}"
-        );
+        if !is_refused(alloc, RAY_PROGRAM, &whole[..len], "not json")? {
+            return Ok(false);
+        }
     }
-    Ok(())
+    Ok(true)
 }
 
 #[test]
-fn a_check_stops(rt: HostRuntime) -> Result<(), Fail> {
-    let alloc = rt.alloc();
-    let mut nested = vec![in alloc; b'['; 200]?;
-    nested.resize(400, b']')?;
-    let squares = "int main() { int x; x = 3037000500*x; x = 3037000500*x; }";
-    let cases: [(&str, &[u8], &[u32], u8, &str); 9] = [
-        (
-            "int main() { int x; }",
-            WIDE.as_bytes(),
-            &[],
-            5,
-            "wide: mul 3037000500 3037000500 at step 0 item 0\n",
-        ),
-        (
-            UPPER_PROGRAM,
-            WIDE_UPPER.as_bytes(),
-            &[],
-            5,
-            "wide: mul 3037000500 3037000500 at upper point 1 row 0 edge 0\n",
-        ),
-        (
-            squares,
-            RAY.as_bytes(),
-            &[],
-            5,
-            "wide: mul 3037000500 3037000500 at compose edge 0\n",
-        ),
-        (
-            RAY_PROGRAM,
-            &nested,
-            &[],
-            1,
-            "certificate refused: not json\n",
-        ),
-        (
-            RAY_PROGRAM,
-            RAY.as_bytes(),
-            &[0],
-            3,
-            "cannot read the program\n",
-        ),
-        (
-            RAY_PROGRAM,
-            RAY.as_bytes(),
-            &[1],
-            3,
-            "cannot read the certificate\n",
-        ),
-        (
-            "int main() { x = 1; }",
-            b"",
-            &[],
-            4,
-            "program refused: unknown name at line 1\n",
-        ),
-        (
-            "int main() { }",
-            b"{",
-            &[],
-            4,
-            "program refused: no variables\n",
-        ),
-        ("", b"", &[1], 3, "cannot read the certificate\n"),
-    ];
-    for (text, bytes, fails, code, message) in cases {
-        let words = strings(alloc, &["check", "p", "f"])?;
-        let mut shelf = shelf(alloc, text.as_bytes(), bytes, fails)?;
-        let written = run_over(alloc, &words, &mut shelf, &[], &[])?;
-        assert!(rt;
-            is_as_wanted(&written, code, b"", message.as_bytes()),
-            "{message}"
-        );
-    }
-    Ok(())
+fn cut_certificates_are_refused(rt: HostRuntime) {
+    assert!(rt; cuts_are_refused(rt.alloc()) == Ok(true));
 }
 
-#[test]
-fn certificates_have_a_size(rt: HostRuntime) -> Result<(), Fail> {
-    let alloc = rt.alloc();
-    let long = repeated(alloc, b"", b" ", 16_777_217, b"")?;
-    let most = repeated(alloc, b"", b" ", 16_777_216, b"")?;
-    let cases: [(&[u8], u8, &[u8]); 2] = [
-        (long.as_slice(), 3, b"too long: the certificate\n"),
-        (most.as_slice(), 1, b"certificate refused: not json\n"),
-    ];
-    for (bytes, code, message) in cases {
-        assert!(rt;
-            is_refused(
-                alloc,
-                "check p f",
-                RAY_PROGRAM.as_bytes(),
-                bytes,
-                code,
-                message
-            )?,
-            "{message:?}"
-        );
+// Whether the check, where the loads with these numbers fail, ends with this code and this message.
+fn stops(
+    alloc: Global,
+    text: &str,
+    certificate: &str,
+    fails: &[u32],
+    code: u8,
+    message: &str,
+) -> Result<bool, AllocError> {
+    let words = strings(alloc, &["check", "p", "f"])?;
+    let mut shelf = shelf(alloc, text.as_bytes(), certificate.as_bytes(), fails)?;
+    let written = run_over(alloc, &words, &mut shelf, &[], &[])?;
+    Ok(is_as_wanted(&written, code, b"", message.as_bytes()))
+}
+
+// A program, a certificate, the loads that fail, the code and the message.
+impl Case for (&str, &str, &[u32], u8, &str) {
+    fn is_right(&self, alloc: Global) -> bool {
+        stops(alloc, self.0, self.1, self.2, self.3, self.4) == Ok(true)
     }
-    Ok(())
+}
+
+const STOPPED: &[(&str, &str, &[u32], u8, &str)] = &[
+    (
+        "int main() { int x; }",
+        WIDE,
+        &[],
+        5,
+        "wide: mul 3037000500 3037000500 at step 0 item 0\n",
+    ),
+    (
+        UPPER_PROGRAM,
+        WIDE_UPPER,
+        &[],
+        5,
+        "wide: mul 3037000500 3037000500 at upper point 1 row 0 edge 0\n",
+    ),
+    (
+        "int main() { int x; x = 3037000500*x; x = 3037000500*x; }",
+        RAY,
+        &[],
+        5,
+        "wide: mul 3037000500 3037000500 at compose edge 0\n",
+    ),
+    (RAY_PROGRAM, RAY, &[0], 3, "cannot read the program\n"),
+    (RAY_PROGRAM, RAY, &[1], 3, "cannot read the certificate\n"),
+    (
+        "int main() { x = 1; }",
+        "",
+        &[],
+        4,
+        "program refused: unknown name at line 1\n",
+    ),
+    (
+        "int main() { }",
+        "{",
+        &[],
+        4,
+        "program refused: no variables\n",
+    ),
+    ("", "", &[1], 3, "cannot read the certificate\n"),
+];
+
+#[test]
+fn a_check_stops(rt: HostRuntime) {
+    assert_eq!(rt; first_wrong(rt.alloc(), STOPPED), None);
+}
+
+// How many blanks the certificate is, the code and the message.
+impl Case for (usize, u8, &[u8]) {
+    fn is_right(&self, alloc: Global) -> bool {
+        match repeated(alloc, b"", b" ", self.0, b"") {
+            Ok(blanks) => {
+                let refused = Ending::Refused(self.1, self.2);
+                ends(alloc, "check p f", RAY_PROGRAM.as_bytes(), &blanks, refused)
+            }
+            Err(_) => false,
+        }
+    }
+}
+
+const SIZES: &[(usize, u8, &[u8])] = &[
+    (16_777_217, 3, b"too long: the certificate\n"),
+    (16_777_216, 1, b"certificate refused: not json\n"),
+];
+
+#[test]
+fn certificates_have_a_size(rt: HostRuntime) {
+    assert_eq!(rt; first_wrong(rt.alloc(), SIZES), None);
 }
 
 // A program of one variable and so many labels.
@@ -417,22 +416,32 @@ fn rows_only(alloc: Global, count: u32) -> Result<Vec<u8>, AllocError> {
     Ok(text)
 }
 
-#[test]
-fn unknowns_and_points_are_counted(rt: HostRuntime) -> Result<(), Fail> {
-    let alloc = rt.alloc();
-    let cases: [(u32, u32, u8, &[u8]); 4] = [
-        (46, 43, 1, b"certificate refused: 2064 unknowns\n"),
-        (46, 21, 1, b"certificate refused: size\n"),
-        (46, 129, 1, b"certificate refused: rows\n"),
-        (47, 1, 4, b"program refused: 49 points\n"),
-    ];
-    for (labels, rows, code, message) in cases {
-        let text = labelled(alloc, labels)?;
-        let bytes = rows_only(alloc, rows)?;
-        assert!(rt;
-            is_refused(alloc, "check p f", &text, &bytes, code, message)?,
-            "{message:?}"
-        );
+// How many labels the program and rows the certificate has, the code and the message.
+impl Case for (u32, u32, u8, &[u8]) {
+    fn is_right(&self, alloc: Global) -> bool {
+        match (labelled(alloc, self.0), rows_only(alloc, self.1)) {
+            (Ok(text), Ok(bytes)) => {
+                ends(
+                    alloc,
+                    "check p f",
+                    &text,
+                    &bytes,
+                    Ending::Refused(self.2, self.3),
+                )
+            }
+            _ => false,
+        }
     }
-    Ok(())
+}
+
+const COUNTS: &[(u32, u32, u8, &[u8])] = &[
+    (46, 43, 1, b"certificate refused: 2064 unknowns\n"),
+    (46, 21, 1, b"certificate refused: size\n"),
+    (46, 289, 1, b"certificate refused: rows\n"),
+    (95, 1, 4, b"program refused: 97 points\n"),
+];
+
+#[test]
+fn unknowns_and_points_are_counted(rt: HostRuntime) {
+    assert_eq!(rt; first_wrong(rt.alloc(), COUNTS), None);
 }

@@ -1,9 +1,10 @@
 //! Loads and puts that fail: no answer changes in place of the right one, and what was put is the front of the right output.
 
-use crate::cases::{Written, is_as_wanted, joined, run_over, shelf, strings};
+use crate::cases::{
+    Case, Written, first_wrong, is_as_wanted, joined, repeated, run_over, shelf, strings,
+};
 use crate::reports::COUNT;
 use std::alloc::{AllocError, Global};
-use std::test::Fail;
 
 const LINES: [&[u8]; 11] = [
     b"variables x\n",
@@ -46,65 +47,124 @@ fn stops(alloc: Global, lines: u32, bytes: usize) -> Result<bool, AllocError> {
     Ok(is_as_wanted(&written, 8, &front, b"cannot write\n"))
 }
 
-#[test]
-fn a_report_stops_where_its_output_fails(rt: HostRuntime) -> Result<(), Fail> {
-    for bytes in [0, 3] {
-        for lines in 0..11 {
-            assert!(rt; stops(rt.alloc(), lines, bytes)?, "{lines} {bytes}");
+// Whether the report stops wherever its output fails, and is whole where that fails behind it.
+fn report_stops(alloc: Global) -> Result<bool, AllocError> {
+    for lines in 0..11 {
+        if !stops(alloc, lines, 0)? || !stops(alloc, lines, 3)? {
+            return Ok(false);
         }
     }
-    let whole = run_count(rt.alloc(), &["solve", "p"], &[(11, 0)], &[])?;
-    let report = joined(rt.alloc(), &LINES)?;
-    assert!(rt; is_as_wanted(&whole, 0, &report, b""));
-    Ok(())
+    let whole = run_count(alloc, &["solve", "p"], &[(11, 0)], &[])?;
+    let report = joined(alloc, &LINES)?;
+    Ok(is_as_wanted(&whole, 0, &report, b""))
 }
 
-// A report is put line by line, a certificate and a message in one piece, and what the stream of messages answers changes
-// nothing.
 #[test]
-fn outputs_are_put_in_pieces(rt: HostRuntime) -> Result<(), Fail> {
-    let alloc = rt.alloc();
-    let report = run_count(alloc, &["solve", "p"], &[], &[])?;
-    assert!(rt; report.out.pieces().len() == 11 && report.err.pieces().is_empty());
-    let certificate = run_count(alloc, &["certify", "p"], &[], &[])?;
-    assert!(rt; certificate.status.code() == 0 && certificate.out.pieces().len() == 1);
-    let cut = run_count(alloc, &["certify", "p"], &[(0, 5)], &[])?;
-    assert!(rt; is_as_wanted(&cut, 8, b"{\"bou", b"cannot write\n"));
-    let spent: &[&str] = &["solve", "p", "--improvements", "2"];
-    let message = run_count(alloc, spent, &[], &[])?;
-    assert!(rt;
-        is_as_wanted(&message, 6, b"", b"spent: 2 improvements\n")
-            && message.err.pieces().len() == 1
-    );
-    let short = run_count(alloc, spent, &[], &[(0, 6)])?;
-    assert!(rt; is_as_wanted(&short, 6, b"", b"spent:"));
-    let both = run_count(alloc, &["solve", "p"], &[(0, 0)], &[(0, 0)])?;
-    assert!(rt; is_as_wanted(&both, 8, b"", b""));
-    Ok(())
+fn a_report_stops_where_its_output_fails(rt: HostRuntime) {
+    assert!(rt; report_stops(rt.alloc()) == Ok(true));
 }
+
+// Words, in how many pieces the output and the message are put, and the code.
+impl Case for (&[&str], usize, usize, u8) {
+    fn is_right(&self, alloc: Global) -> bool {
+        match run_count(alloc, self.0, &[], &[]) {
+            Ok(written) => {
+                written.out.pieces().len() == self.1
+                    && written.err.pieces().len() == self.2
+                    && written.status.code() == self.3
+            }
+            Err(_) => false,
+        }
+    }
+}
+
+const SOLVE: &[&str] = &["solve", "p"];
+
+const CERTIFY: &[&str] = &["certify", "p"];
+
+const SPENT: &[&str] = &["solve", "p", "--improvements", "2"];
+
+// A report is put line by line, a certificate and a message in one piece.
+const PIECES: &[(&[&str], usize, usize, u8)] = &[
+    (SOLVE, 11, 0, 0),
+    (CERTIFY, 1, 0, 0),
+    (SPENT, 0, 1, 6),
+];
+
+#[test]
+fn outputs_are_put_in_pieces(rt: HostRuntime) {
+    assert_eq!(rt; first_wrong(rt.alloc(), PIECES), None);
+}
+
+/// Puts that fail: the number of the put, and how many bytes it takes.
+type Puts<'a> = &'a [(u32, usize)];
+
+// Words, the puts to the output and to the messages that fail, and the code, the output and the message.
+impl Case for (&[&str], Puts<'_>, Puts<'_>, u8, &[u8], &[u8]) {
+    fn is_right(&self, alloc: Global) -> bool {
+        match run_count(alloc, self.0, self.1, self.2) {
+            Ok(written) => is_as_wanted(&written, self.3, self.4, self.5),
+            Err(_) => false,
+        }
+    }
+}
+
+// What the stream of messages answers changes nothing.
+const CUT: &[(&[&str], Puts, Puts, u8, &[u8], &[u8])] = &[
+    (CERTIFY, &[(0, 5)], &[], 8, b"{\"bou", b"cannot write\n"),
+    (SPENT, &[], &[], 6, b"", b"spent: 2 improvements\n"),
+    (SPENT, &[], &[(0, 6)], 6, b"", b"spent:"),
+    (SOLVE, &[(0, 0)], &[(0, 0)], 8, b"", b""),
+];
+
+#[test]
+fn outputs_are_cut(rt: HostRuntime) {
+    assert_eq!(rt; first_wrong(rt.alloc(), CUT), None);
+}
+
+// The run of words over a program, where the load with that number fails.
+fn run_loads(
+    alloc: Global,
+    words: &[&str],
+    text: &[u8],
+    number: u32,
+) -> Result<Written, AllocError> {
+    let words = strings(alloc, words)?;
+    let mut shelf = shelf(alloc, text, b"", &[number])?;
+    run_over(alloc, &words, &mut shelf, &[], &[])
+}
+
+// Words, a program and how many blanks stand behind it, the number of the load that fails, and the message.
+impl Case for (&[&str], &[u8], usize, u32, &[u8]) {
+    fn is_right(&self, alloc: Global) -> bool {
+        match repeated(alloc, self.1, b" ", self.2, b"") {
+            Ok(text) => match run_loads(alloc, self.0, &text, self.3) {
+                Ok(written) => is_as_wanted(&written, 3, b"", self.4),
+                Err(_) => false,
+            },
+            Err(_) => false,
+        }
+    }
+}
+
+const CHECK: &[&str] = &["check", "p", "f"];
+
+const ROWS: &[&str] = &["solve", "p", "--domain", "rows", "--rows", "f"];
+
+const NO_PROGRAM: &[u8] = b"cannot read the program\n";
 
 // A load that fails is told by its file; a file that is too long comes after it.
+const LOADS: &[(&[&str], &[u8], usize, u32, &[u8])] = &[
+    (CHECK, COUNT, 0, 0, NO_PROGRAM),
+    (CHECK, COUNT, 0, 1, b"cannot read the certificate\n"),
+    (ROWS, COUNT, 0, 0, NO_PROGRAM),
+    (ROWS, COUNT, 0, 1, b"cannot read the rows\n"),
+    (CERTIFY, COUNT, 0, 0, NO_PROGRAM),
+    (CHECK, b"", 65537, 0, NO_PROGRAM),
+    (CHECK, b"", 65537, 1, b"too long: the program\n"),
+];
+
 #[test]
-fn loads_fail(rt: HostRuntime) -> Result<(), Fail> {
-    let alloc = rt.alloc();
-    let long = vec![in alloc; b' '; 65537]?;
-    let check: &[&str] = &["check", "p", "f"];
-    let rows: &[&str] = &["solve", "p", "--domain", "rows", "--rows", "f"];
-    let program = b"cannot read the program\n".as_slice();
-    let cases: [(&[&str], &[u8], u32, &[u8]); 7] = [
-        (check, COUNT, 0, program),
-        (check, COUNT, 1, b"cannot read the certificate\n"),
-        (rows, COUNT, 0, program),
-        (rows, COUNT, 1, b"cannot read the rows\n"),
-        (&["certify", "p"], COUNT, 0, program),
-        (check, long.as_slice(), 0, program),
-        (check, long.as_slice(), 1, b"too long: the program\n"),
-    ];
-    for (words, text, number, message) in cases {
-        let words = strings(alloc, words)?;
-        let mut shelf = shelf(alloc, text, b"", &[number])?;
-        let written = run_over(alloc, &words, &mut shelf, &[], &[])?;
-        assert!(rt; is_as_wanted(&written, 3, b"", message), "{message:?}");
-    }
-    Ok(())
+fn loads_fail(rt: HostRuntime) {
+    assert_eq!(rt; first_wrong(rt.alloc(), LOADS), None);
 }

@@ -1,10 +1,9 @@
 //! Hostile words: empty names, names with a zero byte, options twice or without a value, the end of options anywhere, many words.
 
-use crate::cases::{is_as_wanted, run_over, shelf, strings};
+use crate::cases::{Case, first_wrong, is_as_wanted, run_over, shelf, strings};
 use crate::refusals::USAGE;
 use crate::reports::{LINE, WHOLE};
 use std::alloc::{AllocError, Global};
-use std::test::Fail;
 
 // Whether the run of these words over a small program ends so.
 fn ends(
@@ -20,98 +19,141 @@ fn ends(
     Ok(is_as_wanted(&written, code, out, err))
 }
 
-#[test]
-fn names_are_taken_as_they_are(rt: HostRuntime) -> Result<(), Fail> {
-    let missing = b"cannot read the program\n".as_slice();
-    for name in ["", "p\0", "\0", "p ", "./p", "p/", ".", "/", "P", "-"] {
-        assert!(rt;
-            ends(rt.alloc(), &["solve", name], 3, b"", missing)?,
-            "{name:?}"
-        );
-        assert!(rt;
-            ends(rt.alloc(), &["check", name, "f"], 3, b"", missing)?,
-            "{name:?}"
-        );
+// Words, the code, the output and the message.
+impl Case for (&[&str], u8, &[u8], &[u8]) {
+    fn is_right(&self, alloc: Global) -> bool {
+        ends(alloc, self.0, self.1, self.2, self.3) == Ok(true)
     }
-    let rows = b"cannot read the rows\n".as_slice();
-    for name in ["p\0", " ", "q"] {
-        assert!(rt;
-            ends(
-                rt.alloc(),
-                &["solve", "p", "--domain", "rows", "--rows", name],
-                3,
-                b"",
-                rows
-            )?,
-            "{name:?}"
-        );
-    }
-    Ok(())
 }
 
-#[test]
-fn the_end_of_options_stands_before_a_name(rt: HostRuntime) -> Result<(), Fail> {
-    let done: [&[&str]; 3] = [
-        &["solve", "--", "p"],
-        &["solve", "p", "--"],
-        &["solve", "--policy", "best", "--", "p"],
-    ];
-    for words in done {
-        assert!(rt; ends(rt.alloc(), words, 0, WHOLE, b"")?, "{words:?}");
+const NO_PROGRAM: &[u8] = b"cannot read the program\n";
+
+const NO_ROWS: &[u8] = b"cannot read the rows\n";
+
+// A name under which no program is told: neither `solve` nor `check` reads another file in its place.
+impl Case for &str {
+    fn is_right(&self, alloc: Global) -> bool {
+        ends(alloc, &["solve", *self], 3, b"", NO_PROGRAM) == Ok(true)
+            && ends(alloc, &["check", *self, "f"], 3, b"", NO_PROGRAM) == Ok(true)
     }
-    let refused: [&[&str]; 5] = [
-        &["--", "solve", "p"],
-        &["--"],
-        &["solve", "--"],
-        &["solve", "--", "--", "p"],
+}
+
+const ABSENT: &[&str] = &["", "p\0", "\0", "p ", "./p", "p/", ".", "/", "P", "-"];
+
+#[test]
+fn names_of_programs_are_taken_as_they_are(rt: HostRuntime) {
+    assert_eq!(rt; first_wrong(rt.alloc(), ABSENT), None);
+}
+
+const ROWS: &[(&[&str], u8, &[u8], &[u8])] = &[
+    (
+        &["solve", "p", "--domain", "rows", "--rows", "p\0"],
+        3,
+        b"",
+        NO_ROWS,
+    ),
+    (
+        &["solve", "p", "--domain", "rows", "--rows", " "],
+        3,
+        b"",
+        NO_ROWS,
+    ),
+    (
+        &["solve", "p", "--domain", "rows", "--rows", "q"],
+        3,
+        b"",
+        NO_ROWS,
+    ),
+];
+
+#[test]
+fn names_of_rows_are_taken_as_they_are(rt: HostRuntime) {
+    assert_eq!(rt; first_wrong(rt.alloc(), ROWS), None);
+}
+
+const ENDS: &[(&[&str], u8, &[u8], &[u8])] = &[
+    (&["solve", "--", "p"], 0, WHOLE, b""),
+    (&["solve", "p", "--"], 0, WHOLE, b""),
+    (&["solve", "--policy", "best", "--", "p"], 0, WHOLE, b""),
+    (&["--", "solve", "p"], 2, b"", USAGE),
+    (&["--"], 2, b"", USAGE),
+    (&["solve", "--"], 2, b"", USAGE),
+    (&["solve", "--", "--", "p"], 2, b"", USAGE),
+    (
         &["bench", "--", "--seed", "1", "--loops", "1"],
-    ];
-    for words in refused {
-        assert!(rt; ends(rt.alloc(), words, 2, b"", USAGE)?, "{words:?}");
-    }
-    Ok(())
-}
+        2,
+        b"",
+        USAGE,
+    ),
+];
 
 #[test]
-fn options_have_one_value_each(rt: HostRuntime) -> Result<(), Fail> {
-    let refused: [&[&str]; 14] = [
-        &["solve", "p", "--domain"],
-        &["solve", "p", "--domain="],
-        &["solve", "p", "--domain", ""],
-        &["solve", "p", "--rows"],
-        &["solve", "p", "--improvements"],
-        &["solve", "p", "--policy"],
-        &["bench", "--seed", "--loops", "1"],
+fn the_end_of_options_stands_before_a_name(rt: HostRuntime) {
+    assert_eq!(rt; first_wrong(rt.alloc(), ENDS), None);
+}
+
+const OPTIONS: &[(&[&str], u8, &[u8], &[u8])] = &[
+    (&["solve", "p", "--domain"], 2, b"", USAGE),
+    (&["solve", "p", "--domain="], 2, b"", USAGE),
+    (&["solve", "p", "--domain", ""], 2, b"", USAGE),
+    (&["solve", "p", "--rows"], 2, b"", USAGE),
+    (&["solve", "p", "--improvements"], 2, b"", USAGE),
+    (&["solve", "p", "--policy"], 2, b"", USAGE),
+    (&["bench", "--seed", "--loops", "1"], 2, b"", USAGE),
+    (
         &["solve", "p", "--domain", "zones", "--domain", "zones"],
+        2,
+        b"",
+        USAGE,
+    ),
+    (
         &["solve", "p", "--policy=best", "--policy=best"],
+        2,
+        b"",
+        USAGE,
+    ),
+    (
         &["solve", "p", "--improvements", "1", "--improvements", "1"],
-        &["solve", "p", "--improvements", "-1"],
-        &["solve", "p", "--improvements", "1 "],
-        &["solve", "p", "q"],
-        &[""],
-    ];
-    for words in refused {
-        assert!(rt; ends(rt.alloc(), words, 2, b"", USAGE)?, "{words:?}");
-    }
-    assert!(rt;
-        ends(
-            rt.alloc(),
-            &["solve", "p", "--improvements", "0000000001"],
-            0,
-            WHOLE,
-            b""
-        )?
-    );
-    Ok(())
-}
+        2,
+        b"",
+        USAGE,
+    ),
+    (&["solve", "p", "--improvements", "-1"], 2, b"", USAGE),
+    (&["solve", "p", "--improvements", "1 "], 2, b"", USAGE),
+    (&["solve", "p", "q"], 2, b"", USAGE),
+    (&[""], 2, b"", USAGE),
+    (
+        &["solve", "p", "--improvements", "0000000001"],
+        0,
+        WHOLE,
+        b"",
+    ),
+];
 
 #[test]
-fn many_words_are_no_command(rt: HostRuntime) -> Result<(), Fail> {
-    for word in ["p", "--", "--domain", "solve", ""] {
-        let mut words = Vec::new(rt.alloc());
-        words.push("solve")?;
-        words.resize(1000, word)?;
-        assert!(rt; ends(rt.alloc(), &words, 2, b"", USAGE)?, "{word}");
+fn options_have_one_value_each(rt: HostRuntime) {
+    assert_eq!(rt; first_wrong(rt.alloc(), OPTIONS), None);
+}
+
+// A word that stands behind the first one, up to so many words in all.
+impl Case for (&str, usize) {
+    fn is_right(&self, alloc: Global) -> bool {
+        let mut words = Vec::new(alloc);
+        words.push("solve").is_ok()
+            && words.resize(self.1, self.0).is_ok()
+            && ends(alloc, &words, 2, b"", USAGE) == Ok(true)
     }
-    Ok(())
+}
+
+const MANY: &[(&str, usize)] = &[
+    ("p", 1000),
+    ("--", 1000),
+    ("--domain", 1000),
+    ("solve", 1000),
+    ("", 1000),
+];
+
+#[test]
+fn many_words_are_no_command(rt: HostRuntime) {
+    assert_eq!(rt; first_wrong(rt.alloc(), MANY), None);
 }

@@ -1,187 +1,214 @@
 //! Programs: what they read as, and their faults.
 
-use crate::texts::{read, repeated};
-use std::process::Abort;
-use std::test::Fail;
+use crate::texts::{Case, first_wrong, read, repeated};
+use std::alloc::Global;
 use tm_parse::{Limit, ParseFault};
 use tm_tree::{Cond, Name, Program, Rel, Stmt, leaves, statements};
 
 // Whether the text has this fault, or reads as a program where there is none.
-fn has_fault(
-    rt: &(impl Abort + AllocGlobal),
-    text: &[u8],
-    fault: Option<ParseFault>,
-) -> Result<bool, Fail> {
-    Ok(read(rt, text)?.err() == fault)
+fn has_fault(alloc: Global, text: &[u8], fault: Option<ParseFault>) -> bool {
+    match read(alloc, text) {
+        Some(answer) => answer.err() == fault,
+        None => false,
+    }
 }
 
-fn limit(at: u32, which: Limit) -> ParseFault {
-    ParseFault::Limit { at, which }
+// A text, and its fault.
+impl Case for (&[u8], ParseFault) {
+    fn is_right(&self, alloc: Global) -> bool {
+        has_fault(alloc, self.0, Some(self.1))
+    }
 }
+
+const TEXTS: &[(&[u8], ParseFault)] = &[
+    // One fault.
+    (b"int main() { }", ParseFault::NoVariables),
+    (b"", ParseFault::Unexpected { at: 0 }),
+    (b"int main() { x = 1; }", ParseFault::UnknownName { at: 13 }),
+    (
+        b"int main() { int x = x; }",
+        ParseFault::UnknownName { at: 21 },
+    ),
+    (
+        b"int main() { { int x; } x = 1; }",
+        ParseFault::UnknownName { at: 24 },
+    ),
+    (
+        b"int main() { int x, x; }",
+        ParseFault::NameTwice { at: 20 },
+    ),
+    (
+        b"int main() { { int x; } int x; }",
+        ParseFault::NameTwice { at: 28 },
+    ),
+    (
+        b"int main() { int x; a: b: a: x++; }",
+        ParseFault::NameTwice { at: 26 },
+    ),
+    (
+        b"int main() { int x, y; x = x*y; }",
+        ParseFault::NotAffine { at: 28 },
+    ),
+    (
+        b"int main() { int x = 1 < 2; }",
+        ParseFault::NotAffine { at: 19 },
+    ),
+    (
+        b"int main() { int x; x += 1 < 2; }",
+        ParseFault::NotAffine { at: 22 },
+    ),
+    (
+        b"int main() { int x = (1 < 2) + 1; }",
+        ParseFault::NotAffine { at: 29 },
+    ),
+    (
+        b"int main() { int x = nondet() + 1; }",
+        ParseFault::NondetHere { at: 21 },
+    ),
+    (
+        b"int main() { int x; x -= nondet(); }",
+        ParseFault::NondetHere { at: 25 },
+    ),
+    (
+        b"int main() { int x = 9223372036854775807 + 1; }",
+        ParseFault::BigNumber { at: 41 },
+    ),
+    (
+        b"int main() { int x; x += 9223372036854775807*x; }",
+        ParseFault::BigNumber { at: 22 },
+    ),
+    (
+        b"int main() { int x; assume(x < 9223372036854775807); }",
+        ParseFault::BigNumber { at: 29 },
+    ),
+    (
+        b"int main() { int x; assume((9223372036854775807)); }",
+        ParseFault::BigNumber { at: 27 },
+    ),
+    (
+        b"int main() { int a,b,c,d,e,f,g,h,i,j,k,l,m; }",
+        ParseFault::Limit {
+            at: 41,
+            which: Limit::Variables,
+        },
+    ),
+    // Two faults, of which the first counts.
+    (
+        b"int main() { x = 1 +; }",
+        ParseFault::Unexpected { at: 20 },
+    ),
+    (
+        b"int main() { x = 1; int x, x; }",
+        ParseFault::UnknownName { at: 13 },
+    ),
+    (
+        b"int main() { int x; int x = y; }",
+        ParseFault::UnknownName { at: 28 },
+    ),
+    (
+        b"int main() { int x = (1 < 2) + y; }",
+        ParseFault::UnknownName { at: 31 },
+    ),
+    (
+        b"int main() { int x = nondet() + y; }",
+        ParseFault::UnknownName { at: 32 },
+    ),
+    (
+        b"int main() { int x = (1 < 2) + nondet(); }",
+        ParseFault::NotAffine { at: 29 },
+    ),
+    (
+        b"int main() { int x, y = x*x + (1 < 2); }",
+        ParseFault::NotAffine { at: 25 },
+    ),
+    (
+        b"int main() { int a,b,c,d,e,f,g,h,a; }",
+        ParseFault::NameTwice { at: 33 },
+    ),
+    (
+        b"int main() { int x; if (y) z = 1; }",
+        ParseFault::UnknownName { at: 24 },
+    ),
+    (
+        b"int main() { assume(y); }",
+        ParseFault::UnknownName { at: 20 },
+    ),
+    (
+        b"int main() { ; return y; }",
+        ParseFault::Unexpected { at: 22 },
+    ),
+];
 
 #[test]
-fn faults_are_found(rt: HostRuntime) -> Result<(), Fail> {
-    let texts: [(&[u8], ParseFault); 30] = [
-        // One fault.
-        (b"int main() { }", ParseFault::NoVariables),
-        (b"", ParseFault::Unexpected { at: 0 }),
-        (b"int main() { x = 1; }", ParseFault::UnknownName { at: 13 }),
-        (
-            b"int main() { int x = x; }",
-            ParseFault::UnknownName { at: 21 },
-        ),
-        (
-            b"int main() { { int x; } x = 1; }",
-            ParseFault::UnknownName { at: 24 },
-        ),
-        (
-            b"int main() { int x, x; }",
-            ParseFault::NameTwice { at: 20 },
-        ),
-        (
-            b"int main() { { int x; } int x; }",
-            ParseFault::NameTwice { at: 28 },
-        ),
-        (
-            b"int main() { int x; a: b: a: x++; }",
-            ParseFault::NameTwice { at: 26 },
-        ),
-        (
-            b"int main() { int x, y; x = x*y; }",
-            ParseFault::NotAffine { at: 28 },
-        ),
-        (
-            b"int main() { int x = 1 < 2; }",
-            ParseFault::NotAffine { at: 19 },
-        ),
-        (
-            b"int main() { int x; x += 1 < 2; }",
-            ParseFault::NotAffine { at: 22 },
-        ),
-        (
-            b"int main() { int x = (1 < 2) + 1; }",
-            ParseFault::NotAffine { at: 29 },
-        ),
-        (
-            b"int main() { int x = nondet() + 1; }",
-            ParseFault::NondetHere { at: 21 },
-        ),
-        (
-            b"int main() { int x; x -= nondet(); }",
-            ParseFault::NondetHere { at: 25 },
-        ),
-        (
-            b"int main() { int x = 9223372036854775807 + 1; }",
-            ParseFault::BigNumber { at: 41 },
-        ),
-        (
-            b"int main() { int x; x += 9223372036854775807*x; }",
-            ParseFault::BigNumber { at: 22 },
-        ),
-        (
-            b"int main() { int x; assume(x < 9223372036854775807); }",
-            ParseFault::BigNumber { at: 29 },
-        ),
-        (
-            b"int main() { int x; assume((9223372036854775807)); }",
-            ParseFault::BigNumber { at: 27 },
-        ),
-        (
-            b"int main() { int a,b,c,d,e,f,g,h,i; }",
-            limit(33, Limit::Variables),
-        ),
-        // Two faults, of which the first counts.
-        (
-            b"int main() { x = 1 +; }",
-            ParseFault::Unexpected { at: 20 },
-        ),
-        (
-            b"int main() { x = 1; int x, x; }",
-            ParseFault::UnknownName { at: 13 },
-        ),
-        (
-            b"int main() { int x; int x = y; }",
-            ParseFault::UnknownName { at: 28 },
-        ),
-        (
-            b"int main() { int x = (1 < 2) + y; }",
-            ParseFault::UnknownName { at: 31 },
-        ),
-        (
-            b"int main() { int x = nondet() + y; }",
-            ParseFault::UnknownName { at: 32 },
-        ),
-        (
-            b"int main() { int x = (1 < 2) + nondet(); }",
-            ParseFault::NotAffine { at: 29 },
-        ),
-        (
-            b"int main() { int x, y = x*x + (1 < 2); }",
-            ParseFault::NotAffine { at: 25 },
-        ),
-        (
-            b"int main() { int a,b,c,d,e,f,g,h,a; }",
-            ParseFault::NameTwice { at: 33 },
-        ),
-        (
-            b"int main() { int x; if (y) z = 1; }",
-            ParseFault::UnknownName { at: 24 },
-        ),
-        (
-            b"int main() { assume(y); }",
-            ParseFault::UnknownName { at: 20 },
-        ),
-        (
-            b"int main() { ; return y; }",
-            ParseFault::Unexpected { at: 22 },
-        ),
-    ];
-    for (text, fault) in texts {
-        assert!(rt; has_fault(&rt, text, Some(fault))?, "{text:?}");
-    }
-    Ok(())
+fn faults_are_found(rt: HostRuntime) {
+    assert_eq!(rt; first_wrong(rt.alloc(), TEXTS), None);
 }
 
-#[test]
-fn limits_are_kept(rt: HostRuntime) -> Result<(), Fail> {
-    let start = b"int main() { int x; ".as_slice();
-    let asks = b"int main() { int x; assume(x".as_slice();
-    let statements = Some(limit(2575, Limit::Statements));
-    let leaves = Some(limit(20, Limit::Leaves));
-    let unknown = Some(ParseFault::UnknownName { at: 2575 });
-    let unknown_later = Some(ParseFault::UnknownName { at: 2579 });
-    let shapes: [(&[u8], &[u8], usize, &[u8], Option<ParseFault>); 15] = [
-        // The declaration is a node too: the 513th begins at 20 + 511 * 5.
-        (start, b"x++; ", 511, b"}", None),
-        (start, b"x++; ", 512, b"}", statements),
-        (start, b"++x; ", 512, b"}", statements),
-        (start, b"x++; ", 511, b"y = 1; }", unknown),
-        (start, b"x++; ", 511, b"++y; }", statements),
-        (start, b"x++; ", 511, b"if (y) ; }", unknown_later),
-        (start, b"x++; ", 511, b"assume(y); }", statements),
-        (start, b"x++; ", 10_000, b"}", statements),
-        (
-            start,
-            b"{ ",
-            64,
-            b"x }",
-            Some(ParseFault::Unexpected { at: 150 }),
-        ),
-        (start, b"{ ", 65, b"", Some(limit(148, Limit::Nesting))),
-        (asks, b"||x", 63, b"); }", None),
-        (asks, b"||x", 64, b"); }", leaves),
-        (asks, b"&&x", 20_000, b"); }", leaves),
-        (b"int main() { int x = 1", b"+ 1", 20_000, b"; }", None),
-        (b"int main() { int x; x = ", b"-+", 32, b"x; }", None),
-    ];
-    for (before, piece, count, after, fault) in shapes {
-        let text = repeated(rt.alloc(), before, piece, count, after)?;
-        assert!(rt;
-            has_fault(&rt, text.as_slice(), fault)?,
-            "{piece:?} {count}"
-        );
+// What stands before, a piece and how often it stands, what stands behind, and the fault of the text.
+impl Case for (&[u8], &[u8], usize, &[u8], Option<ParseFault>) {
+    fn is_right(&self, alloc: Global) -> bool {
+        match repeated(alloc, self.0, self.1, self.2, self.3) {
+            Ok(text) => has_fault(alloc, text.as_slice(), self.4),
+            Err(_) => false,
+        }
     }
-    Ok(())
+}
+
+const START: &[u8] = b"int main() { int x; ";
+
+const ASKS: &[u8] = b"int main() { int x; assume(x";
+
+const STATEMENTS: Option<ParseFault> = Some(ParseFault::Limit {
+    at: 2575,
+    which: Limit::Statements,
+});
+
+const LEAVES: Option<ParseFault> = Some(ParseFault::Limit {
+    at: 20,
+    which: Limit::Leaves,
+});
+
+const UNKNOWN: Option<ParseFault> = Some(ParseFault::UnknownName { at: 2575 });
+
+const UNKNOWN_LATER: Option<ParseFault> = Some(ParseFault::UnknownName { at: 2579 });
+
+const SHAPES: &[(&[u8], &[u8], usize, &[u8], Option<ParseFault>)] = &[
+    // The declaration is a node too: the 513th begins at 20 + 511 * 5.
+    (START, b"x++; ", 511, b"}", None),
+    (START, b"x++; ", 512, b"}", STATEMENTS),
+    (START, b"++x; ", 512, b"}", STATEMENTS),
+    (START, b"x++; ", 511, b"y = 1; }", UNKNOWN),
+    (START, b"x++; ", 511, b"++y; }", STATEMENTS),
+    (START, b"x++; ", 511, b"if (y) ; }", UNKNOWN_LATER),
+    (START, b"x++; ", 511, b"assume(y); }", STATEMENTS),
+    (START, b"x++; ", 10_000, b"}", STATEMENTS),
+    (
+        START,
+        b"{ ",
+        64,
+        b"x }",
+        Some(ParseFault::Unexpected { at: 150 }),
+    ),
+    (
+        START,
+        b"{ ",
+        65,
+        b"",
+        Some(ParseFault::Limit {
+            at: 148,
+            which: Limit::Nesting,
+        }),
+    ),
+    (ASKS, b"||x", 63, b"); }", None),
+    (ASKS, b"||x", 64, b"); }", LEAVES),
+    (ASKS, b"&&x", 20_000, b"); }", LEAVES),
+    (b"int main() { int x = 1", b"+ 1", 20_000, b"; }", None),
+    (b"int main() { int x; x = ", b"-+", 32, b"x; }", None),
+];
+
+#[test]
+fn limits_are_kept(rt: HostRuntime) {
+    assert_eq!(rt; first_wrong(rt.alloc(), SHAPES), None);
 }
 
 // Whether it is `x - 3 * y + 1 < 0`.
@@ -227,12 +254,18 @@ fn is_program(program: &Program) -> bool {
     program.names.as_slice().len() == 2 && is_as_written(program.body.as_slice())
 }
 
+// Whether the text reads as the program below.
+fn is_read(alloc: Global, text: &[u8]) -> bool {
+    match read(alloc, text) {
+        Some(Ok(program)) => is_program(&program),
+        _ => false,
+    }
+}
+
 #[test]
-fn programs_are_read(rt: HostRuntime) -> Result<(), Fail> {
+fn programs_are_read(rt: HostRuntime) {
     let text = b"int main(void) {\n  int x = 2, y;\n  if (x < 3*y - 1)\n    y = -x;\n}";
-    let program = read(&rt, text)??;
-    assert!(rt; is_program(&program));
-    Ok(())
+    assert!(rt; is_read(rt.alloc(), text));
 }
 
 // The leaves of the condition of the first statement that asks one.
@@ -243,14 +276,20 @@ fn first_leaves(program: &Program) -> Option<u32> {
     }
 }
 
+// Whether the program of a text has so many statements, and so many leaves in that condition.
+fn has_counts(alloc: Global, text: &[u8], nodes: u32, asked: u32) -> bool {
+    match read(alloc, text) {
+        Some(Ok(program)) => {
+            statements(&program) == nodes && first_leaves(&program) == Some(asked)
+        }
+        _ => false,
+    }
+}
+
 #[test]
-fn statements_and_leaves_are_counted(rt: HostRuntime) -> Result<(), Fail> {
-    let program = read(
-        &rt,
-        b"int main() { int x = 0; while (x < 100 || x == 200) { x = x + 1; } }",
-    )??;
-    assert!(rt; statements(&program) == 3 && first_leaves(&program) == Some(2));
-    Ok(())
+fn statements_and_leaves_are_counted(rt: HostRuntime) {
+    let text = b"int main() { int x = 0; while (x < 100 || x == 200) { x = x + 1; } }";
+    assert!(rt; has_counts(rt.alloc(), text, 3, 2));
 }
 
 // Whether the bytes are a name, which keeps them.
@@ -261,19 +300,25 @@ fn is_name(bytes: &[u8]) -> bool {
     }
 }
 
+// Bytes, and whether they are a name.
+impl Case for (&[u8], bool) {
+    fn is_right(&self, _alloc: Global) -> bool {
+        is_name(self.0) == self.1
+    }
+}
+
+const NAMES: &[(&[u8], bool)] = &[
+    (b"a2345678901234567890123456789_32", true),
+    (b"_", true),
+    (b"while", true),
+    (b"", false),
+    (b"1x", false),
+    (b"x y", false),
+    (b"x-", false),
+    (b"a23456789012345678901234567890_33", false),
+];
+
 #[test]
 fn names_are_words(rt: HostRuntime) {
-    let cases: [(&[u8], bool); 8] = [
-        (b"a2345678901234567890123456789_32", true),
-        (b"_", true),
-        (b"while", true),
-        (b"", false),
-        (b"1x", false),
-        (b"x y", false),
-        (b"x-", false),
-        (b"a23456789012345678901234567890_33", false),
-    ];
-    for (bytes, named) in cases {
-        assert!(rt; is_name(bytes) == named, "{bytes:?}");
-    }
+    assert_eq!(rt; first_wrong(rt.alloc(), NAMES), None);
 }
