@@ -1,5 +1,5 @@
 -- The certificates of the theory that the types of the code stand for, under a template of so many rows.
-use Rattle.std.specs.Prelude.{ℕ, ◌/◌, ◌%◌, List, [], map}
+use Rattle.std.specs.Prelude.{ℕ, ◌/◌, ◌%◌, [], map}
 use Rattle.tm_eqsys.specs.declared.trace.Trace.{Trace}
 use Rattle.tm_cert.specs.declared.step.Item.{Item}
 use Rattle.tm_cert.specs.declared.step.JumpItem.{JumpItem}

@@ -4,6 +4,7 @@ pub mod Stands
 pub mod Runs
 pub mod Items
 pub mod StepEvents
+pub mod Following
 pub mod Usable
 pub mod EvidenceEvents
 pub mod Combined

@@ -8,17 +8,16 @@ ghost use Rattle.tm_eqsys.specs.declared.spot.Site.{Site};
 ghost use Rattle.tm_eqsys.specs.Equations.{Vector};
 ghost use Rattle.tm_eqsys.specs.View.{equations_of};
 ghost use Rattle.tm_cert.specs.Certificates.{step_of};
-ghost use Rattle.tm_validity.specs.Steps.{Placed, Sized, edge_of, row_of, item_value, word};
+ghost use Rattle.tm_validity.specs.Steps.{Placed, Sized};
 ghost use Rattle.tm_validity.specs.Faults.{Fault, TraceFault, LowFault};
 ghost use Rattle.tm_check.specs.Events.{Answers, Event, IsRun, Test, decided};
-ghost use Rattle.tm_check.specs.Runs.{run_events};
 ghost use Rattle.tm_check.specs.Items.{item_count, item_at, earlier_items};
 ghost use Rattle.tm_check.specs.StepEvents.{IsOpen, IsRaised, at_item, dec_raised, first_events, first_pass_events, low_events};
 ghost use Rattle.tm_check.specs.Stands.{Stands};
 
 use crate::fault::{CheckFault, ensure, item_site, value_or};
-use crate::following::run;
-use crate::item::{count, edge_at, low_at, number_at, unknown_at};
+use crate::following::{Way, follow_item};
+use crate::item::{count, low_at, number_at, unknown_at};
 use crate::names::is_named;
 use tm_cert::Step;
 use tm_eqsys::{Bounds, System};
@@ -54,25 +53,6 @@ fn is_raised(step: &Step, bound: Ext, number: Frac, value: Frac) -> bool
         Step::Plain(_) => is_below(bound, number) && number <= value,
         _ => is_below(bound, value),
     }
-}
-
-// The value at the end of an item's low trace.
-fn low_value(
-    system: &System,
-    step: &Step,
-    k: usize,
-    bounds: &Bounds,
-) -> Result<Option<Frac>, Wide<Frac>>
-    requires item { k < item_count step.now }
-    requires placed { Placed (equations_of system.now) (item_at (length system.now.template) step.now k) }
-    requires sized { Sized (equations_of system.now) (item_at (length system.now.template) step.now k) (item_at (length system.now.template) step.now k).low }
-    requires bounds { length bounds.now ≡ length system.now.flow.points * length system.now.template }
-    ensures { (z : Vector) → Stands (equations_of system.now) bounds.now z →
-        let S = equations_of system.now in let item = item_at (length system.now.template) step.now k in
-        Answers (λ v. v ≡ item_value S item (word item.low)) (λ site fault. run_events site fault S z (edge_of S item) (row_of S item) item.low) result }
-{
-    let row = unknown_at(step, k) % system.template.as_slice().len() as u32;
-    run(system, bounds, edge_at(step, k), row, low_at(step, k))
 }
 
 // The last test of an item at the vector that the step finds: what its low trace, followed, shows.
@@ -130,7 +110,7 @@ fn test_low(
         step,
         bounds.at(unknown),
         number_at(step, place),
-        low_value(system, step, place, bounds),
+        follow_item(system, bounds, step, place, Way::Trace, low_at(step, place)),
         number,
         k,
     )

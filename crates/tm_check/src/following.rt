@@ -6,13 +6,15 @@ ghost use Rattle.tm_eqsys.specs.FreeValues.{free_count};
 ghost use Rattle.tm_eqsys.specs.Equations.{Vector};
 ghost use Rattle.tm_eqsys.specs.View.{equations_of};
 ghost use Rattle.tm_cert.specs.Certificates.{pieces_of};
-ghost use Rattle.tm_validity.specs.Words.{lin, end_form};
-ghost use Rattle.tm_validity.specs.Steps.{word, end_value};
+ghost use Rattle.tm_validity.specs.Steps.{Pieces, Placed, Sized, edge_of, row_of, word};
 ghost use Rattle.tm_check.specs.Events.{Answers};
-ghost use Rattle.tm_check.specs.Runs.{FitAnswers, run_events};
-ghost use Rattle.tm_check.specs.StepEvents.{carry_events};
+ghost use Rattle.tm_check.specs.Following.{shown, shown_events};
+ghost use Rattle.tm_check.specs.Items.{item_at, item_count};
+ghost use Rattle.tm_check.specs.Runs.{FitAnswers};
 ghost use Rattle.tm_check.specs.Stands.{Stands};
 
+use crate::item::{edge_at, unknown_at};
+use tm_cert::Step;
 use tm_eqsys::{Bounds, System, Trace, direction_value, fits, trace_value};
 use tm_frac::{Frac, Wide};
 
@@ -28,13 +30,21 @@ fn starts(system: &System, bounds: &Bounds, edge: u32, state: &[Frac]) -> Result
     fits(system, bounds, from, state)
 }
 
-/// The value of a row at the end of a trace that runs along an edge at a vector; `None` where its start doesn't fit or a guard
-/// fails.
-pub fn run(
+/// How a trace is followed: as it runs, or as a direction, with every constant taken as 0.
+#[derive(Clone, Copy, Drop)]
+pub enum Way {
+    Trace,
+    Direction,
+}
+
+/// The value of a row at the end of a trace that runs along an edge at a vector, or how far the row rises along a direction;
+/// `None` where its start doesn't fit or a guard fails.
+fn follow(
     system: &System,
     bounds: &Bounds,
     edge: u32,
     row: u32,
+    way: Way,
     trace: &Trace,
 ) -> Result<Option<Frac>, Wide<Frac>>
     requires bounds { length bounds.now ≡ length system.now.flow.points * length system.now.template }
@@ -43,37 +53,37 @@ pub fn run(
     requires start { length trace.now.start ≡ length system.now.flow.names }
     requires free { (e : Edge) → slice_get system.now.flow.edges edge ≡ Some e → length trace.now.free ≡ free_count e.actions }
     ensures { (z : Vector) (e : Edge) (cs : List ℤ) → Stands (equations_of system.now) bounds.now z → slice_get system.now.flow.edges edge ≡ Some e →
-        slice_get system.now.template row ≡ Some cs → let w = word (pieces_of trace.now) in
-        Answers (λ value. value ≡ end_value (equations_of system.now) e cs w)
-        (λ site fault. run_events site fault (equations_of system.now) z e cs (pieces_of trace.now)) result }
+        slice_get system.now.template row ≡ Some cs → let t = pieces_of trace.now in
+        Answers (λ v. v ≡ shown way (equations_of system.now) e cs (word t))
+        (λ site fault. shown_events way site fault (equations_of system.now) z e cs t) result }
 {
     if !starts(system, bounds, edge, trace.start.as_slice())? {
         return Ok(None);
     }
-    trace_value(system, edge, row, trace)
+    match way {
+        Way::Trace => trace_value(system, edge, row, trace),
+        Way::Direction => direction_value(system, edge, row, trace),
+    }
 }
 
-/// How far a row rises along a direction whose start fits the rates that its source allows; `None` where it doesn't or a guard
-/// rises.
-pub fn carry(
+/// What an item's row shows along one of the item's traces.
+pub fn follow_item(
     system: &System,
-    rates: &Bounds,
-    edge: u32,
-    row: u32,
-    direction: &Trace,
+    bounds: &Bounds,
+    step: &Step,
+    k: usize,
+    way: Way,
+    trace: &Trace,
 ) -> Result<Option<Frac>, Wide<Frac>>
-    requires rates { length rates.now ≡ length system.now.flow.points * length system.now.template }
-    requires edge { edge < length system.now.flow.edges }
-    requires row { row < length system.now.template }
-    requires start { length direction.now.start ≡ length system.now.flow.names }
-    requires free { (e : Edge) → slice_get system.now.flow.edges edge ≡ Some e → length direction.now.free ≡ free_count e.actions }
-    ensures { (z : Vector) (e : Edge) (cs : List ℤ) → Stands (equations_of system.now) rates.now z → slice_get system.now.flow.edges edge ≡ Some e →
-        slice_get system.now.template row ≡ Some cs → let w = word (pieces_of direction.now) in
-        Answers (λ value. value ≡ lin (end_form (length system.now.flow.names) e.actions cs) w)
-        (λ site fault. carry_events site fault (equations_of system.now) z e cs (pieces_of direction.now)) result }
+    requires item { k < item_count step.now }
+    requires placed { Placed (equations_of system.now) (item_at (length system.now.template) step.now k) }
+    requires sized { Sized (equations_of system.now) (item_at (length system.now.template) step.now k) (pieces_of trace.now) }
+    requires bounds { length bounds.now ≡ length system.now.flow.points * length system.now.template }
+    ensures { (z : Vector) (t : Pieces) → Stands (equations_of system.now) bounds.now z → t ≡ pieces_of trace.now →
+        let S = equations_of system.now in let item = item_at (length system.now.template) step.now k in
+        Answers (λ v. v ≡ shown way S (edge_of S item) (row_of S item) (word t))
+        (λ site fault. shown_events way site fault S z (edge_of S item) (row_of S item) t) result }
 {
-    if !starts(system, rates, edge, direction.start.as_slice())? {
-        return Ok(None);
-    }
-    direction_value(system, edge, row, direction)
+    let row = unknown_at(step, k) % system.template.as_slice().len() as u32;
+    follow(system, bounds, edge_at(step, k), row, way, trace)
 }

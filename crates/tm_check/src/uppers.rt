@@ -6,7 +6,7 @@ ghost use Rattle.tm_eqsys.specs.Equations.{Vector};
 ghost use Rattle.tm_eqsys.specs.View.{equations_of};
 ghost use Rattle.tm_compose.specs.Composed.{AreComposed};
 ghost use Rattle.tm_cert.specs.Certificates.{evidence_of};
-ghost use Rattle.tm_validity.specs.Certificates.{into_needs, needs_at, needs};
+ghost use Rattle.tm_validity.specs.Certificates.{needs_at, needs};
 ghost use Rattle.tm_check.specs.Events.{IsRun};
 ghost use Rattle.tm_check.specs.CheckEvents.{uppers_events};
 ghost use Rattle.tm_check.specs.Stands.{Stands};
@@ -48,35 +48,6 @@ fn check_upper(
     }
 }
 
-// The tests of the evidence from this place on for an unknown and each edge into its point: the place after it.
-fn check_into(
-    system: &System,
-    paths: &Paths,
-    bounds: &Bounds,
-    unknown: u32,
-    uppers: &[Upper],
-    place: usize,
-) -> Result<usize, CheckFault>
-    requires paths { AreComposed (equations_of system.now) paths.now }
-    requires bounds { length bounds.now ≡ length system.now.flow.points * length system.now.template }
-    requires unknown { unknown < length bounds.now }
-    requires place { place ≤ length uppers.now }
-    ensures within { IfOk result (λ next. next ≤ length uppers.now) }
-    ensures answer { (z : Vector) → Stands (equations_of system.now) bounds.now z →
-        let needed = into_needs (unknown / length system.now.template) (unknown % length system.now.template) 0 system.now.flow.edges in
-        IsRun (λ next. next ≡ place + length needed) (uppers_events (equations_of system.now) z needed (drop place (map evidence_of uppers.now))) result }
-{
-    let point = unknown / system.template.as_slice().len() as u32;
-    let mut next = place;
-    for (number, edge) in system.flow.edges.as_slice().iter().enumerate() {
-        if edge.to == point {
-            check_upper(system, paths, bounds, unknown, number as u32, uppers, next)?;
-            next += 1;
-        }
-    }
-    Ok(next)
-}
-
 // The tests of the evidence from this place on that an unknown needs: the place after it.
 fn check_unknown(
     system: &System,
@@ -96,10 +67,18 @@ fn check_unknown(
         let needed = needs_at (equations_of system.now) p r (z p r) in
         IsRun (λ next. next ≡ place + length needed) (uppers_events (equations_of system.now) z needed (drop place (map evidence_of uppers.now))) result }
 {
-    match bounds.at(unknown) {
-        Ext::PosInf => Ok(place),
-        _ => check_into(system, paths, bounds, unknown, uppers, place),
+    if let Ext::PosInf = bounds.at(unknown) {
+        return Ok(place);
     }
+    let point = unknown / system.template.as_slice().len() as u32;
+    let mut next = place;
+    for (number, edge) in system.flow.edges.as_slice().iter().enumerate() {
+        if edge.to == point {
+            check_upper(system, paths, bounds, unknown, number as u32, uppers, next)?;
+            next += 1;
+        }
+    }
+    Ok(next)
 }
 
 /// The tests of all evidence that the bounds need, in order.

@@ -6,15 +6,14 @@ use Rattle.tm_flow.specs.declared.edge.Action.TheVariants.{Guard, Assign, Havoc}
 use Rattle.tm_frac.specs.Fits.{long_limit}
 use Rattle.tm_frac.specs.Operation.{first_wide}
 use Rattle.tm_eqsys.specs.declared.spot.Site.TheVariants.{Compose}
+use Rattle.tm_eqsys.specs.declared.spot.Spot.{Spot}
 use Rattle.tm_validity.specs.Words.{Affine as Form, composed, guards_from, ends_from}
 use Rattle.tm_compose.specs.declared.affine.Affine.{Affine}
-use Rattle.tm_compose.specs.declared.fault.FormFault.{FormFault}
-use Rattle.tm_compose.specs.declared.fault.FormFault.TheVariants.{WideSum, NoRoom}
-use Rattle.tm_compose.specs.declared.fault.PathFault.{PathFault}
-use Rattle.tm_compose.specs.declared.fault.PathFault.TheVariants.{Wide, NoMemory}
+use Rattle.tm_eqsys.specs.declared.fault.Fault.{Fault}
+use Rattle.tm_eqsys.specs.declared.fault.Fault.TheVariants.{Wide, NoMemory}
 use Rattle.tm_compose.specs.Composed.{dense}
 use Rattle.tm_compose.specs.Operations.{row_composition, action_composition, actions_composition, next_state, next_column}
-use Rattle.tm_compose.specs.Faults.{IsFormFault}
+use Rattle.tm_eqsys.specs.Faults.{OperationFault, IsFaultOf}
 
 -- each form has w coefficients
 abbrev pub has_width : ℕ → Affine → Bool
@@ -30,23 +29,23 @@ action_guards state (Assign var form) = []
 action_guards state (Havoc var) = []
 
 -- after an action: its guard behind the guards before, the next state of forms, and the next free column
-abbrev pub StepComposes : ℕ → ℕ → List Form → Action → List Affine → List Affine → List Affine → Result ℕ FormFault → Type 0
+abbrev pub StepComposes : ℕ → ℕ → List Form → Action → List Affine → List Affine → List Affine → Result ℕ OperationFault → Type 0
 StepComposes w k state action before after guards result =
     MatchResult result
     (λ next. (next ≡ next_column k action) × (after ≡ map (dense w) (next_state k state action))
     × (guards ≡ before ++ map (dense w) (action_guards state action)) × (first_wide long_limit (action_composition w state action) ≡ None))
-    (IsFormFault (action_composition w state action))
+    (IsFaultOf (action_composition w state action))
 
 -- after all actions: their guards, and the state of forms at the end, from which on the rows are composed
-abbrev pub WalkComposes : ℕ → ℕ → List Form → List Action → List Affine → Result (List Affine) FormFault → Type 0
+abbrev pub WalkComposes : ℕ → ℕ → List Form → List Action → List Affine → Result (List Affine) OperationFault → Type 0
 WalkComposes w k state actions after result =
     MatchResult result
     (λ guards. (guards ≡ map (dense w) (guards_from k state actions)) × (after ≡ map (dense w) (ends_from k state actions))
     × ((template : List (List ℤ)) → first_wide long_limit (actions_composition w template k state actions) ≡
     first_wide long_limit (flat_map (row_composition w (ends_from k state actions)) template)))
-    (λ fault. (template : List (List ℤ)) → IsFormFault (actions_composition w template k state actions) fault)
+    (λ fault. (template : List (List ℤ)) → IsFaultOf (actions_composition w template k state actions) fault)
 
 -- the fault of a form, with the number of its edge
-abbrev pub IsFaultAt : ℕ → FormFault → PathFault → Type 0
-IsFaultAt edge (WideSum wide) fault = fault ≡ Wide (record { round = 0; site = Compose edge; wide = wide })
-IsFaultAt edge NoRoom fault = fault ≡ NoMemory
+abbrev pub IsFaultAt : ℕ → OperationFault → Fault Spot → Type 0
+IsFaultAt edge (Wide wide) fault = fault ≡ Wide (record { round = 0; site = Compose edge; wide = wide })
+IsFaultAt edge NoMemory fault = fault ≡ NoMemory

@@ -19,12 +19,12 @@ fn at_edge(edge: usize, fault: FormFault) -> PathFault
     ensures { IsFaultAt edge fault result }
 {
     match fault {
-        FormFault::WideSum(wide) => PathFault::Wide(Spot {
+        FormFault::Wide(wide) => PathFault::Wide(Spot {
             round: 0,
             site: Site::Compose { edge: edge as u32 },
             wide,
         }),
-        FormFault::NoRoom => PathFault::NoMemory,
+        FormFault::NoMemory => PathFault::NoMemory,
     }
 }
 

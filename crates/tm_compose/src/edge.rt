@@ -9,6 +9,7 @@ ghost use Rattle.tm_compose.specs.Composed.{dense, edge_forms};
 ghost use Rattle.tm_compose.specs.Operations.{row_composition, edge_composition};
 ghost use Rattle.tm_compose.specs.Faults.{Composes};
 ghost use Rattle.tm_compose.specs.Walks.{IsState};
+ghost use Rattle.tm_tree.specs.declared.limits.TheConstants.{MOST_VARIABLES};
 
 use crate::affine::{Affine, Affines};
 use crate::fault::FormFault;
@@ -46,7 +47,7 @@ pub fn compose_edge(
     actions: &[Action],
 ) -> Result<Path, FormFault>
     requires few { length actions.now ≤ 256 }
-    requires variables { variables ≤ 8 }
+    requires variables { variables ≤ MOST_VARIABLES }
     requires actions { IsTrue (list_all (is_action variables) actions.now) }
     requires template { IsTrue (is_over variables template.now) }
     ensures { Composes (edge_forms variables template.now actions.now) (edge_composition variables template.now actions.now) result }

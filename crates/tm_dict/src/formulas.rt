@@ -7,6 +7,7 @@ ghost use Rattle.tm_dict.specs.Formulas.{divided, divided_operations, product_op
 use tm_frac::{OrderedField, Wide};
 
 /// An entry of the pivot's row after the pivot: formula 1 at the pivot itself, else formula 2.
+#[inline(always)]
 pub fn divided_by<F: OrderedField>(entry: F, pivot: F, at_pivot: bool) -> Result<F, Wide<F>>
     requires { F.meaning pivot ≢ zero_ℚ }
     ensures { Answers F.meaning F.LIMIT (divided (F.meaning entry) (F.meaning pivot) at_pivot)

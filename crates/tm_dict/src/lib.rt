@@ -10,7 +10,10 @@ mod shift;
 mod sides;
 mod tableau;
 
+pub use build::{goal_count, names_from, other_names};
 pub use dict::Dict;
+pub use formulas::divided_by;
 pub use problem::{Problem, Row};
+pub use shift::zero_place;
 pub use sides::lowest_side;
 pub use tableau::{PivotFault, Tableau};

@@ -5,6 +5,7 @@ pub mod report
 pub mod Sizes
 pub mod starts
 pub mod Widths
+pub mod Faults
 pub mod fit_tests
 pub mod trace_tests
 pub mod free_values

@@ -6,6 +6,9 @@ use Rattle.std.proofs.lemmas.Bool.{leb-true}
 use Rattle.tm_flow.specs.declared.graph.Flow.{Flow}
 use Rattle.tm_flow.specs.FlowLimits.{begins_with_entry, has_line, is_edge}
 use Rattle.tm_rows.specs.Rows.{is_template}
+use Rattle.tm_rows.specs.declared.limits.TheConstants.{MOST_ROWS}
+use Rattle.tm_flow.specs.declared.limits.TheConstants.{MOST_POINTS}
+use Rattle.tm_tree.specs.declared.limits.TheConstants.{MOST_VARIABLES}
 
 pub both : (a b : Bool) → IsTrue (a && b) → IsTrue a × IsTrue b
 both true true e = (refl, refl)
@@ -14,23 +17,23 @@ both false b e = absurd (true≢false (sym e))
 
 -- the sizes of a flow
 pub record FlowSizes (flow : Flow) : Type 0 where
-  pub names : length flow.names ≤ 8
+  pub names : length flow.names ≤ MOST_VARIABLES
   pub two_points : 2 ≤ length flow.points
-  pub points : length flow.points ≤ 48
+  pub points : length flow.points ≤ MOST_POINTS
   pub edges : IsTrue (list_all (is_edge (length flow.names) (length flow.points)) flow.edges)
 
 pub flow_sizes : (flow : Flow) → FlowSizes flow
 flow_sizes flow =
-    let a = both (nat_le 1 (length flow.names) && nat_le (length flow.names) 8) _ flow.within_limits in
-    let b = both (nat_le 2 (length flow.points) && nat_le (length flow.points) 48) _ a.1 in
+    let a = both (nat_le 1 (length flow.names) && nat_le (length flow.names) MOST_VARIABLES) _ flow.within_limits in
+    let b = both (nat_le 2 (length flow.points) && nat_le (length flow.points) MOST_POINTS) _ a.1 in
     let c = both (begins_with_entry flow.points && list_all has_line flow.points) _ b.1 in
-    let n = both (nat_le 1 (length flow.names)) (nat_le (length flow.names) 8) a.0 in
-    let p = both (nat_le 2 (length flow.points)) (nat_le (length flow.points) 48) b.0 in
+    let n = both (nat_le 1 (length flow.names)) (nat_le (length flow.names) MOST_VARIABLES) a.0 in
+    let p = both (nat_le 2 (length flow.points)) (nat_le (length flow.points) MOST_POINTS) b.0 in
     let e = both (nat_le (length flow.edges) 256) (list_all (is_edge (length flow.names) (length flow.points)) flow.edges) c.1 in
-    record { names = leb-true (length flow.names) 8 n.1; two_points = leb-true 2 (length flow.points) p.0; points = leb-true (length flow.points) 48 p.1; edges = e.1 }
+    record { names = leb-true (length flow.names) MOST_VARIABLES n.1; two_points = leb-true 2 (length flow.points) p.0; points = leb-true (length flow.points) MOST_POINTS p.1; edges = e.1 }
 
-pub template_size : (template : List (List ℤ)) → IsTrue (is_template template) → length template ≤ 128
+pub template_size : (template : List (List ℤ)) → IsTrue (is_template template) → length template ≤ MOST_ROWS
 template_size template h =
-    let a = both (nat_le 1 (length template) && nat_le (length template) 128) _ h in
-    let b = both (nat_le 1 (length template)) (nat_le (length template) 128) a.0 in
-    leb-true (length template) 128 b.1
+    let a = both (nat_le 1 (length template) && nat_le (length template) MOST_ROWS) _ h in
+    let b = both (nat_le 1 (length template)) (nat_le (length template) MOST_ROWS) a.0 in
+    leb-true (length template) MOST_ROWS b.1

@@ -9,6 +9,7 @@ pub mod Starts
 pub mod View
 pub mod Cells
 pub mod Sums
+pub mod Faults
 pub mod FitTests
 pub mod TraceTests
 pub mod SolutionLaws

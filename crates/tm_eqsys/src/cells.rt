@@ -1,10 +1,12 @@
 //! How large the joint problems of a system can get.
 
-ghost use Rattle.std.specs.Prelude.{◌≡◌, ◌==◌, ◌*◌, ◌<◌, ◌≤◌, length};
+ghost use Rattle.std.specs.Prelude.{◌≡◌, ◌==◌, ◌+◌, ◌*◌, ◌<◌, ◌≤◌, length};
 ghost use Rattle.std.specs.List.{count_by, list_any};
 ghost use Rattle.tm_eqsys.specs.FreeValues.{free_count};
 ghost use Rattle.tm_eqsys.specs.View.{equations_of};
 ghost use Rattle.tm_eqsys.specs.Cells.{is_havoc, guard_count, most, unknown_rows, unknown_columns, cells_of};
+ghost use Rattle.tm_rows.specs.declared.limits.TheConstants.{MOST_ROWS};
+ghost use Rattle.tm_tree.specs.declared.limits.TheConstants.{MOST_VARIABLES};
 
 use crate::system::System;
 use tm_flow::{Action, Edge};
@@ -57,8 +59,8 @@ impl System {
     fn sizes(&self, point: u32) -> (u64, u64)
         ensures rows { result.0 ≡ length self.now.template * unknown_rows (equations_of self.now) point }
         ensures columns { result.1 ≡ length self.now.template * unknown_columns (equations_of self.now) point }
-        ensures few_rows { result.0 ≤ 49280 }
-        ensures few_columns { result.1 ≤ 67712 }
+        ensures few_rows { result.0 ≤ MOST_ROWS * (MOST_ROWS + 257) }
+        ensures few_columns { result.1 ≤ MOST_ROWS * (2 * MOST_VARIABLES + 513) }
     {
         let rows = self.template.as_slice().len() as u64;
         let variables = self.flow.names.as_slice().len() as u64;

@@ -13,6 +13,7 @@ use crate::system::System;
 use crate::trace::Trace;
 use tm_flow::Action;
 use tm_frac::{Frac, OrderedField, Wide};
+use tm_tree::MOST_VARIABLES;
 
 // Takes one action: how many of the free values to come it took, or that its guard failed.
 fn step(
@@ -113,7 +114,7 @@ fn value_along(
         TraceAnswers (map (action_with constants) e.actions) trace.now.start trace.now.free cs result }
 {
     let start = trace.start.as_slice();
-    let mut values = [Frac::zero(); 8];
+    let mut values = [Frac::zero(); MOST_VARIABLES];
     let state = &mut values[..start.len()];
     state.copy_from_slice(start);
     value_from(system, edge, row, constants, state, trace.free.as_slice())

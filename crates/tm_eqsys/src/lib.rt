@@ -5,10 +5,12 @@
 
 mod bounds;
 mod cells;
+mod fault;
 mod fit;
 mod follow;
 mod footer;
 mod law;
+mod limits;
 mod pick;
 mod spot;
 mod sums;
@@ -16,6 +18,7 @@ mod system;
 mod trace;
 
 pub use bounds::Bounds;
+pub use fault::Fault;
 pub use fit::fits;
 pub use follow::{direction_value, trace_value};
 pub use footer::Footer;
@@ -23,6 +26,7 @@ pub use law::{
     at_most_one_least, integer_states_are_rational, least_solutions_are_supported,
     post_solutions_hold, traces_are_followed, unreached_at_all_rows, vectors_are_lists,
 };
+pub use limits::MOST_UNKNOWNS;
 pub use pick::Pick;
 pub use spot::{Part, PartFault, Site, Spot};
 pub use sums::{Constants, form_value, fraction, row_value};

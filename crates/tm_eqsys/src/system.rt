@@ -3,11 +3,12 @@
 ghost use Rattle.std.specs.Prelude.{◌≡◌, ◌↔◌, ◌*◌, ◌<◌, IsTrue, IsErr, IfOk, IfErr, length};
 ghost use Rattle.tm_eqsys.specs.SystemLimits.{is_over, is_system};
 
+use crate::limits::MOST_UNKNOWNS;
 use tm_flow::Flow;
 use tm_rows::Template;
 
 /// A flow and a template over its variables. An unknown is a pair of a point `p` and a row `i`; its number is
-/// `p * rows + i`. There are at most 1,024 unknowns.
+/// `p * rows + i`. There are at most `MOST_UNKNOWNS` of them.
 #[derive(Drop)]
 pub struct System {
     pub flow: Flow,
@@ -18,7 +19,7 @@ pub struct System {
 /// Why a flow and a template make no system.
 #[derive(Clone, Copy, Debug, PartialEq, Eq, Drop)]
 pub enum SystemFault {
-    /// There are more than 1,024 unknowns: so many.
+    /// There are more than `MOST_UNKNOWNS` unknowns: so many.
     Unknowns { count: u32 },
 }
 
@@ -27,18 +28,18 @@ impl System {
     ///
     /// # Errors
     ///
-    /// `Unknowns` with their number, points times rows, exactly where this is above 1,024; both arguments are dropped.
+    /// `Unknowns` with their number, points times rows, exactly where this is above `MOST_UNKNOWNS`; both arguments are dropped.
     /// Takes no memory.
     pub fn new(flow: Flow, template: Template) -> Result<System, SystemFault>
         requires { IsTrue (is_over (length flow.names) template) }
         ensures system { IfOk result (λ s. (s.flow ≡ flow) × (s.template ≡ template)) }
-        ensures unknowns { IsErr result ↔ 1024 < length flow.points * length template }
+        ensures unknowns { IsErr result ↔ MOST_UNKNOWNS < length flow.points * length template }
         ensures count { IfErr result (λ e. e ≡ SystemFault.Unknowns (length flow.points * length template)) }
     {
         let points = flow.points.as_slice().len() as u32;
         let rows = template.as_slice().len() as u32;
         let count = points * rows;
-        if count > 1024 {
+        if count > MOST_UNKNOWNS {
             return Err(SystemFault::Unknowns { count });
         }
         Ok(System { flow, template })

@@ -7,6 +7,7 @@ use Rattle.tm_flow.specs.declared.edge.Edge.{Edge}
 use Rattle.tm_flow.specs.declared.fault.FlowFault.{FlowFault}
 use Rattle.tm_flow.specs.declared.fault.FlowFault.TheVariants as fault
 use Rattle.tm_flow.specs.Edges.{edges_of_program}
+use Rattle.tm_flow.specs.declared.limits.TheConstants.{MOST_POINTS}
 
 -- a condition has more than 64 cases for this truth
 abbrev pub is_wide : Bool → Condition → Bool
@@ -45,10 +46,10 @@ is_long e = nat_lt 256 (length e.actions)
 abbrev pub long_fault : List Edge → Option FlowFault
 long_fault edges = option_map (λ e. fault.Actions e) (position is_long edges)
 
--- what is seen by counting: the first statement with a condition of more than 64 cases, or else more than 48 points, or else more than 256 edges
+-- what is seen by counting: the first statement with a condition of more than 64 cases, or else too many points, or else more than 256 edges
 abbrev pub counted_after : List ℕ → Statements → Option FlowFault
 counted_after [] body =
-    if nat_lt 48 (point_count body) then Some (fault.Points (point_count body))
+    if nat_lt MOST_POINTS (point_count body) then Some (fault.Points (point_count body))
     else (if nat_lt 256 (length (edges_of_program body)) then Some fault.Edges else None)
 counted_after (line ∷ lines) body = Some (fault.Cases line)
 

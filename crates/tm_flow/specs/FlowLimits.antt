@@ -8,6 +8,8 @@ use Rattle.tm_flow.specs.declared.edge.Edge.{Edge}
 use Rattle.tm_flow.specs.declared.point.Place.{Place}
 use Rattle.tm_flow.specs.declared.point.Place.TheVariants.{Entry, Loop, Label, Join, Assume, Exit}
 use Rattle.tm_flow.specs.declared.point.Point.{Point}
+use Rattle.tm_flow.specs.declared.limits.TheConstants.{MOST_POINTS}
+use Rattle.tm_tree.specs.declared.limits.TheConstants.{MOST_VARIABLES}
 
 -- the entry
 abbrev pub is_entry : Place → Bool
@@ -46,10 +48,10 @@ is_action n (Havoc var) = nat_lt var n
 abbrev pub is_edge : ℕ → ℕ → Edge → Bool
 is_edge n points e = nat_lt e.from points && (nat_lt 0 e.to && (nat_lt e.to points && (nat_le (length e.actions) 256 && list_all (is_action n) e.actions)))
 
--- 1 to 8 names, 2 to 48 points, and at most 256 edges
+-- at least one name and two points, and no more of them and of edges than there may be
 abbrev pub is_flow : List (List ℕ) → List Point → List Edge → Bool
 is_flow names points edges =
-    (nat_le 1 (length names) && nat_le (length names) 8)
-    && ((nat_le 2 (length points) && nat_le (length points) 48)
+    (nat_le 1 (length names) && nat_le (length names) MOST_VARIABLES)
+    && ((nat_le 2 (length points) && nat_le (length points) MOST_POINTS)
     && ((begins_with_entry points && list_all has_line points)
     && (nat_le (length edges) 256 && list_all (is_edge (length names) (length points)) edges)))

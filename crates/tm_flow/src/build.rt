@@ -11,13 +11,11 @@ use crate::edge::{Edge, Edges};
 use crate::edge_walk::edges_of;
 use crate::fault::FlowFault;
 use crate::graph::Flow;
+use crate::limits::MOST_POINTS;
 use crate::places::points_of_program;
 use crate::wide::wide_line;
 use std::alloc::Global;
 use tm_tree::{Block, Program};
-
-/// The greatest number of points.
-const MOST_POINTS: u32 = 48;
 
 /// The greatest number of edges.
 const MOST_EDGES: u32 = 256;

@@ -1,8 +1,6 @@
 //! What is done on the way from one point to the next.
 
-ghost use Rattle.std.specs.Prelude.{◌≡◌};
-
-use std::marker::Model;
+use tm_list::Sequence;
 use tm_tree::Form;
 
 /// One action of an edge. Variables are numbered from 0 in order of declaration.
@@ -17,35 +15,7 @@ pub enum Action {
 }
 
 /// Actions in order.
-#[derive(Drop)]
-pub struct Actions {
-    list: Vec<Action>,
-}
-
-impl Model for Actions {
-    ghost use Rattle.std.specs.Prelude.{List};
-    ghost use Rattle.tm_flow.specs.declared.edge.Action.{Action};
-
-    ghost Value = { List Action };
-
-    ghost view = { λ a. a.list.items };
-}
-
-impl Actions {
-    /// The list as actions.
-    pub fn new(list: Vec<Action>) -> Actions
-        ensures { result ≡ list.items }
-    {
-        Actions { list }
-    }
-
-    /// The list itself.
-    pub fn as_slice(&self) -> &[Action]
-        ensures { result.now ≡ self.now }
-    {
-        self.list.as_slice()
-    }
-}
+pub type Actions = Sequence<Action>;
 
 /// A way from one point to the next, with no point between: the numbers of the points, and the actions in order.
 #[derive(Drop)]
@@ -56,32 +26,4 @@ pub struct Edge {
 }
 
 /// Edges in order of their numbers.
-#[derive(Drop)]
-pub struct Edges {
-    list: Vec<Edge>,
-}
-
-impl Model for Edges {
-    ghost use Rattle.std.specs.Prelude.{List};
-    ghost use Rattle.tm_flow.specs.declared.edge.Edge.{Edge};
-
-    ghost Value = { List Edge };
-
-    ghost view = { λ e. e.list.items };
-}
-
-impl Edges {
-    /// The list as edges.
-    pub fn new(list: Vec<Edge>) -> Edges
-        ensures { result ≡ list.items }
-    {
-        Edges { list }
-    }
-
-    /// The list itself.
-    pub fn as_slice(&self) -> &[Edge]
-        ensures { result.now ≡ self.now }
-    {
-        self.list.as_slice()
-    }
-}
+pub type Edges = Sequence<Edge>;

@@ -10,7 +10,7 @@ pub enum FlowFault {
     /// The condition of the statement at this line, or its negation where that is used, has more than 64 cases. Of several
     /// such statements it is the first in the text.
     Cases { line: u32 },
-    /// There are this many points, which is more than 48.
+    /// There are this many points, which is more than `MOST_POINTS`.
     Points { count: u32 },
     /// There are more than 256 edges.
     Edges,

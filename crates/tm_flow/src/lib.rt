@@ -12,6 +12,7 @@ mod fault;
 mod graph;
 mod guard;
 mod law;
+mod limits;
 mod listing;
 mod places;
 mod point;
@@ -28,5 +29,6 @@ pub use law::{
     conditions_have_room, edges_are_in_range, edges_are_paths, points_are_numbered,
     steps_are_recorded, ways_are_steps, work_behind_points,
 };
+pub use limits::MOST_POINTS;
 pub use listing::cases;
 pub use point::{Place, Point, Points};

@@ -1,8 +1,6 @@
 //! The places of a program at which bounds are given.
 
-ghost use Rattle.std.specs.Prelude.{◌≡◌};
-
-use std::marker::Model;
+use tm_list::Sequence;
 use tm_tree::Name;
 
 /// What a point is.
@@ -30,32 +28,4 @@ pub struct Point {
 }
 
 /// Points in order of their numbers.
-#[derive(Drop)]
-pub struct Points {
-    list: Vec<Point>,
-}
-
-impl Model for Points {
-    ghost use Rattle.std.specs.Prelude.{List};
-    ghost use Rattle.tm_flow.specs.declared.point.Point.{Point};
-
-    ghost Value = { List Point };
-
-    ghost view = { λ p. p.list.items };
-}
-
-impl Points {
-    /// The list as points.
-    pub fn new(list: Vec<Point>) -> Points
-        ensures { result ≡ list.items }
-    {
-        Points { list }
-    }
-
-    /// The list itself.
-    pub fn as_slice(&self) -> &[Point]
-        ensures { result.now ≡ self.now }
-    {
-        self.list.as_slice()
-    }
-}
+pub type Points = Sequence<Point>;

@@ -1,10 +1,11 @@
 -- The items of steps.
-use Rattle.std.specs.Prelude.{◌/◌, ◌%◌, ◌&&◌, ◌==◌, ℕ, Bool, Option, option_and_then, option_map, codes}
+use Rattle.std.specs.Prelude.{◌/◌, ◌%◌, ◌&&◌, ◌==◌, ℕ, Bool, List, Option, option_and_then, option_map, codes}
 use Rattle.serde_json.specs.Data.{Data, array, item, member, no_items, no_members, object}
 use Rattle.serde_json.specs.Find.{get}
 use Rattle.tm_cert.specs.declared.step.Item.{Item}
 use Rattle.tm_cert.specs.declared.step.JumpItem.{JumpItem}
 use Rattle.tm_cert.specs.declared.step.RayItem.{RayItem}
+use Rattle.tm_form.specs.declared.items.TwoTraces.{TwoTraces}
 use Rattle.tm_form.specs.Numbers.{frac_data, frac_in, is_text}
 use Rattle.tm_form.specs.Keys.{index_at, index_data, is_index, is_unknown, member_count, passes_at, unknown_at}
 use Rattle.tm_form.specs.Traces.{is_trace, trace_at, trace_data}
@@ -23,13 +24,17 @@ has_start rows d = passes_at is_index (codes "edge") d && passes_at is_trace (co
 abbrev pub is_plain_item : ℕ → Data → Bool
 is_plain_item rows d = (member_count d == 4) && has_start rows d && passes_at is_text (codes "to") d
 
+-- `edge`, `low`, `unknown`, and a second trace and a number at these keys
+abbrev pub has_two_traces : List ℕ → List ℕ → ℕ → Data → Bool
+has_two_traces second number rows d = (member_count d == 5) && has_start rows d && passes_at is_trace second d && passes_at is_text number d
+
 -- `edge`, `high`, `low`, `to` and `unknown`
 abbrev pub is_jump_item : ℕ → Data → Bool
-is_jump_item rows d = (member_count d == 5) && has_start rows d && passes_at is_trace (codes "high") d && passes_at is_text (codes "to") d
+is_jump_item rows d = has_two_traces (codes "high") (codes "to") rows d
 
 -- `direction`, `edge`, `low`, `rate` and `unknown`
 abbrev pub is_ray_item : ℕ → Data → Bool
-is_ray_item rows d = (member_count d == 5) && has_start rows d && passes_at is_trace (codes "direction") d && passes_at is_text (codes "rate") d
+is_ray_item rows d = has_two_traces (codes "direction") (codes "rate") rows d
 
 -- ---- reading
 
@@ -45,32 +50,42 @@ plain_item_in rows d =
     })
     (unknown_at rows (codes "unknown") d)) (option_and_then frac_in (get (codes "to") d))) (trace_at (codes "low") d)) (index_at (codes "edge") d)
 
--- the item of a jump that a value is
-abbrev pub jump_item_in : ℕ → Data → Option JumpItem
-jump_item_in rows d =
-    option_and_then (λ edge. option_and_then (λ high. option_and_then (λ low. option_and_then (λ to. option_map (λ unknown. record {
+-- the parts of an item with a second trace and a number at these keys
+abbrev pub two_traces_in : List ℕ → List ℕ → ℕ → Data → Option TwoTraces
+two_traces_in second number rows d =
+    option_and_then (λ edge. option_and_then (λ low. option_and_then (λ other. option_and_then (λ amount. option_map (λ unknown. record {
       unknown = unknown;
       edge = edge;
       low = low;
-      high = high;
-      to = to;
+      second = other;
+      number = amount;
     })
-    (unknown_at rows (codes "unknown") d)) (option_and_then frac_in (get (codes "to") d))) (trace_at (codes "low") d)) (trace_at (codes "high") d))
+    (unknown_at rows (codes "unknown") d)) (option_and_then frac_in (get number d))) (trace_at second d)) (trace_at (codes "low") d))
     (index_at (codes "edge") d)
+
+-- the item of a jump that a value is
+abbrev pub jump_item_in : ℕ → Data → Option JumpItem
+jump_item_in rows d =
+    option_map (λ parts. record {
+      unknown = parts.unknown;
+      edge = parts.edge;
+      low = parts.low;
+      high = parts.second;
+      to = parts.number;
+    })
+    (two_traces_in (codes "high") (codes "to") rows d)
 
 -- the item of a ray that a value is
 abbrev pub ray_item_in : ℕ → Data → Option RayItem
 ray_item_in rows d =
-    option_and_then (λ direction. option_and_then (λ edge. option_and_then (λ low. option_and_then (λ rate. option_map (λ unknown. record {
-      unknown =
-          unknown;
-      edge = edge;
-      low = low;
-      direction = direction;
-      rate = rate;
+    option_map (λ parts. record {
+      unknown = parts.unknown;
+      edge = parts.edge;
+      low = parts.low;
+      direction = parts.second;
+      rate = parts.number;
     })
-    (unknown_at rows (codes "unknown") d)) (option_and_then frac_in (get (codes "rate") d))) (trace_at (codes "low") d)) (index_at (codes "edge") d))
-    (trace_at (codes "direction") d)
+    (two_traces_in (codes "direction") (codes "rate") rows d)
 
 -- ---- writing
 

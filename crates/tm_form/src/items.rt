@@ -6,15 +6,16 @@ ghost use Rattle.serde_json.specs.Find.{get};
 ghost use Rattle.serde_json.specs.View.{view};
 ghost use Rattle.tm_form.specs.Keys.{index_data, passes_at};
 ghost use Rattle.tm_form.specs.Numbers.{frac_in, is_text};
-ghost use Rattle.tm_form.specs.StepItems.{has_start};
+ghost use Rattle.tm_form.specs.StepItems.{has_start, has_two_traces, two_traces_in};
 
 use crate::entry::Entry;
 use crate::keys::{index_at, is_index_at, is_unknown_at, member_count, unknown_at, unknown_value};
-use crate::numbers::{frac_value, is_text, read_frac};
+use crate::numbers::{is_text, number_value, read_number};
 use crate::trace::{is_trace_at, trace_at, trace_value};
 use serde_json::{Value, json};
 use std::alloc::{AllocError, Global};
 use tm_cert::{Item, JumpItem, RayItem};
+use tm_eqsys::Trace;
 use tm_frac::Frac;
 
 // Whether the member of this key is there and a text.
@@ -32,7 +33,7 @@ fn frac_at(value: &Value, key: &str) -> Option<Frac>
     ensures { result ≡ option_and_then frac_in (get key.now (view value.now)) }
 {
     match value.get(key) {
-        Some(member) => read_frac(member),
+        Some(member) => read_number(member),
         None => None,
     }
 }
@@ -42,6 +43,60 @@ fn has_start(rows: usize, value: &Value) -> bool
     ensures { result ≡ has_start rows (view value.now) }
 {
     is_index_at(value, "edge") && is_trace_at(value, "low") && is_unknown_at(rows, value)
+}
+
+// What an item of a jump or of a ray has: a second trace and a number besides `edge`, `low` and `unknown`.
+#[derive(Drop)]
+struct TwoTraces {
+    unknown: u32,
+    edge: u32,
+    low: Trace,
+    second: Trace,
+    number: Frac,
+}
+
+// Whether the value has the shape of an item with a second trace and a number at these keys.
+fn has_two_traces(rows: usize, value: &Value, second: &str, number: &str) -> bool
+    ensures { result ≡ has_two_traces second.now number.now rows (view value.now) }
+{
+    member_count(value) == 5
+        && has_start(rows, value)
+        && is_trace_at(value, second)
+        && is_text_at(value, number)
+}
+
+// The parts of an item with a second trace and a number at these keys.
+fn read_two_traces(
+    alloc: Global,
+    rows: usize,
+    value: &Value,
+    second: &str,
+    number: &str,
+) -> Result<Option<TwoTraces>, AllocError>
+    ensures { IfOk result (λ parts. parts ≡ two_traces_in second.now number.now rows (view value.now)) }
+{
+    let Some(edge) = index_at(value, "edge") else {
+        return Ok(None);
+    };
+    let Some(low) = trace_at(alloc, value, "low")? else {
+        return Ok(None);
+    };
+    let Some(second) = trace_at(alloc, value, second)? else {
+        return Ok(None);
+    };
+    let Some(number) = frac_at(value, number) else {
+        return Ok(None);
+    };
+    let Some(unknown) = unknown_at(rows, value) else {
+        return Ok(None);
+    };
+    Ok(Some(TwoTraces {
+        unknown,
+        edge,
+        low,
+        second,
+        number,
+    }))
 }
 
 // The members of an item of a plain step as a value.
@@ -127,7 +182,7 @@ impl Entry for Item {
 
     fn write(&self, alloc: Global, rows: usize) -> Result<Value, AllocError> {
         let low = trace_value(alloc, &self.low)?;
-        let to = frac_value(alloc, self.to)?;
+        let to = number_value(alloc, self.to)?;
         let unknown = unknown_value(alloc, rows, self.unknown)?;
         plain_item_object(alloc, self.edge, low, to, unknown)
     }
@@ -146,28 +201,20 @@ impl Entry for JumpItem {
     ghost writable = { λ rows _. nat_lt 0 rows };
 
     fn has_shape(rows: usize, value: &Value) -> bool {
-        member_count(value) == 5
-            && has_start(rows, value)
-            && is_trace_at(value, "high")
-            && is_text_at(value, "to")
+        has_two_traces(rows, value, "high", "to")
     }
 
     fn read(alloc: Global, rows: usize, value: &Value) -> Result<Option<JumpItem>, AllocError> {
-        let Some(edge) = index_at(value, "edge") else {
+        let Some(parts) = read_two_traces(alloc, rows, value, "high", "to")? else {
             return Ok(None);
         };
-        let Some(high) = trace_at(alloc, value, "high")? else {
-            return Ok(None);
-        };
-        let Some(low) = trace_at(alloc, value, "low")? else {
-            return Ok(None);
-        };
-        let Some(to) = frac_at(value, "to") else {
-            return Ok(None);
-        };
-        let Some(unknown) = unknown_at(rows, value) else {
-            return Ok(None);
-        };
+        let TwoTraces {
+            unknown,
+            edge,
+            low,
+            second: high,
+            number: to,
+        } = parts;
         Ok(Some(JumpItem {
             unknown,
             edge,
@@ -180,7 +227,7 @@ impl Entry for JumpItem {
     fn write(&self, alloc: Global, rows: usize) -> Result<Value, AllocError> {
         let high = trace_value(alloc, &self.high)?;
         let low = trace_value(alloc, &self.low)?;
-        let to = frac_value(alloc, self.to)?;
+        let to = number_value(alloc, self.to)?;
         let unknown = unknown_value(alloc, rows, self.unknown)?;
         jump_item_object(alloc, self.edge, high, low, to, unknown)
     }
@@ -199,28 +246,20 @@ impl Entry for RayItem {
     ghost writable = { λ rows _. nat_lt 0 rows };
 
     fn has_shape(rows: usize, value: &Value) -> bool {
-        member_count(value) == 5
-            && has_start(rows, value)
-            && is_trace_at(value, "direction")
-            && is_text_at(value, "rate")
+        has_two_traces(rows, value, "direction", "rate")
     }
 
     fn read(alloc: Global, rows: usize, value: &Value) -> Result<Option<RayItem>, AllocError> {
-        let Some(direction) = trace_at(alloc, value, "direction")? else {
+        let Some(parts) = read_two_traces(alloc, rows, value, "direction", "rate")? else {
             return Ok(None);
         };
-        let Some(edge) = index_at(value, "edge") else {
-            return Ok(None);
-        };
-        let Some(low) = trace_at(alloc, value, "low")? else {
-            return Ok(None);
-        };
-        let Some(rate) = frac_at(value, "rate") else {
-            return Ok(None);
-        };
-        let Some(unknown) = unknown_at(rows, value) else {
-            return Ok(None);
-        };
+        let TwoTraces {
+            unknown,
+            edge,
+            low,
+            second: direction,
+            number: rate,
+        } = parts;
         Ok(Some(RayItem {
             unknown,
             edge,
@@ -233,7 +272,7 @@ impl Entry for RayItem {
     fn write(&self, alloc: Global, rows: usize) -> Result<Value, AllocError> {
         let direction = trace_value(alloc, &self.direction)?;
         let low = trace_value(alloc, &self.low)?;
-        let rate = frac_value(alloc, self.rate)?;
+        let rate = number_value(alloc, self.rate)?;
         let unknown = unknown_value(alloc, rows, self.unknown)?;
         ray_item_object(alloc, direction, self.edge, low, rate, unknown)
     }

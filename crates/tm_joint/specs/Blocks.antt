@@ -1,5 +1,5 @@
 -- The rows of one listed unknown, over the numbers of the list.
-use Rattle.std.specs.Prelude.{ℕ, ◌+◌, ◌*◌, ◌%◌, ℤ, List, [], ◌∷◌, ◌++◌, length, get_or, map, Option, None}
+use Rattle.std.specs.Prelude.{ℕ, ◌+◌, ◌*◌, ◌%◌, List, [], ◌∷◌, ◌++◌, length, get_or, map, Option, None}
 use Rattle.tm_num.specs.Rational.{zero_ℚ, one_ℚ, neg_ℚ, ◌-ℚ◌}
 use Rattle.tm_num.specs.Extended.{Ext, neg_inf}
 use Rattle.tm_frac.specs.Operation.{Operation}

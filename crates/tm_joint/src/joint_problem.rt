@@ -11,6 +11,8 @@ ghost use Rattle.tm_joint.specs.Numbers.{ArePicked, Rises};
 ghost use Rattle.tm_joint.specs.Rows.{IsSideFault};
 ghost use Rattle.tm_joint.specs.Blocks.{side_operations, split_columns};
 ghost use Rattle.tm_joint.specs.Problems.{problem_of, MakeProblem};
+ghost use Rattle.tm_eqsys.specs.declared.limits.TheConstants.{MOST_UNKNOWNS};
+ghost use Rattle.tm_tree.specs.declared.limits.TheConstants.{MOST_VARIABLES};
 
 use crate::joint_rows::{all_rows, count_columns};
 use crate::row::push_zeros;
@@ -59,14 +61,12 @@ pub fn joint_problem(
     ensures shape { IfOk result (λ p. (r : ℕ) → r < length (map (λ r. r.coeffs.items) p.rows.items) →
         length (get_or (map (λ r. r.coeffs.items) p.rows.items) r []) ≡ length p.goal.items) }
     ensures few { IfOk result (λ p. length p.rows.items + length p.goal.items < 4294967295) }
-    ensures columns { OnOk result (length list.now + split_columns system.now pick.now list.now ≤ 600000) }
+    ensures columns { OnOk result (length list.now + split_columns system.now pick.now list.now ≤ MOST_UNKNOWNS * (2 * MOST_VARIABLES + 513)) }
     ensures sides { OnOk result (first_wide long_limit (side_operations system.now pick.now base.now list.now) ≡ None) }
     ensures refused { IfErr result (λ f. IsSideFault (side_operations system.now pick.now base.now list.now) f) }
 {
     let cols = count_columns(system, paths, pick, list);
     let rows = all_rows(alloc, system, paths, base, pick, list, cols)?;
-    match goal(alloc, list.len(), cols - list.len()) {
-        Ok(goal) => Ok(Problem { rows, goal }),
-        Err(_) => Err(PartFault::NoMemory),
-    }
+    let goal = goal(alloc, list.len(), cols - list.len())?;
+    Ok(Problem { rows, goal })
 }

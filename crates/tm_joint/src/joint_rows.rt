@@ -10,6 +10,8 @@ ghost use Rattle.tm_compose.specs.Composed.{AreComposed};
 ghost use Rattle.tm_joint.specs.Numbers.{ArePicked, Rises};
 ghost use Rattle.tm_joint.specs.Rows.{AllStand, IsSideFault};
 ghost use Rattle.tm_joint.specs.Blocks.{edge_at, sources_of, guards_of, side_of, block_of, split_width, blocks_from, split_columns, side_operations};
+ghost use Rattle.tm_eqsys.specs.declared.limits.TheConstants.{MOST_UNKNOWNS};
+ghost use Rattle.tm_tree.specs.declared.limits.TheConstants.{MOST_VARIABLES};
 
 use crate::problem::{picked_edge, push_guards, push_own, push_sources, word_width};
 use std::alloc::{AllocError, Global};
@@ -67,12 +69,10 @@ fn push_block(
     ensures refused { IfErr result (λ f. IsSideFault (side_of system.now base.now edge (unknown % length system.now.template) unknown ∷ []) f) }
 {
     let row = unknown % system.template.as_slice().len() as u32;
-    match push_limits(alloc, rows, system, paths, base, edge, list, offset, cols) {
-        Ok(()) => push_own(
-            alloc, rows, system, paths, base, edge, list, unknown, row, offset, cols,
-        ),
-        Err(_) => Err(PartFault::NoMemory),
-    }
+    push_limits(alloc, rows, system, paths, base, edge, list, offset, cols)?;
+    push_own(
+        alloc, rows, system, paths, base, edge, list, unknown, row, offset, cols,
+    )
 }
 
 /// How many columns the joint problem of a list has: a rise for each unknown, and the split columns of each picked edge.
@@ -82,7 +82,7 @@ pub fn count_columns(system: &System, paths: &Paths, pick: &Pick, list: &[u32]) 
     requires rises { Rises 0 list.now }
     requires picked { ArePicked system.now pick.now list.now }
     ensures count { result ≡ length list.now + split_columns system.now pick.now list.now }
-    ensures few { result ≤ 600000 }
+    ensures few { result ≤ MOST_UNKNOWNS * (2 * MOST_VARIABLES + 513) }
 {
     let mut cols = list.len();
     for unknown in list {

@@ -6,6 +6,8 @@ ghost use Rattle.tm_compose.specs.Composed.{AreComposed};
 ghost use Rattle.tm_joint.specs.Numbers.{ArePicked};
 ghost use Rattle.tm_joint.specs.Blocks.{edge_at, split_columns};
 ghost use Rattle.tm_joint.specs.Layouts.{columns_from, layout_of};
+ghost use Rattle.tm_eqsys.specs.declared.limits.TheConstants.{MOST_UNKNOWNS};
+ghost use Rattle.tm_tree.specs.declared.limits.TheConstants.{MOST_VARIABLES};
 
 use crate::problem::{picked_edge, word_width};
 use std::alloc::{AllocError, Global};
@@ -36,7 +38,7 @@ pub fn layout(
     requires composed { AreComposed (equations_of system.now) paths.now }
     requires pick { length pick.now ≡ length system.now.flow.points * length system.now.template }
     requires picked { ArePicked system.now pick.now list.now }
-    requires few { length list.now + split_columns system.now pick.now list.now ≤ 600000 }
+    requires few { length list.now + split_columns system.now pick.now list.now ≤ MOST_UNKNOWNS * (2 * MOST_VARIABLES + 513) }
     ensures { IfOk result (λ v. v.items ≡ layout_of system.now pick.now list.now) }
 {
     let names = system.flow.names.as_slice().len();

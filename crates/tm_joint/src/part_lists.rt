@@ -1,38 +1,13 @@
 //! Lists of unknowns, part by part.
 
 ghost use Rattle.std.specs.Prelude.{◌≡◌, ◌<◌, ◌≤◌, [], length, get_or};
+ghost use Rattle.tm_eqsys.specs.declared.limits.TheConstants.{MOST_UNKNOWNS};
 
 use std::marker::Model;
+use tm_list::Sequence;
 
 /// The unknowns of one part, rising by their numbers.
-#[derive(Drop)]
-pub struct Members {
-    list: Vec<u32>,
-}
-
-impl Model for Members {
-    ghost use Rattle.std.specs.Prelude.{List, ℕ};
-
-    ghost Value = { List ℕ };
-
-    ghost view = { λ m. m.list.items };
-}
-
-impl Members {
-    /// The list as the unknowns of a part.
-    pub fn new(list: Vec<u32>) -> Members
-        ensures { result ≡ list.items }
-    {
-        Members { list }
-    }
-
-    /// The list itself.
-    pub fn as_slice(&self) -> &[u32]
-        ensures { result.now ≡ self.now }
-    {
-        self.list.as_slice()
-    }
-}
+pub type Members = Sequence<u32>;
 
 /// The parts of a list of unknowns, in order. Contracts see a list of lists of unknowns' numbers.
 #[derive(Drop)]
@@ -42,27 +17,28 @@ pub struct Parts {
 
 impl Model for Parts {
     ghost use Rattle.std.specs.Prelude.{List, ℕ, ◌≤◌, length};
+    ghost use Rattle.tm_eqsys.specs.declared.limits.TheConstants.{MOST_UNKNOWNS};
 
     ghost Value = { List (List ℕ) };
 
     ghost view = { λ p. p.lists.items };
 
-    ghost invariant = { λ p. length p.lists.items ≤ 1024 };
+    ghost invariant = { λ p. length p.lists.items ≤ MOST_UNKNOWNS };
 }
 
 impl Parts {
     // The lists as parts.
     pub(crate) fn new(lists: Vec<Members>) -> Parts
-        requires { length lists.items ≤ 1024 }
+        requires { length lists.items ≤ MOST_UNKNOWNS }
         ensures { result ≡ lists.items }
     {
         Parts { lists }
     }
 
-    /// How many parts there are, at most 1,024.
+    /// How many parts there are, at most `MOST_UNKNOWNS`.
     pub fn count(&self) -> u32
         ensures count { result ≡ length self.now }
-        ensures few { length self.now ≤ 1024 }
+        ensures few { length self.now ≤ MOST_UNKNOWNS }
     {
         self.lists.len() as u32
     }

@@ -11,41 +11,13 @@ ghost use Rattle.tm_joint.specs.Layouts.{AreBounded, number_at, number_operation
 
 use crate::problem::finite;
 use std::alloc::Global;
-use std::marker::Model;
 use tm_eqsys::{Bounds, Fracs, Part, PartFault, Trace};
 use tm_frac::{Frac, OrderedField};
+use tm_list::Sequence;
 use tm_ray::{Rise, entries};
 
 /// Traces in order.
-#[derive(Drop)]
-pub struct Traces {
-    list: Vec<Trace>,
-}
-
-impl Model for Traces {
-    ghost use Rattle.std.specs.Prelude.{List};
-    ghost use Rattle.tm_eqsys.specs.declared.trace.Trace.{Trace};
-
-    ghost Value = { List Trace };
-
-    ghost view = { λ t. t.list.items };
-}
-
-impl Traces {
-    /// The list as traces in order.
-    pub fn new(list: Vec<Trace>) -> Traces
-        ensures { result ≡ list.items }
-    {
-        Traces { list }
-    }
-
-    /// The list itself.
-    pub fn as_slice(&self) -> &[Trace]
-        ensures { result.now ≡ self.now }
-    {
-        self.list.as_slice()
-    }
-}
+pub type Traces = Sequence<Trace>;
 
 // Puts a value behind the others.
 fn append<T: Drop>(list: &mut Vec<T>, value: T) -> Result<(), PartFault>

@@ -14,6 +14,7 @@ ghost use Rattle.tm_compose.specs.Composed.{AreComposed};
 ghost use Rattle.tm_joint.specs.Numbers.{edge_of};
 ghost use Rattle.tm_joint.specs.Rows.{AllStand, IsSideFault};
 ghost use Rattle.tm_joint.specs.Blocks.{edge_at, sources_of, guards_of, own_of, side_of};
+ghost use Rattle.tm_tree.specs.declared.limits.TheConstants.{MOST_VARIABLES};
 
 use crate::block::{own_side, push_guard, push_own_row, push_source};
 use std::alloc::{AllocError, Global};
@@ -49,7 +50,7 @@ pub fn word_width(system: &System, paths: &Paths, edge: u32) -> usize
     requires composed { AreComposed (equations_of system.now) paths.now }
     requires edge { edge < length system.now.flow.edges }
     ensures width { result ≡ width (length system.now.flow.names) (edge_at system.now edge).actions }
-    ensures few { result ≤ 264 }
+    ensures few { result ≤ MOST_VARIABLES + 256 }
 {
     system.flow.names.as_slice().len() + paths.frees(edge) as usize
 }
@@ -152,7 +153,7 @@ pub fn push_own(
 {
     let end = paths.row(edge, row);
     let side = own_side(end.constant, finite(base.at(unknown)))?;
-    match push_own_row(
+    push_own_row(
         alloc,
         rows,
         end.coeffs.as_slice(),
@@ -161,8 +162,6 @@ pub fn push_own(
         unknown,
         offset,
         cols,
-    ) {
-        Ok(()) => Ok(()),
-        Err(_) => Err(PartFault::NoMemory),
-    }
+    )?;
+    Ok(())
 }

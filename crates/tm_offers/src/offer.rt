@@ -1,77 +1,18 @@
 //! Offers.
 
-ghost use Rattle.std.specs.Prelude.{◌≡◌, ◌↔◌, length, map, IsTrue};
+ghost use Rattle.std.specs.Prelude.{◌≡◌, ◌↔◌, length, IsTrue};
 ghost use Rattle.tm_num.specs.Extended.{◌<ᴱ◌};
 ghost use Rattle.tm_frac.specs.Extended.{extended};
 
-use std::marker::Model;
+use tm_eqsys::Bounds;
 use tm_frac::Ext;
+use tm_list::Sequence;
 
 /// Numbers of edges in order.
-#[derive(Drop)]
-pub struct EdgeNumbers {
-    list: Vec<u32>,
-}
+pub type EdgeNumbers = Sequence<u32>;
 
-impl Model for EdgeNumbers {
-    ghost use Rattle.std.specs.Prelude.{List, ℕ};
-
-    ghost Value = { List ℕ };
-
-    ghost view = { λ e. e.list.items };
-}
-
-impl EdgeNumbers {
-    /// The list as numbers of edges in order.
-    pub fn new(list: Vec<u32>) -> EdgeNumbers
-        ensures { result ≡ list.items }
-    {
-        EdgeNumbers { list }
-    }
-
-    /// The list itself.
-    pub fn as_slice(&self) -> &[u32]
-        ensures { result.now ≡ self.now }
-    {
-        self.list.as_slice()
-    }
-}
-
-/// Transformers in order.
-#[derive(Drop)]
-pub struct Values {
-    list: Vec<Ext>,
-}
-
-impl Model for Values {
-    ghost use Rattle.std.specs.Prelude.{List, map};
-    ghost use Rattle.std.specs.Coded.{coded_list};
-    ghost use Rattle.tm_num.specs.Extended.{Ext as Extended};
-    ghost use Rattle.tm_frac.specs.Extended.{extended};
-    ghost use Rattle.tm_eqsys.specs.ExtendedCode.{coded_extended};
-
-    ghost Value = { List Extended };
-
-    ghost coded = { coded_list coded_extended };
-
-    ghost view = { λ v. map extended v.list.items };
-}
-
-impl Values {
-    /// The list as transformers in order.
-    pub fn new(list: Vec<Ext>) -> Values
-        ensures { result ≡ map extended list.items }
-    {
-        Values { list }
-    }
-
-    /// The list itself.
-    pub fn as_slice(&self) -> &[Ext]
-        ensures { map extended result.now ≡ self.now }
-    {
-        self.list.as_slice()
-    }
-}
+/// Transformers in order: the bounds that edges give an unknown.
+pub type Values = Bounds;
 
 /// What the edges into a point offer an unknown: its bound, the numbers of these edges, and beside each the edge's
 /// transformer of the unknown's row.

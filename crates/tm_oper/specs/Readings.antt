@@ -1,8 +1,7 @@
 -- What reading an outcome answers.
-use Rattle.std.specs.Prelude.{◌≡◌, ℕ, ◌+◌, ℤ, List, length, None, Result, MatchResult}
+use Rattle.std.specs.Prelude.{◌≡◌, ℕ, ◌+◌, ℤ, List, length}
 use Rattle.tm_num.specs.Rational.{ℚ, zero_ℚ}
 use Rattle.tm_num.specs.Extended.{Ext as Extended, neg_inf, fin, pos_inf}
-use Rattle.tm_frac.specs.Fits.{long_limit}
 use Rattle.tm_eqsys.specs.declared.spot.PartFault.{PartFault}
 use Rattle.tm_eqsys.specs.declared.spot.PartFault.TheVariants.{Wide, NoMemory}
 use Rattle.tm_lp.specs.Problem as lp
@@ -10,14 +9,8 @@ use Rattle.tm_lp.specs.Listed.{at}
 use Rattle.tm_simplex.specs.declared.outcome.Outcome.{Outcome}
 use Rattle.tm_simplex.specs.declared.outcome.Outcome.TheVariants.{Best, Unbounded, Empty}
 use Rattle.tm_transformers.specs.EdgeProblems.{source_limits}
-use Rattle.tm_frac.specs.Operation.{Operation, first_wide, operation_of}
-use Rattle.tm_compose.specs.declared.fault.FormFault.{FormFault}
-use Rattle.tm_compose.specs.Faults.{IsFormFault}
+use Rattle.tm_frac.specs.Operation.{Operation, operation_of}
 use Rattle.tm_oper.specs.Values.{IsWideIn}
-
--- what is so of the value where none of the operations is wide, and the first that is where one is
-abbrev pub ReadsBy : {A : Type 0} → (A → Type 0) → List Operation → Result A FormFault → Type 0
-ReadsBy P operations result = MatchResult result (λ r. P r × (first_wide long_limit operations ≡ None)) (IsFormFault operations)
 
 -- the outcome of the theory with the numbers of lists, 0 behind their ends
 abbrev pub listed_outcome : Outcome ℚ → lp.Outcome

@@ -1,6 +1,6 @@
 //! The problem of an edge and a row at a vector.
 
-ghost use Rattle.std.specs.Prelude.{◌≡◌, ◌≤◌, ◌<◌, ℕ, ℤ, List, ◌++◌, IfOk, OnOk, IsTrue, MatchOption, length, map};
+ghost use Rattle.std.specs.Prelude.{◌+◌, ◌≡◌, ◌≤◌, ◌<◌, ℕ, ℤ, List, ◌++◌, IfOk, OnOk, IsTrue, MatchOption, length, map};
 ghost use Rattle.tm_num.specs.Extended.{neg_inf, ◌<ᴱ◌};
 ghost use Rattle.tm_tree.specs.Numbers.{are_numbers};
 ghost use Rattle.tm_frac.specs.Extended.{extended};
@@ -13,6 +13,8 @@ ghost use Rattle.tm_validity.specs.Words.{Affine as Formal};
 ghost use Rattle.tm_compose.specs.Composed.{dense};
 ghost use Rattle.tm_oper.specs.Values.{whole_problem, IsLowestLost};
 ghost use Rattle.tm_oper.specs.Splits.{bounds_at, split_limit, limit_of, source_row, IsSource};
+ghost use Rattle.tm_rows.specs.declared.limits.TheConstants.{MOST_ROWS};
+ghost use Rattle.tm_tree.specs.declared.limits.TheConstants.{MOST_VARIABLES};
 
 use crate::split::{split_coeffs, split_row};
 use std::alloc::{AllocError, Global};
@@ -23,7 +25,7 @@ use tm_tree::Coeffs;
 
 // The lowest row whose bound is `-inf`.
 pub fn lowest_lost(source: &[Ext], rows: usize) -> Option<u32>
-    requires few { rows ≤ 128 }
+    requires few { rows ≤ MOST_ROWS }
     requires room { rows ≤ length source.now }
     ensures { MatchOption result ((k : ℕ) → k < rows → neg_inf <ᴱ bounds_at source.now k) (λ r. IsLowestLost (bounds_at source.now) rows r) }
 {
@@ -99,9 +101,9 @@ pub fn edge_problem(
     width: usize,
 ) -> Result<Problem<Frac>, AllocError>
     requires room { length template.now ≤ length source.now }
-    requires few_rows { length template.now ≤ 128 }
+    requires few_rows { length template.now ≤ MOST_ROWS }
     requires few_guards { length guards.now ≤ 256 }
-    requires few_columns { width ≤ 264 }
+    requires few_columns { width ≤ MOST_VARIABLES + 256 }
     ensures { (system : Equations) (z : Vector) (edge : Edge) (row : List ℤ) → IsTrue (is_over system.variables system.template) →
         IsSource system z edge row width template.now source.now guards.now form.now →
         IfOk result (λ p. (exact (λ q. q) p ≡ whole_problem system z edge row) × IsShaped p) }

@@ -9,10 +9,13 @@ ghost use Rattle.tm_lp.specs.Listed.{at};
 ghost use Rattle.tm_transformers.specs.Spread.{spread, skip};
 ghost use Rattle.tm_num.specs.Extended.{Ext as Extended};
 ghost use Rattle.tm_frac.specs.declared.wide.Op.TheVariants.{Sub};
+ghost use Rattle.tm_eqsys.specs.Faults.{AnswersBy};
 ghost use Rattle.tm_oper.specs.Values.{IsTraceOf, ReadsOutcome, entry_operations, reading_operations};
 ghost use Rattle.tm_frac.specs.Extended.{extended};
 ghost use Rattle.tm_oper.specs.Splits.{bounds_at};
-ghost use Rattle.tm_oper.specs.Readings.{ReadsBy, listed_outcome, finite_one, multiplier_one};
+ghost use Rattle.tm_oper.specs.Readings.{listed_outcome, finite_one, multiplier_one};
+ghost use Rattle.tm_rows.specs.declared.limits.TheConstants.{MOST_ROWS};
+ghost use Rattle.tm_tree.specs.declared.limits.TheConstants.{MOST_VARIABLES};
 
 use std::alloc::{AllocError, Global};
 use tm_compose::{FormFault, Value};
@@ -27,7 +30,7 @@ pub struct Sizes {
     pub frees: usize,
     pub rows: usize,
     pub guards: usize,
-    pub ghost few_variables: { variables ≤ 8 },
+    pub ghost few_variables: { variables ≤ MOST_VARIABLES },
     pub ghost few_frees: { frees ≤ 256 },
     pub ghost few_guards: { guards ≤ 256 },
 }
@@ -49,9 +52,9 @@ fn read_entries(
     first: usize,
     count: usize,
 ) -> Result<Fracs, FormFault>
-    requires first { first ≤ 264 }
-    requires count { count ≤ 264 }
-    ensures { ReadsBy (λ list. list ≡ map (unsplit (at point.now)) (range_with_len first count))
+    requires first { first ≤ MOST_VARIABLES + 256 }
+    requires count { count ≤ MOST_VARIABLES + 256 }
+    ensures { AnswersBy (λ list. list ≡ map (unsplit (at point.now)) (range_with_len first count))
         (map (λ j. record { op = Sub; left = at point.now (j + j); right = at point.now (suc (j + j)) }) (range_with_len first count)) result }
 {
     let mut list = Vec::with_capacity(alloc, count)?;
@@ -70,9 +73,9 @@ fn read_trace(
     variables: usize,
     frees: usize,
 ) -> Result<Trace, FormFault>
-    requires variables { variables ≤ 8 }
+    requires variables { variables ≤ MOST_VARIABLES }
     requires frees { frees ≤ 256 }
-    ensures { ReadsBy (IsTraceOf variables (variables + frees) (unsplit (at point.now))) (entry_operations (variables + frees) (at point.now)) result }
+    ensures { AnswersBy (IsTraceOf variables (variables + frees) (unsplit (at point.now))) (entry_operations (variables + frees) (at point.now)) result }
 {
     let start = read_entries(alloc, point, 0, variables)?;
     let free = read_entries(alloc, point, variables, frees)?;
@@ -108,7 +111,7 @@ fn row_multipliers(
     multipliers: &[Frac],
 ) -> Result<Fracs, AllocError>
     requires room { rows ≤ length source.now }
-    requires few { rows ≤ 128 }
+    requires few { rows ≤ MOST_ROWS }
     ensures { (template : List (List ℤ)) → rows ≡ length template → IfOk result (λ list. list ≡ spread (bounds_at source.now) template (at multipliers.now)) }
 {
     let mut list = Vec::with_capacity(alloc, rows)?;
@@ -124,7 +127,7 @@ fn row_multipliers(
 // How many template rows have a finite bound.
 fn count_finite(source: &[Ext], rows: usize) -> usize
     requires room { rows ≤ length source.now }
-    requires few { rows ≤ 128 }
+    requires few { rows ≤ MOST_ROWS }
     ensures count { (template : List (List ℤ)) → rows ≡ length template → (y : ℕ → ℚ) → skip (bounds_at source.now) template y ≡ (λ k. y (result + k)) }
     ensures few { result ≤ rows }
 {
@@ -142,7 +145,7 @@ fn guard_multipliers(
     first: usize,
     count: usize,
 ) -> Result<Fracs, AllocError>
-    requires first { first ≤ 128 }
+    requires first { first ≤ MOST_ROWS }
     requires count { count ≤ 256 }
     ensures { IfOk result (λ list. list ≡ map (λ k. at multipliers.now (first + k)) (range_with_len 0 count)) }
 {
@@ -164,9 +167,9 @@ fn read_best(
     multipliers: &[Frac],
 ) -> Result<Value, FormFault>
     requires room { sizes.rows ≤ length source.now }
-    requires few { sizes.rows ≤ 128 }
+    requires few { sizes.rows ≤ MOST_ROWS }
     ensures { (template : List (List ℤ)) → sizes.rows ≡ length template →
-        ReadsBy (ReadsOutcome sizes.variables (sizes.variables + sizes.frees) constant (bounds_at source.now) template sizes.guards
+        AnswersBy (ReadsOutcome sizes.variables (sizes.variables + sizes.frees) constant (bounds_at source.now) template sizes.guards
         (lp.best (at point.now) best (at multipliers.now)))
         (reading_operations (sizes.variables + sizes.frees) constant (lp.best (at point.now) best (at multipliers.now))) result }
 {
@@ -191,7 +194,7 @@ fn read_unbounded(
     ray: &[Frac],
 ) -> Result<Value, FormFault>
     ensures { (constant : ℚ) (bounds : ℕ → Extended) (template : List (List ℤ)) →
-        ReadsBy (ReadsOutcome sizes.variables (sizes.variables + sizes.frees) constant bounds template sizes.guards
+        AnswersBy (ReadsOutcome sizes.variables (sizes.variables + sizes.frees) constant bounds template sizes.guards
         (lp.unbounded (at point.now) (at ray.now)))
         (reading_operations (sizes.variables + sizes.frees) constant (lp.unbounded (at point.now) (at ray.now))) result }
 {
@@ -208,7 +211,7 @@ fn read_empty(
     multipliers: &[Frac],
 ) -> Result<Value, AllocError>
     requires room { sizes.rows ≤ length source.now }
-    requires few { sizes.rows ≤ 128 }
+    requires few { sizes.rows ≤ MOST_ROWS }
     ensures { (n w : ℕ) (constant : ℚ) (template : List (List ℤ)) → sizes.rows ≡ length template →
         IfOk result (ReadsOutcome n w constant (bounds_at source.now) template sizes.guards (lp.empty (at multipliers.now))) }
 {
@@ -227,9 +230,9 @@ pub fn read_outcome(
     outcome: Outcome<Frac>,
 ) -> Result<Value, FormFault>
     requires room { sizes.rows ≤ length source.now }
-    requires few { sizes.rows ≤ 128 }
+    requires few { sizes.rows ≤ MOST_ROWS }
     ensures { (template : List (List ℤ)) → sizes.rows ≡ length template →
-        ReadsBy (ReadsOutcome sizes.variables (sizes.variables + sizes.frees) constant (bounds_at source.now) template sizes.guards
+        AnswersBy (ReadsOutcome sizes.variables (sizes.variables + sizes.frees) constant (bounds_at source.now) template sizes.guards
         (listed_outcome outcome)) (reading_operations (sizes.variables + sizes.frees) constant (listed_outcome outcome)) result }
 {
     match outcome {

@@ -17,6 +17,7 @@ ghost use Rattle.tm_compose.specs.Value.{number_of};
 ghost use Rattle.tm_oper.specs.Meanings.{HasEvidence, Operates};
 ghost use Rattle.tm_oper.specs.Splits.{bounds_at};
 ghost use Rattle.tm_oper.specs.Readings.{HasSizes, IsProblemFault};
+ghost use Rattle.tm_rows.specs.declared.limits.TheConstants.{MOST_ROWS};
 
 use crate::build::{edge_problem, lowest_lost};
 use crate::read::{Sizes, read_outcome};
@@ -37,7 +38,7 @@ fn solve_problem(
 ) -> Result<Value, PartFault>
     requires shaped { IsShaped problem.now }
     requires room { sizes.rows ≤ length source.now }
-    requires few { sizes.rows ≤ 128 }
+    requires few { sizes.rows ≤ MOST_ROWS }
     ensures value { (template : List (List ℤ)) → sizes.rows ≡ length template →
         HasSizes (exact (λ q. q) problem.now) (sizes.variables + sizes.frees) (bounds_at source.now) template sizes.guards →
         IfOk result (ReadsOutcome sizes.variables (sizes.variables + sizes.frees) constant (bounds_at source.now) template sizes.guards
@@ -54,11 +55,11 @@ fn solve_problem(
     match solve::<Frac, Dict<Frac>>(alloc, problem) {
         Ok(outcome) => match read_outcome(alloc, sizes, source, constant, outcome) {
             Ok(value) => Ok(value),
-            Err(FormFault::WideSum(wide)) => Err(PartFault::Wide {
+            Err(FormFault::Wide(wide)) => Err(PartFault::Wide {
                 part: Part::Reading,
                 wide,
             }),
-            Err(FormFault::NoRoom) => Err(PartFault::NoMemory),
+            Err(FormFault::NoMemory) => Err(PartFault::NoMemory),
         },
         Err(SolveFault::Wide { pivot, wide }) => Err(PartFault::Wide {
             part: Part::Pivot(pivot),

@@ -21,6 +21,7 @@ use Rattle.tm_parse.specs.declared.fault.Limit.TheVariants as limit
 use Rattle.tm_parse.specs.Results.{◌>>=◌}
 use Rattle.tm_parse.specs.Names.{place_of}
 use Rattle.tm_parse.specs.Forms.{constant_form, variable_form, plus, minus, scaled, is_constant, is_comparable}
+use Rattle.tm_tree.specs.declared.limits.TheConstants.{MOST_VARIABLES}
 
 -- What an expression is: a number with the place of its first token, a truth value, or `nondet()` at its place.
 pub data Value : Type 0 where
@@ -168,7 +169,7 @@ stepped width down i = variable_form width i (negsuc 0)
 abbrev pub declared_by : (ℕ → ℕ) → List ℕ → ℕ → Option Form → State → Result (State × Statement) ParseFault
 declared_by line x a o st = elim (place_of x st.names) [
   | Some i ↦ Err (NameTwice a)
-  | None ↦ if nat_lt (length st.names) 8
+  | None ↦ if nat_lt (length st.names) MOST_VARIABLES
       then (counted a (record st { names = st.names ++ x ∷ []; known = st.known ++ length st.names ∷ [] })
       >>= λ now. Ok (now, assignment (length st.names) o (line a)))
       else Err (fault.Limit a Variables)
@@ -258,9 +259,9 @@ abbrev mutual
   declared_items (declaration a xs is) = declared_in xs + declared_items is
   declared_items (item c is) = declared_core c + declared_items is
 
--- A form has one coefficient for each variable of the program; past 8 variables there is a fault, whatever the forms.
+-- A form has one coefficient for each variable of the program; past the greatest number of variables there is a fault, whatever the forms.
 abbrev pub width_of : Program → ℕ
-width_of (program a b c ps d e is r f g) = min 8 (declared_items is)
+width_of (program a b c ps d e is r f g) = min MOST_VARIABLES (declared_items is)
 
 -- the variables and nodes of a program, of which there has to be a variable
 abbrev pub program_of : State × Statements → Result (List (List ℕ) × Statements) ParseFault
@@ -268,4 +269,4 @@ program_of (st, ns) = elim st.names [ [] ↦ Err NoVariables | x ∷ xs ↦ Ok (
 
 -- what a program means, or its first fault
 abbrev pub walk : (ℕ → ℕ) → Program → Result (List (List ℕ) × Statements) ParseFault
-walk line (program a b c ps d e is r f g) = walk_items line (min 8 (declared_items is)) is start_state >>= λ r. program_of r
+walk line (program a b c ps d e is r f g) = walk_items line (min MOST_VARIABLES (declared_items is)) is start_state >>= λ r. program_of r

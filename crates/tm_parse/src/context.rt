@@ -11,10 +11,7 @@ use crate::fault::{Limit, ParseFault};
 use crate::names::NameTable;
 use std::alloc::Global;
 use tm_lex::line_of;
-use tm_tree::{Form, Name, Stmt};
-
-/// The most variables.
-const VARIABLES: usize = 8;
+use tm_tree::{Form, MOST_VARIABLES, Name, Stmt};
 
 /// The most statements.
 const STATEMENTS: u32 = 512;
@@ -103,7 +100,7 @@ impl Context {
             return Err(ParseFault::NameTwice { at });
         }
         let var = self.names.len();
-        if var >= VARIABLES {
+        if var >= MOST_VARIABLES {
             return Err(ParseFault::Limit {
                 at,
                 which: Limit::Variables,

@@ -10,7 +10,7 @@ use std::alloc::{AllocError, AllocFailed};
 pub enum Limit {
     /// 64 nested constructs.
     Nesting,
-    /// 8 variables.
+    /// `MOST_VARIABLES` variables.
     Variables,
     /// 512 statements.
     Statements,

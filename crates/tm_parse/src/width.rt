@@ -5,9 +5,7 @@ ghost use Rattle.tm_gram.specs.View.{plain_kind, plain_token};
 ghost use Rattle.tm_parse.specs.Width.{mark, total};
 
 use tm_lex::{Kind, Sign, Token, Word};
-
-/// The most variables.
-const VARIABLES: usize = 8;
+use tm_tree::MOST_VARIABLES;
 
 // Whether a token stands before a declarator, or is the `int` of `main`.
 fn mark(kind: Kind) -> usize
@@ -30,9 +28,9 @@ fn marks(tokens: &[Token]) -> usize
     count
 }
 
-/// The number of coefficients of the text's forms: that of its variables, at most 8.
+/// The number of coefficients of the text's forms: that of its variables, at most `MOST_VARIABLES`.
 pub(crate) fn width(tokens: &[Token]) -> usize
-    ensures { result ≡ min 8 (total mark (map plain_token tokens.now) - 1) }
+    ensures { result ≡ min MOST_VARIABLES (total mark (map plain_token tokens.now) - 1) }
 {
-    marks(tokens).saturating_sub(1).min(VARIABLES)
+    marks(tokens).saturating_sub(1).min(MOST_VARIABLES)
 }

@@ -1,4 +1,3 @@
 pub mod Entries
-pub mod Faults
 pub mod Multiples
 pub mod Exceeding

@@ -1,17 +1,14 @@
 -- The trace that shows an unknown above its bound where the row rises along a direction for ever.
-use Rattle.std.specs.Prelude.{◌≡◌, ℤ, List, [], ◌++◌, if◌then◌else◌, Some, Result, MatchResult, None}
+use Rattle.std.specs.Prelude.{ℤ, List, [], ◌++◌, if◌then◌else◌}
 use Rattle.tm_num.specs.Rational.{ℚ, lt_ℚ}
 use Rattle.tm_num.specs.Extended.{Ext, neg_inf, fin, pos_inf}
 use Rattle.tm_flow.specs.declared.edge.Edge.{Edge}
-use Rattle.tm_frac.specs.Fits.{long_limit}
-use Rattle.tm_frac.specs.Operation.{Operation, first_wide, operation_of}
+use Rattle.tm_frac.specs.Operation.{Operation}
 use Rattle.tm_eqsys.specs.Equations.{Equations}
 use Rattle.tm_eqsys.specs.declared.trace.Trace.{Trace}
 use Rattle.tm_validity.specs.Steps.{Pieces}
 use Rattle.tm_cert.specs.Certificates.{pieces_of}
 use Rattle.tm_eqsys.specs.declared.sums.Constants.TheVariants.{Kept, Zero}
-use Rattle.tm_raise.specs.declared.fault.RaiseFault.{RaiseFault}
-use Rattle.tm_raise.specs.declared.fault.RaiseFault.TheVariants.{Wide, NoMemory}
 use Rattle.tm_raise.specs.Moves.{carried, carried_operations}
 use Rattle.tm_raise.specs.Numbers.{multiple, multiple_operations, moved_pieces, moved_operations}
 
@@ -39,12 +36,3 @@ module _ (system : Equations) (edge : Edge) (row : List ℤ) where
   low_operations (fin b) trace direction =
       carried_operations Kept edge row trace ++ (if lt_ℚ b (carried Kept system edge row trace) then [] else move_operations b trace direction)
   low_operations pos_inf trace direction = []
-
--- the fault carries the first of the operations that is wide; want of memory may come at any time
-abbrev pub IsRaiseFault : List Operation → RaiseFault → Type 0
-IsRaiseFault operations (Wide wide) = first_wide long_limit operations ≡ Some (operation_of (λ (q : ℚ). q) wide)
-IsRaiseFault operations NoMemory = Unit {0}
-
--- this is so of the answer and none of the operations is wide, or there is such a fault
-abbrev pub RaiseAnswers : {A : Type 0} → (A → Type 0) → List Operation → Result A RaiseFault → Type 0
-RaiseAnswers P operations result = MatchResult result (λ r. P r × (first_wide long_limit operations ≡ None)) (IsRaiseFault operations)

@@ -13,6 +13,7 @@ ghost use Rattle.tm_raise.specs.Carries.{StepAnswers, FollowAnswers};
 use tm_eqsys::{Constants, System, Trace, form_value, row_value};
 use tm_flow::Action;
 use tm_frac::{Frac, OrderedField, Wide};
+use tm_tree::MOST_VARIABLES;
 
 // Takes one action: how many of the free values to come it took.
 fn step(
@@ -110,7 +111,7 @@ pub fn carried(
         SumAnswers (value_of constants (equations_of system.now) e cs trace.now) (carried_operations constants e cs trace.now) result }
 {
     let start = trace.start.as_slice();
-    let mut values = [Frac::zero(); 8];
+    let mut values = [Frac::zero(); MOST_VARIABLES];
     let state = &mut values[..start.len()];
     state.copy_from_slice(start);
     carried_from(system, edge, row, constants, state, trace.free.as_slice())

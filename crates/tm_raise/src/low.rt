@@ -2,10 +2,10 @@
 
 ghost use Rattle.std.specs.Prelude.{◌≡◌, ◌≢◌, ◌<◌, ℤ, List, Some, length, slice_get, if◌then◌else◌, []};
 ghost use Rattle.tm_num.specs.Rational.{zero_ℚ, ◌+ℚ◌, ◌*ℚ◌};
-ghost use Rattle.tm_num.specs.Extended.{fin};
 ghost use Rattle.tm_frac.specs.Extended.{extended};
 ghost use Rattle.tm_flow.specs.declared.edge.Edge.{Edge};
 ghost use Rattle.tm_eqsys.specs.FreeValues.{free_count};
+ghost use Rattle.tm_eqsys.specs.Faults.{AnswersBy};
 ghost use Rattle.tm_eqsys.specs.Sums.{SumAnswers};
 ghost use Rattle.tm_eqsys.specs.View.{equations_of};
 ghost use Rattle.tm_validity.specs.Words.{moved as moved_by};
@@ -13,7 +13,7 @@ ghost use Rattle.tm_cert.specs.Certificates.{pieces_of};
 ghost use Rattle.tm_eqsys.specs.declared.sums.Constants.TheVariants.{Zero};
 ghost use Rattle.tm_raise.specs.Moves.{carried as value_of};
 ghost use Rattle.tm_raise.specs.Numbers.{multiple as multiple_of, multiple_operations, moved_pieces, moved_operations, entry_operations, entries_operations};
-ghost use Rattle.tm_raise.specs.Lows.{RaiseAnswers, low_of, low_operations};
+ghost use Rattle.tm_raise.specs.Lows.{low_of, low_operations};
 
 use crate::carry::carried;
 use crate::fault::RaiseFault;
@@ -48,7 +48,7 @@ fn moved_entries(
     slopes: &[Frac],
 ) -> Result<Fracs, RaiseFault>
     requires { length entries.now ≡ length slopes.now }
-    ensures { RaiseAnswers (λ list. list ≡ moved_by entries.now times slopes.now) (entries_operations times entries.now slopes.now) result }
+    ensures { AnswersBy (λ list. list ≡ moved_by entries.now times slopes.now) (entries_operations times entries.now slopes.now) result }
 {
     let mut list = Vec::new(alloc);
     for (i, entry) in entries.iter().enumerate() {
@@ -62,7 +62,7 @@ fn moved_entries(
 fn moved(alloc: Global, times: Frac, trace: &Trace, direction: &Trace) -> Result<Trace, RaiseFault>
     requires start { length trace.now.start ≡ length direction.now.start }
     requires free { length trace.now.free ≡ length direction.now.free }
-    ensures { RaiseAnswers (λ low. pieces_of low ≡ moved_pieces times trace.now direction.now) (moved_operations times trace.now direction.now) result }
+    ensures { AnswersBy (λ low. pieces_of low ≡ moved_pieces times trace.now direction.now) (moved_operations times trace.now direction.now) result }
 {
     let start = moved_entries(
         alloc,
@@ -77,36 +77,6 @@ fn moved(alloc: Global, times: Frac, trace: &Trace, direction: &Trace) -> Result
         direction.free.as_slice(),
     )?;
     Ok(Trace { start, free })
-}
-
-// The trace where its value exceeds the bound, and else the trace moved along the direction until it does.
-fn above(
-    alloc: Global,
-    system: &System,
-    edge: u32,
-    row: u32,
-    bound: Frac,
-    trace: Trace,
-    direction: &Trace,
-    rate: Frac,
-) -> Result<Trace, RaiseFault>
-    requires edge { edge < length system.now.flow.edges }
-    requires row { row < length system.now.template }
-    requires start { (length trace.start ≡ length system.now.flow.names) × (length direction.now.start ≡ length system.now.flow.names) }
-    requires free { (e : Edge) → slice_get system.now.flow.edges edge ≡ Some e → (length trace.free ≡ free_count e.actions)
-        × (length direction.now.free ≡ free_count e.actions) }
-    requires rate { rate ≢ zero_ℚ }
-    ensures { (e : Edge) (cs : List ℤ) → slice_get system.now.flow.edges edge ≡ Some e → slice_get system.now.template row ≡ Some cs →
-        rate ≡ value_of Zero (equations_of system.now) e cs direction.now →
-        RaiseAnswers (λ low. pieces_of low ≡ low_of (equations_of system.now) e cs (fin bound) trace direction.now)
-        (low_operations (equations_of system.now) e cs (fin bound) trace direction.now) result }
-{
-    let value = carried(system, edge, row, Constants::Kept, &trace)?;
-    if bound < value {
-        return Ok(trace);
-    }
-    let times = multiple(bound, value, rate)?;
-    moved(alloc, times, &trace, direction)
 }
 
 /// The trace, where the bound is `-inf` or its value exceeds the bound, and else the trace moved along the direction until it
@@ -135,11 +105,18 @@ pub fn low(
     requires rate { rate ≢ zero_ℚ }
     ensures { (e : Edge) (cs : List ℤ) → slice_get system.now.flow.edges edge ≡ Some e → slice_get system.now.template row ≡ Some cs →
         rate ≡ value_of Zero (equations_of system.now) e cs direction.now →
-        RaiseAnswers (λ low. pieces_of low ≡ low_of (equations_of system.now) e cs (extended bound) trace direction.now)
+        AnswersBy (λ low. pieces_of low ≡ low_of (equations_of system.now) e cs (extended bound) trace direction.now)
         (low_operations (equations_of system.now) e cs (extended bound) trace direction.now) result }
 {
     match bound {
-        Ext::Fin(limit) => above(alloc, system, edge, row, limit, trace, direction, rate),
+        Ext::Fin(limit) => {
+            let value = carried(system, edge, row, Constants::Kept, &trace)?;
+            if limit < value {
+                return Ok(trace);
+            }
+            let times = multiple(limit, value, rate)?;
+            moved(alloc, times, &trace, direction)
+        }
         Ext::NegInf => Ok(trace),
         Ext::PosInf => Ok(trace),
     }

@@ -7,12 +7,12 @@ ghost use Rattle.tm_frac.specs.Fits.{long_limit};
 ghost use Rattle.tm_frac.specs.Extended.{extended};
 ghost use Rattle.tm_frac.specs.Operation.{first_wide};
 ghost use Rattle.tm_eqsys.specs.Equations.{Equations};
+ghost use Rattle.tm_eqsys.specs.Faults.{AnswersBy, IsFaultOf};
 ghost use Rattle.tm_eqsys.specs.View.{equations_of};
 ghost use Rattle.tm_cert.specs.declared.step.Step.TheVariants.{Plain as PlainStep, Ray as RayStep};
 ghost use Rattle.tm_cert.specs.Certificates.{step_of};
 ghost use Rattle.tm_compose.specs.declared.value.Value.TheVariants.{Best, Unbounded};
 ghost use Rattle.tm_compose.specs.Value.{number_of};
-ghost use Rattle.tm_raise.specs.Lows.{IsRaiseFault, RaiseAnswers};
 ghost use Rattle.tm_raise.specs.Raises.{HasSizes, Rises, choice_of, raised, raise_operations};
 
 use crate::carry::carried;
@@ -27,16 +27,15 @@ use tm_frac::{Ext, Frac};
 
 // The step of one item that gives the unknown this bound.
 fn plain(alloc: Global, unknown: u32, edge: u32, low: Trace, to: Frac) -> Result<Step, RaiseFault>
-    ensures { RaiseAnswers (λ step. step ≡ PlainStep (record { unknown = unknown; edge = edge; low = low; to = to } ∷ [])) [] result }
+    ensures { AnswersBy (λ step. step ≡ PlainStep (record { unknown = unknown; edge = edge; low = low; to = to } ∷ [])) [] result }
 {
-    let mut items = Vec::new(alloc);
-    items.push(Item {
+    let item = Item {
         unknown,
         edge,
         low,
         to,
-    })?;
-    Ok(Step::Plain(Items::new(items)))
+    };
+    Ok(Step::Plain(Items::new(vec![in alloc; item]?)))
 }
 
 // The step of one item that gives the unknown `+inf`.
@@ -48,17 +47,16 @@ fn ray(
     direction: Trace,
     rate: Frac,
 ) -> Result<Step, RaiseFault>
-    ensures { RaiseAnswers (λ step. step ≡ RayStep (record { unknown = unknown; edge = edge; low = low; direction = direction; rate = rate } ∷ [])) [] result }
+    ensures { AnswersBy (λ step. step ≡ RayStep (record { unknown = unknown; edge = edge; low = low; direction = direction; rate = rate } ∷ [])) [] result }
 {
-    let mut items = Vec::new(alloc);
-    items.push(RayItem {
+    let item = RayItem {
         unknown,
         edge,
         low,
         direction,
         rate,
-    })?;
-    Ok(Step::Ray(RayItems::new(items)))
+    };
+    Ok(Step::Ray(RayItems::new(vec![in alloc; item]?)))
 }
 
 // The step that raises an unknown towards a best value.
@@ -71,7 +69,7 @@ fn raise_towards(
     trace: Trace,
 ) -> Result<Step, RaiseFault>
     ensures { (system : Equations) (n : ℕ) (rows guards : List ℚ) →
-        RaiseAnswers (λ step. step_of n step ≡ raised system (choice_of n unknown edge) (extended bound) (Best value trace rows guards))
+        AnswersBy (λ step. step_of n step ≡ raised system (choice_of n unknown edge) (extended bound) (Best value trace rows guards))
         (raise_operations system (choice_of n unknown edge) (extended bound) (Best value trace rows guards)) result }
 {
     let to = raised_number(bound, value)?;
@@ -92,7 +90,7 @@ fn raise_for_ever(
     requires edge { edge < length system.now.flow.edges }
     requires sizes { HasSizes (equations_of system.now) (choice_of (length system.now.template) unknown edge) (Unbounded trace direction) }
     requires rises { Rises (equations_of system.now) (choice_of (length system.now.template) unknown edge) (Unbounded trace direction) }
-    ensures { RaiseAnswers (λ step. step_of (length system.now.template) step ≡ raised (equations_of system.now)
+    ensures { AnswersBy (λ step. step_of (length system.now.template) step ≡ raised (equations_of system.now)
         (choice_of (length system.now.template) unknown edge) (extended bound) (Unbounded trace direction))
         (raise_operations (equations_of system.now) (choice_of (length system.now.template) unknown edge) (extended bound)
         (Unbounded trace direction)) result }
@@ -137,7 +135,7 @@ pub fn raise(
         (choice_of (length system.now.template) unknown edge) (extended bound) value) }
     ensures fits { OnOk result (first_wide long_limit
         (raise_operations (equations_of system.now) (choice_of (length system.now.template) unknown edge) (extended bound) value) ≡ None) }
-    ensures refused { IfErr result (IsRaiseFault
+    ensures refused { IfErr result (IsFaultOf
         (raise_operations (equations_of system.now) (choice_of (length system.now.template) unknown edge) (extended bound) value)) }
 {
     match value {

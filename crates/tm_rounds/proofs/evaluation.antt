@@ -1,4 +1,5 @@
 pub mod EachPart
+pub mod NextPart
 pub mod Parting
 pub mod Partings
 pub mod RoundMade

@@ -31,8 +31,8 @@ use Rattle.tm_strategy_lp.specs.Rounds.{exact_pass, exact_raise}
 use Rattle.tm_raise.specs.Numbers.{fitting}
 use Rattle.tm_raise.specs.Raises.{choice_of}
 use Rattle.tm_rounds.specs.declared.growing.Growing.{Growing}
-use Rattle.tm_offers.specs.declared.stop.Stop.{Stop}
-use Rattle.tm_offers.specs.declared.stop.Stop.TheVariants.{Wide, NoMemory}
+use Rattle.tm_eqsys.specs.declared.fault.Fault.{Fault}
+use Rattle.tm_eqsys.specs.declared.fault.Fault.TheVariants.{Wide, NoMemory}
 use Rattle.tm_offers.specs.AtBounds.{transformers, vector_at, edge_at, row_at, IsWidePart}
 use Rattle.tm_rounds.specs.GrowthTests.{pass_tests, is_named}
 use Rattle.tm_rounds.specs.GrowthStops.{IsStopIn}
@@ -112,7 +112,7 @@ abbrev pub OthersKeep : ℕ → ℕ → Growing → Growing → Type 0
 OthersKeep first n old new = (u : ℕ) → (u < first) ⊎ (first + n ≤ u) → get_or new.raised.items u false ≡ get_or old.raised.items u false
 
 -- a wide operation of a pass over n unknowns from a first one on, or want of memory
-abbrev pub IsPassStop : System → List (Option ℕ) → ℕ → ℕ → Growing → ℕ → Stop → Type 0
+abbrev pub IsPassStop : System → List (Option ℕ) → ℕ → ℕ → Growing → ℕ → Fault Spot → Type 0
 IsPassStop system pick first n old round stop =
     (z : Vector) → Agrees system z old.bounds →
     IsStopIn (equations_of system) (pass_tests fitting (equations_of system) (transformers system) (exact_evidence (equations_of system))
@@ -169,7 +169,7 @@ module _ (system : System) (edge unknown : ℕ) where
   AreTested old new told = (z : Vector) → Agrees system z old.bounds → IsTested z old new told
 
   -- a wide operation of the test or of the raise that follows it, or want of memory
-  abbrev pub IsTestStop : Growing → ℕ → Stop → Type 0
+  abbrev pub IsTestStop : Growing → ℕ → Fault Spot → Type 0
   IsTestStop old round stop = (z : Vector) → Agrees system z old.bounds →
       IsStopIn (equations_of system) (record { vector = z; unknown = tested; raises = length old.steps.items } ∷ []) round stop
 
@@ -187,7 +187,7 @@ pub record IsValueSpot (system : System) (bounds : List Extended) (edge row numb
   pub wide : IsWidePart system bounds edge row part spot.wide
 
 -- such a spot, or want of memory
-abbrev pub IsValueStop : System → List Extended → ℕ → ℕ → ℕ → Stop → Type 0
+abbrev pub IsValueStop : System → List Extended → ℕ → ℕ → ℕ → Fault Spot → Type 0
 IsValueStop system bounds edge row round (Wide spot) = IsValueSpot system bounds edge row round spot
 IsValueStop system bounds edge row round NoMemory = Unit {0}
 
@@ -198,7 +198,7 @@ pub record IsStepSpot (operations : List Operation) (raises number : ℕ) (spot 
   pub wide : first_wide long_limit operations ≡ Some (operation_of (λ (q : ℚ). q) spot.wide)
 
 -- such a spot, or want of memory
-abbrev pub IsStepStop : List Operation → ℕ → ℕ → Stop → Type 0
+abbrev pub IsStepStop : List Operation → ℕ → ℕ → Fault Spot → Type 0
 IsStepStop operations raises round (Wide spot) = IsStepSpot operations raises round spot
 IsStepStop operations raises round NoMemory = Unit {0}
 

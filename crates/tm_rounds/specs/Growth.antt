@@ -10,7 +10,8 @@ use Rattle.tm_strategy_lp.specs.Agreement.{Agree}
 use Rattle.tm_strategy_lp.specs.Evidence.{exact_evidence}
 use Rattle.tm_strategy_lp.specs.Rounds.{exact_grow}
 use Rattle.tm_raise.specs.Numbers.{fitting}
-use Rattle.tm_offers.specs.declared.stop.Stop.{Stop}
+use Rattle.tm_eqsys.specs.declared.fault.Fault.{Fault}
+use Rattle.tm_eqsys.specs.declared.spot.Spot.{Spot}
 use Rattle.tm_offers.specs.AtBounds.{transformers, vector_at}
 use Rattle.tm_offers.specs.Improvement.{pick_of}
 use Rattle.tm_rounds.specs.GrowthTests.{Test, growth_tests, named_numbers}
@@ -34,5 +35,5 @@ abbrev pub named_at : System → List Step → List ℕ
 named_at system steps = named_numbers (length system.template) (length system.flow.points * length system.template) (items_of steps)
 
 -- a wide operation of the growth in a round, or want of memory
-abbrev pub IsGrowthStop : System → List Extended → List (Option ℕ) → ℕ → Stop → Type 0
+abbrev pub IsGrowthStop : System → List Extended → List (Option ℕ) → ℕ → Fault Spot → Type 0
 IsGrowthStop system bounds pick round stop = IsStopIn (equations_of system) (tests_at system bounds pick) round stop

@@ -17,8 +17,8 @@ use Rattle.tm_transformers.specs.EdgeProblems.{transformer}
 use Rattle.tm_compose.specs.declared.value.Value.{Value}
 use Rattle.tm_oper.specs.Values.{IsValue, IsOperatorFault}
 use Rattle.tm_raise.specs.Raises.{raise_operations}
-use Rattle.tm_offers.specs.declared.stop.Stop.{Stop}
-use Rattle.tm_offers.specs.declared.stop.Stop.TheVariants.{Wide, NoMemory}
+use Rattle.tm_eqsys.specs.declared.fault.Fault.{Fault}
+use Rattle.tm_eqsys.specs.declared.fault.Fault.TheVariants.{Wide, NoMemory}
 use Rattle.tm_rounds.specs.GrowthTests.{Test}
 
 -- the first wide operation of a part of the problem of the tested unknown's edge and row, at the vector of the test
@@ -44,6 +44,6 @@ pub record IsGrowthSpot (system : Equations) (tests : List Test) (number : ℕ) 
   pub formula : IsTestSpot system test spot ⊎ IsRaiseSpot system test spot
 
 -- such a spot, or want of memory
-abbrev pub IsStopIn : Equations → List Test → ℕ → Stop → Type 0
+abbrev pub IsStopIn : Equations → List Test → ℕ → Fault Spot → Type 0
 IsStopIn system tests round (Wide spot) = IsGrowthSpot system tests round spot
 IsStopIn system tests round NoMemory = Unit {0}

@@ -1,17 +1,11 @@
--- The halt that a stop or a fault of composition gives.
-use Rattle.tm_compose.specs.declared.fault.PathFault.{PathFault}
-use Rattle.tm_compose.specs.declared.fault.PathFault.TheVariants.{Wide as WidePath, NoMemory as NoPath}
-use Rattle.tm_offers.specs.declared.stop.Stop.{Stop}
-use Rattle.tm_offers.specs.declared.stop.Stop.TheVariants.{Wide as WideStop, NoMemory as NoStop}
+-- The halt that a part that isn't done gives.
+use Rattle.tm_eqsys.specs.declared.fault.Fault.{Fault}
+use Rattle.tm_eqsys.specs.declared.fault.Fault.TheVariants.{Wide as WideStop, NoMemory as NoStop}
+use Rattle.tm_eqsys.specs.declared.spot.Spot.{Spot}
 use Rattle.tm_rounds.specs.declared.halt.Halt.{Halt}
 use Rattle.tm_rounds.specs.declared.halt.Halt.TheVariants.{Wide, NoMemory}
 
--- of a stop
-abbrev pub halt_of_stop : Stop → Halt
-halt_of_stop (WideStop spot) = Wide spot
-halt_of_stop NoStop = NoMemory
-
--- of a fault of composition
-abbrev pub halt_of_fault : PathFault → Halt
-halt_of_fault (WidePath spot) = Wide spot
-halt_of_fault NoPath = NoMemory
+-- of a composition, or of a part of a round
+abbrev pub halt_of : Fault Spot → Halt
+halt_of (WideStop spot) = Wide spot
+halt_of NoStop = NoMemory

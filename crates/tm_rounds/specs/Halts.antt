@@ -8,9 +8,8 @@ use Rattle.tm_eqsys.specs.declared.spot.Spot.{Spot}
 use Rattle.tm_strategy.specs.PickCount.{pick_count}
 use Rattle.tm_strategy_lp.specs.Rounds.{Choice}
 use Rattle.tm_compose.specs.Faults.{IsPathFault}
-use Rattle.tm_compose.specs.declared.fault.PathFault.TheVariants.{Wide as WidePath}
 use Rattle.tm_offers.specs.declared.offer.Offer.{Offer}
-use Rattle.tm_offers.specs.declared.stop.Stop.TheVariants.{Wide as WideStop}
+use Rattle.tm_eqsys.specs.declared.fault.Fault.TheVariants.{Wide as WideStop}
 use Rattle.tm_rounds.specs.declared.halt.Halt.{Halt}
 use Rattle.tm_rounds.specs.declared.halt.Halt.TheVariants.{Wide, Spent, NoMemory}
 use Rattle.tm_offers.specs.Improvement.{pick_of}
@@ -40,7 +39,7 @@ pub record IsRoundHalt (system : System) (policy : Offer → ℕ → Type 0) (li
 -- the first wide operation of the composition, or a wide one of an offer or of a round
 abbrev pub IsSpotOf : System → (Offer → ℕ → Type 0) → ℕ → Spot → Type 0
 IsSpotOf system policy limit spot =
-    IsPathFault (equations_of system) (WidePath spot) ⊎ (IsOfferHalt system policy limit spot ⊎ IsRoundHalt system policy limit spot)
+    IsPathFault (equations_of system) (WideStop spot) ⊎ (IsOfferHalt system policy limit spot ⊎ IsRoundHalt system policy limit spot)
 
 -- the bounds after a chain of as many rounds as the limit, which are no post-solution; there are more picks
 pub record IsSpent (system : System) (policy : Offer → ℕ → Type 0) (limit : ℕ) (bounds : List Extended) : Type 0 where

@@ -16,8 +16,8 @@ use Rattle.tm_strategy_lp.specs.Rounds.{exact_round, exact_round_steps}
 use Rattle.tm_strategy_lp.specs.Turns.{Turn, exact_turns}
 use Rattle.tm_joint.specs.Joints.{IsJointFault}
 use Rattle.tm_raise.specs.Numbers.{fitting}
-use Rattle.tm_offers.specs.declared.stop.Stop.{Stop}
-use Rattle.tm_offers.specs.declared.stop.Stop.TheVariants.{Wide, NoMemory}
+use Rattle.tm_eqsys.specs.declared.fault.Fault.{Fault}
+use Rattle.tm_eqsys.specs.declared.fault.Fault.TheVariants.{Wide, NoMemory}
 use Rattle.tm_offers.specs.AtBounds.{transformers, vector_at}
 use Rattle.tm_offers.specs.Improvement.{pick_of}
 use Rattle.tm_rounds.specs.Growth.{IsGrowthStop}
@@ -62,10 +62,10 @@ pub record IsTurnSpot (system : System) (pick : List (Option ℕ)) (turns : List
       (numbers_of (length system.template) turn.list) (WideIn part spot.wide)
 
 -- such a spot, or want of memory
-abbrev pub IsTurnStop : System → List (Option ℕ) → List Turn → ℕ → Stop → Type 0
+abbrev pub IsTurnStop : System → List (Option ℕ) → List Turn → ℕ → Fault Spot → Type 0
 IsTurnStop system pick turns round (Wide spot) = IsTurnSpot system pick turns round spot
 IsTurnStop system pick turns round NoMemory = Unit {0}
 
 -- a wide operation of the round's growth or of one of its turns, or want of memory
-abbrev pub IsRoundStop : System → List Extended → List (Option ℕ) → ℕ → Stop → Type 0
+abbrev pub IsRoundStop : System → List Extended → List (Option ℕ) → ℕ → Fault Spot → Type 0
 IsRoundStop system bounds pick round stop = IsGrowthStop system bounds pick round stop ⊎ IsTurnStop system pick (turns_at system bounds pick) round stop

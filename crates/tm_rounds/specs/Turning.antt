@@ -30,8 +30,8 @@ use Rattle.tm_joint.specs.PartLists.{part_numbers}
 use Rattle.tm_joint.specs.declared.joined.Joined.{Joined}
 use Rattle.tm_joint.specs.declared.joined.Joined.TheVariants.{Point, Ray}
 use Rattle.tm_rounds.specs.declared.turning.Turning.{Turning}
-use Rattle.tm_offers.specs.declared.stop.Stop.{Stop}
-use Rattle.tm_offers.specs.declared.stop.Stop.TheVariants.{Wide, NoMemory}
+use Rattle.tm_eqsys.specs.declared.fault.Fault.{Fault}
+use Rattle.tm_eqsys.specs.declared.fault.Fault.TheVariants.{Wide, NoMemory}
 use Rattle.tm_offers.specs.AtBounds.{vector_at, transformers}
 use Rattle.tm_offers.specs.Improvement.{pick_of}
 use Rattle.tm_rounds.specs.Growing.{Agrees}
@@ -103,7 +103,7 @@ pub record IsJoinedSpot (system : System) (pick : List (Option ℕ)) (bounds : L
   pub wide : IsJointFault system pick bounds list (WideIn part spot.wide)
 
 -- such a spot, or want of memory
-abbrev pub IsJoinedStop : System → List (Option ℕ) → List Extended → List ℕ → ℕ → ℕ → Stop → Type 0
+abbrev pub IsJoinedStop : System → List (Option ℕ) → List Extended → List ℕ → ℕ → ℕ → Fault Spot → Type 0
 IsJoinedStop system pick bounds list turn round (Wide spot) = IsJoinedSpot system pick bounds list turn round spot
 IsJoinedStop system pick bounds list turn round NoMemory = Unit {0}
 

@@ -1,5 +1,6 @@
 //! Unknowns that grow.
 
+ghost use Rattle.tm_eqsys.specs.declared.limits.TheConstants.{MOST_UNKNOWNS};
 ghost use Rattle.std.specs.Prelude.{◌≡◌, ◌*◌, ◌<◌, ◌≤◌, ◌%◌, ℕ, length, get_or, IfOk, IfErr, Some, None, false, true};
 ghost use Rattle.tm_num.specs.Extended.{◌<ᴱ◌};
 ghost use Rattle.tm_frac.specs.Extended.{extended};
@@ -118,7 +119,7 @@ fn raising_step(
 fn wake(system: &System, pick: &Pick, point: u32, quiet: &mut [bool])
     requires pick { length pick.now ≡ length quiet.old }
     requires edges { EdgesAreThere system.now pick.now }
-    requires few { length quiet.old ≤ 1024 }
+    requires few { length quiet.old ≤ MOST_UNKNOWNS }
     ensures size { length quiet.new ≡ length quiet.old }
     ensures quiet { (u : ℕ) → get_or quiet.new u false ≡ true →
         (get_or quiet.old u false ≡ true) × ((edge : ℕ) → get_or pick.now u None ≡ Some edge → (edge_at system.now edge).from ≡ point → ⊥) }

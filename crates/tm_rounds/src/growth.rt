@@ -6,48 +6,22 @@ ghost use Rattle.tm_cert.specs.Certificates.{step_of};
 ghost use Rattle.tm_compose.specs.Composed.{AreComposed};
 ghost use Rattle.tm_offers.specs.AtBounds.{EdgesAreThere};
 ghost use Rattle.tm_offers.specs.Known.{AreKnown};
-ghost use Rattle.tm_offers.specs.declared.stop.Stop.TheVariants.{NoMemory};
+ghost use Rattle.tm_eqsys.specs.declared.fault.Fault.TheVariants.{NoMemory};
 ghost use Rattle.tm_rounds.specs.Growing.{IsKept, AreQuiet, IsFresh, IsGrown, marked_numbers};
 ghost use Rattle.tm_rounds.specs.Growth.{growth_at, AreLed, named_at, IsGrowthStop};
+ghost use Rattle.tm_eqsys.specs.declared.limits.TheConstants.{MOST_UNKNOWNS};
 
 use crate::growing::{Growing, pass};
 use crate::quiet_marks::quiet_unknowns;
 use std::alloc::Global;
-use std::marker::Model;
 use tm_cert::Steps;
 use tm_eqsys::{Bounds, Pick, System};
+use tm_list::Sequence;
 use tm_offers::{Known, Stop};
 use tm_oper::Paths;
 
 /// Numbers of unknowns in order.
-#[derive(Drop)]
-pub struct UnknownNumbers {
-    list: Vec<u32>,
-}
-
-impl Model for UnknownNumbers {
-    ghost use Rattle.std.specs.Prelude.{List, ℕ};
-
-    ghost Value = { List ℕ };
-
-    ghost view = { λ u. u.list.items };
-}
-
-impl UnknownNumbers {
-    /// The list as numbers of unknowns in order.
-    pub fn new(list: Vec<u32>) -> UnknownNumbers
-        ensures { result ≡ list.items }
-    {
-        UnknownNumbers { list }
-    }
-
-    /// The list itself.
-    pub fn as_slice(&self) -> &[u32]
-        ensures { result.now ≡ self.now }
-    {
-        self.list.as_slice()
-    }
-}
+pub type UnknownNumbers = Sequence<u32>;
 
 /// What unknowns grow to: the bounds then, the numbers of the unknowns that were raised, in rising order, and one step for each
 /// raise, in order of raises.
@@ -60,7 +34,7 @@ pub struct Grown {
 
 // The numbers of the unknowns that were raised.
 fn raised_unknowns(alloc: Global, raised: &[bool]) -> Result<UnknownNumbers, Stop>
-    requires few { length raised.now ≤ 1024 }
+    requires few { length raised.now ≤ MOST_UNKNOWNS }
     ensures numbers { IfOk result (λ numbers. numbers ≡ marked_numbers raised.now (length raised.now)) }
     ensures stop { IfErr result (λ stop. stop ≡ NoMemory) }
 {

@@ -3,7 +3,6 @@
 use std::alloc::AllocError;
 use tm_eqsys::{Bounds, Spot};
 use tm_offers::Stop;
-use tm_oper::PathFault;
 
 /// Why there is no solution.
 #[derive(Drop)]
@@ -18,28 +17,14 @@ pub enum Halt {
 
 impl From<Stop> for Halt {
     ghost use Rattle.std.specs.Prelude.{◌≡◌};
-    ghost use Rattle.tm_rounds.specs.HaltOf.{halt_of_stop};
+    ghost use Rattle.tm_rounds.specs.HaltOf.{halt_of};
 
-    ghost from_gives = { λ stop halt. halt ≡ halt_of_stop stop };
+    ghost from_gives = { λ stop halt. halt ≡ halt_of stop };
 
     fn from(stop: Stop) -> Halt {
         match stop {
             Stop::Wide(spot) => Halt::Wide(spot),
             Stop::NoMemory => Halt::NoMemory,
-        }
-    }
-}
-
-impl From<PathFault> for Halt {
-    ghost use Rattle.std.specs.Prelude.{◌≡◌};
-    ghost use Rattle.tm_rounds.specs.HaltOf.{halt_of_fault};
-
-    ghost from_gives = { λ fault halt. halt ≡ halt_of_fault fault };
-
-    fn from(fault: PathFault) -> Halt {
-        match fault {
-            PathFault::Wide(spot) => Halt::Wide(spot),
-            PathFault::NoMemory => Halt::NoMemory,
         }
     }
 }

@@ -2,7 +2,8 @@
 
 ghost use Rattle.std.specs.Prelude.{◌≡◌, ◌<◌, ◌≤◌, length, get_or, IfOk, IfErr};
 ghost use Rattle.tm_rounds.specs.Lows.{IsFilled, unknown_in, edge_in, low_in, no_step, AreRaises, ArePlaces};
-ghost use Rattle.tm_offers.specs.declared.stop.Stop.TheVariants.{NoMemory};
+ghost use Rattle.tm_eqsys.specs.declared.fault.Fault.TheVariants.{NoMemory};
+ghost use Rattle.tm_eqsys.specs.declared.limits.TheConstants.{MOST_UNKNOWNS};
 
 use std::alloc::Global;
 use tm_cert::Step;
@@ -62,7 +63,7 @@ pub(crate) fn low_of(alloc: Global, step: &Step) -> Result<Trace, Stop>
 /// For each of so many unknowns the number of the step that raises it, 0 where none does.
 pub(crate) fn places(alloc: Global, count: usize, raises: &[Step]) -> Result<Vec<u32>, Stop>
     requires raises { AreRaises count raises.now }
-    requires few { length raises.now ≤ 1024 }
+    requires few { length raises.now ≤ MOST_UNKNOWNS }
     ensures size { IfOk result (λ places. length places.items ≡ count) }
     ensures places { IfOk result (λ places. ArePlaces raises.now places.items (length raises.now)) }
     ensures stop { IfErr result (λ stop. stop ≡ NoMemory) }

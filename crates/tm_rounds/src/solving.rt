@@ -11,7 +11,7 @@ ghost use Rattle.tm_validity.specs.Certificates.{ValidCertificate};
 ghost use Rattle.tm_cert.specs.Shaped.{IsShaped};
 ghost use Rattle.tm_strategy.specs.PickCount.{pick_count};
 ghost use Rattle.tm_compose.specs.Composed.{AreComposed};
-ghost use Rattle.tm_offers.specs.declared.stop.Stop.TheVariants.{NoMemory};
+ghost use Rattle.tm_eqsys.specs.declared.fault.Fault.TheVariants.{NoMemory};
 ghost use Rattle.tm_offers.specs.AtBounds.{vector_at, IsSupportedPick, IsOfferStop};
 ghost use Rattle.tm_rounds.specs.Round.{IsRoundStop};
 ghost use Rattle.tm_rounds.specs.Halts.{IsHalt};

@@ -11,7 +11,7 @@ ghost use Rattle.tm_compose.specs.Composed.{AreComposed};
 ghost use Rattle.tm_joint.specs.Numbers.{all_listed, ArePicked, Rises};
 ghost use Rattle.tm_joint.specs.Problems.{problem_of};
 ghost use Rattle.tm_joint.specs.Joints.{IsReadFrom};
-ghost use Rattle.tm_offers.specs.declared.stop.Stop.TheVariants.{NoMemory};
+ghost use Rattle.tm_eqsys.specs.declared.fault.Fault.TheVariants.{NoMemory};
 ghost use Rattle.tm_rounds.specs.Lows.{AreRaised, IsRaised};
 ghost use Rattle.tm_rounds.specs.Putting.{AreNumberedIn, puts};
 ghost use Rattle.tm_rounds.specs.Turning.{

@@ -4,6 +4,7 @@ use Rattle.std.specs.List.{flat_map, enumerate_from}
 use Rattle.tm_rows.specs.declared.fault.RowFault.{RowFault}
 use Rattle.tm_rows.specs.declared.fault.RowFault.TheVariants.{ZeroRow, Count, Length}
 use Rattle.tm_rows.specs.Rows.{is_row}
+use Rattle.tm_rows.specs.declared.limits.TheConstants.{MOST_ROWS}
 
 -- the fault of a row over n variables: its length comes before its coefficients
 abbrev pub row_faults : ℕ → ℕ × List ℤ → List RowFault
@@ -14,7 +15,7 @@ row_faults n numbered =
 
 -- the fault of a number of rows
 abbrev pub count_faults : ℕ → List RowFault
-count_faults count = if nat_le 1 count && nat_le count 128 then [] else Count count ∷ []
+count_faults count = if nat_le 1 count && nat_le count MOST_ROWS then [] else Count count ∷ []
 
 -- the faults of these rows over n variables, the first of which stands on this line
 abbrev pub faults_from : ℕ → ℕ → List (List ℤ) → List RowFault

@@ -1,6 +1,7 @@
 -- The rows of a template.
 use Rattle.std.specs.Prelude.{◌==◌, ◌&&◌, ℕ, ℤ, Bool, not, List, [], ◌∷◌, length, nat_abs, nat_le}
 use Rattle.std.specs.List.{list_all, list_any}
+use Rattle.tm_rows.specs.declared.limits.TheConstants.{MOST_ROWS}
 
 -- some coefficient isn't 0
 abbrev pub is_row : List ℤ → Bool
@@ -11,8 +12,8 @@ abbrev pub width_of : List (List ℤ) → ℕ
 width_of [] = 0
 width_of (row ∷ rows) = length row
 
--- 1 to 128 rows, each with a coefficient for the same variables, not all 0
+-- 1 to the greatest number of rows, each with a coefficient for the same variables, not all 0
 abbrev pub is_template : List (List ℤ) → Bool
 is_template rows =
-    (nat_le 1 (length rows) && nat_le (length rows) 128)
+    (nat_le 1 (length rows) && nat_le (length rows) MOST_ROWS)
     && list_all (λ row. is_row row && length row == width_of rows) rows

@@ -5,6 +5,7 @@ ghost use Rattle.std.specs.List.{range_with_len, flat_map};
 ghost use Rattle.tm_tree.specs.Numbers.{is_number};
 ghost use Rattle.tm_rows.specs.Rows.{width_of};
 ghost use Rattle.tm_rows.specs.Domains.{multiple, combination, intervals_of, difference, zones_of, signed_sums, octagons_of};
+ghost use Rattle.tm_tree.specs.declared.limits.TheConstants.{MOST_VARIABLES};
 
 use crate::template::Template;
 use std::alloc::{AllocError, Global};
@@ -136,12 +137,12 @@ fn octagon_rows(alloc: Global, vars: u32) -> Result<Vec<Coeffs>, AllocError>
     Ok(rows)
 }
 
-/// The template of intervals over 1 to 8 variables: for each variable `x`, the rows `x` and `-x`.
+/// The template of intervals over 1 to `MOST_VARIABLES` variables: for each variable `x`, the rows `x` and `-x`.
 ///
 /// It fails for want of memory alone. `docs/FORMATS.md` has the order of the rows.
 pub fn intervals(alloc: Global, vars: u32) -> Result<Template, AllocError>
     requires some { 1 ≤ vars }
-    requires few { vars ≤ 8 }
+    requires few { vars ≤ MOST_VARIABLES }
     ensures rows { IfOk result (λ template. template ≡ intervals_of vars) }
     ensures width { IfOk result (λ template. width_of template ≡ vars) }
     ensures count { IfOk result (λ template. length template ≡ 2 * vars) }
@@ -149,13 +150,13 @@ pub fn intervals(alloc: Global, vars: u32) -> Result<Template, AllocError>
     Ok(Template::new(interval_rows(alloc, vars)?))
 }
 
-/// The template of zones over 1 to 8 variables: the rows of intervals, and then for each ordered pair of different
+/// The template of zones over 1 to `MOST_VARIABLES` variables: the rows of intervals, and then for each ordered pair of different
 /// variables `x` and `y`, by `x` and then by `y`, the row `x - y`.
 ///
 /// It fails for want of memory alone. `docs/FORMATS.md` has the order of the rows.
 pub fn zones(alloc: Global, vars: u32) -> Result<Template, AllocError>
     requires some { 1 ≤ vars }
-    requires few { vars ≤ 8 }
+    requires few { vars ≤ MOST_VARIABLES }
     ensures rows { IfOk result (λ template. template ≡ zones_of vars) }
     ensures width { IfOk result (λ template. width_of template ≡ vars) }
     ensures count { IfOk result (λ template. length template ≡ 2 * vars + vars * (vars - 1)) }
@@ -163,13 +164,13 @@ pub fn zones(alloc: Global, vars: u32) -> Result<Template, AllocError>
     Ok(Template::new(zone_rows(alloc, vars)?))
 }
 
-/// The template of octagons over 1 to 8 variables: the rows of intervals, and then for each pair of variables `x` and
+/// The template of octagons over 1 to `MOST_VARIABLES` variables: the rows of intervals, and then for each pair of variables `x` and
 /// a later `y`, by `x` and then by `y`, the rows `x + y`, `x - y`, `-x + y` and `-x - y`.
 ///
 /// It fails for want of memory alone. `docs/FORMATS.md` has the order of the rows.
 pub fn octagons(alloc: Global, vars: u32) -> Result<Template, AllocError>
     requires some { 1 ≤ vars }
-    requires few { vars ≤ 8 }
+    requires few { vars ≤ MOST_VARIABLES }
     ensures rows { IfOk result (λ template. template ≡ octagons_of vars) }
     ensures width { IfOk result (λ template. width_of template ≡ vars) }
     ensures count { IfOk result (λ template. length template ≡ 2 * vars * vars) }

@@ -10,7 +10,7 @@ use std::alloc::{AllocError, AllocFailed};
 pub enum RowFault {
     /// All coefficients of the row on this line are 0.
     ZeroRow { line: u32 },
-    /// There are no rows, or more than 128; `count` is their number.
+    /// There are no rows, or more than `MOST_ROWS`; `count` is their number.
     Count { count: u32 },
     /// The row on this line names no variable of the program.
     UnknownName { line: u32 },

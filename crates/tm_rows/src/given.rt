@@ -6,6 +6,7 @@ ghost use Rattle.tm_rows.specs.RowFaults.{row_faults, count_faults, faults_of};
 ghost use Rattle.tm_rows.specs.declared.fault.RowFault.TheVariants.{NoMemory};
 
 use crate::fault::RowFault;
+use crate::limits::MOST_ROWS;
 use crate::template::Template;
 use std::alloc::{AllocError, Global};
 use tm_tree::Coeffs;
@@ -34,7 +35,7 @@ fn row_fault(row: &[i64], vars: u32, line: u32) -> Option<RowFault>
 pub(crate) fn count_fault(count: u32) -> Option<RowFault>
     ensures { option_to_list result ≡ count_faults count }
 {
-    if 1 <= count && count <= 128 {
+    if 1 <= count && count <= MOST_ROWS {
         None
     } else {
         Some(RowFault::Count { count })

@@ -6,7 +6,7 @@ ghost use Rattle.tm_rows.specs.Rows.{is_template};
 use std::marker::Model;
 use tm_tree::Coeffs;
 
-/// A template: 1 to 128 rows, numbered from 0. Each is a list of coefficients, one for each variable in order, not all 0.
+/// A template: 1 to `MOST_ROWS` rows, numbered from 0. Each is a list of coefficients, one for each variable in order, not all 0.
 #[derive(Drop)]
 pub struct Template {
     rows: Vec<Coeffs>,

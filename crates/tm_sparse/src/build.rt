@@ -1,7 +1,7 @@
-//! The rows and names of the first dictionary.
+//! The rows of the first dictionary.
 ghost use Rattle.std.specs.Prelude.{◌≡◌, ℕ, ◌+◌, ◌<◌, ◌≤◌, List, length, map, ◌++◌, [], get_or, IfOk, OnOk};
 ghost use Rattle.tm_num.specs.Rational.{ℚ, zero_ℚ};
-ghost use Rattle.tm_dict.specs.Build.{goals_of, width_of, other_name, slack_entries, auxiliary_entries, goal_entries};
+ghost use Rattle.tm_dict.specs.Build.{goals_of, slack_entries, auxiliary_entries, goal_entries};
 ghost use Rattle.tm_sparse.specs.Keeps.{Lists};
 ghost use Rattle.tm_sparse.specs.Rows.{row_at};
 ghost use Rattle.tm_sparse.specs.Build.{signed_by, end_pushed, IsFirst};
@@ -11,37 +11,6 @@ use crate::push::push_value;
 use std::alloc::{AllocError, Global};
 use tm_dict::{Problem, Row};
 use tm_frac::OrderedField;
-
-/// `count` numbers from `first` on.
-pub fn names_from(alloc: Global, first: u32, count: u32) -> Result<Vec<u32>, AllocError>
-    requires { first + count < 4294967296 }
-    ensures { IfOk result (λ v. (length v.items ≡ count) × ((k : ℕ) → k < count → get_or v.items k 0 ≡ first + k)) }
-{
-    let mut names = Vec::with_capacity(alloc, count as usize)?;
-    for i in 0..count {
-        names.push(first + i)?;
-    }
-    Ok(names)
-}
-
-/// The names of the columns of the first dictionary.
-pub fn other_names(alloc: Global, cols: u32, auxiliary: bool) -> Result<Vec<u32>, AllocError>
-    requires { 1 + cols < 4294967296 }
-    ensures { IfOk result (λ v. (length v.items ≡ width_of auxiliary cols) × ((k : ℕ) → k < width_of auxiliary cols → get_or v.items k 0 ≡ other_name cols k)) }
-{
-    let mut names = names_from(alloc, 1, cols)?;
-    if auxiliary {
-        names.push(0)?;
-    }
-    Ok(names)
-}
-
-/// How many goals the first dictionary has.
-pub fn goal_count(auxiliary: bool) -> usize
-    ensures { result ≡ goals_of auxiliary }
-{
-    if auxiliary { 2 } else { 1 }
-}
 
 fn signed<F: OrderedField>(value: F, negated: bool) -> F
     ensures { F.meaning result ≡ signed_by negated (F.meaning value) }

@@ -1,30 +1,14 @@
-//! The four formulas of a pivot at single entries.
+//! Formulas 3 and 4 of a pivot at single entries.
 ghost use Rattle.std.specs.Prelude.{◌≢◌, ◌≡◌};
 ghost use Rattle.tm_num.specs.Rational.{zero_ℚ, ◌*ℚ◌};
 ghost use Rattle.tm_frac.specs.Operation.{Answers};
-ghost use Rattle.tm_dict.specs.Formulas.{divided, divided_operations, product_operations, added_operations};
+ghost use Rattle.tm_dict.specs.Formulas.{product_operations, added_operations};
 ghost use Rattle.tm_sparse.specs.Rows.{merged};
 ghost use Rattle.tm_sparse.specs.Merge.{kept, term, term_operations};
 ghost use Rattle.tm_sparse.specs.Units.{IsUnit};
 
 use crate::unit::unit_product;
 use tm_frac::{OrderedField, Wide};
-
-/// An entry of the pivot's row after the pivot: formula 1 at the pivot itself, else formula 2.
-pub fn divided_by<F: OrderedField>(entry: F, pivot: F, at_pivot: bool) -> Result<F, Wide<F>>
-    requires { F.meaning pivot ≢ zero_ℚ }
-    ensures { Answers F.meaning F.LIMIT (divided (F.meaning entry) (F.meaning pivot) at_pivot)
-        (divided_operations (F.meaning entry) (F.meaning pivot) at_pivot) result }
-{
-    if at_pivot {
-        return F::one().over(pivot);
-    }
-    if entry.is_zero() {
-        return Ok(entry);
-    }
-    let quotient = entry.over(pivot)?;
-    Ok(quotient.negate())
-}
 
 /// Formula 3, the entry of another row in the pivot's column: `factor` times the new entry of the pivot's row. A factor that is known to
 /// be 1 or -1 makes its product without an operation.

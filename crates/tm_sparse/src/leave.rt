@@ -1,6 +1,5 @@
 //! A column that is left out.
-ghost use Rattle.std.specs.Prelude.{◌≡◌, ℕ, ◌+◌, ◌<◌, length, slice_index};
-ghost use Rattle.tm_lp.specs.Run.{place_of};
+ghost use Rattle.std.specs.Prelude.{◌≡◌, ℕ};
 ghost use Rattle.tm_sparse.specs.Entries.{left_out};
 ghost use Rattle.tm_sparse.specs.Rows.{row_at};
 
@@ -37,18 +36,4 @@ pub fn leave_out_of_each<F: OrderedField>(rows: &mut [SparseRow<F>], col: u32)
     for i in 0..rows.len() {
         leave_out(&mut rows[i], col);
     }
-}
-
-/// The place of the name 0.
-pub fn zero_place(names: &[u32]) -> usize
-    requires { (k : ℕ) × (k < length names.now) × (slice_index names.now k ≡ 0) }
-    ensures within { result < length names.now }
-    ensures place { result ≡ place_of (λ k. slice_index names.now k) (length names.now) 0 }
-{
-    for (i, name) in names.iter().enumerate() {
-        if *name == 0 {
-            return i;
-        }
-    }
-    unreachable!()
 }

@@ -10,11 +10,11 @@ ghost use Rattle.tm_sparse.specs.Keeps.{Keeps};
 ghost use Rattle.tm_sparse.specs.Rows.{row_at, numbers, EachRises, NoZeros, CombinesRows, Exchanges, rows_operations, exchange_operations};
 
 use crate::entry::{Entry, SparseRow};
-use crate::formulas::{divided_by, product_of};
+use crate::formulas::product_of;
 use crate::merge::merge;
 use crate::place::value_in;
 use crate::push::{push_answer, replace};
-use tm_dict::PivotFault;
+use tm_dict::{PivotFault, divided_by};
 use tm_frac::OrderedField;
 
 /// Formulas 1 and 2 on the pivot's row, whose entry at `col` is the pivot.
@@ -40,16 +40,18 @@ pub fn divide_row<F: OrderedField>(
     Ok(())
 }
 
-/// Formulas 3 and 4 on a row, where `above` is the pivot's row after its division. A row with 0 in the pivot's column stays
-/// as it is.
+/// Formulas 3 and 4 on a row, where `above` is the pivot's row after its division and `inverse` its entry in the pivot's column.
+/// A row with 0 in that column stays as it is.
 pub fn combine_row<F: OrderedField>(
     row: &mut SparseRow<F>,
     merged: &mut Vec<Entry<F>>,
     above: &[Entry<F>],
+    inverse: F,
     col: u32,
 ) -> Result<(), PivotFault<F>>
     requires rising { IsRising row.old.entries.items }
     requires above { IsRising above.now }
+    requires inverse { F.meaning inverse ≡ value_at F.meaning above.now col }
     ensures combined { OnOk result ((n : ℕ) → Rises 0 n row.old.entries.items → Rises 0 n above.now →
         Keeps F.meaning (combined_row (value_at F.meaning row.old.entries.items) (value_at F.meaning above.now) col) n row.new.entries.items) }
     ensures no_zero { OnOk result (HasNoZero F.meaning row.old.entries.items → HasNoZero F.meaning row.new.entries.items) }
@@ -62,7 +64,7 @@ pub fn combine_row<F: OrderedField>(
     if factor.is_zero() {
         return Ok(());
     }
-    match product_of(factor, value_in(above, col), None) {
+    match product_of(factor, inverse, None) {
         Ok(product) => {
             merge(merged, &row.entries, above, factor, product, col)?;
             replace(row, merged);
@@ -90,9 +92,10 @@ pub fn combine_rows<F: OrderedField>(
     ensures refused { IfErr result (λ e. (n : ℕ) → EachRises n rows.old → Rises 0 n above.now →
         Refuses F.meaning F.LIMIT (rows_operations (numbers F.meaning rows.old) (value_at F.meaning above.now) (length rows.old) row n col) e) }
 {
+    let inverse = value_in(above, col);
     for i in 0..rows.len() {
         if i != row {
-            combine_row(&mut rows[i], merged, above, col)?;
+            combine_row(&mut rows[i], merged, above, inverse, col)?;
         }
     }
     Ok(())

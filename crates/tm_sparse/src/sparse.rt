@@ -3,13 +3,15 @@ ghost use Rattle.std.specs.Prelude.{◌≡◌, ℕ, suc, ◌+◌, ◌<◌, ◌�
 ghost use Rattle.tm_sparse.specs.Rows.{EachRises};
 ghost use Rattle.tm_sparse.specs.Unique.{EachRises-prop};
 
-use crate::build::{first_rows, goal_count, names_from, other_names};
+use crate::build::first_rows;
 use crate::entry::{Entry, SparseRow};
-use crate::leave::{leave_out_of_each, zero_place};
+use crate::leave::leave_out_of_each;
 use crate::place::value_in;
 use crate::rows::exchange;
 use std::alloc::{AllocError, Global};
-use tm_dict::{PivotFault, Problem, Tableau, lowest_side};
+use tm_dict::{
+    PivotFault, Problem, Tableau, goal_count, lowest_side, names_from, other_names, zero_place,
+};
 use tm_frac::OrderedField;
 
 /// A dictionary that keeps for each row, those of the basic variables and then those of the goals, the entries that are not

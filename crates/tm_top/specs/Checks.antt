@@ -25,6 +25,7 @@ use Rattle.tm_check.specs.declared.fault.CheckFault.TheVariants as check
 use Rattle.tm_top.specs.Texts.{IsAnalysed, unknowns}
 use Rattle.tm_top.specs.declared.status.CertCause.{CertCause}
 use Rattle.tm_top.specs.declared.status.CertCause.TheVariants.{Form, Rows, Unknowns, Check}
+use Rattle.tm_eqsys.specs.declared.limits.TheConstants.{MOST_UNKNOWNS}
 
 -- the bytes spell no certificate, by this fault
 abbrev pub IsFormFault : List ℕ → FormFault → Type 0
@@ -39,11 +40,11 @@ pub record IsSpelt (text bytes : List ℕ) (names : List (List ℕ)) (body : Sta
   pub analysed : IsAnalysed text names body
   pub spells : SpellsCert bytes cert
 
--- and the certificate's rows are a template over the program's variables, with at most 1,024 unknowns
+-- and the certificate's rows are a template over the program's variables, with no more unknowns than a system may have
 pub record IsSystemWith (text bytes : List ℕ) (names : List (List ℕ)) (body : Statements) (cert : Cert) : Type 0 where
   pub spelt : IsSpelt text bytes names body cert
   pub rows : faults_of (length names) cert.rows ≡ []
-  pub within : unknowns body cert.rows ≤ 1024
+  pub within : unknowns body cert.rows ≤ MOST_UNKNOWNS
 
 -- the system of a program and a certificate's rows
 abbrev pub system_with : List (List ℕ) → Statements → Cert → Equations
@@ -87,7 +88,7 @@ IsRefusedCertificate text bytes (Rows fault) =
     × (slice_get (faults_of (length names) cert.rows) 0 ≡ Some fault)
 IsRefusedCertificate text bytes (Unknowns count) =
     (names : List (List ℕ)) × (body : Statements) × (cert : Cert) × IsSpelt text bytes names body cert × (faults_of (length names) cert.rows ≡ [])
-    × (1024 < unknowns body cert.rows) × (count ≡ unknowns body cert.rows)
+    × (MOST_UNKNOWNS < unknowns body cert.rows) × (count ≡ unknowns body cert.rows)
 IsRefusedCertificate text bytes (Check fault) =
     (names : List (List ℕ)) × (body : Statements) × (cert : Cert) × IsSystemWith text bytes names body cert
     × IsStopped (system_with names body cert) (theirs cert) fault

@@ -43,6 +43,7 @@ use Rattle.tm_top.specs.declared.files.LoadRefusal.{LoadRefusal}
 use Rattle.tm_top.specs.declared.files.LoadRefusal.TheVariants as load
 use Rattle.tm_top.specs.declared.refusal.Refusal.{Refusal}
 use Rattle.tm_top.specs.declared.refusal.Refusal.TheVariants.{Text, Certificate, Wide, Spent, NoMemory}
+use Rattle.tm_eqsys.specs.declared.limits.TheConstants.{MOST_UNKNOWNS}
 
 -- the domain by the text of its rows
 abbrev pub domain_of : Domain (Vec ℕ Global) → Domain (List ℕ)
@@ -131,7 +132,7 @@ IsUnspelt text bytes NoMemory = Unit {0}
 -- the rows of a certificate are a template over a program's variables, with few enough unknowns
 pub record FitsProgram (names : List (List ℕ)) (body : Statements) (cert : Cert) : Type 0 where
   pub rows : faults_of (length names) cert.rows ≡ []
-  pub within : unknowns body cert.rows ≤ 1024
+  pub within : unknowns body cert.rows ≤ MOST_UNKNOWNS
 
 -- why a system and a certificate aren't accepted
 abbrev pub IsUnaccepted : Equations → TheoryCertificate → Refusal → Type 0
@@ -150,7 +151,7 @@ IsNoSystem names body cert (Text cause) = ⊥
 IsNoSystem names body cert (Certificate (form.Form fault)) = ⊥
 IsNoSystem names body cert (Certificate (form.Rows fault)) = slice_get (faults_of (length names) cert.rows) 0 ≡ Some fault
 IsNoSystem names body cert (Certificate (form.Unknowns count)) =
-    (faults_of (length names) cert.rows ≡ []) × (1024 < unknowns body cert.rows) × (count ≡ unknowns body cert.rows)
+    (faults_of (length names) cert.rows ≡ []) × (MOST_UNKNOWNS < unknowns body cert.rows) × (count ≡ unknowns body cert.rows)
 IsNoSystem names body cert (Certificate (form.Check fault)) = ⊥
 IsNoSystem names body cert (Wide spot) = ⊥
 IsNoSystem names body cert (Spent number) = ⊥

@@ -20,6 +20,7 @@ use Rattle.tm_cli.specs.declared.request.Domain.TheVariants as domain
 use Rattle.tm_top.specs.declared.status.TextCause.{TextCause}
 use Rattle.tm_top.specs.declared.status.TextCause.TheVariants.{Lex, Parse, Flow, Rows, Unknowns, Cells}
 use Rattle.tm_top.specs.Rounds.{EndsWithin, IsSystemFor, RunsOut}
+use Rattle.tm_eqsys.specs.declared.limits.TheConstants.{MOST_UNKNOWNS}
 
 -- the text's tokens mean this: names and statements, or a fault
 abbrev pub Reading : List ℕ → Answer → Type 0
@@ -53,7 +54,7 @@ cells names body template = cells_of (equations_of_program (length names) body t
 -- a program and a template of these texts that are solved
 pub record IsReady (text : List ℕ) (rows : Domain (List ℕ)) (names : List (List ℕ)) (body : Statements) (template : List (List ℤ)) : Type 0 where
   pub system : IsSystemOf text rows names body template
-  pub within : unknowns body template ≤ 1024
+  pub within : unknowns body template ≤ MOST_UNKNOWNS
   pub cells_within : cells names body template ≤ 134217728
 
 -- the system of these texts, which is solved
@@ -83,10 +84,10 @@ IsRefused text rows (Rows fault) =
     (names : List (List ℕ)) × (body : Statements) × IsAnalysed text names body × HasTemplate rows names (Err fault)
 IsRefused text rows (Unknowns count) =
     (names : List (List ℕ)) × (body : Statements) × (template : List (List ℤ)) × IsSystemOf text rows names body template
-    × (1024 < unknowns body template) × (count ≡ unknowns body template)
+    × (MOST_UNKNOWNS < unknowns body template) × (count ≡ unknowns body template)
 IsRefused text rows (Cells count) =
     (names : List (List ℕ)) × (body : Statements) × (template : List (List ℤ)) × IsSystemOf text rows names body template
-    × (unknowns body template ≤ 1024) × (134217728 < cells names body template) × (count ≡ cells names body template)
+    × (unknowns body template ≤ MOST_UNKNOWNS) × (134217728 < cells names body template) × (count ≡ cells names body template)
 
 -- the texts are a system whose rounds haven't ended at the limit
 abbrev pub IsSpent : List ℕ → Domain (List ℕ) → Policy → ℕ → Type 0

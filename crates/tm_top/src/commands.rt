@@ -6,6 +6,7 @@ ghost use Rattle.tm_cli.specs.Request.{request_of};
 ghost use Rattle.tm_top.specs.Answers.{Gives, IsAnswer, WordsEnd};
 ghost use Rattle.tm_top.specs.Endings.{IsAnswerToWords};
 ghost use Rattle.tm_top.specs.Files.{Request as NamedRequest, file_named};
+ghost use Rattle.tm_top.specs.Messages.{message_of};
 ghost use Rattle.tm_top.specs.Outputs.{GetsMessage, HasFailed, IsInOnePiece, IsMessage, IsOutput, IsTaken, OutputGets, pieces_of};
 ghost use Rattle.tm_top.specs.Reports.{IsReportFor};
 ghost use Rattle.tm_top.specs.Run.{IsLine, IsRowCount, OutputHolds};
@@ -49,6 +50,18 @@ fn obey<S: Shelf, K: Sink>(alloc: Global, words: &[String], shelf: &mut S, out: 
     }
 }
 
+// Puts the message of an ending, where it isn't done. What the stream of messages answers changes nothing.
+fn tell<L: Sink>(ending: &Ending, err: &mut L)
+    ensures gets { GetsMessage ending.now.status (message_of ending.now.line ending.now.rows ending.now.status) (L.held err.old) (L.held err.new)
+        (L.faults err.old) (L.faults err.new) (L.spare err.old) }
+    ensures piece { IsInOnePiece (message_of ending.now.line ending.now.rows ending.now.status) (L.taken err.old) (L.taken err.new) }
+{
+    if ending.status != Status::Done {
+        let message = make_message(ending.line, ending.rows, &ending.status);
+        let _ = err.put(message.bytes());
+    }
+}
+
 /// Does all that the program does, and says how it ended. `words` are those after the program's own
 /// name; a report, a certificate or a summary goes to `out`, and the message of every other ending to `err`
 /// (docs/FORMATS.md, "Messages").
@@ -87,10 +100,6 @@ pub fn run<S: Shelf, K: Sink, L: Sink>(
         × IsInOnePiece message (L.taken err.old) (L.taken err.new) }
 {
     let ending = obey(alloc, words, shelf, out);
-    if ending.status != Status::Done {
-        let message = make_message(ending.line, ending.rows, &ending.status);
-        // What the stream of messages answers changes nothing.
-        let _ = err.put(message.bytes());
-    }
+    tell(&ending, err);
     ending.status
 }

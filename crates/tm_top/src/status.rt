@@ -41,7 +41,7 @@ pub enum TextCause {
     Flow(FlowFault),
     /// The file of rows is no template over its variables.
     Rows(RowFault),
-    /// There are more than 1,024 unknowns, so many.
+    /// There are more unknowns than `tm_eqsys::MOST_UNKNOWNS`, so many.
     Unknowns(u32),
     /// The largest joint problem has more than 134,217,728 cells, so many.
     Cells(u64),
@@ -54,7 +54,7 @@ pub enum CertCause {
     Form(FormFault),
     /// Its rows are no template over the program's variables. Rows are numbered from 1, as lines are.
     Rows(RowFault),
-    /// There are more than 1,024 unknowns, so many.
+    /// There are more unknowns than `tm_eqsys::MOST_UNKNOWNS`, so many.
     Unknowns(u32),
     /// A test of the check fails, and no number before it is wide.
     Check(CheckFault),

@@ -4,6 +4,7 @@ use Rattle.tm_tree.specs.Numbers.{is_number, are_numbers}
 use Rattle.tm_tree.specs.declared.form.Form.{Form}
 use Rattle.tm_tree.specs.Tree.{Condition, free, compare, negation, both, either, leaf_count, Statement, Statements, set, havoc, assume, branch, loop, label}
 use Rattle.tm_tree.specs.Tree.{nil, cons, nodes_in}
+use Rattle.tm_tree.specs.declared.limits.TheConstants.{MOST_VARIABLES}
 
 -- one coefficient for each of n variables, and numbers within 2^63 - 1
 abbrev pub is_form : ℕ → Form → Bool
@@ -40,6 +41,6 @@ abbrev mutual
   are_statements n nil = true
   are_statements n (cons s rest) = is_statement n s && are_statements n rest
 
--- 1 to 8 variables, and at most 512 statements over them
+-- at least one variable and no more than there may be, and at most 512 statements over them
 abbrev pub is_program : ℕ → Statements → Bool
-is_program n body = nat_le 1 n && (nat_le n 8 && (nat_le (nodes_in body) 512 && are_statements n body))
+is_program n body = nat_le 1 n && (nat_le n MOST_VARIABLES && (nat_le (nodes_in body) 512 && are_statements n body))

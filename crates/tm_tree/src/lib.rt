@@ -6,6 +6,7 @@
 mod cond;
 mod form;
 mod law;
+mod limits;
 mod name;
 mod program;
 mod stmt;
@@ -13,6 +14,7 @@ mod stmt;
 pub use cond::{Cond, Rel, leaves};
 pub use form::{Coeffs, Form};
 pub use law::cases_are_truth;
+pub use limits::MOST_VARIABLES;
 pub use name::{Name, Names};
 pub use program::{Program, statements};
 pub use stmt::{Block, Stmt};

@@ -9,7 +9,7 @@ use crate::stmt::{Block, nodes_in};
 
 /// A program: its variables in order of declaration, and its statements.
 ///
-/// It has 1 to 8 variables and at most 512 statements; each condition has at most 64 leaves; each statement's variable
+/// It has 1 to `MOST_VARIABLES` variables and at most 512 statements; each condition has at most 64 leaves; each statement's variable
 /// is one of the program's; each form has one coefficient for each variable; each number is within `2^63 - 1` in
 /// absolute value, and the constant of a comparison within `2^63 - 2`.
 #[derive(Drop)]

@@ -12,6 +12,8 @@ use Rattle.tm_eqsys.specs.View.{equations_of}
 use Rattle.tm_eqsys.proofs.Sizes.{both, flow_sizes}
 use Rattle.tm_validity.specs.Certificates.{PointsInRange}
 use Rattle.tm_validity.proofs.certificates.Needs.{in_of_contains}
+use Rattle.tm_flow.specs.declared.limits.TheConstants.{MOST_POINTS}
+use Rattle.tm_tree.specs.declared.limits.TheConstants.{MOST_VARIABLES}
 
 edge_passes : (n points : ℕ) (edges : List Edge) → IsTrue (list_all (is_edge n points) edges) → (edge : Edge) → In edges edge → IsTrue (is_edge n points edge)
 edge_passes n points [] h edge m = absurd m
@@ -36,8 +38,8 @@ points_in_range system =
 
 pub few_edges : (flow : Flow) → length flow.edges ≤ 256
 few_edges flow =
-    let a = both (nat_le 1 (length flow.names) && nat_le (length flow.names) 8) _ flow.within_limits in
-    let b = both (nat_le 2 (length flow.points) && nat_le (length flow.points) 48) _ a.1 in
+    let a = both (nat_le 1 (length flow.names) && nat_le (length flow.names) MOST_VARIABLES) _ flow.within_limits in
+    let b = both (nat_le 2 (length flow.points) && nat_le (length flow.points) MOST_POINTS) _ a.1 in
     let c = both (begins_with_entry flow.points && list_all has_line flow.points) _ b.1 in
     let e = both (nat_le (length flow.edges) 256) (list_all (is_edge (length flow.names) (length flow.points)) flow.edges) c.1 in
     leb-true (length flow.edges) 256 e.0

@@ -1,5 +1,5 @@
 -- What composed paths have for an edge.
-use Rattle.std.proofs.Common.{◌≡◌, ◌∙◌, ℕ, ◌<◌, List, [], ◌∷◌, length, get_or, map, refl, sym, ap}
+use Rattle.std.proofs.Common.{◌≡◌, ◌∙◌, ℕ, ◌<◌, List, [], ◌∷◌, length, get_or, map, refl, sym, ap, arith}
 use Rattle.std.specs.Prelude.{Some, slice_get, option_map}
 use Rattle.std.proofs.lemmas.List.{length-map}
 use Rattle.std.proofs.lemmas.Option.{slice_get-map, slice_get-get_or}
@@ -27,6 +27,14 @@ edge_there edges k l = slice_get-get_or edges k no_edge l
 
 pub forms_there : (paths : List EdgeForms) (k : ℕ) → k < length paths → slice_get paths k ≡ Some (get_or paths k no_forms)
 forms_there paths k l = slice_get-get_or paths k no_forms l
+
+-- the number of a guard is that of a multiplier, where there is one for each
+pub guard_within : (paths : List EdgeForms) (k n count g : ℕ) → k < length paths → ((forms : EdgeForms) → slice_get paths k ≡ Some forms → n ≡ length forms.guards) →
+    ((forms : EdgeForms) → slice_get paths k ≡ Some forms → count ≡ length forms.guards) → g < count → g < n
+guard_within paths k n count g l each counted below =
+    let forms = get_or paths k no_forms in
+    let e = forms_there paths k l in
+    omega (arith, each forms e, counted forms e, below)
 
 same_forms : (a b : EdgeForms) → Some a ≡ Some b → a ≡ b
 same_forms a b e = cc

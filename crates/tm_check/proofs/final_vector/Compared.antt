@@ -1,13 +1,6 @@
 -- A vector compared with another, unknown by unknown.
-use Rattle.std.proofs.Common.{◌≡◌, ◌∙◌, ℕ, ◌+◌, ◌*◌, ◌/◌, ◌%◌, ◌<◌, ◌≤◌, Bool, true, false, not, [], ◌∷◌, length, refl, ap, subst}
-use Rattle.std.specs.Prelude.{Some, None, IsTrue, flat_map}
-use Rattle.std.specs.Ordering.{eq_by_cmp}
-use Rattle.std.proofs.lemmas.Cmp.{eq_by_cmp_equiv}
-use Rattle.tm_num.specs.Compare.{cmp_ᴱ}
-use Rattle.tm_num.proofs.extended.ExtendedLaws.{cmpᴱ-equal, cmp_ᴱ_total}
-use Rattle.tm_frac.specs.declared.ext.Ext.{Ext}
-use Rattle.tm_frac.specs.Extended.{extended, ext_cmp}
-use Rattle.tm_frac.specs.HashedParts.{is_eq-equal}
+use Rattle.std.proofs.Common.{◌≡◌, ◌∙◌, ℕ, ◌+◌, ◌*◌, ◌/◌, ◌%◌, ◌<◌, ◌≤◌, [], ◌∷◌, length, ap}
+use Rattle.std.specs.Prelude.{Some, None, flat_map}
 use Rattle.tm_eqsys.specs.Equations.{Equations, Vector}
 use Rattle.tm_validity.specs.Decide.{ext_same}
 use Rattle.tm_validity.specs.Faults.{FinalFault, unknowns}
@@ -16,22 +9,6 @@ use Rattle.tm_check.specs.Events.{first_stop}
 use Rattle.tm_check.specs.CheckEvents.{final_events}
 use Rattle.tm_check.proofs.following.Traces.{test_yes, test_no}
 use Rattle.tm_check.proofs.uppers.Numbers.{range_next, range_end, unknowns_from, unknowns_all, number_is}
-
--- two bounds that are told apart
-pub differs : (x y : Ext) → true ≡ not (eq_by_cmp ext_cmp x y) → ¬ (extended x ≡ extended y)
-differs x y t e = by (eq_by_cmp ext_cmp x y) (subst (λ b. IsTrue (eq_by_cmp cmp_ᴱ (extended x) b)) e ((eq_by_cmp_equiv cmp_ᴱ_total).refl (extended x))) t
-  where
-    by : (b : Bool) → IsTrue b → true ≡ not b → ⊥
-    by true h k = cc
-    by false h k = cc
-
--- and two that aren't
-pub equals : (x y : Ext) → false ≡ not (eq_by_cmp ext_cmp x y) → extended x ≡ extended y
-equals x y t = cmpᴱ-equal (extended x) (extended y) (is_eq-equal (ext_cmp x y) (by (eq_by_cmp ext_cmp x y) t))
-  where
-    by : (b : Bool) → false ≡ not b → IsTrue b
-    by true k = refl
-    by false k = cc
 
 module _ (system : Equations) (z goal : Vector) where
   -- what is left from number u on

@@ -9,6 +9,7 @@ use Rattle.tm_flow.specs.FlowLimits.{is_edge}
 use Rattle.tm_rows.specs.Rows.{is_template}
 use Rattle.tm_eqsys.proofs.Sizes.{both, flow_sizes}
 use Rattle.tm_eqsys.proofs.trace_tests.Traced.{all_at}
+use Rattle.tm_rows.specs.declared.limits.TheConstants.{MOST_ROWS}
 
 -- an edge starts at a point
 pub edge_from : (flow : Flow) (i : ℕ) (e : Edge) → slice_get flow.edges i ≡ Some e → e.from < length flow.points
@@ -21,7 +22,7 @@ edge_from flow i e f =
 -- a template has a row
 pub template_some : (template : List (List ℤ)) → IsTrue (is_template template) → 0 < length template
 template_some template h =
-    let a = both (nat_le 1 (length template) && nat_le (length template) 128) _ h in
-    let b = both (nat_le 1 (length template)) (nat_le (length template) 128) a.0 in
+    let a = both (nat_le 1 (length template) && nat_le (length template) MOST_ROWS) _ h in
+    let b = both (nat_le 1 (length template)) (nat_le (length template) MOST_ROWS) a.0 in
     let k = leb-true 1 (length template) b.0 in
     omega (arith, k)

@@ -4,15 +4,17 @@ use Rattle.std.specs.Prelude.{ℤ, IsTrue}
 use Rattle.std.specs.List.{range_with_len}
 use Rattle.tm_num.specs.Rational.{ℚ, whole, zero_ℚ, ◌+ℚ◌, ◌*ℚ◌, neg_ℚ}
 use Rattle.tm_num.specs.Extended.{Ext}
-use Rattle.tm_num.specs.Vector.{dot, add_vec, scale_vec, vec_mat}
+use Rattle.tm_num.specs.Vector.{dot, scale_vec, vec_mat}
+use Rattle.tm_num.proofs.vector.Vectors.{get_or-add_vec, get_or-scale_vec}
 use Rattle.tm_num.proofs.rational.Laws.{+ℚ_assoc, +ℚ_idl, +ℚ_idr, *ℚ-zero, *ℚ_idr}
 use Rattle.tm_flow.specs.declared.edge.Edge.{Edge}
 use Rattle.tm_eqsys.specs.States.{dotℚ}
 use Rattle.tm_eqsys.specs.Equations.{Equations, Vector}
 use Rattle.tm_eqsys.specs.SystemLimits.{is_over}
 use Rattle.tm_eqsys.proofs.Sizes.{both}
-use Rattle.tm_validity.specs.Words.{Affine, shifted, column, columns, combined, guard_forms, start_form}
+use Rattle.tm_validity.specs.Words.{Affine, shifted, column, columns, guard_forms, start_form}
 use Rattle.tm_validity.specs.Certificates.{num, coefficients, combination, row_side, guard_side, side}
+use Rattle.tm_compose.proofs.composed.Dense.{coeff-combined}
 use Rattle.tm_check.specs.EvidenceEvents.{total, row_column, guard_column, row_numbers, guard_numbers}
 use Rattle.tm_check.proofs.names.Items.{eqb_out}
 
@@ -28,24 +30,11 @@ both_dot : (rows xs guards ys : List ℚ) → total (total zero_ℚ rows xs) gua
 both_dot rows xs guards ys = total_dot (total zero_ℚ rows xs) guards ys ∙ ap (λ s. s +ℚ dot guards ys) (total_dot zero_ℚ rows xs ∙ +ℚ_idl (dot rows xs))
 
 -- ---- entries
-at-add_vec : (u v : List ℚ) (k : ℕ) → get_or (add_vec u v) k zero_ℚ ≡ get_or u k zero_ℚ +ℚ get_or v k zero_ℚ
-unfolding add_vec
-at-add_vec [] v k = sym (+ℚ_idl (get_or v k zero_ℚ))
-at-add_vec (x ∷ u) [] k = sym (+ℚ_idr (get_or (x ∷ u) k zero_ℚ))
-at-add_vec (x ∷ u) (y ∷ v) zero = refl
-at-add_vec (x ∷ u) (y ∷ v) (suc k) = at-add_vec u v k
-
-at-scale_vec : (c : ℚ) (u : List ℚ) (k : ℕ) → get_or (scale_vec c u) k zero_ℚ ≡ c *ℚ get_or u k zero_ℚ
-unfolding scale_vec
-at-scale_vec c [] k = sym (*ℚ-zero c)
-at-scale_vec c (x ∷ u) zero = refl
-at-scale_vec c (x ∷ u) (suc k) = at-scale_vec c u k
-
 at-vec_mat : (ys : List ℚ) (rs : List (List ℚ)) (k : ℕ) → get_or (vec_mat ys rs) k zero_ℚ ≡ dot ys (map (λ r. get_or r k zero_ℚ) rs)
 unfolding vec_mat dot
 at-vec_mat [] rs k = refl
 at-vec_mat (y ∷ ys) [] k = refl
-at-vec_mat (y ∷ ys) (r ∷ rs) k = at-add_vec (scale_vec y r) (vec_mat ys rs) k ∙ ap₂ (λ a b. a +ℚ b) (at-scale_vec y r k) (at-vec_mat ys rs k)
+at-vec_mat (y ∷ ys) (r ∷ rs) k = get_or-add_vec (scale_vec y r) (vec_mat ys rs) k ∙ ap₂ (λ a b. a +ℚ b) (get_or-scale_vec y r k) (at-vec_mat ys rs k)
 
 at-coefficients : (fs : List Affine) (k : ℕ) → map (λ r. get_or r k zero_ℚ) (coefficients fs) ≡ map (λ f. get_or f.coeffs k zero_ℚ) fs
 unfolding coefficients
@@ -53,12 +42,6 @@ at-coefficients [] k = refl
 at-coefficients (f ∷ fs) k = ap (λ xs. get_or f.coeffs k zero_ℚ ∷ xs) (at-coefficients fs k)
 
 -- ---- rows at the start
-at-combined : (row : List ℤ) (fs : List Affine) (k : ℕ) → get_or (combined row fs).coeffs k zero_ℚ ≡ dotℚ row (map (λ f. get_or f.coeffs k zero_ℚ) fs)
-unfolding combined
-at-combined [] fs k = refl
-at-combined (c ∷ cs) [] k = refl
-at-combined (c ∷ cs) (f ∷ fs) k = at-add_vec (scale_vec (whole c) f.coeffs) (combined cs fs).coeffs k ∙ ap₂ (λ a b. a +ℚ b) (at-scale_vec (whole c) f.coeffs k) (at-combined cs fs k)
-
 first_zeros : (cs : List ℤ) (fs : List Affine) → dotℚ cs (map (λ f. get_or f.coeffs 0 zero_ℚ) (map shifted fs)) ≡ zero_ℚ
 unfolding shifted
 first_zeros [] fs = refl
@@ -84,7 +67,7 @@ unfolding start_form
 at-start n [] k h = refl
 at-start n (row ∷ rows) k h =
     let p = both (length row == n) (is_over n rows) h in
-    ap₂ (λ x xs. x ∷ xs) (at-combined row (columns n) k ∙ at-columns n row k (eqb_out (length row) n p.0)) (at-start n rows k p.1)
+    ap₂ (λ x xs. x ∷ xs) (coeff-combined row (columns n) k ∙ at-columns n row k (eqb_out (length row) n p.0)) (at-start n rows k p.1)
 
 -- the sum of a column is the combination's entry there
 pub column_total : (system : Equations) (edge : Edge) (rows guards : List ℚ) (k : ℕ) → IsTrue (is_over system.variables system.template) →
@@ -92,7 +75,7 @@ pub column_total : (system : Equations) (edge : Edge) (rows guards : List ℚ) (
 unfolding combination
 column_total system edge rows guards k h =
     both_dot rows (row_column system k) guards (guard_column system edge k)
-    ∙ sym (at-add_vec (vec_mat rows (coefficients (map (start_form system.variables) system.template))) (vec_mat guards (coefficients (guard_forms system.variables edge.actions))) k
+    ∙ sym (get_or-add_vec (vec_mat rows (coefficients (map (start_form system.variables) system.template))) (vec_mat guards (coefficients (guard_forms system.variables edge.actions))) k
     ∙ ap₂ (λ a b. a +ℚ b)
     (at-vec_mat rows (coefficients (map (start_form system.variables) system.template)) k ∙ ap (dot rows) (at-coefficients (map (start_form system.variables) system.template) k ∙ at-start system.variables system.template k h))
     (at-vec_mat guards (coefficients (guard_forms system.variables edge.actions)) k ∙ ap (dot guards) (at-coefficients (guard_forms system.variables edge.actions) k)))

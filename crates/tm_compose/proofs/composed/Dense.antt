@@ -4,8 +4,8 @@ use Rattle.std.specs.Prelude.{ℤ}
 use Rattle.std.specs.List.{range_with_len}
 use Rattle.std.proofs.lemmas.List.FromFn.{fill_by_all}
 use Rattle.tm_num.specs.Rational.{ℚ, whole, zero_ℚ, one_ℚ, ◌+ℚ◌, ◌*ℚ◌}
-use Rattle.tm_num.specs.Vector.{add_vec, scale_vec}
-use Rattle.tm_num.proofs.rational.Laws.{+ℚ_idl, +ℚ_idr, *ℚ-zero}
+use Rattle.tm_num.specs.Vector.{scale_vec}
+use Rattle.tm_num.proofs.vector.Vectors.{get_or-add_vec, get_or-scale_vec}
 use Rattle.tm_tree.specs.declared.form.Form.{Form as ProgramForm}
 use Rattle.tm_eqsys.specs.States.{dotℚ, valueℚ}
 use Rattle.tm_validity.specs.Words.{Affine as Form, shifted, column, combined, composed}
@@ -35,19 +35,6 @@ constants-dense w [] = refl
 constants-dense w (f ∷ forms) = ap (λ xs. f.constant ∷ xs) (constants-dense w forms)
 
 -- ---- the entries of a row over a state
-get_or-add_vec : (u v : List ℚ) (k : ℕ) → get_or (add_vec u v) k zero_ℚ ≡ get_or u k zero_ℚ +ℚ get_or v k zero_ℚ
-unfolding add_vec
-get_or-add_vec [] v k = sym (+ℚ_idl (get_or v k zero_ℚ))
-get_or-add_vec (x ∷ u) [] k = sym (+ℚ_idr (get_or (x ∷ u) k zero_ℚ))
-get_or-add_vec (x ∷ u) (y ∷ v) zero = refl
-get_or-add_vec (x ∷ u) (y ∷ v) (suc k) = get_or-add_vec u v k
-
-get_or-scale_vec : (c : ℚ) (u : List ℚ) (k : ℕ) → get_or (scale_vec c u) k zero_ℚ ≡ c *ℚ get_or u k zero_ℚ
-unfolding scale_vec
-get_or-scale_vec c [] k = sym (*ℚ-zero c)
-get_or-scale_vec c (x ∷ u) zero = refl
-get_or-scale_vec c (x ∷ u) (suc k) = get_or-scale_vec c u k
-
 pub coeff-combined : (row : List ℤ) (forms : List Form) (k : ℕ) → get_or (combined row forms).coeffs k zero_ℚ ≡ dotℚ row (column_values k forms)
 unfolding combined
 coeff-combined [] forms k = refl

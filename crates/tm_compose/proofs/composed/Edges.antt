@@ -7,11 +7,10 @@ use Rattle.tm_frac.specs.Fits.{long_limit}
 use Rattle.tm_frac.specs.Operation.{first_wide}
 use Rattle.tm_validity.specs.Words.{columns, combined, free_count, width, guards_from, ends_from, guard_forms, end_form}
 use Rattle.tm_compose.specs.declared.affine.Affine.{Affine}
-use Rattle.tm_compose.specs.declared.fault.FormFault.{FormFault}
-use Rattle.tm_compose.specs.declared.fault.FormFault.TheVariants.{WideSum, NoRoom}
+use Rattle.tm_eqsys.specs.declared.fault.Fault.TheVariants.{Wide, NoMemory}
 use Rattle.tm_compose.specs.Composed.{EdgeForms, dense, edge_forms}
 use Rattle.tm_compose.specs.Operations.{row_composition, actions_composition, edge_composition}
-use Rattle.tm_compose.specs.Faults.{IsFormFault}
+use Rattle.tm_eqsys.specs.Faults.{OperationFault, IsFaultOf}
 use Rattle.tm_compose.proofs.operations.Walked.{guards_few}
 use Rattle.tm_compose.proofs.walk.States.{length-columns}
 
@@ -33,15 +32,15 @@ end_forms_are n w actions template = refl
 
 module _ (n w k : ℕ) (template : List (List ℤ)) (actions : List Action) (e : w ≡ width n actions) (s : k ≡ n) where
   -- a fault in the actions
-  pub edge_refused : (fault : FormFault) → IsFormFault (actions_composition w template k (columns n) actions) fault → IsFormFault (edge_composition n template actions) fault
+  pub edge_refused : (fault : OperationFault) → IsFaultOf (actions_composition w template k (columns n) actions) fault → IsFaultOf (edge_composition n template actions) fault
   edge_refused fault h =
-      subst (λ j. IsFormFault (actions_composition j template n (columns n) actions) fault) e (subst (λ j. IsFormFault (actions_composition w template j (columns n) actions) fault) s h)
+      subst (λ j. IsFaultOf (actions_composition j template n (columns n) actions) fault) e (subst (λ j. IsFaultOf (actions_composition w template j (columns n) actions) fault) s h)
 
   module _ (f : first_wide long_limit (actions_composition w template k (columns n) actions) ≡ first_wide long_limit (flat_map (row_composition w (ends_from k (columns n) actions)) template)) where
     -- a fault in the rows
-    pub rows_refused : (fault : FormFault) → IsFormFault (flat_map (row_composition w (ends_from k (columns n) actions)) template) fault → IsFormFault (edge_composition n template actions) fault
-    rows_refused (WideSum o) h = edge_refused (WideSum o) (f ∙ h)
-    rows_refused NoRoom h = tt
+    pub rows_refused : (fault : OperationFault) → IsFaultOf (flat_map (row_composition w (ends_from k (columns n) actions)) template) fault → IsFaultOf (edge_composition n template actions) fault
+    rows_refused (Wide o) h = edge_refused (Wide o) (f ∙ h)
+    rows_refused NoMemory h = tt
 
     -- no fault
     pub edge_composed : (frees : ℕ) (guards rows : List Affine) → frees ≡ free_count actions → guards ≡ map (dense w) (guards_from k (columns n) actions) →

@@ -4,9 +4,8 @@ use Rattle.std.specs.Prelude.{flat_map}
 use Rattle.std.proofs.lemmas.List.{drop_more, drop_all}
 use Rattle.tm_frac.specs.Fits.{long_limit}
 use Rattle.tm_frac.specs.Operation.{Operation, first_wide, operation_of}
-use Rattle.tm_compose.specs.declared.fault.FormFault.{FormFault}
-use Rattle.tm_compose.specs.declared.fault.FormFault.TheVariants.{WideSum, NoRoom}
-use Rattle.tm_compose.specs.Faults.{IsFormFault}
+use Rattle.tm_eqsys.specs.declared.fault.Fault.TheVariants.{Wide, NoMemory}
+use Rattle.tm_eqsys.specs.Faults.{OperationFault, IsFaultOf}
 use Rattle.tm_eqsys.proofs.Widths.{first_wide_later, first_wide_sooner}
 
 -- what is left has the first wide operation of all
@@ -30,6 +29,6 @@ pub passed_all : {X : Type 0} (f : X → List Operation) (xs : List X) (i : ℕ)
 passed_all f xs i l h = h.first ∙ ap (λ ys. first_wide long_limit (flat_map f ys)) (drop_all i xs l)
 
 -- an element with a fault
-pub passed_refused : {X : Type 0} (f : X → List Operation) (xs : List X) (i : ℕ) → IsPassed f xs i → (x : X) → i < length xs → x ≡ get_or xs i x → (fault : FormFault) → IsFormFault (f x) fault → IsFormFault (flat_map f xs) fault
-passed_refused f xs i h x l e (WideSum w) k = passed_wide f xs i h x l e (operation_of (λ q. q) w) k
-passed_refused f xs i h x l e NoRoom k = tt
+pub passed_refused : {X : Type 0} (f : X → List Operation) (xs : List X) (i : ℕ) → IsPassed f xs i → (x : X) → i < length xs → x ≡ get_or xs i x → (fault : OperationFault) → IsFaultOf (f x) fault → IsFaultOf (flat_map f xs) fault
+passed_refused f xs i h x l e (Wide w) k = passed_wide f xs i h x l e (operation_of (λ q. q) w) k
+passed_refused f xs i h x l e NoMemory k = tt

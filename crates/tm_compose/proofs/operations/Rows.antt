@@ -11,27 +11,18 @@ use Rattle.tm_frac.specs.declared.wide.Wide.{Wide}
 use Rattle.tm_frac.specs.Operation.{Operation, first_wide, operation_of}
 use Rattle.tm_eqsys.specs.States.{dotℚ}
 use Rattle.tm_eqsys.specs.Sums.{row_operations, SumAnswers}
+use Rattle.tm_eqsys.proofs.Faults.{sooner, later}
 use Rattle.tm_eqsys.proofs.Widths.{first_wide_later, first_wide_sooner, one_answer}
 use Rattle.tm_validity.specs.Words.{Affine as Form, combined, composed}
 use Rattle.tm_compose.specs.declared.affine.Affine.{Affine}
-use Rattle.tm_compose.specs.declared.fault.FormFault.{FormFault}
-use Rattle.tm_compose.specs.declared.fault.FormFault.TheVariants.{WideSum, NoRoom}
+use Rattle.tm_eqsys.specs.declared.fault.Fault.TheVariants.{Wide as WideFault}
 use Rattle.tm_compose.specs.Composed.{first_entries, dense}
 use Rattle.tm_compose.specs.Operations.{column_values, constants, column_operations, row_composition, form_composition}
-use Rattle.tm_compose.specs.Faults.{IsFormFault}
+use Rattle.tm_eqsys.specs.Faults.{OperationFault, IsFaultOf}
 use Rattle.tm_compose.specs.Sums.{dense_column, dense_constants}
 use Rattle.tm_compose.proofs.faults.Passed.{IsPassed, passed_more, passed_wide, passed_all}
 use Rattle.tm_compose.proofs.Ranges.{range_map, range_flat}
 use Rattle.tm_compose.proofs.composed.Dense.{column-dense, constants-dense, coeffs-combined, constant-combined, coeffs-composed, constant-composed}
-
--- what comes later doesn't change a fault
-pub fault_sooner : (os ps : List Operation) (fault : FormFault) → IsFormFault os fault → IsFormFault (os ++ ps) fault
-fault_sooner os ps (WideSum w) h = first_wide_sooner long_limit os ps (operation_of (λ q. q) w) h
-fault_sooner os ps NoRoom h = tt
-
-pub fault_later : (os ps : List Operation) (fault : FormFault) → first_wide long_limit os ≡ None → IsFormFault ps fault → IsFormFault (os ++ ps) fault
-fault_later os ps (WideSum w) n h = first_wide_later long_limit os ps n ∙ h
-fault_later os ps NoRoom n h = tt
 
 -- ---- columns in order
 range_here : (w k : ℕ) → k < w → k ≡ get_or (range_with_len 0 w) k k
@@ -54,7 +45,7 @@ module _ (row : List ℤ) (state : List Affine) (w : ℕ) where
 
     -- a column with a wide sum
     pub column_refused : (k : ℕ) (o : Wide ℚ) → k < w → IsPassed (λ j. row_operations row (dense_column j state)) (range_with_len 0 w) k → first_wide long_limit (row_operations row (dense_column k state)) ≡ Some (operation_of (λ q. q) o) →
-        IsFormFault (row_composition w forms row) (WideSum o)
+        IsFaultOf (row_composition w forms row) (WideFault o)
     column_refused k o l h n =
         first_wide_sooner long_limit (column_operations w row forms) (row_operations row (constants forms)) (operation_of (λ q. q) o)
         (ap (first_wide long_limit) (sym columns_are) ∙ passed_wide (λ j. row_operations row (dense_column j state)) (range_with_len 0 w) k h k (let e = length-range_with_len 0 w in omega (arith, l)) (range_here w k l) (operation_of (λ q. q) o) n)
@@ -64,7 +55,7 @@ module _ (row : List ℤ) (state : List Affine) (w : ℕ) where
       columns_fit = ap (first_wide long_limit) (sym columns_are) ∙ passed_all (λ j. row_operations row (dense_column j state)) (range_with_len 0 w) k (let e = length-range_with_len 0 w in omega (arith, l)) h
 
       -- a wide sum of the constants
-      pub constant_refused : (o : Wide ℚ) → first_wide long_limit (row_operations row (dense_constants state)) ≡ Some (operation_of (λ q. q) o) → IsFormFault (row_composition w forms row) (WideSum o)
+      pub constant_refused : (o : Wide ℚ) → first_wide long_limit (row_operations row (dense_constants state)) ≡ Some (operation_of (λ q. q) o) → IsFaultOf (row_composition w forms row) (WideFault o)
       constant_refused o n =
           first_wide_later long_limit (column_operations w row forms) (row_operations row (constants forms)) columns_fit ∙ ap (λ xs. first_wide long_limit (row_operations row xs)) (sym constants_are) ∙ n
 
@@ -87,8 +78,8 @@ module _ (w : ℕ) (form : ProgramForm) (forms : List Form) where
   parted : row_composition w forms form.coeffs ++ (record { op = Add; left = dotℚ form.coeffs (constants forms); right = whole form.constant } ∷ []) ≡ form_composition w forms form
   parted = append_assoc (column_operations w form.coeffs forms) (row_operations form.coeffs (constants forms)) (record { op = Add; left = dotℚ form.coeffs (constants forms); right = whole form.constant } ∷ [])
 
-  pub form_refused : (fault : FormFault) → IsFormFault (row_composition w forms form.coeffs) fault → IsFormFault (form_composition w forms form) fault
-  form_refused fault h = subst (λ os. IsFormFault os fault) parted (fault_sooner (row_composition w forms form.coeffs) (record { op = Add; left = dotℚ form.coeffs (constants forms); right = whole form.constant } ∷ []) fault h)
+  pub form_refused : (fault : OperationFault) → IsFaultOf (row_composition w forms form.coeffs) fault → IsFaultOf (form_composition w forms form) fault
+  form_refused fault h = subst (λ os. IsFaultOf os fault) parted (sooner (row_composition w forms form.coeffs) (record { op = Add; left = dotℚ form.coeffs (constants forms); right = whole form.constant } ∷ []) fault h)
 
   module _ (row : Affine) (right : ℚ) (e : row ≡ dense w (combined form.coeffs forms)) (k : right ≡ whole form.constant) (n : first_wide long_limit (row_composition w forms form.coeffs) ≡ None) where
     left_is : row.constant ≡ dotℚ form.coeffs (constants forms)
@@ -100,10 +91,10 @@ module _ (w : ℕ) (form : ProgramForm) (forms : List Form) where
         subst (λ y. SumAnswers (dotℚ form.coeffs (constants forms) +ℚ y) (record { op = Add; left = dotℚ form.coeffs (constants forms); right = y } ∷ []) res) k
         (subst (λ x. SumAnswers (x +ℚ right) (record { op = Add; left = x; right = right } ∷ []) res) left_is (one_answer Add row.constant right res m))
 
-    pub last_refused : (o : Wide ℚ) → (¬ (Fits long_limit (row.constant +ℚ right))) × (o ≡ record { op = Add; left = row.constant; right = right }) → IsFormFault (form_composition w forms form) (WideSum o)
+    pub last_refused : (o : Wide ℚ) → (¬ (Fits long_limit (row.constant +ℚ right))) × (o ≡ record { op = Add; left = row.constant; right = right }) → IsFaultOf (form_composition w forms form) (WideFault o)
     last_refused o m =
-        subst (λ os. IsFormFault os (WideSum o)) parted
-        (fault_later (row_composition w forms form.coeffs) (record { op = Add; left = dotℚ form.coeffs (constants forms); right = whole form.constant } ∷ []) (WideSum o) n (sum_answers (Err o) m))
+        subst (λ os. IsFaultOf os (WideFault o)) parted
+        (later (row_composition w forms form.coeffs) (record { op = Add; left = dotℚ form.coeffs (constants forms); right = whole form.constant } ∷ []) (WideFault o) n (sum_answers (Err o) m))
 
     pub form_composed : (coeffs : List ℚ) (r : ℚ) → coeffs ≡ row.coeffs → (r ≡ row.constant +ℚ right) × Fits long_limit r →
         (let f : Affine = record { coeffs = coeffs; constant = r } in f ≡ dense w (composed form forms)) × (first_wide long_limit (form_composition w forms form) ≡ None)

@@ -9,18 +9,17 @@ use Rattle.tm_flow.specs.declared.edge.Action.{Action}
 use Rattle.tm_flow.specs.declared.edge.Action.TheVariants.{Guard, Assign, Havoc}
 use Rattle.tm_frac.specs.Fits.{long_limit}
 use Rattle.tm_frac.specs.Operation.{first_wide}
+use Rattle.tm_eqsys.proofs.Faults.{sooner}
 use Rattle.tm_eqsys.proofs.Widths.{first_wide_later}
 use Rattle.tm_eqsys.proofs.Sizes.{both}
 use Rattle.tm_validity.specs.Words.{Affine as Form, column, composed, free_count, guards_from, ends_from}
 use Rattle.tm_compose.specs.declared.affine.Affine.{Affine}
-use Rattle.tm_compose.specs.declared.fault.FormFault.{FormFault}
-use Rattle.tm_compose.specs.declared.fault.FormFault.TheVariants.{WideSum, NoRoom}
+use Rattle.tm_eqsys.specs.declared.fault.Fault.TheVariants.{Wide, NoMemory}
 use Rattle.tm_compose.specs.Composed.{first_entries, dense}
 use Rattle.tm_compose.specs.Operations.{row_composition, action_composition, actions_composition, next_state, next_column}
-use Rattle.tm_compose.specs.Faults.{IsFormFault}
+use Rattle.tm_eqsys.specs.Faults.{OperationFault, IsFaultOf}
 use Rattle.tm_compose.specs.Walks.{has_width, IsState, action_guards}
 use Rattle.tm_compose.specs.ComposedLaws.{form_of}
-use Rattle.tm_compose.proofs.operations.Rows.{fault_sooner}
 
 -- ---- each state is one of forms of the theory
 entries_all : (w : ℕ) (xs : List ℚ) → length xs ≡ w → xs ≡ first_entries w xs
@@ -97,10 +96,10 @@ module _ (w k : ℕ) (forms : List Form) (actions : List Action) where
           ∙ ap (λ j. first_wide long_limit (actions_composition w template j (next_state next now action) (drop (i + 1) actions))) (sym n);
     }
 
-    pub walked_wide : (fault : FormFault) → IsFormFault (action_composition w now action) fault → (template : List (List ℤ)) → IsFormFault (actions_composition w template k forms actions) fault
-    walked_wide NoRoom f template = tt
-    walked_wide (WideSum o) f template =
-        first_on template ∙ fault_sooner (action_composition w now action) (actions_composition w template (next_column next action) (next_state next now action) (drop (i + 1) actions)) (WideSum o) f
+    pub walked_wide : (fault : OperationFault) → IsFaultOf (action_composition w now action) fault → (template : List (List ℤ)) → IsFaultOf (actions_composition w template k forms actions) fault
+    walked_wide NoMemory f template = tt
+    walked_wide (Wide o) f template =
+        first_on template ∙ sooner (action_composition w now action) (actions_composition w template (next_column next action) (next_state next now action) (drop (i + 1) actions)) (Wide o) f
 
   module _ (i next : ℕ) (state guards : List Affine) (now : List Form) (h : IsWalked w k forms actions i next state guards now) (l : length actions ≤ i) where
     ends_now : ends_from k forms actions ≡ now

@@ -15,7 +15,8 @@ use Rattle.tm_dict.specs.Rows.{Exchanges, exchange_operations}
 pub name_read : (xs : List ℕ) (i x : ℕ) → i < length xs → x ≡ get_or xs i x → x ≡ get_or xs i 0
 name_read xs i x l e = e ∙ get_or_default xs i x 0 l
 
-row_entry : (T : Table) (r c k : ℕ) → pivot_row_entry T r c k ≡ divided_row (T.entry r) c k
+-- an entry of the table after the pivot, in the pivot's row and in another
+pub row_entry : (T : Table) (r c k : ℕ) → pivot_row_entry T r c k ≡ divided_row (T.entry r) c k
 unfolding pivot_row_entry
 row_entry T r c k = by (eqb k c)
   where
@@ -23,7 +24,7 @@ row_entry T r c k = by (eqb k c)
     by true = refl
     by false = refl
 
-other_entry : (T : Table) (r c i k : ℕ) → pivot_other_entry T r c i k ≡ combined_row (T.entry i) (divided_row (T.entry r) c) c k
+pub other_entry : (T : Table) (r c i k : ℕ) → pivot_other_entry T r c i k ≡ combined_row (T.entry i) (divided_row (T.entry r) c) c k
 unfolding pivot_other_entry
 other_entry T r c i k = by (eqb k c) refl
   where

@@ -18,6 +18,8 @@ use Rattle.tm_flow.specs.FlowLimits.{is_action, is_edge}
 use Rattle.tm_eqsys.specs.FreeValues.{free_count}
 use Rattle.tm_eqsys.specs.Cells.{is_havoc, guard_count, greatest, most}
 use Rattle.tm_eqsys.proofs.Sizes.{both, flow_sizes}
+use Rattle.tm_rows.specs.declared.limits.TheConstants.{MOST_ROWS}
+use Rattle.tm_tree.specs.declared.limits.TheConstants.{MOST_VARIABLES}
 
 pub free_count-is : (actions : List Action) → free_count actions ≡ count_by is_havoc actions
 free_count-is actions = is_count_by free_count is_havoc refl step actions
@@ -85,11 +87,11 @@ guards_few actions = count_by-le-length _ actions
 pub frees_few : (actions : List Action) → free_count actions ≤ length actions
 frees_few actions = omega (arith, free_count-is actions, count_by-le-length is_havoc actions)
 
-pub rows_bound : (rows guards : ℕ) → rows ≤ 128 → guards ≤ 256 → rows * (rows + 1 + guards) ≤ 49280
-rows_bound rows guards h k = mul-le rows (rows + 1 + guards) 128 385 h (omega (arith, h, k))
+pub rows_bound : (rows guards : ℕ) → rows ≤ MOST_ROWS → guards ≤ 256 → rows * (rows + 1 + guards) ≤ MOST_ROWS * (MOST_ROWS + 257)
+rows_bound rows guards h k = mul-le rows (rows + 1 + guards) MOST_ROWS (MOST_ROWS + 257) h (omega (arith, h, k))
 
-pub columns_bound : (rows names frees : ℕ) → rows ≤ 128 → names ≤ 8 → frees ≤ 256 → rows * (1 + 2 * (names + frees)) ≤ 67712
-columns_bound rows names frees h k l = mul-le rows (1 + 2 * (names + frees)) 128 529 h (omega (arith, k, l))
+pub columns_bound : (rows names frees : ℕ) → rows ≤ MOST_ROWS → names ≤ MOST_VARIABLES → frees ≤ 256 → rows * (1 + 2 * (names + frees)) ≤ MOST_ROWS * (2 * MOST_VARIABLES + 513)
+columns_bound rows names frees h k l = mul-le rows (1 + 2 * (names + frees)) MOST_ROWS (2 * MOST_VARIABLES + 513) h (omega (arith, k, l))
 
 -- the counts of a flow's edges
 pub few_of : (count : List Action → ℕ) → ((actions : List Action) → count actions ≤ length actions) → (flow : Flow) (edges : List Edge) (p n : ℕ) → edges ≡ flow.edges → n ≡ most count edges p → n ≤ 256

@@ -28,20 +28,22 @@ use Rattle.tm_flow.proofs.count.Counting.{either_way}
 use Rattle.tm_flow.proofs.build.EdgeLimits.{EdgeFits, few_in, edges_fit}
 use Rattle.tm_flow.proofs.steps.ElementLemmas.{in_contains}
 use Rattle.tm_flow.proofs.edges.Ranges.{ranges_law}
+use Rattle.tm_flow.specs.declared.limits.TheConstants.{MOST_POINTS}
+use Rattle.tm_tree.specs.declared.limits.TheConstants.{MOST_VARIABLES}
 
 -- ---- a program's limits
 pub record Limits (n : ℕ) (body : Statements) : Type 0 where
   pub some_name : 1 ≤ n
-  pub names : n ≤ 8
+  pub names : n ≤ MOST_VARIABLES
   pub nodes : nodes_in body ≤ 512
   pub statements : IsTrue (are_statements n body)
 
 pub limits : (n : ℕ) (body : Statements) → IsTrue (is_program n body) → Limits n body
 limits n body h =
-    let p = and_parts (nat_le 1 n) (nat_le n 8 && (nat_le (nodes_in body) 512 && are_statements n body)) h in
-    let q = and_parts (nat_le n 8) (nat_le (nodes_in body) 512 && are_statements n body) p.1 in
+    let p = and_parts (nat_le 1 n) (nat_le n MOST_VARIABLES && (nat_le (nodes_in body) 512 && are_statements n body)) h in
+    let q = and_parts (nat_le n MOST_VARIABLES) (nat_le (nodes_in body) 512 && are_statements n body) p.1 in
     let r = and_parts (nat_le (nodes_in body) 512) (are_statements n body) q.1 in
-    record { some_name = leb-true 1 n p.0; names = leb-true n 8 q.0; nodes = leb-true (nodes_in body) 512 r.0; statements = r.1 }
+    record { some_name = leb-true 1 n p.0; names = leb-true n MOST_VARIABLES q.0; nodes = leb-true (nodes_in body) 512 r.0; statements = r.1 }
 
 pub few_points : (n : ℕ) (body : Statements) → IsTrue (is_program n body) → point_count body ≤ 514
 few_points n body h = let l = limits n body h in omega (arith, few_in body, l.nodes)
@@ -52,13 +54,13 @@ no_choice true b x y h = cc
 no_choice false true x y h = cc
 no_choice false false x y h = (refl, refl)
 
-none_after : (lines : List ℕ) (body : Statements) → counted_after lines body ≡ None → (point_count body ≤ 48) × (length (edges_of_program body) ≤ 256)
+none_after : (lines : List ℕ) (body : Statements) → counted_after lines body ≡ None → (point_count body ≤ MOST_POINTS) × (length (edges_of_program body) ≤ 256)
 none_after [] body h =
-    let p = no_choice (nat_lt 48 (point_count body)) (nat_lt 256 (length (edges_of_program body))) (fault.Points (point_count body)) fault.Edges h in
-    (ltb-false 48 (point_count body) p.0, ltb-false 256 (length (edges_of_program body)) p.1)
+    let p = no_choice (nat_lt MOST_POINTS (point_count body)) (nat_lt 256 (length (edges_of_program body))) (fault.Points (point_count body)) fault.Edges h in
+    (ltb-false MOST_POINTS (point_count body) p.0, ltb-false 256 (length (edges_of_program body)) p.1)
 none_after (line ∷ lines) body h = cc
 
-pub none_counted : (body : Statements) → counted_fault body ≡ None → (point_count body ≤ 48) × (length (edges_of_program body) ≤ 256)
+pub none_counted : (body : Statements) → counted_fault body ≡ None → (point_count body ≤ MOST_POINTS) × (length (edges_of_program body) ≤ 256)
 none_counted body h = none_after (wide_lines_in body) body h
 
 -- ---- edges that are too long
@@ -196,11 +198,11 @@ program_within names body h k l =
     let edges = kept_edges body in
     let o = limits n body h in
     let count : length points ≡ point_count body = (numbering body).count in
-    let few : length points ≤ 48 = omega (arith, (none_counted body k).0) in
+    let few : length points ≤ MOST_POINTS = omega (arith, (none_counted body k).0) in
     let two : 2 ≤ length points = omega arith in
     let all : IsTrue (list_all (is_edge n (length points)) edges) = rw count (edges_within n body o.statements l) in
-    and_from (nat_le 1 n && nat_le n 8) _ (and_from (nat_le 1 n) (nat_le n 8) (le-leb 1 n o.some_name) (le-leb n 8 o.names))
-    (and_from (nat_le 2 (length points) && nat_le (length points) 48) _ (and_from (nat_le 2 (length points)) (nat_le (length points) 48) (le-leb 2 (length points) two) (le-leb (length points) 48 few))
+    and_from (nat_le 1 n && nat_le n MOST_VARIABLES) _ (and_from (nat_le 1 n) (nat_le n MOST_VARIABLES) (le-leb 1 n o.some_name) (le-leb n MOST_VARIABLES o.names))
+    (and_from (nat_le 2 (length points) && nat_le (length points) MOST_POINTS) _ (and_from (nat_le 2 (length points)) (nat_le (length points) MOST_POINTS) (le-leb 2 (length points) two) (le-leb (length points) MOST_POINTS few))
     (and_from (begins_with_entry points && list_all has_line points) _ (points_within body)
     (and_from (nat_le (length edges) 256) (list_all (is_edge n (length points)) edges) (le-leb (length edges) 256 (few_edges body k)) all)))
 

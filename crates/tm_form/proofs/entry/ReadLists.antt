@@ -1,5 +1,5 @@
 -- Lists of values that are tested or read one after another.
-use Rattle.std.proofs.Common.{◌≡◌, ◌+◌, ◌<◌, ◌≤◌, ◌++◌, ◌&&◌, ℕ, zero, suc, Bool, true, false, List, [], ◌∷◌, length, drop, get_or, Option, Some, None, option_map, option_and_then, refl, sym, ap, ◌∙◌, arith, append_assoc}
+use Rattle.std.proofs.Common.{◌≡◌, ◌+◌, ◌<◌, ◌≤◌, ◌++◌, ◌&&◌, ℕ, zero, suc, Bool, true, false, List, [], ◌∷◌, length, drop, get_or, Option, Some, None, option_map, option_and_then, refl, sym, ap, ap₂, ◌∙◌, arith, append_assoc}
 use Rattle.std.proofs.lemmas.List.{append-nil}
 use Rattle.serde_json.specs.Data.{Data}
 use Rattle.serde_json.specs.View.{items_view, view}
@@ -53,11 +53,12 @@ module _ {A : Type 0} (read : Data → Option A) where
   after_push done x None = refl
   after_push done x (Some xs) = ap Some (sym (append_assoc done (x ∷ []) xs))
 
-  pub pushed : (vs : List Value) (i : ℕ) (v : Value) (x : A) (done : List A) (all : Option (List A)) → i < length vs → v ≡ get_or vs i v → Some x ≡ read (view v)
-      → all ≡ after done (left_to_read vs i) → all ≡ after (done ++ x ∷ []) (left_to_read vs (i + 1))
-  pushed vs i v x done all lt is found e =
+  pub pushed : (vs : List Value) (i : ℕ) (v : Value) (x : A) (done now : List A) (all : Option (List A)) → i < length vs → v ≡ get_or vs i v → Some x ≡ read (view v)
+      → now ≡ done ++ x ∷ [] → all ≡ after done (left_to_read vs i) → all ≡ after now (left_to_read vs (i + 1))
+  pushed vs i v x done now all lt is found more e =
       let one : suc i ≡ i + 1 = omega arith in
-      e ∙ ap (after done) (next_read vs i v lt is ∙ ap (λ o. joined o (left_to_read vs (suc i))) (sym found)) ∙ after_push done x (left_to_read vs (suc i)) ∙ ap (λ k. after (done ++ x ∷ []) (left_to_read vs k)) one
+      e ∙ ap (after done) (next_read vs i v lt is ∙ ap (λ o. joined o (left_to_read vs (suc i))) (sym found)) ∙ after_push done x (left_to_read vs (suc i))
+      ∙ ap₂ (λ list k. after list (left_to_read vs k)) (sym more) one
 
   pub stopped : (vs : List Value) (i : ℕ) (v : Value) (done : List A) (all : Option (List A)) → i < length vs → v ≡ get_or vs i v → None ≡ read (view v)
       → all ≡ after done (left_to_read vs i) → None ≡ all

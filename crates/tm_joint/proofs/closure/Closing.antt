@@ -1,6 +1,6 @@
 -- Tables are square, and grow unknown by unknown.
-use Rattle.std.proofs.Common.{◌≡◌, ◌∙◌, ℕ, ◌+◌, ◌-◌, ◌<◌, ◌≤◌, List, [], ◌∷◌, length, get_or, drop, refl, ap, ap₂, sym, arith}
-use Rattle.std.specs.Prelude.{Bool, map, ◌==◌}
+use Rattle.std.proofs.Common.{◌≡◌, ◌∙◌, ℕ, ◌+◌, ◌-◌, ◌<◌, ◌≤◌, List, [], ◌∷◌, length, get_or, drop, ap, sym, arith}
+use Rattle.std.specs.Prelude.{Bool, ◌==◌}
 use Rattle.std.specs.List.{range_with_len}
 use Rattle.std.proofs.lemmas.List.{length-map, drop_more, drop_all}
 use Rattle.std.proofs.lemmas.List.FromFn.{length-range_with_len}

@@ -19,6 +19,8 @@ use Rattle.tm_joint.specs.Numbers.{ArePicked}
 use Rattle.tm_joint.specs.Rows.{embedded}
 use Rattle.tm_joint.proofs.joint_rows.Picking.{system_size, edge_within}
 use Rattle.tm_joint.specs.Blocks.{edge_at, edge_for, split_width, sources_of, guards_of, own_of, blocks_from}
+use Rattle.tm_eqsys.specs.declared.limits.TheConstants.{MOST_UNKNOWNS}
+use Rattle.tm_tree.specs.declared.limits.TheConstants.{MOST_VARIABLES}
 
 frees_within : (actions : List Action) → free_count actions ≤ length actions
 unfolding free_count
@@ -49,7 +51,7 @@ few_actions system edge l =
     leb-true (length e.actions) 256 (both (nat_le (length e.actions) 256) (list_all (is_action (length system.flow.names)) e.actions) c.1).0
 
 -- and has few columns
-pub few_columns : (system : System) (edge : ℕ) → edge < length system.flow.edges → width (length system.flow.names) (edge_at system edge).actions ≤ 264
+pub few_columns : (system : System) (edge : ℕ) → edge < length system.flow.edges → width (length system.flow.names) (edge_at system edge).actions ≤ MOST_VARIABLES + 256
 unfolding width
 few_columns system edge l = omega (arith, (flow_sizes system.flow).names, frees_within (edge_at system edge).actions, few_actions system edge l)
 
@@ -85,7 +87,7 @@ few_guards : (n : ℕ) (actions : List Action) → length (guard_forms n actions
 unfolding guard_forms
 few_guards n actions = forms_count n (columns n) actions
 
-few_template : (system : System) → length system.template ≤ 512
+few_template : (system : System) → length system.template ≤ MOST_UNKNOWNS
 few_template system =
     let t = length system.template in
     let s = system_size system in
@@ -93,7 +95,7 @@ few_template system =
     let k : 2 * t ≤ length system.flow.points * t = mul-le-mul_right t p in
     omega (arith, s, k)
 
-pub few_rows : (system : System) (pick : List (Option ℕ)) (base : List Ext) (list : List ℕ) (offset : ℕ) (rest : List ℕ) → ArePicked system pick rest → length (blocks_from system pick base list offset rest) ≤ 769 * length rest
+pub few_rows : (system : System) (pick : List (Option ℕ)) (base : List Ext) (list : List ℕ) (offset : ℕ) (rest : List ℕ) → ArePicked system pick rest → length (blocks_from system pick base list offset rest) ≤ (MOST_UNKNOWNS + 257) * length rest
 few_rows system pick base list offset [] h = omega arith
 few_rows system pick base list offset (u ∷ rest) h =
     let e = edge_for pick u in

@@ -22,7 +22,7 @@ map_in f g [] h = refl
 map_in f g (x ∷ xs) h = ap₂ (λ y ys. y ∷ ys) (h x (inl refl)) (map_in f g xs (λ v m. h v (inr m)))
 
 -- the rise of each listed unknown is the entry at its place
-rises_here : (list : List Listed) (x : ℕ → ℚ) → Distinct list → map (λ u. rise_at list x u.point u.row) list ≡ tabulate (length list) x
+pub rises_here : (list : List Listed) (x : ℕ → ℚ) → Distinct list → map (λ u. rise_at list x u.point u.row) list ≡ tabulate (length list) x
 unfolding rise_at
 rises_here [] x d = refl
 rises_here (u ∷ list) x d =

@@ -1,5 +1,5 @@
 -- What the unknowns of a list have to do with the numbers.
-use Rattle.std.proofs.Common.{◌≡◌, ◌∙◌, ⊎_elim, ℕ, ◌*◌, ◌/◌, ◌<◌, List, [], ◌∷◌, length, get_or, map, Option, None, refl, ap, sym, subst, arith, div-add-mod'}
+use Rattle.std.proofs.Common.{◌≡◌, ◌∙◌, ⊎_elim, ℕ, ◌/◌, ◌<◌, List, [], ◌∷◌, length, get_or, map, Option, None, refl, ap, sym, subst, arith, div-add-mod'}
 use Rattle.std.proofs.lemmas.List.{length-map, get_or-map}
 use Rattle.std.proofs.lemmas.Nat.{row_below_turned}
 use Rattle.tm_base.specs.Elements.{In}

@@ -1,9 +1,9 @@
 -- The table of a list's points tells which of its unknowns reach which.
-use Rattle.std.proofs.Common.{◌≡◌, ◌∙◌, inl, inr, ⊎_elim, ℕ, ◌+◌, ◌/◌, ◌<◌, ◌&&◌, ◌||◌, ◌==◌, cond, Bool, true, false, List, [], ◌∷◌, length, get_or, map, Option, refl, ap, ap₂, sym, arith, zero-add}
+use Rattle.std.proofs.Common.{◌≡◌, ◌∙◌, inl, inr, ⊎_elim, ℕ, ◌/◌, ◌<◌, ◌&&◌, ◌||◌, ◌==◌, cond, Bool, true, false, List, [], ◌∷◌, length, get_or, map, Option, refl, ap, ap₂, sym, arith, zero-add}
 use Rattle.std.specs.List.{range_with_len}
-use Rattle.std.proofs.lemmas.Bool.{eq-eqb, eqb-true}
+use Rattle.std.proofs.lemmas.Bool.{eqb-true}
 use Rattle.std.proofs.lemmas.Bool.Decides.{eqb_tells}
-use Rattle.std.proofs.lemmas.List.{length-map, get_or-map}
+use Rattle.std.proofs.lemmas.List.{get_or-map}
 use Rattle.std.proofs.lemmas.List.FromFn.{length-range_with_len, get_or-range_with_len}
 use Rattle.tm_base.specs.Elements.{In}
 use Rattle.tm_eqsys.specs.declared.system.System.{System}
@@ -16,7 +16,7 @@ use Rattle.tm_joint.specs.declared.node.Node.{Node}
 use Rattle.tm_joint.specs.Numbers.{listed_of, number_of, all_listed, source_of, nodes_of, ArePicked}
 use Rattle.tm_joint.specs.Tables.{row_by, table_by, added, joined, stepped, closed, cell, gets_to}
 use Rattle.tm_joint.specs.Cuts.{are_one_part}
-use Rattle.tm_joint.proofs.numbers.NodeFacts.{number_back, shown, IsNode, node_in, shown_all}
+use Rattle.tm_joint.proofs.numbers.NodeFacts.{number_back, shown, node_in, shown_all}
 
 -- whether the unknowns of a list lead from a point to another
 abbrev pub leads : List Node → ℕ → ℕ → Bool

@@ -1,19 +1,13 @@
 -- Transformers that stay known from round to round.
-use Rattle.std.proofs.Common.{◌≡◌, ◌∙◌, ⊎_elim, ℕ, ◌+◌, ◌*◌, ◌<◌, ◌≤◌, Bool, true, false, not, List, length, get_or, refl, sym, ap, subst, arith}
-use Rattle.std.specs.Prelude.{Option, Some, None, IsTrue, slice_set, replicate}
-use Rattle.std.specs.Ordering.{eq_by_cmp}
+use Rattle.std.proofs.Common.{◌≡◌, ◌∙◌, ⊎_elim, ℕ, ◌+◌, ◌*◌, ◌<◌, ◌≤◌, List, length, get_or, refl, sym, ap, subst, arith}
+use Rattle.std.specs.Prelude.{Option, Some, None, slice_set, replicate}
 use Rattle.std.proofs.lemmas.Bool.Decides.{eqb_tells}
-use Rattle.std.proofs.lemmas.Cmp.{eq_by_cmp_equiv}
 use Rattle.std.specs.Option.{option_map}
 use Rattle.std.proofs.lemmas.Bool.{cases_lt}
 use Rattle.std.proofs.lemmas.List.{get_or_past, get_or-set_same, get_or-set_other, get_or-replicate, length-replicate, length-set}
 use Rattle.std.proofs.lemmas.Nat.{mul-add-lt, same_from_place}
-use Rattle.tm_num.specs.Compare.{cmp_ᴱ}
 use Rattle.tm_num.specs.Extended.{Ext as Extended}
-use Rattle.tm_num.proofs.extended.ExtendedLaws.{cmpᴱ-equal, cmp_ᴱ_total}
 use Rattle.tm_frac.specs.declared.ext.Ext.{Ext}
-use Rattle.tm_frac.specs.Extended.{extended, ext_cmp}
-use Rattle.tm_frac.specs.HashedParts.{is_eq-equal}
 use Rattle.tm_eqsys.specs.View.{equations_of}
 use Rattle.tm_eqsys.specs.declared.system.System.{System}
 use Rattle.tm_transformers.proofs.edge_problems.TransformerOf.{transformer_by_source}
@@ -24,22 +18,6 @@ use Rattle.tm_offers.specs.Found.{IsFound}
 use Rattle.tm_offers.specs.Known.{AreKnown, HasEntries, IsPartOf, IsSameAt, NothingFrom, known_at, known_value}
 use Rattle.tm_offers.proofs.at_bounds.Ranges.{source_in_range}
 use Rattle.tm_offers.proofs.known.UpperSources.{upper_by_source}
-
--- two bounds that are told apart
-pub differs : (x y : Ext) → true ≡ not (eq_by_cmp ext_cmp x y) → extended x ≡ extended y → ⊥
-differs x y t e = by (eq_by_cmp ext_cmp x y) (subst (λ b. IsTrue (eq_by_cmp cmp_ᴱ (extended x) b)) e ((eq_by_cmp_equiv cmp_ᴱ_total).refl (extended x))) t
-  where
-    by : (b : Bool) → IsTrue b → true ≡ not b → ⊥
-    by true h k = cc
-    by false h k = cc
-
--- and two that aren't
-pub equals : (x y : Ext) → false ≡ not (eq_by_cmp ext_cmp x y) → extended x ≡ extended y
-equals x y t = cmpᴱ-equal (extended x) (extended y) (is_eq-equal (ext_cmp x y) (by (eq_by_cmp ext_cmp x y) t))
-  where
-    by : (b : Bool) → false ≡ not b → IsTrue b
-    by true k = refl
-    by false k = cc
 
 no_value : (found : Found) → None ≡ Some found → ⊥
 no_value found e = cc

@@ -26,6 +26,8 @@ use Rattle.tm_compose.proofs.composed.Dense.{length-first_entries}
 use Rattle.tm_oper.proofs.split.Pairs.{length-pairs}
 use Rattle.tm_oper.proofs.build.Sources.{sizes_same, limits_few, length-guard_limits}
 use Rattle.tm_oper.proofs.splits.Problems.{exact_is}
+use Rattle.tm_rows.specs.declared.limits.TheConstants.{MOST_ROWS}
+use Rattle.tm_tree.specs.declared.limits.TheConstants.{MOST_VARIABLES}
 
 edge_within : (system : Equations) (z : Vector) (edge : Edge) → AllWithin (width system.variables edge.actions) (edge_limits system z edge)
 unfolding edge_limits
@@ -81,7 +83,7 @@ module _ (system : Equations) (z : Vector) (edge : Edge) (row : List ℤ) (w : �
         ∙ ap (λ n. n + n) (length-first_entries w (end_form system.variables edge.actions row).coeffs)
 
     -- and it is shaped
-    pub built_shaped : length template ≤ 128 → length guards ≤ 256 → w ≤ 264 → IsShaped p
+    pub built_shaped : length template ≤ MOST_ROWS → length guards ≤ 256 → w ≤ MOST_VARIABLES + 256 → IsShaped p
     built_shaped t b c =
         let count = ap (λ (xs : List Limit). length xs) h ∙ length-append (map (split_limit w) (source_limits (λ r u. u) system.variables (bounds_at source) template)) (map (split_limit w) (guard_limits (λ u. u) (guard_forms system.variables edge.actions))) in
         let all = length-map p.rows.items limit_of in

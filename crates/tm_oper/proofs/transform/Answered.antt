@@ -1,5 +1,5 @@
 -- All that is said of the answer for an edge and a row.
-use Rattle.std.proofs.Common.{◌≡◌, ◌∙◌, ℕ, ◌<◌, false, true≢false, ℤ, List, length, None, Result, Ok, sym}
+use Rattle.std.proofs.Common.{◌≡◌, ◌∙◌, ℕ, false, true≢false, ℤ, List, length, None, Result, Ok, sym}
 use Rattle.std.specs.Prelude.{IfOk, IfErr, OnOk}
 use Rattle.std.proofs.lemmas.Result.{IfOk-weaker}
 use Rattle.tm_frac.specs.declared.ext.Ext.{Ext}

@@ -21,6 +21,7 @@ use Rattle.tm_lex.specs.declared.token.Token as lex_token
 use Rattle.tm_parse.specs.Width.{total, mark}
 use Rattle.tm_parse.proofs.meaning.OneMeaning.{means_once}
 use Rattle.tm_parse.proofs.meaning.WholeTexts.{EndsWell, begun_is_whole, width_is}
+use Rattle.tm_tree.specs.declared.limits.TheConstants.{MOST_VARIABLES}
 
 pub found_unexpected : (text : List ℕ) (a : ℕ) (ts : List Token) → Finds (unexpected a) ts → Means text ts (Err (fault.Unexpected a))
 found_unexpected text a ts f = inl (a, f, refl)
@@ -38,7 +39,7 @@ short_is_read ts e f = let r = begun_is_whole ts e f.0 in (r.0, r.1, f)
 pub walked_is : (line : ℕ → ℕ) (ts : List Token) (n : ℕ) (p : Program) → Reads ts p → n ≡ width_of p → (feed line n ts begin >>= λ s. result_of s) ≡ walk line p
 walked_is line ts n (program a b c ps d e is r g h) k w =
     ap₂ (λ (m : ℕ) (x : List Token). feed line m x begin >>= λ s. result_of s) w (sym k.spelled)
-    ∙ program_fed line (min 8 (declared_items is)) a b c ps d e is r g h k.good
+    ∙ program_fed line (min MOST_VARIABLES (declared_items is)) a b c ps d e is r g h k.good
 
 pub walk_fits : (line : ℕ → ℕ) (p : Program) → OnValue IsProgram (walk line p)
 walk_fits line (program a b c ps d e is r g h) = program_fits line is
@@ -54,7 +55,7 @@ given_fits line ts n (p, k, f) x w e = ok_fits (walk line p) x (walk_fits line p
 pub read_means : (text : List ℕ) (ts : List Token) (n : ℕ) (r : IsRead ts) → n ≡ width_of r.0 → Means text ts (feed (line_at text) n ts begin >>= λ s. result_of s)
 read_means text ts n (p, k, f) w = inr (inr (p, k, f, walked_is (line_at text) ts n p k w))
 
-pub read_width : (text : List ℕ) (ts : List lex_token.Token) (n : ℕ) (r : IsRead (tokens_of text ts)) → n ≡ min 8 (total mark (map plain_token ts) - 1) → n ≡ width_of r.0
+pub read_width : (text : List ℕ) (ts : List lex_token.Token) (n : ℕ) (r : IsRead (tokens_of text ts)) → n ≡ min MOST_VARIABLES (total mark (map plain_token ts) - 1) → n ≡ width_of r.0
 read_width text ts n (program a b c ps d e is r g h, k, f) w = width_is text ts a b c ps d e is r g h n k w
 
 -- Every text means something.

@@ -27,6 +27,7 @@ use Rattle.tm_parse.specs.Walk.{prefix_value, regarded, few_leaves, tested, righ
 use Rattle.tm_parse.specs.Walk.{walk_declarator, walk_declarators, walk_core, walk_sub, walk_items, declared_in, declared_core, declared_sub, declared_items}
 use Rattle.tm_parse.specs.Walk.{program_of}
 use Rattle.tm_parse.proofs.forms.Ranges.{both_true, and_split, zeros_fit, set_fits, ranged_are_numbers, ranged_is_number}
+use Rattle.tm_tree.specs.declared.limits.TheConstants.{MOST_VARIABLES}
 
 -- what holds of a value, if there is one
 abbrev pub OnValue : {A : Type 0} → (A → Type 0) → Result A ParseFault → Type 0
@@ -206,7 +207,7 @@ known_below x a st = by_place (place_of x st.names) refl where
 
 -- a state within the limits
 record Fits (st : State) : Type 0 where
-  few_names : length st.names ≤ 8
+  few_names : length st.names ≤ MOST_VARIABLES
   few_nodes : st.count ≤ 512
 
 -- what comes of nodes: so many more names and nodes, and each node is one over at least as many variables as are named then
@@ -216,7 +217,7 @@ record Grows (N : ℕ) (before : State) (declared : ℕ) (r : State × Statement
   nodes : r.0.count ≡ before.count + nodes_in r.1
   good : length r.0.names ≤ N → IsTrue (are_statements N r.1)
 
-counted_fits : (a : ℕ) (st : State) → length st.names ≤ 8 → OnValue (λ now. Fits now × (now.names ≡ st.names) × (now.count ≡ suc st.count)) (counted a st)
+counted_fits : (a : ℕ) (st : State) → length st.names ≤ MOST_VARIABLES → OnValue (λ now. Fits now × (now.names ≡ st.names) × (now.count ≡ suc st.count)) (counted a st)
 counted_fits a st h = on_test (nat_lt st.count 512) refl where
   on_test : (b : Bool) → nat_lt st.count 512 ≡ b → OnValue (λ now. Fits now × (now.names ≡ st.names) × (now.count ≡ suc st.count))
       (cond b (Ok (record st { count = suc st.count })) (Err (fault.Limit a limit.Statements)))
@@ -265,12 +266,12 @@ module _ (line : ℕ → ℕ) (N : ℕ) where
 
   declared_fits : (x : List ℕ) (a : ℕ) (o : Option Form) (st : State) → SideFits N o → OnValue (Declares st) (declared_by line x a o st)
   declared_fits x a o st s = by_place (place_of x st.names) where
-    by_test : (b : Bool) → nat_lt (length st.names) 8 ≡ b
+    by_test : (b : Bool) → nat_lt (length st.names) MOST_VARIABLES ≡ b
         → OnValue (Declares st) (cond b (counted a (record st { names = st.names ++ x ∷ []; known = st.known ++ length st.names ∷ [] })
         >>= λ now. Ok (now, assignment (length st.names) o (line a))) (Err (fault.Limit a limit.Variables)))
     by_test true e = on_bind _ (Declares st) (counted a (record st { names = st.names ++ x ∷ []; known = st.known ++ length st.names ∷ [] })) _
         (counted_fits a (record st { names = st.names ++ x ∷ []; known = st.known ++ length st.names ∷ [] })
-        (omega (arith, length-append st.names (x ∷ []), ltb-true (length st.names) 8 e)))
+        (omega (arith, length-append st.names (x ∷ []), ltb-true (length st.names) MOST_VARIABLES e)))
         (λ now h. (
           h.0,
           ap length h.1 ∙ more,
@@ -285,12 +286,12 @@ module _ (line : ℕ → ℕ) (N : ℕ) where
     by_place : (p : Option ℕ) → OnValue (Declares st)
         (elim p as (λ z. Result (State × Statement) ParseFault) [
           | Some i ↦ Err (fault.NameTwice a)
-          | None ↦ cond (nat_lt (length st.names) 8)
+          | None ↦ cond (nat_lt (length st.names) MOST_VARIABLES)
               (counted a (record st { names = st.names ++ x ∷ []; known = st.known ++ length st.names ∷ [] })
               >>= λ now. Ok (now, assignment (length st.names) o (line a))) (Err (fault.Limit a limit.Variables))
         ])
     by_place (Some i) = tt
-    by_place None = by_test (nat_lt (length st.names) 8) refl
+    by_place None = by_test (nat_lt (length st.names) MOST_VARIABLES) refl
 
   declarator_fits : (x : Declarator) (st : State) → OnValue (Declares st) (walk_declarator line N x st)
   declarator_fits (bare x a) st = declared_fits x a None st tt
@@ -474,7 +475,7 @@ IsProgram r = IsTrue (is_program (length r.0) r.1)
 start_fits : Fits start_state
 start_fits = record { few_names = omega arith; few_nodes = omega arith }
 
-last_fits : (N d : ℕ) (names : List (List ℕ)) (q : State × Statements) → N ≡ min 8 d → Grows N start_state d q → q.0.names ≡ names
+last_fits : (N d : ℕ) (names : List (List ℕ)) (q : State × Statements) → N ≡ min MOST_VARIABLES d → Grows N start_state d q → q.0.names ≡ names
     → OnValue IsProgram (elim names as (λ z. Result (List (List ℕ) × Statements) ParseFault) [ [] ↦ Err fault.NoVariables | x ∷ xs ↦ Ok (x ∷ xs, q.1) ])
 last_fits N d [] q k h e = tt
 last_fits N d (x ∷ xs) q k h e =
@@ -482,13 +483,13 @@ last_fits N d (x ∷ xs) q k h e =
     let n : N ≡ length (x ∷ xs) = omega (arith, k, l, h.names, h.fits.few_names) in
     let c : nodes_in q.1 ≤ 512 = omega (arith, h.nodes, h.fits.few_nodes) in
     let g : IsTrue (are_statements (length (x ∷ xs)) q.1) = subst (λ (m : ℕ). IsTrue (are_statements m q.1)) n (h.good (omega (arith, n, l))) in
-    both_true (nat_le 1 (length (x ∷ xs))) (nat_le (length (x ∷ xs)) 8 && (nat_le (nodes_in q.1) 512 && are_statements (length (x ∷ xs)) q.1))
+    both_true (nat_le 1 (length (x ∷ xs))) (nat_le (length (x ∷ xs)) MOST_VARIABLES && (nat_le (nodes_in q.1) 512 && are_statements (length (x ∷ xs)) q.1))
     (le-leb 1 (length (x ∷ xs)) (omega arith))
-    (both_true (nat_le (length (x ∷ xs)) 8) (nat_le (nodes_in q.1) 512 && are_statements (length (x ∷ xs)) q.1)
-    (le-leb (length (x ∷ xs)) 8 (omega (arith, l, h.fits.few_names)))
+    (both_true (nat_le (length (x ∷ xs)) MOST_VARIABLES) (nat_le (nodes_in q.1) 512 && are_statements (length (x ∷ xs)) q.1)
+    (le-leb (length (x ∷ xs)) MOST_VARIABLES (omega (arith, l, h.fits.few_names)))
     (both_true (nat_le (nodes_in q.1) 512) (are_statements (length (x ∷ xs)) q.1) (le-leb (nodes_in q.1) 512 c) g))
 
-pub program_fits : (line : ℕ → ℕ) (is : Items) → OnValue IsProgram (walk_items line (min 8 (declared_items is)) is start_state >>= λ q. program_of q)
-program_fits line is = on_bind (Grows (min 8 (declared_items is)) start_state (declared_items is)) IsProgram
-    (walk_items line (min 8 (declared_items is)) is start_state) _ (items_fit line (min 8 (declared_items is)) is start_state start_fits)
-    (λ q h. last_fits (min 8 (declared_items is)) (declared_items is) q.0.names q refl h refl)
+pub program_fits : (line : ℕ → ℕ) (is : Items) → OnValue IsProgram (walk_items line (min MOST_VARIABLES (declared_items is)) is start_state >>= λ q. program_of q)
+program_fits line is = on_bind (Grows (min MOST_VARIABLES (declared_items is)) start_state (declared_items is)) IsProgram
+    (walk_items line (min MOST_VARIABLES (declared_items is)) is start_state) _ (items_fit line (min MOST_VARIABLES (declared_items is)) is start_state start_fits)
+    (λ q h. last_fits (min MOST_VARIABLES (declared_items is)) (declared_items is) q.0.names q refl h refl)

@@ -12,6 +12,7 @@ use Rattle.tm_lex.specs.TokenLists.{AreTokensOf}
 use Rattle.tm_parse.specs.Walk.{declared_items}
 use Rattle.tm_parse.specs.Width.{total, mark}
 use Rattle.tm_parse.proofs.walk.Counts.{total_append, times, IsPlain, front, front_total}
+use Rattle.tm_tree.specs.declared.limits.TheConstants.{MOST_VARIABLES}
 
 -- the end of a text
 abbrev ending : Kind → ℕ
@@ -89,8 +90,8 @@ marks_same text (t ∷ ts) = ap₂ (λ (x y : ℕ). x + y) (mark_same _ t.kind) 
 
 -- the marks of a program, but for one, are its variables
 pub width_is : (text : List ℕ) (ts : List lex_token.Token) (a b c : ℕ) (ps : Parameters) (d e : ℕ) (is : Items) (r : Return) (g h n : ℕ)
-    → Reads (tokens_of text ts) (program a b c ps d e is r g h) → n ≡ min 8 (total mark (map plain_token ts) - 1) → n ≡ min 8 (declared_items is)
+    → Reads (tokens_of text ts) (program a b c ps d e is r g h) → n ≡ min MOST_VARIABLES (total mark (map plain_token ts) - 1) → n ≡ min MOST_VARIABLES (declared_items is)
 width_is text ts a b c ps d e is r g h n k w =
-    w ∙ ap (λ m. min 8 (m - 1)) (marks_same text ts ∙ ap (total mark) (sym k.spelled ∙ spell_body a b c ps d e is r g h)
+    w ∙ ap (λ m. min MOST_VARIABLES (m - 1)) (marks_same text ts ∙ ap (total mark) (sym k.spelled ∙ spell_body a b c ps d e is r g h)
     ∙ total_append mark (body a b c ps d e is r g) (token the_end h ∷ [])
-    ∙ ap (λ m. m + 0) (front_total mark 1 mark_none refl refl a b c ps d e is r g)) ∙ ap (min 8) (omega (arith, times_one (declared_items is)))
+    ∙ ap (λ m. m + 0) (front_total mark 1 mark_none refl refl a b c ps d e is r g)) ∙ ap (min MOST_VARIABLES) (omega (arith, times_one (declared_items is)))

@@ -9,14 +9,14 @@ use Rattle.tm_frac.specs.Operation.{Operation, first_wide}
 use Rattle.tm_eqsys.specs.Equations.{Equations}
 use Rattle.tm_eqsys.specs.declared.trace.Trace.{Trace}
 use Rattle.tm_eqsys.proofs.Widths.{first_wide_later}
+use Rattle.tm_eqsys.specs.Faults.{OperationFault, IsFaultOf, AnswersBy}
 use Rattle.tm_validity.specs.Steps.{Pieces}
 use Rattle.tm_cert.specs.Certificates.{pieces_of}
 use Rattle.tm_eqsys.specs.declared.sums.Constants.TheVariants.{Kept, Zero}
-use Rattle.tm_raise.specs.declared.fault.RaiseFault.{RaiseFault}
 use Rattle.tm_raise.specs.Moves.{carried, carried_operations}
 use Rattle.tm_raise.specs.Numbers.{multiple_operations, moved_pieces, moved_operations}
-use Rattle.tm_raise.specs.Lows.{low_of, low_operations, move_operations, multiple_along, IsRaiseFault, RaiseAnswers}
-use Rattle.tm_raise.proofs.low.Faults.{sooner, later, answers_later}
+use Rattle.tm_raise.specs.Lows.{low_of, low_operations, move_operations, multiple_along}
+use Rattle.tm_eqsys.proofs.Faults.{sooner, later, answers_later}
 
 module _ (system : Equations) (edge : Edge) (row : List ℤ) (b : ℚ) (trace direction : Trace) where
   abbrev value : ℚ
@@ -29,7 +29,7 @@ module _ (system : Equations) (edge : Edge) (row : List ℤ) (b : ℚ) (trace di
   rest t = if t then [] else move_operations system edge row b trace direction
 
   -- the value is wide
-  pub value_wide : (f : RaiseFault) → IsRaiseFault firsts f → IsRaiseFault (low_operations system edge row (fin b) trace direction) f
+  pub value_wide : (f : OperationFault) → IsFaultOf firsts f → IsFaultOf (low_operations system edge row (fin b) trace direction) f
   unfolding low_operations
   value_wide f h = sooner firsts (rest (lt_ℚ b value)) f h
 
@@ -52,19 +52,19 @@ module _ (system : Equations) (edge : Edge) (row : List ℤ) (b : ℚ) (trace di
       low_is = ap (λ t. if t then pieces_of trace else moved_pieces (multiple_along system edge row b trace direction) trace direction) e
 
       -- it doesn't, and the multiple is wide
-      pub multiple_wide : (f : RaiseFault) → IsRaiseFault (multiple_operations b value (carried Zero system edge row direction)) f → IsRaiseFault (low_operations system edge row (fin b) trace direction) f
+      pub multiple_wide : (f : OperationFault) → IsFaultOf (multiple_operations b value (carried Zero system edge row direction)) f → IsFaultOf (low_operations system edge row (fin b) trace direction) f
       multiple_wide f h =
-          subst (λ os. IsRaiseFault os f) (sym operations_are)
+          subst (λ os. IsFaultOf os f) (sym operations_are)
           (later firsts (move_operations system edge row b trace direction) f n
           (sooner (multiple_operations b value (carried Zero system edge row direction)) (moved_operations (multiple_along system edge row b trace direction) trace direction) f h))
 
       -- it doesn't, and the trace is moved
-      pub low_answers : (res : Result Trace RaiseFault) → first_wide long_limit (multiple_operations b value (carried Zero system edge row direction)) ≡ None →
-          RaiseAnswers {A = Trace} (λ low. pieces_of low ≡ moved_pieces (multiple_along system edge row b trace direction) trace direction) (moved_operations (multiple_along system edge row b trace direction) trace direction) res →
-          RaiseAnswers {A = Trace} (λ low. pieces_of low ≡ low_of system edge row (fin b) trace direction) (low_operations system edge row (fin b) trace direction) res
+      pub low_answers : (res : Result Trace OperationFault) → first_wide long_limit (multiple_operations b value (carried Zero system edge row direction)) ≡ None →
+          AnswersBy {A = Trace} (λ low. pieces_of low ≡ moved_pieces (multiple_along system edge row b trace direction) trace direction) (moved_operations (multiple_along system edge row b trace direction) trace direction) res →
+          AnswersBy {A = Trace} (λ low. pieces_of low ≡ low_of system edge row (fin b) trace direction) (low_operations system edge row (fin b) trace direction) res
       low_answers res m a =
-          subst (λ os. RaiseAnswers {A = Trace} (λ low. pieces_of low ≡ low_of system edge row (fin b) trace direction) os res) (sym operations_are)
-          (subst (λ (p : Pieces). RaiseAnswers {A = Trace} (λ low. pieces_of low ≡ p) (firsts ++ move_operations system edge row b trace direction) res) (sym low_is)
+          subst (λ os. AnswersBy {A = Trace} (λ low. pieces_of low ≡ low_of system edge row (fin b) trace direction) os res) (sym operations_are)
+          (subst (λ (p : Pieces). AnswersBy {A = Trace} (λ low. pieces_of low ≡ p) (firsts ++ move_operations system edge row b trace direction) res) (sym low_is)
           (answers_later {A = Trace} (λ low. pieces_of low ≡ moved_pieces (multiple_along system edge row b trace direction) trace direction) firsts (move_operations system edge row b trace direction) res n
           (answers_later {A = Trace} (λ low. pieces_of low ≡ moved_pieces (multiple_along system edge row b trace direction) trace direction) (multiple_operations b value (carried Zero system edge row direction))
           (moved_operations (multiple_along system edge row b trace direction) trace direction) res m a)))

@@ -14,6 +14,7 @@ use Rattle.tm_eqsys.specs.Equations.{Equations}
 use Rattle.tm_eqsys.specs.FreeValues.{free_count}
 use Rattle.tm_eqsys.specs.declared.trace.Trace.{Trace}
 use Rattle.tm_eqsys.proofs.Widths.{first_wide_later}
+use Rattle.tm_eqsys.specs.Faults.{OperationFault, IsFaultOf, AnswersBy}
 use Rattle.tm_validity.specs.Words.{free_count as word_count}
 use Rattle.tm_validity.specs.Steps.{Pieces, Step as TheoryStep, Plain as PlainKind, Ray as RayKind, Sized, edge_of, row_of}
 use Rattle.tm_cert.specs.declared.step.Step.{Step}
@@ -23,13 +24,12 @@ use Rattle.tm_strategy.specs.Picks.{choice}
 use Rattle.tm_strategy.specs.Growth.{with_words, raised_to}
 use Rattle.tm_compose.specs.declared.value.Value.TheVariants.{Best, Unbounded}
 use Rattle.tm_eqsys.specs.declared.sums.Constants.TheVariants.{Zero}
-use Rattle.tm_raise.specs.declared.fault.RaiseFault.{RaiseFault}
-use Rattle.tm_raise.specs.declared.fault.RaiseFault.TheVariants.{Wide, NoMemory}
+use Rattle.tm_eqsys.specs.declared.fault.Fault.TheVariants.{Wide, NoMemory}
 use Rattle.tm_raise.specs.Moves.{carried, carried_operations}
 use Rattle.tm_raise.specs.Numbers.{fitting, number_operations}
-use Rattle.tm_raise.specs.Lows.{low_of, low_operations, IsRaiseFault, RaiseAnswers}
+use Rattle.tm_raise.specs.Lows.{low_of, low_operations}
 use Rattle.tm_raise.specs.Raises.{choice_of, raised, raise_operations}
-use Rattle.tm_raise.proofs.low.Faults.{sooner, later}
+use Rattle.tm_eqsys.proofs.Faults.{sooner, later}
 
 -- the edge and the row of a choice
 pub edge_chosen : (system : Equations) (rows unknown k : ℕ) → k < length system.edges → slice_get system.edges k ≡ Some (edge_of system (choice_of rows unknown k))
@@ -94,13 +94,13 @@ sized system rows unknown k t l s h =
 
 module _ (system : Equations) (rows unknown k : ℕ) (b : Ext) where
   -- a best value whose number is wide, or is made
-  pub towards_wide : (v : ℚ) (trace : Trace) (rs gs : List ℚ) (f : RaiseFault) → IsRaiseFault (number_operations b v) f → IsRaiseFault (raise_operations system (choice_of rows unknown k) b (Best v trace rs gs)) f
+  pub towards_wide : (v : ℚ) (trace : Trace) (rs gs : List ℚ) (f : OperationFault) → IsFaultOf (number_operations b v) f → IsFaultOf (raise_operations system (choice_of rows unknown k) b (Best v trace rs gs)) f
   unfolding raise_operations
   towards_wide v trace rs gs f h = h
 
-  pub towards : (v to : ℚ) (trace : Trace) (rs gs : List ℚ) (res : Result Step RaiseFault) → to ≡ raised_to fitting b v → first_wide long_limit (number_operations b v) ≡ None →
-      RaiseAnswers {A = Step} (λ step. step ≡ Plain (record { unknown = unknown; edge = k; low = trace; to = to } ∷ [])) [] res →
-      RaiseAnswers {A = Step} (λ step. step_of rows step ≡ raised system (choice_of rows unknown k) b (Best v trace rs gs)) (raise_operations system (choice_of rows unknown k) b (Best v trace rs gs)) res
+  pub towards : (v to : ℚ) (trace : Trace) (rs gs : List ℚ) (res : Result Step OperationFault) → to ≡ raised_to fitting b v → first_wide long_limit (number_operations b v) ≡ None →
+      AnswersBy {A = Step} (λ step. step ≡ Plain (record { unknown = unknown; edge = k; low = trace; to = to } ∷ [])) [] res →
+      AnswersBy {A = Step} (λ step. step_of rows step ≡ raised system (choice_of rows unknown k) b (Best v trace rs gs)) (raise_operations system (choice_of rows unknown k) b (Best v trace rs gs)) res
   unfolding raise_operations
   towards v to trace rs gs (Ok step) e n h = (best_step system rows unknown k b v to trace rs gs step h.0 e, n)
   towards v to trace rs gs (Err (Wide w)) e n h = cc
@@ -114,20 +114,20 @@ module _ (system : Equations) (rows unknown k : ℕ) (b : Ext) where
     lows = low_operations system (edge_of system (choice_of rows unknown k)) (row_of system (choice_of rows unknown k)) b trace direction
 
     -- a rate that is wide, a low trace that isn't made, and a ray
-    pub rate_wide : (f : RaiseFault) → IsRaiseFault rates f → IsRaiseFault (raise_operations system (choice_of rows unknown k) b (Unbounded trace direction)) f
+    pub rate_wide : (f : OperationFault) → IsFaultOf rates f → IsFaultOf (raise_operations system (choice_of rows unknown k) b (Unbounded trace direction)) f
     unfolding raise_operations
     rate_wide f h = sooner rates lows f h
 
     module _ (n : first_wide long_limit rates ≡ None) where
-      pub low_wide : (f : RaiseFault) → IsRaiseFault lows f → IsRaiseFault (raise_operations system (choice_of rows unknown k) b (Unbounded trace direction)) f
+      pub low_wide : (f : OperationFault) → IsFaultOf lows f → IsFaultOf (raise_operations system (choice_of rows unknown k) b (Unbounded trace direction)) f
       unfolding raise_operations
       low_wide f h = later rates lows f n h
 
-      pub for_ever : (low : Trace) (rate : ℚ) (res : Result Step RaiseFault) →
+      pub for_ever : (low : Trace) (rate : ℚ) (res : Result Step OperationFault) →
           pieces_of low ≡ low_of system (edge_of system (choice_of rows unknown k)) (row_of system (choice_of rows unknown k)) b trace direction → first_wide long_limit lows ≡ None →
           rate ≡ carried Zero system (edge_of system (choice_of rows unknown k)) (row_of system (choice_of rows unknown k)) direction →
-          RaiseAnswers {A = Step} (λ step. step ≡ Ray (record { unknown = unknown; edge = k; low = low; direction = direction; rate = rate } ∷ [])) [] res →
-          RaiseAnswers {A = Step} (λ step. step_of rows step ≡ raised system (choice_of rows unknown k) b (Unbounded trace direction)) (raise_operations system (choice_of rows unknown k) b (Unbounded trace direction)) res
+          AnswersBy {A = Step} (λ step. step ≡ Ray (record { unknown = unknown; edge = k; low = low; direction = direction; rate = rate } ∷ [])) [] res →
+          AnswersBy {A = Step} (λ step. step_of rows step ≡ raised system (choice_of rows unknown k) b (Unbounded trace direction)) (raise_operations system (choice_of rows unknown k) b (Unbounded trace direction)) res
       unfolding raise_operations
       for_ever low rate (Ok step) e m f h = (ray_step system rows unknown k b trace direction low rate step h.0 e f, first_wide_later long_limit rates lows n ∙ m)
       for_ever low rate (Err (Wide w)) e m f h = cc

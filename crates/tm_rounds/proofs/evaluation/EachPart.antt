@@ -17,6 +17,7 @@ use Rattle.tm_rounds.specs.Turning.{IsPart}
 use Rattle.tm_rounds.proofs.turning.TurnItems.{place_of, in_place}
 use Rattle.tm_rounds.proofs.turning.Turned.{picked_in}
 use Rattle.tm_rounds.proofs.evaluation.Parting.{of_map}
+use Rattle.tm_eqsys.specs.declared.limits.TheConstants.{MOST_UNKNOWNS}
 
 -- what holds of each of a list holds of each of another whose elements are in it
 each_in : (P : ℕ → Type 0) (xs list : List ℕ) → ((u : ℕ) → In xs u → In list u) → ((k : ℕ) → k < length list → P (get_or list k 0)) → (k : ℕ) → k < length xs → P (get_or xs k 0)
@@ -71,7 +72,7 @@ module _ (system : System) (pick : List (Option ℕ)) (raises : List CodeStep) (
       }
 
   -- with few members
-  pub part_few : length system.flow.points * length system.template ≤ 1024 → EachRises (part_numbers system pick list) → (k : ℕ) → k < length (part_numbers system pick list) → length (get_or (part_numbers system pick list) k []) ≤ 1024
+  pub part_few : length system.flow.points * length system.template ≤ MOST_UNKNOWNS → EachRises (part_numbers system pick list) → (k : ℕ) → k < length (part_numbers system pick list) → length (get_or (part_numbers system pick list) k []) ≤ MOST_UNKNOWNS
   part_few few rise k l =
       let p = each_part rise k l in
       let xs = get_or (part_numbers system pick list) k [] in

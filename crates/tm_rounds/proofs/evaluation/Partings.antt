@@ -26,6 +26,7 @@ use Rattle.tm_rounds.specs.Growing.{Agrees}
 use Rattle.tm_rounds.specs.Lows.{raise_at, item_in, items_at}
 use Rattle.tm_rounds.specs.Turning.{turns_so_far, joint_of, IsPickAt, HaveConditions, IsPart, IsDone, AreAllDone, turns_of_part, turns_of_parts}
 use Rattle.tm_rounds.proofs.evaluation.Parting.{part_rows}
+use Rattle.tm_eqsys.specs.declared.limits.TheConstants.{MOST_UNKNOWNS}
 
 in_front : (xs ys : List Turn) (x : Turn) → In xs x → In (xs ++ ys) x
 in_front [] ys x m = absurd m
@@ -66,7 +67,7 @@ module _ (system : System) (pick : List (Option ℕ)) (raises : List CodeStep) (
     pub steps : turns_so_far system now ≡ turns_so_far system old ++ made
     pub whole : turns joint (vector_at system old.bounds) (map items numbers) ≡ made ++ turns joint (vector_at system now.bounds) (map items (drop number numbers))
     pub agrees : Agrees system (after_steps made (vector_at system old.bounds)) now.bounds
-    pub few : length now.steps.items ≤ 1024 * number
+    pub few : length now.steps.items ≤ MOST_UNKNOWNS * number
     pub turns_like : (t : Turn) → In (parts_turns joint (length now.steps.items) (vector_at system now.bounds) (map items (drop number numbers))) t → LikeOne eqs (turns_of_parts system pick raises places list old) t
 
   -- at first
@@ -118,7 +119,7 @@ module _ (system : System) (pick : List (Option ℕ)) (raises : List CodeStep) (
   dropped (suc n) (p ∷ ls) h k l = dropped n ls (λ j m. h (suc j) (omega arith)) k l
 
   -- after one part more
-  pub partings_more : (number : ℕ) (now new : Turning) → number < length numbers → ((k : ℕ) → k < length numbers → IsPart system pick raises places (get_or numbers k [])) → length (get_or numbers number []) ≤ 1024 → ArePartings number now →
+  pub partings_more : (number : ℕ) (now new : Turning) → number < length numbers → ((k : ℕ) → k < length numbers → IsPart system pick raises places (get_or numbers k [])) → length (get_or numbers number []) ≤ MOST_UNKNOWNS → ArePartings number now →
       IsDone system pick raises places (get_or numbers number []) now new → ArePartings (number + 1) new
   unfolding turns parts_turns
   partings_more number now new l each small h done =

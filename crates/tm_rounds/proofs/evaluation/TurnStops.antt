@@ -16,8 +16,9 @@ use Rattle.tm_strategy_lp.specs.Agreement.{Agree}
 use Rattle.tm_strategy_lp.specs.Turns.{Turn}
 use Rattle.tm_strategy_lp.proofs.turns.TurnsAgree.{LikeOne}
 use Rattle.tm_joint.specs.Joints.{IsJointFault}
-use Rattle.tm_offers.specs.declared.stop.Stop.{Stop}
-use Rattle.tm_offers.specs.declared.stop.Stop.TheVariants.{Wide, NoMemory}
+use Rattle.tm_eqsys.specs.declared.fault.Fault.{Fault}
+use Rattle.tm_eqsys.specs.declared.spot.Spot.{Spot}
+use Rattle.tm_eqsys.specs.declared.fault.Fault.TheVariants.{Wide, NoMemory}
 use Rattle.tm_offers.specs.AtBounds.{vector_at}
 use Rattle.tm_rounds.specs.Lows.{AreRaised, items_at}
 use Rattle.tm_rounds.specs.Round.{numbers_of, IsTurnStop}
@@ -43,7 +44,7 @@ numbers_back rows raises places (u ∷ list) h =
 
 -- a turn that stops is one of some turns that are like it
 pub joined_stop : (system : System) (pick : List (Option ℕ)) (raises : List CodeStep) (places list : List ℕ) (bounds : List Extended) (number round : ℕ) (turns : List Turn) → length bounds ≡ length system.flow.points * length system.template → AreRaised raises places list →
-    LikeOne (equations_of system) turns (record { vector = vector_at system bounds; list = items_at (length system.template) raises places list; number = number }) → (stop : Stop) → IsJoinedStop system pick bounds list number round stop → IsTurnStop system pick turns round stop
+    LikeOne (equations_of system) turns (record { vector = vector_at system bounds; list = items_at (length system.template) raises places list; number = number }) → (stop : Fault Spot) → IsJoinedStop system pick bounds list number round stop → IsTurnStop system pick turns round stop
 joined_stop system pick raises places list bounds number round turns size raised like (Wide spot) h = record {
   round = h.round;
   turn = like.0;
@@ -57,7 +58,7 @@ joined_stop system pick raises places list bounds number round turns size raised
 joined_stop system pick raises places list bounds number round turns size raised like NoMemory h = tt
 
 -- a stop of some turns is one of more
-pub turn_stop_more : (system : System) (pick : List (Option ℕ)) (ts us : List Turn) (round : ℕ) → ((t : Turn) → In ts t → LikeOne (equations_of system) us t) → (stop : Stop) → IsTurnStop system pick ts round stop → IsTurnStop system pick us round stop
+pub turn_stop_more : (system : System) (pick : List (Option ℕ)) (ts us : List Turn) (round : ℕ) → ((t : Turn) → In ts t → LikeOne (equations_of system) us t) → (stop : Fault Spot) → IsTurnStop system pick ts round stop → IsTurnStop system pick us round stop
 turn_stop_more system pick ts us round within (Wide spot) h =
     let like = within h.turn h.listed in
     record {

@@ -22,6 +22,7 @@ use Rattle.tm_strategy.proofs.growth.GrowthLaw.{items-append}
 use Rattle.tm_rounds.specs.declared.growing.Growing.{Growing}
 use Rattle.tm_rounds.specs.GrowthTests.{is_named}
 use Rattle.tm_rounds.specs.Growing.{steps_so_far, IsKept, NamesOne}
+use Rattle.tm_eqsys.specs.declared.limits.TheConstants.{MOST_UNKNOWNS}
 
 abbrev marks : List Bool → ℕ
 marks raised = length (filter (λ marked. marked) raised)
@@ -108,11 +109,11 @@ kept_more system old new unknown bound step kept within unraised one b r s =
 pub few_steps : (system : System) (growing : Growing) → IsKept system growing → length growing.steps.items ≤ length system.flow.points * length system.template
 few_steps system growing kept = (let a = kept.count in let b = kept.raised in omega (arith, a, b, length-filter (λ (m : Bool). m) growing.raised.items, count_by-le-length (λ (m : Bool). m) growing.raised.items))
 
--- there are at most 1024 unknowns
-pub system_size : (system : System) → length system.flow.points * length system.template ≤ 1024
+-- there are at most MOST_UNKNOWNS unknowns
+pub system_size : (system : System) → length system.flow.points * length system.template ≤ MOST_UNKNOWNS
 system_size system =
     let n = length system.flow.points * length system.template in
-    leb-true n 1024 (both (is_over (length system.flow.names) system.template) (nat_le n 1024) system.within_limits).1
+    leb-true n MOST_UNKNOWNS (both (is_over (length system.flow.names) system.template) (nat_le n MOST_UNKNOWNS) system.within_limits).1
 
 -- a mark that was read
 pub mark_is : (raised : List Bool) (u : ℕ) (b : Bool) → u < length raised → b ≡ get_or raised u b → get_or raised u false ≡ b

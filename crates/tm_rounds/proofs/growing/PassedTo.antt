@@ -15,7 +15,8 @@ use Rattle.tm_strategy.proofs.growth.GrowthLaw.{led-append}
 use Rattle.tm_strategy_lp.specs.Evidence.{exact_evidence}
 use Rattle.tm_raise.specs.Numbers.{fitting}
 use Rattle.tm_rounds.specs.declared.growing.Growing.{Growing}
-use Rattle.tm_offers.specs.declared.stop.Stop.{Stop}
+use Rattle.tm_eqsys.specs.declared.fault.Fault.{Fault}
+use Rattle.tm_eqsys.specs.declared.spot.Spot.{Spot}
 use Rattle.tm_offers.specs.AtBounds.{transformers}
 use Rattle.tm_rounds.specs.GrowthTests.{Test}
 use Rattle.tm_rounds.specs.Growing.{Agrees, steps_so_far, left_from, unraised, IsKept, AreQuiet, IsPassed, ArePassed, IsPassStop, IsTold, OthersKeep}
@@ -94,7 +95,7 @@ module _ (system : System) (pick : List (Option ℕ)) where
       }
 
     -- a wide operation at the next unknown is one of the pass
-    pub stop_next : (count round : ℕ) (stop : Stop) → k < count → IsPassStop system pick k 1 mid round stop → IsPassStop system pick 0 count old round stop
+    pub stop_next : (count round : ℕ) (stop : Fault Spot) → k < count → IsPassStop system pick k 1 mid round stop → IsPassStop system pick 0 count old round stop
     stop_next count round stop l s z agrees =
         stop_more system (tests_of system pick (length mid.steps.items) (after_steps a.made z) (unraised system pick mid k 1)) (tests_of system pick (length old.steps.items) z (unraised system pick old 0 count)) round stop
         inside (s (after_steps a.made z) a.agrees)

@@ -30,8 +30,9 @@ use Rattle.tm_raise.specs.Lows.{low_of}
 use Rattle.tm_raise.specs.Numbers.{fitting}
 use Rattle.tm_raise.specs.Raises.{choice_of, raised, raise_operations, HasSizes, Rises}
 use Rattle.tm_rounds.specs.declared.growing.Growing.{Growing}
-use Rattle.tm_offers.specs.declared.stop.Stop.{Stop}
-use Rattle.tm_offers.specs.declared.stop.Stop.TheVariants.{Wide, NoMemory}
+use Rattle.tm_eqsys.specs.declared.fault.Fault.{Fault}
+use Rattle.tm_eqsys.specs.declared.spot.Spot.{Spot}
+use Rattle.tm_eqsys.specs.declared.fault.Fault.TheVariants.{Wide, NoMemory}
 use Rattle.tm_offers.specs.AtBounds.{transformers, vector_at}
 use Rattle.tm_rounds.specs.GrowthStops.{IsStopIn}
 use Rattle.tm_rounds.specs.Growing.{Agrees, bound_given, HasItem, NamesOne, tested, IsGo, IsValueAt, IsValueStop, IsStepStop}
@@ -187,7 +188,7 @@ module _ (system : System) (bounds : List Extended) (unknown : ℕ) (within : un
             }
 
         -- a wide operation of the raise
-        pub step_stop : (raises round : ℕ) (stop : Stop) → IsStepStop (raise_operations (equations_of system) u bound value) raises round stop →
+        pub step_stop : (raises round : ℕ) (stop : Fault Spot) → IsStepStop (raise_operations (equations_of system) u bound value) raises round stop →
             IsStopIn (equations_of system) (record { vector = z; unknown = tested system edge unknown; raises = raises } ∷ []) round stop
         step_stop raises round (Wide spot) k = record {
           round = k.round;
@@ -204,7 +205,7 @@ module _ (system : System) (bounds : List Extended) (unknown : ℕ) (within : un
         step_stop raises round NoMemory k = tt
 
     -- a wide operation of the test
-    pub value_stop : (raises round : ℕ) (stop : Stop) → IsValueStop system bounds edge (unknown % length system.template) round stop →
+    pub value_stop : (raises round : ℕ) (stop : Fault Spot) → IsValueStop system bounds edge (unknown % length system.template) round stop →
         IsStopIn (equations_of system) (record { vector = z; unknown = tested system edge unknown; raises = raises } ∷ []) round stop
     unfolding edge_of row_of choice
     value_stop raises round (Wide spot) k = record {

@@ -17,8 +17,9 @@ use Rattle.tm_strategy_lp.specs.Evidence.{exact_evidence}
 use Rattle.tm_strategy_lp.specs.Rounds.{exact_pass, exact_raise}
 use Rattle.tm_raise.specs.Numbers.{fitting}
 use Rattle.tm_rounds.specs.declared.growing.Growing.{Growing}
-use Rattle.tm_offers.specs.declared.stop.Stop.{Stop}
-use Rattle.tm_offers.specs.declared.stop.Stop.TheVariants.{Wide, NoMemory}
+use Rattle.tm_eqsys.specs.declared.fault.Fault.{Fault}
+use Rattle.tm_eqsys.specs.declared.spot.Spot.{Spot}
+use Rattle.tm_eqsys.specs.declared.fault.Fault.TheVariants.{Wide, NoMemory}
 use Rattle.tm_offers.specs.AtBounds.{transformers}
 use Rattle.tm_rounds.specs.GrowthTests.{Test, pass_tests}
 use Rattle.tm_rounds.specs.GrowthStops.{IsStopIn}
@@ -27,7 +28,7 @@ use Rattle.tm_rounds.proofs.growth_tests.Passing.{choose_le, choose_lt}
 
 -- ---- stops
 -- a wide operation of some tests is one of more
-pub stop_more : (system : System) (ts us : List Test) (round : ℕ) (stop : Stop) → ((t : Test) → In ts t → In us t) → IsStopIn (equations_of system) ts round stop → IsStopIn (equations_of system) us round stop
+pub stop_more : (system : System) (ts us : List Test) (round : ℕ) (stop : Fault Spot) → ((t : Test) → In ts t → In us t) → IsStopIn (equations_of system) ts round stop → IsStopIn (equations_of system) us round stop
 stop_more system ts us round (Wide spot) h s = record { round = s.round; test = s.test; listed = h s.test s.listed; formula = s.formula }
 stop_more system ts us round NoMemory h s = tt
 
@@ -135,7 +136,7 @@ module _ (system : System) (pick : List (Option ℕ)) where
     first_test t (inr m) = absurd m
 
     -- a wide operation of the test is one of the pass
-    pub test_stop : (round : ℕ) (stop : Stop) → IsStopIn (equations_of system) (record { vector = z; unknown = tested system edge u; raises = length old.steps.items } ∷ []) round stop →
+    pub test_stop : (round : ℕ) (stop : Fault Spot) → IsStopIn (equations_of system) (record { vector = z; unknown = tested system edge u; raises = length old.steps.items } ∷ []) round stop →
         IsStopIn (equations_of system) (tests_of (length old.steps.items) z (unraised system pick old u 1)) round stop
     test_stop round stop s =
         subst (λ us. IsStopIn (equations_of system) (tests_of (length old.steps.items) z us) round stop) (sym (left_picked (length system.template) pick old.raised.items u edge unmarked picked))

@@ -19,7 +19,8 @@ use Rattle.tm_strategy_lp.specs.Evidence.{exact_evidence}
 use Rattle.tm_strategy_lp.specs.Rounds.{exact_pass, exact_passes}
 use Rattle.tm_raise.specs.Numbers.{fitting}
 use Rattle.tm_rounds.specs.declared.growing.Growing.{Growing}
-use Rattle.tm_offers.specs.declared.stop.Stop.{Stop}
+use Rattle.tm_eqsys.specs.declared.fault.Fault.{Fault}
+use Rattle.tm_eqsys.specs.declared.spot.Spot.{Spot}
 use Rattle.tm_offers.specs.AtBounds.{transformers, vector_at}
 use Rattle.tm_offers.specs.Improvement.{pick_of}
 use Rattle.tm_rounds.specs.GrowthTests.{Test, if_raised, pass_tests, passes_tests, growth_tests}
@@ -219,7 +220,7 @@ module _ (system : System) where
     no_tests raises z (u ∷ us) t l m = omega arith
 
     -- a wide operation of a pass is one of the growth
-    pub pass_stop : (old : Growing) → GrowingTo old → (round : ℕ) (stop : Stop) → IsPassStop system pick 0 (length system.flow.points * length system.template) old round stop → IsGrowthStop system bounds pick round stop
+    pub pass_stop : (old : Growing) → GrowingTo old → (round : ℕ) (stop : Fault Spot) → IsPassStop system pick 0 (length system.flow.points * length system.template) old round stop → IsGrowthStop system bounds pick round stop
     pass_stop old so_far round stop s =
         stop_more system (tests_of system pick (length old.steps.items) (reached old) (rest old))
         (tests_at system bounds pick) round stop (inside so_far.fuel so_far.grows_on) (s (reached old) so_far.agrees)

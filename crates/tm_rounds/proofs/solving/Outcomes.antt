@@ -15,12 +15,11 @@ use Rattle.tm_strategy_lp.specs.Made.{exact_uppers, exact_certificate}
 use Rattle.tm_strategy_lp.proofs.rounds.MadeCertificate.{made_valid}
 use Rattle.tm_raise.specs.Numbers.{fitting}
 use Rattle.tm_strategy.specs.Solve.{state}
-use Rattle.tm_compose.specs.declared.fault.PathFault.{PathFault}
-use Rattle.tm_compose.specs.declared.fault.PathFault.TheVariants.{Wide as WidePath, NoMemory as NoPath}
 use Rattle.tm_compose.specs.Faults.{IsPathFault}
 use Rattle.tm_offers.specs.declared.offer.Offer.{Offer}
-use Rattle.tm_offers.specs.declared.stop.Stop.{Stop}
-use Rattle.tm_offers.specs.declared.stop.Stop.TheVariants.{Wide as WideStop, NoMemory as NoStop}
+use Rattle.tm_eqsys.specs.declared.fault.Fault.{Fault}
+use Rattle.tm_eqsys.specs.declared.spot.Spot.{Spot}
+use Rattle.tm_eqsys.specs.declared.fault.Fault.TheVariants.{Wide as WideStop, NoMemory as NoStop}
 use Rattle.tm_rounds.specs.declared.halt.Halt.TheVariants.{Spent}
 use Rattle.tm_offers.specs.declared.known.Known.{Known}
 use Rattle.tm_rounds.specs.declared.solution.Solved.{Solved}
@@ -29,7 +28,7 @@ use Rattle.tm_offers.specs.AtBounds.{transformers, vector_at, IsTightPick, IsNex
 use Rattle.tm_offers.specs.Improvement.{pick_of, IsNext}
 use Rattle.tm_rounds.specs.Round.{IsRoundStop, AreBoundsOf, round_at, rounded_at}
 use Rattle.tm_rounds.specs.Chains.{state_at, bounds_after, steps_after, IsChain, IsEnded}
-use Rattle.tm_rounds.specs.HaltOf.{halt_of_stop, halt_of_fault}
+use Rattle.tm_rounds.specs.HaltOf.{halt_of}
 use Rattle.tm_rounds.specs.Halts.{IsHalt}
 use Rattle.tm_rounds.specs.Solutions.{IsSolved, made_certificate}
 use Rattle.tm_rounds.specs.Solving.{IsBegun, IsAfter, IsAdvanced, IsFinished}
@@ -51,9 +50,9 @@ after_none system policy progress b = record {
 }
 
 -- a composition that is refused
-pub fault_halt : (system : System) (policy : Offer → ℕ → Type 0) (limit : ℕ) (fault : PathFault) → IsPathFault (equations_of system) fault → IsHalt system policy limit (halt_of_fault fault)
-fault_halt system policy limit (WidePath spot) h = inl h
-fault_halt system policy limit NoPath h = tt
+pub fault_halt : (system : System) (policy : Offer → ℕ → Type 0) (limit : ℕ) (fault : Fault Spot) → IsPathFault (equations_of system) fault → IsHalt system policy limit (halt_of fault)
+fault_halt system policy limit (WideStop spot) h = inl h
+fault_halt system policy limit NoStop h = tt
 
 module _ (system : System) (policy : Offer → ℕ → Type 0) (made : ℕ) (progress : Progress) (a : IsAfter system policy made progress) where
   -- there are as many bounds as unknowns
@@ -70,7 +69,7 @@ module _ (system : System) (policy : Offer → ℕ → Type 0) (made : ℕ) (pro
   after_learned known = record { choose = a.choose; chain = a.chain; bounds = a.bounds; size = a.size; pick = a.pick; steps = a.steps }
 
   -- an offer that is refused
-  pub offer_halt : (limit number : ℕ) (stop : Stop) → made ≤ limit → number ≡ made + 1 → IsOfferStop system progress.bounds number stop → IsHalt system policy limit (halt_of_stop stop)
+  pub offer_halt : (limit number : ℕ) (stop : Fault Spot) → made ≤ limit → number ≡ made + 1 → IsOfferStop system progress.bounds number stop → IsHalt system policy limit (halt_of stop)
   offer_halt limit number NoStop within e h = tt
   offer_halt limit number (WideStop spot) within e h =
       inr (inl (record {
@@ -113,8 +112,8 @@ module _ (system : System) (policy : Offer → ℕ → Type 0) (made : ℕ) (pro
     others = more system policy made a.choose a.chain (pick_of (length system.template) better) next_one
 
     -- a round that is refused
-    pub round_halt : (limit number : ℕ) (stop : Stop) → made < limit → number ≡ made + 1 → length better ≡ length system.flow.points * length system.template →
-        IsRoundStop system progress.bounds better number stop → IsHalt system policy limit (halt_of_stop stop)
+    pub round_halt : (limit number : ℕ) (stop : Fault Spot) → made < limit → number ≡ made + 1 → length better ≡ length system.flow.points * length system.template →
+        IsRoundStop system progress.bounds better number stop → IsHalt system policy limit (halt_of stop)
     unfolding others
     round_halt limit number NoStop within e size h = tt
     round_halt limit number (WideStop spot) within e size h =

@@ -31,6 +31,8 @@ use Rattle.tm_offers.proofs.at_bounds.Ranges.{points_in_range}
 use Rattle.tm_rounds.proofs.solving.Counting.{distinct_few}
 use Rattle.tm_rounds.proofs.solving.RoundCounts.{Filled, round_filled, round_few}
 use Rattle.tm_rounds.proofs.solving.Outcomes.{solved_valid}
+use Rattle.tm_eqsys.specs.declared.limits.TheConstants.{MOST_UNKNOWNS}
+use Rattle.tm_rows.specs.declared.limits.TheConstants.{MOST_ROWS}
 
 -- ---- the chain's steps
 module _ (system : System) (policy : Offer → ℕ → Type 0) (n : ℕ) (choose : ℕ → Choice) (chain : IsChain system policy n choose) where
@@ -45,7 +47,7 @@ module _ (system : System) (policy : Offer → ℕ → Type 0) (n : ℕ) (choose
       (λ j. round_filled fitting E (state_at system choose k).vector (state_at system choose (suc k)).pick (round_made fitting E (points_in_range system) choose chain.among n chain.made k (omega arith)).better.is_pick s j)
       (of_append (exact_steps fitting E choose k) (exact_round_steps fitting E (state_at system choose k).vector (state_at system choose (suc k)).pick) s m)
 
-  steps_few : length system.flow.points * length system.template ≤ 1024 → (k : ℕ) → k ≤ n → length (exact_steps fitting (equations_of system) choose k) ≤ k * 2048
+  steps_few : length system.flow.points * length system.template ≤ MOST_UNKNOWNS → (k : ℕ) → k ≤ n → length (exact_steps fitting (equations_of system) choose k) ≤ k * (2 * MOST_UNKNOWNS)
   unfolding exact_steps
   steps_few limit zero l = omega arith
   steps_few limit (suc k) l =
@@ -57,8 +59,8 @@ module _ (system : System) (policy : Offer → ℕ → Type 0) (n : ℕ) (choose
 -- a template has a row
 pub some_row : (template : List (List ℤ)) → IsTrue (is_template template) → 0 < length template
 some_row template h =
-    let a = both (nat_le 1 (length template) && nat_le (length template) 128) _ h in
-    let b = both (nat_le 1 (length template)) (nat_le (length template) 128) a.0 in
+    let a = both (nat_le 1 (length template) && nat_le (length template) MOST_ROWS) _ h in
+    let b = both (nat_le 1 (length template)) (nat_le (length template) MOST_ROWS) a.0 in
     let l = leb-true 1 (length template) b.0 in
     omega arith
 
@@ -92,8 +94,8 @@ valid_at system [] z h s m = absurd m
 valid_at system (step ∷ steps) z h s m = ⊎_elim (λ e. subst (λ t. (y : Vector) × ValidStep system y t) e (z, h.0)) (λ j. valid_at system steps (after_step step z) h.1 s j) m
 
 module _ (system : System) (policy : Offer → ℕ → Type 0) (limit : ℕ) (solved : Solved) (s : IsSolved system policy limit solved) where
-  unknowns_few : length system.flow.points * length system.template ≤ 1024
-  unknowns_few = leb-true (length system.flow.points * length system.template) 1024 (both (is_over (length system.flow.names) system.template) (nat_le (length system.flow.points * length system.template) 1024) system.within_limits).1
+  unknowns_few : length system.flow.points * length system.template ≤ MOST_UNKNOWNS
+  unknowns_few = leb-true (length system.flow.points * length system.template) MOST_UNKNOWNS (both (is_over (length system.flow.names) system.template) (nat_le (length system.flow.points * length system.template) MOST_UNKNOWNS) system.within_limits).1
 
   -- the steps and their items can be numbered
   pub solved_numbered : limit ≤ 1000000 → AreNumbered system solved.steps

@@ -1,5 +1,5 @@
 -- What is read by the layout of a list.
-use Rattle.std.proofs.Common.{◌≡◌, ◌∙◌, ⊎_elim, inl, inr, ℕ, zero, suc, ◌+◌, ◌≤◌, Bool, true, false, List, [], ◌∷◌, length, map, refl, sym, ap, ap₂, subst, arith, if◌then◌else◌, cond}
+use Rattle.std.proofs.Common.{◌≡◌, ◌∙◌, ⊎_elim, inl, inr, ℕ, zero, suc, ◌+◌, ◌≤◌, Bool, true, false, List, [], ◌∷◌, length, map, refl, sym, ap, ap₂, subst, arith, cond}
 use Rattle.std.specs.Prelude.{Option}
 use Rattle.std.specs.List.{filter}
 use Rattle.std.proofs.lemmas.List.{length-map}
@@ -10,10 +10,8 @@ use Rattle.tm_eqsys.specs.declared.system.System.{System}
 use Rattle.tm_eqsys.specs.View.{equations_of}
 use Rattle.tm_lp.specs.Problem.{Outcome, best, unbounded, empty}
 use Rattle.tm_transformers.specs.Limits.{tabulate, shift}
-use Rattle.tm_transformers.specs.JointProblems.{Listed, is_at, rise_at, joint_words, words_of}
-use Rattle.tm_transformers.specs.JointPoints.{Unlisted, Distinct}
-use Rattle.tm_transformers.proofs.joint_problems.Rises.{is_at_itself}
-use Rattle.tm_transformers.proofs.joint_problems.JointLists.{distinct_same, not_unlisted}
+use Rattle.tm_transformers.specs.JointProblems.{rise_at, joint_words, words_of}
+use Rattle.tm_transformers.specs.JointPoints.{Distinct}
 use Rattle.tm_ray.specs.declared.layout.Rise.{Rise}
 use Rattle.tm_ray.specs.declared.rate.RateOf.{RateOf}
 use Rattle.tm_ray.specs.Reading.{at_column, is_named, rate_of, named_rates}
@@ -24,27 +22,11 @@ use Rattle.tm_joint.specs.Layouts.{columns_from, rises_from, layout_of, trace_at
 use Rattle.tm_joint.specs.declared.joined.Joined.{Joined}
 use Rattle.tm_joint.specs.declared.joined.Joined.TheVariants.{Point, Ray}
 use Rattle.tm_joint.proofs.blocks.WordReads.{at_tabulate, tabulate_same, words_are}
+use Rattle.tm_joint.proofs.layouts.NumberReads.{rises_here}
 use Rattle.tm_rounds.specs.Turning.{HasSizes}
 use Rattle.tm_rounds.proofs.lows.JumpTurn.{AllStart}
 
 -- ---- lists
-map_in : (f g : Listed → ℚ) (xs : List Listed) → ((v : Listed) → In xs v → f v ≡ g v) → map f xs ≡ map g xs
-map_in f g [] h = refl
-map_in f g (x ∷ xs) h = ap₂ (λ y ys. y ∷ ys) (h x (inl refl)) (map_in f g xs (λ v m. h v (inr m)))
-
--- the rise of each listed unknown is the entry at its place
-rises_here : (list : List Listed) (x : ℕ → ℚ) → Distinct list → map (λ u. rise_at list x u.point u.row) list ≡ tabulate (length list) x
-unfolding rise_at
-rises_here [] x d = refl
-rises_here (u ∷ list) x d =
-    let later : Listed → ℚ = λ v. rise_at list (λ k. x (suc k)) v.point v.row in
-    ap₂ (λ y ys. y ∷ ys) (ap (λ t. if t then x 0 else later u) (is_at_itself u))
-    (map_in (λ v. rise_at (u ∷ list) x v.point v.row) later list (λ v m. ap (λ t. if t then x 0 else later v) (other v m (is_at u v.point v.row) refl)) ∙ rises_here list (λ k. x (suc k)) d.1)
-  where
-    other : (v : Listed) → In list v → (t : Bool) → is_at u v.point v.row ≡ t → t ≡ false
-    other v m false e = refl
-    other v m true e = absurd (not_unlisted list v m (subst (λ s. Unlisted list s.point s.row) (distinct_same (u ∷ list) u v d (inl refl) (inr m) e) d.0))
-
 length-columns : (first n : ℕ) → length (columns_from first n) ≡ n
 length-columns first zero = refl
 length-columns first (suc n) = ap suc (length-columns (first + 2) n)

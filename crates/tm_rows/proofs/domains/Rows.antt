@@ -1,8 +1,8 @@
 -- The rows of the templates: their numbers, that they are templates, and how many there are.
-use Rattle.std.proofs.Common.{◌≡◌, ◌≢◌, ◌≤◌, ◌+◌, ◌-◌, ◌*◌, ℕ, suc, zero, ℤ, pos, negsuc, Bool, true, false, cond, eqb, List, [], ◌∷◌, ◌++◌, length, map, ap}
+use Rattle.std.proofs.Common.{◌≡◌, ◌≢◌, ◌≤◌, ◌+◌, ◌-◌, ◌*◌, ℕ, suc, zero, ℤ, pos, negsuc, Bool, true, false, ◌&&◌, cond, eqb, List, [], ◌∷◌, ◌++◌, length, map, ap}
 use Rattle.std.proofs.Common.{sym, ◌∙◌, refl, arith, append_assoc, ◌+ℤ◌}
 use Rattle.std.specs.List.{range_with_len, flat_map}
-use Rattle.std.proofs.lemmas.Bool.{and_from, eq-eqb, ne_eqb, le-ltb}
+use Rattle.std.proofs.lemmas.Bool.{and_from, and_parts, eq-eqb, eqb-true, ne_eqb, le-ltb, agree_below, agree_below_at}
 use Rattle.std.proofs.lemmas.Bool.Decides.{nat_tests}
 use Rattle.std.proofs.lemmas.List.{flat_map_more, map-id}
 use Rattle.std.proofs.lemmas.List.FromFn.{map-range_with_len_more}
@@ -10,6 +10,7 @@ use Rattle.std.proofs.Math.IntN.{+ℤ_idl, +ℤ_idr}
 use Rattle.tm_tree.specs.Numbers.{is_number, are_numbers}
 use Rattle.tm_rows.specs.Rows.{is_template, width_of}
 use Rattle.tm_rows.specs.Domains.{term, combination, intervals_of, difference, zones_of, signed_sums, octagons_of}
+use Rattle.tm_tree.specs.declared.limits.TheConstants.{MOST_VARIABLES}
 
 -- the coefficient of the variable itself, and of another one
 pub term_own : (c : ℤ) (i k : ℕ) → k ≡ i → term c i k ≡ c
@@ -77,28 +78,28 @@ difference_one n i j d = rw (ne_eqb i j d) refl
 pub signed_sums_none : (n i j : ℕ) → j ≤ i → [] ≡ signed_sums n i j
 signed_sums_none n i j e = sym (rw (le-ltb i j e) refl)
 
--- each number of variables from 1 to 8
-eight : (P : ℕ → Type 0) → P 1 → P 2 → P 3 → P 4 → P 5 → P 6 → P 7 → P 8 → (n : ℕ) → 1 ≤ n → n ≤ 8 → P n
-eight P a b c d e f g h zero low high = absurd (omega arith)
-eight P a b c d e f g h (suc zero) low high = a
-eight P a b c d e f g h (suc (suc zero)) low high = b
-eight P a b c d e f g h (suc (suc (suc zero))) low high = c
-eight P a b c d e f g h (suc (suc (suc (suc zero)))) low high = d
-eight P a b c d e f g h (suc (suc (suc (suc (suc zero))))) low high = e
-eight P a b c d e f g h (suc (suc (suc (suc (suc (suc zero)))))) low high = f
-eight P a b c d e f g h (suc (suc (suc (suc (suc (suc (suc zero))))))) low high = g
-eight P a b c d e f g h (suc (suc (suc (suc (suc (suc (suc (suc zero)))))))) low high = h
-eight P a b c d e f g h (suc (suc (suc (suc (suc (suc (suc (suc (suc n))))))))) low high = absurd (omega arith)
-
--- what is shown of a template over n variables, by counting it out
+-- what is shown of a template over n variables
 abbrev pub IsCounted : (ℕ → List (List ℤ)) → (ℕ → ℕ) → ℕ → Type 0
 IsCounted rows count n = (is_template (rows n) ≡ true) × (width_of (rows n) ≡ n) × (length (rows n) ≡ count n)
 
-pub intervals_counted : (n : ℕ) → 1 ≤ n → n ≤ 8 → IsCounted intervals_of (λ n. 2 * n) n
-intervals_counted = eight (IsCounted intervals_of (λ n. 2 * n)) (refl, refl, refl) (refl, refl, refl) (refl, refl, refl) (refl, refl, refl) (refl, refl, refl) (refl, refl, refl) (refl, refl, refl) (refl, refl, refl)
+-- the same as a test, which is counted out for each number of variables that a program may have
+abbrev is_counted : (ℕ → List (List ℤ)) → (ℕ → ℕ) → ℕ → Bool
+is_counted rows count n = is_template (rows n) && (eqb (width_of (rows n)) n && eqb (length (rows n)) (count n))
 
-pub zones_counted : (n : ℕ) → 1 ≤ n → n ≤ 8 → IsCounted zones_of (λ n. 2 * n + n * (n - 1)) n
-zones_counted = eight (IsCounted zones_of (λ n. 2 * n + n * (n - 1))) (refl, refl, refl) (refl, refl, refl) (refl, refl, refl) (refl, refl, refl) (refl, refl, refl) (refl, refl, refl) (refl, refl, refl) (refl, refl, refl)
+counted : (rows : ℕ → List (List ℤ)) (count : ℕ → ℕ) → agree_below (λ k. is_counted rows count (suc k)) (λ k. true) MOST_VARIABLES ≡ true →
+    (n : ℕ) → 1 ≤ n → n ≤ MOST_VARIABLES → IsCounted rows count n
+counted rows count all zero low high = absurd (omega (arith, low))
+counted rows count all (suc k) low high =
+    let n = suc k in
+    let a = and_parts (is_template (rows n)) _ (agree_below_at (λ k. is_counted rows count (suc k)) (λ k. true) MOST_VARIABLES k all (omega (arith, high))) in
+    let b = and_parts (eqb (width_of (rows n)) n) (eqb (length (rows n)) (count n)) a.1 in
+    (a.0, eqb-true (width_of (rows n)) n b.0, eqb-true (length (rows n)) (count n) b.1)
 
-pub octagons_counted : (n : ℕ) → 1 ≤ n → n ≤ 8 → IsCounted octagons_of (λ n. 2 * n * n) n
-octagons_counted = eight (IsCounted octagons_of (λ n. 2 * n * n)) (refl, refl, refl) (refl, refl, refl) (refl, refl, refl) (refl, refl, refl) (refl, refl, refl) (refl, refl, refl) (refl, refl, refl) (refl, refl, refl)
+pub intervals_counted : (n : ℕ) → 1 ≤ n → n ≤ MOST_VARIABLES → IsCounted intervals_of (λ n. 2 * n) n
+intervals_counted = counted intervals_of (λ n. 2 * n) refl
+
+pub zones_counted : (n : ℕ) → 1 ≤ n → n ≤ MOST_VARIABLES → IsCounted zones_of (λ n. 2 * n + n * (n - 1)) n
+zones_counted = counted zones_of (λ n. 2 * n + n * (n - 1)) refl
+
+pub octagons_counted : (n : ℕ) → 1 ≤ n → n ≤ MOST_VARIABLES → IsCounted octagons_of (λ n. 2 * n * n) n
+octagons_counted = counted octagons_of (λ n. 2 * n * n) refl

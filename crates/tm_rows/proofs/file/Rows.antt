@@ -14,6 +14,7 @@ use Rattle.tm_rows.specs.Sums.{coefficient_by, total}
 use Rattle.tm_rows.specs.RowFiles.{lines_of, LineReads, LinesRead}
 use Rattle.tm_rows.proofs.file.Steps.{pieces}
 use Rattle.tm_rows.proofs.given.Sound.{is_row_over}
+use Rattle.tm_rows.specs.declared.limits.TheConstants.{MOST_ROWS}
 
 abbrev is_within : ℕ → List ℕ → Bool
 is_within n line = nat_le (length line) n
@@ -74,4 +75,4 @@ rows_over names (line ∷ lines) rows h =
 
 -- the fault of a number of rows
 pub count_is : (n : ℕ) (fault : RowFault) → fault ∷ [] ≡ count_faults n → fault ≡ Count n
-count_is n fault h = count_among (nat_le 1 n && nat_le n 128) n fault h
+count_is n fault h = count_among (nat_le 1 n && nat_le n MOST_ROWS) n fault h

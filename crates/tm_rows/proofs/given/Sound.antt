@@ -6,6 +6,7 @@ use Rattle.tm_rows.specs.declared.fault.RowFault.{RowFault}
 use Rattle.tm_rows.specs.declared.fault.RowFault.TheVariants.{Count}
 use Rattle.tm_rows.specs.Rows.{is_row, is_template, width_of}
 use Rattle.tm_rows.specs.RowFaults.{row_faults, count_faults, faults_from, faults_of}
+use Rattle.tm_rows.specs.declared.limits.TheConstants.{MOST_ROWS}
 
 pub none_first : {X : Type 0} (xs : List X) → slice_get xs 0 ≡ None → xs ≡ []
 none_first [] h = refl
@@ -38,11 +39,11 @@ all_rows n line (row ∷ rows) h =
     and_from _ _ (both_pass (eqb (length row) n) (is_row row) _ _ (front_none (row_faults n (line, row)) _ h))
     (all_rows n (line + 1) rows (back_none (row_faults n (line, row)) _ h))
 
-pub count_within : (count : ℕ) → count_faults count ≡ [] → (nat_le 1 count && nat_le count 128) ≡ true
-count_within count h = within (nat_le 1 count && nat_le count 128) (Count count) h
+pub count_within : (count : ℕ) → count_faults count ≡ [] → (nat_le 1 count && nat_le count MOST_ROWS) ≡ true
+count_within count h = within (nat_le 1 count && nat_le count MOST_ROWS) (Count count) h
 
 -- rows over n variables, in a number that is right, are a template
-pub template_from : (n : ℕ) (rows : List (List ℤ)) → list_all (is_row_over n) rows ≡ true → (nat_le 1 (length rows) && nat_le (length rows) 128) ≡ true → (is_template rows ≡ true) × (width_of rows ≡ n)
+pub template_from : (n : ℕ) (rows : List (List ℤ)) → list_all (is_row_over n) rows ≡ true → (nat_le 1 (length rows) && nat_le (length rows) MOST_ROWS) ≡ true → (is_template rows ≡ true) × (width_of rows ≡ n)
 template_from n [] h k = cc
 template_from n (row ∷ rows) h k =
     let same : length row ≡ n = eqb-true _ _ (and_parts _ _ (and_parts _ _ h).0).1 in

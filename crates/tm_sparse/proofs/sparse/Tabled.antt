@@ -1,17 +1,17 @@
 -- The tables of dictionaries of sparse rows after a pivot, and after a column and a goal are left out.
 use Rattle.std.proofs.Common.{◌≡◌, ℕ, suc, ◌+◌, ◌*◌, ◌<◌, ⊎_elim, Bool, true, false, cond, eqb, List, [], length, get_or, set, take, refl, ap, sym, ◌∙◌, subst, arith}
 use Rattle.std.specs.Prelude.{remove}
-use Rattle.std.proofs.lemmas.Bool.{cases_lt, cases_eq, eq-eqb, ne_eqb, eqb-true}
+use Rattle.std.proofs.lemmas.Bool.{cases_lt, cases_eq, eq-eqb, ne_eqb}
 use Rattle.std.proofs.lemmas.List.Edits.{length-remove}
-use Rattle.tm_num.specs.Rational.{ℚ, zero_ℚ, one_ℚ, inv_ℚ, turned, neg_ℚ, ◌+ℚ◌, ◌*ℚ◌, ◌/ℚ◌}
+use Rattle.tm_num.specs.Rational.{ℚ, zero_ℚ, one_ℚ, inv_ℚ, turned, neg_ℚ, ◌+ℚ◌, ◌*ℚ◌}
 use Rattle.tm_num.proofs.rational.Laws.{div_ℚ_is, zero-*ℚ, *ℚ-zero, neg_ℚ-zero, +ℚ_idr}
 use Rattle.tm_num.proofs.rational.Quotients.{zero_by_num}
 use Rattle.tm_lp.specs.Table.{Table, Agree, skip, pivot_row_entry, pivot_other_entry, pivot_table, drop_table}
 use Rattle.tm_lp.specs.Run.{place_of, leave_table}
-use Rattle.tm_dict.specs.Formulas.{divided, combined, divided_row, combined_row}
+use Rattle.tm_dict.specs.Formulas.{divided, combined}
 use Rattle.tm_dict.specs.PivotOperations.{pivot_operations}
 use Rattle.tm_dict.specs.Rows as dense
-use Rattle.tm_dict.proofs.cells.DictPivots.{pivot_agrees}
+use Rattle.tm_dict.proofs.cells.DictPivots.{row_entry, other_entry, pivot_agrees}
 use Rattle.tm_dict.proofs.cells.DictLeaves.{leave_agrees}
 use Rattle.tm_sparse.specs.declared.entry.SparseRow.{SparseRow}
 use Rattle.tm_sparse.specs.Entries.{value_at, Rises, HasNoZero, left_out}
@@ -41,23 +41,6 @@ nothing_exchanged n r s c = record {
   pivot_row = λ k l. divided_none (eqb k c);
   others = λ i k l d b. combined_none (divided zero_ℚ zero_ℚ (eqb k c)) (eqb k c);
 }
-
--- an entry of the table after the pivot
-row_entry : (T : Table) (r c k : ℕ) → pivot_row_entry T r c k ≡ divided_row (T.entry r) c k
-unfolding pivot_row_entry
-row_entry T r c k = by (eqb k c)
-  where
-    by : (b : Bool) → cond b (one_ℚ /ℚ T.entry r c) (neg_ℚ (T.entry r k /ℚ T.entry r c)) ≡ divided (T.entry r k) (T.entry r c) b
-    by true = refl
-    by false = refl
-
-other_entry : (T : Table) (r c i k : ℕ) → pivot_other_entry T r c i k ≡ combined_row (T.entry i) (divided_row (T.entry r) c) c k
-unfolding pivot_other_entry
-other_entry T r c i k = by (eqb k c) refl
-  where
-    by : (b : Bool) → eqb k c ≡ b → cond b (T.entry i c *ℚ pivot_row_entry T r c c) (T.entry i k +ℚ T.entry i c *ℚ pivot_row_entry T r c k) ≡ combined (T.entry i k) (T.entry i c) (divided_row (T.entry r) c k) b
-    by true e = ap (λ t. T.entry i c *ℚ t) (row_entry T r c c ∙ ap (divided_row (T.entry r) c) (sym (eqb-true k c e)))
-    by false e = ap (λ t. T.entry i k +ℚ T.entry i c *ℚ t) (row_entry T r c k)
 
 module _ {F : Type 0} (m : F → ℚ) (bs ns : List ℕ) (goals : ℕ) (rows ys : List (SparseRow F)) (r c : ℕ) (sized : length rows ≡ length bs + goals) (h : Exchanges m (length rows) r (suc (length ns)) c rows ys) where
   -- the table is that of the pivot

@@ -25,7 +25,8 @@ use Rattle.tm_strategy.proofs.round.PartLaw.{Joined}
 use Rattle.tm_strategy.proofs.round.RoundLaw.{IsCut, RoundDone, round_done}
 use Rattle.tm_strategy.proofs.growth.ApartLaw.{choices_distinct, passes_apart}
 
-of_finite : (z : Vector) (us : List Item) (u : Item) → In (finite_items z us) u → In us u × ((c : ℚ) × (z u.point u.row ≡ fin c))
+-- the items at fractions
+pub of_finite : (z : Vector) (us : List Item) (u : Item) → In (finite_items z us) u → In us u × ((c : ℚ) × (z u.point u.row ≡ fin c))
 unfolding finite_items keep
 of_finite z [] u m = absurd m
 of_finite z (v ∷ us) u m = by (z v.point v.row) refl m (λ k. of_finite z us u k)
@@ -35,7 +36,7 @@ of_finite z (v ∷ us) u m = by (z v.point v.row) refl m (λ k. of_finite z us u
     by (fin c) e m rec = ⊎_elim (λ f. (inl f, (c, subst (λ i. z i.point i.row ≡ fin c) f e))) (λ k. let r = rec k in (inr r.0, r.1)) m
     by pos_inf e m rec = let r = rec m in (inr r.0, r.1)
 
-in_finite : (z : Vector) (us : List Item) (u : Item) (c : ℚ) → In us u → z u.point u.row ≡ fin c → In (finite_items z us) u
+pub in_finite : (z : Vector) (us : List Item) (u : Item) (c : ℚ) → In us u → z u.point u.row ≡ fin c → In (finite_items z us) u
 unfolding finite_items keep
 in_finite z [] u c m e = absurd m
 in_finite z (v ∷ us) u c m e = by (z v.point v.row) refl (λ k. in_finite z us u c k e)

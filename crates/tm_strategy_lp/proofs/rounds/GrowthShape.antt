@@ -1,17 +1,18 @@
 -- The steps of a growth have one item each, of unknowns that are all different.
-use Rattle.std.proofs.Common.{◌≡◌, ◌∙◌, inl, inr, ⊎_elim, Bool, ℕ, zero, suc, ◌+◌, ◌*◌, ◌≤◌, List, [], ◌∷◌, length, length-append, refl, sym, ap, subst, arith}
+use Rattle.std.proofs.Common.{◌≡◌, ⊎_elim, Bool, ℕ, zero, suc, ◌+◌, ◌*◌, ◌≤◌, List, [], ◌∷◌, length, length-append, refl, ap, subst, arith}
 use Rattle.std.specs.Prelude.{Option, Some, None, flat_map}
 use Rattle.std.specs.List.{range_with_len}
 use Rattle.tm_base.specs.Elements.{In}
 use Rattle.tm_num.specs.Rational.{ℚ}
-use Rattle.tm_num.specs.Extended.{Ext, neg_inf, fin, pos_inf}
+use Rattle.tm_num.specs.Extended.{fin}
 use Rattle.tm_eqsys.specs.Equations.{Equations, Vector}
 use Rattle.tm_validity.specs.Steps.{Item, Step, after_step, Distinct}
 use Rattle.tm_transformers.specs.EdgeProblems.{transformer}
 use Rattle.tm_strategy.specs.Picks.{Pick, IsPick, choice_at, choices}
 use Rattle.tm_strategy.specs.Growth.{items_of, grow, growth}
-use Rattle.tm_strategy.specs.Round.{keep, finite_items, rising}
+use Rattle.tm_strategy.specs.Round.{rising}
 use Rattle.tm_strategy.proofs.round.Choices.{choices_picked}
+use Rattle.tm_strategy.proofs.round.WholeCut.{of_finite, in_finite}
 use Rattle.tm_strategy.proofs.growth.GrowthLaw.{Raises}
 use Rattle.tm_strategy.proofs.growth.PassLaw.{passes_done}
 use Rattle.tm_strategy.proofs.growth.ApartLaw.{choices_distinct, passes_apart}
@@ -46,35 +47,6 @@ module _ (fitting : ℚ → Bool) (system : Equations) (pick : Pick) (is_pick : 
       let us = choices system pick in
       let done = passes_done fitting system (transformer system) (exact_evidence system) (exact_sizes system) pick is_pick (length us) us d (omega arith) (choices_picked system pick) in
       let c = done.logged.count in omega arith
-
-  in_finite : (z : Vector) (us : List Item) (u : Item) (c : ℚ) → In us u → z u.point u.row ≡ fin c → In (finite_items z us) u
-  unfolding finite_items keep
-  in_finite z [] u c m e = absurd m
-  in_finite z (v ∷ us) u c m e = by (z v.point v.row) refl (λ k. in_finite z us u c k e)
-    where
-      at : v ≡ u → z v.point v.row ≡ fin c
-      at f = subst (λ i. z i.point i.row ≡ fin c) (sym f) e
-
-      by : (x : Ext) → z v.point v.row ≡ x → (In us u → In (finite_items z us) u) → In (keep x v (finite_items z us)) u
-      by neg_inf f rec = ⊎_elim (λ g. absurd (differ (sym f ∙ at g))) (λ k. rec k) m
-        where
-          differ : neg_inf ≡ fin c → ⊥
-          differ h = cc
-      by (fin a) f rec = ⊎_elim (λ g. inl g) (λ k. inr (rec k)) m
-      by pos_inf f rec = ⊎_elim (λ g. absurd (differ (sym f ∙ at g))) (λ k. rec k) m
-        where
-          differ : pos_inf ≡ fin c → ⊥
-          differ h = cc
-
-  of_finite : (z : Vector) (us : List Item) (u : Item) → In (finite_items z us) u → In us u × ((c : ℚ) × (z u.point u.row ≡ fin c))
-  unfolding finite_items keep
-  of_finite z [] u m = absurd m
-  of_finite z (v ∷ us) u m = by (z v.point v.row) refl m (λ k. of_finite z us u k)
-    where
-      by : (x : Ext) → z v.point v.row ≡ x → In (keep x v (finite_items z us)) u → (In (finite_items z us) u → In us u × ((c : ℚ) × (z u.point u.row ≡ fin c))) → In (v ∷ us) u × ((c : ℚ) × (z u.point u.row ≡ fin c))
-      by neg_inf e m rec = let r = rec m in (inr r.0, r.1)
-      by (fin c) e m rec = ⊎_elim (λ f. (inl f, (c, subst (λ i. z i.point i.row ≡ fin c) f e))) (λ k. let r = rec k in (inr r.0, r.1)) m
-      by pos_inf e m rec = let r = rec m in (inr r.0, r.1)
 
   -- the raised unknowns with a fraction as bound
   pub to_rising : (u : Item) (c : ℚ) → In (items_of (exact_grow fitting system d pick)) u → exact_grown fitting system d pick u.point u.row ≡ fin c → In (exact_rising fitting system d pick) u

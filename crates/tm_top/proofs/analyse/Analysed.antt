@@ -33,6 +33,8 @@ use Rattle.tm_top.proofs.analyse.Answered.{solved_ends}
 use Rattle.tm_top.proofs.texts.Once.{equations_are}
 use Rattle.tm_top.proofs.texts.Readings.{program_once, rows_once}
 use Rattle.tm_top.proofs.analyse.Solved.{least_report, same_equations}
+use Rattle.tm_eqsys.specs.declared.limits.TheConstants.{MOST_UNKNOWNS}
+use Rattle.tm_rows.specs.declared.limits.TheConstants.{MOST_ROWS}
 
 -- ---- answers to a system
 
@@ -130,12 +132,12 @@ no_row_faults n m line (row ∷ rows) h k =
     let c = both (length row == n) _ k in
     rw (row_sound n line row b.0 c.0) (no_row_faults n m (line + 1) rows a.1 c.1)
 
-count_sound : (count : ℕ) → (nat_le 1 count && nat_le count 128) ≡ true → count_faults count ≡ []
+count_sound : (count : ℕ) → (nat_le 1 count && nat_le count MOST_ROWS) ≡ true → count_faults count ≡ []
 count_sound count h = rw h refl
 
 sound : (n : ℕ) (template : List (List ℤ)) → IsTrue (is_template template) → IsTrue (is_over n template) → faults_of n template ≡ []
 sound n template h k =
-    let a = both (nat_le 1 (length template) && nat_le (length template) 128) _ h in
+    let a = both (nat_le 1 (length template) && nat_le (length template) MOST_ROWS) _ h in
     rw (no_row_faults n (width_of template) 1 template a.1 k) (count_sound (length template) a.0)
 
 -- ---- what is put
@@ -175,7 +177,7 @@ certificate_put text rows system policy limit bytes is r =
         system = record {
           spelt = record { analysed = is.ready.system.analysed; spells = r.spells };
           rows = sound (length is.names) system.template r.template (subst (λ (names : List (List ℕ)). IsTrue (is_over (length names) system.template)) is.system_for.names_are over);
-          within = subst (λ t. unknowns is.body t ≤ 1024) (sym is.system_for.template_is) is.ready.within;
+          within = subst (λ t. unknowns is.body t ≤ MOST_UNKNOWNS) (sym is.system_for.template_is) is.ready.within;
         };
         valid = subst (λ q. ValidCertificate q (made_certificate system r.solved)) same r.valid;
       };

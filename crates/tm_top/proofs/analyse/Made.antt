@@ -31,6 +31,7 @@ use Rattle.tm_cli.specs.declared.request.Purpose.TheVariants.{Certificate as AsC
 use Rattle.tm_top.specs.declared.refusal.Refusal.{Refusal}
 use Rattle.tm_top.specs.declared.refusal.Refusal.TheVariants as refusal
 use Rattle.tm_top.specs.declared.status.CertCause.TheVariants.{Form, Rows, Unknowns, Check}
+use Rattle.tm_eqsys.specs.declared.limits.TheConstants.{MOST_UNKNOWNS}
 
 -- ---- its steps and items can be numbered
 
@@ -38,23 +39,23 @@ and_both : (a b : Bool) → a ≡ true → b ≡ true → (a && b) ≡ true
 and_both true b h k = k
 and_both false b h k = cc
 
-short_step : (count : ℕ) (step : Step) → count ≤ 1024 → has_most count step ≡ true → is_short step ≡ true
+short_step : (count : ℕ) (step : Step) → count ≤ MOST_UNKNOWNS → has_most count step ≡ true → is_short step ≡ true
 short_step count (Plain items) l h = grind arith
 short_step count (Jump items) l h = grind arith
 short_step count (Ray items) l h = grind arith
 
-short_steps : (count : ℕ) (steps : List Step) → count ≤ 1024 → IsTrue (list_all (has_most count) steps) → IsTrue (list_all is_short steps)
+short_steps : (count : ℕ) (steps : List Step) → count ≤ MOST_UNKNOWNS → IsTrue (list_all (has_most count) steps) → IsTrue (list_all is_short steps)
 short_steps count [] l h = h
 short_steps count (step ∷ steps) l h =
     let a = both (has_most count step) _ h in
     and_both (is_short step) _ (short_step count step l a.0) (short_steps count steps l a.1)
 
-unknowns_within : (system : System) → length system.flow.points * length system.template ≤ 1024
+unknowns_within : (system : System) → length system.flow.points * length system.template ≤ MOST_UNKNOWNS
 unknowns_within system =
     let h = (both (is_over (length system.flow.names) system.template) _ system.within_limits).1 in
     within (length system.flow.points * length system.template) h
   where
-    within : (n : ℕ) → nat_le n 1024 ≡ true → n ≤ 1024
+    within : (n : ℕ) → nat_le n MOST_UNKNOWNS ≡ true → n ≤ MOST_UNKNOWNS
     within n e = grind arith
 
 module _ (system : System) (solved : Solved) (cert : Cert) (same : cert ≡ cert_with system solved) where

@@ -20,6 +20,7 @@ use Rattle.tm_eqsys.specs.View.{equations_of}
 use Rattle.tm_eqsys.proofs.Sizes.{both}
 use Rattle.tm_eqsys.proofs.states.Soundness.{program_soundness}
 use Rattle.tm_top.specs.Reports.{IsLeastReport}
+use Rattle.tm_rows.specs.declared.limits.TheConstants.{MOST_ROWS}
 
 -- the equation system of these parts
 abbrev made_of : ℕ → ℕ → List Edge → List (List ℤ) → Equations
@@ -65,4 +66,4 @@ rows_over n (row ∷ rows) others e h =
 
 pub template_over : (n : ℕ) (template : List (List ℤ)) → IsTrue (is_template template) → width_of template ≡ n → IsTrue (is_over n template)
 template_over n template h e =
-    rows_over n template template e (both (nat_le 1 (length template) && nat_le (length template) 128) _ h).1
+    rows_over n template template e (both (nat_le 1 (length template) && nat_le (length template) MOST_ROWS) _ h).1

@@ -16,10 +16,11 @@ use Rattle.tm_top.specs.declared.refusal.Refusal.{Refusal}
 use Rattle.tm_top.specs.declared.refusal.Refusal.TheVariants as refusal
 use Rattle.tm_top.specs.declared.status.TextCause.TheVariants.{Cells}
 use Rattle.tm_top.proofs.texts.Once.{equations_are}
+use Rattle.tm_eqsys.specs.declared.limits.TheConstants.{MOST_UNKNOWNS}
 
 module _ (text : List ℕ) (rows : Domain (List ℕ)) (names : List (List ℕ)) (body : Statements) (flow : Flow) (template : List (List ℤ)) (s : System)
     (analysed : IsAnalysed text names body) (names_are : flow.names ≡ names) (points_are : flow.points ≡ points_of_program body) (edges_are : flow.edges ≡ edges_of_program body)
-    (given : HasTemplate rows names (Ok template)) (flow_is : s.flow ≡ flow) (template_is : s.template ≡ template) (within : length flow.points * length template ≤ 1024) where
+    (given : HasTemplate rows names (Ok template)) (flow_is : s.flow ≡ flow) (template_is : s.template ≡ template) (within : length flow.points * length template ≤ MOST_UNKNOWNS) where
   pub system_for : IsSystemFor names body template s
   system_for = record {
     names_are = ap (λ (f : Flow). f.names) flow_is ∙ names_are;
@@ -31,8 +32,8 @@ module _ (text : List ℕ) (rows : Domain (List ℕ)) (names : List (List ℕ)) 
   system_of : IsSystemOf text rows names body template
   system_of = record { analysed = analysed; template_is = given }
 
-  few : unknowns body template ≤ 1024
-  few = subst (λ ps. length ps * length template ≤ 1024) points_are within
+  few : unknowns body template ≤ MOST_UNKNOWNS
+  few = subst (λ ps. length ps * length template ≤ MOST_UNKNOWNS) points_are within
 
   pub solved_system : cells_of (equations_of s) ≤ 134217728 → IsSolvedSystem text rows s
   solved_system h = record {

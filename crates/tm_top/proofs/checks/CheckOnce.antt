@@ -34,6 +34,7 @@ use Rattle.tm_top.specs.declared.status.TextCause.TheVariants as text
 use Rattle.tm_top.specs.declared.status.CertCause.TheVariants.{Form, Rows, Unknowns, Check}
 use Rattle.tm_top.specs.declared.status.Status.{Status}
 use Rattle.tm_top.specs.declared.status.Status.TheVariants.{Done, Certificate, Usage, Read, Text, Wide, Spent, Memory, Write}
+use Rattle.tm_eqsys.specs.declared.limits.TheConstants.{MOST_UNKNOWNS}
 
 -- ---- a fault of the form is the only one
 
@@ -96,7 +97,7 @@ picked None false count None None = Done
 
 abbrev last_ending : List (List ℕ) → Statements → Cert → Status
 last_ending names body cert =
-    picked (slice_get (faults_of (length names) cert.rows) 0) (nat_lt 1024 (unknowns body cert.rows)) (unknowns body cert.rows)
+    picked (slice_get (faults_of (length names) cert.rows) 0) (nat_lt MOST_UNKNOWNS (unknowns body cert.rows)) (unknowns body cert.rows)
     (wide_composition (system_with names body cert)) (first_stop (check_events (system_with names body cert) (theirs cert)))
 
 rows_picked : (f : RowFault) (o : Option RowFault) (m : Bool) (count : ℕ) (w : Option (ℕ × Operation)) (s : Option CheckFault) → o ≡ Some f → Certificate (Rows f) ≡ picked o m count w s
@@ -123,10 +124,10 @@ done_picked o m count w s e h k i =
     subst (λ o. Done ≡ picked o m count w s) (sym e) (subst (λ m. Done ≡ picked None m count w s) (sym h)
     (subst (λ w. Done ≡ picked None false count w s) (sym k) (subst (λ s. Done ≡ picked None false count None s) (sym i) refl)))
 
-above : (u : ℕ) → 1024 < u → nat_lt 1024 u ≡ true
+above : (u : ℕ) → MOST_UNKNOWNS < u → nat_lt MOST_UNKNOWNS u ≡ true
 above u h = grind arith
 
-within : (u : ℕ) → u ≤ 1024 → nat_lt 1024 u ≡ false
+within : (u : ℕ) → u ≤ MOST_UNKNOWNS → nat_lt MOST_UNKNOWNS u ≡ false
 within u h = grind arith
 
 sound_rows : (fs : List RowFault) → fs ≡ [] → slice_get fs 0 ≡ None
@@ -198,7 +199,7 @@ check_ends_once t bytes s u (program p h e) (program q k i) =
 spelt_ends : (t bytes : List ℕ) (names : List (List ℕ)) (body : Statements) (cert : Cert) (s : Status) → IsAnalysed t names body → SpellsCert bytes cert → s ≡ last_ending names body cert → CheckEnds t bytes s
 spelt_ends t bytes names body cert s a c e = program (names, body) a.reading (fits a.within (spelt cert c e))
 
-wide_spot : (names : List (List ℕ)) (body : Statements) (cert : Cert) (spot : Spot) → faults_of (length names) cert.rows ≡ [] → unknowns body cert.rows ≤ 1024
+wide_spot : (names : List (List ℕ)) (body : Statements) (cert : Cert) (spot : Spot) → faults_of (length names) cert.rows ≡ [] → unknowns body cert.rows ≤ MOST_UNKNOWNS
     → IsCompositionSpot (system_with names body cert) spot → Wide spot ≡ last_ending names body cert
 wide_spot names body cert spot r w h =
     ap Wide (spot_is spot h.edge h.round h.site) ∙ composed_picked (h.edge, operation_of (λ q. q) spot.wide) _ _ _ _ _ (sound_rows _ r) (within _ w) h.wide

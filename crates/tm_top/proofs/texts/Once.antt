@@ -23,6 +23,7 @@ use Rattle.tm_top.proofs.texts.Readings.{program_once, fault_once, not_both, row
 use Rattle.tm_top.specs.declared.status.TextCause.TheVariants.{Lex, Parse, Flow, Rows, Unknowns, Cells}
 use Rattle.tm_top.specs.declared.status.Status.{Status}
 use Rattle.tm_top.specs.declared.status.Status.TheVariants.{Done, Certificate, Usage, Read, Text, Wide, Spent, Memory, Write}
+use Rattle.tm_eqsys.specs.declared.limits.TheConstants.{MOST_UNKNOWNS}
 
 -- ---- the last stage: too many unknowns, too many cells, no improvement left, or done
 
@@ -32,11 +33,11 @@ equations_are names body template s is =
     same_equations names body s is.names_are is.points_are is.edges_are ∙ ap (λ t. equations_of_program (length names) body t) is.template_is
 
 pub data LastEnds (names : List (List ℕ)) (body : Statements) (template : List (List ℤ)) (policy : Policy) (limit : ℕ) (s : Status) : Type 0 where
-  many : 1024 < unknowns body template → s ≡ Text (Unknowns (unknowns body template)) → LastEnds names body template policy limit s
-  big : unknowns body template ≤ 1024 → 134217728 < cells names body template → s ≡ Text (Cells (cells names body template)) → LastEnds names body template policy limit s
-  ended : unknowns body template ≤ 1024 → cells names body template ≤ 134217728 → (system : System) → IsSystemFor names body template system → EndsWithin system policy limit → s ≡ Done
+  many : MOST_UNKNOWNS < unknowns body template → s ≡ Text (Unknowns (unknowns body template)) → LastEnds names body template policy limit s
+  big : unknowns body template ≤ MOST_UNKNOWNS → 134217728 < cells names body template → s ≡ Text (Cells (cells names body template)) → LastEnds names body template policy limit s
+  ended : unknowns body template ≤ MOST_UNKNOWNS → cells names body template ≤ 134217728 → (system : System) → IsSystemFor names body template system → EndsWithin system policy limit → s ≡ Done
       → LastEnds names body template policy limit s
-  out : unknowns body template ≤ 1024 → cells names body template ≤ 134217728 → (system : System) → IsSystemFor names body template system → RunsOut system policy limit → s ≡ Spent limit
+  out : unknowns body template ≤ MOST_UNKNOWNS → cells names body template ≤ 134217728 → (system : System) → IsSystemFor names body template system → RunsOut system policy limit → s ≡ Spent limit
       → LastEnds names body template policy limit s
 
 -- rounds don't both end within the limit and run out
@@ -141,7 +142,7 @@ staged text rows policy limit Write h = absurd h
 
 -- ---- texts that are a system end in a report or run out
 
-last_rounds : (names : List (List ℕ)) (body : Statements) (template : List (List ℤ)) (policy : Policy) (limit : ℕ) (s : Status) → unknowns body template ≤ 1024 → cells names body template ≤ 134217728
+last_rounds : (names : List (List ℕ)) (body : Statements) (template : List (List ℤ)) (policy : Policy) (limit : ℕ) (s : Status) → unknowns body template ≤ MOST_UNKNOWNS → cells names body template ≤ 134217728
     → LastEnds names body template policy limit s → (s ≡ Done) ⊎ (s ≡ Spent limit)
 last_rounds names body template policy limit s w v (many h e) = absurd (omega arith)
 last_rounds names body template policy limit s w v (big h k e) = absurd (omega arith)

@@ -11,6 +11,7 @@ ghost use Rattle.tm_top.specs.declared.status.TextCause.TheVariants.{Cells, Unkn
 ghost use Rattle.tm_top.specs.Files.{HasShortRows};
 ghost use Rattle.tm_top.specs.Parted.{IsRefusedBy, domain_of};
 ghost use Rattle.tm_top.specs.Texts.{HasTemplate, IsAnalysed, IsSolvedSystem};
+ghost use Rattle.tm_eqsys.specs.declared.limits.TheConstants.{MOST_UNKNOWNS};
 
 use super::template::template_of;
 use crate::program::{flow_of, program_of};
@@ -56,8 +57,8 @@ fn system_of(flow: Flow, template: Template) -> Result<System, Refusal>
     requires { IsTrue (is_over (length flow.names) template) }
     ensures flow { IfOk result (λ system. system.flow ≡ flow) }
     ensures template { IfOk result (λ system. system.template ≡ template) }
-    ensures within { IfOk result (λ _. length flow.points * length template ≤ 1024) }
-    ensures above { IfErr result (λ _. 1024 < length flow.points * length template) }
+    ensures within { IfOk result (λ _. length flow.points * length template ≤ MOST_UNKNOWNS) }
+    ensures above { IfErr result (λ _. MOST_UNKNOWNS < length flow.points * length template) }
     ensures count { IfErr result (λ refusal. refusal ≡ Refusal.Text (Unknowns (length flow.points * length template))) }
 {
     match System::new(flow, template) {

@@ -6,6 +6,7 @@ ghost use Rattle.tm_rows.specs.Rows.{width_of};
 ghost use Rattle.tm_top.specs.Files.{HasShortRows};
 ghost use Rattle.tm_top.specs.Parted.{domain_of};
 ghost use Rattle.tm_top.specs.Texts.{HasTemplate};
+ghost use Rattle.tm_tree.specs.declared.limits.TheConstants.{MOST_VARIABLES};
 
 use std::alloc::Global;
 use tm_cli::Domain;
@@ -19,7 +20,7 @@ pub(crate) fn template_of(
     names: &[Name],
 ) -> Result<Template, RowFault>
     requires some { 1 ≤ length names.now }
-    requires few { length names.now ≤ 8 }
+    requires few { length names.now ≤ MOST_VARIABLES }
     requires short { HasShortRows (domain_of rows.now) }
     ensures template { IfOk result (λ template. HasTemplate (domain_of rows.now) names.now (Ok template)) }
     ensures width { IfOk result (λ template. width_of template ≡ length names.now) }

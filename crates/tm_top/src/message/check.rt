@@ -147,18 +147,6 @@ fn push_form(message: &mut Message, fault: FormFault)
     }
 }
 
-fn op_words(op: Op) -> &'static [u8]
-    ensures text { result.now ≡ op_text op }
-    ensures few { length result.now ≤ 24 }
-{
-    match op {
-        Op::Add => b"add ",
-        Op::Sub => b"sub ",
-        Op::Mul => b"mul ",
-        Op::Div => b"div ",
-    }
-}
-
 // Adds a part of solving a linear problem.
 fn push_part(message: &mut Message, part: Part)
     requires room { length message.old ≤ 350 }
@@ -217,6 +205,18 @@ fn push_site(message: &mut Message, rows: usize, round: u32, site: Site)
             push_unknown(message, b"upper point ", b" row ", rows, unknown);
             push_numbered(message, b" edge ", edge as u64);
         }
+    }
+}
+
+fn op_words(op: Op) -> &'static [u8]
+    ensures text { result.now ≡ op_text op }
+    ensures few { length result.now ≤ 24 }
+{
+    match op {
+        Op::Add => b"add ",
+        Op::Sub => b"sub ",
+        Op::Mul => b"mul ",
+        Op::Div => b"div ",
     }
 }
 

@@ -32,6 +32,7 @@ use Rattle.tm_workload.specs.declared.draws.Loop.{Loop}
 use Rattle.tm_workload.specs.Draws.{following, loops_from}
 use Rattle.tm_workload.specs.Bodies.{turn_of, loops_body, generated_body}
 use Rattle.tm_workload.proofs.draws.TextParts.{count_drawn}
+use Rattle.tm_flow.specs.declared.limits.TheConstants.{MOST_POINTS}
 
 -- ---- counting
 loops_points : (n : ℕ) (ls : List Loop) → points_in (loops_body n ls) ≡ length ls
@@ -87,8 +88,8 @@ generated_counted : (seed loops : ℕ) → loops ≤ 46 → counted_fault (gener
 generated_counted seed loops h =
     let body = generated_body seed loops in
     ap (λ (x : List ℕ). counted_after x body) (none_wide 3 (loops_from seed loops))
-    ∙ no_more (nat_lt 48 (point_count body)) (nat_lt 256 (length (edges_of_program body))) (fault.Points (point_count body))
-    (le-ltb 48 (point_count body) (omega (arith, generated_count seed loops)))
+    ∙ no_more (nat_lt MOST_POINTS (point_count body)) (nat_lt 256 (length (edges_of_program body))) (fault.Points (point_count body))
+    (le-ltb MOST_POINTS (point_count body) (omega (arith, generated_count seed loops)))
     (le-ltb 256 (length (edges_of_program body)) (omega (arith, few_edges seed loops)))
 
 -- ---- actions

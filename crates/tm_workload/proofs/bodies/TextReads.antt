@@ -26,6 +26,7 @@ use Rattle.tm_workload.proofs.bodies.LineNumbers.{lines_of, lines_at, lines_are}
 use Rattle.tm_workload.proofs.draws.TextParts.{front_parts, back_parts, parts_of, loop_parts, loops_parts, text_parts, IsDrawn, AreDrawn, are_drawn, count_drawn, text_spelled, text_stands, text_good, front_good}
 use Rattle.tm_workload.proofs.bodies.Decimals.{short_numeral}
 use Rattle.tm_workload.proofs.bodies.Machines.{machine_at, count_behind, front_nodes, front_fed, loops_fed, back_fed, front_scanned, loops_scanned, back_scanned}
+use Rattle.tm_tree.specs.declared.limits.TheConstants.{MOST_VARIABLES}
 
 -- the tokens of the text that these loops make
 abbrev pub lexed : List ℕ → List Loop → List lex_token.Token
@@ -121,7 +122,7 @@ total_marks text ls =
     ∙ total_append mark (map plain_token tokens) (map plain_token (end_at (length text) ∷ []))
     ∙ omega (arith, marked 0 (text_parts ls), text_marks ls)
 
-three_wide : (text : List ℕ) (ls : List Loop) → 3 ≡ min 8 (total mark (map plain_token (lexed text ls)) - 1)
+three_wide : (text : List ℕ) (ls : List Loop) → 3 ≡ min MOST_VARIABLES (total mark (map plain_token (lexed text ls)) - 1)
 three_wide text ls = omega (arith, total_marks text ls)
 
 -- ---- what they mean

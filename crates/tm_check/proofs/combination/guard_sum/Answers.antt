@@ -1,4 +1,4 @@
-use Rattle.std.proofs.Common.{◌∙◌, get_or, refl, ap, arith}
+use Rattle.std.proofs.Common.{◌∙◌, length, get_or, refl, ap, arith}
 use Rattle.std.proofs.lemmas.Result.{err_from_is_err_and}
 use Rattle.std.proofs.lemmas.List.{length-map}
 use Rattle.tm_num.specs.Rational.{zero_ℚ}
@@ -6,7 +6,7 @@ use Rattle.tm_frac.specs.Operation.{operation_of}
 use Rattle.tm_compose.specs.declared.affine.Affine.{Affine}
 use Rattle.tm_compose.specs.Sums.{dense_column}
 use Rattle.tm_check.proofs.combination.Multiples.{added_none, added_more, added_wide, added_all}
-use Rattle.tm_check.proofs.combination.Forms.{no_forms, forms_there}
+use Rattle.tm_check.proofs.combination.Forms.{guard_within}
 use Rattle.tm_check.proofs.combination.Entries.{guard_read}
 use Rattle.tm_check.proofs.combination.guard_sum.Goals as goal
 
@@ -14,10 +14,7 @@ pub loop-g-init : goal.loop-g-init
 loop-g-init c = λ forms e. added_none c.args.start c.args.guards.now (dense_column c.args.column forms.guards) c.args.start refl
 
 pub bounds-guards-g : goal.bounds-guards-g
-bounds-guards-g c =
-    let forms = get_or c.args.paths.now c.args.edge no_forms in
-    let e = forms_there c.args.paths.now c.args.edge c.requires.edge in
-    omega (arith, c.requires.guards forms e, c.guards-g-end.ensures forms e, c.loop-g-test.true)
+bounds-guards-g c = guard_within c.args.paths.now c.args.edge (length c.args.guards.now) c.guards-g-end.result c.loop-g.g c.requires.edge c.requires.guards c.guards-g-end.ensures c.loop-g-test.true
 
 pub returns-in_err-sum : goal.returns-in_err-sum
 returns-in_err-sum c = λ forms e.

@@ -7,7 +7,7 @@ use Rattle.tm_frac.specs.Extended.{extended}
 use Rattle.tm_eqsys.specs.declared.spot.Site.{Site}
 use Rattle.tm_eqsys.specs.View.{equations_of}
 use Rattle.tm_cert.specs.Certificates.{step_of}
-use Rattle.tm_validity.specs.Steps.{Kind, word, edge_of, row_of, item_value}
+use Rattle.tm_validity.specs.Steps.{Kind, Sized, word, edge_of, row_of, item_value}
 use Rattle.tm_validity.specs.Faults.{Fault, TraceFault, LowFault, bound_at}
 use Rattle.tm_check.specs.Events.{Event, IsRun, Test, decided}
 use Rattle.tm_check.specs.Runs.{run_events}
@@ -49,7 +49,13 @@ returns c = λ z h.
     let raised : Kind → Ext → ℚ → List Event = λ kind v to. Test (decided (dec_raised kind v to value)) low ∷ [] in
     let first = dec_open (step_of rows c.args.step.now).kind (bound_at z item) in
     let passed = ensured first c.is_open.result low goes_on told c.in_ok-ensure.ensures.passed tt in
-    let after = c.ensure_raised.ensures value events (c.low_value.ensures z h) in
+    let after = c.ensure_raised.ensures value events (c.follow_item.ensures z item.low h (c.low_at.ensures rows)) in
     let by_number = subst (λ to. IsRun (λ u. Unit {0}) (shown ++ raised (step_of 1 c.args.step.now).kind (extended c.at-2.result) to) c.ensure_raised.result) (sym (c.number_at.ensures rows)) after in
     let rest = subst₂ (λ k v. IsRun (λ u. Unit {0}) (shown ++ raised k v item.number) c.ensure_raised.result) same (c.at-2.ensures ∙ at) by_number in
     run_after (λ u. Unit {0}) (Test (decided first) low ∷ []) (shown ++ raised (step_of rows c.args.step.now).kind (bound_at z item) item.number) c.ensure_raised.result passed.1 rest
+
+pub follow_item-requires-clause-sized : goal.follow_item-requires-clause-sized
+follow_item-requires-clause-sized c =
+    let S = equations_of c.args.system.now in
+    let rows = length S.template in
+    subst (Sized S (item_at rows c.args.step.now c.args.k)) (c.low_at.ensures rows) c.requires.sized

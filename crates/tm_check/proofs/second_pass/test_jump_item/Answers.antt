@@ -1,11 +1,11 @@
-use Rattle.std.proofs.Common.{◌∙◌, ◌↔◌, ◌++◌, [], ◌∷◌, List, length, refl, sym, subst₂}
+use Rattle.std.proofs.Common.{◌∙◌, ◌↔◌, ◌++◌, [], ◌∷◌, List, length, refl, sym, subst, subst₂}
 use Rattle.std.specs.Prelude.{IsTrue}
 use Rattle.std.proofs.lemmas.Result.{err_from_is_err_and}
 use Rattle.tm_num.specs.Rational.{ℚ}
 use Rattle.tm_num.specs.Extended.{fin, ◌≤ᴱ◌}
 use Rattle.tm_eqsys.specs.declared.spot.Site.{Site}
 use Rattle.tm_eqsys.specs.View.{equations_of}
-use Rattle.tm_validity.specs.Steps.{word, edge_of, row_of, item_value}
+use Rattle.tm_validity.specs.Steps.{Sized, word, edge_of, row_of, item_value}
 use Rattle.tm_validity.specs.Decide.{dec_leᴱ, dec_le_ℚ}
 use Rattle.tm_validity.specs.Faults.{Fault, HighFault, bound_at}
 use Rattle.tm_check.specs.Events.{Event, IsRun, Test, decided}
@@ -14,6 +14,7 @@ use Rattle.tm_check.specs.Items.{item_at}
 use Rattle.tm_check.specs.StepEvents.{at_item, landing_events}
 use Rattle.tm_check.proofs.following.Traces.{stop_sooner}
 use Rattle.tm_check.proofs.fault.Tests.{bound_is, ensured, run_after, goes_on, ends_with}
+use Rattle.tm_check.proofs.item.Places.{jump_second}
 use Rattle.tm_check.proofs.second_pass.test_jump_item.Goals as goal
 
 pub returns-in_err-ensure : goal.returns-in_err-ensure
@@ -48,4 +49,10 @@ returns c = λ z p h g.
     let events : Site → Fault → List Event = λ site fault. run_events site fault S p (edge_of S item) (row_of S item) item.second in
     let rest : Site → ℚ → List Event = λ site to. events site fault ++ Test (decided (dec_le_ℚ to x)) fault ∷ [] in
     run_after (λ u. Unit {0}) (Test (decided first) fault ∷ []) (rest (at_item c.args.number c.args.k) item.number) c.ensure_reached.result passed.1
-    (subst₂ (λ s q. IsRun (λ u. Unit {0}) (rest s q) c.ensure_reached.result) c.item_site.ensures n (c.ensure_reached.ensures x fault events (c.high_value.ensures p g) refl))
+    (subst₂ (λ s q. IsRun (λ u. Unit {0}) (rest s q) c.ensure_reached.result) c.item_site.ensures n (c.ensure_reached.ensures x fault events (c.follow_item.ensures p item.second g (c.second_at.ensures rows (jump_second rows c.args.step.now c.requires.jump))) refl))
+
+pub follow_item-requires-clause-sized : goal.follow_item-requires-clause-sized
+follow_item-requires-clause-sized c =
+    let S = equations_of c.args.system.now in
+    let rows = length S.template in
+    subst (Sized S (item_at rows c.args.step.now c.args.k)) (c.second_at.ensures rows (jump_second rows c.args.step.now c.requires.jump)) c.requires.usable.sized

@@ -1,4 +1,4 @@
-use Rattle.std.proofs.Common.{◌↔◌, ◌++◌, [], ◌∷◌, List, length, refl, sym, subst₂}
+use Rattle.std.proofs.Common.{◌↔◌, ◌++◌, [], ◌∷◌, List, length, refl, sym, subst, subst₂}
 use Rattle.std.specs.Prelude.{IsTrue}
 use Rattle.std.proofs.lemmas.Result.{err_from_is_err_and}
 use Rattle.tm_num.specs.Rational.{ℚ, zero_ℚ, ◌<ℚ◌}
@@ -6,7 +6,7 @@ use Rattle.tm_eqsys.specs.declared.spot.Site.{Site}
 use Rattle.tm_eqsys.specs.View.{equations_of}
 use Rattle.tm_cert.specs.Certificates.{step_of}
 use Rattle.tm_validity.specs.Words.{lin, end_form}
-use Rattle.tm_validity.specs.Steps.{word, edge_of, row_of}
+use Rattle.tm_validity.specs.Steps.{Sized, word, edge_of, row_of}
 use Rattle.tm_validity.specs.Decide.{dec_lt_ℚ, dec_le_ℚ}
 use Rattle.tm_validity.specs.Faults.{Fault, RayFault}
 use Rattle.tm_check.specs.Events.{Event, IsRun, Test, decided}
@@ -15,6 +15,7 @@ use Rattle.tm_check.specs.StepEvents.{at_item, allowances, carry_events, going_e
 use Rattle.tm_check.proofs.following.Traces.{stop_sooner}
 use Rattle.tm_check.proofs.first_pass.Comparisons.{test_less}
 use Rattle.tm_check.proofs.fault.Tests.{ensured, run_after, goes_on, ends_with}
+use Rattle.tm_check.proofs.item.Places.{ray_second}
 use Rattle.tm_check.proofs.second_pass.test_ray_item.Goals as goal
 
 pub returns-in_err-ensure : goal.returns-in_err-ensure
@@ -49,4 +50,10 @@ returns c = λ z g.
     let events : Site → Fault → List Event = λ site fault. carry_events site fault S rates (edge_of S item) (row_of S item) item.second in
     let rest : Site → ℚ → List Event = λ site to. events site fault ++ Test (decided (dec_le_ℚ to x)) fault ∷ [] in
     run_after (λ u. Unit {0}) (Test (decided first) fault ∷ []) (rest (at_item c.args.number c.args.k) item.number) c.ensure_reached.result passed.1
-    (subst₂ (λ s q. IsRun (λ u. Unit {0}) (rest s q) c.ensure_reached.result) c.item_site.ensures n (c.ensure_reached.ensures x fault events (c.rise.ensures rates g) refl))
+    (subst₂ (λ s q. IsRun (λ u. Unit {0}) (rest s q) c.ensure_reached.result) c.item_site.ensures n (c.ensure_reached.ensures x fault events (c.follow_item.ensures rates item.second g (c.second_at.ensures rows (ray_second rows c.args.step.now c.requires.ray))) refl))
+
+pub follow_item-requires-clause-sized : goal.follow_item-requires-clause-sized
+follow_item-requires-clause-sized c =
+    let S = equations_of c.args.system.now in
+    let rows = length S.template in
+    subst (Sized S (item_at rows c.args.step.now c.args.k)) (c.second_at.ensures rows (ray_second rows c.args.step.now c.requires.ray)) c.requires.usable.sized

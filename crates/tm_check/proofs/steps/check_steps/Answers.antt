@@ -1,7 +1,8 @@
-use Rattle.std.proofs.Common.{◌≡◌, ◌∙◌, ◌<◌, ◌≤◌, length, map, get_or, refl, ap, sym, subst}
+use Rattle.std.proofs.Common.{◌≡◌, ◌∙◌, ℕ, ◌<◌, ◌≤◌, List, length, map, get_or, refl, ap, sym, subst}
 use Rattle.std.proofs.lemmas.Result.{err_from_is_err_and}
 use Rattle.std.proofs.lemmas.List.{get_or-map, length-map}
 use Rattle.tm_eqsys.specs.View.{equations_of}
+use Rattle.tm_cert.specs.declared.step.Step.{Step as CertStep}
 use Rattle.tm_cert.specs.Certificates.{step_of}
 use Rattle.tm_validity.specs.Steps.{after_step, start_vector}
 use Rattle.tm_check.specs.Stands.{Stands}
@@ -21,42 +22,41 @@ loop-number-init c =
       left = refl;
     }
 
+-- a step of the certificate, as the step that it stands for
+there : (rows : ℕ) (steps : List CertStep) (i : ℕ) (step : CertStep) → i < length steps → step ≡ get_or steps i step →
+    (i < length (map (step_of rows) steps)) × (step_of rows step ≡ get_or (map (step_of rows) steps) i (step_of rows step))
+there rows steps i step l is = (
+  subst (λ n. i < n) (sym (length-map steps (step_of rows))) l,
+  ap (step_of rows) is ∙ sym (get_or-map (step_of rows) steps i step (step_of rows step) l),
+)
+
 pub loop-number-preserved : goal.loop-number-preserved
 loop-number-preserved c =
     let S = equations_of c.args.system.now in
-    let rows = length c.args.system.now.template in
-    let steps = map (step_of rows) c.args.steps.now in
-    let i = c.loop-number.number in
+    let steps = map (step_of (length S.template)) c.args.steps.now in
     let v = c.loop-number.invariant in
-    let r = c.index-steps-number.result in
-    let step = step_of rows r in
-    let l : i < length steps = subst (λ n. i < n) (sym (length-map c.args.steps.now (step_of rows))) c.loop-number-test.true in
-    let e : step ≡ get_or steps i step = ap (step_of rows) c.index-steps-number.is ∙ sym (get_or-map (step_of rows) c.args.steps.now i r step c.loop-number-test.true) in
+    let step = step_of (length S.template) c.index-steps-number.result in
+    let at = there (length S.template) c.args.steps.now c.loop-number.number c.index-steps-number.result c.loop-number-test.true c.index-steps-number.is in
     let t = c.in_ok-take.ensures.taken v.z v.base v.next in
     record {
       room = record { base = c.take.ensures.base ∙ v.room.base; next = c.take.ensures.next ∙ v.room.next; rates = c.take.ensures.rates ∙ v.room.rates };
       z = after_step step v.z;
       base = t.0;
       next = t.1;
-      leads = leads_more S steps i v.z v.left v.leads step l e;
-      left = steps_more S steps i v.z v.left v.leads step l e t.2;
+      leads = leads_more S steps c.loop-number.number v.z v.left v.leads step at.0 at.1;
+      left = steps_more S steps c.loop-number.number v.z v.left v.leads step at.0 at.1 t.2;
     }
 
 pub returns-in_err-take : goal.returns-in_err-take
 returns-in_err-take c =
     let S = equations_of c.args.system.now in
-    let rows = length c.args.system.now.template in
-    let steps = map (step_of rows) c.args.steps.now in
-    let i = c.loop-number.number in
     let v = c.loop-number.invariant in
-    let r = c.index-steps-number.result in
-    let step = step_of rows r in
-    let l : i < length steps = subst (λ n. i < n) (sym (length-map c.args.steps.now (step_of rows))) c.loop-number-test.true in
-    let e : step ≡ get_or steps i step = ap (step_of rows) c.index-steps-number.is ∙ sym (get_or-map (step_of rows) c.args.steps.now i r step c.loop-number-test.true) in
+    let at = there (length S.template) c.args.steps.now c.loop-number.number c.index-steps-number.result c.loop-number-test.true c.index-steps-number.is in
     let p = err_from_is_err_and c.from_residual.result c.from_residual.ensures.1 in
     record {
       room = record { base = c.take.ensures.base ∙ v.room.base; next = c.take.ensures.next ∙ v.room.next; rates = c.take.ensures.rates ∙ v.room.rates };
-      answer = rw (p.1, p.2) (steps_stop S steps i v.z v.left v.leads step l e c.in_err-take.field-0.0 (c.in_err-take.ensures.taken v.z v.base v.next));
+      answer = rw (p.1, p.2) (steps_stop S (map (step_of (length S.template)) c.args.steps.now) c.loop-number.number v.z v.left v.leads (step_of (length S.template) c.index-steps-number.result)
+          at.0 at.1 c.in_err-take.field-0.0 (c.in_err-take.ensures.taken v.z v.base v.next));
     }
 
 pub returns : goal.returns

@@ -6,7 +6,7 @@ use Rattle.tm_frac.specs.Operation.{first_wide}
 use Rattle.tm_validity.specs.Words.{combined}
 use Rattle.tm_compose.specs.Composed.{dense}
 use Rattle.tm_compose.specs.Operations.{row_composition}
-use Rattle.tm_compose.specs.Faults.{IsFormFault}
+use Rattle.tm_eqsys.specs.Faults.{IsFaultOf}
 use Rattle.tm_compose.proofs.faults.Passed.{passed_more, passed_refused}
 use Rattle.tm_compose.proofs.edge.compose_rows.Goals as goal
 
@@ -15,7 +15,7 @@ returns-in_err-compose_row c = λ forms e.
     let p = err_from_is_err_and c.from_residual-in_err-compose_row.result c.from_residual-in_err-compose_row.ensures.1 in
     rw (p.1, p.2)
     (passed_refused (row_composition c.args.width forms) c.args.template.now c.loop-row.row-index (c.loop-row.invariant.passed forms e) c.row-item.result c.loop-row-test.true c.row-item.is c.in_err-compose_row.field-0.0
-    (subst (λ (row : List ℤ). IsFormFault (row_composition c.args.width forms row) c.in_err-compose_row.field-0.0) c.as_slice.ensures.list (c.in_err-compose_row.ensures forms e)))
+    (subst (λ (row : List ℤ). IsFaultOf (row_composition c.args.width forms row) c.in_err-compose_row.field-0.0) c.as_slice.ensures.list (c.in_err-compose_row.ensures forms e)))
 
 pub loop-row-preserved : goal.loop-row-preserved
 loop-row-preserved c = record {

@@ -7,7 +7,7 @@ use Rattle.tm_frac.specs.Operation.{first_wide}
 use Rattle.tm_validity.specs.Words.{combined}
 use Rattle.tm_compose.specs.Composed.{dense}
 use Rattle.tm_compose.specs.Operations.{row_composition}
-use Rattle.tm_compose.specs.Faults.{IsFormFault}
+use Rattle.tm_eqsys.specs.Faults.{IsFaultOf}
 use Rattle.tm_compose.proofs.operations.Rows.{form_refused, last_refused, form_composed}
 use Rattle.tm_compose.proofs.form.compose_form.Goals as goal
 
@@ -15,7 +15,7 @@ pub returns-in_err-row : goal.returns-in_err-row
 returns-in_err-row c = λ forms e.
     let p = err_from_is_err_and c.from_residual.result c.from_residual.ensures.1 in
     rw (p.1, p.2)
-    (form_refused c.args.width c.args.form.now forms c.in_err-row.field-0.0 (subst (λ (row : List ℤ). IsFormFault (row_composition c.args.width forms row) c.in_err-row.field-0.0) c.as_slice.ensures.list (c.in_err-row.ensures forms e)))
+    (form_refused c.args.width c.args.form.now forms c.in_err-row.field-0.0 (subst (λ (row : List ℤ). IsFaultOf (row_composition c.args.width forms row) c.in_err-row.field-0.0) c.as_slice.ensures.list (c.in_err-row.ensures forms e)))
 
 pub returns-in_err-constant : goal.returns-in_err-constant
 returns-in_err-constant c = λ forms e.

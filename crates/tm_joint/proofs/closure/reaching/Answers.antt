@@ -1,4 +1,4 @@
-use Rattle.std.proofs.Common.{◌≡◌, ◌-◌, ◌<◌, List, ap, arith, drop, get_or, length, sym, subst}
+use Rattle.std.proofs.Common.{◌-◌, ◌<◌, List, ap, arith, drop, get_or, length, sym}
 use Rattle.std.specs.Prelude.{Bool}
 use Rattle.std.proofs.lemmas.List.{get_or_default}
 use Rattle.tm_joint.specs.declared.node.Node.{Node}

@@ -10,34 +10,34 @@ use Rattle.tm_joint.proofs.joint_rows.Picking.{few_listed}
 use Rattle.tm_joint.proofs.joint_problem.SameProblem.{counted, row_length, made_problem}
 use Rattle.tm_joint.proofs.joint_problem.joint_problem.Goals as goal
 
-pub returns-in-Ok-clause-problem : goal.returns-in-Ok-clause-problem
-returns-in-Ok-clause-problem c =
+pub returns-clause-problem : goal.returns-clause-problem
+returns-clause-problem c =
     let n = length c.args.list.now in
     let more = split_columns c.args.system.now c.args.pick.now c.args.list.now in
     let cols = c.count_columns-cols.result in
     let left : cols - n ≡ more = omega (arith, c.count_columns-cols.ensures.count) in
-    made_problem c.args.system.now c.args.pick.now c.args.base.now c.args.list.now cols _ _ c.in-Ok.goal.items c.requires.rises c.requires.picked c.count_columns-cols.ensures.count c.in_ok-rows.ensures.0
-    (c.in-Ok.ensures ∙ ap (λ m. ones n ++ zeros m) left)
+    made_problem c.args.system.now c.args.pick.now c.args.base.now c.args.list.now cols _ _ c.in_ok-goal.goal.items c.requires.rises c.requires.picked c.count_columns-cols.ensures.count c.in_ok-rows.ensures.0
+    (c.in_ok-goal.ensures ∙ ap (λ m. ones n ++ zeros m) left)
 
-pub returns-in-Ok-clause-shape : goal.returns-in-Ok-clause-shape
-returns-in-Ok-clause-shape c =
+pub returns-clause-shape : goal.returns-clause-shape
+returns-clause-shape c =
     let n = length c.args.list.now in
     let cols = c.count_columns-cols.result in
-    let size = ap length c.in-Ok.ensures in
+    let size = ap length c.in_ok-goal.ensures in
     let a = length-append (ones n) (zeros (cols - n)) in
     let o = length-ones n in
     let z = length-zeros (cols - n) in
-    let e : length c.in-Ok.goal.items ≡ cols = omega (arith, c.count_columns-cols.ensures.count, size, a, o, z) in
+    let e : length c.in_ok-goal.goal.items ≡ cols = omega (arith, c.count_columns-cols.ensures.count, size, a, o, z) in
     λ r l. row_length cols _ _ _ c.in_ok-rows.ensures.0 r l ∙ sym e
 
-pub returns-in-Ok-clause-few : goal.returns-in-Ok-clause-few
-returns-in-Ok-clause-few c =
+pub returns-clause-few : goal.returns-clause-few
+returns-clause-few c =
     let system = c.args.system.now in
     let pick = c.args.pick.now in
     let list = c.args.list.now in
     let cols = c.count_columns-cols.result in
     let n = length list in
-    let size = ap length c.in-Ok.ensures in
+    let size = ap length c.in_ok-goal.ensures in
     let a = length-append (ones n) (zeros (cols - n)) in
     let o = length-ones n in
     let z = length-zeros (cols - n) in

@@ -1,5 +1,3 @@
-use Rattle.std.proofs.Common.{subst, sym}
-use Rattle.std.proofs.lemmas.List.{get_or_default}
 use Rattle.tm_joint.proofs.joint_rows.Picking.{picked_at}
 use Rattle.tm_joint.proofs.node.nodes.Goals as goal
 

@@ -1,6 +1,6 @@
 use Rattle.std.proofs.Common.{◌≡◌, ◌∙◌, ◌∷◌, [], length, None, get_or, refl, ap, ap₂, sym, subst₂, arith}
 use Rattle.std.proofs.lemmas.Result.{err_from_is_err_and}
-use Rattle.tm_num.specs.Rational.{◌-ℚ◌, ℚ}
+use Rattle.tm_num.specs.Rational.{◌-ℚ◌}
 use Rattle.tm_frac.specs.Fits.{long_limit}
 use Rattle.tm_frac.specs.Operation.{first_wide}
 use Rattle.tm_validity.specs.Certificates.{num}
@@ -31,8 +31,8 @@ push_own_row-requires c =
     let size = f.1 in
     omega (arith, ap (λ xs. length xs) c.as_slice.ensures, size, c.requires.fits)
 
-pub returns-in-Ok-clause-stands : goal.returns-in-Ok-clause-stands
-returns-in-Ok-clause-stands c =
+pub returns-clause-stands : goal.returns-clause-stands
+returns-clause-stands c =
     let system = c.args.system.now in
     let edge = c.args.edge in
     let form = end_at system edge c.args.row in
@@ -42,10 +42,10 @@ returns-in-Ok-clause-stands c =
     let bound = c.finite.ensures ∙ ap num c.at.ensures in
     let side = c.in_ok-side.ensures.0 ∙ ap₂ (λ x y. x -ℚ y) f.0.same_constant bound in
     let same : SameForm c.as_slice.result.now form.constant form = record { entries = λ k. ap (λ xs. get_or xs k Rattle.tm_num.specs.Rational.zero_ℚ) c.as_slice.ensures ∙ f.0.entries k; same_constant = refl } in
-    λ ls h. rw (sym side) (c.in-Ok.ensures form ls same h)
+    λ ls h. rw (sym side) (c.in_ok-push_own_row.ensures form ls same h)
 
-pub returns-in-Ok-clause-side : goal.returns-in-Ok-clause-side
-returns-in-Ok-clause-side c =
+pub returns-clause-side : goal.returns-clause-side
+returns-clause-side c =
     let system = c.args.system.now in
     let edge = c.args.edge in
     let p = path_at system c.args.paths.now edge c.requires.composed c.requires.edge in

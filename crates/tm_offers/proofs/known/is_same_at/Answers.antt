@@ -2,7 +2,7 @@ use Rattle.std.proofs.Common.{◌≡◌, ◌∙◌, ◌+◌, ◌*◌, true≢fal
 use Rattle.tm_num.specs.Extended.{neg_inf}
 use Rattle.tm_frac.specs.Extended.{extended}
 use Rattle.tm_offers.specs.AtBounds.{vector_at}
-use Rattle.tm_offers.proofs.at_bounds.KnownValues.{differs, equals}
+use Rattle.tm_frac.proofs.extended.Compared.{differs, equals}
 use Rattle.tm_offers.proofs.known.is_same_at.Goals as goal
 
 pub returns-then-ne : goal.returns-then-ne

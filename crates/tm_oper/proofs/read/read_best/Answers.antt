@@ -6,7 +6,7 @@ use Rattle.tm_lp.specs.Listed.{at}
 use Rattle.tm_eqsys.proofs.Widths.{first_wide_later}
 use Rattle.tm_oper.specs.Splits.{bounds_at}
 use Rattle.tm_oper.specs.Values.{entry_operations}
-use Rattle.tm_compose.proofs.operations.Rows.{fault_later}
+use Rattle.tm_eqsys.proofs.Faults.{later}
 use Rattle.tm_oper.proofs.read.Outcomes.{sum_wide, sum_fits, multipliers_read}
 use Rattle.tm_oper.proofs.read.read_best.Goals as goal
 
@@ -19,7 +19,7 @@ pub returns-in_err-trace : goal.returns-in_err-trace
 returns-in_err-trace c = λ template e.
     let p = err_from_is_err_and c.from_residual-in_err-trace.result c.from_residual-in_err-trace.ensures.1 in
     rw (p.1, p.2)
-    (fault_later (record { op = Add; left = c.args.best; right = c.args.constant } ∷ []) (entry_operations (c.args.sizes.variables + c.args.sizes.frees) (at c.args.point.now)) c.in_err-trace.field-0.0
+    (later (record { op = Add; left = c.args.best; right = c.args.constant } ∷ []) (entry_operations (c.args.sizes.variables + c.args.sizes.frees) (at c.args.point.now)) c.in_err-trace.field-0.0
     (sum_fits c.args.best c.args.constant c.in_ok-value.value c.in_ok-value.ensures) c.in_err-trace.ensures)
 
 pub returns : goal.returns

@@ -4,7 +4,7 @@ use Rattle.tm_lp.specs.Problem as lp
 use Rattle.tm_lp.specs.Listed.{at}
 use Rattle.tm_oper.specs.Splits.{bounds_at}
 use Rattle.tm_oper.specs.Values.{ReadsOutcome, reading_operations}
-use Rattle.tm_oper.specs.Readings.{ReadsBy}
+use Rattle.tm_eqsys.specs.Faults.{AnswersBy}
 use Rattle.tm_oper.proofs.read.read_outcome.Goals as goal
 
 pub returns-in-Best : goal.returns-in-Best
@@ -13,7 +13,7 @@ returns-in-Best c = λ template e.
     let w = c.args.sizes.variables + c.args.sizes.frees in
     rw c.in-Best.is
     (subst₂
-    (λ (p m : List ℚ). ReadsBy (ReadsOutcome n w c.args.constant (bounds_at c.args.source.now) template c.args.sizes.guards (lp.best (at p) c.in-Best.value (at m))) (reading_operations w c.args.constant (lp.best (at p) c.in-Best.value (at m))) c.read_best.result)
+    (λ (p m : List ℚ). AnswersBy (ReadsOutcome n w c.args.constant (bounds_at c.args.source.now) template c.args.sizes.guards (lp.best (at p) c.in-Best.value (at m))) (reading_operations w c.args.constant (lp.best (at p) c.in-Best.value (at m))) c.read_best.result)
     c.deref.ensures.value c.deref-in-Best.ensures.value (c.read_best.ensures template e))
 
 pub returns-in-Unbounded : goal.returns-in-Unbounded
@@ -22,7 +22,7 @@ returns-in-Unbounded c = λ template e.
     let w = c.args.sizes.variables + c.args.sizes.frees in
     rw c.in-Unbounded.is
     (subst₂
-    (λ (p d : List ℚ). ReadsBy (ReadsOutcome n w c.args.constant (bounds_at c.args.source.now) template c.args.sizes.guards (lp.unbounded (at p) (at d))) (reading_operations w c.args.constant (lp.unbounded (at p) (at d))) c.read_unbounded.result)
+    (λ (p d : List ℚ). AnswersBy (ReadsOutcome n w c.args.constant (bounds_at c.args.source.now) template c.args.sizes.guards (lp.unbounded (at p) (at d))) (reading_operations w c.args.constant (lp.unbounded (at p) (at d))) c.read_unbounded.result)
     c.deref-in-Unbounded.ensures.value c.deref-in-Unbounded-2.ensures.value (c.read_unbounded.ensures c.args.constant (bounds_at c.args.source.now) template))
 
 pub returns-in_ok-read_empty-in-Empty : goal.returns-in_ok-read_empty-in-Empty

@@ -6,8 +6,8 @@ use Rattle.tm_frac.specs.Operation.{first_wide}
 use Rattle.tm_lp.specs.Listed.{at}
 use Rattle.tm_lp.specs.Free.{unsplit}
 use Rattle.tm_eqsys.proofs.Widths.{first_wide_later}
-use Rattle.tm_compose.specs.Faults.{IsFormFault}
-use Rattle.tm_compose.proofs.operations.Rows.{fault_sooner, fault_later}
+use Rattle.tm_eqsys.specs.Faults.{IsFaultOf}
+use Rattle.tm_eqsys.proofs.Faults.{sooner, later}
 use Rattle.tm_oper.proofs.read.Entries.{difference, joined_values, joined_differences, values_length}
 use Rattle.tm_oper.proofs.read.read_trace.Goals as goal
 
@@ -18,8 +18,8 @@ returns-in_err-start c =
     let n = c.args.variables in
     let m = c.args.frees in
     rw (p.1, p.2)
-    (subst (λ os. IsFormFault os c.in_err-start.field-0.0) (joined_differences x n m)
-    (fault_sooner (map (difference x) (range_with_len 0 n)) (map (difference x) (range_with_len n m)) c.in_err-start.field-0.0 c.in_err-start.ensures))
+    (subst (λ os. IsFaultOf os c.in_err-start.field-0.0) (joined_differences x n m)
+    (sooner (map (difference x) (range_with_len 0 n)) (map (difference x) (range_with_len n m)) c.in_err-start.field-0.0 c.in_err-start.ensures))
 
 pub returns-in_err-free : goal.returns-in_err-free
 returns-in_err-free c =
@@ -28,8 +28,8 @@ returns-in_err-free c =
     let n = c.args.variables in
     let m = c.args.frees in
     rw (p.1, p.2)
-    (subst (λ os. IsFormFault os c.in_err-free.field-0.0) (joined_differences x n m)
-    (fault_later (map (difference x) (range_with_len 0 n)) (map (difference x) (range_with_len n m)) c.in_err-free.field-0.0 c.in_ok-start.ensures.1 c.in_err-free.ensures))
+    (subst (λ os. IsFaultOf os c.in_err-free.field-0.0) (joined_differences x n m)
+    (later (map (difference x) (range_with_len 0 n)) (map (difference x) (range_with_len n m)) c.in_err-free.field-0.0 c.in_ok-start.ensures.1 c.in_err-free.ensures))
 
 pub returns : goal.returns
 returns c =

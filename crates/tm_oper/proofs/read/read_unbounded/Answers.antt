@@ -4,20 +4,20 @@ use Rattle.tm_frac.specs.Fits.{long_limit}
 use Rattle.tm_lp.specs.Listed.{at}
 use Rattle.tm_eqsys.proofs.Widths.{first_wide_later}
 use Rattle.tm_oper.specs.Values.{entry_operations}
-use Rattle.tm_compose.proofs.operations.Rows.{fault_sooner, fault_later}
+use Rattle.tm_eqsys.proofs.Faults.{sooner, later}
 use Rattle.tm_oper.proofs.read.read_unbounded.Goals as goal
 
 pub returns-in_err-trace : goal.returns-in_err-trace
 returns-in_err-trace c = λ constant bounds template.
     let p = err_from_is_err_and c.from_residual.result c.from_residual.ensures.1 in
     let w = c.args.sizes.variables + c.args.sizes.frees in
-    rw (p.1, p.2) (fault_sooner (entry_operations w (at c.args.point.now)) (entry_operations w (at c.args.ray.now)) c.in_err-trace.field-0.0 c.in_err-trace.ensures)
+    rw (p.1, p.2) (sooner (entry_operations w (at c.args.point.now)) (entry_operations w (at c.args.ray.now)) c.in_err-trace.field-0.0 c.in_err-trace.ensures)
 
 pub returns-in_err-direction : goal.returns-in_err-direction
 returns-in_err-direction c = λ constant bounds template.
     let p = err_from_is_err_and c.from_residual-in_err-direction.result c.from_residual-in_err-direction.ensures.1 in
     let w = c.args.sizes.variables + c.args.sizes.frees in
-    rw (p.1, p.2) (fault_later (entry_operations w (at c.args.point.now)) (entry_operations w (at c.args.ray.now)) c.in_err-direction.field-0.0 c.in_ok-trace.ensures.1 c.in_err-direction.ensures)
+    rw (p.1, p.2) (later (entry_operations w (at c.args.point.now)) (entry_operations w (at c.args.ray.now)) c.in_err-direction.field-0.0 c.in_ok-trace.ensures.1 c.in_err-direction.ensures)
 
 pub returns : goal.returns
 returns c = λ constant bounds template.

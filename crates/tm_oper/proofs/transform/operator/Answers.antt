@@ -1,4 +1,4 @@
-use Rattle.std.proofs.Common.{◌≡◌, ◌-◌, ◌*◌, ◌<◌, ◌≤◌, length, get_or, drop, take, ap, sym, subst, subst₂}
+use Rattle.std.proofs.Common.{◌<◌, length, ap, sym, subst, subst₂}
 use Rattle.tm_num.specs.Extended.{neg_inf, ◌<ᴱ◌}
 use Rattle.tm_eqsys.specs.View.{equations_of, vector_at, edge_at, row_at}
 use Rattle.tm_oper.specs.Values.{IsLowestLost}

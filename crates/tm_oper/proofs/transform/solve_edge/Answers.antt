@@ -1,4 +1,4 @@
-use Rattle.std.proofs.Common.{◌≡◌, ◌∙◌, ◌+◌, ◌<◌, ℕ, List, [], length, ap, refl, sym}
+use Rattle.std.proofs.Common.{◌≡◌, ◌∙◌, ◌+◌, List, [], length, ap, refl, sym}
 use Rattle.std.proofs.lemmas.Option.{slice_get-get_or}
 use Rattle.tm_num.specs.Rational.{ℚ}
 use Rattle.tm_dict.specs.Exact.{exact}

@@ -3,11 +3,11 @@ use Rattle.std.proofs.lemmas.Result.{err_from_is_err_and}
 use Rattle.tm_frac.specs.Fits.{long_limit}
 use Rattle.tm_frac.specs.Operation.{first_wide}
 use Rattle.tm_eqsys.proofs.Widths.{first_wide_later}
+use Rattle.tm_eqsys.specs.Faults.{IsFaultOf}
 use Rattle.tm_validity.specs.Words.{moved as moved_by}
 use Rattle.tm_validity.specs.Steps.{Pieces}
 use Rattle.tm_raise.specs.Numbers.{entries_operations}
-use Rattle.tm_raise.specs.Lows.{IsRaiseFault}
-use Rattle.tm_raise.proofs.low.Faults.{sooner, later}
+use Rattle.tm_eqsys.proofs.Faults.{sooner, later}
 use Rattle.tm_raise.proofs.low.moved.Goals as goal
 
 pub returns-in_err-start : goal.returns-in_err-start
@@ -16,7 +16,7 @@ returns-in_err-start c =
     let t = c.args.times in
     rw (p.1, p.2)
     (sooner (entries_operations t c.args.trace.now.start c.args.direction.now.start) (entries_operations t c.args.trace.now.free c.args.direction.now.free) c.in_err-start.field-0.0
-    (subst₂ (λ xs ds. IsRaiseFault (entries_operations t xs ds) c.in_err-start.field-0.0) c.as_slice.ensures c.as_slice-2.ensures c.in_err-start.ensures))
+    (subst₂ (λ xs ds. IsFaultOf (entries_operations t xs ds) c.in_err-start.field-0.0) c.as_slice.ensures c.as_slice-2.ensures c.in_err-start.ensures))
 
 pub returns-in_err-free : goal.returns-in_err-free
 returns-in_err-free c =
@@ -25,7 +25,7 @@ returns-in_err-free c =
     rw (p.1, p.2)
     (later (entries_operations t c.args.trace.now.start c.args.direction.now.start) (entries_operations t c.args.trace.now.free c.args.direction.now.free) c.in_err-free.field-0.0
     (subst₂ (λ xs ds. first_wide long_limit (entries_operations t xs ds) ≡ None) c.as_slice.ensures c.as_slice-2.ensures c.in_ok-start.ensures.1)
-    (subst₂ (λ xs ds. IsRaiseFault (entries_operations t xs ds) c.in_err-free.field-0.0) c.as_slice-3.ensures c.as_slice-4.ensures c.in_err-free.ensures))
+    (subst₂ (λ xs ds. IsFaultOf (entries_operations t xs ds) c.in_err-free.field-0.0) c.as_slice-3.ensures c.as_slice-4.ensures c.in_err-free.ensures))
 
 pub returns : goal.returns
 returns c =

@@ -5,7 +5,7 @@ use Rattle.tm_cert.specs.declared.step.Step.{Step}
 use Rattle.tm_cert.specs.Certificates.{step_of}
 use Rattle.tm_compose.specs.declared.value.Value.TheVariants.{Best}
 use Rattle.tm_raise.specs.Raises.{choice_of, raised, raise_operations}
-use Rattle.tm_raise.proofs.low.Faults.{of_ok, none_wide, of_fault}
+use Rattle.tm_eqsys.proofs.Faults.{of_ok, none_wide, of_fault}
 use Rattle.tm_raise.proofs.raising.raise.Goals as goal
 
 pub returns-in-Best : goal.returns-in-Best

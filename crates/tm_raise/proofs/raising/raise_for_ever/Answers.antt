@@ -5,7 +5,7 @@ use Rattle.tm_frac.specs.Extended.{extended}
 use Rattle.tm_eqsys.specs.View.{equations_of}
 use Rattle.tm_validity.specs.Steps.{edge_of, row_of}
 use Rattle.tm_cert.specs.Certificates.{pieces_of}
-use Rattle.tm_raise.specs.declared.fault.RaiseFault.TheVariants.{Wide}
+use Rattle.tm_eqsys.specs.declared.fault.Fault.TheVariants.{Wide}
 use Rattle.tm_raise.specs.Raises.{choice_of}
 use Rattle.tm_raise.proofs.lows.Raised.{edge_chosen, row_chosen, row_read, free_of, rate_wide, low_wide, for_ever}
 use Rattle.tm_raise.proofs.raising.raise_for_ever.Goals as goal

@@ -1,6 +1,6 @@
 use Rattle.std.proofs.lemmas.Result.{err_from_is_err_and}
 use Rattle.tm_frac.specs.Extended.{extended}
-use Rattle.tm_raise.specs.declared.fault.RaiseFault.TheVariants.{Wide}
+use Rattle.tm_eqsys.specs.declared.fault.Fault.TheVariants.{Wide}
 use Rattle.tm_raise.proofs.lows.Raised.{towards_wide, towards}
 use Rattle.tm_raise.proofs.raising.raise_towards.Goals as goal
 

@@ -1,4 +1,4 @@
-use Rattle.std.proofs.Common.{◌≡◌, ◌++◌, ◌≤◌, length, min, sym, ap, ◌∙◌, append-nil, arith}
+use Rattle.std.proofs.Common.{◌++◌, ◌≤◌, length, min, sym, ap, ◌∙◌, append-nil, arith}
 use Rattle.tm_report.proofs.Rests.{rest-end}
 use Rattle.tm_report.proofs.rows.push_row.Goals as goal
 

@@ -40,7 +40,7 @@ returns-in_err-merge-in-Ok-clause-refused g c =
     rw (p.1, p.2)
     (λ n r s.
     fault_of_more m L (added_row_operations n a f b c.args.col) (combination_row_operations n a b c.args.col) c.in_err-merge-in-Ok.field-0.0
-    (λ o w. combination_later L n a b c.args.col f (m c.value_in.result) f_is c.value_in.ensures c.in-Ok.ensures.1 ∙ w)
+    (λ o w. combination_later L n a b c.args.col f (m c.args.inverse) f_is c.requires.inverse c.in-Ok.ensures.1 ∙ w)
     (rw (← c.deref-in-Ok.ensures.value) (c.in_err-merge-in-Ok.ensures.refused n (subst (Rises 0 n) (sym c.deref-in-Ok.ensures.value) r) s)))
 
 pub returns-in_ok-merge-in-Ok-clause-combined : goal.returns-in_ok-merge-in-Ok-clause-combined
@@ -59,7 +59,7 @@ returns-in_ok-merge-in-Ok-clause-fits g c =
     let b = value_at m c.args.above.now in
     let f = m c.value_in-factor.result in
     let f_is = c.value_in-factor.ensures ∙ ap (λ xs. value_at m xs c.args.col) c.deref.ensures.value in
-    λ n r s. combination_later L n (value_at m es) b c.args.col f (m c.value_in.result) f_is c.value_in.ensures c.in-Ok.ensures.1
+    λ n r s. combination_later L n (value_at m es) b c.args.col f (m c.args.inverse) f_is c.requires.inverse c.in-Ok.ensures.1
     ∙ ap (λ xs. first_wide L (added_row_operations n (value_at m xs) f b c.args.col)) (sym c.deref-in-Ok.ensures.value)
     ∙ c.in_ok-merge-in-Ok.ensures.fits n (subst (Rises 0 n) (sym c.deref-in-Ok.ensures.value) r) s
 
@@ -69,4 +69,4 @@ returns-in-Err-clause-refused g c =
     let a = value_at m c.args.row.now.entries.items in
     let b = value_at m c.args.above.now in
     let f_is = c.value_in-factor.ensures ∙ ap (λ xs. value_at m xs c.args.col) c.deref.ensures.value in
-    λ n r s. combined_sooner g.F.OrderedField.LIMIT n a b c.args.col (m c.value_in-factor.result) (m c.value_in.result) (operation_of m c.in-Err.wide) f_is c.value_in.ensures c.in-Err.ensures
+    λ n r s. combined_sooner g.F.OrderedField.LIMIT n a b c.args.col (m c.value_in-factor.result) (m c.args.inverse) (operation_of m c.in-Err.wide) f_is c.requires.inverse c.in-Err.ensures

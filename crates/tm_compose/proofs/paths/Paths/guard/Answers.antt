@@ -1,17 +1,14 @@
-use Rattle.std.proofs.Common.{◌∙◌, ◌<◌, length, ap, sym, subst}
+use Rattle.std.proofs.Common.{◌∙◌, ap}
 use Rattle.tm_compose.specs.Composed.{EdgeForms}
-use Rattle.tm_compose.proofs.Places.{read_is, read_at}
+use Rattle.tm_compose.proofs.Places.{part_within, part_read}
 use Rattle.tm_compose.proofs.paths.Paths.guard.Goals as goal
 
 pub bounds-as_slice-guard : goal.bounds-as_slice-guard
 bounds-as_slice-guard c =
-    let same = c.as_slice.ensures ∙ ap (λ (f : EdgeForms). f.guards) c.behind-self.view_is in
-    subst (λ gs. c.args.guard < length gs) (sym same)
-    (c.requires.guard c.index.result.now (read_at c.args.self.now c.self.inside.list.items c.args.edge c.index.result.now c.self.view_is c.index.ensures c.requires.edge))
+    part_within (λ (f : EdgeForms). f.guards) c.args.self.now c.self.inside.list.items c.args.edge c.index.result.now c.self.view_is c.index.ensures c.as_slice.result.now
+    (c.as_slice.ensures ∙ ap (λ (f : EdgeForms). f.guards) c.behind-self.view_is) c.args.guard c.requires.edge c.requires.guard
 
 pub returns : goal.returns
-returns c = λ forms e.
-    let same = c.as_slice.ensures ∙ ap (λ (f : EdgeForms). f.guards) c.behind-self.view_is in
-    let here = read_is c.args.self.now c.self.inside.list.items c.args.edge c.index.result.now c.self.view_is c.index.ensures forms e in
-    let all = same ∙ ap (λ (f : EdgeForms). f.guards) here in
-    read_at forms.guards c.as_slice.result.now c.args.guard c.index-as_slice-guard.result all c.index-as_slice-guard.is (c.requires.guard forms e)
+returns c =
+    part_read (λ (f : EdgeForms). f.guards) c.args.self.now c.self.inside.list.items c.args.edge c.index.result.now c.self.view_is c.index.ensures c.as_slice.result.now
+    (c.as_slice.ensures ∙ ap (λ (f : EdgeForms). f.guards) c.behind-self.view_is) c.args.guard c.requires.guard c.index-as_slice-guard.result c.index-as_slice-guard.is

@@ -1,13 +1,15 @@
-use Rattle.std.proofs.Common.{◌≡◌, ◌≤◌, ◌*◌, ◌-◌}
+use Rattle.std.proofs.Common.{◌+◌, ◌≡◌, ◌≤◌, ◌*◌, ◌-◌}
 use Rattle.tm_eqsys.specs.View.{equations_of}
 use Rattle.tm_eqsys.specs.Cells.{unknown_rows, unknown_columns}
 use Rattle.tm_eqsys.proofs.system.CellSums.{sum_to}
 use Rattle.tm_eqsys.proofs.system.System.cells.Given as goal
+use Rattle.tm_rows.specs.declared.limits.TheConstants.{MOST_ROWS}
+use Rattle.tm_tree.specs.declared.limits.TheConstants.{MOST_VARIABLES}
 
 abbrev pub invariant-loop-point : goal.invariant-loop-point
 invariant-loop-point l = record {
   rows : l.rows ≡ sum_to (equations_of l.self) (unknown_rows (equations_of l.self)) (l.point - 1);
   columns : l.columns ≡ sum_to (equations_of l.self) (unknown_columns (equations_of l.self)) (l.point - 1);
-  few_rows : l.rows ≤ l.point * 49280;
-  few_columns : l.columns ≤ l.point * 67712;
+  few_rows : l.rows ≤ l.point * (MOST_ROWS * (MOST_ROWS + 257));
+  few_columns : l.columns ≤ l.point * (MOST_ROWS * (2 * MOST_VARIABLES + 513));
 }

@@ -1,21 +1,22 @@
-use Rattle.std.proofs.Common.{◌≡◌, ◌∙◌, length, ap, sym, subst}
+use Rattle.std.proofs.Common.{◌≡◌, length, ap, sym, subst}
 use Rattle.tm_eqsys.specs.View.{equations_of}
-use Rattle.tm_validity.specs.Steps.{word, end_value, edge_of, row_of}
+use Rattle.tm_cert.specs.Certificates.{pieces_of}
+use Rattle.tm_validity.specs.Steps.{word, edge_of, row_of}
 use Rattle.tm_check.specs.Events.{Answers}
-use Rattle.tm_check.specs.Runs.{run_events}
+use Rattle.tm_check.specs.Following.{shown, shown_events}
 use Rattle.tm_check.specs.Items.{item_at}
 use Rattle.tm_check.proofs.item.Places.{edge_at_place, free_of, row_at_place}
-use Rattle.tm_check.proofs.first_pass.low_value.Goals as goal
+use Rattle.tm_check.proofs.following.follow_item.Goals as goal
 
-pub run-requires-clause-free : goal.run-requires-clause-free
-run-requires-clause-free c = λ e f.
+pub follow-requires-clause-free : goal.follow-requires-clause-free
+follow-requires-clause-free c = λ e f.
     let S = equations_of c.args.system.now in
     let rows = length c.args.system.now.template in
     let item = item_at rows c.args.step.now c.args.k in
-    ap (λ t. length t.free) (sym (c.low_at.ensures rows)) ∙ free_of S item c.requires.placed c.edge_at.result (c.edge_at.ensures rows) item.low c.requires.sized e f
+    free_of S item c.requires.placed c.edge_at.result (c.edge_at.ensures rows) (pieces_of c.args.trace.now) c.requires.sized e f
 
 pub returns : goal.returns
-returns c = λ z h.
+returns c = λ z t h same.
     let S = equations_of c.args.system.now in
     let rows = length c.args.system.now.template in
     let item = item_at rows c.args.step.now c.args.k in
@@ -23,4 +24,4 @@ returns c = λ z h.
     let row = row_of S item in
     let there = edge_at_place S item c.requires.placed c.edge_at.result (c.edge_at.ensures rows) in
     let listed = row_at_place S item c.requires.placed c.unknown_at.result (length c.as_slice.result.now) (c.unknown_at.ensures.row rows) (ap (λ xs. length xs) c.as_slice.ensures.rows) in
-    subst (λ t. Answers (λ v. v ≡ end_value S edge row (word t)) (λ site fault. run_events site fault S z edge row t) c.run.result) (sym (c.low_at.ensures rows)) (c.run.ensures z edge row h there listed)
+    subst (λ u. Answers (λ v. v ≡ shown c.args.way S edge row (word u)) (λ site fault. shown_events c.args.way site fault S z edge row u) c.follow.result) (sym same) (c.follow.ensures z edge row h there listed)

@@ -4,35 +4,34 @@ use Rattle.std.specs.Prelude.{IfOk, IfErr, OnOk}
 use Rattle.tm_num.specs.Rational.{ℚ}
 use Rattle.tm_frac.specs.Fits.{long_limit}
 use Rattle.tm_frac.specs.Operation.{Operation, first_wide, operation_of}
+use Rattle.tm_eqsys.specs.declared.fault.Fault.TheVariants.{Wide, NoMemory}
+use Rattle.tm_eqsys.specs.Faults.{OperationFault, IsFaultOf, AnswersBy}
 use Rattle.tm_eqsys.proofs.Widths.{first_wide_later, first_wide_sooner}
-use Rattle.tm_raise.specs.declared.fault.RaiseFault.{RaiseFault}
-use Rattle.tm_raise.specs.declared.fault.RaiseFault.TheVariants.{Wide, NoMemory}
-use Rattle.tm_raise.specs.Lows.{IsRaiseFault, RaiseAnswers}
 
 -- a fault in the first part
-pub sooner : (os ps : List Operation) (f : RaiseFault) → IsRaiseFault os f → IsRaiseFault (os ++ ps) f
+pub sooner : (os ps : List Operation) (f : OperationFault) → IsFaultOf os f → IsFaultOf (os ++ ps) f
 sooner os ps (Wide w) h = first_wide_sooner long_limit os ps (operation_of (λ (q : ℚ). q) w) h
 sooner os ps NoMemory h = tt
 
 -- and after a part in which none is wide
-pub later : (os ps : List Operation) (f : RaiseFault) → first_wide long_limit os ≡ None → IsRaiseFault ps f → IsRaiseFault (os ++ ps) f
+pub later : (os ps : List Operation) (f : OperationFault) → first_wide long_limit os ≡ None → IsFaultOf ps f → IsFaultOf (os ++ ps) f
 later os ps (Wide w) n h = first_wide_later long_limit os ps n ∙ h
 later os ps NoMemory n h = tt
 
-pub answers_later : {A : Type 0} (P : A → Type 0) (os ps : List Operation) (res : Result A RaiseFault) → first_wide long_limit os ≡ None → RaiseAnswers P ps res → RaiseAnswers P (os ++ ps) res
+pub answers_later : {A : Type 0} (P : A → Type 0) (os ps : List Operation) (res : Result A OperationFault) → first_wide long_limit os ≡ None → AnswersBy P ps res → AnswersBy P (os ++ ps) res
 answers_later P os ps (Ok r) n h = (h.0, first_wide_later long_limit os ps n ∙ h.1)
 answers_later P os ps (Err f) n h = later os ps f n h
 
 -- what is so of an answer, and of a fault
 module _ {A : Type 0} (P : A → Type 0) (os : List Operation) where
-  pub of_ok : (res : Result A RaiseFault) → RaiseAnswers P os res → IfOk res P
+  pub of_ok : (res : Result A OperationFault) → AnswersBy P os res → IfOk res P
   of_ok (Ok r) h = h.0
   of_ok (Err f) h = tt
 
-  pub none_wide : (res : Result A RaiseFault) → RaiseAnswers P os res → OnOk res (first_wide long_limit os ≡ None)
+  pub none_wide : (res : Result A OperationFault) → AnswersBy P os res → OnOk res (first_wide long_limit os ≡ None)
   none_wide (Ok r) h = h.1
   none_wide (Err f) h = tt
 
-  pub of_fault : (res : Result A RaiseFault) → RaiseAnswers P os res → IfErr res (IsRaiseFault os)
+  pub of_fault : (res : Result A OperationFault) → AnswersBy P os res → IfErr res (IsFaultOf os)
   of_fault (Ok r) h = tt
   of_fault (Err f) h = h

@@ -4,7 +4,7 @@ use Rattle.tm_eqsys.specs.View.{equations_of}
 use Rattle.tm_cert.specs.Certificates.{evidence_of}
 use Rattle.tm_check.specs.Stands.{Stands}
 use Rattle.tm_check.proofs.uppers.Supply.{IntoLeft, IntoTaken}
-use Rattle.tm_check.proofs.uppers.check_into.Given as goal
+use Rattle.tm_check.proofs.uppers.check_unknown.Given as goal
 
 abbrev pub invariant-loop-number : goal.invariant-loop-number
 invariant-loop-number l = record {
