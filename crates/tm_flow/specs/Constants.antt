@@ -2,7 +2,8 @@
 use Rattle.std.specs.Prelude.{◌+◌, ◌&&◌, ℕ, Bool, true, IsTrue, nat_abs, nat_le}
 use Rattle.tm_tree.specs.declared.form.Form.{Form}
 use Rattle.tm_tree.specs.Limits.{is_condition}
-use Rattle.tm_tree.specs.Tree.{Condition, free, compare, negation, both, either, Statement, Statements, set, havoc, assume, branch, loop, label, nil, cons}
+use Rattle.tm_tree.specs.Tree.{Condition, free, compare, negation, both, either}
+use Rattle.tm_tree.specs.Tree.{Statement, Statements, set, havoc, assume, branch, loop, jump, label, nil, cons}
 
 -- adding 1 to the constant, or to the negated one, stays within 2^63 - 1
 abbrev pub has_room : Form → Bool
@@ -23,7 +24,8 @@ abbrev mutual
   has_rooms (havoc var line) = true
   has_rooms (assume c line) = have_room c
   has_rooms (branch c first second line) = have_room c && (have_rooms first && have_rooms second)
-  has_rooms (loop c body line) = have_room c && have_rooms body
+  has_rooms (loop kind c body line) = have_room c && have_rooms body
+  has_rooms (jump kind line) = true
   has_rooms (label name line) = true
 
   -- the same for a list of statements

@@ -1,11 +1,11 @@
 -- What joins points, labelled steps, paths and edges.
-use Rattle.std.specs.Prelude.{◌≡◌, ◌↔◌, ℕ, ◌<◌, List, ◌∷◌, ◌++◌, length, map, flat_map, slice_get, Some, Contains}
+use Rattle.std.specs.Prelude.{◌≡◌, ◌↔◌, ℕ, ◌<◌, List, ◌∷◌, length, map, flat_map, slice_get, Some, Contains}
 use Rattle.std.specs.List.{range_with_len}
 use Rattle.tm_base.specs.Elements.{In}
 use Rattle.tm_tree.specs.Tree.{Statements}
 use Rattle.tm_tree.specs.PointNumbers.{points_in, point_count}
 use Rattle.tm_tree.specs.Meaning.{State}
-use Rattle.tm_tree.specs.Runs.{Item, node, mark, turn, Does, start_work}
+use Rattle.tm_tree.specs.Runs.{Item, node, mark, turn, end, Does, start_work}
 use Rattle.tm_flow.specs.declared.edge.Action.{Action}
 use Rattle.tm_flow.specs.declared.edge.Edge.{Edge}
 use Rattle.tm_flow.specs.Points.{made_in, points_of_program}
@@ -22,28 +22,29 @@ pub record IsNumbered (body : Statements) : Type 0 where
 abbrev pub PointsAreNumbered : Type 0
 PointsAreNumbered = (body : Statements) → IsNumbered body
 
--- labelled steps leave exactly one work list behind the mark of each point, that of the list
+-- labelled steps come to the mark of a point exactly where the list has work behind it, and leave that work alone behind it
 abbrev pub BehindPoints : Type 0
 BehindPoints = (body : Statements) (p : ℕ) (rest : List Item) →
-    (slice_get (behind_points body) p ≡ Some rest) ↔ ((actions : List Action) × Leads (start_work body) actions (mark p ∷ rest))
+    (slice_get (behind_points body) p ≡ Some (Some rest)) ↔ ((actions : List Action) × Leads (start_work body) actions (mark p ∷ rest))
 
 -- the item is the mark of a point
 abbrev pub IsMark : Item → Type 0
 IsMark (mark p) = Unit {0}
 IsMark (node s n) = ⊥
-IsMark (turn c body line n) = ⊥
+IsMark (turn kind c body line n) = ⊥
+IsMark (end kind c body line n) = ⊥
 
 -- a step of a run with an item that is no mark does what one of its labelled steps records, and each labelled step that can be taken is such a step
 abbrev pub StepsAreRecorded : Type 0
 StepsAreRecorded =
-    (item : Item) (x : State) (work : List Item) (y : State) → ¬ (IsMark item) →
-    Does item x work y ↔ ((s : Labelled) × In (steps_of item) s × (s.work ≡ work) × Acts s.actions x y)
+    (item : Item) (rest : List Item) (x : State) (work : List Item) (y : State) → ¬ (IsMark item) →
+    Does item rest x work y ↔ ((s : Labelled) × In (steps_of item rest) s × (s.work ≡ work) × Acts s.actions x y)
 
 -- an item that is no mark leads on by its labelled steps, in their order, and by nothing else
 abbrev pub WaysAreSteps : Type 0
 WaysAreSteps =
     (item : Item) (rest : List Item) → ¬ (IsMark item) →
-    ways_from (item ∷ rest) ≡ flat_map (λ s. prefixed s.actions (ways_from (s.work ++ rest))) (steps_of item)
+    ways_from (item ∷ rest) ≡ flat_map (λ s. prefixed s.actions (ways_from s.work)) (steps_of item rest)
 
 -- these edges are exactly the paths of a program
 pub record EdgesArePaths (edges : List Edge) (body : Statements) : Type 0 where

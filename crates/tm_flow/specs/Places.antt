@@ -1,6 +1,6 @@
 -- The points of a program without their numbers.
 use Rattle.std.specs.Prelude.{ℕ, List, [], ◌∷◌, ◌++◌, if◌then◌else◌}
-use Rattle.tm_tree.specs.Tree.{Statement, Statements, set, havoc, assume, branch, loop, label, nil, cons}
+use Rattle.tm_tree.specs.Tree.{Statement, Statements, set, havoc, assume, branch, loop, jump, label, nil, cons}
 use Rattle.tm_tree.specs.PointNumbers.{splits}
 use Rattle.tm_flow.specs.declared.point.Place.{Place}
 use Rattle.tm_flow.specs.declared.point.Place.TheVariants.{Loop, Label, Join, Assume}
@@ -17,7 +17,8 @@ abbrev mutual
   places_of (havoc var line) = []
   places_of (assume c line) = if splits c then one_point Assume line else []
   places_of (branch c first second line) = places_in first ++ (places_in second ++ one_point Join line)
-  places_of (loop c body line) = one_point Loop line ++ places_in body
+  places_of (loop kind c body line) = one_point Loop line ++ places_in body
+  places_of (jump kind line) = []
   places_of (label name line) = one_point (Label name) line
 
   -- the same for a list of nodes

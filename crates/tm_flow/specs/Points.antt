@@ -1,6 +1,6 @@
 -- The points of a program in order, with their places and lines.
 use Rattle.std.specs.Prelude.{ℕ, ◌+◌, List, [], ◌∷◌, ◌++◌, map, if◌then◌else◌}
-use Rattle.tm_tree.specs.Tree.{Statement, Statements, set, havoc, assume, branch, loop, label, nil, cons}
+use Rattle.tm_tree.specs.Tree.{Statement, Statements, set, havoc, assume, branch, loop, jump, label, nil, cons}
 use Rattle.tm_tree.specs.PointNumbers.{splits, points_of, points_in, join_of}
 use Rattle.tm_flow.specs.declared.point.Place.{Place}
 use Rattle.tm_flow.specs.declared.point.Place.TheVariants.{Entry, Loop, Label, Join, Assume, Exit}
@@ -16,13 +16,14 @@ abbrev pub made : ℕ → Place → ℕ → Made
 made number place line = record { number = number; point = record { place = place; line = line } }
 
 abbrev mutual
-  -- what a node and the nodes in it make: a `while`'s head before the points of its body, an `if`'s join after those of both branches
+  -- what a node and the nodes in it make: a loop's head before the points of its body, an `if`'s join after those of both branches
   pub made_by : Statement → ℕ → List Made
   made_by (set var form line) n = []
   made_by (havoc var line) n = []
   made_by (assume c line) n = if splits c then made n Assume line ∷ [] else []
   made_by (branch c first second line) n = made_in first n ++ (made_in second (n + points_in first) ++ made (join_of first second n) Join line ∷ [])
-  made_by (loop c body line) n = made n Loop line ∷ made_in body (n + 1)
+  made_by (loop kind c body line) n = made n Loop line ∷ made_in body (n + 1)
+  made_by (jump kind line) n = []
   made_by (label name line) n = made n (Label name) line ∷ []
 
   -- what the nodes of a list make, one after another

@@ -1,15 +1,15 @@
 -- Labelled steps: what may be done with an item of work whatever the state, and the actions that this records.
 use Rattle.std.specs.Prelude.{◌≡◌, Bool, true, false, ℤ, pos, ◌≤ℤ◌, List, [], ◌∷◌, ◌++◌, map, slice_set, if◌then◌else◌}
 use Rattle.tm_tree.specs.declared.form.Form.{Form}
-use Rattle.tm_tree.specs.Tree.{Condition, set, havoc, assume, branch, loop, label}
+use Rattle.tm_tree.specs.Tree.{Condition, while_loop, for_loop, do_loop, breaks, continues, set, havoc, assume, branch, loop, jump, label}
 use Rattle.tm_tree.specs.Cases.{cases_of}
 use Rattle.tm_tree.specs.Meaning.{State, value}
 use Rattle.tm_tree.specs.PointNumbers.{splits}
-use Rattle.tm_tree.specs.Runs.{Item, node, mark, turn, branch_work, turn_work}
+use Rattle.tm_tree.specs.Runs.{Item, node, mark, turn, end, branch_work, head_work, turn_work, change_work, repeat_work, past_loop, end_of_body}
 use Rattle.tm_flow.specs.declared.edge.Action.{Action}
 use Rattle.tm_flow.specs.declared.edge.Action.TheVariants.{Guard, Assign, Havoc}
 
--- the actions recorded, and the work that takes the item's place
+-- the actions recorded, and the work that is left then
 pub record Labelled : Type 0 where
   pub actions : List Action
   pub work : List Item
@@ -26,16 +26,22 @@ guards forms = map Guard forms
 abbrev pub choices : Bool → Condition → List Item → List Labelled
 choices truth c work = map (λ forms. labelled (guards forms) work) (cases_of truth c)
 
--- the labelled steps with an item, in order; a mark is only dropped
-abbrev pub steps_of : Item → List Labelled
-steps_of (mark p) = []
-steps_of (node (set var form line) n) = labelled (Assign var form ∷ []) [] ∷ []
-steps_of (node (havoc var line) n) = labelled (Havoc var ∷ []) [] ∷ []
-steps_of (node (assume c line) n) = choices true c (if splits c then mark n ∷ [] else [])
-steps_of (node (branch c first second line) n) = choices true c (branch_work true first second n) ++ choices false c (branch_work false first second n)
-steps_of (node (loop c body line) n) = labelled [] (mark n ∷ (turn c body line n ∷ [])) ∷ []
-steps_of (node (label name line) n) = labelled [] (mark n ∷ []) ∷ []
-steps_of (turn c body line n) = choices true c (turn_work true c body line n) ++ choices false c (turn_work false c body line n)
+-- the labelled steps with an item, behind which `rest` is left, in order; a mark is only dropped
+abbrev pub steps_of : Item → (rest : List Item) → List Labelled
+steps_of (mark p) rest = []
+steps_of (node (set var form line) n) rest = labelled (Assign var form ∷ []) rest ∷ []
+steps_of (node (havoc var line) n) rest = labelled (Havoc var ∷ []) rest ∷ []
+steps_of (node (assume c line) n) rest = choices true c (if splits c then mark n ∷ rest else rest)
+steps_of (node (branch c first second line) n) rest =
+    choices true c (branch_work true first second n rest) ++ choices false c (branch_work false first second n rest)
+steps_of (node (loop kind c body line) n) rest = labelled [] (mark n ∷ head_work kind c body line n rest) ∷ []
+steps_of (node (jump breaks line) n) rest = labelled [] (past_loop rest) ∷ []
+steps_of (node (jump continues line) n) rest = labelled [] (end_of_body rest) ∷ []
+steps_of (node (label name line) n) rest = labelled [] (mark n ∷ rest) ∷ []
+steps_of (turn kind c body line n) rest = choices true c (turn_work true kind c body line n rest) ++ choices false c (turn_work false kind c body line n rest)
+steps_of (end while_loop c body line n) rest = labelled [] (node (loop while_loop c body line) n ∷ rest) ∷ []
+steps_of (end (for_loop g) c body line n) rest = labelled [] (change_work g (node (loop (for_loop g) c body line) n ∷ rest)) ∷ []
+steps_of (end do_loop c body line n) rest = choices true c (repeat_work true c body line n rest) ++ choices false c (repeat_work false c body line n rest)
 
 -- actions lead from one integer state to another: a guard is at most 0, an assignment sets one place to the form's value, a free one to any integer
 abbrev pub Acts : List Action → State → State → Type 0

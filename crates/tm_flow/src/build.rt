@@ -6,13 +6,14 @@ ghost use Rattle.tm_flow.specs.Edges.{edges_of_program};
 ghost use Rattle.tm_flow.specs.Points.{points_of_program};
 ghost use Rattle.tm_flow.specs.Faults.{counted_fault, fault_of_program, is_long};
 
-use crate::count::{edge_count, points_in};
+use crate::count::points_in;
 use crate::edge::{Edge, Edges};
-use crate::edge_walk::edges_of;
+use crate::edge_count::edge_count;
 use crate::fault::FlowFault;
 use crate::graph::Flow;
 use crate::limits::MOST_POINTS;
 use crate::places::points_of_program;
+use crate::point_edges::edges_of;
 use crate::wide::wide_line;
 use std::alloc::Global;
 use tm_tree::{Block, Program};
@@ -55,7 +56,7 @@ pub fn flow(alloc: Global, program: &Program) -> Result<Flow, FlowFault>
     })
 }
 
-// The fault that is seen by counting.
+/// The fault that is seen by counting.
 fn counted_fault(body: &Block) -> Option<FlowFault>
     requires { point_count body.now < 2 ^ 32 }
     ensures { result ≡ counted_fault body.now }
@@ -73,7 +74,7 @@ fn counted_fault(body: &Block) -> Option<FlowFault>
     None
 }
 
-// The number of the first edge that is too long.
+/// The number of the first edge that is too long.
 fn long_edge(edges: &[Edge]) -> Option<u32>
     requires { length edges.now < 2 ^ 32 }
     ensures { result ≡ position is_long edges.now }

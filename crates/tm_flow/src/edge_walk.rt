@@ -1,41 +1,45 @@
-//! The edges of a program, walked along its statements.
+//! Edges walked along statements, up to the first point on each way.
 
-ghost use Rattle.std.specs.Prelude.{◌≡◌, ◌<◌, ◌+◌, ◌^◌, ◌++◌, OnOk, IfOk, IsTrue};
-ghost use Rattle.tm_tree.specs.View.{condition_of, statement_of, statements_of};
-ghost use Rattle.tm_tree.specs.PointNumbers.{exit_of, points_in, points_of};
-ghost use Rattle.tm_flow.specs.Constants.{has_rooms, have_rooms};
-ghost use Rattle.tm_flow.specs.Edges.{arrived, ways_in};
-ghost use Rattle.tm_flow.specs.Trails.{edges_in_node, edges_in_nodes, kept_edges, reached, split};
+ghost use Rattle.std.specs.Prelude.{◌≡◌, ◌<◌, ◌+◌, ◌^◌, ◌++◌, [], OnOk, IsTrue};
+ghost use Rattle.tm_tree.specs.Tree.{branch};
+ghost use Rattle.tm_tree.specs.View.{condition_of, statements_of};
+ghost use Rattle.tm_tree.specs.PointNumbers.{points_in};
+ghost use Rattle.tm_flow.specs.Constants.{have_room, have_rooms};
+ghost use Rattle.tm_flow.specs.Edges.{ways_in, ways_of};
+ghost use Rattle.tm_flow.specs.Trails.{jumps_of, reached, split, walked};
 
 use crate::case::Cases;
-use crate::count::{points_in, points_of, splits};
+use crate::count::{points_in, points_of};
 use crate::edge::{Action, Edge};
 use crate::listing::list_cases;
+use crate::onward::{JumpEdges, arrival, go_on, go_on_by_case};
 use crate::trail::Trail;
 use std::alloc::{AllocError, Global};
-use tm_tree::{Block, Stmt};
+use tm_tree::{Cond, Stmt};
 
-// Adds the edges that go on from the trail along the statements, up to the first point on each way.
-//
-// `first` is the number of the first point that the statements make, `end` that of the point behind them.
+/// Adds the edges that go on from the trail along the statements, up to the first point on each way.
+///
+/// `first` is the number of the first point that the statements make. At their end the trail goes on by each edge of
+/// `next`, at a jump by those of `jumps`.
 #[cycle(walk)]
-fn walk(
+pub(crate) fn walk(
     alloc: Global,
     edges: &mut Vec<Edge>,
     trail: Trail,
     stmts: &[Stmt],
     first: u32,
-    end: u32,
+    jumps: &JumpEdges,
+    next: &[Edge],
 ) -> Result<(), AllocError>
     requires room { IsTrue (have_rooms (statements_of stmts.now)) }
     requires numbers { first + points_in (statements_of stmts.now) < 2 ^ 32 }
-    ensures { OnOk result (edges.new.items ≡ edges.old.items ++ reached trail (ways_in (statements_of stmts.now) first (arrived end))) }
+    ensures { OnOk result (edges.new.items ≡ edges.old.items
+        ++ reached trail (ways_in (statements_of stmts.now) first (jumps_of jumps.now) (walked next.now))) }
 {
     let Some((stmt, rest)) = stmts.split_first() else {
-        edges.push(trail.end(end))?;
-        return Ok(());
+        return go_on(alloc, edges, &trail, next);
     };
-    let next = first + points_of(stmt);
+    let later = first + points_of(stmt);
     match stmt {
         Stmt::Set { var, form, .. } => {
             let mut longer = trail;
@@ -43,19 +47,20 @@ fn walk(
                 var: *var,
                 form: form.again()?,
             })?;
-            walk(alloc, edges, longer, rest, next, end)
+            walk(alloc, edges, longer, rest, later, jumps, next)
         }
         Stmt::Havoc { var, .. } => {
             let mut longer = trail;
             longer.add(Action::Havoc { var: *var })?;
-            walk(alloc, edges, longer, rest, next, end)
+            walk(alloc, edges, longer, rest, later, jumps, next)
         }
         Stmt::Assume { cond, .. } => {
             let cases = list_cases(alloc, cond, true)?;
             if cases.as_slice().len() > 1 {
-                walk_cases(alloc, edges, &trail, &cases, &[], first, first)
+                let point = arrival(alloc, first)?;
+                go_on_by_case(alloc, edges, &trail, &cases, point.as_slice())
             } else {
-                walk_cases(alloc, edges, &trail, &cases, rest, next, end)
+                walk_cases(alloc, edges, &trail, &cases, rest, later, jumps, next)
             }
         }
         Stmt::If {
@@ -64,136 +69,67 @@ fn walk(
             second: no,
             ..
         } => {
-            let middle = first + points_in(yes.as_slice());
-            let join = middle + points_in(no.as_slice());
-            let held = list_cases(alloc, cond, true)?;
-            walk_cases(alloc, edges, &trail, &held, yes.as_slice(), first, join)?;
-            let failed = list_cases(alloc, cond, false)?;
-            walk_cases(alloc, edges, &trail, &failed, no.as_slice(), middle, join)
+            let (yes, no) = (yes.as_slice(), no.as_slice());
+            walk_branches(alloc, edges, &trail, cond, yes, no, first, jumps)
         }
-        Stmt::While { .. } | Stmt::Label { .. } => {
+        Stmt::While { .. } | Stmt::Do { .. } | Stmt::For { .. } | Stmt::Label { .. } => {
             edges.push(trail.end(first))?;
             Ok(())
         }
+        Stmt::Break { .. } => go_on(alloc, edges, &trail, jumps.broken.as_slice()),
+        Stmt::Continue { .. } => go_on(alloc, edges, &trail, jumps.continued.as_slice()),
     }
 }
 
-// Adds the edges that go on from the trail by each of the cases, and then along the statements.
+/// Adds the edges that go on from the trail by each of the cases, and then along the statements.
 #[cycle(walk)]
-fn walk_cases(
+pub(crate) fn walk_cases(
     alloc: Global,
     edges: &mut Vec<Edge>,
     trail: &Trail,
     cases: &Cases,
     stmts: &[Stmt],
     first: u32,
-    end: u32,
+    jumps: &JumpEdges,
+    next: &[Edge],
 ) -> Result<(), AllocError>
     requires room { IsTrue (have_rooms (statements_of stmts.now)) }
     requires numbers { first + points_in (statements_of stmts.now) < 2 ^ 32 }
-    ensures { OnOk result (edges.new.items ≡ edges.old.items ++ split trail.now cases.now (ways_in (statements_of stmts.now) first (arrived end))) }
+    ensures { OnOk result (edges.new.items ≡ edges.old.items
+        ++ split trail.now cases.now (ways_in (statements_of stmts.now) first (jumps_of jumps.now) (walked next.now))) }
 {
     for case in cases.as_slice() {
-        walk(alloc, edges, trail.after(alloc, case)?, stmts, first, end)?;
+        let longer = trail.after(alloc, case)?;
+        walk(alloc, edges, longer, stmts, first, jumps, next)?;
     }
     Ok(())
 }
 
-/// Adds the edges from the points that the statements and those in them make, in order.
-///
-/// `first` is the number of the first point that the statements make, `end` that of the point behind them.
-#[cycle(edges)]
-pub(crate) fn add_edges(
+/// Adds the edges that go on from the trail into either branch of an `if`, up to the first point on each way: that is at
+/// the latest the join, whatever comes after it. `first` is the number of the first point that the branches make.
+#[cycle(walk)]
+fn walk_branches(
     alloc: Global,
     edges: &mut Vec<Edge>,
-    stmts: &[Stmt],
+    trail: &Trail,
+    cond: &Cond,
+    yes: &[Stmt],
+    no: &[Stmt],
     first: u32,
-    end: u32,
+    jumps: &JumpEdges,
 ) -> Result<(), AllocError>
-    requires room { IsTrue (have_rooms (statements_of stmts.now)) }
-    requires numbers { first + points_in (statements_of stmts.now) < 2 ^ 32 }
-    ensures { OnOk result (edges.new.items ≡ edges.old.items ++ edges_in_nodes (statements_of stmts.now) first (arrived end)) }
+    requires room { IsTrue (have_room (condition_of cond.now)) }
+    requires yes { IsTrue (have_rooms (statements_of yes.now)) }
+    requires no { IsTrue (have_rooms (statements_of no.now)) }
+    requires numbers { first + points_in (statements_of yes.now) + points_in (statements_of no.now) + 1 < 2 ^ 32 }
+    ensures { OnOk result (edges.new.items ≡ edges.old.items ++ reached trail.now
+        (ways_of (branch (condition_of cond.now) (statements_of yes.now) (statements_of no.now) 0) first (jumps_of jumps.now) [])) }
 {
-    let Some((stmt, rest)) = stmts.split_first() else {
-        return Ok(());
-    };
-    let next = first + points_of(stmt);
-    add_edges_in(alloc, edges, stmt, first, rest, end)?;
-    add_edges(alloc, edges, rest, next, end)
-}
-
-// Adds the edges from the points that the statement and those in it make, where the rest comes after it.
-#[cycle(edges)]
-fn add_edges_in(
-    alloc: Global,
-    edges: &mut Vec<Edge>,
-    stmt: &Stmt,
-    first: u32,
-    rest: &[Stmt],
-    end: u32,
-) -> Result<(), AllocError>
-    requires room { IsTrue (has_rooms (statement_of stmt.now)) }
-    requires room_after { IsTrue (have_rooms (statements_of rest.now)) }
-    requires numbers { first + points_of (statement_of stmt.now) + points_in (statements_of rest.now) < 2 ^ 32 }
-    ensures { OnOk result (edges.new.items ≡ edges.old.items
-        ++ edges_in_node (statement_of stmt.now) first (ways_in (statements_of rest.now) (first + points_of (statement_of stmt.now)) (arrived end))) }
-{
-    let next = first + points_of(stmt);
-    match stmt {
-        Stmt::Set { .. } | Stmt::Havoc { .. } => Ok(()),
-        Stmt::Assume { cond, .. } => {
-            if splits(cond) {
-                walk(alloc, edges, Trail::new(alloc, first), rest, next, end)
-            } else {
-                Ok(())
-            }
-        }
-        Stmt::If {
-            first: yes,
-            second: no,
-            ..
-        } => {
-            let middle = first + points_in(yes.as_slice());
-            let join = middle + points_in(no.as_slice());
-            add_edges(alloc, edges, yes.as_slice(), first, join)?;
-            add_edges(alloc, edges, no.as_slice(), middle, join)?;
-            walk(alloc, edges, Trail::new(alloc, join), rest, next, end)
-        }
-        Stmt::While { cond, body, .. } => {
-            let head = Trail::new(alloc, first);
-            let into = list_cases(alloc, cond, true)?;
-            walk_cases(
-                alloc,
-                edges,
-                &head,
-                &into,
-                body.as_slice(),
-                first + 1,
-                first,
-            )?;
-            let past = list_cases(alloc, cond, false)?;
-            walk_cases(alloc, edges, &head, &past, rest, next, end)?;
-            add_edges(alloc, edges, body.as_slice(), first + 1, first)
-        }
-        Stmt::Label { .. } => walk(alloc, edges, Trail::new(alloc, first), rest, next, end),
-    }
-}
-
-/// The edges of the program in order, each with at most 257 of its actions. `exit` is the number of the last point.
-pub(crate) fn edges_of(alloc: Global, body: &Block, exit: u32) -> Result<Vec<Edge>, AllocError>
-    requires room { IsTrue (have_rooms body.now) }
-    requires last { exit ≡ exit_of body.now }
-    ensures { IfOk result (λ edges. edges.items ≡ kept_edges body.now) }
-{
-    let mut edges = Vec::new(alloc);
-    walk(
-        alloc,
-        &mut edges,
-        Trail::new(alloc, 0),
-        body.as_slice(),
-        1,
-        exit,
-    )?;
-    add_edges(alloc, &mut edges, body.as_slice(), 1, exit)?;
-    Ok(edges)
+    let middle = first + points_in(yes);
+    let arrived = arrival(alloc, middle + points_in(no))?;
+    let join = arrived.as_slice();
+    let held = list_cases(alloc, cond, true)?;
+    walk_cases(alloc, edges, trail, &held, yes, first, jumps, join)?;
+    let failed = list_cases(alloc, cond, false)?;
+    walk_cases(alloc, edges, trail, &failed, no, middle, jumps, join)
 }

@@ -1,6 +1,7 @@
 //! Laws of the definitions, each the contract of a function that does nothing.
 
 ghost use Rattle.tm_flow.specs.Constants.{ConditionsHaveRoom};
+ghost use Rattle.tm_flow.specs.first_language.Law.{FirstFlowsStay};
 ghost use Rattle.tm_flow.specs.PathLaws.{BehindPoints, EdgesInRange, EdgesOfPrograms, PointsAreNumbered, StepsAreRecorded, WaysAreSteps};
 
 /// Each point of a program is made by exactly one of its nodes, and stands in the list of points at the number that this
@@ -19,7 +20,8 @@ pub fn ways_are_steps()
     ensures { WaysAreSteps }
 {}
 
-/// Labelled steps from the start reach the mark of each point, and leave one and the same work behind it.
+/// Labelled steps from the start come to the mark of a point exactly where the list of work behind points has some for it,
+/// and leave that work behind the mark.
 pub fn work_behind_points()
     ensures { BehindPoints }
 {}
@@ -37,4 +39,10 @@ pub fn edges_are_in_range()
 /// The comparisons of a program's conditions leave room for their guards, so that `cases` may be asked for them.
 pub fn conditions_have_room()
     ensures { ConditionsHaveRoom }
+{}
+
+/// Programs of the first language, whose only loop was the `while` and which had no jumps, have kept their points and edges;
+/// those within the limits of that time are within those of today.
+pub fn first_flows_stay()
+    ensures { FirstFlowsStay }
 {}

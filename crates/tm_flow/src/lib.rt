@@ -5,8 +5,10 @@
 
 mod build;
 mod case;
+mod completion;
 mod count;
 mod edge;
+mod edge_count;
 mod edge_walk;
 mod fault;
 mod graph;
@@ -14,8 +16,11 @@ mod guard;
 mod law;
 mod limits;
 mod listing;
+mod loop_walk;
+mod onward;
 mod places;
 mod point;
+mod point_edges;
 mod saturated;
 mod trail;
 mod wide;
@@ -26,8 +31,8 @@ pub use edge::{Action, Actions, Edge, Edges};
 pub use fault::FlowFault;
 pub use graph::Flow;
 pub use law::{
-    conditions_have_room, edges_are_in_range, edges_are_paths, points_are_numbered,
-    steps_are_recorded, ways_are_steps, work_behind_points,
+    conditions_have_room, edges_are_in_range, edges_are_paths, first_flows_stay,
+    points_are_numbered, steps_are_recorded, ways_are_steps, work_behind_points,
 };
 pub use limits::MOST_POINTS;
 pub use listing::cases;

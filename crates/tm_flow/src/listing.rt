@@ -50,7 +50,7 @@ pub(crate) fn case_count(cond: &Cond, truth: bool) -> u32
     }
 }
 
-// The number of cases of a comparison.
+/// The number of cases of a comparison.
 fn comparison_count(rel: Rel, truth: bool) -> u32
     ensures { (form : _) → result ≡ length (comparison_cases truth rel form) }
 {
@@ -60,7 +60,7 @@ fn comparison_count(rel: Rel, truth: bool) -> u32
     }
 }
 
-// The relation that holds where this one has this truth.
+/// The relation that holds where this one has this truth.
 fn asked(rel: Rel, truth: bool) -> Rel
     ensures { (form : _) → comparison_cases true result form ≡ comparison_cases truth rel form }
 {
@@ -88,7 +88,7 @@ pub(crate) fn list_cases(alloc: Global, cond: &Cond, truth: bool) -> Result<Case
     Ok(Cases::new(list))
 }
 
-// Adds the cases of the condition for this truth.
+/// Adds the cases of the condition for this truth.
 #[cycle(listing)]
 fn add_cases(
     alloc: Global,
@@ -129,7 +129,7 @@ fn add_cases(
     }
 }
 
-// Adds the cases in which the form is so related to 0.
+/// Adds the cases in which the form is so related to 0.
 fn add_comparison(
     alloc: Global,
     list: &mut Vec<Case>,
@@ -158,7 +158,7 @@ fn add_comparison(
     }
 }
 
-// Adds a case of one guard.
+/// Adds a case of one guard.
 fn add_guard(alloc: Global, list: &mut Vec<Case>, guard: Form) -> Result<(), AllocError>
     ensures { OnOk result (list.new.items ≡ list.old.items ++ (guard ∷ []) ∷ []) }
 {
@@ -168,7 +168,7 @@ fn add_guard(alloc: Global, list: &mut Vec<Case>, guard: Form) -> Result<(), All
     Ok(())
 }
 
-// Adds each case of the first list followed by each of the second.
+/// Adds each case of the first list followed by each of the second.
 fn add_crossed(
     alloc: Global,
     list: &mut Vec<Case>,
@@ -183,7 +183,7 @@ fn add_crossed(
     Ok(())
 }
 
-// Adds the case followed by each of the others.
+/// Adds the case followed by each of the others.
 fn add_followed(
     alloc: Global,
     list: &mut Vec<Case>,
@@ -201,7 +201,7 @@ fn add_followed(
     Ok(())
 }
 
-// Adds the forms once more.
+/// Adds the forms once more.
 fn add_forms(list: &mut Vec<Form>, forms: &[Form]) -> Result<(), AllocError>
     ensures { OnOk result (list.new.items ≡ list.old.items ++ forms.now) }
 {

@@ -28,7 +28,7 @@ fn add_point(points: &mut Vec<Point>, place: Place, line: u32) -> Result<(), All
     Ok(())
 }
 
-// Adds the points that the statements and those in them make, in order.
+/// Adds the points that the statements and those in them make, in order.
 #[cycle(places)]
 fn add_points(points: &mut Vec<Point>, stmts: &[Stmt]) -> Result<(), AllocError>
     ensures { OnOk result (points.new.items ≡ points.old.items ++ places_in (statements_of stmts.now)) }
@@ -40,13 +40,15 @@ fn add_points(points: &mut Vec<Point>, stmts: &[Stmt]) -> Result<(), AllocError>
     add_points(points, rest)
 }
 
-// Adds the points that the statement and those in it make, in order.
+/// Adds the points that the statement and those in it make, in order.
 #[cycle(places)]
 fn add_points_in(points: &mut Vec<Point>, stmt: &Stmt) -> Result<(), AllocError>
     ensures { OnOk result (points.new.items ≡ points.old.items ++ places_of (statement_of stmt.now)) }
 {
     match stmt {
-        Stmt::Set { .. } | Stmt::Havoc { .. } => Ok(()),
+        Stmt::Set { .. } | Stmt::Havoc { .. } | Stmt::Break { .. } | Stmt::Continue { .. } => Ok(
+            (),
+        ),
         Stmt::Assume { cond, line } => {
             if splits(cond) {
                 add_point(points, Place::Assume, *line)
@@ -64,7 +66,9 @@ fn add_points_in(points: &mut Vec<Point>, stmt: &Stmt) -> Result<(), AllocError>
             add_points(points, second.as_slice())?;
             add_point(points, Place::Join, *line)
         }
-        Stmt::While { body, line, .. } => {
+        Stmt::While { body, line, .. }
+        | Stmt::Do { body, line, .. }
+        | Stmt::For { body, line, .. } => {
             add_point(points, Place::Loop, *line)?;
             add_points(points, body.as_slice())
         }

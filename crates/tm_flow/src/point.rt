@@ -8,7 +8,7 @@ use tm_tree::Name;
 pub enum Place {
     /// Where a run starts.
     Entry,
-    /// The head of a `while`.
+    /// The head of a loop.
     Loop,
     /// A label.
     Label(Name),

@@ -74,6 +74,17 @@ impl Trail {
         Ok(trail)
     }
 
+    /// The edge that goes on by the actions.
+    pub(crate) fn along(&self, alloc: Global, actions: &Actions) -> Result<Trail, AllocError>
+        ensures { IfOk result (λ trail. trail ≡ followed self.now actions.now) }
+    {
+        let mut trail = self.again(alloc)?;
+        for action in actions.as_slice() {
+            trail.add(copy(action)?)?;
+        }
+        Ok(trail)
+    }
+
     /// The edge that ends here, at the point.
     pub(crate) fn end(self, to: u32) -> Edge
         ensures { result ≡ record { from = self.from; to = to; actions = kept self.actions } }
@@ -86,7 +97,7 @@ impl Trail {
     }
 }
 
-// The same actions once more.
+/// The same actions once more.
 fn copies(alloc: Global, actions: &[Action]) -> Result<Vec<Action>, AllocError>
     ensures { IfOk result (λ list. list.items ≡ actions.now) }
 {
@@ -97,7 +108,7 @@ fn copies(alloc: Global, actions: &[Action]) -> Result<Vec<Action>, AllocError>
     Ok(list)
 }
 
-// The same action once more.
+/// The same action once more.
 fn copy(action: &Action) -> Result<Action, AllocError>
     ensures { IfOk result (λ same. same ≡ action.now) }
 {

@@ -26,7 +26,11 @@ fn wide_line_in(stmt: &Stmt) -> Option<u32>
     ensures { result ≡ first_of (wide_lines_of (statement_of stmt.now)) }
 {
     match stmt {
-        Stmt::Set { .. } | Stmt::Havoc { .. } | Stmt::Label { .. } => None,
+        Stmt::Set { .. }
+        | Stmt::Havoc { .. }
+        | Stmt::Break { .. }
+        | Stmt::Continue { .. }
+        | Stmt::Label { .. } => None,
         Stmt::Assume { cond, line } => {
             if is_wide(cond, true) {
                 Some(*line)
@@ -48,7 +52,14 @@ fn wide_line_in(stmt: &Stmt) -> Option<u32>
                 None => wide_line(second.as_slice()),
             }
         }
-        Stmt::While { cond, body, line } => {
+        Stmt::While { cond, body, line }
+        | Stmt::Do { cond, body, line }
+        | Stmt::For {
+            cond,
+            body,
+            line,
+            ..
+        } => {
             if is_wide(cond, true) || is_wide(cond, false) {
                 return Some(*line);
             }

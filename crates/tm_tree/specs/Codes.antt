@@ -5,7 +5,10 @@ use base.Stored.{Coded, Gv, gcons, gnil, gnum}
 use Rattle.tm_tree.specs.declared.form.Form.{Form}
 use Rattle.tm_tree.specs.declared.cond.Rel.{Rel}
 use Rattle.tm_tree.specs.declared.cond.Rel.TheVariants.{Eq, Ne, Lt, Le, Gt, Ge}
-use Rattle.tm_tree.specs.Tree.{Condition, free, compare, negation, both, either, Statement, Statements, set, havoc, assume, branch, loop, label, nil, cons}
+use Rattle.tm_tree.specs.declared.change.Change.{Change}
+use Rattle.tm_tree.specs.declared.change.Change.TheVariants as change
+use Rattle.tm_tree.specs.Tree.{Condition, free, compare, negation, both, either, LoopKind, while_loop, for_loop, do_loop, Jump, breaks, continues}
+use Rattle.tm_tree.specs.Tree.{Statement, Statements, set, havoc, assume, branch, loop, jump, label, nil, cons}
 
 -- ---- numbers, names and forms
 abbrev pub int_code : ℤ → Gv
@@ -107,6 +110,52 @@ condition_back (negation c) = ap negation (condition_back c)
 condition_back (both c d) = ap₂ both (condition_back c) (condition_back d)
 condition_back (either c d) = ap₂ either (condition_back c) (condition_back d)
 
+-- ---- loops and jumps
+abbrev pub change_code : Change → Gv
+change_code change.Unchanged = gnil
+change_code (change.Set var form line) = gcons (form_code form) (gcons (gnum var) (gnum line))
+change_code (change.Havoc var line) = gcons gnil (gcons (gnum var) (gnum line))
+
+change_from : Gv → Change
+change_from (gcons (gcons c cs) (gcons (gnum var) (gnum line))) = change.Set var (form_from (gcons c cs)) line
+change_from (gcons gnil (gcons (gnum var) (gnum line))) = change.Havoc var line
+change_from g = change.Unchanged
+
+change_back : (c : Change) → change_from (change_code c) ≡ c
+unfolding change_from
+change_back change.Unchanged = refl
+change_back (change.Set var form line) = ap (λ f. change.Set var f line) (form_back form)
+change_back (change.Havoc var line) = refl
+
+abbrev pub kind_code : LoopKind → Gv
+kind_code while_loop = gnum 0
+kind_code (for_loop c) = gcons gnil (change_code c)
+kind_code do_loop = gnum 1
+
+kind_from : Gv → LoopKind
+kind_from (gnum zero) = while_loop
+kind_from (gcons g c) = for_loop (change_from c)
+kind_from g = do_loop
+
+kind_back : (k : LoopKind) → kind_from (kind_code k) ≡ k
+unfolding kind_from
+kind_back while_loop = refl
+kind_back (for_loop c) = ap for_loop (change_back c)
+kind_back do_loop = refl
+
+abbrev pub jump_code : Jump → Gv
+jump_code breaks = gnum 0
+jump_code continues = gnum 1
+
+jump_from : Gv → Jump
+jump_from (gnum zero) = breaks
+jump_from g = continues
+
+jump_back : (j : Jump) → jump_from (jump_code j) ≡ j
+unfolding jump_from
+jump_back breaks = refl
+jump_back continues = refl
+
 -- ---- statements
 abbrev mutual
   pub statement_code : Statement → Gv
@@ -115,8 +164,10 @@ abbrev mutual
   statement_code (assume cond line) = gcons (gnum 2) (gcons (condition_code cond) (gnum line))
   statement_code (branch cond first second line) =
       gcons (gnum 3) (gcons (condition_code cond) (gcons (statements_code first) (gcons (statements_code second) (gnum line))))
-  statement_code (loop cond body line) = gcons (gnum 4) (gcons (condition_code cond) (gcons (statements_code body) (gnum line)))
-  statement_code (label name line) = gcons (gnum 5) (gcons (name_code name) (gnum line))
+  statement_code (loop kind cond body line) =
+      gcons (gnum 4) (gcons (kind_code kind) (gcons (condition_code cond) (gcons (statements_code body) (gnum line))))
+  statement_code (jump kind line) = gcons (gnum 5) (gcons (jump_code kind) (gnum line))
+  statement_code (label name line) = gcons (gnum 6) (gcons (name_code name) (gnum line))
 
   pub statements_code : Statements → Gv
   statements_code nil = gnil
@@ -129,8 +180,10 @@ mutual
   statement_from (gcons (gnum (suc (suc zero))) (gcons cond (gnum line))) = assume (condition_from cond) line
   statement_from (gcons (gnum (suc (suc (suc zero)))) (gcons cond (gcons first (gcons second (gnum line))))) =
       branch (condition_from cond) (statements_from first) (statements_from second) line
-  statement_from (gcons (gnum (suc (suc (suc (suc zero))))) (gcons cond (gcons body (gnum line)))) = loop (condition_from cond) (statements_from body) line
-  statement_from (gcons (gnum (suc (suc (suc (suc (suc k)))))) (gcons name (gnum line))) = label (name_from name) line
+  statement_from (gcons (gnum (suc (suc (suc (suc zero))))) (gcons kind (gcons cond (gcons body (gnum line))))) =
+      loop (kind_from kind) (condition_from cond) (statements_from body) line
+  statement_from (gcons (gnum (suc (suc (suc (suc (suc zero)))))) (gcons kind (gnum line))) = jump (jump_from kind) line
+  statement_from (gcons (gnum (suc (suc (suc (suc (suc (suc k))))))) (gcons name (gnum line))) = label (name_from name) line
   statement_from g = havoc 0 0
 
   statements_from : Gv → Statements
@@ -147,7 +200,10 @@ mutual
   statement_back (branch cond first second line) =
       ap₂ (λ c f. branch c f (statements_from (statements_code second)) line) (condition_back cond) (statements_back first)
       ∙ ap (λ s. branch cond first s line) (statements_back second)
-  statement_back (loop cond body line) = ap₂ (λ c b. loop c b line) (condition_back cond) (statements_back body)
+  statement_back (loop kind cond body line) =
+      ap₂ (λ k c. loop k c (statements_from (statements_code body)) line) (kind_back kind) (condition_back cond)
+      ∙ ap (λ b. loop kind cond b line) (statements_back body)
+  statement_back (jump kind line) = ap (λ j. jump j line) (jump_back kind)
   statement_back (label name line) = ap (λ n. label n line) (name_back name)
 
   statements_back : (ss : Statements) → statements_from (statements_code ss) ≡ ss

@@ -3,7 +3,7 @@ use Rattle.std.specs.Prelude.{◌≤◌, List, [], ◌∷◌}
 use Rattle.std.proofs.Common.{arith}
 use denote.Param.Weighed.{most}
 use Rattle.tm_tree.specs.declared.stmt.Stmt.{Stmt}
-use Rattle.tm_tree.specs.declared.stmt.Stmt.TheVariants.{Set, Havoc, Assume, If, While, Label}
+use Rattle.tm_tree.specs.declared.stmt.Stmt.TheVariants.{Set, Havoc, Assume, If, While, Do, For, Break, Continue, Label}
 use Rattle.tm_tree.specs.declared.stmt.Block.TheDeep.{deep-Stmt}
 use Rattle.tm_tree.specs.Tree.{node_count, nodes_in}
 use Rattle.tm_tree.specs.View.{statement_of, statements_of}
@@ -14,6 +14,10 @@ deep_one (Havoc var line) = omega arith
 deep_one (Assume cond line) = omega arith
 deep_one (If cond first second line) = omega arith
 deep_one (While cond body line) = omega arith
+deep_one (Do cond body line) = omega arith
+deep_one (For cond change body line) = omega arith
+deep_one (Break line) = omega arith
+deep_one (Continue line) = omega arith
 deep_one (Label name line) = omega arith
 
 pub deep_all : (ss : List Stmt) → most deep-Stmt ss ≤ nodes_in (statements_of ss)

@@ -3,8 +3,9 @@ use Rattle.std.specs.Prelude.{List, [], ◌∷◌}
 use Rattle.tm_tree.specs.declared.cond.Cond.{Cond, fold-Cond}
 use Rattle.tm_tree.specs.declared.cond.Cond.TheOpen.{Cond-F}
 use Rattle.tm_tree.specs.declared.stmt.Stmt.{Stmt}
-use Rattle.tm_tree.specs.declared.stmt.Stmt.TheVariants.{Set, Havoc, Assume, If, While, Label}
-use Rattle.tm_tree.specs.Tree.{Condition, free, compare, negation, both, either, Statement, Statements, set, havoc, assume, branch, loop, label, nil, cons}
+use Rattle.tm_tree.specs.declared.stmt.Stmt.TheVariants.{Set, Havoc, Assume, If, While, Do, For, Break, Continue, Label}
+use Rattle.tm_tree.specs.Tree.{Condition, free, compare, negation, both, either, Statement, Statements, set, havoc, assume, branch, loop, jump, label, nil, cons}
+use Rattle.tm_tree.specs.Tree.{while_loop, for_loop, do_loop, breaks, continues}
 
 -- one level of a condition
 abbrev pub condition_step : Cond-F Condition → Condition
@@ -24,7 +25,11 @@ statement_of (Set var form line) = set var form line
 statement_of (Havoc var line) = havoc var line
 statement_of (Assume cond line) = assume (condition_of cond) line
 statement_of (If cond first second line) = branch (condition_of cond) first second line
-statement_of (While cond body line) = loop (condition_of cond) body line
+statement_of (While cond body line) = loop while_loop (condition_of cond) body line
+statement_of (Do cond body line) = loop do_loop (condition_of cond) body line
+statement_of (For cond change body line) = loop (for_loop change) (condition_of cond) body line
+statement_of (Break line) = jump breaks line
+statement_of (Continue line) = jump continues line
 statement_of (Label name line) = label name line
 
 -- the trees of a list of statements

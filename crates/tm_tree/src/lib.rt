@@ -3,6 +3,7 @@
 //! `docs/MEANING.md` reads the definitions of `specs/` in order.
 #![tactic(auto)]
 
+mod change;
 mod cond;
 mod form;
 mod law;
@@ -11,6 +12,7 @@ mod name;
 mod program;
 mod stmt;
 
+pub use change::Change;
 pub use cond::{Cond, Rel, leaves};
 pub use form::{Coeffs, Form};
 pub use law::cases_are_truth;

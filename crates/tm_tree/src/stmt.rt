@@ -1,9 +1,10 @@
 //! Statements.
 
 ghost use Rattle.std.specs.Prelude.{◌≡◌, ◌<◌, ◌^◌};
-ghost use Rattle.tm_tree.specs.Tree.{node_count, nodes_in};
+ghost use Rattle.tm_tree.specs.Tree.{change_count, node_count, nodes_in};
 ghost use Rattle.tm_tree.specs.View.{statement_of, statements_of};
 
+use crate::change::Change;
 use crate::cond::Cond;
 use crate::form::Form;
 use crate::name::Name;
@@ -40,6 +41,27 @@ pub enum Stmt {
     While {
         cond: Cond,
         body: Block,
+        line: u32,
+    },
+    /// `body`, and after it again and again, as long as the condition may be true; past it where it may be false.
+    Do {
+        cond: Cond,
+        body: Block,
+        line: u32,
+    },
+    /// As `While`, with the change after each turn of `body`, also after one that a `Continue` ends.
+    For {
+        cond: Cond,
+        change: Change,
+        body: Block,
+        line: u32,
+    },
+    /// Goes on past the innermost loop that holds it.
+    Break {
+        line: u32,
+    },
+    /// Goes on at the end of the body of the innermost loop that holds it.
+    Continue {
         line: u32,
     },
     /// Names this place.
@@ -112,7 +134,17 @@ fn nodes(stmt: &Stmt) -> u32
 {
     match stmt {
         Stmt::If { first, second, .. } => 1 + nodes_in(first) + nodes_in(second),
-        Stmt::While { body, .. } => 1 + nodes_in(body),
+        Stmt::While { body, .. } | Stmt::Do { body, .. } => 1 + nodes_in(body),
+        Stmt::For { change, body, .. } => 1 + change_count(change) + nodes_in(body),
         _ => 1,
+    }
+}
+
+fn change_count(change: &Change) -> u32
+    ensures { result ≡ change_count change.now }
+{
+    match change {
+        Change::Unchanged => 0,
+        Change::Set { .. } | Change::Havoc { .. } => 1,
     }
 }

@@ -7,9 +7,9 @@ use Rattle.tm_base.specs.Elements.{In}
 use Rattle.tm_num.specs.Rational.{whole, zero_ℚ, ◌≤ℚ◌}
 use Rattle.tm_num.specs.Extended.{fin, ◌≤ᴱ◌}
 use Rattle.tm_num.proofs.rational.Laws.{whole-zero, whole_le}
-use Rattle.tm_tree.specs.Tree.{Statements, set, havoc, assume, branch, loop, label}
+use Rattle.tm_tree.specs.Tree.{Statements, while_loop, for_loop, do_loop, breaks, continues, set, havoc, assume, branch, loop, jump, label}
 use Rattle.tm_tree.specs.Meaning.{State, value}
-use Rattle.tm_tree.specs.Runs.{Item, node, mark, turn, start_work, Does, Configuration, Step, Follows}
+use Rattle.tm_tree.specs.Runs.{Item, node, mark, turn, end, start_work, Does, Configuration, Step, Follows}
 use Rattle.tm_flow.specs.declared.edge.Action.{Action}
 use Rattle.tm_flow.specs.declared.edge.Action.TheVariants.{Guard, Assign, Havoc}
 use Rattle.tm_flow.specs.Steps.{Labelled, steps_of, Acts}
@@ -45,28 +45,33 @@ acts_trace (Havoc var ∷ actions) x y h =
     (whole h.0, subst (λ z. Traces actions z (rational y)) (map-set whole x var h.0) (acts_trace actions (slice_set x var h.0) y h.1))
 
 -- a labelled step with the item that leaves this work, along which a trace leads from one state to the other
-abbrev Recorded : Item → State → List Item → State → Type 0
-Recorded item x work y = (s : Labelled) × In (steps_of item) s × (s.work ≡ work) × Traces s.actions (rational x) (rational y)
+abbrev Recorded : Item → List Item → State → List Item → State → Type 0
+Recorded item rest x work y = (s : Labelled) × In (steps_of item rest) s × (s.work ≡ work) × Traces s.actions (rational x) (rational y)
 
-recorded : (item : Item) (x : State) (work : List Item) (y : State) → ¬ (IsMark item) → Does item x work y → Recorded item x work y
-recorded item x work y other d = let r = (steps_law item x work y other).0 d in (r.0, r.1, r.2, acts_trace r.0.actions x y r.3)
+recorded : (item : Item) (rest : List Item) (x : State) (work : List Item) (y : State) → ¬ (IsMark item) → Does item rest x work y → Recorded item rest x work y
+recorded item rest x work y other d = let r = (steps_law item rest x work y other).0 d in (r.0, r.1, r.2, acts_trace r.0.actions x y r.3)
 
 -- a state keeps its length
-keeps_length : (item : Item) (x : State) (work : List Item) (y : State) → Does item x work y → length y ≡ length x
-keeps_length (mark p) x work y d = ap length d.1
-keeps_length (node (set var form line) n) x work y d = ap length d.1 ∙ length-set x var (value form x)
-keeps_length (node (havoc var line) n) x work y d = ap length d.2 ∙ length-set x var d.0
-keeps_length (node (assume c line) n) x work y d = ap length d.2
-keeps_length (node (branch c first second line) n) x work y d = ap length d.3
-keeps_length (node (loop c body line) n) x work y d = ap length d.1
-keeps_length (node (label name line) n) x work y d = ap length d.1
-keeps_length (turn c body line n) x work y d = ap length d.3
+keeps_length : (item : Item) (rest : List Item) (x : State) (work : List Item) (y : State) → Does item rest x work y → length y ≡ length x
+keeps_length (mark p) rest x work y d = ap length d.1
+keeps_length (node (set var form line) n) rest x work y d = ap length d.1 ∙ length-set x var (value form x)
+keeps_length (node (havoc var line) n) rest x work y d = ap length d.2 ∙ length-set x var d.0
+keeps_length (node (assume c line) n) rest x work y d = ap length d.2
+keeps_length (node (branch c first second line) n) rest x work y d = ap length d.3
+keeps_length (node (loop kind c body line) n) rest x work y d = ap length d.1
+keeps_length (node (jump breaks line) n) rest x work y d = ap length d.1
+keeps_length (node (jump continues line) n) rest x work y d = ap length d.1
+keeps_length (node (label name line) n) rest x work y d = ap length d.1
+keeps_length (turn kind c body line n) rest x work y d = ap length d.3
+keeps_length (end while_loop c body line n) rest x work y d = ap length d.1
+keeps_length (end (for_loop g) c body line n) rest x work y d = ap length d.1
+keeps_length (end do_loop c body line n) rest x work y d = ap length d.3
 
 -- ---- since the last mark
 -- labelled steps from the work that a mark left behind, with no mark on the way
 data Part (start : List Item) : List Action → List Item → Type 0 where
   none : Part start [] start
-  more : (actions : List Action) (item : Item) (rest : List Item) (s : Labelled) → Part start actions (item ∷ rest) → In (steps_of item) s → Part start (actions ++ s.actions) (s.work ++ rest)
+  more : (actions : List Action) (item : Item) (rest : List Item) (s : Labelled) → Part start actions (item ∷ rest) → In (steps_of item rest) s → Part start (actions ++ s.actions) s.work
 
 part_arrives : (start : List Item) (actions : List Action) (work : List Item) (later : List Action) (p : ℕ) (behind : List Item) →
     Part start actions work → Arrives work later p behind → Arrives start (actions ++ later) p behind
@@ -78,8 +83,8 @@ part_arrives start actions work later p behind (more before item rest s part m) 
 part_leads : (start : List Item) (actions : List Action) (work : List Item) → Part start actions work → Leads start actions work
 part_leads start actions work none = here start
 part_leads start actions work (more before item rest s part m) =
-    let one = done item rest s [] (s.work ++ rest) m (here (s.work ++ rest)) in
-    subst (λ a. Leads start (before ++ a) (s.work ++ rest)) (append-nil s.actions) (leads_then start (item ∷ rest) (s.work ++ rest) before (s.actions ++ []) (part_leads start before (item ∷ rest) part) one)
+    let one = done item rest s [] s.work m (here s.work) in
+    subst (λ a. Leads start (before ++ a) s.work) (append-nil s.actions) (leads_then start (item ∷ rest) s.work before (s.actions ++ []) (part_leads start before (item ∷ rest) part) one)
 
 module _ (system : Equations) (body : Statements) (v : Vector) (paths : EdgesArePaths system.edges body) (post : PostSolution system v) where
   -- the mark of a point that labelled steps reach, with a state that fits there
@@ -131,9 +136,9 @@ module _ (system : Equations) (body : Statements) (v : Vector) (paths : EdgesAre
   marked : (p : ℕ) (rest : List Item) (x : RationalState) → (mark p ∷ rest ≡ start_work body) ⊎ Since (mark p ∷ rest) x → AtMark p rest x
   marked p rest x h = ⊎_elim (λ e. at_start p rest x e) (λ s. arrived p rest x s) h
 
-  went_on : (item : Item) (rest : List Item) (x : State) (work : List Item) (y : State) → Recorded item x work y → Since (item ∷ rest) (rational x) → Since (work ++ rest) (rational y)
+  went_on : (item : Item) (rest : List Item) (x : State) (work : List Item) (y : State) → Recorded item rest x work y → Since (item ∷ rest) (rational x) → Since work (rational y)
   went_on item rest x work y r s =
-      subst (λ w. Since (w ++ rest) (rational y)) r.2
+      subst (λ w. Since w (rational y)) r.2
       (record {
         from = s.from;
         behind = s.behind;
@@ -151,27 +156,29 @@ module _ (system : Equations) (body : Statements) (v : Vector) (paths : EdgesAre
   starts_with_mark : (item : Item) (rest : List Item) → ¬ (IsMark item) → ¬ (item ∷ rest ≡ start_work body)
   starts_with_mark (mark p) rest other e = other tt
   starts_with_mark (node s n) rest other e = cc
-  starts_with_mark (turn c b l n) rest other e = cc
+  starts_with_mark (turn k c b l n) rest other e = cc
+  starts_with_mark (end k c b l n) rest other e = cc
 
-  advanced_by : (item : Item) (rest : List Item) (x : State) (work : List Item) (y : State) → ¬ (IsMark item) → Does item x work y →
-      (item ∷ rest ≡ start_work body) ⊎ Since (item ∷ rest) (rational x) → Since (work ++ rest) (rational y)
+  advanced_by : (item : Item) (rest : List Item) (x : State) (work : List Item) (y : State) → ¬ (IsMark item) → Does item rest x work y →
+      (item ∷ rest ≡ start_work body) ⊎ Since (item ∷ rest) (rational x) → Since work (rational y)
   advanced_by item rest x work y other d h =
-      ⊎_elim (λ e. absurd (starts_with_mark item rest other e)) (λ s. went_on item rest x work y (recorded item x work y other d) s) h
+      ⊎_elim (λ e. absurd (starts_with_mark item rest other e)) (λ s. went_on item rest x work y (recorded item rest x work y other d) s) h
 
-  advanced : (item : Item) (rest : List Item) (x : State) (work : List Item) (y : State) → Does item x work y → length x ≡ system.variables →
-      (item ∷ rest ≡ start_work body) ⊎ Since (item ∷ rest) (rational x) → Since (work ++ rest) (rational y)
+  advanced : (item : Item) (rest : List Item) (x : State) (work : List Item) (y : State) → Does item rest x work y → length x ≡ system.variables →
+      (item ∷ rest ≡ start_work body) ⊎ Since (item ∷ rest) (rational x) → Since work (rational y)
   advanced (mark p) rest x work y d size h =
-      subst (λ w. Since (w ++ rest) (rational y)) (sym d.0) (subst (λ z. Since rest (rational z)) (sym d.1)
+      subst (λ w. Since w (rational y)) (sym d.0) (subst (λ z. Since rest (rational z)) (sym d.1)
       (record { from = p; behind = rest; begin = rational x; last = marked p rest (rational x) h; starts = rational_size x size; actions = []; part = none; trace = refl }))
   advanced (node s n) rest x work y d size h = advanced_by (node s n) rest x work y (λ m. m) d h
-  advanced (turn c b l n) rest x work y d size h = advanced_by (turn c b l n) rest x work y (λ m. m) d h
+  advanced (turn k c b l n) rest x work y d size h = advanced_by (turn k c b l n) rest x work y (λ m. m) d h
+  advanced (end k c b l n) rest x work y d size h = advanced_by (end k c b l n) rest x work y (λ m. m) d h
 
   known_step : (a b : Configuration) → Step a b → Known a → Known b
   known_step a b step k =
       let past_first = subst (λ w. (w ≡ start_work body) ⊎ Since w (rational a.state)) step.first k.past_work in
       record {
-        size = keeps_length step.item a.state step.place b.state step.does ∙ k.size;
-        past_work = inr (subst (λ w. Since w (rational b.state)) (sym step.left) (advanced step.item step.rest a.state step.place b.state step.does k.size past_first));
+        size = keeps_length step.item step.rest a.state b.work b.state step.does ∙ k.size;
+        past_work = inr (advanced step.item step.rest a.state b.work b.state step.does k.size past_first);
       }
 
   known_all : (a : Configuration) (cs : List Configuration) → Follows a cs → Known a → (c : Configuration) → In (a ∷ cs) c → Known c

@@ -1,10 +1,13 @@
 -- The edges of a program end at its points, and their actions are over its variables.
 use Rattle.std.proofs.Common.{ℕ, ◌+◌, ◌≤◌, Bool, true, false, List, [], ◌∷◌, ◌++◌, refl, arith}
-use Rattle.std.specs.Prelude.{◌&&◌, IsTrue, nat_le, if◌then◌else◌}
+use Rattle.std.specs.Prelude.{◌&&◌, ◌||◌, IsTrue, nat_le, if◌then◌else◌}
 use Rattle.std.proofs.lemmas.Bool.{and_from, and_parts}
 use Rattle.tm_tree.specs.declared.form.Form.{Form}
-use Rattle.tm_tree.specs.Tree.{Condition, Statement, Statements, set, havoc, assume, branch, loop, label, nil, cons, leaf_count, node_count, nodes_in}
-use Rattle.tm_tree.specs.Limits.{is_condition, is_tested, is_statement, are_statements}
+use Rattle.tm_tree.specs.declared.change.Change.{Change}
+use Rattle.tm_tree.specs.declared.change.Change.TheVariants as change
+use Rattle.tm_tree.specs.Tree.{Condition, LoopKind, while_loop, for_loop, do_loop, breaks, continues, leaf_count, node_count, nodes_in}
+use Rattle.tm_tree.specs.Tree.{Statement, Statements, set, havoc, assume, branch, loop, jump, label, nil, cons}
+use Rattle.tm_tree.specs.Limits.{is_condition, is_tested, is_change, is_kind, is_statement, are_statements}
 use Rattle.tm_tree.specs.Cases.{cases_of}
 use Rattle.tm_tree.specs.PointNumbers.{splits, points_of, points_in, join_of, exit_of}
 use Rattle.tm_flow.specs.declared.edge.Action.{Action}
@@ -13,7 +16,8 @@ use Rattle.tm_flow.specs.declared.edge.Edge.{Edge}
 use Rattle.tm_flow.specs.FlowLimits.{is_action}
 use Rattle.tm_flow.specs.Constants.{have_room, has_rooms, have_rooms}
 use Rattle.tm_flow.specs.Steps.{guards}
-use Rattle.tm_flow.specs.Edges.{Way, arrived, prefixed, by_case, ways_of, ways_in}
+use Rattle.tm_flow.specs.Edges.{Way, arrived, prefixed, by_case, changed, Jumps, no_jumps, end_ways, loop_jumps, ways_of, ways_in}
+use Rattle.tm_flow.specs.Edges.{body_ways, head_ways, complete, completes}
 use Rattle.tm_flow.specs.Trails.{begun_at, kept, reached, edges_in_node, edges_in_nodes, kept_edges}
 use Rattle.tm_flow.proofs.Each.{Each, each-append, each-map, each-flat_map, each-take}
 use Rattle.tm_flow.proofs.constants.FormLimits.{IsForm, cases_forms, condition_room}
@@ -24,23 +28,26 @@ tested n c h = (and_parts (nat_le (leaf_count c) 64) (is_condition n c) h).1
 
 -- ---- room for the guards of all conditions
 mutual
-  room_of : (n : ℕ) (s : Statement) → IsTrue (is_statement n s) → IsTrue (has_rooms s)
-  room_of n (set var form line) h = refl
-  room_of n (havoc var line) h = refl
-  room_of n (assume c line) h = condition_room n c (tested n c h)
-  room_of n (branch c first second line) h =
-      let p = and_parts (is_tested n c) (are_statements n first && are_statements n second) h in
-      let q = and_parts (are_statements n first) (are_statements n second) p.1 in
-      and_from (have_room c) (have_rooms first && have_rooms second) (condition_room n c (tested n c p.0)) (and_from (have_rooms first) (have_rooms second) (room_in n first q.0) (room_in n second q.1))
-  room_of n (loop c body line) h =
-      let p = and_parts (is_tested n c) (are_statements n body) h in
-      and_from (have_room c) (have_rooms body) (condition_room n c (tested n c p.0)) (room_in n body p.1)
-  room_of n (label name line) h = refl
+  room_of : (n : ℕ) (i : Bool) (s : Statement) → IsTrue (is_statement n i s) → IsTrue (has_rooms s)
+  room_of n i (set var form line) h = refl
+  room_of n i (havoc var line) h = refl
+  room_of n i (assume c line) h = condition_room n c (tested n c h)
+  room_of n i (branch c first second line) h =
+      let p = and_parts (is_tested n c) (are_statements n i first && are_statements n i second) h in
+      let q = and_parts (are_statements n i first) (are_statements n i second) p.1 in
+      and_from (have_room c) (have_rooms first && have_rooms second) (condition_room n c (tested n c p.0))
+      (and_from (have_rooms first) (have_rooms second) (room_in n i first q.0) (room_in n i second q.1))
+  room_of n i (loop kind c body line) h =
+      let p = and_parts (is_tested n c) (is_kind n kind && are_statements n true body) h in
+      let q = and_parts (is_kind n kind) (are_statements n true body) p.1 in
+      and_from (have_room c) (have_rooms body) (condition_room n c (tested n c p.0)) (room_in n true body q.1)
+  room_of n i (jump kind line) h = refl
+  room_of n i (label name line) h = refl
 
-  pub room_in : (n : ℕ) (ss : Statements) → IsTrue (are_statements n ss) → IsTrue (have_rooms ss)
-  room_in n nil h = refl
-  room_in n (cons s rest) h =
-      let p = and_parts (is_statement n s) (are_statements n rest) h in and_from (has_rooms s) (have_rooms rest) (room_of n s p.0) (room_in n rest p.1)
+  pub room_in : (n : ℕ) (i : Bool) (ss : Statements) → IsTrue (are_statements n i ss) → IsTrue (have_rooms ss)
+  room_in n i nil h = refl
+  room_in n i (cons s rest) h =
+      let p = and_parts (is_statement n i s) (are_statements n i rest) h in and_from (has_rooms s) (have_rooms rest) (room_of n i s p.0) (room_in n i rest p.1)
 
 -- ---- at most one point for each statement
 few_if : (b : Bool) → (if b then 1 else 0) ≤ 1
@@ -53,7 +60,8 @@ mutual
   few_of (havoc var line) = omega arith
   few_of (assume c line) = few_if (splits c)
   few_of (branch c first second line) = omega (arith, few_in first, few_in second)
-  few_of (loop c body line) = omega (arith, few_in body)
+  few_of (loop kind c body line) = omega (arith, few_in body)
+  few_of (jump kind line) = omega arith
   few_of (label name line) = omega arith
 
   pub few_in : (ss : Statements) → points_in ss ≤ nodes_in ss
@@ -90,63 +98,103 @@ module _ (n : ℕ) where
   both_fit : (c : Condition) (us vs : List Way) → IsTrue (is_tested n c) → Each WayFits us → Each WayFits vs → Each WayFits (by_case true c us ++ by_case false c vs)
   both_fit c us vs h k l = each-append WayFits (by_case true c us) (by_case false c vs) (by_case_fit true c us h k) (by_case_fit false c vs h l)
 
-  mutual
-    ways_fit_of : (s : Statement) (p : ℕ) (next : List Way) → IsTrue (is_statement n s) → Each WayFits next → Each WayFits (ways_of s p next)
-    ways_fit_of (set var form line) p next h a = prefixed_fit (Assign var form ∷ []) next (h, tt) a
-    ways_fit_of (havoc var line) p next h a = prefixed_fit (Havoc var ∷ []) next (h, tt) a
-    ways_fit_of (assume c line) p next h a = by_case_fit true c _ h (if_fit (splits c) p next a)
-    ways_fit_of (branch c first second line) p next h a =
-        let i = and_parts (is_tested n c) (are_statements n first && are_statements n second) h in
-        let j = and_parts (are_statements n first) (are_statements n second) i.1 in
-        let join = arrived (join_of first second p) in
-        both_fit c (ways_in first p join) (ways_in second (p + points_in first) join) i.0
-        (ways_fit_in first p join j.0 (tt, tt)) (ways_fit_in second (p + points_in first) join j.1 (tt, tt))
-    ways_fit_of (loop c body line) p next h a = (tt, tt)
-    ways_fit_of (label name line) p next h a = (tt, tt)
+  -- the ways of jumps
+  record JumpsFit (jumps : Jumps) : Type 0 where
+    pub broken : Each WayFits jumps.broken
+    pub continued : Each WayFits jumps.continued
 
-    ways_fit_in : (ss : Statements) (p : ℕ) (next : List Way) → IsTrue (are_statements n ss) → Each WayFits next → Each WayFits (ways_in ss p next)
-    ways_fit_in nil p next h a = a
-    ways_fit_in (cons s rest) p next h a =
-        let i = and_parts (is_statement n s) (are_statements n rest) h in
-        ways_fit_of s p (ways_in rest (p + points_of s) next) i.0 (ways_fit_in rest (p + points_of s) next i.1 a)
+  mutual
+    ways_fit_of : (i : Bool) (s : Statement) (p : ℕ) (j : Jumps) (next : List Way) → IsTrue (is_statement n i s) → JumpsFit j → Each WayFits next →
+        Each WayFits (ways_of s p j next)
+    ways_fit_of i (set var form line) p j next h k a = prefixed_fit (Assign var form ∷ []) next (h, tt) a
+    ways_fit_of i (havoc var line) p j next h k a = prefixed_fit (Havoc var ∷ []) next (h, tt) a
+    ways_fit_of i (assume c line) p j next h k a = by_case_fit true c _ h (if_fit (splits c) p next a)
+    ways_fit_of i (branch c first second line) p j next h k a =
+        let t = and_parts (is_tested n c) (are_statements n i first && are_statements n i second) h in
+        let u = and_parts (are_statements n i first) (are_statements n i second) t.1 in
+        let join = arrived (join_of first second p) in
+        both_fit c (ways_in first p j join) (ways_in second (p + points_in first) j join) t.0
+        (ways_fit_in i first p j join u.0 k (tt, tt)) (ways_fit_in i second (p + points_in first) j join u.1 k (tt, tt))
+    ways_fit_of i (loop kind c body line) p j next h k a = (tt, tt)
+    ways_fit_of i (jump breaks line) p j next h k a = k.broken
+    ways_fit_of i (jump continues line) p j next h k a = k.continued
+    ways_fit_of i (label name line) p j next h k a = (tt, tt)
+
+    ways_fit_in : (i : Bool) (ss : Statements) (p : ℕ) (j : Jumps) (next : List Way) → IsTrue (are_statements n i ss) → JumpsFit j → Each WayFits next →
+        Each WayFits (ways_in ss p j next)
+    ways_fit_in i nil p j next h k a = a
+    ways_fit_in i (cons s rest) p j next h k a =
+        let t = and_parts (is_statement n i s) (are_statements n i rest) h in
+        ways_fit_of i s p j (ways_in rest (p + points_of s) j next) t.0 k (ways_fit_in i rest (p + points_of s) j next t.1 k a)
+
+  changed_fit : (g : Change) (p : ℕ) → IsTrue (is_change n g) → Each WayFits (changed g (arrived p))
+  changed_fit change.Unchanged p h = (tt, tt)
+  changed_fit (change.Set var form line) p h = ((h, tt), tt)
+  changed_fit (change.Havoc var line) p h = ((h, tt), tt)
+
+  end_fit : (kind : LoopKind) (c : Condition) (p : ℕ) (next : List Way) → IsTrue (is_tested n c) → IsTrue (is_kind n kind) → Each WayFits next →
+      Each WayFits (end_ways kind c p next)
+  end_fit while_loop c p next h g a = (tt, tt)
+  end_fit (for_loop change) c p next h g a = changed_fit change p g
+  end_fit do_loop c p next h g a = both_fit c (arrived p) next h (tt, tt) a
+
+  body_fit : (kind : LoopKind) (c : Condition) (body : Statements) (p : ℕ) (next : List Way) → IsTrue (is_tested n c) → IsTrue (is_kind n kind) →
+      IsTrue (are_statements n true body) → Each WayFits next → Each WayFits (body_ways kind c body p next)
+  body_fit kind c body p next h g b a =
+      let end = end_fit kind c p next h g a in
+      ways_fit_in true body (p + 1) (loop_jumps kind c p next) (end_ways kind c p next) b (record { broken = a; continued = end }) end
+
+  head_fit : (kind : LoopKind) (c : Condition) (body : Statements) (p : ℕ) (next : List Way) → IsTrue (is_tested n c) → IsTrue (is_kind n kind) →
+      IsTrue (are_statements n true body) → Each WayFits next → Each WayFits (head_ways kind c body p next)
+  head_fit while_loop c body p next h g b a = both_fit c (body_ways while_loop c body p next) next h (body_fit while_loop c body p next h g b a) a
+  head_fit (for_loop change) c body p next h g b a = both_fit c (body_ways (for_loop change) c body p next) next h (body_fit (for_loop change) c body p next h g b a) a
+  head_fit do_loop c body p next h g b a = body_fit do_loop c body p next h g b a
 
   reached_fit : (p : ℕ) (ways : List Way) → Each WayFits ways → Each EdgeFits (reached (begun_at p) ways)
   reached_fit p ways k =
       each-map WayFits EdgeFits (λ w. record { from = p; to = w.to; actions = kept w.actions }) (λ w a. each-take (λ b. IsTrue (is_action n b)) 257 w.actions a) ways k
 
-  if_edges_fit : (b : Bool) (p : ℕ) (next : List Way) → Each WayFits next → Each EdgeFits (if b then reached (begun_at p) next else [])
-  if_edges_fit true p next a = reached_fit p next a
-  if_edges_fit false p next a = tt
+  if_edges_fit : (b : Bool) (edges : List Edge) → Each EdgeFits edges → Each EdgeFits (if b then edges else [])
+  if_edges_fit true edges a = a
+  if_edges_fit false edges a = tt
 
   mutual
-    edges_fit_of : (s : Statement) (p : ℕ) (next : List Way) → IsTrue (is_statement n s) → Each WayFits next → Each EdgeFits (edges_in_node s p next)
-    edges_fit_of (set var form line) p next h a = tt
-    edges_fit_of (havoc var line) p next h a = tt
-    edges_fit_of (assume c line) p next h a = if_edges_fit (splits c) p next a
-    edges_fit_of (branch c first second line) p next h a =
-        let i = and_parts (is_tested n c) (are_statements n first && are_statements n second) h in
-        let j = and_parts (are_statements n first) (are_statements n second) i.1 in
-        let join = arrived (join_of first second p) in
-        each-append EdgeFits (edges_in_nodes first p join) _ (edges_fit_in first p join j.0 (tt, tt))
-        (each-append EdgeFits (edges_in_nodes second (p + points_in first) join) _
-        (edges_fit_in second (p + points_in first) join j.1 (tt, tt)) (reached_fit (join_of first second p) next a))
-    edges_fit_of (loop c body line) p next h a =
-        let i = and_parts (is_tested n c) (are_statements n body) h in
-        each-append EdgeFits (reached (begun_at p) (by_case true c (ways_in body (p + 1) (arrived p)) ++ by_case false c next)) (edges_in_nodes body (p + 1) (arrived p))
-        (reached_fit p _ (both_fit c (ways_in body (p + 1) (arrived p)) next i.0 (ways_fit_in body (p + 1) (arrived p) i.1 (tt, tt)) a))
-        (edges_fit_in body (p + 1) (arrived p) i.1 (tt, tt))
-    edges_fit_of (label name line) p next h a = reached_fit p next a
+    edges_fit_of : (i : Bool) (s : Statement) (p : ℕ) (j : Jumps) (next : List Way) → IsTrue (is_statement n i s) → JumpsFit j → Each WayFits next →
+        Each EdgeFits (edges_in_node s p j next)
+    edges_fit_of i (set var form line) p j next h k a = tt
+    edges_fit_of i (havoc var line) p j next h k a = tt
+    edges_fit_of i (assume c line) p j next h k a = if_edges_fit (splits c) (reached (begun_at p) next) (reached_fit p next a)
+    edges_fit_of i (branch c first second line) p j next h k a =
+        let t = and_parts (is_tested n c) (are_statements n i first && are_statements n i second) h in
+        let u = and_parts (are_statements n i first) (are_statements n i second) t.1 in
+        let join = join_of first second p in
+        each-append EdgeFits (edges_in_nodes first p j (arrived join)) _ (edges_fit_in i first p j (arrived join) u.0 k (tt, tt))
+        (each-append EdgeFits (edges_in_nodes second (p + points_in first) j (arrived join)) _
+        (edges_fit_in i second (p + points_in first) j (arrived join) u.1 k (tt, tt))
+        (if_edges_fit (complete first || complete second) (reached (begun_at join) next) (reached_fit join next a)))
+    edges_fit_of i (loop kind c body line) p j next h k a =
+        let t = and_parts (is_tested n c) (is_kind n kind && are_statements n true body) h in
+        let u = and_parts (is_kind n kind) (are_statements n true body) t.1 in
+        let end = end_fit kind c p next t.0 u.0 a in
+        each-append EdgeFits (reached (begun_at p) (head_ways kind c body p next)) (edges_in_nodes body (p + 1) (loop_jumps kind c p next) (end_ways kind c p next))
+        (reached_fit p (head_ways kind c body p next) (head_fit kind c body p next t.0 u.0 u.1 a))
+        (edges_fit_in true body (p + 1) (loop_jumps kind c p next) (end_ways kind c p next) u.1 (record { broken = a; continued = end }) end)
+    edges_fit_of i (jump kind line) p j next h k a = tt
+    edges_fit_of i (label name line) p j next h k a = reached_fit p next a
 
-    edges_fit_in : (ss : Statements) (p : ℕ) (next : List Way) → IsTrue (are_statements n ss) → Each WayFits next → Each EdgeFits (edges_in_nodes ss p next)
-    edges_fit_in nil p next h a = tt
-    edges_fit_in (cons s rest) p next h a =
-        let i = and_parts (is_statement n s) (are_statements n rest) h in
-        each-append EdgeFits (edges_in_node s p (ways_in rest (p + points_of s) next)) (edges_in_nodes rest (p + points_of s) next)
-        (edges_fit_of s p (ways_in rest (p + points_of s) next) i.0 (ways_fit_in rest (p + points_of s) next i.1 a))
-        (edges_fit_in rest (p + points_of s) next i.1 a)
+    edges_fit_in : (i : Bool) (ss : Statements) (p : ℕ) (j : Jumps) (next : List Way) → IsTrue (are_statements n i ss) → JumpsFit j → Each WayFits next →
+        Each EdgeFits (edges_in_nodes ss p j next)
+    edges_fit_in i nil p j next h k a = tt
+    edges_fit_in i (cons s rest) p j next h k a =
+        let t = and_parts (is_statement n i s) (are_statements n i rest) h in
+        let m = p + points_of s in
+        each-append EdgeFits (edges_in_node s p j (ways_in rest m j next)) (if completes s then edges_in_nodes rest m j next else [])
+        (edges_fit_of i s p j (ways_in rest m j next) t.0 k (ways_fit_in i rest m j next t.1 k a))
+        (if_edges_fit (completes s) (edges_in_nodes rest m j next) (edges_fit_in i rest m j next t.1 k a))
 
-  pub edges_fit : (body : Statements) → IsTrue (are_statements n body) → Each EdgeFits (kept_edges body)
+  pub edges_fit : (body : Statements) → IsTrue (are_statements n false body) → Each EdgeFits (kept_edges body)
   edges_fit body h =
       let exit = arrived (exit_of body) in
-      each-append EdgeFits (reached (begun_at 0) (ways_in body 1 exit)) (edges_in_nodes body 1 exit)
-      (reached_fit 0 (ways_in body 1 exit) (ways_fit_in body 1 exit h (tt, tt))) (edges_fit_in body 1 exit h (tt, tt))
+      let none : JumpsFit no_jumps = record { broken = tt; continued = tt } in
+      each-append EdgeFits (reached (begun_at 0) (ways_in body 1 no_jumps exit)) (edges_in_nodes body 1 no_jumps exit)
+      (reached_fit 0 (ways_in body 1 no_jumps exit) (ways_fit_in false body 1 no_jumps exit h none (tt, tt))) (edges_fit_in false body 1 no_jumps exit h none (tt, tt))

@@ -5,7 +5,7 @@ use Rattle.std.specs.List.{list_all, position_from}
 use Rattle.std.proofs.lemmas.Bool.{and_from, and_parts, leb-true, le-leb, lt-ltb, ltb-false}
 use Rattle.std.proofs.lemmas.List.{length-map, length-take, take_all}
 use Rattle.std.proofs.lemmas.Iterator.Adapters.{position_from-zero}
-use Rattle.tm_tree.specs.Tree.{Statement, Statements, set, havoc, assume, branch, loop, label, nil, cons, nodes_in}
+use Rattle.tm_tree.specs.Tree.{Statement, Statements, set, havoc, assume, branch, loop, jump, label, nil, cons, nodes_in}
 use Rattle.tm_tree.specs.Limits.{are_statements, is_program}
 use Rattle.tm_tree.specs.PointNumbers.{splits, point_count}
 use Rattle.tm_flow.specs.declared.edge.Edge.{Edge}
@@ -36,13 +36,13 @@ pub record Limits (n : ℕ) (body : Statements) : Type 0 where
   pub some_name : 1 ≤ n
   pub names : n ≤ MOST_VARIABLES
   pub nodes : nodes_in body ≤ 512
-  pub statements : IsTrue (are_statements n body)
+  pub statements : IsTrue (are_statements n false body)
 
 pub limits : (n : ℕ) (body : Statements) → IsTrue (is_program n body) → Limits n body
 limits n body h =
-    let p = and_parts (nat_le 1 n) (nat_le n MOST_VARIABLES && (nat_le (nodes_in body) 512 && are_statements n body)) h in
-    let q = and_parts (nat_le n MOST_VARIABLES) (nat_le (nodes_in body) 512 && are_statements n body) p.1 in
-    let r = and_parts (nat_le (nodes_in body) 512) (are_statements n body) q.1 in
+    let p = and_parts (nat_le 1 n) (nat_le n MOST_VARIABLES && (nat_le (nodes_in body) 512 && are_statements n false body)) h in
+    let q = and_parts (nat_le n MOST_VARIABLES) (nat_le (nodes_in body) 512 && are_statements n false body) p.1 in
+    let r = and_parts (nat_le (nodes_in body) 512) (are_statements n false body) q.1 in
     record { some_name = leb-true 1 n p.0; names = leb-true n MOST_VARIABLES q.0; nodes = leb-true (nodes_in body) 512 r.0; statements = r.1 }
 
 pub few_points : (n : ℕ) (body : Statements) → IsTrue (is_program n body) → point_count body ≤ 514
@@ -139,7 +139,8 @@ mutual
   inner_of (branch c first second line) =
       each-append IsInner (places_in first) (places_in second ++ one_point Join line) (inner_in first)
       (each-append IsInner (places_in second) (one_point Join line) (inner_in second) ((refl, refl), tt))
-  inner_of (loop c body line) = ((refl, refl), inner_in body)
+  inner_of (loop kind c body line) = ((refl, refl), inner_in body)
+  inner_of (jump kind line) = tt
   inner_of (label name line) = ((refl, refl), tt)
 
   inner_in : (ss : Statements) → Each IsInner (places_in ss)
@@ -174,7 +175,7 @@ edge_within n m e r h k =
     (and_from (nat_lt e.to m) _ (lt-ltb e.to m r.to)
     (and_from (nat_le (length e.actions) 256) _ (le-leb (length e.actions) 256 k) (each_passes (is_action n) e.actions h))))
 
-edges_within : (n : ℕ) (body : Statements) → IsTrue (are_statements n body) → position is_long (kept_edges body) ≡ None →
+edges_within : (n : ℕ) (body : Statements) → IsTrue (are_statements n false body) → position is_long (kept_edges body) ≡ None →
     IsTrue (list_all (is_edge n (point_count body)) (kept_edges body))
 edges_within n body h k =
     let m = point_count body in

@@ -2,7 +2,7 @@
 use Rattle.std.proofs.Common.{◌≡◌, ◌∙◌, ℕ, ◌+◌, Bool, true, false, List, [], ◌∷◌, ◌++◌, map, refl, sym, ap, ap₂, append_assoc}
 use Rattle.std.specs.Prelude.{if◌then◌else◌}
 use Rattle.std.proofs.lemmas.List.{map-append}
-use Rattle.tm_tree.specs.Tree.{Statement, Statements, set, havoc, assume, branch, loop, label, nil, cons}
+use Rattle.tm_tree.specs.Tree.{Statement, Statements, set, havoc, assume, branch, loop, jump, label, nil, cons}
 use Rattle.tm_tree.specs.PointNumbers.{splits, points_of, points_in, join_of}
 use Rattle.tm_flow.specs.declared.point.Place.TheVariants.{Entry, Loop, Join, Assume, Exit}
 use Rattle.tm_flow.specs.declared.point.Point.{Point}
@@ -28,7 +28,8 @@ mutual
       let one : List Made = made (join_of first second n) Join line ∷ [] in
       plain-append (made_in first n) (made_in second (n + points_in first) ++ one) _ _ (plain_in first n)
       (plain-append (made_in second (n + points_in first)) one _ _ (plain_in second (n + points_in first)) refl)
-  plain_by (loop c body line) n = ap (λ r. one_point Loop line ++ r) (plain_in body (n + 1))
+  plain_by (loop kind c body line) n = ap (λ r. one_point Loop line ++ r) (plain_in body (n + 1))
+  plain_by (jump kind line) n = refl
   plain_by (label name line) n = refl
 
   pub plain_in : (ss : Statements) (n : ℕ) → plain (made_in ss n) ≡ places_in ss

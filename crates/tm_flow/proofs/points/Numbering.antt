@@ -4,7 +4,7 @@ use Rattle.std.specs.Prelude.{if◌then◌else◌}
 use Rattle.std.specs.List.{range_with_len}
 use Rattle.std.proofs.lemmas.List.{map-append, length-map}
 use Rattle.std.proofs.lemmas.List.FromFn.{length-range_with_len}
-use Rattle.tm_tree.specs.Tree.{Statement, Statements, set, havoc, assume, branch, loop, label, nil, cons}
+use Rattle.tm_tree.specs.Tree.{Statement, Statements, set, havoc, assume, branch, loop, jump, label, nil, cons}
 use Rattle.tm_tree.specs.PointNumbers.{splits, points_of, points_in}
 use Rattle.tm_flow.specs.declared.point.Place.TheVariants.{Assume, Exit}
 use Rattle.tm_flow.specs.declared.point.Point.{Point}
@@ -42,9 +42,10 @@ mutual
       let q = points_in second in
       let e : p + (q + 1) ≡ p + q + 1 = omega arith in
       joined (made_in first n) _ n p (q + 1) (numbers_in first n) (joined (made_in second (n + p)) _ (n + p) q 1 (numbers_in second (n + p)) refl) ∙ ap (range_with_len n) e
-  numbers_by (loop c body line) n =
+  numbers_by (loop kind c body line) n =
       let e : suc (points_in body) ≡ 1 + points_in body = omega arith in
       ap (λ r. n ∷ r) (numbers_in body (n + 1)) ∙ ap (range_with_len n) e
+  numbers_by (jump kind line) n = refl
   numbers_by (label name line) n = refl
 
   numbers_in : (ss : Statements) (n : ℕ) → numbers (made_in ss n) ≡ range_with_len n (points_in ss)

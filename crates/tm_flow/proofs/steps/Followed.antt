@@ -2,7 +2,7 @@
 use Rattle.std.specs.Prelude.{ℕ, zero, suc, ◌==◌, List, [], ◌∷◌, ◌++◌, map, flat_map, if◌then◌else◌}
 use Rattle.std.specs.List.{list_any}
 use Rattle.tm_tree.specs.Tree.{Statements}
-use Rattle.tm_tree.specs.Runs.{Item, node, mark, turn, start_work}
+use Rattle.tm_tree.specs.Runs.{Item, node, mark, turn, end, start_work}
 use Rattle.tm_flow.specs.declared.edge.Action.{Action}
 use Rattle.tm_flow.specs.declared.edge.Edge.{Edge}
 use Rattle.tm_flow.specs.Steps.{steps_of}
@@ -21,8 +21,9 @@ abbrev pub arrivals : ℕ → List Item → List Arrival
 arrivals zero work = []
 arrivals (suc steps) [] = []
 arrivals (suc steps) (mark p ∷ rest) = record { actions = []; to = p; behind = rest } ∷ []
-arrivals (suc steps) (node s n ∷ rest) = flat_map (λ l. map (done_before l.actions) (arrivals steps (l.work ++ rest))) (steps_of (node s n))
-arrivals (suc steps) (turn c body line n ∷ rest) = flat_map (λ l. map (done_before l.actions) (arrivals steps (l.work ++ rest))) (steps_of (turn c body line n))
+arrivals (suc steps) (node s n ∷ rest) = flat_map (λ l. map (done_before l.actions) (arrivals steps l.work)) (steps_of (node s n) rest)
+arrivals (suc steps) (turn k c body line n ∷ rest) = flat_map (λ l. map (done_before l.actions) (arrivals steps l.work)) (steps_of (turn k c body line n) rest)
+arrivals (suc steps) (end k c body line n ∷ rest) = flat_map (λ l. map (done_before l.actions) (arrivals steps l.work)) (steps_of (end k c body line n) rest)
 
 -- the arrivals at points, each point explored once, as they are found
 abbrev pub explored : ℕ → List Arrival → List ℕ → List Edge

@@ -1,8 +1,8 @@
 -- Edges that are begun, and more actions after them.
-use Rattle.std.proofs.Common.{◌≡◌, ◌∙◌, ⊎_elim, ℕ, ◌+◌, ◌≤◌, ◌<◌, Bool, true, false, List, [], ◌∷◌, ◌++◌, length, get_or, take, refl, sym, ap, ap₂, arith}
+use Rattle.std.proofs.Common.{◌≡◌, ◌∙◌, ⊎_elim, ℕ, zero, suc, ◌+◌, ◌≤◌, ◌<◌, Bool, true, false, List, [], ◌∷◌, ◌++◌, length, get_or, take, refl, sym, ap, ap₂, arith}
 use Rattle.std.proofs.Common.{append_assoc, length-append}
 use Rattle.std.specs.Prelude.{flat_map}
-use Rattle.std.proofs.lemmas.List.{map-append, append-nil, take_more, take_all, take-append-le, length-take}
+use Rattle.std.proofs.lemmas.List.{map-append, append-nil, take_more, take_all, take-append-le, take-take, length-take}
 use Rattle.tm_tree.specs.declared.form.Form.{Form}
 use Rattle.tm_tree.specs.Tree.{Condition}
 use Rattle.tm_tree.specs.Cases.{cases_of}
@@ -28,6 +28,18 @@ kept-append xs ys =
     take-append-le 257 (kept xs) ys m ∙ take_all 257 (kept xs) n ∙ sym (take-append-le 257 xs ys h))
     (λ (h : length xs < 257). ap (λ z. kept (z ++ ys)) (kept_all xs (omega arith)))
     (either_way 257 (length xs))
+
+take-append-take : (k m : ℕ) (xs ys : List Action) → k ≤ m → take k (xs ++ take m ys) ≡ take k (xs ++ ys)
+take-append-take k m [] ys h = take-take k m ys h
+take-append-take zero m (x ∷ xs) ys h = refl
+take-append-take (suc k) m (x ∷ xs) ys h = ap (λ r. x ∷ r) (take-append-take k m xs ys (omega arith))
+
+-- also what is cut off of later actions
+pub append-kept : (xs ys : List Action) → kept (xs ++ kept ys) ≡ kept (xs ++ ys)
+append-kept xs ys = take-append-take 257 257 xs ys (omega arith)
+
+pub kept_twice : (xs : List Action) → kept (kept xs) ≡ kept xs
+kept_twice xs = take-take 257 257 xs (omega arith)
 
 abbrev begun : ℕ → List Action → Begun
 begun p actions = record { from = p; actions = actions }
@@ -75,6 +87,16 @@ pub reached-both : (b : Begun) (c : Condition) (us vs : List Way) →
 reached-both b c us vs =
     reached-append b (by_case true c us) (by_case false c vs) ∙ ap₂ (λ u v. u ++ v) (reached-by_case b true c us) (reached-by_case b false c vs)
 
+-- the edges of a choice: those by the cases for true, and then those by the cases for false
+pub chosen : (before middle after : List Edge) (b t : Begun) (c : Condition) (held failed : List (List Form)) (us vs xs ys : List Way) → t ≡ b →
+    held ≡ cases_of true c → failed ≡ cases_of false c → xs ≡ us → ys ≡ vs → middle ≡ before ++ split t held xs → after ≡ middle ++ split t failed ys →
+    after ≡ before ++ reached b (by_case true c us ++ by_case false c vs)
+chosen before middle after b t c held failed us vs xs ys p f g u v h i =
+    let one : split t held xs ≡ split b (cases_of true c) us = rw (p, f, u) refl in
+    let other : split t failed ys ≡ split b (cases_of false c) vs = rw (p, g, v) refl in
+    i ∙ ap₂ (λ z w. z ++ w) (h ∙ ap (λ z. before ++ z) one) other ∙ append_assoc before (split b (cases_of true c) us) (split b (cases_of false c) vs)
+    ∙ ap (λ z. before ++ z) (sym (reached-both b c us vs))
+
 -- one guard more
 pub guards_more : (forms : List Form) (i : ℕ) (x : Form) → i < length forms → x ≡ get_or forms i x → guards (take i forms) ++ Guard x ∷ [] ≡ guards (take (i + 1) forms)
 guards_more forms i x l e =
@@ -88,3 +110,11 @@ followed_more b before after forms i x y l e f g h =
     let same : List Action → Begun = λ a. followed b a in
     g ∙ ap (λ t. followed t one) h ∙ followed_on b (guards (take i forms)) one
     ∙ ap (λ z. same (guards (take i forms) ++ Guard z ∷ [])) f ∙ ap same (guards_more forms i x l e)
+
+-- one action more
+pub followed_further : (b before after : Begun) (actions : List Action) (i : ℕ) (x y : Action) → i < length actions → x ≡ get_or actions i x → y ≡ x →
+    after ≡ followed before (y ∷ []) → before ≡ followed b (take i actions) → after ≡ followed b (take (i + 1) actions)
+followed_further b before after actions i x y l e f g h =
+    let one : List Action = y ∷ [] in
+    g ∙ ap (λ t. followed t one) h ∙ followed_on b (take i actions) one
+    ∙ ap (λ z. followed b (take i actions ++ z ∷ [])) (f ∙ e) ∙ ap (followed b) (sym (take_more actions i x l))

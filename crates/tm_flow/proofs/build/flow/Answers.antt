@@ -1,4 +1,4 @@
-use Rattle.std.proofs.Common.{◌∙◌, inr, sym, ap, arith, length}
+use Rattle.std.proofs.Common.{◌∙◌, inr, false, sym, ap, arith, length}
 use Rattle.std.specs.Prelude.{position}
 use Rattle.tm_flow.specs.Faults.{is_long}
 use Rattle.tm_flow.proofs.build.EdgeLimits.{room_in}
@@ -13,7 +13,7 @@ counted_fault-requires c =
 pub edges_of-requires-clause-room : goal.edges_of-requires-clause-room
 edges_of-requires-clause-room c =
     let p = c.args.program.now in
-    room_in (length p.names) p.body (limits (length p.names) p.body p.within_limits).statements
+    room_in (length p.names) false p.body (limits (length p.names) p.body p.within_limits).statements
 
 pub long_edge-requires : goal.long_edge-requires
 long_edge-requires c =

@@ -1,7 +1,7 @@
 use Rattle.std.proofs.Common.{◌+◌, ◌*◌}
 use Rattle.tm_tree.specs.Tree.{node_count, nodes_in}
 use Rattle.tm_tree.specs.View.{statement_of, statements_of}
-use Rattle.tm_flow.proofs.count.+edge_counts.Given as goal
+use Rattle.tm_flow.proofs.edge_count.+edge_counts.Given as goal
 
 abbrev pub decreases-edge_count_in : goal.decreases-edge_count_in
 decreases-edge_count_in l = 2 * nodes_in (statements_of l.stmts.now) + 1

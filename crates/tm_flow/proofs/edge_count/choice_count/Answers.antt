@@ -2,10 +2,10 @@ use Rattle.std.proofs.Common.{true, false, ◌*◌}
 use Rattle.tm_tree.specs.View.{condition_of}
 use Rattle.tm_flow.specs.Counts.{case_count}
 use Rattle.tm_flow.proofs.count.Counting.{sum_counted, product_counted}
-use Rattle.tm_flow.proofs.count.choice_count.Goals as goal
+use Rattle.tm_flow.proofs.edge_count.choice_count.Goals as goal
 
-pub returns : goal.returns
-returns c = λ m n p q.
+pub returns-clause-count : goal.returns-clause-count
+returns-clause-count c = λ m n p q.
     let d = condition_of c.args.cond.now in
     sum_counted _ _ (case_count true d * m) (case_count false d * n) _
     (product_counted _ _ (case_count true d) m _ c.case_count.ensures p c.product.ensures)

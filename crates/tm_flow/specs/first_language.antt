@@ -1,0 +1,5 @@
+pub mod Trees
+pub mod Points
+pub mod Edges
+pub mod Faults
+pub mod Law
