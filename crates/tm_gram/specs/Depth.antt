@@ -1,11 +1,12 @@
 -- Which tokens open a construct, and how many are open there.
 use Rattle.std.specs.Prelude.{◌++◌, true, false, nat_lt, ℕ, suc, List, [], ◌∷◌, Option, Some, None}
-use Rattle.tm_gram.specs.Grammar.{Kind, infix_sign, bang, left_paren, left_brace, if_word, while_word, Token, token, Expr, number, variable, free, grouped}
+use Rattle.tm_gram.specs.Grammar.{Kind, infix_sign, bang, left_paren, left_brace, if_word, while_word, do_word, for_word, Token, token, Expr, number, variable, free, grouped}
 use Rattle.tm_gram.specs.Grammar.{prefixed, joined, Declarator, bare, given, Declarators, declares, declares_more, Core, empty, block, if_alone, if_else}
-use Rattle.tm_gram.specs.Grammar.{repeat, assumed, set, step_after, step_before, Sub, labelled, plain, Items, no_items, label, declaration, item, Parameters}
+use Rattle.tm_gram.specs.Grammar.{Update, set, step_after, step_before, ForFirst, no_first, declared_first, updated_first, ForTest, no_test, given_test}
+use Rattle.tm_gram.specs.Grammar.{ForLast, no_last, updated_last, repeat, repeat_after, repeat_for, jumps, assumed, updates, Sub, labelled, plain, Items, no_items, label, declaration, item, Parameters}
 use Rattle.tm_gram.specs.Grammar.{nothing, void_at, Return, no_return, returns, returns_minus, Program, program}
-use Rattle.tm_gram.specs.Machine.{Goal, operand, more, statement, after_name, maybe_else, condition, declarator, declared, some_name, parameters, returned}
-use Rattle.tm_gram.specs.Machine.{some_number, only, step, entry, takes, skips, stops}
+use Rattle.tm_gram.specs.Machine.{Goal, operand, more, statement, after_name, maybe_else, condition, do_end, header, declarator, declared, some_name, parameters, returned}
+use Rattle.tm_gram.specs.Machine.{header_first, header_test, header_last, updating, some_number, only, step, entry, takes, skips, stops}
 
 -- For each token of the spelling: whether it opens a construct, and how many are open at it.
 abbrev pub opens_expr : ℕ → Expr → List (Option ℕ)
@@ -24,6 +25,24 @@ abbrev pub opens_declarators : ℕ → Declarators → List (Option ℕ)
 opens_declarators d (declares x a) = opens_declarator d x ++ None ∷ []
 opens_declarators d (declares_more x a xs) = opens_declarator d x ++ None ∷ opens_declarators d xs
 
+abbrev pub opens_update : ℕ → Update → List (Option ℕ)
+opens_update d (set x a g b e) = None ∷ None ∷ opens_expr d e
+opens_update d (step_after x a g b) = None ∷ None ∷ []
+opens_update d (step_before g a x b) = None ∷ None ∷ []
+
+abbrev pub opens_first : ℕ → ForFirst → List (Option ℕ)
+opens_first d (no_first a) = None ∷ []
+opens_first d (declared_first a xs) = None ∷ opens_declarators d xs
+opens_first d (updated_first u a) = opens_update d u ++ None ∷ []
+
+abbrev pub opens_test : ℕ → ForTest → List (Option ℕ)
+opens_test d (no_test a) = None ∷ []
+opens_test d (given_test e a) = opens_expr d e ++ None ∷ []
+
+abbrev pub opens_last : ℕ → ForLast → List (Option ℕ)
+opens_last d (no_last a) = None ∷ []
+opens_last d (updated_last u a) = opens_update d u ++ None ∷ []
+
 abbrev mutual
   pub opens_core : ℕ → Core → List (Option ℕ)
   opens_core d (empty a) = None ∷ []
@@ -31,10 +50,12 @@ abbrev mutual
   opens_core d (if_alone a b e c s) = Some d ∷ None ∷ (opens_expr (suc d) e ++ None ∷ opens_sub (suc d) s)
   opens_core d (if_else a b e c s i t) = Some d ∷ None ∷ (opens_expr (suc d) e ++ None ∷ (opens_sub (suc d) s ++ None ∷ opens_sub (suc d) t))
   opens_core d (repeat a b e c s) = Some d ∷ None ∷ (opens_expr (suc d) e ++ None ∷ opens_sub (suc d) s)
+  opens_core d (repeat_after a s b c e i j) = Some d ∷ (opens_sub (suc d) s ++ None ∷ None ∷ (opens_expr (suc d) e ++ None ∷ None ∷ []))
+  opens_core d (repeat_for a b f t l s) =
+      Some d ∷ None ∷ (opens_first (suc d) f ++ (opens_test (suc d) t ++ (opens_last (suc d) l ++ opens_sub (suc d) s)))
+  opens_core d (jumps j a b) = None ∷ None ∷ []
   opens_core d (assumed a b e c i) = None ∷ None ∷ (opens_expr d e ++ None ∷ None ∷ [])
-  opens_core d (set x a g b e c) = None ∷ None ∷ (opens_expr d e ++ None ∷ [])
-  opens_core d (step_after x a g b c) = None ∷ None ∷ None ∷ []
-  opens_core d (step_before g a x b c) = None ∷ None ∷ None ∷ []
+  opens_core d (updates u c) = opens_update d u ++ None ∷ []
 
   pub opens_sub : ℕ → Sub → List (Option ℕ)
   opens_sub d (labelled x a b s) = None ∷ None ∷ opens_sub d s
@@ -69,6 +90,8 @@ abbrev pub opened_core : ℕ → Kind → Option ℕ
 opened_core d left_brace = Some d
 opened_core d if_word = Some d
 opened_core d while_word = Some d
+opened_core d do_word = Some d
+opened_core d for_word = Some d
 opened_core d _ = None
 
 abbrev pub opened_by : Goal → Kind → Option ℕ
@@ -78,6 +101,12 @@ opened_by (statement p d) k = opened_core d k
 opened_by (after_name p d) k = None
 opened_by (maybe_else d) k = None
 opened_by (condition d) k = None
+opened_by (do_end d) k = None
+opened_by (header d) k = None
+opened_by (header_first d) k = None
+opened_by (header_test d) k = opened_operand d k
+opened_by (header_last d) k = None
+opened_by (updating e d) k = None
 opened_by (declarator d) k = None
 opened_by (declared d) k = None
 opened_by some_name k = None

@@ -36,6 +36,11 @@ pub data Direction : Type 0 where
   up : Direction
   down : Direction
 
+-- `break` and `continue`
+pub data Jump : Type 0 where
+  breaks : Jump
+  continues : Jump
+
 -- What a token is. The words that stand for one thing are one kind; `other_word` is a reserved word that stands nowhere.
 pub data Kind : Type 0 where
   a_name : List ℕ → Kind
@@ -57,6 +62,9 @@ pub data Kind : Type 0 where
   if_word : Kind
   else_word : Kind
   while_word : Kind
+  do_word : Kind
+  for_word : Kind
+  jump_word : Jump → Kind
   return_word : Kind
   assume_word : Kind
   nondet_word : Kind
@@ -141,6 +149,63 @@ abbrev pub GoodDeclarators : Declarators → Type 0
 GoodDeclarators (declares x a) = GoodDeclarator x
 GoodDeclarators (declares_more x a xs) = GoodDeclarator x × GoodDeclarators xs
 
+-- an assignment, or a step of a variable with the sign behind it or before it
+pub data Update : Type 0 where
+  set : List ℕ → ℕ → Change → ℕ → Expr → Update
+  step_after : List ℕ → ℕ → Direction → ℕ → Update
+  step_before : Direction → ℕ → List ℕ → ℕ → Update
+
+-- the head of a `for`: its first part with the `;`, its condition with the `;`, its change with the `)`
+pub data ForFirst : Type 0 where
+  no_first : ℕ → ForFirst
+  declared_first : ℕ → Declarators → ForFirst
+  updated_first : Update → ℕ → ForFirst
+
+pub data ForTest : Type 0 where
+  no_test : ℕ → ForTest
+  given_test : Expr → ℕ → ForTest
+
+pub data ForLast : Type 0 where
+  no_last : ℕ → ForLast
+  updated_last : Update → ℕ → ForLast
+
+abbrev pub spell_update : Update → List Token
+spell_update (set x a g b e) = token (a_name x) a ∷ token (change_sign g) b ∷ spell_expr e
+spell_update (step_after x a g b) = token (a_name x) a ∷ token (step_sign g) b ∷ []
+spell_update (step_before g a x b) = token (step_sign g) a ∷ token (a_name x) b ∷ []
+
+abbrev pub spell_first : ForFirst → List Token
+spell_first (no_first a) = token semicolon a ∷ []
+spell_first (declared_first a xs) = token int_word a ∷ spell_declarators xs
+spell_first (updated_first u a) = spell_update u ++ token semicolon a ∷ []
+
+abbrev pub spell_test : ForTest → List Token
+spell_test (no_test a) = token semicolon a ∷ []
+spell_test (given_test e a) = spell_expr e ++ token semicolon a ∷ []
+
+abbrev pub spell_last : ForLast → List Token
+spell_last (no_last a) = token right_paren a ∷ []
+spell_last (updated_last u a) = spell_update u ++ token right_paren a ∷ []
+
+abbrev pub GoodUpdate : Update → Type 0
+GoodUpdate (set x a g b e) = Groups 0 e
+GoodUpdate (step_after x a g b) = Unit {0}
+GoodUpdate (step_before g a x b) = Unit {0}
+
+abbrev pub GoodFirst : ForFirst → Type 0
+GoodFirst (no_first a) = Unit {0}
+GoodFirst (declared_first a xs) = GoodDeclarators xs
+GoodFirst (updated_first u a) = GoodUpdate u
+
+abbrev pub GoodTest : ForTest → Type 0
+GoodTest (no_test a) = Unit {0}
+GoodTest (given_test e a) = Groups 0 e
+
+abbrev pub GoodLast : ForLast → Type 0
+GoodLast (no_last a) = Unit {0}
+GoodLast (updated_last u a) = GoodUpdate u
+
+-- Statements: `repeat` is a `while`, `repeat_after` a `do`.
 mutual
   pub data Core : Type 0 where
     empty : ℕ → Core
@@ -148,10 +213,11 @@ mutual
     if_alone : ℕ → ℕ → Expr → ℕ → Sub → Core
     if_else : ℕ → ℕ → Expr → ℕ → Sub → ℕ → Sub → Core
     repeat : ℕ → ℕ → Expr → ℕ → Sub → Core
+    repeat_after : ℕ → Sub → ℕ → ℕ → Expr → ℕ → ℕ → Core
+    repeat_for : ℕ → ℕ → ForFirst → ForTest → ForLast → Sub → Core
+    jumps : Jump → ℕ → ℕ → Core
     assumed : ℕ → ℕ → Expr → ℕ → ℕ → Core
-    set : List ℕ → ℕ → Change → ℕ → Expr → ℕ → Core
-    step_after : List ℕ → ℕ → Direction → ℕ → ℕ → Core
-    step_before : Direction → ℕ → List ℕ → ℕ → ℕ → Core
+    updates : Update → ℕ → Core
 
   pub data Sub : Type 0 where
     labelled : List ℕ → ℕ → ℕ → Sub → Sub
@@ -171,10 +237,12 @@ abbrev mutual
   spell_core (if_else a b e c s d t) =
       token if_word a ∷ token left_paren b ∷ (spell_expr e ++ token right_paren c ∷ (spell_sub s ++ token else_word d ∷ spell_sub t))
   spell_core (repeat a b e c s) = token while_word a ∷ token left_paren b ∷ (spell_expr e ++ token right_paren c ∷ spell_sub s)
+  spell_core (repeat_after a s b c e d i) =
+      token do_word a ∷ (spell_sub s ++ token while_word b ∷ token left_paren c ∷ (spell_expr e ++ token right_paren d ∷ token semicolon i ∷ []))
+  spell_core (repeat_for a b f t l s) = token for_word a ∷ token left_paren b ∷ (spell_first f ++ (spell_test t ++ (spell_last l ++ spell_sub s)))
+  spell_core (jumps j a b) = token (jump_word j) a ∷ token semicolon b ∷ []
   spell_core (assumed a b e c d) = token assume_word a ∷ token left_paren b ∷ (spell_expr e ++ token right_paren c ∷ token semicolon d ∷ [])
-  spell_core (set x a g b e c) = token (a_name x) a ∷ token (change_sign g) b ∷ (spell_expr e ++ token semicolon c ∷ [])
-  spell_core (step_after x a g b c) = token (a_name x) a ∷ token (step_sign g) b ∷ token semicolon c ∷ []
-  spell_core (step_before g a x b c) = token (step_sign g) a ∷ token (a_name x) b ∷ token semicolon c ∷ []
+  spell_core (updates u c) = spell_update u ++ token semicolon c ∷ []
 
   pub spell_sub : Sub → List Token
   spell_sub (labelled x a b s) = token (a_name x) a ∷ token colon b ∷ spell_sub s
@@ -198,10 +266,11 @@ abbrev mutual
   ending_core (if_alone a b e c s) = waiting
   ending_core (if_else a b e c s d t) = ending_sub t
   ending_core (repeat a b e c s) = ending_sub s
+  ending_core (repeat_after a s b c e d i) = shut
+  ending_core (repeat_for a b f t l s) = ending_sub s
+  ending_core (jumps j a b) = shut
   ending_core (assumed a b e c d) = shut
-  ending_core (set x a g b e c) = shut
-  ending_core (step_after x a g b c) = shut
-  ending_core (step_before g a x b c) = shut
+  ending_core (updates u c) = shut
 
   pub ending_sub : Sub → Ending
   ending_sub (labelled x a b s) = ending_sub s
@@ -215,10 +284,11 @@ abbrev mutual
   GoodCore (if_alone a b e c s) = Groups 0 e × GoodSub s
   GoodCore (if_else a b e c s d t) = Groups 0 e × GoodSub s × (ending_sub s ≡ shut) × GoodSub t
   GoodCore (repeat a b e c s) = Groups 0 e × GoodSub s
+  GoodCore (repeat_after a s b c e d i) = GoodSub s × Groups 0 e
+  GoodCore (repeat_for a b f t l s) = GoodFirst f × GoodTest t × GoodLast l × GoodSub s
+  GoodCore (jumps j a b) = Unit {0}
   GoodCore (assumed a b e c d) = Groups 0 e
-  GoodCore (set x a g b e c) = Groups 0 e
-  GoodCore (step_after x a g b c) = Unit {0}
-  GoodCore (step_before g a x b c) = Unit {0}
+  GoodCore (updates u c) = GoodUpdate u
 
   pub GoodSub : Sub → Type 0
   GoodSub (labelled x a b s) = GoodSub s

@@ -2,7 +2,7 @@
 use Rattle.std.specs.Prelude.{◌++◌, ℕ, suc, List, [], ◌∷◌, Option, Some, None}
 use Rattle.tm_gram.specs.Grammar.{Op, plus_op, minus_op, replaces, Kind, a_name, a_number, infix_sign, bang, left_paren, right_paren, left_brace, right_brace}
 use Rattle.tm_gram.specs.Grammar.{comma, semicolon, colon, change_sign, step_sign, int_word, main_word, void_word, if_word, else_word, while_word}
-use Rattle.tm_gram.specs.Grammar.{return_word, assume_word, nondet_word, the_end, Token, token}
+use Rattle.tm_gram.specs.Grammar.{do_word, for_word, jump_word, return_word, assume_word, nondet_word, the_end, Token, token}
 
 -- what has to stand behind an expression
 pub data Ender : Type 0 where
@@ -11,7 +11,7 @@ pub data Ender : Type 0 where
   -- `,` and a further declarator, or `;`
   until_declared : Ender
 
--- where a statement stands: under an `if`, an `else`, a `while` or a label before it; in a block; in `main`
+-- where a statement stands: under an `if`, an `else`, a loop or a label before it; in a block; in `main`
 pub data Place : Type 0 where
   in_sub : Place
   in_block : Place
@@ -38,6 +38,12 @@ mark_kind main_name = main_word
 mark_kind int_type = int_word
 mark_kind text_end = the_end
 
+-- the token that ends an expression with nothing more behind it
+abbrev pub ender_mark : Ender → Mark
+ender_mark until_paren = closing
+ender_mark until_semicolon = statement_end
+ender_mark until_declared = statement_end
+
 -- What has to come. Each number is how many constructs are open there; that of `maybe_else` counts its `if`.
 pub data Goal : Type 0 where
   operand : ℕ → Goal
@@ -46,6 +52,14 @@ pub data Goal : Type 0 where
   after_name : Place → ℕ → Goal
   maybe_else : ℕ → Goal
   condition : ℕ → Goal
+  -- the end of a `do`; the head of a `for`, and its parts
+  do_end : ℕ → Goal
+  header : ℕ → Goal
+  header_first : ℕ → Goal
+  header_test : ℕ → Goal
+  header_last : ℕ → Goal
+  -- the sign behind the name of an assignment or a step
+  updating : Ender → ℕ → Goal
   declarator : ℕ → Goal
   declared : ℕ → Goal
   some_name : Goal
@@ -113,6 +127,9 @@ statement_entry p d int_word = declaration_entry p d
 statement_entry p d return_word = return_entry p
 statement_entry p d if_word = takes (condition (suc d) ∷ statement in_sub (suc d) ∷ maybe_else (suc d) ∷ next p d)
 statement_entry p d while_word = takes (condition (suc d) ∷ statement in_sub (suc d) ∷ next p d)
+statement_entry p d do_word = takes (statement in_sub (suc d) ∷ do_end (suc d) ∷ next p d)
+statement_entry p d for_word = takes (header (suc d) ∷ statement in_sub (suc d) ∷ next p d)
+statement_entry p d (jump_word j) = takes (only statement_end ∷ next p d)
 statement_entry p d assume_word = takes (condition d ∷ only statement_end ∷ next p d)
 statement_entry p d (step_sign g) = takes (some_name ∷ only statement_end ∷ next p d)
 statement_entry p d _ = stops
@@ -123,11 +140,14 @@ label_entry in_sub d = takes (statement in_sub d ∷ [])
 label_entry in_block d = takes []
 label_entry in_main d = takes []
 
+abbrev pub updating_entry : Ender → ℕ → Kind → Entry
+updating_entry e d (change_sign g) = takes (operand d ∷ more e d ∷ [])
+updating_entry e d (step_sign g) = takes (only (ender_mark e) ∷ [])
+updating_entry e d _ = stops
+
 abbrev pub name_entry : Place → ℕ → Kind → Entry
 name_entry p d colon = label_entry p d
-name_entry p d (change_sign g) = takes (operand d ∷ more until_semicolon d ∷ [])
-name_entry p d (step_sign g) = takes (only statement_end ∷ [])
-name_entry p d _ = stops
+name_entry p d k = updating_entry until_semicolon d k
 
 abbrev pub else_entry : ℕ → Kind → Entry
 else_entry d else_word = takes (statement in_sub d ∷ [])
@@ -136,6 +156,39 @@ else_entry d _ = skips
 abbrev pub condition_entry : ℕ → Kind → Entry
 condition_entry d left_paren = takes (operand d ∷ more until_paren d ∷ [])
 condition_entry d _ = stops
+
+abbrev pub do_end_entry : ℕ → Kind → Entry
+do_end_entry d while_word = takes (condition d ∷ only statement_end ∷ [])
+do_end_entry d _ = stops
+
+abbrev pub header_entry : ℕ → Kind → Entry
+header_entry d left_paren = takes (header_first d ∷ header_test d ∷ header_last d ∷ [])
+header_entry d _ = stops
+
+-- an assignment or a step
+abbrev pub update_entry : Ender → ℕ → Kind → Entry
+update_entry e d (a_name x) = takes (updating e d ∷ [])
+update_entry e d (step_sign g) = takes (some_name ∷ only (ender_mark e) ∷ [])
+update_entry e d _ = stops
+
+abbrev pub first_entry : ℕ → Kind → Entry
+first_entry d semicolon = takes []
+first_entry d int_word = takes (declarator d ∷ [])
+first_entry d k = update_entry until_semicolon d k
+
+-- with one more to come at the end
+abbrev pub then_goal : Entry → Goal → Entry
+then_goal (takes gs) g = takes (gs ++ g ∷ [])
+then_goal skips g = skips
+then_goal stops g = stops
+
+abbrev pub test_entry : ℕ → Kind → Entry
+test_entry d semicolon = takes []
+test_entry d k = then_goal (operand_entry d k) (more until_semicolon d)
+
+abbrev pub last_entry : ℕ → Kind → Entry
+last_entry d right_paren = takes []
+last_entry d k = update_entry until_paren d k
 
 abbrev pub declarator_entry : ℕ → Kind → Entry
 declarator_entry d (a_name x) = takes (declared d ∷ [])
@@ -184,6 +237,12 @@ entry (statement p d) k = statement_entry p d k
 entry (after_name p d) k = name_entry p d k
 entry (maybe_else d) k = else_entry d k
 entry (condition d) k = condition_entry d k
+entry (do_end d) k = do_end_entry d k
+entry (header d) k = header_entry d k
+entry (header_first d) k = first_entry d k
+entry (header_test d) k = test_entry d k
+entry (header_last d) k = last_entry d k
+entry (updating e d) k = updating_entry e d k
 entry (declarator d) k = declarator_entry d k
 entry (declared d) k = declared_entry d k
 entry some_name k = some_name_entry k

@@ -1,7 +1,7 @@
 -- What the code's values stand for.
 use Rattle.std.specs.Prelude.{◌≡◌, ◌≤◌, ◌<◌, ◌+◌, ◌++◌, ℕ, ℤ, pos, negsuc, List, [], ◌∷◌, Option, Some, None, reverse, map, slice_range}
 use Rattle.tm_gram.specs.Grammar as g
-use Rattle.tm_gram.specs.Grammar.{Relation, Op, Change, Direction, Kind, Token}
+use Rattle.tm_gram.specs.Grammar.{Relation, Op, Change, Direction, Jump, Kind, Token}
 use Rattle.tm_gram.specs.Machine as m
 use Rattle.tm_gram.specs.Machine.{Ender, Place, Mark, Goal, Entry, takes, skips, stops, entry}
 use Rattle.tm_gram.specs.Depth.{opened_by, Verdict, goes, refused, too_deep, Scan, whole, short, unexpected, nested}
@@ -13,6 +13,7 @@ use Rattle.tm_gram.specs.declared.symbol.Relation as code_relation
 use Rattle.tm_gram.specs.declared.symbol.Op as code_op
 use Rattle.tm_gram.specs.declared.symbol.Change as code_change
 use Rattle.tm_gram.specs.declared.symbol.Direction as code_direction
+use Rattle.tm_gram.specs.declared.symbol.Jump as code_jump
 use Rattle.tm_gram.specs.declared.symbol.Symbol as code_symbol
 use Rattle.tm_gram.specs.declared.goal.Ender as code_ender
 use Rattle.tm_gram.specs.declared.goal.Place as code_place
@@ -57,6 +58,10 @@ word_kind lex_word.TheVariants.Void = g.void_word
 word_kind lex_word.TheVariants.If = g.if_word
 word_kind lex_word.TheVariants.Else = g.else_word
 word_kind lex_word.TheVariants.While = g.while_word
+word_kind lex_word.TheVariants.Do = g.do_word
+word_kind lex_word.TheVariants.For = g.for_word
+word_kind lex_word.TheVariants.Break = g.jump_word g.breaks
+word_kind lex_word.TheVariants.Continue = g.jump_word g.continues
 word_kind lex_word.TheVariants.Return = g.return_word
 word_kind lex_word.TheVariants.Assume = g.assume_word
 word_kind lex_word.TheVariants.VerifierAssume = g.assume_word
@@ -120,6 +125,10 @@ abbrev pub direction_of : code_direction.Direction → Direction
 direction_of code_direction.TheVariants.Up = g.up
 direction_of code_direction.TheVariants.Down = g.down
 
+abbrev pub jump_of : code_jump.Jump → Jump
+jump_of code_jump.TheVariants.Breaks = g.breaks
+jump_of code_jump.TheVariants.Continues = g.continues
+
 abbrev pub symbol_kind : code_symbol.Symbol → Kind
 symbol_kind code_symbol.TheVariants.Name = g.a_name []
 symbol_kind code_symbol.TheVariants.Number = g.a_number 0
@@ -140,6 +149,9 @@ symbol_kind code_symbol.TheVariants.Void = g.void_word
 symbol_kind code_symbol.TheVariants.If = g.if_word
 symbol_kind code_symbol.TheVariants.Else = g.else_word
 symbol_kind code_symbol.TheVariants.While = g.while_word
+symbol_kind code_symbol.TheVariants.Do = g.do_word
+symbol_kind code_symbol.TheVariants.For = g.for_word
+symbol_kind (code_symbol.TheVariants.Jump j) = g.jump_word (jump_of j)
 symbol_kind code_symbol.TheVariants.Return = g.return_word
 symbol_kind code_symbol.TheVariants.Assume = g.assume_word
 symbol_kind code_symbol.TheVariants.Nondet = g.nondet_word
@@ -173,6 +185,12 @@ goal_of (code_goal.TheVariants.Statement p d) = m.statement (place_of p) d
 goal_of (code_goal.TheVariants.AfterName p d) = m.after_name (place_of p) d
 goal_of (code_goal.TheVariants.MaybeElse d) = m.maybe_else d
 goal_of (code_goal.TheVariants.Condition d) = m.condition d
+goal_of (code_goal.TheVariants.DoEnd d) = m.do_end d
+goal_of (code_goal.TheVariants.Header d) = m.header d
+goal_of (code_goal.TheVariants.HeaderFirst d) = m.header_first d
+goal_of (code_goal.TheVariants.HeaderTest d) = m.header_test d
+goal_of (code_goal.TheVariants.HeaderLast d) = m.header_last d
+goal_of (code_goal.TheVariants.Updating e d) = m.updating (ender_of e) d
 goal_of (code_goal.TheVariants.Declarator d) = m.declarator d
 goal_of (code_goal.TheVariants.Declared d) = m.declared d
 goal_of code_goal.TheVariants.SomeName = m.some_name

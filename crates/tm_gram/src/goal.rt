@@ -1,9 +1,10 @@
 //! What has to come next, and what it makes of a token.
 
-ghost use Rattle.std.specs.Prelude.{◌≢◌};
-ghost use Rattle.tm_gram.specs.declared.goal.Goal.TheVariants.{Operand, More, Statement, AfterName, MaybeElse, Condition, Declarator, Declared, SomeName};
-ghost use Rattle.tm_gram.specs.declared.goal.Goal.TheVariants.{Parameters, Returned, SomeNumber, Only};
-ghost use Rattle.tm_gram.specs.View.{goal_of, symbol_kind, Entered};
+ghost use Rattle.std.specs.Prelude.{◌≡◌, ◌≢◌, None};
+ghost use Rattle.tm_gram.specs.Machine.{ender_mark, return_entry};
+ghost use Rattle.tm_gram.specs.declared.goal.Goal.TheVariants.{Operand, More, Statement, AfterName, MaybeElse, Condition, DoEnd, Header, HeaderFirst};
+ghost use Rattle.tm_gram.specs.declared.goal.Goal.TheVariants.{HeaderTest, HeaderLast, Updating, Declarator, Declared, SomeName, Parameters, Returned, SomeNumber, Only};
+ghost use Rattle.tm_gram.specs.View.{goal_of, place_of, mark_of, ender_of, symbol_kind, Enters, Entered};
 
 use crate::symbol::{Change, Op, Symbol};
 
@@ -16,7 +17,7 @@ pub enum Ender {
     Declared,
 }
 
-/// Where a statement stands: under an `if`, an `else`, a `while` or a label before it; in a block;
+/// Where a statement stands: under an `if`, an `else`, a loop or a label before it; in a block;
 /// in `main`.
 #[derive(Clone, Copy)]
 pub enum Place {
@@ -48,6 +49,15 @@ pub enum Goal {
     AfterName(Place, u32),
     MaybeElse(u32),
     Condition(u32),
+    /// The end of a `do`: its `while`, the condition and the `;`.
+    DoEnd(u32),
+    /// The head of a `for`, and its parts.
+    Header(u32),
+    HeaderFirst(u32),
+    HeaderTest(u32),
+    HeaderLast(u32),
+    /// The sign behind the name of an assignment or a step.
+    Updating(Ender, u32),
     Declarator(u32),
     Declared(u32),
     SomeName,
@@ -134,7 +144,9 @@ fn sub(depth: u32, symbol: Symbol) -> Entry
         Symbol::Semicolon => Entry::Nothing,
         Symbol::Assume => Entry::Two(Goal::Condition(depth), Goal::Only(Mark::Semicolon)),
         Symbol::Step(_) => Entry::Two(Goal::SomeName, Goal::Only(Mark::Semicolon)),
-        Symbol::LeftBrace | Symbol::If | Symbol::While if depth >= NESTING => Entry::Deep,
+        Symbol::Jump(_) => Entry::One(Goal::Only(Mark::Semicolon)),
+        Symbol::LeftBrace | Symbol::If | Symbol::While | Symbol::Do | Symbol::For
+            if depth >= NESTING => { Entry::Deep }
         Symbol::LeftBrace => Entry::One(Goal::Statement(Place::Block, depth + 1)),
         Symbol::If => Entry::Three(
             Goal::Condition(depth + 1),
@@ -145,7 +157,29 @@ fn sub(depth: u32, symbol: Symbol) -> Entry
             Goal::Condition(depth + 1),
             Goal::Statement(Place::Sub, depth + 1),
         ),
+        Symbol::Do => Entry::Two(
+            Goal::Statement(Place::Sub, depth + 1),
+            Goal::DoEnd(depth + 1),
+        ),
+        Symbol::For => Entry::Two(
+            Goal::Header(depth + 1),
+            Goal::Statement(Place::Sub, depth + 1),
+        ),
         _ => Entry::Stops,
+    }
+}
+
+// What follows the `return` of `main`, which stands nowhere else.
+fn end_of_main(place: Place) -> Entry
+    ensures { Enters result (return_entry (place_of place)) None }
+{
+    match place {
+        Place::Sub | Place::Block => Entry::Stops,
+        Place::Main => Entry::Three(
+            Goal::Returned,
+            Goal::Only(Mark::Semicolon),
+            Goal::Only(Mark::RightBrace),
+        ),
     }
 }
 
@@ -161,16 +195,11 @@ fn item(place: Place, depth: u32, symbol: Symbol) -> Entry
         Symbol::Int => Entry::Two(Goal::Declarator(depth), next),
         Symbol::Assume => Entry::Three(Goal::Condition(depth), Goal::Only(Mark::Semicolon), next),
         Symbol::Step(_) => Entry::Three(Goal::SomeName, Goal::Only(Mark::Semicolon), next),
+        Symbol::Jump(_) => Entry::Two(Goal::Only(Mark::Semicolon), next),
         Symbol::RightBrace => Entry::Nothing,
-        Symbol::Return => match place {
-            Place::Sub | Place::Block => Entry::Stops,
-            Place::Main => Entry::Three(
-                Goal::Returned,
-                Goal::Only(Mark::Semicolon),
-                Goal::Only(Mark::RightBrace),
-            ),
-        },
-        Symbol::LeftBrace | Symbol::If | Symbol::While if depth >= NESTING => Entry::Deep,
+        Symbol::Return => end_of_main(place),
+        Symbol::LeftBrace | Symbol::If | Symbol::While | Symbol::Do | Symbol::For
+            if depth >= NESTING => { Entry::Deep }
         Symbol::LeftBrace => Entry::Two(Goal::Statement(Place::Block, depth + 1), next),
         Symbol::If => Entry::Four(
             Goal::Condition(depth + 1),
@@ -180,6 +209,16 @@ fn item(place: Place, depth: u32, symbol: Symbol) -> Entry
         ),
         Symbol::While => Entry::Three(
             Goal::Condition(depth + 1),
+            Goal::Statement(Place::Sub, depth + 1),
+            next,
+        ),
+        Symbol::Do => Entry::Three(
+            Goal::Statement(Place::Sub, depth + 1),
+            Goal::DoEnd(depth + 1),
+            next,
+        ),
+        Symbol::For => Entry::Three(
+            Goal::Header(depth + 1),
             Goal::Statement(Place::Sub, depth + 1),
             next,
         ),
@@ -199,6 +238,105 @@ fn after_name(place: Place, depth: u32, symbol: Symbol) -> Entry
             Entry::Two(Goal::Operand(depth), Goal::More(Ender::Semicolon, depth))
         }
         Symbol::Step(_) => Entry::One(Goal::Only(Mark::Semicolon)),
+        _ => Entry::Stops,
+    }
+}
+
+// The token that ends an expression with nothing more behind it.
+fn end_mark(ender: Ender) -> Mark
+    ensures { mark_of result ≡ ender_mark (ender_of ender) }
+{
+    match ender {
+        Ender::Paren => Mark::RightParen,
+        Ender::Semicolon | Ender::Declared => Mark::Semicolon,
+    }
+}
+
+fn updating(ender: Ender, depth: u32, symbol: Symbol) -> Entry
+    ensures { Entered result (goal_of (Updating ender depth)) (symbol_kind symbol) }
+{
+    match symbol {
+        Symbol::Change(_) => Entry::Two(Goal::Operand(depth), Goal::More(ender, depth)),
+        Symbol::Step(_) => Entry::One(Goal::Only(end_mark(ender))),
+        _ => Entry::Stops,
+    }
+}
+
+fn header_first(depth: u32, symbol: Symbol) -> Entry
+    ensures { Entered result (goal_of (HeaderFirst depth)) (symbol_kind symbol) }
+{
+    match symbol {
+        Symbol::Semicolon => Entry::Nothing,
+        Symbol::Int => Entry::One(Goal::Declarator(depth)),
+        Symbol::Name => Entry::One(Goal::Updating(Ender::Semicolon, depth)),
+        Symbol::Step(_) => Entry::Two(Goal::SomeName, Goal::Only(Mark::Semicolon)),
+        _ => Entry::Stops,
+    }
+}
+
+fn header_test(depth: u32, symbol: Symbol) -> Entry
+    ensures { Entered result (goal_of (HeaderTest depth)) (symbol_kind symbol) }
+{
+    let more = Goal::More(Ender::Semicolon, depth);
+    match symbol {
+        Symbol::Semicolon => Entry::Nothing,
+        Symbol::Name | Symbol::Number => Entry::One(more),
+        Symbol::Infix(Op::Plus) | Symbol::Infix(Op::Minus) | Symbol::Bang => {
+            if depth < NESTING {
+                Entry::Two(Goal::Operand(depth + 1), more)
+            } else {
+                Entry::Deep
+            }
+        }
+        Symbol::LeftParen => {
+            if depth < NESTING {
+                Entry::Three(
+                    Goal::Operand(depth + 1),
+                    Goal::More(Ender::Paren, depth + 1),
+                    more,
+                )
+            } else {
+                Entry::Deep
+            }
+        }
+        Symbol::Nondet => Entry::Three(
+            Goal::Only(Mark::LeftParen),
+            Goal::Only(Mark::RightParen),
+            more,
+        ),
+        _ => Entry::Stops,
+    }
+}
+
+fn header_last(depth: u32, symbol: Symbol) -> Entry
+    ensures { Entered result (goal_of (HeaderLast depth)) (symbol_kind symbol) }
+{
+    match symbol {
+        Symbol::RightParen => Entry::Nothing,
+        Symbol::Name => Entry::One(Goal::Updating(Ender::Paren, depth)),
+        Symbol::Step(_) => Entry::Two(Goal::SomeName, Goal::Only(Mark::RightParen)),
+        _ => Entry::Stops,
+    }
+}
+
+fn header(depth: u32, symbol: Symbol) -> Entry
+    ensures { Entered result (goal_of (Header depth)) (symbol_kind symbol) }
+{
+    match symbol {
+        Symbol::LeftParen => Entry::Three(
+            Goal::HeaderFirst(depth),
+            Goal::HeaderTest(depth),
+            Goal::HeaderLast(depth),
+        ),
+        _ => Entry::Stops,
+    }
+}
+
+fn do_end(depth: u32, symbol: Symbol) -> Entry
+    ensures { Entered result (goal_of (DoEnd depth)) (symbol_kind symbol) }
+{
+    match symbol {
+        Symbol::While => Entry::Two(Goal::Condition(depth), Goal::Only(Mark::Semicolon)),
         _ => Entry::Stops,
     }
 }
@@ -309,6 +447,12 @@ pub fn enter(goal: Goal, symbol: Symbol) -> Entry
         Goal::AfterName(place, depth) => after_name(place, depth, symbol),
         Goal::MaybeElse(depth) => maybe_else(depth, symbol),
         Goal::Condition(depth) => condition(depth, symbol),
+        Goal::DoEnd(depth) => do_end(depth, symbol),
+        Goal::Header(depth) => header(depth, symbol),
+        Goal::HeaderFirst(depth) => header_first(depth, symbol),
+        Goal::HeaderTest(depth) => header_test(depth, symbol),
+        Goal::HeaderLast(depth) => header_last(depth, symbol),
+        Goal::Updating(ender, depth) => updating(ender, depth, symbol),
         Goal::Declarator(depth) => declarator(depth, symbol),
         Goal::Declared(depth) => declared(depth, symbol),
         Goal::SomeName => some_name(symbol),

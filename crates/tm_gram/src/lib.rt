@@ -8,4 +8,4 @@ mod symbol;
 
 pub use laws::{every_front, one_program};
 pub use machine::{Syntax, examine};
-pub use symbol::{Change, Direction, Op, Relation, Symbol, symbol_of};
+pub use symbol::{Change, Direction, Jump, Op, Relation, Symbol, symbol_of};

@@ -42,6 +42,13 @@ pub enum Direction {
     Down,
 }
 
+/// `break` and `continue`.
+#[derive(Clone, Copy)]
+pub enum Jump {
+    Breaks,
+    Continues,
+}
+
 /// What a token is to the grammar, whatever its name or number
 /// (docs/FORMATS.md, "Grammar").
 #[derive(Clone, Copy)]
@@ -65,6 +72,9 @@ pub enum Symbol {
     If,
     Else,
     While,
+    Do,
+    For,
+    Jump(Jump),
     Return,
     Assume,
     Nondet,
@@ -114,6 +124,10 @@ fn word_symbol(word: Word) -> Symbol
         Word::If => Symbol::If,
         Word::Else => Symbol::Else,
         Word::While => Symbol::While,
+        Word::Do => Symbol::Do,
+        Word::For => Symbol::For,
+        Word::Break => Symbol::Jump(Jump::Breaks),
+        Word::Continue => Symbol::Jump(Jump::Continues),
         Word::Return => Symbol::Return,
         Word::Assume | Word::VerifierAssume => Symbol::Assume,
         Word::Nondet | Word::VerifierNondetInt => Symbol::Nondet,

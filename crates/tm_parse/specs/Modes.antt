@@ -6,7 +6,8 @@ use Rattle.tm_lex.specs.declared.token.Kind as lex_kind
 use Rattle.tm_lex.specs.declared.token.Token.{Token}
 use Rattle.tm_tree.specs.View.{statements_of}
 use Rattle.tm_tree.specs.Word.{is_word}
-use Rattle.tm_parse.specs.Feed.{Mode, heading, stands, named, wants, has, calls, closes, opens, stepping, ends, after, declares, declared, returning}
+use Rattle.tm_parse.specs.Feed.{Mode, heading, stands, named, wants, has, calls, closes, opens, heads, first_part, test_part, last_part}
+use Rattle.tm_parse.specs.Feed.{stepping, ends, after, declares, declared, returning}
 use Rattle.tm_parse.specs.Frames.{test_of}
 use Rattle.tm_parse.specs.Values.{value_of}
 use Rattle.tm_parse.specs.declared.lexeme.Lexeme as code_lexeme
@@ -32,6 +33,10 @@ mode_of (code_mode.TheVariants.Has v) = has (value_of v)
 mode_of (code_mode.TheVariants.Calls a) = calls a
 mode_of (code_mode.TheVariants.Closes a) = closes a
 mode_of (code_mode.TheVariants.Opens t a) = opens (test_of t) a
+mode_of (code_mode.TheVariants.Heads a) = heads a
+mode_of code_mode.TheVariants.FirstPart = first_part
+mode_of code_mode.TheVariants.TestPart = test_part
+mode_of code_mode.TheVariants.LastPart = last_part
 mode_of (code_mode.TheVariants.Stepping d a) = stepping (direction_of d) a
 mode_of (code_mode.TheVariants.Ends ns) = ends (statements_of ns.items)
 mode_of (code_mode.TheVariants.After ns) = after (statements_of ns.items)

@@ -1,12 +1,15 @@
 -- What a program's tree means: names, kinds and limits, in the order of a text's faults.
-use Rattle.std.specs.Prelude.{if◌then◌else◌, ◌++◌, nat_lt, nat_eq, ℕ, suc, ℤ, pos, negsuc, List, [], ◌∷◌, length, take, Option, Some, None, Result, Ok, Err}
+use Rattle.std.specs.Prelude.{if◌then◌else◌, ◌++◌, Bool, true, false, nat_lt, nat_eq, ℕ, suc, ℤ, pos, negsuc, List, [], ◌∷◌, length, take, Option, Some, None, Result, Ok, Err}
 use Rattle.std.specs.Prelude.{min, ◌+◌}
 use Rattle.std.specs.List.{list_any}
 use Rattle.tm_gram.specs.Grammar.{Relation, equal, unequal, less, at_most, greater, at_least, Op, or_op, and_op, compare_op, plus_op, minus_op, times_op}
 use Rattle.tm_gram.specs.Grammar.{Prefix, negative, positive, negation, Change, replaces, adds, subtracts, Direction, up, down, Expr, number, variable, free}
 use Rattle.tm_gram.specs.Grammar.{grouped, prefixed, joined, Declarator, bare, given, Declarators, declares, declares_more, Core, empty, block, if_alone}
-use Rattle.tm_gram.specs.Grammar.{if_else, repeat, assumed, set, step_after, step_before, Sub, labelled, plain, Items, no_items, label, declaration, item}
-use Rattle.tm_gram.specs.Grammar.{Program, program}
+use Rattle.tm_gram.specs.Grammar.{if_else, repeat, repeat_after, repeat_for, jumps, assumed, updates, Update, set, step_after, step_before, ForFirst, no_first}
+use Rattle.tm_gram.specs.Grammar.{declared_first, updated_first, ForTest, no_test, given_test, ForLast, no_last, updated_last, Jump, breaks, continues}
+use Rattle.tm_gram.specs.Grammar.{Sub, labelled, plain, Items, no_items, label, declaration, item, Program, program}
+use Rattle.tm_tree.specs.declared.change.Change as tree_change
+use Rattle.tm_tree.specs.declared.change.Change.TheVariants as change
 use Rattle.tm_tree.specs.declared.form.Form.{Form}
 use Rattle.tm_tree.specs.declared.cond.Rel.{Rel}
 use Rattle.tm_tree.specs.declared.cond.Rel.TheVariants as rel
@@ -14,7 +17,7 @@ use Rattle.tm_tree.specs.Numbers.{is_number}
 use Rattle.tm_tree.specs.Tree as tree
 use Rattle.tm_tree.specs.Tree.{Condition, Statement, Statements, nil, cons, leaf_count}
 use Rattle.tm_parse.specs.declared.fault.ParseFault.{ParseFault}
-use Rattle.tm_parse.specs.declared.fault.ParseFault.TheVariants.{UnknownName, NameTwice, NotAffine, NondetHere, BigNumber, NoVariables}
+use Rattle.tm_parse.specs.declared.fault.ParseFault.TheVariants.{UnknownName, NameTwice, NotAffine, NondetHere, BigNumber, NoVariables, OutsideLoop}
 use Rattle.tm_parse.specs.declared.fault.ParseFault.TheVariants as fault
 use Rattle.tm_parse.specs.declared.fault.Limit.TheVariants.{Variables, Leaves}
 use Rattle.tm_parse.specs.declared.fault.Limit.TheVariants as limit
@@ -154,6 +157,17 @@ abbrev pub assignment : ℕ → Option Form → ℕ → Statement
 assignment i (Some f) line = tree.set i f line
 assignment i None line = tree.havoc i line
 
+-- the same as the change of a `for`
+abbrev pub changed : ℕ → Option Form → ℕ → tree_change.Change
+changed i (Some f) line = change.Set i f line
+changed i None line = change.Havoc i line
+
+-- a change as statements
+abbrev pub change_nodes : tree_change.Change → Statements
+change_nodes change.Unchanged = nil
+change_nodes (change.Set i f line) = one (tree.set i f line)
+change_nodes (change.Havoc i line) = one (tree.havoc i line)
+
 -- what the variable i takes by an assignment, in forms over so many variables
 abbrev pub assigned : ℕ → Change → ℕ → ℕ → Value → Result (Option Form) ParseFault
 assigned width replaces i sign v = right_side sign v
@@ -164,6 +178,19 @@ assigned width subtracts i sign v = number_of sign v >>= λ f. ranged sign (minu
 abbrev pub stepped : ℕ → Direction → ℕ → Form
 stepped width up i = variable_form width i (pos 1)
 stepped width down i = variable_form width i (negsuc 0)
+
+-- the condition of a `for` without one: 0 is at most 0
+abbrev pub always : ℕ → Condition
+always width = tree.compare rel.Le (constant_form width (pos 0))
+
+abbrev pub jump_kind : Jump → tree.Jump
+jump_kind breaks = tree.breaks
+jump_kind continues = tree.continues
+
+-- a `break` or a `continue` at this place, which has to stand in a loop's body
+abbrev pub jumped : Bool → ℕ → State → Result State ParseFault
+jumped true a st = counted a st
+jumped false a st = Err (OutsideLoop a)
 
 -- a variable is declared, with what it takes
 abbrev pub declared_by : (ℕ → ℕ) → List ℕ → ℕ → Option Form → State → Result (State × Statement) ParseFault
@@ -184,6 +211,10 @@ module _ (line : ℕ → ℕ) (width : ℕ) where
   abbrev pub step_node : Direction → ℕ → ℕ → Statements
   step_node g i a = one (tree.set i (stepped width g i) (line a))
 
+  -- the same as the change of a `for`
+  abbrev pub step_change : Direction → ℕ → ℕ → tree_change.Change
+  step_change g i a = change.Set i (stepped width g i) (line a)
+
   -- the left side before the right one, and both before the sign
   abbrev pub walk_expr : State → Expr → Result Value ParseFault
   walk_expr st (number n a) = ranged a (constant_form width (pos n)) >>= λ f. Ok (a_form f a)
@@ -202,40 +233,79 @@ module _ (line : ℕ → ℕ) (width : ℕ) where
   walk_declarators (declares x c) st = walk_declarator x st >>= λ r. Ok (r.0, one r.1)
   walk_declarators (declares_more x c xs) st = walk_declarator x st >>= λ r. walk_declarators xs r.0 >>= λ q. Ok (q.0, cons r.1 q.1)
 
+  -- what an assignment or a step does
+  abbrev pub walk_update : Update → State → Result (State × tree_change.Change) ParseFault
+  walk_update (set x a g b e) st =
+      known_number x a st >>= λ i. counted a st >>= λ now. walk_expr now e >>= λ v. assigned width g i b v >>= λ o. Ok (now, changed i o (line a))
+  walk_update (step_after x a g b) st = known_number x a st >>= λ i. counted a st >>= λ now. Ok (now, step_change g i a)
+  walk_update (step_before g a x b) st = counted a st >>= λ now. known_number x b now >>= λ i. Ok (now, step_change g i a)
+
+  -- the nodes that stand before a `for`
+  abbrev pub walk_first : ForFirst → State → Result (State × Statements) ParseFault
+  walk_first (no_first a) st = Ok (st, nil)
+  walk_first (declared_first a xs) st = walk_declarators xs st
+  walk_first (updated_first u a) st = walk_update u st >>= λ r. Ok (r.0, change_nodes r.1)
+
+  -- the condition of the `for` at this place
+  abbrev pub walk_test : ℕ → ForTest → State → Result Condition ParseFault
+  walk_test a (no_test b) st = Ok (always width)
+  walk_test a (given_test e b) st = walk_expr st e >>= λ v. tested a v
+
+  -- the change of a `for`
+  abbrev pub walk_last : ForLast → State → Result (State × tree_change.Change) ParseFault
+  walk_last (no_last a) st = Ok (st, change.Unchanged)
+  walk_last (updated_last u a) st = walk_update u st
+
   abbrev mutual
-    -- the nodes of a statement, and what has been met after it
-    pub walk_core : Core → State → Result (State × Statements) ParseFault
-    walk_core (empty a) st = Ok (st, nil)
-    walk_core (block a is b) st = walk_items is st >>= λ r. Ok (closed (length st.known) r.0, r.1)
-    walk_core (if_alone a b e c s) st =
-        walk_expr st e >>= λ v. tested a v >>= λ x. counted a st >>= λ now. walk_sub s now >>= λ r. Ok (r.0, one (tree.branch x r.1 nil (line a)))
-    walk_core (if_else a b e c s d t) st =
-        walk_expr st e >>= λ v. tested a v >>= λ x. counted a st >>= λ now. walk_sub s now >>= λ r. walk_sub t r.0 >>= λ q. Ok (
+    -- the nodes of a statement, and what has been met after it; `inside` says whether it stands in a loop's body
+    pub walk_core : (inside : Bool) → Core → State → Result (State × Statements) ParseFault
+    walk_core inside (empty a) st = Ok (st, nil)
+    walk_core inside (block a is b) st = walk_items inside is st >>= λ r. Ok (closed (length st.known) r.0, r.1)
+    walk_core inside (if_alone a b e c s) st =
+        walk_expr st e >>= λ v. tested a v >>= λ x. counted a st >>= λ now. walk_sub inside s now >>= λ r. Ok (r.0, one (tree.branch x r.1 nil (line a)))
+    walk_core inside (if_else a b e c s d t) st =
+        walk_expr st e >>= λ v. tested a v >>= λ x. counted a st >>= λ now. walk_sub inside s now >>= λ r. walk_sub inside t r.0 >>= λ q. Ok (
           q.0,
           one (tree.branch x r.1 q.1 (line a)),
         )
-    walk_core (repeat a b e c s) st =
-        walk_expr st e >>= λ v. tested a v >>= λ x. counted a st >>= λ now. walk_sub s now >>= λ r. Ok (r.0, one (tree.loop x r.1 (line a)))
-    walk_core (assumed a b e c d) st = counted a st >>= λ now. walk_expr now e >>= λ v. tested a v >>= λ x. Ok (now, one (tree.assume x (line a)))
-    walk_core (set x a g b e c) st =
-        known_number x a st >>= λ i. counted a st >>= λ now. walk_expr now e >>= λ v. assigned width g i b v >>= λ o. Ok (now, one (assignment i o (line a)))
-    walk_core (step_after x a g b c) st = known_number x a st >>= λ i. counted a st >>= λ now. Ok (now, step_node g i a)
-    walk_core (step_before g a x b c) st = counted a st >>= λ now. known_number x b now >>= λ i. Ok (now, step_node g i a)
+    walk_core inside (repeat a b e c s) st =
+        walk_expr st e >>= λ v. tested a v >>= λ x. counted a st >>= λ now. walk_sub true s now >>= λ r. Ok (
+          r.0,
+          one (tree.loop tree.while_loop x r.1 (line a)),
+        )
+    walk_core inside (repeat_after a s b c e d i) st =
+        counted a st >>= λ now. walk_sub true s now >>= λ r. walk_expr r.0 e >>= λ v. tested a v >>= λ x. Ok (
+          r.0,
+          one (tree.loop tree.do_loop x r.1 (line a)),
+        )
+    walk_core inside (repeat_for a b f t l s) st =
+        walk_first f st >>= λ r. walk_test a t r.0 >>= λ x. counted a r.0 >>= λ now. walk_last l now >>= λ u. walk_sub true s u.0 >>= λ q. Ok (
+          closed (length st.known) q.0,
+          followed_by r.1 (one (tree.loop (tree.for_loop u.1) x q.1 (line a))),
+        )
+    walk_core inside (jumps j a b) st = jumped inside a st >>= λ now. Ok (now, one (tree.jump (jump_kind j) (line a)))
+    walk_core inside (assumed a b e c d) st = counted a st >>= λ now. walk_expr now e >>= λ v. tested a v >>= λ x. Ok (now, one (tree.assume x (line a)))
+    walk_core inside (updates u c) st = walk_update u st >>= λ r. Ok (r.0, change_nodes r.1)
 
-    pub walk_sub : Sub → State → Result (State × Statements) ParseFault
-    walk_sub (labelled x a b s) st = labelled_by x a st >>= λ now. walk_sub s now >>= λ r. Ok (r.0, cons (tree.label x (line a)) r.1)
-    walk_sub (plain c) st = walk_core c st
+    pub walk_sub : (inside : Bool) → Sub → State → Result (State × Statements) ParseFault
+    walk_sub inside (labelled x a b s) st = labelled_by x a st >>= λ now. walk_sub inside s now >>= λ r. Ok (r.0, cons (tree.label x (line a)) r.1)
+    walk_sub inside (plain c) st = walk_core inside c st
 
-    pub walk_items : Items → State → Result (State × Statements) ParseFault
-    walk_items no_items st = Ok (st, nil)
-    walk_items (label x a b is) st = labelled_by x a st >>= λ now. walk_items is now >>= λ r. Ok (r.0, cons (tree.label x (line a)) r.1)
-    walk_items (declaration a xs is) st = walk_declarators xs st >>= λ r. walk_items is r.0 >>= λ q. Ok (q.0, followed_by r.1 q.1)
-    walk_items (item c is) st = walk_core c st >>= λ r. walk_items is r.0 >>= λ q. Ok (q.0, followed_by r.1 q.1)
+    pub walk_items : (inside : Bool) → Items → State → Result (State × Statements) ParseFault
+    walk_items inside no_items st = Ok (st, nil)
+    walk_items inside (label x a b is) st = labelled_by x a st >>= λ now. walk_items inside is now >>= λ r. Ok (r.0, cons (tree.label x (line a)) r.1)
+    walk_items inside (declaration a xs is) st = walk_declarators xs st >>= λ r. walk_items inside is r.0 >>= λ q. Ok (q.0, followed_by r.1 q.1)
+    walk_items inside (item c is) st = walk_core inside c st >>= λ r. walk_items inside is r.0 >>= λ q. Ok (q.0, followed_by r.1 q.1)
 
 -- how many variables are declared
 abbrev pub declared_in : Declarators → ℕ
 declared_in (declares x c) = 1
 declared_in (declares_more x c xs) = suc (declared_in xs)
+
+abbrev pub declared_before : ForFirst → ℕ
+declared_before (no_first a) = 0
+declared_before (declared_first a xs) = declared_in xs
+declared_before (updated_first u a) = 0
 
 abbrev mutual
   pub declared_core : Core → ℕ
@@ -244,10 +314,11 @@ abbrev mutual
   declared_core (if_alone a b e c s) = declared_sub s
   declared_core (if_else a b e c s d t) = declared_sub s + declared_sub t
   declared_core (repeat a b e c s) = declared_sub s
+  declared_core (repeat_after a s b c e d i) = declared_sub s
+  declared_core (repeat_for a b f t l s) = declared_before f + declared_sub s
+  declared_core (jumps j a b) = 0
   declared_core (assumed a b e c d) = 0
-  declared_core (set x a g b e c) = 0
-  declared_core (step_after x a g b c) = 0
-  declared_core (step_before g a x b c) = 0
+  declared_core (updates u c) = 0
 
   pub declared_sub : Sub → ℕ
   declared_sub (labelled x a b s) = declared_sub s
@@ -269,4 +340,4 @@ program_of (st, ns) = elim st.names [ [] ↦ Err NoVariables | x ∷ xs ↦ Ok (
 
 -- what a program means, or its first fault
 abbrev pub walk : (ℕ → ℕ) → Program → Result (List (List ℕ) × Statements) ParseFault
-walk line (program a b c ps d e is r f g) = walk_items line (min MOST_VARIABLES (declared_items is)) is start_state >>= λ r. program_of r
+walk line (program a b c ps d e is r f g) = walk_items line (min MOST_VARIABLES (declared_items is)) false is start_state >>= λ r. program_of r

@@ -3,7 +3,7 @@
 ghost use Rattle.std.specs.Prelude.{◌≡◌, ◌≤◌, length};
 ghost use Rattle.tm_lex.specs.Lines.{line_at};
 ghost use Rattle.tm_tree.specs.View.{statement_of};
-ghost use Rattle.tm_parse.specs.Walk.{start_state, counted, labelled_by, known_number, assignment, declared_by, closed};
+ghost use Rattle.tm_parse.specs.Walk.{start_state, counted, jumped, labelled_by, known_number, assignment, declared_by, closed};
 ghost use Rattle.tm_parse.specs.Gives.{Gives};
 ghost use Rattle.tm_parse.specs.Views.{state_of};
 
@@ -61,6 +61,17 @@ impl Context {
                 at,
                 which: Limit::Statements,
             })
+        }
+    }
+
+    /// Counts the `break` or `continue` at `at`, which has to stand in a loop's body.
+    pub(crate) fn jumped(&mut self, inside: bool, at: u32) -> Result<(), ParseFault>
+        ensures { Gives (λ _. state_of self.new) result (jumped inside at (state_of self.old)) }
+    {
+        if inside {
+            self.counted(at)
+        } else {
+            Err(ParseFault::OutsideLoop { at })
         }
     }
 

@@ -19,6 +19,7 @@ use crate::forms::{constant_form, together, variable_form};
 use crate::frame::{
     Before, Frame, Test, Within, complete, join_tighter, level, one, pushed, regarded,
 };
+use crate::header::{headed, next_mode, settled};
 use crate::lexeme::{Lexeme, literal};
 use crate::mode::Mode;
 use crate::value::{LEAVES, Value, as_condition, leaves_up_to, number_of};
@@ -130,6 +131,10 @@ fn decided(
     let within = match test {
         Test::If => Within::Branch(cond, place),
         Test::While => Within::Loop(cond, place),
+        Test::Do(body) => {
+            let line = line_of(text, place);
+            return Ok(Mode::Ends(one(alloc, Stmt::Do { cond, body, line })?));
+        }
         Test::Assume => {
             let line = line_of(text, place);
             return Ok(Mode::Ends(one(alloc, Stmt::Assume { cond, line })?));
@@ -140,7 +145,7 @@ fn decided(
     Ok(Mode::Stands)
 }
 
-// The value in the parenthesis that ends here, or the condition.
+// The value in the parenthesis that ends here, the condition, or the right side of a `for`'s change.
 fn after_paren(
     alloc: Global,
     text: &[u8],
@@ -163,6 +168,11 @@ fn after_paren(
             let cond = tested(place, value)?;
             decided(alloc, text, width, test, place, context, frames, cond)
         }
+        Some(Frame::Assigns(var, change, sign, place)) => {
+            let form = assigned(alloc, width, change, var, sign, value)?;
+            let stmt = assignment(var, form, line_of(text, place));
+            Ok(settled(alloc, context, frames, one(alloc, stmt)?)?)
+        }
         Some(other) => {
             frames.push(other)?;
             Ok(Mode::Has(value))
@@ -171,7 +181,8 @@ fn after_paren(
     }
 }
 
-// The right side of an assignment or the last initialiser of a declaration, which ends here.
+// The right side of an assignment, the last initialiser of a declaration or the condition of a
+// `for`, which ends here.
 fn after_semicolon(
     alloc: Global,
     text: &[u8],
@@ -188,13 +199,19 @@ fn after_semicolon(
         Some(Frame::Assigns(var, change, sign, place)) => {
             let form = assigned(alloc, width, change, var, sign, value)?;
             let stmt = assignment(var, form, line_of(text, place));
-            Ok(Mode::After(one(alloc, stmt)?))
+            Ok(settled(alloc, context, frames, one(alloc, stmt)?)?)
         }
         Some(Frame::Initial(name, place, sign)) => {
             let form = right_side(sign, value)?;
             let stmt = context.declared(text, &name, place, form)?;
+            let next = next_mode(frames);
             pushed(alloc, frames, stmt)?;
-            Ok(Mode::Stands)
+            Ok(next)
+        }
+        Some(Frame::Header(known, place, nodes)) => {
+            let cond = tested(place, value)?;
+            frames.push(Frame::Header(known, place, nodes))?;
+            headed(context, frames, cond)
         }
         Some(other) => {
             frames.push(other)?;

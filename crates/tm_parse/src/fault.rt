@@ -38,6 +38,8 @@ pub enum ParseFault {
     NoVariables,
     /// A coefficient or a constant leaves its range.
     BigNumber { at: u32 },
+    /// A `break` or a `continue` stands in no loop's body.
+    OutsideLoop { at: u32 },
     /// There is no memory for the program.
     NoMemory,
 }

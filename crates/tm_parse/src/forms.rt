@@ -50,6 +50,17 @@ pub(crate) fn constant_form(
     })
 }
 
+/// The whole number 0.
+pub(crate) fn zero_form(alloc: Global, width: usize) -> Result<Form, AllocError>
+    ensures { IfOk result (λ form. form ≡ constant_form width (pos 0)) }
+{
+    let list = zeros(alloc, width)?;
+    Ok(Form {
+        coeffs: Coeffs::new(list),
+        constant: 0,
+    })
+}
+
 fn set_one(list: &mut [i64], place: usize)
     requires { IsTrue (are_numbers list.old) }
     ensures list { list.new ≡ slice_set list.old place (pos 1) }

@@ -7,18 +7,20 @@ ghost use Rattle.tm_gram.specs.View.{op_of};
 ghost use Rattle.tm_lex.specs.Lines.{line_at};
 ghost use Rattle.tm_tree.specs.View.{statement_of, statements_of};
 ghost use Rattle.tm_parse.specs.Walk.{followed_by, one, prefix_value, regarded};
-ghost use Rattle.tm_parse.specs.Feed.{complete, join_tighter, pushed, wrapped, close, attach};
+ghost use Rattle.tm_parse.specs.Feed.{complete, join_tighter, pushed, wrapped, is_body, is_inside, close, attach};
 ghost use Rattle.tm_parse.specs.Gives.{Gives};
 ghost use Rattle.tm_parse.specs.Values.{value_of};
-ghost use Rattle.tm_parse.specs.Frames.{before_of, within_of, frames_of};
+ghost use Rattle.tm_parse.specs.Frames.{before_of, within_of, frame_of, frames_of};
+ghost use Rattle.tm_parse.specs.Views.{state_of};
 
+use crate::context::Context;
 use crate::fault::ParseFault;
 use crate::forms::scaled;
 use crate::value::{Value, as_condition, combined, number_of};
 use std::alloc::{AllocError, Global};
 use tm_gram::{Change, Op, Relation};
 use tm_lex::line_of;
-use tm_tree::{Block, Cond, Name, Stmt};
+use tm_tree::{Block, Change as ForChange, Cond, Name, Stmt};
 
 /// A sign before an operand.
 #[derive(Clone, Copy)]
@@ -29,14 +31,16 @@ pub(crate) enum Before {
 }
 
 /// What a condition in parentheses belongs to.
-#[derive(Clone, Copy)]
+#[derive(Drop)]
 pub(crate) enum Test {
     If,
     While,
+    /// A `do` with its body.
+    Do(Block),
     Assume,
 }
 
-/// What statements belong to. A place is that of the first token of an `if` or a `while`.
+/// What statements belong to. A place is that of the first token of an `if` or a loop.
 #[derive(Drop)]
 pub(crate) enum Within {
     /// Items, at whose beginning so many names were known.
@@ -47,6 +51,11 @@ pub(crate) enum Within {
     Other(Cond, Block, u32),
     /// The body of a `while`.
     Loop(Cond, u32),
+    /// The body of a `do`.
+    Body(u32),
+    /// The body of a `for`: how many names were known before it, its place, the nodes of its first
+    /// part, its condition and its change.
+    For(usize, u32, Vec<Stmt>, Cond, ForChange),
 }
 
 /// What is pending. A place is that of a statement's or a declarator's first token, or of a sign.
@@ -64,6 +73,11 @@ pub(crate) enum Frame {
     Assigns(u32, Change, u32, u32),
     /// A declarator with an initialiser, its place and that of its `=`.
     Initial(Name, u32, u32),
+    /// The head of a `for` behind its `(`: how many names were known before it, its place, and the
+    /// nodes of its first part.
+    Header(usize, u32, Vec<Stmt>),
+    /// The same behind its condition.
+    HeaderTested(usize, u32, Vec<Stmt>, Cond),
     /// Statements, with the nodes so far.
     Under(Within, Vec<Stmt>),
 }
@@ -181,10 +195,37 @@ pub(crate) fn pushed(alloc: Global, frames: &mut Vec<Frame>, stmt: Stmt) -> Resu
             let nodes = followed(nodes, one(alloc, stmt)?)?;
             frames.push(Frame::Under(within, nodes))?;
         }
+        Some(Frame::Header(known, at, nodes)) => {
+            let nodes = followed(nodes, one(alloc, stmt)?)?;
+            frames.push(Frame::Header(known, at, nodes))?;
+        }
         Some(other) => frames.push(other)?,
         None => {}
     }
     Ok(())
+}
+
+fn is_body(frame: &Frame) -> bool
+    ensures { result ≡ is_body (frame_of frame.now) }
+{
+    matches!(
+        frame,
+        Frame::Under(Within::Loop(..) | Within::Body(_) | Within::For(..), _)
+    )
+}
+
+/// Whether this stands in a loop's body.
+pub(crate) fn is_inside(frames: &Vec<Frame>) -> bool
+    ensures { result ≡ is_inside (frames_of frames.now.items) }
+{
+    let mut above = frames.len();
+    while above > 0 {
+        above -= 1;
+        if is_body(&frames[above]) {
+            return true;
+        }
+    }
+    false
 }
 
 // The statement whose last part has these nodes.
@@ -225,6 +266,23 @@ fn wrapped(
                 line: line_of(text, at),
             },
         ),
+        Within::Body(_) => Ok(nodes),
+        Within::For(_, at, before, cond, change) => {
+            let body = Block::new(nodes);
+            let line = line_of(text, at);
+            followed(
+                before,
+                one(
+                    alloc,
+                    Stmt::For {
+                        cond,
+                        change,
+                        body,
+                        line,
+                    },
+                )?,
+            )
+        }
     }
 }
 
@@ -232,11 +290,13 @@ fn wrapped(
 pub(crate) fn close(
     alloc: Global,
     text: &[u8],
+    context: &mut Context,
     frames: &mut Vec<Frame>,
     nodes: Vec<Stmt>,
 ) -> Result<(), AllocError>
     requires { length text.now ≤ 65536 }
-    ensures { OnOk result (frames_of frames.new.items ≡ close (line_at text.now) (statements_of nodes.items) (frames_of frames.old.items)) }
+    ensures { OnOk result ((state_of context.new, frames_of frames.new.items)
+        ≡ close (line_at text.now) (state_of context.old) (statements_of nodes.items) (frames_of frames.old.items)) }
 {
     let mut more = nodes;
     while let Some(frame) = frames.pop() {
@@ -247,6 +307,15 @@ pub(crate) fn close(
                     Within::Items(known) => {
                         frames.push(Frame::Under(Within::Items(known), all))?;
                         return Ok(());
+                    }
+                    Within::Body(at) => {
+                        frames.push(Frame::Under(Within::Body(at), all))?;
+                        return Ok(());
+                    }
+                    Within::For(known, at, before, cond, change) => {
+                        context.close(known);
+                        let within = Within::For(known, at, before, cond, change);
+                        more = wrapped(alloc, text, within, all)?;
                     }
                     other => more = wrapped(alloc, text, other, all)?,
                 }
@@ -263,11 +332,13 @@ pub(crate) fn close(
 pub(crate) fn attach(
     alloc: Global,
     text: &[u8],
+    context: &mut Context,
     frames: &mut Vec<Frame>,
     nodes: Vec<Stmt>,
 ) -> Result<(), AllocError>
     requires { length text.now ≤ 65536 }
-    ensures { OnOk result (frames_of frames.new.items ≡ attach (line_at text.now) (statements_of nodes.items) (frames_of frames.old.items)) }
+    ensures { OnOk result ((state_of context.new, frames_of frames.new.items)
+        ≡ attach (line_at text.now) (state_of context.old) (statements_of nodes.items) (frames_of frames.old.items)) }
 {
     let mut more = nodes;
     while let Some(frame) = frames.pop() {
@@ -275,11 +346,16 @@ pub(crate) fn attach(
             Frame::Under(within, nodes) => {
                 let all = followed(nodes, more)?;
                 match within {
-                    Within::Items(_) => return Ok(()),
+                    Within::Items(_) | Within::Body(_) => return Ok(()),
                     Within::Branch(cond, at) => {
                         let within = Within::Other(cond, Block::new(all), at);
                         frames.push(Frame::Under(within, Vec::new(alloc)))?;
                         return Ok(());
+                    }
+                    Within::For(known, at, before, cond, change) => {
+                        context.close(known);
+                        let within = Within::For(known, at, before, cond, change);
+                        more = wrapped(alloc, text, within, all)?;
                     }
                     other => more = wrapped(alloc, text, other, all)?,
                 }

@@ -6,6 +6,7 @@ mod expression;
 mod fault;
 mod forms;
 mod frame;
+mod header;
 mod laws;
 mod lexeme;
 mod mode;

@@ -23,6 +23,11 @@ pub(crate) enum Mode {
     Closes(u32),
     /// The `(` of a condition.
     Opens(Test, u32),
+    /// The `(` of the `for` at this place, and the parts of its head.
+    Heads(u32),
+    FirstPart,
+    TestPart,
+    LastPart,
     /// The name behind `++` or `--`.
     Stepping(Direction, u32),
     /// The `;` of a statement with these nodes.

@@ -2,12 +2,13 @@
 #![tactic(auto, using(crate::proofs::results::Binds::then_ok, crate::proofs::results::Binds::then_err))]
 
 ghost use Rattle.std.specs.Prelude.{◌≡◌, ◌≤◌, length, IfOk};
-ghost use Rattle.tm_gram.specs.View.{symbol_kind, direction_of};
+ghost use Rattle.tm_gram.specs.View.{symbol_kind, direction_of, jump_of};
 ghost use Rattle.tm_lex.specs.Lines.{line_at};
-ghost use Rattle.tm_tree.specs.View.{statements_of};
-ghost use Rattle.tm_parse.specs.Walk.{step_node};
-ghost use Rattle.tm_parse.specs.Feed.{at, items_end, begun, behind_name, behind_step, is_else, behind_statement, a_declarator, behind_declarator, in_heading};
-ghost use Rattle.tm_parse.specs.Feed.{in_return, in_mode};
+ghost use Rattle.tm_tree.specs.Tree.{jump};
+ghost use Rattle.tm_tree.specs.View.{statement_of, statements_of};
+ghost use Rattle.tm_parse.specs.Walk.{step_node, jump_kind};
+ghost use Rattle.tm_parse.specs.Feed.{at, items_end, begun, behind_name, behind_step, is_else, while_behind, behind_closed, behind_statement};
+ghost use Rattle.tm_parse.specs.Feed.{a_declarator, behind_declarator, in_heading, in_return, in_first, in_test, in_last, in_mode};
 ghost use Rattle.tm_parse.specs.Gives.{Gives};
 ghost use Rattle.tm_parse.specs.Views.{state_of};
 ghost use Rattle.tm_parse.specs.Frames.{frames_of};
@@ -17,14 +18,15 @@ use crate::context::Context;
 use crate::expression::{behind_value, wanted};
 use crate::fault::ParseFault;
 use crate::forms::variable_form;
-use crate::frame::{Frame, Test, Within, attach, close, complete, one, pushed};
+use crate::frame::{Frame, Test, Within, attach, close, complete, is_inside, one, pushed};
+use crate::header::{always, headed, next_mode, settled};
 use crate::lexeme::Lexeme;
 use crate::mode::Mode;
 use crate::value::Value;
 use std::alloc::{AllocError, Global};
-use tm_gram::{Direction, Symbol};
+use tm_gram::{Direction, Jump, Symbol};
 use tm_lex::line_of;
-use tm_tree::{Name, Stmt};
+use tm_tree::{Block, Name, Stmt};
 
 // The node of `++` or `--`.
 fn step_node(
@@ -72,6 +74,16 @@ fn items_end(context: &mut Context, frames: &mut Vec<Frame>) -> Result<Mode, All
     Ok(Mode::Stands)
 }
 
+// The node of `break` or `continue`.
+fn jump_node(kind: Jump, line: u32) -> Stmt
+    ensures { statement_of result ≡ jump (jump_kind (jump_of kind)) line }
+{
+    match kind {
+        Jump::Breaks => Stmt::Break { line },
+        Jump::Continues => Stmt::Continue { line },
+    }
+}
+
 // The first token of a statement, or what follows items.
 fn begun(
     alloc: Global,
@@ -82,6 +94,7 @@ fn begun(
     lexeme: Lexeme,
     place: u32,
 ) -> Result<Mode, ParseFault>
+    requires { length text.now ≤ 65536 }
     ensures { Gives (λ m. at (state_of context.new) (frames_of frames.new.items) (mode_of m)) result
         (begun (line_at text.now) width (state_of context.old) (frames_of frames.old.items) (lexeme_kind lexeme) place) }
 {
@@ -102,6 +115,7 @@ fn opened(
     symbol: Symbol,
     place: u32,
 ) -> Result<Mode, ParseFault>
+    requires { length text.now ≤ 65536 }
     ensures { Gives (λ m. at (state_of context.new) (frames_of frames.new.items) (mode_of m)) result
         (begun (line_at text.now) width (state_of context.old) (frames_of frames.old.items) (unnamed (symbol_kind symbol)) place) }
 {
@@ -117,6 +131,16 @@ fn opened(
         Symbol::Return => Ok(Mode::Returning),
         Symbol::If => Ok(Mode::Opens(Test::If, place)),
         Symbol::While => Ok(Mode::Opens(Test::While, place)),
+        Symbol::Do => {
+            context.counted(place)?;
+            frames.push(Frame::Under(Within::Body(place), Vec::new(alloc)))?;
+            Ok(Mode::Stands)
+        }
+        Symbol::For => Ok(Mode::Heads(place)),
+        Symbol::Jump(jump) => {
+            context.jumped(is_inside(frames), place)?;
+            Ok(Mode::Ends(one(alloc, jump_node(jump, line_of(text, place)))?))
+        }
         Symbol::Assume => {
             context.counted(place)?;
             Ok(Mode::Opens(Test::Assume, place))
@@ -192,6 +216,42 @@ fn behind_step(
     }
 }
 
+// A `while` behind a statement: the end of a `do`, or a loop.
+fn while_behind(context: &Context, frames: &mut Vec<Frame>, place: u32) -> Result<Mode, AllocError>
+    ensures { IfOk result (λ m. while_behind (state_of context.now, frames_of frames.old.items) place
+        ≡ at (state_of context.now) (frames_of frames.new.items) (mode_of m)) }
+{
+    match frames.pop() {
+        Some(Frame::Under(within, nodes)) => match within {
+            Within::Body(from) => return Ok(Mode::Opens(Test::Do(Block::new(nodes)), from)),
+            other => frames.push(Frame::Under(other, nodes))?,
+        },
+        Some(other) => frames.push(other)?,
+        None => {}
+    }
+    Ok(Mode::Opens(Test::While, place))
+}
+
+// The first token behind a statement, where it is no `else`.
+fn behind_closed(
+    alloc: Global,
+    text: &[u8],
+    width: usize,
+    context: &mut Context,
+    frames: &mut Vec<Frame>,
+    lexeme: Lexeme,
+    place: u32,
+) -> Result<Mode, ParseFault>
+    requires { length text.now ≤ 65536 }
+    ensures { Gives (λ m. at (state_of context.new) (frames_of frames.new.items) (mode_of m)) result
+        (behind_closed (line_at text.now) width (state_of context.old, frames_of frames.old.items) (lexeme_kind lexeme) place) }
+{
+    match lexeme {
+        Lexeme::Plain(Symbol::While) => Ok(while_behind(context, frames, place)?),
+        other => begun(alloc, text, width, context, frames, other, place),
+    }
+}
+
 fn is_else(lexeme: &Lexeme) -> bool
     ensures { result ≡ is_else (lexeme_kind lexeme.now) }
 {
@@ -214,11 +274,11 @@ fn behind_statement(
         (behind_statement (line_at text.now) width (state_of context.old) (frames_of frames.old.items) (statements_of nodes.items) (lexeme_kind lexeme) place) }
 {
     if is_else(&lexeme) {
-        attach(alloc, text, frames, nodes)?;
+        attach(alloc, text, context, frames, nodes)?;
         Ok(Mode::Stands)
     } else {
-        close(alloc, text, frames, nodes)?;
-        begun(alloc, text, width, context, frames, lexeme, place)
+        close(alloc, text, context, frames, nodes)?;
+        behind_closed(alloc, text, width, context, frames, lexeme, place)
     }
 }
 
@@ -250,8 +310,9 @@ fn behind_declarator(
         }
         Lexeme::Plain(Symbol::Semicolon) => {
             let stmt = context.declared(text, &name, from, None)?;
+            let next = next_mode(frames);
             pushed(alloc, frames, stmt)?;
-            Ok(Mode::Stands)
+            Ok(next)
         }
         _ => Ok(Mode::Stands),
     }
@@ -295,6 +356,67 @@ fn a_declarator(lexeme: Lexeme, place: u32) -> Mode
     }
 }
 
+// The first part of the head of a `for`.
+fn in_first(
+    alloc: Global,
+    text: &[u8],
+    width: usize,
+    context: &mut Context,
+    frames: &mut Vec<Frame>,
+    lexeme: Lexeme,
+    place: u32,
+) -> Result<Mode, ParseFault>
+    requires { length text.now ≤ 65536 }
+    ensures { Gives (λ m. at (state_of context.new) (frames_of frames.new.items) (mode_of m)) result
+        (in_first (line_at text.now) width (state_of context.old) (frames_of frames.old.items) (lexeme_kind lexeme) place) }
+{
+    match lexeme {
+        Lexeme::Plain(Symbol::Semicolon) => Ok(Mode::TestPart),
+        other => begun(alloc, text, width, context, frames, other, place),
+    }
+}
+
+// Its condition.
+fn in_test(
+    alloc: Global,
+    text: &[u8],
+    width: usize,
+    context: &mut Context,
+    frames: &mut Vec<Frame>,
+    lexeme: Lexeme,
+    place: u32,
+) -> Result<Mode, ParseFault>
+    ensures { Gives (λ m. at (state_of context.new) (frames_of frames.new.items) (mode_of m)) result
+        (in_test (line_at text.now) width (state_of context.old) (frames_of frames.old.items) (lexeme_kind lexeme) place) }
+{
+    match lexeme {
+        Lexeme::Plain(Symbol::Semicolon) => headed(context, frames, always(alloc, width)?),
+        other => wanted(alloc, text, width, context, frames, other, place),
+    }
+}
+
+// Its change.
+fn in_last(
+    alloc: Global,
+    text: &[u8],
+    width: usize,
+    context: &mut Context,
+    frames: &mut Vec<Frame>,
+    lexeme: Lexeme,
+    place: u32,
+) -> Result<Mode, ParseFault>
+    requires { length text.now ≤ 65536 }
+    ensures { Gives (λ m. at (state_of context.new) (frames_of frames.new.items) (mode_of m)) result
+        (in_last (line_at text.now) width (state_of context.old) (frames_of frames.old.items) (lexeme_kind lexeme) place) }
+{
+    match lexeme {
+        Lexeme::Plain(Symbol::RightParen) => {
+            Ok(settled(alloc, context, frames, Vec::new(alloc))?)
+        }
+        other => begun(alloc, text, width, context, frames, other, place),
+    }
+}
+
 /// The next token, in a mode.
 pub(crate) fn in_mode(
     alloc: Global,
@@ -329,7 +451,15 @@ pub(crate) fn in_mode(
         Mode::Stepping(direction, from) => behind_step(
             alloc, text, width, context, frames, direction, from, lexeme, place,
         ),
-        Mode::Ends(nodes) => Ok(Mode::After(nodes)),
+        Mode::Heads(from) => {
+            let known = context.known.len();
+            frames.push(Frame::Header(known, from, Vec::new(alloc)))?;
+            Ok(Mode::FirstPart)
+        }
+        Mode::FirstPart => in_first(alloc, text, width, context, frames, lexeme, place),
+        Mode::TestPart => in_test(alloc, text, width, context, frames, lexeme, place),
+        Mode::LastPart => in_last(alloc, text, width, context, frames, lexeme, place),
+        Mode::Ends(nodes) => Ok(settled(alloc, context, frames, nodes)?),
         Mode::After(nodes) => {
             behind_statement(alloc, text, width, context, frames, nodes, lexeme, place)
         }

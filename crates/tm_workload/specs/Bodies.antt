@@ -1,7 +1,7 @@
 -- What a generated program's text means.
 use Rattle.std.specs.Prelude.{ℕ, ◌+◌, pos, neg_ℤ, List, [], ◌∷◌, codes}
 use Rattle.tm_tree.specs.declared.cond.Rel.TheVariants.{Lt}
-use Rattle.tm_tree.specs.Tree.{Statements, compare, set, loop, nil, cons}
+use Rattle.tm_tree.specs.Tree.{Statements, compare, while_loop, set, loop, nil, cons}
 use Rattle.tm_parse.specs.Forms.{constant_form, variable_form}
 use Rattle.tm_workload.specs.declared.draws.Loop.{Loop}
 use Rattle.tm_workload.specs.Draws.{following, loops_from}
@@ -21,7 +21,7 @@ abbrev pub loops_body : ℕ → List Loop → Statements
 loops_body line [] = nil
 loops_body line (l ∷ ls) =
     cons (set l.variable (constant_form 3 (pos 0)) line)
-    (cons (loop (compare Lt (variable_form 3 l.variable (neg_ℤ (pos l.bound)))) (turn_of (line + 2) l) (line + 1))
+    (cons (loop while_loop (compare Lt (variable_form 3 l.variable (neg_ℤ (pos l.bound)))) (turn_of (line + 2) l) (line + 1))
     (loops_body (line + 5) ls))
 
 -- all variables are 0 on line 2, and the loops begin on line 3

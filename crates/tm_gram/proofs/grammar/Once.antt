@@ -2,6 +2,9 @@
 use Rattle.std.proofs.Common.{◌≡◌, ◌∙◌, ◌++◌, ℕ, suc, List, [], ◌∷◌, refl, sym, ap, ap₂, append_assoc, arith, subst}
 use Rattle.tm_gram.specs.Grammar.{Change, replaces, Kind, infix_sign, minus_op, a_name, a_number, right_paren, left_paren, right_brace, left_brace, comma}
 use Rattle.tm_gram.specs.Grammar.{semicolon, colon, change_sign, int_word, main_word, if_word, else_word, while_word, return_word, assume_word, the_end}
+use Rattle.tm_gram.specs.Grammar.{do_word, for_word, step_sign, Direction, negative, positive, negation, number, variable, free, grouped, prefixed, joined}
+use Rattle.tm_gram.specs.Grammar.{Update, spell_update, GoodUpdate, ForFirst, no_first, declared_first, updated_first, spell_first, GoodFirst, ForTest, no_test}
+use Rattle.tm_gram.specs.Grammar.{given_test, spell_test, GoodTest, ForLast, no_last, updated_last, spell_last, GoodLast, repeat_after, repeat_for, jumps, updates}
 use Rattle.tm_gram.specs.Grammar.{Token, token, Groups, Expr, spell_expr, bare, given, Declarators, declares, declares_more, spell_declarators}
 use Rattle.tm_gram.specs.Grammar.{GoodDeclarators, Core, empty, block, if_alone, if_else, repeat, assumed, set, step_after, step_before, Sub, labelled, plain}
 use Rattle.tm_gram.specs.Grammar.{Items, no_items, label, declaration, item, spell_core, spell_sub, spell_items, Ending, shut, waiting, ending_core}
@@ -53,9 +56,12 @@ label_core x a b y z (if_alone i j f k s) e = cc
 label_core x a b y z (if_else i j f k s l t) e = cc
 label_core x a b y z (repeat i j f k s) e = cc
 label_core x a b y z (assumed i j f k l) e = cc
-label_core x a b y z (set v i h j f k) e = cc
-label_core x a b y z (step_after v i h j k) e = cc
-label_core x a b y z (step_before h i v j k) e = cc
+label_core x a b y z (repeat_after i s j k f l m) e = cc
+label_core x a b y z (repeat_for i j f t l s) e = cc
+label_core x a b y z (jumps j i k) e = cc
+label_core x a b y z (updates (set v i h j f) k) e = cc
+label_core x a b y z (updates (step_after v i h j) k) e = cc
+label_core x a b y z (updates (step_before h i v j) k) e = cc
 
 int_core : (a : ℕ) (y z : List Token) (c : Core) → token int_word a ∷ y ≡ spell_core c ++ z → ⊥
 int_core a y z (empty i) e = cc
@@ -64,9 +70,12 @@ int_core a y z (if_alone i j f k s) e = cc
 int_core a y z (if_else i j f k s l t) e = cc
 int_core a y z (repeat i j f k s) e = cc
 int_core a y z (assumed i j f k l) e = cc
-int_core a y z (set v i h j f k) e = cc
-int_core a y z (step_after v i h j k) e = cc
-int_core a y z (step_before h i v j k) e = cc
+int_core a y z (repeat_after i s j k f l m) e = cc
+int_core a y z (repeat_for i j f t l s) e = cc
+int_core a y z (jumps j i k) e = cc
+int_core a y z (updates (set v i h j f) k) e = cc
+int_core a y z (updates (step_after v i h j) k) e = cc
+int_core a y z (updates (step_before h i v j) k) e = cc
 
 -- the kinds of token that end items
 abbrev pub Ends : Kind → Type 0
@@ -81,18 +90,24 @@ end_core right_brace a y z (if_alone i j f k s) n e = cc
 end_core right_brace a y z (if_else i j f k s l t) n e = cc
 end_core right_brace a y z (repeat i j f k s) n e = cc
 end_core right_brace a y z (assumed i j f k l) n e = cc
-end_core right_brace a y z (set v i h j f k) n e = cc
-end_core right_brace a y z (step_after v i h j k) n e = cc
-end_core right_brace a y z (step_before h i v j k) n e = cc
+end_core right_brace a y z (repeat_after i s j k f l m) n e = cc
+end_core right_brace a y z (repeat_for i j f t l s) n e = cc
+end_core right_brace a y z (jumps j i k) n e = cc
+end_core right_brace a y z (updates (set v i h j f) k) n e = cc
+end_core right_brace a y z (updates (step_after v i h j) k) n e = cc
+end_core right_brace a y z (updates (step_before h i v j) k) n e = cc
 end_core return_word a y z (empty i) n e = cc
 end_core return_word a y z (block i is j) n e = cc
 end_core return_word a y z (if_alone i j f k s) n e = cc
 end_core return_word a y z (if_else i j f k s l t) n e = cc
 end_core return_word a y z (repeat i j f k s) n e = cc
 end_core return_word a y z (assumed i j f k l) n e = cc
-end_core return_word a y z (set v i h j f k) n e = cc
-end_core return_word a y z (step_after v i h j k) n e = cc
-end_core return_word a y z (step_before h i v j k) n e = cc
+end_core return_word a y z (repeat_after i s j k f l m) n e = cc
+end_core return_word a y z (repeat_for i j f t l s) n e = cc
+end_core return_word a y z (jumps j i k) n e = cc
+end_core return_word a y z (updates (set v i h j f) k) n e = cc
+end_core return_word a y z (updates (step_after v i h j) k) n e = cc
+end_core return_word a y z (updates (step_before h i v j) k) n e = cc
 end_core _ a y z c n e = absurd n
 
 end_name : (k : Kind) (a b : ℕ) (x : List ℕ) (y z : List Token) → Ends k → token k a ∷ y ≡ token (a_name x) b ∷ z → ⊥
@@ -119,8 +134,14 @@ if_else_same a b f c s i t a2 b2 f2 c2 s2 j u h k l m n o p = cc
 repeat_same : (a b : ℕ) (f : Expr) (c : ℕ) (s : Sub) (a2 b2 : ℕ) (f2 : Expr) (c2 : ℕ) (s2 : Sub) → a ≡ a2 → b ≡ b2 → f ≡ f2 → c ≡ c2 → s ≡ s2 → repeat a b f c s ≡ repeat a2 b2 f2 c2 s2
 repeat_same a b f c s a2 b2 f2 c2 s2 h i j k l = cc
 
-set_same : (v : List ℕ) (a b : ℕ) (g : Change) (f : Expr) (c : ℕ) (v2 : List ℕ) (a2 b2 : ℕ) (g2 : Change) (f2 : Expr) (c2 : ℕ) → v ≡ v2 → g ≡ g2 → a ≡ a2 → b ≡ b2 → f ≡ f2 → c ≡ c2 → set v a g b f c ≡ set v2 a2 g2 b2 f2 c2
-set_same v a b g f c v2 a2 b2 g2 f2 c2 h i j k l m = cc
+repeat_after_same : (a : ℕ) (s : Sub) (b c : ℕ) (f : Expr) (d i a2 : ℕ) (s2 : Sub) (b2 c2 : ℕ) (f2 : Expr) (d2 i2 : ℕ) → token do_word a ≡ token do_word a2 → s ≡ s2 → b ≡ b2 → c ≡ c2 → f ≡ f2 → d ≡ d2 → token semicolon i ≡ token semicolon i2 → repeat_after a s b c f d i ≡ repeat_after a2 s2 b2 c2 f2 d2 i2
+repeat_after_same a s b c f d i a2 s2 b2 c2 f2 d2 i2 h j k l m n o = cc
+
+repeat_for_same : (a b : ℕ) (f : ForFirst) (t : ForTest) (l : ForLast) (s : Sub) (a2 b2 : ℕ) (f2 : ForFirst) (t2 : ForTest) (l2 : ForLast) (s2 : Sub) → token for_word a ≡ token for_word a2 → token left_paren b ≡ token left_paren b2 → f ≡ f2 → t ≡ t2 → l ≡ l2 → s ≡ s2 → repeat_for a b f t l s ≡ repeat_for a2 b2 f2 t2 l2 s2
+repeat_for_same a b f t l s a2 b2 f2 t2 l2 s2 h i j k m n = cc
+
+set_same : (v : List ℕ) (a b : ℕ) (g : Change) (f : Expr) (v2 : List ℕ) (a2 b2 : ℕ) (g2 : Change) (f2 : Expr) → token (a_name v) a ≡ token (a_name v2) a2 → token (change_sign g) b ≡ token (change_sign g2) b2 → f ≡ f2 → set v a g b f ≡ set v2 a2 g2 b2 f2
+set_same v a b g f v2 a2 b2 g2 f2 h i j = cc
 
 assumed_same : (a b : ℕ) (f : Expr) (c d a2 b2 : ℕ) (f2 : Expr) (c2 d2 : ℕ) → a ≡ a2 → b ≡ b2 → f ≡ f2 → c ≡ c2 → d ≡ d2 → assumed a b f c d ≡ assumed a2 b2 f2 c2 d2
 assumed_same a b f c d a2 b2 f2 c2 d2 h i j k l = cc
@@ -192,6 +213,101 @@ declarators_once (declares_more (bare v a) c xs) (declares_more (given v2 a2 b2 
 declarators_once (declares_more (given v a b f) c xs) (declares (bare v2 a2) c2) w x g h e = cc
 declarators_once (declares_more (given v a b f) c xs) (declares_more (bare v2 a2) c2 ys) w x g h e = cc
 
+-- ---- assignments and steps, and what ends them
+update_once : (u v : Update) (t s : Token) (w x : List Token) → IsEnd t → IsEnd s → GoodUpdate u → GoodUpdate v → spell_update u ++ t ∷ w ≡ spell_update v ++ s ∷ x → (u ≡ v) × (t ∷ w ≡ s ∷ x)
+update_once (set v a g b f) (set v2 a2 g2 b2 f2) t s w x m n h i e =
+    let q = tail_of (token (a_name v) a) (token (a_name v2) a2) _ _ e in
+    let r = unique_expr (suc (weight f)) (unique (suc (weight f))) f f2 t s w x (omega arith) h i m n (tail_of (token (change_sign g) b) (token (change_sign g2) b2) _ _ q) in
+    (set_same v a b g f v2 a2 b2 g2 f2 (head_of _ _ _ _ e) (head_of _ _ _ _ q) r.0, r.1)
+update_once (step_after v a g b) (step_after v2 a2 g2 b2) t s w x m n h i e = ((cc), (cc))
+update_once (step_before g a v b) (step_before g2 a2 v2 b2) t s w x m n h i e = ((cc), (cc))
+update_once _ _ t s w x m n h i e = cc
+
+-- an assignment or a step, and one token
+ended_once : (u v : Update) (t s : Token) (w x : List Token) → IsEnd t → IsEnd s → GoodUpdate u → GoodUpdate v → (spell_update u ++ t ∷ []) ++ w ≡ (spell_update v ++ s ∷ []) ++ x → (u ≡ v) × (t ∷ w ≡ s ∷ x)
+ended_once u v t s w x m n h i e = update_once u v t s w x m n h i (sym (append_assoc (spell_update u) (t ∷ []) w) ∙ e ∙ append_assoc (spell_update v) (s ∷ []) x)
+
+updates_once : (u v : Update) (a b : ℕ) (w x : List Token) → GoodUpdate u → GoodUpdate v → (spell_update u ++ token semicolon a ∷ []) ++ w ≡ (spell_update v ++ token semicolon b ∷ []) ++ x → (updates u a ≡ updates v b) × (w ≡ x)
+updates_once u v a b w x h i e =
+    let r = ended_once u v (token semicolon a) (token semicolon b) w x tt tt h i e in
+    let k : token semicolon a ≡ token semicolon b = head_of _ _ _ _ r.1 in
+    let j : u ≡ v = r.0 in
+    ((cc), tail_of _ _ _ _ r.1)
+
+-- ---- the head of a `for`
+updated_first_once : (u v : Update) (a b : ℕ) (w x : List Token) → GoodUpdate u → GoodUpdate v → (spell_update u ++ token semicolon a ∷ []) ++ w ≡ (spell_update v ++ token semicolon b ∷ []) ++ x → (updated_first u a ≡ updated_first v b) × (w ≡ x)
+updated_first_once u v a b w x h i e =
+    let r = ended_once u v (token semicolon a) (token semicolon b) w x tt tt h i e in
+    let k : token semicolon a ≡ token semicolon b = head_of _ _ _ _ r.1 in
+    let j : u ≡ v = r.0 in
+    ((cc), tail_of _ _ _ _ r.1)
+
+first_once : (f g : ForFirst) (w x : List Token) → GoodFirst f → GoodFirst g → spell_first f ++ w ≡ spell_first g ++ x → (f ≡ g) × (w ≡ x)
+first_once (no_first a) (no_first b) w x h i e = ((cc), (cc))
+first_once (declared_first a xs) (declared_first b ys) w x h i e =
+    let r = declarators_once xs ys w x h i (tail_of (token int_word a) (token int_word b) _ _ e) in
+    let k : token int_word a ≡ token int_word b = head_of _ _ _ _ e in
+    let j : xs ≡ ys = r.0 in
+    ((cc), r.1)
+first_once (updated_first (set v a y b f) c) (updated_first (set v2 a2 y2 b2 f2) c2) w x h i e = updated_first_once (set v a y b f) (set v2 a2 y2 b2 f2) c c2 w x h i e
+first_once (updated_first (step_after v a y b) c) (updated_first (step_after v2 a2 y2 b2) c2) w x h i e = ((cc), (cc))
+first_once (updated_first (step_before y a v b) c) (updated_first (step_before y2 a2 v2 b2) c2) w x h i e = ((cc), (cc))
+first_once _ (updated_first (set v a y b f) z) w x h i e = cc
+first_once _ (updated_first (step_after v a y b) z) w x h i e = cc
+first_once _ (updated_first (step_before y a v b) z) w x h i e = cc
+first_once (updated_first (set v a y b f) z) _ w x h i e = cc
+first_once (updated_first (step_after v a y b) z) _ w x h i e = cc
+first_once (updated_first (step_before y a v b) z) _ w x h i e = cc
+first_once _ _ w x h i e = cc
+
+-- no expression begins with `;`
+semicolon_expr : (e : Expr) (a : ℕ) (w x : List Token) → token semicolon a ∷ w ≡ spell_expr e ++ x → ⊥
+semicolon_expr (number n b) a w x q = cc
+semicolon_expr (variable v b) a w x q = cc
+semicolon_expr (free b c d) a w x q = cc
+semicolon_expr (grouped b e c) a w x q = cc
+semicolon_expr (prefixed negative b e) a w x q = cc
+semicolon_expr (prefixed positive b e) a w x q = cc
+semicolon_expr (prefixed negation b e) a w x q = cc
+semicolon_expr (joined e o b f) a w x q = semicolon_expr e a w (token (infix_sign o) b ∷ (spell_expr f ++ x)) (q ∙ append_assoc (spell_expr e) (token (infix_sign o) b ∷ spell_expr f) x)
+
+test_once : (t u : ForTest) (w x : List Token) → GoodTest t → GoodTest u → spell_test t ++ w ≡ spell_test u ++ x → (t ≡ u) × (w ≡ x)
+test_once (no_test a) (no_test b) w x h i e = ((cc), (cc))
+test_once (no_test a) (given_test f b) w x h i e = absurd (semicolon_expr f a w (token semicolon b ∷ x) (e ∙ append_assoc (spell_expr f) (token semicolon b ∷ []) x))
+test_once (given_test f a) (no_test b) w x h i e = absurd (semicolon_expr f b x (token semicolon a ∷ w) (sym e ∙ append_assoc (spell_expr f) (token semicolon a ∷ []) w))
+test_once (given_test f a) (given_test g b) w x h i e =
+    let r = unique_expr (suc (weight f)) (unique (suc (weight f))) f g (token semicolon a) (token semicolon b) w x (omega arith) h i tt tt (sym (append_assoc (spell_expr f) (token semicolon a ∷ []) w) ∙ e ∙ append_assoc (spell_expr g) (token semicolon b ∷ []) x) in
+    let k : token semicolon a ≡ token semicolon b = head_of _ _ _ _ r.1 in
+    let j : f ≡ g = r.0 in
+    ((cc), tail_of _ _ _ _ r.1)
+
+updated_last_once : (u v : Update) (a b : ℕ) (w x : List Token) → GoodUpdate u → GoodUpdate v → (spell_update u ++ token right_paren a ∷ []) ++ w ≡ (spell_update v ++ token right_paren b ∷ []) ++ x → (updated_last u a ≡ updated_last v b) × (w ≡ x)
+updated_last_once u v a b w x h i e =
+    let r = ended_once u v (token right_paren a) (token right_paren b) w x tt tt h i e in
+    let k : token right_paren a ≡ token right_paren b = head_of _ _ _ _ r.1 in
+    let j : u ≡ v = r.0 in
+    ((cc), tail_of _ _ _ _ r.1)
+
+last_once : (l m : ForLast) (w x : List Token) → GoodLast l → GoodLast m → spell_last l ++ w ≡ spell_last m ++ x → (l ≡ m) × (w ≡ x)
+last_once (no_last a) (no_last b) w x h i e = ((cc), (cc))
+last_once (updated_last (set v a y b f) c) (updated_last (set v2 a2 y2 b2 f2) c2) w x h i e = updated_last_once (set v a y b f) (set v2 a2 y2 b2 f2) c c2 w x h i e
+last_once (updated_last (step_after v a y b) c) (updated_last (step_after v2 a2 y2 b2) c2) w x h i e = ((cc), (cc))
+last_once (updated_last (step_before y a v b) c) (updated_last (step_before y2 a2 v2 b2) c2) w x h i e = ((cc), (cc))
+last_once _ (updated_last (set v a y b f) z) w x h i e = cc
+last_once _ (updated_last (step_after v a y b) z) w x h i e = cc
+last_once _ (updated_last (step_before y a v b) z) w x h i e = cc
+last_once (updated_last (set v a y b f) z) _ w x h i e = cc
+last_once (updated_last (step_after v a y b) z) _ w x h i e = cc
+last_once (updated_last (step_before y a v b) z) _ w x h i e = cc
+
+-- the end of a `do`
+abbrev do_tail : ℕ → ℕ → Expr → ℕ → ℕ → List Token
+do_tail b c f d i = token while_word b ∷ token left_paren c ∷ (spell_expr f ++ token right_paren d ∷ token semicolon i ∷ [])
+
+-- the rest of a `for`
+abbrev after_first : ForTest → ForLast → Sub → List Token
+after_first t l s = spell_test t ++ (spell_last l ++ spell_sub s)
+
 mutual
   core_once : (c d : Core) (w x : List Token) → GoodCore c → GoodCore d → Clear (ending_core c) w → Clear (ending_core d) x → spell_core c ++ w ≡ spell_core d ++ x → (c ≡ d) × (w ≡ x)
   core_once (empty a) (empty b) w x g h m n e = ((cc), (cc))
@@ -226,15 +342,27 @@ mutual
       let r = cond_once assume_word a b f c left_paren a2 b2 f2 c2 right_paren (token semicolon d ∷ []) (token semicolon d2 ∷ []) w x tt g h e in
       let q : token semicolon d ≡ token semicolon d2 = head_of _ _ _ _ r.rest in
       (assumed_same a b f c d a2 b2 f2 c2 d2 r.one r.two r.same r.three (cc), tail_of _ _ _ _ r.rest)
-  core_once (set v a y b f c) (set v2 a2 y2 b2 f2 c2) w x g h m n e =
-      let k : v ≡ v2 = cc in
-      let i : y ≡ y2 = cc in
-      let l = subst (λ z. token (a_name v) a ∷ token (change_sign y) b ∷ ((spell_expr f ++ token semicolon c ∷ []) ++ w) ≡ token (a_name z) a2 ∷ token (change_sign y2) b2 ∷ ((spell_expr f2 ++ token semicolon c2 ∷ []) ++ x)) (sym k) e in
-      let o = subst (λ z. token (a_name v) a ∷ token (change_sign y) b ∷ ((spell_expr f ++ token semicolon c ∷ []) ++ w) ≡ token (a_name v) a2 ∷ token (change_sign z) b2 ∷ ((spell_expr f2 ++ token semicolon c2 ∷ []) ++ x)) (sym i) l in
-      let r = cond_once (a_name v) a b f c (change_sign y) a2 b2 f2 c2 semicolon [] [] w x tt g h o in
-      (set_same v a b y f c v2 a2 b2 y2 f2 c2 k i r.one r.two r.same r.three, r.rest)
-  core_once (step_after v a y b c) (step_after v2 a2 y2 b2 c2) w x g h m n e = ((cc), (cc))
-  core_once (step_before y a v b c) (step_before y2 a2 v2 b2 c2) w x g h m n e = ((cc), (cc))
+  core_once (repeat_after a s b c f d i) (repeat_after a2 s2 b2 c2 f2 d2 i2) w x g h m n e =
+      let r = sub_once s s2 (do_tail b c f d i ++ w) (do_tail b2 c2 f2 d2 i2 ++ x) g.0 h.0 (goes_clear (ending_sub s) _ refl) (goes_clear (ending_sub s2) _ refl) (sym (append_assoc (spell_sub s) (do_tail b c f d i) w) ∙ tail_of (token do_word a) (token do_word a2) _ _ e ∙ append_assoc (spell_sub s2) (do_tail b2 c2 f2 d2 i2) x) in
+      let q = cond_once while_word b c f d left_paren b2 c2 f2 d2 right_paren (token semicolon i ∷ []) (token semicolon i2 ∷ []) w x tt g.1 h.1 r.1 in
+      (repeat_after_same a s b c f d i a2 s2 b2 c2 f2 d2 i2 (head_of _ _ _ _ e) r.0 q.one q.two q.same q.three (head_of _ _ _ _ q.rest), tail_of _ _ _ _ q.rest)
+  core_once (repeat_for a b f t l s) (repeat_for a2 b2 f2 t2 l2 s2) w x g h m n e =
+      let k = tail_of (token for_word a) (token for_word a2) _ _ e in
+      let r = first_once f f2 (after_first t l s ++ w) (after_first t2 l2 s2 ++ x) g.0 h.0 (sym (append_assoc (spell_first f) (after_first t l s) w) ∙ tail_of (token left_paren b) (token left_paren b2) _ _ k ∙ append_assoc (spell_first f2) (after_first t2 l2 s2) x) in
+      let q = test_once t t2 ((spell_last l ++ spell_sub s) ++ w) ((spell_last l2 ++ spell_sub s2) ++ x) g.1 h.1 (sym (append_assoc (spell_test t) (spell_last l ++ spell_sub s) w) ∙ r.1 ∙ append_assoc (spell_test t2) (spell_last l2 ++ spell_sub s2) x) in
+      let o = last_once l l2 (spell_sub s ++ w) (spell_sub s2 ++ x) g.2 h.2 (sym (append_assoc (spell_last l) (spell_sub s) w) ∙ q.1 ∙ append_assoc (spell_last l2) (spell_sub s2) x) in
+      let y = sub_once s s2 w x g.3 h.3 m n o.1 in
+      (repeat_for_same a b f t l s a2 b2 f2 t2 l2 s2 (head_of _ _ _ _ e) (head_of _ _ _ _ k) r.0 q.0 o.0 y.0, y.1)
+  core_once (jumps y a b) (jumps y2 a2 b2) w x g h m n e = ((cc), (cc))
+  core_once (updates (set v a y b f) c) (updates (set v2 a2 y2 b2 f2) c2) w x g h m n e = updates_once (set v a y b f) (set v2 a2 y2 b2 f2) c c2 w x g h e
+  core_once (updates (step_after v a y b) c) (updates (step_after v2 a2 y2 b2) c2) w x g h m n e = ((cc), (cc))
+  core_once (updates (step_before y a v b) c) (updates (step_before y2 a2 v2 b2) c2) w x g h m n e = ((cc), (cc))
+  core_once _ (updates (set v a y b f) z) w x g h m n e = cc
+  core_once _ (updates (step_after v a y b) z) w x g h m n e = cc
+  core_once _ (updates (step_before y a v b) z) w x g h m n e = cc
+  core_once (updates (set v a y b f) z) _ w x g h m n e = cc
+  core_once (updates (step_after v a y b) z) _ w x g h m n e = cc
+  core_once (updates (step_before y a v b) z) _ w x g h m n e = cc
   core_once _ _ w x g h m n e = cc
 
   sub_once : (s t : Sub) (w x : List Token) → GoodSub s → GoodSub t → Clear (ending_sub s) w → Clear (ending_sub t) x → spell_sub s ++ w ≡ spell_sub t ++ x → (s ≡ t) × (w ≡ x)

@@ -4,9 +4,10 @@ use Rattle.tm_gram.specs.Grammar.{equal, Op, compare_op, minus_op, a_name}
 use Rattle.tm_gram.specs.Grammar.{a_number, infix_sign, left_paren, right_paren, right_brace, comma, semicolon, colon, else_word, Token, token, level, Groups}
 use Rattle.tm_gram.specs.Grammar.{Expr, number, variable, free, grouped, prefixed, joined, spell_expr, Declarators, spell_declarators, GoodDeclarators, Core}
 use Rattle.tm_gram.specs.Grammar.{spell_core, ending_core, GoodCore, Sub, Items, Return, spell_return, Parameters, spell_parameters, spell_sub, spell_items}
-use Rattle.tm_gram.specs.Grammar.{Ending, shut, waiting, ending_sub, GoodSub, GoodItems}
+use Rattle.tm_gram.specs.Grammar.{Ending, shut, waiting, ending_sub, GoodSub, GoodItems, while_word, Update, spell_update, GoodUpdate, ForFirst, spell_first}
+use Rattle.tm_gram.specs.Grammar.{GoodFirst, ForTest, spell_test, GoodTest, ForLast, spell_last, GoodLast}
 use Rattle.tm_gram.specs.Machine.{Ender, until_paren, until_semicolon, until_declared, in_sub, in_block, in_main, Goal, operand, more, statement, after_name}
-use Rattle.tm_gram.specs.Machine.{maybe_else, condition, declarator, declared, some_name, parameters, returned, some_number, only, mark_kind}
+use Rattle.tm_gram.specs.Machine.{maybe_else, condition, do_end, header, header_first, header_test, header_last, updating, declarator, declared, some_name, parameters, returned, some_number, only, mark_kind}
 use Rattle.tm_gram.proofs.grammar.Complete.{NotElse}
 use Rattle.std.proofs.lemmas.Bool.{ltb-true, ltb-false}
 use Rattle.std.proofs.lemmas.List.{append-nil}
@@ -125,6 +126,12 @@ Holds (after_name in_block d ∷ gs) w = ((b : ℕ) × (v : List Token) × (w �
 Holds (after_name in_main d ∷ gs) w = ((b : ℕ) × (v : List Token) × (w ≡ token colon b ∷ v) × Holds gs v) ⊎ ((x : List ℕ) (a : ℕ) → (c : Core) × (v : List Token) × (token (a_name x) a ∷ w ≡ spell_core c ++ v) × GoodCore c × Clear (ending_core c) v × Holds gs v)
 Holds (maybe_else d ∷ gs) w = (Clear waiting w × Holds gs w) ⊎ ((a : ℕ) × (s : Sub) × (v : List Token) × (w ≡ token else_word a ∷ (spell_sub s ++ v)) × GoodSub s × Clear (ending_sub s) v × Holds gs v)
 Holds (condition d ∷ gs) w = (b : ℕ) × (e : Expr) × (c : ℕ) × (v : List Token) × (w ≡ token left_paren b ∷ (spell_expr e ++ token right_paren c ∷ v)) × Groups 0 e × Holds gs v
+Holds (do_end d ∷ gs) w = (b : ℕ) × (c : ℕ) × (e : Expr) × (i : ℕ) × (j : ℕ) × (v : List Token) × (w ≡ token while_word b ∷ token left_paren c ∷ (spell_expr e ++ token right_paren i ∷ token semicolon j ∷ v)) × Groups 0 e × Holds gs v
+Holds (header d ∷ gs) w = (b : ℕ) × (f : ForFirst) × (t : ForTest) × (l : ForLast) × (v : List Token) × (w ≡ token left_paren b ∷ (spell_first f ++ (spell_test t ++ (spell_last l ++ v)))) × GoodFirst f × GoodTest t × GoodLast l × Holds gs v
+Holds (header_first d ∷ gs) w = (f : ForFirst) × (v : List Token) × (w ≡ spell_first f ++ v) × GoodFirst f × Holds gs v
+Holds (header_test d ∷ gs) w = (t : ForTest) × (v : List Token) × (w ≡ spell_test t ++ v) × GoodTest t × Holds gs v
+Holds (header_last d ∷ gs) w = (l : ForLast) × (v : List Token) × (w ≡ spell_last l ++ v) × GoodLast l × Holds gs v
+Holds (updating n d ∷ gs) w = (x : List ℕ) (a : ℕ) → (u : Update) × (y : List Token) × (v : List Token) × (token (a_name x) a ∷ w ≡ spell_update u ++ y) × GoodUpdate u × Ended n y v × Holds gs v
 Holds (declarator d ∷ gs) w = (xs : Declarators) × (v : List Token) × (w ≡ spell_declarators xs ++ v) × GoodDeclarators xs × Holds gs v
 Holds (declared d ∷ gs) w = (x : List ℕ) (a : ℕ) → (xs : Declarators) × (v : List Token) × (token (a_name x) a ∷ w ≡ spell_declarators xs ++ v) × GoodDeclarators xs × Holds gs v
 Holds (some_name ∷ gs) w = (x : List ℕ) × (a : ℕ) × (v : List Token) × (w ≡ token (a_name x) a ∷ v) × Holds gs v

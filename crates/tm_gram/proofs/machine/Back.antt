@@ -2,14 +2,17 @@
 use Rattle.std.proofs.Common.{◌≡◌, ◌∙◌, ◌++◌, inl, inr, ℕ, suc, List, [], ◌∷◌, Option, Some, None, refl, sym, ap, append_assoc, subst}
 use Rattle.tm_gram.specs.Grammar.{Op, plus_op, minus_op, negative, positive, negation, Change, replaces, Direction, Kind, a_name, a_number, infix_sign, bang}
 use Rattle.tm_gram.specs.Grammar.{left_paren, right_paren, left_brace, right_brace, comma, semicolon, colon, change_sign, step_sign, int_word, main_word}
-use Rattle.tm_gram.specs.Grammar.{void_word, if_word, else_word, while_word, return_word, assume_word, nondet_word, the_end, Token, token, Groups, Expr}
+use Rattle.tm_gram.specs.Grammar.{do_word, for_word, jump_word, Jump, Update, spell_update, GoodUpdate, ForFirst, no_first, declared_first, updated_first}
+use Rattle.tm_gram.specs.Grammar.{spell_first, ForTest, no_test, given_test, spell_test, ForLast, no_last, updated_last, spell_last, repeat_after, repeat_for}
+use Rattle.tm_gram.specs.Grammar.{jumps, updates, void_word, if_word, else_word, while_word, return_word, assume_word, nondet_word, the_end, Token, token, Groups, Expr}
 use Rattle.tm_gram.specs.Grammar.{number, variable, free, grouped, prefixed, spell_expr, Declarators, declares, declares_more, bare, given, spell_declarators}
 use Rattle.tm_gram.specs.Grammar.{Core, empty, block, if_alone, if_else, repeat, assumed, set, step_after, step_before, Sub, labelled, plain, no_items, label}
 use Rattle.tm_gram.specs.Grammar.{declaration, item, spell_core, spell_sub, spell_items, Ending, shut, waiting, ending_core, ending_sub, GoodCore, no_return}
 use Rattle.tm_gram.specs.Grammar.{returns, returns_minus, spell_return, nothing, void_at, spell_parameters, Program, program, Reads}
 use Rattle.tm_gram.specs.Machine.{Ender, until_paren, until_semicolon, until_declared, Place, in_sub, in_block, in_main, next, opening, closing}
 use Rattle.tm_gram.specs.Machine.{brace_opening, brace_closing, statement_end, main_name, int_type, text_end, Mark, Goal, operand, more, statement}
-use Rattle.tm_gram.specs.Machine.{after_name, maybe_else, condition, declarator, declared, some_name, parameters, returned, some_number, only, Entry, takes}
+use Rattle.tm_gram.specs.Machine.{ender_mark, mark_kind, do_end, header, header_first, header_test, header_last, updating, updating_entry, do_end_entry}
+use Rattle.tm_gram.specs.Machine.{header_entry, first_entry, test_entry, last_entry, after_name, maybe_else, condition, declarator, declared, some_name, parameters, returned, some_number, only, Entry, takes}
 use Rattle.tm_gram.specs.Machine.{skips, stops, prefix_entry, operand_entry, more_entry, declaration_entry, close_entry, return_entry, statement_entry}
 use Rattle.tm_gram.specs.Machine.{label_entry, name_entry, else_entry, condition_entry, declarator_entry, declared_entry, some_name_entry, parameters_entry}
 use Rattle.tm_gram.specs.Machine.{returned_entry, some_number_entry, only_entry, entry, step, run, start}
@@ -83,8 +86,15 @@ else_text a b c j e s t w v u z h i k = rw (h, i, k) (simp append_assoc refl)
 assume_text : (a b c d : ℕ) (e : Expr) (w v u : List Token) → w ≡ token left_paren b ∷ (spell_expr e ++ token right_paren c ∷ v) → v ≡ token semicolon d ∷ u → token assume_word a ∷ w ≡ spell_core (assumed a b e c d) ++ u
 assume_text a b c d e w v u h i = rw (h, i) (simp append_assoc refl)
 
-set_text : (x : List ℕ) (a b c : ℕ) (g : Change) (e : Expr) (w u v : List Token) → w ≡ spell_expr e ++ u → u ≡ token semicolon c ∷ v → token (a_name x) a ∷ token (change_sign g) b ∷ w ≡ spell_core (set x a g b e c) ++ v
-set_text x a b c g e w u v h i = rw (h, i) (simp append_assoc refl)
+do_text : (a b c i j : ℕ) (s : Sub) (e : Expr) (w v u : List Token) → w ≡ spell_sub s ++ v → v ≡ token while_word b ∷ token left_paren c ∷ (spell_expr e ++ token right_paren i ∷ token semicolon j ∷ u) → token do_word a ∷ w ≡ spell_core (repeat_after a s b c e i j) ++ u
+do_text a b c i j s e w v u h k = rw (h, k) (simp append_assoc refl)
+
+for_text : (a b : ℕ) (f : ForFirst) (t : ForTest) (l : ForLast) (s : Sub) (w v u : List Token) → w ≡ token left_paren b ∷ (spell_first f ++ (spell_test t ++ (spell_last l ++ v))) → v ≡ spell_sub s ++ u → token for_word a ∷ w ≡ spell_core (repeat_for a b f t l s) ++ u
+for_text a b f t l s w v u h k = rw (h, k) (simp append_assoc refl)
+
+-- something and the token that ends it
+end_text : (x : List Token) (t : Token) (w y v : List Token) → w ≡ x ++ y → y ≡ t ∷ v → w ≡ (x ++ t ∷ []) ++ v
+end_text x t w y v h i = h ∙ ap (λ z. x ++ z) i ∙ sym (append_assoc x (t ∷ []) v)
 
 core_if : (a i j d : ℕ) (gs : List Goal) (w : List Token) → Holds (condition i ∷ statement in_sub j ∷ maybe_else d ∷ gs) w → OneCore gs (token if_word a ∷ w)
 core_if a i j d gs w (b, e, c, v, q, g, (s, u, r, k, cl, inl (m, rest))) = (if_alone a b e c s, u, if_text a b c e s w v u q r, (g, k), m, rest)
@@ -96,11 +106,38 @@ core_while a i j gs w (b, e, c, v, q, g, (s, u, r, k, cl, rest)) = (repeat a b e
 core_assume : (a i : ℕ) (gs : List Goal) (w : List Token) → Holds (condition i ∷ only statement_end ∷ gs) w → OneCore gs (token assume_word a ∷ w)
 core_assume a i gs w (b, e, c, v, q, g, (d, u, r, rest)) = (assumed a b e c d, u, assume_text a b c d e w v u q r, g, tt, rest)
 
+core_do : (a i : ℕ) (gs : List Goal) (w : List Token) → Holds (statement in_sub i ∷ do_end i ∷ gs) w → OneCore gs (token do_word a ∷ w)
+core_do a i gs w (s, v, q, g, cl, (b, c, e, j, k, u, r, m, rest)) = (repeat_after a s b c e j k, u, do_text a b c j k s e w v u q r, (g, m), tt, rest)
+
+core_for : (a i : ℕ) (gs : List Goal) (w : List Token) → Holds (header i ∷ statement in_sub i ∷ gs) w → OneCore gs (token for_word a ∷ w)
+core_for a i gs w (b, f, t, l, v, q, g, h, k, (s, u, r, m, cl, rest)) = (repeat_for a b f t l s, u, for_text a b f t l s w v u q r, (g, h, k, m), cl, rest)
+
+core_jump : (a : ℕ) (j : Jump) (gs : List Goal) (w : List Token) → Holds (only statement_end ∷ gs) w → OneCore gs (token (jump_word j) a ∷ w)
+core_jump a j gs w (c, v, q, rest) = (jumps j a c, v, ap (λ y. token (jump_word j) a ∷ y) q, tt, tt, rest)
+
 core_block : (a i : ℕ) (gs : List Goal) (w : List Token) → Holds (statement in_block i ∷ gs) w → OneCore gs (token left_brace a ∷ w)
 core_block a i gs w (is, b, v, q, g, rest) = (block a is b, v, ap (λ x. token left_brace a ∷ x) (q ∙ sym (append_assoc (spell_items is) (token right_brace b ∷ []) v)), g, tt, rest)
 
-core_before : (a : ℕ) (s : Direction) (gs : List Goal) (w : List Token) → Holds (some_name ∷ only statement_end ∷ gs) w → OneCore gs (token (step_sign s) a ∷ w)
-core_before a s gs w (x, b, v, q, (c, u, r, rest)) = (step_before s a x b c, u, ap (λ y. token (step_sign s) a ∷ y) (q ∙ ap (λ y. token (a_name x) b ∷ y) r), tt, tt, rest)
+-- ---- assignments and steps
+abbrev UpdateThen : Ender → List Goal → List Token → Type 0
+UpdateThen n gs w = (u : Update) × (y : List Token) × (v : List Token) × (w ≡ spell_update u ++ y) × GoodUpdate u × Ended n y v × Holds gs v
+
+ended_by : (n : Ender) (c : ℕ) (w v : List Token) → w ≡ token (mark_kind (ender_mark n)) c ∷ v → Ended n w v
+ended_by until_paren c w v q = (c, q)
+ended_by until_semicolon c w v q = (c, q)
+ended_by until_declared c w v q = (no_more c, q, tt)
+
+before_then : (n : Ender) (a : ℕ) (s : Direction) (gs : List Goal) (w : List Token) → Holds (some_name ∷ only (ender_mark n) ∷ gs) w → UpdateThen n gs (token (step_sign s) a ∷ w)
+before_then n a s gs w (x, b, v, q, (c, u, r, rest)) = (step_before s a x b, v, u, ap (λ y. token (step_sign s) a ∷ y) q, tt, ended_by n c v u r, rest)
+
+after_then : (n : Ender) (a : ℕ) (s : Direction) (x : List ℕ) (b : ℕ) (gs : List Goal) (w : List Token) → Holds (only (ender_mark n) ∷ gs) w → UpdateThen n gs (token (a_name x) b ∷ token (step_sign s) a ∷ w)
+after_then n a s x b gs w (c, v, q, rest) = (step_after x b s a, w, v, refl, tt, ended_by n c w v q, rest)
+
+set_then : (n : Ender) (a : ℕ) (g : Change) (x : List ℕ) (b : ℕ) (gs : List Goal) (w : List Token) → ExprThen n gs w → UpdateThen n gs (token (a_name x) b ∷ token (change_sign g) a ∷ w)
+set_then n a g x b gs w (e, u, v, q, k, m, rest) = (set x b g a e, u, v, ap (λ y. token (a_name x) b ∷ token (change_sign g) a ∷ y) q, k, m, rest)
+
+core_updated : (gs : List Goal) (w : List Token) → UpdateThen until_semicolon gs w → OneCore gs w
+core_updated gs w (u, y, v, q, k, (c, r), rest) = (updates u c, v, end_text (spell_update u) (token semicolon c) w y v q r, k, tt, rest)
 
 in_place : (p : Place) (d : ℕ) (gs : List Goal) (w : List Token) → OneCore (next p d ++ gs) w → Holds (statement p d ∷ gs) w
 in_place in_sub d gs w (c, v, q, g, cl, rest) = (plain c, v, q, g, cl, rest)
@@ -154,8 +191,11 @@ back_statement p d int_word gs a w = back_declaration p a d gs w
 back_statement p d return_word gs a w = back_return p a d gs w
 back_statement p d if_word gs a w = λ h. in_place p d gs _ (core_if a (suc d) (suc d) (suc d) (next p d ++ gs) w h)
 back_statement p d while_word gs a w = λ h. in_place p d gs _ (core_while a (suc d) (suc d) (next p d ++ gs) w h)
+back_statement p d do_word gs a w = λ h. in_place p d gs _ (core_do a (suc d) (next p d ++ gs) w h)
+back_statement p d for_word gs a w = λ h. in_place p d gs _ (core_for a (suc d) (next p d ++ gs) w h)
+back_statement p d (jump_word j) gs a w = λ h. in_place p d gs _ (core_jump a j (next p d ++ gs) w h)
 back_statement p d assume_word gs a w = λ h. in_place p d gs _ (core_assume a d (next p d ++ gs) w h)
-back_statement p d (step_sign s) gs a w = λ h. in_place p d gs _ (core_before a s (next p d ++ gs) w h)
+back_statement p d (step_sign s) gs a w = λ h. in_place p d gs _ (core_updated (next p d ++ gs) _ (before_then until_semicolon a s (next p d ++ gs) w h))
 back_statement p d _ gs a w = tt
 
 -- a name that a statement begins with
@@ -170,10 +210,10 @@ core_named in_block d gs w f = inr f
 core_named in_main d gs w f = inr f
 
 set_named : (g : Change) (a : ℕ) (gs : List Goal) (w : List Token) → ExprThen until_semicolon gs w → NameThen gs (token (change_sign g) a ∷ w)
-set_named g a gs w (e, u, v, q, k, (c, r), rest) = λ x b. (set x b g a e c, v, set_text x b a c g e w u v q r, k, tt, rest)
+set_named g a gs w h = λ x b. core_updated gs _ (set_then until_semicolon a g x b gs w h)
 
 step_named : (s : Direction) (a : ℕ) (gs : List Goal) (w : List Token) → Holds (only statement_end ∷ gs) w → NameThen gs (token (step_sign s) a ∷ w)
-step_named s a gs w (c, v, q, rest) = λ x b. (step_after x b s a c, v, ap (λ y. token (a_name x) b ∷ token (step_sign s) a ∷ y) q, tt, tt, rest)
+step_named s a gs w h = λ x b. core_updated gs _ (after_then until_semicolon a s x b gs w h)
 
 back_label : (p : Place) (d : ℕ) (gs : List Goal) (a : ℕ) (w : List Token) → Back (label_entry p d) (after_name p d) gs colon a w
 back_label in_sub d gs a w = λ h x b. (labelled x b a h.0, h.1, ap (λ y. token (a_name x) b ∷ token colon a ∷ y) h.2, h.3, h.4, h.5)
@@ -196,6 +236,58 @@ condition_open d a gs w (e, u, v, q, g, (c, r), rest) = (a, e, c, v, ap (λ x. t
 back_condition : (d : ℕ) (k : Kind) (gs : List Goal) (a : ℕ) (w : List Token) → Back (condition_entry d k) (condition d) gs k a w
 back_condition d left_paren gs a w = λ h. condition_open d a gs w (expr_then until_paren d d gs w h)
 back_condition d _ gs a w = tt
+
+back_do_end : (d : ℕ) (k : Kind) (gs : List Goal) (a : ℕ) (w : List Token) → Back (do_end_entry d k) (do_end d) gs k a w
+back_do_end d while_word gs a w = λ h. (a, h.0, h.1, h.2, h.6.0, h.6.1, ap (λ x. token while_word a ∷ x) (h.4 ∙ ap (λ x. token left_paren h.0 ∷ (spell_expr h.1 ++ token right_paren h.2 ∷ x)) h.6.2), h.5, h.6.3)
+back_do_end d _ gs a w = tt
+
+-- ---- the head of a `for`
+first_updated : (d : ℕ) (gs : List Goal) (w : List Token) → UpdateThen until_semicolon gs w → Holds (header_first d ∷ gs) w
+first_updated d gs w (u, y, v, q, k, (c, r), rest) = (updated_first u c, v, end_text (spell_update u) (token semicolon c) w y v q r, k, rest)
+
+back_first : (d : ℕ) (k : Kind) (gs : List Goal) (a : ℕ) (w : List Token) → Back (first_entry d k) (header_first d) gs k a w
+back_first d semicolon gs a w = λ h. (no_first a, w, refl, tt, h)
+back_first d int_word gs a w = λ h. (declared_first a h.0, h.1, ap (λ x. token int_word a ∷ x) h.2, h.3, h.4)
+back_first d (a_name x) gs a w = λ h. first_updated d gs _ (h x a)
+back_first d (step_sign s) gs a w = λ h. first_updated d gs _ (before_then until_semicolon a s gs w h)
+back_first d _ gs a w = tt
+
+test_given : (d : ℕ) (gs : List Goal) (w : List Token) → Holds (operand d ∷ more until_semicolon d ∷ gs) w → Holds (header_test d ∷ gs) w
+test_given d gs w h = as_test (expr_then until_semicolon d d gs w h) where
+  as_test : ExprThen until_semicolon gs w → Holds (header_test d ∷ gs) w
+  as_test (e, u, v, q, g, (c, r), rest) = (given_test e c, v, end_text (spell_expr e) (token semicolon c) w u v q r, g, rest)
+
+back_test : (d : ℕ) (k : Kind) (gs : List Goal) (a : ℕ) (w : List Token) → Back (test_entry d k) (header_test d) gs k a w
+back_test d semicolon gs a w = λ h. (no_test a, w, refl, tt, h)
+back_test d (a_name x) gs a w = λ h. test_given d gs _ (back_operand d (a_name x) (more until_semicolon d ∷ gs) a w h)
+back_test d (a_number n) gs a w = λ h. test_given d gs _ (back_operand d (a_number n) (more until_semicolon d ∷ gs) a w h)
+back_test d (infix_sign plus_op) gs a w = λ h. test_given d gs _ (back_operand d (infix_sign plus_op) (more until_semicolon d ∷ gs) a w h)
+back_test d (infix_sign minus_op) gs a w = λ h. test_given d gs _ (back_operand d (infix_sign minus_op) (more until_semicolon d ∷ gs) a w h)
+back_test d bang gs a w = λ h. test_given d gs _ (back_operand d bang (more until_semicolon d ∷ gs) a w h)
+back_test d left_paren gs a w = λ h. test_given d gs _ (back_operand d left_paren (more until_semicolon d ∷ gs) a w h)
+back_test d nondet_word gs a w = λ h. test_given d gs _ (back_operand d nondet_word (more until_semicolon d ∷ gs) a w h)
+back_test d _ gs a w = tt
+
+last_updated : (d : ℕ) (gs : List Goal) (w : List Token) → UpdateThen until_paren gs w → Holds (header_last d ∷ gs) w
+last_updated d gs w (u, y, v, q, k, (c, r), rest) = (updated_last u c, v, end_text (spell_update u) (token right_paren c) w y v q r, k, rest)
+
+back_last : (d : ℕ) (k : Kind) (gs : List Goal) (a : ℕ) (w : List Token) → Back (last_entry d k) (header_last d) gs k a w
+back_last d right_paren gs a w = λ h. (no_last a, w, refl, tt, h)
+back_last d (a_name x) gs a w = λ h. last_updated d gs _ (h x a)
+back_last d (step_sign s) gs a w = λ h. last_updated d gs _ (before_then until_paren a s gs w h)
+back_last d _ gs a w = tt
+
+header_open : (d a : ℕ) (gs : List Goal) (w : List Token) → Holds (header_first d ∷ header_test d ∷ header_last d ∷ gs) w → Holds (header d ∷ gs) (token left_paren a ∷ w)
+header_open d a gs w (f, v, q, g, (t, u, r, h, (l, y, m, k, rest))) = (a, f, t, l, y, ap (λ x. token left_paren a ∷ x) (q ∙ ap (λ x. spell_first f ++ x) (r ∙ ap (λ x. spell_test t ++ x) m)), g, h, k, rest)
+
+back_header : (d : ℕ) (k : Kind) (gs : List Goal) (a : ℕ) (w : List Token) → Back (header_entry d k) (header d) gs k a w
+back_header d left_paren gs a w = λ h. header_open d a gs w h
+back_header d _ gs a w = tt
+
+back_updating : (n : Ender) (d : ℕ) (k : Kind) (gs : List Goal) (a : ℕ) (w : List Token) → Back (updating_entry n d k) (updating n d) gs k a w
+back_updating n d (change_sign g) gs a w = λ h x b. set_then n a g x b gs w (expr_then n d d gs w h)
+back_updating n d (step_sign s) gs a w = λ h x b. after_then n a s x b gs w h
+back_updating n d _ gs a w = tt
 
 back_declarator : (d : ℕ) (k : Kind) (gs : List Goal) (a : ℕ) (w : List Token) → Back (declarator_entry d k) (declarator d) gs k a w
 back_declarator d (a_name x) gs a w = λ h. h x a
@@ -256,6 +348,12 @@ back (statement p d) k gs a w = back_statement p d k gs a w
 back (after_name p d) k gs a w = back_name p d k gs a w
 back (maybe_else d) k gs a w = back_else d k gs a w
 back (condition d) k gs a w = back_condition d k gs a w
+back (do_end d) k gs a w = back_do_end d k gs a w
+back (header d) k gs a w = back_header d k gs a w
+back (header_first d) k gs a w = back_first d k gs a w
+back (header_test d) k gs a w = back_test d k gs a w
+back (header_last d) k gs a w = back_last d k gs a w
+back (updating n d) k gs a w = back_updating n d k gs a w
 back (declarator d) k gs a w = back_declarator d k gs a w
 back (declared d) k gs a w = back_declared d k gs a w
 back some_name k gs a w = back_some_name k gs a w

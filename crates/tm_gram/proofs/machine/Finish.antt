@@ -1,9 +1,9 @@
 -- What the machine has taken can always be completed.
 use Rattle.std.proofs.Common.{◌≡◌, ◌++◌, List, [], ◌∷◌, Option, Some, None, refl}
-use Rattle.tm_gram.specs.Grammar.{Token, token, a_name, a_number, right_paren, semicolon, else_word, right_brace, colon, left_paren}
+use Rattle.tm_gram.specs.Grammar.{Token, token, a_name, a_number, right_paren, semicolon, else_word, right_brace, colon, left_paren, step_sign, up, while_word}
 use Rattle.tm_gram.specs.Machine.{until_paren, until_semicolon, until_declared, in_sub, in_block, in_main, opening, closing, brace_opening, brace_closing}
-use Rattle.tm_gram.specs.Machine.{statement_end, main_name, int_type, text_end, mark_kind, Goal, operand, more, statement, after_name, maybe_else, condition}
-use Rattle.tm_gram.specs.Machine.{declarator, declared, some_name, parameters, returned, some_number, only, step, run}
+use Rattle.tm_gram.specs.Machine.{statement_end, main_name, int_type, text_end, mark_kind, ender_mark, Goal, operand, more, statement, after_name, maybe_else, condition}
+use Rattle.tm_gram.specs.Machine.{do_end, header, header_first, header_test, header_last, updating, declarator, declared, some_name, parameters, returned, some_number, only, step, run}
 
 abbrev pub finish : List Goal → List Token
 finish [] = []
@@ -19,6 +19,12 @@ finish (after_name in_block d ∷ gs) = token colon 0 ∷ finish gs
 finish (after_name in_main d ∷ gs) = token colon 0 ∷ finish gs
 finish (maybe_else d ∷ gs) = token else_word 0 ∷ token semicolon 0 ∷ finish gs
 finish (condition d ∷ gs) = token left_paren 0 ∷ token (a_number 0) 0 ∷ token right_paren 0 ∷ finish gs
+finish (do_end d ∷ gs) = token while_word 0 ∷ token left_paren 0 ∷ token (a_number 0) 0 ∷ token right_paren 0 ∷ token semicolon 0 ∷ finish gs
+finish (header d ∷ gs) = token left_paren 0 ∷ token semicolon 0 ∷ token semicolon 0 ∷ token right_paren 0 ∷ finish gs
+finish (header_first d ∷ gs) = token semicolon 0 ∷ finish gs
+finish (header_test d ∷ gs) = token semicolon 0 ∷ finish gs
+finish (header_last d ∷ gs) = token right_paren 0 ∷ finish gs
+finish (updating e d ∷ gs) = token (step_sign up) 0 ∷ token (mark_kind (ender_mark e)) 0 ∷ finish gs
 finish (declarator d ∷ gs) = token (a_name []) 0 ∷ token semicolon 0 ∷ finish gs
 finish (declared d ∷ gs) = token semicolon 0 ∷ finish gs
 finish (some_name ∷ gs) = token (a_name []) 0 ∷ finish gs
@@ -41,6 +47,14 @@ finishes (after_name in_block d ∷ gs) = finishes gs
 finishes (after_name in_main d ∷ gs) = finishes gs
 finishes (maybe_else d ∷ gs) = finishes gs
 finishes (condition d ∷ gs) = finishes gs
+finishes (do_end d ∷ gs) = finishes gs
+finishes (header d ∷ gs) = finishes gs
+finishes (header_first d ∷ gs) = finishes gs
+finishes (header_test d ∷ gs) = finishes gs
+finishes (header_last d ∷ gs) = finishes gs
+finishes (updating until_paren d ∷ gs) = finishes gs
+finishes (updating until_semicolon d ∷ gs) = finishes gs
+finishes (updating until_declared d ∷ gs) = finishes gs
 finishes (declarator d ∷ gs) = finishes gs
 finishes (declared d ∷ gs) = finishes gs
 finishes (some_name ∷ gs) = finishes gs

@@ -10,7 +10,7 @@ use Rattle.tm_parse.specs.Results.{◌>>=◌}
 use Rattle.tm_parse.specs.Forms.{constant_form, variable_form}
 use Rattle.tm_parse.specs.Walk.{Value, a_form, a_nondet, State, known_number, prefix_value, ranged, regarded}
 use Rattle.tm_parse.specs.Feed as feeds
-use Rattle.tm_parse.specs.Feed.{combined_small, Frame, side, before, group, test, assigns, initial, under, of_if, of_while, of_assume, wants, has, stands}
+use Rattle.tm_parse.specs.Feed.{combined_small, Frame, side, before, group, test, assigns, initial, header, header_tested, under, of_if, of_while, of_assume, wants, has, stands}
 use Rattle.tm_parse.specs.Feed.{heading, after, ends, Mode, Machine, at, Outcome, complete, join_tighter, pushed}
 use Rattle.tm_parse.proofs.feed.SmallConditions.{walk_small}
 use Rattle.tm_parse.proofs.results.Binds.{bind_assoc, bind_same, bind_both, bind_right}
@@ -32,6 +32,8 @@ Base l (group a ∷ fs) = Unit {0}
 Base l (test t a ∷ fs) = Unit {0}
 Base l (assigns i g b a ∷ fs) = Unit {0}
 Base l (initial x a b ∷ fs) = Unit {0}
+Base l (header k a ns ∷ fs) = Unit {0}
+Base l (header_tested k a ns c ∷ fs) = Unit {0}
 Base l (under w ns ∷ fs) = Unit {0}
 
 base_complete : (l : ℕ) (fs : List Frame) (v : Value) → Base l fs → complete fs v ≡ Ok (fs, v)

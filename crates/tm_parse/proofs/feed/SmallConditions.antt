@@ -179,7 +179,7 @@ module _ (line : ℕ → ℕ) (width : ℕ) where
     too_many : (a : ℕ) (c : Condition) → 64 < leaf_count c → few_leaves a c ≡ Err (fault.Limit a Leaves)
     too_many a c h = ap (λ (b : Bool). cond b (Err (fault.Limit a Leaves)) (Ok c)) (lt-ltb 64 (leaf_count c) h)
 
-  tested_same : (a : ℕ) (v w : Value) → Same v w → tested a v ≡ tested a w
+  pub tested_same : (a : ℕ) (v w : Value) → Same v w → tested a v ≡ tested a w
   tested_same a v w h = by_alike (as_condition v) (as_condition w) (condition_alike v w h) where
     by_alike : (r s : Result Condition ParseFault) → Alike SameCondition r s → r >>= (λ c. few_leaves a c) ≡ s >>= (λ c. few_leaves a c)
     by_alike (Ok c) (Ok d) k = few_same a c d k

@@ -4,10 +4,12 @@ use Rattle.tm_gram.specs.Grammar.{replaces, minus_op, Prefix, negative, positive
 use Rattle.tm_gram.specs.Grammar.{left_brace, right_brace, comma, semicolon, colon, change_sign, step_sign, int_word, main_word, void_word, if_word}
 use Rattle.tm_gram.specs.Grammar.{else_word, while_word, return_word, assume_word, nondet_word, the_end, sign_of, Token, token, Expr, number, variable, free}
 use Rattle.tm_gram.specs.Grammar.{grouped, prefixed, joined, spell_expr, Declarator, bare, given, Declarators, declares, declares_more, spell_declarator}
-use Rattle.tm_gram.specs.Grammar.{spell_declarators, Core, empty, block, if_alone, if_else, repeat, assumed, set, step_after, step_before, Sub, labelled}
+use Rattle.tm_gram.specs.Grammar.{spell_declarators, do_word, for_word, jump_word, Update, set, step_after, step_before, spell_update, ForFirst, no_first}
+use Rattle.tm_gram.specs.Grammar.{declared_first, updated_first, spell_first, ForTest, no_test, given_test, spell_test, ForLast, no_last, updated_last}
+use Rattle.tm_gram.specs.Grammar.{spell_last, Core, empty, block, if_alone, if_else, repeat, repeat_after, repeat_for, jumps, assumed, updates, Sub, labelled}
 use Rattle.tm_gram.specs.Grammar.{plain, Items, no_items, label, declaration, item, spell_core, spell_sub, spell_items, Parameters, nothing, void_at}
 use Rattle.tm_gram.specs.Grammar.{spell_parameters, Return, no_return, returns, returns_minus, spell_return}
-use Rattle.tm_parse.specs.Walk.{declared_in, declared_core, declared_sub, declared_items}
+use Rattle.tm_parse.specs.Walk.{declared_in, declared_before, declared_core, declared_sub, declared_items}
 use Rattle.tm_parse.specs.Width.{total}
 
 pub total_append : (f : Kind → ℕ) (xs ys : List Token) → total f (xs ++ ys) ≡ total f xs + total f ys
@@ -55,6 +57,24 @@ module _ (f : Kind → ℕ) (w : ℕ) (none : (k : Kind) → IsPlain k → f k �
   test_total : (k : Kind) (a b : ℕ) (e : Expr) (c : ℕ) (y : List Token) → f k ≡ 0 → total f (token k a ∷ token left_paren b ∷ (spell_expr e ++ token right_paren c ∷ y)) ≡ total f y
   test_total k a b e c y h = omega (arith, h, none left_paren tt, none right_paren tt, expr_total e, total_append f (spell_expr e) (token right_paren c ∷ y))
 
+  update_total : (u : Update) → total f (spell_update u) ≡ 0
+  update_total (set x a g b e) = omega (arith, none (a_name x) tt, none (change_sign g) tt, expr_total e)
+  update_total (step_after x a g b) = omega (arith, none (a_name x) tt, none (step_sign g) tt)
+  update_total (step_before g a x b) = omega (arith, none (a_name x) tt, none (step_sign g) tt)
+
+  first_total : (y : ForFirst) → total f (spell_first y) ≡ times (declared_before y) w
+  first_total (no_first a) = omega (arith, none semicolon tt)
+  first_total (declared_first a xs) = omega (arith, an_int, declarators_total xs)
+  first_total (updated_first u a) = omega (arith, update_total u, none semicolon tt, total_append f (spell_update u) (token semicolon a ∷ []))
+
+  tested_total : (t : ForTest) → total f (spell_test t) ≡ 0
+  tested_total (no_test a) = omega (arith, none semicolon tt)
+  tested_total (given_test e a) = omega (arith, expr_total e, none semicolon tt, total_append f (spell_expr e) (token semicolon a ∷ []))
+
+  last_total : (l : ForLast) → total f (spell_last l) ≡ 0
+  last_total (no_last a) = omega (arith, none right_paren tt)
+  last_total (updated_last u a) = omega (arith, update_total u, none right_paren tt, total_append f (spell_update u) (token right_paren a ∷ []))
+
   mutual
     core_total : (c : Core) → total f (spell_core c) ≡ times (declared_core c) w
     core_total (empty a) = omega (arith, none semicolon tt)
@@ -71,10 +91,32 @@ module _ (f : Kind → ℕ) (w : ℕ) (none : (k : Kind) → IsPlain k → f k �
               (token else_word d ∷ spell_sub t),
         )
     core_total (repeat a b e c s) = test_total while_word a b e c (spell_sub s) (none while_word tt) ∙ sub_total s
+    core_total (repeat_after a s b c e d i) =
+        omega (
+          arith,
+          none do_word tt,
+          none semicolon tt,
+          sub_total s,
+          test_total while_word b c e d (token semicolon i ∷ []) (none while_word tt),
+          total_append f (spell_sub s) (token while_word b ∷ token left_paren c ∷ (spell_expr e ++ token right_paren d ∷ token semicolon i ∷ [])),
+        )
+    core_total (repeat_for a b y t l s) =
+        omega (
+          arith,
+          none for_word tt,
+          none left_paren tt,
+          first_total y,
+          tested_total t,
+          last_total l,
+          sub_total s,
+          times_add (declared_before y) (declared_sub s) w,
+          total_append f (spell_first y) (spell_test t ++ (spell_last l ++ spell_sub s)),
+          total_append f (spell_test t) (spell_last l ++ spell_sub s),
+          total_append f (spell_last l) (spell_sub s),
+        )
+    core_total (jumps j a b) = omega (arith, none (jump_word j) tt, none semicolon tt)
     core_total (assumed a b e c d) = test_total assume_word a b e c (token semicolon d ∷ []) (none assume_word tt) ∙ omega (arith, none semicolon tt)
-    core_total (set x a g b e c) = omega (arith, none (a_name x) tt, none (change_sign g) tt, none semicolon tt, expr_total e, total_append f (spell_expr e) (token semicolon c ∷ []))
-    core_total (step_after x a g b c) = omega (arith, none (a_name x) tt, none (step_sign g) tt, none semicolon tt)
-    core_total (step_before g a x b c) = omega (arith, none (a_name x) tt, none (step_sign g) tt, none semicolon tt)
+    core_total (updates u c) = omega (arith, update_total u, none semicolon tt, total_append f (spell_update u) (token semicolon c ∷ []))
 
     sub_total : (s : Sub) → total f (spell_sub s) ≡ times (declared_sub s) w
     sub_total (labelled x a b s) = omega (arith, none (a_name x) tt, none colon tt, sub_total s)

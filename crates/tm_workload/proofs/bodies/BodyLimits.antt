@@ -7,7 +7,7 @@ use Rattle.std.proofs.lemmas.List.{length-append, length-map, length-take}
 use Rattle.std.proofs.lemmas.Iterator.Adapters.{position_from-zero}
 use Rattle.tm_tree.specs.declared.cond.Rel.TheVariants.{Lt}
 use Rattle.tm_tree.specs.declared.form.Form.{Form}
-use Rattle.tm_tree.specs.Tree.{compare, set, nil, cons}
+use Rattle.tm_tree.specs.Tree.{compare, while_loop, set, nil, cons}
 use Rattle.tm_tree.specs.PointNumbers.{points_in, point_count, exit_of}
 use Rattle.tm_tree.specs.Cases.{negated}
 use Rattle.tm_parse.specs.Forms.{constant_form, variable_form}
@@ -19,8 +19,8 @@ use Rattle.tm_flow.specs.declared.fault.FlowFault.TheVariants as fault
 use Rattle.tm_flow.specs.declared.point.Place.TheVariants.{Exit}
 use Rattle.tm_flow.specs.declared.point.Point.{Point}
 use Rattle.tm_flow.specs.Points.{made_in, points_of_program}
-use Rattle.tm_flow.specs.Counts.{way_count_in, edge_count_in, edge_count}
-use Rattle.tm_flow.specs.Edges.{Way, arrived, prefixed, by_case, ways_in, edges_of_program}
+use Rattle.tm_flow.specs.Counts.{no_jump_counts, way_count_in, edge_count_in, edge_count}
+use Rattle.tm_flow.specs.Edges.{Way, arrived, prefixed, by_case, Jumps, no_jumps, loop_jumps, ways_in, edges_of_program}
 use Rattle.tm_flow.specs.Faults.{wide_lines_in, counted_fault, counted_after, fault_of_program, is_long}
 use Rattle.tm_flow.specs.Steps.{guards}
 use Rattle.tm_flow.specs.Trails.{kept, begun_at, reached, edges_in_nodes, kept_edges}
@@ -67,11 +67,11 @@ none_wide : (n : ℕ) (ls : List Loop) → wide_lines_in (loops_body n ls) ≡ [
 none_wide n [] = refl
 none_wide n (l ∷ ls) = none_wide (n + 5) ls
 
-one_way : (n : ℕ) (ls : List Loop) → way_count_in (loops_body n ls) ≡ 1
+one_way : (n : ℕ) (ls : List Loop) → way_count_in (loops_body n ls) no_jump_counts 1 ≡ 1
 one_way n [] = refl
 one_way n (l ∷ ls) = refl
 
-two_edges : (n : ℕ) (ls : List Loop) → edge_count_in (loops_body n ls) ≡ 2 * length ls
+two_edges : (n : ℕ) (ls : List Loop) → edge_count_in (loops_body n ls) no_jump_counts 1 ≡ 2 * length ls
 two_edges n [] = refl
 two_edges n (l ∷ ls) = omega (arith, one_way (n + 5) ls, two_edges (n + 5) ls)
 
@@ -99,7 +99,7 @@ IsShortWay k w = length w.actions ≤ k
 abbrev pub IsFew : Edge → Type 0
 IsFew e = length e.actions ≤ 4
 
-loops_ways : (n : ℕ) (ls : List Loop) (p e : ℕ) → Each (IsShortWay 1) (ways_in (loops_body n ls) p (arrived e))
+loops_ways : (n : ℕ) (ls : List Loop) (p e : ℕ) → Each (IsShortWay 1) (ways_in (loops_body n ls) p no_jumps (arrived e))
 loops_ways n [] p e = (omega arith, tt)
 loops_ways n (l ∷ ls) p e = (omega arith, tt)
 
@@ -115,26 +115,27 @@ guarded_short forms ways e h =
     (λ w k. omega (arith, k, e, length-append (guards forms) w.actions, length-map forms Guard)) ways h
 
 -- the edges from the head of a loop: through its body, and past it
-head_few : (f : Form) (u v w : ℕ) (g h : Form) (m n p : ℕ) (next : List Way) → Each (IsShortWay 1) next →
-    Each IsFew (reached (begun_at p) (by_case true (compare Lt f) (ways_in (cons (set u g m) (cons (set v h n) nil)) w (arrived p)) ++ by_case false (compare Lt f) next))
-head_few f u v w g h m n p next k =
-    reached_few p (by_case true (compare Lt f) (ways_in (cons (set u g m) (cons (set v h n) nil)) w (arrived p)) ++ by_case false (compare Lt f) next)
-    (each-append (IsShortWay 4) (by_case true (compare Lt f) (ways_in (cons (set u g m) (cons (set v h n) nil)) w (arrived p))) (by_case false (compare Lt f) next)
+head_few : (f : Form) (u v w : ℕ) (g h : Form) (m n p : ℕ) (jumps : Jumps) (next : List Way) → Each (IsShortWay 1) next →
+    Each IsFew (reached (begun_at p) (by_case true (compare Lt f) (ways_in (cons (set u g m) (cons (set v h n) nil)) w jumps (arrived p)) ++ by_case false (compare Lt f) next))
+head_few f u v w g h m n p jumps next k =
+    reached_few p (by_case true (compare Lt f) (ways_in (cons (set u g m) (cons (set v h n) nil)) w jumps (arrived p)) ++ by_case false (compare Lt f) next)
+    (each-append (IsShortWay 4) (by_case true (compare Lt f) (ways_in (cons (set u g m) (cons (set v h n) nil)) w jumps (arrived p))) (by_case false (compare Lt f) next)
     (omega arith, tt)
     (each-append (IsShortWay 4) (prefixed (guards (negated f ∷ [])) next) [] (guarded_short (negated f ∷ []) next refl k) tt))
 
-loops_few : (n : ℕ) (ls : List Loop) (p e : ℕ) → Each IsFew (edges_in_nodes (loops_body n ls) p (arrived e))
+loops_few : (n : ℕ) (ls : List Loop) (p e : ℕ) → Each IsFew (edges_in_nodes (loops_body n ls) p no_jumps (arrived e))
 loops_few n [] p e = tt
 loops_few n (l ∷ ls) p e =
     let head = p + 0 in
     let behind = head + (1 + (0 + (0 + 0))) in
-    let next = ways_in (loops_body (n + 5) ls) behind (arrived e) in
-    let through = by_case true (compare Lt (variable_form 3 l.variable (neg_ℤ (pos l.bound)))) (ways_in (turn_of (n + 2) l) (head + 1) (arrived head)) ++ by_case false (compare Lt (variable_form 3 l.variable (neg_ℤ (pos l.bound)))) next in
-    each-append IsFew (reached (begun_at head) through ++ []) (edges_in_nodes (loops_body (n + 5) ls) behind (arrived e))
-    (each-append IsFew (reached (begun_at head) through) [] (head_few (variable_form 3 l.variable (neg_ℤ (pos l.bound))) l.variable (following l.variable) (head + 1) (variable_form 3 l.variable (pos l.step)) (variable_form 3 l.variable (pos 0)) (n + 2) (n + 2 + 1) head next (loops_ways (n + 5) ls behind e)) tt)
+    let next = ways_in (loops_body (n + 5) ls) behind no_jumps (arrived e) in
+    let jumps = loop_jumps while_loop (compare Lt (variable_form 3 l.variable (neg_ℤ (pos l.bound)))) head next in
+    let through = by_case true (compare Lt (variable_form 3 l.variable (neg_ℤ (pos l.bound)))) (ways_in (turn_of (n + 2) l) (head + 1) jumps (arrived head)) ++ by_case false (compare Lt (variable_form 3 l.variable (neg_ℤ (pos l.bound)))) next in
+    each-append IsFew (reached (begun_at head) through ++ []) (edges_in_nodes (loops_body (n + 5) ls) behind no_jumps (arrived e))
+    (each-append IsFew (reached (begun_at head) through) [] (head_few (variable_form 3 l.variable (neg_ℤ (pos l.bound))) l.variable (following l.variable) (head + 1) (variable_form 3 l.variable (pos l.step)) (variable_form 3 l.variable (pos 0)) (n + 2) (n + 2 + 1) head jumps next (loops_ways (n + 5) ls behind e)) tt)
     (loops_few (n + 5) ls behind e)
 
-begin_few : (n : ℕ) (ls : List Loop) (p e : ℕ) → Each (IsShortWay 4) (prefixed (Assign 0 (constant_form 3 (pos 0)) ∷ []) (prefixed (Assign 1 (constant_form 3 (pos 0)) ∷ []) (prefixed (Assign 2 (constant_form 3 (pos 0)) ∷ []) (ways_in (loops_body n ls) p (arrived e)))))
+begin_few : (n : ℕ) (ls : List Loop) (p e : ℕ) → Each (IsShortWay 4) (prefixed (Assign 0 (constant_form 3 (pos 0)) ∷ []) (prefixed (Assign 1 (constant_form 3 (pos 0)) ∷ []) (prefixed (Assign 2 (constant_form 3 (pos 0)) ∷ []) (ways_in (loops_body n ls) p no_jumps (arrived e)))))
 begin_few n [] p e = (omega arith, tt)
 begin_few n (l ∷ ls) p e = (omega arith, tt)
 
@@ -143,8 +144,8 @@ kept_few seed loops =
     let body = generated_body seed loops in
     let ls = loops_from seed loops in
     let exit = exit_of body in
-    each-append IsFew (reached (begun_at 0) (ways_in body 1 (arrived exit))) (edges_in_nodes body 1 (arrived exit))
-    (reached_few 0 (ways_in body 1 (arrived exit)) (begin_few 3 ls 1 exit))
+    each-append IsFew (reached (begun_at 0) (ways_in body 1 no_jumps (arrived exit))) (edges_in_nodes body 1 no_jumps (arrived exit))
+    (reached_few 0 (ways_in body 1 no_jumps (arrived exit)) (begin_few 3 ls 1 exit))
     (loops_few 3 ls 1 exit)
 
 none_from : (i : ℕ) (es : List Edge) → Each IsFew es → position_from is_long i es ≡ None

@@ -9,7 +9,7 @@ use Rattle.tm_gram.specs.Grammar as g
 use Rattle.tm_gram.specs.Machine.{Goal, statement, in_main, only, text_end, start}
 use Rattle.tm_gram.specs.Depth.{scan, whole}
 use Rattle.tm_tree.specs.declared.cond.Rel.TheVariants.{Lt}
-use Rattle.tm_tree.specs.Tree.{Statements, compare, set, loop, nil, cons}
+use Rattle.tm_tree.specs.Tree.{Statements, compare, while_loop, set, loop, nil, cons}
 use Rattle.tm_parse.specs.Forms.{constant_form, variable_form}
 use Rattle.tm_parse.specs.Walk.{State, followed_by, one}
 use Rattle.tm_parse.specs.Feed.{Machine, at, under, of_items, stands, feed, begin, result_of}
@@ -37,7 +37,7 @@ abbrev pub first_node : ℕ → List ℕ → Statements
 first_node v ls = one (set v (constant_form 3 (pos 0)) (nth ls 0))
 
 abbrev pub second_node : (v w bound step : ℕ) → List ℕ → Statements
-second_node v w bound step ls = one (loop (compare Lt (variable_form 3 v (neg_ℤ (pos bound)))) (cons (set v (variable_form 3 v (pos step)) (nth ls 11)) (cons (set w (variable_form 3 v (pos 0)) (nth ls 15)) nil)) (nth ls 4))
+second_node v w bound step ls = one (loop while_loop (compare Lt (variable_form 3 v (neg_ℤ (pos bound)))) (cons (set v (variable_form 3 v (pos step)) (nth ls 11)) (cons (set w (variable_form 3 v (pos 0)) (nth ls 15)) nil)) (nth ls 4))
 
 -- what is known of the numbers
 record Small (k bound step : ℕ) : Type 0 where
