@@ -1,1 +1,2 @@
 pub mod ReadShapes
+pub mod ReadRests

@@ -2,6 +2,7 @@ pub mod Lists
 pub mod Numbers
 pub mod Keys
 pub mod Traces
+pub mod Naming
 pub mod StepItems
 pub mod StepForms
 pub mod Evidence

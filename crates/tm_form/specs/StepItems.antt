@@ -5,10 +5,13 @@ use Rattle.serde_json.specs.Find.{get}
 use Rattle.tm_cert.specs.declared.step.Item.{Item}
 use Rattle.tm_cert.specs.declared.step.JumpItem.{JumpItem}
 use Rattle.tm_cert.specs.declared.step.RayItem.{RayItem}
+use Rattle.tm_eqsys.specs.declared.trace.Trace.{Trace}
 use Rattle.tm_form.specs.declared.items.TwoTraces.{TwoTraces}
+use Rattle.tm_form.specs.declared.setting.Setting.{Setting}
 use Rattle.tm_form.specs.Numbers.{frac_data, frac_in, is_text}
 use Rattle.tm_form.specs.Keys.{index_at, index_data, is_index, is_unknown, member_count, passes_at, unknown_at}
-use Rattle.tm_form.specs.Traces.{is_trace, trace_at, trace_data}
+use Rattle.tm_form.specs.Traces.{is_trace_by, trace_at}
+use Rattle.tm_form.specs.Naming.{name_data}
 
 -- the unknown as its point and its row
 abbrev pub unknown_data : ℕ → ℕ → Data
@@ -17,30 +20,30 @@ unknown_data rows u = array (item (index_data (u / rows)) (item (index_data (u %
 -- ---- shapes; the keys are exactly those named
 
 -- `edge`, `low` and `unknown`, which each kind of item has
-abbrev pub has_start : ℕ → Data → Bool
-has_start rows d = passes_at is_index (codes "edge") d && passes_at is_trace (codes "low") d && passes_at (is_unknown rows) (codes "unknown") d
+abbrev pub has_start : Setting → Data → Bool
+has_start s d = passes_at is_index (codes "edge") d && passes_at (is_trace_by s.traces) (codes "low") d && passes_at (is_unknown s.rows) (codes "unknown") d
 
 -- `edge`, `low`, `to` and `unknown`
-abbrev pub is_plain_item : ℕ → Data → Bool
-is_plain_item rows d = (member_count d == 4) && has_start rows d && passes_at is_text (codes "to") d
+abbrev pub is_plain_item : Setting → Data → Bool
+is_plain_item s d = (member_count d == 4) && has_start s d && passes_at is_text (codes "to") d
 
 -- `edge`, `low`, `unknown`, and a second trace and a number at these keys
-abbrev pub has_two_traces : List ℕ → List ℕ → ℕ → Data → Bool
-has_two_traces second number rows d = (member_count d == 5) && has_start rows d && passes_at is_trace second d && passes_at is_text number d
+abbrev pub has_two_traces : List ℕ → List ℕ → Setting → Data → Bool
+has_two_traces second number s d = (member_count d == 5) && has_start s d && passes_at (is_trace_by s.traces) second d && passes_at is_text number d
 
 -- `edge`, `high`, `low`, `to` and `unknown`
-abbrev pub is_jump_item : ℕ → Data → Bool
-is_jump_item rows d = has_two_traces (codes "high") (codes "to") rows d
+abbrev pub is_jump_item : Setting → Data → Bool
+is_jump_item s d = has_two_traces (codes "high") (codes "to") s d
 
 -- `direction`, `edge`, `low`, `rate` and `unknown`
-abbrev pub is_ray_item : ℕ → Data → Bool
-is_ray_item rows d = has_two_traces (codes "direction") (codes "rate") rows d
+abbrev pub is_ray_item : Setting → Data → Bool
+is_ray_item s d = has_two_traces (codes "direction") (codes "rate") s d
 
 -- ---- reading
 
 -- the item of a plain step that a value is
-abbrev pub plain_item_in : ℕ → Data → Option Item
-plain_item_in rows d =
+abbrev pub plain_item_in : Setting → Data → Option Item
+plain_item_in s d =
     option_and_then (λ edge. option_and_then (λ low. option_and_then (λ to. option_map (λ unknown. record {
       unknown = unknown;
       edge = edge;
@@ -48,11 +51,12 @@ plain_item_in rows d =
       to =
           to;
     })
-    (unknown_at rows (codes "unknown") d)) (option_and_then frac_in (get (codes "to") d))) (trace_at (codes "low") d)) (index_at (codes "edge") d)
+    (unknown_at s.rows (codes "unknown") d)) (option_and_then frac_in (get (codes "to") d))) (trace_at s.traces (codes "low") d))
+    (index_at (codes "edge") d)
 
 -- the parts of an item with a second trace and a number at these keys
-abbrev pub two_traces_in : List ℕ → List ℕ → ℕ → Data → Option TwoTraces
-two_traces_in second number rows d =
+abbrev pub two_traces_in : List ℕ → List ℕ → Setting → Data → Option TwoTraces
+two_traces_in second number s d =
     option_and_then (λ edge. option_and_then (λ low. option_and_then (λ other. option_and_then (λ amount. option_map (λ unknown. record {
       unknown = unknown;
       edge = edge;
@@ -60,12 +64,12 @@ two_traces_in second number rows d =
       second = other;
       number = amount;
     })
-    (unknown_at rows (codes "unknown") d)) (option_and_then frac_in (get number d))) (trace_at second d)) (trace_at (codes "low") d))
+    (unknown_at s.rows (codes "unknown") d)) (option_and_then frac_in (get number d))) (trace_at s.traces second d)) (trace_at s.traces (codes "low") d))
     (index_at (codes "edge") d)
 
 -- the item of a jump that a value is
-abbrev pub jump_item_in : ℕ → Data → Option JumpItem
-jump_item_in rows d =
+abbrev pub jump_item_in : Setting → Data → Option JumpItem
+jump_item_in s d =
     option_map (λ parts. record {
       unknown = parts.unknown;
       edge = parts.edge;
@@ -73,11 +77,11 @@ jump_item_in rows d =
       high = parts.second;
       to = parts.number;
     })
-    (two_traces_in (codes "high") (codes "to") rows d)
+    (two_traces_in (codes "high") (codes "to") s d)
 
 -- the item of a ray that a value is
-abbrev pub ray_item_in : ℕ → Data → Option RayItem
-ray_item_in rows d =
+abbrev pub ray_item_in : Setting → Data → Option RayItem
+ray_item_in s d =
     option_map (λ parts. record {
       unknown = parts.unknown;
       edge = parts.edge;
@@ -85,21 +89,22 @@ ray_item_in rows d =
       direction = parts.second;
       rate = parts.number;
     })
-    (two_traces_in (codes "direction") (codes "rate") rows d)
+    (two_traces_in (codes "direction") (codes "rate") s d)
 
--- ---- writing
+-- ---- writing; traces go by their numbers in the list
 
 -- the value of an item of a plain step
-abbrev pub plain_item_data : ℕ → Item → Data
-plain_item_data rows i = object (member (codes "edge") (index_data i.edge) (member (codes "low") (trace_data i.low) (member (codes "to") (frac_data i.to)
-    (member (codes "unknown") (unknown_data rows i.unknown) no_members))))
+abbrev pub plain_item_data : ℕ → List Trace → Item → Data
+plain_item_data rows traces i = object (member (codes "edge") (index_data i.edge) (member (codes "low") (name_data traces i.low) (member (codes "to")
+    (frac_data i.to) (member (codes "unknown") (unknown_data rows i.unknown) no_members))))
 
 -- the value of an item of a jump
-abbrev pub jump_item_data : ℕ → JumpItem → Data
-jump_item_data rows i = object (member (codes "edge") (index_data i.edge) (member (codes "high") (trace_data i.high) (member (codes "low")
-    (trace_data i.low) (member (codes "to") (frac_data i.to) (member (codes "unknown") (unknown_data rows i.unknown) no_members)))))
+abbrev pub jump_item_data : ℕ → List Trace → JumpItem → Data
+jump_item_data rows traces i = object (member (codes "edge") (index_data i.edge) (member (codes "high") (name_data traces i.high) (member (codes "low")
+    (name_data traces i.low) (member (codes "to") (frac_data i.to) (member (codes "unknown") (unknown_data rows i.unknown) no_members)))))
 
 -- the value of an item of a ray
-abbrev pub ray_item_data : ℕ → RayItem → Data
-ray_item_data rows i = object (member (codes "direction") (trace_data i.direction) (member (codes "edge") (index_data i.edge) (member (codes "low")
-    (trace_data i.low) (member (codes "rate") (frac_data i.rate) (member (codes "unknown") (unknown_data rows i.unknown) no_members)))))
+abbrev pub ray_item_data : ℕ → List Trace → RayItem → Data
+ray_item_data rows traces i = object (member (codes "direction") (name_data traces i.direction) (member (codes "edge") (index_data i.edge)
+    (member (codes "low") (name_data traces i.low) (member (codes "rate") (frac_data i.rate) (member (codes "unknown") (unknown_data rows i.unknown)
+    no_members)))))

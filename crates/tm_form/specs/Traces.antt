@@ -1,9 +1,10 @@
 -- Lists of fractions, and traces.
-use Rattle.std.specs.Prelude.{◌&&◌, ◌==◌, Bool, List, ℕ, Option, option_and_then, option_map, codes}
+use Rattle.std.specs.Prelude.{◌&&◌, ◌==◌, Bool, List, ℕ, Option, Some, None, is_some, option_and_then, option_map, slice_get, codes}
 use Rattle.serde_json.specs.Data.{Data, member, no_members, object}
-use Rattle.serde_json.specs.Find.{get}
+use Rattle.serde_json.specs.Find.{as_number, as_u64, get}
 use Rattle.tm_num.specs.Rational.{ℚ}
 use Rattle.tm_eqsys.specs.declared.trace.Trace.{Trace}
+use Rattle.tm_form.specs.declared.setting.Setting.{Setting}
 use Rattle.tm_form.specs.Lists.{is_list, list_data, list_in}
 use Rattle.tm_form.specs.Numbers.{frac_data, frac_in, is_text}
 use Rattle.tm_form.specs.Keys.{member_count, passes_at}
@@ -32,10 +33,30 @@ is_trace d = (member_count d == 2) && passes_at are_texts (codes "free") d && pa
 abbrev pub trace_in : Data → Option Trace
 trace_in d = option_and_then (λ free. option_map (λ start. record { start = start; free = free }) (fracs_at (codes "start") d)) (fracs_at (codes "free") d)
 
--- the trace that the member of this key is
-abbrev pub trace_at : List ℕ → Data → Option Trace
-trace_at key d = option_and_then trace_in (get key d)
-
 -- the value of a trace
 abbrev pub trace_data : Trace → Data
 trace_data t = object (member (codes "free") (fracs_data t.free) (member (codes "start") (fracs_data t.start) no_members))
+
+-- ---- traces where they stand, or by their numbers
+
+-- the setting of items that name traces of a list by their numbers
+abbrev pub listing : ℕ → List Trace → Setting
+listing rows traces = record { rows = rows; traces = Some traces }
+
+-- the trace of this number, counted from 0
+abbrev pub numbered_trace : List Trace → Data → Option Trace
+numbered_trace traces d = option_and_then (slice_get traces) (option_and_then as_u64 (as_number d))
+
+-- the trace that a value is; or the one that it names, where traces are listed
+abbrev pub trace_by : Option (List Trace) → Data → Option Trace
+trace_by None d = trace_in d
+trace_by (Some traces) d = numbered_trace traces d
+
+-- it has the shape of a trace; or it names one, where traces are listed
+abbrev pub is_trace_by : Option (List Trace) → Data → Bool
+is_trace_by None d = is_trace d
+is_trace_by (Some traces) d = is_some (numbered_trace traces d)
+
+-- the trace that the member of this key is or names
+abbrev pub trace_at : Option (List Trace) → List ℕ → Data → Option Trace
+trace_at listed key d = option_and_then (trace_by listed) (get key d)

@@ -9,6 +9,8 @@ ghost use Rattle.tm_form.specs.Lists.{is_list, list_in};
 
 use crate::entry::{Entry, is_list, read_list, write_list};
 use crate::keys::item_count;
+use crate::numbering::Numbering;
+use crate::setting::Setting;
 use serde_json::Value;
 use std::alloc::{AllocError, Global};
 use std::marker::Model;
@@ -31,54 +33,59 @@ impl Model for Line {
 }
 
 // Whether the value is a list of texts, one for each row.
-fn is_line(rows: usize, value: &Value) -> bool
-    ensures { result ≡ is_line rows (view value.now) }
+fn is_line(setting: &Setting, value: &Value) -> bool
+    ensures { result ≡ is_line setting.now.rows (view value.now) }
 {
-    is_list::<Ext>(rows, value) && item_count(value) == rows
+    is_list::<Ext>(setting, value) && item_count(value) == setting.rows
 }
 
 // The bounds that the value is.
-fn read_line(alloc: Global, rows: usize, value: &Value) -> Result<Option<Line>, AllocError>
+fn read_line(alloc: Global, setting: &Setting, value: &Value) -> Result<Option<Line>, AllocError>
     ensures { IfOk result (λ line. line ≡ line_in (view value.now)) }
 {
-    match read_list::<Ext>(alloc, rows, value)? {
+    match read_list::<Ext>(alloc, setting, value)? {
         Some(list) => Ok(Some(Line { list })),
         None => Ok(None),
     }
 }
 
 // The bounds as a value.
-fn line_value(alloc: Global, rows: usize, line: &Line) -> Result<Value, AllocError>
+fn line_value(
+    alloc: Global,
+    rows: usize,
+    names: &Numbering,
+    line: &Line,
+) -> Result<Value, AllocError>
     requires { length line.now ≡ rows }
     ensures value { IfOk result (λ v. view v ≡ ext_line_data line.now) }
     ensures shape { IfOk result (λ _. is_line rows (ext_line_data line.now) ≡ true) }
     ensures back { IfOk result (λ _. line_in (ext_line_data line.now) ≡ Some line.now) }
 {
-    write_list(alloc, rows, line.list.as_slice())
+    write_list(alloc, rows, names, line.list.as_slice())
 }
 
 impl Entry for Line {
     ghost use Rattle.std.specs.Prelude.{◌==◌, length};
     ghost use Rattle.tm_form.specs.BoundLines.{ext_line_data, is_line, line_in};
 
-    ghost shaped = { is_line };
+    ghost shaped = { λ setting d. is_line setting.rows d };
 
     ghost element_in = { λ _ d. line_in d };
 
-    ghost element_data = { λ _ line. ext_line_data line };
+    ghost element_data = { λ _ _ line. ext_line_data line };
 
-    ghost writable = { λ rows line. length line == rows };
+    ghost writable = { λ rows _ line. length line == rows };
 
-    fn has_shape(rows: usize, value: &Value) -> bool {
-        is_line(rows, value)
+    fn has_shape(setting: &Setting, value: &Value) -> bool {
+        is_line(setting, value)
     }
 
-    fn read(alloc: Global, rows: usize, value: &Value) -> Result<Option<Line>, AllocError> {
-        read_line(alloc, rows, value)
+    fn read(alloc: Global, setting: &Setting, value: &Value) -> Result<Option<Line>, AllocError> {
+        read_line(alloc, setting, value)
     }
 
-    fn write(&self, alloc: Global, rows: usize) -> Result<Value, AllocError> {
-        line_value(alloc, rows, self)
+    fn write(&self, alloc: Global, rows: usize, names: &Numbering) -> Result<Value, AllocError> {
+        line_value(alloc, rows, names, self)
     }
 }
 
@@ -109,7 +116,12 @@ fn cut(alloc: Global, rows: usize, bounds: &[Ext]) -> Result<Vec<Line>, AllocErr
 }
 
 /// The bounds of whole points as a value.
-pub(crate) fn bounds_value(alloc: Global, rows: usize, bounds: &Bounds) -> Result<Value, AllocError>
+pub(crate) fn bounds_value(
+    alloc: Global,
+    rows: usize,
+    names: &Numbering,
+    bounds: &Bounds,
+) -> Result<Value, AllocError>
     requires { length bounds.now / rows * rows ≡ length bounds.now }
     ensures value { IfOk result (λ v. view v ≡ bounds_data rows bounds.now) }
     ensures shape { IfOk result (λ _. is_list (is_line rows) (bounds_data rows bounds.now) ≡ true) }
@@ -117,5 +129,5 @@ pub(crate) fn bounds_value(alloc: Global, rows: usize, bounds: &Bounds) -> Resul
         (map extended (joined lines) ≡ bounds.now)) }
 {
     let lines = cut(alloc, rows, bounds.as_slice())?;
-    write_list(alloc, rows, lines.as_slice())
+    write_list(alloc, rows, names, lines.as_slice())
 }

@@ -4,49 +4,55 @@ ghost use Rattle.std.specs.Prelude.{◌≡◌, IfOk, IsTrue, true, Some, option_
 ghost use Rattle.std.specs.List.{list_all};
 ghost use Rattle.serde_json.specs.View.{items_view, view};
 ghost use Rattle.tm_form.specs.Lists.{all_items, is_list, items_in, list_data, list_in};
+ghost use Rattle.tm_form.specs.Traces.{listing};
 
+use crate::numbering::Numbering;
+use crate::setting::Setting;
 use serde_json::Value;
 use std::alloc::{AllocError, Global};
 
-/// An element of a list: its shape as JSON, what it is read as, and what it is written as. The template has `rows` rows.
+/// An element of a list: its shape as JSON and what it is read as, under a setting; and what it is written as, where the
+/// template has `rows` rows and traces are named by their numbers in `names`.
 pub(crate) trait Entry: Drop {
-    ghost use Rattle.std.specs.Prelude.{ℕ, Bool, Option};
+    ghost use Rattle.std.specs.Prelude.{ℕ, Bool, List, Option};
     ghost use Rattle.serde_json.specs.Data.{Data};
+    ghost use Rattle.tm_eqsys.specs.declared.trace.Trace.{Trace};
+    ghost use Rattle.tm_form.specs.declared.setting.Setting.{Setting};
 
     // Whether a value has the shape of such an element.
-    ghost shaped: { ℕ → Data → Bool };
+    ghost shaped: { Setting → Data → Bool };
 
     // The element that a value is read as.
-    ghost element_in: { ℕ → Data → Option Self };
+    ghost element_in: { Setting → Data → Option Self };
 
     // The value that an element is written as.
-    ghost element_data: { ℕ → Self → Data };
+    ghost element_data: { ℕ → List Trace → Self → Data };
 
     // Whether an element can be written.
-    ghost writable: { ℕ → Self → Bool };
+    ghost writable: { ℕ → List Trace → Self → Bool };
 
     /// Whether the value has the shape of such an element.
-    fn has_shape(rows: usize, value: &Value) -> bool
-        ensures { result ≡ shaped rows (view value.now) };
+    fn has_shape(setting: &Setting, value: &Value) -> bool
+        ensures { result ≡ shaped setting.now (view value.now) };
 
     /// The element that the value is, or `None` where a number in it is not canonical.
-    fn read(alloc: Global, rows: usize, value: &Value) -> Result<Option<Self>, AllocError>
-        ensures { IfOk result (λ element. element ≡ element_in rows (view value.now)) };
+    fn read(alloc: Global, setting: &Setting, value: &Value) -> Result<Option<Self>, AllocError>
+        ensures { IfOk result (λ element. element ≡ element_in setting.now (view value.now)) };
 
     /// The element as a value.
-    fn write(&self, alloc: Global, rows: usize) -> Result<Value, AllocError>
-        requires { IsTrue (writable rows self.now) }
-        ensures value { IfOk result (λ v. view v ≡ element_data rows self.now) }
-        ensures shape { IfOk result (λ _. shaped rows (element_data rows self.now) ≡ true) }
-        ensures back { IfOk result (λ _. element_in rows (element_data rows self.now) ≡ Some self.now) };
+    fn write(&self, alloc: Global, rows: usize, names: &Numbering) -> Result<Value, AllocError>
+        requires { IsTrue (writable rows names.now self.now) }
+        ensures value { IfOk result (λ v. view v ≡ element_data rows names.now self.now) }
+        ensures shape { IfOk result (λ _. shaped (listing rows names.now) (element_data rows names.now self.now) ≡ true) }
+        ensures back { IfOk result (λ _. element_in (listing rows names.now) (element_data rows names.now self.now) ≡ Some self.now) };
 }
 
 // Whether each of the values has its shape.
-fn are_shaped<T: Entry>(rows: usize, values: &[Value]) -> bool
-    ensures { result ≡ all_items (T.shaped rows) (items_view values.now) }
+fn are_shaped<T: Entry>(setting: &Setting, values: &[Value]) -> bool
+    ensures { result ≡ all_items (T.shaped setting.now) (items_view values.now) }
 {
     for value in values {
-        if !T::has_shape(rows, value) {
+        if !T::has_shape(setting, value) {
             return false;
         }
     }
@@ -54,11 +60,11 @@ fn are_shaped<T: Entry>(rows: usize, values: &[Value]) -> bool
 }
 
 /// Whether the value is a list of values of such a shape.
-pub(crate) fn is_list<T: Entry>(rows: usize, value: &Value) -> bool
-    ensures { result ≡ is_list (T.shaped rows) (view value.now) }
+pub(crate) fn is_list<T: Entry>(setting: &Setting, value: &Value) -> bool
+    ensures { result ≡ is_list (T.shaped setting.now) (view value.now) }
 {
     match value.as_array() {
-        Some(values) => are_shaped::<T>(rows, values),
+        Some(values) => are_shaped::<T>(setting, values),
         None => false,
     }
 }
@@ -66,14 +72,14 @@ pub(crate) fn is_list<T: Entry>(rows: usize, value: &Value) -> bool
 // The elements that the values are, or `None` where one is not read.
 fn read_each<T: Entry>(
     alloc: Global,
-    rows: usize,
+    setting: &Setting,
     values: &[Value],
 ) -> Result<Option<Vec<T>>, AllocError>
-    ensures { IfOk result (λ list. option_map vec_items list ≡ items_in (T.element_in rows) (items_view values.now)) }
+    ensures { IfOk result (λ list. option_map vec_items list ≡ items_in (T.element_in setting.now) (items_view values.now)) }
 {
     let mut list = Vec::new(alloc);
     for value in values {
-        match T::read(alloc, rows, value)? {
+        match T::read(alloc, setting, value)? {
             Some(element) => list.push(element)?,
             None => return Ok(None),
         }
@@ -84,13 +90,13 @@ fn read_each<T: Entry>(
 /// The list that the value is, or `None` where an element is not read.
 pub(crate) fn read_list<T: Entry>(
     alloc: Global,
-    rows: usize,
+    setting: &Setting,
     value: &Value,
 ) -> Result<Option<Vec<T>>, AllocError>
-    ensures { IfOk result (λ list. option_map vec_items list ≡ list_in (T.element_in rows) (view value.now)) }
+    ensures { IfOk result (λ list. option_map vec_items list ≡ list_in (T.element_in setting.now) (view value.now)) }
 {
     match value.as_array() {
-        Some(values) => read_each(alloc, rows, values),
+        Some(values) => read_each(alloc, setting, values),
         None => Ok(None),
     }
 }
@@ -99,16 +105,17 @@ pub(crate) fn read_list<T: Entry>(
 pub(crate) fn write_list<T: Entry>(
     alloc: Global,
     rows: usize,
+    names: &Numbering,
     list: &[T],
 ) -> Result<Value, AllocError>
-    requires { IsTrue (list_all (T.writable rows) list.now) }
-    ensures value { IfOk result (λ v. view v ≡ list_data (T.element_data rows) list.now) }
-    ensures shape { IfOk result (λ _. is_list (T.shaped rows) (list_data (T.element_data rows) list.now) ≡ true) }
-    ensures back { IfOk result (λ _. list_in (T.element_in rows) (list_data (T.element_data rows) list.now) ≡ Some list.now) }
+    requires { IsTrue (list_all (T.writable rows names.now) list.now) }
+    ensures value { IfOk result (λ v. view v ≡ list_data (T.element_data rows names.now) list.now) }
+    ensures shape { IfOk result (λ _. is_list (T.shaped (listing rows names.now)) (list_data (T.element_data rows names.now) list.now) ≡ true) }
+    ensures back { IfOk result (λ _. list_in (T.element_in (listing rows names.now)) (list_data (T.element_data rows names.now) list.now) ≡ Some list.now) }
 {
     let mut values = Vec::new(alloc);
     for element in list {
-        values.push(element.write(alloc, rows)?)?;
+        values.push(element.write(alloc, rows, names)?)?;
     }
     Ok(Value::Array(values))
 }

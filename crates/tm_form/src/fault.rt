@@ -9,6 +9,8 @@ pub enum Field {
     Format,
     Rows,
     Bounds,
+    /// The list of traces, which format 2 alone has.
+    Traces,
     Steps,
     Uppers,
 }
@@ -22,8 +24,10 @@ pub enum FormFault {
     Shape(Field),
     /// The field has its shape, and a text in it isn't the canonical text of a number of its kind.
     Number(Field),
-    /// The format is a whole number other than 1.
+    /// The format is a whole number other than 1 and 2.
     Version,
+    /// The traces that items name by number hold more than `MOST_VALUES` values, counted once for each naming.
+    Expanded,
     /// Memory was refused.
     NoMemory,
 }

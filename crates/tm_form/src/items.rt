@@ -1,17 +1,23 @@
 //! The items of steps.
 
-ghost use Rattle.std.specs.Prelude.{◌≡◌, IfOk, codes, option_and_then};
+ghost use Rattle.std.specs.Prelude.{◌≡◌, ◌≤◌, ◌+◌, [], ◌∷◌, IfOk, IfSome, OnOk, codes, option_and_then, option_map};
 ghost use Rattle.serde_json.specs.Data.{member, no_members, object};
 ghost use Rattle.serde_json.specs.Find.{get};
 ghost use Rattle.serde_json.specs.View.{view};
 ghost use Rattle.tm_form.specs.Keys.{index_data, passes_at};
 ghost use Rattle.tm_form.specs.Numbers.{frac_in, is_text};
+ghost use Rattle.tm_form.specs.Naming.{capped, values_of, with_traces};
 ghost use Rattle.tm_form.specs.StepItems.{has_start, has_two_traces, two_traces_in};
+ghost use Rattle.tm_form.specs.Traces.{listing};
 
 use crate::entry::Entry;
 use crate::keys::{index_at, is_index_at, is_unknown_at, member_count, unknown_at, unknown_value};
+use crate::limits::MOST_VALUES;
+use crate::naming::Naming;
+use crate::numbering::Numbering;
 use crate::numbers::{is_text, number_value, read_number};
-use crate::trace::{is_trace_at, trace_at, trace_value};
+use crate::setting::Setting;
+use crate::trace::{is_trace_at, named_at, trace_at, trace_values};
 use serde_json::{Value, json};
 use std::alloc::{AllocError, Global};
 use tm_cert::{Item, JumpItem, RayItem};
@@ -39,10 +45,12 @@ fn frac_at(value: &Value, key: &str) -> Option<Frac>
 }
 
 // Whether `edge`, `low` and `unknown` are there and have their shapes.
-fn has_start(rows: usize, value: &Value) -> bool
-    ensures { result ≡ has_start rows (view value.now) }
+fn has_start(setting: &Setting, value: &Value) -> bool
+    ensures { result ≡ has_start setting.now (view value.now) }
 {
-    is_index_at(value, "edge") && is_trace_at(value, "low") && is_unknown_at(rows, value)
+    is_index_at(value, "edge")
+        && is_trace_at(setting, value, "low")
+        && is_unknown_at(setting.rows, value)
 }
 
 // What an item of a jump or of a ray has: a second trace and a number besides `edge`, `low` and `unknown`.
@@ -56,38 +64,38 @@ struct TwoTraces {
 }
 
 // Whether the value has the shape of an item with a second trace and a number at these keys.
-fn has_two_traces(rows: usize, value: &Value, second: &str, number: &str) -> bool
-    ensures { result ≡ has_two_traces second.now number.now rows (view value.now) }
+fn has_two_traces(setting: &Setting, value: &Value, second: &str, number: &str) -> bool
+    ensures { result ≡ has_two_traces second.now number.now setting.now (view value.now) }
 {
     member_count(value) == 5
-        && has_start(rows, value)
-        && is_trace_at(value, second)
+        && has_start(setting, value)
+        && is_trace_at(setting, value, second)
         && is_text_at(value, number)
 }
 
 // The parts of an item with a second trace and a number at these keys.
 fn read_two_traces(
     alloc: Global,
-    rows: usize,
+    setting: &Setting,
     value: &Value,
     second: &str,
     number: &str,
 ) -> Result<Option<TwoTraces>, AllocError>
-    ensures { IfOk result (λ parts. parts ≡ two_traces_in second.now number.now rows (view value.now)) }
+    ensures { IfOk result (λ parts. parts ≡ two_traces_in second.now number.now setting.now (view value.now)) }
 {
     let Some(edge) = index_at(value, "edge") else {
         return Ok(None);
     };
-    let Some(low) = trace_at(alloc, value, "low")? else {
+    let Some(low) = trace_at(alloc, setting, value, "low")? else {
         return Ok(None);
     };
-    let Some(second) = trace_at(alloc, value, second)? else {
+    let Some(second) = trace_at(alloc, setting, value, second)? else {
         return Ok(None);
     };
     let Some(number) = frac_at(value, number) else {
         return Ok(None);
     };
-    let Some(unknown) = unknown_at(rows, value) else {
+    let Some(unknown) = unknown_at(setting.rows, value) else {
         return Ok(None);
     };
     Ok(Some(TwoTraces {
@@ -103,11 +111,11 @@ fn read_two_traces(
 fn plain_item_object(
     alloc: Global,
     edge: u32,
-    low: Value,
+    low: usize,
     to: Value,
     unknown: Value,
 ) -> Result<Value, AllocError>
-    ensures { IfOk result (λ v. view v ≡ object (member (codes "edge") (index_data edge) (member (codes "low") (view low) (member (codes "to") (view to)
+    ensures { IfOk result (λ v. view v ≡ object (member (codes "edge") (index_data edge) (member (codes "low") (index_data low) (member (codes "to") (view to)
         (member (codes "unknown") (view unknown) no_members))))) }
 {
     json!(in alloc; {"edge": edge, "low": low, "to": to, "unknown": unknown})
@@ -117,13 +125,13 @@ fn plain_item_object(
 fn jump_item_object(
     alloc: Global,
     edge: u32,
-    high: Value,
-    low: Value,
+    high: usize,
+    low: usize,
     to: Value,
     unknown: Value,
 ) -> Result<Value, AllocError>
-    ensures { IfOk result (λ v. view v ≡ object (member (codes "edge") (index_data edge) (member (codes "high") (view high) (member (codes "low")
-        (view low) (member (codes "to") (view to) (member (codes "unknown") (view unknown) no_members)))))) }
+    ensures { IfOk result (λ v. view v ≡ object (member (codes "edge") (index_data edge) (member (codes "high") (index_data high) (member (codes "low")
+        (index_data low) (member (codes "to") (view to) (member (codes "unknown") (view unknown) no_members)))))) }
 {
     json!(in alloc; {"edge": edge, "high": high, "low": low, "to": to, "unknown": unknown})
 }
@@ -131,20 +139,22 @@ fn jump_item_object(
 // The members of an item of a ray as a value.
 fn ray_item_object(
     alloc: Global,
-    direction: Value,
+    direction: usize,
     edge: u32,
-    low: Value,
+    low: usize,
     rate: Value,
     unknown: Value,
 ) -> Result<Value, AllocError>
-    ensures { IfOk result (λ v. view v ≡ object (member (codes "direction") (view direction) (member (codes "edge") (index_data edge)
-        (member (codes "low") (view low) (member (codes "rate") (view rate) (member (codes "unknown") (view unknown) no_members)))))) }
+    ensures { IfOk result (λ v. view v ≡ object (member (codes "direction") (index_data direction) (member (codes "edge") (index_data edge)
+        (member (codes "low") (index_data low) (member (codes "rate") (view rate) (member (codes "unknown") (view unknown) no_members)))))) }
 {
     json!(in alloc; {"direction": direction, "edge": edge, "low": low, "rate": rate, "unknown": unknown})
 }
 
 impl Entry for Item {
-    ghost use Rattle.std.specs.Prelude.{nat_lt};
+    ghost use Rattle.std.specs.Prelude.{◌&&◌, nat_lt};
+    ghost use Rattle.std.specs.List.{list_all};
+    ghost use Rattle.tm_form.specs.Naming.{is_listed, plain_traces};
     ghost use Rattle.tm_form.specs.StepItems.{is_plain_item, plain_item_data, plain_item_in};
 
     ghost shaped = { is_plain_item };
@@ -153,23 +163,23 @@ impl Entry for Item {
 
     ghost element_data = { plain_item_data };
 
-    ghost writable = { λ rows _. nat_lt 0 rows };
+    ghost writable = { λ rows names item. nat_lt 0 rows && list_all (is_listed names) (plain_traces item) };
 
-    fn has_shape(rows: usize, value: &Value) -> bool {
-        member_count(value) == 4 && has_start(rows, value) && is_text_at(value, "to")
+    fn has_shape(setting: &Setting, value: &Value) -> bool {
+        member_count(value) == 4 && has_start(setting, value) && is_text_at(value, "to")
     }
 
-    fn read(alloc: Global, rows: usize, value: &Value) -> Result<Option<Item>, AllocError> {
+    fn read(alloc: Global, setting: &Setting, value: &Value) -> Result<Option<Item>, AllocError> {
         let Some(edge) = index_at(value, "edge") else {
             return Ok(None);
         };
-        let Some(low) = trace_at(alloc, value, "low")? else {
+        let Some(low) = trace_at(alloc, setting, value, "low")? else {
             return Ok(None);
         };
         let Some(to) = frac_at(value, "to") else {
             return Ok(None);
         };
-        let Some(unknown) = unknown_at(rows, value) else {
+        let Some(unknown) = unknown_at(setting.rows, value) else {
             return Ok(None);
         };
         Ok(Some(Item {
@@ -180,8 +190,8 @@ impl Entry for Item {
         }))
     }
 
-    fn write(&self, alloc: Global, rows: usize) -> Result<Value, AllocError> {
-        let low = trace_value(alloc, &self.low)?;
+    fn write(&self, alloc: Global, rows: usize, names: &Numbering) -> Result<Value, AllocError> {
+        let low = names.number(&self.low)?;
         let to = number_value(alloc, self.to)?;
         let unknown = unknown_value(alloc, rows, self.unknown)?;
         plain_item_object(alloc, self.edge, low, to, unknown)
@@ -189,7 +199,9 @@ impl Entry for Item {
 }
 
 impl Entry for JumpItem {
-    ghost use Rattle.std.specs.Prelude.{nat_lt};
+    ghost use Rattle.std.specs.Prelude.{◌&&◌, nat_lt};
+    ghost use Rattle.std.specs.List.{list_all};
+    ghost use Rattle.tm_form.specs.Naming.{is_listed, jump_traces};
     ghost use Rattle.tm_form.specs.StepItems.{is_jump_item, jump_item_data, jump_item_in};
 
     ghost shaped = { is_jump_item };
@@ -198,14 +210,18 @@ impl Entry for JumpItem {
 
     ghost element_data = { jump_item_data };
 
-    ghost writable = { λ rows _. nat_lt 0 rows };
+    ghost writable = { λ rows names item. nat_lt 0 rows && list_all (is_listed names) (jump_traces item) };
 
-    fn has_shape(rows: usize, value: &Value) -> bool {
-        has_two_traces(rows, value, "high", "to")
+    fn has_shape(setting: &Setting, value: &Value) -> bool {
+        has_two_traces(setting, value, "high", "to")
     }
 
-    fn read(alloc: Global, rows: usize, value: &Value) -> Result<Option<JumpItem>, AllocError> {
-        let Some(parts) = read_two_traces(alloc, rows, value, "high", "to")? else {
+    fn read(
+        alloc: Global,
+        setting: &Setting,
+        value: &Value,
+    ) -> Result<Option<JumpItem>, AllocError> {
+        let Some(parts) = read_two_traces(alloc, setting, value, "high", "to")? else {
             return Ok(None);
         };
         let TwoTraces {
@@ -224,9 +240,9 @@ impl Entry for JumpItem {
         }))
     }
 
-    fn write(&self, alloc: Global, rows: usize) -> Result<Value, AllocError> {
-        let high = trace_value(alloc, &self.high)?;
-        let low = trace_value(alloc, &self.low)?;
+    fn write(&self, alloc: Global, rows: usize, names: &Numbering) -> Result<Value, AllocError> {
+        let high = names.number(&self.high)?;
+        let low = names.number(&self.low)?;
         let to = number_value(alloc, self.to)?;
         let unknown = unknown_value(alloc, rows, self.unknown)?;
         jump_item_object(alloc, self.edge, high, low, to, unknown)
@@ -234,7 +250,9 @@ impl Entry for JumpItem {
 }
 
 impl Entry for RayItem {
-    ghost use Rattle.std.specs.Prelude.{nat_lt};
+    ghost use Rattle.std.specs.Prelude.{◌&&◌, nat_lt};
+    ghost use Rattle.std.specs.List.{list_all};
+    ghost use Rattle.tm_form.specs.Naming.{is_listed, ray_traces};
     ghost use Rattle.tm_form.specs.StepItems.{is_ray_item, ray_item_data, ray_item_in};
 
     ghost shaped = { is_ray_item };
@@ -243,14 +261,18 @@ impl Entry for RayItem {
 
     ghost element_data = { ray_item_data };
 
-    ghost writable = { λ rows _. nat_lt 0 rows };
+    ghost writable = { λ rows names item. nat_lt 0 rows && list_all (is_listed names) (ray_traces item) };
 
-    fn has_shape(rows: usize, value: &Value) -> bool {
-        has_two_traces(rows, value, "direction", "rate")
+    fn has_shape(setting: &Setting, value: &Value) -> bool {
+        has_two_traces(setting, value, "direction", "rate")
     }
 
-    fn read(alloc: Global, rows: usize, value: &Value) -> Result<Option<RayItem>, AllocError> {
-        let Some(parts) = read_two_traces(alloc, rows, value, "direction", "rate")? else {
+    fn read(
+        alloc: Global,
+        setting: &Setting,
+        value: &Value,
+    ) -> Result<Option<RayItem>, AllocError> {
+        let Some(parts) = read_two_traces(alloc, setting, value, "direction", "rate")? else {
             return Ok(None);
         };
         let TwoTraces {
@@ -269,11 +291,85 @@ impl Entry for RayItem {
         }))
     }
 
-    fn write(&self, alloc: Global, rows: usize) -> Result<Value, AllocError> {
-        let direction = trace_value(alloc, &self.direction)?;
-        let low = trace_value(alloc, &self.low)?;
+    fn write(&self, alloc: Global, rows: usize, names: &Numbering) -> Result<Value, AllocError> {
+        let direction = names.number(&self.direction)?;
+        let low = names.number(&self.low)?;
         let rate = number_value(alloc, self.rate)?;
         let unknown = unknown_value(alloc, rows, self.unknown)?;
         ray_item_object(alloc, direction, self.edge, low, rate, unknown)
+    }
+}
+
+impl Naming for Item {
+    ghost use Rattle.tm_form.specs.Naming.{plain_traces};
+
+    ghost traces_of = { plain_traces };
+
+    fn values(rows: usize, traces: &[Trace], value: &Value) -> Option<usize> {
+        let _edge = index_at(value, "edge")?;
+        let low = named_at(traces, value, "low")?;
+        let _to = frac_at(value, "to")?;
+        let _unknown = unknown_at(rows, value)?;
+        Some(trace_values(low))
+    }
+
+    fn number(&self, names: &mut Numbering) -> Result<(), AllocError> {
+        names.add(&self.low)
+    }
+}
+
+// How many values the two traces hold that an item with a second trace and a number at these keys names.
+fn two_traces_values(
+    rows: usize,
+    traces: &[Trace],
+    value: &Value,
+    second: &str,
+    number: &str,
+) -> Option<usize>
+    ensures count { result ≡ option_map (λ parts. capped (values_of (parts.low ∷ parts.second ∷ [])))
+        (two_traces_in second.now number.now (listing rows traces.now) (view value.now)) }
+    ensures few { IfSome result (λ n. n ≤ MOST_VALUES + 1) }
+{
+    let _edge = index_at(value, "edge")?;
+    let low = named_at(traces, value, "low")?;
+    let second = named_at(traces, value, second)?;
+    let _number = frac_at(value, number)?;
+    let _unknown = unknown_at(rows, value)?;
+    Some((trace_values(low) + trace_values(second)).min(MOST_VALUES + 1))
+}
+
+// Gives two traces their numbers.
+fn add_two(names: &mut Numbering, low: &Trace, second: &Trace) -> Result<(), AllocError>
+    ensures { OnOk result (names.new ≡ with_traces names.old (low.now ∷ second.now ∷ [])) }
+{
+    names.add(low)?;
+    names.add(second)
+}
+
+impl Naming for JumpItem {
+    ghost use Rattle.tm_form.specs.Naming.{jump_traces};
+
+    ghost traces_of = { jump_traces };
+
+    fn values(rows: usize, traces: &[Trace], value: &Value) -> Option<usize> {
+        two_traces_values(rows, traces, value, "high", "to")
+    }
+
+    fn number(&self, names: &mut Numbering) -> Result<(), AllocError> {
+        add_two(names, &self.low, &self.high)
+    }
+}
+
+impl Naming for RayItem {
+    ghost use Rattle.tm_form.specs.Naming.{ray_traces};
+
+    ghost traces_of = { ray_traces };
+
+    fn values(rows: usize, traces: &[Trace], value: &Value) -> Option<usize> {
+        two_traces_values(rows, traces, value, "direction", "rate")
+    }
+
+    fn number(&self, names: &mut Numbering) -> Result<(), AllocError> {
+        add_two(names, &self.low, &self.direction)
     }
 }

@@ -1,7 +1,7 @@
 //! What the definitions of the format come to, each as the contract of a function that does nothing; and the round trip.
 
-ghost use Rattle.std.specs.Prelude.{◌≡◌, IfErr, IfOk};
-ghost use Rattle.tm_form.specs.Certificates.{IsWritable};
+ghost use Rattle.std.specs.Prelude.{◌≡◌, ◌⊎◌, IfErr, IfOk};
+ghost use Rattle.tm_form.specs.Certificates.{IsBeyond, IsWithin, IsWritable};
 ghost use Rattle.tm_form.specs.FormLaws.{BoundsByText, FractionsByText, OneReading, WholesByText};
 
 use crate::fault::FormFault;
@@ -22,11 +22,13 @@ pub fn numbers_have_one_text()
     ensures bounds { BoundsByText }
 {}
 
-/// The certificate, written and read: the same one, unless memory is refused.
+/// The certificate, written and read: the same one where its traces hold at most `MOST_VALUES` values, and `Expanded` where
+/// they hold more, unless memory is refused.
 pub fn round_trip(alloc: Global, cert: &Cert) -> Result<Cert, FormFault>
     requires { IsWritable cert.now }
     ensures same { IfOk result (λ c. c ≡ cert.now) }
-    ensures only_memory { IfErr result (λ fault. fault ≡ FormFault.NoMemory) }
+    ensures within { IfOk result (λ _. IsWithin cert.now) }
+    ensures refused { IfErr result (λ fault. (fault ≡ FormFault.NoMemory) ⊎ ((fault ≡ FormFault.Expanded) × IsBeyond cert.now)) }
 {
     let bytes = write(alloc, cert)?;
     read(alloc, bytes.as_slice())

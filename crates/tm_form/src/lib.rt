@@ -1,4 +1,4 @@
-//! Certificates as text: format 1, a JSON object.
+//! Certificates as text, a JSON object: format 1, which is read, and format 2, which is read and written.
 #![tactic(auto)]
 
 mod bounds;
@@ -7,9 +7,13 @@ mod fault;
 mod items;
 mod keys;
 mod law;
+mod limits;
+mod naming;
+mod numbering;
 mod numbers;
 mod reading;
 mod rows;
+mod setting;
 mod step;
 mod trace;
 mod upper;
@@ -17,5 +21,6 @@ mod writing;
 
 pub use fault::{Field, FormFault};
 pub use law::{numbers_have_one_text, one_reading, round_trip};
+pub use limits::MOST_VALUES;
 pub use reading::read;
 pub use writing::write;

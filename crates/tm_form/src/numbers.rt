@@ -11,6 +11,8 @@ ghost use Rattle.tm_frac.specs.Texts.{frac_text};
 ghost use Rattle.tm_form.specs.Numbers.{is_text, whole_of};
 
 use crate::entry::Entry;
+use crate::numbering::Numbering;
+use crate::setting::Setting;
 use serde_json::Value;
 use std::alloc::{AllocError, Global};
 use tm_frac::{Ext, Frac, Text};
@@ -177,19 +179,19 @@ impl<T: Numeral> Entry for T {
 
     ghost element_in = { λ _ d. option_and_then T.number_of (as_str d) };
 
-    ghost element_data = { λ _ number. string (T.text_of number) };
+    ghost element_data = { λ _ _ number. string (T.text_of number) };
 
-    ghost writable = { λ _ number. T.has_text number };
+    ghost writable = { λ _ _ number. T.has_text number };
 
-    fn has_shape(_rows: usize, value: &Value) -> bool {
+    fn has_shape(_setting: &Setting, value: &Value) -> bool {
         is_text(value)
     }
 
-    fn read(_alloc: Global, _rows: usize, value: &Value) -> Result<Option<T>, AllocError> {
+    fn read(_alloc: Global, _setting: &Setting, value: &Value) -> Result<Option<T>, AllocError> {
         Ok(read_number(value))
     }
 
-    fn write(&self, alloc: Global, _rows: usize) -> Result<Value, AllocError> {
+    fn write(&self, alloc: Global, _rows: usize, _names: &Numbering) -> Result<Value, AllocError> {
         number_value(alloc, *self)
     }
 }

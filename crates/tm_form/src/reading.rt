@@ -1,20 +1,39 @@
 //! Reading a certificate.
 
-ghost use Rattle.std.specs.Prelude.{◌≡◌, ◌≢◌, IfErr, IfOk, IsErrOf, MatchResult, codes, option_and_then};
+ghost use Rattle.std.specs.Prelude.{◌≡◌, ◌≢◌, IfErr, IfOk, IsErrOf, MatchResult, None, Some, codes, option_and_then};
 ghost use Rattle.serde_json.specs.Data.{Data};
 ghost use Rattle.serde_json.specs.Find.{as_i64, as_number, as_u64, get};
 ghost use Rattle.serde_json.specs.View.{view};
-ghost use Rattle.tm_form.specs.Certificates.{IsWritable, Spells, SpellsCert, cert_in, format_in, has_key, is_top, list_from};
+ghost use Rattle.tm_form.specs.Naming.{capped, named_traces, values_of};
+ghost use Rattle.tm_form.specs.Certificates.{
+  IsWritable,
+  Spells,
+  SpellsCert,
+  and_then,
+  cert_in,
+  format_in,
+  format_of,
+  has_key,
+  has_traces,
+  is_top,
+  list_from,
+  rest_in,
+  steps_in,
+  traces_in,
+};
 
 use crate::bounds::{Line, joined};
 use crate::entry::{Entry, is_list, read_list};
 use crate::fault::{Field, FormFault};
 use crate::keys::member_count;
+use crate::limits::MOST_VALUES;
+use crate::naming::list_values;
+use crate::setting::{Setting, Traces};
 use serde_json::Value;
 use serde_json::error::Category;
 use std::alloc::Global;
 use tm_cert::{Cert, Rows, Step, Steps, Upper, Uppers};
-use tm_eqsys::Bounds;
+use tm_eqsys::{Bounds, Trace};
 use tm_tree::Coeffs;
 
 // Whether the value has a member of this key.
@@ -24,11 +43,18 @@ fn has_key(value: &Value, key: &str) -> bool
     value.get(key).is_some()
 }
 
-// Whether the value is an object with exactly the five keys of a certificate.
+// Whether there is a sixth key, the list of traces.
+fn has_traces(value: &Value) -> bool
+    ensures { result ≡ has_traces (view value.now) }
+{
+    member_count(value) == 6 && has_key(value, "traces")
+}
+
+// Whether the value is an object with exactly the five keys of format 1, or these and `traces`.
 fn is_top(value: &Value) -> bool
     ensures { result ≡ is_top (view value.now) }
 {
-    member_count(value) == 5
+    (member_count(value) == 5 || has_traces(value))
         && has_key(value, "bounds")
         && has_key(value, "format")
         && has_key(value, "rows")
@@ -56,13 +82,23 @@ fn signed_format(value: &Value) -> Option<i64>
     }
 }
 
-// Refuses any format but 1.
+// The format that has the keys of this value.
+fn format_of(value: &Value) -> u64
+    ensures { result ≡ format_of (has_traces (view value.now)) }
+{
+    if has_traces(value) { 2 } else { 1 }
+}
+
+// Refuses any format but that of the keys.
 fn test_format(value: &Value) -> Result<(), FormFault>
     ensures { result ≡ format_in (view value.now) }
 {
     let natural = natural_format(value);
-    if natural == Some(1) {
+    if natural == Some(format_of(value)) {
         return Ok(());
+    }
+    if natural == Some(1) || natural == Some(2) {
+        return Err(FormFault::Shape(Field::Format));
     }
     if natural.is_some() || signed_format(value).is_some() {
         return Err(FormFault::Version);
@@ -73,25 +109,104 @@ fn test_format(value: &Value) -> Result<(), FormFault>
 // The elements of a field that is a list.
 fn read_field<T: Entry>(
     alloc: Global,
-    rows: usize,
+    setting: &Setting,
     value: &Value,
     key: &str,
     field: Field,
 ) -> Result<Vec<T>, FormFault>
-    ensures { MatchResult result (λ list. list_from field (T.shaped rows) (T.element_in rows) (get key.now (view value.now)) ≡ Ok list.items)
-        (λ fault. fault ≢ FormFault.NoMemory → list_from field (T.shaped rows) (T.element_in rows) (get key.now (view value.now)) ≡ Err fault) }
+    ensures { MatchResult result (λ list. list_from field (T.shaped setting.now) (T.element_in setting.now) (get key.now (view value.now)) ≡ Ok list.items)
+        (λ fault. fault ≢ FormFault.NoMemory → list_from field (T.shaped setting.now) (T.element_in setting.now) (get key.now (view value.now)) ≡ Err fault) }
 {
     match value.get(key) {
         Some(member) => {
-            if !is_list::<T>(rows, member) {
+            if !is_list::<T>(setting, member) {
                 return Err(FormFault::Shape(field));
             }
-            match read_list(alloc, rows, member)? {
+            match read_list(alloc, setting, member)? {
                 Some(list) => Ok(list),
                 None => Err(FormFault::Number(field)),
             }
         }
         None => Err(FormFault::Shape(field)),
+    }
+}
+
+// The traces, if they stand in a list of their own.
+fn read_traces(alloc: Global, setting: &Setting, value: &Value) -> Result<Option<Traces>, FormFault>
+    ensures { MatchResult result (λ traces. traces_in (view value.now) ≡ Ok traces) (λ fault. fault ≢ FormFault.NoMemory → traces_in (view value.now) ≡ Err fault) }
+{
+    if !has_traces(value) {
+        return Ok(None);
+    }
+    let traces = read_field::<Trace>(alloc, setting, value, "traces", Field::Traces)?;
+    Ok(Some(Traces::new(traces)))
+}
+
+// The steps and the evidence of a certificate.
+#[derive(Drop)]
+struct Rest {
+    steps: Vec<Step>,
+    uppers: Vec<Upper>,
+}
+
+// How many values the traces hold that the steps name, counted up to `MOST_VALUES + 1`. Nothing is copied.
+fn count_values(setting: &Setting, traces: &[Trace], value: &Value) -> Result<usize, FormFault>
+    requires { setting.now.traces ≡ Some traces.now }
+    ensures { result ≡ and_then (steps_in setting.now (view value.now)) (λ steps. Ok (capped (values_of (named_traces steps)))) }
+{
+    match value.get("steps") {
+        Some(member) => {
+            if !is_list::<Step>(setting, member) {
+                return Err(FormFault::Shape(Field::Steps));
+            }
+            match list_values::<Step>(setting.rows, traces, member) {
+                Some(values) => Ok(values),
+                None => Err(FormFault::Number(Field::Steps)),
+            }
+        }
+        None => Err(FormFault::Shape(Field::Steps)),
+    }
+}
+
+// The steps and the evidence where traces are listed. A step is read only once all steps are known not to expand too far.
+fn read_listed(
+    alloc: Global,
+    setting: &Setting,
+    traces: &[Trace],
+    value: &Value,
+) -> Result<Rest, FormFault>
+    requires { setting.now.traces ≡ Some traces.now }
+    ensures { MatchResult result (λ rest. rest_in setting.now (view value.now) ≡ Ok (rest.steps.items, rest.uppers.items))
+        (λ fault. fault ≢ FormFault.NoMemory → rest_in setting.now (view value.now) ≡ Err fault) }
+{
+    let values = count_values(setting, traces, value)?;
+    let uppers = read_field::<Upper>(alloc, setting, value, "uppers", Field::Uppers)?;
+    if values > MOST_VALUES {
+        return Err(FormFault::Expanded);
+    }
+    let steps = read_field::<Step>(alloc, setting, value, "steps", Field::Steps)?;
+    Ok(Rest { steps, uppers })
+}
+
+// The steps and the evidence where traces stand in their places.
+fn read_placed(alloc: Global, setting: &Setting, value: &Value) -> Result<Rest, FormFault>
+    requires { setting.now.traces ≡ None }
+    ensures { MatchResult result (λ rest. rest_in setting.now (view value.now) ≡ Ok (rest.steps.items, rest.uppers.items))
+        (λ fault. fault ≢ FormFault.NoMemory → rest_in setting.now (view value.now) ≡ Err fault) }
+{
+    let steps = read_field::<Step>(alloc, setting, value, "steps", Field::Steps)?;
+    let uppers = read_field::<Upper>(alloc, setting, value, "uppers", Field::Uppers)?;
+    Ok(Rest { steps, uppers })
+}
+
+// The steps and the evidence.
+fn read_rest(alloc: Global, setting: &Setting, value: &Value) -> Result<Rest, FormFault>
+    ensures { MatchResult result (λ rest. rest_in setting.now (view value.now) ≡ Ok (rest.steps.items, rest.uppers.items))
+        (λ fault. fault ≢ FormFault.NoMemory → rest_in setting.now (view value.now) ≡ Err fault) }
+{
+    match &setting.traces {
+        Some(traces) => read_listed(alloc, setting, traces.as_slice(), value),
+        None => read_placed(alloc, setting, value),
     }
 }
 
@@ -103,12 +218,24 @@ fn read_cert(alloc: Global, value: &Value) -> Result<Cert, FormFault>
         return Err(FormFault::Shape(Field::Top));
     }
     test_format(value)?;
-    let rows = read_field::<Coeffs>(alloc, 0, value, "rows", Field::Rows)?;
+    let start = Setting {
+        rows: 0,
+        traces: None,
+    };
+    let rows = read_field::<Coeffs>(alloc, &start, value, "rows", Field::Rows)?;
     let count = rows.len();
-    let lines = read_field::<Line>(alloc, count, value, "bounds", Field::Bounds)?;
+    let setting = Setting {
+        rows: count,
+        traces: None,
+    };
+    let lines = read_field::<Line>(alloc, &setting, value, "bounds", Field::Bounds)?;
     let bounds = joined(alloc, lines.as_slice())?;
-    let steps = read_field::<Step>(alloc, count, value, "steps", Field::Steps)?;
-    let uppers = read_field::<Upper>(alloc, count, value, "uppers", Field::Uppers)?;
+    let traces = read_traces(alloc, &setting, value)?;
+    let setting = Setting {
+        rows: count,
+        traces,
+    };
+    let Rest { steps, uppers } = read_rest(alloc, &setting, value)?;
     Ok(Cert {
         rows: Rows::new(rows),
         bounds: Bounds::new(bounds),
@@ -117,11 +244,12 @@ fn read_cert(alloc: Global, value: &Value) -> Result<Cert, FormFault>
     })
 }
 
-/// The certificate that the bytes are, in format 1.
+/// The certificate that the bytes are, in format 1 or 2. It has the traces in their places, in either.
 ///
 /// It refuses all other bytes, by the first field that is refused in the order of `Field`, all shapes of a field before
 /// its numbers: `NotJson` exactly where the bytes are no JSON, and every other fault but `NoMemory` exactly where
-/// `specs/Certificates.antt` names it. The format is written out in `docs/FORMATS.md`.
+/// `specs/Certificates.antt` names it. `Expanded` comes after all fields, in format 2 alone. The formats are written out in
+/// `docs/FORMATS.md`.
 pub fn read(alloc: Global, bytes: &[u8]) -> Result<Cert, FormFault>
     ensures ok { IfOk result (λ c. SpellsCert bytes.now c) }
     ensures writable { IfOk result IsWritable }

@@ -41,10 +41,10 @@ module _ {A : Type 0} (read : Data → Option A) where
   abbrev pub after : List A → Option (List A) → Option (List A)
   after done rest = option_map (λ (xs : List A). done ++ xs) rest
 
-  abbrev joined : Option A → Option (List A) → Option (List A)
+  abbrev pub joined : Option A → Option (List A) → Option (List A)
   joined s rest = option_and_then (λ (x : A). option_map (λ (xs : List A). x ∷ xs) rest) s
 
-  next_read : (vs : List Value) (i : ℕ) (v : Value) → i < length vs → v ≡ get_or vs i v → left_to_read vs i ≡ joined (read (view v)) (left_to_read vs (suc i))
+  pub next_read : (vs : List Value) (i : ℕ) (v : Value) → i < length vs → v ≡ get_or vs i v → left_to_read vs i ≡ joined (read (view v)) (left_to_read vs (suc i))
   next_read [] i v lt is = absurd (omega arith)
   next_read (x ∷ vs) zero v lt is = ap (λ (y : Value). joined (read (view y)) (left_to_read vs 0)) (sym is)
   next_read (x ∷ vs) (suc i) v lt is = next_read vs i v (omega arith) is
@@ -64,7 +64,7 @@ module _ {A : Type 0} (read : Data → Option A) where
       → all ≡ after done (left_to_read vs i) → None ≡ all
   stopped vs i v done all lt is none e = sym (e ∙ ap (after done) (next_read vs i v lt is ∙ ap (λ o. joined o (left_to_read vs (suc i))) (sym none)))
 
-  all_read : (vs : List Value) (i : ℕ) → length vs ≤ i → left_to_read vs i ≡ Some []
+  pub all_read : (vs : List Value) (i : ℕ) → length vs ≤ i → left_to_read vs i ≡ Some []
   all_read [] zero le = refl
   all_read [] (suc i) le = refl
   all_read (x ∷ vs) zero le = absurd (omega arith)

@@ -1,5 +1,5 @@
 -- The laws of the format, and the round trip.
-use Rattle.std.proofs.Common.{◌≡◌, ◌≢◌, ◌==◌, ℕ, ℤ, Bool, true, false, List, Option, Some, None, Result, Ok, Err, IfOk, IfErr, refl, sym, ap, ◌∙◌, subst, codes, arith}
+use Rattle.std.proofs.Common.{◌≡◌, ◌≢◌, ◌⊎◌, inl, inr, ◌==◌, ◌<◌, ◌≤◌, nat_lt, ℕ, ℤ, Bool, true, false, List, Option, Some, None, Result, Ok, Err, IfOk, IfErr, refl, sym, ap, ◌∙◌, subst, codes, arith}
 use Rattle.std.specs.Prelude.{IsErrOf, if◌then◌else◌, option_and_then, option_map}
 use Rattle.std.specs.Fmt.{signed_decimal}
 use Rattle.std.specs.Str.{bytes_eq}
@@ -14,9 +14,11 @@ use Rattle.tm_frac.specs.declared.ext.Ext.TheVariants.{NegInf, Fin, PosInf}
 use Rattle.tm_frac.proofs.texts.Slashes.{some_same, whole_text}
 use Rattle.tm_cert.specs.declared.cert.Cert.{Cert}
 use Rattle.tm_form.specs.declared.fault.FormFault.{FormFault}
-use Rattle.tm_form.specs.declared.fault.FormFault.TheVariants.{NoMemory, NotJson, Number, Shape, Version}
+use Rattle.tm_form.specs.declared.fault.FormFault.TheVariants.{Expanded, NoMemory, NotJson, Number, Shape, Version}
+use Rattle.tm_form.specs.declared.limits.TheConstants.{MOST_VALUES}
+use Rattle.tm_form.specs.Naming.{named_traces, values_of}
 use Rattle.tm_form.specs.Numbers.{ext_of, frac_of, if_whole, whole_of}
-use Rattle.tm_form.specs.Certificates.{Spells, SpellsCert, cert_in}
+use Rattle.tm_form.specs.Certificates.{IsBeyond, IsWithin, Spells, SpellsCert, SpellsTooMany, cert_in, read_again}
 use Rattle.tm_form.specs.FormLaws.{BoundsByText, FractionsByText, OneReading, WholesByText}
 use Rattle.tm_form.proofs.numbers.FracTexts.{fin_back, frac_back, frac_text_of, whole_back}
 use Rattle.tm_form.proofs.rows.RowNumbers.{whole_small}
@@ -80,21 +82,64 @@ bounds text e = (
 
 -- ---- the round trip
 
-pub same_read : (bytes : List ℕ) (c : Cert) (r : Result Cert FormFault) → SpellsCert bytes c → IfOk r (λ e. SpellsCert bytes e) → IfOk r (λ e. e ≡ c)
-same_read bytes c (Ok e) s h = one_reading bytes e c h s
-same_read bytes c (Err f) s h = tt
+-- bytes that are read with an answer have no other one
+module _ (bytes : List ℕ) (a : Result Cert FormFault) (d : Data) (s : Spells bytes d) (is : cert_in d ≡ a) where
+  answer_same : (r : Result Cert FormFault) (e : Data) → Spells bytes e → cert_in e ≡ r → r ≡ a
+  answer_same r e t h = sym h ∙ ap cert_in (same_data bytes e d t s) ∙ is
 
-ok_not_err : (c : Cert) (f : FormFault) (r : Result Cert FormFault) → r ≡ Ok c → r ≡ Err f → ⊥
-ok_not_err c f r d e = cc
+  refused_with : (f : FormFault) → (e : Data) × Spells bytes e × (cert_in e ≡ Err f) → Err f ≡ a
+  refused_with f h = answer_same (Err f) h.0 h.1 h.2
 
-module _ (bytes : List ℕ) (c : Cert) (s : SpellsCert bytes c) where
-  not_refused : (f : FormFault) → (d : Data) × Spells bytes d × (cert_in d ≡ Err f) → ⊥
-  not_refused f h = ok_not_err c f (cert_in s.data_is) s.reads (ap cert_in (same_data bytes s.data_is h.0 s.spells h.1) ∙ h.2)
+  pub one_answer : (r : Result Cert FormFault) → IfOk r (λ e. SpellsCert bytes e) → (IsErrOf r NotJson → (e : Data) → Spells bytes e → ⊥)
+      → IfErr r (λ f. f ≢ NotJson → f ≢ NoMemory → (e : Data) × Spells bytes e × (cert_in e ≡ Err f)) → (r ≡ a) ⊎ (r ≡ Err NoMemory)
+  one_answer (Ok e) h n k = inl (answer_same (Ok e) h.data_is h.spells h.reads)
+  one_answer (Err NotJson) h n k = absurd (n refl d s)
+  one_answer (Err (Shape f)) h n k = inl (refused_with (Shape f) (k (λ e. cc) (λ e. cc)))
+  one_answer (Err (Number f)) h n k = inl (refused_with (Number f) (k (λ e. cc) (λ e. cc)))
+  one_answer (Err Version) h n k = inl (refused_with Version (k (λ e. cc) (λ e. cc)))
+  one_answer (Err Expanded) h n k = inl (refused_with Expanded (k (λ e. cc) (λ e. cc)))
+  one_answer (Err NoMemory) h n k = inr refl
 
-  pub memory_alone : (r : Result Cert FormFault) → (IsErrOf r NotJson → (d : Data) → Spells bytes d → ⊥) → IfErr r (λ f. f ≢ NotJson → f ≢ NoMemory → (d : Data) × Spells bytes d × (cert_in d ≡ Err f)) → IfErr r (λ f. f ≡ NoMemory)
-  memory_alone (Ok e) n h = tt
-  memory_alone (Err NotJson) n h = absurd (n refl s.data_is s.spells)
-  memory_alone (Err (Shape f)) n h = absurd (not_refused (Shape f) (h (λ e. cc) (λ e. cc)))
-  memory_alone (Err (Number f)) n h = absurd (not_refused (Number f) (h (λ e. cc) (λ e. cc)))
-  memory_alone (Err Version) n h = absurd (not_refused Version (h (λ e. cc) (λ e. cc)))
-  memory_alone (Err NoMemory) n h = refl
+lt_from : (m n : ℕ) → nat_lt m n ≡ true → m < n
+lt_from m n e = grind (arith, e)
+
+le_from : (m n : ℕ) → nat_lt m n ≡ false → n ≤ m
+le_from m n e = grind (arith, e)
+
+module _ (c : Cert) where
+  abbrev over : Bool
+  over = nat_lt MOST_VALUES (values_of (named_traces c.steps))
+
+  pub read_as : (bytes : List ℕ) → (IsWithin c → SpellsCert bytes c) → (IsBeyond c → SpellsTooMany bytes) → (d : Data) × Spells bytes d × (cert_in d ≡ read_again c)
+  read_as bytes w b = by over refl
+    where
+      by : (o : Bool) → over ≡ o → (d : Data) × Spells bytes d × (cert_in d ≡ (if o then Err Expanded else Ok c))
+      by true h = b (lt_from MOST_VALUES (values_of (named_traces c.steps)) h)
+      by false h = let k = w (le_from MOST_VALUES (values_of (named_traces c.steps)) h) in (k.data_is, k.spells, k.reads)
+
+  pub again_same : (r : Result Cert FormFault) → (r ≡ read_again c) ⊎ (r ≡ Err NoMemory) → IfOk r (λ e. e ≡ c)
+  again_same (Err f) h = tt
+  again_same (Ok e) (inl h) = by over h
+    where
+      by : (o : Bool) → Ok e ≡ (if o then Err Expanded else Ok c) → e ≡ c
+      by true k = absurd cc
+      by false k = cc
+  again_same (Ok e) (inr h) = absurd cc
+
+  pub again_within : (r : Result Cert FormFault) → (r ≡ read_again c) ⊎ (r ≡ Err NoMemory) → IfOk r (λ _. IsWithin c)
+  again_within (Err f) h = tt
+  again_within (Ok e) (inl h) = by over refl h
+    where
+      by : (o : Bool) → over ≡ o → Ok e ≡ (if o then Err Expanded else Ok c) → IsWithin c
+      by true p k = absurd cc
+      by false p k = le_from MOST_VALUES (values_of (named_traces c.steps)) p
+  again_within (Ok e) (inr h) = absurd cc
+
+  pub again_refused : (r : Result Cert FormFault) → (r ≡ read_again c) ⊎ (r ≡ Err NoMemory) → IfErr r (λ f. (f ≡ NoMemory) ⊎ ((f ≡ Expanded) × IsBeyond c))
+  again_refused (Ok e) h = tt
+  again_refused (Err f) (inl h) = by over refl h
+    where
+      by : (o : Bool) → over ≡ o → Err f ≡ (if o then Err Expanded else Ok c) → (f ≡ NoMemory) ⊎ ((f ≡ Expanded) × IsBeyond c)
+      by true p k = inr (cc, lt_from MOST_VALUES (values_of (named_traces c.steps)) p)
+      by false p k = absurd cc
+  again_refused (Err f) (inr h) = inl cc

@@ -11,6 +11,7 @@ use Rattle.tm_frac.specs.Extended.{extended}
 use Rattle.tm_frac.specs.declared.ext.Ext.{Ext}
 use Rattle.tm_tree.specs.Numbers.{are_numbers}
 use Rattle.tm_cert.specs.Shaped.{has_item, has_some}
+use Rattle.tm_eqsys.specs.declared.trace.Trace.{Trace}
 use Rattle.tm_cert.specs.declared.cert.Cert.{Cert}
 use Rattle.tm_cert.specs.declared.step.Step.{Step}
 use Rattle.tm_cert.specs.declared.step.Step.TheVariants.{Plain, Jump, Ray}
@@ -18,15 +19,17 @@ use Rattle.tm_cert.specs.declared.upper.Upper.{Upper}
 use Rattle.tm_form.specs.declared.fault.Field.{Field}
 use Rattle.tm_form.specs.declared.fault.Field.TheVariants.{Rows, Bounds, Steps}
 use Rattle.tm_form.specs.declared.fault.FormFault.{FormFault}
-use Rattle.tm_form.specs.declared.fault.FormFault.TheVariants.{Shape}
+use Rattle.tm_form.specs.declared.fault.FormFault.TheVariants.{Expanded, Shape}
+use Rattle.tm_form.specs.declared.setting.Setting.{Setting}
 use Rattle.tm_form.specs.Lists.{all_items, is_list, items_in, items_pass, list_in}
 use Rattle.tm_form.specs.Numbers.{ext_in, is_text, whole_in}
 use Rattle.tm_form.specs.Keys.{count_items, index_in, is_index, is_kind, is_unknown, item_count, member_count, numbered, passes, passes_at, unknown_from}
-use Rattle.tm_form.specs.Traces.{are_texts, is_trace}
+use Rattle.tm_form.specs.Traces.{are_texts, is_trace_by}
+use Rattle.tm_form.specs.Naming.{named_traces, values_of}
 use Rattle.tm_form.specs.StepItems.{has_start, is_jump_item, is_plain_item, is_ray_item, jump_item_in, plain_item_in, ray_item_in}
 use Rattle.tm_form.specs.StepForms.{has_items, is_filled, is_step, items_at, step_in}
 use Rattle.tm_form.specs.BoundLines.{is_line, joined, line_in}
-use Rattle.tm_form.specs.Certificates.{IsWritable, and_then, bounds_in, cert_in, format_in, list_from, or_number, rows_in, steps_in, top_in, uppers_in}
+use Rattle.tm_form.specs.Certificates.{IsWritable, and_then, bounds_in, cert_in, format_in, is_over, list_from, or_number, rest_in, rows_in, steps_in, top_in, traces_in, uppers_in}
 use Rattle.tm_form.proofs.bounds.LinesOf.{length_map}
 use Rattle.tm_form.proofs.rows.RowNumbers.{row_small}
 
@@ -133,17 +136,17 @@ filled_from kind test d e =
     (k.0, k.1, ltb-true 0 (item_count k.0) (and_both (nat_lt 0 (item_count k.0)) (is_list test k.0) k.2).0)
 
 -- a step has one of three kinds of items
-step_cases : (rows : ℕ) (d : Data) (P : Type 0) → (has_items (codes "plain") (is_plain_item rows) d ≡ true → P) → (has_items (codes "jump") (is_jump_item rows) d ≡ true → P) → (has_items (codes "ray") (is_ray_item rows) d ≡ true → P)
-    → is_step rows d ≡ true → P
-step_cases rows d P f g h e =
-    let a = has_items (codes "plain") (is_plain_item rows) d in
-    let b = has_items (codes "jump") (is_jump_item rows) d in
-    let c = has_items (codes "ray") (is_ray_item rows) d in
+step_cases : (s : Setting) (d : Data) (P : Type 0) → (has_items (codes "plain") (is_plain_item s) d ≡ true → P) → (has_items (codes "jump") (is_jump_item s) d ≡ true → P) → (has_items (codes "ray") (is_ray_item s) d ≡ true → P)
+    → is_step s d ≡ true → P
+step_cases s d P f g h e =
+    let a = has_items (codes "plain") (is_plain_item s) d in
+    let b = has_items (codes "jump") (is_jump_item s) d in
+    let c = has_items (codes "ray") (is_ray_item s) d in
     ⊎_elim (λ k. ⊎_elim f g (or_cases a b k)) h (or_cases (a || b) c (and_both (member_count d == 2) (a || b || c) e).1)
 
-step_filled : (rows : ℕ) (d : Data) → is_step rows d ≡ true → some_items d
-step_filled rows d e =
-    step_cases rows d (some_items d) (filled_from (codes "plain") (is_plain_item rows) d) (filled_from (codes "jump") (is_jump_item rows) d) (filled_from (codes "ray") (is_ray_item rows) d) e
+step_filled : (s : Setting) (d : Data) → is_step s d ≡ true → some_items d
+step_filled s d e =
+    step_cases s d (some_items d) (filled_from (codes "plain") (is_plain_item s) d) (filled_from (codes "jump") (is_jump_item s) d) (filled_from (codes "ray") (is_ray_item s) d) e
 
 has_some_long : {A : Type 0} (xs : List A) → 0 < length xs → has_some xs ≡ true
 has_some_long [] h = absurd (omega (arith, h))
@@ -157,14 +160,14 @@ map_from : {A B : Type 0} (f : A → B) (o : Option A) (y : B) → option_map f 
 map_from f None y e = absurd cc
 map_from f (Some x) y e = (x, refl, cc)
 
-step_has_item : (rows : ℕ) (d : Data) (s : Step) → is_step rows d ≡ true → step_in rows d ≡ Some s → has_item s ≡ true
-step_has_item rows d s p e = by (is_kind (codes "plain") d) (is_kind (codes "jump") d) (is_kind (codes "ray") d) e
+step_has_item : (s : Setting) (d : Data) (step : Step) → is_step s d ≡ true → step_in s d ≡ Some step → has_item step ≡ true
+step_has_item s d step p e = by (is_kind (codes "plain") d) (is_kind (codes "jump") d) (is_kind (codes "ray") d) e
   where
-    by : (a b c : Bool) → (if a then option_map (λ items. Plain items) (items_at (plain_item_in rows) d) else (if b then option_map (λ items. Jump items) (items_at (jump_item_in rows) d)
-        else (if c then option_map (λ items. Ray items) (items_at (ray_item_in rows) d) else None))) ≡ Some s → has_item s ≡ true
-    by true b c e = let k = map_from (λ items. Plain items) _ s e in subst (λ (t : Step). has_item t ≡ true) k.2 (items_some (plain_item_in rows) d k.0 (step_filled rows d p) k.1)
-    by false true c e = let k = map_from (λ items. Jump items) _ s e in subst (λ (t : Step). has_item t ≡ true) k.2 (items_some (jump_item_in rows) d k.0 (step_filled rows d p) k.1)
-    by false false true e = let k = map_from (λ items. Ray items) _ s e in subst (λ (t : Step). has_item t ≡ true) k.2 (items_some (ray_item_in rows) d k.0 (step_filled rows d p) k.1)
+    by : (a b c : Bool) → (if a then option_map (λ items. Plain items) (items_at (plain_item_in s) d) else (if b then option_map (λ items. Jump items) (items_at (jump_item_in s) d)
+        else (if c then option_map (λ items. Ray items) (items_at (ray_item_in s) d) else None))) ≡ Some step → has_item step ≡ true
+    by true b c e = let k = map_from (λ items. Plain items) _ step e in subst (λ (t : Step). has_item t ≡ true) k.2 (items_some (plain_item_in s) d k.0 (step_filled s d p) k.1)
+    by false true c e = let k = map_from (λ items. Jump items) _ step e in subst (λ (t : Step). has_item t ≡ true) k.2 (items_some (jump_item_in s) d k.0 (step_filled s d p) k.1)
+    by false false true e = let k = map_from (λ items. Ray items) _ step e in subst (λ (t : Step). has_item t ≡ true) k.2 (items_some (ray_item_in s) d k.0 (step_filled s d p) k.1)
     by false false false e = absurd cc
 
 -- ---- without rows there is no unknown, so no item and no step
@@ -184,35 +187,40 @@ no_unknown d = by (item_count d == 2)
     by true = ap is_some (no_unknown_from (option_and_then index_in (at 0 d)) (option_and_then index_in (at 1 d)))
     by false = refl
 
-no_start : (d : Data) → has_start 0 d ≡ true → ⊥
-no_start d e =
-    let a = passes_at is_index (codes "edge") d in
-    let b = passes_at is_trace (codes "low") d in
-    let c = passes_at (is_unknown 0) (codes "unknown") d in
-    let k = passes_from (is_unknown 0) (get (codes "unknown") d) (and_both (a && b) c e).1 in
-    false_not_true (sym (no_unknown k.0) ∙ k.2)
-  where
-    false_not_true : false ≡ true → ⊥
-    false_not_true f = cc
+-- however traces are found
+module _ (traces : Option (List Trace)) where
+  abbrev none : Setting
+  none = record { rows = 0; traces = traces }
 
--- a shape that has a count and the start of an item
-start_of : (n : Bool) (d : Data) → (n && has_start 0 d) ≡ true → ⊥
-start_of n d e = no_start d (and_both n (has_start 0 d) e).1
+  no_start : (d : Data) → has_start none d ≡ true → ⊥
+  no_start d e =
+      let a = passes_at is_index (codes "edge") d in
+      let b = passes_at (is_trace_by traces) (codes "low") d in
+      let c = passes_at (is_unknown 0) (codes "unknown") d in
+      let k = passes_from (is_unknown 0) (get (codes "unknown") d) (and_both (a && b) c e).1 in
+      false_not_true (sym (no_unknown k.0) ∙ k.2)
+    where
+      false_not_true : false ≡ true → ⊥
+      false_not_true f = cc
 
-no_plain : (d : Data) → is_plain_item 0 d ≡ true → ⊥
-no_plain d e = start_of (member_count d == 4) d (and_both (member_count d == 4 && has_start 0 d) (passes_at is_text (codes "to") d) e).0
+  -- a shape that has a count and the start of an item
+  start_of : (n : Bool) (d : Data) → (n && has_start none d) ≡ true → ⊥
+  start_of n d e = no_start d (and_both n (has_start none d) e).1
 
-no_jump : (d : Data) → is_jump_item 0 d ≡ true → ⊥
-no_jump d e =
-    let start = member_count d == 5 && has_start 0 d in
-    let high = passes_at is_trace (codes "high") d in
-    start_of (member_count d == 5) d (and_both start high (and_both (start && high) (passes_at is_text (codes "to") d) e).0).0
+  no_plain : (d : Data) → is_plain_item none d ≡ true → ⊥
+  no_plain d e = start_of (member_count d == 4) d (and_both (member_count d == 4 && has_start none d) (passes_at is_text (codes "to") d) e).0
 
-no_ray : (d : Data) → is_ray_item 0 d ≡ true → ⊥
-no_ray d e =
-    let start = member_count d == 5 && has_start 0 d in
-    let direction = passes_at is_trace (codes "direction") d in
-    start_of (member_count d == 5) d (and_both start direction (and_both (start && direction) (passes_at is_text (codes "rate") d) e).0).0
+  no_jump : (d : Data) → is_jump_item none d ≡ true → ⊥
+  no_jump d e =
+      let start = member_count d == 5 && has_start none d in
+      let high = passes_at (is_trace_by traces) (codes "high") d in
+      start_of (member_count d == 5) d (and_both start high (and_both (start && high) (passes_at is_text (codes "to") d) e).0).0
+
+  no_ray : (d : Data) → is_ray_item none d ≡ true → ⊥
+  no_ray d e =
+      let start = member_count d == 5 && has_start none d in
+      let direction = passes_at (is_trace_by traces) (codes "direction") d in
+      start_of (member_count d == 5) d (and_both start direction (and_both (start && direction) (passes_at is_text (codes "rate") d) e).0).0
 
 first_passes : (test : Data → Bool) (o : Option Items) → items_pass test o ≡ true → 0 < count_items o → (d : Data) × (test d ≡ true)
 first_passes test None p h = absurd cc
@@ -226,10 +234,11 @@ no_items_without kind test d none e =
     let x = first_passes test (as_array k.0) f.1 (ltb-true 0 (item_count k.0) f.0) in
     none x.0 x.1
 
-no_step : (d : Data) (s : Step) → is_step 0 d ≡ true → step_in 0 d ≡ Some s → false ≡ true
-no_step d s e f =
-    step_cases 0 d (false ≡ true) (λ p. absurd (no_items_without (codes "plain") (is_plain_item 0) d no_plain p)) (λ p. absurd (no_items_without (codes "jump") (is_jump_item 0) d no_jump p))
-    (λ p. absurd (no_items_without (codes "ray") (is_ray_item 0) d no_ray p)) e
+no_step : (traces : Option (List Trace)) (d : Data) (step : Step) → is_step (record { rows = 0; traces = traces }) d ≡ true → step_in (record { rows = 0; traces = traces }) d ≡ Some step → false ≡ true
+no_step traces d step e f =
+    let s = none traces in
+    step_cases s d (false ≡ true) (λ p. absurd (no_items_without (codes "plain") (is_plain_item s) d (no_plain traces) p)) (λ p. absurd (no_items_without (codes "jump") (is_jump_item s) d (no_jump traces) p))
+    (λ p. absurd (no_items_without (codes "ray") (is_ray_item s) d (no_ray traces) p)) e
 
 -- ---- the whole
 
@@ -241,16 +250,21 @@ nothing_long : {A : Type 0} (xs : List A) → length xs ≡ 0 → xs ≡ []
 nothing_long [] e = refl
 nothing_long (x ∷ xs) e = absurd (omega (arith, e))
 
-parts_writable : (rows : List (List ℤ)) (lines : List (List Ext)) (steps : List Step) (uppers : List Upper) → IsRead are_texts (list_in whole_in) rows → IsRead (is_line (length rows)) line_in lines → IsRead (is_step (length rows)) (step_in (length rows)) steps
+-- the setting of so many rows
+abbrev under : ℕ → Option (List Trace) → Setting
+under n traces = record { rows = n; traces = traces }
+
+parts_writable : (traces : Option (List Trace)) (rows : List (List ℤ)) (lines : List (List Ext)) (steps : List Step) (uppers : List Upper) → IsRead are_texts (list_in whole_in) rows → IsRead (is_line (length rows)) line_in lines
+    → IsRead (is_step (under (length rows) traces)) (step_in (under (length rows) traces)) steps
     → IsWritable (record { rows = rows; bounds = map extended (joined lines); steps = steps; uppers = uppers })
-parts_writable [] lines steps uppers r b s =
+parts_writable traces [] lines steps uppers r b s =
     let long = joined_long 0 lines (each_holds (is_line 0) line_in (λ (line : List Ext). length line == 0) (line_long 0) lines b) in
     inr record {
       rows = refl;
       bounds = nothing_long (map extended (joined lines)) (omega (arith, length_map extended (joined lines), long));
-      steps = none_left steps (each_holds (is_step 0) (step_in 0) (λ _. false) no_step steps s);
+      steps = none_left steps (each_holds (is_step (under 0 traces)) (step_in (under 0 traces)) (λ _. false) (no_step traces) steps s);
     }
-parts_writable (row ∷ rest) lines steps uppers r b s =
+parts_writable traces (row ∷ rest) lines steps uppers r b s =
     let rows : List (List ℤ) = row ∷ rest in
     let n = length rows in
     let long = joined_long n lines (each_holds (is_line n) line_in (λ (line : List Ext). length line == n) (line_long n) lines b) in
@@ -258,8 +272,20 @@ parts_writable (row ∷ rest) lines steps uppers r b s =
       row = omega arith;
       numbers = each_holds are_texts (list_in whole_in) are_numbers (λ d x _ e. row_small d x e) rows r;
       points = ap (λ m. m % n) (length_map extended (joined lines) ∙ long) ∙ mul-mod_left (length lines) n;
-      items = each_holds (is_step n) (step_in n) has_item (step_has_item n) steps s;
+      items = each_holds (is_step (under n traces)) (step_in (under n traces)) has_item (step_has_item (under n traces)) steps s;
     }
+
+if_ok : {A : Type 0} (b : Bool) (x y : A) → (if b then Err Expanded else Ok x) ≡ Ok y → x ≡ y
+if_ok true x y e = absurd cc
+if_ok false x y e = cc
+
+-- the steps that stand in the rest
+rest_steps : (s : Setting) (d : Data) (rest : List Step × List Upper) → rest_in s d ≡ Ok rest → steps_in s d ≡ Ok rest.0
+rest_steps s d rest e =
+    let k = then_from (steps_in s d) _ rest e in
+    let u = then_from (uppers_in d) _ rest k.2 in
+    let is = if_ok (is_over s.traces (values_of (named_traces k.0))) (k.0, u.0) rest u.2 in
+    k.1 ∙ ap (λ (r : List Step × List Upper). let o : Result (List Step) FormFault = Ok r.0 in o) is
 
 pub read_writable : (d : Data) (c : Cert) → cert_in d ≡ Ok c → IsWritable c
 read_writable d c e =
@@ -267,11 +293,12 @@ read_writable d c e =
     let f = then_from (format_in d) _ c t.2 in
     let r = then_from (rows_in d) _ c f.2 in
     let b = then_from (bounds_in (length r.0) d) _ c r.2 in
-    let s = then_from (steps_in (length r.0) d) _ c b.2 in
-    let u = then_from (uppers_in d) _ c s.2 in
-    let made : (record { rows = r.0; bounds = map extended (joined b.0); steps = s.0; uppers = u.0 }) ≡ c = cc in
-    subst IsWritable made (parts_writable r.0 b.0 s.0 u.0 (field_from Rows are_texts (list_in whole_in) (get (codes "rows") d) r.0 r.1)
-    (field_from Bounds (is_line (length r.0)) line_in (get (codes "bounds") d) b.0 b.1) (field_from Steps (is_step (length r.0)) (step_in (length r.0)) (get (codes "steps") d) s.0 s.1))
+    let l = then_from (traces_in d) _ c b.2 in
+    let s = then_from (rest_in (under (length r.0) l.0) d) _ c l.2 in
+    let made : (record { rows = r.0; bounds = map extended (joined b.0); steps = s.0.0; uppers = s.0.1 }) ≡ c = cc in
+    subst IsWritable made (parts_writable l.0 r.0 b.0 s.0.0 s.0.1 (field_from Rows are_texts (list_in whole_in) (get (codes "rows") d) r.0 r.1)
+    (field_from Bounds (is_line (length r.0)) line_in (get (codes "bounds") d) b.0 b.1)
+    (field_from Steps (is_step (under (length r.0) l.0)) (step_in (under (length r.0) l.0)) (get (codes "steps") d) s.0.0 (rest_steps (under (length r.0) l.0) d s.0 s.1)))
 
 pub answer_writable : (d : Data) (r : Result Cert FormFault) (Q : FormFault → Type 0) → MatchResult r (λ c. cert_in d ≡ Ok c) Q → IfOk r IsWritable
 answer_writable d (Ok c) Q e = read_writable d c e

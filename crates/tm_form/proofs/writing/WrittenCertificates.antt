@@ -1,13 +1,13 @@
 -- A certificate that is written: no deeper than JSON's reader goes, without floats, and read back.
 use Rattle.std.proofs.Common.{◌≡◌, ⊎_elim, ◌*◌, ◌/◌, ◌%◌, ◌<◌, ◌≤◌, ◌&&◌, ◌||◌, ℕ, Bool, true, false, List, [], ◌∷◌, length, map, Option, Some, ℤ, refl, sym, ap, ap₂, ◌∙◌, arith, Vec, Global, Result, Ok, Err, IfOk, subst}
-use Rattle.std.specs.Prelude.{IsUtf8, nat_lt, if◌then◌else◌}
+use Rattle.std.specs.Prelude.{IsUtf8, nat_lt, option_and_then, if◌then◌else◌}
 use Rattle.std.specs.List.{list_all}
 use Rattle.std.specs.declared.alloc.AllocError.{AllocError}
 use Rattle.std.proofs.Math.Nat.{div-add-mod', zero-div}
 use Rattle.std.proofs.lemmas.Bool.{lt-ltb}
 use Rattle.serde_json.specs.Read.{read}
 use Rattle.serde_json.specs.Data.{Data, depth, items_depth}
-use Rattle.serde_json.specs.Written.{has_float, items_have_float}
+use Rattle.serde_json.specs.Written.{compact_text, has_float, items_have_float}
 use Rattle.tm_num.specs.Rational.{ℚ}
 use Rattle.tm_num.specs.Extended.{Ext as Extended}
 use Rattle.tm_frac.specs.Extended.{extended}
@@ -23,17 +23,22 @@ use Rattle.tm_cert.specs.declared.step.Step.TheVariants.{Plain, Jump, Ray}
 use Rattle.tm_cert.specs.declared.upper.Upper.{Upper}
 use Rattle.tm_cert.specs.declared.upper.Upper.TheVariants.{Unreached, Empty, Bound}
 use Rattle.tm_form.specs.declared.fault.Field.{Field}
-use Rattle.tm_form.specs.declared.fault.Field.TheVariants.{Rows, Bounds, Steps, Uppers}
+use Rattle.tm_form.specs.declared.fault.Field.TheVariants.{Rows, Bounds, Traces, Steps, Uppers}
 use Rattle.tm_form.specs.declared.fault.FormFault.{FormFault}
-use Rattle.tm_form.specs.declared.fault.FormFault.TheVariants.{Shape}
+use Rattle.tm_form.specs.declared.fault.FormFault.TheVariants.{Expanded, Shape}
+use Rattle.tm_form.specs.declared.limits.TheConstants.{MOST_VALUES}
+use Rattle.tm_form.specs.declared.setting.Setting.{Setting}
 use Rattle.tm_form.specs.Lists.{is_list, items_data, list_data, list_in}
 use Rattle.tm_form.specs.Numbers.{bound_data, frac_data, whole_data, whole_in}
-use Rattle.tm_form.specs.Traces.{are_texts, fracs_data, trace_data}
+use Rattle.tm_form.specs.Traces.{are_texts, fracs_data, is_trace, listing, trace_data, trace_in}
+use Rattle.tm_form.specs.Naming.{is_listed, named_traces, spelt_trace, step_traces, trace_text, values_of}
 use Rattle.tm_form.specs.StepItems.{jump_item_data, plain_item_data, ray_item_data}
 use Rattle.tm_form.specs.StepForms.{is_step, step_data, step_in}
 use Rattle.tm_form.specs.Evidence.{is_upper, upper_data, upper_in}
 use Rattle.tm_form.specs.BoundLines.{bounds_data, is_line, joined, line_data, line_in, lines_of}
-use Rattle.tm_form.specs.Certificates.{IsEmpty, IsWritable, SpellsCert, and_then, bounds_in, cert_data, cert_in, cert_object, list_from, or_number, row_data, rows_in, steps_in, uppers_in}
+use Rattle.tm_form.proofs.naming.Listed.{steps_listed}
+use Rattle.tm_form.proofs.reading.ReadRests.{then_ok}
+use Rattle.tm_form.specs.Certificates.{IsBeyond, IsEmpty, IsWithin, IsWritable, SpellsCert, SpellsTooMany, and_then, bounds_in, cert_data, cert_in, cert_object, is_over, list_from, listed_traces, or_number, read_again, rest_in, row_data, rows_in, steps_in, traces_in, uppers_in}
 
 -- ---- depth and floats of lists
 
@@ -58,33 +63,24 @@ trace_deep t = omega (arith, fracs_deep t.free, fracs_deep t.start)
 trace_whole : (t : Trace) → has_float (trace_data t) ≡ false
 trace_whole t = ap₂ (λ a b. a || (b || false)) (fracs_whole t.free) (fracs_whole t.start)
 
-plain_deep : (rows : ℕ) (i : Item) → depth (plain_item_data rows i) ≤ 3
-plain_deep rows i = omega (arith, trace_deep i.low)
+plain_deep : (rows : ℕ) (names : List Trace) (i : Item) → depth (plain_item_data rows names i) ≤ 3
+plain_deep rows names i = omega arith
 
-plain_whole : (rows : ℕ) (i : Item) → has_float (plain_item_data rows i) ≡ false
-plain_whole rows i = ap (λ a. a || false) (trace_whole i.low)
+jump_deep : (rows : ℕ) (names : List Trace) (i : JumpItem) → depth (jump_item_data rows names i) ≤ 3
+jump_deep rows names i = omega arith
 
-jump_deep : (rows : ℕ) (i : JumpItem) → depth (jump_item_data rows i) ≤ 3
-jump_deep rows i = omega (arith, trace_deep i.low, trace_deep i.high)
+ray_deep : (rows : ℕ) (names : List Trace) (i : RayItem) → depth (ray_item_data rows names i) ≤ 3
+ray_deep rows names i = omega arith
 
-jump_whole : (rows : ℕ) (i : JumpItem) → has_float (jump_item_data rows i) ≡ false
-jump_whole rows i = ap₂ (λ a b. a || (b || false)) (trace_whole i.high) (trace_whole i.low)
+step_deep : (rows : ℕ) (names : List Trace) (s : Step) → depth (step_data rows names s) ≤ 5
+step_deep rows names (Plain items) = omega (arith, items_deep (plain_item_data rows names) 3 items (plain_deep rows names))
+step_deep rows names (Jump items) = omega (arith, items_deep (jump_item_data rows names) 3 items (jump_deep rows names))
+step_deep rows names (Ray items) = omega (arith, items_deep (ray_item_data rows names) 3 items (ray_deep rows names))
 
-ray_deep : (rows : ℕ) (i : RayItem) → depth (ray_item_data rows i) ≤ 3
-ray_deep rows i = omega (arith, trace_deep i.low, trace_deep i.direction)
-
-ray_whole : (rows : ℕ) (i : RayItem) → has_float (ray_item_data rows i) ≡ false
-ray_whole rows i = ap₂ (λ a b. a || (b || false)) (trace_whole i.direction) (trace_whole i.low)
-
-step_deep : (rows : ℕ) (s : Step) → depth (step_data rows s) ≤ 5
-step_deep rows (Plain items) = omega (arith, items_deep (plain_item_data rows) 3 items (plain_deep rows))
-step_deep rows (Jump items) = omega (arith, items_deep (jump_item_data rows) 3 items (jump_deep rows))
-step_deep rows (Ray items) = omega (arith, items_deep (ray_item_data rows) 3 items (ray_deep rows))
-
-step_whole : (rows : ℕ) (s : Step) → has_float (step_data rows s) ≡ false
-step_whole rows (Plain items) = ap (λ a. a || false) (items_whole (plain_item_data rows) items (plain_whole rows))
-step_whole rows (Jump items) = ap (λ a. a || false) (items_whole (jump_item_data rows) items (jump_whole rows))
-step_whole rows (Ray items) = ap (λ a. a || false) (items_whole (ray_item_data rows) items (ray_whole rows))
+step_whole : (rows : ℕ) (names : List Trace) (s : Step) → has_float (step_data rows names s) ≡ false
+step_whole rows names (Plain items) = ap (λ a. a || false) (items_whole (plain_item_data rows names) items (λ i. refl))
+step_whole rows names (Jump items) = ap (λ a. a || false) (items_whole (jump_item_data rows names) items (λ i. refl))
+step_whole rows names (Ray items) = ap (λ a. a || false) (items_whole (ray_item_data rows names) items (λ i. refl))
 
 upper_deep : (u : Upper) → depth (upper_data u) ≤ 2
 upper_deep (Unreached row) = omega arith
@@ -115,7 +111,8 @@ cert_deep c =
       arith,
       items_deep line_data 1 (lines_of n (length c.bounds / n) c.bounds) line_deep,
       items_deep row_data 1 c.rows row_deep,
-      items_deep (step_data n) 5 c.steps (step_deep n),
+      items_deep (step_data n (listed_traces c)) 5 c.steps (step_deep n (listed_traces c)),
+      items_deep trace_data 2 (listed_traces c) trace_deep,
       items_deep upper_data 2 c.uppers upper_deep,
     )
 
@@ -123,35 +120,70 @@ pub cert_whole : (c : Cert) → has_float (cert_data c) ≡ false
 cert_whole c =
     let n = length c.rows in
     ap₂ (λ a b. a || b) (items_whole line_data (lines_of n (length c.bounds / n) c.bounds) line_whole) (ap₂ (λ a b. a || b) (items_whole row_data c.rows row_whole)
-    (ap₂ (λ a b. a || (b || false)) (items_whole (step_data n) c.steps (step_whole n)) (items_whole upper_data c.uppers upper_whole)))
+    (ap₂ (λ a b. a || b) (items_whole (step_data n (listed_traces c)) c.steps (step_whole n (listed_traces c)))
+    (ap₂ (λ a b. a || (b || false)) (items_whole trace_data (listed_traces c) trace_whole) (items_whole upper_data c.uppers upper_whole))))
+
+-- ---- the text of a trace
+
+pub trace_spelt : (r : Result (Vec ℕ Global) AllocError) (d : Data) (t : Trace) → d ≡ trace_data t → trace_in (trace_data t) ≡ Some t → IfOk r (λ b. depth d ≤ 127 → read b.items ≡ Some d)
+    → IfOk r (λ b. b.items ≡ trace_text t) → IfOk r (λ _. spelt_trace (trace_text t) ≡ Some t)
+unfolding spelt_trace
+trace_spelt (Err e) d t is back reads text = tt
+trace_spelt (Ok b) d t is back reads text =
+    ap (λ x. option_and_then trace_in (read x)) (sym text) ∙ ap (λ o. option_and_then trace_in o) (reads (subst (λ x. depth x ≤ 127) (sym is) (omega (arith, trace_deep t)))) ∙ ap trace_in is ∙ back
+
+pub trace_written : (r : Result (Vec ℕ Global) AllocError) (d : Data) (t : Trace) → d ≡ trace_data t → IfOk r (λ b. has_float d ≡ false → b.items ≡ compact_text d) → IfOk r (λ b. b.items ≡ trace_text t)
+unfolding trace_text
+trace_written (Err e) d t is text = tt
+trace_written (Ok b) d t is text = text (ap has_float is ∙ trace_whole t) ∙ ap compact_text is
 
 -- ---- reading back
 
 list_back : {A : Type 0} (field : Field) (test : Data → Bool) (read : Data → Option A) (d : Data) (xs : List A) → is_list test d ≡ true → list_in read d ≡ Some xs → list_from field test read (Some d) ≡ Ok xs
 list_back field test read d xs e f = ap₂ (λ (b : Bool) o. if b then or_number field o else Err (Shape field)) e f
 
--- what follows a first part that is read
-then_ok : {A B : Type 0} (r : Result A FormFault) (x : A) (next : A → Result B FormFault) (y : Result B FormFault) → r ≡ Ok x → next x ≡ y → and_then r next ≡ y
-then_ok r x next y e f = ap (λ r. and_then r next) e ∙ f
+-- the steps and the evidence of a certificate, with what is said of how far it expands
+rest_back : (s : Setting) (d : Data) (steps : List Step) (uppers : List Upper) → steps_in s d ≡ Ok steps → uppers_in d ≡ Ok uppers
+    → rest_in s d ≡ (if is_over s.traces (values_of (named_traces steps)) then Err Expanded else Ok (steps, uppers))
+rest_back s d steps uppers e f = then_ok (steps_in s d) steps _ _ e (then_ok (uppers_in d) uppers _ _ f refl)
+
+made_again : (c e : Cert) (b : Bool) → e ≡ c
+    → and_then (if b then Err Expanded else Ok (c.steps, c.uppers)) (λ (rest : List Step × List Upper). let r : Cert = record { rows = e.rows; bounds = e.bounds; steps = rest.0; uppers = rest.1 } in Ok r)
+    ≡ (if b then Err Expanded else Ok c)
+made_again c e true h = refl
+made_again c e false h = ap (λ (x : Cert). let r : Cert = record { rows = x.rows; bounds = x.bounds; steps = c.steps; uppers = c.uppers } in Ok r) h
 
 module _ (c : Cert) where
   abbrev rows_of : ℕ
   rows_of = length c.rows
 
+  abbrev under : Setting
+  under = listing rows_of (listed_traces c)
+
   pub cert_back : is_list (is_line rows_of) (bounds_data rows_of c.bounds) ≡ true → (lines : List (List Ext)) → list_in line_in (bounds_data rows_of c.bounds) ≡ Some lines → map extended (joined lines) ≡ c.bounds
       → is_list are_texts (list_data row_data c.rows) ≡ true → list_in (list_in whole_in) (list_data row_data c.rows) ≡ Some c.rows
-      → is_list (is_step rows_of) (list_data (step_data rows_of) c.steps) ≡ true → list_in (step_in rows_of) (list_data (step_data rows_of) c.steps) ≡ Some c.steps
+      → is_list (is_step under) (list_data (step_data rows_of (listed_traces c)) c.steps) ≡ true → list_in (step_in under) (list_data (step_data rows_of (listed_traces c)) c.steps) ≡ Some c.steps
+      → is_list is_trace (list_data trace_data (listed_traces c)) ≡ true → list_in trace_in (list_data trace_data (listed_traces c)) ≡ Some (listed_traces c)
       → is_list is_upper (list_data upper_data c.uppers) ≡ true → list_in upper_in (list_data upper_data c.uppers) ≡ Some c.uppers
-      → cert_in (cert_data c) ≡ Ok c
-  cert_back bs lines bb be rs rb ss sb us ub =
-      then_ok (rows_in (cert_data c)) c.rows _ (Ok c) (list_back Rows are_texts (list_in whole_in) (list_data row_data c.rows) c.rows rs rb)
-      (then_ok (bounds_in rows_of (cert_data c)) lines _ (Ok c) (list_back Bounds (is_line rows_of) line_in (bounds_data rows_of c.bounds) lines bs bb)
-      (then_ok (steps_in rows_of (cert_data c)) c.steps _ (Ok c) (list_back Steps (is_step rows_of) (step_in rows_of) (list_data (step_data rows_of) c.steps) c.steps ss sb)
-      (then_ok (uppers_in (cert_data c)) c.uppers _ (Ok c) (list_back Uppers is_upper upper_in (list_data upper_data c.uppers) c.uppers us ub)
-      (ap (λ (bs : List Extended). let r : Cert = record { rows = c.rows; bounds = bs; steps = c.steps; uppers = c.uppers } in Ok r) be))))
+      → cert_in (cert_data c) ≡ read_again c
+  cert_back bs lines bb be rs rb ss sb ts tb us ub =
+      then_ok (rows_in (cert_data c)) c.rows _ (read_again c) (list_back Rows are_texts (list_in whole_in) (list_data row_data c.rows) c.rows rs rb)
+      (then_ok (bounds_in rows_of (cert_data c)) lines _ (read_again c) (list_back Bounds (is_line rows_of) line_in (bounds_data rows_of c.bounds) lines bs bb)
+      (then_ok (traces_in (cert_data c)) (Some (listed_traces c)) _ (read_again c)
+      (ap (λ (r : Result (List Trace) FormFault). and_then r (λ (ts : List Trace). Ok (Some ts))) (list_back Traces is_trace trace_in (list_data trace_data (listed_traces c)) (listed_traces c) ts tb))
+      (ap (λ (r : Result (List Step × List Upper) FormFault). and_then r (λ (rest : List Step × List Upper). let e : Cert = record { rows = c.rows; bounds = map extended (joined lines); steps = rest.0; uppers = rest.1 } in Ok e))
+      (rest_back under (cert_data c) c.steps c.uppers
+      (list_back Steps (is_step under) (step_in under) (list_data (step_data rows_of (listed_traces c)) c.steps) c.steps ss sb)
+      (list_back Uppers is_upper upper_in (list_data upper_data c.uppers) c.uppers us ub))
+      ∙ made_again c (record { rows = c.rows; bounds = map extended (joined lines); steps = c.steps; uppers = c.uppers }) (nat_lt MOST_VALUES (values_of (named_traces c.steps)))
+      (ap (λ (b : List Extended). let r : Cert = record { rows = c.rows; bounds = b; steps = c.steps; uppers = c.uppers } in r) be))))
 
-pub cert_data_is : (c : Cert) (b r s u : Data) → b ≡ bounds_data (length c.rows) c.bounds → r ≡ list_data row_data c.rows → s ≡ list_data (step_data (length c.rows)) c.steps → u ≡ list_data upper_data c.uppers → cert_object b r s u ≡ cert_data c
-cert_data_is c b r s u eb er es eu = ap₂ (λ x y. cert_object x y s u) eb er ∙ ap₂ (λ x y. cert_object (bounds_data (length c.rows) c.bounds) (list_data row_data c.rows) x y) es eu
+pub cert_data_is : (c : Cert) (b r s t u : Data) → b ≡ bounds_data (length c.rows) c.bounds → r ≡ list_data row_data c.rows → s ≡ list_data (step_data (length c.rows) (listed_traces c)) c.steps
+    → t ≡ list_data trace_data (listed_traces c) → u ≡ list_data upper_data c.uppers → cert_object b r s t u ≡ cert_data c
+cert_data_is c b r s t u eb er es et eu =
+    let n = length c.rows in
+    ap₂ (λ x y. cert_object x y s t u) eb er ∙ ap₂ (λ x y. cert_object (bounds_data n c.bounds) (list_data row_data c.rows) x y u) es et
+    ∙ ap (cert_object (bounds_data n c.bounds) (list_data row_data c.rows) (list_data (step_data n (listed_traces c)) c.steps) (list_data trace_data (listed_traces c))) eu
 
 -- ---- what is asked of a certificate that is written
 
@@ -180,10 +212,33 @@ pub writable_steps : (c : Cert) → IsWritable c → list_all (λ (s : Step). na
 writable_steps c h =
     ⊎_elim (λ s. steps_shaped (length c.rows) c.steps s.row s.items) (λ e. subst (λ (ss : List Step). list_all (λ (s : Step). nat_lt 0 (length c.rows) && has_item s) ss ≡ true) (sym e.steps) refl) h
 
+-- each step that a certificate has can be written
+pub written_steps : (c : Cert) (rows : List (List ℤ)) (names : List Trace) (steps : List Step) → IsWritable c → rows ≡ c.rows → names ≡ listed_traces c → steps ≡ c.steps
+    → list_all (λ (s : Step). nat_lt 0 (length rows) && has_item s && list_all (is_listed names) (step_traces s)) steps ≡ true
+written_steps c rows names steps w er en es =
+    ap₂ (λ (xs : List (List ℤ)) (ss : List Step). list_all (λ (s : Step). nat_lt 0 (length xs) && has_item s && list_all (is_listed names) (step_traces s)) ss) er es
+    ∙ ap (λ (ts : List Trace). list_all (λ (s : Step). nat_lt 0 (length c.rows) && has_item s && list_all (is_listed ts) (step_traces s)) c.steps) en
+    ∙ steps_listed (length c.rows) c.steps (writable_steps c w)
+
 -- ---- bytes
 
-pub spelled : (r : Result (Vec ℕ Global) AllocError) (d : Data) (c : Cert) → IfOk r (λ b. IsUtf8 b.items) → IfOk r (λ b. depth d ≤ 127 → read b.items ≡ Some d) → d ≡ cert_data c → cert_in (cert_data c) ≡ Ok c
-    → IfOk r (λ b. SpellsCert b.items c)
+le-lt_false : (n m : ℕ) → n ≤ m → nat_lt m n ≡ false
+le-lt_false n m h = grind (arith, h)
+
+again_within : (c : Cert) → IsWithin c → read_again c ≡ Ok c
+again_within c h = ap (λ b. if b then Err Expanded else Ok c) (le-lt_false (values_of (named_traces c.steps)) MOST_VALUES h)
+
+again_beyond : (c : Cert) → IsBeyond c → read_again c ≡ Err Expanded
+again_beyond c h = ap (λ b. if b then Err Expanded else Ok c) (lt-ltb MOST_VALUES (values_of (named_traces c.steps)) h)
+
+pub spelled : (r : Result (Vec ℕ Global) AllocError) (d : Data) (c : Cert) → IfOk r (λ b. IsUtf8 b.items) → IfOk r (λ b. depth d ≤ 127 → read b.items ≡ Some d) → d ≡ cert_data c → cert_in (cert_data c) ≡ read_again c
+    → IfOk r (λ b. IsWithin c → SpellsCert b.items c)
 spelled (Err e) d c utf8 back is reads = tt
-spelled (Ok b) d c utf8 back is reads =
-    record { data_is = d; spells = record { utf8 = utf8; value = back (subst (λ x. depth x ≤ 127) (sym is) (cert_deep c)) }; reads = ap cert_in is ∙ reads }
+spelled (Ok b) d c utf8 back is reads = λ h.
+    record { data_is = d; spells = record { utf8 = utf8; value = back (subst (λ x. depth x ≤ 127) (sym is) (cert_deep c)) }; reads = ap cert_in is ∙ reads ∙ again_within c h }
+
+pub spelled_beyond : (r : Result (Vec ℕ Global) AllocError) (d : Data) (c : Cert) → IfOk r (λ b. IsUtf8 b.items) → IfOk r (λ b. depth d ≤ 127 → read b.items ≡ Some d) → d ≡ cert_data c → cert_in (cert_data c) ≡ read_again c
+    → IfOk r (λ b. IsBeyond c → SpellsTooMany b.items)
+spelled_beyond (Err e) d c utf8 back is reads = tt
+spelled_beyond (Ok b) d c utf8 back is reads = λ h.
+    (d, record { utf8 = utf8; value = back (subst (λ x. depth x ≤ 127) (sym is) (cert_deep c)) }, ap cert_in is ∙ reads ∙ again_beyond c h)

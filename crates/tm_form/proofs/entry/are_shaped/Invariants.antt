@@ -5,4 +5,4 @@ use Rattle.tm_form.proofs.entry.ReadLists.{left_to_test}
 use Rattle.tm_form.proofs.entry.are_shaped.Given as goal
 
 abbrev pub invariant-loop-value : goal.invariant-loop-value
-invariant-loop-value g l = all_items (g.T.Entry.shaped l.rows) (items_view l.values) ≡ left_to_test (g.T.Entry.shaped l.rows) l.values l.value-index
+invariant-loop-value g l = all_items (g.T.Entry.shaped l.setting) (items_view l.values) ≡ left_to_test (g.T.Entry.shaped l.setting) l.values l.value-index

@@ -3,6 +3,7 @@ use Rattle.std.proofs.lemmas.List.{take_all}
 use Rattle.serde_json.specs.Data.{array}
 use Rattle.serde_json.proofs.Views.{view-Array}
 use Rattle.tm_form.specs.Lists.{all_items, items_data, items_in}
+use Rattle.tm_form.specs.Traces.{listing}
 use Rattle.tm_form.proofs.bounds.WrittenLists.{back_more, data_more, one_more, shape_more}
 use Rattle.tm_form.proofs.entry.write_list.Goals as goal
 
@@ -10,9 +11,9 @@ pub loop-element-preserved : goal.loop-element-preserved
 loop-element-preserved g c =
     let i = c.loop-element.element-index in
     let xs = c.args.list.now in
-    let f = g.T.Entry.element_data c.args.rows in
-    let test = g.T.Entry.shaped c.args.rows in
-    let read = g.T.Entry.element_in c.args.rows in
+    let f = g.T.Entry.element_data c.args.rows c.args.names.now in
+    let test = g.T.Entry.shaped (listing c.args.rows c.args.names.now) in
+    let read = g.T.Entry.element_in (listing c.args.rows c.args.names.now) in
     let x = c.element-item.result in
     let more = one_more xs i x c.loop-element-test.true c.element-item.is in
     record {
@@ -23,4 +24,4 @@ loop-element-preserved g c =
 
 pub returns-clause-value : goal.returns-clause-value
 returns-clause-value g c =
-    view-Array c.loop-element.values ∙ ap array (c.loop-element.invariant.data_is ∙ ap (items_data (g.T.Entry.element_data c.args.rows)) (take_all c.loop-element.element-index c.args.list.now c.loop-element-test.false))
+    view-Array c.loop-element.values ∙ ap array (c.loop-element.invariant.data_is ∙ ap (items_data (g.T.Entry.element_data c.args.rows c.args.names.now)) (take_all c.loop-element.element-index c.args.list.now c.loop-element-test.false))

@@ -1,12 +1,31 @@
-use Rattle.std.proofs.Common.{subst, sym}
-use Rattle.tm_form.specs.Certificates.{SpellsCert}
-use Rattle.tm_form.proofs.form_laws.Laws.{memory_alone, same_read}
+use Rattle.std.proofs.Common.{List, ℕ, subst, sym}
+use Rattle.tm_form.specs.Certificates.{IsBeyond, IsWithin, SpellsCert, SpellsTooMany, read_again}
+use Rattle.tm_form.proofs.form_laws.Laws.{again_refused, again_same, again_within, one_answer, read_as}
 use Rattle.tm_form.proofs.law.round_trip.Goals as goal
 
 pub returns-clause-same : goal.returns-clause-same
 returns-clause-same c =
-    same_read c.as_slice.result.now c.args.cert.now c.read.result (subst (λ bytes. SpellsCert bytes c.args.cert.now) (sym c.as_slice.ensures.value) c.in_ok-bytes.ensures.reads_back) c.read.ensures.ok
+    let cert = c.args.cert.now in
+    let bytes = c.as_slice.result.now in
+    let k =
+    read_as cert bytes (subst (λ (b : List ℕ). IsWithin cert → SpellsCert b cert) (sym c.as_slice.ensures.value) c.in_ok-bytes.ensures.reads_back)
+    (subst (λ (b : List ℕ). IsBeyond cert → SpellsTooMany b) (sym c.as_slice.ensures.value) c.in_ok-bytes.ensures.expands) in
+    again_same cert c.read.result (one_answer bytes (read_again cert) k.0 k.1 k.2 c.read.result c.read.ensures.ok c.read.ensures.not_json c.read.ensures.refused)
 
-pub returns-clause-only_memory : goal.returns-clause-only_memory
-returns-clause-only_memory c =
-    memory_alone c.as_slice.result.now c.args.cert.now (subst (λ bytes. SpellsCert bytes c.args.cert.now) (sym c.as_slice.ensures.value) c.in_ok-bytes.ensures.reads_back) c.read.result c.read.ensures.not_json c.read.ensures.refused
+pub returns-clause-within : goal.returns-clause-within
+returns-clause-within c =
+    let cert = c.args.cert.now in
+    let bytes = c.as_slice.result.now in
+    let k =
+    read_as cert bytes (subst (λ (b : List ℕ). IsWithin cert → SpellsCert b cert) (sym c.as_slice.ensures.value) c.in_ok-bytes.ensures.reads_back)
+    (subst (λ (b : List ℕ). IsBeyond cert → SpellsTooMany b) (sym c.as_slice.ensures.value) c.in_ok-bytes.ensures.expands) in
+    again_within cert c.read.result (one_answer bytes (read_again cert) k.0 k.1 k.2 c.read.result c.read.ensures.ok c.read.ensures.not_json c.read.ensures.refused)
+
+pub returns-clause-refused : goal.returns-clause-refused
+returns-clause-refused c =
+    let cert = c.args.cert.now in
+    let bytes = c.as_slice.result.now in
+    let k =
+    read_as cert bytes (subst (λ (b : List ℕ). IsWithin cert → SpellsCert b cert) (sym c.as_slice.ensures.value) c.in_ok-bytes.ensures.reads_back)
+    (subst (λ (b : List ℕ). IsBeyond cert → SpellsTooMany b) (sym c.as_slice.ensures.value) c.in_ok-bytes.ensures.expands) in
+    again_refused cert c.read.result (one_answer bytes (read_again cert) k.0 k.1 k.2 c.read.result c.read.ensures.ok c.read.ensures.not_json c.read.ensures.refused)

@@ -2,7 +2,7 @@ use Rattle.std.proofs.Common.{◌∙◌, ap}
 use Rattle.std.proofs.lemmas.Result.{IfOk-weaker}
 use Rattle.serde_json.specs.View.{view}
 use Rattle.serde_json.specs.Written.{compact_text, has_float}
-use Rattle.tm_form.proofs.writing.WrittenCertificates.{cert_whole, spelled}
+use Rattle.tm_form.proofs.writing.WrittenCertificates.{cert_whole, spelled, spelled_beyond}
 use Rattle.tm_form.proofs.writing.write.Goals as goal
 
 pub returns-clause-text : goal.returns-clause-text
@@ -12,3 +12,7 @@ returns-clause-text c =
 
 pub returns-clause-reads_back : goal.returns-clause-reads_back
 returns-clause-reads_back c = spelled c.to_vec.result (view c.in_ok-value.value) c.args.cert.now c.to_vec.ensures.utf8 c.to_vec.ensures.reads_back c.in_ok-value.ensures.value c.in_ok-value.ensures.back
+
+pub returns-clause-expands : goal.returns-clause-expands
+returns-clause-expands c =
+    spelled_beyond c.to_vec.result (view c.in_ok-value.value) c.args.cert.now c.to_vec.ensures.utf8 c.to_vec.ensures.reads_back c.in_ok-value.ensures.value c.in_ok-value.ensures.back
