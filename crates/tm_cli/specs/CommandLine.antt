@@ -1,4 +1,4 @@
--- The command line as `clap` sees it: one simple command with four subcommands.
+-- The command line as `clap` sees it: one simple command with five subcommands.
 use Rattle.std.specs.Prelude.{Some, codes, true}
 use Rattle.clap.specs.Words.{App, Rule, Text, new_app, new_rule, with_rule, with_subcommand}
 use Rattle.clap.specs.Simple.{on_top}
@@ -28,6 +28,10 @@ abbrev pub bench_app : App
 bench_app = with_rule (with_rule (new_app (codes "bench")) (option_rule (codes "seed")))
     (option_rule (codes "loops"))
 
+-- `upgrade CERT`
+abbrev pub upgrade_app : App
+upgrade_app = with_rule (new_app (codes "upgrade")) (word_rule (codes "certificate"))
+
 -- the program's own name isn't among the words, and one of the commands has to be
 abbrev pub top_app : App
 top_app = on_top (λ s. record s { no_binary_name = true; subcommand_required = true })
@@ -35,5 +39,5 @@ top_app = on_top (λ s. record s { no_binary_name = true; subcommand_required = 
 
 -- the whole command line
 abbrev pub tmpl_app : App
-tmpl_app = with_subcommand (with_subcommand (with_subcommand (with_subcommand top_app
-    (analysis_app (codes "solve")).top) (analysis_app (codes "certify")).top) check_app.top) bench_app.top
+tmpl_app = with_subcommand (with_subcommand (with_subcommand (with_subcommand (with_subcommand top_app
+    (analysis_app (codes "solve")).top) (analysis_app (codes "certify")).top) check_app.top) bench_app.top) upgrade_app.top

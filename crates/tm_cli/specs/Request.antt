@@ -9,7 +9,7 @@ use Rattle.tm_cli.specs.declared.request.Analysis.{Analysis}
 use Rattle.tm_cli.specs.declared.request.Domain.{Domain}
 use Rattle.tm_cli.specs.declared.request.Domain.TheVariants.{Intervals, Zones, Octagons, Rows}
 use Rattle.tm_cli.specs.declared.request.Request.{Request}
-use Rattle.tm_cli.specs.declared.request.Request.TheVariants.{Analyse, Check, Bench}
+use Rattle.tm_cli.specs.declared.request.Request.TheVariants.{Analyse, Check, Bench, Upgrade}
 use Rattle.tm_cli.specs.declared.request.Purpose.{Purpose}
 use Rattle.tm_cli.specs.declared.request.Purpose.TheVariants.{Report, Certificate}
 
@@ -33,6 +33,7 @@ abbrev pub request_text : Request (Bor Text) → Request Text
 request_text (Analyse purpose a) = Analyse purpose (analysis_text a)
 request_text (Check program certificate) = Check program.now certificate.now
 request_text (Bench seed loops) = Bench seed loops
+request_text (Upgrade certificate) = Upgrade certificate.now
 
 -- ---- commands, by the words and options that were given
 
@@ -64,12 +65,16 @@ bench_in given = option_and_then (λ seed. option_map (λ loops. Bench seed loop
     (option_and_then (number_in 1 46) (first_of (codes "loops") given)))
     (option_and_then (number_in 0 2147483647) (first_of (codes "seed") given))
 
+abbrev pub upgrade_in : List Row → Option (Request Text)
+upgrade_in given = option_map (λ certificate. Upgrade certificate) (first_of (codes "certificate") given)
+
 -- the request of a command by its name
 abbrev pub command_in : Text × List Row → Option (Request Text)
 command_in (name, given) = if bytes_eq name (codes "solve") then analyse_in Report given
     else (if bytes_eq name (codes "certify") then analyse_in Certificate given
     else (if bytes_eq name (codes "check") then check_in given
-    else (if bytes_eq name (codes "bench") then bench_in given else None)))
+    else (if bytes_eq name (codes "bench") then bench_in given
+    else (if bytes_eq name (codes "upgrade") then upgrade_in given else None))))
 
 -- what is asked, where `clap` finds no fault
 abbrev pub unless_fault : Kinds → Option (Request Text) → Option (Request Text)

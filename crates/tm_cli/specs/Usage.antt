@@ -1,6 +1,7 @@
 -- The line that a refusal of the words prints.
-use Rattle.std.specs.Prelude.{codes}
+use Rattle.std.specs.Prelude.{◌++◌, codes}
 use Rattle.clap.specs.Words.{Text}
 
 abbrev pub usage_text : Text
-usage_text = codes "usage: tmpl solve PROGRAM [--domain D] [--rows FILE] [--improvements N] [--policy P] | certify (the same) | check PROGRAM CERT | bench --seed N --loops K\n"
+usage_text = codes "usage: tmpl solve PROGRAM [--domain D] [--rows FILE] [--improvements N] [--policy P] | certify (the same)"
+    ++ codes " | check PROGRAM CERT | bench --seed N --loops K | upgrade CERT\n"

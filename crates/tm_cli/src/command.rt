@@ -3,7 +3,7 @@
 ghost use Rattle.std.specs.Prelude.{◌≡◌, IfOk, false};
 ghost use Rattle.clap.specs.Words.{app_of, rule_of};
 ghost use Rattle.clap.specs.declared.Command.TheViews.{out-Command};
-ghost use Rattle.tm_cli.specs.CommandLine.{analysis_app, bench_app, check_app, option_rule, tmpl_app, word_rule};
+ghost use Rattle.tm_cli.specs.CommandLine.{analysis_app, bench_app, check_app, option_rule, tmpl_app, upgrade_app, word_rule};
 
 use clap::{Arg, Command};
 use std::alloc::{AllocError, Global};
@@ -18,7 +18,8 @@ pub(crate) fn command_line<'a>(alloc: Global) -> Result<Command<'a>, AllocError>
     let solve = top.subcommand(analysis_command(alloc, "solve")?)?;
     let certify = solve.subcommand(analysis_command(alloc, "certify")?)?;
     let check = certify.subcommand(check_command(alloc)?)?;
-    Ok(check.subcommand(bench_command(alloc)?)?)
+    let bench = check.subcommand(bench_command(alloc)?)?;
+    Ok(bench.subcommand(upgrade_command(alloc)?)?)
 }
 
 // `solve` or `certify`.
@@ -47,6 +48,13 @@ fn bench_command<'a>(alloc: Global) -> Result<Command<'a>, AllocError>
 {
     let seed = Command::new(alloc, "bench").arg(option(alloc, "seed"))?;
     Ok(seed.arg(option(alloc, "loops"))?)
+}
+
+fn upgrade_command<'a>(alloc: Global) -> Result<Command<'a>, AllocError>
+    ensures app { IfOk result (λ command. app_of command ≡ upgrade_app) }
+    ensures local { IfOk result (λ command. (out-Command command).has_globals ≡ false) }
+{
+    Ok(Command::new(alloc, "upgrade").arg(word(alloc, "certificate"))?)
 }
 
 // A positional word that has to be there.

@@ -2,7 +2,7 @@
 
 ghost use Rattle.std.specs.Prelude.{◌≡◌, option_and_then, option_map, unwrap_or};
 ghost use Rattle.clap.specs.Words.{first_of, found_of, rows_of, subcommand_rows_of};
-ghost use Rattle.tm_cli.specs.Request.{analyse_in, analysis_in, analysis_text, bench_in, check_in, command_in, request_text};
+ghost use Rattle.tm_cli.specs.Request.{analyse_in, analysis_in, analysis_text, bench_in, check_in, command_in, request_text, upgrade_in};
 
 use crate::request::{Analysis, Purpose, Request};
 use crate::values::{domain, number, policy};
@@ -29,6 +29,8 @@ fn command<'a>(name: &str, given: &ArgMatches<'a>) -> Option<Request<&'a str>>
         check(given)
     } else if name == "bench" {
         bench(given)
+    } else if name == "upgrade" {
+        upgrade(given)
     } else {
         None
     }
@@ -75,6 +77,13 @@ fn bench<'a>(given: &ArgMatches<'_>) -> Option<Request<&'a str>>
     let seed = number(value(given, "seed")?, 0, 2_147_483_647)?;
     let loops = number(value(given, "loops")?, 1, 46)?;
     Some(Request::Bench { seed, loops })
+}
+
+fn upgrade<'a>(given: &ArgMatches<'a>) -> Option<Request<&'a str>>
+    ensures { option_map request_text result ≡ upgrade_in (rows_of (found_of given.now)) }
+{
+    let certificate = value(given, "certificate")?;
+    Some(Request::Upgrade { certificate })
 }
 
 // The value of a word or an option, where it was given.

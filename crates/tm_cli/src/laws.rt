@@ -5,7 +5,7 @@ ghost use Rattle.tm_cli.specs.Laws.{plain_analysis};
 ghost use Rattle.tm_cli.specs.Request.{request_of};
 ghost use Rattle.tm_cli.specs.declared.request.Domain.TheVariants.{Intervals, Zones};
 ghost use Rattle.tm_cli.specs.declared.request.Purpose.TheVariants.{Report};
-ghost use Rattle.tm_cli.specs.declared.request.Request.TheVariants.{Analyse};
+ghost use Rattle.tm_cli.specs.declared.request.Request.TheVariants.{Analyse, Upgrade};
 
 /// Nothing happens here: the clauses are the laws.
 pub fn request_laws()
@@ -23,6 +23,9 @@ pub fn request_laws()
     // Two hyphens end the options.
     ensures dashes { request_of (codes "solve" ∷ codes "--" ∷ codes "--domain" ∷ [])
         ≡ Some (Analyse Report (plain_analysis (codes "--domain") Intervals)) }
+
+    // The file of a certificate alone is upgraded.
+    ensures upgrade { request_of (codes "upgrade" ∷ codes "c" ∷ []) ≡ Some (Upgrade (codes "c")) }
 
     // No option is given twice, and no word makes no command.
     ensures repeated { request_of (codes "solve" ∷ codes "p" ∷ codes "--policy=best"

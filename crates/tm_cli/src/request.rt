@@ -56,4 +56,8 @@ pub enum Request<T> {
         seed: u32,
         loops: u32,
     },
+    /// Write a certificate anew, as certificates are written now.
+    Upgrade {
+        certificate: T,
+    },
 }

@@ -12,12 +12,14 @@ use Rattle.tm_cli.specs.declared.request.Policy.{Policy}
 use Rattle.tm_cli.specs.declared.request.Policy.TheVariants.{Best}
 use Rattle.tm_cli.specs.declared.request.Purpose.{Purpose}
 use Rattle.tm_cli.specs.declared.request.Purpose.TheVariants.{Report}
-use Rattle.tm_cli.specs.declared.request.Request.TheVariants.{Analyse, Check, Bench}
-use Rattle.tm_top.specs.Files.{AreChecked, AreInputs, IsReached, IsTold, IsTooLong, Request}
+use Rattle.tm_cli.specs.declared.request.Request.TheVariants.{Analyse, Check, Bench, Upgrade}
+use Rattle.tm_form.specs.declared.fault.FormFault.{FormFault}
+use Rattle.tm_top.specs.Files.{AreChecked, AreInputs, HasCertificate, IsReached, IsTold, IsTooLong, Request}
 use Rattle.tm_top.specs.Meanings.{Meanings}
 use Rattle.tm_top.specs.Rounds.{EndsWithin, RunsOut}
 use Rattle.tm_top.specs.Texts.{IsRefused, IsRefusedProgram, IsSolvedSystem}
 use Rattle.tm_top.specs.declared.status.CertCause.{CertCause}
+use Rattle.tm_top.specs.declared.status.CertCause.TheVariants.{Form}
 use Rattle.tm_top.specs.declared.status.ReadCause.TheVariants.{Failed, TooLong}
 use Rattle.tm_top.specs.declared.status.Status.{Status}
 use Rattle.tm_top.specs.declared.status.Status.TheVariants.{Done, Certificate, Usage, Read, Text, Wide, Spent, Memory, Write}
@@ -45,6 +47,11 @@ pub data CheckEnds (m : Meanings) (text bytes : List ℕ) (ending : Status) : Ty
   accepted : (names : List (List ℕ)) (body : Statements) (rows : List (List ℤ)) (vector : Vector) → ending ≡ Done → m.accepts text bytes names body rows vector
       → CheckEnds m text bytes ending
 
+-- the bytes of a certificate have a fault of form, or the certificate that they spell is written; whether it is valid, and of which program, doesn't matter
+pub data UpgradeEnds (m : Meanings) (bytes : List ℕ) (ending : Status) : Type 0 where
+  form_refused : (fault : FormFault) → ending ≡ Certificate (Form fault) → m.misspells bytes fault → UpgradeEnds m bytes ending
+  rewritten : (written : List ℕ) → ending ≡ Done → m.upgrades bytes written → UpgradeEnds m bytes ending
+
 -- a file is too long, or the texts of the files decide
 pub data Ends (m : Meanings) (files : Option Contents) (request : Request) (ending : Status) : Type 0 where
   too_long : (which : Which) → ending ≡ Read (TooLong which) → IsTooLong files request which → Ends m files request ending
@@ -54,12 +61,15 @@ pub data Ends (m : Meanings) (files : Option Contents) (request : Request) (endi
       → AreChecked files program certificate text bytes → CheckEnds m text bytes ending → Ends m files request ending
   generated : (seed loops : ℕ) (system : System) → request ≡ Bench seed loops
       → m.generates seed loops system → RoundsEnd system Best 1000 ending → Ends m files request ending
+  upgraded : (certificate bytes : List ℕ) → request ≡ Upgrade certificate → HasCertificate files certificate bytes → UpgradeEnds m bytes ending
+      → Ends m files request ending
 
 -- the shelf tells its files, where a request reads any
 abbrev pub Tells : Option Contents → Request → Type 0
 Tells files (Analyse purpose analysis) = IsTold files
 Tells files (Check program certificate) = IsTold files
 Tells files (Bench seed loops) = Unit {0}
+Tells files (Upgrade certificate) = IsTold files
 
 -- the words ask for nothing, or for a request over files that are told
 pub data WordsEnd (m : Meanings) (files : Option Contents) (words : List (List ℕ)) (ending : Status) : Type 0 where

@@ -85,6 +85,7 @@ field_text field.Top = codes "top"
 field_text field.Format = codes "format"
 field_text field.Rows = codes "rows"
 field_text field.Bounds = codes "bounds"
+field_text field.Traces = codes "traces"
 field_text field.Steps = codes "steps"
 field_text field.Uppers = codes "uppers"
 
@@ -93,6 +94,7 @@ form_text form.NotJson = codes "not json"
 form_text (form.Shape field) = codes "field " ++ field_text field
 form_text (form.Number field) = codes "number in " ++ field_text field
 form_text form.Version = codes "format"
+form_text form.Expanded = codes "expanded"
 form_text form.NoMemory = codes "out of memory"
 
 abbrev pub op_text : Op → List ℕ

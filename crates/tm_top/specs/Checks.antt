@@ -13,10 +13,10 @@ use Rattle.tm_validity.specs.Certificates.{Certificate, ValidCertificate, bounds
 use Rattle.tm_validity.specs.Faults.{Fault, certificate_fault}
 use Rattle.tm_cert.specs.Certificates.{certificate_of}
 use Rattle.tm_cert.specs.declared.cert.Cert.{Cert}
-use Rattle.tm_form.specs.Certificates.{Spells, SpellsCert, cert_in}
+use Rattle.tm_form.specs.Certificates.{Spells, SpellsCert, SpellsTooMany, cert_in}
 use Rattle.serde_json.specs.Data.{Data}
 use Rattle.tm_form.specs.declared.fault.FormFault.{FormFault}
-use Rattle.tm_form.specs.declared.fault.FormFault.TheVariants.{NotJson, Shape, Number, Version, NoMemory}
+use Rattle.tm_form.specs.declared.fault.FormFault.TheVariants.{NotJson, Shape, Number, Version, Expanded, NoMemory}
 use Rattle.tm_compose.specs.Operations.{wide_composition}
 use Rattle.tm_check.specs.CheckEvents.{check_events}
 use Rattle.tm_check.specs.Events.{fault_answer, first_stop, operations_of}
@@ -33,6 +33,7 @@ IsFormFault bytes NotJson = (d : Data) → Spells bytes d → ⊥
 IsFormFault bytes (Shape field) = (d : Data) × Spells bytes d × (cert_in d ≡ Err (Shape field))
 IsFormFault bytes (Number field) = (d : Data) × Spells bytes d × (cert_in d ≡ Err (Number field))
 IsFormFault bytes Version = (d : Data) × Spells bytes d × (cert_in d ≡ Err Version)
+IsFormFault bytes Expanded = SpellsTooMany bytes
 IsFormFault bytes NoMemory = ⊥
 
 -- the text is a program within the limits, and the bytes spell this certificate

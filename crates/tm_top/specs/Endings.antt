@@ -8,15 +8,17 @@ use Rattle.tm_workload.specs.Bodies.{generated_body, generated_names}
 use Rattle.tm_cli.specs.declared.request.Domain.{Domain}
 use Rattle.tm_cli.specs.declared.request.Policy.{Policy}
 use Rattle.tm_cli.specs.declared.request.Policy.TheVariants.{Best}
-use Rattle.tm_top.specs.Checks.{IsAccepted, IsRefusedCertificate, IsWideAt}
-use Rattle.tm_top.specs.Files.{AreChecked, AreInputs, IsReached, IsTooLong, Request}
+use Rattle.tm_top.specs.Checks.{IsAccepted, IsFormFault, IsRefusedCertificate, IsWideAt}
+use Rattle.tm_top.specs.Files.{AreChecked, AreInputs, HasCertificate, IsReached, IsTooLong, Request}
 use Rattle.tm_cli.specs.Request.{request_of}
 use Rattle.tm_top.specs.Rounds.{EndsWithin, IsSystemFor, RunsOut}
 use Rattle.tm_top.specs.Spots.{HasSpot}
 use Rattle.tm_top.specs.Texts.{IsRefused, IsRefusedProgram, IsSolvable, IsSpent}
 use Rattle.tm_top.specs.Spots.{IsSpotIn}
+use Rattle.tm_top.specs.Upgrades.{IsUpgradeOf}
 use Rattle.tm_cli.specs.declared.request.Purpose.TheVariants.{Report}
-use Rattle.tm_cli.specs.declared.request.Request.TheVariants.{Analyse, Check, Bench}
+use Rattle.tm_cli.specs.declared.request.Request.TheVariants.{Analyse, Check, Bench, Upgrade}
+use Rattle.tm_top.specs.declared.status.CertCause.TheVariants.{Form, Rows, Unknowns, Check as CheckCause}
 use Rattle.tm_top.specs.declared.status.ReadCause.TheVariants.{Failed, TooLong}
 use Rattle.tm_top.specs.declared.status.Status.{Status}
 use Rattle.tm_top.specs.declared.status.Status.TheVariants.{Done, Certificate, Usage, Read, Text, Wide, Spent, Memory, Write}
@@ -61,6 +63,21 @@ CheckEnd text bytes (Spent number) = ⊥
 CheckEnd text bytes Memory = ⊥
 CheckEnd text bytes Write = ⊥
 
+-- this is the ending that the bytes of a certificate have which are upgraded
+abbrev pub UpgradeEnd : List ℕ → Status → Type 0
+UpgradeEnd bytes Done = (written : List ℕ) × IsUpgradeOf bytes written
+UpgradeEnd bytes (Certificate (Form fault)) = IsFormFault bytes fault
+UpgradeEnd bytes (Certificate (Rows fault)) = ⊥
+UpgradeEnd bytes (Certificate (Unknowns count)) = ⊥
+UpgradeEnd bytes (Certificate (CheckCause fault)) = ⊥
+UpgradeEnd bytes Usage = ⊥
+UpgradeEnd bytes (Read cause) = ⊥
+UpgradeEnd bytes (Text cause) = ⊥
+UpgradeEnd bytes (Wide spot) = ⊥
+UpgradeEnd bytes (Spent number) = ⊥
+UpgradeEnd bytes Memory = ⊥
+UpgradeEnd bytes Write = ⊥
+
 -- this is the ending that the texts which a request reads have
 abbrev pub InputsEnd : Option Contents → Request → Status → Type 0
 InputsEnd files (Analyse purpose analysis) status =
@@ -68,6 +85,7 @@ InputsEnd files (Analyse purpose analysis) status =
 InputsEnd files (Check program certificate) status =
     (text : List ℕ) × (bytes : List ℕ) × AreChecked files program certificate text bytes × CheckEnd text bytes status
 InputsEnd files (Bench seed loops) status = BenchEnd seed loops status
+InputsEnd files (Upgrade certificate) status = (bytes : List ℕ) × HasCertificate files certificate bytes × UpgradeEnd bytes status
 
 -- a wide operation that may end a request: in an analysis any spot of it, in a check the first operation that is wide
 abbrev pub IsSpotFor : Option Contents → Request → Spot → Type 0
@@ -76,6 +94,7 @@ IsSpotFor files (Analyse purpose analysis) spot =
 IsSpotFor files (Check program certificate) spot =
     (text : List ℕ) × (bytes : List ℕ) × AreChecked files program certificate text bytes × IsWideAt text bytes spot
 IsSpotFor files (Bench seed loops) spot = (system : System) × IsGenerated seed loops system × HasSpot Report system Best 1000 spot
+IsSpotFor files (Upgrade certificate) spot = ⊥
 
 -- this is the ending that a request over these files has, where nothing fails and there is memory
 abbrev pub Ends : Option Contents → Request → Status → Type 0

@@ -3,16 +3,17 @@ use Rattle.std.specs.Prelude.{length}
 use Rattle.tm_workload.specs.Summaries.{summary_of}
 use Rattle.tm_workload.specs.Texts.{generated_text}
 use Rattle.tm_top.specs.CheckMessages.{rows_of}
-use Rattle.tm_top.specs.Checks.{HasRowCount, IsAcceptedWith, IsRefusedCertificate, IsWideAt}
+use Rattle.tm_top.specs.Checks.{HasRowCount, IsAcceptedWith, IsFormFault, IsRefusedCertificate, IsWideAt}
 use Rattle.tm_top.specs.Endings.{IsGenerated}
 use Rattle.tm_top.specs.Meanings.{Meanings}
 use Rattle.tm_top.specs.Messages.{line_in, message_of}
 use Rattle.tm_top.specs.Reports.{IsCertificateOf}
 use Rattle.tm_top.specs.Spots.{HasSpot}
+use Rattle.tm_top.specs.Upgrades.{IsUpgradeOf}
 
 -- the first operation of the composition, one of the rounds, and for a certificate one of its check, whose exact result doesn't fit;
 -- the certificate of the rounds by the policy; certificates that are valid and in whose check no sum is too wide, and the first cause of others;
--- programs drawn from a seed, over intervals
+-- the first fault of the form of bytes, and the text of the certificate that they spell; programs drawn from a seed, over intervals
 abbrev pub exact : Meanings
 exact = record {
   too_wide = λ purpose system policy limit spot. HasSpot purpose system policy limit spot;
@@ -21,6 +22,8 @@ exact = record {
   refuses = λ text bytes cause. IsRefusedCertificate text bytes cause;
   is_wide_in = λ text bytes spot. IsWideAt text bytes spot;
   has_rows = λ bytes count. HasRowCount bytes count;
+  misspells = λ bytes fault. IsFormFault bytes fault;
+  upgrades = λ bytes written. IsUpgradeOf bytes written;
   generates = λ seed loops system. IsGenerated seed loops system;
   summary = λ seed loops system vector rounds. summary_of seed loops (length (generated_text seed loops)) system vector rounds;
   message = λ line rows status. message_of line rows status;

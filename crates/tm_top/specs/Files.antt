@@ -6,11 +6,11 @@ use Rattle.tm_cli.specs.declared.request.Analysis.{Analysis}
 use Rattle.tm_cli.specs.declared.request.Domain.{Domain}
 use Rattle.tm_cli.specs.declared.request.Domain.TheVariants.{Intervals, Zones, Octagons, Rows}
 use Rattle.tm_cli.specs.declared.request.Request.{Request as RequestOf}
-use Rattle.tm_cli.specs.declared.request.Request.TheVariants.{Analyse, Check, Bench}
+use Rattle.tm_cli.specs.declared.request.Request.TheVariants.{Analyse, Check, Bench, Upgrade}
 use Rattle.tm_top.specs.declared.status.Which.{Which}
 use Rattle.tm_top.specs.declared.status.Which.TheVariants as which
 
--- an analysis of a program, the check of a certificate of a program, or the analysis of a generated program
+-- an analysis of a program, the check of a certificate of a program, the analysis of a generated program, or the upgrade of a certificate
 abbrev pub Request : Type 0
 Request = RequestOf (List ℕ)
 
@@ -19,6 +19,7 @@ abbrev pub IsInRange : Request → Type 0
 IsInRange (Analyse purpose analysis) = analysis.improvements ≤ 1000000
 IsInRange (Check program certificate) = Unit {0}
 IsInRange (Bench seed loops) = (seed < 2147483648) × (1 ≤ loops) × (loops ≤ 46)
+IsInRange (Upgrade certificate) = Unit {0}
 
 -- ---- the names of its files
 
@@ -34,12 +35,15 @@ abbrev pub file_in : Which → Request → Option (List ℕ)
 file_in which.Program (Analyse purpose analysis) = Some analysis.program
 file_in which.Program (Check program certificate) = Some program
 file_in which.Program (Bench seed loops) = None
+file_in which.Program (Upgrade certificate) = None
 file_in which.Rows (Analyse purpose analysis) = rows_file analysis.domain
 file_in which.Rows (Check program certificate) = None
 file_in which.Rows (Bench seed loops) = None
+file_in which.Rows (Upgrade certificate) = None
 file_in which.Certificate (Analyse purpose analysis) = None
 file_in which.Certificate (Check program certificate) = Some certificate
 file_in which.Certificate (Bench seed loops) = None
+file_in which.Certificate (Upgrade certificate) = Some certificate
 
 -- the name that the words give for a file
 abbrev pub file_named : Which → List (List ℕ) → Option (List ℕ)
@@ -89,6 +93,11 @@ pub record AreChecked (files : Option Contents) (program certificate text bytes 
   pub certificate_is : HasContent files certificate bytes
   pub short_bytes : length bytes ≤ 16777216
 
+-- what an upgrade reads: the bytes of a certificate, within their limit
+pub record HasCertificate (files : Option Contents) (certificate bytes : List ℕ) : Type 0 where
+  pub content : HasContent files certificate bytes
+  pub short : length bytes ≤ 16777216
+
 -- how many bytes a file may have: 65,536, and a certificate 16,777,216
 abbrev pub most_bytes : Which → ℕ
 most_bytes which.Program = 65536
@@ -100,6 +109,7 @@ abbrev pub HasProgram : Option Contents → Request → List ℕ → Type 0
 HasProgram files (Analyse purpose analysis) text = HasContent files analysis.program text
 HasProgram files (Check program certificate) text = HasContent files program text
 HasProgram files (Bench seed loops) text = ⊥
+HasProgram files (Upgrade certificate) text = ⊥
 
 -- the program is too long
 pub record IsLongProgram (files : Option Contents) (request : Request) : Type 0 where
@@ -107,11 +117,18 @@ pub record IsLongProgram (files : Option Contents) (request : Request) : Type 0 
   pub program : HasProgram files request text
   pub long : 65536 < length text
 
+-- a file isn't too long, where there is one
+abbrev pub IsShortFile : Option Contents → Option (List ℕ) → Type 0
+IsShortFile files None = Unit {0}
+IsShortFile files (Some name) = (text : List ℕ) × HasContent files name text × IsShort text
+
+-- the program isn't too long, where a request reads one
+abbrev pub HasShortProgram : Option Contents → Request → Type 0
+HasShortProgram files request = IsShortFile files (file_in which.Program request)
+
 -- the program isn't, and this file is too long
 pub record IsLongAfter (files : Option Contents) (request : Request) (which : Which) : Type 0 where
-  pub text : List ℕ
-  pub program : HasProgram files request text
-  pub short : IsShort text
+  pub program : HasShortProgram files request
   pub file : List ℕ
   pub named : file_in which request ≡ Some file
   pub bytes : List ℕ
@@ -124,19 +141,13 @@ IsTooLong files request which.Program = IsLongProgram files request
 IsTooLong files request which.Rows = IsLongAfter files request which.Rows
 IsTooLong files request which.Certificate = IsLongAfter files request which.Certificate
 
--- a file of rows or a certificate is loaded after a program that isn't too long
-pub record HasShortProgram (files : Option Contents) (request : Request) : Type 0 where
-  pub text : List ℕ
-  pub program : HasProgram files request text
-  pub short : IsShort text
-
 -- there is something
 abbrev pub HasSome : {A : Type 0} → Option A → Type 0
 HasSome None = ⊥
 HasSome (Some x) = Unit {0}
 
--- the request reads this file, and the files that are loaded before it are not too long
+-- the request reads this file, and the program that is loaded before it isn't too long
 abbrev pub IsReached : Option Contents → Request → Which → Type 0
 IsReached files request which.Program = HasSome (file_in which.Program request)
-IsReached files request which.Rows = HasShortProgram files request
-IsReached files request which.Certificate = HasShortProgram files request
+IsReached files request which.Rows = HasSome (file_in which.Rows request) × HasShortProgram files request
+IsReached files request which.Certificate = HasSome (file_in which.Certificate request) × HasShortProgram files request

@@ -4,6 +4,7 @@ pub mod Policies
 pub mod Rounds
 pub mod Texts
 pub mod Checks
+pub mod Upgrades
 pub mod Reports
 pub mod Endings
 pub mod CheckMessages

@@ -7,12 +7,14 @@ use Rattle.tm_eqsys.specs.Equations.{Vector}
 use Rattle.tm_cli.specs.declared.request.Domain.{Domain}
 use Rattle.tm_cli.specs.declared.request.Policy.{Policy}
 use Rattle.tm_cli.specs.declared.request.Purpose.{Purpose}
+use Rattle.tm_form.specs.declared.fault.FormFault.{FormFault}
 use Rattle.tm_top.specs.declared.status.CertCause.{CertCause}
 use Rattle.tm_top.specs.declared.status.Status.{Status}
 
 -- the solver: where an operation of the analysis of a system is too wide, by policy and limit; which bytes are the certificate that its rounds make of texts
 -- the checker: which bytes are a certificate of a text that it accepts, with the program, the rows and the vector of bounds; by which cause it refuses them,
 -- at which operation they are too wide; and how many rows a certificate has
+-- the form of certificates: by which fault bytes spell none; and which bytes are written of the certificate that bytes spell
 -- the generator: the system of a seed and so many loops, and the summary of a vector of it after so many improvements
 -- the messages: the text of each ending by a line and a number of rows; the line that it names in a text, and the rows that it counts by where each point has
 -- so many
@@ -23,6 +25,8 @@ pub record Meanings : Type 1 where
   pub refuses : (text bytes : List ℕ) → CertCause → Type 0
   pub is_wide_in : (text bytes : List ℕ) → Spot → Type 0
   pub has_rows : List ℕ → ℕ → Type 0
+  pub misspells : List ℕ → FormFault → Type 0
+  pub upgrades : (bytes written : List ℕ) → Type 0
   pub generates : (seed loops : ℕ) → System → Type 0
   pub summary : (seed loops : ℕ) → System → Vector → ℕ → List ℕ
   pub message : (line rows : ℕ) → Status → List ℕ

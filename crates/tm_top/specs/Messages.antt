@@ -42,6 +42,7 @@ parse_place (parse.NondetHere at) = Some at
 parse_place (parse.Limit at which) = Some at
 parse_place parse.NoVariables = None
 parse_place (parse.BigNumber at) = Some at
+parse_place (parse.OutsideLoop at) = Some at
 parse_place parse.NoMemory = None
 
 -- the place of a cause in the program's text
@@ -107,6 +108,7 @@ parse_words line (parse.NondetHere at) = counted (codes "program refused: nondet
 parse_words line (parse.Limit at which) = limit_words line which
 parse_words line parse.NoVariables = words (codes "program refused: no variables")
 parse_words line (parse.BigNumber at) = counted (codes "program refused: big number at line ") line
+parse_words line (parse.OutsideLoop at) = counted (codes "program refused: outside a loop at line ") line
 parse_words line parse.NoMemory = words (codes "out of memory")
 
 abbrev pub flow_words : FlowFault → Words

@@ -17,12 +17,14 @@ use Rattle.tm_cli.specs.declared.request.Policy.{Policy}
 use Rattle.tm_cli.specs.declared.request.Policy.TheVariants.{Best}
 use Rattle.tm_cli.specs.declared.request.Purpose.{Purpose}
 use Rattle.tm_cli.specs.declared.request.Purpose.TheVariants.{Report, Certificate as AsCertificate}
-use Rattle.tm_cli.specs.declared.request.Request.TheVariants.{Analyse, Check, Bench}
-use Rattle.tm_top.specs.Files.{AreChecked, AreInputs, HasContent, HasProgram, IsTold, Request}
+use Rattle.tm_cli.specs.declared.request.Request.TheVariants.{Analyse, Check, Bench, Upgrade}
+use Rattle.tm_top.specs.Files.{AreChecked, AreInputs, HasCertificate, HasContent, HasProgram, IsTold, Request}
 use Rattle.tm_top.specs.LeastReports.{IsLeastReport, IsReportOf}
 use Rattle.tm_top.specs.Meanings.{Meanings}
 use Rattle.tm_top.specs.Rounds.{HasRounds}
 use Rattle.tm_top.specs.Texts.{IsReady, IsSolvedSystem}
+use Rattle.tm_form.specs.declared.fault.FormFault.TheVariants.{Expanded}
+use Rattle.tm_top.specs.declared.status.CertCause.TheVariants.{Form}
 use Rattle.tm_top.specs.declared.status.Status.{Status}
 use Rattle.tm_top.specs.declared.status.Status.TheVariants.{Done, Memory, Write}
 
@@ -34,7 +36,8 @@ HasFailed faults faults_now last name = Rose faults faults_now × (Some last ≡
 
 -- ---- the output
 
--- the bytes are the certificate that the rounds make of these texts; it is accepted for the text, and its bounds are the least vector
+-- the bytes are the certificate that the rounds make of these texts; it is accepted for the text, unless its traces hold too many values; and its bounds are
+-- the least vector
 pub record IsCertificate (m : Meanings) (text : List ℕ) (rows : Domain (List ℕ)) (policy : Policy) (limit : ℕ) (bytes : List ℕ) : Type 0 where
   pub made : m.certifies text rows policy limit bytes
   pub names : List (List ℕ)
@@ -42,7 +45,7 @@ pub record IsCertificate (m : Meanings) (text : List ℕ) (rows : Domain (List �
   pub template : List (List ℤ)
   pub ready : IsReady text rows names body template
   pub vector : Vector
-  pub accepted : m.accepts text bytes names body template vector
+  pub accepted : (m.refuses text bytes (Form Expanded) → ⊥) → m.accepts text bytes names body template vector
   pub least : Least (equations_of_program (length names) body template) vector
 
 -- they are the report of the bounds of a certificate that is accepted; these are the least vector
@@ -74,6 +77,8 @@ pub data IsOutput (m : Meanings) (files : Option Contents) (words : List (List �
   is_checked : (program given text certificate : List ℕ) → request_of words ≡ Some (Check program given)
       → AreChecked files program given text certificate → IsChecked m text certificate bytes → IsOutput m files words bytes
   is_summary : (seed loops : ℕ) → request_of words ≡ Some (Bench seed loops) → IsSummary m seed loops bytes → IsOutput m files words bytes
+  is_upgraded : (given certificate : List ℕ) → request_of words ≡ Some (Upgrade given) → HasCertificate files given certificate
+      → m.upgrades certificate bytes → IsOutput m files words bytes
 
 -- the output gets all of it where the run is done, a part where the output failed or wants memory, and nothing where the run is refused
 pub data OutputGets (IsIt : List ℕ → Type 0) (status : Status) (held now : Option (List ℕ)) : Type 0 where
@@ -103,6 +108,7 @@ abbrev pub pieces_of : Request → List ℕ → List (List ℕ)
 pieces_of (Analyse purpose analysis) bytes = pieces_by purpose bytes
 pieces_of (Check program certificate) bytes = lines_of bytes
 pieces_of (Bench seed loops) bytes = lines_of bytes
+pieces_of (Upgrade certificate) bytes = as_pieces bytes
 
 -- the output got bytes, and took them in these pieces
 abbrev pub IsTaken : (List ℕ → List (List ℕ)) → (held held_now : Option (List ℕ)) → (taken taken_now : Option (List (List ℕ))) → Type 0

@@ -16,7 +16,7 @@ use Rattle.tm_eqsys.specs.View.{equations_of, vector_of}
 use Rattle.tm_validity.specs.Certificates.{Certificate as TheoryCertificate, ValidCertificate}
 use Rattle.tm_cert.specs.declared.cert.Cert.{Cert}
 use Rattle.serde_json.specs.Written.{compact_text}
-use Rattle.tm_form.specs.Certificates.{SpellsCert, cert_data}
+use Rattle.tm_form.specs.Certificates.{IsBeyond, IsWithin, SpellsCert, SpellsTooMany, cert_data}
 use Rattle.tm_rounds.specs.declared.solution.Solved.{Solved}
 use Rattle.tm_rounds.specs.Solutions.{IsSolved, cert_with, made_certificate}
 use Rattle.tm_cli.specs.declared.request.Domain.{Domain}
@@ -25,8 +25,8 @@ use Rattle.tm_cli.specs.declared.request.Policy.{Policy}
 use Rattle.tm_cli.specs.declared.request.Policy.TheVariants.{Best}
 use Rattle.tm_top.specs.Files.{HasContent, rows_file}
 use Rattle.tm_top.specs.Run.{HasFailed}
-use Rattle.tm_top.specs.Checks.{IsCheckSpot, IsCompositionSpot, IsRefusedCertificate, NoneIsWide, IsStopped, system_with, theirs}
-use Rattle.tm_top.specs.Endings.{BenchEnd, CheckEnd, IsGenerated, TextsEnd}
+use Rattle.tm_top.specs.Checks.{IsCheckSpot, IsCompositionSpot, IsFormFault, IsRefusedCertificate, NoneIsWide, IsStopped, system_with, theirs}
+use Rattle.tm_top.specs.Endings.{BenchEnd, CheckEnd, IsGenerated, TextsEnd, UpgradeEnd}
 use Rattle.tm_top.specs.Policies.{rule_of}
 use Rattle.tm_top.specs.Rounds.{EndsWithin, HasRounds, RunsOut}
 use Rattle.tm_top.specs.Spots.{HasSpot}
@@ -102,13 +102,15 @@ pub record IsRoundsReport (system : System) (policy : Policy) (limit : ℕ) (byt
   pub least : Least (equations_of system) (vector_of (length system.template) bounds)
   pub report : bytes ≡ report_of system (vector_of (length system.template) bounds) (Improvements rounds)
 
--- the bytes are the certificate that the rounds over a system make; it is valid, and no sum of its check is wide
+-- the bytes are the certificate that the rounds over a system make; it is valid, no sum of its check is wide, and the bytes spell it unless its traces
+-- hold too many values
 pub record IsRoundsCertificate (system : System) (policy : Policy) (limit : ℕ) (bytes : List ℕ) : Type 0 where
   pub solved : Solved
   pub is_solved : IsSolved system (rule_of policy) limit solved
   pub template : IsTrue (is_template system.template)
   pub written : bytes ≡ compact_text (cert_data (cert_with system solved))
-  pub spells : SpellsCert bytes (cert_with system solved)
+  pub spells : IsWithin (cert_with system solved) → SpellsCert bytes (cert_with system solved)
+  pub expands : IsBeyond (cert_with system solved) → SpellsTooMany bytes
   pub valid : ValidCertificate (equations_of system) (made_certificate system solved)
   pub narrow : NoneIsWide (equations_of system) (made_certificate system solved)
   pub least : Least (equations_of system) (vector_of (length system.template) solved.bounds)
@@ -117,6 +119,17 @@ pub record IsRoundsCertificate (system : System) (policy : Policy) (limit : ℕ)
 abbrev pub IsOutputOf : Purpose → System → Policy → ℕ → List ℕ → Type 0
 IsOutputOf Report system policy limit bytes = IsRoundsReport system policy limit bytes
 IsOutputOf AsCertificate system policy limit bytes = IsRoundsCertificate system policy limit bytes
+
+-- the bytes spell no certificate, by this cause; want of memory needs none
+abbrev pub IsMisspelt : List ℕ → Refusal → Type 0
+IsMisspelt bytes (Text cause) = ⊥
+IsMisspelt bytes (Certificate (form.Form fault)) = IsFormFault bytes fault
+IsMisspelt bytes (Certificate (form.Rows fault)) = ⊥
+IsMisspelt bytes (Certificate (form.Unknowns count)) = ⊥
+IsMisspelt bytes (Certificate (form.Check fault)) = ⊥
+IsMisspelt bytes (Wide spot) = ⊥
+IsMisspelt bytes (Spent number) = ⊥
+IsMisspelt bytes NoMemory = Unit {0}
 
 -- the text or the bytes are refused before the certificate's rows are seen
 abbrev pub IsUnspelt : List ℕ → List ℕ → Refusal → Type 0
@@ -231,6 +244,18 @@ IsAnswerToCheck text bytes (status.Wide spot) = CheckEnd text bytes (status.Wide
 IsAnswerToCheck text bytes (status.Spent number) = ⊥
 IsAnswerToCheck text bytes status.Memory = Unit {0}
 IsAnswerToCheck text bytes status.Write = CheckEnd text bytes status.Done
+
+-- what an answer to the bytes of a certificate that is upgraded says of them
+abbrev pub IsAnswerToUpgrade : List ℕ → Status → Type 0
+IsAnswerToUpgrade bytes status.Done = UpgradeEnd bytes status.Done
+IsAnswerToUpgrade bytes (status.Certificate cause) = UpgradeEnd bytes (status.Certificate cause)
+IsAnswerToUpgrade bytes status.Usage = ⊥
+IsAnswerToUpgrade bytes (status.Read cause) = ⊥
+IsAnswerToUpgrade bytes (status.Text cause) = ⊥
+IsAnswerToUpgrade bytes (status.Wide spot) = ⊥
+IsAnswerToUpgrade bytes (status.Spent number) = ⊥
+IsAnswerToUpgrade bytes status.Memory = Unit {0}
+IsAnswerToUpgrade bytes status.Write = UpgradeEnd bytes status.Done
 
 -- the ending of a request whose files aren't loaded
 abbrev pub AreUnloaded : Status → Type 0

@@ -1,4 +1,4 @@
--- What a run writes: reports of least vectors, certificates of them, and the summary of a generated program.
+-- What a run writes: reports of least vectors, certificates of them, the summary of a generated program, and the upgrade of a certificate.
 use Rattle.std.specs.Prelude.{◌≡◌, ◌≤◌, ℕ, ℤ, List, Option, Some, length}
 use Rattle.tm_io.specs.Files.{Contents}
 use Rattle.tm_tree.specs.Tree.{Statements}
@@ -8,9 +8,9 @@ use Rattle.tm_eqsys.specs.declared.system.System.{System}
 use Rattle.tm_eqsys.specs.Equations.{Least, Vector}
 use Rattle.tm_eqsys.specs.Solutions.{equations_of_program}
 use Rattle.tm_eqsys.specs.View.{vector_of}
-use Rattle.tm_validity.specs.Certificates.{bounds_vector}
+use Rattle.tm_validity.specs.Certificates.{ValidCertificate, bounds_vector}
 use Rattle.tm_cert.specs.declared.cert.Cert.{Cert}
-use Rattle.tm_form.specs.Certificates.{cert_data}
+use Rattle.tm_form.specs.Certificates.{IsBeyond, IsWithin, SpellsTooMany, cert_data}
 use Rattle.serde_json.specs.Written.{compact_text}
 use Rattle.tm_rounds.specs.declared.solution.Solved.{Solved}
 use Rattle.tm_rounds.specs.Solutions.{IsSolved, cert_with}
@@ -21,18 +21,19 @@ use Rattle.tm_cli.specs.declared.request.Domain.{Domain}
 use Rattle.tm_cli.specs.declared.request.Policy.{Policy}
 use Rattle.tm_cli.specs.declared.request.Policy.TheVariants.{Best}
 use Rattle.tm_top.specs.Checks.{IsValidFor, NoneIsWide, system_with, theirs}
-use Rattle.tm_top.specs.Files.{AreChecked, AreInputs, Request}
+use Rattle.tm_top.specs.Files.{AreChecked, AreInputs, HasCertificate, Request}
 pub use Rattle.tm_top.specs.LeastReports.{IsLeastReport, IsReportOf}
 use Rattle.tm_top.specs.Policies.{rule_of}
 use Rattle.tm_cli.specs.Request.{request_of}
 use Rattle.tm_top.specs.Rounds.{HasRounds, IsSystemFor}
 use Rattle.tm_cli.specs.declared.request.Purpose.{Purpose}
 use Rattle.tm_cli.specs.declared.request.Purpose.TheVariants.{Report, Certificate}
-use Rattle.tm_cli.specs.declared.request.Request.TheVariants.{Analyse, Check, Bench}
+use Rattle.tm_cli.specs.declared.request.Request.TheVariants.{Analyse, Check, Bench, Upgrade}
 use Rattle.tm_top.specs.Texts.{IsReady}
+use Rattle.tm_top.specs.Upgrades.{IsUpgradeOf}
 
--- the bytes are the certificate that the rounds make, of the program and the template of these texts; it is valid for the text, no sum of its check is wide,
--- and its bounds are the least vector
+-- the bytes are the certificate that the rounds make, of the program and the template of these texts; it is valid for the system of the text, no sum of its
+-- check is wide, and its bounds are the least vector. Where its traces hold few enough values, the bytes are read as this certificate, and else refused for that
 pub record IsCertificateOf (text : List ℕ) (rows : Domain (List ℕ)) (policy : Policy) (limit : ℕ) (bytes : List ℕ) : Type 0 where
   pub names : List (List ℕ)
   pub body : Statements
@@ -43,8 +44,10 @@ pub record IsCertificateOf (text : List ℕ) (rows : Domain (List ℕ)) (policy 
   pub solved : Solved
   pub is_solved : IsSolved system (rule_of policy) limit solved
   pub written : bytes ≡ compact_text (cert_data (cert_with system solved))
-  pub valid : IsValidFor text bytes names body (cert_with system solved)
+  pub valid : ValidCertificate (system_with names body (cert_with system solved)) (theirs (cert_with system solved))
   pub narrow : NoneIsWide (system_with names body (cert_with system solved)) (theirs (cert_with system solved))
+  pub accepted : IsWithin (cert_with system solved) → IsValidFor text bytes names body (cert_with system solved)
+  pub expands : IsBeyond (cert_with system solved) → SpellsTooMany bytes
   pub least : Least (equations_of_program (length names) body template) (vector_of (length template) solved.bounds)
 
 -- the bytes are the summary of a generated program: of its least vector over intervals, with the number of improvements by `best`
@@ -79,6 +82,7 @@ IsReportOn files (Analyse purpose analysis) bytes =
 IsReportOn files (Check program certificate) bytes =
     (text : List ℕ) × (given : List ℕ) × AreChecked files program certificate text given × IsReportBy text given bytes
 IsReportOn files (Bench seed loops) bytes = IsSummaryOf seed loops bytes
+IsReportOn files (Upgrade certificate) bytes = (given : List ℕ) × HasCertificate files certificate given × IsUpgradeOf given bytes
 
 -- they are that of the request that the words ask for
 abbrev pub IsReportFor : Option Contents → List (List ℕ) → List ℕ → Type 0

@@ -1,5 +1,5 @@
 -- What a run does to its shelf and its streams.
-use Rattle.std.specs.Prelude.{◌≡◌, ◌≤◌, ◌⊎◌, ℕ, List, Option, Some, length, take}
+use Rattle.std.specs.Prelude.{◌≡◌, ◌⊎◌, ℕ, List, Option, Some, length, take}
 use Rattle.std.specs.Io.KnownBytes.{Appends}
 use Rattle.tm_io.specs.Files.{Contents}
 use Rattle.tm_eqsys.specs.declared.system.System.{System}
@@ -12,7 +12,7 @@ pub use Rattle.tm_top.specs.Outputs.{HasFailed}
 use Rattle.tm_cli.specs.Request.{request_of}
 use Rattle.tm_top.specs.Texts.{IsSolvedSystem}
 use Rattle.tm_cli.specs.declared.request.Domain.{Domain}
-use Rattle.tm_cli.specs.declared.request.Request.TheVariants.{Analyse, Check, Bench}
+use Rattle.tm_cli.specs.declared.request.Request.TheVariants.{Analyse, Check, Bench, Upgrade}
 use Rattle.tm_top.specs.declared.status.Which.{Which}
 use Rattle.tm_top.specs.declared.status.Which.TheVariants as which
 use Rattle.tm_top.specs.declared.status.ReadCause.TheVariants.{Failed, TooLong}
@@ -95,6 +95,7 @@ IsRowCountIn files (Analyse purpose analysis) status rows =
 IsRowCountIn files (Check program certificate) status rows =
     (bytes : List ℕ) (cert : Cert) → IsTold files → HasContent files certificate bytes → SpellsCert bytes cert → rows ≡ rows_in cert status
 IsRowCountIn files (Bench seed loops) status rows = Unit {0}
+IsRowCountIn files (Upgrade certificate) status rows = Unit {0}
 
 -- so many that of the request which the words ask for
 abbrev pub IsRowCount : Option Contents → List (List ℕ) → Status → ℕ → Type 0

@@ -19,6 +19,7 @@ use crate::ending::{Ending, plain_ending};
 use crate::meaning::{Exact, Meaning};
 use crate::message::make_message;
 use crate::status::{ReadCause, Status, Which};
+use crate::upgrade::upgrade;
 use std::alloc::Global;
 use tm_cli::{Request, WordsFault, read_words};
 use tm_io::{Shelf, Sink};
@@ -45,6 +46,12 @@ fn obey<S: Shelf, K: Sink>(alloc: Global, words: &[String], shelf: &mut S, out: 
             },
         ) => check(alloc, program, certificate, shelf, out),
         Ok(Request::Bench { seed, loops }) => plain_ending(bench(alloc, seed, loops, out)),
+        Ok(Request::Upgrade { certificate }) => plain_ending(upgrade(
+            alloc,
+            certificate,
+            shelf,
+            out,
+        )),
         Err(WordsFault::Usage) => plain_ending(Status::Usage),
         Err(WordsFault::NoMemory) => plain_ending(Status::Memory),
     }
@@ -69,8 +76,9 @@ fn tell<L: Sink>(ending: &Ending, err: &mut L)
 /// The first cause in this order decides: the words; the program's file, and then the file of rows or the certificate; the
 /// tokens, the grammar, the points and edges. An analysis goes on with the rows, the unknowns, the cells, the composition of
 /// the edges, and the rounds; a check with the form of the certificate, its rows, the unknowns, the composition of the
-/// edges, and the tests. `Memory` may come at any time, and takes the place of any other answer. A wide operation of an
-/// analysis may take the place of a report and of improvements that are spent.
+/// edges, and the tests; an upgrade reads no program, and has the form of the certificate alone. `Memory` may come at any time,
+/// and takes the place of any other answer. A wide operation of an analysis may take the place of a report and of improvements
+/// that are spent.
 pub fn run<S: Shelf, K: Sink, L: Sink>(
     alloc: Global,
     words: &[String],

@@ -10,6 +10,9 @@ use tm_io::{LoadFault, Shelf};
 // How many bytes a program or a file of rows may have.
 pub(crate) const MOST_BYTES: usize = 65536;
 
+// How many bytes a certificate may have.
+pub(crate) const MOST_CERTIFICATE_BYTES: usize = 16777216;
+
 // Why a file isn't loaded.
 #[derive(Clone, Copy, Debug, Drop)]
 pub(crate) enum LoadRefusal {

@@ -28,6 +28,11 @@ pub fn ending_is_one()
         → Ends ⟦<Exact as Meaning>⟧.means files request one → Ends ⟦<Exact as Meaning>⟧.means files request other → one ≡ other }
 {}
 
+/// Bytes have one text as the certificate that they spell.
+pub fn upgrade_is_one()
+    ensures { (bytes one other : List ℕ) → (⟦<Exact as Meaning>⟧.means).upgrades bytes one → (⟦<Exact as Meaning>⟧.means).upgrades bytes other → one ≡ other }
+{}
+
 /// Improvements that are spent are fewer than the picks of the system: a limit of as many as the picks is never spent.
 pub fn spent_is_few()
     ensures { (system : System) (policy : Policy) (number : ℕ) → RunsOut system policy number → number < pick_count (equations_of system) }

@@ -85,6 +85,10 @@ fn parse_parts(line: u32, fault: ParseFault) -> Parts
         ParseFault::Limit { which, .. } => limit_parts(line, which),
         ParseFault::NoVariables => plain(b"program refused: no variables"),
         ParseFault::BigNumber { .. } => counted(b"program refused: big number at line ", line),
+        ParseFault::OutsideLoop { .. } => counted(
+            b"program refused: outside a loop at line ",
+            line,
+        ),
         ParseFault::NoMemory => plain(b"out of memory"),
     }
 }

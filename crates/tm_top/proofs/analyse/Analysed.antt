@@ -173,14 +173,16 @@ certificate_put text rows system policy limit bytes is r =
       solved = r.solved;
       is_solved = r.is_solved;
       written = r.written;
-      valid = record {
+      valid = subst (λ q. ValidCertificate q (made_certificate system r.solved)) same r.valid;
+      accepted = λ few. record {
         system = record {
-          spelt = record { analysed = is.ready.system.analysed; spells = r.spells };
+          spelt = record { analysed = is.ready.system.analysed; spells = r.spells few };
           rows = sound (length is.names) system.template r.template (subst (λ (names : List (List ℕ)). IsTrue (is_over (length names) system.template)) is.system_for.names_are over);
           within = subst (λ t. unknowns is.body t ≤ MOST_UNKNOWNS) (sym is.system_for.template_is) is.ready.within;
         };
         valid = subst (λ q. ValidCertificate q (made_certificate system r.solved)) same r.valid;
       };
+      expands = r.expands;
       narrow = subst (λ q. NoneIsWide q (made_certificate system r.solved)) same r.narrow;
       least = subst (λ t. Least (equations_of_program (length is.names) is.body is.template) (vector_of (length t) r.solved.bounds)) is.system_for.template_is
           (subst (λ q. Least q (vector_of (length system.template) r.solved.bounds)) (equations_are is.names is.body is.template system is.system_for) r.least);

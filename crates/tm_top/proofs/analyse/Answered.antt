@@ -1,5 +1,5 @@
 -- A request over files that are told has one ending; and where it stands, it is answered.
-use Rattle.std.proofs.Common.{◌≡◌, ◌≤◌, ◌⊎◌, inl, inr, ⊎_elim, ℕ, List, length, refl, sym, ap, ◌∙◌, subst, arith}
+use Rattle.std.proofs.Common.{◌≡◌, ◌≤◌, ◌<◌, ◌⊎◌, inl, inr, ⊎_elim, ℕ, List, length, refl, sym, ap, ◌∙◌, subst, arith}
 use Rattle.std.specs.Prelude.{Option, Some, None}
 use Rattle.tm_io.specs.Files.{Contents}
 use Rattle.tm_cli.specs.declared.request.Analysis.{Analysis}
@@ -14,17 +14,17 @@ use Rattle.tm_workload.specs.Bodies.{generated_body, generated_names}
 use Rattle.tm_eqsys.specs.View.{vector_of}
 pub use Rattle.tm_top.specs.Given.{Tells, IsOfRounds, Answered, unwritten, widened, unless}
 use Rattle.tm_top.specs.Endings.{BenchEnd, CheckEnd, Ends, InputsEnd, IsAnswerTo, IsGenerated, IsSpotFor, TextsEnd}
-use Rattle.tm_top.specs.Files.{AreChecked, AreInputs, HasContent, HasProgram, HasShortProgram, HasShortRows, IsLongAfter, IsLongProgram, IsShort, IsTold, IsWithText, Request, rows_file}
+use Rattle.tm_top.specs.Files.{AreChecked, AreInputs, HasCertificate, HasContent, HasProgram, HasShortProgram, HasShortRows, IsLongAfter, IsLongProgram, IsShort, IsTold, IsWithText, Request, rows_file}
 use Rattle.tm_top.specs.Parted.{IsAnswerToBench, IsAnswerToCheck, IsAnswerToTexts}
 use Rattle.tm_top.proofs.rounds.OneChain.{solved_rounds}
 use Rattle.tm_top.specs.Rounds.{EndsWithin, RunsOut}
 use Rattle.tm_top.specs.Reports.{IsReportOn}
 use Rattle.tm_top.specs.Run.{FailedBefore, OutputHolds}
-use Rattle.tm_top.proofs.checks.CheckOnce.{CheckEnds, check_ends_once, check_staged}
+use Rattle.tm_top.proofs.checks.CheckOnce.{CertEnds, CheckEnds, cert_ends_once, check_ends_once, check_staged, upgrade_staged}
 use Rattle.tm_top.proofs.texts.Once.{TextEnds, not_both_ways, ready_rounds, staged, text_ends_once}
 use Rattle.tm_cli.specs.declared.request.Purpose.{Purpose}
 use Rattle.tm_cli.specs.declared.request.Purpose.TheVariants.{Report, Certificate as AsCertificate}
-use Rattle.tm_cli.specs.declared.request.Request.TheVariants.{Analyse, Check, Bench}
+use Rattle.tm_cli.specs.declared.request.Request.TheVariants.{Analyse, Check, Bench, Upgrade}
 use Rattle.tm_top.specs.declared.status.Which.{Which}
 use Rattle.tm_top.specs.declared.status.Which.TheVariants.{Program, Rows, Certificate}
 use Rattle.tm_top.specs.declared.status.ReadCause.TheVariants.{Failed, TooLong}
@@ -74,11 +74,13 @@ pub tells : (files : Option Contents) (request : Request) → IsTold files → T
 tells files (Analyse purpose a) t = t
 tells files (Check p c) t = t
 tells files (Bench seed loops) t = tt
+tells files (Upgrade c) t = t
 
 pub program_once : (files : Option Contents) (request : Request) (x y : List ℕ) → Tells files request → HasProgram files request x → HasProgram files request y → x ≡ y
 program_once files (Analyse purpose a) x y t h k = content_once files a.program x y t h k
 program_once files (Check p c) x y t h k = content_once files p x y t h k
 program_once files (Bench seed loops) x y t h k = absurd h
+program_once files (Upgrade c) x y t h k = absurd h
 
 -- the rounds over a generated program end within the limit, or run out
 data BenchEnds (seed loops : ℕ) (s : Status) : Type 0 where
@@ -107,6 +109,7 @@ abbrev StagesEnd : Option Contents → Request → Status → Type 0
 StagesEnd files (Analyse purpose a) s = (text : List ℕ) × (rows : Domain (List ℕ)) × AreInputs files a text rows × TextEnds text rows a.policy a.improvements s
 StagesEnd files (Check p c) s = (text : List ℕ) × (bytes : List ℕ) × AreChecked files p c text bytes × CheckEnds text bytes s
 StagesEnd files (Bench seed loops) s = BenchEnds seed loops s
+StagesEnd files (Upgrade c) s = (bytes : List ℕ) × HasCertificate files c bytes × CertEnds bytes (λ cert. Done) s
 
 data RequestEnds (files : Option Contents) (request : Request) (s : Status) : Type 0 where
   long : IsLongProgram files request → s ≡ Read (TooLong Program) → RequestEnds files request s
@@ -120,38 +123,49 @@ too_long files request text t l h s =
     let e : length l.text ≡ length text = ap length same in
     let long = l.long in omega arith
 
+-- a program isn't both short and too long
+short_and_long : (files : Option Contents) (request : Request) → Tells files request → IsLongProgram files request → HasShortProgram files request → ⊥
+short_and_long files (Analyse purpose a) t l (text, h, s) = too_long files (Analyse purpose a) text t l h s
+short_and_long files (Check p c) t l (text, h, s) = too_long files (Check p c) text t l h s
+short_and_long files (Bench seed loops) t l h = absurd l.program
+short_and_long files (Upgrade c) t l h = absurd l.program
+
 rows_too_long : (files : Option Contents) (purpose : Purpose) (a : Analysis (List ℕ)) (text : List ℕ) (rows : Domain (List ℕ)) → IsTold files → IsLongAfter files (Analyse purpose a) Rows → AreInputs files a text rows → ⊥
 rows_too_long files purpose a text rows t l i =
     let short : length l.bytes ≤ 65536 = short_rows files a.domain rows l.file l.bytes t l.named l.content i.rows_are i.short_rows in
     let long = l.long in omega arith
 
-certificate_too_long : (files : Option Contents) (p c text bytes : List ℕ) → IsTold files → IsLongAfter files (Check p c) Certificate → AreChecked files p c text bytes → ⊥
-certificate_too_long files p c text bytes t l i =
-    let same : l.bytes ≡ bytes = content_once files c l.bytes bytes t (subst (λ n. HasContent files n l.bytes) (sym (same_file c l.file l.named)) l.content) i.certificate_is in
-    let e : length l.bytes ≡ length bytes = ap length same in
-    let long = l.long in let short = i.short_bytes in omega arith
+certificate_too_long : (files : Option Contents) (c file content bytes : List ℕ) → IsTold files → Some c ≡ Some file → HasContent files file content → 16777216 < length content
+    → HasContent files c bytes → length bytes ≤ 16777216 → ⊥
+certificate_too_long files c file content bytes t named h l i s =
+    let same : content ≡ bytes = content_once files c content bytes t (subst (λ n. HasContent files n content) (sym (same_file c file named)) h) i in
+    let e : length content ≡ length bytes = ap length same in omega arith
 
 -- the texts are within their limits
 inputs_short : (files : Option Contents) (request : Request) (s : Status) → Tells files request → IsLongProgram files request → StagesEnd files request s → ⊥
 inputs_short files (Analyse purpose a) s t l (text, rows, i, e) = too_long files (Analyse purpose a) text t l i.program i.short
 inputs_short files (Check p c) s t l (text, bytes, i, e) = too_long files (Check p c) text t l i.program_is i.short
 inputs_short files (Bench seed loops) s t l e = absurd l.program
+inputs_short files (Upgrade c) s t l e = absurd l.program
 
 inputs_rows : (files : Option Contents) (request : Request) (s : Status) → Tells files request → IsLongAfter files request Rows → StagesEnd files request s → ⊥
 inputs_rows files (Analyse purpose a) s t l (text, rows, i, e) = rows_too_long files purpose a text rows t l i
 inputs_rows files (Check p c) s t l x = no_file l.file l.named
-inputs_rows files (Bench seed loops) s t l e = absurd l.program
+inputs_rows files (Bench seed loops) s t l e = no_file l.file l.named
+inputs_rows files (Upgrade c) s t l e = no_file l.file l.named
 
 inputs_certificate : (files : Option Contents) (request : Request) (s : Status) → Tells files request → IsLongAfter files request Certificate → StagesEnd files request s → ⊥
 inputs_certificate files (Analyse purpose a) s t l x = no_file l.file l.named
-inputs_certificate files (Check p c) s t l (text, bytes, i, e) = certificate_too_long files p c text bytes t l i
-inputs_certificate files (Bench seed loops) s t l e = absurd l.program
+inputs_certificate files (Check p c) s t l (text, bytes, i, e) = certificate_too_long files c l.file l.bytes bytes t l.named l.content l.long i.certificate_is i.short_bytes
+inputs_certificate files (Bench seed loops) s t l e = no_file l.file l.named
+inputs_certificate files (Upgrade c) s t l (bytes, i, e) = certificate_too_long files c l.file l.bytes bytes t l.named l.content l.long i.content i.short
 
 -- a request has rows or a certificate
 not_rows_and_certificate : (files : Option Contents) (request : Request) → IsLongAfter files request Rows → IsLongAfter files request Certificate → ⊥
 not_rows_and_certificate files (Analyse purpose a) l m = no_file m.file m.named
 not_rows_and_certificate files (Check p c) l m = no_file l.file l.named
-not_rows_and_certificate files (Bench seed loops) l m = absurd l.program
+not_rows_and_certificate files (Bench seed loops) l m = no_file l.file l.named
+not_rows_and_certificate files (Upgrade c) l m = no_file l.file l.named
 
 texts_once : (files : Option Contents) (request : Request) (s t : Status) → Tells files request → StagesEnd files request s → StagesEnd files request t → s ≡ t
 texts_once files (Analyse purpose a) s t told (text, rows, m, i) (other, given, n, j) =
@@ -164,17 +178,20 @@ texts_once files (Check p c) s t told (text, bytes, m, i) (other, given, n, j) =
     let same_bytes : given ≡ bytes = content_once files c given bytes told n.certificate_is m.certificate_is in
     check_ends_once text bytes s t i (subst (λ r. CheckEnds text r t) same_bytes (subst (λ x. CheckEnds x given t) same j))
 texts_once files (Bench seed loops) s t told h k = bench_ends_once seed loops s t h k
+texts_once files (Upgrade c) s t told (bytes, m, i) (other, n, j) =
+    let same : other ≡ bytes = content_once files c other bytes told n.content m.content in
+    cert_ends_once bytes (λ cert. Done) s t i (subst (λ x. CertEnds x (λ cert. Done) t) same j)
 
 request_once : (files : Option Contents) (request : Request) (s t : Status) → Tells files request → RequestEnds files request s → RequestEnds files request t → s ≡ t
 request_once files request s t told (long l e) (long m i) = e ∙ sym i
-request_once files request s t told (long l e) (long_rows m i) = absurd (too_long files request m.text told l m.program m.short)
-request_once files request s t told (long l e) (long_certificate m i) = absurd (too_long files request m.text told l m.program m.short)
+request_once files request s t told (long l e) (long_rows m i) = absurd (short_and_long files request told l m.program)
+request_once files request s t told (long l e) (long_certificate m i) = absurd (short_and_long files request told l m.program)
 request_once files request s t told (long l e) (inputs i) = absurd (inputs_short files request t told l i)
-request_once files request s t told (long_rows l e) (long m i) = absurd (too_long files request l.text told m l.program l.short)
+request_once files request s t told (long_rows l e) (long m i) = absurd (short_and_long files request told m l.program)
 request_once files request s t told (long_rows l e) (long_rows m i) = e ∙ sym i
 request_once files request s t told (long_rows l e) (long_certificate m i) = absurd (not_rows_and_certificate files request l m)
 request_once files request s t told (long_rows l e) (inputs i) = absurd (inputs_rows files request t told l i)
-request_once files request s t told (long_certificate l e) (long m i) = absurd (too_long files request l.text told m l.program l.short)
+request_once files request s t told (long_certificate l e) (long m i) = absurd (short_and_long files request told m l.program)
 request_once files request s t told (long_certificate l e) (long_rows m i) = absurd (not_rows_and_certificate files request m l)
 request_once files request s t told (long_certificate l e) (long_certificate m i) = e ∙ sym i
 request_once files request s t told (long_certificate l e) (inputs i) = absurd (inputs_certificate files request t told l i)
@@ -187,6 +204,7 @@ staged_inputs : (files : Option Contents) (request : Request) (s : Status) → I
 staged_inputs files (Analyse purpose a) s (text, rows, i, e) = inputs (text, rows, i, staged text rows a.policy a.improvements s e)
 staged_inputs files (Check p c) s (text, bytes, i, e) = inputs (text, bytes, i, check_staged text bytes s e)
 staged_inputs files (Bench seed loops) s e = inputs (bench_staged seed loops s e)
+staged_inputs files (Upgrade c) s (bytes, i, e) = inputs (bytes, i, upgrade_staged bytes s e)
 
 staged_request : (files : Option Contents) (request : Request) (s : Status) → Ends files request s → RequestEnds files request s
 staged_request files request Done h = staged_inputs files request Done h
@@ -271,7 +289,7 @@ other_before files request which Done told h k = (which, refl)
 other_before files request which (Refused cause) told h k = (which, refl)
 other_before files request which Usage told h k = absurd k
 other_before files request which (Read (Failed other)) told h k = absurd k
-other_before files request which (Read (TooLong Program)) told h k = absurd (too_long files request h.text told k h.program h.short)
+other_before files request which (Read (TooLong Program)) told h k = absurd (short_and_long files request told k h)
 other_before files request which (Read (TooLong Rows)) told h k = (which, refl)
 other_before files request which (Read (TooLong Certificate)) told h k = (which, refl)
 other_before files request which (Text cause) told h k = (which, refl)
@@ -294,6 +312,7 @@ spot_or_text files purpose a cause spot told (text, rows, i, e) (other, given, j
 -- a wide operation of an analysis takes the place of an ending that the rounds decide; that of a check is its ending
 spot_after : (files : Option Contents) (request : Request) (wanted : Status) (spot : Spot) → Tells files request → Ends files request wanted → IsSpotFor files request spot → IsOfRounds wanted ⊎ (wanted ≡ Wide spot)
 spot_after files (Check p c) wanted spot t k h = inr (sym (ends_once files (Check p c) (Wide spot) wanted t h k))
+spot_after files (Upgrade c) wanted spot t k h = absurd h
 spot_after files (Analyse purpose a) Done spot t k h = inl tt
 spot_after files (Analyse purpose a) (Refused cause) spot t k h = absurd k.3
 spot_after files (Analyse purpose a) Usage spot t k h = absurd k
@@ -311,8 +330,8 @@ spot_after files (Bench seed loops) (Refused cause) spot t k h = absurd k
 spot_after files (Bench seed loops) Usage spot t k h = absurd k
 spot_after files (Bench seed loops) (Read (Failed which)) spot t k h = absurd k
 spot_after files (Bench seed loops) (Read (TooLong Program)) spot t k h = absurd k.program
-spot_after files (Bench seed loops) (Read (TooLong Rows)) spot t k h = absurd k.program
-spot_after files (Bench seed loops) (Read (TooLong Certificate)) spot t k h = absurd k.program
+spot_after files (Bench seed loops) (Read (TooLong Rows)) spot t k h = absurd (no_file k.file k.named)
+spot_after files (Bench seed loops) (Read (TooLong Certificate)) spot t k h = absurd (no_file k.file k.named)
 spot_after files (Bench seed loops) (Text cause) spot t k h = absurd k
 spot_after files (Bench seed loops) (Wide other) spot t k h = absurd k
 spot_after files (Bench seed loops) (Spent n) spot t k h = inl tt
@@ -325,8 +344,8 @@ answered_when files request wanted Done told h k = unless (inl (ends_once files 
 answered_when files request wanted (Refused cause) told h k = unless (inl (ends_once files request (Refused cause) wanted told h k))
 answered_when files request wanted Usage told h k = absurd h
 answered_when files request wanted (Read (Failed Program)) told h k = unless (inr (inr (program_before files request wanted k)))
-answered_when files request wanted (Read (Failed Rows)) told h k = unless (inr (inr (other_before files request Rows wanted told h k)))
-answered_when files request wanted (Read (Failed Certificate)) told h k = unless (inr (inr (other_before files request Certificate wanted told h k)))
+answered_when files request wanted (Read (Failed Rows)) told h k = unless (inr (inr (other_before files request Rows wanted told h.1 k)))
+answered_when files request wanted (Read (Failed Certificate)) told h k = unless (inr (inr (other_before files request Certificate wanted told h.1 k)))
 answered_when files request wanted (Read (TooLong which)) told h k = unless (inl (ends_once files request (Read (TooLong which)) wanted told h k))
 answered_when files request wanted (Text cause) told h k = unless (inl (ends_once files request (Text cause) wanted told h k))
 answered_when files request wanted (Wide spot) told h k = ⊎_elim (λ r. widened spot refl h r) (λ e. unless (inl (sym e))) (spot_after files request wanted spot told k h)
@@ -347,6 +366,7 @@ reported files (Analyse AsCertificate a) bytes (text, rows, i, r) =
     (text, rows, i, (r.system, record { names = r.names; body = r.body; template = r.template; ready = r.ready; system_for = r.system_for }, solved_ends r.system a.policy a.improvements r.solved r.is_solved))
 reported files (Check p c) bytes (text, given, i, r) = (text, given, i, (r.names, r.body, r.cert, r.valid, r.narrow))
 reported files (Bench seed loops) bytes r = (r.system, r.system_for, (r.rounds, r.within, r.vector, r.has_rounds))
+reported files (Upgrade c) bytes (given, i, u) = (given, i, (bytes, u))
 
 pub nothing_put : (files : Option Contents) (request : Request) (wanted status : Status) (held now : Option (List ℕ)) → Tells files request → IsAnswerTo files request status
     → OutputHolds (IsReportOn files request) status held now → Ends files request wanted → (wanted ≡ Done → ⊥) → now ≡ held

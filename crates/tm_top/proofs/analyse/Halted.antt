@@ -1,33 +1,9 @@
 -- What the halts of rounds say of a system and a policy.
-use Rattle.std.proofs.Common.{◌≡◌, ◌∙◌, ◌⊎◌, inl, inr, ⊎_elim, ltb, Bool, true, false, if◌then◌else◌, ℕ, zero, suc, ◌<◌, List, [], ◌∷◌, length, get_or, refl, sym, subst}
-use Rattle.std.proofs.lemmas.Bool.{ltb-true}
-use Rattle.std.proofs.lemmas.Option.{slice_get_within}
-use Rattle.tm_eqsys.specs.States.{RationalState, dotℚ}
-use Rattle.tm_num.specs.Extended.{Ext as Extended, fin, neg_inf, ◌≤ᴱ◌, ◌<ᴱ◌}
-use Rattle.tm_num.proofs.extended.ExtendedLaws.{ext_le_or_lt, ext_not_le_of_lt}
-use Rattle.tm_frac.specs.Extended.{extended}
-use Rattle.tm_eqsys.specs.Equations.{Equations, Fits, PostSolution, Vector}
-use Rattle.tm_eqsys.specs.View.{equations_of}
+use Rattle.std.proofs.Common.{inl, ℕ, List, refl}
+use Rattle.tm_num.specs.Extended.{Ext as Extended}
 use Rattle.tm_eqsys.specs.declared.spot.Spot.{Spot}
 use Rattle.tm_eqsys.specs.declared.system.System.{System}
-use Rattle.tm_strategy.specs.Policy.{exceeding, offers}
-use Rattle.tm_strategy_lp.specs.Agreement.{Agree}
-use Rattle.tm_strategy_lp.proofs.rounds.MadeCertificate.{last_listed}
-use Rattle.tm_validity.specs.Certificates.{bounds_vector}
-use Rattle.tm_raise.specs.Numbers.{fitting}
-use Rattle.tm_offers.specs.AtBounds.{transformers, vector_at}
-use Rattle.tm_rounds.specs.Chains.{IsChain, bounds_after, state_at}
-use Rattle.tm_rounds.specs.Halts.{IsHalt, IsSpent, IsSpotOf}
-use Rattle.tm_offers.specs.Improvement.{IsChoice, IsOffer}
-use Rattle.tm_offers.specs.Offers.{SomeExceeds}
-use Rattle.tm_rounds.specs.Solutions.{IsSolved}
-use Rattle.tm_rounds.specs.declared.halt.Halt.{Halt}
-use Rattle.tm_rounds.specs.declared.halt.Halt.TheVariants.{Wide, Spent, NoMemory}
-use Rattle.tm_offers.specs.declared.offer.Offer.{Offer}
-use Rattle.tm_rounds.specs.declared.solution.Solved.{Solved}
-use Rattle.tm_offers.proofs.offers.NextPick.{nothing_offered}
-use Rattle.tm_offers.proofs.offers.Offered.{none_below}
-use Rattle.tm_offers.proofs.at_bounds.Ranges.{points_in_range}
+use Rattle.tm_rounds.specs.Halts.{IsSpent, IsSpotOf}
 use Rattle.tm_cli.specs.declared.request.Policy.{Policy}
 use Rattle.tm_cli.specs.declared.request.Policy.TheVariants.{Best, First}
 use Rattle.tm_chain.specs.Offers.{Best as MeantBest, First as MeantFirst}

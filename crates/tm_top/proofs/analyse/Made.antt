@@ -17,7 +17,7 @@ use Rattle.tm_cert.specs.Shaped.{IsShaped}
 use Rattle.tm_cert.specs.declared.cert.Cert.{Cert}
 use Rattle.tm_cert.specs.declared.step.Step.{Step}
 use Rattle.tm_cert.specs.declared.step.Step.TheVariants.{Plain, Jump, Ray}
-use Rattle.tm_form.specs.Certificates.{IsWritable, SpellsCert, cert_data}
+use Rattle.tm_form.specs.Certificates.{IsBeyond, IsWithin, IsWritable, SpellsCert, SpellsTooMany, cert_data}
 use Rattle.tm_check.specs.Items.{is_short}
 use Rattle.tm_check.proofs.events.CheckTests.{stops_are_faults}
 use Rattle.tm_rounds.specs.declared.solution.Solved.{Solved}
@@ -100,14 +100,15 @@ module _ (system : System) (solved : Solved) (cert : Cert) (same : cert ≡ cert
     pub made_halts : (r : Refusal) → IsUnaccepted (equations_of system) (theirs cert) r → IsHalted AsCertificate system policy limit r
     made_halts r h = halts r (subst (λ (c : Cert). IsUnaccepted (equations_of system) (theirs c) r) same h)
 
-    pub made_certified : (bytes : List ℕ) → IsTrue (is_template system.template) → bytes ≡ compact_text (cert_data cert) → SpellsCert bytes cert → NoneIsWide (equations_of system) (theirs cert)
+    pub made_certified : (bytes : List ℕ) → IsTrue (is_template system.template) → bytes ≡ compact_text (cert_data cert) → (IsWithin cert → SpellsCert bytes cert) → (IsBeyond cert → SpellsTooMany bytes) → NoneIsWide (equations_of system) (theirs cert)
         → Least (equations_of system) (vector_of (length system.template) solved.bounds) → IsRoundsCertificate system policy limit bytes
-    made_certified bytes template written spells narrow least = record {
+    made_certified bytes template written spells expands narrow least = record {
       solved = solved;
       is_solved = is;
       template = template;
       written = written ∙ ap (λ (c : Cert). compact_text (cert_data c)) same;
-      spells = subst (λ (c : Cert). SpellsCert bytes c) same spells;
+      spells = subst (λ (c : Cert). IsWithin c → SpellsCert bytes c) same spells;
+      expands = subst (λ (c : Cert). IsBeyond c → SpellsTooMany bytes) same expands;
       valid = valid;
       narrow = subst (λ (c : Cert). NoneIsWide (equations_of system) (theirs c)) same narrow;
       least = least;

@@ -1,5 +1,5 @@
 -- What an answer to the words says where they ask for an analysis, and where they don't.
-use Rattle.std.proofs.Common.{◌≡◌, ◌<◌, ◌⊎◌, inl, inr, ⊎_elim, ℕ, List, refl, sym, ap, ◌∙◌, subst}
+use Rattle.std.proofs.Common.{◌≡◌, ◌⊎◌, inl, inr, ⊎_elim, ℕ, List, refl, sym, ap, ◌∙◌, subst}
 use Rattle.std.specs.Prelude.{Option, Some, None, option_and_then}
 use Rattle.tm_io.specs.Files.{Contents}
 use Rattle.tm_cli.specs.Request.{request_of}

@@ -1,7 +1,6 @@
 -- Refusals, from one stage to the next.
-use Rattle.std.proofs.Common.{◌≡◌, ◌≢◌, inl, inr, ⊎_elim, ℕ, List, refl, sym, ap, ◌∙◌, subst}
+use Rattle.std.proofs.Common.{◌≡◌, inl, inr, ⊎_elim, ℕ, List, refl, sym, ap, ◌∙◌, subst}
 use Rattle.std.specs.Prelude.{Err, None, Option, Some}
-use Rattle.serde_json.specs.Data.{Data}
 use Rattle.tm_tree.specs.Tree.{Statements}
 use Rattle.tm_eqsys.specs.declared.spot.Spot.{Spot}
 use Rattle.tm_eqsys.specs.Equations.{Equations}
@@ -14,16 +13,14 @@ use Rattle.tm_check.specs.declared.fault.CheckFault.TheVariants as check
 use Rattle.tm_validity.specs.Faults.{Fault, SizeFault, TraceFault, LowFault, HighFault, RayFault, FinalFault, UpperFault}
 use Rattle.tm_compose.specs.Operations.{wide_composition}
 use Rattle.tm_cert.specs.declared.cert.Cert.{Cert}
-use Rattle.tm_form.specs.Certificates.{Spells, cert_in}
-use Rattle.tm_form.specs.declared.fault.FormFault.{FormFault}
-use Rattle.tm_form.specs.declared.fault.FormFault.TheVariants.{NotJson, Shape, Number, Version, NoMemory}
 use Rattle.tm_cli.specs.declared.request.Domain.{Domain}
-use Rattle.tm_top.specs.Checks.{IsFormFault, IsSpelt, IsSystemWith, system_with, theirs}
+use Rattle.tm_top.specs.Checks.{IsSpelt, IsSystemWith, system_with, theirs}
 use Rattle.tm_top.specs.CheckMessages.{rows_in}
 use Rattle.tm_top.specs.Messages.{line_in}
-use Rattle.tm_top.specs.Parted.{AreUnloaded, GetsNoReport, IsAnswerToCheck, IsNoSystem, IsRefusedBy, IsUnaccepted, IsUnread, IsUnspelt, PutsReport, failed, refused, wanting, whole}
+use Rattle.tm_top.specs.Parted.{AreUnloaded, GetsNoReport, IsAnswerToCheck, IsMisspelt, IsNoSystem, IsRefusedBy, IsUnaccepted, IsUnread, IsUnspelt, PutsReport, failed, refused, wanting, whole}
 use Rattle.tm_top.specs.Reports.{IsReportBy}
 use Rattle.tm_top.specs.Run.{OutputHolds}
+use Rattle.tm_top.specs.Texts.{IsAnalysed}
 use Rattle.tm_io.specs.Faults.{Rose}
 use Rattle.tm_io.specs.Puts.{HasPutCause}
 use Rattle.tm_io.specs.declared.sink.PutFault.{PutFault}
@@ -69,13 +66,15 @@ unread_unspelt t bytes refusal.NoMemory h = tt
 
 -- ---- the form of a certificate
 
-pub form_fault : (bytes : List ℕ) (f : FormFault) → (f ≡ NotJson → (d : Data) → Spells bytes d → ⊥)
-    → (f ≢ NotJson → f ≢ NoMemory → (d : Data) × Spells bytes d × (cert_in d ≡ Err f)) → f ≢ NoMemory → IsFormFault bytes f
-form_fault bytes NotJson a b n = a refl
-form_fault bytes (Shape field) a b n = b (λ e. let f : ⊥ = cc in f) (λ e. let f : ⊥ = cc in f)
-form_fault bytes (Number field) a b n = b (λ e. let f : ⊥ = cc in f) (λ e. let f : ⊥ = cc in f)
-form_fault bytes Version a b n = b (λ e. let f : ⊥ = cc in f) (λ e. let f : ⊥ = cc in f)
-form_fault bytes NoMemory a b n = absurd (n refl)
+pub misspelt_unspelt : (t bytes : List ℕ) (names : List (List ℕ)) (body : Statements) (r : Refusal) → IsAnalysed t names body → IsMisspelt bytes r → IsUnspelt t bytes r
+misspelt_unspelt t bytes names body (refusal.Text c) a h = absurd h
+misspelt_unspelt t bytes names body (refusal.Certificate (Form f)) a h = (names, body, a, h)
+misspelt_unspelt t bytes names body (refusal.Certificate (Rows f)) a h = absurd h
+misspelt_unspelt t bytes names body (refusal.Certificate (Unknowns c)) a h = absurd h
+misspelt_unspelt t bytes names body (refusal.Certificate (Check f)) a h = absurd h
+misspelt_unspelt t bytes names body (refusal.Wide s) a h = absurd h
+misspelt_unspelt t bytes names body (refusal.Spent k) a h = absurd h
+misspelt_unspelt t bytes names body refusal.NoMemory a h = tt
 
 -- ---- the check
 

@@ -1,4 +1,5 @@
--- The text of a program and the bytes of a certificate have one ending, by stages: each stage has one cause to end, or goes on to the next.
+-- The text of a program and the bytes of a certificate have one ending, by stages: each stage has one cause to end, or goes on to the next. So have the
+-- bytes of a certificate that is upgraded.
 use Rattle.std.proofs.Common.{◌≡◌, ◌≤◌, ◌<◌, ◌⊎◌, inl, inr, ⊎_elim, ℕ, List, [], true, false, refl, sym, ap, ap₂, ◌∙◌, subst, arith}
 use Rattle.std.specs.Prelude.{Bool, Option, Result, Ok, Err, Some, None, nat_lt, slice_get, length}
 use Rattle.tm_frac.specs.Operation.{Operation, operation_of}
@@ -18,7 +19,7 @@ use Rattle.tm_cert.specs.declared.cert.Cert.{Cert}
 use Rattle.serde_json.specs.Data.{Data}
 use Rattle.tm_form.specs.Certificates.{Spells, SpellsCert, cert_in}
 use Rattle.tm_form.specs.declared.fault.FormFault.{FormFault}
-use Rattle.tm_form.specs.declared.fault.FormFault.TheVariants.{NotJson, Shape, Number, Version, NoMemory}
+use Rattle.tm_form.specs.declared.fault.FormFault.TheVariants.{NotJson, Shape, Number, Version, Expanded, NoMemory}
 use Rattle.tm_form.proofs.form_laws.Laws.{one_reading}
 use Rattle.tm_compose.specs.Operations.{wide_composition}
 use Rattle.tm_check.specs.CheckEvents.{check_events}
@@ -27,7 +28,7 @@ use Rattle.tm_check.specs.declared.fault.CheckFault.{CheckFault}
 use Rattle.tm_check.specs.declared.fault.CheckFault.TheVariants as check
 use Rattle.tm_check.proofs.events.CheckTests.{unstopped_is_valid}
 use Rattle.tm_top.specs.Checks.{IsCompositionSpot, IsFormFault, system_with, theirs}
-use Rattle.tm_top.specs.Endings.{CheckEnd}
+use Rattle.tm_top.specs.Endings.{CheckEnd, UpgradeEnd}
 use Rattle.tm_top.specs.Texts.{IsAnalysed, Reading, unknowns}
 use Rattle.tm_top.proofs.texts.Readings.{program_once, fault_once, not_both}
 use Rattle.tm_top.specs.declared.status.TextCause.TheVariants as text
@@ -44,6 +45,7 @@ form_view bytes NotJson h = inl (refl, h)
 form_view bytes (Shape field) h = inr h
 form_view bytes (Number field) h = inr h
 form_view bytes Version h = inr h
+form_view bytes Expanded h = inr h
 form_view bytes NoMemory h = absurd h
 
 same_data : (bytes : List ℕ) (d e : Data) → Spells bytes d → Spells bytes e → d ≡ e
@@ -148,15 +150,15 @@ spot_is spot edge e h = ap₂ (λ r s. record { round = r; site = s; wide = spot
 
 -- ---- the stages before
 
--- the bytes spell no certificate, or one
-pub data CertEnds (bytes : List ℕ) (names : List (List ℕ)) (body : Statements) (s : Status) : Type 0 where
-  unspelt : (f : FormFault) → IsFormFault bytes f → s ≡ Certificate (Form f) → CertEnds bytes names body s
-  spelt : (cert : Cert) → SpellsCert bytes cert → s ≡ last_ending names body cert → CertEnds bytes names body s
+-- the bytes spell no certificate, or one, from which this ending follows
+pub data CertEnds (bytes : List ℕ) (last : Cert → Status) (s : Status) : Type 0 where
+  unspelt : (f : FormFault) → IsFormFault bytes f → s ≡ Certificate (Form f) → CertEnds bytes last s
+  spelt : (cert : Cert) → SpellsCert bytes cert → s ≡ last cert → CertEnds bytes last s
 
 -- the program has a fault, or points and edges within the limits
 pub data FlowEnds (bytes : List ℕ) (p : List (List ℕ) × Statements) (s : Status) : Type 0 where
   wide : (f : FlowFault) → fault_of_program p.1 ≡ Some f → s ≡ Text (text.Flow f) → FlowEnds bytes p s
-  fits : fault_of_program p.1 ≡ None → CertEnds bytes p.0 p.1 s → FlowEnds bytes p s
+  fits : fault_of_program p.1 ≡ None → CertEnds bytes (last_ending p.0 p.1) s → FlowEnds bytes p s
 
 -- the text has a fault, or is a program
 pub data CheckEnds (t bytes : List ℕ) (s : Status) : Type 0 where
@@ -170,17 +172,17 @@ some_none f o h k = cc
 some_some : (f g : FlowFault) (o : Option FlowFault) → o ≡ Some f → o ≡ Some g → f ≡ g
 some_some f g o h k = cc
 
-cert_ends_once : (bytes : List ℕ) (names : List (List ℕ)) (body : Statements) (s u : Status) → CertEnds bytes names body s → CertEnds bytes names body u → s ≡ u
-cert_ends_once bytes names body s u (unspelt f h e) (unspelt g k i) = e ∙ ap (λ x. Certificate (Form x)) (form_fault_once bytes f g h k) ∙ sym i
-cert_ends_once bytes names body s u (unspelt f h e) (spelt c k i) = absurd (not_spelt bytes f c h k)
-cert_ends_once bytes names body s u (spelt c h e) (unspelt f k i) = absurd (not_spelt bytes f c k h)
-cert_ends_once bytes names body s u (spelt c h e) (spelt d k i) = e ∙ ap (last_ending names body) (one_reading bytes c d h k) ∙ sym i
+pub cert_ends_once : (bytes : List ℕ) (last : Cert → Status) (s u : Status) → CertEnds bytes last s → CertEnds bytes last u → s ≡ u
+cert_ends_once bytes last s u (unspelt f h e) (unspelt g k i) = e ∙ ap (λ x. Certificate (Form x)) (form_fault_once bytes f g h k) ∙ sym i
+cert_ends_once bytes last s u (unspelt f h e) (spelt c k i) = absurd (not_spelt bytes f c h k)
+cert_ends_once bytes last s u (spelt c h e) (unspelt f k i) = absurd (not_spelt bytes f c k h)
+cert_ends_once bytes last s u (spelt c h e) (spelt d k i) = e ∙ ap last (one_reading bytes c d h k) ∙ sym i
 
 flow_ends_once : (bytes : List ℕ) (p : List (List ℕ) × Statements) (s u : Status) → FlowEnds bytes p s → FlowEnds bytes p u → s ≡ u
 flow_ends_once bytes p s u (wide f h e) (wide g k i) = e ∙ ap (λ x. Text (text.Flow x)) (some_some f g (fault_of_program p.1) h k) ∙ sym i
 flow_ends_once bytes p s u (wide f h e) (fits k i) = absurd (some_none f (fault_of_program p.1) h k)
 flow_ends_once bytes p s u (fits h e) (wide f k i) = absurd (some_none f (fault_of_program p.1) k h)
-flow_ends_once bytes p s u (fits h e) (fits k i) = cert_ends_once bytes p.0 p.1 s u e i
+flow_ends_once bytes p s u (fits h e) (fits k i) = cert_ends_once bytes (last_ending p.0 p.1) s u e i
 
 pub check_ends_once : (t bytes : List ℕ) (s u : Status) → CheckEnds t bytes s → CheckEnds t bytes u → s ≡ u
 check_ends_once t bytes s u (unlexed f h e) (unlexed g k i) = e ∙ ap (λ x. Text (text.Lex x)) (one_text_fault t f g h k) ∙ sym i
@@ -230,3 +232,17 @@ check_staged t bytes (Wide spot) (names, body, cert, y, h) =
 check_staged t bytes (Spent n) h = absurd h
 check_staged t bytes Memory h = absurd h
 check_staged t bytes Write h = absurd h
+
+pub upgrade_staged : (bytes : List ℕ) (s : Status) → UpgradeEnd bytes s → CertEnds bytes (λ cert. Done) s
+upgrade_staged bytes Done (written, u) = spelt u.cert u.spells refl
+upgrade_staged bytes (Certificate (Form f)) h = unspelt f h refl
+upgrade_staged bytes (Certificate (Rows f)) h = absurd h
+upgrade_staged bytes (Certificate (Unknowns count)) h = absurd h
+upgrade_staged bytes (Certificate (Check f)) h = absurd h
+upgrade_staged bytes Usage h = absurd h
+upgrade_staged bytes (Read cause) h = absurd h
+upgrade_staged bytes (Text cause) h = absurd h
+upgrade_staged bytes (Wide spot) h = absurd h
+upgrade_staged bytes (Spent n) h = absurd h
+upgrade_staged bytes Memory h = absurd h
+upgrade_staged bytes Write h = absurd h

@@ -1,6 +1,7 @@
 -- Laws of what a run's answers mean, by the exact meanings.
-use Rattle.std.proofs.Common.{◌≡◌, ℕ, List, length, subst, arith}
+use Rattle.std.proofs.Common.{◌≡◌, ◌∙◌, ℕ, List, length, ap, sym, subst, arith}
 use Rattle.std.specs.Prelude.{ℤ, Option}
+use Rattle.serde_json.specs.Written.{compact_text}
 use Rattle.tm_io.specs.Files.{Contents}
 use Rattle.tm_tree.specs.Tree.{Statements}
 use Rattle.tm_flow.proofs.edges.Ranges.{ranges_law}
@@ -8,10 +9,13 @@ use Rattle.tm_eqsys.specs.Equations.{Least, Vector}
 use Rattle.tm_eqsys.specs.Solutions.{equations_of_program}
 use Rattle.tm_validity.specs.Certificates.{PointsInRange, bounds_vector}
 use Rattle.tm_validity.proofs.steps.CertificateLaw.{certificate_least}
+use Rattle.tm_form.specs.Certificates.{cert_data}
+use Rattle.tm_form.proofs.form_laws.Laws.{one_reading}
 use Rattle.tm_top.specs.Answers as public
 use Rattle.tm_top.specs.Checks.{IsAcceptedWith, system_with, theirs}
 use Rattle.tm_top.specs.Exact.{exact}
 use Rattle.tm_top.specs.Files.{Request}
+use Rattle.tm_top.specs.Upgrades.{IsUpgradeOf}
 use Rattle.tm_top.specs.declared.status.Status.{Status}
 use Rattle.tm_top.proofs.analyse.Answered.{ends_once}
 use Rattle.tm_top.proofs.commands.Meant.{ends_by}
@@ -26,6 +30,10 @@ accepted_least text bytes names body rows vector a =
     let system = system_with names body a.cert in
     let least : Least system (bounds_vector system a.cert.bounds) = certificate_least system (theirs a.cert) (program_range (length names) body a.cert.rows) a.valid.valid in
     subst (λ r. Least (equations_of_program (length names) body r) vector) a.rows_are (subst (λ v. Least system v) a.vector_is least)
+
+-- the text of the certificate that bytes spell
+pub one_upgrade : (bytes one other : List ℕ) → IsUpgradeOf bytes one → IsUpgradeOf bytes other → one ≡ other
+one_upgrade bytes one other h k = h.text ∙ ap (λ c. compact_text (cert_data c)) (one_reading bytes h.cert k.cert h.spells k.spells) ∙ sym k.text
 
 pub one_ending : (files : Option Contents) (request : Request) (one other : Status) → public.Tells files request → public.Ends exact files request one → public.Ends exact files request other → one ≡ other
 one_ending files request one other told h k = ends_once files request one other told (ends_by files request one h) (ends_by files request other k)

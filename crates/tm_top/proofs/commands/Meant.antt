@@ -1,5 +1,5 @@
 -- What a run answers, by its own words and the exact meanings.
-use Rattle.std.proofs.Common.{◌≡◌, ◌⊎◌, ⊎_elim, ℕ, List, refl, sym, ap, subst, subst₂}
+use Rattle.std.proofs.Common.{◌≡◌, ⊎_elim, ℕ, List, refl, sym, ap, subst, subst₂}
 use Rattle.std.specs.Prelude.{Option, Some, None}
 use Rattle.tm_io.specs.Files.{Contents}
 use Rattle.tm_eqsys.specs.declared.spot.Spot.{Spot}
@@ -7,15 +7,16 @@ use Rattle.tm_validity.specs.Certificates.{bounds_vector}
 use Rattle.tm_cli.specs.Request.{request_of}
 use Rattle.tm_cli.specs.declared.request.Domain.{Domain}
 use Rattle.tm_cli.specs.declared.request.Policy.{Policy}
-use Rattle.tm_cli.specs.declared.request.Request.TheVariants.{Analyse, Check, Bench}
+use Rattle.tm_cli.specs.declared.request.Request.TheVariants.{Analyse, Check, Bench, Upgrade}
 use Rattle.tm_top.specs.Answers as public
-use Rattle.tm_top.specs.Answers.{AnalysisEnds, Answers, CheckEnds, IsAnswer, IsTooWide, WordsEnd}
+use Rattle.tm_top.specs.Answers.{AnalysisEnds, Answers, CheckEnds, IsAnswer, IsTooWide, UpgradeEnds, WordsEnd}
 use Rattle.tm_top.specs.Checks.{IsAcceptedWith, system_with}
-use Rattle.tm_top.specs.Endings.{BenchEnd, CheckEnd, Ends, InputsEnd, IsAnswerToRequest, IsSpotFor, TextsEnd}
+use Rattle.tm_top.specs.Endings.{BenchEnd, CheckEnd, Ends, InputsEnd, IsAnswerToRequest, IsSpotFor, TextsEnd, UpgradeEnd}
 use Rattle.tm_top.specs.Exact.{exact}
 use Rattle.tm_top.specs.Files.{Request}
 use Rattle.tm_top.specs.Given.{Answered, Gives, HasEnding, IsOfRounds, unless, unwritten, widened}
 use Rattle.tm_top.specs.Run.{FailedBefore, Refuses, Unless}
+use Rattle.tm_top.specs.declared.status.CertCause.TheVariants as cause
 use Rattle.tm_top.specs.declared.status.ReadCause.{ReadCause}
 use Rattle.tm_top.specs.declared.status.ReadCause.TheVariants.{Failed, TooLong}
 use Rattle.tm_top.specs.declared.status.Status.{Status}
@@ -60,10 +61,25 @@ bench_end files seed loops (Spent n) (system, is, o, e) = public.generated seed 
 bench_end files seed loops Memory h = absurd h
 bench_end files seed loops Write h = absurd h
 
+upgrade_end : (bytes : List ℕ) (s : Status) → UpgradeEnd bytes s → UpgradeEnds exact bytes s
+upgrade_end bytes Done (written, u) = public.rewritten written refl u
+upgrade_end bytes (Refused (cause.Form fault)) h = public.form_refused fault refl h
+upgrade_end bytes (Refused (cause.Rows fault)) h = absurd h
+upgrade_end bytes (Refused (cause.Unknowns count)) h = absurd h
+upgrade_end bytes (Refused (cause.Check fault)) h = absurd h
+upgrade_end bytes Usage h = absurd h
+upgrade_end bytes (Read cause) h = absurd h
+upgrade_end bytes (Text cause) h = absurd h
+upgrade_end bytes (Wide spot) h = absurd h
+upgrade_end bytes (Spent n) h = absurd h
+upgrade_end bytes Memory h = absurd h
+upgrade_end bytes Write h = absurd h
+
 inputs_end : (files : Option Contents) (request : Request) (s : Status) → InputsEnd files request s → public.Ends exact files request s
 inputs_end files (Analyse purpose a) s (text, rows, i, e) = public.analysed purpose a text rows refl i (texts_end text rows a.policy a.improvements s e)
 inputs_end files (Check p c) s (text, bytes, i, e) = public.checked p c text bytes refl i (check_end text bytes s e)
 inputs_end files (Bench seed loops) s e = bench_end files seed loops s e
+inputs_end files (Upgrade c) s (bytes, i, e) = public.upgraded c bytes refl i (upgrade_end bytes s e)
 
 pub ends : (files : Option Contents) (request : Request) (s : Status) → Ends files request s → public.Ends exact files request s
 ends files request Done h = inputs_end files request Done h
@@ -102,6 +118,10 @@ ends_by files request s (public.generated seed loops system e is (public.rounds_
     subst₂ (λ r x. Ends files r x) (sym e) (sym f) (system, is, h)
 ends_by files request s (public.generated seed loops system e is (public.rounds_spent f o)) =
     subst₂ (λ r x. Ends files r x) (sym e) (sym f) (system, is, o, refl)
+ends_by files request s (public.upgraded c bytes e i (public.form_refused fault f h)) =
+    subst₂ (λ r x. Ends files r x) (sym e) (sym f) (bytes, i, h)
+ends_by files request s (public.upgraded c bytes e i (public.rewritten written f u)) =
+    subst₂ (λ r x. Ends files r x) (sym e) (sym f) (bytes, i, (written, u))
 
 -- ---- what an answer says
 
@@ -109,6 +129,7 @@ spot_in : (files : Option Contents) (request : Request) (spot : Spot) → IsSpot
 spot_in files (Analyse purpose a) spot (text, rows, i, (system, is, h)) = public.wide_in_analysis purpose a text rows system refl i is h
 spot_in files (Check p c) spot (text, bytes, i, h) = public.wide_in_check p c text bytes refl i h
 spot_in files (Bench seed loops) spot (system, is, h) = public.wide_in_bench seed loops system refl is h
+spot_in files (Upgrade c) spot h = absurd h
 
 answer_to : (files : Option Contents) (words : List (List ℕ)) (o : Option Request) (status : Status) → request_of words ≡ o → IsAnswerToRequest files o status → IsAnswer exact files words status
 answer_to files words None status e h = ⊎_elim (λ u. public.is_usage e u) (λ m. public.is_memory m) h

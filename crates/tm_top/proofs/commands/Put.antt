@@ -1,17 +1,21 @@
 -- What a run puts, by its own words and the exact meanings.
-use Rattle.std.proofs.Common.{◌≡◌, ◌∙◌, ◌⊎◌, inl, inr, ⊎_elim, ℕ, List, length, refl, sym, ap, subst}
+use Rattle.std.proofs.Common.{◌≡◌, ◌∙◌, ◌⊎◌, ◌≤◌, ◌<◌, arith, inl, inr, ⊎_elim, ℕ, List, length, refl, sym, ap, subst}
 use Rattle.std.specs.Prelude.{Option, Some}
 use Rattle.tm_io.specs.Files.{Contents}
 use Rattle.tm_rows.specs.Domains.{intervals_of}
 use Rattle.tm_eqsys.specs.Equations.{Equations, Least}
 use Rattle.tm_eqsys.specs.View.{vector_of}
+use Rattle.tm_cert.specs.declared.cert.Cert.{Cert}
+use Rattle.tm_form.specs.Certificates.{IsBeyond, IsWithin}
+use Rattle.tm_form.specs.Naming.{named_traces, values_of}
+use Rattle.tm_form.specs.declared.limits.TheConstants.{MOST_VALUES}
 use Rattle.tm_rounds.specs.Solutions.{cert_with}
 use Rattle.tm_workload.specs.Bodies.{generated_body, generated_names}
 use Rattle.tm_cli.specs.Request.{request_of}
 use Rattle.tm_cli.specs.declared.request.Domain.{Domain}
 use Rattle.tm_cli.specs.declared.request.Policy.{Policy}
 use Rattle.tm_cli.specs.declared.request.Purpose.TheVariants.{Report, Certificate as AsCertificate}
-use Rattle.tm_cli.specs.declared.request.Request.TheVariants.{Analyse, Check, Bench}
+use Rattle.tm_cli.specs.declared.request.Request.TheVariants.{Analyse, Check, Bench, Upgrade}
 use Rattle.tm_top.specs.CheckMessages.{rows_of}
 use Rattle.tm_top.specs.Checks.{system_with}
 use Rattle.tm_top.specs.Exact.{exact}
@@ -28,6 +32,13 @@ use Rattle.tm_top.proofs.texts.Once.{equations_are}
 
 -- ---- the output
 
+-- traces that don't hold too many values hold few enough
+few : (cert : Cert) → (IsBeyond cert → ⊥) → IsWithin cert
+few cert n = ⊎_elim (λ h. h) (λ h. absurd (n h)) (le_or_lt (values_of (named_traces cert.steps)) MOST_VALUES)
+  where
+    le_or_lt : (m k : ℕ) → (m ≤ k) ⊎ (k < m)
+    le_or_lt m k = grind arith
+
 certificate : (text : List ℕ) (rows : Domain (List ℕ)) (policy : Policy) (limit : ℕ) (bytes : List ℕ) → IsCertificateOf text rows policy limit bytes → IsCertificate exact text rows policy limit bytes
 certificate text rows policy limit bytes c = record {
   made = c;
@@ -36,11 +47,11 @@ certificate text rows policy limit bytes c = record {
   template = c.template;
   ready = c.ready;
   vector = vector_of (length c.template) c.solved.bounds;
-  accepted = record {
+  accepted = λ kept. record {
     cert = cert_with c.system c.solved;
     rows_are = c.system_for.template_is;
     vector_is = bounds_are (system_with c.names c.body (cert_with c.system c.solved)) c.solved.bounds ∙ ap (λ t. vector_of (length t) c.solved.bounds) c.system_for.template_is;
-    valid = c.valid;
+    valid = c.accepted (few (cert_with c.system c.solved) (λ many. kept (c.names, c.body, c.ready.system.analysed, c.expands many)));
     narrow = c.narrow;
   };
   least = c.least;
@@ -73,6 +84,7 @@ output_on files words (Analyse Report a) bytes e (text, rows, i, r) = public.is_
 output_on files words (Analyse AsCertificate a) bytes e (text, rows, i, r) = public.is_certificate a text rows e i (certificate text rows a.policy a.improvements bytes r)
 output_on files words (Check p c) bytes e (text, given, i, r) = public.is_checked p c text given e i (checked text given bytes r)
 output_on files words (Bench seed loops) bytes e r = public.is_summary seed loops e (summary seed loops bytes r)
+output_on files words (Upgrade c) bytes e (given, i, u) = public.is_upgraded c given e i u
 
 gets : (P Q : List ℕ → Type 0) (status : Status) (held now : Option (List ℕ)) → ((bytes : List ℕ) → P bytes → Q bytes) → OutputHolds P status held now → OutputGets Q status held now
 gets P Q Done held now f (bytes, p, appended) = public.gets_whole refl bytes (f bytes p) appended

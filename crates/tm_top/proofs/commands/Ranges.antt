@@ -1,5 +1,5 @@
 -- The numbers of what words ask for are within their limits.
-use Rattle.std.proofs.Common.{◌≡◌, ◌⊎◌, inl, inr, ⊎_elim, ℕ, ◌≤◌, Bool, true, false, List, [], ◌∷◌, length, refl, sym, subst, arith, if◌then◌else◌}
+use Rattle.std.proofs.Common.{◌≡◌, ℕ, ◌≤◌, Bool, true, false, List, [], ◌∷◌, length, refl, subst, arith, if◌then◌else◌}
 use Rattle.std.specs.Prelude.{Option, Some, None, option_and_then, option_map, ◌&&◌, nat_le, nat_lt, unwrap_or, codes}
 use Rattle.std.specs.Char.{is_ascii_digit}
 use Rattle.std.specs.List.{list_all}
@@ -7,13 +7,13 @@ use Rattle.std.specs.Str.{bytes_eq}
 use Rattle.std.specs.Str.Parse.{digits_value}
 use Rattle.clap.specs.Words.{Kinds, Row, Text, fault_of, first_of, subcommand_of}
 use Rattle.tm_cli.specs.CommandLine.{tmpl_app}
-use Rattle.tm_cli.specs.Request.{analyse_in, analysis_in, bench_in, check_in, command_in, request_of, unless_fault}
+use Rattle.tm_cli.specs.Request.{analyse_in, analysis_in, bench_in, check_in, command_in, request_of, unless_fault, upgrade_in}
 use Rattle.tm_cli.specs.Values.{domain_in, meaning_in, number_in, policies}
 use Rattle.tm_cli.specs.declared.request.Analysis.{Analysis}
 use Rattle.tm_cli.specs.declared.request.Domain.{Domain}
 use Rattle.tm_cli.specs.declared.request.Policy.{Policy}
 use Rattle.tm_cli.specs.declared.request.Request.{Request}
-use Rattle.tm_cli.specs.declared.request.Request.TheVariants.{Analyse, Check, Bench}
+use Rattle.tm_cli.specs.declared.request.Request.TheVariants.{Analyse, Check, Bench, Upgrade}
 use Rattle.tm_cli.specs.declared.request.Purpose.{Purpose}
 use Rattle.tm_cli.specs.declared.request.Purpose.TheVariants.{Report, Certificate}
 use Rattle.tm_top.specs.Files.{IsInRange}
@@ -31,10 +31,6 @@ and_then_some f (Some a) b e = (a, refl, e)
 map_some : {A B : Type 0} (f : A → B) (o : Option A) (b : B) → option_map f o ≡ Some b → (a : A) × (o ≡ Some a) × (f a ≡ b)
 map_some f None b e = absurd (none_some b e)
 map_some f (Some a) b e = (a, refl, same_some (f a) b e)
-
-if_some : {A : Type 0} (b : Bool) (x y : Option A) (a : A) → (if b then x else y) ≡ Some a → (x ≡ Some a) ⊎ (y ≡ Some a)
-if_some true x y a e = inl e
-if_some false x y a e = inr e
 
 if_value : (b : Bool) (v n : ℕ) → (if b then Some v else None) ≡ Some n → (b ≡ true) × (v ≡ n)
 if_value true v n e = (refl, same v n e)
@@ -132,19 +128,23 @@ bench_range given r e =
     let range = number_bounds 1 46 l.0 loops.0 l.2 in
     subst (λ r. IsInRange r) loops.2 (omega arith, range.0, range.1)
 
+upgrade_range : (given : List Row) (r : Request Text) → upgrade_in given ≡ Some r → IsInRange r
+upgrade_range given r e =
+    let made : Text → Request Text = λ certificate. Upgrade certificate in
+    let c = map_some made (first_of (codes "certificate") given) r e in
+    subst (λ r. IsInRange r) c.2 tt
+
+if_range : (b : Bool) (x y : Option (Request Text)) (r : Request Text) → (x ≡ Some r → IsInRange r) → (y ≡ Some r → IsInRange r) → (if b then x else y) ≡ Some r → IsInRange r
+if_range true x y r h k e = h e
+if_range false x y r h k e = k e
+
 command_range : (p : Text × List Row) (r : Request Text) → command_in p ≡ Some r → IsInRange r
 command_range (name, given) r e =
-    ⊎_elim (λ h. analyse_range Report given r h)
-    (λ h. ⊎_elim (λ i. analyse_range Certificate given r i)
-    (λ i. ⊎_elim (λ j. check_range given r j)
-    (λ j. ⊎_elim (λ k. bench_range given r k) (λ k. absurd (none_some r k))
-    (if_some (bytes_eq name (codes "bench")) (bench_in given) None r j))
-    (if_some (bytes_eq name (codes "check")) (check_in given) (if bytes_eq name (codes "bench") then bench_in given else None) r i))
-    (if_some (bytes_eq name (codes "certify")) (analyse_in Certificate given)
-    (if bytes_eq name (codes "check") then check_in given else (if bytes_eq name (codes "bench") then bench_in given else None)) r h))
-    (if_some (bytes_eq name (codes "solve")) (analyse_in Report given)
-    (if bytes_eq name (codes "certify") then analyse_in Certificate given
-    else (if bytes_eq name (codes "check") then check_in given else (if bytes_eq name (codes "bench") then bench_in given else None))) r e)
+    if_range (bytes_eq name (codes "solve")) (analyse_in Report given) _ r (analyse_range Report given r)
+    (if_range (bytes_eq name (codes "certify")) (analyse_in Certificate given) _ r (analyse_range Certificate given r)
+    (if_range (bytes_eq name (codes "check")) (check_in given) _ r (check_range given r)
+    (if_range (bytes_eq name (codes "bench")) (bench_in given) _ r (bench_range given r)
+    (if_range (bytes_eq name (codes "upgrade")) (upgrade_in given) None r (upgrade_range given r) (λ h. absurd (none_some r h)))))) e
 
 unfaulted : (kinds : Kinds) (o : Option (Request Text)) (r : Request Text) → unless_fault kinds o ≡ Some r → o ≡ Some r
 unfaulted [] o r e = e

@@ -7,7 +7,7 @@ use Rattle.tm_io.specs.Files.{Contents}
 use Rattle.tm_io.specs.Loads.{Gives, GivesIfTold}
 use Rattle.tm_cli.specs.declared.request.Analysis.{Analysis}
 use Rattle.tm_top.specs.Endings.{IsAnswerTo}
-use Rattle.tm_top.specs.Files.{HasContent, IsShort}
+use Rattle.tm_top.specs.Files.{HasContent, HasSome, IsShort}
 use Rattle.tm_top.specs.Parted.{AreNotLoaded, AreUnloaded, IsNotLoaded, unloaded}
 use Rattle.tm_cli.specs.declared.request.Purpose.{Purpose}
 use Rattle.tm_cli.specs.declared.request.Request.TheVariants.{Analyse, Check}
@@ -66,9 +66,9 @@ checked_failed files p c f f' l NoMemory h = tt
 
 pub rows_answer : (files : Option Contents) (purpose : Purpose) (a : Analysis (List ℕ)) (f f' : ℕ) (l : List ℕ) (r : LoadRefusal) (text : List ℕ) → HasContent files a.program text → IsShort text
     → AreNotLoaded files f f' l a.domain r → IsAnswerTo files (Analyse purpose a) (unloaded Rows r)
-rows_answer files purpose a f f' l Failed text p s h = record { text = text; program = p; short = s }
+rows_answer files purpose a f f' l Failed text p s (name, e, h) = (subst (λ (o : Option (List ℕ)). HasSome o) (sym e) tt, (text, p, s))
 rows_answer files purpose a f f' l TooLong text p s (name, e, (rows, h, long)) =
-    record { text = text; program = p; short = s; file = name; named = e; bytes = rows; content = h; long = long }
+    record { program = (text, p, s); file = name; named = e; bytes = rows; content = h; long = long }
 rows_answer files purpose a f f' l NoMemory text p s h = tt
 
 pub rows_failed : (files : Option Contents) (purpose : Purpose) (a : Analysis (List ℕ)) (f f' : ℕ) (l : List ℕ) (r : LoadRefusal) → AreNotLoaded files f f' l a.domain r → FailsOnlyIn f f' l (Analyse purpose a) (unloaded Rows r)
@@ -78,9 +78,9 @@ rows_failed files purpose a f f' l NoMemory h = tt
 
 pub certificate_answer : (files : Option Contents) (program certificate : List ℕ) (f f' : ℕ) (l : List ℕ) (r : LoadRefusal) (text : List ℕ) → HasContent files program text → length text ≤ 65536
     → IsNotLoaded files f f' l certificate 16777216 r → IsAnswerTo files (Check program certificate) (unloaded Certificate r)
-certificate_answer files program certificate f f' l Failed text p s h = record { text = text; program = p; short = s }
+certificate_answer files program certificate f f' l Failed text p s h = (tt, (text, p, s))
 certificate_answer files program certificate f f' l TooLong text p s (bytes, h, long) =
-    record { text = text; program = p; short = s; file = certificate; named = refl; bytes = bytes; content = h; long = long }
+    record { program = (text, p, s); file = certificate; named = refl; bytes = bytes; content = h; long = long }
 certificate_answer files program certificate f f' l NoMemory text p s h = tt
 
 pub certificate_failed : (files : Option Contents) (program certificate : List ℕ) (f f' : ℕ) (l : List ℕ) (r : LoadRefusal) → IsNotLoaded files f f' l certificate 16777216 r

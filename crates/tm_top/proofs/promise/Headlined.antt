@@ -1,5 +1,5 @@
 -- The headline, from what `run` promises.
-use Rattle.std.proofs.Common.{◌≡◌, ◌∙◌, ◌⊎◌, ⊎_elim, ℕ, List, refl, subst, subst₂}
+use Rattle.std.proofs.Common.{◌≡◌, ◌⊎◌, ⊎_elim, ℕ, List, refl, subst, subst₂}
 use Rattle.std.specs.Prelude.{Option, Some}
 use Rattle.tm_io.specs.Faults.{Rose}
 use Rattle.tm_io.specs.Files.{Contents}
@@ -7,7 +7,7 @@ use Rattle.tm_cli.specs.Request.{request_of}
 use Rattle.tm_cli.specs.declared.request.Analysis.{Analysis}
 use Rattle.tm_cli.specs.declared.request.Domain.{Domain}
 use Rattle.tm_cli.specs.declared.request.Purpose.TheVariants.{Report, Certificate as AsCertificate}
-use Rattle.tm_cli.specs.declared.request.Request.TheVariants.{Analyse, Check, Bench}
+use Rattle.tm_cli.specs.declared.request.Request.TheVariants.{Analyse, Check, Bench, Upgrade}
 use Rattle.tm_top.specs.Answers as answers
 use Rattle.tm_top.specs.Answers.{Answers, Gives, WordsEnd}
 use Rattle.tm_top.specs.Files.{AreInputs, Request, file_named}
@@ -37,6 +37,9 @@ no_check o p c b h k = cc
 no_bench : (o : Option Request) (seed loops : ℕ) (b : Analysis (List ℕ)) → o ≡ Some (Bench seed loops) → o ≡ Some (Analyse Report b) → ⊥
 no_bench o seed loops b h k = cc
 
+no_upgrade : (o : Option Request) (c : List ℕ) (b : Analysis (List ℕ)) → o ≡ Some (Upgrade c) → o ≡ Some (Analyse Report b) → ⊥
+no_upgrade o c b h k = cc
+
 written_or_memory : (s : Status) → s ≡ Done → (s ≡ Write) ⊎ (s ≡ Memory) → ⊥
 written_or_memory s d h = ⊎_elim (λ (e : s ≡ Write). let f : ⊥ = cc in f) (λ (e : s ≡ Memory). let f : ⊥ = cc in f) h
 
@@ -55,6 +58,7 @@ module _ (m : Meanings) (files : Option Contents) (words : List (List ℕ)) (ana
   report_of bytes (outputs.is_certificate b x r e i c) = absurd (no_certificate (request_of words) b analysis e a.request)
   report_of bytes (outputs.is_checked p c x given e i r) = absurd (no_check (request_of words) p c analysis e a.request)
   report_of bytes (outputs.is_summary seed loops e s) = absurd (no_bench (request_of words) seed loops analysis e a.request)
+  report_of bytes (outputs.is_upgraded c given e i u) = absurd (no_upgrade (request_of words) c analysis e a.request)
 
   prints : (status : Status) (held now : Option (List ℕ)) → OutputGets (IsOutput m files words) status held now → status ≡ Done → Prints analysis text rows held now
   prints status held now (outputs.gets_whole d bytes is appended) e = record { bytes = bytes; is_report = report_of bytes is; appended = appended }

@@ -1,5 +1,5 @@
 -- The improvements by a policy of the command line have one end.
-use Rattle.std.proofs.Common.{◌≡◌, ℕ, ◌<◌, ◌≤◌, List, length, sym, subst, arith}
+use Rattle.std.proofs.Common.{◌≡◌, ℕ, ◌<◌, List, length, sym, subst, arith}
 use Rattle.tm_eqsys.specs.Equations.{Equations, Least}
 use Rattle.tm_eqsys.specs.Report.{report_of}
 use Rattle.tm_eqsys.specs.View.{equations_of, vector_of}

@@ -10,12 +10,11 @@ ghost use Rattle.tm_rows.specs.RowFaults.{faults_of};
 ghost use Rattle.tm_rows.specs.declared.fault.RowFault.TheVariants.{NoMemory};
 ghost use Rattle.tm_eqsys.specs.SystemLimits.{is_over};
 ghost use Rattle.tm_cert.specs.declared.cert.Cert.{Cert as CertValue};
-ghost use Rattle.tm_form.specs.Certificates.{SpellsCert};
 ghost use Rattle.tm_check.specs.Items.{is_short, item_count};
-ghost use Rattle.tm_top.specs.Checks.{IsFormFault, IsSpelt};
+ghost use Rattle.tm_top.specs.Checks.{IsSpelt};
 ghost use Rattle.tm_top.specs.Parted.{FitsProgram, IsNoSystem, IsUnspelt};
-ghost use Rattle.tm_top.specs.Texts.{IsAnalysed};
 
+use crate::form::cert_of;
 use crate::program::{flow_of, program_of};
 use crate::refusal::Refusal;
 use crate::status::CertCause;
@@ -23,7 +22,6 @@ use std::alloc::Global;
 use tm_cert::{Cert, Step};
 use tm_eqsys::{System, SystemFault};
 use tm_flow::Flow;
-use tm_form::{FormFault, read};
 use tm_rows::{RowFault, Template, from_rows};
 use tm_tree::Program;
 
@@ -33,25 +31,6 @@ pub(crate) struct Given {
     pub program: Program,
     pub flow: Flow,
     pub cert: Cert,
-}
-
-// The refusal of bytes that have this fault.
-fn form_refusal(fault: FormFault) -> Refusal
-    ensures { (text bytes : List ℕ) (names : List (List ℕ)) (body : Statements) → IsAnalysed text names body
-        → (fault ≢ FormFault.NoMemory → IsFormFault bytes fault) → IsUnspelt text bytes result }
-{
-    match fault {
-        FormFault::NoMemory => Refusal::NoMemory,
-        _ => Refusal::Certificate(CertCause::Form(fault)),
-    }
-}
-
-// The certificate that the bytes spell.
-fn cert_of(alloc: Global, bytes: &[u8]) -> Result<Cert, FormFault>
-    ensures ok { IfOk result (λ cert. SpellsCert bytes.now cert) }
-    ensures err { IfErr result (λ fault. fault ≢ FormFault.NoMemory → IsFormFault bytes.now fault) }
-{
-    read(alloc, bytes)
 }
 
 // The program of the text, and the certificate that the bytes spell.
@@ -65,14 +44,12 @@ pub(crate) fn read_given(alloc: Global, text: &[u8], bytes: &[u8]) -> Result<Giv
 {
     let program = program_of(alloc, text)?;
     let flow = flow_of(alloc, &program)?;
-    match cert_of(alloc, bytes) {
-        Ok(cert) => Ok(Given {
-            program,
-            flow,
-            cert,
-        }),
-        Err(fault) => Err(form_refusal(fault)),
-    }
+    let cert = cert_of(alloc, bytes)?;
+    Ok(Given {
+        program,
+        flow,
+        cert,
+    })
 }
 
 // Whether the items of a step can be numbered by 32 bits.

@@ -7,12 +7,9 @@ ghost use Rattle.tm_top.specs.Files.{AreChecked};
 ghost use Rattle.tm_top.specs.Parted.{AreUnloaded};
 ghost use Rattle.tm_top.specs.Run.{FailsOnlyIn};
 
-use crate::files::{MOST_BYTES, load_file, unloaded};
+use crate::files::{MOST_BYTES, MOST_CERTIFICATE_BYTES, load_file, unloaded};
 use crate::status::{Status, Which};
 use tm_io::Shelf;
-
-// How many bytes a certificate may have.
-const MOST_CERTIFICATE_BYTES: usize = 16777216;
 
 // What a check reads: the text of the program and the bytes of the certificate.
 #[derive(Drop)]

@@ -121,6 +121,7 @@ fn field_words(field: Field) -> &'static [u8]
         Field::Format => b"format",
         Field::Rows => b"rows",
         Field::Bounds => b"bounds",
+        Field::Traces => b"traces",
         Field::Steps => b"steps",
         Field::Uppers => b"uppers",
     }
@@ -143,6 +144,7 @@ fn push_form(message: &mut Message, fault: FormFault)
             push_words(message, field_words(field));
         }
         FormFault::Version => push_words(message, b"format"),
+        FormFault::Expanded => push_words(message, b"expanded"),
         FormFault::NoMemory => push_words(message, b"out of memory"),
     }
 }

@@ -45,7 +45,8 @@ fn parse_place(fault: ParseFault) -> Option<u32>
         | ParseFault::NotAffine { at }
         | ParseFault::NondetHere { at }
         | ParseFault::Limit { at, .. }
-        | ParseFault::BigNumber { at } => Some(at),
+        | ParseFault::BigNumber { at }
+        | ParseFault::OutsideLoop { at } => Some(at),
         ParseFault::NoVariables | ParseFault::NoMemory => None,
     }
 }

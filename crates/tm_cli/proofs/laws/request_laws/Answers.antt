@@ -20,6 +20,10 @@ pub returns-clause-dashes : goal.returns-clause-dashes
 unfolding clap_on_literals request_of
 returns-clause-dashes c = refl
 
+pub returns-clause-upgrade : goal.returns-clause-upgrade
+unfolding clap_on_literals request_of
+returns-clause-upgrade c = refl
+
 pub returns-clause-repeated : goal.returns-clause-repeated
 unfolding clap_on_literals request_of
 returns-clause-repeated c = refl

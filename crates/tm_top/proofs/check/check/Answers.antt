@@ -1,9 +1,17 @@
 use Rattle.std.proofs.Common.{ap, sym, ◌∙◌, subst}
 use Rattle.tm_form.specs.Certificates.{SpellsCert}
+use Rattle.tm_cli.specs.declared.request.Request.TheVariants.{Check}
 use Rattle.tm_top.specs.Messages.{line_in}
+use Rattle.tm_top.specs.Reports.{IsReportBy, IsReportOn}
 use Rattle.tm_top.proofs.analyse.Answered.{content_once}
+use Rattle.tm_top.proofs.analyse.Worded.{output_map}
 use Rattle.tm_top.proofs.check.Refused.{unloaded_not_done}
 use Rattle.tm_top.proofs.check.check.Goals as goal
+
+pub returns-in-Ok-clause-held : goal.returns-in-Ok-clause-held
+returns-in-Ok-clause-held g c =
+    output_map (IsReportBy c.in-Ok.inputs.text.items c.in-Ok.inputs.bytes.items) (IsReportOn (g.S.Shelf.files c.args.shelf.now) (Check c.args.program.now c.args.certificate.now)) _ _ _
+    (λ bytes report. (c.in-Ok.inputs.text.items, c.in-Ok.inputs.bytes.items, c.in-Ok.ensures.inputs, report)) c.answer_check.ensures.held
 
 pub returns-in-Ok-clause-line : goal.returns-in-Ok-clause-line
 returns-in-Ok-clause-line g c =

@@ -1,7 +1,7 @@
 use Rattle.std.proofs.Common.{◌≡◌, ◌∙◌, ◌≤◌, ◌<◌, sym}
 use Rattle.std.specs.Prelude.{Some, map, string_bytes}
 use Rattle.tm_cli.specs.Request.{analysis_text, request_of}
-use Rattle.tm_cli.specs.declared.request.Request.TheVariants.{Analyse, Bench, Check}
+use Rattle.tm_cli.specs.declared.request.Request.TheVariants.{Analyse, Bench, Check, Upgrade}
 use Rattle.tm_top.specs.Reports.{IsReportFor, IsReportOn}
 use Rattle.tm_top.proofs.commands.Ranges.{request_range}
 use Rattle.tm_top.proofs.analyse.Worded.{answers_words, failed_in, line_for, output_map, pieces_for, rows_for}
@@ -96,3 +96,8 @@ pub returns-in-Ok-Bench-clause-pieces : goal.returns-in-Ok-Bench-clause-pieces
 returns-in-Ok-Bench-clause-pieces g c =
     let asked : request_of (map string_bytes c.args.words.now) ≡ Some (Bench c.in-Ok-Bench.seed c.in-Ok-Bench.loops) = rw c.in-Ok-Bench.field-0-is at c.in-Ok-Bench.ensures.ok in
     λ request i d. pieces_for _ _ _ _ _ _ asked (c.bench.ensures.pieces (sym c.plain_ending.ensures.status ∙ d)) request i
+
+pub returns-in-Ok-Upgrade-clause-pieces : goal.returns-in-Ok-Upgrade-clause-pieces
+returns-in-Ok-Upgrade-clause-pieces g c =
+    let asked : request_of (map string_bytes c.args.words.now) ≡ Some (Upgrade c.in-Ok-Upgrade.certificate.now) = rw c.in-Ok-Upgrade.field-0-is at c.in-Ok-Upgrade.ensures.ok in
+    λ request i d. pieces_for _ _ _ _ _ _ asked (c.upgrade.ensures.pieces (sym c.plain_ending-in-Ok-Upgrade.ensures.status ∙ d)) request i

@@ -21,4 +21,4 @@ returns-in_err-accept-clause-err c =
 pub returns-clause-ok : goal.returns-clause-ok
 returns-clause-ok c =
     made_certified c.args.system.now c.in_ok-solved.solved c.in_ok-cert.cert c.in_ok-cert.ensures.cert c.args.policy c.args.limit c.in_ok-solved.ensures.solved c.in_ok-solved.ensures.valid
-    _ c.in_ok-cert.ensures.template c.in_ok-write.ensures.text c.in_ok-write.ensures.reads_back c.in_ok-accept.ensures.narrow c.in_ok-solved.ensures.least
+    _ c.in_ok-cert.ensures.template c.in_ok-write.ensures.text c.in_ok-write.ensures.reads_back c.in_ok-write.ensures.expands c.in_ok-accept.ensures.narrow c.in_ok-solved.ensures.least
