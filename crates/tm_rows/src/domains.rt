@@ -11,8 +11,10 @@ use crate::template::Template;
 use std::alloc::{AllocError, Global};
 use tm_tree::Coeffs;
 
-// The row of `c` times one variable.
-fn multiple(alloc: Global, vars: u32, c: i64, var: u32) -> Result<Coeffs, AllocError>
+/// The row of `c` times one of so many variables.
+///
+/// It fails for want of memory alone.
+pub fn multiple(alloc: Global, vars: u32, c: i64, var: u32) -> Result<Coeffs, AllocError>
     requires { IsTrue (is_number c) }
     ensures { IfOk result (λ row. row ≡ multiple vars c var) }
 {

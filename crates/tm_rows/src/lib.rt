@@ -13,7 +13,7 @@ mod sums;
 mod template;
 mod term;
 
-pub use domains::{intervals, octagons, zones};
+pub use domains::{intervals, multiple, octagons, zones};
 pub use fault::RowFault;
 pub use file::read_rows;
 pub use given::from_rows;

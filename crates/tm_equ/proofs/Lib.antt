@@ -1,0 +1,9 @@
+pub mod values
+pub mod traces
+pub mod above
+pub mod made
+pub mod grammar
+pub mod found
+pub mod equation_texts
+pub mod equ_faults
+pub mod written_sums

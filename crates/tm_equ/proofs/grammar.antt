@@ -1,0 +1,5 @@
+pub mod Complete
+pub mod Sound
+pub mod Going
+pub mod Whole
+pub mod Lengths

@@ -1,0 +1,3 @@
+pub mod FewCells
+pub mod Steps
+pub mod Within

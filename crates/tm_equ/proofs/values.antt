@@ -1,0 +1,4 @@
+pub mod Extremes
+pub mod Folded
+pub mod Reached
+pub mod Sound

@@ -1,0 +1,4 @@
+pub mod Fractions
+pub mod Adding
+pub mod Made
+pub mod Limits

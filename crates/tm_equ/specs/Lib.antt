@@ -1,0 +1,13 @@
+pub mod Equations
+pub mod Values
+pub mod Solutions
+pub mod System
+pub mod Laws
+pub mod Symbols
+pub mod Grammar
+pub mod Places
+pub mod Found
+pub mod WrittenSums
+pub mod EquFaults
+pub mod Totals
+pub mod EquationTexts
