@@ -1,2 +1,3 @@
 pub mod splits
+pub mod stays
 pub mod values

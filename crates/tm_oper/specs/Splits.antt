@@ -41,6 +41,13 @@ pub record IsSource (system : Equations) (z : Vector) (edge : Edge) (row : List 
   pub limits : guards ≡ map (dense w) (guard_forms system.variables edge.actions)
   pub goal : form ≡ dense w (end_form system.variables edge.actions row)
 
+-- they are those of some edge and row, at some vector that has these bounds
+pub record HasSource (system : Equations) (w : ℕ) (template : List (List ℤ)) (source : List Ext) (guards : List Affine) (form : Affine) : Type 0 where
+  pub vector : Vector
+  pub edge : Edge
+  pub row : List ℤ
+  pub is : IsSource system vector edge row w template source guards form
+
 -- the rows of a problem that a template row with this bound makes
 abbrev pub source_row : ℕ → List ℤ → Extended → List Limit
 source_row w row neg_inf = []

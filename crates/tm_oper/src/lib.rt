@@ -6,8 +6,10 @@
 mod build;
 mod read;
 mod split;
+mod stay;
 mod transform;
 
+pub use stay::guarded_value;
 pub use tm_compose::{
     Affine, Affines, PathFault, Paths, Value, compose_all, composed_forms_have_columns,
     composed_forms_mean, one_composition,

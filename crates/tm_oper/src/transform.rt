@@ -1,28 +1,28 @@
 //! The transformer of an edge and a row at a vector.
 
-ghost use Rattle.std.specs.Prelude.{◌≡◌, ◌≤◌, ◌<◌, ◌+◌, ℤ, List, false, IfOk, IfErr, OnOk, None, Some, length, slice_get};
+ghost use Rattle.std.specs.Prelude.{◌≡◌, ◌≤◌, ◌<◌, ◌+◌, ℤ, List, false, IfOk, IfErr, OnOk, None, length};
 ghost use Rattle.tm_num.specs.Rational.{ℚ};
 ghost use Rattle.tm_frac.specs.Fits.{long_limit};
 ghost use Rattle.tm_frac.specs.Operation.{first_wide};
 ghost use Rattle.tm_eqsys.specs.Equations.{Vector};
 ghost use Rattle.tm_eqsys.specs.View.{equations_of, vector_at, edge_at, row_at, IsVectorOf};
-ghost use Rattle.tm_validity.specs.Words.{free_count};
 ghost use Rattle.tm_lp.specs.Simplex.{lp};
 ghost use Rattle.tm_dict.specs.Exact.{exact, IsShaped};
 ghost use Rattle.tm_simplex.specs.Operations.{first_refused, run_operations};
-ghost use Rattle.tm_compose.specs.Composed.{EdgeForms, AreComposed};
+ghost use Rattle.tm_compose.specs.Composed.{AreComposed};
 ghost use Rattle.tm_oper.specs.Values.{IsValue, NoneWide, IsOperatorFault, ReadsOutcome, reading_operations};
 ghost use Rattle.tm_transformers.specs.EdgeProblems.{lost, transformer};
 ghost use Rattle.tm_compose.specs.Value.{number_of};
 ghost use Rattle.tm_oper.specs.Meanings.{HasEvidence, Operates};
-ghost use Rattle.tm_oper.specs.Splits.{bounds_at};
+ghost use Rattle.tm_oper.specs.Splits.{bounds_at, IsSource, HasSource};
+ghost use Rattle.tm_flow.specs.declared.edge.Edge.{Edge};
 ghost use Rattle.tm_oper.specs.Readings.{HasSizes, IsProblemFault};
 ghost use Rattle.tm_rows.specs.declared.limits.TheConstants.{MOST_ROWS};
 
 use crate::build::{edge_problem, lowest_lost};
 use crate::read::{Sizes, read_outcome};
 use std::alloc::Global;
-use tm_compose::{FormFault, Paths, Value};
+use tm_compose::{Affine, FormFault, Paths, Value};
 use tm_dict::{Dict, Problem};
 use tm_eqsys::{Bounds, Part, PartFault, System};
 use tm_frac::{Ext, Frac};
@@ -69,20 +69,35 @@ fn solve_problem(
     }
 }
 
-// The sizes of an edge's problem.
-fn sizes_of(system: &System, paths: &Paths, edge: u32) -> Sizes
-    requires paths { AreComposed (equations_of system.now) paths.now }
-    requires edge { edge < length system.now.flow.edges }
-    ensures variables { result.variables ≡ length system.now.flow.names }
-    ensures frees { result.frees ≡ free_count (edge_at system.now edge).actions }
-    ensures rows { result.rows ≡ length system.now.template }
-    ensures guards { (forms : EdgeForms) → slice_get paths.now edge ≡ Some forms → result.guards ≡ length forms.guards }
+// The value of the problem of these guards and this form, at a source of which no bound is `-inf`. The forms are over the
+// variables and so many free values.
+pub(crate) fn solve_forms(
+    alloc: Global,
+    system: &System,
+    source: &[Ext],
+    frees: usize,
+    guards: &[Affine],
+    form: &Affine,
+) -> Result<Value, PartFault>
+    requires room { length system.now.template ≤ length source.now }
+    requires few_frees { frees ≤ 256 }
+    requires few_guards { length guards.now ≤ 256 }
+    requires forms { HasSource (equations_of system.now) (length system.now.flow.names + frees) system.now.template source.now guards.now form.now }
+    ensures { (z : Vector) (edge : Edge) (row : List ℤ) →
+        IsSource (equations_of system.now) z edge row (length system.now.flow.names + frees) system.now.template source.now guards.now form.now →
+        lost (z edge.from) system.now.template ≡ false → Operates (equations_of system.now) z edge row result }
 {
-    Sizes {
+    let template = system.template.as_slice();
+    let sizes = Sizes {
         variables: system.flow.names.as_slice().len(),
-        frees: paths.frees(edge) as usize,
-        rows: system.template.as_slice().len(),
-        guards: paths.guards(edge) as usize,
+        frees,
+        rows: template.len(),
+        guards: guards.len(),
+    };
+    let width = sizes.variables + sizes.frees;
+    match edge_problem(alloc, template, source, guards, form, width) {
+        Ok(problem) => solve_problem(alloc, sizes, source, form.constant, &problem),
+        Err(_) => Err(PartFault::NoMemory),
     }
 }
 
@@ -103,20 +118,10 @@ fn solve_edge(
         lost (z (edge_at system.now edge).from) system.now.template ≡ false →
         Operates (equations_of system.now) z (edge_at system.now edge) (row_at system.now row) result }
 {
-    let sizes = sizes_of(system, paths, edge);
     let path = paths.path(edge);
     let form = &path.rows.as_slice()[row as usize];
-    match edge_problem(
-        alloc,
-        system.template.as_slice(),
-        source,
-        path.guards.as_slice(),
-        form,
-        sizes.variables + sizes.frees,
-    ) {
-        Ok(problem) => solve_problem(alloc, sizes, source, form.constant, &problem),
-        Err(_) => Err(PartFault::NoMemory),
-    }
+    let frees = paths.frees(edge) as usize;
+    solve_forms(alloc, system, source, frees, path.guards.as_slice(), form)
 }
 
 /// The transformer of an edge and a row at a vector: the supremum of the row after the edge, over all states before it that fit

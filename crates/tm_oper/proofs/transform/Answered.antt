@@ -1,5 +1,5 @@
 -- All that is said of the answer for an edge and a row.
-use Rattle.std.proofs.Common.{◌≡◌, ◌∙◌, ℕ, false, true≢false, ℤ, List, length, None, Result, Ok, sym}
+use Rattle.std.proofs.Common.{◌≡◌, ◌∙◌, ℕ, false, true≢false, ℤ, List, length, None, Result, Ok, sym, subst₂}
 use Rattle.std.specs.Prelude.{IfOk, IfErr, OnOk}
 use Rattle.std.proofs.lemmas.Result.{IfOk-weaker}
 use Rattle.tm_frac.specs.declared.ext.Ext.{Ext}
@@ -22,6 +22,11 @@ use Rattle.tm_oper.specs.Readings.{IsProblemFault}
 use Rattle.tm_oper.specs.Values.{IsLowestLost, IsValue, ReadsOutcome, reading_operations, whole_problem}
 use Rattle.tm_oper.proofs.values.Evident.{is_transformer, has_evidence}
 use Rattle.tm_oper.proofs.transform.Operated.{lost_at, value_of, none_of, fault_of}
+
+-- a source over as many columns and the same rows
+pub source_moved : (system : Equations) (z : Vector) (e : Edge) (cs : List ℤ) (w w' : ℕ) (template template' : List (List ℤ)) (source : List Ext) (guards : List Affine) (form : Affine) → w' ≡ w → template' ≡ template →
+    IsSource system z e cs w template source guards form → IsSource system z e cs w' template' source guards form
+source_moved system z e cs w w' template template' source guards form f g s = subst₂ (λ a b. IsSource system z e cs a b source guards form) (sym f) (sym g) s
 
 -- where a bound at the source is -inf
 pub answered_lost : (system : Equations) (z : Vector) (e : Edge) (cs : List ℤ) (r : ℕ) → IsLowestLost (z e.from) (length system.template) r → Operates system z e cs (Ok (Unreached r))

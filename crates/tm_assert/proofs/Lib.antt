@@ -1,0 +1,2 @@
+pub mod verdicts
+pub mod laws

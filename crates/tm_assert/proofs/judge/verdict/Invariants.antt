@@ -1,0 +1,6 @@
+use Rattle.tm_eqsys.specs.View.{equations_of, vector_at}
+use Rattle.tm_assert.proofs.verdicts.Turns.{IsJudged}
+use Rattle.tm_assert.proofs.judge.verdict.Given as goal
+
+abbrev pub invariant-loop-number : goal.invariant-loop-number
+invariant-loop-number l = IsJudged (equations_of l.system) (vector_at l.system l.bounds) l.claim.point l.cases l.number

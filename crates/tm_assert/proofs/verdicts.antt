@@ -1,0 +1,3 @@
+pub mod Words
+pub mod Guards
+pub mod Turns
