@@ -1,35 +1,19 @@
-//! Changes of the text of a certificate, and what they read as.
+//! Changes of the text of a certificate in either format, and what they read as.
 
 use crate::certificates::RAY;
-use std::alloc::Global;
+use std::alloc::{AllocError, Global};
 use std::test::Fail;
 use tm_form::read;
 
-// What stands in the certificate with a ray, what is put in its place, and what that reads as: a certificate, or the fault.
-// Read are keys in another order, a key that stands twice, the greatest index, blanks, an escape, and a bound that is `-inf`.
-const CHANGES: &str =
-    r#"{"edge":0,"low":{"free":["7"],"start":["0"]}, -> {"low":{"start":["0"],"free":["7"]},"edge":0, => read
-"format":1 -> "format":3,"format":1 => read
-"edge":0 -> "edge":4294967295 => read
+// What stands in the certificate with a ray in both formats, what is put in its place, and what that reads as: a certificate,
+// or the fault. Read are the greatest index, an escape, and a bound that is `-inf`.
+const CHANGES: &str = r#""edge":0 -> "edge":4294967295 => read
 "kind":"ray" -> "kind":"r\u0061y" => read
 ["7","+inf"] -> ["-inf","7/2"] => read
 {"bounds" -> ["bounds" => NotJson
 "0"]}]} -> "0"]}] => NotJson
 "rate":"1" -> "rate":"\ud800" => NotJson
-"format":1, ->  => Shape(Top)
-"format":1, -> "format":1,"kind":1, => Shape(Top)
 "uppers" -> "upper" => Shape(Top)
-"format":1 -> "format":"1" => Shape(Format)
-"format":1 -> "format":1.0 => Shape(Format)
-"format":1 -> "format":1e0 => Shape(Format)
-"format":1 -> "format":-0 => Shape(Format)
-"format":1 -> "format":18446744073709551616 => Shape(Format)
-"format":1 -> "format":-9223372036854775809 => Shape(Format)
-"format":1 -> "format":3 => Version
-"format":1 -> "format":0 => Version
-"format":1 -> "format":-1 => Version
-"format":1 -> "format":18446744073709551615 => Version
-"format":1 -> "format":-9223372036854775808 => Version
 [["1"],["-1"]] -> {} => Shape(Rows)
 [["1"],["-1"]] -> [["1/2"],"-1"] => Shape(Rows)
 [["1"],["-1"]] -> [["x"],[1]] => Shape(Rows)
@@ -55,8 +39,6 @@ const CHANGES: &str =
 [1,0] -> [2147483648,0] => Shape(Steps)
 [1,0] -> [1,0,0] => Shape(Steps)
 [1,0] -> [1] => Shape(Steps)
-"free":["-1"] -> "free":"-1" => Shape(Steps)
-"free":["-1"] -> "free":["2/4"] => Number(Steps)
 "rate":"1" -> "rate":"01" => Number(Steps)
 "to":"7" -> "to":"7/0" => Number(Steps)
 "to":"7" -> "to":"+inf" => Number(Steps)
@@ -65,6 +47,54 @@ const CHANGES: &str =
 "guards":["1"] -> "guards":[1] => Shape(Uppers)
 "guards":["1"] -> "guards":["-0"] => Number(Uppers)
 "rows":["0","0"] -> "rows":["0",""] => Number(Uppers)"#;
+
+// The same in format 1 alone. Read are keys in another order, and a key that stands twice.
+const FIRST_CHANGES: &str =
+    r#"{"edge":0,"low":{"free":["7"],"start":["0"]}, -> {"low":{"start":["0"],"free":["7"]},"edge":0, => read
+"format":1 -> "format":3,"format":1 => read
+"format":1, ->  => Shape(Top)
+"format":1, -> "format":1,"kind":1, => Shape(Top)
+"format":1 -> "format":"1" => Shape(Format)
+"format":1 -> "format":1.0 => Shape(Format)
+"format":1 -> "format":1e0 => Shape(Format)
+"format":1 -> "format":-0 => Shape(Format)
+"format":1 -> "format":18446744073709551616 => Shape(Format)
+"format":1 -> "format":-9223372036854775809 => Shape(Format)
+"format":1 -> "format":2 => Shape(Format)
+"format":1 -> "format":3 => Version
+"format":1 -> "format":0 => Version
+"format":1 -> "format":-1 => Version
+"format":1 -> "format":18446744073709551615 => Version
+"format":1 -> "format":-9223372036854775808 => Version
+"free":["-1"] -> "free":"-1" => Shape(Steps)
+"free":["-1"] -> "free":["2/4"] => Number(Steps)"#;
+
+// The same in format 2 alone. Read are a key that stands twice, a trace that is listed twice, and one that is named twice.
+const SECOND_CHANGES: &str = r#""format":2 -> "format":2.0 => Shape(Format)
+"format":2 -> "format":1 => Shape(Format)
+"format":2 -> "format":3 => Version
+"format":2 -> "format":-2 => Version
+"format":2 -> "format":3,"format":2 => read
+"format":2, ->  => Shape(Top)
+"format":2, -> "format":2,"kind":1, => Shape(Top)
+"traces":[ -> "trace":[ => Shape(Top)
+"traces":[ -> "traces":[7, => Shape(Traces)
+"traces":[ -> "traces":[{"free":["7"]}, => Shape(Traces)
+"traces":[ -> "traces":{},"uppers":[ => Shape(Traces)
+{"free":["-1"],"start":["0"]} -> {"free":"-1","start":["0"]} => Shape(Traces)
+{"free":["-1"],"start":["0"]} -> {"free":["2/4"],"start":["0"]} => Number(Traces)
+{"free":["-1"],"start":["0"]} -> {"free":["-1"],"start":["0"]},{"free":["x"],"start":[]} => Number(Traces)
+"traces":[ -> "traces":[{"free":["7"],"start":["0"]}, => read
+"traces":[ -> "low":[ => Shape(Top)
+"direction":2 -> "direction":3 => Shape(Steps)
+"low":0 -> "low":2 => read
+"low":1 -> "low":3 => Shape(Steps)
+"low":1 -> "low":1.0 => Shape(Steps)
+"low":1 -> "low":-1 => Shape(Steps)
+"low":1 -> "low":"1" => Shape(Steps)
+"low":1 -> "low":18446744073709551615 => Shape(Steps)
+"low":1 -> "low":{"free":["0"],"start":["0"]} => Shape(Steps)
+"low":1, ->  => Shape(Steps)"#;
 
 // What a text reads as, in words.
 fn answer(alloc: Global, text: &[u8]) -> Result<String, Fail> {
@@ -86,10 +116,19 @@ fn is_right(alloc: Global, text: &str, line: &str) -> Result<bool, Fail> {
 #[test]
 fn changes_are_read_or_refused(rt: HostRuntime) -> Result<(), Fail> {
     let alloc = rt.alloc();
+    let first = RAY[0];
+    let second = RAY[1];
     for line in CHANGES.lines() {
-        assert!(rt; is_right(alloc, RAY, line)?, "{line}");
+        assert!(rt; is_right(alloc, first, line)?, "format 1: {line}");
+        assert!(rt; is_right(alloc, second, line)?, "format 2: {line}");
     }
-    assert!(rt; is_right(alloc, RAY, ",\"format\" ->  ,\n\"format\" => read")?);
+    for line in FIRST_CHANGES.lines() {
+        assert!(rt; is_right(alloc, first, line)?, "{line}");
+    }
+    for line in SECOND_CHANGES.lines() {
+        assert!(rt; is_right(alloc, second, line)?, "{line}");
+    }
+    assert!(rt; is_right(alloc, first, ",\"format\" ->  ,\n\"format\" => read")?);
     Ok(())
 }
 
@@ -106,5 +145,66 @@ fn nests_to_the_limit(rt: HostRuntime) -> Result<(), Fail> {
     assert!(rt; nests(alloc, 127, "Shape(Top)")?);
     assert!(rt; nests(alloc, 128, "NotJson")?);
     assert!(rt; nests(alloc, 200, "NotJson")?);
+    Ok(())
+}
+
+// Adds the same text so many times.
+fn push_often(text: &mut String, piece: &str, often: usize) -> Result<(), AllocError> {
+    for _ in 0..often {
+        text.push_str(piece)?;
+    }
+    Ok(())
+}
+
+// A certificate in format 2 whose items name a trace of 2,048 values so many times and once more, and one of a single value so
+// many times.
+fn expanding(alloc: Global, long: usize, short: usize) -> Result<String, Fail> {
+    let mut text = String::from_str(
+        alloc,
+        r#"{"bounds":[],"format":2,"rows":[["1"]],"steps":[{"items":["#,
+    )?;
+    push_often(
+        &mut text,
+        r#"{"edge":0,"low":0,"to":"0","unknown":[0,0]},"#,
+        long,
+    )?;
+    push_often(
+        &mut text,
+        r#"{"edge":0,"low":1,"to":"0","unknown":[0,0]},"#,
+        short,
+    )?;
+    text.push_str(r#"{"edge":0,"low":0,"to":"0","unknown":[0,0]}],"kind":"plain"}],"#)?;
+    text.push_str(r#""traces":[{"free":["1"],"start":["0""#)?;
+    push_often(&mut text, r#","0""#, 2046)?;
+    text.push_str(r#"]},{"free":["0"],"start":[]}],"uppers":[]}"#)?;
+    Ok(text)
+}
+
+#[test]
+fn traces_expand_to_the_limit(rt: HostRuntime) -> Result<(), Fail> {
+    let alloc = rt.alloc();
+    for (long, short, wanted) in [
+        (2047, 0, "read"),
+        (2047, 1, "Expanded"),
+        (2048, 0, "Expanded"),
+    ] {
+        let text = expanding(alloc, long, short)?;
+        assert_eq!(rt; answer(alloc, text.as_bytes())?.as_str(), wanted);
+    }
+    Ok(())
+}
+
+// What is refused before the traces expand, in a certificate that expands too far.
+const BEFORE: &str = r#""uppers":[] -> "uppers":{} => Shape(Uppers)
+"uppers":[] -> "uppers":[{"guards":["x"],"kind":"bound","rows":[]}] => Number(Uppers)
+"to":"0" -> "to":"00" => Number(Steps)"#;
+
+#[test]
+fn expanding_is_refused_last(rt: HostRuntime) -> Result<(), Fail> {
+    let alloc = rt.alloc();
+    let text = expanding(alloc, 2047, 1)?;
+    for line in BEFORE.lines() {
+        assert!(rt; is_right(alloc, text.as_str(), line)?, "{line}");
+    }
     Ok(())
 }

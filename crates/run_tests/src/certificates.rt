@@ -4,10 +4,11 @@ use crate::cases::{
     Case, Ending, ends, first_wrong, is_as_wanted, repeated, run_over, shelf, strings,
 };
 use std::alloc::{AllocError, Global};
+use std::test::Fail;
 
-const JUMP_PROGRAM: &str = "int main() { int x = 0; while (nondet()) { x = x; } }";
+pub(crate) const JUMP_PROGRAM: &str = "int main() { int x = 0; while (nondet()) { x = x; } }";
 
-const JUMP_FROM_ITS_BOUND: &str =
+pub(crate) const JUMP_FROM_ITS_BOUND: &str =
     r#"{"bounds":[["+inf","+inf"],["5","0"],["5","0"]],"format":1,"rows":[["1"],["-1"]],"steps":[{"items":[{"edge":0,"to":"0","low":{"free":[],"start":["0"]},"unknown":[1,0]},{"edge":0,"to":"0","low":{"free":[],"start":["0"]},"unknown":[1,1]}],"kind":"plain"},{"items":[{"edge":1,"high":{"free":[],"start":["5"]},"low":{"free":[],"start":["0"]},"to":"5","unknown":[1,0]}],"kind":"jump"}],"uppers":[]}"#;
 
 pub(crate) const RAY_PROGRAM: &str = "int main() { int x; assume(x <= 7); }";
@@ -15,7 +16,11 @@ pub(crate) const RAY_PROGRAM: &str = "int main() { int x; assume(x <= 7); }";
 pub(crate) const RAY: &str =
     r#"{"bounds":[["+inf","+inf"],["7","+inf"]],"format":1,"rows":[["1"],["-1"]],"steps":[{"items":[{"edge":0,"low":{"free":["7"],"start":["0"]},"to":"7","unknown":[1,0]}],"kind":"plain"},{"items":[{"direction":{"free":["-1"],"start":["0"]},"edge":0,"low":{"free":["0"],"start":["0"]},"rate":"1","unknown":[1,1]}],"kind":"ray"}],"uppers":[{"guards":["1"],"kind":"bound","rows":["0","0"]}]}"#;
 
-const RAY_REPORT: &[u8] = b"variables x
+// The same in format 2.
+pub(crate) const LISTED_RAY: &str =
+    r#"{"bounds":[["+inf","+inf"],["7","+inf"]],"format":2,"rows":[["1"],["-1"]],"steps":[{"items":[{"edge":0,"low":0,"to":"7","unknown":[1,0]}],"kind":"plain"},{"items":[{"direction":2,"edge":0,"low":1,"rate":"1","unknown":[1,1]}],"kind":"ray"}],"traces":[{"free":["7"],"start":["0"]},{"free":["0"],"start":["0"]},{"free":["-1"],"start":["0"]}],"uppers":[{"guards":["1"],"kind":"bound","rows":["0","0"]}]}"#;
+
+pub(crate) const RAY_REPORT: &[u8] = b"variables x
 point 0: entry
   x <= +inf
   -x <= +inf
@@ -40,12 +45,12 @@ point 1: exit
 certificate: accepted
 ";
 
-const LOOP_PROGRAM: &str = "int main() { int x = 0; while (x < 3) x = x + 1; }";
+pub(crate) const LOOP_PROGRAM: &str = "int main() { int x = 0; while (x < 3) x = x + 1; }";
 
-const LOOP: &str =
+pub(crate) const LOOP: &str =
     r#"{"bounds":[["+inf"],["3"],["3"]],"format":1,"rows":[["1"]],"steps":[{"items":[{"edge":0,"low":{"free":[],"start":["0"]},"to":"0","unknown":[1,0]}],"kind":"plain"},{"items":[{"edge":1,"high":{"free":[],"start":["2"]},"low":{"free":[],"start":["0"]},"to":"3","unknown":[1,0]}],"kind":"jump"},{"items":[{"edge":2,"low":{"free":[],"start":["3"]},"to":"3","unknown":[2,0]}],"kind":"plain"}],"uppers":[{"guards":[],"kind":"bound","rows":["0"]},{"guards":["1"],"kind":"bound","rows":["0"]},{"guards":["0"],"kind":"bound","rows":["1"]}]}"#;
 
-const LOOP_REPORT: &[u8] = b"variables x
+pub(crate) const LOOP_REPORT: &[u8] = b"variables x
 point 0: entry
   x <= +inf
 point 1: loop at line 1
@@ -110,6 +115,7 @@ impl Case for (&str, &str, &[u8]) {
 
 const VALID: &[(&str, &str, &[u8])] = &[
     (RAY_PROGRAM, RAY, RAY_REPORT),
+    (RAY_PROGRAM, LISTED_RAY, RAY_REPORT),
     (LINE_PROGRAM, LINE, LINE_REPORT),
     (LOOP_PROGRAM, LOOP, LOOP_REPORT),
 ];
@@ -143,6 +149,27 @@ const CHANGED: &[(&str, &str, &str, &str, &str)] = &[
         "\"guards\":[\"1\"]",
         "\"guards\":[\"-1\"]",
         "upper, point 1, row 0, edge 0",
+    ),
+    (
+        RAY_PROGRAM,
+        LISTED_RAY,
+        "\"low\":1",
+        "\"low\":3",
+        "field steps",
+    ),
+    (
+        RAY_PROGRAM,
+        LISTED_RAY,
+        "\"traces\":[",
+        "\"traces\":[7,",
+        "field traces",
+    ),
+    (
+        RAY_PROGRAM,
+        LISTED_RAY,
+        "\"format\":2",
+        "\"format\":1",
+        "field format",
     ),
     (RAY_PROGRAM, RAY, "\"format\":1", "\"format\":3", "format"),
     (
@@ -287,6 +314,31 @@ fn changed_certificates_are_refused(rt: HostRuntime) {
     assert_eq!(rt; first_wrong(rt.alloc(), CHANGED), None);
 }
 
+// A certificate in format 2 with a trace of 2,048 values, and an item and so many more that name it.
+fn expanding(alloc: Global, more: usize) -> Result<Vec<u8>, AllocError> {
+    let first = r#"{"bounds":[],"format":2,"rows":[["1"]],"steps":[{"items":["#;
+    let item = r#"{"edge":0,"low":0,"to":"0","unknown":[0,0]},"#;
+    let last =
+        r#"{"edge":0,"low":0,"to":"0","unknown":[0,0]}],"kind":"plain"}],"traces":[{"free":["#;
+    let steps = repeated(
+        alloc,
+        first.as_bytes(),
+        item.as_bytes(),
+        more,
+        last.as_bytes(),
+    )?;
+    let end = r#""0"],"start":[]}],"uppers":[]}"#;
+    repeated(alloc, &steps, b"\"0\",", 2047, end.as_bytes())
+}
+
+#[test]
+fn traces_expand_to_a_limit(rt: HostRuntime) -> Result<(), Fail> {
+    let alloc = rt.alloc();
+    assert!(rt; is_refused(alloc, RAY_PROGRAM, &expanding(alloc, 2047)?, "size")?);
+    assert!(rt; is_refused(alloc, RAY_PROGRAM, &expanding(alloc, 2048)?, "expanded")?);
+    Ok(())
+}
+
 // Whether the certificate with a ray is refused wherever it is cut.
 fn cuts_are_refused(alloc: Global) -> Result<bool, AllocError> {
     let whole = RAY.as_bytes();
@@ -371,22 +423,27 @@ fn a_check_stops(rt: HostRuntime) {
     assert_eq!(rt; first_wrong(rt.alloc(), STOPPED), None);
 }
 
-// How many blanks the certificate is, the code and the message.
-impl Case for (usize, u8, &[u8]) {
+// A line of words, how many blanks the certificate is, the code and the message.
+impl Case for (&str, usize, u8, &[u8]) {
     fn is_right(&self, alloc: Global) -> bool {
-        match repeated(alloc, b"", b" ", self.0, b"") {
+        match repeated(alloc, b"", b" ", self.1, b"") {
             Ok(blanks) => {
-                let refused = Ending::Refused(self.1, self.2);
-                ends(alloc, "check p f", RAY_PROGRAM.as_bytes(), &blanks, refused)
+                let refused = Ending::Refused(self.2, self.3);
+                ends(alloc, self.0, RAY_PROGRAM.as_bytes(), &blanks, refused)
             }
             Err(_) => false,
         }
     }
 }
 
-const SIZES: &[(usize, u8, &[u8])] = &[
-    (16_777_217, 3, b"too long: the certificate\n"),
-    (16_777_216, 1, b"certificate refused: not json\n"),
+const SIZES: &[(&str, usize, u8, &[u8])] = &[
+    ("check p f", 16_777_217, 3, b"too long: the certificate\n"),
+    (
+        "check p f",
+        16_777_216,
+        1,
+        b"certificate refused: not json\n",
+    ),
 ];
 
 #[test]

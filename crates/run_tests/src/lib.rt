@@ -13,10 +13,14 @@ mod faults;
 #[cfg(test)]
 mod generated;
 #[cfg(test)]
+mod loops;
+#[cfg(test)]
 mod refusals;
 #[cfg(test)]
 mod reports;
 #[cfg(test)]
 mod texts;
+#[cfg(test)]
+mod upgrades;
 #[cfg(test)]
 mod words;

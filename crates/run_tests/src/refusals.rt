@@ -5,7 +5,8 @@ use crate::reports::{COUNT, LINE, ROWS};
 use std::alloc::Global;
 
 pub(crate) const USAGE: &[u8] =
-    b"usage: tmpl solve PROGRAM [--domain D] [--rows FILE] [--improvements N] [--policy P] | certify (the same) | check PROGRAM CERT | bench --seed N --loops K\n";
+    b"usage: tmpl solve PROGRAM [--domain D] [--rows FILE] [--improvements N] [--policy P] | certify (the same) \
+      | check PROGRAM CERT | bench --seed N --loops K | upgrade CERT\n";
 
 const NO_REQUEST: Ending = Ending::Refused(2, USAGE);
 

@@ -1,7 +1,9 @@
-//! Tests that cross the crates which read texts: what words, programs and files of rows read as, and the points and
+//! Tests that cross the crates which read texts: what words, programs, equations and files of rows read as, and the points and
 //! edges of programs.
 #![tactic(auto)]
 
+#[cfg(test)]
+mod equations;
 #[cfg(test)]
 mod flows;
 #[cfg(test)]

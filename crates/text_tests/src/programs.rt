@@ -3,7 +3,7 @@
 use crate::texts::{Case, first_wrong, read, repeated};
 use std::alloc::Global;
 use tm_parse::{Limit, ParseFault};
-use tm_tree::{Cond, Name, Program, Rel, Stmt, leaves, statements};
+use tm_tree::{Change, Cond, Name, Program, Rel, Stmt, leaves, statements};
 
 // Whether the text has this fault, or reads as a program where there is none.
 fn has_fault(alloc: Global, text: &[u8], fault: Option<ParseFault>) -> bool {
@@ -137,6 +137,66 @@ const TEXTS: &[(&[u8], ParseFault)] = &[
         b"int main() { ; return y; }",
         ParseFault::Unexpected { at: 22 },
     ),
+    // The head of a `for` has two `;`, the condition of a `do` one.
+    (
+        b"int main() { for (;;;) ; }",
+        ParseFault::Unexpected { at: 20 },
+    ),
+    (
+        b"int main() { do ; while (1) }",
+        ParseFault::Unexpected { at: 28 },
+    ),
+    (
+        b"int main() { for (a: ;;) ; }",
+        ParseFault::Unexpected { at: 19 },
+    ),
+    // Jumps outside a loop.
+    (
+        b"int main() { int x; break; }",
+        ParseFault::OutsideLoop { at: 20 },
+    ),
+    (
+        b"int main() { int x; if (x) continue; }",
+        ParseFault::OutsideLoop { at: 27 },
+    ),
+    (
+        b"int main() { int x; while (x) break; a: continue; }",
+        ParseFault::OutsideLoop { at: 40 },
+    ),
+    // The names of a `for` and of a body that is a block.
+    (
+        b"int main() { for (int i = 0; i < 4; i++) ; i = 1; }",
+        ParseFault::UnknownName { at: 43 },
+    ),
+    (
+        b"int main() { do { int x; } while (x); }",
+        ParseFault::UnknownName { at: 34 },
+    ),
+    // A `for`: its first part, its condition, its change, its body. A `do`: its body, its condition.
+    (
+        b"int main() { for (y = 1; y; y++) y = 1; }",
+        ParseFault::UnknownName { at: 18 },
+    ),
+    (
+        b"int main() { int x; for (; y; z++) w = 1; }",
+        ParseFault::UnknownName { at: 27 },
+    ),
+    (
+        b"int main() { int x; for (; x; z++) w = 1; }",
+        ParseFault::UnknownName { at: 30 },
+    ),
+    (
+        b"int main() { int x; for (; x; x++) w = 1; }",
+        ParseFault::UnknownName { at: 35 },
+    ),
+    (
+        b"int main() { int x; do y = 1; while (z); }",
+        ParseFault::UnknownName { at: 23 },
+    ),
+    (
+        b"int main() { int x; do x = 1; while (z); }",
+        ParseFault::UnknownName { at: 37 },
+    ),
 ];
 
 #[test]
@@ -172,6 +232,16 @@ const UNKNOWN: Option<ParseFault> = Some(ParseFault::UnknownName { at: 2575 });
 
 const UNKNOWN_LATER: Option<ParseFault> = Some(ParseFault::UnknownName { at: 2579 });
 
+const UNKNOWN_CONDITION: Option<ParseFault> = Some(ParseFault::UnknownName { at: 2582 });
+
+const OUTSIDE: Option<ParseFault> = Some(ParseFault::OutsideLoop { at: 2575 });
+
+// The change is the 513th node where the `for` is the 512th: it begins at 20 + 510 * 5 + 8.
+const CHANGE: Option<ParseFault> = Some(ParseFault::Limit {
+    at: 2578,
+    which: Limit::Statements,
+});
+
 const SHAPES: &[(&[u8], &[u8], usize, &[u8], Option<ParseFault>)] = &[
     // The declaration is a node too: the 513th begins at 20 + 511 * 5.
     (START, b"x++; ", 511, b"}", None),
@@ -182,6 +252,24 @@ const SHAPES: &[(&[u8], &[u8], usize, &[u8], Option<ParseFault>)] = &[
     (START, b"x++; ", 511, b"if (y) ; }", UNKNOWN_LATER),
     (START, b"x++; ", 511, b"assume(y); }", STATEMENTS),
     (START, b"x++; ", 10_000, b"}", STATEMENTS),
+    // Loops and jumps count where they stand; a `for` after its condition, before its change.
+    (START, b"x++; ", 510, b"do ; while (x); }", None),
+    (START, b"x++; ", 511, b"do y = 1; while (z); }", STATEMENTS),
+    (START, b"x++; ", 511, b"for (; y; ) ; }", UNKNOWN_CONDITION),
+    (START, b"x++; ", 511, b"for (;; y = 1) ; }", STATEMENTS),
+    (START, b"x++; ", 510, b"for (;; x = 1) ; }", CHANGE),
+    (START, b"x++; ", 511, b"break; }", OUTSIDE),
+    (START, b"for (;;) ", 64, b"break; }", None),
+    (
+        START,
+        b"do ",
+        65,
+        b"",
+        Some(ParseFault::Limit {
+            at: 212,
+            which: Limit::Nesting,
+        }),
+    ),
     (
         START,
         b"{ ",
@@ -266,6 +354,77 @@ fn is_read(alloc: Global, text: &[u8]) -> bool {
 fn programs_are_read(rt: HostRuntime) {
     let text = b"int main(void) {\n  int x = 2, y;\n  if (x < 3*y - 1)\n    y = -x;\n}";
     assert!(rt; is_read(rt.alloc(), text));
+}
+
+// Whether it is `do { if (x) break; continue; } while (x < 9);` at line 4.
+fn is_do(body: &[Stmt]) -> bool {
+    match body {
+        [Stmt::Do { body, line: 4, .. }] => match body.as_slice() {
+            [Stmt::If { first, .. }, Stmt::Continue { line: 4 }] => {
+                matches!(first.as_slice(), [Stmt::Break { line: 4 }])
+            }
+            _ => false,
+        },
+        _ => false,
+    }
+}
+
+// Whether it is `0 <= 0`.
+fn is_always(cond: &Cond) -> bool {
+    match cond {
+        Cond::Cmp(rel, form) => *rel == Rel::Le
+            && form.coeffs.as_slice() == [0, 0].as_slice()
+            && form.constant == 0,
+        _ => false,
+    }
+}
+
+// Whether it is what the text below has behind its first declaration.
+fn are_loops(body: &[Stmt]) -> bool {
+    match body {
+        [
+            Stmt::Set {
+                var: 1,
+                line: 3,
+                ..
+            },
+            Stmt::For {
+                change: Change::Set { var: 1, form, .. },
+                body,
+                line: 3,
+                ..
+            },
+            Stmt::For {
+                cond,
+                change: Change::Unchanged,
+                body: last,
+                line: 5,
+            },
+        ] => form.coeffs.as_slice() == [0, 1].as_slice()
+            && form.constant == 1
+            && is_do(body.as_slice())
+            && is_always(cond)
+            && last.as_slice().is_empty(),
+        _ => false,
+    }
+}
+
+// Whether the text reads as loops behind a declaration.
+fn has_loops(alloc: Global, text: &[u8]) -> bool {
+    match read(alloc, text) {
+        Some(Ok(program)) => match program.body.as_slice() {
+            [_, body @ ..] => are_loops(body),
+            _ => false,
+        },
+        _ => false,
+    }
+}
+
+#[test]
+fn loops_are_read(rt: HostRuntime) {
+    let text =
+        b"int main() {\n  int x = 0;\n  for (int i = 3; i < 4; i++)\n    do { if (x) break; continue; } while (x < 9);\n  for (;;) ;\n}";
+    assert!(rt; has_loops(rt.alloc(), text));
 }
 
 // The leaves of the condition of the first statement that asks one.

@@ -130,6 +130,8 @@ const OTHERS: &[(&str, Request<&str>)] = &[
             loops: 46,
         },
     ),
+    ("upgrade c", Request::Upgrade { certificate: "c" }),
+    ("upgrade -- -c", Request::Upgrade { certificate: "-c" }),
 ];
 
 #[test]
@@ -167,6 +169,10 @@ const REFUSED: &[&str] = &[
     "bench --seed 2147483648 --loops 1",
     "bench --seed 1 --loops 0",
     "bench --seed 1 --loops 47",
+    "upgrade",
+    "upgrade c d",
+    "c upgrade",
+    "upgrade c --domain zones",
     "--help",
     "help",
     "solve p -h",
@@ -182,5 +188,5 @@ fn other_words_ask_for_nothing(rt: HostRuntime) {
 #[test]
 fn usage(rt: HostRuntime) {
     assert!(rt; usage_line().starts_with(b"usage: tmpl solve PROGRAM [--domain D]"));
-    assert!(rt; usage_line().len() == 154);
+    assert!(rt; usage_line().len() == 169);
 }
