@@ -5,4 +5,3 @@ pub mod paths
 pub mod Each
 pub mod constants
 pub mod faults
-pub mod first_language

@@ -9,4 +9,3 @@ pub mod Counts
 pub mod Faults
 pub mod Trails
 pub mod Places
-pub mod first_language

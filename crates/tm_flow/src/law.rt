@@ -1,7 +1,6 @@
 //! Laws of the definitions, each the contract of a function that does nothing.
 
 ghost use Rattle.tm_flow.specs.Constants.{ConditionsHaveRoom};
-ghost use Rattle.tm_flow.specs.first_language.Law.{FirstFlowsStay};
 ghost use Rattle.tm_flow.specs.PathLaws.{BehindPoints, EdgesInRange, EdgesOfPrograms, PointsAreNumbered, StepsAreRecorded, WaysAreSteps};
 
 /// Each point of a program is made by exactly one of its nodes, and stands in the list of points at the number that this
@@ -39,10 +38,4 @@ pub fn edges_are_in_range()
 /// The comparisons of a program's conditions leave room for their guards, so that `cases` may be asked for them.
 pub fn conditions_have_room()
     ensures { ConditionsHaveRoom }
-{}
-
-/// Programs of the first language, whose only loop was the `while` and which had no jumps, have kept their points and edges;
-/// those within the limits of that time are within those of today.
-pub fn first_flows_stay()
-    ensures { FirstFlowsStay }
 {}

@@ -5,9 +5,9 @@ use Rattle.tm_tree.specs.PointNumbers.{splits}
 use Rattle.tm_flow.specs.declared.edge.Action.TheVariants.{Assign, Havoc}
 use Rattle.tm_flow.specs.declared.edge.Edge.{Edge}
 use Rattle.tm_flow.specs.Edges.{Way, arrived, prefixed, by_case}
-use Rattle.tm_flow.specs.first_language.Trees.{FirstStatement, FirstStatements, first_set, first_havoc, first_assume, first_branch, first_while, first_label}
-use Rattle.tm_flow.specs.first_language.Trees.{first_nil, first_cons}
-use Rattle.tm_flow.specs.first_language.Points.{first_points_of, first_points_in, first_join_of, first_exit_of}
+use Rattle.tm_first.specs.Trees.{FirstStatement, FirstStatements, first_set, first_havoc, first_assume, first_branch, first_while, first_label}
+use Rattle.tm_first.specs.Trees.{first_nil, first_cons}
+use Rattle.tm_first.specs.Points.{first_points_of, first_points_in, first_join_of, first_exit_of}
 
 -- a node: a statement with the number of the first point that it makes; the mark of a point; or the turn of a `while` after its head
 pub data FirstItem : Type 0 where

@@ -4,8 +4,8 @@ use Rattle.tm_tree.specs.PointNumbers.{splits}
 use Rattle.tm_flow.specs.declared.point.Place.TheVariants.{Entry, Loop, Label, Join, Assume, Exit}
 use Rattle.tm_flow.specs.declared.point.Point.{Point}
 use Rattle.tm_flow.specs.Points.{Made, made}
-use Rattle.tm_flow.specs.first_language.Trees.{FirstStatement, FirstStatements, first_set, first_havoc, first_assume, first_branch, first_while, first_label}
-use Rattle.tm_flow.specs.first_language.Trees.{first_nil, first_cons}
+use Rattle.tm_first.specs.Trees.{FirstStatement, FirstStatements, first_set, first_havoc, first_assume, first_branch, first_while, first_label}
+use Rattle.tm_first.specs.Trees.{first_nil, first_cons}
 
 abbrev mutual
   -- a label made one point, a `while` its head, an `if` its join

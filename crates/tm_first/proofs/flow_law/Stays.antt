@@ -12,13 +12,13 @@ use Rattle.tm_flow.specs.declared.fault.FlowFault.{FlowFault}
 use Rattle.tm_flow.specs.declared.fault.FlowFault.TheVariants as fault
 use Rattle.tm_flow.specs.declared.limits.TheConstants.{MOST_POINTS}
 use Rattle.tm_flow.specs.Faults.{is_wide, line_if, long_fault, counted_after, fault_or, fault_of_program, wide_lines_of, wide_lines_in}
-use Rattle.tm_flow.specs.first_language.Trees.{FirstStatement, FirstStatements, first_set, first_havoc, first_assume, first_branch, first_while, first_label}
-use Rattle.tm_flow.specs.first_language.Trees.{first_nil, first_cons, today, today_all}
-use Rattle.tm_flow.specs.first_language.Points.{first_points_of, first_points_in, first_join_of, first_exit_of, first_made_by, first_made_in}
-use Rattle.tm_flow.specs.first_language.Edges.{FirstItem, first_node, first_mark, first_nodes, first_ways_of, first_ways_in, first_ways_from}
-use Rattle.tm_flow.specs.first_language.Edges.{first_behind_of, first_behind_in, first_behind_points, first_edges_from, first_edges_of_program}
-use Rattle.tm_flow.specs.first_language.Faults.{first_wide_lines_of, first_wide_lines_in, first_point_count, first_counted_after, first_fault_of_program}
-use Rattle.tm_flow.specs.first_language.Law.{FirstFlowsStay}
+use Rattle.tm_first.specs.Trees.{FirstStatement, FirstStatements, first_set, first_havoc, first_assume, first_branch, first_while, first_label}
+use Rattle.tm_first.specs.Trees.{first_nil, first_cons, today, today_all}
+use Rattle.tm_first.specs.Points.{first_points_of, first_points_in, first_join_of, first_exit_of, first_made_by, first_made_in}
+use Rattle.tm_first.specs.Edges.{FirstItem, first_node, first_mark, first_nodes, first_ways_of, first_ways_in, first_ways_from}
+use Rattle.tm_first.specs.Edges.{first_behind_of, first_behind_in, first_behind_points, first_edges_from, first_edges_of_program}
+use Rattle.tm_first.specs.Faults.{first_wide_lines_of, first_wide_lines_in, first_point_count, first_counted_after, first_fault_of_program}
+use Rattle.tm_first.specs.FlowLaw.{FirstFlowsStay}
 use Rattle.tm_flow.proofs.edges.WaysLaw.{ways-nodes}
 
 -- ---- points

@@ -3,10 +3,10 @@ use Rattle.std.specs.Prelude.{ℕ, ◌+◌, ◌||◌, true, false, List, [], ◌
 use Rattle.tm_flow.specs.declared.fault.FlowFault.{FlowFault}
 use Rattle.tm_flow.specs.declared.fault.FlowFault.TheVariants as fault
 use Rattle.tm_flow.specs.Faults.{is_wide, line_if, long_fault, fault_or}
-use Rattle.tm_flow.specs.first_language.Trees.{FirstStatement, FirstStatements, first_set, first_havoc, first_assume, first_branch, first_while, first_label}
-use Rattle.tm_flow.specs.first_language.Trees.{first_nil, first_cons}
-use Rattle.tm_flow.specs.first_language.Points.{first_points_in}
-use Rattle.tm_flow.specs.first_language.Edges.{first_edges_of_program}
+use Rattle.tm_first.specs.Trees.{FirstStatement, FirstStatements, first_set, first_havoc, first_assume, first_branch, first_while, first_label}
+use Rattle.tm_first.specs.Trees.{first_nil, first_cons}
+use Rattle.tm_first.specs.Points.{first_points_in}
+use Rattle.tm_first.specs.Edges.{first_edges_of_program}
 
 abbrev mutual
   -- the lines of a statement and of those in it, in order of the text, whose condition has more than 64 cases for a truth that is used

@@ -1,5 +1,6 @@
--- Programs of the first language, whose only loop was the `while` and which had no jumps. What stands in this folder serves one law alone:
--- they have kept their points and edges. Conditions, cases, actions and ways have stayed what they were.
+-- Programs of the first language, whose only loop was the `while` and which had no jumps. What stands in this crate serves its laws alone:
+-- texts of the first language mean what they meant, and its programs have kept their points and edges. Conditions, cases, actions and ways
+-- have stayed what they were.
 use Rattle.std.specs.Prelude.{ℕ, List}
 use Rattle.tm_tree.specs.declared.form.Form.{Form}
 use Rattle.tm_tree.specs.Tree.{Condition, while_loop, Statement, Statements, set, havoc, assume, branch, loop, label, nil, cons}

@@ -1,0 +1,2 @@
+pub mod flow_law
+pub mod text_law

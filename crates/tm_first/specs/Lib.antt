@@ -1,0 +1,11 @@
+pub mod Trees
+pub mod Points
+pub mod Edges
+pub mod Faults
+pub mod FlowLaw
+pub mod Grammar
+pub mod Depth
+pub mod Walk
+pub mod Tokens
+pub mod Reading
+pub mod TextLaw
