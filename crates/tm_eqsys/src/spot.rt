@@ -15,7 +15,7 @@ pub enum Part {
     Reading,
 }
 
-/// What was computed. Edges, rows, unknowns, turns, raises, steps and items are numbered from 0.
+/// What was computed. Edges, rows, unknowns, turns, raises, steps, items, claims and cases are numbered from 0.
 #[derive(Clone, Copy, Debug, PartialEq, Eq, Drop)]
 pub enum Site {
     /// The composed forms of an edge.
@@ -32,6 +32,8 @@ pub enum Site {
     Step { step: u32, item: u32 },
     /// What a certificate says of an unknown and an edge.
     Upper { unknown: u32, edge: u32 },
+    /// The problem of a case of a claim's negation.
+    Claim { claim: u32, case: u32, part: Part },
 }
 
 /// An operation that was too wide, in which round, 0 outside rounds, and at which site.
