@@ -2,3 +2,4 @@ pub mod view
 pub mod faults
 pub mod depth
 pub mod grammar
+pub mod phrase

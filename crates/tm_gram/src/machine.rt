@@ -39,14 +39,14 @@ fn add(stack: &mut Vec<Goal>, entry: Entry) -> Result<(), AllocError>
 
 /// What became of a token.
 #[derive(Clone, Copy)]
-pub enum Outcome {
+pub(crate) enum Outcome {
     Went,
     Refused,
     TooDeep,
 }
 
-// Takes a token.
-fn advance(stack: &mut Vec<Goal>, kind: Kind) -> Result<Outcome, AllocError>
+/// Takes a token.
+pub(crate) fn advance(stack: &mut Vec<Goal>, kind: Kind) -> Result<Outcome, AllocError>
     ensures { IfOk result (λ o. Advances o (verdict (stack_of stack.old.items) (plain_kind kind)) (stack_of stack.new.items)) }
 {
     let symbol = symbol_of(kind);

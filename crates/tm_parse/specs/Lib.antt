@@ -10,3 +10,4 @@ pub mod Frames
 pub mod Modes
 pub mod Width
 pub mod Meaning
+pub mod Expressions

@@ -1,15 +1,16 @@
 //! What has been met so far: variables, labels and the number of statements.
 
-ghost use Rattle.std.specs.Prelude.{◌≡◌, ◌≤◌, length};
+ghost use Rattle.std.specs.Prelude.{◌≡◌, ◌≤◌, length, IfOk};
 ghost use Rattle.tm_lex.specs.Lines.{line_at};
 ghost use Rattle.tm_tree.specs.View.{statement_of};
+ghost use Rattle.tm_parse.specs.Expressions.{knowing};
 ghost use Rattle.tm_parse.specs.Walk.{start_state, counted, jumped, labelled_by, known_number, assignment, declared_by, closed};
 ghost use Rattle.tm_parse.specs.Gives.{Gives};
 ghost use Rattle.tm_parse.specs.Views.{state_of};
 
 use crate::fault::{Limit, ParseFault};
 use crate::names::NameTable;
-use std::alloc::Global;
+use std::alloc::{AllocError, Global};
 use tm_lex::line_of;
 use tm_tree::{Form, MOST_VARIABLES, Name, Stmt};
 
@@ -47,6 +48,19 @@ impl Context {
             labels: NameTable::new(alloc),
             count: 0,
         }
+    }
+
+    /// All these names are known; a name's number is its first place.
+    pub(crate) fn knowing(alloc: Global, names: &[Name]) -> Result<Self, AllocError>
+        requires { length names.now ≤ MOST_VARIABLES }
+        ensures { IfOk result (λ context. state_of context ≡ knowing names.now) }
+    {
+        let mut context = Context::new(alloc);
+        for (number, name) in names.iter().enumerate() {
+            context.names.add(name)?;
+            context.known.push(number as u32)?;
+        }
+        Ok(context)
     }
 
     /// Counts one more statement, which begins at `at`.

@@ -1,30 +1,30 @@
 //! Names in the order in which they are declared.
 
-ghost use Rattle.std.specs.Prelude.{◌≡◌, ◌++◌, ◌∷◌, [], ◌<◌, ◌^◌, length, None, OnOk, OnErr, IfSome};
+ghost use Rattle.std.specs.Prelude.{◌≡◌, ◌++◌, ◌∷◌, [], ◌<◌, ◌^◌, length, OnOk};
 ghost use Rattle.tm_parse.specs.Names.{place_of};
 
-use indexmap::IndexSet;
+use indexmap::IndexMap;
 use std::alloc::{AllocError, Global};
 use std::marker::Model;
 use tm_tree::{Name, Names};
 
-/// Names, each once, numbered from 0.
+/// Names, numbered from 0; where a name stands twice, its first place is its number.
 #[derive(Drop)]
 pub(crate) struct NameTable {
     alloc: Global,
-    numbers: IndexSet<Vec<u8>>,
+    places: IndexMap<Vec<u8>, u32>,
     list: Vec<Name>,
 }
 
 impl Model for NameTable {
-    ghost use Rattle.std.specs.Prelude.{◌≡◌, ◌<◌, ◌^◌, List, ℕ, length};
-    ghost use Rattle.tm_parse.specs.Names.{keys_of};
+    ghost use Rattle.std.specs.Prelude.{◌<◌, ◌^◌, List, ℕ, length};
+    ghost use Rattle.tm_parse.specs.Names.{HavePlaces};
 
     ghost Value = { List (List ℕ) };
 
     ghost view = { λ t. t.list.items };
 
-    ghost invariant = { λ t. (keys_of t.numbers.keys ≡ t.list.items) × (length t.list.items < 2 ^ 32) };
+    ghost invariant = { λ t. HavePlaces t.places.entries t.list.items × (length t.list.items < 2 ^ 32) };
 }
 
 impl NameTable {
@@ -33,7 +33,7 @@ impl NameTable {
     {
         NameTable {
             alloc,
-            numbers: IndexSet::new(alloc),
+            places: IndexMap::new(alloc),
             list: Vec::new(alloc),
         }
     }
@@ -48,23 +48,24 @@ impl NameTable {
     pub(crate) fn place(&self, name: &Name) -> Option<u32>
         ensures { result ≡ place_of name.now self.now }
     {
-        match self.numbers.get_index_of(name.bytes()) {
-            Some(place) => Some(place as u32),
-            None => None,
-        }
+        self.places.get(name.bytes()).copied()
     }
 
-    /// Puts a new name at the end.
+    /// Puts a name at the end.
     pub(crate) fn add(&mut self, name: &Name) -> Result<(), AllocError>
-        requires { place_of name.now self.old ≡ None }
         ensures { OnOk result (self.new ≡ self.old ++ name.now ∷ []) }
     {
         if self.list.len() >= u32::MAX as usize {
             return Err(AllocError);
         }
+        if self.place(name).is_some() {
+            self.list.push(name.again())?;
+            return Ok(());
+        }
         let key = Vec::from_slice(self.alloc, name.bytes())?;
+        let place = self.list.len() as u32;
         self.list.push(name.again())?;
-        match self.numbers.insert(key) {
+        match self.places.insert(key, place) {
             Ok(_) => Ok(()),
             Err(_) => {
                 self.list.pop();

@@ -4,7 +4,7 @@ ghost use Rattle.std.specs.Prelude.{◌≡◌, ◌≤◌, length};
 ghost use Rattle.tm_gram.specs.View.{tokens_of};
 ghost use Rattle.tm_lex.specs.Lines.{line_at};
 ghost use Rattle.tm_tree.specs.View.{statements_of};
-ghost use Rattle.tm_parse.specs.Feed.{at, heading, feed, nodes_under, reading};
+ghost use Rattle.tm_parse.specs.Feed.{at, feed, nodes_under, reading};
 ghost use Rattle.tm_parse.specs.Gives.{Gives};
 ghost use Rattle.tm_parse.specs.Views.{state_of};
 ghost use Rattle.tm_parse.specs.Frames.{frames_of};
@@ -20,21 +20,22 @@ use std::alloc::Global;
 use tm_lex::Token;
 use tm_tree::{Block, Names, Stmt};
 
-// Takes all tokens.
-fn fed(
+/// Takes all tokens.
+pub(crate) fn fed(
     alloc: Global,
     tokens: &[Token],
     text: &[u8],
     width: usize,
     context: &mut Context,
     frames: &mut Vec<Frame>,
+    mode: Mode,
 ) -> Result<Mode, ParseFault>
     requires size { length text.now ≤ 65536 }
     requires proper { AllProper text.now tokens.now }
     ensures { Gives (λ m. at (state_of context.new) (frames_of frames.new.items) (mode_of m)) result
-        (feed (line_at text.now) width (tokens_of text.now tokens.now) (at (state_of context.old) (frames_of frames.old.items) heading)) }
+        (feed (line_at text.now) width (tokens_of text.now tokens.now) (at (state_of context.old) (frames_of frames.old.items) (mode_of mode))) }
 {
-    let mut mode = Mode::Heading;
+    let mut mode = mode;
     for token in tokens {
         let lexeme = read_token(token, text);
         mode = in_mode(alloc, text, width, context, frames, mode, lexeme, token.at)?;
@@ -71,7 +72,15 @@ pub(crate) fn walked(
 {
     let mut context = Context::new(alloc);
     let mut frames = Vec::new(alloc);
-    fed(alloc, tokens, text, width, &mut context, &mut frames)?;
+    fed(
+        alloc,
+        tokens,
+        text,
+        width,
+        &mut context,
+        &mut frames,
+        Mode::Heading,
+    )?;
     if context.names.len() == 0 {
         return Err(ParseFault::NoVariables);
     }

@@ -15,13 +15,13 @@ ghost use Rattle.tm_parse.specs.Frames.{frames_of};
 ghost use Rattle.tm_parse.specs.Modes.{unnamed, lexeme_kind, mode_of};
 
 use crate::context::Context;
-use crate::expression::{behind_value, wanted};
 use crate::fault::ParseFault;
 use crate::forms::variable_form;
 use crate::frame::{Frame, Test, Within, attach, close, complete, is_inside, one, pushed};
 use crate::header::{always, headed, next_mode, settled};
 use crate::lexeme::Lexeme;
 use crate::mode::Mode;
+use crate::operand::{behind_value, wanted};
 use crate::value::Value;
 use std::alloc::{AllocError, Global};
 use tm_gram::{Direction, Jump, Symbol};

@@ -2,7 +2,7 @@
 use Rattle.std.proofs.Common.{◌≡◌, ◌∙◌, ◌++◌, ℕ, suc, List, [], ◌∷◌, Option, Some, None, refl, sym, ap, ap₂, append_assoc, arith}
 use Rattle.tm_gram.specs.Grammar.{level, else_word, negative, positive, negation, Kind, Token, token, Groups, Expr, number, variable, free, grouped, prefixed}
 use Rattle.tm_gram.specs.Grammar.{joined, spell_expr, Declarators, declares, declares_more, bare, given, spell_declarators, GoodDeclarators, Core, empty}
-use Rattle.tm_gram.specs.Grammar.{Update, set, step_after, step_before, ForFirst, no_first, declared_first, updated_first, spell_first, GoodFirst, ForTest}
+use Rattle.tm_gram.specs.Grammar.{set, step_after, step_before, ForFirst, no_first, declared_first, updated_first, spell_first, GoodFirst, ForTest}
 use Rattle.tm_gram.specs.Grammar.{no_test, given_test, spell_test, GoodTest, ForLast, no_last, updated_last, spell_last, GoodLast}
 use Rattle.tm_gram.specs.Grammar.{block, if_alone, if_else, repeat, repeat_after, repeat_for, jumps, assumed, updates, Sub, labelled, plain, Items, no_items, label}
 use Rattle.tm_gram.specs.Grammar.{declaration, item, spell_core, spell_sub, spell_items, GoodCore, GoodSub, GoodItems, Return, no_return, returns}
@@ -49,7 +49,7 @@ mutual
   operand_trace (prefixed negation a e) d gs w g = ap (λ x. Some d ∷ x) (operand_trace e (suc d) gs w g)
   operand_trace (joined e o a f) d gs w g = absurd (omega (arith, g.0, below_six o))
 
-  expr_trace : (e : Expr) (n : Ender) (l d : ℕ) (gs : List Goal) (w : List Token) → Groups l e → trace (operand d ∷ more n d ∷ gs) (spell_expr e ++ w) ≡ opens_expr d e ++ trace (more n d ∷ gs) w
+  pub expr_trace : (e : Expr) (n : Ender) (l d : ℕ) (gs : List Goal) (w : List Token) → Groups l e → trace (operand d ∷ more n d ∷ gs) (spell_expr e ++ w) ≡ opens_expr d e ++ trace (more n d ∷ gs) w
   expr_trace (number m a) n l d gs w g = refl
   expr_trace (variable x a) n l d gs w g = refl
   expr_trace (free i j k) n l d gs w g = refl

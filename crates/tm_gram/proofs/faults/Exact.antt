@@ -18,7 +18,7 @@ scan_front (token k a ∷ ts) rest gs now h s = on_step (step gs k) (opened gs k
   on_step (Some n) None a ts rest now f h s = f n h s
   on_step (Some n) (Some d) a ts rest now f h s = ap (λ (t : Bool). elim (elim t as (λ x. Verdict) [ true ↦ goes n | false ↦ too_deep ]) as (λ x. Scan) [ goes next ↦ scan next (ts ++ rest) | refused ↦ unexpected a | too_deep ↦ nested a ]) (lt-ltb d 64 s.0) ∙ f n h s.1
 
-append_same : (xs ys u v : List (Option ℕ)) → length xs ≡ length ys → xs ++ u ≡ ys ++ v → xs ≡ ys
+pub append_same : (xs ys u v : List (Option ℕ)) → length xs ≡ length ys → xs ++ u ≡ ys ++ v → xs ≡ ys
 append_same [] [] u v h e = refl
 append_same [] (y ∷ ys) u v h e = cc
 append_same (x ∷ xs) [] u v h e = cc
@@ -44,7 +44,7 @@ exact_unexpected ts front k a rest e u f = by_run ts front k a rest e (unexpecte
   by_run : (ts front : List Token) (k : Kind) (a : ℕ) (rest : List Token) → ts ≡ front ++ token k a ∷ rest → ((gs : List Goal) × (run start front ≡ Some gs)) × (run start (front ++ token k a ∷ []) ≡ None) → Fine front → scan start ts ≡ unexpected a
   by_run ts front k a rest e ((now, h), n) f = ap (λ (x : List Token). scan start x) e ∙ scan_front front (token k a ∷ rest) start now h (shallow_of front now h f) ∙ scan_one now k a rest (sym (run_front start now front (token k a ∷ []) h) ∙ n)
 
-last_same : (xs ys : List (Option ℕ)) (x y : Option ℕ) → xs ++ x ∷ [] ≡ ys ++ y ∷ [] → x ≡ y
+pub last_same : (xs ys : List (Option ℕ)) (x y : Option ℕ) → xs ++ x ∷ [] ≡ ys ++ y ∷ [] → x ≡ y
 last_same [] [] x y e = cc
 last_same [] (y ∷ []) x z e = cc
 last_same [] (y ∷ w ∷ ys) x z e = cc
@@ -59,7 +59,7 @@ scan_deep gs next k a d ts h e b = on_step (step gs k) (opened gs k) next a d ts
   on_step (Some n) None next a d ts h e b = cc
   on_step (Some n) (Some c) next a d ts h e b = let i : d ≡ c = cc in ap (λ (t : Bool). elim (elim t as (λ x. Verdict) [ true ↦ goes n | false ↦ too_deep ]) as (λ x. Scan) [ goes next ↦ scan next ts | refused ↦ unexpected a | too_deep ↦ nested a ]) (le-ltb c 64 (subst (λ x. 64 ≤ x) i b))
 
-opened_last : (gs next : List Goal) (k : Kind) (a : ℕ) → run gs (token k a ∷ []) ≡ Some next → trace gs (token k a ∷ []) ≡ opened gs k ∷ []
+pub opened_last : (gs next : List Goal) (k : Kind) (a : ℕ) → run gs (token k a ∷ []) ≡ Some next → trace gs (token k a ∷ []) ≡ opened gs k ∷ []
 opened_last gs next k a h = on_step (step gs k) (opened gs k) where
   on_step : (s : Option (List Goal)) (o : Option ℕ) → o ∷ elim s as (λ x. List (Option ℕ)) [ None ↦ [] | Some next ↦ [] ] ≡ o ∷ []
   on_step None o = refl

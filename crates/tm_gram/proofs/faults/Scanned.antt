@@ -24,7 +24,7 @@ run_stop gs k a ts e = ap (λ (o : Option (List Goal)). elim o as (λ x. Option 
 pub trace_one : (gs next : List Goal) (o : Option ℕ) (k : Kind) (a : ℕ) (ts : List Token) → step gs k ≡ Some next → opened gs k ≡ o → trace gs (token k a ∷ ts) ≡ o ∷ trace next ts
 trace_one gs next o k a ts e f = ap₂ (λ (x : Option ℕ) (o : Option (List Goal)). x ∷ elim o as (λ x. List (Option ℕ)) [ None ↦ [] | Some next ↦ trace next ts ]) f e
 
-abbrev Low : Option ℕ → Type 0
+abbrev pub Low : Option ℕ → Type 0
 Low None = Unit {0}
 Low (Some d) = d < 64
 
@@ -32,7 +32,7 @@ shallow_more : (o : Option ℕ) (os : List (Option ℕ)) → Low o → AllShallo
 shallow_more None os h i = i
 shallow_more (Some d) os h i = (h, i)
 
-trace_low : (gs next : List Goal) (o : Option ℕ) (k : Kind) (a : ℕ) (ts : List Token) → step gs k ≡ Some next → opened gs k ≡ o → Low o → AllShallow (trace next ts) → AllShallow (trace gs (token k a ∷ ts))
+pub trace_low : (gs next : List Goal) (o : Option ℕ) (k : Kind) (a : ℕ) (ts : List Token) → step gs k ≡ Some next → opened gs k ≡ o → Low o → AllShallow (trace next ts) → AllShallow (trace gs (token k a ∷ ts))
 trace_low gs next o k a ts e f h i = subst AllShallow (sym (trace_one gs next o k a ts e f)) (shallow_more o (trace next ts) h i)
 
 later : (s : Scan) (gs next : List Goal) (o : Option ℕ) (k : Kind) (a : ℕ) (ts : List Token) → step gs k ≡ Some next → opened gs k ≡ o → Low o → Found s next ts → Found s gs (token k a ∷ ts)

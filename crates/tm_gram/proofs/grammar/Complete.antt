@@ -2,8 +2,8 @@
 use Rattle.std.proofs.Common.{◌≡◌, ◌∙◌, ◌++◌, ℕ, suc, List, [], ◌∷◌, Option, Some, None, refl, ap, append_assoc}
 use Rattle.tm_gram.specs.Grammar.{else_word, negative, positive, negation, Kind, Token, token, Expr, number, variable, free, grouped, prefixed, joined}
 use Rattle.tm_gram.specs.Grammar.{spell_expr, bare, given, Declarators, declares, declares_more, spell_declarators, Core, empty, block, if_alone, if_else}
-use Rattle.tm_gram.specs.Grammar.{Update, set, step_after, step_before, ForFirst, no_first, declared_first, updated_first, ForTest, no_test, given_test}
-use Rattle.tm_gram.specs.Grammar.{ForLast, no_last, updated_last, spell_first, spell_test, spell_last, GoodFirst, GoodTest, GoodLast}
+use Rattle.tm_gram.specs.Grammar.{set, step_after, step_before, ForFirst, no_first, declared_first, updated_first, ForTest, no_test, given_test}
+use Rattle.tm_gram.specs.Grammar.{ForLast, no_last, updated_last, spell_first, spell_test, spell_last}
 use Rattle.tm_gram.specs.Grammar.{repeat, repeat_after, repeat_for, jumps, assumed, updates, Sub, labelled, plain, Items, no_items, label, declaration, item, spell_core}
 use Rattle.tm_gram.specs.Grammar.{spell_sub, spell_items, shut, ending_core, ending_sub, GoodCore, GoodSub, GoodItems, Return, no_return, returns, while_word, left_paren}
 use Rattle.tm_gram.specs.Grammar.{returns_minus, spell_return, nothing, void_at, Program, program, spell, Good, right_brace, right_paren, comma, semicolon}

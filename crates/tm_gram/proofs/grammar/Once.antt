@@ -2,7 +2,7 @@
 use Rattle.std.proofs.Common.{◌≡◌, ◌∙◌, ◌++◌, ℕ, suc, List, [], ◌∷◌, refl, sym, ap, ap₂, append_assoc, arith, subst}
 use Rattle.tm_gram.specs.Grammar.{Change, replaces, Kind, infix_sign, minus_op, a_name, a_number, right_paren, left_paren, right_brace, left_brace, comma}
 use Rattle.tm_gram.specs.Grammar.{semicolon, colon, change_sign, int_word, main_word, if_word, else_word, while_word, return_word, assume_word, the_end}
-use Rattle.tm_gram.specs.Grammar.{do_word, for_word, step_sign, Direction, negative, positive, negation, number, variable, free, grouped, prefixed, joined}
+use Rattle.tm_gram.specs.Grammar.{do_word, for_word, negative, positive, negation, number, variable, free, grouped, prefixed, joined}
 use Rattle.tm_gram.specs.Grammar.{Update, spell_update, GoodUpdate, ForFirst, no_first, declared_first, updated_first, spell_first, GoodFirst, ForTest, no_test}
 use Rattle.tm_gram.specs.Grammar.{given_test, spell_test, GoodTest, ForLast, no_last, updated_last, spell_last, GoodLast, repeat_after, repeat_for, jumps, updates}
 use Rattle.tm_gram.specs.Grammar.{Token, token, Groups, Expr, spell_expr, bare, given, Declarators, declares, declares_more, spell_declarators}

@@ -32,7 +32,7 @@ whole e ls w u v h i g k = (h ∙ ap (λ x. spell_expr e ++ x) i ∙ sym (append
 abbrev pub ExprThen : Ender → List Goal → List Token → Type 0
 ExprThen n gs w = (e : Expr) × (u : List Token) × (v : List Token) × (w ≡ spell_expr e ++ u) × Groups 0 e × Ended n u v × Holds gs v
 
-expr_then : (n : Ender) (d c : ℕ) (gs : List Goal) (w : List Token) → Holds (operand d ∷ more n c ∷ gs) w → ExprThen n gs w
+pub expr_then : (n : Ender) (d c : ℕ) (gs : List Goal) (w : List Token) → Holds (operand d ∷ more n c ∷ gs) w → ExprThen n gs w
 expr_then n d c gs w (e, x, q, g, (ls, u, v, r, k, m, rest)) = (extend_all e ls, u, v, (whole e ls w x u q r g k).0, (whole e ls w x u q r g k).1, m, rest)
 
 back_prefix : (d : ℕ) (o : Op) (gs : List Goal) (a : ℕ) (w : List Token) → Back (prefix_entry o d) (operand d) gs (infix_sign o) a w

@@ -173,7 +173,7 @@ module _ (line : ℕ → ℕ) (width : ℕ) where
       → (walk_small line width st e >>= f) >>= g ≡ (walk_expr line width st e >>= f) >>= g
   small_then st e f g h = ap (λ (r : Result _ ParseFault). r >>= g) (sym (bind_alike (walk_expr line width st e) (walk_small line width st e) f (small_alike st e) h))
 
-  few_same : (a : ℕ) (c d : Condition) → SameCondition c d → few_leaves a c ≡ few_leaves a d
+  pub few_same : (a : ℕ) (c d : Condition) → SameCondition c d → few_leaves a c ≡ few_leaves a d
   few_same a c d (inl e) = ap (few_leaves a) e
   few_same a c d (inr h) = too_many a c h.0 ∙ sym (too_many a d h.1) where
     too_many : (a : ℕ) (c : Condition) → 64 < leaf_count c → few_leaves a c ≡ Err (fault.Limit a Leaves)

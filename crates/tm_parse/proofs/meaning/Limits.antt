@@ -27,7 +27,7 @@ use Rattle.tm_parse.specs.Forms.{constant_form, variable_form, pairwise, togethe
 use Rattle.tm_parse.specs.Walk.{Value, a_form, a_truth, a_nondet, State, start_state, followed_by, one, counted, labelled_by, number_if_known, known_number}
 use Rattle.tm_parse.specs.Walk.{number_of, as_condition, ranged_number, ranged_numbers, ranged, two_numbers, two_conditions, compared, product, combined}
 use Rattle.tm_parse.specs.Walk.{prefix_value, regarded, few_leaves, tested, right_side, assignment, changed, change_nodes, assigned, always, jump_kind}
-use Rattle.tm_parse.specs.Walk.{stepped, step_change, declared_by, closed, walk_expr, walk_update, walk_first, walk_test, walk_last, declared_before}
+use Rattle.tm_parse.specs.Walk.{step_change, declared_by, closed, walk_expr, walk_update, walk_first, walk_test, walk_last, declared_before}
 use Rattle.tm_parse.specs.Walk.{walk_declarator, walk_declarators, walk_core, walk_sub, walk_items, declared_in, declared_core, declared_sub, declared_items}
 use Rattle.tm_parse.specs.Walk.{program_of}
 use Rattle.tm_parse.proofs.forms.Ranges.{both_true, and_split, zeros_fit, set_fits, ranged_are_numbers, ranged_is_number}
@@ -38,7 +38,7 @@ abbrev pub OnValue : {A : Type 0} → (A → Type 0) → Result A ParseFault →
 OnValue P (Ok x) = P x
 OnValue P (Err e) = Unit {0}
 
-on_bind : {A B : Type 0} (P : A → Type 0) (Q : B → Type 0) (r : Result A ParseFault) (f : A → Result B ParseFault) → OnValue P r → ((x : A) → P x → OnValue Q (f x)) → OnValue Q (r >>= f)
+pub on_bind : {A B : Type 0} (P : A → Type 0) (Q : B → Type 0) (r : Result A ParseFault) (f : A → Result B ParseFault) → OnValue P r → ((x : A) → P x → OnValue Q (f x)) → OnValue Q (r >>= f)
 on_bind P Q (Ok x) f h g = g x h
 on_bind P Q (Err e) f h g = tt
 
@@ -110,7 +110,7 @@ number_fits n sign (a_nondet a) h = tt
 compared_fits : (n : ℕ) (f : Form) → FormFits n f → IsTrue (is_comparable f) → IsTrue (is_compared n f)
 compared_fits n f h i = both_true (is_form n f) (is_comparable f) h i
 
-condition_fits : (n : ℕ) (v : Value) → ValueFits n v → OnValue (λ c. IsTrue (is_condition n c)) (as_condition v)
+pub condition_fits : (n : ℕ) (v : Value) → ValueFits n v → OnValue (λ c. IsTrue (is_condition n c)) (as_condition v)
 condition_fits n (a_form f first) h = on_cond (λ c. IsTrue (is_condition n c)) (is_comparable f) _ _ (λ i. compared_fits n f h i) tt
 condition_fits n (a_truth c) h = h
 condition_fits n (a_nondet a) h = refl
@@ -162,10 +162,10 @@ regarded_fits n a (a_form f first) h = h
 regarded_fits n a (a_truth c) h = h
 regarded_fits n a (a_nondet b) h = tt
 
-abbrev TestFits : ℕ → Condition → Type 0
+abbrev pub TestFits : ℕ → Condition → Type 0
 TestFits n c = IsTrue (is_tested n c)
 
-tested_fits : (n a : ℕ) (v : Value) → ValueFits n v → OnValue (TestFits n) (tested a v)
+pub tested_fits : (n a : ℕ) (v : Value) → ValueFits n v → OnValue (TestFits n) (tested a v)
 tested_fits n a v h = on_bind (λ c. IsTrue (is_condition n c)) (TestFits n) (as_condition v) _ (condition_fits n v h) (λ c i. few n a c i) where
   few : (n a : ℕ) (c : Condition) → IsTrue (is_condition n c) → OnValue (TestFits n) (few_leaves a c)
   few n a c i = by_test (nat_lt 64 (leaf_count c)) refl where
@@ -285,7 +285,7 @@ label_fits x a st h = by_place (place_of x st.labels) where
   by_place None = counted_fits a (record st { labels = st.labels ++ x ∷ [] }) h.few_names
 
 module _ (line : ℕ → ℕ) (N : ℕ) where
-  expr_fits : (st : State) (e : Expr) → OnValue (ValueFits N) (walk_expr line N st e)
+  pub expr_fits : (st : State) (e : Expr) → OnValue (ValueFits N) (walk_expr line N st e)
   expr_fits st (number n a) = on_bind (FormFits N) (ValueFits N) (ranged a (constant_form N (pos n))) _ (ranged_fits N a (constant_form N (pos n)) (constant_length N (pos n))) (λ f h. h)
   expr_fits st (variable x a) = on_bind (Below st.names) (ValueFits N) (known_number x a st) _ (known_below x a st) (λ i h. variable_fits N i (pos 0) refl)
   expr_fits st (free a b c) = tt

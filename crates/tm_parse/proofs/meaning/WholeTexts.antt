@@ -15,11 +15,11 @@ use Rattle.tm_parse.proofs.walk.Counts.{total_append, times, IsPlain, front, fro
 use Rattle.tm_tree.specs.declared.limits.TheConstants.{MOST_VARIABLES}
 
 -- the end of a text
-abbrev ending : Kind → ℕ
+abbrev pub ending : Kind → ℕ
 ending the_end = 1
 ending _ = 0
 
-ending_none : (k : Kind) → IsPlain k → ending k ≡ 0
+pub ending_none : (k : Kind) → IsPlain k → ending k ≡ 0
 ending_none comma h = absurd h
 ending_none int_word h = absurd h
 ending_none the_end h = absurd h

@@ -1,59 +1,98 @@
--- Searches in a list of keys, by their texts.
-use Rattle.std.proofs.Common.{◌≡◌, ◌+◌, ◌++◌, ◌||◌, ◌<◌, ℕ, Bool, true, false, not, cond, List, [], ◌∷◌, length, map, Some, None, refl, sym, ap, ap₂, ◌∙◌}
+-- The first places of names, where one more name stands at the end.
+use Rattle.indexmap.specs.IndexMap.{insert_entry}
+use Rattle.std.specs.Prelude.{not, is_some}
+use Rattle.std.proofs.Common.{◌≡◌, ◌∙◌, ◌+◌, ◌++◌, ℕ, suc, Bool, true, false, cond, List, [], ◌∷◌, length, Option, Some, None, refl, sym, ap, ap₂}
 use Rattle.std.proofs.Common.{nat_lt, arith}
-use Rattle.std.specs.List.{list_any, position, position_or_len}
-use Rattle.std.specs.Str.{bytes_eq}
-use Rattle.std.proofs.lemmas.List.{map-append, length-map}
-use Rattle.std.proofs.lemmas.Bool.{lt-ltb}
 use Rattle.std.specs.declared.alloc.Global.{Global}
 use Rattle.std.specs.declared.vec.Vec.{Vec}
-use Rattle.indexmap.specs.IndexSet.{insert_key}
-use Rattle.tm_parse.specs.Names.{place_of, keys_of}
+use Rattle.std.specs.List.{position_or_len}
+use Rattle.std.specs.Map.{lookup}
+use Rattle.std.specs.Str.{bytes_eq}
+use Rattle.std.proofs.lemmas.Bool.{lt-ltb, le-ltb, ltb-true, ltb-false}
+use Rattle.std.proofs.lemmas.Slice.Eq.{bytes_eq-Decides}
+use Rattle.tm_parse.specs.Names.{place_of, HavePlaces}
 
-module _ {X Y : Type 0} (f : X → Y) (p : Y → Bool) where
-  any-mapped : (xs : List X) → list_any p (map f xs) ≡ list_any (λ x. p (f x)) xs
-  any-mapped [] = refl
-  any-mapped (x ∷ xs) = ap (λ b. p (f x) || b) (any-mapped xs)
+-- the first place, told by recursion
+abbrev first : {X : Type 0} → (X → Bool) → ℕ → List X → Option ℕ
+first p n [] = None
+first p n (x ∷ xs) = cond (p x) (Some n) (first p (1 + n) xs)
 
-  place-mapped : (xs : List X) → position_or_len p (map f xs) ≡ position_or_len (λ x. p (f x)) xs
-  place-mapped [] = refl
-  place-mapped (x ∷ xs) = ap (λ n. cond (not (p (f x))) (1 + n) 0) (place-mapped xs)
+-- a place, or another where there is none
+abbrev or_place : Option ℕ → Option ℕ → Option ℕ
+or_place None o = o
+or_place (Some n) o = Some n
 
-  position-mapped : (xs : List X) → position p (map f xs) ≡ position (λ x. p (f x)) xs
-  position-mapped xs = ap₂ (λ m n. cond (nat_lt m n) (Some m) None) (place-mapped xs) (length-map xs f)
+next_lt : (m l : ℕ) → nat_lt m l ≡ nat_lt (1 + m) (suc l)
+next_lt m l = on (nat_lt m l) refl where
+  on : (b : Bool) → nat_lt m l ≡ b → nat_lt m l ≡ nat_lt (1 + m) (suc l)
+  on true h = h ∙ sym (lt-ltb (1 + m) (suc l) (omega (arith, ltb-true m l h)))
+  on false h = h ∙ sym (le-ltb (1 + m) (suc l) (omega (arith, ltb-false m l h)))
 
-map-pushed : {X Y : Type 0} (f : X → Y) (b : Bool) (xs : List X) (x : X) → map f (cond b xs (xs ++ x ∷ [])) ≡ cond b (map f xs) (map f xs ++ f x ∷ [])
-map-pushed f true xs x = refl
-map-pushed f false xs x = map-append f xs (x ∷ [])
+shown : {X : Type 0} (p : X → Bool) (n : ℕ) (xs : List X) → first p n xs ≡ cond (nat_lt (position_or_len p xs) (length xs)) (Some (n + position_or_len p xs)) None
+shown p n [] = refl
+shown p n (x ∷ xs) = on (p x) (position_or_len p xs) (length xs) (shown p (1 + n) xs) where
+  on : (b : Bool) (m l : ℕ) → first p (1 + n) xs ≡ cond (nat_lt m l) (Some (1 + n + m)) None
+      → cond b (Some n) (first p (1 + n) xs) ≡ cond (nat_lt (cond (not b) (1 + m) 0) (suc l)) (Some (n + cond (not b) (1 + m) 0)) None
+  on true m l h = let e : n ≡ n + 0 = omega arith in ap Some e ∙ sym (ap (λ b. cond b (Some (n + 0)) None) (lt-ltb 0 (suc l) (omega arith)))
+  on false m l h = let e : 1 + n + m ≡ n + (1 + m) = omega arith in h ∙ ap₂ (λ b k. cond b (Some k) None) (next_lt m l) e
 
--- what passes nowhere is not found
-within_step : (b rest : Bool) (n k : ℕ) → (b || rest) ≡ true → (rest ≡ true → n < k) → cond (not b) (1 + n) 0 < k + 1
-within_step true rest n k e f = omega arith
-within_step false rest n k e f = let h = f e in omega arith
+first_pushed : {X : Type 0} (p : X → Bool) (n : ℕ) (xs : List X) (y : X) → first p n (xs ++ y ∷ []) ≡ or_place (first p n xs) (cond (p y) (Some (n + length xs)) None)
+first_pushed p n [] y = let e : n ≡ n + 0 = omega arith in ap (λ k. cond (p y) (Some k) None) e
+first_pushed p n (x ∷ xs) y = on (p x) (first_pushed p (1 + n) xs y) where
+  on : (b : Bool) → first p (1 + n) (xs ++ y ∷ []) ≡ or_place (first p (1 + n) xs) (cond (p y) (Some (1 + n + length xs)) None)
+      → cond b (Some n) (first p (1 + n) (xs ++ y ∷ [])) ≡ or_place (cond b (Some n) (first p (1 + n) xs)) (cond (p y) (Some (n + length (x ∷ xs))) None)
+  on true h = refl
+  on false h = let e : 1 + n + length xs ≡ n + length (x ∷ xs) = omega arith in h ∙ ap (λ k. or_place (first p (1 + n) xs) (cond (p y) (Some k) None)) e
 
-within : {X : Type 0} (p : X → Bool) (xs : List X) → list_any p xs ≡ true → position_or_len p xs < length xs
-within p [] e = absurd (cc)
-within p (x ∷ xs) e = let h = (within_step (p x) (list_any p xs) (position_or_len p xs) (length xs) e (λ h. within p xs h)) in omega (arith, h)
+place_first : (x : List ℕ) (names : List (List ℕ)) → first (bytes_eq x) 0 names ≡ place_of x names
+place_first x names = let e : 0 + position_or_len (bytes_eq x) names ≡ position_or_len (bytes_eq x) names = omega arith in
+    shown (bytes_eq x) 0 names ∙ ap (λ k. cond (nat_lt (position_or_len (bytes_eq x) names) (length names)) (Some k) None) e
 
-pub none_any : {X : Type 0} (p : X → Bool) (xs : List X) → position p xs ≡ None → list_any p xs ≡ false
-none_any p xs e = by_test (list_any p xs) refl where
-  by_test : (b : Bool) → list_any p xs ≡ b → list_any p xs ≡ false
-  by_test false h = h
-  by_test true h = let k = ap (λ b. cond b (Some (position_or_len p xs)) None) (lt-ltb (position_or_len p xs) (length xs) (within p xs h)) in let q :
-      Some (position_or_len p xs) ≡ None = sym k ∙ e in cc
+place_pushed : (x : List ℕ) (names : List (List ℕ)) (name : List ℕ)
+    → place_of x (names ++ name ∷ []) ≡ or_place (place_of x names) (cond (bytes_eq x name) (Some (length names)) None)
+place_pushed x names name = let e : 0 + length names ≡ length names = omega arith in
+    sym (place_first x (names ++ name ∷ [])) ∙ first_pushed (bytes_eq x) 0 names name
+    ∙ ap₂ (λ o k. or_place o (cond (bytes_eq x name) (Some k) None)) (place_first x names) e
 
--- the number of a text among keys
-pub place_is : (name : List ℕ) (names : List (List ℕ)) (keys : List (Vec ℕ Global)) → keys_of keys ≡ names → position (λ k. bytes_eq name k.items) keys ≡ place_of name names
-place_is name names keys e = sym (position-mapped (λ (k : Vec ℕ Global). k.items) (bytes_eq name) keys) ∙ ap (place_of name) e
+lookup_pushed : {K : Type 0} (t : K → Bool) (es : List (K × ℕ)) (k : K) (v : ℕ) → lookup t (es ++ (k, v) ∷ []) ≡ or_place (lookup t es) (cond (t k) (Some v) None)
+lookup_pushed t [] k v = refl
+lookup_pushed t (e ∷ es) k v = on (t e.0) (lookup_pushed t es k v) where
+  on : (b : Bool) → lookup t (es ++ (k, v) ∷ []) ≡ or_place (lookup t es) (cond (t k) (Some v) None)
+      → cond b (Some e.1) (lookup t (es ++ (k, v) ∷ [])) ≡ or_place (cond b (Some e.1) (lookup t es)) (cond (t k) (Some v) None)
+  on true h = refl
+  on false h = h
 
-pub keys_length : (keys : List (Vec ℕ Global)) (names : List (List ℕ)) → keys_of keys ≡ names → length keys ≡ length names
-keys_length keys names e = sym (length-map keys (λ (k : Vec ℕ Global). k.items)) ∙ ap length e
+insert_absent : {K : Type 0} (eq : K → K → Bool) (k : K) (v : ℕ) (es : List (K × ℕ)) → lookup (eq k) es ≡ None → insert_entry eq es k v ≡ es ++ (k, v) ∷ []
+insert_absent eq k v [] h = refl
+insert_absent eq k v (e ∷ es) h = on (eq k e.0) (λ i. insert_absent eq k v es i) h where
+  on : (b : Bool) → (lookup (eq k) es ≡ None → insert_entry eq es k v ≡ es ++ (k, v) ∷ []) → cond b (Some e.1) (lookup (eq k) es) ≡ None
+      → cond b ((e.0, v) ∷ es) (e ∷ insert_entry eq es k v) ≡ e ∷ (es ++ (k, v) ∷ [])
+  on true f i = cc
+  on false f i = ap (λ xs. e ∷ xs) (f i)
 
--- a key that is new goes last
-pub added : (name : List ℕ) (names : List (List ℕ)) (key : Vec ℕ Global) (keys now : List (Vec ℕ Global)) → key.items ≡ name → keys_of keys ≡ names
-    → place_of name names ≡ None → now ≡ insert_key (λ x y. bytes_eq x.items y.items) keys key → keys_of now ≡ names ++ name ∷ []
-added name names key keys now k e n h =
-    ap keys_of h ∙ map-pushed (λ (k : Vec ℕ Global). k.items) (list_any (λ (y : Vec ℕ Global). bytes_eq key.items y.items) keys) keys key
-    ∙ ap (λ b. cond b (keys_of keys) (keys_of keys ++ key.items ∷ [])) (sym (any-mapped (λ (y : Vec ℕ Global). y.items) (bytes_eq key.items) keys)
-    ∙ ap₂ (λ x y. list_any (bytes_eq x) y) k e ∙ none_any (bytes_eq name) names n)
-    ∙ ap₂ (λ x y. x ++ y ∷ []) e k
+none_there : (o : Option ℕ) → is_some o ≡ false → o ≡ None
+none_there None h = refl
+none_there (Some n) h = cc
+
+-- a name that is new gets the last place
+pub have_new : (entries now : List (Vec ℕ Global × ℕ)) (names list : List (List ℕ)) (key : Vec ℕ Global) (name : List ℕ) (place : ℕ) → HavePlaces entries names
+    → key.items ≡ name → place ≡ length names → is_some (place_of name names) ≡ false → now ≡ insert_entry (λ x y. bytes_eq x.items y.items) entries key place
+    → list ≡ names ++ name ∷ [] → HavePlaces now list
+have_new entries now names list key name place h e f n i j =
+    let k = insert_absent (λ (x y : Vec ℕ Global). bytes_eq x.items y.items) key place entries
+    (h key.items ∙ ap (λ y. place_of y names) e ∙ none_there (place_of name names) n) in
+    λ x. ap (lookup (λ (k : Vec ℕ Global). bytes_eq x k.items)) (i ∙ k) ∙ lookup_pushed (λ (k : Vec ℕ Global). bytes_eq x k.items) entries key place
+    ∙ ap₂ or_place (h x) (ap₂ (λ k n. cond (bytes_eq x k) (Some n) None) e f) ∙ sym (place_pushed x names name) ∙ ap (place_of x) (sym j)
+
+-- where a name stands again, nothing changes
+pub have_again : (entries : List (Vec ℕ Global × ℕ)) (names list : List (List ℕ)) (name : List ℕ) → HavePlaces entries names → is_some (place_of name names) ≡ true
+    → list ≡ names ++ name ∷ [] → HavePlaces entries list
+have_again entries names list name h e j =
+    λ x. h x ∙ sym (ap (place_of x) j ∙ place_pushed x names name ∙ on x (place_of x names) (bytes_eq x name) refl refl) where
+      on : (x : List ℕ) (o : Option ℕ) (b : Bool) → place_of x names ≡ o → bytes_eq x name ≡ b → or_place o (cond b (Some (length names)) None) ≡ o
+      on x (Some n) b f g = refl
+      on x None false f g = refl
+      on x None true f g =
+          let i : x ≡ name = (bytes_eq-Decides x name).0 g in
+          let k : is_some (place_of x names) ≡ true = ap (λ y. is_some (place_of y names)) i ∙ e in
+          let m : is_some (place_of x names) ≡ false = ap is_some f in cc

@@ -38,7 +38,7 @@ module _ (f : Kind → ℕ) (w : ℕ) (none : (k : Kind) → IsPlain k → f k �
   sign_none positive = none _ tt
   sign_none negation = none _ tt
 
-  expr_total : (e : Expr) → total f (spell_expr e) ≡ 0
+  pub expr_total : (e : Expr) → total f (spell_expr e) ≡ 0
   expr_total (number n a) = omega (arith, none (a_number n) tt)
   expr_total (variable x a) = omega (arith, none (a_name x) tt)
   expr_total (free a b c) = omega (arith, none nondet_word tt, none left_paren tt, none right_paren tt)

@@ -6,7 +6,7 @@ use Rattle.tm_parse.specs.Frames.{frames_of}
 use Rattle.tm_parse.specs.Modes.{lexeme_kind}
 use Rattle.tm_parse.specs.Views.{state_of}
 use Rattle.tm_parse.proofs.feed.Operands.{plain_wanted}
-use Rattle.tm_parse.proofs.expression.wanted.Goals as goal
+use Rattle.tm_parse.proofs.operand.wanted.Goals as goal
 
 pub returns-in-Plain : goal.returns-in-Plain
 returns-in-Plain c =

@@ -28,8 +28,8 @@ use tm_gram::{Change, Op, Symbol};
 use tm_lex::line_of;
 use tm_tree::{Cond, Form, Stmt};
 
-// The condition of the statement that begins at `at`.
-fn tested(at: u32, value: Value) -> Result<Cond, ParseFault>
+/// The condition of what begins at `at`.
+pub(crate) fn tested(at: u32, value: Value) -> Result<Cond, ParseFault>
     ensures { Gives condition_of result (tested at (value_of value)) }
 {
     let cond = as_condition(value)?;
