@@ -3,3 +3,4 @@ pub mod Sound
 pub mod Going
 pub mod Whole
 pub mod Lengths
+pub mod Once

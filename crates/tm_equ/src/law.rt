@@ -1,5 +1,9 @@
 //! Laws of the definitions, each the contract of a function that does nothing.
 
+ghost use Rattle.std.specs.Prelude.{◌≡◌, ℕ, List, Result};
+ghost use Rattle.tm_equ.specs.declared.equation.Equation.{Equation};
+ghost use Rattle.tm_equ.specs.declared.fault.EquFault.{EquFault};
+ghost use Rattle.tm_equ.specs.EquationTexts.{Answers};
 ghost use Rattle.tm_equ.specs.Laws.{AtMostOneLeastAbove, LeastAboveEqualRightSides, LeastVectorsAreLeastAbove, PostSolutionsAreAbove};
 
 /// The values at the loop of the system's least vector are the least above the equations: a vector that is `+inf` at the entry
@@ -18,4 +22,9 @@ pub fn least_above_equal_right_sides()
 /// There is one least value for each name.
 pub fn at_most_one_least_above()
     ensures { AtMostOneLeastAbove }
+{}
+
+/// A text is one thing at most: these equations, or this fault.
+pub fn texts_have_one_answer()
+    ensures { (text : List ℕ) (one other : Result (List Equation) EquFault) → Answers text one → Answers text other → one ≡ other }
 {}

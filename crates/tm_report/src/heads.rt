@@ -80,7 +80,7 @@ fn push_improvements(text: &mut Vec<u8>, count: u32) -> Result<(), AllocError>
 }
 
 /// Appends the last line.
-pub(crate) fn push_footer(text: &mut Vec<u8>, footer: Footer) -> Result<(), AllocError>
+pub fn push_footer(text: &mut Vec<u8>, footer: Footer) -> Result<(), AllocError>
     ensures { IfOk result (λ _. text.new.items ≡ text.old.items ++ footer_line footer) }
 {
     match footer {

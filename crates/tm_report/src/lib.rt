@@ -1,8 +1,14 @@
-//! The report of a system's bounds as bytes (docs/FORMATS.md, "The report").
+//! The report of a system's bounds as bytes (docs/FORMATS.md, "The report"), and the values of names.
 #![tactic(auto)]
 
 mod heads;
 mod rows;
+mod valuation;
 mod whole;
 
+pub use valuation::values;
 pub use whole::{point_text, report};
+
+// For what other outputs have in common with it.
+pub use heads::push_footer;
+pub use rows::push_number;

@@ -19,7 +19,7 @@ pub(crate) fn push_bound(text: &mut Vec<u8>, bound: Ext) -> Result<(), AllocErro
 }
 
 /// Appends a number.
-pub(crate) fn push_number(text: &mut Vec<u8>, number: u64) -> Result<(), AllocError>
+pub fn push_number(text: &mut Vec<u8>, number: u64) -> Result<(), AllocError>
     ensures { IfOk result (λ _. text.new.items ≡ text.old.items ++ decimal number) }
 {
     let mut buffer = Buffer::new();
