@@ -1,2 +1,4 @@
-pub mod verdicts
+pub mod judging
 pub mod laws
+pub mod Rests
+pub mod claims

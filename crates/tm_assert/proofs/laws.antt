@@ -1,2 +1,5 @@
 pub mod Sizes
 pub mod Claims
+pub mod SameBounds
+pub mod Lists
+pub mod Refusals

@@ -1,2 +1,5 @@
 pub mod Verdicts
+pub mod AllVerdicts
+pub mod Lines
 pub mod Laws
+pub mod Claims

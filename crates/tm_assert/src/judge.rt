@@ -17,8 +17,8 @@ use tm_eqsys::{Bounds, Fracs, PartFault, System};
 use tm_oper::guarded_value;
 use tm_tree::Form;
 
-// A case's number as faults give it.
-fn case_number(number: usize) -> u32
+// The number of a claim or a case as faults give it.
+pub(crate) fn capped(number: usize) -> u32
     ensures { result ≡ capped number }
 {
     if number < 4294967295 {
@@ -54,7 +54,7 @@ fn breaking_state(
 }
 
 /// The verdict of bounds on a claim: `Proved` where a bound at the point is `-inf`, or where for each case against the claim
-/// the linear problem of the case is empty (docs/FORMATS.md, "Linear programs"). Its columns are the variables, each split
+/// the linear problem of the case is empty (docs/FORMATS.md, "Verdicts"). Its columns are the variables, each split
 /// into a positive and a negative one; its rows are the template rows with a finite bound at the point and then the guards of
 /// the case, with the negated constant as side; its goal is 0. The first problem that isn't empty gives `Open`, with the state
 /// of its last dictionary.
@@ -86,7 +86,7 @@ pub fn verdict(
             Ok(Some(state)) => return Ok(Verdict::Open { state }),
             Err(PartFault::Wide { part, wide }) => {
                 return Err(VerdictFault::Wide {
-                    case: case_number(number),
+                    case: capped(number),
                     part,
                     wide,
                 });

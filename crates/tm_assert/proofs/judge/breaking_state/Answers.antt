@@ -1,5 +1,5 @@
 use Rattle.tm_eqsys.specs.View.{equations_of, vector_at}
-use Rattle.tm_assert.proofs.verdicts.Words.{unreached_breaks, empty_breaks, best_breaks, never_unbounded}
+use Rattle.tm_assert.proofs.judging.Words.{unreached_breaks, empty_breaks, best_breaks, never_unbounded}
 use Rattle.tm_assert.proofs.judge.breaking_state.Goals as goal
 
 pub returns-in-Unreached-clause-state : goal.returns-in-Unreached-clause-state

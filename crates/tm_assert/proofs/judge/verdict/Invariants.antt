@@ -1,5 +1,5 @@
 use Rattle.tm_eqsys.specs.View.{equations_of, vector_at}
-use Rattle.tm_assert.proofs.verdicts.Turns.{IsJudged}
+use Rattle.tm_assert.proofs.judging.Turns.{IsJudged}
 use Rattle.tm_assert.proofs.judge.verdict.Given as goal
 
 abbrev pub invariant-loop-number : goal.invariant-loop-number

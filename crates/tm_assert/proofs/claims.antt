@@ -1,0 +1,5 @@
+pub mod Binds
+pub mod Ends
+pub mod Means
+pub mod Parsed
+pub mod Leads

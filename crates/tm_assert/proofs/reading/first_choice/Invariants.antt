@@ -1,0 +1,6 @@
+use Rattle.std.proofs.Common.{◌≡◌, drop}
+use Rattle.tm_assert.specs.Claims.{first_choice}
+use Rattle.tm_assert.proofs.reading.first_choice.Given as goal
+
+abbrev pub invariant-loop-token : goal.invariant-loop-token
+invariant-loop-token l = first_choice (drop l.token-index l.tokens) ≡ first_choice l.tokens

@@ -1,0 +1,11 @@
+use Rattle.std.proofs.Common.{map}
+use Rattle.tm_assert.specs.Claims.{stated_of}
+use Rattle.tm_assert.specs.declared.claim.Claim.{Claim}
+use Rattle.std.specs.declared.alloc.Global.{Global}
+use Rattle.std.specs.declared.vec.Vec.{Vec}
+use Rattle.tm_assert.proofs.claims.Means.{exact_by}
+use Rattle.tm_assert.proofs.reading.read_claims.Goals as goal
+
+pub returns-clause-exact : goal.returns-clause-exact
+returns-clause-exact c =
+    exact_by (λ (claims : Vec Claim Global). map stated_of claims.items) c.args.text.now c.args.flow.now.names c.args.flow.now.points c.file.result c.file.ensures.found
