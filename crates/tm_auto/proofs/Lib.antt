@@ -1,0 +1,5 @@
+pub mod choosing
+pub mod counted
+pub mod made
+pub mod along
+pub mod progress

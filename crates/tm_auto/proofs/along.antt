@@ -1,0 +1,2 @@
+pub mod ActLaw
+pub mod Bounded

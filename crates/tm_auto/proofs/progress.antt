@@ -1,0 +1,10 @@
+pub mod Steps
+pub mod Signs
+pub mod Range
+pub mod ActSteps
+pub mod Expressions
+pub mod HeadSteps
+pub mod EdgeSteps
+pub mod Loops
+pub mod Positions
+pub mod Once

@@ -1,0 +1,9 @@
+pub mod AutoLimits
+pub mod Choices
+pub mod Counted
+pub mod AutoFaults
+pub mod AutoRuns
+pub mod AutoLaws
+pub mod AutoSymbols
+pub mod AutoReading
+pub mod AutoTexts

@@ -1,0 +1,21 @@
+//! Laws of the definitions, each the contract of a function that does nothing.
+
+ghost use Rattle.std.specs.Prelude.{◌≡◌, ℕ, List};
+ghost use Rattle.tm_auto.specs.AutoReading.{AutoAnswer};
+ghost use Rattle.tm_auto.specs.AutoTexts.{IsAuto};
+ghost use Rattle.tm_auto.specs.AutoLaws.{ChoicesAreActs, PostSolutionsHoldAlong};
+
+/// A text is one thing: one transition system, or one fault.
+pub fn one_answer()
+    ensures { (text : List ℕ) (a b : AutoAnswer) → IsAuto text a → IsAuto text b → a ≡ b }
+{}
+
+/// Acts lead from one integer state to another exactly where the actions of one of their choices do.
+pub fn choices_are_acts()
+    ensures { ChoicesAreActs }
+{}
+
+/// Every post-solution of a transition system's edges, over any template, holds at every configuration of every run.
+pub fn post_solutions_hold_along()
+    ensures { PostSolutionsHoldAlong }
+{}
