@@ -1,4 +1,4 @@
--- The command line as `clap` sees it: one simple command with five subcommands.
+-- The command line as `clap` sees it: one simple command with eight subcommands.
 use Rattle.std.specs.Prelude.{Some, codes, true}
 use Rattle.clap.specs.Words.{App, Rule, Text, new_app, new_rule, with_rule, with_subcommand}
 use Rattle.clap.specs.Simple.{on_top}
@@ -11,7 +11,7 @@ word_rule id = record (new_rule id) { required = true }
 abbrev pub option_rule : Text → Rule
 option_rule id = record (new_rule id) { long = Some id }
 
--- `solve PROGRAM` and `certify PROGRAM`, with four options
+-- `solve PROGRAM`, `certify PROGRAM` and `transitions PROGRAM`, with four options
 abbrev pub analysis_app : Text → App
 analysis_app name =
     with_rule (with_rule (with_rule (with_rule (with_rule (new_app name)
@@ -32,6 +32,15 @@ bench_app = with_rule (with_rule (new_app (codes "bench")) (option_rule (codes "
 abbrev pub upgrade_app : App
 upgrade_app = with_rule (new_app (codes "upgrade")) (word_rule (codes "certificate"))
 
+-- `prove PROGRAM CLAIMS`, with the options of `solve`
+abbrev pub prove_app : App
+prove_app = with_rule (analysis_app (codes "prove")) (word_rule (codes "claims"))
+
+-- `equations FILE`, with two options
+abbrev pub equations_app : App
+equations_app = with_rule (with_rule (with_rule (new_app (codes "equations")) (word_rule (codes "file")))
+    (option_rule (codes "improvements"))) (option_rule (codes "policy"))
+
 -- the program's own name isn't among the words, and one of the commands has to be
 abbrev pub top_app : App
 top_app = on_top (λ s. record s { no_binary_name = true; subcommand_required = true })
@@ -39,5 +48,6 @@ top_app = on_top (λ s. record s { no_binary_name = true; subcommand_required = 
 
 -- the whole command line
 abbrev pub tmpl_app : App
-tmpl_app = with_subcommand (with_subcommand (with_subcommand (with_subcommand (with_subcommand top_app
-    (analysis_app (codes "solve")).top) (analysis_app (codes "certify")).top) check_app.top) bench_app.top) upgrade_app.top
+tmpl_app = with_subcommand (with_subcommand (with_subcommand (with_subcommand (with_subcommand (with_subcommand (with_subcommand
+    (with_subcommand top_app (analysis_app (codes "solve")).top) (analysis_app (codes "certify")).top) check_app.top) bench_app.top)
+    upgrade_app.top) prove_app.top) (analysis_app (codes "transitions")).top) equations_app.top

@@ -1,5 +1,5 @@
 -- What a list of words asks for.
-use Rattle.std.specs.Prelude.{List, [], ◌∷◌, Option, None, codes, option_and_then, option_map, unwrap_or, if◌then◌else◌}
+use Rattle.std.specs.Prelude.{ℕ, List, [], ◌∷◌, Option, None, codes, option_and_then, option_map, unwrap_or, if◌then◌else◌}
 use Rattle.std.specs.Str.{bytes_eq}
 use Rattle.std.specs.Borrow.{Bor}
 use Rattle.clap.specs.Words.{Kinds, Row, Text, fault_of, first_of, subcommand_of}
@@ -9,7 +9,8 @@ use Rattle.tm_cli.specs.declared.request.Analysis.{Analysis}
 use Rattle.tm_cli.specs.declared.request.Domain.{Domain}
 use Rattle.tm_cli.specs.declared.request.Domain.TheVariants.{Intervals, Zones, Octagons, Rows}
 use Rattle.tm_cli.specs.declared.request.Request.{Request}
-use Rattle.tm_cli.specs.declared.request.Request.TheVariants.{Analyse, Check, Bench, Upgrade}
+use Rattle.tm_cli.specs.declared.request.Policy.{Policy}
+use Rattle.tm_cli.specs.declared.request.Request.TheVariants.{Analyse, Check, Bench, Upgrade, Prove, Transitions, Equations}
 use Rattle.tm_cli.specs.declared.request.Purpose.{Purpose}
 use Rattle.tm_cli.specs.declared.request.Purpose.TheVariants.{Report, Certificate}
 
@@ -34,10 +35,21 @@ request_text (Analyse purpose a) = Analyse purpose (analysis_text a)
 request_text (Check program certificate) = Check program.now certificate.now
 request_text (Bench seed loops) = Bench seed loops
 request_text (Upgrade certificate) = Upgrade certificate.now
+request_text (Prove claims a) = Prove claims.now (analysis_text a)
+request_text (Transitions a) = Transitions (analysis_text a)
+request_text (Equations file improvements policy) = Equations file.now improvements policy
 
 -- ---- commands, by the words and options that were given
 
--- `solve` and `certify`
+-- how many improvements are made at most
+abbrev pub improvements_in : List Row → Option ℕ
+improvements_in given = number_in 0 1000000 (unwrap_or (first_of (codes "improvements") given) (codes "1000"))
+
+-- by which rule an edge is picked
+abbrev pub policy_in : List Row → Option Policy
+policy_in given = meaning_in policies (unwrap_or (first_of (codes "policy") given) (codes "best"))
+
+-- what is analysed, and how
 abbrev pub analysis_in : List Row → Option (Analysis Text)
 analysis_in given =
     option_and_then (λ program.
@@ -48,8 +60,8 @@ analysis_in given =
       domain = domain;
       improvements = improvements;
       policy = policy;
-    }) (meaning_in policies (unwrap_or (first_of (codes "policy") given) (codes "best"))))
-    (number_in 0 1000000 (unwrap_or (first_of (codes "improvements") given) (codes "1000"))))
+    }) (policy_in given))
+    (improvements_in given))
     (domain_in (unwrap_or (first_of (codes "domain") given) (codes "intervals")) (first_of (codes "rows") given)))
     (first_of (codes "program") given)
 
@@ -68,13 +80,30 @@ bench_in given = option_and_then (λ seed. option_map (λ loops. Bench seed loop
 abbrev pub upgrade_in : List Row → Option (Request Text)
 upgrade_in given = option_map (λ certificate. Upgrade certificate) (first_of (codes "certificate") given)
 
+abbrev pub prove_in : List Row → Option (Request Text)
+prove_in given = option_and_then (λ a. option_map (λ claims. Prove claims a) (first_of (codes "claims") given)) (analysis_in given)
+
+abbrev pub transitions_in : List Row → Option (Request Text)
+transitions_in given = option_map (λ a. Transitions a) (analysis_in given)
+
+abbrev pub equations_in : List Row → Option (Request Text)
+equations_in given =
+    option_and_then (λ file.
+    option_and_then (λ improvements.
+    option_map (λ policy. Equations file improvements policy) (policy_in given))
+    (improvements_in given))
+    (first_of (codes "file") given)
+
 -- the request of a command by its name
 abbrev pub command_in : Text × List Row → Option (Request Text)
 command_in (name, given) = if bytes_eq name (codes "solve") then analyse_in Report given
     else (if bytes_eq name (codes "certify") then analyse_in Certificate given
     else (if bytes_eq name (codes "check") then check_in given
     else (if bytes_eq name (codes "bench") then bench_in given
-    else (if bytes_eq name (codes "upgrade") then upgrade_in given else None))))
+    else (if bytes_eq name (codes "upgrade") then upgrade_in given
+    else (if bytes_eq name (codes "prove") then prove_in given
+    else (if bytes_eq name (codes "transitions") then transitions_in given
+    else (if bytes_eq name (codes "equations") then equations_in given else None)))))))
 
 -- what is asked, where `clap` finds no fault
 abbrev pub unless_fault : Kinds → Option (Request Text) → Option (Request Text)

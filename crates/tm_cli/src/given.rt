@@ -2,10 +2,11 @@
 
 ghost use Rattle.std.specs.Prelude.{◌≡◌, option_and_then, option_map, unwrap_or};
 ghost use Rattle.clap.specs.Words.{first_of, found_of, rows_of, subcommand_rows_of};
-ghost use Rattle.tm_cli.specs.Request.{analyse_in, analysis_in, analysis_text, bench_in, check_in, command_in, request_text, upgrade_in};
+ghost use Rattle.tm_cli.specs.Request.{analyse_in, analysis_in, analysis_text, bench_in, check_in, command_in, equations_in};
+ghost use Rattle.tm_cli.specs.Request.{improvements_in, policy_in, prove_in, request_text, transitions_in, upgrade_in};
 
-use crate::request::{Analysis, Purpose, Request};
-use crate::values::{domain, number, policy};
+use crate::request::{Analysis, Policy, Purpose, Request};
+use crate::values::{domain, number, policy as policy_named};
 use clap::ArgMatches;
 
 /// The request that these matches make.
@@ -31,6 +32,12 @@ fn command<'a>(name: &str, given: &ArgMatches<'a>) -> Option<Request<&'a str>>
         bench(given)
     } else if name == "upgrade" {
         upgrade(given)
+    } else if name == "prove" {
+        prove(given)
+    } else if name == "transitions" {
+        transitions(given)
+    } else if name == "equations" {
+        equations(given)
     } else {
         None
     }
@@ -44,14 +51,14 @@ fn analyse<'a>(purpose: Purpose, given: &ArgMatches<'a>) -> Option<Request<&'a s
     Some(Request::Analyse { purpose, analysis })
 }
 
-// What `solve` or `certify` is to solve.
+// What is analysed, and how.
 fn analysis<'a>(given: &ArgMatches<'a>) -> Option<Analysis<&'a str>>
     ensures { option_map analysis_text result ≡ analysis_in (rows_of (found_of given.now)) }
 {
     let program = value(given, "program")?;
     let domain = domain(value_or(given, "domain", "intervals"), value(given, "rows"))?;
-    let improvements = number(value_or(given, "improvements", "1000"), 0, 1_000_000)?;
-    let policy = policy(value_or(given, "policy", "best"))?;
+    let improvements = improvements(given)?;
+    let policy = policy(given)?;
     Some(Analysis {
         program,
         domain,
@@ -84,6 +91,48 @@ fn upgrade<'a>(given: &ArgMatches<'a>) -> Option<Request<&'a str>>
 {
     let certificate = value(given, "certificate")?;
     Some(Request::Upgrade { certificate })
+}
+
+fn prove<'a>(given: &ArgMatches<'a>) -> Option<Request<&'a str>>
+    ensures { option_map request_text result ≡ prove_in (rows_of (found_of given.now)) }
+{
+    let analysis = analysis(given)?;
+    let claims = value(given, "claims")?;
+    Some(Request::Prove { claims, analysis })
+}
+
+fn transitions<'a>(given: &ArgMatches<'a>) -> Option<Request<&'a str>>
+    ensures { option_map request_text result ≡ transitions_in (rows_of (found_of given.now)) }
+{
+    let analysis = analysis(given)?;
+    Some(Request::Transitions { analysis })
+}
+
+fn equations<'a>(given: &ArgMatches<'a>) -> Option<Request<&'a str>>
+    ensures { option_map request_text result ≡ equations_in (rows_of (found_of given.now)) }
+{
+    let file = value(given, "file")?;
+    let improvements = improvements(given)?;
+    let policy = policy(given)?;
+    Some(Request::Equations {
+        file,
+        improvements,
+        policy,
+    })
+}
+
+// How many improvements are made at most.
+fn improvements(given: &ArgMatches<'_>) -> Option<u32>
+    ensures { result ≡ improvements_in (rows_of (found_of given.now)) }
+{
+    number(value_or(given, "improvements", "1000"), 0, 1_000_000)
+}
+
+// By which rule an edge is picked.
+fn policy(given: &ArgMatches<'_>) -> Option<Policy>
+    ensures { result ≡ policy_in (rows_of (found_of given.now)) }
+{
+    policy_named(value_or(given, "policy", "best"))
 }
 
 // The value of a word or an option, where it was given.

@@ -4,8 +4,9 @@ ghost use Rattle.std.specs.Prelude.{◌≡◌, ◌≢◌, ℕ, List, [], ◌∷�
 ghost use Rattle.tm_cli.specs.Laws.{plain_analysis};
 ghost use Rattle.tm_cli.specs.Request.{request_of};
 ghost use Rattle.tm_cli.specs.declared.request.Domain.TheVariants.{Intervals, Zones};
+ghost use Rattle.tm_cli.specs.declared.request.Policy.TheVariants.{First};
 ghost use Rattle.tm_cli.specs.declared.request.Purpose.TheVariants.{Report};
-ghost use Rattle.tm_cli.specs.declared.request.Request.TheVariants.{Analyse, Upgrade};
+ghost use Rattle.tm_cli.specs.declared.request.Request.TheVariants.{Analyse, Equations, Prove, Transitions, Upgrade};
 
 /// Nothing happens here: the clauses are the laws.
 pub fn request_laws()
@@ -26,6 +27,18 @@ pub fn request_laws()
 
     // The file of a certificate alone is upgraded.
     ensures upgrade { request_of (codes "upgrade" ∷ codes "c" ∷ []) ≡ Some (Upgrade (codes "c")) }
+
+    // The program comes before its claims, wherever the options stand.
+    ensures prove { request_of (codes "prove" ∷ codes "p" ∷ codes "--domain=zones" ∷ codes "c" ∷ [])
+        ≡ Some (Prove (codes "c") (plain_analysis (codes "p") Zones)) }
+
+    // A transition system is analysed as a program is.
+    ensures transitions { request_of (codes "transitions" ∷ codes "s" ∷ codes "--domain" ∷ codes "zones" ∷ [])
+        ≡ Some (Transitions (plain_analysis (codes "s") Zones)) }
+
+    // Equations are solved by the policy that is named, and by 1,000 improvements where none are.
+    ensures equations { request_of (codes "equations" ∷ codes "e" ∷ codes "--policy=first" ∷ [])
+        ≡ Some (Equations (codes "e") 1000 First) }
 
     // No option is given twice, and no word makes no command.
     ensures repeated { request_of (codes "solve" ∷ codes "p" ∷ codes "--policy=best"

@@ -18,10 +18,10 @@ pub enum Domain<T> {
     Rows(T),
 }
 
-/// A program, and how it is solved.
+/// A program or a transition system, and how it is solved.
 #[derive(Clone, Copy, Debug, PartialEq, Eq)]
 pub struct Analysis<T> {
-    /// The name of the program's file.
+    /// The name of the file of the program, or of the transition system.
     pub program: T,
     pub domain: Domain<T>,
     /// How many improvements are made at most: at most 1,000,000, and 1,000 by default.
@@ -59,5 +59,20 @@ pub enum Request<T> {
     /// Write a certificate anew, as certificates are written now.
     Upgrade {
         certificate: T,
+    },
+    /// Analyse a program, and say of each claim of a file whether the least bounds prove it.
+    Prove {
+        claims: T,
+        analysis: Analysis<T>,
+    },
+    /// Analyse a transition system, and write its report.
+    Transitions {
+        analysis: Analysis<T>,
+    },
+    /// Solve the equations of a file, by at most so many improvements: at most 1,000,000, and 1,000 by default.
+    Equations {
+        file: T,
+        improvements: u32,
+        policy: Policy,
     },
 }

@@ -24,6 +24,18 @@ pub returns-clause-upgrade : goal.returns-clause-upgrade
 unfolding clap_on_literals request_of
 returns-clause-upgrade c = refl
 
+pub returns-clause-prove : goal.returns-clause-prove
+unfolding clap_on_literals request_of
+returns-clause-prove c = refl
+
+pub returns-clause-transitions : goal.returns-clause-transitions
+unfolding clap_on_literals request_of
+returns-clause-transitions c = refl
+
+pub returns-clause-equations : goal.returns-clause-equations
+unfolding clap_on_literals request_of
+returns-clause-equations c = refl
+
 pub returns-clause-repeated : goal.returns-clause-repeated
 unfolding clap_on_literals request_of
 returns-clause-repeated c = refl
