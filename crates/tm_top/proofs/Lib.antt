@@ -1,3 +1,4 @@
 pub mod texts
 pub mod rounds
 pub mod checks
+pub mod questions

@@ -1,5 +1,4 @@
 pub mod Solved
-pub mod Answered
 pub mod Systems
 pub mod Analysed
 pub mod Halted

@@ -3,21 +3,18 @@ use Rattle.std.specs.Prelude.{◌≡◌, ℕ, ℤ, List, Option, Some, None}
 use Rattle.tm_io.specs.Files.{Contents}
 use Rattle.tm_tree.specs.Tree.{Statements}
 use Rattle.tm_eqsys.specs.declared.spot.Spot.{Spot}
-use Rattle.tm_eqsys.specs.declared.system.System.{System}
 use Rattle.tm_eqsys.specs.Equations.{Vector}
 use Rattle.tm_cli.specs.Request.{request_of}
 use Rattle.tm_cli.specs.declared.request.Analysis.{Analysis}
 use Rattle.tm_cli.specs.declared.request.Domain.{Domain}
 use Rattle.tm_cli.specs.declared.request.Policy.{Policy}
-use Rattle.tm_cli.specs.declared.request.Policy.TheVariants.{Best}
 use Rattle.tm_cli.specs.declared.request.Purpose.{Purpose}
-use Rattle.tm_cli.specs.declared.request.Purpose.TheVariants.{Report}
-use Rattle.tm_cli.specs.declared.request.Request.TheVariants.{Analyse, Check, Bench, Upgrade}
+use Rattle.tm_cli.specs.declared.request.Request.TheVariants.{Analyse, Check, Bench, Upgrade, Prove, Transitions, Equations}
 use Rattle.tm_form.specs.declared.fault.FormFault.{FormFault}
-use Rattle.tm_top.specs.Files.{AreChecked, AreInputs, HasCertificate, IsReached, IsTold, IsTooLong, Request}
+use Rattle.tm_top.specs.Files.{AreChecked, AreInputs, HasCertificate, HasShortText, IsReached, IsTold, IsTooLong, Request}
 use Rattle.tm_top.specs.Meanings.{Meanings}
-use Rattle.tm_top.specs.Rounds.{EndsWithin, RunsOut}
-use Rattle.tm_top.specs.Texts.{IsRefused, IsRefusedProgram, IsSolvedSystem}
+use Rattle.tm_top.specs.Questions.{IsWideIn, QuestionEnds, analysis_question, bench_question, claims_question, equations_question, transitions_question}
+use Rattle.tm_top.specs.Texts.{IsRefusedProgram}
 use Rattle.tm_top.specs.declared.status.CertCause.{CertCause}
 use Rattle.tm_top.specs.declared.status.CertCause.TheVariants.{Form}
 use Rattle.tm_top.specs.declared.status.ReadCause.TheVariants.{Failed, TooLong}
@@ -25,19 +22,8 @@ use Rattle.tm_top.specs.declared.status.Status.{Status}
 use Rattle.tm_top.specs.declared.status.Status.TheVariants.{Done, Certificate, Usage, Read, Text, Wide, Spent, Memory, Write}
 use Rattle.tm_top.specs.declared.status.TextCause.{TextCause}
 use Rattle.tm_top.specs.declared.status.Which.{Which}
-use Rattle.tm_top.specs.declared.status.Which.TheVariants.{Program}
 
 -- ---- the ending of words, where nothing fails outside, there is memory, and no operation of an analysis is too wide
-
--- the improvements over a system end within the limit, or are spent
-pub data RoundsEnd (system : System) (policy : Policy) (limit : ℕ) (ending : Status) : Type 0 where
-  rounds_end : ending ≡ Done → EndsWithin system policy limit → RoundsEnd system policy limit ending
-  rounds_spent : ending ≡ Spent limit → RunsOut system policy limit → RoundsEnd system policy limit ending
-
--- texts are refused by a cause, or are a system whose improvements decide
-pub data AnalysisEnds (text : List ℕ) (rows : Domain (List ℕ)) (policy : Policy) (limit : ℕ) (ending : Status) : Type 0 where
-  text_refused : (cause : TextCause) → ending ≡ Text cause → IsRefused text rows cause → AnalysisEnds text rows policy limit ending
-  solved : (system : System) → IsSolvedSystem text rows system → RoundsEnd system policy limit ending → AnalysisEnds text rows policy limit ending
 
 -- the text of a program or the bytes of a certificate are refused by a cause, or an operation of the check is too wide, or the certificate is accepted
 pub data CheckEnds (m : Meanings) (text bytes : List ℕ) (ending : Status) : Type 0 where
@@ -56,13 +42,20 @@ pub data UpgradeEnds (m : Meanings) (bytes : List ℕ) (ending : Status) : Type 
 pub data Ends (m : Meanings) (files : Option Contents) (request : Request) (ending : Status) : Type 0 where
   too_long : (which : Which) → ending ≡ Read (TooLong which) → IsTooLong files request which → Ends m files request ending
   analysed : (purpose : Purpose) (analysis : Analysis (List ℕ)) (text : List ℕ) (rows : Domain (List ℕ)) → request ≡ Analyse purpose analysis
-      → AreInputs files analysis text rows → AnalysisEnds text rows analysis.policy analysis.improvements ending → Ends m files request ending
+      → AreInputs files analysis text rows → QuestionEnds (analysis_question m purpose text rows analysis.policy analysis.improvements) ending
+      → Ends m files request ending
   checked : (program certificate text bytes : List ℕ) → request ≡ Check program certificate
       → AreChecked files program certificate text bytes → CheckEnds m text bytes ending → Ends m files request ending
-  generated : (seed loops : ℕ) (system : System) → request ≡ Bench seed loops
-      → m.generates seed loops system → RoundsEnd system Best 1000 ending → Ends m files request ending
+  generated : (seed loops : ℕ) → request ≡ Bench seed loops → QuestionEnds (bench_question m seed loops) ending → Ends m files request ending
   upgraded : (certificate bytes : List ℕ) → request ≡ Upgrade certificate → HasCertificate files certificate bytes → UpgradeEnds m bytes ending
       → Ends m files request ending
+  claimed : (claims : List ℕ) (analysis : Analysis (List ℕ)) (text : List ℕ) (rows : Domain (List ℕ)) (given : List ℕ) → request ≡ Prove claims analysis
+      → AreInputs files analysis text rows → HasShortText files claims given
+      → QuestionEnds (claims_question m text rows given analysis.policy analysis.improvements) ending → Ends m files request ending
+  traversed : (analysis : Analysis (List ℕ)) (text : List ℕ) (rows : Domain (List ℕ)) → request ≡ Transitions analysis → AreInputs files analysis text rows
+      → QuestionEnds (transitions_question m text rows analysis.policy analysis.improvements) ending → Ends m files request ending
+  equated : (file text : List ℕ) (limit : ℕ) (policy : Policy) → request ≡ Equations file limit policy → HasShortText files file text
+      → QuestionEnds (equations_question m text policy limit) ending → Ends m files request ending
 
 -- the shelf tells its files, where a request reads any
 abbrev pub Tells : Option Contents → Request → Type 0
@@ -70,6 +63,9 @@ Tells files (Analyse purpose analysis) = IsTold files
 Tells files (Check program certificate) = IsTold files
 Tells files (Bench seed loops) = Unit {0}
 Tells files (Upgrade certificate) = IsTold files
+Tells files (Prove claims analysis) = IsTold files
+Tells files (Transitions analysis) = IsTold files
+Tells files (Equations file improvements policy) = IsTold files
 
 -- the words ask for nothing, or for a request over files that are told
 pub data WordsEnd (m : Meanings) (files : Option Contents) (words : List (List ℕ)) (ending : Status) : Type 0 where
@@ -80,13 +76,20 @@ pub data WordsEnd (m : Meanings) (files : Option Contents) (words : List (List �
 
 -- an operation on the way of a request is too wide: of an analysis any that stands, of a check the first
 pub data IsTooWide (m : Meanings) (files : Option Contents) (request : Request) (spot : Spot) : Type 0 where
-  wide_in_analysis : (purpose : Purpose) (analysis : Analysis (List ℕ)) (text : List ℕ) (rows : Domain (List ℕ)) (system : System)
-      → request ≡ Analyse purpose analysis → AreInputs files analysis text rows → IsSolvedSystem text rows system
-      → m.too_wide purpose system analysis.policy analysis.improvements spot → IsTooWide m files request spot
+  wide_in_analysis : (purpose : Purpose) (analysis : Analysis (List ℕ)) (text : List ℕ) (rows : Domain (List ℕ))
+      → request ≡ Analyse purpose analysis → AreInputs files analysis text rows
+      → IsWideIn (analysis_question m purpose text rows analysis.policy analysis.improvements) spot → IsTooWide m files request spot
   wide_in_check : (program certificate text bytes : List ℕ) → request ≡ Check program certificate
       → AreChecked files program certificate text bytes → m.is_wide_in text bytes spot → IsTooWide m files request spot
-  wide_in_bench : (seed loops : ℕ) (system : System) → request ≡ Bench seed loops
-      → m.generates seed loops system → m.too_wide Report system Best 1000 spot → IsTooWide m files request spot
+  wide_in_bench : (seed loops : ℕ) → request ≡ Bench seed loops → IsWideIn (bench_question m seed loops) spot → IsTooWide m files request spot
+  wide_in_proof : (claims : List ℕ) (analysis : Analysis (List ℕ)) (text : List ℕ) (rows : Domain (List ℕ)) (given : List ℕ)
+      → request ≡ Prove claims analysis → AreInputs files analysis text rows → HasShortText files claims given
+      → IsWideIn (claims_question m text rows given analysis.policy analysis.improvements) spot → IsTooWide m files request spot
+  wide_in_transitions : (analysis : Analysis (List ℕ)) (text : List ℕ) (rows : Domain (List ℕ)) → request ≡ Transitions analysis
+      → AreInputs files analysis text rows → IsWideIn (transitions_question m text rows analysis.policy analysis.improvements) spot
+      → IsTooWide m files request spot
+  wide_in_equations : (file text : List ℕ) (limit : ℕ) (policy : Policy) → request ≡ Equations file limit policy
+      → HasShortText files file text → IsWideIn (equations_question m text policy limit) spot → IsTooWide m files request spot
 
 -- it is an ending of the words over these files; or what may come in place of one, for a cause that stands; want of memory needs none
 pub data IsAnswer (m : Meanings) (files : Option Contents) (words : List (List ℕ)) (status : Status) : Type 0 where
@@ -94,8 +97,8 @@ pub data IsAnswer (m : Meanings) (files : Option Contents) (words : List (List �
   is_ending : (request : Request) → request_of words ≡ Some request → Ends m files request status → IsAnswer m files words status
   is_wide : (request : Request) → request_of words ≡ Some request → (spot : Spot) → status ≡ Wide spot → IsTooWide m files request spot
       → IsAnswer m files words status
-  is_unread : (request : Request) → request_of words ≡ Some request → (which : Which) → status ≡ Read (Failed which) → IsReached files request which
-      → IsAnswer m files words status
+  is_unread : (request : Request) → request_of words ≡ Some request → (which : Which) (name : List ℕ) → status ≡ Read (Failed which)
+      → IsReached files request which name → IsAnswer m files words status
   is_unwritten : (request : Request) → request_of words ≡ Some request → status ≡ Write → Ends m files request Done → IsAnswer m files words status
   is_memory : status ≡ Memory → IsAnswer m files words status
 
@@ -106,17 +109,13 @@ pub data IsOfRounds (ending : Status) : Type 0 where
   of_ended : ending ≡ Done → IsOfRounds ending
   of_spent : (number : ℕ) → ending ≡ Spent number → IsOfRounds ending
 
--- a file failed that is loaded before this ending is seen: without a request none is, and the program before it is too long
-pub record IsLoadedBefore (ending : Status) (which : Which) : Type 0 where
-  pub requested : ending ≡ Usage → ⊥
-  pub program_first : ending ≡ Read (TooLong Program) → which ≡ Program
-
--- the ending is answered; or, in its place, want of memory, a file that failed before, for a report an output that failed,
+-- the ending is answered; or, in its place, want of memory, a file that failed and before which none is too long, for a report an output that failed,
 -- or for an ending that improvements decide an operation that is too wide
 pub data Answers (m : Meanings) (files : Option Contents) (words : List (List ℕ)) (ending status : Status) : Type 0 where
   given : status ≡ ending → Answers m files words ending status
   no_memory : status ≡ Memory → Answers m files words ending status
-  unread : (which : Which) → status ≡ Read (Failed which) → IsLoadedBefore ending which → Answers m files words ending status
+  unread : (request : Request) → request_of words ≡ Some request → (which : Which) (name : List ℕ) → status ≡ Read (Failed which)
+      → IsReached files request which name → Answers m files words ending status
   unwritten : status ≡ Write → ending ≡ Done → Answers m files words ending status
   too_wide : (request : Request) → request_of words ≡ Some request → (spot : Spot) → status ≡ Wide spot → IsTooWide m files request spot → IsOfRounds ending
       → Answers m files words ending status

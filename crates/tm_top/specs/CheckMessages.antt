@@ -30,6 +30,7 @@ site_has_unknown (site.Joint turn part) = false
 site_has_unknown (site.Raise raise) = false
 site_has_unknown (site.Step step item) = false
 site_has_unknown (site.Upper unknown edge) = true
+site_has_unknown (site.Claim claim case part) = false
 
 abbrev pub fault_has_unknown : CheckFault → Bool
 fault_has_unknown check.Size = false
@@ -118,6 +119,7 @@ site_text rows round (site.Joint turn part) = numbered (codes "joint ") turn ++ 
 site_text rows round (site.Raise raise) = numbered (codes "raise ") raise ++ numbered (codes " in round ") round
 site_text rows round (site.Step step item) = numbered (codes "step ") step ++ numbered (codes " item ") item
 site_text rows round (site.Upper unknown edge) = unknown_text (codes "upper point ") (codes " row ") rows unknown ++ numbered (codes " edge ") edge
+site_text rows round (site.Claim claim case part) = numbered (codes "claim ") claim ++ numbered (codes " case ") case ++ part_text part
 
 -- an operation, its two operands, and the site
 abbrev pub spot_text : ℕ → Spot → List ℕ

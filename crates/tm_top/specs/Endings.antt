@@ -1,55 +1,20 @@
--- How a run ends, by the texts that it reads: the first cause in order decides.
-use Rattle.std.specs.Prelude.{◌≡◌, ◌⊎◌, ℕ, List, Option, Some, None}
+-- The ending that a request has over files that are told, by one function for each.
+use Rattle.std.specs.Prelude.{◌≡◌, ◌⊎◌, ℕ, List, Option, None, Some}
 use Rattle.tm_io.specs.Files.{Contents}
-use Rattle.tm_rows.specs.Domains.{intervals_of}
 use Rattle.tm_eqsys.specs.declared.spot.Spot.{Spot}
-use Rattle.tm_eqsys.specs.declared.system.System.{System}
-use Rattle.tm_workload.specs.Bodies.{generated_body, generated_names}
 use Rattle.tm_cli.specs.declared.request.Domain.{Domain}
-use Rattle.tm_cli.specs.declared.request.Policy.{Policy}
-use Rattle.tm_cli.specs.declared.request.Policy.TheVariants.{Best}
 use Rattle.tm_top.specs.Checks.{IsAccepted, IsFormFault, IsRefusedCertificate, IsWideAt}
-use Rattle.tm_top.specs.Files.{AreChecked, AreInputs, HasCertificate, IsReached, IsTooLong, Request}
+use Rattle.tm_top.specs.Files.{AreChecked, AreInputs, HasCertificate, HasShortText, IsReached, IsTooLong, Request}
+use Rattle.tm_top.specs.Exact.{exact}
+use Rattle.tm_top.specs.Questions.{IsWideIn, QuestionEnds, analysis_question, bench_question, claims_question, equations_question, transitions_question}
 use Rattle.tm_cli.specs.Request.{request_of}
-use Rattle.tm_top.specs.Rounds.{EndsWithin, IsSystemFor, RunsOut}
-use Rattle.tm_top.specs.Spots.{HasSpot}
-use Rattle.tm_top.specs.Texts.{IsRefused, IsRefusedProgram, IsSolvable, IsSpent}
-use Rattle.tm_top.specs.Spots.{IsSpotIn}
+use Rattle.tm_top.specs.Texts.{IsRefusedProgram}
 use Rattle.tm_top.specs.Upgrades.{IsUpgradeOf}
-use Rattle.tm_cli.specs.declared.request.Purpose.TheVariants.{Report}
-use Rattle.tm_cli.specs.declared.request.Request.TheVariants.{Analyse, Check, Bench, Upgrade}
+use Rattle.tm_cli.specs.declared.request.Request.TheVariants.{Analyse, Check, Bench, Upgrade, Prove, Transitions, Equations}
 use Rattle.tm_top.specs.declared.status.CertCause.TheVariants.{Form, Rows, Unknowns, Check as CheckCause}
 use Rattle.tm_top.specs.declared.status.ReadCause.TheVariants.{Failed, TooLong}
 use Rattle.tm_top.specs.declared.status.Status.{Status}
 use Rattle.tm_top.specs.declared.status.Status.TheVariants.{Done, Certificate, Usage, Read, Text, Wide, Spent, Memory, Write}
-
--- this is the ending that texts have which are analysed, but for wide operations
-abbrev pub TextsEnd : List ℕ → Domain (List ℕ) → Policy → ℕ → Status → Type 0
-TextsEnd text rows policy limit Done = IsSolvable text rows policy limit
-TextsEnd text rows policy limit (Certificate cause) = ⊥
-TextsEnd text rows policy limit Usage = ⊥
-TextsEnd text rows policy limit (Read cause) = ⊥
-TextsEnd text rows policy limit (Text cause) = IsRefused text rows cause
-TextsEnd text rows policy limit (Wide spot) = ⊥
-TextsEnd text rows policy limit (Spent number) = IsSpent text rows policy limit × (number ≡ limit)
-TextsEnd text rows policy limit Memory = ⊥
-TextsEnd text rows policy limit Write = ⊥
-
--- the system of a generated program over intervals
-abbrev pub IsGenerated : ℕ → ℕ → System → Type 0
-IsGenerated seed loops system = IsSystemFor generated_names (generated_body seed loops) (intervals_of 3) system
-
--- this is the ending that the analysis of a generated program has, but for wide operations: 1,000 rounds by `best` are enough, or not
-abbrev pub BenchEnd : ℕ → ℕ → Status → Type 0
-BenchEnd seed loops Done = (system : System) × IsGenerated seed loops system × EndsWithin system Best 1000
-BenchEnd seed loops (Certificate cause) = ⊥
-BenchEnd seed loops Usage = ⊥
-BenchEnd seed loops (Read cause) = ⊥
-BenchEnd seed loops (Text cause) = ⊥
-BenchEnd seed loops (Wide spot) = ⊥
-BenchEnd seed loops (Spent number) = (system : System) × IsGenerated seed loops system × RunsOut system Best 1000 × (number ≡ 1000)
-BenchEnd seed loops Memory = ⊥
-BenchEnd seed loops Write = ⊥
 
 -- this is the ending that the text of a program and the bytes of a certificate have
 abbrev pub CheckEnd : List ℕ → List ℕ → Status → Type 0
@@ -80,21 +45,33 @@ UpgradeEnd bytes Write = ⊥
 
 -- this is the ending that the texts which a request reads have
 abbrev pub InputsEnd : Option Contents → Request → Status → Type 0
-InputsEnd files (Analyse purpose analysis) status =
-    (text : List ℕ) × (rows : Domain (List ℕ)) × AreInputs files analysis text rows × TextsEnd text rows analysis.policy analysis.improvements status
+InputsEnd files (Analyse purpose analysis) status = (text : List ℕ) × (rows : Domain (List ℕ)) × AreInputs files analysis text rows
+    × QuestionEnds (analysis_question exact purpose text rows analysis.policy analysis.improvements) status
 InputsEnd files (Check program certificate) status =
     (text : List ℕ) × (bytes : List ℕ) × AreChecked files program certificate text bytes × CheckEnd text bytes status
-InputsEnd files (Bench seed loops) status = BenchEnd seed loops status
+InputsEnd files (Bench seed loops) status = QuestionEnds (bench_question exact seed loops) status
 InputsEnd files (Upgrade certificate) status = (bytes : List ℕ) × HasCertificate files certificate bytes × UpgradeEnd bytes status
+InputsEnd files (Prove claims analysis) status = (text : List ℕ) × (rows : Domain (List ℕ)) × (given : List ℕ) × AreInputs files analysis text rows
+    × HasShortText files claims given × QuestionEnds (claims_question exact text rows given analysis.policy analysis.improvements) status
+InputsEnd files (Transitions analysis) status = (text : List ℕ) × (rows : Domain (List ℕ)) × AreInputs files analysis text rows
+    × QuestionEnds (transitions_question exact text rows analysis.policy analysis.improvements) status
+InputsEnd files (Equations file improvements policy) status =
+    (text : List ℕ) × HasShortText files file text × QuestionEnds (equations_question exact text policy improvements) status
 
 -- a wide operation that may end a request: in an analysis any spot of it, in a check the first operation that is wide
 abbrev pub IsSpotFor : Option Contents → Request → Spot → Type 0
-IsSpotFor files (Analyse purpose analysis) spot =
-    (text : List ℕ) × (rows : Domain (List ℕ)) × AreInputs files analysis text rows × IsSpotIn purpose text rows analysis.policy analysis.improvements spot
+IsSpotFor files (Analyse purpose analysis) spot = (text : List ℕ) × (rows : Domain (List ℕ)) × AreInputs files analysis text rows
+    × IsWideIn (analysis_question exact purpose text rows analysis.policy analysis.improvements) spot
 IsSpotFor files (Check program certificate) spot =
     (text : List ℕ) × (bytes : List ℕ) × AreChecked files program certificate text bytes × IsWideAt text bytes spot
-IsSpotFor files (Bench seed loops) spot = (system : System) × IsGenerated seed loops system × HasSpot Report system Best 1000 spot
+IsSpotFor files (Bench seed loops) spot = IsWideIn (bench_question exact seed loops) spot
 IsSpotFor files (Upgrade certificate) spot = ⊥
+IsSpotFor files (Prove claims analysis) spot = (text : List ℕ) × (rows : Domain (List ℕ)) × (given : List ℕ) × AreInputs files analysis text rows
+    × HasShortText files claims given × IsWideIn (claims_question exact text rows given analysis.policy analysis.improvements) spot
+IsSpotFor files (Transitions analysis) spot = (text : List ℕ) × (rows : Domain (List ℕ)) × AreInputs files analysis text rows
+    × IsWideIn (transitions_question exact text rows analysis.policy analysis.improvements) spot
+IsSpotFor files (Equations file improvements policy) spot =
+    (text : List ℕ) × HasShortText files file text × IsWideIn (equations_question exact text policy improvements) spot
 
 -- this is the ending that a request over these files has, where nothing fails and there is memory
 abbrev pub Ends : Option Contents → Request → Status → Type 0
@@ -114,7 +91,7 @@ abbrev pub IsAnswerTo : Option Contents → Request → Status → Type 0
 IsAnswerTo files request Done = Ends files request Done
 IsAnswerTo files request (Certificate cause) = Ends files request (Certificate cause)
 IsAnswerTo files request Usage = ⊥
-IsAnswerTo files request (Read (Failed which)) = IsReached files request which
+IsAnswerTo files request (Read (Failed which)) = (name : List ℕ) × IsReached files request which name
 IsAnswerTo files request (Read (TooLong which)) = Ends files request (Read (TooLong which))
 IsAnswerTo files request (Text cause) = Ends files request (Text cause)
 IsAnswerTo files request (Wide spot) = IsSpotFor files request spot

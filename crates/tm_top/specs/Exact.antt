@@ -4,19 +4,21 @@ use Rattle.tm_workload.specs.Summaries.{summary_of}
 use Rattle.tm_workload.specs.Texts.{generated_text}
 use Rattle.tm_top.specs.CheckMessages.{rows_of}
 use Rattle.tm_top.specs.Checks.{HasRowCount, IsAcceptedWith, IsFormFault, IsRefusedCertificate, IsWideAt}
-use Rattle.tm_top.specs.Endings.{IsGenerated}
+use Rattle.tm_top.specs.Generated.{IsGenerated}
 use Rattle.tm_top.specs.Meanings.{Meanings}
 use Rattle.tm_top.specs.Messages.{line_in, message_of}
 use Rattle.tm_top.specs.Reports.{IsCertificateOf}
-use Rattle.tm_top.specs.Spots.{HasSpot}
+use Rattle.tm_top.specs.Spots.{HasSpot, IsClaimSpot}
 use Rattle.tm_top.specs.Upgrades.{IsUpgradeOf}
 
--- the first operation of the composition, one of the rounds, and for a certificate one of its check, whose exact result doesn't fit;
+-- the first operation of the composition, one of the rounds, for a certificate one of its check, and for claims the first of their problems, whose exact
+-- result doesn't fit;
 -- the certificate of the rounds by the policy; certificates that are valid and in whose check no sum is too wide, and the first cause of others;
 -- the first fault of the form of bytes, and the text of the certificate that they spell; programs drawn from a seed, over intervals
 abbrev pub exact : Meanings
 exact = record {
   too_wide = λ purpose system policy limit spot. HasSpot purpose system policy limit spot;
+  too_wide_for = λ given system policy limit spot. IsClaimSpot given system policy limit spot;
   certifies = λ text rows policy limit bytes. IsCertificateOf text rows policy limit bytes;
   accepts = λ text bytes names body rows vector. IsAcceptedWith text bytes names body rows vector;
   refuses = λ text bytes cause. IsRefusedCertificate text bytes cause;

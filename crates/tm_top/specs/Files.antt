@@ -1,16 +1,19 @@
 -- The names of the files of a request, and what the named files hold.
-use Rattle.std.specs.Prelude.{◌≡◌, ◌≤◌, ◌<◌, ℕ, List, Option, Some, None, length, option_and_then}
+use Rattle.std.specs.Prelude.{◌≡◌, ◌≤◌, ◌<◌, ◌⊎◌, ℕ, List, [], ◌∷◌, Option, Some, None, length}
 use Rattle.tm_io.specs.Files.{Contents}
-use Rattle.tm_cli.specs.Request.{request_of}
 use Rattle.tm_cli.specs.declared.request.Analysis.{Analysis}
 use Rattle.tm_cli.specs.declared.request.Domain.{Domain}
 use Rattle.tm_cli.specs.declared.request.Domain.TheVariants.{Intervals, Zones, Octagons, Rows}
 use Rattle.tm_cli.specs.declared.request.Request.{Request as RequestOf}
-use Rattle.tm_cli.specs.declared.request.Request.TheVariants.{Analyse, Check, Bench, Upgrade}
+use Rattle.tm_cli.specs.declared.request.Request.TheVariants.{Analyse, Check, Bench, Upgrade, Prove, Transitions, Equations}
+use Rattle.tm_top.specs.declared.status.Status.{Status}
+use Rattle.tm_top.specs.declared.status.Status.TheVariants.{Text}
+use Rattle.tm_top.specs.declared.status.TextCause.TheVariants.{Claims}
 use Rattle.tm_top.specs.declared.status.Which.{Which}
 use Rattle.tm_top.specs.declared.status.Which.TheVariants as which
 
--- an analysis of a program, the check of a certificate of a program, the analysis of a generated program, or the upgrade of a certificate
+-- an analysis of a program, the check of a certificate of a program, the analysis of a generated program, the upgrade of a certificate,
+-- the proof of claims about a program, the analysis of a transition system, or the solution of equations
 abbrev pub Request : Type 0
 Request = RequestOf (List ℕ)
 
@@ -20,34 +23,32 @@ IsInRange (Analyse purpose analysis) = analysis.improvements ≤ 1000000
 IsInRange (Check program certificate) = Unit {0}
 IsInRange (Bench seed loops) = (seed < 2147483648) × (1 ≤ loops) × (loops ≤ 46)
 IsInRange (Upgrade certificate) = Unit {0}
+IsInRange (Prove claims analysis) = analysis.improvements ≤ 1000000
+IsInRange (Transitions analysis) = analysis.improvements ≤ 1000000
+IsInRange (Equations file improvements policy) = improvements ≤ 1000000
 
 -- ---- the names of its files
 
--- the file of a domain's rows
-abbrev pub rows_file : Domain (List ℕ) → Option (List ℕ)
-rows_file Intervals = None
-rows_file Zones = None
-rows_file Octagons = None
-rows_file (Rows file) = Some file
+-- what a file holds, and its name
+abbrev pub NamedFile : Type 0
+NamedFile = Which × List ℕ
 
--- the name of a file in a request
-abbrev pub file_in : Which → Request → Option (List ℕ)
-file_in which.Program (Analyse purpose analysis) = Some analysis.program
-file_in which.Program (Check program certificate) = Some program
-file_in which.Program (Bench seed loops) = None
-file_in which.Program (Upgrade certificate) = None
-file_in which.Rows (Analyse purpose analysis) = rows_file analysis.domain
-file_in which.Rows (Check program certificate) = None
-file_in which.Rows (Bench seed loops) = None
-file_in which.Rows (Upgrade certificate) = None
-file_in which.Certificate (Analyse purpose analysis) = None
-file_in which.Certificate (Check program certificate) = Some certificate
-file_in which.Certificate (Bench seed loops) = None
-file_in which.Certificate (Upgrade certificate) = Some certificate
+-- the file of a domain's rows, where it has one, before other files
+abbrev pub rows_before : Domain (List ℕ) → List NamedFile → List NamedFile
+rows_before Intervals rest = rest
+rows_before Zones rest = rest
+rows_before Octagons rest = rest
+rows_before (Rows file) rest = (which.Rows, file) ∷ rest
 
--- the name that the words give for a file
-abbrev pub file_named : Which → List (List ℕ) → Option (List ℕ)
-file_named which words = option_and_then (file_in which) (request_of words)
+-- the files of a request, in the order in which they are loaded
+abbrev pub files_of : Request → List NamedFile
+files_of (Analyse purpose analysis) = (which.Program, analysis.program) ∷ rows_before analysis.domain []
+files_of (Check program certificate) = (which.Program, program) ∷ (which.Certificate, certificate) ∷ []
+files_of (Bench seed loops) = []
+files_of (Upgrade certificate) = (which.Certificate, certificate) ∷ []
+files_of (Prove claims analysis) = (which.Program, analysis.program) ∷ rows_before analysis.domain ((which.Claims, claims) ∷ [])
+files_of (Transitions analysis) = (which.System, analysis.program) ∷ rows_before analysis.domain []
+files_of (Equations file improvements policy) = (which.Equations, file) ∷ []
 
 -- ---- what they hold
 
@@ -61,9 +62,52 @@ abbrev pub HasContent : Option Contents → List ℕ → List ℕ → Type 0
 HasContent None name content = Unit {0}
 HasContent (Some files) name content = files name ≡ Some content
 
--- a program or a file of rows has at most 65,536 bytes
+-- how many bytes a file may have: 65,536, and a certificate 16,777,216
+abbrev pub most_bytes : Which → ℕ
+most_bytes which.Program = 65536
+most_bytes which.Rows = 65536
+most_bytes which.Certificate = 16777216
+most_bytes which.Claims = 65536
+most_bytes which.System = 65536
+most_bytes which.Equations = 65536
+
+-- a text of at most 65,536 bytes
 abbrev pub IsShort : List ℕ → Type 0
 IsShort text = length text ≤ 65536
+
+-- the file is within its limit
+pub record IsShortFile (files : Option Contents) (which : Which) (name : List ℕ) : Type 0 where
+  pub bytes : List ℕ
+  pub content : HasContent files name bytes
+  pub short : length bytes ≤ most_bytes which
+
+-- the file is beyond its limit
+pub record IsLongFile (files : Option Contents) (which : Which) (name : List ℕ) : Type 0 where
+  pub bytes : List ℕ
+  pub content : HasContent files name bytes
+  pub long : most_bytes which < length bytes
+
+-- this one of the files is the first that is too long
+abbrev pub IsFirstLong : Option Contents → List NamedFile → Which → Type 0
+IsFirstLong files [] which = ⊥
+IsFirstLong files ((first, name) ∷ rest) which =
+    ((first ≡ which) × IsLongFile files first name) ⊎ (IsShortFile files first name × IsFirstLong files rest which)
+
+-- this one of the files is loaded: none before it is too long
+abbrev pub IsReachedIn : Option Contents → List NamedFile → Which → List ℕ → Type 0
+IsReachedIn files [] which name = ⊥
+IsReachedIn files ((first, file) ∷ rest) which name =
+    ((first ≡ which) × (file ≡ name)) ⊎ (IsShortFile files first file × IsReachedIn files rest which name)
+
+-- the first file of a request that is too long is this one
+abbrev pub IsTooLong : Option Contents → Request → Which → Type 0
+IsTooLong files request which = IsFirstLong files (files_of request) which
+
+-- a request loads this file, of this name
+abbrev pub IsReached : Option Contents → Request → Which → List ℕ → Type 0
+IsReached files request which name = IsReachedIn files (files_of request) which name
+
+-- ---- what a request reads
 
 -- a domain whose file of rows stands there by its text
 abbrev pub IsWithText : Option Contents → Domain (List ℕ) → Domain (List ℕ) → Type 0
@@ -79,7 +123,7 @@ HasShortRows Zones = Unit {0}
 HasShortRows Octagons = Unit {0}
 HasShortRows (Rows text) = IsShort text
 
--- what an analysis reads: the text of its program, and its domain by the text of its rows, each within its limit
+-- what an analysis reads: the text of its program or transition system, and its domain by the text of its rows, each within its limit
 pub record AreInputs (files : Option Contents) (analysis : Analysis (List ℕ)) (text : List ℕ) (rows : Domain (List ℕ)) : Type 0 where
   pub program : HasContent files analysis.program text
   pub short : IsShort text
@@ -98,56 +142,23 @@ pub record HasCertificate (files : Option Contents) (certificate bytes : List �
   pub content : HasContent files certificate bytes
   pub short : length bytes ≤ 16777216
 
--- how many bytes a file may have: 65,536, and a certificate 16,777,216
-abbrev pub most_bytes : Which → ℕ
-most_bytes which.Program = 65536
-most_bytes which.Rows = 65536
-most_bytes which.Certificate = 16777216
+-- a text alone, within its limit: that of claims or of equations
+pub record HasShortText (files : Option Contents) (file text : List ℕ) : Type 0 where
+  pub content : HasContent files file text
+  pub short : IsShort text
 
--- the program that a request reads has this text
-abbrev pub HasProgram : Option Contents → Request → List ℕ → Type 0
-HasProgram files (Analyse purpose analysis) text = HasContent files analysis.program text
-HasProgram files (Check program certificate) text = HasContent files program text
-HasProgram files (Bench seed loops) text = ⊥
-HasProgram files (Upgrade certificate) text = ⊥
+-- the file in which the message of an ending names a line, where claims about a program are proved: that of the claims, where they are refused
+abbrev pub named_in : (program claims : List ℕ) → Status → List ℕ
+named_in program claims (Text (Claims fault)) = claims
+named_in program claims _ = program
 
--- the program is too long
-pub record IsLongProgram (files : Option Contents) (request : Request) : Type 0 where
-  pub text : List ℕ
-  pub program : HasProgram files request text
-  pub long : 65536 < length text
-
--- a file isn't too long, where there is one
-abbrev pub IsShortFile : Option Contents → Option (List ℕ) → Type 0
-IsShortFile files None = Unit {0}
-IsShortFile files (Some name) = (text : List ℕ) × HasContent files name text × IsShort text
-
--- the program isn't too long, where a request reads one
-abbrev pub HasShortProgram : Option Contents → Request → Type 0
-HasShortProgram files request = IsShortFile files (file_in which.Program request)
-
--- the program isn't, and this file is too long
-pub record IsLongAfter (files : Option Contents) (request : Request) (which : Which) : Type 0 where
-  pub program : HasShortProgram files request
-  pub file : List ℕ
-  pub named : file_in which request ≡ Some file
-  pub bytes : List ℕ
-  pub content : HasContent files file bytes
-  pub long : most_bytes which < length bytes
-
--- this file is the first that is too long
-abbrev pub IsTooLong : Option Contents → Request → Which → Type 0
-IsTooLong files request which.Program = IsLongProgram files request
-IsTooLong files request which.Rows = IsLongAfter files request which.Rows
-IsTooLong files request which.Certificate = IsLongAfter files request which.Certificate
-
--- there is something
-abbrev pub HasSome : {A : Type 0} → Option A → Type 0
-HasSome None = ⊥
-HasSome (Some x) = Unit {0}
-
--- the request reads this file, and the program that is loaded before it isn't too long
-abbrev pub IsReached : Option Contents → Request → Which → Type 0
-IsReached files request which.Program = HasSome (file_in which.Program request)
-IsReached files request which.Rows = HasSome (file_in which.Rows request) × HasShortProgram files request
-IsReached files request which.Certificate = HasSome (file_in which.Certificate request) × HasShortProgram files request
+-- the text in which the message of an ending names a line has these bytes: that of the program that a request reads or of its claims,
+-- of its transition system, or of its equations
+abbrev pub HasText : Option Contents → Request → Status → List ℕ → Type 0
+HasText files (Analyse purpose analysis) status text = HasContent files analysis.program text
+HasText files (Check program certificate) status text = HasContent files program text
+HasText files (Bench seed loops) status text = ⊥
+HasText files (Upgrade certificate) status text = ⊥
+HasText files (Prove claims analysis) status text = HasContent files (named_in analysis.program claims status) text
+HasText files (Transitions analysis) status text = HasContent files analysis.program text
+HasText files (Equations file improvements policy) status text = HasContent files file text

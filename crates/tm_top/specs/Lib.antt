@@ -5,6 +5,12 @@ pub mod Rounds
 pub mod Texts
 pub mod Checks
 pub mod Upgrades
+pub mod ClaimTexts
+pub mod EquationTexts
+pub mod TransitionTexts
+pub mod Generated
+pub mod Questions
+pub mod Spots
 pub mod Reports
 pub mod Endings
 pub mod CheckMessages
@@ -12,8 +18,6 @@ pub mod Messages
 pub mod Parts
 pub mod Parted
 pub mod Run
-pub mod Given
-pub mod Spots
 pub mod LeastReports
 pub mod Headline
 pub mod Meanings

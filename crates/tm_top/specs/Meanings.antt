@@ -11,7 +11,8 @@ use Rattle.tm_form.specs.declared.fault.FormFault.{FormFault}
 use Rattle.tm_top.specs.declared.status.CertCause.{CertCause}
 use Rattle.tm_top.specs.declared.status.Status.{Status}
 
--- the solver: where an operation of the analysis of a system is too wide, by policy and limit; which bytes are the certificate that its rounds make of texts
+-- the solver: where an operation of the analysis of a system is too wide, by policy and limit, and where one for the claims of a text; which bytes are the
+-- certificate that its rounds make of texts
 -- the checker: which bytes are a certificate of a text that it accepts, with the program, the rows and the vector of bounds; by which cause it refuses them,
 -- at which operation they are too wide; and how many rows a certificate has
 -- the form of certificates: by which fault bytes spell none; and which bytes are written of the certificate that bytes spell
@@ -20,6 +21,7 @@ use Rattle.tm_top.specs.declared.status.Status.{Status}
 -- so many
 pub record Meanings : Type 1 where
   pub too_wide : Purpose → System → Policy → ℕ → Spot → Type 0
+  pub too_wide_for : (given : List ℕ) → System → Policy → ℕ → Spot → Type 0
   pub certifies : List ℕ → Domain (List ℕ) → Policy → ℕ → List ℕ → Type 0
   pub accepts : (text bytes : List ℕ) → List (List ℕ) → Statements → List (List ℤ) → Vector → Type 0
   pub refuses : (text bytes : List ℕ) → CertCause → Type 0

@@ -17,22 +17,30 @@ use Rattle.tm_cli.specs.declared.request.Policy.{Policy}
 use Rattle.tm_cli.specs.declared.request.Policy.TheVariants.{Best}
 use Rattle.tm_cli.specs.declared.request.Purpose.{Purpose}
 use Rattle.tm_cli.specs.declared.request.Purpose.TheVariants.{Report, Certificate as AsCertificate}
-use Rattle.tm_cli.specs.declared.request.Request.TheVariants.{Analyse, Check, Bench, Upgrade}
-use Rattle.tm_top.specs.Files.{AreChecked, AreInputs, HasCertificate, HasContent, HasProgram, IsTold, Request}
+use Rattle.tm_cli.specs.declared.request.Request.TheVariants.{Analyse, Check, Bench, Upgrade, Prove, Transitions, Equations}
+use Rattle.tm_top.specs.ClaimTexts.{AreVerdictsOf}
+use Rattle.tm_top.specs.EquationTexts.{AreValuesOf}
+use Rattle.tm_top.specs.Files.{AreChecked, AreInputs, HasCertificate, HasContent, HasShortText, HasText, IsReached, IsTold, Request}
 use Rattle.tm_top.specs.LeastReports.{IsLeastReport, IsReportOf}
 use Rattle.tm_top.specs.Meanings.{Meanings}
 use Rattle.tm_top.specs.Rounds.{HasRounds}
 use Rattle.tm_top.specs.Texts.{IsReady, IsSolvedSystem}
+use Rattle.tm_top.specs.TransitionTexts.{IsAutoReport}
 use Rattle.tm_form.specs.declared.fault.FormFault.TheVariants.{Expanded}
 use Rattle.tm_top.specs.declared.status.CertCause.TheVariants.{Form}
 use Rattle.tm_top.specs.declared.status.Status.{Status}
+use Rattle.tm_top.specs.declared.status.Which.{Which}
 use Rattle.tm_top.specs.declared.status.Status.TheVariants.{Done, Memory, Write}
 
 -- ---- the outside
 
--- the count of the shelf rose, and its last failed name is this one
-abbrev pub HasFailed : (faults faults_now : ℕ) → (last : List ℕ) → Option (List ℕ) → Type 0
-HasFailed faults faults_now last name = Rose faults faults_now × (Some last ≡ name)
+-- a file of the request that the words ask for failed: the count of the shelf rose, and its last failed name is that of this file, before which none is
+-- too long
+pub record HasFailed (files : Option Contents) (words : List (List ℕ)) (which : Which) (faults faults_now : ℕ) (last : List ℕ) : Type 0 where
+  pub rose : Rose faults faults_now
+  pub request : Request
+  pub asked : request_of words ≡ Some request
+  pub reached : IsReached files request which last
 
 -- ---- the output
 
@@ -79,6 +87,13 @@ pub data IsOutput (m : Meanings) (files : Option Contents) (words : List (List �
   is_summary : (seed loops : ℕ) → request_of words ≡ Some (Bench seed loops) → IsSummary m seed loops bytes → IsOutput m files words bytes
   is_upgraded : (given certificate : List ℕ) → request_of words ≡ Some (Upgrade given) → HasCertificate files given certificate
       → m.upgrades certificate bytes → IsOutput m files words bytes
+  are_verdicts : (claims : List ℕ) (analysis : Analysis (List ℕ)) (text : List ℕ) (rows : Domain (List ℕ)) (given : List ℕ)
+      → request_of words ≡ Some (Prove claims analysis) → AreInputs files analysis text rows → HasShortText files claims given
+      → AreVerdictsOf text rows given analysis.policy analysis.improvements bytes → IsOutput m files words bytes
+  is_report_along : (analysis : Analysis (List ℕ)) (text : List ℕ) (rows : Domain (List ℕ)) → request_of words ≡ Some (Transitions analysis)
+      → AreInputs files analysis text rows → IsAutoReport text rows analysis.policy analysis.improvements bytes → IsOutput m files words bytes
+  are_values : (file text : List ℕ) (limit : ℕ) (policy : Policy) → request_of words ≡ Some (Equations file limit policy) → HasShortText files file text
+      → AreValuesOf text policy limit bytes → IsOutput m files words bytes
 
 -- the output gets all of it where the run is done, a part where the output failed or wants memory, and nothing where the run is refused
 pub data OutputGets (IsIt : List ℕ → Type 0) (status : Status) (held now : Option (List ℕ)) : Type 0 where
@@ -109,6 +124,9 @@ pieces_of (Analyse purpose analysis) bytes = pieces_by purpose bytes
 pieces_of (Check program certificate) bytes = lines_of bytes
 pieces_of (Bench seed loops) bytes = lines_of bytes
 pieces_of (Upgrade certificate) bytes = as_pieces bytes
+pieces_of (Prove claims analysis) bytes = lines_of bytes
+pieces_of (Transitions analysis) bytes = lines_of bytes
+pieces_of (Equations file improvements policy) bytes = lines_of bytes
 
 -- the output got bytes, and took them in these pieces
 abbrev pub IsTaken : (List ℕ → List (List ℕ)) → (held held_now : Option (List ℕ)) → (taken taken_now : Option (List (List ℕ))) → Type 0
@@ -124,12 +142,12 @@ pub data HasRows (m : Meanings) (files : Option Contents) (request : Request) (c
   certificate_rows : (program given bytes : List ℕ) → request ≡ Check program given → HasContent files given bytes → m.has_rows bytes count
       → HasRows m files request count
 
--- this is the message of an ending, where the shelf tells its files: by the line in the program's text that it names, and by the rows of each point
+-- this is the message of an ending, where the shelf tells its files: by the line in the text that it names, and by the rows of each point
 pub record IsMessage (m : Meanings) (files : Option Contents) (words : List (List ℕ)) (status : Status) (message : List ℕ) : Type 0 where
   pub line : ℕ
   pub rows : ℕ
   pub is_message : message ≡ m.message line rows status
-  pub line_is : (request : Request) (text : List ℕ) → request_of words ≡ Some request → IsTold files → HasProgram files request text
+  pub line_is : (request : Request) (text : List ℕ) → request_of words ≡ Some request → IsTold files → HasText files request status text
       → line ≡ m.line_named text status
   pub rows_are : (request : Request) (count : ℕ) → request_of words ≡ Some request → IsTold files → HasRows m files request count
       → rows ≡ m.rows_named count status

@@ -10,7 +10,7 @@ use Rattle.tm_rows.specs.Rows.{is_template}
 use Rattle.tm_num.specs.Extended.{Ext}
 use Rattle.tm_eqsys.specs.declared.footer.Footer.TheVariants.{Improvements}
 use Rattle.tm_eqsys.specs.declared.system.System.{System}
-use Rattle.tm_eqsys.specs.Equations.{Equations, Least}
+use Rattle.tm_eqsys.specs.Equations.{Equations, Least, Vector}
 use Rattle.tm_eqsys.specs.Report.{report_of}
 use Rattle.tm_eqsys.specs.View.{equations_of, vector_of}
 use Rattle.tm_validity.specs.Certificates.{Certificate as TheoryCertificate, ValidCertificate}
@@ -19,19 +19,19 @@ use Rattle.serde_json.specs.Written.{compact_text}
 use Rattle.tm_form.specs.Certificates.{IsBeyond, IsWithin, SpellsCert, SpellsTooMany, cert_data}
 use Rattle.tm_rounds.specs.declared.solution.Solved.{Solved}
 use Rattle.tm_rounds.specs.Solutions.{IsSolved, cert_with, made_certificate}
+use Rattle.tm_assert.specs.declared.claim.Claim.{Claim}
 use Rattle.tm_cli.specs.declared.request.Domain.{Domain}
 use Rattle.tm_cli.specs.declared.request.Domain.TheVariants as domain
 use Rattle.tm_cli.specs.declared.request.Policy.{Policy}
-use Rattle.tm_cli.specs.declared.request.Policy.TheVariants.{Best}
-use Rattle.tm_top.specs.Files.{HasContent, rows_file}
-use Rattle.tm_top.specs.Run.{HasFailed}
+use Rattle.tm_top.specs.Files.{HasContent, IsFirstLong, IsReachedIn, NamedFile}
 use Rattle.tm_top.specs.Checks.{IsCheckSpot, IsCompositionSpot, IsFormFault, IsRefusedCertificate, NoneIsWide, IsStopped, system_with, theirs}
-use Rattle.tm_top.specs.Endings.{BenchEnd, CheckEnd, IsGenerated, TextsEnd, UpgradeEnd}
+use Rattle.tm_top.specs.Endings.{CheckEnd, UpgradeEnd}
+use Rattle.tm_top.specs.Questions.{IsWideIn, Question, QuestionEnds}
 use Rattle.tm_top.specs.Policies.{rule_of}
 use Rattle.tm_top.specs.Rounds.{EndsWithin, HasRounds, RunsOut}
-use Rattle.tm_top.specs.Spots.{HasSpot}
+use Rattle.tm_top.specs.Spots.{HasSpot, IsWideFor}
+use Rattle.tm_top.specs.TransitionTexts.{AreNoTransitions}
 use Rattle.tm_top.specs.Texts.{IsRefused, IsRefusedProgram, unknowns}
-use Rattle.tm_top.specs.Spots.{IsSpotIn}
 use Rattle.tm_cli.specs.declared.request.Purpose.{Purpose}
 use Rattle.tm_cli.specs.declared.request.Purpose.TheVariants.{Report, Certificate as AsCertificate}
 use Rattle.tm_top.specs.declared.status.Which.{Which}
@@ -54,20 +54,33 @@ domain_of (domain.Rows text) = domain.Rows text.items
 
 -- a file that may have so many bytes isn't loaded: its load failed, it is too long, or memory was wanted
 abbrev pub IsNotLoaded : Option Contents → (faults faults_now : ℕ) → (last name : List ℕ) → (most : ℕ) → LoadRefusal → Type 0
-IsNotLoaded files faults faults_now last name most load.Failed = HasFailed faults faults_now last (Some name)
+IsNotLoaded files faults faults_now last name most load.Failed = Rose faults faults_now × (last ≡ name)
 IsNotLoaded files faults faults_now last name most load.TooLong = (text : List ℕ) × HasContent files name text × (most < length text)
 IsNotLoaded files faults faults_now last name most load.NoMemory = Unit {0}
 
 -- the file of a domain's rows isn't loaded
 abbrev pub AreNotLoaded : Option Contents → (faults faults_now : ℕ) → (last : List ℕ) → Domain (List ℕ) → LoadRefusal → Type 0
 AreNotLoaded files faults faults_now last rows refusal =
-    (name : List ℕ) × (rows_file rows ≡ Some name) × IsNotLoaded files faults faults_now last name 65536 refusal
+    (name : List ℕ) × (rows ≡ domain.Rows name) × IsNotLoaded files faults faults_now last name 65536 refusal
 
 -- the ending where this file isn't loaded
 abbrev pub unloaded : Which → LoadRefusal → Status
 unloaded which load.Failed = status.Read (read.Failed which)
 unloaded which load.TooLong = status.Read (read.TooLong which)
 unloaded which load.NoMemory = status.Memory
+
+-- the ending where one of these files isn't loaded
+abbrev pub IsUnloaded : Option Contents → List NamedFile → (faults faults_now : ℕ) → (last : List ℕ) → Status → Type 0
+IsUnloaded files list faults faults_now last status.Done = ⊥
+IsUnloaded files list faults faults_now last (status.Certificate cause) = ⊥
+IsUnloaded files list faults faults_now last status.Usage = ⊥
+IsUnloaded files list faults faults_now last (status.Read (read.Failed which)) = Rose faults faults_now × IsReachedIn files list which last
+IsUnloaded files list faults faults_now last (status.Read (read.TooLong which)) = IsFirstLong files list which
+IsUnloaded files list faults faults_now last (status.Text cause) = ⊥
+IsUnloaded files list faults faults_now last (status.Wide spot) = ⊥
+IsUnloaded files list faults faults_now last (status.Spent number) = ⊥
+IsUnloaded files list faults faults_now last status.Memory = Unit {0}
+IsUnloaded files list faults faults_now last status.Write = ⊥
 
 -- the text of a program is refused by this cause; want of memory needs none
 abbrev pub IsUnread : List ℕ → Refusal → Type 0
@@ -84,6 +97,14 @@ IsRefusedBy text rows (Certificate cause) = ⊥
 IsRefusedBy text rows (Wide spot) = ⊥
 IsRefusedBy text rows (Spent number) = ⊥
 IsRefusedBy text rows NoMemory = Unit {0}
+
+-- the texts of a transition system and of its rows are refused by this cause before there is a system; want of memory needs none
+abbrev pub IsRefusedAlong : List ℕ → Domain (List ℕ) → Refusal → Type 0
+IsRefusedAlong text rows (Text cause) = AreNoTransitions text rows cause
+IsRefusedAlong text rows (Certificate cause) = ⊥
+IsRefusedAlong text rows (Wide spot) = ⊥
+IsRefusedAlong text rows (Spent number) = ⊥
+IsRefusedAlong text rows NoMemory = Unit {0}
 
 -- why the analysis of a system has no end; want of memory needs none
 abbrev pub IsHalted : Purpose → System → Policy → ℕ → Refusal → Type 0
@@ -147,6 +168,14 @@ pub record FitsProgram (names : List (List ℕ)) (body : Statements) (cert : Cer
   pub rows : faults_of (length names) cert.rows ≡ []
   pub within : unknowns body cert.rows ≤ MOST_UNKNOWNS
 
+-- why there are no verdicts on claims at a vector; want of memory needs none
+abbrev pub AreUnjudged : Equations → Vector → List Claim → Refusal → Type 0
+AreUnjudged system vector claims (Text cause) = ⊥
+AreUnjudged system vector claims (Certificate cause) = ⊥
+AreUnjudged system vector claims (Wide spot) = IsWideFor system vector claims spot
+AreUnjudged system vector claims (Spent number) = ⊥
+AreUnjudged system vector claims NoMemory = Unit {0}
+
 -- why a system and a certificate aren't accepted
 abbrev pub IsUnaccepted : Equations → TheoryCertificate → Refusal → Type 0
 IsUnaccepted system certificate (Text cause) = ⊥
@@ -201,37 +230,25 @@ IsAnswerToSystem purpose system policy limit (status.Spent number) = RunsOut sys
 IsAnswerToSystem purpose system policy limit status.Memory = Unit {0}
 IsAnswerToSystem purpose system policy limit status.Write = EndsWithin system policy limit
 
--- what an answer to loaded texts says of them
-abbrev pub IsAnswerToTexts : Purpose → List ℕ → Domain (List ℕ) → Policy → ℕ → Status → Type 0
-IsAnswerToTexts purpose text rows policy limit status.Done = TextsEnd text rows policy limit status.Done
-IsAnswerToTexts purpose text rows policy limit (status.Certificate cause) = ⊥
-IsAnswerToTexts purpose text rows policy limit status.Usage = ⊥
-IsAnswerToTexts purpose text rows policy limit (status.Read cause) = ⊥
-IsAnswerToTexts purpose text rows policy limit (status.Text cause) = TextsEnd text rows policy limit (status.Text cause)
-IsAnswerToTexts purpose text rows policy limit (status.Wide spot) = IsSpotIn purpose text rows policy limit spot
-IsAnswerToTexts purpose text rows policy limit (status.Spent number) = TextsEnd text rows policy limit (status.Spent number)
-IsAnswerToTexts purpose text rows policy limit status.Memory = Unit {0}
-IsAnswerToTexts purpose text rows policy limit status.Write = TextsEnd text rows policy limit status.Done
+-- what an answer to a question says of it
+abbrev pub QuestionAnswer : Question → Status → Type 0
+QuestionAnswer question status.Done = QuestionEnds question status.Done
+QuestionAnswer question (status.Certificate cause) = ⊥
+QuestionAnswer question status.Usage = ⊥
+QuestionAnswer question (status.Read cause) = ⊥
+QuestionAnswer question (status.Text cause) = question.is_refused cause
+QuestionAnswer question (status.Wide spot) = IsWideIn question spot
+QuestionAnswer question (status.Spent number) = QuestionEnds question (status.Spent number)
+QuestionAnswer question status.Memory = Unit {0}
+QuestionAnswer question status.Write = QuestionEnds question status.Done
 
--- what an answer to a request for a generated program says of it
-abbrev pub IsAnswerToBench : ℕ → ℕ → Status → Type 0
-IsAnswerToBench seed loops status.Done = BenchEnd seed loops status.Done
-IsAnswerToBench seed loops (status.Certificate cause) = ⊥
-IsAnswerToBench seed loops status.Usage = ⊥
-IsAnswerToBench seed loops (status.Read cause) = ⊥
-IsAnswerToBench seed loops (status.Text cause) = ⊥
-IsAnswerToBench seed loops (status.Wide spot) = (system : System) × IsGenerated seed loops system × HasSpot Report system Best 1000 spot
-IsAnswerToBench seed loops (status.Spent number) = BenchEnd seed loops (status.Spent number)
-IsAnswerToBench seed loops status.Memory = Unit {0}
-IsAnswerToBench seed loops status.Write = BenchEnd seed loops status.Done
-
--- why there is no summary of a generated program; want of memory needs no cause
-abbrev pub IsUnsummed : ℕ → ℕ → Refusal → Type 0
-IsUnsummed seed loops (Text cause) = ⊥
-IsUnsummed seed loops (Certificate cause) = ⊥
-IsUnsummed seed loops (Wide spot) = (system : System) × IsGenerated seed loops system × HasSpot Report system Best 1000 spot
-IsUnsummed seed loops (Spent number) = (system : System) × IsGenerated seed loops system × RunsOut system Best 1000 × (number ≡ 1000)
-IsUnsummed seed loops NoMemory = Unit {0}
+-- why nothing is put of a question; want of memory needs no cause
+abbrev pub IsUnanswered : Question → Refusal → Type 0
+IsUnanswered question (Text cause) = question.is_refused cause
+IsUnanswered question (Certificate cause) = ⊥
+IsUnanswered question (Wide spot) = IsWideIn question spot
+IsUnanswered question (Spent number) = QuestionEnds question (status.Spent number)
+IsUnanswered question NoMemory = Unit {0}
 
 -- what an answer to the check of loaded texts says of them
 abbrev pub IsAnswerToCheck : List ℕ → List ℕ → Status → Type 0
@@ -256,15 +273,3 @@ IsAnswerToUpgrade bytes (status.Wide spot) = ⊥
 IsAnswerToUpgrade bytes (status.Spent number) = ⊥
 IsAnswerToUpgrade bytes status.Memory = Unit {0}
 IsAnswerToUpgrade bytes status.Write = UpgradeEnd bytes status.Done
-
--- the ending of a request whose files aren't loaded
-abbrev pub AreUnloaded : Status → Type 0
-AreUnloaded status.Done = ⊥
-AreUnloaded (status.Certificate cause) = ⊥
-AreUnloaded status.Usage = ⊥
-AreUnloaded (status.Read cause) = Unit {0}
-AreUnloaded (status.Text cause) = ⊥
-AreUnloaded (status.Wide spot) = ⊥
-AreUnloaded (status.Spent number) = ⊥
-AreUnloaded status.Memory = Unit {0}
-AreUnloaded status.Write = ⊥

@@ -4,4 +4,4 @@ use Rattle.tm_top.specs.declared.message.Parts.{Parts}
 
 -- the words and the number
 abbrev pub told : Parts → Words
-told p = record { before = p.before.now; number = p.number; after = p.after.now }
+told p = record { subject = p.subject.now; before = p.before.now; number = p.number; after = p.after.now }

@@ -1,4 +1,5 @@
--- What a run writes: reports of least vectors, certificates of them, the summary of a generated program, and the upgrade of a certificate.
+-- What a run writes: reports of least vectors, certificates of them, the summary of a generated program, the upgrade of a certificate,
+-- verdicts on claims, reports of transition systems, and values of equations.
 use Rattle.std.specs.Prelude.{◌≡◌, ◌≤◌, ℕ, ℤ, List, Option, Some, length}
 use Rattle.tm_io.specs.Files.{Contents}
 use Rattle.tm_tree.specs.Tree.{Statements}
@@ -21,15 +22,18 @@ use Rattle.tm_cli.specs.declared.request.Domain.{Domain}
 use Rattle.tm_cli.specs.declared.request.Policy.{Policy}
 use Rattle.tm_cli.specs.declared.request.Policy.TheVariants.{Best}
 use Rattle.tm_top.specs.Checks.{IsValidFor, NoneIsWide, system_with, theirs}
-use Rattle.tm_top.specs.Files.{AreChecked, AreInputs, HasCertificate, Request}
+use Rattle.tm_top.specs.ClaimTexts.{AreVerdictsOf}
+use Rattle.tm_top.specs.EquationTexts.{AreValuesOf}
+use Rattle.tm_top.specs.Files.{AreChecked, AreInputs, HasCertificate, HasShortText, Request}
 pub use Rattle.tm_top.specs.LeastReports.{IsLeastReport, IsReportOf}
 use Rattle.tm_top.specs.Policies.{rule_of}
 use Rattle.tm_cli.specs.Request.{request_of}
 use Rattle.tm_top.specs.Rounds.{HasRounds, IsSystemFor}
 use Rattle.tm_cli.specs.declared.request.Purpose.{Purpose}
 use Rattle.tm_cli.specs.declared.request.Purpose.TheVariants.{Report, Certificate}
-use Rattle.tm_cli.specs.declared.request.Request.TheVariants.{Analyse, Check, Bench, Upgrade}
+use Rattle.tm_cli.specs.declared.request.Request.TheVariants.{Analyse, Check, Bench, Upgrade, Prove, Transitions, Equations}
 use Rattle.tm_top.specs.Texts.{IsReady}
+use Rattle.tm_top.specs.TransitionTexts.{IsAutoReport}
 use Rattle.tm_top.specs.Upgrades.{IsUpgradeOf}
 
 -- the bytes are the certificate that the rounds make, of the program and the template of these texts; it is valid for the system of the text, no sum of its
@@ -83,6 +87,11 @@ IsReportOn files (Check program certificate) bytes =
     (text : List ℕ) × (given : List ℕ) × AreChecked files program certificate text given × IsReportBy text given bytes
 IsReportOn files (Bench seed loops) bytes = IsSummaryOf seed loops bytes
 IsReportOn files (Upgrade certificate) bytes = (given : List ℕ) × HasCertificate files certificate given × IsUpgradeOf given bytes
+IsReportOn files (Prove claims analysis) bytes = (text : List ℕ) × (rows : Domain (List ℕ)) × (given : List ℕ) × AreInputs files analysis text rows
+    × HasShortText files claims given × AreVerdictsOf text rows given analysis.policy analysis.improvements bytes
+IsReportOn files (Transitions analysis) bytes =
+    (text : List ℕ) × (rows : Domain (List ℕ)) × AreInputs files analysis text rows × IsAutoReport text rows analysis.policy analysis.improvements bytes
+IsReportOn files (Equations file improvements policy) bytes = (text : List ℕ) × HasShortText files file text × AreValuesOf text policy improvements bytes
 
 -- they are that of the request that the words ask for
 abbrev pub IsReportFor : Option Contents → List (List ℕ) → List ℕ → Type 0

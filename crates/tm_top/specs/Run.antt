@@ -5,16 +5,14 @@ use Rattle.tm_io.specs.Files.{Contents}
 use Rattle.tm_eqsys.specs.declared.system.System.{System}
 use Rattle.tm_cert.specs.declared.cert.Cert.{Cert}
 use Rattle.tm_form.specs.Certificates.{SpellsCert}
-use Rattle.tm_top.specs.Files.{AreInputs, HasContent, HasProgram, IsTold, Request, file_in}
+use Rattle.tm_top.specs.Files.{AreInputs, HasContent, HasText, IsReached, IsTold, Request}
 use Rattle.tm_top.specs.CheckMessages.{rows_in, rows_of}
 use Rattle.tm_top.specs.Messages.{line_in}
-pub use Rattle.tm_top.specs.Outputs.{HasFailed}
+use Rattle.tm_io.specs.Faults.{Rose}
 use Rattle.tm_cli.specs.Request.{request_of}
 use Rattle.tm_top.specs.Texts.{IsSolvedSystem}
 use Rattle.tm_cli.specs.declared.request.Domain.{Domain}
-use Rattle.tm_cli.specs.declared.request.Request.TheVariants.{Analyse, Check, Bench, Upgrade}
-use Rattle.tm_top.specs.declared.status.Which.{Which}
-use Rattle.tm_top.specs.declared.status.Which.TheVariants as which
+use Rattle.tm_cli.specs.declared.request.Request.TheVariants.{Analyse, Check, Bench, Upgrade, Prove, Transitions, Equations}
 use Rattle.tm_top.specs.declared.status.ReadCause.TheVariants.{Failed, TooLong}
 use Rattle.tm_top.specs.declared.status.Status.{Status}
 use Rattle.tm_top.specs.declared.status.Status.TheVariants.{Done, Certificate, Usage, Read, Text, Wide, Spent, Memory, Write}
@@ -22,41 +20,17 @@ use Rattle.tm_top.specs.declared.status.Status.TheVariants.{Done, Certificate, U
 -- ---- the outside
 
 -- an answer to a request that a file failed comes only where it did
-abbrev pub FailsOnlyIn : (faults faults_now : ℕ) → (last : List ℕ) → Request → Status → Type 0
-FailsOnlyIn faults faults_now last request Done = Unit {0}
-FailsOnlyIn faults faults_now last request (Certificate cause) = Unit {0}
-FailsOnlyIn faults faults_now last request Usage = Unit {0}
-FailsOnlyIn faults faults_now last request (Read (Failed which)) = HasFailed faults faults_now last (file_in which request)
-FailsOnlyIn faults faults_now last request (Read (TooLong which)) = Unit {0}
-FailsOnlyIn faults faults_now last request (Text cause) = Unit {0}
-FailsOnlyIn faults faults_now last request (Wide spot) = Unit {0}
-FailsOnlyIn faults faults_now last request (Spent number) = Unit {0}
-FailsOnlyIn faults faults_now last request Memory = Unit {0}
-FailsOnlyIn faults faults_now last request Write = Unit {0}
-
--- a file failed that is loaded before an ending is seen
-abbrev pub FailedBefore : Status → Status → Type 0
-FailedBefore (Read (TooLong which.Program)) status = status ≡ Read (Failed which.Program)
-FailedBefore (Read (TooLong which.Rows)) status = (failed : Which) × (status ≡ Read (Failed failed))
-FailedBefore (Read (TooLong which.Certificate)) status = (failed : Which) × (status ≡ Read (Failed failed))
-FailedBefore (Read (Failed which)) status = ⊥
-FailedBefore Done status = (failed : Which) × (status ≡ Read (Failed failed))
-FailedBefore (Certificate cause) status = (failed : Which) × (status ≡ Read (Failed failed))
-FailedBefore Usage status = ⊥
-FailedBefore (Text cause) status = (failed : Which) × (status ≡ Read (Failed failed))
-FailedBefore (Wide spot) status = (failed : Which) × (status ≡ Read (Failed failed))
-FailedBefore (Spent number) status = (failed : Which) × (status ≡ Read (Failed failed))
-FailedBefore Memory status = ⊥
-FailedBefore Write status = ⊥
-
--- an answer is this one, or memory was wanted, or a file failed before
-abbrev pub Unless : Status → Status → Type 0
-Unless wanted status = (status ≡ wanted) ⊎ ((status ≡ Memory) ⊎ FailedBefore wanted status)
-
--- such an answer, and the output holds nothing new
-pub record Refuses (wanted status : Status) (held now : Option (List ℕ)) : Type 0 where
-  pub answer : Unless wanted status
-  pub unchanged : now ≡ held
+abbrev pub FailsOnlyIn : Option Contents → (faults faults_now : ℕ) → (last : List ℕ) → Request → Status → Type 0
+FailsOnlyIn files faults faults_now last request Done = Unit {0}
+FailsOnlyIn files faults faults_now last request (Certificate cause) = Unit {0}
+FailsOnlyIn files faults faults_now last request Usage = Unit {0}
+FailsOnlyIn files faults faults_now last request (Read (Failed which)) = Rose faults faults_now × IsReached files request which last
+FailsOnlyIn files faults faults_now last request (Read (TooLong which)) = Unit {0}
+FailsOnlyIn files faults faults_now last request (Text cause) = Unit {0}
+FailsOnlyIn files faults faults_now last request (Wide spot) = Unit {0}
+FailsOnlyIn files faults faults_now last request (Spent number) = Unit {0}
+FailsOnlyIn files faults faults_now last request Memory = Unit {0}
+FailsOnlyIn files faults faults_now last request Write = Unit {0}
 
 -- ---- the output
 
@@ -78,13 +52,13 @@ OutputHolds IsReport Write held now = GetsPart IsReport held now
 
 -- ---- the messages
 
--- this is the text of the program that the words name
-abbrev pub IsProgramText : Option Contents → List (List ℕ) → List ℕ → Type 0
-IsProgramText files words text = (request : Request) × (request_of words ≡ Some request) × HasProgram files request text
+-- this is the text in which the message of an ending names a line, that of a file that the words name
+abbrev pub IsNamedText : Option Contents → List (List ℕ) → Status → List ℕ → Type 0
+IsNamedText files words status text = (request : Request) × (request_of words ≡ Some request) × HasText files request status text
 
 -- this is the line that the message names, where the shelf tells its files
 abbrev pub IsLine : Option Contents → List (List ℕ) → Status → ℕ → Type 0
-IsLine files words status line = (text : List ℕ) → IsTold files → IsProgramText files words text → line ≡ line_in text status
+IsLine files words status line = (text : List ℕ) → IsTold files → IsNamedText files words status text → line ≡ line_in text status
 
 -- so many rows each point has by which the message of a request numbers an unknown, where the shelf tells its files: those of the template of an analysis,
 -- or of the certificate that is checked
@@ -96,6 +70,9 @@ IsRowCountIn files (Check program certificate) status rows =
     (bytes : List ℕ) (cert : Cert) → IsTold files → HasContent files certificate bytes → SpellsCert bytes cert → rows ≡ rows_in cert status
 IsRowCountIn files (Bench seed loops) status rows = Unit {0}
 IsRowCountIn files (Upgrade certificate) status rows = Unit {0}
+IsRowCountIn files (Prove claims analysis) status rows = Unit {0}
+IsRowCountIn files (Transitions analysis) status rows = Unit {0}
+IsRowCountIn files (Equations file improvements policy) status rows = Unit {0}
 
 -- so many that of the request which the words ask for
 abbrev pub IsRowCount : Option Contents → List (List ℕ) → Status → ℕ → Type 0

@@ -18,8 +18,8 @@ use Rattle.tm_cli.specs.declared.request.Domain.{Domain}
 use Rattle.tm_cli.specs.declared.request.Policy.{Policy}
 use Rattle.tm_cli.specs.declared.request.Domain.TheVariants as domain
 use Rattle.tm_top.specs.declared.status.TextCause.{TextCause}
-use Rattle.tm_top.specs.declared.status.TextCause.TheVariants.{Lex, Parse, Flow, Rows, Unknowns, Cells}
-use Rattle.tm_top.specs.Rounds.{EndsWithin, IsSystemFor, RunsOut}
+use Rattle.tm_top.specs.declared.status.TextCause.TheVariants.{Lex, Parse, Flow, Rows, Unknowns, Cells, Claims, Equ, Auto}
+use Rattle.tm_top.specs.Rounds.{EndsWithin, IsSystemFor}
 use Rattle.tm_eqsys.specs.declared.limits.TheConstants.{MOST_UNKNOWNS}
 
 -- the text's tokens mean this: names and statements, or a fault
@@ -74,6 +74,9 @@ IsRefusedProgram text (Flow fault) =
 IsRefusedProgram text (Rows fault) = ⊥
 IsRefusedProgram text (Unknowns count) = ⊥
 IsRefusedProgram text (Cells count) = ⊥
+IsRefusedProgram text (Claims fault) = ⊥
+IsRefusedProgram text (Equ fault) = ⊥
+IsRefusedProgram text (Auto fault) = ⊥
 
 -- the texts are refused by this cause
 abbrev pub IsRefused : List ℕ → Domain (List ℕ) → TextCause → Type 0
@@ -88,10 +91,9 @@ IsRefused text rows (Unknowns count) =
 IsRefused text rows (Cells count) =
     (names : List (List ℕ)) × (body : Statements) × (template : List (List ℤ)) × IsSystemOf text rows names body template
     × (unknowns body template ≤ MOST_UNKNOWNS) × (134217728 < cells names body template) × (count ≡ cells names body template)
-
--- the texts are a system whose rounds haven't ended at the limit
-abbrev pub IsSpent : List ℕ → Domain (List ℕ) → Policy → ℕ → Type 0
-IsSpent text rows policy limit = (system : System) × IsSolvedSystem text rows system × RunsOut system policy limit
+IsRefused text rows (Claims fault) = ⊥
+IsRefused text rows (Equ fault) = ⊥
+IsRefused text rows (Auto fault) = ⊥
 
 -- the texts are a system whose rounds end within the limit
 abbrev pub IsSolvable : List ℕ → Domain (List ℕ) → Policy → ℕ → Type 0

@@ -10,25 +10,27 @@ ghost use Rattle.tm_cli.specs.declared.request.Domain.{Domain};
 ghost use Rattle.tm_cli.specs.declared.request.Request.TheVariants.{Analyse};
 ghost use Rattle.tm_top.specs.CheckMessages.{rows_of};
 ghost use Rattle.tm_top.specs.Endings.{IsAnswerTo};
+ghost use Rattle.tm_top.specs.Exact.{exact};
 ghost use Rattle.tm_top.specs.Files.{AreInputs, HasContent, HasShortRows, IsTold};
 ghost use Rattle.tm_top.specs.Messages.{line_in};
 ghost use Rattle.tm_top.specs.Outputs.{IsTaken, pieces_by};
-ghost use Rattle.tm_top.specs.Parted.{IsAnswerToSystem, IsAnswerToTexts, IsOutputOf, domain_of};
+ghost use Rattle.tm_top.specs.Parted.{IsAnswerToSystem, IsOutputOf, QuestionAnswer, domain_of};
+ghost use Rattle.tm_top.specs.Questions.{analysis_question};
 ghost use Rattle.tm_top.specs.Reports.{IsPutOf, IsReportOn};
 ghost use Rattle.tm_top.specs.Run.{FailsOnlyIn, OutputHolds};
 ghost use Rattle.tm_top.specs.Texts.{IsSolvedSystem};
 
 mod certify;
-mod inputs;
+pub(crate) mod inputs;
 pub(crate) mod rounds;
 pub(crate) mod system;
-mod template;
+pub(crate) mod template;
 
 use crate::ending::{Ending, plain_ending};
 use crate::message::place::{answer_line, answer_rows};
 use crate::output::{put_certificate, put_report};
 use crate::refusal::refused;
-use crate::status::Status;
+use crate::status::{Status, Which};
 use certify::certificate_of;
 use inputs::{Inputs, load};
 use rounds::report_of;
@@ -78,7 +80,7 @@ fn answer<K: Sink>(
     requires short { length inputs.now.text.items ≤ 65536 }
     requires short_rows { HasShortRows (domain_of inputs.now.rows) }
     requires limit { limit ≤ 1000000 }
-    ensures answer { IsAnswerToTexts purpose inputs.now.text.items (domain_of inputs.now.rows) policy limit result.status }
+    ensures answer { QuestionAnswer (analysis_question exact purpose inputs.now.text.items (domain_of inputs.now.rows) policy limit) result.status }
     ensures held { OutputHolds (IsPutOf purpose inputs.now.text.items (domain_of inputs.now.rows) policy limit) result.status
         (K.held out.old) (K.held out.new) }
     ensures pieces { result.status ≡ Status.Done → IsTaken (pieces_by purpose) (K.held out.old) (K.held out.new) (K.taken out.old) (K.taken out.new) }
@@ -120,7 +122,7 @@ pub(crate) fn analyse<S: Shelf, K: Sink>(
     requires limit { analysis.improvements ≤ 1000000 }
     ensures kept { S.files shelf.new ≡ S.files shelf.old }
     ensures answer { IsAnswerTo (S.files shelf.old) (Analyse purpose (analysis_text analysis.entry)) result.status }
-    ensures failed { FailsOnlyIn (S.faults shelf.old) (S.faults shelf.new) (S.last_failed shelf.new)
+    ensures failed { FailsOnlyIn (S.files shelf.old) (S.faults shelf.old) (S.faults shelf.new) (S.last_failed shelf.new)
         (Analyse purpose (analysis_text analysis.entry)) result.status }
     ensures held { OutputHolds (IsReportOn (S.files shelf.old) (Analyse purpose (analysis_text analysis.entry))) result.status
         (K.held out.old) (K.held out.new) }
@@ -132,7 +134,7 @@ pub(crate) fn analyse<S: Shelf, K: Sink>(
         → AreInputs (S.files shelf.old) (analysis_text analysis.entry) text rows → IsSolvedSystem text rows system
         → result.rows ≡ rows_of (length system.template) result.status }
 {
-    match load(shelf, analysis) {
+    match load(shelf, Which::Program, analysis) {
         Ok(inputs) => answer(
             alloc,
             purpose,

@@ -3,7 +3,9 @@
 ghost use Rattle.std.specs.Prelude.{◌≡◌, ◌≤◌, ◌<◌};
 ghost use Rattle.tm_io.specs.Faults.{Rose};
 ghost use Rattle.tm_top.specs.Outputs.{IsTaken, lines_of};
-ghost use Rattle.tm_top.specs.Parted.{IsAnswerToBench};
+ghost use Rattle.tm_top.specs.Exact.{exact};
+ghost use Rattle.tm_top.specs.Parted.{QuestionAnswer};
+ghost use Rattle.tm_top.specs.Questions.{bench_question};
 ghost use Rattle.tm_top.specs.Reports.{IsSummaryOf};
 ghost use Rattle.tm_top.specs.Run.{OutputHolds};
 
@@ -21,7 +23,7 @@ pub(crate) fn bench<K: Sink>(alloc: Global, seed: u32, loops: u32, out: &mut K) 
     requires seed { seed < 2147483648 }
     requires some { 1 ≤ loops }
     requires few { loops ≤ 46 }
-    ensures answer { IsAnswerToBench seed loops result }
+    ensures answer { QuestionAnswer (bench_question exact seed loops) result }
     ensures held { OutputHolds (IsSummaryOf seed loops) result (K.held out.old) (K.held out.new) }
     ensures pieces { result ≡ Status.Done → IsTaken lines_of (K.held out.old) (K.held out.new) (K.taken out.old) (K.taken out.new) }
     ensures write { result ≡ Status.Write → Rose (K.faults out.old) (K.faults out.new) }

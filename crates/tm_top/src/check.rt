@@ -120,7 +120,7 @@ pub(crate) fn check<S: Shelf, K: Sink>(
 ) -> Ending
     ensures kept { S.files shelf.new ≡ S.files shelf.old }
     ensures answer { IsAnswerTo (S.files shelf.old) (Check program.now certificate.now) result.status }
-    ensures failed { FailsOnlyIn (S.faults shelf.old) (S.faults shelf.new) (S.last_failed shelf.new) (Check program.now certificate.now) result.status }
+    ensures failed { FailsOnlyIn (S.files shelf.old) (S.faults shelf.old) (S.faults shelf.new) (S.last_failed shelf.new) (Check program.now certificate.now) result.status }
     ensures held { OutputHolds (IsReportOn (S.files shelf.old) (Check program.now certificate.now)) result.status (K.held out.old) (K.held out.new) }
     ensures pieces { result.status ≡ Status.Done → IsTaken lines_of (K.held out.old) (K.held out.new) (K.taken out.old) (K.taken out.new) }
     ensures write { result.status ≡ Status.Write → Rose (K.faults out.old) (K.faults out.new) }

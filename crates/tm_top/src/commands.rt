@@ -5,7 +5,7 @@ ghost use Rattle.tm_io.specs.Faults.{Rose};
 ghost use Rattle.tm_cli.specs.Request.{request_of};
 ghost use Rattle.tm_top.specs.Answers.{Gives, IsAnswer, WordsEnd};
 ghost use Rattle.tm_top.specs.Endings.{IsAnswerToWords};
-ghost use Rattle.tm_top.specs.Files.{Request as NamedRequest, file_named};
+ghost use Rattle.tm_top.specs.Files.{Request as NamedRequest};
 ghost use Rattle.tm_top.specs.Messages.{message_of};
 ghost use Rattle.tm_top.specs.Outputs.{GetsMessage, HasFailed, IsInOnePiece, IsMessage, IsOutput, IsTaken, OutputGets, pieces_of};
 ghost use Rattle.tm_top.specs.Reports.{IsReportFor};
@@ -16,9 +16,12 @@ use crate::analyse::analyse;
 use crate::bench::bench;
 use crate::check::check;
 use crate::ending::{Ending, plain_ending};
+use crate::equations::equations;
 use crate::meaning::{Exact, Meaning};
 use crate::message::make_message;
+use crate::prove::prove;
 use crate::status::{ReadCause, Status, Which};
+use crate::transitions::transitions;
 use crate::upgrade::upgrade;
 use std::alloc::Global;
 use tm_cli::{Request, WordsFault, read_words};
@@ -29,7 +32,7 @@ fn obey<S: Shelf, K: Sink>(alloc: Global, words: &[String], shelf: &mut S, out: 
     ensures kept { S.files shelf.new ≡ S.files shelf.old }
     ensures answer { IsAnswerToWords (S.files shelf.old) (map string_bytes words.now) result.status }
     ensures read { (which : Which) → result.status ≡ Status.Read (ReadCause.Failed which)
-        → HasFailed (S.faults shelf.old) (S.faults shelf.new) (S.last_failed shelf.new) (file_named which (map string_bytes words.now)) }
+        → HasFailed (S.files shelf.old) (map string_bytes words.now) which (S.faults shelf.old) (S.faults shelf.new) (S.last_failed shelf.new) }
     ensures held { OutputHolds (IsReportFor (S.files shelf.old) (map string_bytes words.now)) result.status (K.held out.old) (K.held out.new) }
     ensures pieces { (request : NamedRequest) → request_of (map string_bytes words.now) ≡ Some request → result.status ≡ Status.Done
         → IsTaken (pieces_of request) (K.held out.old) (K.held out.new) (K.taken out.old) (K.taken out.new) }
@@ -52,6 +55,15 @@ fn obey<S: Shelf, K: Sink>(alloc: Global, words: &[String], shelf: &mut S, out: 
             shelf,
             out,
         )),
+        Ok(Request::Prove { claims, analysis }) => prove(alloc, claims, analysis, shelf, out),
+        Ok(Request::Transitions { analysis }) => transitions(alloc, analysis, shelf, out),
+        Ok(
+            Request::Equations {
+                file,
+                improvements,
+                policy,
+            },
+        ) => equations(alloc, file, improvements, policy, shelf, out),
         Err(WordsFault::Usage) => plain_ending(Status::Usage),
         Err(WordsFault::NoMemory) => plain_ending(Status::Memory),
     }
@@ -73,11 +85,14 @@ fn tell<L: Sink>(ending: &Ending, err: &mut L)
 /// name; a report, a certificate or a summary goes to `out`, and the message of every other ending to `err`
 /// (docs/FORMATS.md, "Messages").
 ///
-/// The first cause in this order decides: the words; the program's file, and then the file of rows or the certificate; the
-/// tokens, the grammar, the points and edges. An analysis goes on with the rows, the unknowns, the cells, the composition of
+/// The first cause in this order decides: the words; the program's file, then the file of rows or the certificate, and then that of the
+/// claims; the tokens, the grammar, the points and edges. An analysis goes on with the rows, the unknowns, the cells, the composition of
 /// the edges, and the rounds; a check with the form of the certificate, its rows, the unknowns, the composition of the
-/// edges, and the tests; an upgrade reads no program, and has the form of the certificate alone. `Memory` may come at any time,
-/// and takes the place of any other answer. A wide operation of an analysis may take the place of a report and of improvements
+/// edges, and the tests; an upgrade reads no program, and has the form of the certificate alone; a proof of
+/// claims goes on from the cells with the faults of the claims, and from the rounds with the problems of the claims; a transition
+/// system has the faults of its text and of its edges, and goes on as an analysis does; equations have the faults of their text, the
+/// composition of the edges, and the rounds. `Memory` may come at any time,
+/// and takes the place of any other answer. A wide operation of an analysis or of a proof may take the place of a report and of improvements
 /// that are spent.
 pub fn run<S: Shelf, K: Sink, L: Sink>(
     alloc: Global,
@@ -87,7 +102,9 @@ pub fn run<S: Shelf, K: Sink, L: Sink>(
     err: &mut L,
 ) -> Status
     // Sound: what is answered is so of the words and of the texts of the files that they name, and so is what is put. A report is
-    // that of the least vector, which holds in every run of the program, with the number of improvements by the policy.
+    // that of the least vector, which holds in every run of the program or along the edges of the transition system, with the number of
+    // improvements by the policy. The values
+    // of equations equal their right sides, and are at most all values above the equations.
     ensures answer { IsAnswer ⟦<Exact as Meaning>⟧.means (S.files shelf.old) (map string_bytes words.now) result }
     ensures output { OutputGets (IsOutput ⟦<Exact as Meaning>⟧.means (S.files shelf.old) (map string_bytes words.now)) result
         (K.held out.old) (K.held out.new) }
@@ -101,7 +118,7 @@ pub fn run<S: Shelf, K: Sink, L: Sink>(
     // Outside: a fault of a file or of the output is one of this call, the files stay, and a message is put in one piece.
     ensures kept { S.files shelf.new ≡ S.files shelf.old }
     ensures read { (which : Which) → result ≡ Status.Read (ReadCause.Failed which)
-        → HasFailed (S.faults shelf.old) (S.faults shelf.new) (S.last_failed shelf.new) (file_named which (map string_bytes words.now)) }
+        → HasFailed (S.files shelf.old) (map string_bytes words.now) which (S.faults shelf.old) (S.faults shelf.new) (S.last_failed shelf.new) }
     ensures write { result ≡ Status.Write → Rose (K.faults out.old) (K.faults out.new) }
     ensures message { (message : List ℕ) × IsMessage ⟦<Exact as Meaning>⟧.means (S.files shelf.old) (map string_bytes words.now) result message
         × GetsMessage result message (L.held err.old) (L.held err.new) (L.faults err.old) (L.faults err.new) (L.spare err.old)

@@ -8,8 +8,11 @@ ghost use Rattle.tm_eqsys.specs.Equations.{Least, Vector};
 ghost use Rattle.tm_eqsys.specs.Solutions.{equations_of_program};
 ghost use Rattle.tm_eqsys.specs.View.{equations_of};
 ghost use Rattle.tm_strategy.specs.PickCount.{pick_count};
+ghost use Rattle.tm_cli.specs.declared.request.Domain.{Domain};
 ghost use Rattle.tm_cli.specs.declared.request.Policy.{Policy};
 ghost use Rattle.tm_top.specs.Answers.{Ends, Tells};
+ghost use Rattle.tm_top.specs.ClaimTexts.{AreVerdictsOf};
+ghost use Rattle.tm_top.specs.EquationTexts.{AreValuesOf};
 ghost use Rattle.tm_top.specs.Files.{Request};
 ghost use Rattle.tm_top.specs.Rounds.{RunsOut};
 ghost use Rattle.tm_top.specs.declared.status.Status.{Status};
@@ -31,6 +34,18 @@ pub fn ending_is_one()
 /// Bytes have one text as the certificate that they spell.
 pub fn upgrade_is_one()
     ensures { (bytes one other : List ℕ) → (⟦<Exact as Meaning>⟧.means).upgrades bytes one → (⟦<Exact as Meaning>⟧.means).upgrades bytes other → one ≡ other }
+{}
+
+/// A text of equations has one list of values.
+pub fn values_are_one()
+    ensures { (text : List ℕ) (policy : Policy) (limit : ℕ) (one other : List ℕ) → AreValuesOf text policy limit one
+        → AreValuesOf text policy limit other → one ≡ other }
+{}
+
+/// The texts of a program, of its rows and of claims have one list of verdicts.
+pub fn verdicts_are_one()
+    ensures { (text : List ℕ) (rows : Domain (List ℕ)) (given : List ℕ) (policy : Policy) (limit : ℕ) (one other : List ℕ)
+        → AreVerdictsOf text rows given policy limit one → AreVerdictsOf text rows given policy limit other → one ≡ other }
 {}
 
 /// Improvements that are spent are fewer than the picks of the system: a limit of as many as the picks is never spent.

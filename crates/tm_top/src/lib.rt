@@ -6,6 +6,7 @@ mod bench;
 mod check;
 mod commands;
 mod ending;
+mod equations;
 mod files;
 mod form;
 mod laws;
@@ -15,12 +16,17 @@ mod message;
 mod output;
 mod program;
 mod promise;
+mod prove;
 mod refusal;
 mod status;
+mod transitions;
 mod upgrade;
 
 pub use commands::run;
-pub use laws::{accepted_is_least, ending_is_one, spent_is_few, upgrade_is_one};
+pub use laws::{
+    accepted_is_least, ending_is_one, spent_is_few, upgrade_is_one, values_are_one,
+    verdicts_are_one,
+};
 pub use meaning::{Exact, Meaning};
 pub use memory::run_in_memory;
 pub use promise::headline;

@@ -1,8 +1,8 @@
 //! The line that tells how a run ended, where it isn't done.
 
 ghost use Rattle.std.specs.Prelude.{◌≡◌, ◌≤◌, ◌+◌, ◌++◌, [], None, Some, codes, length};
-ghost use Rattle.tm_top.specs.Messages.{counted, flow_words, lex_words, line_text, limit_words, message_of, parse_words, read_words};
-ghost use Rattle.tm_top.specs.Messages.{row_words, text_words, words, words_of};
+ghost use Rattle.tm_top.specs.Messages.{auto_words, claim_words, counted, counted_in, equation_words, flow_words, lex_words, limit_words};
+ghost use Rattle.tm_top.specs.Messages.{line_text, message_of, parse_words, plain, read_words, row_words, text_words, words, words_of};
 ghost use Rattle.tm_top.specs.Parts.{told};
 
 mod check;
@@ -12,83 +12,110 @@ use crate::status::{ReadCause, Status, TextCause, Which};
 use check::{certificate_message, wide_message};
 use itoa::Buffer;
 use std::marker::Model;
+use tm_assert::ClaimFault;
+use tm_auto::AutoFault;
 use tm_cli::usage_line;
+use tm_equ::EquFault;
 use tm_flow::FlowFault;
 use tm_lex::LexFault;
 use tm_parse::{Limit, ParseFault};
 use tm_rows::RowFault;
 
-// Words, a number and words, with a line feed at the end.
+// What is refused, words, a number and words, with a line feed at the end.
 #[derive(Clone, Copy, Drop)]
 pub(crate) struct Parts {
+    subject: &'static [u8],
     before: &'static [u8],
     number: Option<u64>,
     after: &'static [u8],
 }
 
+const PROGRAM: &[u8] = b"program refused: ";
+
+const ROWS: &[u8] = b"rows refused: ";
+
+const CLAIMS: &[u8] = b"claims refused: ";
+
+const EQUATIONS: &[u8] = b"equations refused: ";
+
+const SYSTEM: &[u8] = b"system refused: ";
+
 fn plain(before: &'static [u8]) -> Parts
     ensures { told result ≡ words before.entry.now }
 {
+    plain_in(b"", before)
+}
+
+fn plain_in(subject: &'static [u8], before: &'static [u8]) -> Parts
+    ensures { told result ≡ plain subject.entry.now before.entry.now }
+{
     Parts {
+        subject,
         before,
         number: None,
         after: b"\n",
     }
 }
 
-fn counted(before: &'static [u8], number: u32) -> Parts
-    ensures { told result ≡ counted before.entry.now number }
+fn counted(subject: &'static [u8], before: &'static [u8], number: u32) -> Parts
+    ensures { told result ≡ counted subject.entry.now before.entry.now number }
+{
+    counted_in(subject, before, number as u64, b"\n")
+}
+
+fn counted_in(
+    subject: &'static [u8],
+    before: &'static [u8],
+    number: u64,
+    after: &'static [u8],
+) -> Parts
+    ensures { told result ≡ counted_in subject.entry.now before.entry.now number after.entry.now }
 {
     Parts {
+        subject,
         before,
-        number: Some(number as u64),
-        after: b"\n",
+        number: Some(number),
+        after,
     }
 }
 
-fn lex_parts(line: u32, fault: LexFault) -> Parts
-    ensures { told result ≡ lex_words line fault }
+fn lex_parts(subject: &'static [u8], line: u32, fault: LexFault) -> Parts
+    ensures { told result ≡ lex_words subject.entry.now line fault }
 {
     match fault {
-        LexFault::BadByte { .. } => counted(b"program refused: bad byte at line ", line),
-        LexFault::OpenComment { .. } => counted(b"program refused: open comment at line ", line),
-        LexFault::LongNumber { .. } => counted(b"program refused: long number at line ", line),
-        LexFault::LongName { .. } => counted(b"program refused: long name at line ", line),
-        LexFault::BadNumber { .. } => counted(b"program refused: bad number at line ", line),
+        LexFault::BadByte { .. } => counted(subject, b"bad byte at line ", line),
+        LexFault::OpenComment { .. } => counted(subject, b"open comment at line ", line),
+        LexFault::LongNumber { .. } => counted(subject, b"long number at line ", line),
+        LexFault::LongName { .. } => counted(subject, b"long name at line ", line),
+        LexFault::BadNumber { .. } => counted(subject, b"bad number at line ", line),
         LexFault::NoMemory => plain(b"out of memory"),
     }
 }
 
-fn limit_parts(line: u32, which: Limit) -> Parts
-    ensures { told result ≡ limit_words line which }
+fn limit_parts(subject: &'static [u8], line: u32, which: Limit) -> Parts
+    ensures { told result ≡ limit_words subject.entry.now line which }
 {
     match which {
-        Limit::Nesting => counted(b"program refused: nesting at line ", line),
-        Limit::Variables => counted(b"program refused: variables at line ", line),
-        Limit::Statements => counted(b"program refused: statements at line ", line),
-        Limit::Leaves => counted(b"program refused: leaves at line ", line),
+        Limit::Nesting => counted(subject, b"nesting at line ", line),
+        Limit::Variables => counted(subject, b"variables at line ", line),
+        Limit::Statements => counted(subject, b"statements at line ", line),
+        Limit::Leaves => counted(subject, b"leaves at line ", line),
     }
 }
 
-fn parse_parts(line: u32, fault: ParseFault) -> Parts
-    ensures { told result ≡ parse_words line fault }
+fn parse_parts(subject: &'static [u8], line: u32, fault: ParseFault) -> Parts
+    ensures { told result ≡ parse_words subject.entry.now line fault }
 {
     match fault {
-        ParseFault::Unexpected { .. } => counted(
-            b"program refused: unexpected token at line ",
-            line,
-        ),
-        ParseFault::UnknownName { .. } => counted(b"program refused: unknown name at line ", line),
-        ParseFault::NameTwice { .. } => counted(b"program refused: name twice at line ", line),
-        ParseFault::NotAffine { .. } => counted(b"program refused: not affine at line ", line),
-        ParseFault::NondetHere { .. } => counted(b"program refused: nondet at line ", line),
-        ParseFault::Limit { which, .. } => limit_parts(line, which),
-        ParseFault::NoVariables => plain(b"program refused: no variables"),
-        ParseFault::BigNumber { .. } => counted(b"program refused: big number at line ", line),
-        ParseFault::OutsideLoop { .. } => counted(
-            b"program refused: outside a loop at line ",
-            line,
-        ),
+        ParseFault::Unexpected { .. } => counted(subject, b"unexpected token at line ", line),
+        ParseFault::UnknownName { .. } => counted(subject, b"unknown name at line ", line),
+        ParseFault::NameTwice { .. } => counted(subject, b"name twice at line ", line),
+        ParseFault::NotAffine { .. } => counted(subject, b"not affine at line ", line),
+        ParseFault::NondetHere { .. } => counted(subject, b"nondet at line ", line),
+        ParseFault::Limit { which, .. } => limit_parts(subject, line, which),
+        ParseFault::NoVariables => plain_in(subject, b"no variables"),
+        ParseFault::BigNumber { .. } => counted(subject, b"big number at line ", line),
+        ParseFault::OutsideLoop { .. } => counted(subject, b"outside a loop at line ", line),
         ParseFault::NoMemory => plain(b"out of memory"),
     }
 }
@@ -97,14 +124,10 @@ fn flow_parts(fault: FlowFault) -> Parts
     ensures { told result ≡ flow_words fault }
 {
     match fault {
-        FlowFault::Cases { line } => counted(b"program refused: cases at line ", line),
-        FlowFault::Points { count } => Parts {
-            before: b"program refused: ",
-            number: Some(count as u64),
-            after: b" points\n",
-        },
-        FlowFault::Edges => plain(b"program refused: edges"),
-        FlowFault::Actions { edge } => counted(b"program refused: actions of edge ", edge),
+        FlowFault::Cases { line } => counted(PROGRAM, b"cases at line ", line),
+        FlowFault::Points { count } => counted_in(PROGRAM, b"", count as u64, b" points\n"),
+        FlowFault::Edges => plain_in(PROGRAM, b"edges"),
+        FlowFault::Actions { edge } => counted(PROGRAM, b"actions of edge ", edge),
         FlowFault::NoMemory => plain(b"out of memory"),
     }
 }
@@ -113,16 +136,63 @@ fn row_parts(fault: RowFault) -> Parts
     ensures { told result ≡ row_words fault }
 {
     match fault {
-        RowFault::ZeroRow { line } => counted(b"rows refused: zero row at line ", line),
-        RowFault::Count { count } => Parts {
-            before: b"rows refused: ",
-            number: Some(count as u64),
-            after: b" rows\n",
-        },
-        RowFault::UnknownName { line } => counted(b"rows refused: unknown name at line ", line),
-        RowFault::BadRow { line } => counted(b"rows refused: bad row at line ", line),
-        RowFault::Length { line } => counted(b"rows refused: length at line ", line),
+        RowFault::ZeroRow { line } => counted(ROWS, b"zero row at line ", line),
+        RowFault::Count { count } => counted_in(ROWS, b"", count as u64, b" rows\n"),
+        RowFault::UnknownName { line } => counted(ROWS, b"unknown name at line ", line),
+        RowFault::BadRow { line } => counted(ROWS, b"bad row at line ", line),
+        RowFault::Length { line } => counted(ROWS, b"length at line ", line),
         RowFault::NoMemory => plain(b"out of memory"),
+    }
+}
+
+fn claim_parts(line: u32, fault: ClaimFault) -> Parts
+    ensures { told result ≡ claim_words line fault }
+{
+    match fault {
+        ClaimFault::Lex(fault) => lex_parts(CLAIMS, line, fault),
+        ClaimFault::Parse(fault) => parse_parts(CLAIMS, line, fault),
+        ClaimFault::UnknownLabel { .. } => counted(CLAIMS, b"unknown label at line ", line),
+        ClaimFault::Count { .. } => counted(CLAIMS, b"claims at line ", line),
+        ClaimFault::Cases { .. } => counted(CLAIMS, b"cases at line ", line),
+        ClaimFault::NoMemory => plain(b"out of memory"),
+    }
+}
+
+fn equation_parts(line: u32, fault: EquFault) -> Parts
+    ensures { told result ≡ equation_words line fault }
+{
+    match fault {
+        EquFault::Lex(fault) => lex_parts(EQUATIONS, line, fault),
+        EquFault::Unexpected { .. } => counted(EQUATIONS, b"unexpected token at line ", line),
+        EquFault::NameTwice { .. } => counted(EQUATIONS, b"name twice at line ", line),
+        EquFault::Count { count } => counted_in(EQUATIONS, b"", count as u64, b" equations\n"),
+        EquFault::UnknownName { .. } => counted(EQUATIONS, b"unknown name at line ", line),
+        EquFault::ZeroBelow { .. } => counted(EQUATIONS, b"zero below at line ", line),
+        EquFault::Terms { .. } => counted(EQUATIONS, b"terms at line ", line),
+        EquFault::Big { .. } => counted(EQUATIONS, b"big number at line ", line),
+        EquFault::Alternatives { count } => counted_in(
+            EQUATIONS,
+            b"",
+            count as u64,
+            b" alternatives\n",
+        ),
+        EquFault::NoMemory => plain(b"out of memory"),
+    }
+}
+
+fn auto_parts(line: u32, fault: AutoFault) -> Parts
+    ensures { told result ≡ auto_words line fault }
+{
+    match fault {
+        AutoFault::Lex(fault) => lex_parts(SYSTEM, line, fault),
+        AutoFault::Parse(fault) => parse_parts(SYSTEM, line, fault),
+        AutoFault::UnknownPoint { .. } => counted(SYSTEM, b"unknown point at line ", line),
+        AutoFault::IntoEntry { .. } => counted(SYSTEM, b"into the entry at line ", line),
+        AutoFault::Cases { .. } => counted(SYSTEM, b"cases at line ", line),
+        AutoFault::Points { count } => counted_in(SYSTEM, b"", count as u64, b" points\n"),
+        AutoFault::Edges => plain_in(SYSTEM, b"edges"),
+        AutoFault::Actions { edge } => counted(SYSTEM, b"actions of edge ", edge),
+        AutoFault::NoMemory => plain(b"out of memory"),
     }
 }
 
@@ -130,20 +200,15 @@ fn text_parts(line: u32, cause: TextCause) -> Parts
     ensures { told result ≡ text_words line cause }
 {
     match cause {
-        TextCause::Lex(fault) => lex_parts(line, fault),
-        TextCause::Parse(fault) => parse_parts(line, fault),
+        TextCause::Lex(fault) => lex_parts(PROGRAM, line, fault),
+        TextCause::Parse(fault) => parse_parts(PROGRAM, line, fault),
         TextCause::Flow(fault) => flow_parts(fault),
         TextCause::Rows(fault) => row_parts(fault),
-        TextCause::Unknowns(count) => Parts {
-            before: b"program refused: ",
-            number: Some(count as u64),
-            after: b" unknowns\n",
-        },
-        TextCause::Cells(count) => Parts {
-            before: b"program refused: ",
-            number: Some(count),
-            after: b" cells\n",
-        },
+        TextCause::Unknowns(count) => counted_in(PROGRAM, b"", count as u64, b" unknowns\n"),
+        TextCause::Cells(count) => counted_in(PROGRAM, b"", count, b" cells\n"),
+        TextCause::Claims(fault) => claim_parts(line, fault),
+        TextCause::Equ(fault) => equation_parts(line, fault),
+        TextCause::Auto(fault) => auto_parts(line, fault),
     }
 }
 
@@ -154,9 +219,15 @@ fn read_parts(cause: ReadCause) -> Parts
         ReadCause::Failed(Which::Program) => plain(b"cannot read the program"),
         ReadCause::Failed(Which::Rows) => plain(b"cannot read the rows"),
         ReadCause::Failed(Which::Certificate) => plain(b"cannot read the certificate"),
+        ReadCause::Failed(Which::Claims) => plain(b"cannot read the claims"),
+        ReadCause::Failed(Which::System) => plain(b"cannot read the system"),
+        ReadCause::Failed(Which::Equations) => plain(b"cannot read the equations"),
         ReadCause::TooLong(Which::Program) => plain(b"too long: the program"),
         ReadCause::TooLong(Which::Rows) => plain(b"too long: the rows"),
         ReadCause::TooLong(Which::Certificate) => plain(b"too long: the certificate"),
+        ReadCause::TooLong(Which::Claims) => plain(b"too long: the claims"),
+        ReadCause::TooLong(Which::System) => plain(b"too long: the system"),
+        ReadCause::TooLong(Which::Equations) => plain(b"too long: the equations"),
     }
 }
 
@@ -168,17 +239,14 @@ fn make_parts(line: u32, status: &Status) -> Parts
     match status {
         Status::Done | Status::Certificate(_) | Status::Wide(_) => plain(b""),
         Status::Usage => Parts {
+            subject: b"",
             before: usage_line(),
             number: None,
             after: b"",
         },
         Status::Read(cause) => read_parts(*cause),
         Status::Text(cause) => text_parts(line, *cause),
-        Status::Spent(number) => Parts {
-            before: b"spent: ",
-            number: Some(*number as u64),
-            after: b" improvements\n",
-        },
+        Status::Spent(number) => counted_in(b"", b"spent: ", *number as u64, b" improvements\n"),
         Status::Memory => plain(b"out of memory"),
         Status::Write => plain(b"cannot write"),
     }
@@ -237,6 +305,7 @@ fn plain_message(line: u32, status: &Status) -> Message
     let parts = make_parts(line, status);
     let mut buffer = Buffer::new();
     let mut message = Message::new();
+    message.append(parts.subject);
     message.append(parts.before);
     if let Some(number) = parts.number {
         message.append(buffer.format(number).as_bytes());

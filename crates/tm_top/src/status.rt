@@ -3,8 +3,11 @@
 ghost use Rattle.std.specs.Prelude.{◌≡◌};
 ghost use Rattle.tm_top.specs.Status.{code_of};
 
+use tm_assert::ClaimFault;
+use tm_auto::AutoFault;
 use tm_check::CheckFault;
 use tm_eqsys::Spot;
+use tm_equ::EquFault;
 use tm_flow::FlowFault;
 use tm_form::FormFault;
 use tm_lex::LexFault;
@@ -18,6 +21,12 @@ pub enum Which {
     /// The file of the template's rows.
     Rows,
     Certificate,
+    /// The file of claims.
+    Claims,
+    /// The file of a transition system.
+    System,
+    /// The file of equations.
+    Equations,
 }
 
 /// Why a named file isn't read.
@@ -29,8 +38,8 @@ pub enum ReadCause {
     TooLong(Which),
 }
 
-/// Why the texts of a program and of its rows are refused (docs/FORMATS.md, "Messages"). The first that stands in
-/// this order is answered.
+/// Why the texts of a program, of its rows and of claims about it, that of a transition system, or that of equations, are refused (docs/FORMATS.md,
+/// "Messages"). The first that stands in this order is answered.
 #[derive(Clone, Copy, Debug, PartialEq, Eq)]
 pub enum TextCause {
     /// It doesn't read as tokens.
@@ -45,6 +54,12 @@ pub enum TextCause {
     Unknowns(u32),
     /// The largest joint problem has more than 134,217,728 cells, so many.
     Cells(u64),
+    /// The text of the claims doesn't read as claims about the program.
+    Claims(ClaimFault),
+    /// The text doesn't read as equations.
+    Equ(EquFault),
+    /// The text doesn't read as a transition system, or its edges aren't within the limits.
+    Auto(AutoFault),
 }
 
 /// Why a certificate is refused (docs/FORMATS.md, "Messages"). The first that stands in this order is answered.
@@ -71,7 +86,7 @@ pub enum Status {
     Usage,
     /// A named file isn't read.
     Read(ReadCause),
-    /// The program or its rows are refused.
+    /// The texts are refused.
     Text(TextCause),
     /// An operation on fractions was too wide, at this spot.
     Wide(Spot),

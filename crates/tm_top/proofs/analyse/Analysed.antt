@@ -18,8 +18,10 @@ use Rattle.tm_cli.specs.declared.request.Domain.{Domain}
 use Rattle.tm_cli.specs.declared.request.Policy.{Policy}
 use Rattle.tm_top.specs.CheckMessages.{rows_of}
 use Rattle.tm_top.specs.Checks.{NoneIsWide, system_with}
+use Rattle.tm_top.specs.Exact.{exact}
 use Rattle.tm_top.specs.Messages.{line_in}
-use Rattle.tm_top.specs.Parted.{IsAnswerToSystem, IsAnswerToTexts, IsHalted, IsOutputOf, IsRefusedBy, IsRoundsCertificate, IsRoundsReport, PutsReport, failed, refused, wanting, whole}
+use Rattle.tm_top.specs.Parted.{IsAnswerToSystem, IsHalted, IsOutputOf, IsRefusedBy, IsRoundsCertificate, IsRoundsReport, PutsReport, QuestionAnswer, failed, refused, wanting, whole}
+use Rattle.tm_top.specs.Questions.{analysis_question, rounds_end, rounds_spent}
 use Rattle.tm_top.specs.Reports.{IsCertificateOf, IsLeastReport, IsPutOf, IsReportOf}
 use Rattle.tm_top.specs.Rounds.{EndsWithin}
 use Rattle.tm_top.specs.Texts.{HasTemplate, IsSolvedSystem, unknowns}
@@ -29,7 +31,7 @@ use Rattle.tm_top.specs.declared.refusal.Refusal.{Refusal}
 use Rattle.tm_top.specs.declared.refusal.Refusal.TheVariants as refusal
 use Rattle.tm_top.specs.declared.status.Status.{Status}
 use Rattle.tm_top.specs.declared.status.Status.TheVariants.{Done, Certificate, Usage, Read, Text, Wide, Spent, Memory, Write}
-use Rattle.tm_top.proofs.analyse.Answered.{solved_ends}
+use Rattle.tm_top.proofs.rounds.OneChain.{solved_ends}
 use Rattle.tm_top.proofs.texts.Once.{equations_are}
 use Rattle.tm_top.proofs.texts.Readings.{program_once, rows_once}
 use Rattle.tm_top.proofs.analyse.Solved.{least_report, same_equations}
@@ -61,27 +63,29 @@ halted_answer purpose system policy limit r s e h = subst (λ x. IsAnswerToSyste
 -- ---- and to its texts
 
 pub system_texts : (purpose : Purpose) (text : List ℕ) (rows : Domain (List ℕ)) (system : System) (policy : Policy) (limit : ℕ) (status : Status) → IsSolvedSystem text rows system
-    → IsAnswerToSystem purpose system policy limit status → IsAnswerToTexts purpose text rows policy limit status
-system_texts purpose text rows system policy limit Done is h = (system, is, h)
+    → IsAnswerToSystem purpose system policy limit status → QuestionAnswer (analysis_question exact purpose text rows policy limit) status
+system_texts purpose text rows system policy limit Done is h = rounds_end system refl is h
 system_texts purpose text rows system policy limit (Certificate cause) is h = absurd h
 system_texts purpose text rows system policy limit Usage is h = absurd h
 system_texts purpose text rows system policy limit (Read cause) is h = absurd h
 system_texts purpose text rows system policy limit (Text cause) is h = absurd h
-system_texts purpose text rows system policy limit (Wide spot) is h = (system, is, h)
-system_texts purpose text rows system policy limit (Spent n) is h = ((system, is, h.0), h.1)
+system_texts purpose text rows system policy limit (Wide spot) is h = record { system = system; meant = is; too_wide = h }
+system_texts purpose text rows system policy limit (Spent n) is h = rounds_spent system (ap Spent h.1) is h.0
 system_texts purpose text rows system policy limit Memory is h = tt
-system_texts purpose text rows system policy limit Write is h = (system, is, h)
+system_texts purpose text rows system policy limit Write is h = rounds_end system refl is h
 
-refused_texts : (purpose : Purpose) (t : List ℕ) (rows : Domain (List ℕ)) (policy : Policy) (limit : ℕ) (r : Refusal) → IsRefusedBy t rows r → IsAnswerToTexts purpose t rows policy limit (refused r)
+refused_texts : (purpose : Purpose) (t : List ℕ) (rows : Domain (List ℕ)) (policy : Policy) (limit : ℕ) (r : Refusal) → IsRefusedBy t rows r
+    → QuestionAnswer (analysis_question exact purpose t rows policy limit) (refused r)
 refused_texts purpose t rows policy limit (refusal.Text c) h = h
 refused_texts purpose t rows policy limit (refusal.Certificate c) h = absurd h
 refused_texts purpose t rows policy limit (refusal.Wide s) h = absurd h
 refused_texts purpose t rows policy limit (refusal.Spent n) h = absurd h
 refused_texts purpose t rows policy limit refusal.NoMemory h = tt
 
-pub refused_answer : (purpose : Purpose) (t u : List ℕ) (rows : Domain (List ℕ)) (policy : Policy) (limit : ℕ) (r : Refusal) (s : Status) → s ≡ refused r → u ≡ t → IsRefusedBy u rows r → IsAnswerToTexts purpose t rows policy limit s
+pub refused_answer : (purpose : Purpose) (t u : List ℕ) (rows : Domain (List ℕ)) (policy : Policy) (limit : ℕ) (r : Refusal) (s : Status) → s ≡ refused r → u ≡ t → IsRefusedBy u rows r
+    → QuestionAnswer (analysis_question exact purpose t rows policy limit) s
 refused_answer purpose t u rows policy limit r s e i h =
-    subst (λ x. IsAnswerToTexts purpose t rows policy limit x) (sym e) (refused_texts purpose t rows policy limit r (subst (λ x. IsRefusedBy x rows r) i h))
+    subst (λ x. QuestionAnswer (analysis_question exact purpose t rows policy limit) x) (sym e) (refused_texts purpose t rows policy limit r (subst (λ x. IsRefusedBy x rows r) i h))
 
 -- ---- no line, and the rows of the template
 

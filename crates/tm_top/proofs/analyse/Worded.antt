@@ -1,16 +1,16 @@
 -- What an answer to the words says where they ask for an analysis, and where they don't.
-use Rattle.std.proofs.Common.{◌≡◌, ◌⊎◌, inl, inr, ⊎_elim, ℕ, List, refl, sym, ap, ◌∙◌, subst}
-use Rattle.std.specs.Prelude.{Option, Some, None, option_and_then}
+use Rattle.std.proofs.Common.{◌≡◌, ◌⊎◌, inl, inr, ⊎_elim, ℕ, List, refl, sym, ◌∙◌, subst}
+use Rattle.std.specs.Prelude.{Option, Some, None}
 use Rattle.tm_io.specs.Files.{Contents}
 use Rattle.tm_cli.specs.Request.{request_of}
 use Rattle.tm_top.specs.Endings.{Ends, IsAnswerTo, IsAnswerToRequest, IsAnswerToWords}
-use Rattle.tm_top.specs.Given.{Gives, HasEnding}
-use Rattle.tm_top.specs.Files.{HasProgram, IsTold, Request, file_in, file_named}
+use Rattle.tm_top.specs.Answers.{Tells}
+use Rattle.tm_top.specs.Files.{HasText, IsTold, Request}
 use Rattle.tm_top.specs.Messages.{line_in}
-use Rattle.tm_top.specs.Outputs.{IsTaken, pieces_of}
+use Rattle.tm_top.specs.Outputs.{HasFailed, IsTaken, pieces_of}
 use Rattle.tm_top.specs.Reports.{IsReportFor, IsReportOn}
-use Rattle.tm_top.specs.Run.{FailsOnlyIn, HasFailed, IsLine, IsRowCount, IsRowCountIn, OutputHolds, Refuses}
-use Rattle.tm_top.proofs.analyse.Answered.{Tells, answered_when, nothing_put}
+use Rattle.tm_top.specs.Run.{FailsOnlyIn, IsLine, IsRowCount, IsRowCountIn, OutputHolds}
+use Rattle.tm_top.proofs.commands.OneEnding.{nothing_put}
 use Rattle.tm_top.specs.declared.status.Which.{Which}
 use Rattle.tm_top.specs.declared.status.ReadCause.TheVariants.{Failed}
 use Rattle.tm_top.specs.declared.status.Status.{Status}
@@ -56,15 +56,15 @@ memory_words files words status e = subst (λ s. IsAnswerToWords files words s) 
 
 -- ---- what stands is answered
 
-kept : (files : Option Contents) (words : List (List ℕ)) (a : Request) (wanted status : Status) (held now : Option (List ℕ)) → request_of words ≡ Some a → Tells files a
-    → IsAnswerToWords files words status → OutputHolds (IsReportFor files words) status held now → Ends files a wanted → (wanted ≡ Done → ⊥) → now ≡ held
-kept files words a wanted status held now e told h o k other =
+pub kept : (files : Option Contents) (words : List (List ℕ)) (status : Status) (held now : Option (List ℕ)) → IsAnswerToWords files words status → OutputHolds (IsReportFor files words) status held now
+    → (a : Request) (wanted : Status) → request_of words ≡ Some a → Tells files a → Ends files a wanted → (wanted ≡ Done → ⊥) → now ≡ held
+kept files words status held now h o a wanted e told k other =
     nothing_put files a wanted status held now told (to_request files words a status e h)
     (output_map (IsReportFor files words) (IsReportOn files a) status held now
     (λ bytes r. subst (λ x. IsReportOn files x bytes) (same_request (request_of words) a r.0 e r.1) r.2) o) k other
 
 -- words that ask for no request put nothing
-unasked : (files : Option Contents) (words : List (List ℕ)) (status : Status) (held now : Option (List ℕ)) → request_of words ≡ None → OutputHolds (IsReportFor files words) status held now → now ≡ held
+pub unasked : (files : Option Contents) (words : List (List ℕ)) (status : Status) (held now : Option (List ℕ)) → request_of words ≡ None → OutputHolds (IsReportFor files words) status held now → now ≡ held
 unasked files words Done held now e (bytes, r, appended) = absurd (no_request (request_of words) r.0 e r.1)
 unasked files words (Certificate cause) held now e o = o
 unasked files words Usage held now e o = o
@@ -75,29 +75,20 @@ unasked files words (Spent n) held now e o = o
 unasked files words Memory held now e o = ⊎_elim (λ i. i) (λ part. absurd (no_request (request_of words) part.2.0 e part.2.1)) o
 unasked files words Write held now e (bytes, n, r, appended) = absurd (no_request (request_of words) r.0 e r.1)
 
-pub refuses_words : (files : Option Contents) (words : List (List ℕ)) (status : Status) (held now : Option (List ℕ)) → request_of words ≡ None
-    → IsAnswerToWords files words status → OutputHolds (IsReportFor files words) status held now → Refuses Usage status held now
-refuses_words files words status held now e h o =
-    let answer : (status ≡ Usage) ⊎ (status ≡ Memory) = subst (λ x. IsAnswerToRequest files x status) e h in
-    record {
-      answer = ⊎_elim (λ u. inl u) (λ m. inr (inl m)) answer;
-      unchanged = unasked files words status held now e o;
-    }
-
 -- ---- a file that failed
 
-pub failed_in : (faults faults_now : ℕ) (last : List ℕ) (words : List (List ℕ)) (a : Request) (status : Status) (which : Which) → request_of words ≡ Some a
-    → FailsOnlyIn faults faults_now last a status → status ≡ Read (Failed which) → HasFailed faults faults_now last (file_named which words)
-failed_in faults faults_now last words a status which e h i =
-    let failed : HasFailed faults faults_now last (file_in which a) = subst (λ s. FailsOnlyIn faults faults_now last a s) i h in
-    subst (λ name. HasFailed faults faults_now last name) (sym (ap (λ x. option_and_then (file_in which) x) e)) failed
+pub failed_in : (files : Option Contents) (faults faults_now : ℕ) (last : List ℕ) (words : List (List ℕ)) (a : Request) (status : Status) (which : Which) → request_of words ≡ Some a
+    → FailsOnlyIn files faults faults_now last a status → status ≡ Read (Failed which) → HasFailed files words which faults faults_now last
+failed_in files faults faults_now last words a status which e h i =
+    let failed = subst (λ s. FailsOnlyIn files faults faults_now last a s) i h in
+    record { rose = failed.0; request = a; asked = e; reached = failed.1 }
 
 -- ---- the line
 
 pub line_for : (files : Option Contents) (words : List (List ℕ)) (a : Request) (status : Status) (line : ℕ) → request_of words ≡ Some a
-    → ((text : List ℕ) → IsTold files → HasProgram files a text → line ≡ line_in text status) → IsLine files words status line
+    → ((text : List ℕ) → IsTold files → HasText files a status text → line ≡ line_in text status) → IsLine files words status line
 line_for files words a status line e h text told (b, i, k) =
-    h text told (subst (λ x. HasProgram files x text) (same_request (request_of words) a b e i) k)
+    h text told (subst (λ x. HasText files x status text) (same_request (request_of words) a b e i) k)
 
 pub no_line : (files : Option Contents) (words : List (List ℕ)) (status : Status) (line : ℕ) → line ≡ 0 → ((text : List ℕ) → line_in text status ≡ 0) → IsLine files words status line
 no_line files words status line e h text told k = e ∙ sym (h text)
@@ -109,15 +100,6 @@ rows_for files words a status rows e h b i = subst (λ x. IsRowCountIn files x s
 
 pub no_rows : (files : Option Contents) (words : List (List ℕ)) (status : Status) (rows : ℕ) → request_of words ≡ None → IsRowCount files words status rows
 no_rows files words status rows e b i = absurd (no_request (request_of words) b e i)
-
--- an ending that stands is given
-pub ending_given : (files : Option Contents) (words : List (List ℕ)) (status : Status) (held now : Option (List ℕ)) → IsAnswerToWords files words status → OutputHolds (IsReportFor files words) status held now
-    → (a : Request) (wanted : Status) → HasEnding files words a wanted → Gives files a wanted status held now
-ending_given files words status held now h o a wanted k =
-    record {
-      answer = answered_when files a wanted status k.told (to_request files words a status k.asked h) k.ends;
-      unchanged = λ other. kept files words a wanted status held now k.asked k.told h o k.ends other;
-    }
 
 -- ---- the pieces
 

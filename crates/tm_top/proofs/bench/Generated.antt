@@ -19,9 +19,11 @@ use Rattle.tm_workload.specs.Summaries.{summary_of}
 use Rattle.tm_workload.specs.Texts.{generated_text}
 use Rattle.tm_cli.specs.declared.request.Domain.TheVariants.{Intervals}
 use Rattle.tm_cli.specs.declared.request.Policy.TheVariants.{Best}
-use Rattle.tm_top.specs.Endings.{IsGenerated}
-use Rattle.tm_top.specs.Parted.{IsHalted, IsRefusedBy, IsUnsummed}
+use Rattle.tm_top.specs.Generated.{IsGenerated}
+use Rattle.tm_top.specs.Parted.{IsHalted, IsRefusedBy, IsUnanswered}
+use Rattle.tm_top.specs.Exact.{exact}
 use Rattle.tm_top.specs.Policies.{rule_of}
+use Rattle.tm_top.specs.Questions.{bench_question}
 use Rattle.tm_top.specs.Reports.{IsSummaryOf}
 use Rattle.tm_top.proofs.rounds.OneChain.{solved_rounds}
 use Rattle.tm_top.specs.Rounds.{IsSystemFor}
@@ -30,9 +32,8 @@ use Rattle.tm_cli.specs.declared.request.Purpose.TheVariants.{Report}
 use Rattle.tm_top.specs.declared.refusal.Refusal.{Refusal}
 use Rattle.tm_top.specs.declared.refusal.Refusal.TheVariants as refusal
 use Rattle.tm_top.specs.declared.status.TextCause.{TextCause}
-use Rattle.tm_top.specs.declared.status.Status.TheVariants.{Text}
-use Rattle.tm_top.proofs.analyse.Answered.{not_rounds}
-use Rattle.tm_top.proofs.texts.Once.{equations_are, ready_rounds, staged}
+use Rattle.tm_top.proofs.questions.Answered.{halted}
+use Rattle.tm_top.proofs.texts.Once.{equations_are, ready_unrefused}
 use Rattle.tm_top.proofs.texts.Readings.{program_once}
 
 abbrev given : Result (List (List ℤ)) RowFault → Result (List (List ℤ)) RowFault
@@ -75,23 +76,17 @@ module _ (law : GeneratedTextsRead) (seed loops : ℕ) (few : loops ≤ 46) wher
 
   -- and the text is refused by no cause
   unrefused : (cause : TextCause) → IsRefused (generated_text seed loops) Intervals cause → ⊥
-  unrefused cause h =
-      not_rounds cause 1000
-      (ready_rounds (generated_text seed loops) Intervals Best 1000 generated_names (generated_body seed loops) (intervals_of 3) (Text cause) ready (staged (generated_text seed loops) Intervals Best 1000 (Text cause) h))
+  unrefused cause h = ready_unrefused (generated_text seed loops) Intervals generated_names (generated_body seed loops) (intervals_of 3) cause h ready
 
-  pub unread : (r : Refusal) → IsRefusedBy (generated_text seed loops) Intervals r → IsUnsummed seed loops r
+  pub unread : (r : Refusal) → IsRefusedBy (generated_text seed loops) Intervals r → IsUnanswered (bench_question exact seed loops) r
   unread (refusal.Text cause) h = unrefused cause h
   unread (refusal.Certificate cause) h = absurd h
   unread (refusal.Wide spot) h = absurd h
   unread (refusal.Spent n) h = absurd h
   unread refusal.NoMemory h = tt
 
-  pub halted : (system : System) (r : Refusal) → IsSolvedSystem (generated_text seed loops) Intervals system → IsHalted Report system Best 1000 r → IsUnsummed seed loops r
-  halted system (refusal.Text cause) is h = absurd h
-  halted system (refusal.Certificate cause) is h = absurd h
-  halted system (refusal.Wide spot) is h = (system, generated system is, h)
-  halted system (refusal.Spent n) is h = (system, generated system is, h.0, h.1)
-  halted system refusal.NoMemory is h = tt
+  pub unended : (system : System) (r : Refusal) → IsSolvedSystem (generated_text seed loops) Intervals system → IsHalted Report system Best 1000 r → IsUnanswered (bench_question exact seed loops) r
+  unended system r is h = halted (bench_question exact seed loops) Report system (generated system is) (λ spot w. w) r h
 
   pub summed : (system : System) (solved : Solved) (count : ℕ) (bytes : List ℕ) → IsSolvedSystem (generated_text seed loops) Intervals system → IsSolved system (rule_of Best) 1000 solved
       → Least (equations_of system) (vector_of (length system.template) solved.bounds) → count ≡ length (generated_text seed loops)

@@ -17,7 +17,7 @@ use Rattle.tm_cli.specs.declared.request.Domain.{Domain}
 use Rattle.tm_top.specs.Checks.{IsSpelt, IsSystemWith, system_with, theirs}
 use Rattle.tm_top.specs.CheckMessages.{rows_in}
 use Rattle.tm_top.specs.Messages.{line_in}
-use Rattle.tm_top.specs.Parted.{AreUnloaded, GetsNoReport, IsAnswerToCheck, IsMisspelt, IsNoSystem, IsRefusedBy, IsUnaccepted, IsUnread, IsUnspelt, PutsReport, failed, refused, wanting, whole}
+use Rattle.tm_top.specs.Parted.{GetsNoReport, IsAnswerToCheck, IsMisspelt, IsNoSystem, IsRefusedBy, IsUnaccepted, IsUnread, IsUnspelt, PutsReport, failed, refused, wanting, whole}
 use Rattle.tm_top.specs.Reports.{IsReportBy}
 use Rattle.tm_top.specs.Run.{OutputHolds}
 use Rattle.tm_top.specs.Texts.{IsAnalysed}
@@ -40,9 +40,6 @@ not_done (refusal.Wide spot) s e d = cc
 not_done (refusal.Spent number) s e d = cc
 not_done refusal.NoMemory s e d = cc
 
-pub unloaded_not_done : (s : Status) → AreUnloaded s → s ≡ Done → ⊥
-unloaded_not_done s h d = subst AreUnloaded d h
-
 -- ---- the text of a program
 
 pub unread_refuses : (t : List ℕ) (rows : Domain (List ℕ)) (r : Refusal) → IsUnread t r → IsRefusedBy t rows r
@@ -52,6 +49,9 @@ unread_refuses t rows (refusal.Text (text.Flow f)) h = h
 unread_refuses t rows (refusal.Text (text.Rows f)) h = absurd h
 unread_refuses t rows (refusal.Text (text.Unknowns c)) h = absurd h
 unread_refuses t rows (refusal.Text (text.Cells c)) h = absurd h
+unread_refuses t rows (refusal.Text (text.Claims f)) h = absurd h
+unread_refuses t rows (refusal.Text (text.Equ f)) h = absurd h
+unread_refuses t rows (refusal.Text (text.Auto f)) h = absurd h
 unread_refuses t rows (refusal.Certificate c) h = absurd h
 unread_refuses t rows (refusal.Wide s) h = absurd h
 unread_refuses t rows (refusal.Spent k) h = absurd h

@@ -225,6 +225,9 @@ check_staged t bytes (Text (text.Flow f)) (names, body, h, e) = program (names, 
 check_staged t bytes (Text (text.Rows f)) h = absurd h
 check_staged t bytes (Text (text.Unknowns count)) h = absurd h
 check_staged t bytes (Text (text.Cells count)) h = absurd h
+check_staged t bytes (Text (text.Claims fault)) h = absurd h
+check_staged t bytes (Text (text.Equ fault)) h = absurd h
+check_staged t bytes (Text (text.Auto fault)) h = absurd h
 check_staged t bytes (Wide spot) (names, body, cert, y, h) =
     spelt_ends t bytes names body cert (Wide spot) y.spelt.analysed y.spelt.spells
     (⊎_elim (λ c. wide_spot names body cert spot y.rows y.within c)

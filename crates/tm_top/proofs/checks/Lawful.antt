@@ -17,7 +17,7 @@ use Rattle.tm_top.specs.Exact.{exact}
 use Rattle.tm_top.specs.Files.{Request}
 use Rattle.tm_top.specs.Upgrades.{IsUpgradeOf}
 use Rattle.tm_top.specs.declared.status.Status.{Status}
-use Rattle.tm_top.proofs.analyse.Answered.{ends_once}
+use Rattle.tm_top.proofs.commands.OneEnding.{ends_once}
 use Rattle.tm_top.proofs.commands.Meant.{ends_by}
 
 -- the edges of a program end at its points

@@ -1,41 +1,25 @@
 -- What a run answers, by its own words and the exact meanings.
-use Rattle.std.proofs.Common.{◌≡◌, ⊎_elim, ℕ, List, refl, sym, ap, subst, subst₂}
+use Rattle.std.proofs.Common.{◌≡◌, ◌⊎◌, ⊎_elim, ℕ, List, refl, sym, subst, subst₂}
 use Rattle.std.specs.Prelude.{Option, Some, None}
 use Rattle.tm_io.specs.Files.{Contents}
 use Rattle.tm_eqsys.specs.declared.spot.Spot.{Spot}
 use Rattle.tm_validity.specs.Certificates.{bounds_vector}
 use Rattle.tm_cli.specs.Request.{request_of}
-use Rattle.tm_cli.specs.declared.request.Domain.{Domain}
-use Rattle.tm_cli.specs.declared.request.Policy.{Policy}
-use Rattle.tm_cli.specs.declared.request.Request.TheVariants.{Analyse, Check, Bench, Upgrade}
+use Rattle.tm_cli.specs.declared.request.Request.TheVariants.{Analyse, Check, Bench, Upgrade, Prove, Transitions, Equations}
 use Rattle.tm_top.specs.Answers as public
-use Rattle.tm_top.specs.Answers.{AnalysisEnds, Answers, CheckEnds, IsAnswer, IsTooWide, UpgradeEnds, WordsEnd}
+use Rattle.tm_top.specs.Answers.{Answers, CheckEnds, IsAnswer, IsTooWide, Tells, UpgradeEnds, WordsEnd}
 use Rattle.tm_top.specs.Checks.{IsAcceptedWith, system_with}
-use Rattle.tm_top.specs.Endings.{BenchEnd, CheckEnd, Ends, InputsEnd, IsAnswerToRequest, IsSpotFor, TextsEnd, UpgradeEnd}
+use Rattle.tm_top.specs.Endings.{CheckEnd, Ends, InputsEnd, IsAnswerTo, IsAnswerToRequest, IsSpotFor, UpgradeEnd}
 use Rattle.tm_top.specs.Exact.{exact}
 use Rattle.tm_top.specs.Files.{Request}
-use Rattle.tm_top.specs.Given.{Answered, Gives, HasEnding, IsOfRounds, unless, unwritten, widened}
-use Rattle.tm_top.specs.Run.{FailedBefore, Refuses, Unless}
+use Rattle.tm_top.specs.Questions.{analysis_question, bench_question, claims_question, equations_question, transitions_question}
 use Rattle.tm_top.specs.declared.status.CertCause.TheVariants as cause
-use Rattle.tm_top.specs.declared.status.ReadCause.{ReadCause}
 use Rattle.tm_top.specs.declared.status.ReadCause.TheVariants.{Failed, TooLong}
 use Rattle.tm_top.specs.declared.status.Status.{Status}
 use Rattle.tm_top.specs.declared.status.Status.TheVariants.{Done, Certificate as Refused, Usage, Read, Text, Wide, Spent, Memory, Write}
-use Rattle.tm_top.specs.declared.status.Which.{Which}
-use Rattle.tm_top.specs.declared.status.Which.TheVariants.{Program, Rows, Certificate}
+use Rattle.tm_top.proofs.commands.OneEnding.{ends_once, question_end, spot_after}
 
 -- ---- endings, from the commands' words
-
-texts_end : (text : List ℕ) (rows : Domain (List ℕ)) (policy : Policy) (limit : ℕ) (s : Status) → TextsEnd text rows policy limit s → AnalysisEnds text rows policy limit s
-texts_end text rows policy limit Done (system, is, e) = public.solved system is (public.rounds_end refl e)
-texts_end text rows policy limit (Refused cause) h = absurd h
-texts_end text rows policy limit Usage h = absurd h
-texts_end text rows policy limit (Read cause) h = absurd h
-texts_end text rows policy limit (Text cause) h = public.text_refused cause refl h
-texts_end text rows policy limit (Wide spot) h = absurd h
-texts_end text rows policy limit (Spent n) ((system, is, o), e) = public.solved system is (public.rounds_spent (ap Spent e) o)
-texts_end text rows policy limit Memory h = absurd h
-texts_end text rows policy limit Write h = absurd h
 
 check_end : (text bytes : List ℕ) (s : Status) → CheckEnd text bytes s → CheckEnds exact text bytes s
 check_end text bytes Done (names, body, cert, valid, narrow) =
@@ -49,17 +33,6 @@ check_end text bytes (Wide spot) h = public.sum_too_wide spot refl h
 check_end text bytes (Spent n) h = absurd h
 check_end text bytes Memory h = absurd h
 check_end text bytes Write h = absurd h
-
-bench_end : (files : Option Contents) (seed loops : ℕ) (s : Status) → BenchEnd seed loops s → public.Ends exact files (Bench seed loops) s
-bench_end files seed loops Done (system, is, e) = public.generated seed loops system refl is (public.rounds_end refl e)
-bench_end files seed loops (Refused cause) h = absurd h
-bench_end files seed loops Usage h = absurd h
-bench_end files seed loops (Read cause) h = absurd h
-bench_end files seed loops (Text cause) h = absurd h
-bench_end files seed loops (Wide spot) h = absurd h
-bench_end files seed loops (Spent n) (system, is, o, e) = public.generated seed loops system refl is (public.rounds_spent (ap Spent e) o)
-bench_end files seed loops Memory h = absurd h
-bench_end files seed loops Write h = absurd h
 
 upgrade_end : (bytes : List ℕ) (s : Status) → UpgradeEnd bytes s → UpgradeEnds exact bytes s
 upgrade_end bytes Done (written, u) = public.rewritten written refl u
@@ -76,10 +49,13 @@ upgrade_end bytes Memory h = absurd h
 upgrade_end bytes Write h = absurd h
 
 inputs_end : (files : Option Contents) (request : Request) (s : Status) → InputsEnd files request s → public.Ends exact files request s
-inputs_end files (Analyse purpose a) s (text, rows, i, e) = public.analysed purpose a text rows refl i (texts_end text rows a.policy a.improvements s e)
+inputs_end files (Analyse purpose a) s (text, rows, i, e) = public.analysed purpose a text rows refl i e
 inputs_end files (Check p c) s (text, bytes, i, e) = public.checked p c text bytes refl i (check_end text bytes s e)
-inputs_end files (Bench seed loops) s e = bench_end files seed loops s e
+inputs_end files (Bench seed loops) s e = public.generated seed loops refl e
 inputs_end files (Upgrade c) s (bytes, i, e) = public.upgraded c bytes refl i (upgrade_end bytes s e)
+inputs_end files (Prove claims a) s (text, rows, given, i, c, e) = public.claimed claims a text rows given refl i c e
+inputs_end files (Transitions a) s (text, rows, i, e) = public.traversed a text rows refl i e
+inputs_end files (Equations file limit policy) s (text, i, e) = public.equated file text limit policy refl i e
 
 pub ends : (files : Option Contents) (request : Request) (s : Status) → Ends files request s → public.Ends exact files request s
 ends files request Done h = inputs_end files request Done h
@@ -100,12 +76,9 @@ accepted_with text bytes names body rows vector a = (names, body, a.cert, a.vali
 
 pub ends_by : (files : Option Contents) (request : Request) (s : Status) → public.Ends exact files request s → Ends files request s
 ends_by files request s (public.too_long which e h) = subst (λ x. Ends files request x) (sym e) h
-ends_by files request s (public.analysed purpose a text rows e i (public.text_refused cause f h)) =
-    subst₂ (λ r x. Ends files r x) (sym e) (sym f) (text, rows, i, h)
-ends_by files request s (public.analysed purpose a text rows e i (public.solved system is (public.rounds_end f h))) =
-    subst₂ (λ r x. Ends files r x) (sym e) (sym f) (text, rows, i, (system, is, h))
-ends_by files request s (public.analysed purpose a text rows e i (public.solved system is (public.rounds_spent f o))) =
-    subst₂ (λ r x. Ends files r x) (sym e) (sym f) (text, rows, i, ((system, is, o), refl))
+ends_by files request s (public.analysed purpose a text rows e i h) =
+    subst (λ r. Ends files r s) (sym e)
+    (question_end files (Analyse purpose a) (analysis_question exact purpose text rows a.policy a.improvements) s (λ x k. (text, rows, i, k)) h)
 ends_by files request s (public.checked p c text bytes e i (public.program_refused cause f h)) =
     subst₂ (λ r x. Ends files r x) (sym e) (sym f) (text, bytes, i, h)
 ends_by files request s (public.checked p c text bytes e i (public.certificate_refused cause f h)) =
@@ -114,29 +87,37 @@ ends_by files request s (public.checked p c text bytes e i (public.sum_too_wide 
     subst₂ (λ r x. Ends files r x) (sym e) (sym f) (text, bytes, i, h)
 ends_by files request s (public.checked p c text bytes e i (public.accepted names body rows vector f h)) =
     subst₂ (λ r x. Ends files r x) (sym e) (sym f) (text, bytes, i, accepted_with text bytes names body rows vector h)
-ends_by files request s (public.generated seed loops system e is (public.rounds_end f h)) =
-    subst₂ (λ r x. Ends files r x) (sym e) (sym f) (system, is, h)
-ends_by files request s (public.generated seed loops system e is (public.rounds_spent f o)) =
-    subst₂ (λ r x. Ends files r x) (sym e) (sym f) (system, is, o, refl)
+ends_by files request s (public.generated seed loops e h) =
+    subst (λ r. Ends files r s) (sym e) (question_end files (Bench seed loops) (bench_question exact seed loops) s (λ x k. k) h)
 ends_by files request s (public.upgraded c bytes e i (public.form_refused fault f h)) =
     subst₂ (λ r x. Ends files r x) (sym e) (sym f) (bytes, i, h)
 ends_by files request s (public.upgraded c bytes e i (public.rewritten written f u)) =
     subst₂ (λ r x. Ends files r x) (sym e) (sym f) (bytes, i, (written, u))
+ends_by files request s (public.claimed claims a text rows given e i c h) =
+    subst (λ r. Ends files r s) (sym e)
+    (question_end files (Prove claims a) (claims_question exact text rows given a.policy a.improvements) s (λ x k. (text, rows, given, i, c, k)) h)
+ends_by files request s (public.traversed a text rows e i h) =
+    subst (λ r. Ends files r s) (sym e) (question_end files (Transitions a) (transitions_question exact text rows a.policy a.improvements) s (λ x k. (text, rows, i, k)) h)
+ends_by files request s (public.equated file text limit policy e i h) =
+    subst (λ r. Ends files r s) (sym e) (question_end files (Equations file limit policy) (equations_question exact text policy limit) s (λ x k. (text, i, k)) h)
 
 -- ---- what an answer says
 
 spot_in : (files : Option Contents) (request : Request) (spot : Spot) → IsSpotFor files request spot → IsTooWide exact files request spot
-spot_in files (Analyse purpose a) spot (text, rows, i, (system, is, h)) = public.wide_in_analysis purpose a text rows system refl i is h
+spot_in files (Analyse purpose a) spot (text, rows, i, w) = public.wide_in_analysis purpose a text rows refl i w
 spot_in files (Check p c) spot (text, bytes, i, h) = public.wide_in_check p c text bytes refl i h
-spot_in files (Bench seed loops) spot (system, is, h) = public.wide_in_bench seed loops system refl is h
+spot_in files (Bench seed loops) spot w = public.wide_in_bench seed loops refl w
 spot_in files (Upgrade c) spot h = absurd h
+spot_in files (Prove claims a) spot (text, rows, given, i, c, w) = public.wide_in_proof claims a text rows given refl i c w
+spot_in files (Transitions a) spot (text, rows, i, w) = public.wide_in_transitions a text rows refl i w
+spot_in files (Equations file limit policy) spot (text, i, w) = public.wide_in_equations file text limit policy refl i w
 
 answer_to : (files : Option Contents) (words : List (List ℕ)) (o : Option Request) (status : Status) → request_of words ≡ o → IsAnswerToRequest files o status → IsAnswer exact files words status
 answer_to files words None status e h = ⊎_elim (λ u. public.is_usage e u) (λ m. public.is_memory m) h
 answer_to files words (Some a) Done e h = public.is_ending a e (ends files a Done h)
 answer_to files words (Some a) (Refused cause) e h = public.is_ending a e (ends files a (Refused cause) h)
 answer_to files words (Some a) Usage e h = absurd h
-answer_to files words (Some a) (Read (Failed which)) e h = public.is_unread a e which refl h
+answer_to files words (Some a) (Read (Failed which)) e (name, h) = public.is_unread a e which name refl h
 answer_to files words (Some a) (Read (TooLong which)) e h = public.is_ending a e (ends files a (Read (TooLong which)) h)
 answer_to files words (Some a) (Text cause) e h = public.is_ending a e (ends files a (Text cause) h)
 answer_to files words (Some a) (Wide spot) e h = public.is_wide a e spot refl (spot_in files a spot h)
@@ -149,66 +130,33 @@ answer files words status h = answer_to files words (request_of words) status re
 
 -- ---- what is answered where an ending stands
 
-read_usage : (cause : ReadCause) → Read cause ≡ Usage → ⊥
-read_usage cause e = cc
+module _ (files : Option Contents) (words : List (List ℕ)) (request : Request) (asked : request_of words ≡ Some request) (told : Tells files request) where
+  answered_when : (wanted status : Status) → IsAnswerTo files request status → Ends files request wanted → Answers exact files words wanted status
+  answered_when wanted Done h k = public.given (ends_once files request Done wanted told h k)
+  answered_when wanted (Refused cause) h k = public.given (ends_once files request (Refused cause) wanted told h k)
+  answered_when wanted Usage h k = absurd h
+  answered_when wanted (Read (Failed which)) (name, h) k = public.unread request asked which name refl h
+  answered_when wanted (Read (TooLong which)) h k = public.given (ends_once files request (Read (TooLong which)) wanted told h k)
+  answered_when wanted (Text cause) h k = public.given (ends_once files request (Text cause) wanted told h k)
+  answered_when wanted (Wide spot) h k =
+      ⊎_elim (λ r. public.too_wide request asked spot refl (spot_in files request spot h) r) (λ e. public.given (sym e)) (spot_after files request wanted spot told k h)
+  answered_when wanted (Spent n) h k = public.given (ends_once files request (Spent n) wanted told h k)
+  answered_when wanted Memory h k = public.no_memory refl
+  answered_when wanted Write h k = public.unwritten refl (sym (ends_once files request Done wanted told h k))
 
-rows_program : Read (TooLong Rows) ≡ Read (TooLong Program) → Rows ≡ Program
-rows_program e = cc
+usage_answer : (files : Option Contents) (words : List (List ℕ)) (status : Status) → (status ≡ Usage) ⊎ (status ≡ Memory) → Answers exact files words Usage status
+usage_answer files words status h = ⊎_elim (λ u. public.given u) (λ m. public.no_memory m) h
 
-certificate_program : Read (TooLong Certificate) ≡ Read (TooLong Program) → Certificate ≡ Program
-certificate_program e = cc
-
-not_rows : Rows ≡ Program → ⊥
-not_rows e = cc
-
-not_certificate : Certificate ≡ Program → ⊥
-not_certificate e = cc
-
-module _ (files : Option Contents) (words : List (List ℕ)) (status : Status) where
-  later : (wanted : Status) (which : Which) → (wanted ≡ Usage → ⊥) → (wanted ≡ Read (TooLong Program) → ⊥) → status ≡ Read (Failed which) → Answers exact files words wanted status
-  later wanted which asked other e = public.unread which e (record { requested = asked; program_first = λ f. absurd (other f) })
-
-  failed_before : (wanted : Status) → FailedBefore wanted status → Answers exact files words wanted status
-  failed_before (Read (TooLong Program)) e = public.unread Program e (record { requested = read_usage (TooLong Program); program_first = λ f. refl })
-  failed_before (Read (TooLong Rows)) (which, e) = later (Read (TooLong Rows)) which (read_usage (TooLong Rows)) (λ f. not_rows (rows_program f)) e
-  failed_before (Read (TooLong Certificate)) (which, e) = later (Read (TooLong Certificate)) which (read_usage (TooLong Certificate)) (λ f. not_certificate (certificate_program f)) e
-  failed_before (Read (Failed which)) h = absurd h
-  failed_before Done (which, e) = later Done which (λ f. cc) (λ f. cc) e
-  failed_before (Refused cause) (which, e) = later (Refused cause) which (λ f. cc) (λ f. cc) e
-  failed_before Usage h = absurd h
-  failed_before (Text cause) (which, e) = later (Text cause) which (λ f. cc) (λ f. cc) e
-  failed_before (Wide spot) (which, e) = later (Wide spot) which (λ f. cc) (λ f. cc) e
-  failed_before (Spent n) (which, e) = later (Spent n) which (λ f. cc) (λ f. cc) e
-  failed_before Memory h = absurd h
-  failed_before Write h = absurd h
-
-  unless_given : (wanted : Status) → Unless wanted status → Answers exact files words wanted status
-  unless_given wanted u = ⊎_elim (λ e. public.given e) (λ v. ⊎_elim (λ m. public.no_memory m) (λ f. failed_before wanted f) v) u
-
-  of_rounds : (wanted : Status) → IsOfRounds wanted → public.IsOfRounds wanted
-  of_rounds Done h = public.of_ended refl
-  of_rounds (Refused cause) h = absurd h
-  of_rounds Usage h = absurd h
-  of_rounds (Read cause) h = absurd h
-  of_rounds (Text cause) h = absurd h
-  of_rounds (Wide spot) h = absurd h
-  of_rounds (Spent n) h = public.of_spent n refl
-  of_rounds Memory h = absurd h
-  of_rounds Write h = absurd h
-
-  answers : (request : Request) (wanted : Status) → request_of words ≡ Some request → Answered files request wanted status → Answers exact files words wanted status
-  answers request wanted e (unwritten w d) = public.unwritten w d
-  answers request wanted e (widened spot f h r) = public.too_wide request e spot f (spot_in files request spot h) (of_rounds wanted r)
-  answers request wanted e (unless u) = unless_given wanted u
-
-  module _ (held now : Option (List ℕ)) where
-    refuses : Refuses Usage status held now → public.Gives exact files words Usage status held now
-    refuses r = record { answer = unless_given Usage r.answer; unchanged = λ other. r.unchanged }
-
-    pub gives : ((request : Request) (wanted : Status) → HasEnding files words request wanted → Gives files request wanted status held now)
-        → (request_of words ≡ None → Refuses Usage status held now)
-        → (ending : Status) → WordsEnd exact files words ending → public.Gives exact files words ending status held now
-    gives g n ending (public.unasked e u) = subst (λ x. public.Gives exact files words x status held now) (sym u) (refuses (n e))
-    gives g n ending (public.asked request e told h) =
-        let given = g request ending (record { asked = e; told = told; ends = ends_by files request ending h }) in
-        record { answer = answers request ending e given.answer; unchanged = given.unchanged }
+-- what an answer to the words, with what the output holds then, gives where an ending stands
+pub gives : (files : Option Contents) (words : List (List ℕ)) (status : Status) (held now : Option (List ℕ)) → IsAnswerToRequest files (request_of words) status
+    → ((request : Request) (wanted : Status) → request_of words ≡ Some request → Tells files request → Ends files request wanted → (wanted ≡ Done → ⊥) → now ≡ held)
+    → (request_of words ≡ None → now ≡ held) → (ending : Status) → WordsEnd exact files words ending → public.Gives exact files words ending status held now
+gives files words status held now h kept empty ending (public.unasked e u) =
+    subst (λ x. public.Gives exact files words x status held now) (sym u)
+    (record { answer = usage_answer files words status (subst (λ o. IsAnswerToRequest files o status) e h); unchanged = λ other. empty e })
+gives files words status held now h kept empty ending (public.asked request e told k) =
+    let ends = ends_by files request ending k in
+    record {
+      answer = answered_when files words request e told ending status (subst (λ o. IsAnswerToRequest files o status) e h) ends;
+      unchanged = λ other. kept request ending e told ends other;
+    }

@@ -15,7 +15,7 @@ use Rattle.tm_cli.specs.Request.{request_of}
 use Rattle.tm_cli.specs.declared.request.Domain.{Domain}
 use Rattle.tm_cli.specs.declared.request.Policy.{Policy}
 use Rattle.tm_cli.specs.declared.request.Purpose.TheVariants.{Report, Certificate as AsCertificate}
-use Rattle.tm_cli.specs.declared.request.Request.TheVariants.{Analyse, Check, Bench, Upgrade}
+use Rattle.tm_cli.specs.declared.request.Request.TheVariants.{Analyse, Check, Bench, Upgrade, Prove, Transitions, Equations as Solve}
 use Rattle.tm_top.specs.CheckMessages.{rows_of}
 use Rattle.tm_top.specs.Checks.{system_with}
 use Rattle.tm_top.specs.Exact.{exact}
@@ -85,6 +85,9 @@ output_on files words (Analyse AsCertificate a) bytes e (text, rows, i, r) = pub
 output_on files words (Check p c) bytes e (text, given, i, r) = public.is_checked p c text given e i (checked text given bytes r)
 output_on files words (Bench seed loops) bytes e r = public.is_summary seed loops e (summary seed loops bytes r)
 output_on files words (Upgrade c) bytes e (given, i, u) = public.is_upgraded c given e i u
+output_on files words (Prove claims a) bytes e (text, rows, given, i, c, v) = public.are_verdicts claims a text rows given e i c v
+output_on files words (Transitions a) bytes e (text, rows, i, r) = public.is_report_along a text rows e i r
+output_on files words (Solve file limit policy) bytes e (text, i, v) = public.are_values file text limit policy e i v
 
 gets : (P Q : List ℕ → Type 0) (status : Status) (held now : Option (List ℕ)) → ((bytes : List ℕ) → P bytes → Q bytes) → OutputHolds P status held now → OutputGets Q status held now
 gets P Q Done held now f (bytes, p, appended) = public.gets_whole refl bytes (f bytes p) appended

@@ -7,13 +7,13 @@ use Rattle.std.specs.Str.{bytes_eq}
 use Rattle.std.specs.Str.Parse.{digits_value}
 use Rattle.clap.specs.Words.{Kinds, Row, Text, fault_of, first_of, subcommand_of}
 use Rattle.tm_cli.specs.CommandLine.{tmpl_app}
-use Rattle.tm_cli.specs.Request.{analyse_in, analysis_in, bench_in, check_in, command_in, request_of, unless_fault, upgrade_in}
-use Rattle.tm_cli.specs.Values.{domain_in, meaning_in, number_in, policies}
+use Rattle.tm_cli.specs.Request.{analyse_in, analysis_in, bench_in, check_in, command_in, equations_in, improvements_in, policy_in, prove_in, request_of, transitions_in, unless_fault, upgrade_in}
+use Rattle.tm_cli.specs.Values.{domain_in, number_in}
 use Rattle.tm_cli.specs.declared.request.Analysis.{Analysis}
 use Rattle.tm_cli.specs.declared.request.Domain.{Domain}
 use Rattle.tm_cli.specs.declared.request.Policy.{Policy}
 use Rattle.tm_cli.specs.declared.request.Request.{Request}
-use Rattle.tm_cli.specs.declared.request.Request.TheVariants.{Analyse, Check, Bench, Upgrade}
+use Rattle.tm_cli.specs.declared.request.Request.TheVariants.{Analyse, Check, Bench, Upgrade, Prove, Transitions, Equations}
 use Rattle.tm_cli.specs.declared.request.Purpose.{Purpose}
 use Rattle.tm_cli.specs.declared.request.Purpose.TheVariants.{Report, Certificate}
 use Rattle.tm_top.specs.Files.{IsInRange}
@@ -65,12 +65,6 @@ number_bounds least most text n e =
 
 -- ---- the options of an analysis
 
-limit_in : List Row → Option ℕ
-limit_in given = number_in 0 1000000 (unwrap_or (first_of (codes "improvements") given) (codes "1000"))
-
-policy_in : List Row → Option Policy
-policy_in given = meaning_in policies (unwrap_or (first_of (codes "policy") given) (codes "best"))
-
 rows_in : List Row → Option (Domain Text)
 rows_in given = domain_in (unwrap_or (first_of (codes "domain") given) (codes "intervals")) (first_of (codes "rows") given)
 
@@ -78,21 +72,24 @@ with_policy : List Row → Text → Domain Text → ℕ → Option (Analysis Tex
 with_policy given program domain improvements = option_map (λ policy. record { program = program; domain = domain; improvements = improvements; policy = policy }) (policy_in given)
 
 with_limit : List Row → Text → Domain Text → Option (Analysis Text)
-with_limit given program domain = option_and_then (with_policy given program domain) (limit_in given)
+with_limit given program domain = option_and_then (with_policy given program domain) (improvements_in given)
 
 with_domain : List Row → Text → Option (Analysis Text)
 with_domain given program = option_and_then (with_limit given program) (rows_in given)
 
+improvements_bound : (given : List Row) (n : ℕ) → improvements_in given ≡ Some n → n ≤ 1000000
+improvements_bound given n e = (number_bounds 0 1000000 (unwrap_or (first_of (codes "improvements") given) (codes "1000")) n e).1
+
 analysis_bounds : (given : List Row) (a : Analysis Text) → analysis_in given ≡ Some a → a.improvements ≤ 1000000
-unfolding with_domain with_limit with_policy limit_in policy_in rows_in
+unfolding with_domain with_limit with_policy rows_in
 analysis_bounds given a e =
     let program = and_then_some (with_domain given) (first_of (codes "program") given) a e in
     let domain = and_then_some (with_limit given program.0) (rows_in given) a program.2 in
-    let improvements = and_then_some (with_policy given program.0 domain.0) (limit_in given) a domain.2 in
+    let improvements = and_then_some (with_policy given program.0 domain.0) (improvements_in given) a domain.2 in
     let made : Policy → Analysis Text = λ policy. record { program = program.0; domain = domain.0; improvements = improvements.0; policy = policy } in
     let policy = map_some made (policy_in given) a improvements.2 in
     subst (λ (x : Analysis Text). x.improvements ≤ 1000000) policy.2
-    (number_bounds 0 1000000 (unwrap_or (first_of (codes "improvements") given) (codes "1000")) improvements.0 improvements.1).1
+    (improvements_bound given improvements.0 improvements.1)
 
 -- ---- the commands
 
@@ -134,6 +131,38 @@ upgrade_range given r e =
     let c = map_some made (first_of (codes "certificate") given) r e in
     subst (λ r. IsInRange r) c.2 tt
 
+prove_of : List Row → Analysis Text → Option (Request Text)
+prove_of given a = option_map (λ claims. Prove claims a) (first_of (codes "claims") given)
+
+prove_range : (given : List Row) (r : Request Text) → prove_in given ≡ Some r → IsInRange r
+unfolding prove_of
+prove_range given r e =
+    let a = and_then_some (prove_of given) (analysis_in given) r e in
+    let made : Text → Request Text = λ claims. Prove claims a.0 in
+    let claims = map_some made (first_of (codes "claims") given) r a.2 in
+    subst (λ r. IsInRange r) claims.2 (analysis_bounds given a.0 a.1)
+
+transitions_range : (given : List Row) (r : Request Text) → transitions_in given ≡ Some r → IsInRange r
+transitions_range given r e =
+    let made : Analysis Text → Request Text = λ a. Transitions a in
+    let a = map_some made (analysis_in given) r e in
+    subst (λ r. IsInRange r) a.2 (analysis_bounds given a.0 a.1)
+
+values_with : List Row → Text → ℕ → Option (Request Text)
+values_with given file improvements = option_map (λ policy. Equations file improvements policy) (policy_in given)
+
+values_of : List Row → Text → Option (Request Text)
+values_of given file = option_and_then (values_with given file) (improvements_in given)
+
+equations_range : (given : List Row) (r : Request Text) → equations_in given ≡ Some r → IsInRange r
+unfolding values_of values_with
+equations_range given r e =
+    let file = and_then_some (values_of given) (first_of (codes "file") given) r e in
+    let improvements = and_then_some (values_with given file.0) (improvements_in given) r file.2 in
+    let made : Policy → Request Text = λ policy. Equations file.0 improvements.0 policy in
+    let policy = map_some made (policy_in given) r improvements.2 in
+    subst (λ r. IsInRange r) policy.2 (improvements_bound given improvements.0 improvements.1)
+
 if_range : (b : Bool) (x y : Option (Request Text)) (r : Request Text) → (x ≡ Some r → IsInRange r) → (y ≡ Some r → IsInRange r) → (if b then x else y) ≡ Some r → IsInRange r
 if_range true x y r h k e = h e
 if_range false x y r h k e = k e
@@ -144,7 +173,10 @@ command_range (name, given) r e =
     (if_range (bytes_eq name (codes "certify")) (analyse_in Certificate given) _ r (analyse_range Certificate given r)
     (if_range (bytes_eq name (codes "check")) (check_in given) _ r (check_range given r)
     (if_range (bytes_eq name (codes "bench")) (bench_in given) _ r (bench_range given r)
-    (if_range (bytes_eq name (codes "upgrade")) (upgrade_in given) None r (upgrade_range given r) (λ h. absurd (none_some r h)))))) e
+    (if_range (bytes_eq name (codes "upgrade")) (upgrade_in given) _ r (upgrade_range given r)
+    (if_range (bytes_eq name (codes "prove")) (prove_in given) _ r (prove_range given r)
+    (if_range (bytes_eq name (codes "transitions")) (transitions_in given) _ r (transitions_range given r)
+    (if_range (bytes_eq name (codes "equations")) (equations_in given) None r (equations_range given r) (λ h. absurd (none_some r h))))))))) e
 
 unfaulted : (kinds : Kinds) (o : Option (Request Text)) (r : Request Text) → unless_fault kinds o ≡ Some r → o ≡ Some r
 unfaulted [] o r e = e

@@ -6,11 +6,12 @@ use Rattle.tm_io.specs.Files.{Contents}
 use Rattle.tm_cli.specs.Request.{request_of}
 use Rattle.tm_cli.specs.declared.request.Analysis.{Analysis}
 use Rattle.tm_cli.specs.declared.request.Domain.{Domain}
+use Rattle.tm_cli.specs.declared.request.Policy.{Policy}
 use Rattle.tm_cli.specs.declared.request.Purpose.TheVariants.{Report, Certificate as AsCertificate}
-use Rattle.tm_cli.specs.declared.request.Request.TheVariants.{Analyse, Check, Bench, Upgrade}
+use Rattle.tm_cli.specs.declared.request.Request.TheVariants.{Analyse, Check, Bench, Upgrade, Prove, Transitions, Equations}
 use Rattle.tm_top.specs.Answers as answers
 use Rattle.tm_top.specs.Answers.{Answers, Gives, WordsEnd}
-use Rattle.tm_top.specs.Files.{AreInputs, Request, file_named}
+use Rattle.tm_top.specs.Files.{AreInputs, Request}
 use Rattle.tm_top.specs.Headline.{Asks, IsGiven, Prints, done, no_memory, too_wide, unread, unwritten}
 use Rattle.tm_top.specs.LeastReports.{IsReportOf}
 use Rattle.tm_top.specs.Meanings.{Meanings}
@@ -21,7 +22,9 @@ use Rattle.tm_top.specs.declared.status.ReadCause.TheVariants.{Failed}
 use Rattle.tm_top.specs.declared.status.Status.{Status}
 use Rattle.tm_top.specs.declared.status.Status.TheVariants.{Done, Memory, Read, Write}
 use Rattle.tm_top.specs.declared.status.Which.{Which}
-use Rattle.tm_top.proofs.analyse.Answered.{content_once, with_text_once}
+use Rattle.tm_top.specs.Questions.{rounds_end}
+use Rattle.tm_top.proofs.commands.OneEnding.{with_text_once}
+use Rattle.tm_top.proofs.files.Loaded.{content_once}
 
 -- ---- the words ask for one thing
 
@@ -39,6 +42,15 @@ no_bench o seed loops b h k = cc
 
 no_upgrade : (o : Option Request) (c : List ℕ) (b : Analysis (List ℕ)) → o ≡ Some (Upgrade c) → o ≡ Some (Analyse Report b) → ⊥
 no_upgrade o c b h k = cc
+
+no_proof : (o : Option Request) (c : List ℕ) (a b : Analysis (List ℕ)) → o ≡ Some (Prove c a) → o ≡ Some (Analyse Report b) → ⊥
+no_proof o c a b h k = cc
+
+no_transitions : (o : Option Request) (a b : Analysis (List ℕ)) → o ≡ Some (Transitions a) → o ≡ Some (Analyse Report b) → ⊥
+no_transitions o a b h k = cc
+
+no_equations : (o : Option Request) (f : List ℕ) (n : ℕ) (p : Policy) (b : Analysis (List ℕ)) → o ≡ Some (Equations f n p) → o ≡ Some (Analyse Report b) → ⊥
+no_equations o f n p b h k = cc
 
 written_or_memory : (s : Status) → s ≡ Done → (s ≡ Write) ⊎ (s ≡ Memory) → ⊥
 written_or_memory s d h = ⊎_elim (λ (e : s ≡ Write). let f : ⊥ = cc in f) (λ (e : s ≡ Memory). let f : ⊥ = cc in f) h
@@ -59,6 +71,9 @@ module _ (m : Meanings) (files : Option Contents) (words : List (List ℕ)) (ana
   report_of bytes (outputs.is_checked p c x given e i r) = absurd (no_check (request_of words) p c analysis e a.request)
   report_of bytes (outputs.is_summary seed loops e s) = absurd (no_bench (request_of words) seed loops analysis e a.request)
   report_of bytes (outputs.is_upgraded c given e i u) = absurd (no_upgrade (request_of words) c analysis e a.request)
+  report_of bytes (outputs.are_verdicts c b x r y e i j v) = absurd (no_proof (request_of words) c b analysis e a.request)
+  report_of bytes (outputs.is_report_along b x r e i report) = absurd (no_transitions (request_of words) b analysis e a.request)
+  report_of bytes (outputs.are_values f x n p e i v) = absurd (no_equations (request_of words) f n p analysis e a.request)
 
   prints : (status : Status) (held now : Option (List ℕ)) → OutputGets (IsOutput m files words) status held now → status ≡ Done → Prints analysis text rows held now
   prints status held now (outputs.gets_whole d bytes is appended) e = record { bytes = bytes; is_report = report_of bytes is; appended = appended }
@@ -68,7 +83,7 @@ module _ (m : Meanings) (files : Option Contents) (words : List (List ℕ)) (ana
   ending : IsSolvable text rows analysis.policy analysis.improvements → WordsEnd m files words Done
   ending (system, is, e) =
       answers.asked (Analyse Report analysis) a.request a.told
-      (answers.analysed Report analysis text rows refl a.inputs (answers.solved system is (answers.rounds_end refl e)))
+      (answers.analysed Report analysis text rows refl a.inputs (rounds_end system refl is e))
 
 pub sound : (m : Meanings) (files : Option Contents) (words : List (List ℕ)) (status : Status) (held now : Option (List ℕ)) → OutputGets (IsOutput m files words) status held now
     → (analysis : Analysis (List ℕ)) (text : List ℕ) (rows : Domain (List ℕ)) → Asks files words analysis text rows → status ≡ Done → Prints analysis text rows held now
@@ -76,7 +91,7 @@ sound m files words status held now o analysis text rows a e = prints m files wo
 
 pub complete : (m : Meanings) (files : Option Contents) (words : List (List ℕ)) (status : Status) (held now : Option (List ℕ)) (faults faults_now output output_now : ℕ) (last : List ℕ)
     → ((ending : Status) → WordsEnd m files words ending → Gives m files words ending status held now)
-    → ((which : Which) → status ≡ Read (Failed which) → HasFailed faults faults_now last (file_named which words)) → (status ≡ Write → Rose output output_now)
+    → ((which : Which) → status ≡ Read (Failed which) → HasFailed files words which faults faults_now last) → (status ≡ Write → Rose output output_now)
     → (analysis : Analysis (List ℕ)) (text : List ℕ) (rows : Domain (List ℕ)) → Asks files words analysis text rows → IsSolvable text rows analysis.policy analysis.improvements
     → IsGiven status faults faults_now output output_now
 complete m files words status held now faults faults_now output output_now last gives read write analysis text rows a solvable =
@@ -85,6 +100,6 @@ complete m files words status held now faults faults_now output output_now last 
     by : Answers m files words Done status → IsGiven status faults faults_now output output_now
     by (answers.given e) = done e
     by (answers.no_memory e) = no_memory e
-    by (answers.unread which e before) = unread which e (read which e).0
+    by (answers.unread request asked which name e reached) = let failed = read which e in unread which e failed.rose
     by (answers.unwritten w d) = unwritten w (write w)
     by (answers.too_wide request e spot f h r) = too_wide spot f

@@ -1,14 +1,14 @@
 -- The improvements by a policy of the command line have one end.
 use Rattle.std.proofs.Common.{◌≡◌, ℕ, ◌<◌, List, length, sym, subst, arith}
-use Rattle.tm_eqsys.specs.Equations.{Equations, Least}
+use Rattle.tm_eqsys.specs.Equations.{Equations, Least, Vector}
 use Rattle.tm_eqsys.specs.Report.{report_of}
 use Rattle.tm_eqsys.specs.View.{equations_of, vector_of}
 use Rattle.tm_eqsys.specs.declared.footer.Footer.TheVariants.{Improvements}
 use Rattle.tm_eqsys.specs.declared.system.System.{System}
-use Rattle.tm_chain.specs.Chains.{GoesOnAfter}
+use Rattle.tm_chain.specs.Chains.{EndsAfter, GoesOnAfter}
 use Rattle.tm_chain.specs.Offers.{Best as MeantBest, First as MeantFirst}
 use Rattle.tm_chain.specs.Laws.{AnswersOne}
-use Rattle.tm_chain.proofs.chains.OneChain.{number_above}
+use Rattle.tm_chain.proofs.chains.OneChain.{number_above, number_one}
 use Rattle.tm_chain.proofs.offers.OnePosition.{best_is_one, first_is_one}
 use Rattle.tm_strategy.specs.PickCount.{pick_count}
 use Rattle.tm_strategy_lp.proofs.rounds.Retraced.{short_law}
@@ -55,3 +55,11 @@ ends_once s t policy limit same (n, within, vector, ends) out =
 -- improvements that run out are fewer than the picks
 pub runs_few : (system : System) (policy : Policy) (limit : ℕ) → RunsOut system policy limit → limit < pick_count (equations_of system)
 runs_few system policy limit o = (short_law (chosen_by policy) (equations_of system) (points_in_range system) limit o.vectors o.picks o.chain).few
+
+pub rounds_once : (s t : System) (policy : Policy) (n m : ℕ) (v w : Vector) → equations_of s ≡ equations_of t → HasRounds s policy n v → HasRounds t policy m w → n ≡ m
+rounds_once s t policy n m v w same a b =
+    number_one (equations_of s) (chosen_by policy) (one_answer policy) n m v w a (subst (λ (q : Equations). EndsAfter q (chosen_by policy) m w) (sym same) b)
+
+-- rounds that lead to a solution end within the limit
+pub solved_ends : (system : System) (policy : Policy) (limit : ℕ) (solved : Solved) → IsSolved system (rule_of policy) limit solved → EndsWithin system policy limit
+solved_ends system policy limit solved is = (solved.improvements, is.within, vector_of (length system.template) solved.bounds, solved_rounds system policy limit solved is)

@@ -1,5 +1,5 @@
--- Texts have one ending, by stages: each stage has one cause to end, or goes on to the next.
-use Rattle.std.proofs.Common.{◌≡◌, ◌≤◌, ◌<◌, ◌⊎◌, inl, inr, ℕ, List, length, refl, sym, ap, ◌∙◌, subst, arith}
+-- Texts are refused by one cause, or mean a system: by stages, each of which has one cause or goes on to the next.
+use Rattle.std.proofs.Common.{◌≡◌, ◌≤◌, ◌<◌, ℕ, List, length, refl, sym, ap, ◌∙◌, subst, arith}
 use Rattle.std.specs.Prelude.{ℤ, Option, Ok, Err, Some, None}
 use Rattle.tm_lex.specs.declared.fault.LexFault.{LexFault}
 use Rattle.tm_lex.specs.Faults.{HasFault}
@@ -13,74 +13,54 @@ use Rattle.tm_eqsys.specs.declared.system.System.{System}
 use Rattle.tm_eqsys.specs.Solutions.{equations_of_program}
 use Rattle.tm_eqsys.specs.View.{equations_of}
 use Rattle.tm_cli.specs.declared.request.Domain.{Domain}
-use Rattle.tm_cli.specs.declared.request.Policy.{Policy}
-use Rattle.tm_top.specs.Rounds.{EndsWithin, IsSystemFor, RunsOut}
-use Rattle.tm_top.proofs.rounds.OneChain.{ends_once}
+use Rattle.tm_top.specs.Rounds.{IsSystemFor}
 use Rattle.tm_top.proofs.analyse.Solved.{same_equations}
-use Rattle.tm_top.specs.Endings.{TextsEnd}
-use Rattle.tm_top.specs.Texts.{HasTemplate, IsReady, Reading, cells, unknowns}
+use Rattle.tm_top.specs.Texts.{HasTemplate, IsReady, IsRefused, IsSolvedSystem, Reading, cells, unknowns}
 use Rattle.tm_top.proofs.texts.Readings.{program_once, fault_once, not_both, rows_once, row_fault_once, not_rows}
-use Rattle.tm_top.specs.declared.status.TextCause.TheVariants.{Lex, Parse, Flow, Rows, Unknowns, Cells}
-use Rattle.tm_top.specs.declared.status.Status.{Status}
-use Rattle.tm_top.specs.declared.status.Status.TheVariants.{Done, Certificate, Usage, Read, Text, Wide, Spent, Memory, Write}
+use Rattle.tm_top.specs.declared.status.TextCause.{TextCause}
+use Rattle.tm_top.specs.declared.status.TextCause.TheVariants.{Lex, Parse, Flow, Rows, Unknowns, Cells, Claims, Equ, Auto}
 use Rattle.tm_eqsys.specs.declared.limits.TheConstants.{MOST_UNKNOWNS}
 
--- ---- the last stage: too many unknowns, too many cells, no improvement left, or done
+-- ---- the last stage: too many unknowns, too many cells, or neither
 
 -- the equations of a system are those of its program and template
 pub equations_are : (names : List (List ℕ)) (body : Statements) (template : List (List ℤ)) (s : System) → IsSystemFor names body template s → equations_of s ≡ equations_of_program (length names) body template
 equations_are names body template s is =
     same_equations names body s is.names_are is.points_are is.edges_are ∙ ap (λ t. equations_of_program (length names) body t) is.template_is
 
-pub data LastEnds (names : List (List ℕ)) (body : Statements) (template : List (List ℤ)) (policy : Policy) (limit : ℕ) (s : Status) : Type 0 where
-  many : MOST_UNKNOWNS < unknowns body template → s ≡ Text (Unknowns (unknowns body template)) → LastEnds names body template policy limit s
-  big : unknowns body template ≤ MOST_UNKNOWNS → 134217728 < cells names body template → s ≡ Text (Cells (cells names body template)) → LastEnds names body template policy limit s
-  ended : unknowns body template ≤ MOST_UNKNOWNS → cells names body template ≤ 134217728 → (system : System) → IsSystemFor names body template system → EndsWithin system policy limit → s ≡ Done
-      → LastEnds names body template policy limit s
-  out : unknowns body template ≤ MOST_UNKNOWNS → cells names body template ≤ 134217728 → (system : System) → IsSystemFor names body template system → RunsOut system policy limit → s ≡ Spent limit
-      → LastEnds names body template policy limit s
+data LastStage (names : List (List ℕ)) (body : Statements) (template : List (List ℤ)) (o : Option TextCause) : Type 0 where
+  many : MOST_UNKNOWNS < unknowns body template → o ≡ Some (Unknowns (unknowns body template)) → LastStage names body template o
+  big : unknowns body template ≤ MOST_UNKNOWNS → 134217728 < cells names body template → o ≡ Some (Cells (cells names body template)) → LastStage names body template o
+  few : unknowns body template ≤ MOST_UNKNOWNS → cells names body template ≤ 134217728 → o ≡ None → LastStage names body template o
 
--- rounds don't both end within the limit and run out
-pub not_both_ways : (names : List (List ℕ)) (body : Statements) (template : List (List ℤ)) (policy : Policy) (limit : ℕ) (s t : System) → IsSystemFor names body template s → IsSystemFor names body template t
-    → EndsWithin s policy limit → RunsOut t policy limit → ⊥
-not_both_ways names body template policy limit s t is js e o =
-    ends_once s t policy limit (equations_are names body template s is ∙ sym (equations_are names body template t js)) e o
-
-last_once : (names : List (List ℕ)) (body : Statements) (template : List (List ℤ)) (policy : Policy) (limit : ℕ) (s t : Status) → LastEnds names body template policy limit s → LastEnds names body template policy limit t → s ≡ t
-last_once names body template policy limit s t (many h e) (many k i) = e ∙ sym i
-last_once names body template policy limit s t (many h e) (big k l i) = absurd (omega arith)
-last_once names body template policy limit s t (many h e) (ended k l y is x i) = absurd (omega arith)
-last_once names body template policy limit s t (many h e) (out k l y is x i) = absurd (omega arith)
-last_once names body template policy limit s t (big h g e) (many k i) = absurd (omega arith)
-last_once names body template policy limit s t (big h g e) (big k l i) = e ∙ sym i
-last_once names body template policy limit s t (big h g e) (ended k l y is x i) = absurd (omega arith)
-last_once names body template policy limit s t (big h g e) (out k l y is x i) = absurd (omega arith)
-last_once names body template policy limit s t (ended h g y is x e) (many k i) = absurd (omega arith)
-last_once names body template policy limit s t (ended h g y is x e) (big k l i) = absurd (omega arith)
-last_once names body template policy limit s t (ended h g y is x e) (ended k l z js w i) = e ∙ sym i
-last_once names body template policy limit s t (ended h g y is x e) (out k l z js w i) = absurd (not_both_ways names body template policy limit y z is js x w)
-last_once names body template policy limit s t (out h g y is x e) (many k i) = absurd (omega arith)
-last_once names body template policy limit s t (out h g y is x e) (big k l i) = absurd (omega arith)
-last_once names body template policy limit s t (out h g y is x e) (ended k l z js w i) = absurd (not_both_ways names body template policy limit z y js is w x)
-last_once names body template policy limit s t (out h g y is x e) (out k l z js w i) = e ∙ sym i
+last_once : (names : List (List ℕ)) (body : Statements) (template : List (List ℤ)) (o p : Option TextCause) → LastStage names body template o → LastStage names body template p → o ≡ p
+last_once names body template o p (many h e) (many k i) = e ∙ sym i
+last_once names body template o p (many h e) (big k l i) = absurd (omega arith)
+last_once names body template o p (many h e) (few k l i) = absurd (omega arith)
+last_once names body template o p (big h g e) (many k i) = absurd (omega arith)
+last_once names body template o p (big h g e) (big k l i) = e ∙ sym i
+last_once names body template o p (big h g e) (few k l i) = absurd (omega arith)
+last_once names body template o p (few h g e) (many k i) = absurd (omega arith)
+last_once names body template o p (few h g e) (big k l i) = absurd (omega arith)
+last_once names body template o p (few h g e) (few k l i) = e ∙ sym i
 
 -- ---- the stages before
 
 -- the rows have a fault, or are a template
-pub data RowsEnd (rows : Domain (List ℕ)) (policy : Policy) (limit : ℕ) (names : List (List ℕ)) (body : Statements) (s : Status) : Type 0 where
-  faulty : (f : RowFault) → HasTemplate rows names (Err f) → s ≡ Text (Rows f) → RowsEnd rows policy limit names body s
-  given : (template : List (List ℤ)) → HasTemplate rows names (Ok template) → LastEnds names body template policy limit s → RowsEnd rows policy limit names body s
+data RowsStage (rows : Domain (List ℕ)) (names : List (List ℕ)) (body : Statements) (o : Option TextCause) : Type 0 where
+  faulty : (f : RowFault) → HasTemplate rows names (Err f) → o ≡ Some (Rows f) → RowsStage rows names body o
+  given : (template : List (List ℤ)) → HasTemplate rows names (Ok template) → LastStage names body template o → RowsStage rows names body o
 
--- the program has a fault, or points and edges within the limits
-pub data FlowEnds (rows : Domain (List ℕ)) (policy : Policy) (limit : ℕ) (p : List (List ℕ) × Statements) (s : Status) : Type 0 where
-  wide : (f : FlowFault) → fault_of_program p.1 ≡ Some f → s ≡ Text (Flow f) → FlowEnds rows policy limit p s
-  fits : fault_of_program p.1 ≡ None → RowsEnd rows policy limit p.0 p.1 s → FlowEnds rows policy limit p s
+-- the program has no points and edges within the limits, or has them
+data FlowStage (rows : Domain (List ℕ)) (p : List (List ℕ) × Statements) (o : Option TextCause) : Type 0 where
+  wide : (f : FlowFault) → fault_of_program p.1 ≡ Some f → o ≡ Some (Flow f) → FlowStage rows p o
+  fits : fault_of_program p.1 ≡ None → RowsStage rows p.0 p.1 o → FlowStage rows p o
 
 -- the text has a fault, or is a program
-pub data TextEnds (text : List ℕ) (rows : Domain (List ℕ)) (policy : Policy) (limit : ℕ) (s : Status) : Type 0 where
-  unlexed : (f : LexFault) → HasFault text f → s ≡ Text (Lex f) → TextEnds text rows policy limit s
-  unparsed : (f : ParseFault) → Reading text (Err f) → s ≡ Text (Parse f) → TextEnds text rows policy limit s
-  program : (p : List (List ℕ) × Statements) → Reading text (Ok p) → FlowEnds rows policy limit p s → TextEnds text rows policy limit s
+data TextStage (text : List ℕ) (rows : Domain (List ℕ)) (o : Option TextCause) : Type 0 where
+  unlexed : (f : LexFault) → HasFault text f → o ≡ Some (Lex f) → TextStage text rows o
+  unparsed : (f : ParseFault) → Reading text (Err f) → o ≡ Some (Parse f) → TextStage text rows o
+  program : (p : List (List ℕ) × Statements) → Reading text (Ok p) → FlowStage rows p o → TextStage text rows o
 
 some_none : (f : FlowFault) (o : Option FlowFault) → o ≡ Some f → o ≡ None → ⊥
 some_none f o h k = cc
@@ -88,81 +68,73 @@ some_none f o h k = cc
 some_some : (f g : FlowFault) (o : Option FlowFault) → o ≡ Some f → o ≡ Some g → f ≡ g
 some_some f g o h k = cc
 
-rows_end_once : (rows : Domain (List ℕ)) (policy : Policy) (limit : ℕ) (names : List (List ℕ)) (body : Statements) (s t : Status) → RowsEnd rows policy limit names body s → RowsEnd rows policy limit names body t → s ≡ t
-rows_end_once rows policy limit names body s t (faulty f h e) (faulty g k i) = e ∙ ap (λ x. Text (Rows x)) (row_fault_once rows names f g h k) ∙ sym i
-rows_end_once rows policy limit names body s t (faulty f h e) (given u k i) = absurd (not_rows rows names f u h k)
-rows_end_once rows policy limit names body s t (given u h e) (faulty f k i) = absurd (not_rows rows names f u k h)
-rows_end_once rows policy limit names body s t (given u h e) (given v k i) =
-    last_once names body u policy limit s t e (subst (λ x. LastEnds names body x policy limit t) (sym (rows_once rows names u v h k)) i)
+rows_once_by : (rows : Domain (List ℕ)) (names : List (List ℕ)) (body : Statements) (o p : Option TextCause) → RowsStage rows names body o → RowsStage rows names body p → o ≡ p
+rows_once_by rows names body o p (faulty f h e) (faulty g k i) = e ∙ ap (λ x. Some (Rows x)) (row_fault_once rows names f g h k) ∙ sym i
+rows_once_by rows names body o p (faulty f h e) (given u k i) = absurd (not_rows rows names f u h k)
+rows_once_by rows names body o p (given u h e) (faulty f k i) = absurd (not_rows rows names f u k h)
+rows_once_by rows names body o p (given u h e) (given v k i) =
+    last_once names body u o p e (subst (λ x. LastStage names body x p) (sym (rows_once rows names u v h k)) i)
 
-flow_ends_once : (rows : Domain (List ℕ)) (policy : Policy) (limit : ℕ) (p : List (List ℕ) × Statements) (s t : Status) → FlowEnds rows policy limit p s → FlowEnds rows policy limit p t → s ≡ t
-flow_ends_once rows policy limit p s t (wide f h e) (wide g k i) = e ∙ ap (λ x. Text (Flow x)) (some_some f g (fault_of_program p.1) h k) ∙ sym i
-flow_ends_once rows policy limit p s t (wide f h e) (fits k i) = absurd (some_none f (fault_of_program p.1) h k)
-flow_ends_once rows policy limit p s t (fits h e) (wide f k i) = absurd (some_none f (fault_of_program p.1) k h)
-flow_ends_once rows policy limit p s t (fits h e) (fits k i) = rows_end_once rows policy limit p.0 p.1 s t e i
+flow_once : (rows : Domain (List ℕ)) (p : List (List ℕ) × Statements) (o q : Option TextCause) → FlowStage rows p o → FlowStage rows p q → o ≡ q
+flow_once rows p o q (wide f h e) (wide g k i) = e ∙ ap (λ x. Some (Flow x)) (some_some f g (fault_of_program p.1) h k) ∙ sym i
+flow_once rows p o q (wide f h e) (fits k i) = absurd (some_none f (fault_of_program p.1) h k)
+flow_once rows p o q (fits h e) (wide f k i) = absurd (some_none f (fault_of_program p.1) k h)
+flow_once rows p o q (fits h e) (fits k i) = rows_once_by rows p.0 p.1 o q e i
 
-pub text_ends_once : (text : List ℕ) (rows : Domain (List ℕ)) (policy : Policy) (limit : ℕ) (s t : Status) → TextEnds text rows policy limit s → TextEnds text rows policy limit t → s ≡ t
-text_ends_once text rows policy limit s t (unlexed f h e) (unlexed g k i) = e ∙ ap (λ x. Text (Lex x)) (one_text_fault text f g h k) ∙ sym i
-text_ends_once text rows policy limit s t (unlexed f h e) (unparsed g (ts, r, m) i) = absurd (no_fault text ts f r h)
-text_ends_once text rows policy limit s t (unlexed f h e) (program p (ts, r, m) i) = absurd (no_fault text ts f r h)
-text_ends_once text rows policy limit s t (unparsed f (ts, r, m) e) (unlexed g k i) = absurd (no_fault text ts g r k)
-text_ends_once text rows policy limit s t (unparsed f h e) (unparsed g k i) = e ∙ ap (λ x. Text (Parse x)) (fault_once text f g h k) ∙ sym i
-text_ends_once text rows policy limit s t (unparsed f h e) (program p k i) = absurd (not_both text f p h k)
-text_ends_once text rows policy limit s t (program p (ts, r, m) e) (unlexed g k i) = absurd (no_fault text ts g r k)
-text_ends_once text rows policy limit s t (program p h e) (unparsed g k i) = absurd (not_both text g p k h)
-text_ends_once text rows policy limit s t (program p h e) (program q k i) =
-    flow_ends_once rows policy limit p s t e (subst (λ x. FlowEnds rows policy limit x t) (sym (program_once text p q h k)) i)
+text_once : (text : List ℕ) (rows : Domain (List ℕ)) (o q : Option TextCause) → TextStage text rows o → TextStage text rows q → o ≡ q
+text_once text rows o q (unlexed f h e) (unlexed g k i) = e ∙ ap (λ x. Some (Lex x)) (one_text_fault text f g h k) ∙ sym i
+text_once text rows o q (unlexed f h e) (unparsed g (ts, r, m) i) = absurd (no_fault text ts f r h)
+text_once text rows o q (unlexed f h e) (program p (ts, r, m) i) = absurd (no_fault text ts f r h)
+text_once text rows o q (unparsed f (ts, r, m) e) (unlexed g k i) = absurd (no_fault text ts g r k)
+text_once text rows o q (unparsed f h e) (unparsed g k i) = e ∙ ap (λ x. Some (Parse x)) (fault_once text f g h k) ∙ sym i
+text_once text rows o q (unparsed f h e) (program p k i) = absurd (not_both text f p h k)
+text_once text rows o q (program p (ts, r, m) e) (unlexed g k i) = absurd (no_fault text ts g r k)
+text_once text rows o q (program p h e) (unparsed g k i) = absurd (not_both text g p k h)
+text_once text rows o q (program p h e) (program r k i) =
+    flow_once rows p o q e (subst (λ x. FlowStage rows x q) (sym (program_once text p r h k)) i)
 
--- ---- an ending by its cause is one by stages
+-- ---- what is refused, and what is a system, by stages
 
-ready_ends : (text : List ℕ) (rows : Domain (List ℕ)) (policy : Policy) (limit : ℕ) (names : List (List ℕ)) (body : Statements) (template : List (List ℤ)) (s : Status)
-    → IsReady text rows names body template → LastEnds names body template policy limit s → TextEnds text rows policy limit s
-ready_ends text rows policy limit names body template s r e =
-    program (names, body) r.system.analysed.reading (fits r.system.analysed.within (given template r.system.template_is e))
+refused_stage : (text : List ℕ) (rows : Domain (List ℕ)) (cause : TextCause) → IsRefused text rows cause → TextStage text rows (Some cause)
+refused_stage text rows (Lex f) h = unlexed f h refl
+refused_stage text rows (Parse f) h = unparsed f h refl
+refused_stage text rows (Flow f) (names, body, h, e) = program (names, body) h (wide f e refl)
+refused_stage text rows (Rows f) (names, body, a, h) = program (names, body) a.reading (fits a.within (faulty f h refl))
+refused_stage text rows (Unknowns count) (names, body, template, y, h, e) =
+    program (names, body) y.analysed.reading (fits y.analysed.within (given template y.template_is (many h (ap (λ c. Some (Unknowns c)) e))))
+refused_stage text rows (Cells count) (names, body, template, y, h, k, e) =
+    program (names, body) y.analysed.reading (fits y.analysed.within (given template y.template_is (big h k (ap (λ c. Some (Cells c)) e))))
+refused_stage text rows (Claims f) h = absurd h
+refused_stage text rows (Equ f) h = absurd h
+refused_stage text rows (Auto f) h = absurd h
 
-pub staged : (text : List ℕ) (rows : Domain (List ℕ)) (policy : Policy) (limit : ℕ) (s : Status) → TextsEnd text rows policy limit s → TextEnds text rows policy limit s
-staged text rows policy limit Done (system, y, e) =
-    ready_ends text rows policy limit y.names y.body y.template Done y.ready (ended y.ready.within y.ready.cells_within system y.system_for e refl)
-staged text rows policy limit (Certificate cause) h = absurd h
-staged text rows policy limit Usage h = absurd h
-staged text rows policy limit (Read cause) h = absurd h
-staged text rows policy limit (Text (Lex f)) h = unlexed f h refl
-staged text rows policy limit (Text (Parse f)) h = unparsed f h refl
-staged text rows policy limit (Text (Flow f)) (names, body, h, e) = program (names, body) h (wide f e refl)
-staged text rows policy limit (Text (Rows f)) (names, body, a, h) = program (names, body) a.reading (fits a.within (faulty f h refl))
-staged text rows policy limit (Text (Unknowns count)) (names, body, template, y, h, e) =
-    program (names, body) y.analysed.reading (fits y.analysed.within (given template y.template_is (many h (ap (λ c. Text (Unknowns c)) e))))
-staged text rows policy limit (Text (Cells count)) (names, body, template, y, h, k, e) =
-    program (names, body) y.analysed.reading (fits y.analysed.within (given template y.template_is (big h k (ap (λ c. Text (Cells c)) e))))
-staged text rows policy limit (Wide spot) h = absurd h
-staged text rows policy limit (Spent k) ((system, y, o), e) =
-    ready_ends text rows policy limit y.names y.body y.template (Spent k) y.ready (out y.ready.within y.ready.cells_within system y.system_for o (ap Spent e))
-staged text rows policy limit Memory h = absurd h
-staged text rows policy limit Write h = absurd h
+ready_stage : (text : List ℕ) (rows : Domain (List ℕ)) (names : List (List ℕ)) (body : Statements) (template : List (List ℤ)) → IsReady text rows names body template → TextStage text rows None
+ready_stage text rows names body template r =
+    program (names, body) r.system.analysed.reading (fits r.system.analysed.within (given template r.system.template_is (few r.within r.cells_within refl)))
 
--- ---- texts that are a system end in a report or run out
+same_cause : (c d : TextCause) → Some c ≡ Some d → c ≡ d
+same_cause c d e = cc
 
-last_rounds : (names : List (List ℕ)) (body : Statements) (template : List (List ℤ)) (policy : Policy) (limit : ℕ) (s : Status) → unknowns body template ≤ MOST_UNKNOWNS → cells names body template ≤ 134217728
-    → LastEnds names body template policy limit s → (s ≡ Done) ⊎ (s ≡ Spent limit)
-last_rounds names body template policy limit s w v (many h e) = absurd (omega arith)
-last_rounds names body template policy limit s w v (big h k e) = absurd (omega arith)
-last_rounds names body template policy limit s w v (ended h k y is x e) = inl e
-last_rounds names body template policy limit s w v (out h k y is x e) = inr e
+no_cause : (c : TextCause) → Some c ≡ None → ⊥
+no_cause c e = cc
 
-rows_rounds : (text : List ℕ) (rows : Domain (List ℕ)) (policy : Policy) (limit : ℕ) (names : List (List ℕ)) (body : Statements) (template : List (List ℤ)) (s : Status)
-    → IsReady text rows names body template → RowsEnd rows policy limit names body s → (s ≡ Done) ⊎ (s ≡ Spent limit)
-rows_rounds text rows policy limit names body template s r (faulty f h e) = absurd (not_rows rows names f template h r.system.template_is)
-rows_rounds text rows policy limit names body template s r (given u h e) =
-    last_rounds names body template policy limit s r.within r.cells_within (subst (λ x. LastEnds names body x policy limit s) (rows_once rows names u template h r.system.template_is) e)
+-- texts are refused by one cause
+pub refused_once : (text : List ℕ) (rows : Domain (List ℕ)) (c d : TextCause) → IsRefused text rows c → IsRefused text rows d → c ≡ d
+refused_once text rows c d h k = same_cause c d (text_once text rows (Some c) (Some d) (refused_stage text rows c h) (refused_stage text rows d k))
 
-flow_rounds : (text : List ℕ) (rows : Domain (List ℕ)) (policy : Policy) (limit : ℕ) (names : List (List ℕ)) (body : Statements) (template : List (List ℤ)) (s : Status)
-    → IsReady text rows names body template → FlowEnds rows policy limit (names, body) s → (s ≡ Done) ⊎ (s ≡ Spent limit)
-flow_rounds text rows policy limit names body template s r (wide f h e) = absurd (some_none f (fault_of_program body) h r.system.analysed.within)
-flow_rounds text rows policy limit names body template s r (fits h e) = rows_rounds text rows policy limit names body template s r e
+-- texts that are ready aren't refused
+pub ready_unrefused : (text : List ℕ) (rows : Domain (List ℕ)) (names : List (List ℕ)) (body : Statements) (template : List (List ℤ)) (c : TextCause) → IsRefused text rows c
+    → IsReady text rows names body template → ⊥
+ready_unrefused text rows names body template c h r =
+    no_cause c (text_once text rows (Some c) None (refused_stage text rows c h) (ready_stage text rows names body template r))
 
-pub ready_rounds : (text : List ℕ) (rows : Domain (List ℕ)) (policy : Policy) (limit : ℕ) (names : List (List ℕ)) (body : Statements) (template : List (List ℤ)) (s : Status)
-    → IsReady text rows names body template → TextEnds text rows policy limit s → (s ≡ Done) ⊎ (s ≡ Spent limit)
-ready_rounds text rows policy limit names body template s r (unlexed f h e) = let (ts, reads, m) = r.system.analysed.reading in absurd (no_fault text ts f reads h)
-ready_rounds text rows policy limit names body template s r (unparsed f h e) = absurd (not_both text f (names, body) h r.system.analysed.reading)
-ready_rounds text rows policy limit names body template s r (program p h e) =
-    flow_rounds text rows policy limit names body template s r (subst (λ x. FlowEnds rows policy limit x s) (program_once text p (names, body) h r.system.analysed.reading) e)
+-- the systems of texts have the same equations
+pub solved_once : (text : List ℕ) (rows : Domain (List ℕ)) (s t : System) → IsSolvedSystem text rows s → IsSolvedSystem text rows t → equations_of s ≡ equations_of t
+solved_once text rows s t a b =
+    let same = program_once text (a.names, a.body) (b.names, b.body) a.ready.system.analysed.reading b.ready.system.analysed.reading in
+    let template : a.template ≡ b.template =
+    rows_once rows b.names a.template b.template (subst (λ (p : List (List ℕ) × Statements). HasTemplate rows p.0 (Ok a.template)) same a.ready.system.template_is) b.ready.system.template_is in
+    equations_are a.names a.body a.template s a.system_for
+    ∙ ap (λ (p : List (List ℕ) × Statements). equations_of_program (length p.0) p.1 a.template) same
+    ∙ ap (λ r. equations_of_program (length b.names) b.body r) template
+    ∙ sym (equations_are b.names b.body b.template t b.system_for)

@@ -1,13 +1,9 @@
 //! The files that an analysis reads.
 
-ghost use Rattle.std.specs.Prelude.{◌≡◌, IfOk, IfErr};
+ghost use Rattle.std.specs.Prelude.{◌≡◌, ◌∷◌, List, IfOk, IfErr};
 ghost use Rattle.tm_cli.specs.Request.{analysis_text, domain_text};
-ghost use Rattle.tm_cli.specs.declared.request.Purpose.{Purpose};
-ghost use Rattle.tm_cli.specs.declared.request.Request.TheVariants.{Analyse};
-ghost use Rattle.tm_top.specs.Endings.{IsAnswerTo};
-ghost use Rattle.tm_top.specs.Files.{AreInputs, HasShortRows, IsWithText};
-ghost use Rattle.tm_top.specs.Parted.{AreNotLoaded, AreUnloaded, domain_of};
-ghost use Rattle.tm_top.specs.Run.{FailsOnlyIn};
+ghost use Rattle.tm_top.specs.Files.{AreInputs, HasShortRows, IsWithText, NamedFile, most_bytes, rows_before};
+ghost use Rattle.tm_top.specs.Parted.{AreNotLoaded, IsUnloaded, domain_of};
 
 use crate::files::{LoadRefusal, MOST_BYTES, load_file, unloaded};
 use crate::status::{Status, Which};
@@ -27,6 +23,7 @@ fn load_rows<S: Shelf>(shelf: &mut S, domain: Domain<&str>) -> Result<Domain<Vec
     ensures kept { S.files shelf.new ≡ S.files shelf.old }
     ensures rows { IfOk result (λ rows. IsWithText (S.files shelf.old) (domain_text domain.entry) (domain_of rows)) }
     ensures short { IfOk result (λ rows. HasShortRows (domain_of rows)) }
+    ensures calm { IfOk result (λ _. S.faults shelf.new ≡ S.faults shelf.old) }
     ensures refused { IfErr result (λ refusal. AreNotLoaded (S.files shelf.old) (S.faults shelf.old) (S.faults shelf.new)
         (S.last_failed shelf.new) (domain_text domain.entry) refusal) }
 {
@@ -38,18 +35,23 @@ fn load_rows<S: Shelf>(shelf: &mut S, domain: Domain<&str>) -> Result<Domain<Vec
     }
 }
 
-// What the analysis reads: the program, and then the rows; or the ending where a file isn't loaded.
-pub(crate) fn load<S: Shelf>(shelf: &mut S, analysis: Analysis<&str>) -> Result<Inputs, Status>
+// What an analysis reads: the program or the transition system, and then the rows; or the ending where a file isn't loaded.
+pub(crate) fn load<S: Shelf>(
+    shelf: &mut S,
+    first: Which,
+    analysis: Analysis<&str>,
+) -> Result<Inputs, Status>
+    requires first { most_bytes first ≡ 65536 }
     ensures kept { S.files shelf.new ≡ S.files shelf.old }
     ensures inputs { IfOk result (λ inputs. AreInputs (S.files shelf.old) (analysis_text analysis.entry) inputs.text.items (domain_of inputs.rows)) }
-    ensures answer { (purpose : Purpose) → IfErr result (λ status. IsAnswerTo (S.files shelf.old) (Analyse purpose (analysis_text analysis.entry)) status) }
-    ensures refused { IfErr result (λ status. AreUnloaded status) }
-    ensures failed { (purpose : Purpose) → IfErr result (λ status. FailsOnlyIn (S.faults shelf.old) (S.faults shelf.new) (S.last_failed shelf.new)
-        (Analyse purpose (analysis_text analysis.entry)) status) }
+    ensures calm { IfOk result (λ _. S.faults shelf.new ≡ S.faults shelf.old) }
+    ensures refused { (later : List NamedFile) → IfErr result (λ status. IsUnloaded (S.files shelf.old)
+        ((first, analysis.entry.program.now) ∷ rows_before (domain_text analysis.entry.domain) later)
+        (S.faults shelf.old) (S.faults shelf.new) (S.last_failed shelf.new) status) }
 {
     let text = match load_file(shelf, analysis.program, MOST_BYTES) {
         Ok(text) => text,
-        Err(refusal) => return Err(unloaded(Which::Program, refusal)),
+        Err(refusal) => return Err(unloaded(first, refusal)),
     };
     match load_rows(shelf, analysis.domain) {
         Ok(rows) => Ok(Inputs { text, rows }),

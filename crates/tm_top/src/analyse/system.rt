@@ -53,7 +53,7 @@ fn rows_of(alloc: Global, rows: &Domain<Vec<u8>>, program: &Program) -> Result<T
 }
 
 // The system of a flow and a template.
-fn system_of(flow: Flow, template: Template) -> Result<System, Refusal>
+pub(crate) fn system_of(flow: Flow, template: Template) -> Result<System, Refusal>
     requires { IsTrue (is_over (length flow.names) template) }
     ensures flow { IfOk result (λ system. system.flow ≡ flow) }
     ensures template { IfOk result (λ system. system.template ≡ template) }
@@ -68,7 +68,7 @@ fn system_of(flow: Flow, template: Template) -> Result<System, Refusal>
 }
 
 // Whether the joint problems of a system have few enough cells.
-fn count_cells(system: &System) -> Result<(), Refusal>
+pub(crate) fn count_cells(system: &System) -> Result<(), Refusal>
     ensures within { IfOk result (λ _. cells_of (equations_of system.now) ≤ 134217728) }
     ensures above { IfErr result (λ _. 134217728 < cells_of (equations_of system.now)) }
     ensures count { IfErr result (λ refusal. refusal ≡ Refusal.Text (Cells (cells_of (equations_of system.now)))) }

@@ -1,7 +1,9 @@
 //! The summary of a generated program.
 
 ghost use Rattle.std.specs.Prelude.{◌≤◌, ◌<◌, IfOk, IfErr};
-ghost use Rattle.tm_top.specs.Parted.{IsUnsummed};
+ghost use Rattle.tm_top.specs.Exact.{exact};
+ghost use Rattle.tm_top.specs.Parted.{IsUnanswered};
+ghost use Rattle.tm_top.specs.Questions.{bench_question};
 ghost use Rattle.tm_top.specs.Reports.{IsSummaryOf};
 
 use crate::analyse::rounds::solve;
@@ -20,7 +22,7 @@ pub(crate) fn summary_on(alloc: Global, seed: u32, loops: u32) -> Result<Vec<u8>
     requires some { 1 ≤ loops }
     requires few { loops ≤ 46 }
     ensures ok { IfOk result (λ bytes. IsSummaryOf seed loops bytes.items) }
-    ensures err { IfErr result (λ refusal. IsUnsummed seed loops refusal) }
+    ensures err { IfErr result (λ refusal. IsUnanswered (bench_question exact seed loops) refusal) }
 {
     generated_texts_read();
     let text = generate(alloc, seed, loops)?;

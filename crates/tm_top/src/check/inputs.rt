@@ -2,10 +2,8 @@
 
 ghost use Rattle.std.specs.Prelude.{◌≡◌, IfOk, IfErr};
 ghost use Rattle.tm_cli.specs.declared.request.Request.TheVariants.{Check};
-ghost use Rattle.tm_top.specs.Endings.{IsAnswerTo};
-ghost use Rattle.tm_top.specs.Files.{AreChecked};
-ghost use Rattle.tm_top.specs.Parted.{AreUnloaded};
-ghost use Rattle.tm_top.specs.Run.{FailsOnlyIn};
+ghost use Rattle.tm_top.specs.Files.{AreChecked, files_of};
+ghost use Rattle.tm_top.specs.Parted.{IsUnloaded};
 
 use crate::files::{MOST_BYTES, MOST_CERTIFICATE_BYTES, load_file, unloaded};
 use crate::status::{Status, Which};
@@ -26,10 +24,8 @@ pub(crate) fn load<S: Shelf>(
 ) -> Result<Inputs, Status>
     ensures kept { S.files shelf.new ≡ S.files shelf.old }
     ensures inputs { IfOk result (λ inputs. AreChecked (S.files shelf.old) program.now certificate.now inputs.text.items inputs.bytes.items) }
-    ensures answer { IfErr result (λ status. IsAnswerTo (S.files shelf.old) (Check program.now certificate.now) status) }
-    ensures refused { IfErr result (λ status. AreUnloaded status) }
-    ensures failed { IfErr result (λ status. FailsOnlyIn (S.faults shelf.old) (S.faults shelf.new) (S.last_failed shelf.new)
-        (Check program.now certificate.now) status) }
+    ensures refused { IfErr result (λ status. IsUnloaded (S.files shelf.old) (files_of (Check program.now certificate.now))
+        (S.faults shelf.old) (S.faults shelf.new) (S.last_failed shelf.new) status) }
 {
     let text = match load_file(shelf, program, MOST_BYTES) {
         Ok(text) => text,

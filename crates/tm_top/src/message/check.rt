@@ -207,6 +207,11 @@ fn push_site(message: &mut Message, rows: usize, round: u32, site: Site)
             push_unknown(message, b"upper point ", b" row ", rows, unknown);
             push_numbered(message, b" edge ", edge as u64);
         }
+        Site::Claim { claim, case, part } => {
+            push_numbered(message, b"claim ", claim as u64);
+            push_numbered(message, b" case ", case as u64);
+            push_part(message, part);
+        }
     }
 }
 

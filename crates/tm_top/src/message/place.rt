@@ -1,22 +1,28 @@
-//! What a message names of the files: the line of a cause in the text of the program, and how many rows a certificate has.
+//! What a message names of the files: the line of a cause in its text, and how many rows a certificate has.
 
 ghost use Rattle.std.specs.Prelude.{◌≡◌, ◌≤◌, length};
 ghost use Rattle.tm_top.specs.CheckMessages.{fault_has_unknown, has_unknown, rows_of, site_has_unknown};
-ghost use Rattle.tm_top.specs.Messages.{lex_place, line_at_place, line_in, parse_place, place_of};
+ghost use Rattle.tm_top.specs.Messages.{auto_place, claim_place, equation_place, lex_place, line_at_place, line_in, parse_place, place_of};
 
 use crate::status::{CertCause, Status, TextCause};
+use tm_assert::ClaimFault;
+use tm_auto::AutoFault;
 use tm_check::CheckFault;
 use tm_eqsys::Site;
+use tm_equ::EquFault;
 use tm_lex::{LexFault, line_of};
 use tm_parse::ParseFault;
 
-// The place of a cause in the program's text.
+// The place of a cause in its text.
 fn place_of(cause: TextCause) -> Option<u32>
     ensures { result ≡ place_of cause }
 {
     match cause {
         TextCause::Lex(fault) => lex_place(fault),
         TextCause::Parse(fault) => parse_place(fault),
+        TextCause::Claims(fault) => claim_place(fault),
+        TextCause::Equ(fault) => equation_place(fault),
+        TextCause::Auto(fault) => auto_place(fault),
         TextCause::Flow(_) | TextCause::Rows(_) | TextCause::Unknowns(_) | TextCause::Cells(_) =>
             None,
     }
@@ -48,6 +54,48 @@ fn parse_place(fault: ParseFault) -> Option<u32>
         | ParseFault::BigNumber { at }
         | ParseFault::OutsideLoop { at } => Some(at),
         ParseFault::NoVariables | ParseFault::NoMemory => None,
+    }
+}
+
+fn claim_place(fault: ClaimFault) -> Option<u32>
+    ensures { result ≡ claim_place fault }
+{
+    match fault {
+        ClaimFault::Lex(fault) => lex_place(fault),
+        ClaimFault::Parse(fault) => parse_place(fault),
+        ClaimFault::UnknownLabel { at } | ClaimFault::Count { at } | ClaimFault::Cases { at } =>
+            Some(at),
+        ClaimFault::NoMemory => None,
+    }
+}
+
+fn equation_place(fault: EquFault) -> Option<u32>
+    ensures { result ≡ equation_place fault }
+{
+    match fault {
+        EquFault::Lex(fault) => lex_place(fault),
+        EquFault::Unexpected { at }
+        | EquFault::NameTwice { at }
+        | EquFault::UnknownName { at }
+        | EquFault::ZeroBelow { at }
+        | EquFault::Terms { at }
+        | EquFault::Big { at } => Some(at),
+        EquFault::Count { .. } | EquFault::Alternatives { .. } | EquFault::NoMemory => None,
+    }
+}
+
+fn auto_place(fault: AutoFault) -> Option<u32>
+    ensures { result ≡ auto_place fault }
+{
+    match fault {
+        AutoFault::Lex(fault) => lex_place(fault),
+        AutoFault::Parse(fault) => parse_place(fault),
+        AutoFault::UnknownPoint { at } | AutoFault::IntoEntry { at } | AutoFault::Cases { at } =>
+            Some(at),
+        AutoFault::Points { .. }
+        | AutoFault::Edges
+        | AutoFault::Actions { .. }
+        | AutoFault::NoMemory => None,
     }
 }
 

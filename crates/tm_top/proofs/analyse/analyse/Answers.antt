@@ -1,14 +1,16 @@
-use Rattle.std.proofs.Common.{ap, ◌∙◌, sym, subst}
+use Rattle.std.proofs.Common.{ap, ◌∙◌, [], length, sym, subst}
+use Rattle.tm_top.specs.CheckMessages.{rows_of}
 use Rattle.tm_cli.specs.Request.{analysis_text}
 use Rattle.tm_top.specs.Endings.{IsAnswerTo}
+use Rattle.tm_top.specs.Files.{files_of}
 use Rattle.tm_top.specs.Messages.{line_in}
 use Rattle.tm_top.specs.Parted.{domain_of}
 use Rattle.tm_top.specs.Reports.{IsPutOf, IsReportOn}
-use Rattle.tm_top.specs.Run.{FailsOnlyIn}
+use Rattle.tm_top.specs.Run.{FailsOnlyIn, OutputHolds}
 use Rattle.tm_top.specs.Texts.{IsSolvedSystem}
 use Rattle.tm_cli.specs.declared.request.Request.TheVariants.{Analyse}
-use Rattle.tm_top.proofs.analyse.Answered.{content_once, texts_answer, with_text_once}
-use Rattle.tm_top.proofs.check.Refused.{unloaded_not_done}
+use Rattle.tm_top.proofs.commands.OneEnding.{texts_answer, with_text_once}
+use Rattle.tm_top.proofs.files.Loaded.{content_once, unloaded_answer, unloaded_failed, unloaded_held, unloaded_line, unloaded_rows, unloaded_undone}
 use Rattle.tm_top.proofs.analyse.Worded.{output_map}
 use Rattle.tm_top.proofs.analyse.analyse.Goals as goal
 
@@ -33,12 +35,31 @@ returns-in-Ok-clause-rows g c =
 
 pub returns-in-Err-clause-answer : goal.returns-in-Err-clause-answer
 returns-in-Err-clause-answer g c =
-    subst (λ s. IsAnswerTo (g.S.Shelf.files c.args.shelf.now) (Analyse c.args.purpose (analysis_text c.args.analysis)) s) (sym c.plain_ending.ensures.status) (c.in-Err.ensures.answer c.args.purpose)
+    subst (λ s. IsAnswerTo (g.S.Shelf.files c.args.shelf.now) (Analyse c.args.purpose (analysis_text c.args.analysis)) s) (sym c.plain_ending.ensures.status)
+    (unloaded_answer (g.S.Shelf.files c.args.shelf.now) (Analyse c.args.purpose (analysis_text c.args.analysis)) (g.S.Shelf.faults c.args.shelf.now) (g.S.Shelf.faults c.load.new.shelf) (g.S.Shelf.last_failed c.load.new.shelf) c.in-Err.status (c.in-Err.ensures.refused []))
 
 pub returns-in-Err-clause-failed : goal.returns-in-Err-clause-failed
 returns-in-Err-clause-failed g c =
-    subst (λ s. FailsOnlyIn (g.S.Shelf.faults c.args.shelf.now) (g.S.Shelf.faults c.load.new.shelf) (g.S.Shelf.last_failed c.load.new.shelf) (Analyse c.args.purpose (analysis_text c.args.analysis)) s)
-    (sym c.plain_ending.ensures.status) (c.in-Err.ensures.failed c.args.purpose)
+    subst (λ s. FailsOnlyIn (g.S.Shelf.files c.args.shelf.now) (g.S.Shelf.faults c.args.shelf.now) (g.S.Shelf.faults c.load.new.shelf) (g.S.Shelf.last_failed c.load.new.shelf)
+    (Analyse c.args.purpose (analysis_text c.args.analysis)) s) (sym c.plain_ending.ensures.status)
+    (unloaded_failed (g.S.Shelf.files c.args.shelf.now) (Analyse c.args.purpose (analysis_text c.args.analysis)) (g.S.Shelf.faults c.args.shelf.now) (g.S.Shelf.faults c.load.new.shelf) (g.S.Shelf.last_failed c.load.new.shelf) c.in-Err.status (c.in-Err.ensures.refused []))
+
+pub returns-in-Err-clause-held : goal.returns-in-Err-clause-held
+returns-in-Err-clause-held g c =
+    subst (λ s. OutputHolds (IsReportOn (g.S.Shelf.files c.args.shelf.now) (Analyse c.args.purpose (analysis_text c.args.analysis))) s (g.K.Sink.held c.args.out.now) (g.K.Sink.held c.args.out.now))
+    (sym c.plain_ending.ensures.status) (unloaded_held (IsReportOn (g.S.Shelf.files c.args.shelf.now) (Analyse c.args.purpose (analysis_text c.args.analysis))) (g.S.Shelf.files c.args.shelf.now) (files_of (Analyse c.args.purpose (analysis_text c.args.analysis))) (g.S.Shelf.faults c.args.shelf.now) (g.S.Shelf.faults c.load.new.shelf) (g.S.Shelf.last_failed c.load.new.shelf) c.in-Err.status (g.K.Sink.held c.args.out.now) (c.in-Err.ensures.refused []))
 
 pub returns-in-Err-clause-pieces : goal.returns-in-Err-clause-pieces
-returns-in-Err-clause-pieces g c = λ d. absurd (unloaded_not_done _ c.in-Err.ensures.refused (sym c.plain_ending.ensures.status ∙ d))
+returns-in-Err-clause-pieces g c = λ d. absurd ((unloaded_undone (g.S.Shelf.files c.args.shelf.now) (files_of (Analyse c.args.purpose (analysis_text c.args.analysis))) (g.S.Shelf.faults c.args.shelf.now) (g.S.Shelf.faults c.load.new.shelf) (g.S.Shelf.last_failed c.load.new.shelf) c.in-Err.status (c.in-Err.ensures.refused [])).0 (sym c.plain_ending.ensures.status ∙ d))
+
+pub returns-in-Err-clause-write : goal.returns-in-Err-clause-write
+returns-in-Err-clause-write g c = λ w. absurd ((unloaded_undone (g.S.Shelf.files c.args.shelf.now) (files_of (Analyse c.args.purpose (analysis_text c.args.analysis))) (g.S.Shelf.faults c.args.shelf.now) (g.S.Shelf.faults c.load.new.shelf) (g.S.Shelf.last_failed c.load.new.shelf) c.in-Err.status (c.in-Err.ensures.refused [])).1 (sym c.plain_ending.ensures.status ∙ w))
+
+pub returns-in-Err-clause-line : goal.returns-in-Err-clause-line
+returns-in-Err-clause-line g c =
+    λ text told h. c.plain_ending.ensures.line ∙ unloaded_line text (g.S.Shelf.files c.args.shelf.now) (files_of (Analyse c.args.purpose (analysis_text c.args.analysis))) (g.S.Shelf.faults c.args.shelf.now) (g.S.Shelf.faults c.load.new.shelf) (g.S.Shelf.last_failed c.load.new.shelf) c.in-Err.status (c.in-Err.ensures.refused []) ∙ sym (ap (λ s. line_in text s) c.plain_ending.ensures.status)
+
+pub returns-in-Err-clause-rows : goal.returns-in-Err-clause-rows
+returns-in-Err-clause-rows g c =
+    λ text rows system told i is. c.plain_ending.ensures.rows ∙ unloaded_rows (length system.template) (g.S.Shelf.files c.args.shelf.now) (files_of (Analyse c.args.purpose (analysis_text c.args.analysis))) (g.S.Shelf.faults c.args.shelf.now) (g.S.Shelf.faults c.load.new.shelf) (g.S.Shelf.last_failed c.load.new.shelf) c.in-Err.status (c.in-Err.ensures.refused [])
+    ∙ sym (ap (λ s. rows_of (length system.template) s) c.plain_ending.ensures.status)

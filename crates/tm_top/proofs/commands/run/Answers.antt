@@ -1,6 +1,6 @@
 use Rattle.tm_top.proofs.commands.Meant.{answer, gives}
 use Rattle.tm_top.proofs.commands.Put.{message_put, output}
-use Rattle.tm_top.proofs.analyse.Worded.{ending_given, refuses_words}
+use Rattle.tm_top.proofs.analyse.Worded.{kept, unasked}
 use Rattle.tm_top.proofs.commands.run.Goals as goal
 
 pub returns-clause-answer : goal.returns-clause-answer
@@ -11,8 +11,8 @@ returns-clause-output g c = output _ _ _ _ _ c.obey-ending.ensures.held
 
 pub returns-clause-complete : goal.returns-clause-complete
 returns-clause-complete g c =
-    gives _ _ _ _ _ (ending_given _ _ _ _ _ c.obey-ending.ensures.answer c.obey-ending.ensures.held)
-    (λ none. refuses_words _ _ _ _ _ none c.obey-ending.ensures.answer c.obey-ending.ensures.held)
+    gives _ _ _ _ _ c.obey-ending.ensures.answer (kept _ _ _ _ _ c.obey-ending.ensures.answer c.obey-ending.ensures.held)
+    (λ none. unasked _ _ _ _ _ none c.obey-ending.ensures.held)
 
 pub returns-clause-message : goal.returns-clause-message
 returns-clause-message g c =

@@ -1,8 +1,13 @@
-use Rattle.std.proofs.Common.{subst}
+use Rattle.std.proofs.Common.{inl, refl, subst, sym}
 use Rattle.tm_cli.specs.declared.request.Request.TheVariants.{Upgrade}
+use Rattle.tm_top.specs.Endings.{IsAnswerTo}
+use Rattle.tm_top.specs.Files.{files_of}
+use Rattle.tm_top.specs.Parted.{unloaded}
 use Rattle.tm_top.specs.Reports.{IsReportOn}
 use Rattle.tm_top.specs.Upgrades.{IsUpgradeOf}
 use Rattle.tm_top.proofs.analyse.Worded.{output_map}
+use Rattle.tm_top.specs.declared.status.Which.TheVariants as which
+use Rattle.tm_top.proofs.files.Loaded.{not_loaded, unloaded_answer}
 use Rattle.tm_top.proofs.upgrade.upgrade.Goals as goal
 
 pub returns-in-Ok-clause-held : goal.returns-in-Ok-clause-held
@@ -13,3 +18,10 @@ returns-in-Ok-clause-held g c =
       record { content = c.in-Ok.ensures.content; short = c.in-Ok.ensures.short },
       subst (λ b. IsUpgradeOf b written) c.deref.ensures.value u,
     )) c.answer.ensures.held
+
+pub returns-in-Err-clause-answer : goal.returns-in-Err-clause-answer
+returns-in-Err-clause-answer g c =
+    subst (λ s. IsAnswerTo (g.S.Shelf.files c.args.shelf.now) (Upgrade c.args.certificate.now) s) (sym c.unloaded.ensures)
+    (unloaded_answer (g.S.Shelf.files c.args.shelf.now) (Upgrade c.args.certificate.now) (g.S.Shelf.faults c.args.shelf.now) (g.S.Shelf.faults c.load_file.new.shelf)
+    (g.S.Shelf.last_failed c.load_file.new.shelf) (unloaded which.Certificate c.in-Err.refusal)
+    (not_loaded _ (files_of (Upgrade c.args.certificate.now)) which.Certificate c.args.certificate.now _ _ _ c.in-Err.refusal (inl (refl, refl)) c.in-Err.ensures.refused))

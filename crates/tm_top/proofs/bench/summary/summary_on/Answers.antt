@@ -1,10 +1,12 @@
 use Rattle.std.proofs.Common.{◌≡◌, ◌∙◌, ◌≤◌, ap, arith, length, rules, subst, sym}
 use Rattle.tm_workload.specs.Texts.{generated_text}
 use Rattle.tm_cli.specs.declared.request.Domain.TheVariants.{Intervals}
-use Rattle.tm_top.specs.Parted.{IsRefusedBy, IsUnsummed}
+use Rattle.tm_top.specs.Exact.{exact}
+use Rattle.tm_top.specs.Parted.{IsRefusedBy, IsUnanswered}
+use Rattle.tm_top.specs.Questions.{bench_question}
 use Rattle.tm_top.specs.Texts.{IsSolvedSystem}
 use Rattle.tm_cli.specs.declared.request.Purpose.TheVariants.{Report}
-use Rattle.tm_top.proofs.bench.Generated.{halted, summed, unread}
+use Rattle.tm_top.proofs.bench.Generated.{summed, unended, unread}
 use Rattle.tm_top.proofs.bench.summary.summary_on.Goals as goal
 
 pub system_on-requires-clause-short : goal.system_on-requires-clause-short
@@ -13,15 +15,15 @@ system_on-requires-clause-short c =
 
 pub returns-in_err-system-clause-err : goal.returns-in_err-system-clause-err
 returns-in_err-system-clause-err c =
-    let h : IsUnsummed c.args.seed c.args.loops c.in_err-system.field-0.0 =
+    let h : IsUnanswered (bench_question exact c.args.seed c.args.loops) c.in_err-system.field-0.0 =
     unread c.generated_texts_read.ensures c.args.seed c.args.loops c.requires.few _
     (subst (λ t. IsRefusedBy t Intervals c.in_err-system.field-0.0) (c.deref.ensures.value ∙ c.in_ok-text.ensures) c.in_err-system.ensures.err) in
     search (rules, h)
 
 pub returns-in_err-solved-clause-err : goal.returns-in_err-solved-clause-err
 returns-in_err-solved-clause-err c =
-    let h : IsUnsummed c.args.seed c.args.loops c.in_err-solved.field-0.0 =
-    halted c.generated_texts_read.ensures c.args.seed c.args.loops c.requires.few c.in_ok-system.system _
+    let h : IsUnanswered (bench_question exact c.args.seed c.args.loops) c.in_err-solved.field-0.0 =
+    unended c.generated_texts_read.ensures c.args.seed c.args.loops c.requires.few c.in_ok-system.system _
     (subst (λ t. IsSolvedSystem t Intervals c.in_ok-system.system) (c.deref.ensures.value ∙ c.in_ok-text.ensures) c.in_ok-system.ensures.ok) (c.in_err-solved.ensures.err Report) in
     search (rules, h)
 

@@ -1,0 +1,5 @@
+use Rattle.tm_top.proofs.equations.OneText.{values_once}
+use Rattle.tm_top.proofs.laws.values_are_one.Goals as goal
+
+pub returns : goal.returns
+returns c = values_once

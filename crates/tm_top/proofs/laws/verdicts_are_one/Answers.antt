@@ -1,0 +1,5 @@
+use Rattle.tm_top.proofs.prove.OneText.{verdicts_once}
+use Rattle.tm_top.proofs.laws.verdicts_are_one.Goals as goal
+
+pub returns : goal.returns
+returns c = verdicts_once

@@ -1,0 +1,4 @@
+pub mod Once
+pub mod Judged
+pub mod Named
+pub mod OneText

@@ -1,0 +1,16 @@
+use Rattle.std.proofs.Common.{subst₂}
+use Rattle.tm_top.specs.ClaimTexts.{AreVerdictsOf}
+use Rattle.tm_top.specs.Exact.{exact}
+use Rattle.tm_top.specs.Parted.{domain_of}
+use Rattle.tm_top.specs.Questions.{claims_question}
+use Rattle.tm_top.proofs.prove.Judged.{verdicts_end}
+use Rattle.tm_top.proofs.questions.Answered.{put_answered}
+use Rattle.tm_top.proofs.prove.put_verdicts.Goals as goal
+
+pub returns-in-Ok-clause-answer : goal.returns-in-Ok-clause-answer
+returns-in-Ok-clause-answer g c =
+    let given = c.args.given.now in
+    put_answered (claims_question exact given.inputs.text.items (domain_of given.inputs.rows) given.claims.items c.args.policy c.args.limit) _ _ _ _ _ _
+    (verdicts_end given.inputs.text.items (domain_of given.inputs.rows) given.claims.items c.args.policy c.args.limit c.in-Ok.bytes.items
+    (subst₂ (λ text claims. AreVerdictsOf text (domain_of given.inputs.rows) claims c.args.policy c.args.limit c.in-Ok.bytes.items) c.deref.ensures.value c.deref-2.ensures.value c.in-Ok.ensures.ok))
+    c.put_report.ensures.puts

@@ -1,0 +1,3 @@
+pub mod OneEnd
+pub mod OneMeaning
+pub mod Answered

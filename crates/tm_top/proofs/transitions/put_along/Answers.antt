@@ -1,0 +1,18 @@
+use Rattle.tm_top.specs.Exact.{exact}
+use Rattle.tm_top.specs.Parted.{domain_of}
+use Rattle.tm_top.specs.Questions.{transitions_question}
+use Rattle.tm_top.proofs.check.Refused.{not_done}
+use Rattle.tm_top.proofs.questions.Answered.{put_answered, unanswered}
+use Rattle.tm_top.proofs.transitions.Systems.{report_end}
+use Rattle.tm_top.proofs.transitions.put_along.Goals as goal
+
+pub returns-in-Ok-clause-answer : goal.returns-in-Ok-clause-answer
+returns-in-Ok-clause-answer g c =
+    put_answered (transitions_question exact c.args.text.now (domain_of c.args.rows.now) c.args.policy c.args.limit) _ _ _ _ _ _
+    (report_end c.args.text.now (domain_of c.args.rows.now) c.args.policy c.args.limit _ c.in-Ok.ensures.ok) c.put_report.ensures.puts
+
+pub returns-in-Err-clause-answer : goal.returns-in-Err-clause-answer
+returns-in-Err-clause-answer g c = unanswered (transitions_question exact c.args.text.now (domain_of c.args.rows.now) c.args.policy c.args.limit) _ _ c.refused.ensures c.in-Err.ensures.err
+
+pub returns-in-Err-clause-pieces : goal.returns-in-Err-clause-pieces
+returns-in-Err-clause-pieces g c = λ d. absurd (not_done _ _ c.refused.ensures d)

@@ -1,0 +1,92 @@
+//! The command `equations`: the least solution of rational equations.
+
+ghost use Rattle.std.specs.Prelude.{◌≡◌, ◌≤◌, ℕ, List, length};
+ghost use Rattle.tm_io.specs.Faults.{Rose};
+ghost use Rattle.tm_cli.specs.declared.request.Request.TheVariants.{Equations};
+ghost use Rattle.tm_top.specs.Endings.{IsAnswerTo};
+ghost use Rattle.tm_top.specs.EquationTexts.{AreValuesOf};
+ghost use Rattle.tm_top.specs.Files.{HasContent, IsTold};
+ghost use Rattle.tm_top.specs.Messages.{line_in};
+ghost use Rattle.tm_top.specs.Outputs.{IsTaken, lines_of};
+ghost use Rattle.tm_top.specs.Exact.{exact};
+ghost use Rattle.tm_top.specs.Parted.{QuestionAnswer};
+ghost use Rattle.tm_top.specs.Questions.{equations_question};
+ghost use Rattle.tm_top.specs.Reports.{IsReportOn};
+ghost use Rattle.tm_top.specs.Run.{FailsOnlyIn, OutputHolds};
+
+mod solution;
+
+use crate::ending::{Ending, plain_ending};
+use crate::files::{MOST_BYTES, load_file, unloaded};
+use crate::message::place::answer_line;
+use crate::output::put_report;
+use crate::refusal::refused;
+use crate::status::{Status, Which};
+use solution::values_on;
+use std::alloc::Global;
+use tm_cli::Policy;
+use tm_io::{Shelf, Sink};
+
+// Puts the values of a text's equations, line by line.
+fn put_values<K: Sink>(
+    alloc: Global,
+    text: &[u8],
+    policy: Policy,
+    limit: u32,
+    out: &mut K,
+) -> Status
+    requires short { length text.now ≤ 65536 }
+    requires limit { limit ≤ 1000000 }
+    ensures answer { QuestionAnswer (equations_question exact text.now policy limit) result }
+    ensures held { OutputHolds (AreValuesOf text.now policy limit) result (K.held out.old) (K.held out.new) }
+    ensures pieces { result ≡ Status.Done → IsTaken lines_of (K.held out.old) (K.held out.new) (K.taken out.old) (K.taken out.new) }
+    ensures write { result ≡ Status.Write → Rose (K.faults out.old) (K.faults out.new) }
+{
+    match values_on(alloc, text, policy, limit) {
+        Ok(bytes) => put_report(&bytes, out),
+        Err(refusal) => refused(refusal),
+    }
+}
+
+// Puts the values of a text's equations, and says at which line the text is refused.
+fn answer<K: Sink>(alloc: Global, text: &[u8], policy: Policy, limit: u32, out: &mut K) -> Ending
+    requires short { length text.now ≤ 65536 }
+    requires limit { limit ≤ 1000000 }
+    ensures answer { QuestionAnswer (equations_question exact text.now policy limit) result.status }
+    ensures held { OutputHolds (AreValuesOf text.now policy limit) result.status (K.held out.old) (K.held out.new) }
+    ensures pieces { result.status ≡ Status.Done → IsTaken lines_of (K.held out.old) (K.held out.new) (K.taken out.old) (K.taken out.new) }
+    ensures write { result.status ≡ Status.Write → Rose (K.faults out.old) (K.faults out.new) }
+    ensures line { result.line ≡ line_in text.now result.status }
+{
+    let status = put_values(alloc, text, policy, limit, out);
+    let line = answer_line(text, &status);
+    Ending {
+        status,
+        line,
+        rows: 0,
+    }
+}
+
+// Loads a file of equations, and puts their values.
+pub(crate) fn equations<S: Shelf, K: Sink>(
+    alloc: Global,
+    file: &str,
+    limit: u32,
+    policy: Policy,
+    shelf: &mut S,
+    out: &mut K,
+) -> Ending
+    requires limit { limit ≤ 1000000 }
+    ensures kept { S.files shelf.new ≡ S.files shelf.old }
+    ensures answer { IsAnswerTo (S.files shelf.old) (Equations file.now limit policy) result.status }
+    ensures failed { FailsOnlyIn (S.files shelf.old) (S.faults shelf.old) (S.faults shelf.new) (S.last_failed shelf.new) (Equations file.now limit policy) result.status }
+    ensures held { OutputHolds (IsReportOn (S.files shelf.old) (Equations file.now limit policy)) result.status (K.held out.old) (K.held out.new) }
+    ensures pieces { result.status ≡ Status.Done → IsTaken lines_of (K.held out.old) (K.held out.new) (K.taken out.old) (K.taken out.new) }
+    ensures write { result.status ≡ Status.Write → Rose (K.faults out.old) (K.faults out.new) }
+    ensures line { (text : List ℕ) → IsTold (S.files shelf.old) → HasContent (S.files shelf.old) file.now text → result.line ≡ line_in text result.status }
+{
+    match load_file(shelf, file, MOST_BYTES) {
+        Ok(text) => answer(alloc, &text, policy, limit, out),
+        Err(refusal) => plain_ending(unloaded(Which::Equations, refusal)),
+    }
+}

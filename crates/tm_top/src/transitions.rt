@@ -1,0 +1,112 @@
+//! The command `transitions`: the analysis of a transition system.
+
+ghost use Rattle.std.specs.Prelude.{◌≡◌, ◌≤◌, ℕ, List, length};
+ghost use Rattle.tm_io.specs.Faults.{Rose};
+ghost use Rattle.tm_cli.specs.Request.{analysis_text};
+ghost use Rattle.tm_cli.specs.declared.request.Request.TheVariants.{Transitions};
+ghost use Rattle.tm_top.specs.Endings.{IsAnswerTo};
+ghost use Rattle.tm_top.specs.Exact.{exact};
+ghost use Rattle.tm_top.specs.Files.{HasContent, HasShortRows, IsTold};
+ghost use Rattle.tm_top.specs.Messages.{line_in};
+ghost use Rattle.tm_top.specs.Outputs.{IsTaken, lines_of};
+ghost use Rattle.tm_top.specs.Parted.{QuestionAnswer, domain_of};
+ghost use Rattle.tm_top.specs.Questions.{transitions_question};
+ghost use Rattle.tm_top.specs.Reports.{IsReportOn};
+ghost use Rattle.tm_top.specs.Run.{FailsOnlyIn, OutputHolds};
+ghost use Rattle.tm_top.specs.TransitionTexts.{IsAutoReport};
+
+mod system;
+
+use crate::analyse::inputs::load;
+use crate::ending::{Ending, plain_ending};
+use crate::message::place::answer_line;
+use crate::output::put_report;
+use crate::refusal::refused;
+use crate::status::{Status, Which};
+use std::alloc::Global;
+use system::report_along;
+use tm_cli::{Analysis, Domain, Policy};
+use tm_io::{Shelf, Sink};
+
+// Puts the report of the transition system of these texts, line by line.
+fn put_along<K: Sink>(
+    alloc: Global,
+    text: &[u8],
+    rows: &Domain<Vec<u8>>,
+    policy: Policy,
+    limit: u32,
+    out: &mut K,
+) -> Status
+    requires short { length text.now ≤ 65536 }
+    requires short_rows { HasShortRows (domain_of rows.now) }
+    requires limit { limit ≤ 1000000 }
+    ensures answer { QuestionAnswer (transitions_question exact text.now (domain_of rows.now) policy limit) result }
+    ensures held { OutputHolds (IsAutoReport text.now (domain_of rows.now) policy limit) result (K.held out.old) (K.held out.new) }
+    ensures pieces { result ≡ Status.Done → IsTaken lines_of (K.held out.old) (K.held out.new) (K.taken out.old) (K.taken out.new) }
+    ensures write { result ≡ Status.Write → Rose (K.faults out.old) (K.faults out.new) }
+{
+    match report_along(alloc, text, rows, policy, limit) {
+        Ok(bytes) => put_report(&bytes, out),
+        Err(refusal) => refused(refusal),
+    }
+}
+
+// Puts the report of the transition system of these texts, and says at which line its text is refused.
+fn answer<K: Sink>(
+    alloc: Global,
+    text: &[u8],
+    rows: &Domain<Vec<u8>>,
+    policy: Policy,
+    limit: u32,
+    out: &mut K,
+) -> Ending
+    requires short { length text.now ≤ 65536 }
+    requires short_rows { HasShortRows (domain_of rows.now) }
+    requires limit { limit ≤ 1000000 }
+    ensures answer { QuestionAnswer (transitions_question exact text.now (domain_of rows.now) policy limit) result.status }
+    ensures held { OutputHolds (IsAutoReport text.now (domain_of rows.now) policy limit) result.status
+        (K.held out.old) (K.held out.new) }
+    ensures pieces { result.status ≡ Status.Done → IsTaken lines_of (K.held out.old) (K.held out.new) (K.taken out.old) (K.taken out.new) }
+    ensures write { result.status ≡ Status.Write → Rose (K.faults out.old) (K.faults out.new) }
+    ensures line { result.line ≡ line_in text.now result.status }
+{
+    let status = put_along(alloc, text, rows, policy, limit, out);
+    let line = answer_line(text, &status);
+    Ending {
+        status,
+        line,
+        rows: 0,
+    }
+}
+
+// Loads a transition system and the rows, and puts the report.
+pub(crate) fn transitions<S: Shelf, K: Sink>(
+    alloc: Global,
+    analysis: Analysis<&str>,
+    shelf: &mut S,
+    out: &mut K,
+) -> Ending
+    requires limit { analysis.improvements ≤ 1000000 }
+    ensures kept { S.files shelf.new ≡ S.files shelf.old }
+    ensures answer { IsAnswerTo (S.files shelf.old) (Transitions (analysis_text analysis.entry)) result.status }
+    ensures failed { FailsOnlyIn (S.files shelf.old) (S.faults shelf.old) (S.faults shelf.new) (S.last_failed shelf.new)
+        (Transitions (analysis_text analysis.entry)) result.status }
+    ensures held { OutputHolds (IsReportOn (S.files shelf.old) (Transitions (analysis_text analysis.entry))) result.status
+        (K.held out.old) (K.held out.new) }
+    ensures pieces { result.status ≡ Status.Done → IsTaken lines_of (K.held out.old) (K.held out.new) (K.taken out.old) (K.taken out.new) }
+    ensures write { result.status ≡ Status.Write → Rose (K.faults out.old) (K.faults out.new) }
+    ensures line { (text : List ℕ) → IsTold (S.files shelf.old) → HasContent (S.files shelf.old) analysis.entry.program.now text
+        → result.line ≡ line_in text result.status }
+{
+    match load(shelf, Which::System, analysis) {
+        Ok(inputs) => answer(
+            alloc,
+            &inputs.text,
+            &inputs.rows,
+            analysis.policy,
+            analysis.improvements,
+            out,
+        ),
+        Err(status) => plain_ending(status),
+    }
+}
