@@ -53,6 +53,26 @@ pub(crate) fn repeated(
     Ok(text)
 }
 
+/// A line of words, a text with a piece so many times between two others, and the code and the message with which it is refused.
+pub(crate) type Repeated = (
+    &'static str,
+    &'static [u8],
+    &'static [u8],
+    usize,
+    &'static [u8],
+    u8,
+    &'static [u8],
+);
+
+impl Case for Repeated {
+    fn is_right(&self, alloc: Global) -> bool {
+        match repeated(alloc, self.1, self.2, self.3, self.4) {
+            Ok(text) => ends(alloc, self.0, &text, b"", Ending::Refused(self.5, self.6)),
+            Err(_) => false,
+        }
+    }
+}
+
 // The texts of these words.
 pub(crate) fn strings(alloc: Global, words: &[&str]) -> Result<Vec<String>, AllocError> {
     let mut strings = Vec::new(alloc);
@@ -122,6 +142,7 @@ pub(crate) enum Ending<'a> {
     Refused(u8, &'a [u8]),
     Report(&'a [u8]),
     End(&'a [u8]),
+    Start(&'a [u8]),
 }
 
 // Whether a run has this ending.
@@ -132,6 +153,10 @@ fn has_ending(written: &Written, ending: Ending) -> bool {
         Ending::End(end) => {
             let out = written.out.bytes();
             written.status.code() == 0 && out.ends_with(end) && written.err.bytes().is_empty()
+        }
+        Ending::Start(start) => {
+            let out = written.out.bytes();
+            written.status.code() == 0 && out.starts_with(start) && written.err.bytes().is_empty()
         }
     }
 }

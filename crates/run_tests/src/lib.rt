@@ -9,6 +9,10 @@ mod cases;
 #[cfg(test)]
 mod certificates;
 #[cfg(test)]
+mod claims;
+#[cfg(test)]
+mod equations;
+#[cfg(test)]
 mod faults;
 #[cfg(test)]
 mod generated;
@@ -20,6 +24,8 @@ mod refusals;
 mod reports;
 #[cfg(test)]
 mod texts;
+#[cfg(test)]
+mod transitions;
 #[cfg(test)]
 mod upgrades;
 #[cfg(test)]

@@ -6,7 +6,9 @@ use std::alloc::Global;
 
 pub(crate) const USAGE: &[u8] =
     b"usage: tmpl solve PROGRAM [--domain D] [--rows FILE] [--improvements N] [--policy P] | certify (the same) \
-      | check PROGRAM CERT | bench --seed N --loops K | upgrade CERT\n";
+      | check PROGRAM CERT | bench --seed N --loops K | upgrade CERT \
+      | prove PROGRAM CLAIMS (the options of solve) | transitions FILE (the options of solve) \
+      | equations FILE [--improvements N] [--policy P]\n";
 
 const NO_REQUEST: Ending = Ending::Refused(2, USAGE);
 

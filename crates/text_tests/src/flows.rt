@@ -44,8 +44,8 @@ fn write_action(text: &mut String, action: &Action) -> Result<(), AllocError> {
     }
 }
 
-// An edge with its actions, on a line.
-fn write_edge(text: &mut String, edge: &Edge) -> Result<(), AllocError> {
+/// An edge with its actions, on a line.
+pub(crate) fn write_edge(text: &mut String, edge: &Edge) -> Result<(), AllocError> {
     let from = edge.from;
     let to = edge.to;
     write!(text, "{from}>{to}")?;
@@ -55,8 +55,8 @@ fn write_edge(text: &mut String, edge: &Edge) -> Result<(), AllocError> {
     text.push_str("\n")
 }
 
-// The points with their lines, and the edges with their actions, one a line.
-fn shown(alloc: Global, flow: &Flow) -> Result<String, AllocError> {
+/// The points with their lines, and the edges with their actions, one a line.
+pub(crate) fn shown(alloc: Global, flow: &Flow) -> Result<String, AllocError> {
     let mut text = String::new(alloc);
     for point in flow.points.as_slice() {
         let word = place_word(&point.place);
@@ -69,8 +69,8 @@ fn shown(alloc: Global, flow: &Flow) -> Result<String, AllocError> {
     Ok(text)
 }
 
-// The points and edges of a text; nothing where it is no program.
-fn made(alloc: Global, text: &[u8]) -> Option<Result<Flow, FlowFault>> {
+/// The points and edges of a text; nothing where it is no program.
+pub(crate) fn made(alloc: Global, text: &[u8]) -> Option<Result<Flow, FlowFault>> {
     match read(alloc, text) {
         Some(Ok(program)) => Some(flow(alloc, &program)),
         _ => None,

@@ -1,7 +1,9 @@
-//! Tests that cross the crates which read texts: what words, programs, equations and files of rows read as, and the points and
-//! edges of programs.
+//! Tests that cross the crates which read texts: what words, programs, equations, transition systems, claims and files of rows read
+//! as, and the points and edges of programs and transition systems.
 #![tactic(auto)]
 
+#[cfg(test)]
+mod claims;
 #[cfg(test)]
 mod equations;
 #[cfg(test)]
@@ -12,6 +14,8 @@ mod grammar;
 mod programs;
 #[cfg(test)]
 mod rows;
+#[cfg(test)]
+mod systems;
 #[cfg(test)]
 mod texts;
 #[cfg(test)]

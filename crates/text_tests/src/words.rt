@@ -132,6 +132,57 @@ const OTHERS: &[(&str, Request<&str>)] = &[
     ),
     ("upgrade c", Request::Upgrade { certificate: "c" }),
     ("upgrade -- -c", Request::Upgrade { certificate: "-c" }),
+    (
+        "prove p c --domain rows --rows r",
+        Request::Prove {
+            claims: "c",
+            analysis: Analysis {
+                program: "p",
+                domain: Domain::Rows("r"),
+                improvements: 1000,
+                policy: Policy::Best,
+            },
+        },
+    ),
+    (
+        "prove --policy=first p --improvements 0 c",
+        Request::Prove {
+            claims: "c",
+            analysis: Analysis {
+                program: "p",
+                domain: Domain::Intervals,
+                improvements: 0,
+                policy: Policy::First,
+            },
+        },
+    ),
+    (
+        "transitions s --domain octagons",
+        Request::Transitions {
+            analysis: Analysis {
+                program: "s",
+                domain: Domain::Octagons,
+                improvements: 1000,
+                policy: Policy::Best,
+            },
+        },
+    ),
+    (
+        "equations e",
+        Request::Equations {
+            file: "e",
+            improvements: 1000,
+            policy: Policy::Best,
+        },
+    ),
+    (
+        "equations --policy=first e --improvements 5",
+        Request::Equations {
+            file: "e",
+            improvements: 5,
+            policy: Policy::First,
+        },
+    ),
 ];
 
 #[test]
@@ -173,6 +224,17 @@ const REFUSED: &[&str] = &[
     "upgrade c d",
     "c upgrade",
     "upgrade c --domain zones",
+    "prove",
+    "prove p",
+    "prove p c d",
+    "prove p --claims c",
+    "transitions",
+    "transitions s t",
+    "transitions s --seed 1",
+    "equations",
+    "equations e f",
+    "equations e --domain zones",
+    "equations e --improvements 1000001",
     "--help",
     "help",
     "solve p -h",
@@ -188,5 +250,5 @@ fn other_words_ask_for_nothing(rt: HostRuntime) {
 #[test]
 fn usage(rt: HostRuntime) {
     assert!(rt; usage_line().starts_with(b"usage: tmpl solve PROGRAM [--domain D]"));
-    assert!(rt; usage_line().len() == 169);
+    assert!(rt; usage_line().len() == 306);
 }
