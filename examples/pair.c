@@ -1,0 +1,9 @@
+/* two counters that go up together, the first one to ten */
+int main() {
+    int x = 0, y = 0;
+    while (x < 10) {
+        x++;
+        y++;
+    }
+    behind:
+}
