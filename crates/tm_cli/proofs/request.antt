@@ -1,1 +1,2 @@
 pub mod AnyName
+pub mod Solve

@@ -1,7 +1,7 @@
 //! What the definition of a request says of some lists of words.
 
 ghost use Rattle.std.specs.Prelude.{◌≡◌, ◌≢◌, ℕ, List, [], ◌∷◌, None, Some, codes};
-ghost use Rattle.tm_cli.specs.Laws.{plain_analysis};
+ghost use Rattle.tm_cli.specs.Laws.{SolveReports, plain_analysis};
 ghost use Rattle.tm_cli.specs.Request.{request_of};
 ghost use Rattle.tm_cli.specs.declared.request.Domain.TheVariants.{Intervals, Zones};
 ghost use Rattle.tm_cli.specs.declared.request.Policy.TheVariants.{First};
@@ -47,4 +47,9 @@ pub fn request_laws()
 
     // A request for help is no command.
     ensures help { request_of (codes "solve" ∷ codes "p" ∷ codes "--help" ∷ []) ≡ None }
+{}
+
+/// The words of `solve` ask for the report of an analysis, or for nothing.
+pub fn solve_reports()
+    ensures { SolveReports }
 {}
