@@ -11,4 +11,4 @@ pub use whole::{point_text, report};
 
 // For what other outputs have in common with it.
 pub use heads::push_footer;
-pub use rows::push_number;
+pub use rows::{push_number, push_row};

@@ -78,7 +78,7 @@ fn push_unless_zero(
 }
 
 /// Appends a row over the variables of these names.
-fn push_row(text: &mut Vec<u8>, names: &[Name], row: &[i64]) -> Result<(), AllocError>
+pub fn push_row(text: &mut Vec<u8>, names: &[Name], row: &[i64]) -> Result<(), AllocError>
     ensures { IfOk result (λ _. text.new.items ≡ text.old.items ++ row_text names.now row.now) }
 {
     let mut is_first = true;
