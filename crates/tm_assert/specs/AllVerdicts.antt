@@ -1,10 +1,6 @@
--- What a vector says of a list of claims.
-use Rattle.std.specs.Prelude.{◌≡◌, ◌↔◌, ◌<◌, ℕ, List, Some, IsTrue, false, length, take, slice_get}
+-- Which verdicts are given on a list of claims at a vector, and which fault.
+use Rattle.std.specs.Prelude.{◌≡◌, ◌↔◌, ℕ, List, Some, take, slice_get}
 use Rattle.std.specs.List.{All, AllZip}
-use Rattle.tm_tree.specs.Limits.{is_tested}
-use Rattle.tm_tree.specs.Cases.{cases_of}
-use Rattle.tm_tree.specs.View.{condition_of}
-use Rattle.tm_flow.specs.declared.graph.Flow.{Flow}
 use Rattle.tm_eqsys.specs.Equations.{Equations, Vector}
 use Rattle.tm_simplex.specs.Operations.{capped}
 use Rattle.tm_assert.specs.declared.claim.Claim.{Claim}
@@ -14,21 +10,8 @@ use Rattle.tm_assert.specs.declared.outcome.VerdictFault.{VerdictFault}
 use Rattle.tm_assert.specs.declared.outcome.VerdictFault.TheVariants.{Wide as WideVerdict}
 use Rattle.tm_assert.specs.declared.outcome.ClaimsFault.{ClaimsFault}
 use Rattle.tm_assert.specs.declared.outcome.ClaimsFault.TheVariants.{Wide, NoMemory}
-use Rattle.tm_assert.specs.Verdicts.{NoneOpen, SaysOpen, AllFit, IsFirstFault}
-
--- a claim at one of a flow's points, over its variables, with the cases in which its condition may be false
-pub record IsClaimOf (flow : Flow) (claim : Claim) : Type 0 where
-  pub point : claim.point < length flow.points
-  pub condition : IsTrue (is_tested (length flow.names) (condition_of claim.cond))
-  pub against : claim.against ≡ cases_of false (condition_of claim.cond)
-
--- the claims are at points of a system
-abbrev pub AreAtPoints : Equations → List Claim → Type 0
-AreAtPoints system claims = All (λ claim. claim.point < system.points) claims
-
--- no state that fits the vector at the claim's point passes a case against the claim
-abbrev pub NoneAgainst : Equations → Vector → Claim → Type 0
-NoneAgainst system z claim = NoneOpen system z claim.point claim.against (length claim.against)
+use Rattle.tm_assert.specs.Breaking.{NoneAgainst}
+use Rattle.tm_assert.specs.Verdicts.{SaysOpen, AllFit, IsFirstFault}
 
 -- the verdict on a claim: proved exactly where there is no such state, and else with that of the first case which a state breaks
 pub record IsVerdict (system : Equations) (z : Vector) (claim : Claim) (verdict : Verdict) : Type 0 where

@@ -1,6 +1,7 @@
--- What a file of claims says: each claim in order, or the first fault.
+-- What claims are, and what a file of claims says: each claim in order, or the first fault.
 use Rattle.std.specs.Prelude.{◌≡◌, ◌⊎◌, ◌+◌, ◌<◌, if◌then◌else◌, nat_lt, ℕ, zero, suc, Bool, true, false, IsTrue, List, [], ◌∷◌, ◌++◌, length, get_or, position, slice_range}
 use Rattle.std.specs.Prelude.{Option, Some, None, Result, Ok, Err}
+use Rattle.std.specs.List.{All}
 use Rattle.std.specs.Str.{bytes_eq}
 use Rattle.tm_lex.specs.Faults.{HasFault}
 use Rattle.tm_lex.specs.Reading.{Reads, end_at}
@@ -10,6 +11,8 @@ use Rattle.tm_lex.specs.declared.word.Word.TheVariants as word
 use Rattle.tm_lex.specs.declared.token.Kind as lex_kind
 use Rattle.tm_lex.specs.declared.token.Token.{Token}
 use Rattle.tm_gram.specs.View.{tokens_of}
+use Rattle.tm_eqsys.specs.Equations.{Equations}
+use Rattle.tm_flow.specs.declared.graph.Flow.{Flow}
 use Rattle.tm_flow.specs.declared.point.Place.{Place}
 use Rattle.tm_flow.specs.declared.point.Place.TheVariants as place
 use Rattle.tm_flow.specs.declared.point.Point.{Point}
@@ -20,7 +23,7 @@ use Rattle.tm_tree.specs.Cases.{cases_of}
 use Rattle.tm_tree.specs.Limits.{is_tested}
 use Rattle.tm_tree.specs.Tree.{Condition}
 use Rattle.tm_tree.specs.View.{condition_of}
-use Rattle.tm_assert.specs.Laws.{is_decided}
+use Rattle.tm_assert.specs.Truth.{is_decided}
 use Rattle.tm_assert.specs.declared.claim.Claim.{Claim}
 use Rattle.tm_assert.specs.declared.fault.ClaimFault.{ClaimFault}
 use Rattle.tm_assert.specs.declared.fault.ClaimFault.TheVariants as fault
@@ -175,6 +178,16 @@ pub record Stands (names : List (List ℕ)) (points : List Point) (c : Claim) : 
   pub condition : IsTrue (is_tested (length names) (condition_of c.cond))
   pub decided : IsTrue (is_decided (condition_of c.cond))
   pub against : c.against ≡ cases_of false (condition_of c.cond)
+
+-- a claim at one of a flow's points, over its variables, with the cases in which its condition may be false
+pub record IsClaimOf (flow : Flow) (claim : Claim) : Type 0 where
+  pub point : claim.point < length flow.points
+  pub condition : IsTrue (is_tested (length flow.names) (condition_of claim.cond))
+  pub against : claim.against ≡ cases_of false (condition_of claim.cond)
+
+-- the claims are at points of a system
+abbrev pub AreAtPoints : Equations → List Claim → Type 0
+AreAtPoints system claims = All (λ claim. claim.point < system.points) claims
 
 -- What is answered is meant; want of memory may come at any time.
 abbrev pub Answers : {A B : Type 0} → (A → B) → (Result B ClaimFault → Type 0) → Result A ClaimFault → Type 0

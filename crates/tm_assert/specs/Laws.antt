@@ -1,8 +1,6 @@
--- What a proved claim says of runs, and what verdicts on a list of claims are.
-use Rattle.std.specs.Prelude.{◌≡◌, ◌≢◌, ◌<◌, ℕ, ℤ, List, [], Some, Bool, true, false, ◌&&◌, IsTrue, length, get_or, slice_get, Contains}
-use Rattle.tm_tree.specs.declared.form.Form.{Form}
-use Rattle.tm_tree.specs.Tree.{Condition, free, compare, negation, both, either, Statements}
-use Rattle.tm_tree.specs.Meaning.{State, MayBe}
+-- Laws: what a proved claim says of runs, what an open one says, and that verdicts and refusals are determined.
+use Rattle.std.specs.Prelude.{◌≡◌, ◌≢◌, ℕ, ℤ, List, Some, false, length, slice_get, Contains}
+use Rattle.tm_tree.specs.Tree.{Condition, Statements}
 use Rattle.tm_tree.specs.Cases.{cases_of}
 use Rattle.tm_tree.specs.View.{condition_of}
 use Rattle.tm_tree.specs.Runs.{Configuration, IsRun, IsAt}
@@ -15,21 +13,10 @@ use Rattle.tm_assert.specs.declared.outcome.Verdict.{Verdict}
 use Rattle.tm_assert.specs.declared.outcome.Verdict.TheVariants.{Proved, Open}
 use Rattle.tm_assert.specs.declared.outcome.ClaimsFault.{ClaimsFault}
 use Rattle.tm_assert.specs.declared.outcome.ClaimsFault.TheVariants.{NoMemory}
-use Rattle.tm_assert.specs.Verdicts.{Breaks, NoneOpen}
-use Rattle.tm_assert.specs.AllVerdicts.{AreAtPoints, AreVerdicts, ClaimsFit, IsClaimsFault}
-
--- no choice is left open
-abbrev pub is_decided : Condition → Bool
-is_decided free = false
-is_decided (compare rel form) = true
-is_decided (negation c) = is_decided c
-is_decided (both c d) = is_decided c && is_decided d
-is_decided (either c d) = is_decided c && is_decided d
-
--- a condition can't be false at a state, and is true there if no choice is left open
-pub record IsTrueAt (c : Condition) (state : State) : Type 0 where
-  pub never_false : ¬ (MayBe false c state)
-  pub is_true : IsTrue (is_decided c) → MayBe true c state
+use Rattle.tm_assert.specs.AllVerdicts.{AreVerdicts, ClaimsFit, IsClaimsFault}
+use Rattle.tm_assert.specs.Breaking.{BreaksSome, NoneOpen}
+use Rattle.tm_assert.specs.Claims.{AreAtPoints}
+use Rattle.tm_assert.specs.Truth.{IsTrueAt}
 
 -- where no state that fits a post-solution of a program's system at a point passes a case against a condition, the condition is true at every
 -- configuration at this point in every run
@@ -39,13 +26,7 @@ ProvedClaimsHold = (variables : ℕ) (body : Statements) (template : List (List 
     NoneOpen (equations_of_program variables body template) v p (cases_of false c) (length (cases_of false c)) →
     (run : List Configuration) (now : Configuration) → IsRun variables body run → Contains run now → IsAt now p → IsTrueAt c now.state
 
--- a state that fits a vector at a point passes all guards of one of the cases
-pub record BreaksSome (system : Equations) (z : Vector) (p : ℕ) (cases : List (List Form)) (x : RationalState) : Type 0 where
-  pub number : ℕ
-  pub within : number < length cases
-  pub breaks : Breaks system z p (get_or cases number []) x
-
--- so does the state of each open claim
+-- the state of an open claim fits the vector at the claim's point, and passes all guards of one of the cases against it
 abbrev pub OpenStatesBreak : Type 0
 OpenStatesBreak = (system : Equations) (z : Vector) (claims : List Claim) (verdicts : List Verdict) (k : ℕ) (claim : Claim) (x : RationalState) →
     AreVerdicts system z claims verdicts → slice_get claims k ≡ Some claim → slice_get verdicts k ≡ Some (Open x) →

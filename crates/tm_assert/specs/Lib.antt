@@ -1,3 +1,5 @@
+pub mod Breaking
+pub mod Truth
 pub mod Verdicts
 pub mod AllVerdicts
 pub mod Lines

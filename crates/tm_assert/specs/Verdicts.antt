@@ -1,9 +1,9 @@
--- What a vector says of a claim at a point: the cases against it are those in which its condition may be false.
-use Rattle.std.specs.Prelude.{◌≡◌, ℕ, ◌<◌, List, [], ◌∷◌, length, get_or}
-use Rattle.tm_num.specs.Rational.{ℚ, zero_ℚ, ◌≤ℚ◌}
+-- Which verdict is given on a claim, and which fault: by the linear problem of each case against it.
+use Rattle.std.specs.Prelude.{◌≡◌, ℕ, ◌<◌, List, [], length, get_or}
+use Rattle.tm_num.specs.Rational.{ℚ, zero_ℚ}
 use Rattle.tm_tree.specs.declared.form.Form.{Form}
-use Rattle.tm_eqsys.specs.States.{RationalState, valueℚ}
-use Rattle.tm_eqsys.specs.Equations.{Equations, Vector, Fits}
+use Rattle.tm_eqsys.specs.States.{RationalState}
+use Rattle.tm_eqsys.specs.Equations.{Equations, Vector}
 use Rattle.tm_eqsys.specs.declared.spot.PartFault.{PartFault}
 use Rattle.tm_eqsys.specs.declared.spot.PartFault.TheVariants.{Wide as WidePart}
 use Rattle.tm_lp.specs.Problem.{Problem, Outcome, best, unbounded, empty}
@@ -13,29 +13,11 @@ use Rattle.tm_simplex.specs.Operations.{capped}
 use Rattle.tm_transformers.specs.Limits.{tabulate}
 use Rattle.tm_oper.specs.Stays.{guarded_edge}
 use Rattle.tm_oper.specs.Values.{whole_problem, NoneWide, IsOperatorFault}
+use Rattle.tm_assert.specs.Breaking.{Breaks, NoneOpen}
 use Rattle.tm_assert.specs.declared.outcome.Verdict.{Verdict}
 use Rattle.tm_assert.specs.declared.outcome.Verdict.TheVariants.{Proved, Open}
 use Rattle.tm_assert.specs.declared.outcome.VerdictFault.{VerdictFault}
 use Rattle.tm_assert.specs.declared.outcome.VerdictFault.TheVariants.{Wide, NoMemory}
-
--- all guards of a case have a value of at most 0 at a rational state
-abbrev pub PassesAll : List Form → RationalState → Type 0
-PassesAll [] x = Unit {0}
-PassesAll (g ∷ gs) x = (valueℚ g x ≤ℚ zero_ℚ) × PassesAll gs x
-
--- a rational state that fits a vector at a point and passes all guards of a case
-pub record Breaks (system : Equations) (z : Vector) (p : ℕ) (case : List Form) (x : RationalState) : Type 0 where
-  pub size : length x ≡ system.variables
-  pub fits : Fits system z p x
-  pub passes : PassesAll case x
-
--- no rational state does
-abbrev pub NoneBreaks : Equations → Vector → ℕ → List Form → Type 0
-NoneBreaks system z p case = (x : RationalState) → Breaks system z p case x → ⊥
-
--- nor for any of the first n cases
-abbrev pub NoneOpen : Equations → Vector → ℕ → List (List Form) → ℕ → Type 0
-NoneOpen system z p cases n = (k : ℕ) → k < n → NoneBreaks system z p (get_or cases k [])
 
 -- ---- the linear problems
 -- the problem of a case over split columns: the rows with a finite bound at the point, then the guards, and 0 as goal

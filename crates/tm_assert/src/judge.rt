@@ -7,7 +7,8 @@ ghost use Rattle.tm_tree.specs.Cases.{cases_of};
 ghost use Rattle.tm_tree.specs.View.{condition_of};
 ghost use Rattle.tm_eqsys.specs.View.{equations_of, vector_at, IsVectorOf};
 ghost use Rattle.tm_simplex.specs.Operations.{capped};
-ghost use Rattle.tm_assert.specs.Verdicts.{NoneBreaks, NoneOpen, FitsFor, AllFit, IsBreaking, SaysOpen, IsFaultFor, IsFirstFault};
+ghost use Rattle.tm_assert.specs.Breaking.{NoneBreaks, NoneOpen};
+ghost use Rattle.tm_assert.specs.Verdicts.{FitsFor, AllFit, IsBreaking, SaysOpen, IsFaultFor, IsFirstFault};
 
 use crate::claim::Claim;
 use crate::outcome::{Verdict, VerdictFault};

@@ -2,7 +2,8 @@
 
 ghost use Rattle.std.specs.Prelude.{IfOk, IfErr, OnOk, All};
 ghost use Rattle.tm_eqsys.specs.View.{equations_of, vector_at, IsVectorOf};
-ghost use Rattle.tm_assert.specs.AllVerdicts.{AreVerdicts, ClaimsFit, IsClaimOf, IsClaimsFault};
+ghost use Rattle.tm_assert.specs.AllVerdicts.{AreVerdicts, ClaimsFit, IsClaimsFault};
+ghost use Rattle.tm_assert.specs.Claims.{IsClaimOf};
 
 use crate::claim::Claim;
 use crate::judge::{capped, verdict};

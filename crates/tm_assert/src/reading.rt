@@ -12,9 +12,9 @@ ghost use Rattle.tm_flow.specs.Constants.{have_room};
 ghost use Rattle.tm_tree.specs.Cases.{cases_of};
 ghost use Rattle.tm_tree.specs.Limits.{is_tested};
 ghost use Rattle.tm_tree.specs.View.{condition_of};
-ghost use Rattle.tm_assert.specs.Laws.{is_decided};
 ghost use Rattle.tm_assert.specs.Claims.{is_end, is_colon, is_semicolon, is_nondet, is_place, bytes_of, token_at, point_of, expected, labelled, headed, first_choice, decided};
 ghost use Rattle.tm_assert.specs.Claims.{parsed, few_cases, finished, IsEnded, ClaimMeans, ClaimsMean, FileMeans, StatedClaims, Stands, Answers, Gives, stated_of};
+ghost use Rattle.tm_assert.specs.Truth.{is_decided};
 
 use crate::claim::Claim;
 use crate::fault::ClaimFault;

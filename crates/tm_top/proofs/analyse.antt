@@ -3,4 +3,4 @@ pub mod Systems
 pub mod Analysed
 pub mod Halted
 pub mod Made
-pub mod Worded
+pub mod Found

@@ -1,5 +1,5 @@
 -- What texts of claims about a program are, and what is written of them.
-use Rattle.std.specs.Prelude.{◌≡◌, ◌≤◌, ℕ, ℤ, List, Ok, Err, Some, length, map, slice_get, Contains}
+use Rattle.std.specs.Prelude.{◌≡◌, ◌≤◌, ◌↔◌, ℕ, ℤ, List, Ok, Err, Some, length, map, slice_get, Contains}
 use Rattle.std.specs.List.{All}
 use Rattle.tm_tree.specs.Runs.{Configuration, IsAt, IsRun}
 use Rattle.tm_tree.specs.Tree.{Statements}
@@ -10,15 +10,16 @@ use Rattle.tm_eqsys.specs.declared.system.System.{System}
 use Rattle.tm_eqsys.specs.Equations.{Equations, Least, Vector}
 use Rattle.tm_eqsys.specs.Solutions.{equations_of_program}
 use Rattle.tm_eqsys.specs.States.{RationalState}
-use Rattle.tm_assert.specs.AllVerdicts.{AreVerdicts}
+use Rattle.tm_assert.specs.Breaking.{BreaksSome, NoneAgainst}
+use Rattle.tm_assert.specs.Truth.{IsTrueAt}
 use Rattle.tm_assert.specs.Claims.{FileMeans, Stands, Stated, stated_of}
-use Rattle.tm_assert.specs.Laws.{BreaksSome, IsTrueAt}
 use Rattle.tm_assert.specs.Lines.{verdicts_text}
 use Rattle.tm_assert.specs.declared.claim.Claim.{Claim}
 use Rattle.tm_assert.specs.declared.outcome.Verdict.{Verdict}
 use Rattle.tm_assert.specs.declared.outcome.Verdict.TheVariants.{Proved, Open}
 use Rattle.tm_cli.specs.declared.request.Domain.{Domain}
 use Rattle.tm_cli.specs.declared.request.Policy.{Policy}
+use Rattle.tm_top.specs.Meanings.{Meanings}
 use Rattle.tm_top.specs.Rounds.{HasRounds}
 use Rattle.tm_top.specs.Texts.{IsReady, IsRefused, IsSolvedSystem}
 use Rattle.tm_top.specs.declared.status.TextCause.{TextCause}
@@ -59,24 +60,28 @@ IsTrueInRuns variables body claim =
     (run : List Configuration) (now : Configuration) → IsRun variables body run → Contains run now → IsAt now claim.point
     → IsTrueAt (condition_of claim.cond) now.state
 
--- what verdicts on claims at a vector say of a program: a proved claim is true in every run; for an open one, a rational state fits the vector at the
--- claim's point and passes all guards of a case in which the claim may be false
+-- what verdicts on claims at a vector say of a program: there is one for each claim; a claim is proved exactly where no rational state that fits the vector
+-- at the claim's point passes all guards of a case in which the claim may be false; a proved claim is true in every run; an open one comes with such a state
 pub record SpeakOfRuns (variables : ℕ) (body : Statements) (system : Equations) (vector : Vector) (claims : List Claim) (verdicts : List Verdict) : Type 0 where
+  pub one_each : length verdicts ≡ length claims
+  pub proved_where : (k : ℕ) (claim : Claim) (verdict : Verdict) → slice_get claims k ≡ Some claim → slice_get verdicts k ≡ Some verdict
+      → (verdict ≡ Proved) ↔ NoneAgainst system vector claim
   pub proved : (k : ℕ) (claim : Claim) → slice_get claims k ≡ Some claim → slice_get verdicts k ≡ Some Proved → IsTrueInRuns variables body claim
   pub open_ones : (k : ℕ) (claim : Claim) (state : RationalState) → slice_get claims k ≡ Some claim → slice_get verdicts k ≡ Some (Open state)
       → BreaksSome system vector claim.point claim.against state
 
 -- the bytes are the verdicts on claims about a program: those of the least vector over a template
-pub record AreLeastVerdicts (names : List (List ℕ)) (body : Statements) (template : List (List ℤ)) (vector : Vector) (claims : List Claim) (rounds : ℕ)
-    (bytes : List ℕ) : Type 0 where
+pub record AreLeastVerdicts (m : Meanings) (names : List (List ℕ)) (body : Statements) (template : List (List ℤ)) (vector : Vector) (claims : List Claim)
+    (rounds : ℕ) (bytes : List ℕ) : Type 0 where
   pub least : Least (equations_of_program (length names) body template) vector
   pub verdicts : List Verdict
-  pub verdicts_are : AreVerdicts (equations_of_program (length names) body template) vector claims verdicts
+  pub verdicts_are : m.judges (equations_of_program (length names) body template) vector claims verdicts
   pub speak : SpeakOfRuns (length names) body (equations_of_program (length names) body template) vector claims verdicts
   pub written : bytes ≡ verdicts_text names claims verdicts rounds
 
 -- they are those on the claims that a text states about the program of these texts, with the number of improvements by the policy
-pub record AreVerdictsOf (text : List ℕ) (rows : Domain (List ℕ)) (given : List ℕ) (policy : Policy) (limit : ℕ) (bytes : List ℕ) : Type 0 where
+pub record AreVerdictsOf (m : Meanings) (text : List ℕ) (rows : Domain (List ℕ)) (given : List ℕ) (policy : Policy) (limit : ℕ) (bytes : List ℕ)
+    : Type 0 where
   pub system : System
   pub solved : IsSolvedSystem text rows system
   pub claims : List Claim
@@ -85,4 +90,4 @@ pub record AreVerdictsOf (text : List ℕ) (rows : Domain (List ℕ)) (given : L
   pub within : rounds ≤ limit
   pub vector : Vector
   pub has_rounds : HasRounds system policy rounds vector
-  pub least : AreLeastVerdicts solved.names solved.body solved.template vector claims rounds bytes
+  pub least : AreLeastVerdicts m solved.names solved.body solved.template vector claims rounds bytes

@@ -1,20 +1,22 @@
 -- What the parts around the least bounds mean where exact fractions with numerators and denominators up to 2^63 - 1 decide, as they do in the program.
 use Rattle.std.specs.Prelude.{length}
+use Rattle.tm_assert.specs.AllVerdicts.{AreVerdicts}
 use Rattle.tm_workload.specs.Summaries.{summary_of}
 use Rattle.tm_workload.specs.Texts.{generated_text}
 use Rattle.tm_top.specs.CheckMessages.{rows_of}
 use Rattle.tm_top.specs.Checks.{HasRowCount, IsAcceptedWith, IsFormFault, IsRefusedCertificate, IsWideAt}
 use Rattle.tm_top.specs.Generated.{IsGenerated}
+use Rattle.tm_top.specs.MadeCertificates.{IsCertificateOf}
 use Rattle.tm_top.specs.Meanings.{Meanings}
 use Rattle.tm_top.specs.Messages.{line_in, message_of}
-use Rattle.tm_top.specs.Reports.{IsCertificateOf}
 use Rattle.tm_top.specs.Spots.{HasSpot, IsClaimSpot}
 use Rattle.tm_top.specs.Upgrades.{IsUpgradeOf}
 
 -- the first operation of the composition, one of the rounds, for a certificate one of its check, and for claims the first of their problems, whose exact
 -- result doesn't fit;
 -- the certificate of the rounds by the policy; certificates that are valid and in whose check no sum is too wide, and the first cause of others;
--- the first fault of the form of bytes, and the text of the certificate that they spell; programs drawn from a seed, over intervals
+-- the first fault of the form of bytes, and the text of the certificate that they spell; verdicts by the linear problem of each case against a claim, an
+-- open one with the state of the last dictionary of the first problem that isn't empty; programs drawn from a seed, over intervals
 abbrev pub exact : Meanings
 exact = record {
   too_wide = λ purpose system policy limit spot. HasSpot purpose system policy limit spot;
@@ -26,6 +28,7 @@ exact = record {
   has_rows = λ bytes count. HasRowCount bytes count;
   misspells = λ bytes fault. IsFormFault bytes fault;
   upgrades = λ bytes written. IsUpgradeOf bytes written;
+  judges = λ system vector claims verdicts. AreVerdicts system vector claims verdicts;
   generates = λ seed loops system. IsGenerated seed loops system;
   summary = λ seed loops system vector rounds. summary_of seed loops (length (generated_text seed loops)) system vector rounds;
   message = λ line rows status. message_of line rows status;

@@ -11,6 +11,7 @@ pub mod TransitionTexts
 pub mod Generated
 pub mod Questions
 pub mod Spots
+pub mod MadeCertificates
 pub mod Reports
 pub mod Endings
 pub mod CheckMessages
@@ -24,3 +25,4 @@ pub mod Meanings
 pub mod Answers
 pub mod Outputs
 pub mod Exact
+pub mod Analyses

@@ -89,7 +89,7 @@ pub data IsOutput (m : Meanings) (files : Option Contents) (words : List (List �
       → m.upgrades certificate bytes → IsOutput m files words bytes
   are_verdicts : (claims : List ℕ) (analysis : Analysis (List ℕ)) (text : List ℕ) (rows : Domain (List ℕ)) (given : List ℕ)
       → request_of words ≡ Some (Prove claims analysis) → AreInputs files analysis text rows → HasShortText files claims given
-      → AreVerdictsOf text rows given analysis.policy analysis.improvements bytes → IsOutput m files words bytes
+      → AreVerdictsOf m text rows given analysis.policy analysis.improvements bytes → IsOutput m files words bytes
   is_report_along : (analysis : Analysis (List ℕ)) (text : List ℕ) (rows : Domain (List ℕ)) → request_of words ≡ Some (Transitions analysis)
       → AreInputs files analysis text rows → IsAutoReport text rows analysis.policy analysis.improvements bytes → IsOutput m files words bytes
   are_values : (file text : List ℕ) (limit : ℕ) (policy : Policy) → request_of words ≡ Some (Equations file limit policy) → HasShortText files file text

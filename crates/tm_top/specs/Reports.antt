@@ -1,6 +1,6 @@
 -- What a run writes: reports of least vectors, certificates of them, the summary of a generated program, the upgrade of a certificate,
 -- verdicts on claims, reports of transition systems, and values of equations.
-use Rattle.std.specs.Prelude.{◌≡◌, ◌≤◌, ℕ, ℤ, List, Option, Some, length}
+use Rattle.std.specs.Prelude.{◌≡◌, ◌≤◌, ℕ, List, Option, Some, length}
 use Rattle.tm_io.specs.Files.{Contents}
 use Rattle.tm_tree.specs.Tree.{Statements}
 use Rattle.tm_rows.specs.Domains.{intervals_of}
@@ -8,13 +8,8 @@ use Rattle.tm_eqsys.specs.declared.footer.Footer.TheVariants.{Accepted}
 use Rattle.tm_eqsys.specs.declared.system.System.{System}
 use Rattle.tm_eqsys.specs.Equations.{Least, Vector}
 use Rattle.tm_eqsys.specs.Solutions.{equations_of_program}
-use Rattle.tm_eqsys.specs.View.{vector_of}
-use Rattle.tm_validity.specs.Certificates.{ValidCertificate, bounds_vector}
+use Rattle.tm_validity.specs.Certificates.{bounds_vector}
 use Rattle.tm_cert.specs.declared.cert.Cert.{Cert}
-use Rattle.tm_form.specs.Certificates.{IsBeyond, IsWithin, SpellsTooMany, cert_data}
-use Rattle.serde_json.specs.Written.{compact_text}
-use Rattle.tm_rounds.specs.declared.solution.Solved.{Solved}
-use Rattle.tm_rounds.specs.Solutions.{IsSolved, cert_with}
 use Rattle.tm_workload.specs.Bodies.{generated_body, generated_names}
 use Rattle.tm_workload.specs.Summaries.{summary_of}
 use Rattle.tm_workload.specs.Texts.{generated_text}
@@ -24,35 +19,17 @@ use Rattle.tm_cli.specs.declared.request.Policy.TheVariants.{Best}
 use Rattle.tm_top.specs.Checks.{IsValidFor, NoneIsWide, system_with, theirs}
 use Rattle.tm_top.specs.ClaimTexts.{AreVerdictsOf}
 use Rattle.tm_top.specs.EquationTexts.{AreValuesOf}
+use Rattle.tm_top.specs.Exact.{exact}
 use Rattle.tm_top.specs.Files.{AreChecked, AreInputs, HasCertificate, HasShortText, Request}
 pub use Rattle.tm_top.specs.LeastReports.{IsLeastReport, IsReportOf}
-use Rattle.tm_top.specs.Policies.{rule_of}
+pub use Rattle.tm_top.specs.MadeCertificates.{IsCertificateOf}
 use Rattle.tm_cli.specs.Request.{request_of}
 use Rattle.tm_top.specs.Rounds.{HasRounds, IsSystemFor}
 use Rattle.tm_cli.specs.declared.request.Purpose.{Purpose}
 use Rattle.tm_cli.specs.declared.request.Purpose.TheVariants.{Report, Certificate}
 use Rattle.tm_cli.specs.declared.request.Request.TheVariants.{Analyse, Check, Bench, Upgrade, Prove, Transitions, Equations}
-use Rattle.tm_top.specs.Texts.{IsReady}
 use Rattle.tm_top.specs.TransitionTexts.{IsAutoReport}
 use Rattle.tm_top.specs.Upgrades.{IsUpgradeOf}
-
--- the bytes are the certificate that the rounds make, of the program and the template of these texts; it is valid for the system of the text, no sum of its
--- check is wide, and its bounds are the least vector. Where its traces hold few enough values, the bytes are read as this certificate, and else refused for that
-pub record IsCertificateOf (text : List ℕ) (rows : Domain (List ℕ)) (policy : Policy) (limit : ℕ) (bytes : List ℕ) : Type 0 where
-  pub names : List (List ℕ)
-  pub body : Statements
-  pub template : List (List ℤ)
-  pub ready : IsReady text rows names body template
-  pub system : System
-  pub system_for : IsSystemFor names body template system
-  pub solved : Solved
-  pub is_solved : IsSolved system (rule_of policy) limit solved
-  pub written : bytes ≡ compact_text (cert_data (cert_with system solved))
-  pub valid : ValidCertificate (system_with names body (cert_with system solved)) (theirs (cert_with system solved))
-  pub narrow : NoneIsWide (system_with names body (cert_with system solved)) (theirs (cert_with system solved))
-  pub accepted : IsWithin (cert_with system solved) → IsValidFor text bytes names body (cert_with system solved)
-  pub expands : IsBeyond (cert_with system solved) → SpellsTooMany bytes
-  pub least : Least (equations_of_program (length names) body template) (vector_of (length template) solved.bounds)
 
 -- the bytes are the summary of a generated program: of its least vector over intervals, with the number of improvements by `best`
 pub record IsSummaryOf (seed loops : ℕ) (bytes : List ℕ) : Type 0 where
@@ -88,7 +65,7 @@ IsReportOn files (Check program certificate) bytes =
 IsReportOn files (Bench seed loops) bytes = IsSummaryOf seed loops bytes
 IsReportOn files (Upgrade certificate) bytes = (given : List ℕ) × HasCertificate files certificate given × IsUpgradeOf given bytes
 IsReportOn files (Prove claims analysis) bytes = (text : List ℕ) × (rows : Domain (List ℕ)) × (given : List ℕ) × AreInputs files analysis text rows
-    × HasShortText files claims given × AreVerdictsOf text rows given analysis.policy analysis.improvements bytes
+    × HasShortText files claims given × AreVerdictsOf exact text rows given analysis.policy analysis.improvements bytes
 IsReportOn files (Transitions analysis) bytes =
     (text : List ℕ) × (rows : Domain (List ℕ)) × AreInputs files analysis text rows × IsAutoReport text rows analysis.policy analysis.improvements bytes
 IsReportOn files (Equations file improvements policy) bytes = (text : List ℕ) × HasShortText files file text × AreValuesOf text policy improvements bytes

@@ -22,6 +22,7 @@ ghost use Rattle.tm_top.specs.Texts.{IsSolvedSystem};
 
 mod certify;
 pub(crate) mod inputs;
+pub(crate) mod least;
 pub(crate) mod rounds;
 pub(crate) mod system;
 pub(crate) mod template;

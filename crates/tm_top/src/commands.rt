@@ -69,8 +69,8 @@ fn obey<S: Shelf, K: Sink>(alloc: Global, words: &[String], shelf: &mut S, out: 
     }
 }
 
-// Puts the message of an ending, where it isn't done. What the stream of messages answers changes nothing.
-fn tell<L: Sink>(ending: &Ending, err: &mut L)
+/// Puts the message of an ending, where it isn't done. What the stream of messages answers changes nothing.
+pub fn tell<L: Sink>(ending: &Ending, err: &mut L)
     ensures gets { GetsMessage ending.now.status (message_of ending.now.line ending.now.rows ending.now.status) (L.held err.old) (L.held err.new)
         (L.faults err.old) (L.faults err.new) (L.spare err.old) }
     ensures piece { IsInOnePiece (message_of ending.now.line ending.now.rows ending.now.status) (L.taken err.old) (L.taken err.new) }

@@ -45,7 +45,8 @@ pub fn values_are_one()
 /// The texts of a program, of its rows and of claims have one list of verdicts.
 pub fn verdicts_are_one()
     ensures { (text : List ℕ) (rows : Domain (List ℕ)) (given : List ℕ) (policy : Policy) (limit : ℕ) (one other : List ℕ)
-        → AreVerdictsOf text rows given policy limit one → AreVerdictsOf text rows given policy limit other → one ≡ other }
+        → AreVerdictsOf ⟦<Exact as Meaning>⟧.means text rows given policy limit one
+        → AreVerdictsOf ⟦<Exact as Meaning>⟧.means text rows given policy limit other → one ≡ other }
 {}
 
 /// Improvements that are spent are fewer than the picks of the system: a limit of as many as the picks is never spent.

@@ -22,13 +22,16 @@ mod status;
 mod transitions;
 mod upgrade;
 
-pub use commands::run;
+pub use analyse::least::{Found, LeastBounds, find_least};
+pub use commands::{run, tell};
+pub use ending::{Ending, plain_ending};
 pub use laws::{
     accepted_is_least, ending_is_one, spent_is_few, upgrade_is_one, values_are_one,
     verdicts_are_one,
 };
 pub use meaning::{Exact, Meaning};
 pub use memory::run_in_memory;
+pub use output::put_report;
 pub use promise::headline;
 pub use status::{CertCause, ReadCause, Status, TextCause, Which};
 pub use tm_workload::generate;

@@ -3,7 +3,8 @@
 ghost use Rattle.tm_top.specs.Meanings.{Meanings};
 
 /// Who says what the answers of a run mean that aren't reports of least bounds: which operations are too wide, which
-/// certificates are made, accepted and refused, which text a certificate has, which programs are generated, and how messages read.
+/// certificates are made, accepted and refused, which text a certificate has, which verdicts are given on claims, which programs are
+/// generated, and how messages read.
 /// The contract of `run` speaks of these meanings alone, so that it can be read without them; `accepted_is_least`, `ending_is_one`
 /// and their like are laws of them.
 pub trait Meaning {

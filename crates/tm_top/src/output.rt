@@ -50,8 +50,8 @@ fn put_lines<K: Sink>(out: &mut K, text: &[u8]) -> Result<(), PutFault>
     Ok(())
 }
 
-// Puts a report or a summary, line by line.
-pub(crate) fn put_report<K: Sink>(bytes: &[u8], out: &mut K) -> Status
+/// Puts a report, a summary or an annotated text, line by line.
+pub fn put_report<K: Sink>(bytes: &[u8], out: &mut K) -> Status
     ensures pieces { result ≡ Status.Done → IsTaken lines_of (K.held out.old) (K.held out.new) (K.taken out.old) (K.taken out.new) }
     ensures puts { PutsReport bytes.now result (K.held out.old) (K.held out.new) (K.faults out.old) (K.faults out.new) }
 {

@@ -84,7 +84,7 @@ fn put_verdicts<K: Sink>(
     requires limit { limit ≤ 1000000 }
     ensures answer { QuestionAnswer (claims_question exact given.now.inputs.text.items (domain_of given.now.inputs.rows) given.now.claims.items policy limit)
         result }
-    ensures held { OutputHolds (AreVerdictsOf given.now.inputs.text.items (domain_of given.now.inputs.rows) given.now.claims.items policy limit) result
+    ensures held { OutputHolds (AreVerdictsOf exact given.now.inputs.text.items (domain_of given.now.inputs.rows) given.now.claims.items policy limit) result
         (K.held out.old) (K.held out.new) }
     ensures pieces { result ≡ Status.Done → IsTaken lines_of (K.held out.old) (K.held out.new) (K.taken out.old) (K.taken out.new) }
     ensures write { result ≡ Status.Write → Rose (K.faults out.old) (K.faults out.new) }
@@ -110,7 +110,7 @@ fn answer<K: Sink>(alloc: Global, given: &Given, policy: Policy, limit: u32, out
     requires limit { limit ≤ 1000000 }
     ensures answer { QuestionAnswer (claims_question exact given.now.inputs.text.items (domain_of given.now.inputs.rows) given.now.claims.items policy limit)
         result.status }
-    ensures held { OutputHolds (AreVerdictsOf given.now.inputs.text.items (domain_of given.now.inputs.rows) given.now.claims.items policy limit) result.status
+    ensures held { OutputHolds (AreVerdictsOf exact given.now.inputs.text.items (domain_of given.now.inputs.rows) given.now.claims.items policy limit) result.status
         (K.held out.old) (K.held out.new) }
     ensures pieces { result.status ≡ Status.Done → IsTaken lines_of (K.held out.old) (K.held out.new) (K.taken out.old) (K.taken out.new) }
     ensures write { result.status ≡ Status.Write → Rose (K.faults out.old) (K.faults out.new) }

@@ -11,7 +11,7 @@ use Rattle.tm_parse.specs.declared.fault.ParseFault.TheVariants as parse
 use Rattle.tm_tree.specs.Cases.{cases_of}
 use Rattle.tm_tree.specs.Limits.{is_tested}
 use Rattle.tm_tree.specs.View.{condition_of}
-use Rattle.tm_assert.specs.Laws.{is_decided}
+use Rattle.tm_assert.specs.Truth.{is_decided}
 use Rattle.tm_assert.specs.declared.claim.Claim.{Claim}
 use Rattle.tm_assert.specs.declared.fault.ClaimFault.{ClaimFault}
 use Rattle.tm_assert.specs.declared.fault.ClaimFault.TheVariants as fault

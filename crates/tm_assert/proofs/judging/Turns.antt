@@ -6,7 +6,8 @@ use Rattle.tm_tree.specs.declared.form.Form.{Form}
 use Rattle.tm_eqsys.specs.States.{RationalState}
 use Rattle.tm_eqsys.specs.Equations.{Equations, Vector}
 use Rattle.tm_assert.specs.declared.outcome.Verdict.TheVariants.{Proved, Open}
-use Rattle.tm_assert.specs.Verdicts.{Breaks, NoneBreaks, NoneOpen, FitsFor, AllFit}
+use Rattle.tm_assert.specs.Breaking.{Breaks, NoneBreaks, NoneOpen}
+use Rattle.tm_assert.specs.Verdicts.{FitsFor, AllFit}
 
 -- no state breaks one of the first i cases, and none of their problems has a wide operation
 pub record IsJudged (system : Equations) (z : Vector) (p : ℕ) (cases : List (List Form)) (i : ℕ) : Type 0 where

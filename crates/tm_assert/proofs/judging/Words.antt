@@ -29,7 +29,8 @@ use Rattle.tm_oper.specs.Values.{ReadsOutcome, IsValue}
 use Rattle.tm_oper.specs.Meanings.{HasEvidence}
 use Rattle.tm_oper.proofs.stays.Widths.{no_frees, stay_width}
 use Rattle.tm_oper.proofs.values.Evident.{is_transformer}
-use Rattle.tm_assert.specs.Verdicts.{PassesAll, Breaks, NoneBreaks, IsBreaking, case_problem, last_point}
+use Rattle.tm_assert.specs.Breaking.{PassesAll, Breaks, NoneBreaks}
+use Rattle.tm_assert.specs.Verdicts.{IsBreaking, case_problem, last_point}
 
 -- ---- guards that are followed
 follows_passes : (case : List Form) (x y : RationalState) → Follows (guards case) x [] y → PassesAll case x

@@ -16,8 +16,9 @@ use Rattle.tm_tree.proofs.cases.CaseLaw.{cases_law}
 use Rattle.tm_eqsys.specs.States.{rational}
 use Rattle.tm_eqsys.proofs.states.RationalStates.{value_rational}
 use Rattle.tm_eqsys.proofs.states.Soundness.{program_soundness}
-use Rattle.tm_assert.specs.Verdicts.{PassesAll}
-use Rattle.tm_assert.specs.Laws.{is_decided, ProvedClaimsHold}
+use Rattle.tm_assert.specs.Breaking.{PassesAll}
+use Rattle.tm_assert.specs.Laws.{ProvedClaimsHold}
+use Rattle.tm_assert.specs.Truth.{is_decided}
 use Rattle.tm_assert.proofs.laws.Sizes.{run_size}
 
 -- ---- a condition without choices is true or false

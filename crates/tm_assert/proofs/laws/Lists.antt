@@ -12,9 +12,10 @@ use Rattle.tm_assert.specs.declared.claim.Claim.{Claim}
 use Rattle.tm_assert.specs.declared.outcome.Verdict.{Verdict}
 use Rattle.tm_assert.specs.declared.outcome.Verdict.TheVariants.{Proved, Open}
 use Rattle.tm_lp.specs.Simplex.{lp}
-use Rattle.tm_assert.specs.Verdicts.{NoneOpen, IsOpen, case_problem, state_of}
+use Rattle.tm_assert.specs.Breaking.{NoneOpen, BreaksSome}
+use Rattle.tm_assert.specs.Laws.{OpenStatesBreak, ProvedVerdictsHold, VerdictsAreOne}
+use Rattle.tm_assert.specs.Verdicts.{IsOpen, case_problem, state_of}
 use Rattle.tm_assert.specs.AllVerdicts.{IsVerdict, AreVerdicts}
-use Rattle.tm_assert.specs.Laws.{BreaksSome, OpenStatesBreak, ProvedVerdictsHold, VerdictsAreOne}
 use Rattle.tm_assert.proofs.judging.Turns.{open_apart}
 use Rattle.tm_assert.proofs.laws.Claims.{claims_hold}
 use Rattle.tm_assert.proofs.laws.SameBounds.{verdicts_stay}
@@ -56,7 +57,8 @@ pub verdicts_are_one : VerdictsAreOne
 verdicts_are_one system z w claims verdicts again same points a b =
     same_verdicts system w claims verdicts again (verdicts_stay system z w claims verdicts same points a) b
 
-verdict_at : (system : Equations) (z : Vector) (claims : List Claim) (verdicts : List Verdict) (k : ℕ) (claim : Claim) (verdict : Verdict) →
+-- the verdict at a place is one on the claim there
+pub verdict_at : (system : Equations) (z : Vector) (claims : List Claim) (verdicts : List Verdict) (k : ℕ) (claim : Claim) (verdict : Verdict) →
     AreVerdicts system z claims verdicts → slice_get claims k ≡ Some claim → slice_get verdicts k ≡ Some verdict → IsVerdict system z claim verdict
 verdict_at system z [] vs k c v a e f = absurd cc
 verdict_at system z (c ∷ cs) [] k d v a e f = absurd a

@@ -29,8 +29,10 @@ use Rattle.tm_assert.specs.declared.claim.Claim.{Claim}
 use Rattle.tm_assert.specs.declared.outcome.Verdict.{Verdict}
 use Rattle.tm_assert.specs.declared.outcome.Verdict.TheVariants.{Proved, Open}
 use Rattle.tm_assert.specs.declared.outcome.VerdictFault.TheVariants.{Wide as WideVerdict}
-use Rattle.tm_assert.specs.Verdicts.{Breaks, NoneOpen, FitsFor, IsFaultFor, SaysOpen, AllFit, IsFirstWide, case_problem, state_of}
-use Rattle.tm_assert.specs.AllVerdicts.{AreAtPoints, IsVerdict, AreVerdicts, ClaimsFit, IsFirstWideClaim}
+use Rattle.tm_assert.specs.AllVerdicts.{IsVerdict, AreVerdicts, ClaimsFit, IsFirstWideClaim}
+use Rattle.tm_assert.specs.Breaking.{Breaks, NoneOpen}
+use Rattle.tm_assert.specs.Claims.{AreAtPoints}
+use Rattle.tm_assert.specs.Verdicts.{FitsFor, IsFaultFor, SaysOpen, AllFit, IsFirstWide, case_problem, state_of}
 
 -- the same bounds at a point
 abbrev pub SameAt : Equations → Vector → Vector → ℕ → Type 0

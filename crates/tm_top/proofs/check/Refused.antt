@@ -1,6 +1,6 @@
 -- Refusals, from one stage to the next.
-use Rattle.std.proofs.Common.{◌≡◌, inl, inr, ⊎_elim, ℕ, List, refl, sym, ap, ◌∙◌, subst}
-use Rattle.std.specs.Prelude.{Err, None, Option, Some}
+use Rattle.std.proofs.Common.{◌≡◌, inl, ⊎_elim, ℕ, List, refl, sym, ap, ◌∙◌, subst}
+use Rattle.std.specs.Prelude.{None, Option, Some}
 use Rattle.tm_tree.specs.Tree.{Statements}
 use Rattle.tm_eqsys.specs.declared.spot.Spot.{Spot}
 use Rattle.tm_eqsys.specs.Equations.{Equations}
@@ -21,15 +21,13 @@ use Rattle.tm_top.specs.Parted.{GetsNoReport, IsAnswerToCheck, IsMisspelt, IsNoS
 use Rattle.tm_top.specs.Reports.{IsReportBy}
 use Rattle.tm_top.specs.Run.{OutputHolds}
 use Rattle.tm_top.specs.Texts.{IsAnalysed}
-use Rattle.tm_io.specs.Faults.{Rose}
-use Rattle.tm_io.specs.Puts.{HasPutCause}
-use Rattle.tm_io.specs.declared.sink.PutFault.{PutFault}
 use Rattle.tm_top.specs.declared.refusal.Refusal.{Refusal}
 use Rattle.tm_top.specs.declared.refusal.Refusal.TheVariants as refusal
 use Rattle.tm_top.specs.declared.status.TextCause.TheVariants as text
 use Rattle.tm_top.specs.declared.status.CertCause.TheVariants.{Form, Rows, Unknowns, Check}
 use Rattle.tm_top.specs.declared.status.Status.{Status}
-use Rattle.tm_top.specs.declared.status.Status.TheVariants.{Done, Memory, Write}
+use Rattle.tm_top.specs.declared.status.Status.TheVariants.{Done, Write}
+use Rattle.tm_top.proofs.endings.Putting.{put_output}
 
 -- ---- no refusal is done
 
@@ -182,33 +180,10 @@ not_written (refusal.Spent k) e = cc
 not_written refusal.NoMemory e = cc
 
 -- a report that is put
-pub put_output : (P : List ℕ → Type 0) (bytes : List ℕ) (result : Status) (held now : Option (List ℕ)) (f f' : ℕ) → P bytes → PutsReport bytes result held now f f' → OutputHolds P result held now
-put_output P bytes result held now f f' p (whole e a) = subst (λ s. OutputHolds P s held now) (sym e) (bytes, p, a)
-put_output P bytes result held now f f' p (failed e n a r) = subst (λ s. OutputHolds P s held now) (sym e) (bytes, n, p, a)
-put_output P bytes result held now f f' p (wanting e n a) = subst (λ s. OutputHolds P s held now) (sym e) (inr (bytes, n, p, a))
-
 pub put_check : (t given bytes : List ℕ) (result : Status) (held now : Option (List ℕ)) (f f' : ℕ) → IsReportBy t given bytes → PutsReport bytes result held now f f' → IsAnswerToCheck t given result
 put_check t given bytes result held now f f' r (whole e a) = subst (λ s. IsAnswerToCheck t given s) (sym e) (r.names, r.body, r.cert, r.valid, r.narrow)
 put_check t given bytes result held now f f' r (failed e n a i) = subst (λ s. IsAnswerToCheck t given s) (sym e) (r.names, r.body, r.cert, r.valid, r.narrow)
 put_check t given bytes result held now f f' r (wanting e n a) = subst (λ s. IsAnswerToCheck t given s) (sym e) tt
-
--- only a put that failed is told
-pub put_rose : (bytes : List ℕ) (result : Status) (held now : Option (List ℕ)) (f f' : ℕ) → PutsReport bytes result held now f f' → result ≡ Write → Rose f f'
-put_rose bytes result held now f f' (whole e a) w = absurd (done_write (sym e ∙ w))
-  where
-    done_write : Done ≡ Write → ⊥
-    done_write e = cc
-put_rose bytes result held now f f' (failed e n a r) w = r
-put_rose bytes result held now f f' (wanting e n a) w = absurd (memory_write (sym e ∙ w))
-  where
-    memory_write : Memory ≡ Write → ⊥
-    memory_write e = cc
-
--- a put report has no line and names no unknown
-pub put_line : (t bytes : List ℕ) (result : Status) (held now : Option (List ℕ)) (f f' : ℕ) → PutsReport bytes result held now f f' → 0 ≡ line_in t result
-put_line t bytes result held now f f' (whole e a) = subst (λ s. 0 ≡ line_in t s) (sym e) refl
-put_line t bytes result held now f f' (failed e n a r) = subst (λ s. 0 ≡ line_in t s) (sym e) refl
-put_line t bytes result held now f f' (wanting e n a) = subst (λ s. 0 ≡ line_in t s) (sym e) refl
 
 -- ---- the same of bytes that are borrowed
 
@@ -219,7 +194,3 @@ shown_check t given bytes shown result held now f f' e r p = put_check t given b
 pub shown_output : (P : List ℕ → Type 0) (bytes shown : List ℕ) (result : Status) (held now : Option (List ℕ)) (f f' : ℕ) → shown ≡ bytes → P bytes → PutsReport shown result held now f f'
     → OutputHolds P result held now
 shown_output P bytes shown result held now f f' e r p = put_output P bytes result held now f f' r (subst (λ b. PutsReport b result held now f f') e p)
-
--- a put that fails
-pub put_failed : (f f' s : ℕ) (bytes : List ℕ) (e : PutFault) → e ≡ PutFault.Failed → HasPutCause f f' s bytes (Err e) → Rose f f'
-put_failed f f' s bytes e h c = subst (λ x. HasPutCause f f' s bytes (Err x)) h c

@@ -17,8 +17,8 @@ use Rattle.tm_top.specs.Exact.{exact}
 use Rattle.tm_top.specs.Files.{Request}
 use Rattle.tm_top.specs.Upgrades.{IsUpgradeOf}
 use Rattle.tm_top.specs.declared.status.Status.{Status}
-use Rattle.tm_top.proofs.commands.OneEnding.{ends_once}
-use Rattle.tm_top.proofs.commands.Meant.{ends_by}
+use Rattle.tm_top.proofs.endings.OneEnding.{ends_once}
+use Rattle.tm_top.proofs.endings.Meant.{ends_by}
 
 -- the edges of a program end at its points
 program_range : (variables : ℕ) (body : Statements) (rows : List (List ℤ)) → PointsInRange (equations_of_program variables body rows)

@@ -12,7 +12,7 @@ use Rattle.tm_top.specs.declared.status.ReadCause.TheVariants.{Failed}
 use Rattle.tm_top.specs.declared.status.Status.{Status}
 use Rattle.tm_top.specs.declared.status.Status.TheVariants.{Read, Write}
 use Rattle.tm_top.specs.declared.status.Which.{Which}
-use Rattle.tm_top.proofs.commands.OneEnding.{certificate_short, checked_short, inputs_short, inputs_short_along, inputs_short_with, short_text}
+use Rattle.tm_top.proofs.endings.OneEnding.{certificate_short, checked_short, inputs_short, inputs_short_along, inputs_short_with, short_text}
 use Rattle.tm_top.proofs.files.Loaded.{AllShort, long_there, short_there}
 
 -- where an ending stands, each file that is loaded is there

@@ -23,7 +23,7 @@ use Rattle.tm_top.specs.declared.status.Status.{Status}
 use Rattle.tm_top.specs.declared.status.Status.TheVariants.{Done, Memory, Read, Write}
 use Rattle.tm_top.specs.declared.status.Which.{Which}
 use Rattle.tm_top.specs.Questions.{rounds_end}
-use Rattle.tm_top.proofs.commands.OneEnding.{with_text_once}
+use Rattle.tm_top.proofs.endings.OneEnding.{with_text_once}
 use Rattle.tm_top.proofs.files.Loaded.{content_once}
 
 -- ---- the words ask for one thing

@@ -2,6 +2,7 @@
 use Rattle.std.proofs.Common.{◌≡◌, inl, inr, ℕ, List, length, map, refl, subst, subst₂}
 use Rattle.std.specs.Prelude.{Err, Some, slice_get}
 use Rattle.std.specs.List.{All}
+use Rattle.std.proofs.lemmas.Slice.Zip.{AllZip-long}
 use Rattle.std.proofs.lemmas.Option.{get_or_from_slice_get, slice_get_within}
 use Rattle.tm_flow.specs.Points.{points_of_program}
 use Rattle.tm_flow.specs.declared.graph.Flow.{Flow as Graph}
@@ -12,13 +13,14 @@ use Rattle.tm_eqsys.specs.View.{equations_of, vector_of}
 use Rattle.tm_eqsys.specs.declared.system.System.{System}
 use Rattle.tm_rounds.specs.Solutions.{IsSolved}
 use Rattle.tm_rounds.specs.declared.solution.Solved.{Solved}
-use Rattle.tm_assert.specs.AllVerdicts.{AreVerdicts, IsClaimOf}
-use Rattle.tm_assert.specs.Claims.{FileMeans, Stands, stated_of}
+use Rattle.tm_assert.specs.AllVerdicts.{AreVerdicts, IsVerdict}
+use Rattle.tm_assert.specs.Claims.{IsClaimOf, FileMeans, Stands, stated_of}
 use Rattle.tm_assert.specs.Laws.{OpenStatesBreak, ProvedVerdictsHold}
 use Rattle.tm_assert.specs.Lines.{verdicts_text}
 use Rattle.tm_assert.specs.declared.claim.Claim.{Claim}
 use Rattle.tm_assert.specs.declared.fault.ClaimFault.{ClaimFault}
 use Rattle.tm_assert.specs.declared.outcome.Verdict.{Verdict}
+use Rattle.tm_assert.proofs.laws.Lists.{verdict_at}
 use Rattle.tm_cli.specs.declared.request.Domain.{Domain}
 use Rattle.tm_cli.specs.declared.request.Policy.{Policy}
 use Rattle.tm_cli.specs.declared.request.Purpose.TheVariants.{Report}
@@ -111,7 +113,7 @@ module _ (text : List ℕ) (rows : Domain (List ℕ)) (given : List ℕ) (policy
         -- verdicts
         pub judged : ProvedVerdictsHold → OpenStatesBreak → Least (equations_of s) (vector_of (length s.template) solved.bounds) → (verdicts : List Verdict)
             → AreVerdicts (equations_of s) (vector_of (length s.template) solved.bounds) claims verdicts → (bytes : List ℕ)
-            → bytes ≡ verdicts_text s.flow.names claims verdicts solved.improvements → AreVerdictsOf text rows given policy limit bytes
+            → bytes ≡ verdicts_text s.flow.names claims verdicts solved.improvements → AreVerdictsOf exact text rows given policy limit bytes
         judged proved_hold open_break least verdicts h bytes written =
             let vector = vector_of (length s.template) solved.bounds in
             let system = equations_of_program (length is.names) is.body is.template in
@@ -132,6 +134,8 @@ module _ (text : List ℕ) (rows : Domain (List ℕ)) (given : List ℕ) (policy
                 verdicts = verdicts;
                 verdicts_are = are_verdicts;
                 speak = record {
+                  one_each = AllZip-long (IsVerdict system vector) claims verdicts are_verdicts;
+                  proved_where = λ k claim verdict e f. (verdict_at system vector claims verdicts k claim verdict are_verdicts e f).proved;
                   proved = λ k claim e f. proved_hold (length is.names) is.body is.template vector claims verdicts k claim lowest.solves.post are_verdicts e f
                       (stands_at is.names (points_of_program is.body) claims k claim over.stand e).against;
                   open_ones = λ k claim state e f. open_break system vector claims verdicts k claim state are_verdicts e f;
@@ -141,6 +145,6 @@ module _ (text : List ℕ) (rows : Domain (List ℕ)) (given : List ℕ) (policy
             }
 
   -- where verdicts are written, the improvements have ended
-  pub verdicts_end : (bytes : List ℕ) → AreVerdictsOf text rows given policy limit bytes → QuestionEnds (claims_question exact text rows given policy limit) Done
+  pub verdicts_end : (bytes : List ℕ) → AreVerdictsOf exact text rows given policy limit bytes → QuestionEnds (claims_question exact text rows given policy limit) Done
   verdicts_end bytes v =
       rounds_end v.system refl (record { solved = v.solved; stated = map stated_of v.claims; reading = v.claims_are.reading }) (v.rounds, v.within, v.vector, v.has_rounds)

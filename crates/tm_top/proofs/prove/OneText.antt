@@ -14,10 +14,11 @@ use Rattle.tm_eqsys.specs.Report.{footer_line, line}
 use Rattle.tm_eqsys.specs.Solutions.{equations_of_program}
 use Rattle.tm_eqsys.specs.declared.footer.Footer.TheVariants.{Improvements}
 use Rattle.tm_eqsys.proofs.equations.Leastness.{at_most_one}
-use Rattle.tm_assert.specs.AllVerdicts.{AreAtPoints, AreVerdicts, IsVerdict}
-use Rattle.tm_assert.specs.Claims.{Stands, Stated, stated_of}
+use Rattle.tm_assert.specs.AllVerdicts.{AreVerdicts, IsVerdict}
+use Rattle.tm_assert.specs.Breaking.{NoneOpen}
+use Rattle.tm_assert.specs.Claims.{AreAtPoints, Stands, Stated, stated_of}
+use Rattle.tm_assert.specs.Verdicts.{SaysOpen}
 use Rattle.tm_assert.specs.Lines.{claim_lines, is_proved, verdict_text, verdicts_text}
-use Rattle.tm_assert.specs.Verdicts.{NoneOpen, SaysOpen}
 use Rattle.tm_assert.specs.declared.claim.Claim.{Claim}
 use Rattle.tm_assert.specs.declared.outcome.Verdict.{Verdict}
 use Rattle.tm_assert.specs.declared.outcome.Verdict.TheVariants.{Proved}
@@ -25,6 +26,7 @@ use Rattle.tm_assert.proofs.laws.Lists.{verdicts_are_one}
 use Rattle.tm_cli.specs.declared.request.Domain.{Domain}
 use Rattle.tm_cli.specs.declared.request.Policy.{Policy}
 use Rattle.tm_top.specs.ClaimTexts.{AreClaimsOf, AreLeastVerdicts, AreVerdictsOf}
+use Rattle.tm_top.specs.Exact.{exact}
 use Rattle.tm_top.specs.Texts.{HasTemplate}
 use Rattle.tm_top.proofs.prove.Once.{said_once, same_stated}
 use Rattle.tm_top.proofs.rounds.OneChain.{rounds_once}
@@ -92,7 +94,7 @@ at_points names body template claims h k d within = subst (λ n. (get_or claims 
 
 least_once : (given : List ℕ) (names : List (List ℕ)) (body : Statements) (template : List (List ℤ)) (claims others : List Claim) (v w : Vector) (n m : ℕ) (one other : List ℕ) → n ≡ m → SameStated claims others
     → AreClaimsOf given names (points_of_program body) claims → AreClaimsOf given names (points_of_program body) others
-    → AreLeastVerdicts names body template v claims n one → AreLeastVerdicts names body template w others m other → one ≡ other
+    → AreLeastVerdicts exact names body template v claims n one → AreLeastVerdicts exact names body template w others m other → one ≡ other
 least_once given names body template claims others v w n m one other rounds stated h k a b =
     let system = equations_of_program (length names) body template in
     let same = at_most_one system v w a.least b.least.solves b.least.below in
@@ -104,8 +106,8 @@ least_once given names body template claims others v w n m one other rounds stat
 
 -- ---- of texts
 
-pub verdicts_once : (text : List ℕ) (rows : Domain (List ℕ)) (given : List ℕ) (policy : Policy) (limit : ℕ) (one other : List ℕ) → AreVerdictsOf text rows given policy limit one
-    → AreVerdictsOf text rows given policy limit other → one ≡ other
+pub verdicts_once : (text : List ℕ) (rows : Domain (List ℕ)) (given : List ℕ) (policy : Policy) (limit : ℕ) (one other : List ℕ) → AreVerdictsOf exact text rows given policy limit one
+    → AreVerdictsOf exact text rows given policy limit other → one ≡ other
 verdicts_once text rows given policy limit one other a b =
     let p = a.solved in
     let q = b.solved in
@@ -114,9 +116,9 @@ verdicts_once text rows given policy limit one other a b =
     rows_once rows p.names q.template p.template (subst (λ (x : List (List ℕ) × Statements). HasTemplate rows x.0 (Ok q.template)) same q.ready.system.template_is) p.ready.system.template_is in
     let claims : AreClaimsOf given p.names (points_of_program p.body) b.claims =
     subst (λ (x : List (List ℕ) × Statements). AreClaimsOf given x.0 (points_of_program x.1) b.claims) same b.claims_are in
-    let least : AreLeastVerdicts p.names p.body p.template b.vector b.claims b.rounds other =
-    subst (λ t. AreLeastVerdicts p.names p.body t b.vector b.claims b.rounds other) template
-    (subst (λ (x : List (List ℕ) × Statements). AreLeastVerdicts x.0 x.1 q.template b.vector b.claims b.rounds other) same b.least) in
+    let least : AreLeastVerdicts exact p.names p.body p.template b.vector b.claims b.rounds other =
+    subst (λ t. AreLeastVerdicts exact p.names p.body t b.vector b.claims b.rounds other) template
+    (subst (λ (x : List (List ℕ) × Statements). AreLeastVerdicts exact x.0 x.1 q.template b.vector b.claims b.rounds other) same b.least) in
     let stated = same_stated (map stated_of a.claims) (map stated_of b.claims)
     (said_once text rows given p.names q.names p.body q.body p.template q.template (Ok (map stated_of a.claims)) (Ok (map stated_of b.claims)) p.ready q.ready a.claims_are.reading b.claims_are.reading) in
     least_once given p.names p.body p.template a.claims b.claims a.vector b.vector a.rounds b.rounds one other

@@ -106,7 +106,7 @@ pub(crate) fn verdicts_on(
     requires short_rows { HasShortRows (domain_of rows.now) }
     requires short_claims { length given.now ≤ 65536 }
     requires limit { limit ≤ 1000000 }
-    ensures ok { IfOk result (λ bytes. AreVerdictsOf text.now (domain_of rows.now) given.now policy limit bytes.items) }
+    ensures ok { IfOk result (λ bytes. AreVerdictsOf exact text.now (domain_of rows.now) given.now policy limit bytes.items) }
     ensures err { IfErr result (λ refusal. IsUnanswered (claims_question exact text.now (domain_of rows.now) given.now policy limit) refusal) }
 {
     proved_verdicts_hold();

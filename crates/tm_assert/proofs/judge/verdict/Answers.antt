@@ -4,7 +4,8 @@ use Rattle.std.specs.List.{list_all}
 use Rattle.tm_tree.specs.Limits.{is_form}
 use Rattle.tm_tree.specs.View.{condition_of}
 use Rattle.tm_eqsys.specs.View.{equations_of, vector_at}
-use Rattle.tm_assert.specs.Verdicts.{NoneBreaks, IsBreaking}
+use Rattle.tm_assert.specs.Breaking.{NoneBreaks}
+use Rattle.tm_assert.specs.Verdicts.{IsBreaking}
 use Rattle.tm_assert.proofs.judging.Guards.{case_forms, case_short}
 use Rattle.tm_assert.proofs.judging.Turns.{case_at, judged_more, open_somewhere, open_fits, open_apart}
 use Rattle.tm_assert.proofs.judge.verdict.Goals as goal

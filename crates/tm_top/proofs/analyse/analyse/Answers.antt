@@ -9,9 +9,9 @@ use Rattle.tm_top.specs.Reports.{IsPutOf, IsReportOn}
 use Rattle.tm_top.specs.Run.{FailsOnlyIn, OutputHolds}
 use Rattle.tm_top.specs.Texts.{IsSolvedSystem}
 use Rattle.tm_cli.specs.declared.request.Request.TheVariants.{Analyse}
-use Rattle.tm_top.proofs.commands.OneEnding.{texts_answer, with_text_once}
+use Rattle.tm_top.proofs.endings.OneEnding.{texts_answer, with_text_once}
 use Rattle.tm_top.proofs.files.Loaded.{content_once, unloaded_answer, unloaded_failed, unloaded_held, unloaded_line, unloaded_rows, unloaded_undone}
-use Rattle.tm_top.proofs.analyse.Worded.{output_map}
+use Rattle.tm_top.proofs.endings.Worded.{output_map}
 use Rattle.tm_top.proofs.analyse.analyse.Goals as goal
 
 pub returns-in-Ok-clause-answer : goal.returns-in-Ok-clause-answer

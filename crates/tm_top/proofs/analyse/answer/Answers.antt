@@ -6,7 +6,7 @@ use Rattle.tm_top.specs.Reports.{IsPutOf}
 use Rattle.tm_top.specs.Texts.{IsSolvedSystem}
 use Rattle.tm_top.proofs.analyse.Analysed.{output_put, refused_answer, refused_rows, system_line, system_rows, system_texts}
 use Rattle.tm_top.proofs.check.Refused.{not_done}
-use Rattle.tm_top.proofs.analyse.Worded.{output_map}
+use Rattle.tm_top.proofs.endings.Worded.{output_map}
 use Rattle.tm_top.proofs.analyse.answer.Goals as goal
 
 pub returns-in-Ok-clause-answer : goal.returns-in-Ok-clause-answer

@@ -7,7 +7,7 @@ use Rattle.tm_top.specs.Files.{files_of}
 use Rattle.tm_top.specs.Messages.{line_in}
 use Rattle.tm_top.specs.Reports.{IsReportBy, IsReportOn}
 use Rattle.tm_top.specs.Run.{FailsOnlyIn, OutputHolds}
-use Rattle.tm_top.proofs.analyse.Worded.{output_map}
+use Rattle.tm_top.proofs.endings.Worded.{output_map}
 use Rattle.tm_top.proofs.files.Loaded.{content_once, unloaded_answer, unloaded_failed, unloaded_held, unloaded_line, unloaded_rows, unloaded_undone}
 use Rattle.tm_top.proofs.check.check.Goals as goal
 

@@ -4,8 +4,8 @@ use Rattle.tm_cli.specs.Request.{analysis_text, request_of}
 use Rattle.tm_cli.specs.declared.request.Request.TheVariants.{Analyse, Bench, Check, Equations, Prove, Upgrade, Transitions}
 use Rattle.tm_top.specs.Reports.{IsReportFor, IsReportOn}
 use Rattle.tm_top.specs.Run.{OutputHolds}
-use Rattle.tm_top.proofs.commands.Ranges.{request_range}
-use Rattle.tm_top.proofs.analyse.Worded.{answers_words, failed_in, line_for, output_map, pieces_for, rows_for}
+use Rattle.tm_top.proofs.endings.Ranges.{request_range}
+use Rattle.tm_top.proofs.endings.Worded.{answers_words, failed_in, line_for, output_map, pieces_for, rows_for}
 use Rattle.tm_top.proofs.commands.obey.Goals as goal
 
 pub analyse-requires : goal.analyse-requires

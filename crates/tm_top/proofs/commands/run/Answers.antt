@@ -1,6 +1,6 @@
-use Rattle.tm_top.proofs.commands.Meant.{answer, gives}
-use Rattle.tm_top.proofs.commands.Put.{message_put, output}
-use Rattle.tm_top.proofs.analyse.Worded.{kept, unasked}
+use Rattle.tm_top.proofs.endings.Meant.{answer, gives}
+use Rattle.tm_top.proofs.endings.Put.{message_put, output}
+use Rattle.tm_top.proofs.endings.Worded.{kept, unasked}
 use Rattle.tm_top.proofs.commands.run.Goals as goal
 
 pub returns-clause-answer : goal.returns-clause-answer

@@ -1,6 +1,6 @@
 use Rattle.std.proofs.Common.{◌≡◌, ◌≢◌, inl, refl, rules}
 use Rattle.tm_top.specs.declared.status.Status.TheVariants.{Done}
-use Rattle.tm_top.proofs.commands.Messages.{one_piece, quiet, told_by}
+use Rattle.tm_top.proofs.endings.Messages.{one_piece, quiet, told_by}
 use Rattle.tm_top.proofs.commands.tell.Goals as goal
 
 pub returns-then-ne-clause-gets : goal.returns-then-ne-clause-gets

@@ -10,8 +10,8 @@ use Rattle.tm_top.specs.Questions.{equations_question}
 use Rattle.tm_top.specs.Reports.{IsReportOn}
 use Rattle.tm_top.specs.Run.{FailsOnlyIn, OutputHolds}
 use Rattle.tm_top.specs.declared.status.Which.TheVariants as which
-use Rattle.tm_top.proofs.analyse.Worded.{output_map}
-use Rattle.tm_top.proofs.commands.OneEnding.{equations_answer}
+use Rattle.tm_top.proofs.endings.Worded.{output_map}
+use Rattle.tm_top.proofs.endings.OneEnding.{equations_answer}
 use Rattle.tm_top.proofs.files.Loaded.{content_once, not_loaded, unloaded_answer, unloaded_failed, unloaded_held, unloaded_line, unloaded_undone}
 use Rattle.tm_top.proofs.equations.equations.Goals as goal
 

@@ -1,6 +1,6 @@
 use Rattle.std.proofs.Common.{refl}
 use Rattle.tm_top.specs.Parted.{failed, wanting}
-use Rattle.tm_top.proofs.check.Refused.{put_failed}
+use Rattle.tm_top.proofs.endings.Putting.{put_failed}
 use Rattle.tm_top.proofs.output.put_report.Goals as goal
 
 pub returns-in-Err-Failed-clause-puts : goal.returns-in-Err-Failed-clause-puts

@@ -2,11 +2,12 @@ use Rattle.std.proofs.Common.{◌∙◌, ap}
 use Rattle.tm_cli.specs.Request.{analysis_text}
 use Rattle.tm_cli.specs.declared.request.Request.TheVariants.{Prove}
 use Rattle.tm_top.specs.ClaimTexts.{AreVerdictsOf}
+use Rattle.tm_top.specs.Exact.{exact}
 use Rattle.tm_top.specs.Messages.{line_in}
 use Rattle.tm_top.specs.Parted.{domain_of}
 use Rattle.tm_top.specs.Reports.{IsReportOn}
-use Rattle.tm_top.proofs.analyse.Worded.{output_map}
-use Rattle.tm_top.proofs.commands.OneEnding.{claims_answer}
+use Rattle.tm_top.proofs.endings.Worded.{output_map}
+use Rattle.tm_top.proofs.endings.OneEnding.{claims_answer}
 use Rattle.tm_top.proofs.prove.Named.{named_content}
 use Rattle.tm_top.proofs.prove.prove.Goals as goal
 
@@ -16,7 +17,7 @@ returns-in-Ok-clause-answer g c = claims_answer _ _ _ _ _ _ _ c.in-Ok.ensures.in
 pub returns-in-Ok-clause-held : goal.returns-in-Ok-clause-held
 returns-in-Ok-clause-held g c =
     let given = c.in-Ok.given in
-    output_map (AreVerdictsOf given.inputs.text.items (domain_of given.inputs.rows) given.claims.items c.args.analysis.policy c.args.analysis.improvements)
+    output_map (AreVerdictsOf exact given.inputs.text.items (domain_of given.inputs.rows) given.claims.items c.args.analysis.policy c.args.analysis.improvements)
     (IsReportOn (g.S.Shelf.files c.args.shelf.now) (Prove c.args.claims.now (analysis_text c.args.analysis))) _ _ _
     (λ bytes v. (given.inputs.text.items, domain_of given.inputs.rows, given.claims.items, c.in-Ok.ensures.inputs, c.in-Ok.ensures.claims, v)) c.answer.ensures.held
 

@@ -10,9 +10,9 @@ use Rattle.tm_top.specs.Reports.{IsReportOn}
 use Rattle.tm_top.specs.Run.{FailsOnlyIn, OutputHolds}
 use Rattle.tm_top.specs.TransitionTexts.{IsAutoReport}
 use Rattle.tm_cli.specs.declared.request.Request.TheVariants.{Transitions}
-use Rattle.tm_top.proofs.commands.OneEnding.{transitions_answer}
+use Rattle.tm_top.proofs.endings.OneEnding.{transitions_answer}
 use Rattle.tm_top.proofs.files.Loaded.{content_once, unloaded_answer, unloaded_failed, unloaded_held, unloaded_line, unloaded_undone}
-use Rattle.tm_top.proofs.analyse.Worded.{output_map}
+use Rattle.tm_top.proofs.endings.Worded.{output_map}
 use Rattle.tm_top.proofs.transitions.transitions.Goals as goal
 
 pub returns-in-Ok-clause-answer : goal.returns-in-Ok-clause-answer

@@ -11,7 +11,7 @@ use Rattle.tm_top.specs.Outputs.{GetsMessage, IsInOnePiece}
 use Rattle.tm_top.specs.declared.status.Status.{Status}
 use Rattle.tm_top.specs.declared.status.Status.TheVariants.{Done}
 
-gets : (status : Status) (message : List ℕ) (held now : Option (List ℕ)) (f f' s : ℕ) (r : Result (Unit {0}) PutFault)
+pub gets : (status : Status) (message : List ℕ) (held now : Option (List ℕ)) (f f' s : ℕ) (r : Result (Unit {0}) PutFault)
     → status ≢ Done → length message ≤ 512 → Puts held now message r → HasPutCause f f' s message r → GetsMessage status message held now f f' s
 gets status message held now f f' s (Ok x) other short puts cause =
     record {

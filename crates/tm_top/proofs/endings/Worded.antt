@@ -10,7 +10,7 @@ use Rattle.tm_top.specs.Messages.{line_in}
 use Rattle.tm_top.specs.Outputs.{HasFailed, IsTaken, pieces_of}
 use Rattle.tm_top.specs.Reports.{IsReportFor, IsReportOn}
 use Rattle.tm_top.specs.Run.{FailsOnlyIn, IsLine, IsRowCount, IsRowCountIn, OutputHolds}
-use Rattle.tm_top.proofs.commands.OneEnding.{nothing_put}
+use Rattle.tm_top.proofs.endings.OneEnding.{nothing_put, reported}
 use Rattle.tm_top.specs.declared.status.Which.{Which}
 use Rattle.tm_top.specs.declared.status.ReadCause.TheVariants.{Failed}
 use Rattle.tm_top.specs.declared.status.Status.{Status}
@@ -31,10 +31,10 @@ output_map P Q Write held now f (bytes, n, p, appended) = (bytes, n, f bytes p, 
 
 -- ---- the request that words ask for
 
-same_request : (o : Option Request) (a b : Request) → o ≡ Some a → o ≡ Some b → b ≡ a
+pub same_request : (o : Option Request) (a b : Request) → o ≡ Some a → o ≡ Some b → b ≡ a
 same_request o a b h k = cc
 
-no_request : (o : Option Request) (a : Request) → o ≡ None → o ≡ Some a → ⊥
+pub no_request : (o : Option Request) (a : Request) → o ≡ None → o ≡ Some a → ⊥
 no_request o a h k = cc
 
 to_request : (files : Option Contents) (words : List (List ℕ)) (a : Request) (status : Status) → request_of words ≡ Some a → IsAnswerToWords files words status → IsAnswerTo files a status
@@ -56,24 +56,33 @@ memory_words files words status e = subst (λ s. IsAnswerToWords files words s) 
 
 -- ---- what stands is answered
 
+-- a refusal puts nothing, whatever is put of a request that is done
+pub kept_of : (P : List ℕ → Type 0) (files : Option Contents) (words : List (List ℕ)) (status : Status) (held now : Option (List ℕ))
+    → ((a : Request) (bytes : List ℕ) → request_of words ≡ Some a → P bytes → Ends files a Done) → IsAnswerToWords files words status → OutputHolds P status held now
+    → (a : Request) (wanted : Status) → request_of words ≡ Some a → Tells files a → Ends files a wanted → (wanted ≡ Done → ⊥) → now ≡ held
+kept_of P files words status held now done h o a wanted e told k other =
+    nothing_put P files a wanted status held now (λ bytes r. done a bytes e r) told (to_request files words a status e h) o k other
+
 pub kept : (files : Option Contents) (words : List (List ℕ)) (status : Status) (held now : Option (List ℕ)) → IsAnswerToWords files words status → OutputHolds (IsReportFor files words) status held now
     → (a : Request) (wanted : Status) → request_of words ≡ Some a → Tells files a → Ends files a wanted → (wanted ≡ Done → ⊥) → now ≡ held
 kept files words status held now h o a wanted e told k other =
-    nothing_put files a wanted status held now told (to_request files words a status e h)
-    (output_map (IsReportFor files words) (IsReportOn files a) status held now
-    (λ bytes r. subst (λ x. IsReportOn files x bytes) (same_request (request_of words) a r.0 e r.1) r.2) o) k other
+    kept_of (IsReportFor files words) files words status held now
+    (λ b bytes i r. reported files b bytes (subst (λ x. IsReportOn files x bytes) (same_request (request_of words) b r.0 i r.1) r.2)) h o a wanted e told k other
 
--- words that ask for no request put nothing
+-- words that ask for no request put nothing, since nothing is an output of theirs
+pub nothing_of : (P : List ℕ → Type 0) (status : Status) (held now : Option (List ℕ)) → ((bytes : List ℕ) → P bytes → ⊥) → OutputHolds P status held now → now ≡ held
+nothing_of P Done held now never (bytes, r, appended) = absurd (never bytes r)
+nothing_of P (Certificate cause) held now never o = o
+nothing_of P Usage held now never o = o
+nothing_of P (Read cause) held now never o = o
+nothing_of P (Text cause) held now never o = o
+nothing_of P (Wide spot) held now never o = o
+nothing_of P (Spent n) held now never o = o
+nothing_of P Memory held now never o = ⊎_elim (λ i. i) (λ part. absurd (never part.0 part.2)) o
+nothing_of P Write held now never (bytes, n, r, appended) = absurd (never bytes r)
+
 pub unasked : (files : Option Contents) (words : List (List ℕ)) (status : Status) (held now : Option (List ℕ)) → request_of words ≡ None → OutputHolds (IsReportFor files words) status held now → now ≡ held
-unasked files words Done held now e (bytes, r, appended) = absurd (no_request (request_of words) r.0 e r.1)
-unasked files words (Certificate cause) held now e o = o
-unasked files words Usage held now e o = o
-unasked files words (Read cause) held now e o = o
-unasked files words (Text cause) held now e o = o
-unasked files words (Wide spot) held now e o = o
-unasked files words (Spent n) held now e o = o
-unasked files words Memory held now e o = ⊎_elim (λ i. i) (λ part. absurd (no_request (request_of words) part.2.0 e part.2.1)) o
-unasked files words Write held now e (bytes, n, r, appended) = absurd (no_request (request_of words) r.0 e r.1)
+unasked files words status held now e o = nothing_of (IsReportFor files words) status held now (λ bytes r. no_request (request_of words) r.0 e r.1) o
 
 -- ---- a file that failed
 

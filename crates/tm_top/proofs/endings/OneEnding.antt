@@ -267,7 +267,7 @@ check_answer files p c text bytes Write i h = check_end files p c text bytes Don
 
 -- ---- where a refusal stands, nothing is put
 
-reported : (files : Option Contents) (request : Request) (bytes : List ℕ) → IsReportOn files request bytes → Ends files request Done
+pub reported : (files : Option Contents) (request : Request) (bytes : List ℕ) → IsReportOn files request bytes → Ends files request Done
 reported files (Analyse Report a) bytes (text, rows, i, r) =
     (text, rows, i, rounds_end r.system refl (record { names = r.names; body = r.body; template = r.template; ready = r.ready; system_for = r.system_for }) (r.rounds, r.within, r.vector, r.has_rounds))
 reported files (Analyse AsCertificate a) bytes (text, rows, i, r) = (
@@ -286,15 +286,17 @@ reported files (Equations file limit policy) bytes (text, i, v) =
     let made = v.improvements in
     (text, i, rounds_end made.0 refl (record { equations = v.equations; reading = v.reading; system_is = made.1 }) (v.rounds, v.within, made.2, made.3))
 
-pub nothing_put : (files : Option Contents) (request : Request) (wanted status : Status) (held now : Option (List ℕ)) → Tells files request → IsAnswerTo files request status
-    → OutputHolds (IsReportOn files request) status held now → Ends files request wanted → (wanted ≡ Done → ⊥) → now ≡ held
-nothing_put files request wanted Done held now told h o k other = absurd (other (sym (ends_once files request Done wanted told h k)))
-nothing_put files request wanted (Refused cause) held now told h o k other = o
-nothing_put files request wanted Usage held now told h o k other = o
-nothing_put files request wanted (Read cause) held now told h o k other = o
-nothing_put files request wanted (Text cause) held now told h o k other = o
-nothing_put files request wanted (Wide spot) held now told h o k other = o
-nothing_put files request wanted (Spent n) held now told h o k other = o
-nothing_put files request wanted Memory held now told h o k other =
-    ⊎_elim (λ e. e) (λ part. absurd (other (sym (ends_once files request Done wanted told (reported files request part.0 part.2) k)))) o
-nothing_put files request wanted Write held now told h o k other = absurd (other (sym (ends_once files request Done wanted told h k)))
+-- where something else ends a request than the output, whatever that is of a request that is done, nothing is put
+pub nothing_put : (P : List ℕ → Type 0) (files : Option Contents) (request : Request) (wanted status : Status) (held now : Option (List ℕ))
+    → ((bytes : List ℕ) → P bytes → Ends files request Done) → Tells files request → IsAnswerTo files request status
+    → OutputHolds P status held now → Ends files request wanted → (wanted ≡ Done → ⊥) → now ≡ held
+nothing_put P files request wanted Done held now done told h o k other = absurd (other (sym (ends_once files request Done wanted told h k)))
+nothing_put P files request wanted (Refused cause) held now done told h o k other = o
+nothing_put P files request wanted Usage held now done told h o k other = o
+nothing_put P files request wanted (Read cause) held now done told h o k other = o
+nothing_put P files request wanted (Text cause) held now done told h o k other = o
+nothing_put P files request wanted (Wide spot) held now done told h o k other = o
+nothing_put P files request wanted (Spent n) held now done told h o k other = o
+nothing_put P files request wanted Memory held now done told h o k other =
+    ⊎_elim (λ e. e) (λ part. absurd (other (sym (ends_once files request Done wanted told (done part.0 part.2) k)))) o
+nothing_put P files request wanted Write held now done told h o k other = absurd (other (sym (ends_once files request Done wanted told h k)))

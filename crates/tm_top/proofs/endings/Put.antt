@@ -89,7 +89,7 @@ output_on files words (Prove claims a) bytes e (text, rows, given, i, c, v) = pu
 output_on files words (Transitions a) bytes e (text, rows, i, r) = public.is_report_along a text rows e i r
 output_on files words (Solve file limit policy) bytes e (text, i, v) = public.are_values file text limit policy e i v
 
-gets : (P Q : List ℕ → Type 0) (status : Status) (held now : Option (List ℕ)) → ((bytes : List ℕ) → P bytes → Q bytes) → OutputHolds P status held now → OutputGets Q status held now
+pub gets : (P Q : List ℕ → Type 0) (status : Status) (held now : Option (List ℕ)) → ((bytes : List ℕ) → P bytes → Q bytes) → OutputHolds P status held now → OutputGets Q status held now
 gets P Q Done held now f (bytes, p, appended) = public.gets_whole refl bytes (f bytes p) appended
 gets P Q (Refused cause) held now f o = public.gets_nothing (λ e. cc) (λ e. cc) o
 gets P Q Usage held now f o = public.gets_nothing (λ e. cc) (λ e. cc) o
@@ -114,7 +114,7 @@ rows_in files request status rows count told h (public.template_rows purpose a t
 rows_in files request status rows count told h (public.certificate_rows p c bytes e has k) =
     subst (λ r. IsRowCountIn files r status rows) e h bytes k.cert told has k.spells ∙ sym (ap (λ n. rows_of n status) k.count_is)
 
-is_message : (files : Option Contents) (words : List (List ℕ)) (status : Status) (line rows : ℕ) → IsLine files words status line → IsRowCount files words status rows
+pub is_message : (files : Option Contents) (words : List (List ℕ)) (status : Status) (line rows : ℕ) → IsLine files words status line → IsRowCount files words status rows
     → IsMessage exact files words status (message_of line rows status)
 is_message files words status line rows h k = record {
   line = line;

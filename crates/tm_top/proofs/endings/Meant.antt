@@ -17,7 +17,7 @@ use Rattle.tm_top.specs.declared.status.CertCause.TheVariants as cause
 use Rattle.tm_top.specs.declared.status.ReadCause.TheVariants.{Failed, TooLong}
 use Rattle.tm_top.specs.declared.status.Status.{Status}
 use Rattle.tm_top.specs.declared.status.Status.TheVariants.{Done, Certificate as Refused, Usage, Read, Text, Wide, Spent, Memory, Write}
-use Rattle.tm_top.proofs.commands.OneEnding.{ends_once, question_end, spot_after}
+use Rattle.tm_top.proofs.endings.OneEnding.{ends_once, question_end, spot_after}
 
 -- ---- endings, from the commands' words
 
