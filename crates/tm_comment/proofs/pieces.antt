@@ -1,0 +1,12 @@
+pub mod Plain
+pub mod Rests
+pub mod Edges
+pub mod Places
+pub mod Gaps
+pub mod Placed
+pub mod Steps
+pub mod Whole
+pub mod Stay
+pub mod Out
+pub mod Written
+pub mod Programs

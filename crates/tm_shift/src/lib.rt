@@ -1,0 +1,6 @@
+//! Tokens at other places read as the same program.
+#![tactic(auto)]
+
+mod law;
+
+pub use law::tokens_may_move;
