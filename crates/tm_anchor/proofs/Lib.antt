@@ -1,0 +1,3 @@
+pub mod machine
+pub mod standing
+pub mod walked

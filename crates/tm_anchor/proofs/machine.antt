@@ -1,0 +1,4 @@
+pub mod Skipped
+pub mod Scopes
+pub mod Found
+pub mod Programs

@@ -1,0 +1,23 @@
+-- What was met on the way to a result.
+use Rattle.std.proofs.Common.{◌≡◌, Result, Ok, Err, refl}
+use Rattle.tm_parse.specs.declared.fault.ParseFault.{ParseFault}
+use Rattle.tm_parse.specs.Results.{◌>>=◌}
+
+-- a value that was met, and what came of it
+pub record Met {A B : Type 0} (r : Result A ParseFault) (f : A → Result B ParseFault) (y : B) : Type 0 where
+  pub value : A
+  pub was : r ≡ Ok value
+  pub gave : f value ≡ Ok y
+
+-- A result that is a value was made of one.
+pub met : {A B : Type 0} (r : Result A ParseFault) (f : A → Result B ParseFault) (y : B) → r >>= f ≡ Ok y → Met r f y
+met (Ok x) f y h = record { value = x; was = refl; gave = h }
+met (Err e) f y h = cc
+
+-- the result is this value
+abbrev pub IsOk : {A : Type 0} → Result A ParseFault → A → Type 0
+IsOk r y = r ≡ Ok y
+
+-- then it is the value that was given
+pub ok_is : {A : Type 0} (x y : A) → IsOk (Ok x) y → x ≡ y
+ok_is x y h = cc

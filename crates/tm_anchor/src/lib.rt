@@ -1,0 +1,13 @@
+//! Where loops, labels and the end of `main` stand in a text, and which variables are known there.
+#![tactic(auto)]
+
+mod anchor;
+mod find;
+mod goal;
+mod laws;
+mod part;
+mod search;
+
+pub use anchor::{Anchor, Known, What};
+pub use find::anchors;
+pub use laws::{anchors_are_points, anchors_stand, scopes_are_walked};
