@@ -1,0 +1,4 @@
+pub mod opposite
+pub mod said
+pub mod standing
+pub mod truth

@@ -1,0 +1,4 @@
+pub mod Bounds
+pub mod Items
+pub mod Points
+pub mod Rows

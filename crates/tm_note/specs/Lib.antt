@@ -1,0 +1,4 @@
+pub mod Clauses
+pub mod Texts
+pub mod Laws
+pub mod View
