@@ -1,0 +1,4 @@
+pub mod Words
+pub mod Annotated
+pub mod Messages
+pub mod Ends

@@ -1,0 +1,62 @@
+//! `tmpl_acsl`: real files and streams around the top call.
+#![tactic(auto)]
+
+ghost use Rattle.std.specs.Prelude.{◌≡◌, map, string_bytes};
+ghost use Rattle.std.specs.Process.{exit_status};
+ghost use Rattle.tm_acsl.specs.Annotated.{IsAnnotated};
+ghost use Rattle.tm_acsl.specs.Words.{as_solve};
+ghost use Rattle.tm_top.specs.Answers.{IsAnswer};
+ghost use Rattle.tm_top.specs.Outputs.{OutputGets};
+ghost use Rattle.tm_top.specs.Status.{code_of};
+ghost use Rattle.tm_top.specs.declared.status.Status.{Status};
+
+use std::alloc::Global;
+use std::process::ExitCode;
+use std::rt::Env;
+use std::{env, io};
+use tm_acsl::annotate;
+use tm_io::{FileShelf, Shelf, Sink, StreamSink};
+use tm_top::{Exact, Meaning};
+
+/// The code of a system that doesn't give the program its words, for another cause than memory.
+const NO_WORDS: u8 = 9;
+
+/// The code for want of memory.
+const NO_MEMORY: u8 = 7;
+
+/// The words after the program's own name.
+fn words(rt: &(impl Env + Alloc<A = Global>)) -> io::Result<Vec<String>> {
+    Ok(env::args(rt)?.skip(1).collect(rt.alloc())?)
+}
+
+/// Does all that the program does, and gives the exit code of how that ended.
+fn exit_of<S: Shelf, K: Sink, L: Sink>(
+    alloc: Global,
+    words: &[String],
+    shelf: &mut S,
+    out: &mut K,
+    err: &mut L,
+) -> ExitCode
+    ensures { (status : Status) × IsAnswer ⟦<Exact as Meaning>⟧.means (S.files shelf.old) (as_solve (map string_bytes words.now)) status
+        × OutputGets (IsAnnotated (S.files shelf.old) (as_solve (map string_bytes words.now))) status (K.held out.old) (K.held out.new)
+        × (exit_status result ≡ code_of status) }
+{
+    let status = annotate(alloc, words, shelf, out, err);
+    ExitCode::from(status.code())
+}
+
+fn main(rt: HostRuntime) -> ExitCode {
+    let words = match words(&rt) {
+        Ok(words) => words,
+        Err(error) => {
+            return ExitCode::from(match error.kind() {
+                io::ErrorKind::OutOfMemory => NO_MEMORY,
+                _ => NO_WORDS,
+            });
+        }
+    };
+    let mut shelf = FileShelf::new(rt.alloc(), &rt);
+    let mut out = StreamSink::new(rt.stdout());
+    let mut err = StreamSink::new(rt.stderr());
+    exit_of(rt.alloc(), &words, &mut shelf, &mut out, &mut err)
+}
