@@ -5,5 +5,5 @@ int main() {
         x++;
         y++;
     }
-    behind:
+    behind: ;
 }
