@@ -1,2 +1,0 @@
-pub mod flow_law
-pub mod text_law
