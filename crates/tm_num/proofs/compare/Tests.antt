@@ -12,7 +12,7 @@ pub T_from_true : (b : Bool) → b ≡ true → T b
 T_from_true b e = subst T (sym e) tt
 
 -- two tests that hold hold together
-pub T_and_from : (a b : Bool) → T a → T b → T (a && b)
+T_and_from : (a b : Bool) → T a → T b → T (a && b)
 T_and_from true b p q = q
 T_and_from false b p q = absurd p
 

@@ -8,11 +8,13 @@ use Rattle.tm_num.proofs.rational.Laws.{≤ℚ_refl, ≤ℚ_trans, ≤ℚ_antisy
 use Rattle.tm_num.specs.Compare.{cmp_ᴱ}
 use Rattle.tm_num.proofs.compare.Compared.{cmp-less, less-cmp, cmp-equal, cmp_ℚ_total}
 
+-- each extended number is at most itself
 pub ≤ᴱ_refl : (x : Ext) → x ≤ᴱ x
 ≤ᴱ_refl neg_inf = tt
 ≤ᴱ_refl (fin a) = ≤ℚ_refl a
 ≤ᴱ_refl pos_inf = tt
 
+-- the order of extended numbers is transitive
 pub ≤ᴱ_trans : (x y z : Ext) → x ≤ᴱ y → y ≤ᴱ z → x ≤ᴱ z
 ≤ᴱ_trans neg_inf y z h i = tt
 ≤ᴱ_trans (fin a) neg_inf z h i = absurd h
@@ -26,6 +28,7 @@ pub ≤ᴱ_trans : (x y z : Ext) → x ≤ᴱ y → y ≤ᴱ z → x ≤ᴱ z
 ≤ᴱ_trans pos_inf (fin b) z h i = absurd h
 ≤ᴱ_trans pos_inf pos_inf z h i = i
 
+-- two extended numbers, each at most the other, are one
 pub ≤ᴱ_antisymm : (x y : Ext) → x ≤ᴱ y → y ≤ᴱ x → x ≡ y
 ≤ᴱ_antisymm neg_inf neg_inf h i = refl
 ≤ᴱ_antisymm neg_inf (fin b) h i = absurd i
@@ -37,6 +40,7 @@ pub ≤ᴱ_antisymm : (x y : Ext) → x ≤ᴱ y → y ≤ᴱ x → x ≡ y
 ≤ᴱ_antisymm pos_inf (fin b) h i = absurd h
 ≤ᴱ_antisymm pos_inf pos_inf h i = refl
 
+-- of two extended numbers the first is at most the second, or the second is below the first
 pub ext_le_or_lt : (x y : Ext) → (x ≤ᴱ y) ⊎ (y <ᴱ x)
 ext_le_or_lt neg_inf y = inl tt
 ext_le_or_lt (fin a) neg_inf = inr tt
@@ -46,6 +50,7 @@ ext_le_or_lt pos_inf neg_inf = inr tt
 ext_le_or_lt pos_inf (fin b) = inr tt
 ext_le_or_lt pos_inf pos_inf = inl tt
 
+-- an extended number below another is at most that one
 pub ext_le_of_lt : (x y : Ext) → x <ᴱ y → x ≤ᴱ y
 ext_le_of_lt neg_inf y h = tt
 ext_le_of_lt (fin a) neg_inf h = h
@@ -53,6 +58,7 @@ ext_le_of_lt (fin a) (fin b) h = le_of_lt_ℚ h
 ext_le_of_lt (fin a) pos_inf h = tt
 ext_le_of_lt pos_inf y h = absurd h
 
+-- an extended number below another isn't at least that one
 pub ext_not_le_of_lt : (x y : Ext) → x <ᴱ y → ¬ (y ≤ᴱ x)
 ext_not_le_of_lt neg_inf neg_inf h i = h
 ext_not_le_of_lt neg_inf (fin b) h i = i
@@ -62,10 +68,11 @@ ext_not_le_of_lt (fin a) (fin b) h i = not_le_of_lt h i
 ext_not_le_of_lt (fin a) pos_inf h i = i
 ext_not_le_of_lt pos_inf y h i = h
 
+-- of two extended numbers one is at most the other
 pub ≤ᴱ_total : (x y : Ext) → (x ≤ᴱ y) ⊎ (y ≤ᴱ x)
 ≤ᴱ_total x y = ⊎_elim (λ h. inl h) (λ h. inr (ext_le_of_lt y x h)) (ext_le_or_lt x y)
 
--- a comparison answers as the order does
+-- a comparison that answers less says that the first extended number is below the second
 pub cmpᴱ-less : (x y : Ext) → cmp_ᴱ x y ≡ Less → x <ᴱ y
 cmpᴱ-less neg_inf neg_inf e = cc
 cmpᴱ-less neg_inf (fin b) e = tt
@@ -77,6 +84,7 @@ cmpᴱ-less pos_inf neg_inf e = cc
 cmpᴱ-less pos_inf (fin b) e = cc
 cmpᴱ-less pos_inf pos_inf e = cc
 
+-- of an extended number below another a comparison answers less
 pub less-cmpᴱ : (x y : Ext) → x <ᴱ y → cmp_ᴱ x y ≡ Less
 less-cmpᴱ neg_inf neg_inf h = absurd h
 less-cmpᴱ neg_inf (fin b) h = refl
@@ -86,6 +94,7 @@ less-cmpᴱ (fin a) (fin b) h = less-cmp a b h
 less-cmpᴱ (fin a) pos_inf h = refl
 less-cmpᴱ pos_inf y h = absurd h
 
+-- a comparison answers equal only of one extended number
 pub cmpᴱ-equal : (x y : Ext) → cmp_ᴱ x y ≡ Equal → x ≡ y
 cmpᴱ-equal neg_inf neg_inf e = refl
 cmpᴱ-equal neg_inf (fin b) e = cc
@@ -121,6 +130,7 @@ cmpᴱ-turned pos_inf neg_inf = refl
 cmpᴱ-turned pos_inf (fin b) = refl
 cmpᴱ-turned pos_inf pos_inf = refl
 
+-- the comparison of extended numbers is a total order
 pub cmp_ᴱ_total : IsTotalOrder cmp_ᴱ
 cmp_ᴱ_total = record {
   antisymm = cmpᴱ-turned;
@@ -134,16 +144,19 @@ between a neg_inf b h i = absurd h
 between a (fin q) b h i = (q, refl)
 between a pos_inf b h i = absurd i
 
--- ---- both orders together
+-- what is at most a number below a third is below the third
 pub ext_lt_of_le_of_lt : (x y z : Ext) → x ≤ᴱ y → y <ᴱ z → x <ᴱ z
 ext_lt_of_le_of_lt x y z h i = ⊎_elim (λ l. absurd (ext_not_le_of_lt y z i (≤ᴱ_trans z x y l h))) (λ l. l) (ext_le_or_lt z x)
 
+-- what is below a number that is at most a third is below the third
 pub ext_lt_of_lt_of_le : (x y z : Ext) → x <ᴱ y → y ≤ᴱ z → x <ᴱ z
 ext_lt_of_lt_of_le x y z h i = ⊎_elim (λ l. absurd (ext_not_le_of_lt x y h (≤ᴱ_trans y z x i l))) (λ l. l) (ext_le_or_lt z x)
 
+-- equal extended numbers are at most each other
 pub ext_le_of_eq : (x y : Ext) → x ≡ y → x ≤ᴱ y
 ext_le_of_eq x y e = subst (λ v. x ≤ᴱ v) e (≤ᴱ_refl x)
 
+-- no extended number is below itself
 pub ext_lt_irrefl : (x : Ext) → x <ᴱ x → ⊥
 ext_lt_irrefl x h = ext_not_le_of_lt x x h (≤ᴱ_refl x)
 

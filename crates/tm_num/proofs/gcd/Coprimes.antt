@@ -10,6 +10,7 @@ use Rattle.std.proofs.lemmas.Nat.Gcd.{same_from_IsGcd, IsGcd-swap, IsGcd-from_su
 use Rattle.tm_num.specs.Gcd.{gcd, gcd_is, gcd_pos, gcd-times, divides_other}
 use Rattle.tm_num.proofs.gcd.Gcds.{gcd-step, gcd-zero, gcd_le}
 
+-- the greatest common divisor doesn't depend on the order of the two numbers
 pub gcd_comm : (a b : ℕ) → gcd a b ≡ gcd b a
 gcd_comm a b = same_from_IsGcd b a (gcd a b) (gcd b a) (IsGcd-swap a b (gcd a b) (gcd_is a b)) (gcd_is b a)
 
@@ -19,19 +20,23 @@ gcd-scale a b c =
     same_from_IsGcd (a * c) (b * c) (gcd (a * c) (b * c)) (gcd a b * c) (gcd_is (a * c) (b * c))
     (mul-dvd-mul_right (gcd a b) (gcd_is a b).0 c, mul-dvd-mul_right (gcd a b) (gcd_is a b).1 c, λ d p q. gcd-times a b c d p q)
 
-pub gcd_sub : (a b : ℕ) → b ≤ a → gcd (a - b) b ≡ gcd a b
+gcd_sub : (a b : ℕ) → b ≤ a → gcd (a - b) b ≡ gcd a b
 gcd_sub a b h = same_from_IsGcd a b (gcd (a - b) b) (gcd a b) (IsGcd-from_sub a b (gcd (a - b) b) h (gcd_is (a - b) b)) (gcd_is a b)
 
 -- two numbers whose greatest common divisor is 1
 pub record Coprime (a b : ℕ) : Type 0 where
+  -- their greatest common divisor is 1
   pub one : gcd a b ≡ 1
 
+-- two numbers each of whose common divisors divides 1 have no common divisor but 1
 pub coprime_by : {a b : ℕ} → ((d : ℕ) → d ∣ a → d ∣ b → d ∣ 1) → Coprime a b
 coprime_by {a} {b} h = record { one = eq-one_of_dvd-one (h (gcd a b) (gcd_is a b).0 (gcd_is a b).1) }
 
+-- a common divisor of two numbers with no common divisor but 1 divides 1
 pub coprime_divisor : {a b : ℕ} → Coprime a b → (d : ℕ) → d ∣ a → d ∣ b → d ∣ 1
 coprime_divisor {a} {b} c d p q = subst (λ x. d ∣ x) c.one ((gcd_is a b).2 d p q)
 
+-- having no common divisor doesn't depend on the order of the two numbers
 pub coprime_sym : {a b : ℕ} → Coprime a b → Coprime b a
 coprime_sym {a} {b} c = record { one = gcd_comm b a ∙ c.one }
 
@@ -43,17 +48,19 @@ coprime_of_dvd {a} {b} x y c p q = coprime_by (λ d s t. coprime_divisor c d (dv
 pub coprime_divides : {a b : ℕ} (c : ℕ) → Coprime a b → b ∣ a * c → b ∣ c
 coprime_divides {a} {b} c h p = divides_other a b c h.one p
 
--- a product of two numbers that each have no common divisor with a third
+-- a product of two numbers that each have no common divisor with a third has none with it either
 pub coprime_mul : {a b c : ℕ} → Coprime a c → Coprime b c → Coprime (a * b) c
 coprime_mul {a} {b} {c} h k = coprime_by (λ d p q. coprime_divisor k d (coprime_divides b (coprime_of_dvd a d h (dvd_refl a) q) p) q)
 
+-- a number that has no common divisor with either of two numbers has none with their product
 pub coprime_mul_right : {a b c : ℕ} → Coprime a b → Coprime a c → Coprime a (b * c)
 coprime_mul_right h k = coprime_sym (coprime_mul (coprime_sym h) (coprime_sym k))
 
+-- no number has a common divisor with 1 but 1
 pub coprime-one : (a : ℕ) → Coprime a 1
 coprime-one a = record { one = eq-one_of_dvd-one (gcd_is a 1).1 }
 
--- the quotients by the greatest common divisor
+-- the quotients of two numbers by their greatest common divisor have no common divisor
 pub coprime_quotients : (a b x y g : ℕ) → 0 < b → g ≡ gcd a b → x * g ≡ a → y * g ≡ b → Coprime x y
 coprime_quotients a b x y g h e p q =
     let some : 0 < g = subst (λ z. 0 < z) (sym e) (gcd_pos a b h) in
@@ -66,7 +73,7 @@ odd_coprime-pow a zero h = coprime-one a
 odd_coprime-pow a (suc k) h = subst (λ x. Coprime a x) (sym (pow-suc 2 k)) (coprime_mul_right (odd_coprime-pow a k h) record { one = sym (gcd-step a 2) ∙ ap (gcd 2) h ∙ (coprime-one 2).one })
 
 -- a power of 2 may be dropped beside an odd number
-pub gcd_odd : (a b k : ℕ) → a % 2 ≡ 1 → gcd a (b * 2 ^ k) ≡ gcd a b
+gcd_odd : (a b k : ℕ) → a % 2 ≡ 1 → gcd a (b * 2 ^ k) ≡ gcd a b
 gcd_odd a b k h =
     same_from_IsGcd a b (gcd a (b * 2 ^ k)) (gcd a b)
     (let g = gcd_is a (b * 2 ^ k) in
@@ -74,7 +81,7 @@ gcd_odd a b k h =
     (gcd_is a b)
 
 -- the common powers of 2 apart
-pub gcd_twos : (a b i j : ℕ) → a % 2 ≡ 1 → b % 2 ≡ 1 → gcd (a * 2 ^ i) (b * 2 ^ j) ≡ gcd a b * 2 ^ min i j
+gcd_twos : (a b i j : ℕ) → a % 2 ≡ 1 → b % 2 ≡ 1 → gcd (a * 2 ^ i) (b * 2 ^ j) ≡ gcd a b * 2 ^ min i j
 gcd_twos a b i j h k = ⊎_elim (λ l. left l) (λ l. right l) (cases_lt i j)
   where
     left : i < j → gcd (a * 2 ^ i) (b * 2 ^ j) ≡ gcd a b * 2 ^ min i j
@@ -96,6 +103,7 @@ odd_part_by k n zero e h f =
     let half : n / 2 ^ suc t ≡ n / 2 / 2 ^ t = ap (λ j. n / 2 ^ j) (omega arith) ∙ sym (shr-shr n 1 t) in
     (ap (λ x. x * 2 ^ suc t) half ∙ ap (λ x. n / 2 / 2 ^ t * x) (pow-suc 2 t) ∙ omega (arith, p.0, e), ap (λ x. x % 2) half ∙ p.1)
 
+-- a number above 0 without its factors 2 is odd, and times that power of 2 it is the number
 pub odd_part : (k n : ℕ) → 0 < n → n < 2 ^ k → (n / 2 ^ count_trailing_zeros k n * 2 ^ count_trailing_zeros k n ≡ n) × (n / 2 ^ count_trailing_zeros k n % 2 ≡ 1)
 unfolding count_trailing_zeros
 odd_part zero n h l = absurd (omega arith)
@@ -115,16 +123,19 @@ halved_gcd k x y m gap ox oy ne l em eg =
         (λ h. ap₂ gcd (omega (arith, em, h)) (omega (arith, eg, h)) ∙ gcd_comm y (x - y) ∙ gcd_sub x y h)
         (cases_lt x y)
 
+-- the greatest common divisor of a number and itself is the number
 pub gcd_self : (a : ℕ) → gcd a a ≡ a
 gcd_self a = same_from_IsGcd a a (gcd a a) a (gcd_is a a) (dvd_refl a, dvd_refl a, λ d p q. p)
 
+-- the greatest common divisor of 0 and a number is the number
 pub gcd_zero_left : (b : ℕ) → gcd 0 b ≡ b
 gcd_zero_left b = gcd_comm 0 b ∙ gcd-zero b 0 refl
 
+-- the greatest common divisor of 1 and a number is 1
 pub gcd_one_left : (b : ℕ) → gcd 1 b ≡ 1
 gcd_one_left b = gcd_comm 1 b ∙ (coprime-one b).one
 
--- the greatest common divisor from that of the odd parts
+-- the greatest common divisor of two numbers of 64 bits is that of their odd parts, times the lesser of their powers of 2
 pub gcd_shifted : (a b o m : ℕ) → 0 < a → 0 < b → a < 2 ^ 64 → b < 2 ^ 64 → o ≡ gcd (a / 2 ^ count_trailing_zeros 64 a) (b / 2 ^ count_trailing_zeros 64 b) →
     m ≡ min (count_trailing_zeros 64 a) (count_trailing_zeros 64 b) → o * 2 ^ m % 2 ^ 64 ≡ gcd a b
 gcd_shifted a b o m ha hb la lb eo em =

@@ -26,15 +26,15 @@ nat_ne_zero : {n : ℕ} → 0 < n → nat n ≢ zero_ℚ
 nat_ne_zero {n} h = whole_ne_zero (λ e. let f = ap nat_abs e in omega (arith, f))
 
 -- a ratio is a quotient
-pub ratio-times : (n : ℤ) (d : ℕ) → 0 < d → ratio n d *ℚ nat d ≡ whole n
+ratio-times : (n : ℤ) (d : ℕ) → 0 < d → ratio n d *ℚ nat d ≡ whole n
 ratio-times n d h = rep_eq (rep_mul (rep_ratio n d h) (rep_whole (pos d))) (rep_whole n) (omega arith)
 
 -- n / d is x where x times d is n
-pub ratio_is : (n : ℤ) (d : ℕ) (x : ℚ) → 0 < d → x *ℚ nat d ≡ whole n → ratio n d ≡ x
+ratio_is : (n : ℤ) (d : ℕ) (x : ℚ) → 0 < d → x *ℚ nat d ≡ whole n → ratio n d ≡ x
 ratio_is n d x h e = cancel_right (nat d) (nat_ne_zero h) (ratio-times n d h ∙ sym e)
 
 -- a product, with g out of a and d, and h out of c and b
-pub product_value : (a c : ℤ) (b d g h : ℕ) → 0 < b → 0 < d → 0 < g → 0 < h → ratio (a *ℤ c) (b * d) ≡ ratio (a *ℤ pos g) (b * h) *ℚ ratio (c *ℤ pos h) (d * g)
+product_value : (a c : ℤ) (b d g h : ℕ) → 0 < b → 0 < d → 0 < g → 0 < h → ratio (a *ℤ c) (b * d) ≡ ratio (a *ℤ pos g) (b * h) *ℚ ratio (c *ℤ pos h) (d * g)
 product_value a c b d g h hb hd hg hh =
     let x = ratio (a *ℤ c) (b * d) in
     let p = ratio (a *ℤ pos g) (b * h) in
@@ -45,14 +45,15 @@ product_value a c b d g h hb hd hg hh =
     cancel_right (nat b *ℚ nat h *ℚ (nat d *ℚ nat g)) (mul_ne_zero (nat b *ℚ nat h) (nat d *ℚ nat g) (mul_ne_zero (nat b) (nat h) (nat_ne_zero hb) (nat_ne_zero hh)) (mul_ne_zero (nat d) (nat g) (nat_ne_zero hd) (nat_ne_zero hg)))
     (lin_eq (x ∷ p ∷ q ∷ whole a ∷ whole c ∷ nat b ∷ nat d ∷ nat g ∷ nat h ∷ []) (eq_times (nat g *ℚ nat h) ex ∷ eq_times (q *ℚ nat d *ℚ nat g) ep ∷ eq_times (whole a *ℚ nat g) eq' ∷ []) (search reads_all depth 60 fits 9000) tt)
 
--- what a pair in lowest terms says
-pub reduced_coprime : (n : ℤ) (d : ℕ) → T (is_reduced n d) → Coprime (nat_abs n) d
+-- the numerator and the denominator of a pair in lowest terms have no common divisor
+reduced_coprime : (n : ℤ) (d : ℕ) → T (is_reduced n d) → Coprime (nat_abs n) d
 reduced_coprime n d t = record { one = (is_reduced_out n d t).1 }
 
+-- the denominator of a pair in lowest terms is above 0
 pub reduced_den : (n : ℤ) (d : ℕ) → T (is_reduced n d) → 0 < d
 reduced_den n d t = (is_reduced_out n d t).0
 
-pub reduced_from : (n : ℤ) (d : ℕ) → 0 < d → Coprime (nat_abs n) d → T (is_reduced n d)
+reduced_from : (n : ℤ) (d : ℕ) → 0 < d → Coprime (nat_abs n) d → T (is_reduced n d)
 reduced_from n d h c = reduced_by n d h c.one
 
 -- the factors of a number above 0
@@ -80,9 +81,11 @@ module _ (A C a c : ℤ) (B D b d g h : ℕ) (ea : a *ℤ pos g ≡ A) (ec : c *
       let hD = reduced_den C D rc in
       (factor_left b h B hB eb, factor_right b h B hB eb, factor_left d g D hD ed, factor_right d g D hD ed)
 
+  -- a product formed after the divisors g and h are taken out is the product of the two fractions
   pub product_is : ratio (a *ℤ c) (b * d) ≡ ratio A B *ℚ ratio C D
   product_is = let p = product_dens in product_value a c b d g h p.0 p.2 p.3 p.1 ∙ ap₂ (λ x y. x *ℚ y) (ap₂ ratio ea eb) (ap₂ ratio ec ed)
 
+  -- where g and h are the greatest common divisors across, the product is in lowest terms
   pub product_reduced : g ≡ gcd (nat_abs A) D → h ≡ gcd (nat_abs C) B → T (is_reduced (a *ℤ c) (b * d))
   product_reduced eg eh =
       let p = product_dens in
@@ -125,6 +128,7 @@ module _ (a c n t : ℤ) (B D e f k g h : ℕ) (ra : T (is_reduced a B)) (rc : T
       let hD = reduced_den c D rc in
       (hB, hD, factor_left e g B hB ee, factor_right e g B hB ee, factor_left f g D hD ef, factor_left k h D hD ek, factor_right k h D hD ek)
 
+  -- the numerator n over the denominator e k is the sum of the two fractions
   pub sum_is : ratio n (e * k) ≡ ratio a B +ℚ ratio c D
   sum_is =
       let m = sum_dens in
@@ -144,6 +148,7 @@ module _ (a c n t : ℤ) (B D e f k g h : ℕ) (ra : T (is_reduced a B)) (rc : T
       (search reads_all depth 60 fits 20000)
       tt)
 
+  -- the numerator n over the denominator e k is in lowest terms
   pub sum_reduced : T (is_reduced n (e * k))
   sum_reduced =
       let m = sum_dens in
@@ -169,6 +174,7 @@ module _ (a c n t : ℤ) (B D e f k g h : ℕ) (ra : T (is_reduced a B)) (rc : T
 
 -- n / d, where g is the greatest common divisor of n and d
 module _ (n m : ℤ) (d e g : ℕ) (hd : 0 < d) (eg : g ≡ gcd (nat_abs n) d) (em : m *ℤ pos g ≡ n) (ee : e * g ≡ d) where
+  -- the quotients of n and d by g are the numerator and the denominator of n / d
   pub fraction_is : ratio m e ≡ ratio n d
   fraction_is =
       let he = factor_left e g d hd ee in
@@ -179,13 +185,14 @@ module _ (n m : ℤ) (d e g : ℕ) (hd : 0 < d) (eg : g ≡ gcd (nat_abs n) d) (
       ∙ lin_eq (x ∷ nat e ∷ nat g ∷ whole m ∷ []) (eq_times (nat g) ex ∷ []) (search reads_all depth 40) tt
       ∙ sym (whole-mul m (pos g)) ∙ ap whole em))
 
+  -- the quotients of n and d by g are in lowest terms
   pub fraction_reduced : T (is_reduced m e)
   fraction_reduced = reduced_from m e (factor_left e g d hd ee) (coprime_quotients (nat_abs n) d (nat_abs m) e g hd eg (abs_times m g n em) ee)
 
-pub ratio-zero : (d : ℕ) → 0 < d → ratio (pos 0) d ≡ zero_ℚ
+ratio-zero : (d : ℕ) → 0 < d → ratio (pos 0) d ≡ zero_ℚ
 ratio-zero d h = ratio_is (pos 0) d zero_ℚ h (zero-*ℚ (nat d) ∙ sym whole-zero)
 
--- a product with a factor 0
+-- a product of two fractions one of which has the numerator 0 is 0 / 1
 pub product_zero : (a c : ℤ) (B D : ℕ) → T (is_reduced a B) → T (is_reduced c D) → (a ≡ pos 0) ⊎ (c ≡ pos 0) → ratio (pos 0) 1 ≡ ratio a B *ℚ ratio c D
 product_zero a c B D ra rc o =
     ratio-zero 1 (lit< tt)

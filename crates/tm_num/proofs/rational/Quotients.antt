@@ -17,11 +17,12 @@ pub quotient_is : (x a b : ℚ) → b ≢ zero_ℚ → x *ℚ b ≡ a → x ≡ 
 quotient_is x a b n e =
     lin_eq (x ∷ a ∷ b ∷ inv_ℚ b ∷ []) (eq_times (inv_ℚ b) e ∷ eq_times x (*ℚ_invr b n) ∷ []) (search reads_all depth 40) tt ∙ sym (div_ℚ_is a b)
 
+-- a quotient times its divisor is the dividend
 pub quotient_times : (a b : ℚ) → b ≢ zero_ℚ → (a /ℚ b) *ℚ b ≡ a
 quotient_times a b n = ap (λ x. x *ℚ b) (div_ℚ_is a b) ∙ linear_eq (a ∷ b ∷ inv_ℚ b ∷ []) (times_zero a (gap_zero (*ℚ_invr b n))) (search reads depth 40) refl
 
 -- the integer -z or z, as s says, by reps: n / d times m / e is a / b
-pub ratio_times : (N : ℤ) (D : ℕ) (a b : ℚ) → 0 < D → (up N * up b.num + down N * down b.num) * a.den + down a.num * (D * b.den) ≡ (up N * down b.num + down N * up b.num) * a.den + up a.num * (D * b.den) → ratio N D *ℚ b ≡ a
+ratio_times : (N : ℤ) (D : ℕ) (a b : ℚ) → 0 < D → (up N * up b.num + down N * down b.num) * a.den + down a.num * (D * b.den) ≡ (up N * down b.num + down N * up b.num) * a.den + up a.num * (D * b.den) → ratio N D *ℚ b ≡ a
 ratio_times N D a b h e = rep_eq (rep_mul (rep_ratio N D h) (rep b)) (rep a) e
 
 quotient_at : (x : ℤ) (ad bd : ℕ) (y : ℤ) → let N = signed_by y (x *ℤ pos bd) in (up N * up y + down N * down y) * ad + down x * (ad * nat_abs y * bd) ≡ (up N * down y + down N * up y) * ad + up x * (ad * nat_abs y * bd)
@@ -44,17 +45,19 @@ num_ne_zero b n = by b.num refl
     by (negsuc k) e = zero-lt-suc k
 
 -- what code computes for a quotient
-pub ratio_is_quotient : (a b : ℚ) → b ≢ zero_ℚ → ratio (signed_by b.num (a.num *ℤ pos b.den)) (a.den * nat_abs b.num) ≡ a /ℚ b
+ratio_is_quotient : (a b : ℚ) → b ≢ zero_ℚ → ratio (signed_by b.num (a.num *ℤ pos b.den)) (a.den * nat_abs b.num) ≡ a /ℚ b
 ratio_is_quotient a b n =
     quotient_is (ratio (signed_by b.num (a.num *ℤ pos b.den)) (a.den * nat_abs b.num)) a b n
     (ratio_times (signed_by b.num (a.num *ℤ pos b.den)) (a.den * nat_abs b.num) a b (mul-pos (den_pos a) (num_ne_zero b n)) (quotient_at a.num a.den b.den b.num))
 
-pub abs_of_ne_zero : (b : ℚ) → b ≢ zero_ℚ → b.num ≢ pos 0
+abs_of_ne_zero : (b : ℚ) → b ≢ zero_ℚ → b.num ≢ pos 0
 abs_of_ne_zero b n e = let h = num_ne_zero b n in let f = ap nat_abs e in omega arith
 
+-- a number is 0 exactly where its numerator is 0
 pub zero_by_num : (q : ℚ) → (q.num ≡ pos 0) ↔ (q ≡ zero_ℚ)
 zero_by_num q = (λ e. rep_eq (subst (λ z. IsRep q (up z) (down z) q.den) e (rep q)) rep_zero (omega arith), λ e. ap (λ (r : ℚ). r.num) e ∙ num-zero)
 
+-- an integer other than 0 is a number other than 0
 pub whole_ne_zero : {z : ℤ} → z ≢ pos 0 → whole z ≢ zero_ℚ
 whole_ne_zero {z} n e = n (sym (num-whole z) ∙ ap (λ (q : ℚ). q.num) e ∙ num-zero)
 
@@ -68,6 +71,7 @@ ratio_is_fraction n d h =
     *ℤ-one : (z : ℤ) → z *ℤ pos 1 ≡ z
     *ℤ-one z = omega (arith, ints)
 
+-- an integer divided by 1 is the integer
 pub whole_over_one : (z : ℤ) → whole z /ℚ whole (pos 1) ≡ whole z
 whole_over_one z = sym (quotient_is (whole z) (whole z) (whole (pos 1)) (whole_ne_zero (λ e. one_not_zero e)) (ring (whole z ∷ []) (search reads depth 40) refl))
   where
@@ -99,8 +103,10 @@ inv_reduced a n =
     size (negsuc k) zero = refl
     size (negsuc k) (suc d) = refl
 
+-- the numerator of an inverse is the denominator with the numerator's sign
 pub num-inv : (a : ℚ) → a ≢ zero_ℚ → (inv_ℚ a).num ≡ signed_by a.num (pos a.den)
 num-inv a n = ap (λ (q : ℚ). q.num) (inv_parts a n) ∙ num-ratio_reduced (signed_by a.num (pos a.den)) (nat_abs a.num) (inv_reduced a n)
 
+-- the denominator of an inverse is the numerator without its sign
 pub den-inv : (a : ℚ) → a ≢ zero_ℚ → (inv_ℚ a).den ≡ nat_abs a.num
 den-inv a n = ap (λ (q : ℚ). q.den) (inv_parts a n) ∙ den-ratio_reduced (signed_by a.num (pos a.den)) (nat_abs a.num) (inv_reduced a n)

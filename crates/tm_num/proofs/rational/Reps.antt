@@ -8,15 +8,18 @@ use Rattle.tm_num.proofs.compare.Tests.{T_and_parts}
 use Rattle.tm_num.specs.Gcd.{gcd, gcd_is, divides_other}
 use Rattle.tm_num.specs.Rational.{ℚ, is_reduced, ratio, divide, whole, zero_ℚ, one_ℚ, ◌+ℚ◌, ◌*ℚ◌, neg_ℚ, le_ℚ, lt_ℚ, ◌≤ℚ◌, ◌<ℚ◌}
 
+-- a pair in lowest terms has a denominator above 0, and its greatest common divisor is 1
 pub is_reduced_out : (n : ℤ) (d : ℕ) → T (is_reduced n d) → (0 < d) × (gcd (nat_abs n) d ≡ 1)
 unfolding is_reduced
 is_reduced_out n d t =
     let h = T_and_parts (ltb 0 d) (eqb (gcd (nat_abs n) d) 1) t in
     (ltb→lt 0 d h.0, eqb→eq (gcd (nat_abs n) d) 1 h.1)
 
+-- the denominator of a number is above 0
 pub den_pos : (q : ℚ) → 0 < q.den
 den_pos q = (is_reduced_out q.num q.den q.reduced).0
 
+-- the numerator and the denominator of a number have the greatest common divisor 1
 pub den_coprime : (q : ℚ) → gcd (nat_abs q.num) q.den ≡ 1
 den_coprime q = (is_reduced_out q.num q.den q.reduced).1
 
@@ -43,7 +46,7 @@ same_den q r e = dvd_antisymm
     (divides_other (nat_abs q.num) q.den r.den (den_coprime q) (subst (λ x. q.den ∣ x) (sym e) (dvd-mul_left q.den (nat_abs r.num))))
     (divides_other (nat_abs r.num) r.den q.den (den_coprime r) (subst (λ x. r.den ∣ x) e (dvd-mul_left r.den (nat_abs q.num))))
 
-pub same_from_cross : (q r : ℚ) → q.num *ℤ pos r.den ≡ r.num *ℤ pos q.den → q ≡ r
+same_from_cross : (q r : ℚ) → q.num *ℤ pos r.den ≡ r.num *ℤ pos q.den → q ≡ r
 same_from_cross q r e =
     let f : q.den ≡ r.den = same_den q r (sym (abs-out q.num r.den) ∙ ap nat_abs e ∙ abs-out r.num q.den) in
     let e' : q.num *ℤ pos r.den ≡ r.num *ℤ pos r.den = e ∙ ap (λ (d : ℕ). r.num *ℤ pos d) f in
@@ -57,9 +60,12 @@ same_from_cross q r e =
 -- ---- representatives
 -- q is (p - m) / d
 pub record IsRep (q : ℚ) (p m d : ℕ) : Type 0 where
+  -- the denominator d is above 0
   pub pos_den : 0 < d
+  -- the number's numerator and denominator are in the proportion of p - m and d
   pub same : up q.num * d + m * q.den ≡ down q.num * d + p * q.den
 
+-- each number is represented by its numerator in two parts, and its denominator
 pub rep : (q : ℚ) → IsRep q (up q.num) (down q.num) q.den
 rep q = record { pos_den = den_pos q; same = omega arith }
 
@@ -111,6 +117,7 @@ change_in A B D p m d p' m' d' k h e =
     let h2 = ap (λ x. x * D) e in
     cancel (A * d' + m' * D) (B * d' + p' * D) d k (omega arith)
 
+-- a representative may be changed for another in the same proportion
 pub rep_change : {q : ℚ} {p m d : ℕ} (p' m' d' : ℕ) → IsRep q p m d → 0 < d' → p * d' + m' * d ≡ m * d' + p' * d → IsRep q p' m' d'
 rep_change {q} {p} {m} {d} p' m' d' r k e =
     record { pos_den = k; same = change_in (up q.num) (down q.num) q.den p m d p' m' d' r.pos_den r.same e }
@@ -122,17 +129,20 @@ module _ {a b : ℚ} {p m d p' m' d' : ℕ} (r : IsRep a p m d) (r' : IsRep b p'
   abbrev some_den : 0 < a.den * b.den
   some_den = mul-pos (den_pos a) (den_pos b)
 
+  -- numbers whose representatives are in proportion are equal
   pub rep_eq : p * d' + m' * d ≡ m * d' + p' * d → a ≡ b
   rep_eq e =
       let c = eq_in (up a.num) (down a.num) a.den p m d (up b.num) (down b.num) b.den p' m' d' r.same r'.same some_rep e in
       same_from_cross a b (omega (arith, same_in, product_is))
 
+  -- numbers whose representatives are in order across are in order
   pub rep_le : p * d' + m' * d ≤ m * d' + p' * d → a ≤ℚ b
   unfolding le_ℚ
   rep_le e =
       let c = le_in' (up a.num) (down a.num) a.den p m d (up b.num) (down b.num) b.den p' m' d' r.same r'.same some_rep e in
       record { le = le_in (a.num *ℤ pos b.den) (b.num *ℤ pos a.den) (omega (arith, product_is)) }
 
+  -- the representatives of two numbers in order are in order across
   pub le_rep : a ≤ℚ b → p * d' + m' * d ≤ m * d' + p' * d
   unfolding le_ℚ
   le_rep h =
@@ -140,12 +150,14 @@ module _ {a b : ℚ} {p m d p' m' d' : ℕ} (r : IsRep a p m d) (r' : IsRep b p'
       le_out' (up a.num) (down a.num) a.den p m d (up b.num) (down b.num) b.den p' m' d' r.same r'.same some_den (omega (arith, product_is))
 
 module _ {a b : ℚ} {p m d p' m' d' : ℕ} (r : IsRep a p m d) (r' : IsRep b p' m' d') where
+  -- where a representative is below another's across, its number is below the other's
   pub rep_lt : p * d' + m' * d < m * d' + p' * d → a <ℚ b
   unfolding lt_ℚ
   rep_lt e =
       let c : up b.num * a.den + down a.num * b.den ≤ down b.num * a.den + up a.num * b.den → ⊥ = λ h. let o = le_out' (up b.num) (down b.num) b.den p' m' d' (up a.num) (down a.num) a.den p m d r'.same r.same (mul-pos (den_pos b) (den_pos a)) h in omega arith in
       record { lt = lt_in (a.num *ℤ pos b.den) (b.num *ℤ pos a.den) (omega (arith, product_is)) }
 
+  -- where a number is below another, its representative is below the other's across
   pub lt_rep : a <ℚ b → p * d' + m' * d < m * d' + p' * d
   unfolding lt_ℚ
   lt_rep h =
@@ -164,6 +176,7 @@ ratio_in (negsuc a) g d e f =
     let goal : 0 * d + suc a * (d / g) ≡ suc a / g * d + 0 * (d / g) = omega arith in
     subst₂ (λ x y. x * d + suc a * (d / g) ≡ y * d + 0 * (d / g)) (sym n.0) (sym n.1) goal
 
+-- a ratio is represented by its numerator in two parts, and its denominator
 pub rep_ratio : (n : ℤ) (d : ℕ) → 0 < d → IsRep (ratio n d) (up n) (down n) d
 unfolding ratio
 rep_ratio n zero h = absurd (omega arith)
@@ -172,19 +185,23 @@ rep_ratio n (suc k) h =
     let is = gcd_is (nat_abs n) (suc k) in
     record { pos_den = h; same = ratio_in n g (suc k) (div-mul_cancel g is.0) (div-mul_cancel g is.1) }
 
+-- an integer is represented by its two parts over 1
 pub rep_whole : (z : ℤ) → IsRep (whole z) (up z) (down z) 1
 unfolding whole
 rep_whole z = rep_ratio z 1 (omega arith)
 
+-- 0 is represented by 0 over 1
 pub rep_zero : IsRep zero_ℚ 0 0 1
 unfolding zero_ℚ
 rep_zero = rep_whole (pos 0)
 
+-- 1 is represented by 1 over 1
 pub rep_one : IsRep one_ℚ 1 0 1
 unfolding one_ℚ
 rep_one = rep_whole (pos 1)
 
 module _ {a b : ℚ} {p m d p' m' d' : ℕ} (r : IsRep a p m d) (r' : IsRep b p' m' d') where
+  -- a sum is represented by the sums across over the product of the denominators
   pub rep_add : IsRep (a +ℚ b) (p * d' + p' * d) (m * d' + m' * d) (d * d')
   unfolding ◌+ℚ◌
   rep_add =
@@ -192,6 +209,7 @@ module _ {a b : ℚ} {p m d p' m' d' : ℕ} (r : IsRep a p m d) (r' : IsRep b p'
       let s = sum_in (up a.num) (down a.num) a.den p m d (up b.num) (down b.num) b.den p' m' d' r.same r'.same (up n) (down n) (omega (arith, ints)) in
       rep_change (p * d' + p' * d) (m * d' + m' * d) (d * d') (rep_ratio n (a.den * b.den) (mul-pos (den_pos a) (den_pos b))) (mul-pos r.pos_den r'.pos_den) s
 
+  -- a product is represented by the products of the parts over the product of the denominators
   pub rep_mul : IsRep (a *ℚ b) (p * p' + m * m') (p * m' + m * p') (d * d')
   unfolding ◌*ℚ◌
   rep_mul =
@@ -200,6 +218,7 @@ module _ {a b : ℚ} {p m d p' m' d' : ℕ} (r : IsRep a p m d) (r' : IsRep b p'
       let s = product_in (up a.num) (down a.num) a.den p m d (up b.num) (down b.num) b.den p' m' d' r.same r'.same (up n) (down n) is.0 is.1 in
       rep_change (p * p' + m * m') (p * m' + m * p') (d * d') (rep_ratio n (a.den * b.den) (mul-pos (den_pos a) (den_pos b))) (mul-pos r.pos_den r'.pos_den) s
 
+-- a negation is represented with the two parts of the numerator exchanged
 pub rep_neg : {a : ℚ} {p m d : ℕ} → IsRep a p m d → IsRep (neg_ℚ a) m p d
 unfolding neg_ℚ
 rep_neg {a} {p} {m} {d} r =

@@ -182,12 +182,15 @@ abbrev pub closes : List Row → Bool
 closes rs = refutes (sum_rows (multipliers rs) rs)
 
 -- ---- the theorems
+-- facts a combination of which can't hold are contradictory
 pub lin_false : (ρ : List ℚ) (fs : List Fact) (rs : ReadsAll ρ (values fs)) → T (closes (rows rs (kinds fs))) → ⊥
 lin_false ρ fs rs t = refutes-out ρ (sum_rows (multipliers (rows rs (kinds fs))) (rows rs (kinds fs))) (sum_rows-holds ρ (multipliers (rows rs (kinds fs))) (rows rs (kinds fs)) (rows-hold ρ rs (kinds fs) (facts-hold ρ fs))) t
 
+-- facts that refute a > b show a ≤ b
 pub lin_le : (ρ : List ℚ) (fs : List Fact) {a b : ℚ} (rs : ReadsAll ρ ((a -ℚ b) ∷ values fs)) → T (closes (rows rs (is_gt ∷ kinds fs))) → a ≤ℚ b
 lin_le ρ fs rs t = le_of_not_lt_ℚ (λ h. lin_false ρ (lt h ∷ fs) rs t)
 
+-- facts that refute a ≥ b show a < b
 pub lin_lt : (ρ : List ℚ) (fs : List Fact) {a b : ℚ} (rs : ReadsAll ρ ((a -ℚ b) ∷ values fs)) → T (closes (rows rs (is_ge ∷ kinds fs))) → a <ℚ b
 lin_lt ρ fs rs t = lt_of_not_le_ℚ (λ h. lin_false ρ (le h ∷ fs) rs t)
 
@@ -197,6 +200,7 @@ first (read_more r rs) = r
 abbrev pub rest : {ρ : List ℚ} {s : ℚ} {ss : List ℚ} → ReadsAll ρ (s ∷ ss) → ReadsAll ρ ss
 rest (read_more r rs) = rs
 
+-- facts that refute a > b and b > a show a ≡ b
 pub lin_eq : (ρ : List ℚ) (fs : List Fact) {a b : ℚ} (rs : ReadsAll ρ ((a -ℚ b) ∷ (b -ℚ a) ∷ values fs)) → T (closes (rows (read_more (first rs) (rest (rest rs))) (is_gt ∷ kinds fs)) && closes (rows (rest rs) (is_gt ∷ kinds fs))) → a ≡ b
 lin_eq ρ fs rs t =
     let c = and_out ρ (closes (rows (read_more (first rs) (rest (rest rs))) (is_gt ∷ kinds fs))) (closes (rows (rest rs) (is_gt ∷ kinds fs))) t in

@@ -73,6 +73,7 @@ look-place : {ρ : List ℚ} {a : ℚ} (h : StandsAt ρ a) → look ρ (place h)
 look-place here = refl
 look-place (there h) = look-place h
 
+-- the value of an expression read from a number is the number
 pub eval-expr : {ρ : List ℚ} {a : ℚ} (r : Reads ρ a) → eval ρ (expr r) ≡ a
 eval-expr {ρ} (read_add {a = x} {b = y} r s) = ap (λ z. z +ℚ eval ρ (expr s)) (eval-expr r) ∙ ap (λ z. x +ℚ z) (eval-expr s)
 eval-expr {ρ} (read_sub {a = x} {b = y} r s) = ap (λ z. z -ℚ eval ρ (expr s)) (eval-expr r) ∙ ap (λ z. x -ℚ z) (eval-expr s)
@@ -188,6 +189,7 @@ module _ (ρ : List ℚ) where
   mono-times [] n = sym (*ℚ_idl (mono n))
   mono-times (i ∷ m) n = mono-insert i (times m n) ∙ ap (λ x. look ρ i *ℚ x) (mono-times m n) ∙ sym (*ℚ_assoc (look ρ i) (mono m) (mono n))
 
+  -- a polynomial with a term put in has its value plus the term's
   pub value-put : (c : ℤ) (m : List ℕ) (q : List Term) → value (put c m q) ≡ whole c *ℚ mono m +ℚ value q
   value-put c m [] = refl
   value-put c m (term d n ∷ q) = by (order m n) refl (value-put c m q)
@@ -198,6 +200,7 @@ module _ (ρ : List ℚ) where
           ap (λ x. x *ℚ mono n +ℚ value q) (whole-add c d) ∙ ap (λ x. x +ℚ value q) (+ℚ-*ℚ (whole c) (whole d) (mono n)) ∙ +ℚ_assoc (whole c *ℚ mono n) (whole d *ℚ mono n) (value q) ∙ ap (λ x. whole c *ℚ mono x +ℚ (whole d *ℚ mono n +ℚ value q)) (sym (order-eq m n e))
       by Ordering.gt e h = ap (λ x. whole d *ℚ mono n +ℚ x) h ∙ add_left_comm (whole d *ℚ mono n) (whole c *ℚ mono m) (value q)
 
+  -- the value of a sum of polynomials is the sum of their values
   pub value-plus : (p q : List Term) → value (plus p q) ≡ value p +ℚ value q
   value-plus [] q = sym (+ℚ_idl (value q))
   value-plus (term c m ∷ p) q = value-put c m (plus p q) ∙ ap (λ x. whole c *ℚ mono m +ℚ x) (value-plus p q) ∙ sym (+ℚ_assoc (whole c *ℚ mono m) (value p) (value q))
@@ -205,6 +208,7 @@ module _ (ρ : List ℚ) where
   regroup : (a b c d : ℚ) → (a *ℚ b) *ℚ (c *ℚ d) ≡ (a *ℚ c) *ℚ (b *ℚ d)
   regroup a b c d = *ℚ_assoc a b (c *ℚ d) ∙ ap (λ x. a *ℚ x) (left_comm b c d) ∙ sym (*ℚ_assoc a c (b *ℚ d))
 
+  -- the value of a polynomial times a term is the product of their values
   pub value-scale : (c : ℤ) (m : List ℕ) (q : List Term) → value (scale c m q) ≡ (whole c *ℚ mono m) *ℚ value q
   value-scale c m [] = sym (*ℚ-zero (whole c *ℚ mono m))
   value-scale c m (term d n ∷ q) =
@@ -222,6 +226,7 @@ module _ (ρ : List ℚ) where
   value-minus q =
       value-scale (negsuc 0) [] q ∙ ap (λ x. x *ℚ value q) (*ℚ_idr (whole (negsuc 0)) ∙ whole-neg (pos 1) ∙ ap neg_ℚ whole-one) ∙ neg_ℚ-*ℚ one_ℚ (value q) ∙ ap neg_ℚ (*ℚ_idl (value q))
 
+  -- the polynomial of an expression has its value
   pub value-poly : (e : Expr) → value (poly e) ≡ eval ρ e
   value-poly (var i) = +ℚ_idr (whole (pos 1) *ℚ (look ρ i *ℚ one_ℚ)) ∙ ap (λ x. x *ℚ (look ρ i *ℚ one_ℚ)) whole-one ∙ *ℚ_idl (look ρ i *ℚ one_ℚ) ∙ *ℚ_idr (look ρ i)
   value-poly (int z) = +ℚ_idr (whole z *ℚ one_ℚ) ∙ *ℚ_idr (whole z)
@@ -232,6 +237,7 @@ module _ (ρ : List ℚ) where
   value-poly (mul a b) = value-product (poly a) (poly b) ∙ ap (λ x. x *ℚ value (poly b)) (value-poly a) ∙ ap (λ x. eval ρ a *ℚ x) (value-poly b)
   value-poly (neg a) = value-minus (poly a) ∙ ap neg_ℚ (value-poly a)
 
+  -- a polynomial all of whose coefficients are 0 has the value 0
   pub value-all_zero : (p : List Term) → T (all_zero p) → value p ≡ zero_ℚ
   value-all_zero [] t = refl
   value-all_zero (term (pos zero) m ∷ p) t =
@@ -247,12 +253,14 @@ module _ (ρ : List ℚ) where
   value-clean (term (negsuc n) m ∷ p) = ap (λ x. whole (negsuc n) *ℚ mono m +ℚ x) (value-clean p)
 
 -- ---- the theorems
-pub is_zero_by : (ρ : List ℚ) {a : ℚ} (r : Reads ρ a) → leftover (expr r) ≡ [] → a ≡ zero_ℚ
+is_zero_by : (ρ : List ℚ) {a : ℚ} (r : Reads ρ a) → leftover (expr r) ≡ [] → a ≡ zero_ℚ
 is_zero_by ρ r e = sym (eval-expr r) ∙ sym (value-poly ρ (expr r)) ∙ sym (value-clean ρ (poly (expr r))) ∙ ap (λ p. value ρ p) e
 
+-- numbers with the difference 0 are equal
 pub same_from_zero : {a b : ℚ} → a -ℚ b ≡ zero_ℚ → a ≡ b
 same_from_zero {a} {b} e =
     sym (+ℚ_idr a) ∙ ap (λ x. a +ℚ x) (sym (+ℚ_comm (neg_ℚ b) b ∙ +ℚ_invr b)) ∙ sym (+ℚ_assoc a (neg_ℚ b) b) ∙ ap (λ x. x +ℚ b) (sym (sub_ℚ_is a b) ∙ e) ∙ +ℚ_idl b
 
+-- two numbers whose difference is, as a polynomial, 0 are equal
 pub ring : (ρ : List ℚ) {a b : ℚ} (r : Reads ρ (a -ℚ b)) → leftover (expr r) ≡ [] → a ≡ b
 ring ρ r e = same_from_zero (is_zero_by ρ r e)

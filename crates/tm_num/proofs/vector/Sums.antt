@@ -8,11 +8,11 @@ use Rattle.tm_num.proofs.tactics.Ring.{ring, reads}
 use Rattle.tm_num.proofs.tactics.Linarith.{lin_lt, le, lt, reads_all}
 use Rattle.tm_num.proofs.vector.Vectors.{sum_to_same, sum_to-zero}
 
--- a sum of terms that are 0
+-- a sum of terms that are 0 is 0
 pub sum_nothing : (n : ℕ) (f : ℕ → ℚ) → ((k : ℕ) → k < n → f k ≡ zero_ℚ) → sum_to n f ≡ zero_ℚ
 sum_nothing n f h = sum_to_same n f (λ k. zero_ℚ) h ∙ sum_to-zero n
 
--- a sum with one term that counts
+-- a sum in which all terms but one are 0 is that term
 pub sum_one : (n i : ℕ) (f : ℕ → ℚ) → i < n → ((k : ℕ) → k < n → k ≢ i → f k ≡ zero_ℚ) → sum_to n f ≡ f i
 unfolding sum_to
 sum_one zero i f h z = absurd (omega arith)
@@ -22,13 +22,13 @@ sum_one (suc n) i f h z =
     (λ d. ap (λ s. s +ℚ f n) (sum_one n i f (omega (arith, d)) (λ k l. z k (omega arith))) ∙ ap (λ s. f i +ℚ s) (z n (omega arith) (λ e. d (sym e))) ∙ +ℚ_idr (f i))
     (cases_eq i n)
 
--- the first term apart
+-- a sum is its first term plus the sum of the rest
 pub sum_first : (n : ℕ) (f : ℕ → ℚ) → sum_to (suc n) f ≡ f 0 +ℚ sum_to n (λ k. f (suc k))
 unfolding sum_to
 sum_first zero f = ring (f 0 ∷ []) (search reads depth 40) refl
 sum_first (suc n) f = ap (λ s. s +ℚ f (suc n)) (sum_first n f) ∙ ring (f 0 ∷ f (suc n) ∷ sum_to n (λ k. f (suc k)) ∷ []) (search reads depth 40) refl
 
--- a sum in two parts
+-- a sum is the sum of its first m terms plus the sum of the n terms after them
 pub sum_parts : (m n : ℕ) (f : ℕ → ℚ) → sum_to (n + m) f ≡ sum_to m f +ℚ sum_to n (λ k. f (k + m))
 unfolding sum_to
 sum_parts m zero f = ap (λ k. sum_to k f) (omega arith) ∙ sym (+ℚ_idr (sum_to m f))
@@ -36,7 +36,7 @@ sum_parts m (suc n) f =
     let e : suc n + m ≡ suc (n + m) = omega arith in
     ap (λ k. sum_to k f) e ∙ ap (λ s. s +ℚ f (n + m)) (sum_parts m n f) ∙ ring (sum_to m f ∷ sum_to n (λ k. f (k + m)) ∷ f (n + m) ∷ []) (search reads depth 40) refl
 
--- a sum of differences
+-- a sum of differences is the difference of the sums
 pub sum_sub : (n : ℕ) (f g : ℕ → ℚ) → sum_to n (λ k. f k -ℚ g k) ≡ sum_to n f -ℚ sum_to n g
 unfolding sum_to
 sum_sub zero f g = ring [] (search reads depth 40) refl
