@@ -34,8 +34,10 @@ ext_text PosInf = 43 ∷ 105 ∷ 110 ∷ 102 ∷ []
 abbrev pub ext_cmp : Ext → Ext → Ordering
 ext_cmp x y = cmp_ᴱ (extended x) (extended y)
 
+-- the comparison of extended fractions is a total order
 pub ext_cmp_total : IsTotalOrder ext_cmp
 ext_cmp_total = on_total extended cmp_ᴱ_total
 
+-- equality by comparison of extended fractions is an equivalence
 pub ext_cmp_equiv : IsEquivalence (eq_by_cmp ext_cmp)
 ext_cmp_equiv = eq_by_cmp_equiv ext_cmp_total

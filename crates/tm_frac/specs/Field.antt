@@ -15,16 +15,19 @@ use Rattle.tm_num.proofs.rational.Quotients.{quotient_times}
 use Rattle.tm_num.proofs.compare.Compared.{cmp-less, less-cmp, cmp_ℚ_total}
 
 module _ {X : Type 0} (m : X → ℚ) (cmp : X → X → Ordering) where
-  -- r is the sum, the difference, the product, the quotient of a and b
+  -- r is the sum of a and b
   abbrev pub IsSum : X → X → X → Type 0
   IsSum a b r = m r ≡ m a +ℚ m b
 
+  -- r is the difference of a and b
   abbrev pub IsDifference : X → X → X → Type 0
   IsDifference a b r = m r ≡ m a -ℚ m b
 
+  -- r is the product of a and b
   abbrev pub IsProduct : X → X → X → Type 0
   IsProduct a b r = m r ≡ m a *ℚ m b
 
+  -- r is the quotient of a and b
   abbrev pub IsQuotient : X → X → X → Type 0
   IsQuotient a b r = m r ≡ m a /ℚ m b
 

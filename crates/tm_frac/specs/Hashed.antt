@@ -26,5 +26,6 @@ extended_same PosInf NegInf e = cc
 extended_same PosInf (Fin q) e = cc
 extended_same PosInf PosInf e = refl
 
+-- extended fractions that compare as equal hash alike
 pub ext_hash_agrees : (x y : Ext) → IsTrue (eq_by_cmp ext_cmp x y) → ext_hash x ≡ ext_hash y
 ext_hash_agrees x y e = ap ext_hash (extended_same x y (cmpᴱ-equal (extended x) (extended y) (is_eq-equal (ext_cmp x y) e)))

@@ -13,10 +13,12 @@ use Rattle.tm_num.proofs.compare.Compared.{cmp-equal}
 abbrev pub frac_hash : ℚ → List (List ℕ)
 frac_hash q = fed.i64 q.num ++ fed.u64 q.den
 
+-- an answer of a comparison that is_eq accepts is equal
 pub is_eq-equal : (o : Ordering) → is_eq o ≡ true → o ≡ Equal
 is_eq-equal Less e = cc
 is_eq-equal Equal e = refl
 is_eq-equal Greater e = cc
 
+-- fractions that compare as equal hash alike
 pub frac_hash_agrees : (x y : ℚ) → IsTrue (eq_by_cmp cmp_ℚ x y) → frac_hash x ≡ frac_hash y
 frac_hash_agrees x y e = ap frac_hash (cmp-equal x y (is_eq-equal (cmp_ℚ x y) e))

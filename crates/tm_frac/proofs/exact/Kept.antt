@@ -11,7 +11,7 @@ use Rattle.tm_frac.specs.Fits.{Fits, IsKept}
 use Rattle.tm_frac.specs.Kept.{kept-num, kept-den}
 
 -- the parts of a number that fits are kept
-pub kept_parts : {L : ℤ} (q : ℚ) → Fits L q → IsKept L q.num q.den
+kept_parts : {L : ℤ} (q : ℚ) → Fits L q → IsKept L q.num q.den
 kept_parts q f = record { lowest = q.reduced; num_high = f.num_fits; den_high = f.den_fits }
 
 -- a test for 0 reads the numerator's bits
@@ -30,34 +30,43 @@ zero_test {n} {q} e f =
     T-true {b = false} t = absurd t
 
 module _ {L n : ℤ} {d : ℕ} {q : ℚ} (h : IsKept L n d) (e : ratio n d ≡ q) where
+  -- the numerator of a number is the one that is kept of it
   pub part_num : q.num ≡ n
   part_num = sym (ap (λ (r : ℚ). r.num) e) ∙ kept-num h
 
+  -- the denominator of a number is the one that is kept of it
   pub part_den : q.den ≡ d
   part_den = sym (ap (λ (r : ℚ). r.den) e) ∙ kept-den h
 
+  -- a number whose parts are kept fits
   pub kept_fits : Fits L q
   kept_fits =
       record { num_fits = subst (λ (z : ℤ). pos (nat_abs z) ≤ℤ L) (sym part_num) h.num_high; den_fits = subst (λ (k : ℕ). pos k ≤ℤ L) (sym part_den) h.den_high }
 
   module _ (f : FitsSigned w64 n) where
+    -- the kept numerator, as code reads it, is the number's
     pub read_num : to_z w64 (of_z w64 n) ≡ q.num
     read_num = to_z-of_z w64 n f ∙ sym part_num
 
+    -- the kept parts, as code reads them, have the number as their ratio
     pub read_value : ratio (to_z w64 (of_z w64 n)) d ≡ q
     read_value = ap (λ z. ratio z d) (to_z-of_z w64 n f) ∙ e
 
+    -- the kept parts, as code reads them, are in lowest terms
     pub read_lowest : T (is_reduced (to_z w64 (of_z w64 n)) d)
     read_lowest = subst (λ z. T (is_reduced z d)) (sym (to_z-of_z w64 n f)) h.lowest
 
     module _ (high : L ≤ℤ pos 9223372036854775807) where
+      -- the kept numerator, as code reads it, is below 2 ^ 63 without its sign
       pub small_num : nat_abs (to_z w64 (of_z w64 n)) < 2 ^ 63
       small_num = let g = ap nat_abs (to_z-of_z w64 n f) in let k = h.num_high in omega (arith, ints)
 
   module _ (high : L ≤ℤ pos 9223372036854775807) where
+    -- a kept denominator is below 2 ^ 63
     pub small_den : d < 2 ^ 63
     small_den = let k = h.den_high in omega (arith, ints)
 
+    -- the kept denominator, as code reads it, is the number's
     pub read_den : to_z w64 d ≡ pos q.den
     read_den = to_z_pos w64 d small_den ∙ ap (λ (k : ℕ). pos k) (sym part_den)
 
@@ -81,12 +90,14 @@ module _ (L M n : ℤ) (d u : ℕ) (fn : FitsSigned w128 n) (fM : FitsSigned w64
     kept_here : IsKept L n d
     kept_here = let e = limit_read in let s = size_read in record { lowest = lowest; num_high = omega (arith, ints); den_high = omega (arith, ints) }
 
-    pub stored_kept : IsKept L (to_z w64 (of_z w64 (to_z w128 (of_z w128 n)))) d
+    stored_kept : IsKept L (to_z w64 (of_z w64 (to_z w128 (of_z w128 n)))) d
     stored_kept = subst (λ z. IsKept L z d) (sym num_stored) kept_here
 
+    -- where neither part is above the limit, the stored parts have the ratio n / d, and it fits
     pub stored : (ratio (to_z w64 (of_z w64 (to_z w128 (of_z w128 n)))) d ≡ ratio n d) × Fits L (ratio (to_z w64 (of_z w64 (to_z w128 (of_z w128 n)))) d)
     stored = let e = ap (λ z. ratio z d) num_stored in (e, kept_fits stored_kept refl)
 
+  -- where the denominator or the numerator's size is above the limit, n / d doesn't fit
   pub not_stored : ((u ≤ nat_abs (to_z w64 (of_z w64 M))) × (nat_abs (to_z w64 (of_z w64 M)) < d)) ⊎ (nat_abs (to_z w64 (of_z w64 M)) < u) → ¬ (Fits L (ratio n d))
   not_stored o f =
       let e = limit_read in
@@ -121,14 +132,17 @@ module _ {L n : ℤ} {d : ℕ} {q : ℚ} (high : L ≤ℤ pos 922337203685477580
   den_neg : d ≡ (neg_ℚ q).den
   den_neg = sym (part_den h e) ∙ sym (den-neg q)
 
+  -- the negation of a number that fits fits
   pub neg_fits : Fits L (neg_ℚ q)
   neg_fits =
       let k = kept_fits h e in
       record { num_fits = subst (λ (k : ℕ). pos k ≤ℤ L) (sym (abs-num-neg q)) k.num_fits; den_fits = subst (λ (k : ℕ). pos k ≤ℤ L) (sym (den-neg q)) k.den_fits }
 
+  -- the negated numerator and the denominator, as code stores them, are kept
   pub neg_kept : IsKept L (to_z w64 (of_z w64 (pos 0 -ℤ to_z w64 (of_z w64 n)))) d
   neg_kept = subst₂ (λ x y. IsKept L x y) (sym num_neg) (sym den_neg) (kept_parts (neg_ℚ q) neg_fits)
 
+  -- the negated numerator and the denominator, as code stores them, have the negation as their ratio
   pub neg_made : ratio (to_z w64 (of_z w64 (pos 0 -ℤ to_z w64 (of_z w64 n)))) d ≡ neg_ℚ q
   neg_made = ap₂ ratio num_neg den_neg ∙ ratio-parts (neg_ℚ q)
 
@@ -150,14 +164,17 @@ module _ {L n : ℤ} {d : ℕ} {q : ℚ} (high : L ≤ℤ pos 922337203685477580
       size (negsuc k) zero = refl
       size (negsuc k) (suc d) = refl
 
+  -- the inverse's numerator, as code reads it, is that of the inverse
   pub inv_num : {M : ℤ} → FitsSigned w64 M → M ≡ signed_by (to_z w64 (of_z w64 n)) (pos d) → to_z w64 (of_z w64 M) ≡ (inv_ℚ q).num
   inv_num {M} k s = to_z-of_z w64 M k ∙ s ∙ ap₂ (λ x (y : ℕ). signed_by x (pos y)) (read_num h e f) (sym (part_den h e)) ∙ sym (num-inv q z)
 
   -- what the code keeps of the inverse, where N is its numerator
   module _ {N : ℤ} {u : ℕ} (eN : N ≡ (inv_ℚ q).num) (eu : u ≡ nat_abs (to_z w64 (of_z w64 n))) where
+    -- the parts of the inverse, as code stores them, are kept
     pub inv_kept : IsKept L N u
     inv_kept = subst₂ (λ x y. IsKept L x y) (sym eN) (sym (inv_den eu)) (kept_parts (inv_ℚ q) inv_fits)
 
+    -- the parts of the inverse, as code stores them, have the inverse as their ratio
     pub inv_made : ratio N u ≡ inv_ℚ q
     inv_made = ap₂ ratio eN (inv_den eu) ∙ ratio-parts (inv_ℚ q)
 

@@ -50,9 +50,11 @@ module _ (t : ℤ) (g u s : ℕ) (eu : u ≡ nat_abs t) (es : s ≡ u / g) (d : 
   sized : s * g ≡ nat_abs t
   sized = ap (λ x. x * g) (es ∙ ap (λ x. x / g) eu) ∙ div-mul_cancel g d
 
+  -- the quotient of an integer that is at least 0 by a divisor g, times g, is the integer
   pub quotient_above : t ≡ pos (nat_abs t) → to_z w128 s *ℤ pos g ≡ t
   quotient_above h = ap (λ x. x *ℤ pos g) (to_z_pos w128 s hs) ∙ ap pos sized ∙ sym h
 
+  -- the negated quotient of the size of an integer below 0 by a divisor g, times g, is the integer
   pub quotient_below : t ≢ pos (nat_abs t) → to_z w128 (of_z w128 (pos 0 -ℤ to_z w128 s)) *ℤ pos g ≡ t
   quotient_below h =
       let f : FitsSigned w128 (pos 0 -ℤ pos s) = omega (arith, ints) in

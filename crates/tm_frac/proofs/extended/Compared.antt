@@ -9,7 +9,7 @@ use Rattle.tm_frac.specs.declared.ext.Ext.{Ext}
 use Rattle.tm_frac.specs.Extended.{extended, ext_cmp}
 use Rattle.tm_frac.specs.HashedParts.{is_eq-equal}
 
--- two that are told apart
+-- two extended fractions that `==` tells apart don't stand for one extended number
 pub differs : (x y : Ext) → true ≡ not (eq_by_cmp ext_cmp x y) → extended x ≡ extended y → ⊥
 differs x y t e = by (eq_by_cmp ext_cmp x y) (subst (λ b. IsTrue (eq_by_cmp cmp_ᴱ (extended x) b)) e ((eq_by_cmp_equiv cmp_ᴱ_total).refl (extended x))) t
   where
@@ -17,7 +17,7 @@ differs x y t e = by (eq_by_cmp ext_cmp x y) (subst (λ b. IsTrue (eq_by_cmp cmp
     by true h k = cc
     by false h k = cc
 
--- and two that aren't
+-- two extended fractions that `==` doesn't tell apart stand for one extended number
 pub equals : (x y : Ext) → false ≡ not (eq_by_cmp ext_cmp x y) → extended x ≡ extended y
 equals x y t = cmpᴱ-equal (extended x) (extended y) (is_eq-equal (ext_cmp x y) (by (eq_by_cmp ext_cmp x y) t))
   where

@@ -32,11 +32,13 @@ no_pos_word : (n : ℤ) (rest : List ℕ) → nat_abs n < 2 ^ 63 → signed_deci
 no_pos_word (pos n) rest h e = let k : 36 < 10 = digit_first n rest (105 ∷ 110 ∷ 102 ∷ []) 43 (omega (arith, h)) e in omega (arith, k)
 no_pos_word (negsuc n) rest h e = let k : 45 ≡ 43 = ap head e in omega (arith, k)
 
+-- a value with the text `-inf` is minus infinity
 pub only_neg : (e : Ext) → ExtFits e → ext_text e ≡ 45 ∷ 105 ∷ 110 ∷ 102 ∷ [] → NegInf ≡ e
 only_neg NegInf f e = refl
 only_neg (Fin q) f e = absurd (no_neg_word q.num _ (let h = f.num_fits in omega (arith, ints, h)) e)
 only_neg PosInf f e = absurd (let k : 43 ≡ 45 = ap head e in omega (arith, k))
 
+-- a value with the text `+inf` is plus infinity
 pub only_pos : (e : Ext) → ExtFits e → ext_text e ≡ 43 ∷ 105 ∷ 110 ∷ 102 ∷ [] → PosInf ≡ e
 only_pos NegInf f e = absurd (let k : 45 ≡ 43 = ap head e in omega (arith, k))
 only_pos (Fin q) f e = absurd (no_pos_word q.num _ (let h = f.num_fits in omega (arith, ints, h)) e)

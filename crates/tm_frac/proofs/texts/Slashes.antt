@@ -11,6 +11,7 @@ use Rattle.std.proofs.lemmas.List.{take_all}
 use Rattle.std.proofs.Math.Seq.{take-append_seam, drop-append-add}
 use Rattle.tm_frac.specs.Texts.{parts_text}
 
+-- what an integer keeps beside its sign is below 2 ^ 63 where its size is
 pub mag_small : (z : ℤ) → nat_abs z < 2 ^ 63 → mag z < 2 ^ 63
 mag_small (pos n) h = h
 mag_small (negsuc n) h = omega (arith, h)
@@ -37,21 +38,21 @@ prefix_no_slash (x ∷ xs) ys h =
     ap (λ b. cond (not b) (1 + prefix_len (λ x. not (x == 47)) (xs ++ ys)) 0) h.0 ∙ ap (λ n. 1 + n) (prefix_no_slash xs ys h.1) ∙ omega arith
 
 -- the first slash of a text
-pub no_slash_position : (xs : List ℕ) → NoSlash xs → position (λ b. b == 47) xs ≡ None
+no_slash_position : (xs : List ℕ) → NoSlash xs → position (λ b. b == 47) xs ≡ None
 no_slash_position xs h =
     let e : prefix_len (λ x. not (x == 47)) xs ≡ length xs = ap (prefix_len (λ x. not (x == 47))) (sym (append-nil xs)) ∙ prefix_no_slash xs [] h ∙ omega arith in
     ap (λ b. cond b (Some (prefix_len (λ x. not (x == 47)) xs)) None) (le-ltb (prefix_len (λ x. not (x == 47)) xs) (length xs) (omega (arith, e)))
 
-pub slash_position : (xs ys : List ℕ) → NoSlash xs → position (λ b. b == 47) (xs ++ 47 ∷ ys) ≡ Some (length xs)
+slash_position : (xs ys : List ℕ) → NoSlash xs → position (λ b. b == 47) (xs ++ 47 ∷ ys) ≡ Some (length xs)
 slash_position xs ys h =
     let e : prefix_len (λ x. not (x == 47)) (xs ++ 47 ∷ ys) ≡ length xs = prefix_no_slash xs (47 ∷ ys) h ∙ omega arith in
     ap₂ (λ b n. cond b (Some n) None) (lt-ltb (prefix_len (λ x. not (x == 47)) (xs ++ 47 ∷ ys)) (length (xs ++ 47 ∷ ys)) (omega (arith, e, length-append xs (47 ∷ ys)))) e
 
--- the text of a whole number, and that of any other
+-- the text of a fraction with the denominator 1 is its numerator's
 pub whole_text : (n : ℤ) (d : ℕ) → d ≡ 1 → parts_text n d ≡ signed_decimal n
 whole_text n d e = ap (λ b. signed_decimal n ++ cond b [] (47 ∷ decimal d)) (eq-eqb d 1 e) ∙ append-nil (signed_decimal n)
 
-pub slash_text : (n : ℤ) (d : ℕ) → d ≢ 1 → parts_text n d ≡ signed_decimal n ++ 47 ∷ decimal d
+slash_text : (n : ℤ) (d : ℕ) → d ≢ 1 → parts_text n d ≡ signed_decimal n ++ 47 ∷ decimal d
 slash_text n d e = ap (λ b. signed_decimal n ++ cond b [] (47 ∷ decimal d)) (ne_eqb d 1 e)
 
 one_or_not : (d : ℕ) → (d ≡ 1) ⊎ (d ≢ 1)
@@ -62,6 +63,7 @@ one_or_not (suc (suc d)) = inr (λ e. omega (arith, e))
 none_not_some : {A : Type 0} {x : A} → None ≡ Some x → ⊥
 none_not_some e = cc
 
+-- two options with a value that are equal have one value
 pub some_same : {A : Type 0} {x y : A} → Some x ≡ Some y → x ≡ y
 some_same e = cc
 
@@ -73,7 +75,7 @@ cut_lists xs ys x at e =
     )
 
 module _ (text : List ℕ) (n : ℤ) (d : ℕ) (hn : nat_abs n < 2 ^ 63) (e : text ≡ parts_text n d) where
-  -- where the first slash stands at `at`
+  -- where a slash stands in the text, the numerator's text is before the first one, and the denominator's after it
   pub cut : (at : ℕ) → position (λ b. b == 47) text ≡ Some at → (take at text ≡ signed_decimal n) × (take (length text - (at + 1)) (drop (at + 1) text) ≡ decimal d)
   cut at s = ⊎_elim
       (λ one. absurd (none_not_some (sym (ap (position (λ b. b == 47)) (e ∙ whole_text n d one) ∙ no_slash_position (signed_decimal n) (signed_no_slash n hn)) ∙ s)))
@@ -84,7 +86,7 @@ module _ (text : List ℕ) (n : ℤ) (d : ℕ) (hn : nat_abs n < 2 ^ 63) (e : te
       (ap (take at) f ∙ k.0, ap (λ t. take (length t - (at + 1)) (drop (at + 1) t)) f ∙ k.1))
       (one_or_not d)
 
-  -- where there is no slash
+  -- a text without a slash has the denominator 1, and is the numerator's
   pub uncut : position (λ b. b == 47) text ≡ None → (d ≡ 1) × (text ≡ signed_decimal n)
   uncut s = ⊎_elim
       (λ one. (one, e ∙ whole_text n d one))
