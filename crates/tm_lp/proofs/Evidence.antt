@@ -19,7 +19,7 @@ exchanged P x y =
     (λ r l. sum_to_same P.cols (λ j. x j *ℚ (y r *ℚ P.coef r j)) (λ j. y r *ℚ (P.coef r j *ℚ x j)) (λ j m. ring (x j ∷ y r ∷ P.coef r j ∷ []) (search reads depth 40) refl) ∙ sum_to-scale P.cols (y r) (λ j. P.coef r j *ℚ x j))
 
 -- a form that a combination of the rows covers is at most the combination of the sides
-pub covered : (P : Problem) (x y c : ℕ → ℚ) → IsPoint P x → ((r : ℕ) → r < P.rows → zero_ℚ ≤ℚ y r) → ((j : ℕ) → j < P.cols → c j ≤ℚ mixed P y j) → sum_to P.cols (λ j. c j *ℚ x j) ≤ℚ mixed_side P y
+covered : (P : Problem) (x y c : ℕ → ℚ) → IsPoint P x → ((r : ℕ) → r < P.rows → zero_ℚ ≤ℚ y r) → ((j : ℕ) → j < P.cols → c j ≤ℚ mixed P y j) → sum_to P.cols (λ j. c j *ℚ x j) ≤ℚ mixed_side P y
 covered P x y c p h i =
     ≤ℚ_trans
     (sum_to_mono P.cols (λ j. c j *ℚ x j) (λ j. mixed P y j *ℚ x j)
@@ -42,7 +42,7 @@ weak_empty P y e x p =
     lin_false (sum_to P.cols x ∷ mixed_side P y ∷ []) (le l' ∷ lt s ∷ []) (search reads_all depth 40) tt
 
 -- a sum at the moved point
-pub sum-moved : (n : ℕ) (c x d : ℕ → ℚ) (t : ℚ) → sum_to n (λ j. c j *ℚ moved x t d j) ≡ sum_to n (λ j. c j *ℚ x j) +ℚ t *ℚ sum_to n (λ j. c j *ℚ d j)
+sum-moved : (n : ℕ) (c x d : ℕ → ℚ) (t : ℚ) → sum_to n (λ j. c j *ℚ moved x t d j) ≡ sum_to n (λ j. c j *ℚ x j) +ℚ t *ℚ sum_to n (λ j. c j *ℚ d j)
 sum-moved n c x d t =
     sum_to_same n (λ j. c j *ℚ moved x t d j) (λ j. c j *ℚ x j +ℚ t *ℚ (c j *ℚ d j)) (λ j l. ring (c j ∷ x j ∷ d j ∷ t ∷ []) (search reads depth 40) refl)
     ∙ sum_to-add n (λ j. c j *ℚ x j) (λ j. t *ℚ (c j *ℚ d j)) ∙ ap (λ s. sum_to n (λ j. c j *ℚ x j) +ℚ s) (sum_to-scale n t (λ j. c j *ℚ d j))
@@ -84,19 +84,19 @@ ray_exceeds P x d u b =
     above v w i g e = lin_lt (b ∷ v ∷ w ∷ i ∷ []) (lt g ∷ eq_times (b -ℚ v) e ∷ []) (search reads_all depth 40 fits 9000) tt
 
 -- no problem has evidence of two kinds
-pub not_best_unbounded : (P : Problem) (x y x' d : ℕ → ℚ) (v : ℚ) → IsBest P x v y → IsUnbounded P x' d → ⊥
+not_best_unbounded : (P : Problem) (x y x' d : ℕ → ℚ) (v : ℚ) → IsBest P x v y → IsUnbounded P x' d → ⊥
 not_best_unbounded P x y x' d v b u = let e = ray_exceeds P x' d u v in not_le_of_lt e.3 (weak_best P x y v b (moved x' e.0 d) e.2)
 
 -- no problem is empty and unbounded
-pub not_empty_unbounded : (P : Problem) (x d y : ℕ → ℚ) → IsEmpty P y → IsUnbounded P x d → ⊥
+not_empty_unbounded : (P : Problem) (x d y : ℕ → ℚ) → IsEmpty P y → IsUnbounded P x d → ⊥
 not_empty_unbounded P x d y e u = weak_empty P y e x u.point
 
 -- no problem is empty and has a best point
-pub not_empty_best : (P : Problem) (x y z : ℕ → ℚ) (v : ℚ) → IsEmpty P z → IsBest P x v y → ⊥
+not_empty_best : (P : Problem) (x y z : ℕ → ℚ) (v : ℚ) → IsEmpty P z → IsBest P x v y → ⊥
 not_empty_best P x y z v e b = weak_empty P z e x b.point
 
 -- the best value is one
-pub best_value_only : (P : Problem) (x y x' y' : ℕ → ℚ) (v v' : ℚ) → IsBest P x v y → IsBest P x' v' y' → v ≡ v'
+best_value_only : (P : Problem) (x y x' y' : ℕ → ℚ) (v v' : ℚ) → IsBest P x v y → IsBest P x' v' y' → v ≡ v'
 best_value_only P x y x' y' v v' b b' =
     ≤ℚ_antisymm (subst (λ s. s ≤ℚ v') b.value (weak_best P x' y' v' b' x b.point)) (subst (λ s. s ≤ℚ v) b'.value (weak_best P x y v b x' b'.point))
 

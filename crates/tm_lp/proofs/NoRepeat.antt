@@ -11,7 +11,7 @@ use Rattle.tm_lp.proofs.search.Steps.{enters_free, leaves_basic, const_moves, st
 use Rattle.tm_lp.proofs.dictionary.Clash.{clash}
 
 -- what turns basic enters, and what turns free leaves
-pub turned_basic : (D : Dict) (r c q : ℕ) → r ≢ c → D.basic q ≡ false → (pivot D r c).basic q ≡ true → q ≡ c
+turned_basic : (D : Dict) (r c q : ℕ) → r ≢ c → D.basic q ≡ false → (pivot D r c).basic q ≡ true → q ≡ c
 turned_basic D r c q h b e = ⊎_elim (λ i. i) (λ i. absurd (⊎_elim
     (λ j. true≢false (sym e ∙ ap (pivot D r c).basic j ∙ pivot_leaves D r c h))
     (λ j. true≢false (sym e ∙ pivot_stays D r c q i j ∙ b)) (cases_eq q r))) (cases_eq q c)
@@ -37,7 +37,7 @@ rises s i (suc m) h f t = ⊎_elim
     at_most i m = ⊎_elim inr inl (cases_lt m i)
 
 -- a sequence that ends as it began turns true somewhere, where it is both
-pub turns_true : (s : ℕ → Bool) (k i j : ℕ) → i ≤ k → j ≤ k → s 0 ≡ s k → s i ≡ false → s j ≡ true → (l : ℕ) × (l < k) × (s l ≡ false) × (s (suc l) ≡ true)
+turns_true : (s : ℕ → Bool) (k i j : ℕ) → i ≤ k → j ≤ k → s 0 ≡ s k → s i ≡ false → s j ≡ true → (l : ℕ) × (l < k) × (s l ≡ false) × (s (suc l) ≡ true)
 turns_true s k i j a b e f t = ⊎_elim
     (λ h. ⊎_elim
     (λ u. rises s i k a f u)
@@ -47,7 +47,7 @@ turns_true s k i j a b e f t = ⊎_elim
     (cases_lt j i)
 
 -- a sequence that ends as it began turns false somewhere, where it is both
-pub turns_false : (s : ℕ → Bool) (k i j : ℕ) → i ≤ k → j ≤ k → s 0 ≡ s k → s i ≡ false → s j ≡ true → (l : ℕ) × (l < k) × (s l ≡ true) × (s (suc l) ≡ false)
+turns_false : (s : ℕ → Bool) (k i j : ℕ) → i ≤ k → j ≤ k → s 0 ≡ s k → s i ≡ false → s j ≡ true → (l : ℕ) × (l < k) × (s l ≡ true) × (s (suc l) ≡ false)
 turns_false s k i j a b e f t =
     let r = turns_true (λ l. not (s l)) k j i b a (ap not e) (ap not t) (ap not f) in
     (r.0, r.1, not-false (s r.0) r.2, not-true (s (suc r.0)) r.3)
@@ -75,13 +75,13 @@ largest f (suc k) =
 
 module _ (g n : ℕ) (D : ℕ → Dict) (c r : ℕ → ℕ) (k : ℕ) (h : IsChain g n D c r k) where
   -- the meaning is one along the chain
-  pub chain_means : (V : ℕ → ℚ) (j : ℕ) → j ≤ k → Models n (D 0) V → Models n (D j) V
+  chain_means : (V : ℕ → ℚ) (j : ℕ) → j ≤ k → Models n (D 0) V → Models n (D j) V
   chain_means V zero l m = m
   chain_means V (suc j) l m =
       subst (λ E. Models n E V) (sym (h.next j (omega (arith, l)))) (pivot_means n (D j) (r j) (c j) (h.leaves j (omega (arith, l))).name V (chain_means V j (omega (arith, l)) m))
 
   -- the last dictionary means no more than the first
-  pub chain_means_back : (V : ℕ → ℚ) (j : ℕ) → j ≤ k → Models n (D j) V → Models n (D 0) V
+  chain_means_back : (V : ℕ → ℚ) (j : ℕ) → j ≤ k → Models n (D j) V → Models n (D 0) V
   chain_means_back V zero l m = m
   chain_means_back V (suc j) l m =
       let b : j < k = omega (arith, l) in

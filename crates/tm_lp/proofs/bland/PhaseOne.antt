@@ -36,7 +36,7 @@ first_entry_not : (P : Problem) (r : ℕ) → r < P.rows → (first_dict P).coef
 first_entry_not P r l e = one_ne_zero (sym (first_entry P r l) ∙ e)
 
 -- its constants: the row's side is taken away as often as the auxiliary variable occurs
-pub entered-const : (P : Problem) (r i : ℕ) → r < P.rows → (entered P r).const i ≡ (first_dict P).const i -ℚ (first_dict P).coef i 0 *ℚ P.side r
+entered-const : (P : Problem) (r i : ℕ) → r < P.rows → (entered P r).const i ≡ (first_dict P).const i -ℚ (first_dict P).coef i 0 *ℚ P.side r
 entered-const P r i l =
     let s = share_times (first_dict P) (slack_name P r) 0 i (first_entry_not P r l) in
     let o = first_entry P r l in
@@ -46,7 +46,7 @@ entered-const P r i l =
     (eq_times (P.side r) s ∷ eq_times (share (first_dict P) (slack_name P r) 0 i *ℚ P.side r) o ∷ eq_times (share (first_dict P) (slack_name P r) 0 i) c ∷ []) (search reads_all depth 40 fits 9000) tt
 
 -- the special first pivot keeps the form
-pub entered_form : (P : Problem) (r : ℕ) → r < P.rows → IsDict (names P) (entered P r)
+entered_form : (P : Problem) (r : ℕ) → r < P.rows → IsDict (names P) (entered P r)
 entered_form P r l = pivot_form (names P) (first_dict P) (first_form P) (slack_name P r) 0 (omega (arith, l)) (omega arith) (first_basic P (slack_name P r) (omega arith)) (first_free P 0 (omega arith)) (first_entry_not P r l)
 
 -- the least side below 0 enters the auxiliary variable: feasible, and it is above 0
@@ -88,8 +88,11 @@ entered_positive P r l d =
 
 -- the dictionary is good, and says what the first one says
 pub record IsAux (P : Problem) (D : Dict) : Type 0 where
+  -- it has the form of a dictionary, and is feasible
   pub good : IsGood (names P) D
+  -- what it says, the first dictionary says
   pub out : (V : ℕ → ℚ) → Models (names P) D V → Models (names P) (first_dict P) V
+  -- what the first dictionary says, it says
   pub into : (V : ℕ → ℚ) → Models (names P) (first_dict P) V → Models (names P) D V
 
 -- after it the dictionary says what the first one says
@@ -109,18 +112,18 @@ after_aux g P D d j = record {
 }
 
 -- the first goal is the negated row of the auxiliary variable
-pub aux-const : (P : Problem) (D : Dict) → IsAux P D → D.const (aux_row P) ≡ neg_ℚ (D.const 0)
+aux-const : (P : Problem) (D : Dict) → IsAux P D → D.const (aux_row P) ≡ neg_ℚ (D.const 0)
 aux-const P D d = (first_means P D.const (d.out D.const (basic_models (names P) D d.good.form))).aux
 
 -- the first goal's coefficients are the negated ones of the auxiliary variable
-pub aux-coef : (P : Problem) (D : Dict) → IsAux P D → (k : ℕ) → k < names P → D.coef (aux_row P) k ≡ neg_ℚ (D.coef 0 k)
+aux-coef : (P : Problem) (D : Dict) → IsAux P D → (k : ℕ) → k < names P → D.coef (aux_row P) k ≡ neg_ℚ (D.coef 0 k)
 aux-coef P D d k l =
     let c = aux-const P D d in
     let e = (first_means P (along D k) (d.out (along D k) (along_models (names P) D d.good.form k l))).aux in
     lin_eq (D.const (aux_row P) ∷ D.const 0 ∷ D.coef (aux_row P) k ∷ D.coef 0 k ∷ []) (eq c ∷ eq e ∷ []) (search reads_all depth 40) tt
 
 -- where a name enters in phase 1, the auxiliary variable's entry is below 0
-pub aux_falls : (P : Problem) (D : Dict) → IsAux P D → (c : ℕ) → Enters (aux_row P) (names P) D c → D.coef 0 c <ℚ zero_ℚ
+aux_falls : (P : Problem) (D : Dict) → IsAux P D → (c : ℕ) → Enters (aux_row P) (names P) D c → D.coef 0 c <ℚ zero_ℚ
 aux_falls P D d c e =
     let k = aux-coef P D d c e.name in
     let g = e.gains in

@@ -20,19 +20,19 @@ term_zero n D d V i k z =
     ⊎_elim (λ b. ap (λ s. s *ℚ V k) (d.column i k b) ∙ zero-*ℚ (V k)) (λ f. ap (λ s. D.coef i k *ℚ s) (z f) ∙ *ℚ-zero (D.coef i k)) (cases_Bool (D.basic k))
 
 -- two valuations that agree at the free names give each row one value
-pub row_same : (n : ℕ) (D : Dict) → IsDict n D → (V W : ℕ → ℚ) → ((k : ℕ) → k < n → D.basic k ≡ false → V k ≡ W k) → (i : ℕ) → row n D V i ≡ row n D W i
+row_same : (n : ℕ) (D : Dict) → IsDict n D → (V W : ℕ → ℚ) → ((k : ℕ) → k < n → D.basic k ≡ false → V k ≡ W k) → (i : ℕ) → row n D V i ≡ row n D W i
 unfolding row
 row_same n D d V W h i =
     ap (λ s. D.const i +ℚ s) (sum_to_same n (λ k. D.coef i k *ℚ V k) (λ k. D.coef i k *ℚ W k)
     (λ k l. ⊎_elim (λ b. ap (λ s. s *ℚ V k) (d.column i k b) ∙ zero-*ℚ (V k) ∙ sym (ap (λ s. s *ℚ W k) (d.column i k b) ∙ zero-*ℚ (W k))) (λ f. ap (λ s. D.coef i k *ℚ s) (h k l f)) (cases_Bool (D.basic k))))
 
 -- with the free names at 0 a row's value is its constant
-pub row_zero : (n : ℕ) (D : Dict) → IsDict n D → (V : ℕ → ℚ) → ((k : ℕ) → k < n → D.basic k ≡ false → V k ≡ zero_ℚ) → (i : ℕ) → row n D V i ≡ D.const i
+row_zero : (n : ℕ) (D : Dict) → IsDict n D → (V : ℕ → ℚ) → ((k : ℕ) → k < n → D.basic k ≡ false → V k ≡ zero_ℚ) → (i : ℕ) → row n D V i ≡ D.const i
 unfolding row
 row_zero n D d V z i = ap (λ s. D.const i +ℚ s) (sum_nothing n (λ k. D.coef i k *ℚ V k) (λ k l. term_zero n D d V i k (z k l))) ∙ +ℚ_idr (D.const i)
 
 -- with one name at 1 and the other free names at 0 a row's value is its constant and that name's coefficient
-pub row_one : (n : ℕ) (D : Dict) → IsDict n D → (j : ℕ) → j < n → (V : ℕ → ℚ) → ((k : ℕ) → k < n → D.basic k ≡ false → V k ≡ delta j k) → (i : ℕ) → row n D V i ≡ D.const i +ℚ D.coef i j
+row_one : (n : ℕ) (D : Dict) → IsDict n D → (j : ℕ) → j < n → (V : ℕ → ℚ) → ((k : ℕ) → k < n → D.basic k ≡ false → V k ≡ delta j k) → (i : ℕ) → row n D V i ≡ D.const i +ℚ D.coef i j
 unfolding row
 row_one n D d j l V h i = row_same n D d V (delta j) h i ∙ ap (λ s. D.const i +ℚ s) (sum_delta_right n j (D.coef i) l)
 

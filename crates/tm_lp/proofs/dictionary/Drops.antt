@@ -16,7 +16,7 @@ unfolding drop_zero
 drop-zero D i = refl
 
 -- a constant after dropping
-pub drop-const : (D : Dict) (i : ℕ) → (drop_zero D).const i ≡ D.const i
+drop-const : (D : Dict) (i : ℕ) → (drop_zero D).const i ≡ D.const i
 unfolding drop_zero
 drop-const D i = refl
 
@@ -47,7 +47,7 @@ pub drop_feasible : (n : ℕ) (D : Dict) → IsFeasible n D → IsFeasible n (dr
 drop_feasible n D f = record { nonneg = λ i l. subst (λ x. zero_ℚ ≤ℚ x) (sym (drop-const D i)) (f.nonneg i l) }
 
 -- where name 0 has the value 0, each row says the same
-pub drop_row : (m : ℕ) (D : Dict) (V : ℕ → ℚ) → V 0 ≡ zero_ℚ → (i : ℕ) → row (suc m) (drop_zero D) V i ≡ row (suc m) D V i
+drop_row : (m : ℕ) (D : Dict) (V : ℕ → ℚ) → V 0 ≡ zero_ℚ → (i : ℕ) → row (suc m) (drop_zero D) V i ≡ row (suc m) D V i
 unfolding row
 drop_row m D V z i =
     ap (λ x. x +ℚ sum_to (suc m) (λ k. (drop_zero D).coef i k *ℚ V k)) (drop-const D i)

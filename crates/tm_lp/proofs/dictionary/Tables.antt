@@ -10,32 +10,32 @@ use Rattle.tm_lp.proofs.Sums.{delta_same, delta_other}
 use Rattle.tm_lp.proofs.Pivots.{pivot-coef, pivot-const, share_times}
 
 -- the formulas by their places
-pub pivot_row_at : (T : Table) (r c : ℕ) → pivot_row_entry T r c c ≡ one_ℚ /ℚ T.entry r c
+pivot_row_at : (T : Table) (r c : ℕ) → pivot_row_entry T r c c ≡ one_ℚ /ℚ T.entry r c
 unfolding pivot_row_entry
 pivot_row_at T r c = ap (λ b. cond b (one_ℚ /ℚ T.entry r c) (neg_ℚ (T.entry r c /ℚ T.entry r c))) (eq-eqb c c refl)
 
 -- formula 2
-pub pivot_row_off : (T : Table) (r c k : ℕ) → k ≢ c → pivot_row_entry T r c k ≡ neg_ℚ (T.entry r k /ℚ T.entry r c)
+pivot_row_off : (T : Table) (r c k : ℕ) → k ≢ c → pivot_row_entry T r c k ≡ neg_ℚ (T.entry r k /ℚ T.entry r c)
 unfolding pivot_row_entry
 pivot_row_off T r c k h = ap (λ b. cond b (one_ℚ /ℚ T.entry r c) (neg_ℚ (T.entry r k /ℚ T.entry r c))) (ne_eqb k c h)
 
 -- formula 3
-pub pivot_other_at : (T : Table) (r c i : ℕ) → pivot_other_entry T r c i c ≡ T.entry i c *ℚ (one_ℚ /ℚ T.entry r c)
+pivot_other_at : (T : Table) (r c i : ℕ) → pivot_other_entry T r c i c ≡ T.entry i c *ℚ (one_ℚ /ℚ T.entry r c)
 unfolding pivot_other_entry
 pivot_other_at T r c i = ap (λ b. cond b (T.entry i c *ℚ pivot_row_entry T r c c) (T.entry i c +ℚ T.entry i c *ℚ pivot_row_entry T r c c)) (eq-eqb c c refl) ∙ ap (λ x. T.entry i c *ℚ x) (pivot_row_at T r c)
 
 -- formula 4
-pub pivot_other_off : (T : Table) (r c i k : ℕ) → k ≢ c → pivot_other_entry T r c i k ≡ T.entry i k +ℚ T.entry i c *ℚ neg_ℚ (T.entry r k /ℚ T.entry r c)
+pivot_other_off : (T : Table) (r c i k : ℕ) → k ≢ c → pivot_other_entry T r c i k ≡ T.entry i k +ℚ T.entry i c *ℚ neg_ℚ (T.entry r k /ℚ T.entry r c)
 unfolding pivot_other_entry
 pivot_other_off T r c i k h = ap (λ b. cond b (T.entry i c *ℚ pivot_row_entry T r c c) (T.entry i k +ℚ T.entry i c *ℚ pivot_row_entry T r c k)) (ne_eqb k c h) ∙ ap (λ x. T.entry i k +ℚ T.entry i c *ℚ x) (pivot_row_off T r c k h)
 
 -- an entry of the pivot's row
-pub table_entry_row : (T : Table) (r c k : ℕ) → (pivot_table T r c).entry r k ≡ pivot_row_entry T r c k
+table_entry_row : (T : Table) (r c k : ℕ) → (pivot_table T r c).entry r k ≡ pivot_row_entry T r c k
 unfolding pivot_table
 table_entry_row T r c k = ap (λ b. cond b (pivot_row_entry T r c k) (pivot_other_entry T r c r k)) (eq-eqb r r refl)
 
 -- an entry of another row
-pub table_entry_other : (T : Table) (r c i k : ℕ) → i ≢ r → (pivot_table T r c).entry i k ≡ pivot_other_entry T r c i k
+table_entry_other : (T : Table) (r c i k : ℕ) → i ≢ r → (pivot_table T r c).entry i k ≡ pivot_other_entry T r c i k
 unfolding pivot_table
 table_entry_other T r c i k h = ap (λ b. cond b (pivot_row_entry T r c k) (pivot_other_entry T r c i k)) (ne_eqb i r h)
 
@@ -111,11 +111,11 @@ module _ (n : ℕ) (T : Table) (D : Dict) (h : Shows n T D) (d : IsDict n D) (r 
   names_apart e = true≢false (sym basic_row ∙ ap D.basic e ∙ free_col)
 
   -- the pivot is the dictionary's coefficient
-  pub pivot_entry : T.entry r c ≡ D.coef (T.row_name r) (T.col_name c)
+  pivot_entry : T.entry r c ≡ D.coef (T.row_name r) (T.col_name c)
   pivot_entry = h.entries r c in_rows m
 
   -- which is not 0
-  pub pivot_nonzero : D.coef (T.row_name r) (T.col_name c) ≢ zero_ℚ
+  pivot_nonzero : D.coef (T.row_name r) (T.col_name c) ≢ zero_ℚ
   pivot_nonzero e = p (pivot_entry ∙ e)
 
   -- the share of a row times the pivot

@@ -71,7 +71,7 @@ pub data ColCase (P : Problem) (k : ℕ) : Type 0 where
   aux_col : k ≡ P.cols → (first_table P).col_name k ≡ 0 → ColCase P k
 
 -- each column of the first table is one of these
-pub col_case : (P : Problem) (k : ℕ) → k < suc P.cols → ColCase P k
+col_case : (P : Problem) (k : ℕ) → k < suc P.cols → ColCase P k
 unfolding first_table
 col_case P k l = ⊎_elim
     (λ h. column_col h (ap (λ b. cond b (suc k) 0) (lt-ltb k P.cols h)))

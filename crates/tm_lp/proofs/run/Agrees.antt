@@ -6,6 +6,7 @@ use Rattle.tm_lp.specs.Run.{place_of, leave_table}
 use Rattle.tm_lp.proofs.TableDrops.{skip_bound}
 use Rattle.tm_lp.proofs.search.Places.{place_same}
 
+-- a table that agrees with one that agrees with a third agrees with the third
 pub agree_trans : (T U V : Table) → Agree T U → Agree U V → Agree T V
 agree_trans T U V a b = record {
   rows = b.rows ∙ a.rows;
@@ -17,7 +18,7 @@ agree_trans T U V a b = record {
 }
 
 module _ (T U : Table) (a : Agree T U) where
-  pub agree_row_entry : (r c k : ℕ) → r < T.rows + T.goals → c ≤ T.width → k ≤ T.width → pivot_row_entry U r c k ≡ pivot_row_entry T r c k
+  agree_row_entry : (r c k : ℕ) → r < T.rows + T.goals → c ≤ T.width → k ≤ T.width → pivot_row_entry U r c k ≡ pivot_row_entry T r c k
   unfolding pivot_row_entry
   agree_row_entry r c k l m n = ap₂ (λ p x. cond (eqb k c) (one_ℚ /ℚ p) (neg_ℚ (x /ℚ p))) (a.entry r c l m) (a.entry r k l n)
 
@@ -27,7 +28,7 @@ module _ (T U : Table) (a : Agree T U) where
       ap₂ (λ f x. cond (eqb k c) (f *ℚ pivot_row_entry U r c c) (x +ℚ f *ℚ pivot_row_entry U r c k)) (a.entry i c n m) (a.entry i k n o)
       ∙ ap₂ (λ x y. cond (eqb k c) (T.entry i c *ℚ x) (T.entry i k +ℚ T.entry i c *ℚ y)) (agree_row_entry r c c l m m) (agree_row_entry r c k l m o)
 
-  -- after a pivot
+  -- pivots at one place of tables that agree agree
   pub agree_pivot : (r c : ℕ) → r < T.rows → c < T.width → Agree (pivot_table T r c) (pivot_table U r c)
   unfolding pivot_table
   agree_pivot r c l m = record {
@@ -39,7 +40,7 @@ module _ (T U : Table) (a : Agree T U) where
     entry = λ i k n o. ap₂ (λ x y. cond (eqb i r) x y) (agree_row_entry r c k (omega (arith, l)) (omega (arith, m)) o) (agree_other_entry r c i k (omega (arith, l)) (omega (arith, m)) n o);
   }
 
-  -- without the auxiliary variable's column and the first goal
+  -- tables that agree agree without the auxiliary variable's column and the first goal
   pub agree_leave : 0 < T.goals → 0 < T.width → Agree (leave_table T) (leave_table U)
   unfolding leave_table drop_table
   agree_leave g w =

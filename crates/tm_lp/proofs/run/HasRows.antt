@@ -17,13 +17,14 @@ use Rattle.tm_lp.proofs.TableDrops.{skip_below}
 use Rattle.tm_lp.proofs.simplex.EnteredTables.{first_row_name, first_col_name}
 use Rattle.tm_lp.proofs.run.Phases.{places_of_step, tables_show, next-is}
 
+-- a table that agrees with one that has a row for each basic name but 0 has these rows too
 pub has_agree : (n : ℕ) (T U : Table) (D : Dict) → HasRows n T D → Agree T U → HasRows n U D
 has_agree n T U D h a = record {
   has = λ q l z b. let w = h.has q l z b in (w.0, (let m = w.1 in omega (arith, m, a.rows)), a.row_name w.0 (let m = w.1 in omega (arith, m)) ∙ w.2);
 }
 
 -- after a pivot
-pub has_pivot : (n : ℕ) (T : Table) (D : Dict) → HasRows n T D → (r c : ℕ) → r < T.rows → HasRows n (pivot_table T r c) (pivot D (T.row_name r) (T.col_name c))
+has_pivot : (n : ℕ) (T : Table) (D : Dict) → HasRows n T D → (r c : ℕ) → r < T.rows → HasRows n (pivot_table T r c) (pivot D (T.row_name r) (T.col_name c))
 unfolding pivot_table pivot
 has_pivot n T D h r c r_in = record {
   has = λ q l z b. ⊎_elim
@@ -45,7 +46,7 @@ has_step g n T D h d k (step c r) w =
     (subst (λ x. HasRows n (pivot_table T (row_place T r) (col_place T c)) (pivot D (T.row_name (row_place T r)) x)) p.3 (has_pivot n T D k (row_place T r) (col_place T c) p.0))
 
 -- along a run
-pub has_after : (g n : ℕ) (T : Table) (D : Dict) → Shows n T D → IsGood n D → HasRows n T D → (j : ℕ) → HasRows n (tables_after g n T D j) (after g n D j)
+has_after : (g n : ℕ) (T : Table) (D : Dict) → Shows n T D → IsGood n D → HasRows n T D → (j : ℕ) → HasRows n (tables_after g n T D j) (after g n D j)
 unfolding tables_after after
 has_after g n T D h d k zero = k
 has_after g n T D h d k (suc j) =
@@ -53,7 +54,7 @@ has_after g n T D h d k (suc j) =
     (has_step g n (tables_after g n T D j) (after g n D j) (tables_show g n T D h d j) (after_good g n D d j) (has_after g n T D h d k j) (choose g n (after g n D j)) (choose_is g n (after g n D j)))
 
 -- at the beginning
-pub has_first : (P : Problem) → HasRows (names P) (first_table P) (first_dict P)
+has_first : (P : Problem) → HasRows (names P) (first_table P) (first_dict P)
 unfolding first_table
 has_first P = record { has = λ q l z b. some_row P q b (name_cases P q l) }
 
@@ -61,6 +62,7 @@ first_rows : (P : Problem) → (first_table P).rows ≡ P.rows
 unfolding first_table
 first_rows P = refl
 
+-- after the special first pivot of phase 1 each basic name but 0 has a row
 pub has_entered : (P : Problem) (r : ℕ) → r < P.rows → HasRows (names P) (pivot_table (first_table P) r P.cols) (entered P r)
 has_entered P r l =
     subst (λ y. HasRows (names P) (pivot_table (first_table P) r P.cols) (pivot (first_dict P) y 0)) (first_row_name P r l)
@@ -80,6 +82,7 @@ plain_rows : (P : Problem) → (plain_table P).rows ≡ P.rows
 unfolding plain_table
 plain_rows P = refl
 
+-- the table without the auxiliary variable has a row for each basic name
 pub has_plain : (P : Problem) → HasRows (names P) (plain_table P) (drop_zero (first_dict P))
 has_plain P = record {
   has = λ q l z b.
@@ -88,13 +91,13 @@ has_plain P = record {
       (w.0, (let u = w.1 in omega (arith, u, first_rows P, plain_rows P)), plain_name P w.0 m ∙ w.2);
 }
 
--- where the auxiliary variable is left out
+-- where the auxiliary variable is left out, each basic name but 0 still has a row
 pub has_left : (n : ℕ) (T : Table) (D : Dict) → HasRows n T D → HasRows n (leave_table T) (drop_zero D)
 unfolding leave_table drop_table
 has_left n T D h = record {
   has = λ q l z b. let w = h.has q l z (sym (drop_basic_at D q z) ∙ b) in (w.0, w.1, ap T.row_name (skip_below T.rows w.0 w.1) ∙ w.2);
 }
 
--- in a phase
+-- in each table of a phase whose first table has a row for each basic name but 0, each of these names has a row
 pub has_phase : (n : ℕ) (ph : Phase) → IsPhase n ph → HasRows n ph.table ph.start → (j : ℕ) → HasRows n (phase_table n ph j) (phase_dict n ph j)
 has_phase n ph h k j = has_after ph.goal n ph.table ph.start h.shows h.good k j

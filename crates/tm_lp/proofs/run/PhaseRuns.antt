@@ -30,14 +30,14 @@ use Rattle.tm_lp.proofs.search.Places.{place_in}
 use Rattle.tm_lp.proofs.run.Phases.{phase_shows, phase_good, places_of_step, tables_show}
 
 -- in the second phase the auxiliary variable counts as basic
-pub main_basic : (P : Problem) (D : Dict) → IsMain P D → D.basic 0 ≡ true
+main_basic : (P : Problem) (D : Dict) → IsMain P D → D.basic 0 ≡ true
 main_basic P D d = ⊎_elim (λ t. t) (λ f. absurd (clash f)) (cases_Bool (D.basic 0))
   where
     clash : D.basic 0 ≡ false → ⊥
     clash f = one_ne_zero (sym (delta_same 0) ∙ sym (extend_free (names P) D d.good.form (delta 0) 0 f) ∙ d.zero_out (extend (names P) D (delta 0)) (extend_models (names P) D d.good.form (delta 0)))
 
 -- a phase that begins with a dictionary of the second kind
-pub main_runs : (P : Problem) (D : Dict) (T : Table) (made : ℕ) → IsMain P D → Shows (names P) T D → IsPhase (names P) (record { goal = main_row P; start = D; table = T; made = made; last = stop_index (main_row P) (names P) D })
+main_runs : (P : Problem) (D : Dict) (T : Table) (made : ℕ) → IsMain P D → Shows (names P) T D → IsPhase (names P) (record { goal = main_row P; start = D; table = T; made = made; last = stop_index (main_row P) (names P) D })
 main_runs P D T made d h =
     let w = stop_index_is (main_row P) (names P) D d.good in
     record {
@@ -57,7 +57,7 @@ or_second true b e = absurd (true≢false e)
 or_second false b e = e
 
 -- a phase of the first kind
-pub aux_runs : (P : Problem) (D : Dict) (T : Table) → IsGood (names P) D → Shows (names P) T D → D.basic 0 ≡ true → IsPhase (names P) (record { goal = aux_row P; start = D; table = T; made = 1; last = phase_one_index P D })
+aux_runs : (P : Problem) (D : Dict) (T : Table) → IsGood (names P) D → Shows (names P) T D → D.basic 0 ≡ true → IsPhase (names P) (record { goal = aux_row P; start = D; table = T; made = 1; last = phase_one_index P D })
 aux_runs P D T d h b =
     let w = phase_one_index_is P D d in
     let k = phase_one_index P D in
@@ -98,7 +98,7 @@ plain_is_phase P e =
     (main_runs P (drop_zero (first_dict P)) (plain_table P) 0 (dropped_main P (first_dict P) (first_aux P (lowest_none P e)) (first_free P 0 (omega arith))) (plain_table_shows P))
 
 -- the table that is left shows the dictionary with the auxiliary variable dropped
-pub left_shows : (n : ℕ) (T : Table) (D : Dict) → Shows n T D → IsDict n D → 0 < n → T.goals ≡ 2 → D.basic 0 ≡ false → Shows n (leave_table T) (drop_zero D)
+left_shows : (n : ℕ) (T : Table) (D : Dict) → Shows n T D → IsDict n D → 0 < n → T.goals ≡ 2 → D.basic 0 ≡ false → Shows n (leave_table T) (drop_zero D)
 unfolding leave_table
 left_shows n T D h d p g f =
     let k = h.all_cols 0 p f in
@@ -123,6 +123,7 @@ unfolding tables_after
 goals_after g n T D zero = refl
 goals_after g n T D (suc j) = step_goals (tables_after g n T D j) (choose g n (after g n D j)) ∙ goals_after g n T D j
 
+-- the steps of a run keep the number of rows
 pub rows_after : (g n : ℕ) (T : Table) (D : Dict) (j : ℕ) → (tables_after g n T D j).rows ≡ T.rows
 unfolding tables_after
 rows_after g n T D zero = refl
@@ -156,6 +157,7 @@ code_alike s t zero h = refl
 code_alike s t (suc n) h = ap₂ (λ a b. a + cond b (2 ^ n) 0) (code_alike s t n (λ q l. h q (omega (arith, l)))) (h n (omega arith))
 
 module _ (n : ℕ) (ph : Phase) (h : IsPhase n ph) where
+  -- two dictionaries of a phase have basis sets of different numbers
   pub codes_apart : (i j : ℕ) → i < j → j ≤ ph.last → code (phase_dict n ph i).basic n ≡ code (phase_dict n ph j).basic n → ⊥
   codes_apart i j l m e =
       let k = j - i in
@@ -191,6 +193,7 @@ plain_stays P e j =
     let d = dropped_main P (first_dict P) (first_aux P (lowest_none P e)) (first_free P 0 (omega arith)) in
     subst (λ s. (after (main_row P) (names P) (main_start P s) j).basic 0 ≡ true) (sym e) (main_basic P (after (main_row P) (names P) (drop_zero (first_dict P)) j) (after_main (main_row P) P (drop_zero (first_dict P)) d j))
 
+-- where the auxiliary variable has left in phase 1, it counts as basic throughout phase 2
 pub main_stays : (P : Problem) (r : ℕ) → lowest P ≡ found r → (phase_dict (names P) (aux_phase P) (aux_phase P).last).basic 0 ≡ false → (j : ℕ) → (phase_dict (names P) (main_phase P) j).basic 0 ≡ true
 unfolding last_of_one
 main_stays P r e f j =

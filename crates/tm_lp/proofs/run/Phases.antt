@@ -11,11 +11,12 @@ use Rattle.tm_lp.proofs.search.Stops.{after_good}
 use Rattle.tm_lp.proofs.search.Places.{place_only, place_in}
 use Rattle.tm_lp.proofs.TableChoices.{choose_only, table_next}
 
+-- after no step the table is the one that the run begins with
 pub tables_after-zero : (g n : ℕ) (T : Table) (D : Dict) → tables_after g n T D 0 ≡ T
 unfolding tables_after
 tables_after-zero g n T D = refl
 
-pub tables_after-suc : (g n : ℕ) (T : Table) (D : Dict) (j : ℕ) → tables_after g n T D (suc j) ≡ step_table (tables_after g n T D j) (choose g n (after g n D j))
+tables_after-suc : (g n : ℕ) (T : Table) (D : Dict) (j : ℕ) → tables_after g n T D (suc j) ≡ step_table (tables_after g n T D j) (choose g n (after g n D j))
 unfolding tables_after
 tables_after-suc g n T D j = refl
 
@@ -53,9 +54,11 @@ tables_show g n T D h d (suc j) =
     (shows_step g n (tables_after g n T D j) (after g n D j) (tables_show g n T D h d j) (after_good g n D d j) (choose g n (after g n D j)) refl (choose_is g n (after g n D j)))
 
 module _ (n : ℕ) (ph : Phase) (h : IsPhase n ph) where
+  -- each table of a phase shows the phase's dictionary of the same number
   pub phase_shows : (j : ℕ) → Shows n (phase_table n ph j) (phase_dict n ph j)
   phase_shows j = tables_show ph.goal n ph.table ph.start h.shows h.good j
 
+  -- each dictionary of a phase has the form of a dictionary, and is feasible
   pub phase_good : (j : ℕ) → IsGood n (phase_dict n ph j)
   phase_good j = after_good ph.goal n ph.start h.good j
 

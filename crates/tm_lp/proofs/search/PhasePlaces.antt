@@ -35,7 +35,7 @@ basis_found n T D h q l none w = ⊎_elim (λ b. sym b) (λ f. let k = h.all_col
 basis_found n T D h q l (found k) w = sym (ap D.basic (sym (eqb-true (T.col_name k) q w.1)) ∙ h.col_free k w.0)
 
 -- the names of a table's columns tell the basic names
-pub basis_is : (n : ℕ) (T : Table) (D : Dict) → Shows n T D → (q : ℕ) → q < n → table_basis T q ≡ D.basic q
+basis_is : (n : ℕ) (T : Table) (D : Dict) → Shows n T D → (q : ℕ) → q < n → table_basis T q ≡ D.basic q
 unfolding table_basis
 basis_is n T D h q l = basis_found n T D h q l (first (λ k. eqb (T.col_name k) q) T.width) (first_is (λ k. eqb (T.col_name k) q) T.width)
 
@@ -43,7 +43,7 @@ module _ (n : ℕ) (ph : Phase) (h : IsPhase n ph) where
   basis_code : (j : ℕ) (T : Table) → Agree (phase_table n ph j) T → code (table_basis T) n ≡ code (phase_dict n ph j).basic n
   basis_code j T a = code_alike (table_basis T) (phase_dict n ph j).basic n (λ q l. basis_is n T (phase_dict n ph j) (shows_agree n (phase_table n ph j) T (phase_dict n ph j) (phase_shows n ph h j) a) q l)
 
-  pub run_place_is : (j : ℕ) (T : Table) → j ≤ ph.last → Agree (phase_table n ph j) T → run_place n ph T ≡ j
+  run_place_is : (j : ℕ) (T : Table) → j ≤ ph.last → Agree (phase_table n ph j) T → run_place n ph T ≡ j
   unfolding run_place
   run_place_is j T l a =
       let e = basis_code j T a in

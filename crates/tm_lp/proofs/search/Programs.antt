@@ -21,11 +21,14 @@ either_true false b e f = absurd (true≢false (sym e ∙ f))
 
 -- phase 1 is over at k and not before
 pub record IsOver (P : Problem) (D : Dict) (k : ℕ) : Type 0 where
+  -- the number of steps is below 2 to the number of names
   pub below : k < 2 ^ names P
+  -- after this number of steps phase 1 is over
   pub over : is_over P D k ≡ true
+  -- after fewer steps phase 1 isn't over
   pub before : (j : ℕ) → j < k → is_over P D j ≡ false
 
--- phase 1 is over after that many steps
+-- phase 1 is over after the number of steps that `phase_one_index` says, and not before
 pub phase_one_index_is : (P : Problem) (D : Dict) → IsGood (names P) D → IsOver P D (phase_one_index P D)
 unfolding phase_one_index
 phase_one_index_is P D d = by (first (is_over P D) (2 ^ names P)) (first_is (is_over P D) (2 ^ names P))
@@ -40,7 +43,7 @@ unfolding after
 after-zero g n D = refl
 
 -- while the auxiliary variable is basic it is above 0
-pub aux_positive : (P : Problem) (D : Dict) → IsAux P D → zero_ℚ <ℚ D.const 0 → (j : ℕ) → ((i : ℕ) → i < j → is_over P D i ≡ false) → (after (aux_row P) (names P) D j).basic 0 ≡ true → zero_ℚ <ℚ (after (aux_row P) (names P) D j).const 0
+aux_positive : (P : Problem) (D : Dict) → IsAux P D → zero_ℚ <ℚ D.const 0 → (j : ℕ) → ((i : ℕ) → i < j → is_over P D i ≡ false) → (after (aux_row P) (names P) D j).basic 0 ≡ true → zero_ℚ <ℚ (after (aux_row P) (names P) D j).const 0
 aux_positive P D d p zero h b = subst (λ E. zero_ℚ <ℚ E.const 0) (sym (after-zero (aux_row P) (names P) D)) p
 aux_positive P D d p (suc j) h b =
     let A = after (aux_row P) (names P) D j in
@@ -65,7 +68,7 @@ pub first_aux : (P : Problem) → ((r : ℕ) → r < P.rows → zero_ℚ ≤ℚ 
 first_aux P h = record { good = record { form = first_form P; feasible = first_feasible P h }; out = λ V m. m; into = λ V m. m }
 
 -- phase 1 ends with right evidence
-pub phase_one_is : (P : Problem) (D : Dict) → IsAux P D → zero_ℚ <ℚ D.const 0 → IsOutcome P (phase_one P D)
+phase_one_is : (P : Problem) (D : Dict) → IsAux P D → zero_ℚ <ℚ D.const 0 → IsOutcome P (phase_one P D)
 unfolding phase_one last_of_one
 phase_one_is P D d p = by ((last_of_one P D).basic 0) refl
   where

@@ -39,9 +39,13 @@ first_is p (suc n) = first_step p n (first p n) (first_is p n) (p n) refl
 
 -- what `least p f n` says
 pub record IsLeast (p : ℕ → Bool) (f : ℕ → ℚ) (n r : ℕ) : Type 0 where
+  -- the index is below the bound
   pub below : r < n
+  -- the test holds at the index
   pub wanted : p r ≡ true
+  -- no index below the bound at which the test holds has a lesser value
   pub least : (i : ℕ) → i < n → p i ≡ true → f r ≤ℚ f i
+  -- each earlier index at which the test holds has a greater value
   pub before : (i : ℕ) → i < r → p i ≡ true → f r <ℚ f i
 
 -- what `least p f n` says

@@ -43,7 +43,7 @@ unfolding after next
 after_good g n D d zero = d
 after_good g n D d (suc j) = let E = after g n D j in good_at g n (after g n D j) (after_good g n D d j) (choose g n (after g n D j)) (choose_is g n (after g n D j))
 
--- and means the same
+-- each dictionary of the iteration means all that the first one means
 pub after_means : (g n : ℕ) (D : Dict) (V : ℕ → ℚ) → Models n D V → (j : ℕ) → Models n (after g n D j) V
 unfolding after next
 after_means g n D V m zero = m
@@ -100,7 +100,7 @@ stop_index_is g n D d = by (first (λ j. stops g n (after g n D j)) (2 ^ n)) (fi
     by (found k) h = record { below = h.0; stop = h.1; before = h.2 }
 
 -- an index at which the rule stops and before which it does not is the stop index
-pub stop_index_only : (g n : ℕ) (D : Dict) → IsGood n D → (k : ℕ) → stops g n (after g n D k) ≡ true → ((j : ℕ) → j < k → stops g n (after g n D j) ≡ false) → stop_index g n D ≡ k
+stop_index_only : (g n : ℕ) (D : Dict) → IsGood n D → (k : ℕ) → stops g n (after g n D k) ≡ true → ((j : ℕ) → j < k → stops g n (after g n D j) ≡ false) → stop_index g n D ≡ k
 stop_index_only g n D d k s b =
     let w = stop_index_is g n D d in
     ⊎_elim (λ l. absurd (true≢false (sym w.stop ∙ b (stop_index g n D) l))) (λ l. ⊎_elim (λ m. absurd (true≢false (sym s ∙ w.before k m))) (λ m. omega (arith, l, m)) (cases_lt k (stop_index g n D))) (cases_lt (stop_index g n D) k)

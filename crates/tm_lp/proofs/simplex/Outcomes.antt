@@ -18,9 +18,13 @@ use Rattle.tm_lp.proofs.simplex.ReadOff.{read_const, read_column}
 
 -- D is good and says of the problem what the first dictionary says with the auxiliary variable at 0
 pub record IsMain (P : Problem) (D : Dict) : Type 0 where
+  -- it has the form of a dictionary, and is feasible
   pub good : IsGood (names P) D
+  -- what it says has each slack at its side without the row's sum
   pub out : (V : ℕ → ℚ) → Models (names P) D V → Equations P V
+  -- what it says has the auxiliary variable at 0
   pub zero_out : (V : ℕ → ℚ) → Models (names P) D V → V 0 ≡ zero_ℚ
+  -- what the first dictionary says with the auxiliary variable at 0, it says
   pub into : (V : ℕ → ℚ) → Models (names P) (first_dict P) V → V 0 ≡ zero_ℚ → Models (names P) D V
 
 -- the iteration keeps that
@@ -37,7 +41,7 @@ pub multipliers_nonneg : (P : Problem) (D : Dict) (g : ℕ) → ((k : ℕ) → k
 multipliers_nonneg P D g h r l = let a = h (slack_name P r) (omega (arith, l)) in lin_le (D.coef g (slack_name P r) ∷ []) (le a ∷ []) (search reads_all depth 40) tt
 
 -- the basic solution is a point, with the goal's constant as value
-pub main_point : (P : Problem) (D : Dict) → IsMain P D → IsPoint P (point_of D)
+main_point : (P : Problem) (D : Dict) → IsMain P D → IsPoint P (point_of D)
 main_point P D d =
     let b = basic_models (names P) D d.good.form in
     record {
@@ -50,11 +54,11 @@ main_point P D d =
     }
 
 -- the point's value is the goal's constant
-pub main_value : (P : Problem) (D : Dict) → IsMain P D → value_at P (point_of D) ≡ D.const (main_row P)
+main_value : (P : Problem) (D : Dict) → IsMain P D → value_at P (point_of D) ≡ D.const (main_row P)
 main_value P D d = sym ((d.out D.const (basic_models (names P) D d.good.form)).main)
 
 -- no positive coefficient in the goal: best
-pub best_of : (P : Problem) (D : Dict) → IsMain P D → ((k : ℕ) → k < names P → D.coef (main_row P) k ≤ℚ zero_ℚ) → IsBest P (point_of D) (D.const (main_row P)) (multipliers P D (main_row P))
+best_of : (P : Problem) (D : Dict) → IsMain P D → ((k : ℕ) → k < names P → D.coef (main_row P) k ≤ℚ zero_ℚ) → IsBest P (point_of D) (D.const (main_row P)) (multipliers P D (main_row P))
 best_of P D d h = record {
   point = main_point P D d;
   value = main_value P D d;
@@ -86,7 +90,7 @@ sum_both : (n : ℕ) (a x d : ℕ → ℚ) → sum_to n (λ j. a j *ℚ (x j +�
 sum_both n a x d = sum_to_same n (λ j. a j *ℚ (x j +ℚ d j)) (λ j. a j *ℚ x j +ℚ a j *ℚ d j) (λ j l. ring (a j ∷ x j ∷ d j ∷ []) (search reads depth 40) refl) ∙ sum_to-add n (λ j. a j *ℚ x j) (λ j. a j *ℚ d j)
 
 -- a name enters and no row has a negative entry: unbounded
-pub unbounded_of : (P : Problem) (D : Dict) → IsMain P D → (c : ℕ) → Enters (main_row P) (names P) D c → ((i : ℕ) → i < names P → zero_ℚ ≤ℚ D.coef i c) → IsUnbounded P (point_of D) (ray_of D c)
+unbounded_of : (P : Problem) (D : Dict) → IsMain P D → (c : ℕ) → Enters (main_row P) (names P) D c → ((i : ℕ) → i < names P → zero_ℚ ≤ℚ D.coef i c) → IsUnbounded P (point_of D) (ray_of D c)
 unbounded_of P D d c e h =
     let b = basic_models (names P) D d.good.form in
     let a = along_models (names P) D d.good.form c e.name in

@@ -15,7 +15,7 @@ use Rattle.tm_lp.proofs.dictionary.Dictionaries.{along, along_free}
 use Rattle.tm_lp.proofs.simplex.Roles.{role-column, role-slack, role-zero, first_form, first_free, first-const_slack, first-slack, first-main, first-aux, first-const_main, first-const_aux}
 
 -- a row in its parts: the auxiliary variable, the columns, the slacks
-pub row_split : (P : Problem) (D : Dict) (V : ℕ → ℚ) (i : ℕ) → row (names P) D V i ≡
+row_split : (P : Problem) (D : Dict) (V : ℕ → ℚ) (i : ℕ) → row (names P) D V i ≡
     D.const i +ℚ (D.coef i 0 *ℚ V 0 +ℚ (sum_to P.cols (λ j. D.coef i (suc j) *ℚ V (suc j)) +ℚ sum_to P.rows (λ r. D.coef i (slack_name P r) *ℚ V (slack_name P r))))
 unfolding row
 row_split P D V i =
@@ -34,7 +34,7 @@ parts_eq : (a a' b b' v c c' s : ℚ) → a ≡ a' → b ≡ b' → c ≡ c' →
 parts_eq a a' b b' v c c' s p q u w = ap (λ x. x +ℚ (b *ℚ v +ℚ (c +ℚ s))) p ∙ ap (λ x. a' +ℚ (x *ℚ v +ℚ (c +ℚ s))) q ∙ ap (λ x. a' +ℚ (b' *ℚ v +ℚ (x +ℚ s))) u ∙ ap (λ x. a' +ℚ (b' *ℚ v +ℚ (c' +ℚ x))) w
 
 -- the row of a slack
-pub first_row_slack : (P : Problem) (V : ℕ → ℚ) (r : ℕ) → r < P.rows → row (names P) (first_dict P) V (slack_name P r) ≡ P.side r -ℚ left P r (columns V) +ℚ V 0
+first_row_slack : (P : Problem) (V : ℕ → ℚ) (r : ℕ) → r < P.rows → row (names P) (first_dict P) V (slack_name P r) ≡ P.side r -ℚ left P r (columns V) +ℚ V 0
 first_row_slack P V r l =
     let z : (first_dict P).coef (slack_name P r) 0 ≡ one_ℚ = first-slack P r 0 l ∙ ap (slack_coef P r) (role-zero P) in
     let c : sum_to P.cols (λ j. (first_dict P).coef (slack_name P r) (suc j) *ℚ V (suc j)) ≡ neg_ℚ (left P r (columns V)) =
@@ -46,7 +46,7 @@ first_row_slack P V r l =
     ∙ ring (P.side r ∷ V 0 ∷ left P r (columns V) ∷ []) (search reads depth 40) refl
 
 -- the row of the problem's goal
-pub first_row_main : (P : Problem) (V : ℕ → ℚ) → row (names P) (first_dict P) V (main_row P) ≡ value_at P (columns V)
+first_row_main : (P : Problem) (V : ℕ → ℚ) → row (names P) (first_dict P) V (main_row P) ≡ value_at P (columns V)
 first_row_main P V =
     let a = first-const_main P in
     let z : (first_dict P).coef (main_row P) 0 ≡ zero_ℚ = first-main P 0 ∙ ap (main_coef P) (role-zero P) in
@@ -58,7 +58,7 @@ first_row_main P V =
     (eq a ∷ eq_times (V 0) z ∷ eq c ∷ eq s ∷ []) (search reads_all depth 40 fits 9000) tt
 
 -- the row of the first goal
-pub first_row_aux : (P : Problem) (V : ℕ → ℚ) → row (names P) (first_dict P) V (aux_row P) ≡ neg_ℚ (V 0)
+first_row_aux : (P : Problem) (V : ℕ → ℚ) → row (names P) (first_dict P) V (aux_row P) ≡ neg_ℚ (V 0)
 first_row_aux P V =
     let a = first-const_aux P in
     let z : (first_dict P).coef (aux_row P) 0 ≡ neg_ℚ one_ℚ = first-aux P 0 ∙ ap aux_coef (role-zero P) in
