@@ -6,9 +6,11 @@ use Rattle.tm_num.proofs.rational.Quotients.{zero_by_num}
 use Rattle.tm_dict.specs.Formulas.{is_zero, is_zero_num}
 pub use Rattle.tm_frac.proofs.operation.Widths.{first_wide_later, first_wide_sooner, first_wide_past, first_wide_here, one_answer}
 
+-- the test for 0 passes at 0
 pub is_zero_yes : (q : ℚ) → q ≡ zero_ℚ → is_zero q ≡ true
 is_zero_yes q e = ap is_zero_num ((zero_by_num q).1 e)
 
+-- the test for 0 fails at any other number
 pub is_zero_no : (q : ℚ) → q ≢ zero_ℚ → is_zero q ≡ false
 is_zero_no q n = by q.num refl
   where

@@ -43,6 +43,6 @@ abbrev pub width_of : Bool → ℕ → ℕ
 width_of true cols = suc cols
 width_of false cols = cols
 
--- the name of a column: the auxiliary variable stands behind the problem's
+-- the name of a column: the auxiliary variable comes after the problem's
 abbrev pub other_name : ℕ → ℕ → ℕ
 other_name cols k = cond (ltb k cols) (suc k) 0

@@ -20,7 +20,7 @@ pub fn names_from(alloc: Global, first: u32, count: u32) -> Result<Vec<u32>, All
     Ok(names)
 }
 
-/// The names of the columns of the first dictionary: 1 to `cols`, and behind them 0, the auxiliary variable, if there is one.
+/// The names of the columns of the first dictionary: 1 to `cols`, and after them 0, the auxiliary variable, if there is one.
 pub fn other_names(alloc: Global, cols: u32, auxiliary: bool) -> Result<Vec<u32>, AllocError>
     requires { 1 + cols < 4294967296 }
     ensures { IfOk result (λ v. (length v.items ≡ width_of auxiliary cols) × ((k : ℕ) → k < width_of auxiliary cols → get_or v.items k 0 ≡ other_name cols k)) }

@@ -10,6 +10,7 @@ zeros_push : (n : ℕ) → zeros (suc n) ≡ zeros n ++ zero_ℚ ∷ []
 zeros_push zero = refl
 zeros_push (suc n) = ap (λ xs. zero_ℚ ∷ xs) (zeros_push n)
 
+-- one zero more is a zero at the end
 pub zeros_more : (n : ℕ) → zeros (n + 1) ≡ zeros n ++ zero_ℚ ∷ []
 zeros_more n = ap zeros (add-one n) ∙ zeros_push n
 
@@ -30,5 +31,6 @@ pub slacks_more : (aux : Bool) (A : List (List ℚ)) (b : List ℚ) (i : ℕ) (u
 slacks_more aux A b i u s e f =
     joined-suc i (λ j. slack_entries aux (get_or A j []) (get_or b j zero_ℚ)) ∙ ap₂ (λ v t. slacks_entries aux A b i ++ slack_entries aux v t) e f
 
+-- no slacks have no entries
 pub slacks_none : (aux : Bool) (A : List (List ℚ)) (b : List ℚ) → slacks_entries aux A b 0 ≡ []
 slacks_none aux A b = joined-zero (λ j. slack_entries aux (get_or A j []) (get_or b j zero_ℚ))

@@ -13,11 +13,11 @@ use Rattle.tm_dict.specs.Rows.{ShiftsRows}
 use Rattle.tm_dict.proofs.cells.RowLoops.{row_end}
 
 -- an entry of the first n
-pub cell_taken : {F : Type 0} (m : F → ℚ) (n : ℕ) (xs : List F) (p : ℕ) → p < n → cell m (take n xs) p ≡ cell m xs p
+cell_taken : {F : Type 0} (m : F → ℚ) (n : ℕ) (xs : List F) (p : ℕ) → p < n → cell m (take n xs) p ≡ cell m xs p
 cell_taken m n xs p l = ap (λ ys. get_or ys p zero_ℚ) (sym (take-map m n xs)) ∙ get_or-take n (map m xs) p zero_ℚ l
 
 -- a name of the list without one
-pub name_removed : (ns : List ℕ) (z k : ℕ) → z < length ns → get_or (remove ns z) k 0 ≡ get_or ns (skip z k) 0
+name_removed : (ns : List ℕ) (z k : ℕ) → z < length ns → get_or (remove ns z) k 0 ≡ get_or ns (skip z k) 0
 name_removed ns z k l = ⊎_elim
     (λ a. get_or-remove_below ns z 0 k a l ∙ ap (λ j. get_or ns j 0) (sym (skip_below z k a)))
     (λ a. get_or-remove_above ns z 0 k a l ∙ ap (λ j. get_or ns j 0) (let e = skip_above z k a in let f : k + 1 ≡ skip z k = omega (arith, e) in f))

@@ -12,7 +12,7 @@ use Rattle.tm_dict.specs.Cells.{cell, row_from, goal_name, cells_table}
 use Rattle.tm_dict.specs.Rows.{Exchanges, exchange_operations}
 
 -- a number that is read, at the default 0
-pub name_read : (xs : List ℕ) (i x : ℕ) → i < length xs → x ≡ get_or xs i x → x ≡ get_or xs i 0
+name_read : (xs : List ℕ) (i x : ℕ) → i < length xs → x ≡ get_or xs i x → x ≡ get_or xs i 0
 name_read xs i x l e = e ∙ get_or_default xs i x 0 l
 
 -- an entry of the table after the pivot, in the pivot's row and in another
@@ -24,6 +24,7 @@ row_entry T r c k = by (eqb k c)
     by true = refl
     by false = refl
 
+-- an entry of another row after the pivot is the old one combined with the pivot's new row
 pub other_entry : (T : Table) (r c i k : ℕ) → pivot_other_entry T r c i k ≡ combined_row (T.entry i) (divided_row (T.entry r) c) c k
 unfolding pivot_other_entry
 other_entry T r c i k = by (eqb k c) refl
@@ -91,5 +92,6 @@ written_back xs ys n e = take_at ys (drop (length ys) xs) n e
 pub exchange_in : {F : Type 0} (m : F → ℚ) (n k r s t c : ℕ) (xs xs' ys : List F) → n ≡ k → s ≡ t → xs ≡ xs' → Exchanges m n r s c xs ys → Exchanges m k r t c xs' ys
 exchange_in m n k r s t c xs xs' ys e f g h = subst (λ a. Exchanges m a r t c xs' ys) e (subst (λ b. Exchanges m n r b c xs' ys) f (subst (λ o. Exchanges m n r s c o ys) g h))
 
+-- the operations of a pivot at equal sizes, places and entries are the same
 pub exchange_operations_in : {F : Type 0} (m : F → ℚ) (n k r s t c : ℕ) (xs xs' : List F) → n ≡ k → s ≡ t → xs ≡ xs' → exchange_operations m xs n r s c ≡ exchange_operations m xs' k r t c
 exchange_operations_in m n k r s t c xs xs' e f g = ap₂ (λ a b. exchange_operations m xs a r b c) e f ∙ ap (λ o. exchange_operations m o k r t c) g

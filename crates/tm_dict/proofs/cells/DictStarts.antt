@@ -31,7 +31,7 @@ module _ (W : ℕ) (A : List (List ℚ)) (b c : List ℚ) (rows_are : (i : ℕ) 
   slacks_short = joined_length (suc W) (length b) (λ i. slack_entries false (get_or A i []) (get_or b i zero_ℚ)) (λ i l. slack_short W (get_or A i []) (rows_are i l) (get_or b i zero_ℚ))
 
   -- how long the lists are
-  pub long_length : length (slacks_entries true A b (length b) ++ goals_entries true c) ≡ (length b + 2) * suc (suc W)
+  long_length : length (slacks_entries true A b (length b) ++ goals_entries true c) ≡ (length b + 2) * suc (suc W)
   long_length =
       let e = slacks_long in
       let f = auxiliary_length (length c) in
@@ -41,7 +41,7 @@ module _ (W : ℕ) (A : List (List ℚ)) (b c : List ℚ) (rows_are : (i : ℕ) 
       let d : (length b + 2) * suc (suc W) ≡ length b * suc (suc W) + (suc (suc W) + suc (suc W)) = omega arith in
       omega (arith, e, f, h, k, j, d, goal_is)
 
-  pub short_length : length (slacks_entries false A b (length b) ++ goals_entries false c) ≡ (length b + 1) * suc W
+  short_length : length (slacks_entries false A b (length b) ++ goals_entries false c) ≡ (length b + 1) * suc W
   short_length =
       let e = slacks_short in
       let h = goal_short W c goal_is in
@@ -100,7 +100,7 @@ module _ (W : ℕ) (A : List (List ℚ)) (b c : List ℚ) (rows_are : (i : ℕ) 
     goal_row : (goals w i : ℕ) → length b ≤ i → cond (ltb i (length bs)) (get_or bs i 0) (goal_name (length bs) goals w i) ≡ goal_name (length b) goals w i
     goal_row goals w i a = ap (λ t. cond t (get_or bs i 0) (goal_name (length bs) goals w i)) (le-ltb i (length bs) (omega (arith, a, bs_long))) ∙ ap (λ n. goal_name n goals w i) bs_long
 
-    pub long_agrees : length ns ≡ suc W → ((k : ℕ) → k < suc W → get_or ns k 0 ≡ other_name W k) → map m xs ≡ slacks_entries true A b (length b) ++ goals_entries true c → Agree (first_table P) (cells_table m bs ns 2 xs)
+    long_agrees : length ns ≡ suc W → ((k : ℕ) → k < suc W → get_or ns k 0 ≡ other_name W k) → map m xs ≡ slacks_entries true A b (length b) ++ goals_entries true c → Agree (first_table P) (cells_table m bs ns 2 xs)
     unfolding first_table
     long_agrees n h e = record {
       rows = bs_long;
@@ -119,7 +119,7 @@ module _ (W : ℕ) (A : List (List ℚ)) (b c : List ℚ) (rows_are : (i : ℕ) 
       entry = λ i k l d. ap (λ w. row_from m xs (i * suc w) k) n ∙ ap (λ ys. get_or ys (i * suc (suc W) + k) zero_ℚ) e ∙ long_entry i k l (omega (arith, d));
     }
 
-    pub short_agrees : length ns ≡ W → ((k : ℕ) → k < W → get_or ns k 0 ≡ other_name W k) → map m xs ≡ slacks_entries false A b (length b) ++ goals_entries false c → Agree (plain_table P) (cells_table m bs ns 1 xs)
+    short_agrees : length ns ≡ W → ((k : ℕ) → k < W → get_or ns k 0 ≡ other_name W k) → map m xs ≡ slacks_entries false A b (length b) ++ goals_entries false c → Agree (plain_table P) (cells_table m bs ns 1 xs)
     unfolding plain_table
     short_agrees n h e = record {
       rows = bs_long;

@@ -19,6 +19,7 @@ row_end i j s l = let m : suc i * s ≤ j * s = mul-le-mul_right s l in let e : 
 pub rows_apart : (i j s k : ℕ) → i ≢ j → k < s → (j * s + k < i * s) ⊎ (i * s + s ≤ j * s + k)
 rows_apart i j s k n l = ⊎_elim (λ a. inr (let e = row_end i j s a in omega (arith, e))) (λ a. inl (let e = row_end j i s (omega (arith, a, n)) in omega (arith, e, l))) (cases_lt i j)
 
+-- of two different rows one ends before the other begins
 pub rows_disjoint : (i j s : ℕ) → i ≢ j → (i * s + s ≤ j * s) ⊎ (j * s + s ≤ i * s)
 rows_disjoint i j s n = ⊎_elim (λ a. inl (row_end i j s a)) (λ a. inr (row_end j i s (omega (arith, a, n)))) (cases_lt i j)
 
@@ -27,6 +28,7 @@ module _ {F : Type 0} (m : F → ℚ) (L : ℤ) (r s c : ℕ) (c_in : c < s) (ol
   pub combines_none : CombinesRows m 0 r s c old old
   combines_none = record { others = λ i k l n b. absurd (omega (arith, l)); pivot_row = λ k b. refl; later = λ p b. refl }
 
+  -- combining no rows makes no operation
   pub rows_none : first_wide L (rows_operations m old 0 r s c) ≡ None
   unfolding rows_operations
   rows_none = joined_fits_none L (λ i. cond (eqb i r) [] (combination_row_operations s (row_from m old (i * s)) (row_from m old (r * s)) c))
@@ -43,6 +45,7 @@ module _ {F : Type 0} (m : F → ℚ) (L : ℤ) (r s c : ℕ) (c_in : c < s) (ol
       later = λ p b. h.later p (let d : (i + 1) * s ≡ i * s + s = omega arith in omega (arith, b, d));
     }
 
+    -- where the next row is the pivot's, one row more makes no wide operation
     pub rows_past : i ≡ r → first_wide L (rows_operations m old i r s c) ≡ None → first_wide L (rows_operations m old (i + 1) r s c) ≡ None
     unfolding rows_operations
     rows_past e w = joined_fits_more L i (λ i. cond (eqb i r) [] (combination_row_operations s (row_from m old (i * s)) (row_from m old (r * s)) c)) w
@@ -67,10 +70,12 @@ module _ {F : Type 0} (m : F → ℚ) (L : ℤ) (r s c : ℕ) (c_in : c < s) (ol
         later = λ p b. let d : (i + 1) * s ≡ i * s + s = omega arith in w.outside p (inr (omega (arith, b, d))) ∙ h.later p (omega (arith, b, d));
       }
 
+      -- where none of the next row's operations is wide, none is in one row more
       pub rows_more : first_wide L (rows_operations m old i r s c) ≡ None → first_wide L (combination_row_operations s (row_from m ys (i * s)) (row_from m ys (r * s)) c) ≡ None → first_wide L (rows_operations m old (i + 1) r s c) ≡ None
       unfolding rows_operations
       rows_more v w = joined_fits_more L i (λ i. cond (eqb i r) [] (combination_row_operations s (row_from m old (i * s)) (row_from m old (r * s)) c)) v (ap (first_wide L) row_operations_old ∙ w)
 
+      -- the first wide operation of the next row is the first of the whole pivot
       pub rows_refused : (rows : ℕ) (o : Operation) → i < rows → first_wide L (rows_operations m old i r s c) ≡ None → first_wide L (combination_row_operations s (row_from m ys (i * s)) (row_from m ys (r * s)) c) ≡ Some o → first_wide L (rows_operations m old rows r s c) ≡ Some o
       unfolding rows_operations
       rows_refused rows o l v w = joined_wide_at L i rows (λ i. cond (eqb i r) [] (combination_row_operations s (row_from m old (i * s)) (row_from m old (r * s)) c)) o l v (ap (first_wide L) row_operations_old ∙ w)

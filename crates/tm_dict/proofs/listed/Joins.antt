@@ -5,10 +5,12 @@ use Rattle.tm_frac.specs.Operation.{Operation, first_wide}
 use Rattle.tm_dict.specs.Listed.{joined}
 use Rattle.tm_dict.proofs.Widths.{first_wide_later, first_wide_sooner}
 
+-- the lists of n + 1 indexes joined are those of n indexes joined, and then the last one
 pub joined-suc : {A : Type 0} (n : ℕ) (f : ℕ → List A) → joined (n + 1) f ≡ joined n f ++ f n
 unfolding joined
 joined-suc n f = ap (λ k. joined k f) (add-one n)
 
+-- no lists joined are the empty list
 pub joined-zero : {A : Type 0} (f : ℕ → List A) → joined 0 f ≡ []
 unfolding joined
 joined-zero f = refl
@@ -24,7 +26,7 @@ pub joined_fits_more : (L : ℤ) (n : ℕ) (f : ℕ → List Operation) → firs
 joined_fits_more L n f h k = ap (first_wide L) (joined-suc n f) ∙ first_wide_later L (joined n f) (f n) h ∙ k
 
 -- the first that is wide stays the first in longer lists
-pub joined_wide_more : (L : ℤ) (k n : ℕ) (f : ℕ → List Operation) (o : Operation) → k ≤ n → first_wide L (joined k f) ≡ Some o → first_wide L (joined n f) ≡ Some o
+joined_wide_more : (L : ℤ) (k n : ℕ) (f : ℕ → List Operation) (o : Operation) → k ≤ n → first_wide L (joined k f) ≡ Some o → first_wide L (joined n f) ≡ Some o
 joined_wide_more L k zero f o l h = ap (λ x. first_wide L (joined x f)) (let e : 0 ≡ k = omega (arith, l) in e) ∙ h
 joined_wide_more L k (suc n) f o l h = ⊎_elim
     (λ b. ap (λ x. first_wide L (joined x f)) (sym (add-one n)) ∙ ap (first_wide L) (joined-suc n f) ∙ first_wide_sooner L (joined n f) (f n) o (joined_wide_more L k n f o (omega (arith, b)) h))

@@ -15,10 +15,12 @@ use Rattle.tm_dict.proofs.Widths.{is_zero_yes, first_wide_sooner, first_wide_lat
 use Rattle.tm_dict.proofs.cells.Cells.{cell_read, cell_written, cell_kept, sets_more}
 use Rattle.tm_dict.proofs.listed.Joins.{joined_fits_more, joined_wide_at, joined_fits_none, joined_fits_empty, joined_same}
 
+-- no entries of the pivot's row make no wide operation
 pub division_none : (L : ℤ) (a : ℕ → ℚ) (c : ℕ) → first_wide L (division_row_operations 0 a c) ≡ None
 unfolding division_row_operations
 division_none L a c = joined_fits_none L (λ k. divided_operations (a k) (a c) (eqb k c))
 
+-- no entries of another row make no wide operation
 pub added_none : (L : ℤ) (a : ℕ → ℚ) (f : ℚ) (b : ℕ → ℚ) (c : ℕ) → first_wide L (added_row_operations 0 a f b c) ≡ None
 unfolding added_row_operations
 added_none L a f b c = joined_fits_none L (λ k. added_operations (a k) f (b k) (eqb k c))
@@ -89,6 +91,7 @@ combined_still a b c k z = by (eqb k c) refl
 none_made : (f b : ℚ) (os : List Operation) → f ≡ zero_ℚ → unless_zero f b os ≡ []
 none_made f b os z = ap (λ s. cond s [] (cond (is_zero b) [] os)) (is_zero_yes f z)
 
+-- a row with 0 in the pivot's column makes no wide operation
 pub combination_still : (L : ℤ) (n : ℕ) (a b : ℕ → ℚ) (c : ℕ) → a c ≡ zero_ℚ → first_wide L (combination_row_operations n a b c) ≡ None
 unfolding combination_row_operations added_row_operations
 combination_still L n a b c z =
@@ -105,6 +108,7 @@ unfolding division_row_operations
 division_same n a b c l h =
     joined_same n (λ k. divided_operations (a k) (a c) (eqb k c)) (λ k. divided_operations (b k) (b c) (eqb k c)) (λ k m. ap₂ (λ s t. divided_operations s t (eqb k c)) (h k m) (h c l))
 
+-- rows that agree below n make the same operations
 pub combination_same : (n : ℕ) (a a' b b' : ℕ → ℚ) (c : ℕ) → c < n → ((k : ℕ) → k < n → a k ≡ a' k) → ((k : ℕ) → k < n → b k ≡ b' k) → combination_row_operations n a b c ≡ combination_row_operations n a' b' c
 unfolding combination_row_operations added_row_operations
 combination_same n a a' b b' c l h i =
@@ -112,6 +116,7 @@ combination_same n a a' b b' c l h i =
     (joined_same n (λ k. added_operations (a k) (a c) (b k) (eqb k c)) (λ k. added_operations (a' k) (a' c) (b' k) (eqb k c))
     (λ k m. ap₂ (λ s t. added_operations s t (b k) (eqb k c)) (h k m) (h c l) ∙ ap (λ t. added_operations (a' k) (a' c) t (eqb k c)) (i k m)))
 
+-- entries that agree, with those in the pivot's column, are combined to the same number
 pub combined_same : (a a' b b' : ℕ → ℚ) (c k : ℕ) → a k ≡ a' k → a c ≡ a' c → b k ≡ b' k → combined_row a b c k ≡ combined_row a' b' c k
 combined_same a a' b b' c k h i j = ap₂ (λ s t. combined s t (b k) (eqb k c)) h i ∙ ap (λ t. combined (a' k) (a' c) t (eqb k c)) j
 
@@ -129,6 +134,7 @@ module _ {F : Type 0} (m : F → ℚ) (L : ℤ) (old : List F) (start above n c 
   mid_above : (k : ℕ) → k < n → row_from m (set old (start + c) v) above k ≡ row_from m old above k
   mid_above k l = cell_kept m old (start + c) (above + k) v (λ e. ⊎_elim (λ a. omega (arith, e, a, c_in, l)) (λ a. omega (arith, e, a, c_in, l)) apart)
 
+  -- after formula 3 in the pivot's column and formula 4 elsewhere, the row is the combined one
   pub combined_after : (f : ℚ) (new : List F) → f ≡ row_from m old start c → m v ≡ f *ℚ row_from m old above c → SetsRow m start n (added_row (row_from m (set old (start + c) v) start) f (row_from m (set old (start + c) v) above) c) (set old (start + c) v) new →
       SetsRow m start n (combined_row (row_from m old start) (row_from m old above) c) old new
   combined_after f new f_is v_is h = record {
@@ -141,7 +147,7 @@ module _ {F : Type 0} (m : F → ℚ) (L : ℤ) (old : List F) (start above n c 
       entry k l false e = ap₂ (λ s t. s +ℚ t) (mid_entry k (eqb-false k c e)) (ap₂ (λ s t. s *ℚ t) f_is (mid_above k l))
 
   -- the operations
-  pub combined_operations_are : (f : ℚ) → f ≡ row_from m old start c → combination_row_operations n (row_from m old start) (row_from m old above) c ≡
+  combined_operations_are : (f : ℚ) → f ≡ row_from m old start c → combination_row_operations n (row_from m old start) (row_from m old above) c ≡
       product_operations f (row_from m old above c) ++ added_row_operations n (row_from m (set old (start + c) v) start) f (row_from m (set old (start + c) v) above) c
   unfolding combination_row_operations added_row_operations
   combined_operations_are f f_is =

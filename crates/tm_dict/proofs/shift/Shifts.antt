@@ -10,21 +10,24 @@ use Rattle.tm_dict.specs.Rows.{SetsRow, ShiftsRows}
 use Rattle.tm_dict.proofs.cells.Cells.{cell_read, sets_more}
 use Rattle.tm_dict.proofs.cells.RowLoops.{row_end}
 
--- the place from which the code takes a row or an entry
+-- before the place that is left out, the code takes the entry at the same place
 pub place_before : (z k p : ℕ) → k < z → p ≡ k → p ≡ skip z k
 place_before z k p l e = e ∙ sym (skip_below z k l)
 
+-- from the place that is left out on, the code takes the entry one place further
 pub place_behind : (z k p : ℕ) → z ≤ k → p ≡ k + 1 → p ≡ skip z k
 place_behind z k p l e = let s = skip_above z k l in omega (arith, e, s)
 
 -- the place is not before its number
-pub skip_least : (z k : ℕ) → k ≤ skip z k
+skip_least : (z k : ℕ) → k ≤ skip z k
 skip_least z k = ⊎_elim (λ l. omega (arith, skip_below z k l)) (λ l. omega (arith, skip_above z k l)) (cases_lt k z)
 
+-- a number is moved by one place at most when a place is left out
 pub skip_most : (z k : ℕ) → skip z k ≤ k + 1
 skip_most z k = ⊎_elim (λ l. omega (arith, skip_below z k l)) (λ l. omega (arith, skip_above z k l)) (cases_lt k z)
 
 module _ {F : Type 0} (m : F → ℚ) where
+  -- one entry more is moved forward
   pub shift_more : (old ys : List F) (from to k c p : ℕ) (x : F) → SetsRow m to k (λ j. row_from m old from (skip c j)) old ys → to ≤ from → p ≡ skip c k → from + p < length ys → x ≡ get_or ys (from + p) x →
       SetsRow m to (k + 1) (λ j. row_from m old from (skip c j)) old (set ys (to + k) x)
   shift_more old ys from to k c p x h o e l i =
