@@ -3,7 +3,7 @@ use Rattle.std.specs.Prelude.{◌≡◌, ◌≢◌, ℕ, suc, ◌+◌, ◌<◌, 
 use Rattle.tm_num.specs.Rational.{ℚ, zero_ℚ}
 use Rattle.tm_dict.specs.Cells.{cell}
 
--- of the first n names the one that is j + 1 behind the base has its value at the place j, and all other places have 0
+-- of the first n names the one that is j + 1 past the base has its value at the place j, and all other places have 0
 pub record IsPlaced {F : Type 0} (m : F → ℚ) (name : ℕ → ℕ) (value : ℕ → ℚ) (n base count : ℕ) (xs : List F) : Type 0 where
   pub size : length xs ≡ count
   pub put : (i j : ℕ) → i < n → j < count → name i ≡ suc (j + base) → cell m xs j ≡ value i

@@ -25,7 +25,7 @@ pub struct Ended {
     pub pivots: u32,
 }
 
-/// Makes the pivots of a phase after `made` pivots, with the goal in the row behind the basic variables: the first phase where
+/// Makes the pivots of a phase after `made` pivots, with the goal in the row after the basic variables: the first phase where
 /// there is an auxiliary variable, else the second.
 pub fn run_phase<F: OrderedField, T: Tableau<F>>(
     problem: &Problem<F>,

@@ -9,7 +9,7 @@ use std::alloc::{AllocError, Global};
 use tm_dict::Tableau;
 use tm_frac::OrderedField;
 
-/// Puts the value at the place of the name behind the base, if it has one.
+/// Puts the value at the place of the name past the base, if it has one.
 fn put_at<F: OrderedField>(values: &mut Vec<F>, name: u32, base: u32, value: F)
     ensures { Places F.meaning name base (F.meaning value) values.old.items values.new.items }
 {
@@ -97,7 +97,7 @@ pub fn entering_values<F: OrderedField, T: Tableau<F>>(
     Ok(values)
 }
 
-/// For each slack its negated coefficient in the goal behind the rows where it is not basic, else 0.
+/// For each slack its negated coefficient in the goal after the rows where it is not basic, else 0.
 pub fn goal_multipliers<F: OrderedField, T: Tableau<F>>(
     alloc: Global,
     tableau: &T,

@@ -15,7 +15,7 @@ pub enum Step {
     Pivot(u32),
 }
 
-/// A step of the rule with the goal in the row behind the basic variables' `rows`. A wide ratio or formula comes with the number
+/// A step of the rule with the goal in the row after the basic variables' `rows`. A wide ratio or formula comes with the number
 /// of the pivot.
 pub fn make_step<F: OrderedField, T: Tableau<F>>(
     tableau: &mut T,

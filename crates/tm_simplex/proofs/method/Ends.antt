@@ -32,6 +32,7 @@ use Rattle.tm_simplex.proofs.operations.Numbering.{numbered_none, numbered_some,
 use Rattle.tm_simplex.proofs.placed.Readings.{point_read, ray_read, multipliers_read}
 
 module _ (L : ℤ) (P : lp.Problem) (aux : Bool) (made : ℕ) (T₀ T : Table) (end : End) (pivots : ℕ) (b : BeginsPhase P aux made T₀) (e : EndsPhase L P aux T end pivots) where
+  -- the table at the end of a phase shows the last dictionary of the phase
   pub shown_end : Shows (names P) T (phase_dict (names P) (phase_of P aux) (phase_of P aux).last)
   shown_end = shows_agree (names P) (phase_table (names P) (phase_of P aux) (phase_of P aux).last) T (phase_dict (names P) (phase_of P aux) (phase_of P aux).last) (phase_shows (names P) (phase_of P aux) b.phase (phase_of P aux).last) e.table
 
@@ -45,20 +46,22 @@ module _ (L : ℤ) (P : lp.Problem) (aux : Bool) (made : ℕ) (T₀ T : Table) (
   pub rows_apart_end : (rows : ℕ) → rows ≡ P.rows → (i j : ℕ) → i < rows → j < rows → T.row_name i ≡ T.row_name j → i ≡ j
   rows_apart_end rows q i j l m f = let r = e.rows in shown_end.rows_apart i j (omega (arith, l, q, r)) (omega (arith, m, q, r)) f
 
+  -- at the end of a phase no two columns have one name
   pub cols_apart_end : (width : ℕ) → width ≡ T.width → (i j : ℕ) → i < width → j < width → T.col_name i ≡ T.col_name j → i ≡ j
   cols_apart_end width q i j l m f = shown_end.cols_apart i j (omega (arith, l, q)) (omega (arith, m, q)) f
 
   -- what is read
-  pub point_end : {F : Type 0} (m : F → ℚ) (rows cols : ℕ) (xs : List F) → rows ≡ P.rows → cols ≡ P.cols → IsPlaced m T.row_name (λ i. T.entry i T.width) rows 0 cols xs → IsListed m P.cols (point_of (phase_dict (names P) (phase_of P aux) (phase_of P aux).last)) xs
+  point_end : {F : Type 0} (m : F → ℚ) (rows cols : ℕ) (xs : List F) → rows ≡ P.rows → cols ≡ P.cols → IsPlaced m T.row_name (λ i. T.entry i T.width) rows 0 cols xs → IsListed m P.cols (point_of (phase_dict (names P) (phase_of P aux) (phase_of P aux).last)) xs
   point_end m rows cols xs q c p =
       point_read m P T (phase_dict (names P) (phase_of P aux) (phase_of P aux).last) shown_end form_end has_end xs
       (subst₂ (λ r w. IsPlaced m T.row_name (λ i. T.entry i T.width) r 0 w xs) (q ∙ sym e.rows) c p)
 
-  pub ray_end : {F : Type 0} (m : F → ℚ) (rows cols c : ℕ) (xs : List F) → rows ≡ P.rows → cols ≡ P.cols → c < T.width → IsDirection m T rows cols c xs → IsListed m P.cols (ray_of (phase_dict (names P) (phase_of P aux) (phase_of P aux).last) (T.col_name c)) xs
+  ray_end : {F : Type 0} (m : F → ℚ) (rows cols c : ℕ) (xs : List F) → rows ≡ P.rows → cols ≡ P.cols → c < T.width → IsDirection m T rows cols c xs → IsListed m P.cols (ray_of (phase_dict (names P) (phase_of P aux) (phase_of P aux).last) (T.col_name c)) xs
   ray_end m rows cols c xs q w l p =
       ray_read m P T (phase_dict (names P) (phase_of P aux) (phase_of P aux).last) shown_end form_end has_end c l xs
       (subst₂ (λ r w. IsDirection m T r w c xs) (q ∙ sym e.rows) w p)
 
+  -- what is read from the followed goal's row at the end of a phase are the multipliers of the last dictionary
   pub multipliers_end : {F : Type 0} (m : F → ℚ) (rows cols width : ℕ) (ys : List F) → rows ≡ P.rows → cols ≡ P.cols → width ≡ T.width → IsPlaced m T.col_name (λ k. neg_ℚ (T.entry rows k)) width cols rows ys →
       IsListed m P.rows (multipliers P (phase_dict (names P) (phase_of P aux) (phase_of P aux).last) (phase_of P aux).goal) ys
   multipliers_end m rows cols width ys q c w p =
@@ -66,7 +69,7 @@ module _ (L : ℤ) (P : lp.Problem) (aux : Bool) (made : ℕ) (T₀ T : Table) (
       (subst₂ (λ r k. IsPlaced m T.col_name (λ i. neg_ℚ (T.entry r i)) T.width P.cols k ys) (q ∙ sym e.rows) q
       (subst₂ (λ x y. IsPlaced m T.col_name (λ i. neg_ℚ (T.entry rows i)) x y rows ys) w c p))
 
-  pub value_end : T.entry T.rows T.width ≡ (phase_dict (names P) (phase_of P aux) (phase_of P aux).last).const (phase_of P aux).goal
+  value_end : T.entry T.rows T.width ≡ (phase_dict (names P) (phase_of P aux) (phase_of P aux).last).const (phase_of P aux).goal
   value_end = shown_end.constants T.rows (let g = e.goals in omega (arith, g)) ∙ ap (phase_dict (names P) (phase_of P aux) (phase_of P aux).last).const e.goal
 
 -- the outcome of the second phase where no column enters
@@ -101,6 +104,7 @@ lp_plain_is P e =
     ap (lp_from P) e
     ∙ sym (ap (λ s. outcome_at P (after (main_row P) (names P) (main_start P s) (stop_index (main_row P) (names P) (main_start P s))) (choose (main_row P) (names P) (after (main_row P) (names P) (main_start P s) (stop_index (main_row P) (names P) (main_start P s))))) e)
 
+-- where the auxiliary variable has left, the outcome of the problem is that of the second phase
 pub lp_main_is : (P : lp.Problem) (r : ℕ) → lowest P ≡ found r → (phase_dict (names P) (aux_phase P) (aux_phase P).last).basic 0 ≡ false → lp_of P ≡ main_outcome P
 unfolding lp_of phase_one phase_two last_of last_of_one main_outcome
 lp_main_is P r e f =
@@ -123,7 +127,7 @@ pub run_plain : (P : lp.Problem) → lowest P ≡ none → run_operations P ≡ 
 unfolding run_operations
 run_plain P e = ap (run_from P) e
 
-pub run_found : (P : lp.Problem) (r : ℕ) → lowest P ≡ found r → run_operations P ≡ numbered 1 (pivot_operations (first_table P) r P.cols) ++ (whole_phase P (aux_phase P) ++ then_main P ((phase_dict (names P) (aux_phase P) (aux_phase P).last).basic 0))
+run_found : (P : lp.Problem) (r : ℕ) → lowest P ≡ found r → run_operations P ≡ numbered 1 (pivot_operations (first_table P) r P.cols) ++ (whole_phase P (aux_phase P) ++ then_main P ((phase_dict (names P) (aux_phase P) (aux_phase P).last).basic 0))
 unfolding run_operations
 run_found P r e = ap (run_from P) e
 
@@ -132,6 +136,7 @@ refused_as : {F : Type 0} (m : F → ℚ) (L : ℤ) (os ps : List Numbered) → 
 refused_as m L os ps h (Wide pivot wide) r = (r.0, r.1, h (record { pivot = r.0; operation = operation_of m wide }) r.2)
 refused_as m L os ps h NoMemory r = tt
 
+-- a fault of a run is one of each run with the same operations
 pub refused_same : {F : Type 0} (m : F → ℚ) (L : ℤ) (os ps : List Numbered) → os ≡ ps → (f : SolveFault F) → RefusesRun m L os f → RefusesRun m L ps f
 refused_same m L os ps e f r = subst (λ x. RefusesRun m L x f) e r
 
@@ -140,6 +145,7 @@ module _ (L : ℤ) (P : lp.Problem) (r : ℕ) (e : lowest P ≡ found r) (r_in :
   unfolding first_table
   first_operations = agree_pivots (first_table P) T a r P.cols r_in (omega arith)
 
+  -- a fault of the special first pivot is the fault of the run
   pub refused_first : {F : Type 0} (m : F → ℚ) (f : SolveFault F) → EntersRefused m L (pivot_operations T r P.cols) f → RefusesRun m L (run_operations P) f
   refused_first m (Wide pivot wide) w = (
     1,
@@ -154,6 +160,7 @@ module _ (L : ℤ) (P : lp.Problem) (r : ℕ) (e : lowest P ≡ found r) (r_in :
     past_first = ap (first_refused L) (run_found P r e) ∙ refused_later L (numbered 1 (pivot_operations (first_table P) r P.cols)) (whole_phase P (aux_phase P) ++ then_main P ((phase_dict (names P) (aux_phase P) (aux_phase P).last).basic 0))
         (numbered_none L 1 (pivot_operations (first_table P) r P.cols) (ap (first_wide L) (sym first_operations) ∙ fits))
 
+    -- where the special first pivot fits, a fault of the first phase is the fault of the run
     pub refused_aux : {F : Type 0} (m : F → ℚ) (f : SolveFault F) → RefusesRun m L (whole_phase P (aux_phase P)) f → RefusesRun m L (run_operations P) f
     refused_aux m f w = refused_as m L (whole_phase P (aux_phase P)) (run_operations P) (λ o q. past_first ∙ refused_sooner L (whole_phase P (aux_phase P)) (then_main P ((phase_dict (names P) (aux_phase P) (aux_phase P).last).basic 0)) o q) f w
 
@@ -169,6 +176,7 @@ module _ (L : ℤ) (P : lp.Problem) (r : ℕ) (e : lowest P ≡ found r) (r_in :
       pub run_main : (phase_dict (names P) (aux_phase P) (aux_phase P).last).basic 0 ≡ false → first_refused L (run_operations P) ≡ first_refused L (whole_phase P (main_phase P))
       run_main g = past_aux ∙ ap (λ b. first_refused L (then_main P b)) g
 
+      -- where the first phase fits and the auxiliary variable has left, a fault of the second phase is that of the run
       pub refused_main : (phase_dict (names P) (aux_phase P) (aux_phase P).last).basic 0 ≡ false → {F : Type 0} (m : F → ℚ) (f : SolveFault F) → RefusesRun m L (whole_phase P (main_phase P)) f → RefusesRun m L (run_operations P) f
       refused_main g m f w = refused_as m L (whole_phase P (main_phase P)) (run_operations P) (λ o q. run_main g ∙ q) f w
 
@@ -183,6 +191,7 @@ pub start_plain : (P : lp.Problem) → lowest P ≡ none → start_table P ≡ p
 unfolding start_table
 start_plain P e = ap (start_from P) e
 
+-- where some side is below 0, the run begins with the first table
 pub start_first : (P : lp.Problem) (r : ℕ) → lowest P ≡ found r → start_table P ≡ first_table P
 unfolding start_table
 start_first P r e = ap (start_from P) e

@@ -8,6 +8,7 @@ use Rattle.tm_dict.specs.Listed.{joined}
 use Rattle.tm_dict.proofs.listed.Joins.{joined-suc, joined-zero}
 use Rattle.tm_simplex.specs.Operations.{Numbered, numbered, first_refused}
 
+-- where none of the operations of a pivot is wide, none of the numbered ones is
 pub numbered_none : (L : ℤ) (j : ℕ) (os : List Operation) → first_wide L os ≡ None → first_refused L (numbered j os) ≡ None
 numbered_none L j [] e = refl
 numbered_none L j (o ∷ os) e = by (is_wide L o) e (λ f. numbered_none L j os f)
@@ -16,6 +17,7 @@ numbered_none L j (o ∷ os) e = by (is_wide L o) e (λ f. numbered_none L j os 
     by true e k = cc
     by false e k = k e
 
+-- the first wide operation of a pivot comes first among the numbered ones, with the pivot's number
 pub numbered_some : (L : ℤ) (j : ℕ) (os : List Operation) (o : Operation) → first_wide L os ≡ Some o → first_refused L (numbered j os) ≡ Some (record { pivot = j; operation = o })
 numbered_some L j [] o e = cc
 numbered_some L j (p ∷ os) o e = by (is_wide L p) e (λ f. numbered_some L j os o f)
@@ -25,9 +27,11 @@ numbered_some L j (p ∷ os) o e = by (is_wide L p) e (λ f. numbered_some L j o
     by true e k = let f : p ≡ o = cc in ap (λ x. Some (record { pivot = j; operation = x })) f
     by false e k = k e
 
+-- where no numbered operation of the first list is wide, the first wide one of both lists is that of the second
 pub refused_later : (L : ℤ) (os ps : List Numbered) → first_refused L os ≡ None → first_refused L (os ++ ps) ≡ first_refused L ps
 refused_later L os ps e = find-append (λ o. is_wide L o.operation) os ps ∙ cc
 
+-- the first wide numbered operation of a list stays the first when more come after it
 pub refused_sooner : (L : ℤ) (os ps : List Numbered) (o : Numbered) → first_refused L os ≡ Some o → first_refused L (os ++ ps) ≡ Some o
 refused_sooner L os ps o e = find-append (λ o. is_wide L o.operation) os ps ∙ cc
 
@@ -35,7 +39,7 @@ refused_sooner L os ps o e = find-append (λ o. is_wide L o.operation) os ps ∙
 pub run_fits_more : (L : ℤ) (k : ℕ) (f : ℕ → List Numbered) → first_refused L (joined k f) ≡ None → first_refused L (f k) ≡ None → first_refused L (joined (k + 1) f) ≡ None
 run_fits_more L k f h e = ap (first_refused L) (joined-suc k f) ∙ refused_later L (joined k f) (f k) h ∙ e
 
-pub run_wide_more : (L : ℤ) (k n : ℕ) (f : ℕ → List Numbered) (o : Numbered) → k ≤ n → first_refused L (joined k f) ≡ Some o → first_refused L (joined n f) ≡ Some o
+run_wide_more : (L : ℤ) (k n : ℕ) (f : ℕ → List Numbered) (o : Numbered) → k ≤ n → first_refused L (joined k f) ≡ Some o → first_refused L (joined n f) ≡ Some o
 run_wide_more L k zero f o l h = ap (λ x. first_refused L (joined x f)) (let e : 0 ≡ k = omega (arith, l) in e) ∙ h
 run_wide_more L k (suc n) f o l h = ⊎_elim
     (λ b. ap (λ x. first_refused L (joined x f)) (sym (add-one n)) ∙ ap (first_refused L) (joined-suc n f) ∙ refused_sooner L (joined n f) (f n) o (run_wide_more L k n f o (omega (arith, b)) h))
@@ -46,5 +50,6 @@ run_wide_more L k (suc n) f o l h = ⊎_elim
 pub run_wide_at : (L : ℤ) (k n : ℕ) (f : ℕ → List Numbered) (o : Numbered) → k < n → first_refused L (joined k f) ≡ None → first_refused L (f k) ≡ Some o → first_refused L (joined n f) ≡ Some o
 run_wide_at L k n f o l h w = run_wide_more L (k + 1) n f o (omega (arith, l)) (ap (first_refused L) (joined-suc k f) ∙ refused_later L (joined k f) (f k) h ∙ w)
 
+-- no pivots have no wide operation
 pub run_fits_none : (L : ℤ) (f : ℕ → List Numbered) → first_refused L (joined 0 f) ≡ None
 run_fits_none L f = ap (first_refused L) (joined-zero f)

@@ -39,6 +39,7 @@ module _ (n : ℕ) (ph : Phase) (h : IsPhase n ph) (j : ℕ) (T : Table) (a : Ag
   D : Dict
   D = phase_dict n ph j
 
+  -- the table at a step of a phase shows the phase's dictionary
   pub shown : Shows n T (phase_dict n ph j)
   shown = shows_agree n (phase_table n ph j) T (phase_dict n ph j) (phase_shows n ph h j) a
 
@@ -48,19 +49,23 @@ module _ (n : ℕ) (ph : Phase) (h : IsPhase n ph) (j : ℕ) (T : Table) (a : Ag
   goal_in : T.rows < T.rows + T.goals
   goal_in = omega (arith, goals)
 
+  -- the column that the scan finds has the entering name
   pub enters_in : (c : ℕ) → EntersAt T T.rows T.width (Some c) → Enters ph.goal n (phase_dict n ph j) (T.col_name c)
   enters_in c e = subst (λ g. Enters g n (phase_dict n ph j) (T.col_name c)) goal (table_enters n T (phase_dict n ph j) shown form T.rows c goal_in e.0 e.1 e.2)
 
+  -- where the scan finds no column, the rule says that the dictionary is optimal
   pub optimal_in : EntersAt T T.rows T.width None → choose ph.goal n (phase_dict n ph j) ≡ optimal
   optimal_in e = choose_only ph.goal n (phase_dict n ph j) optimal (subst (λ g. ChoiceIs g n (phase_dict n ph j) optimal) goal (table_optimal n T (phase_dict n ph j) shown form T.rows goal_in e))
 
+  -- where the scan finds a column and no row, the rule says that there is a ray
   pub ray_in : (c : ℕ) → EntersAt T T.rows T.width (Some c) → LeavesOf T c T.rows None → choose ph.goal n (phase_dict n ph j) ≡ ray (T.col_name c)
   ray_in c e l = choose_only ph.goal n (phase_dict n ph j) (ray (T.col_name c)) (enters_in c e, table_ray n T (phase_dict n ph j) shown form c e.0 l)
 
+  -- the row that the scan finds has the leaving name
   pub leaves_in : (c r : ℕ) → c < T.width → LeavesAt T c T.rows r → Leaves n (phase_dict n ph j) (T.col_name c) (T.row_name r)
   leaves_in c r m l = table_leaves n T (phase_dict n ph j) shown form c r m l.row l.falls l.least l.before
 
-  pub step_in : (c r : ℕ) → EntersAt T T.rows T.width (Some c) → LeavesAt T c T.rows r → choose ph.goal n (phase_dict n ph j) ≡ step (T.col_name c) (T.row_name r)
+  step_in : (c r : ℕ) → EntersAt T T.rows T.width (Some c) → LeavesAt T c T.rows r → choose ph.goal n (phase_dict n ph j) ≡ step (T.col_name c) (T.row_name r)
   step_in c r e l = choose_only ph.goal n (phase_dict n ph j) (step (T.col_name c) (T.row_name r)) (enters_in c e, leaves_in c r e.0 l)
 
   col_back : (c : ℕ) → c < T.width → col_place (phase_table n ph j) (T.col_name c) ≡ c

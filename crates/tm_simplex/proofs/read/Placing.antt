@@ -18,11 +18,11 @@ module _ {F : Type 0} (m : F → ℚ) where
   }
 
   -- the name has no place
-  pub put_out : (xs : List F) (name base : ℕ) (v : ℚ) → ((j : ℕ) → j < length xs → name ≢ suc (j + base)) → Places m name base v xs xs
+  put_out : (xs : List F) (name base : ℕ) (v : ℚ) → ((j : ℕ) → j < length xs → name ≢ suc (j + base)) → Places m name base v xs xs
   put_out xs name base v h = record { size = refl; put = λ j l e. absurd (h j l e); kept = λ j n. refl }
 
   -- one more 0
-  pub zero_pushed : (xs : List F) (z : F) → ((j : ℕ) → cell m xs j ≡ zero_ℚ) → m z ≡ zero_ℚ → (j : ℕ) → cell m (xs ++ z ∷ []) j ≡ zero_ℚ
+  zero_pushed : (xs : List F) (z : F) → ((j : ℕ) → cell m xs j ≡ zero_ℚ) → m z ≡ zero_ℚ → (j : ℕ) → cell m (xs ++ z ∷ []) j ≡ zero_ℚ
   zero_pushed xs z h e j = ap (λ ys. get_or ys j zero_ℚ) (map_push m xs z) ∙ ⊎_elim
       (λ l. get_or_append_left (map m xs) (m z ∷ []) zero_ℚ j (let k = length-map xs m in omega (arith, l, k)) ∙ h j)
       (λ l. get_behind (map m xs) (m z ∷ []) (j - length xs) j zero_ℚ (let k = length-map xs m in omega (arith, l, k)) ∙ last (j - length xs))
@@ -33,11 +33,11 @@ module _ {F : Type 0} (m : F → ℚ) where
       last (suc i) = refl
 
   -- nothing is placed yet
-  pub placed_none : (name : ℕ → ℕ) (value : ℕ → ℚ) (base count : ℕ) (xs : List F) → length xs ≡ count → ((j : ℕ) → cell m xs j ≡ zero_ℚ) → IsPlaced m name value 0 base count xs
+  placed_none : (name : ℕ → ℕ) (value : ℕ → ℚ) (base count : ℕ) (xs : List F) → length xs ≡ count → ((j : ℕ) → cell m xs j ≡ zero_ℚ) → IsPlaced m name value 0 base count xs
   placed_none name value base count xs e h = record { size = e; put = λ i j l. absurd (omega (arith, l)); rest = λ j l n. h j }
 
   -- one more name
-  pub placed_more : (name : ℕ → ℕ) (value : ℕ → ℚ) (n base count : ℕ) (xs ys : List F) → IsPlaced m name value n base count xs → Places m (name n) base (value n) xs ys → ((i : ℕ) → i < n → name i ≢ name n) → IsPlaced m name value (n + 1) base count ys
+  placed_more : (name : ℕ → ℕ) (value : ℕ → ℚ) (n base count : ℕ) (xs ys : List F) → IsPlaced m name value n base count xs → Places m (name n) base (value n) xs ys → ((i : ℕ) → i < n → name i ≢ name n) → IsPlaced m name value (n + 1) base count ys
   placed_more name value n base count xs ys h p apart = record {
     size = p.size ∙ h.size;
     put = λ i j l b e. ⊎_elim

@@ -63,6 +63,7 @@ module _ (T : Table) (c n : ℕ) where
     before = λ i b f k. ⊎_elim (λ a. h.before i a f k) (λ a. let e : i ≡ n = omega (arith, a, b) in absurd (not_le_of_lt f (subst (λ x. zero_ℚ ≤ℚ T.entry x c) (sym e) l))) (cases_lt i n);
   }
 
+  -- a row with an entry of at least 0 in the column leaves the candidate as it is
   pub candidate_past : {F : Type 0} (m : F → ℚ) (o : Option (Candidate F)) → CandidateOf m T c n o → zero_ℚ ≤ℚ T.entry n c → CandidateOf m T c (n + 1) o
   candidate_past m None h l = λ i b. ⊎_elim (λ a. h i a) (λ a. let e : i ≡ n = omega (arith, a, b) in subst (λ x. zero_ℚ ≤ℚ T.entry x c) (sym e) l) (cases_lt i n)
   candidate_past m (Some d) h l = (candidate_past_at d.row h.0 l, h.1)
@@ -129,6 +130,7 @@ negated_not_zero q p h e z = ne_of_lt_ℚ h (sym (neg_ℚ-neg_ℚ q) ∙ ap neg_
 pub before_less : (x y : ℚ) (a b : ℕ) → cmp_ℚ x y ≡ Less → IsBefore x a y b
 before_less x y a b e = inl (cmp-less x y e)
 
+-- where two ratios are equal, the comparison of the names says which comes first
 pub before_equal : (x y : ℚ) (a b c d : ℕ) → cmp_ℚ x y ≡ Equal → c ≡ a → d ≡ b → MatchBool (ltb c d) (IsBefore x a y b) (¬ (IsBefore x a y b))
 before_equal x y a b c d e f g = subst₂ (λ c d. MatchBool (ltb c d) (IsBefore x a y b) (¬ (IsBefore x a y b))) (sym f) (sym g) (by (ltb a b) refl)
   where
@@ -136,6 +138,7 @@ before_equal x y a b c d e f g = subst₂ (λ c d. MatchBool (ltb c d) (IsBefore
     by true l = inr (cmp-equal x y e, ltb-true a b l)
     by false l = λ h. ⊎_elim (λ q. <ℚ_irrefl (subst (λ z. z <ℚ y) (cmp-equal x y e) q)) (λ q. let m = ltb-false a b l in omega (arith, m, q.1)) h
 
+-- a greater ratio doesn't come first
 pub before_greater : (x y : ℚ) (a b : ℕ) → cmp_ℚ x y ≡ Greater → ¬ (IsBefore x a y b)
 before_greater x y a b e h = ⊎_elim (λ q. not_le_of_lt q (le_of_lt_ℚ (cmp-greater x y e))) (λ q. <ℚ_irrefl (subst (λ z. y <ℚ z) q.0 (cmp-greater x y e))) h
 
@@ -149,6 +152,7 @@ pub ratios_refused : (L : ℤ) (T : Table) (c rows i : ℕ) (o : Operation) → 
 unfolding ratio_operations
 ratios_refused L T c rows i o e l h k = joined_wide_at L i T.rows (ratio_operation T c) o (omega (arith, l, e)) h k
 
+-- where none of the ratios of all rows is wide, none of the operations of the ratio test is
 pub ratios_fit : (L : ℤ) (T : Table) (c rows : ℕ) → rows ≡ T.rows → first_wide L (joined rows (ratio_operation T c)) ≡ None → first_wide L (ratio_operations T c) ≡ None
 unfolding ratio_operations
 ratios_fit L T c rows e h = ap (λ n. first_wide L (joined n (ratio_operation T c))) (sym e) ∙ h

@@ -19,19 +19,19 @@ left_is q = ap (λ d. q.num *ℤ pos d) den-zero ∙ times_one q.num
 right_is : (q : ℚ) → zero_ℚ.num *ℤ pos q.den ≡ pos 0
 right_is q = ap (λ z. z *ℤ pos q.den) num-zero ∙ zero_times (pos q.den)
 
-pub num_le : (q : ℚ) → q.num ≤ℤ pos 0 → q ≤ℚ zero_ℚ
+num_le : (q : ℚ) → q.num ≤ℤ pos 0 → q ≤ℚ zero_ℚ
 unfolding le_ℚ
 num_le q h = record { le = subst₂ (λ x y. T (le_z x y)) (sym (left_is q)) (sym (right_is q)) h.le }
 
-pub num_ge : (q : ℚ) → pos 0 ≤ℤ q.num → zero_ℚ ≤ℚ q
+num_ge : (q : ℚ) → pos 0 ≤ℤ q.num → zero_ℚ ≤ℚ q
 unfolding le_ℚ
 num_ge q h = record { le = subst₂ (λ x y. T (le_z x y)) (sym (right_is q)) (sym (left_is q)) h.le }
 
-pub num_gt : (q : ℚ) → pos 0 <ℤ q.num → zero_ℚ <ℚ q
+num_gt : (q : ℚ) → pos 0 <ℤ q.num → zero_ℚ <ℚ q
 unfolding lt_ℚ
 num_gt q h = record { lt = subst₂ (λ x y. T (lt_z x y)) (sym (right_is q)) (sym (left_is q)) h.lt }
 
-pub num_lt : (q : ℚ) → q.num <ℤ pos 0 → q <ℚ zero_ℚ
+num_lt : (q : ℚ) → q.num <ℤ pos 0 → q <ℚ zero_ℚ
 unfolding lt_ℚ
 num_lt q h = record { lt = subst₂ (λ x y. T (lt_z x y)) (sym (left_is q)) (sym (right_is q)) h.lt }
 
@@ -62,15 +62,18 @@ module _ (q : ℚ) (x : ℤ) (h : mag x < 2 ^ 63) (e : x ≡ q.num) where
   pub sign_le : le_z (to_z w64 (of_z w64 x)) (pos 0) ≡ true → q ≤ℚ zero_ℚ
   sign_le t = num_le q record { le = T-of (le_z q.num (pos 0)) (sym (ap (λ z. le_z z (pos 0)) read) ∙ t) }
 
+  -- a numerator that isn't at most 0 is that of a number above 0
   pub sign_gt : le_z (to_z w64 (of_z w64 x)) (pos 0) ≡ false → zero_ℚ <ℚ q
   sign_gt t = ⊎_elim (λ l. absurd (true≢false (le_back l ∙ ap (λ z. le_z z (pos 0)) (sym read) ∙ t))) (λ l. l) (le_or_lt q zero_ℚ)
     where
       le_back : q ≤ℚ zero_ℚ → true ≡ le_z q.num (pos 0)
       le_back l = sym (true_of (le_z q.num (pos 0)) (le_num q l))
 
+  -- a numerator of at least 0 is that of a number of at least 0
   pub sign_ge : le_z (pos 0) (to_z w64 (of_z w64 x)) ≡ true → zero_ℚ ≤ℚ q
   sign_ge t = num_ge q record { le = T-of (le_z (pos 0) q.num) (sym (ap (λ z. le_z (pos 0) z) read) ∙ t) }
 
+  -- a numerator below 0 is that of a number below 0
   pub sign_lt : le_z (pos 0) (to_z w64 (of_z w64 x)) ≡ false → q <ℚ zero_ℚ
   sign_lt t = ⊎_elim (λ l. absurd (true≢false (ge_back l ∙ ap (λ z. le_z (pos 0) z) (sym read) ∙ t))) (λ l. l) (le_or_lt zero_ℚ q)
     where
