@@ -32,7 +32,7 @@ abbrev pub head_value : {F : Type 0} → (F → ℚ) → List (Entry F) → ℕ 
 head_value m [] k = zero_ℚ
 head_value m (e ∷ es) k = cond (eqb e.col k) (m e.value) zero_ℚ
 
--- the entries behind the column k, if none stands before it
+-- the entries after the column k, if none stands before it
 abbrev pub behind : {F : Type 0} → List (Entry F) → ℕ → List (Entry F)
 behind [] k = []
 behind (e ∷ es) k = cond (eqb e.col k) es (e ∷ es)

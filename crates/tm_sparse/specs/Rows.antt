@@ -10,7 +10,7 @@ use Rattle.tm_sparse.specs.declared.entry.SparseRow.{SparseRow}
 use Rattle.tm_sparse.specs.Entries.{value_at, Rises, HasNoZero}
 use Rattle.tm_sparse.specs.Keeps.{Keeps}
 
--- the entries of a row by its number, none behind the last row
+-- the entries of a row by its number, none past the last row
 abbrev pub row_at : {F : Type 0} → List (SparseRow F) → ℕ → List (Entry F)
 row_at rows i = get_or (map (λ r. r.entries.items) rows) i []
 

@@ -34,7 +34,7 @@ fn entries_of<F: OrderedField>(
     Ok(entries)
 }
 
-/// Appends the entries behind the problem's columns: the auxiliary variable's, if there is one, and the constant.
+/// Appends the entries after the problem's columns: the auxiliary variable's, if there is one, and the constant.
 fn push_end<F: OrderedField>(
     entries: &mut Vec<Entry<F>>,
     cols: u32,

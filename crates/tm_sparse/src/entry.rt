@@ -1,6 +1,6 @@
 //! Entries of rows, and rows as lists of them.
 
-/// An entry that is not zero, at a column counted from 0. The constant of a row is its entry behind the last column.
+/// An entry that is not zero, at a column counted from 0. The constant of a row is its entry after the last column.
 #[derive(Clone, Copy)]
 pub struct Entry<F> {
     pub col: u32,

@@ -18,7 +18,7 @@ use tm_dict::PivotFault;
 use tm_frac::OrderedField;
 
 /// Appends the entries of a row from the place `i` on whose column is below `until`, with `product` in the pivot's column, and answers
-/// the place behind them.
+/// the place after them.
 fn keep_before<F: OrderedField>(
     merged: &mut Vec<Entry<F>>,
     entries: &[Entry<F>],
@@ -50,7 +50,7 @@ fn keep_before<F: OrderedField>(
 }
 
 /// Appends what formulas 3 and 4 make of an entry of the pivot's row and of the row's entry at its column, which is none or stands at the
-/// place `i`, and answers the place behind that column.
+/// place `i`, and answers the place after that column.
 fn merge_entry<F: OrderedField>(
     merged: &mut Vec<Entry<F>>,
     entries: &[Entry<F>],

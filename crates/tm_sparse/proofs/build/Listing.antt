@@ -15,12 +15,13 @@ get_zero zero k = refl
 get_zero (suc n) zero = refl
 get_zero (suc n) (suc k) = get_zero n k
 
+-- numbers that keep their sign stay as they are
 pub signed_none : (xs : List ℚ) → map (signed_by false) xs ≡ xs
 signed_none xs = map-id xs
 
 module _ {F : Type 0} (m : F → ℚ) where
   -- no number
-  pub lists_none : Lists m [] []
+  lists_none : Lists m [] []
   lists_none = record { keeps = keeps_none m (λ k. get_or [] k zero_ℚ); no_zero = tt }
 
   -- numbers that are all 0
@@ -31,7 +32,7 @@ module _ {F : Type 0} (m : F → ℚ) where
   }
 
   -- one more number
-  pub lists_pushed : (xs : List ℚ) (es : List (Entry F)) (k : ℕ) (x : F) (q : ℚ) → Lists m xs es → k ≡ length xs → m x ≡ q → Lists m (xs ++ q ∷ []) (pushed m es k x)
+  lists_pushed : (xs : List ℚ) (es : List (Entry F)) (k : ℕ) (x : F) (q : ℚ) → Lists m xs es → k ≡ length xs → m x ≡ q → Lists m (xs ++ q ∷ []) (pushed m es k x)
   lists_pushed xs es k x q h e v =
       let f = λ (j : ℕ). get_or (xs ++ q ∷ []) j zero_ℚ in
       let same : Keeps m f (length xs) es = keeps_same m (λ j. get_or xs j zero_ℚ) f (length xs) es h.keeps (λ j l. sym (get_or_append_left xs (q ∷ []) zero_ℚ j l)) in

@@ -140,7 +140,7 @@ module _ (W : ℕ) (A : List (List ℚ)) (b c : List ℚ) (rows_are : (i : ℕ) 
         (λ l. subst (Rises 0 (suc (length ns))) (sym (row_past rows i (omega (arith, l, n)))) tt)
         (cases_lt i (length b + goals_of aux))
 
-    pub first_no_zeros : length rows ≡ length b + goals_of aux → NoZeros m rows
+    first_no_zeros : length rows ≡ length b + goals_of aux → NoZeros m rows
     first_no_zeros n i = ⊎_elim
         (λ l. (h i l).no_zero)
         (λ l. subst (HasNoZero m) (sym (row_past rows i (omega (arith, l, n)))) tt)

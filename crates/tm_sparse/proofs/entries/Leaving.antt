@@ -66,6 +66,7 @@ module _ {F : Type 0} where
         (cases_eq e.col (skip z k)))
         (cases_eq e.col z)
 
+    -- a list without a zero entry has none when a column is left out
     pub no_zero_left : (z : ℕ) (es : List (Entry F)) → HasNoZero m es → HasNoZero m (left_out z es)
     no_zero_left z [] h = tt
     no_zero_left z (e ∷ es) h = ⊎_elim

@@ -25,6 +25,7 @@ one_read x h e = sym (to_z-of_z w64 x (let f : FitsSigned w64 x = omega (arith, 
 pub times_one : (f b : ℚ) → f ≡ one_ℚ → b ≡ f *ℚ b
 times_one f b e = sym (ap (λ x. x *ℚ b) e ∙ *ℚ_idl b)
 
+-- a product with the factor -1 is the negated other factor
 pub times_negated : (f b : ℚ) → neg_ℚ f ≡ one_ℚ → neg_ℚ b ≡ f *ℚ b
 times_negated f b e = ap neg_ℚ (times_one (neg_ℚ f) b e ∙ neg_ℚ-*ℚ f b) ∙ neg_ℚ-neg_ℚ (f *ℚ b)
 

@@ -35,7 +35,7 @@ module _ {F : Type 0} (m : F → ℚ) (a : ℕ → ℚ) (n : ℕ) where
   left_head k [] h = h.values k (omega arith)
   left_head k (e ∷ es) h = ap (λ x. cond (eqb e.col k) (m e.value) x) (sym (value_before m (suc e.col) n k es h.rises.2 (let b = h.rises.0 in omega (arith, b)))) ∙ h.values k (omega arith)
 
-  -- behind the column
+  -- what is left after a column has the row's numbers from the next column on
   pub left_behind : (k : ℕ) (es : List (Entry F)) → Left m a k n es → Left m a (k + 1) n (behind es k)
   left_behind k [] h = record { rises = tt; values = λ q c. h.values q (omega (arith, c)) }
   left_behind k (e ∷ es) h = ⊎_elim
@@ -62,10 +62,12 @@ pub starts_value : {F : Type 0} (m : F → ℚ) (u k : ℕ) (es : List (Entry F)
 starts_value m u k [] s l = refl
 starts_value m u k (e ∷ es) s l = sym (ap (λ b. cond b (m e.value) zero_ℚ) (ne_eqb e.col k (λ q. omega (arith, q, s, l))))
 
+-- where the entries start after a column, those after that column are all of them
 pub starts_behind : {F : Type 0} (u k : ℕ) (es : List (Entry F)) → StartsAt u es → k < u → behind es k ≡ es
 starts_behind u k [] s l = refl
 starts_behind u k (e ∷ es) s l = ap (λ b. cond b es (e ∷ es)) (ne_eqb e.col k (λ q. omega (arith, q, s, l)))
 
+-- entries that start at a column start at each column up to it
 pub starts_before : {F : Type 0} (u k : ℕ) (es : List (Entry F)) → StartsAt u es → k ≤ u → StartsAt k es
 starts_before u k [] s l = tt
 starts_before u k (e ∷ es) s l = omega (arith, s, l)

@@ -10,7 +10,7 @@ use Rattle.tm_sparse.specs.Entries.{value_at, Rises, HasNoZero, col_at, pushed}
 use Rattle.tm_sparse.specs.Keeps.{Keeps}
 
 -- a number whose test for 0 holds, and one whose test doesn't
-pub zero_from : (q : ℚ) → is_zero q ≡ true → q ≡ zero_ℚ
+zero_from : (q : ℚ) → is_zero q ≡ true → q ≡ zero_ℚ
 zero_from q e = by q.num refl
   where
     by : (z : ℤ) → q.num ≡ z → q ≡ zero_ℚ
@@ -18,26 +18,27 @@ zero_from q e = by q.num refl
     by (pos (suc k)) h = absurd (true≢false (sym e ∙ ap is_zero_num h))
     by (negsuc k) h = absurd (true≢false (sym e ∙ ap is_zero_num h))
 
-pub not_zero_from : (q : ℚ) → is_zero q ≡ false → q ≢ zero_ℚ
+not_zero_from : (q : ℚ) → is_zero q ≡ false → q ≢ zero_ℚ
 not_zero_from q e z = true≢false (sym (ap is_zero_num ((zero_by_num q).1 z)) ∙ e)
 
 module _ {F : Type 0} where
   -- bounds that are wider
-  pub rises_wider : (lo lo' n n' : ℕ) (es : List (Entry F)) → lo' ≤ lo → n ≤ n' → Rises lo n es → Rises lo' n' es
+  rises_wider : (lo lo' n n' : ℕ) (es : List (Entry F)) → lo' ≤ lo → n ≤ n' → Rises lo n es → Rises lo' n' es
   rises_wider lo lo' n n' [] l h r = tt
   rises_wider lo lo' n n' (e ∷ es) l h r = (omega (arith, r.0, l), omega (arith, r.1, h), rises_wider (suc e.col) (suc e.col) n n' es (omega arith) h r.2)
 
-  -- an entry behind the others
-  pub rises_push : (lo n n' k : ℕ) (x : F) (es : List (Entry F)) → Rises lo n es → lo ≤ k → n ≤ k → k < n' → Rises lo n' (es ++ record { col = k; value = x } ∷ [])
+  -- a list that rises below n rises with an entry from n on at its end
+  rises_push : (lo n n' k : ℕ) (x : F) (es : List (Entry F)) → Rises lo n es → lo ≤ k → n ≤ k → k < n' → Rises lo n' (es ++ record { col = k; value = x } ∷ [])
   rises_push lo n n' k x [] r l h b = (l, b, tt)
   rises_push lo n n' k x (e ∷ es) r l h b = (r.0, omega (arith, r.1, h, b), rises_push (suc e.col) n n' k x es r.2 (omega (arith, r.1, h)) h b)
 
   -- a later entry has a later column
-  pub cols_above : (lo n i : ℕ) (es : List (Entry F)) → Rises lo n es → i < length es → lo ≤ col_at es i
+  cols_above : (lo n i : ℕ) (es : List (Entry F)) → Rises lo n es → i < length es → lo ≤ col_at es i
   cols_above lo n i [] r l = absurd (omega (arith, l))
   cols_above lo n zero (e ∷ es) r l = r.0
   cols_above lo n (suc i) (e ∷ es) r l = let h = cols_above (suc e.col) n i es r.2 (omega (arith, l)) in omega (arith, h, r.0)
 
+  -- a later entry of a rising list stands at a greater column
   pub cols_rise : (lo n i j : ℕ) (es : List (Entry F)) → Rises lo n es → i < j → j < length es → col_at es i < col_at es j
   cols_rise lo n i j [] r l b = absurd (omega (arith, b))
   cols_rise lo n i zero (e ∷ es) r l b = absurd (omega (arith, l))
@@ -45,9 +46,11 @@ module _ {F : Type 0} where
   cols_rise lo n (suc i) (suc j) (e ∷ es) r l b = cols_rise (suc e.col) n i j es r.2 (omega (arith, l)) (omega (arith, b))
 
   module _ (m : F → ℚ) where
+    -- at a column other than the first entry's the number is that of the other entries
     pub head_off : (e : Entry F) (es : List (Entry F)) (k : ℕ) → e.col ≢ k → value_at m (e ∷ es) k ≡ value_at m es k
     head_off e es k d = ap (λ b. cond b (m e.value) (value_at m es k)) (ne_eqb e.col k d)
 
+    -- at the first entry's column the number is that entry's
     pub head_on : (e : Entry F) (es : List (Entry F)) (k : ℕ) → e.col ≡ k → value_at m (e ∷ es) k ≡ m e.value
     head_on e es k d = ap (λ b. cond b (m e.value) (value_at m es k)) (eq-eqb e.col k d)
 
@@ -56,6 +59,7 @@ module _ {F : Type 0} where
     value_before lo n k [] r l = refl
     value_before lo n k (e ∷ es) r l = head_off e es k (λ q. omega (arith, q, r.0, l)) ∙ value_before (suc e.col) n k es r.2 (omega (arith, r.0, l))
 
+    -- a list that rises below n has 0 at each column from n on
     pub value_behind : (lo n k : ℕ) (es : List (Entry F)) → Rises lo n es → n ≤ k → value_at m es k ≡ zero_ℚ
     value_behind lo n k [] r l = refl
     value_behind lo n k (e ∷ es) r l = head_off e es k (λ q. omega (arith, q, r.1, l)) ∙ value_behind (suc e.col) n k es r.2 l
@@ -75,8 +79,8 @@ module _ {F : Type 0} where
         let at : col_at es i ≡ k = get_or-map (λ (y : Entry F). y.col) es i e 0 b ∙ q in
         head_off x es k (λ s. omega (arith, s, below, at)) ∙ value_read (suc x.col) n i k es e r.2 b q
 
-    -- an entry behind the others
-    pub value_push : (lo n k q : ℕ) (x : F) (es : List (Entry F)) → Rises lo n es → n ≤ k → value_at m (es ++ record { col = k; value = x } ∷ []) q ≡ cond (eqb k q) (m x) (value_at m es q)
+    -- with an entry at its end, past all columns, a list has that entry's number at its column and the old ones elsewhere
+    value_push : (lo n k q : ℕ) (x : F) (es : List (Entry F)) → Rises lo n es → n ≤ k → value_at m (es ++ record { col = k; value = x } ∷ []) q ≡ cond (eqb k q) (m x) (value_at m es q)
     value_push lo n k q x [] r h = refl
     value_push lo n k q x (e ∷ es) r h = ⊎_elim
         (λ a. head_on e (es ++ record { col = k; value = x } ∷ []) q a ∙ sym (ap (λ b. cond b (m x) (value_at m (e ∷ es) q)) (ne_eqb k q (λ s. omega (arith, s, a, r.1, h))) ∙ head_on e es q a))
@@ -84,7 +88,7 @@ module _ {F : Type 0} where
         (cases_eq e.col q)
 
     -- what holds with a pushed entry and without one that is 0
-    pub pushed_cases : (P : List (Entry F) → Type 0) (es : List (Entry F)) (k : ℕ) (x : F) → (m x ≡ zero_ℚ → P es) → (m x ≢ zero_ℚ → P (es ++ record { col = k; value = x } ∷ [])) → P (pushed m es k x)
+    pushed_cases : (P : List (Entry F) → Type 0) (es : List (Entry F)) (k : ℕ) (x : F) → (m x ≡ zero_ℚ → P es) → (m x ≢ zero_ℚ → P (es ++ record { col = k; value = x } ∷ [])) → P (pushed m es k x)
     pushed_cases P es k x y n = by (is_zero (m x)) refl
       where
         by : (b : Bool) → is_zero (m x) ≡ b → P (cond b es (es ++ record { col = k; value = x } ∷ []))
@@ -95,6 +99,7 @@ module _ {F : Type 0} where
     no_zero_push [] e n h = (n, tt)
     no_zero_push (x ∷ es) e n h = (h.0, no_zero_push es e n h.1)
 
+    -- a list without a zero entry has none when a number is appended unless it is 0
     pub no_zero_pushed : (es : List (Entry F)) (k : ℕ) (x : F) → HasNoZero m es → HasNoZero m (pushed m es k x)
     no_zero_pushed es k x h = pushed_cases (HasNoZero m) es k x (λ z. h) (λ n. no_zero_push es (record { col = k; value = x }) n h)
 

@@ -16,9 +16,13 @@ use Rattle.tm_sparse.proofs.merge.Gaps.{joined_gap, left_to, left_zero, left_hea
 
 -- the columns below r of the row a are divided, and those of the list are left
 pub record Dividing {F : Type 0} (m : F → ℚ) (L : ℤ) (a : ℕ → ℚ) (c n r : ℕ) (es out : List (Entry F)) : Type 0 where
+  -- the entries of the list are those of the row a from the column r on
   pub left : Left m a r n es
+  -- the entries that were made are those of the divided row below the column r
   pub kept : Keeps m (divided_row a c) r out
+  -- none of the operations below the column r is wide
   pub fits : first_wide L (division_row_operations r a c) ≡ None
+  -- the column r is at most the row's width
   pub reach : r ≤ n
 
 module _ {F : Type 0} (m : F → ℚ) (L : ℤ) (a : ℕ → ℚ) (c n : ℕ) (pivot : a c ≢ zero_ℚ) where

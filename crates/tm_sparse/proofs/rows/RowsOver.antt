@@ -49,18 +49,22 @@ module _ (L : ℤ) (a : ℕ → ℕ → ℚ) (b : ℕ → ℚ) (r n c : ℕ) whe
   made_is : (i : ℕ) → i ≢ r → made i ≡ combination_row_operations n (a i) b c
   made_is i d = ap (λ t. cond t [] (combination_row_operations n (a i) b c)) (ne_eqb i r d)
 
+  -- combining no rows makes no wide operation
   pub fits_none : first_wide L (rows_operations a b 0 r n c) ≡ None
   unfolding rows_operations
   fits_none = joined_fits_none L made
 
+  -- where none of the next row's operations is wide, none is in one row more
   pub fits_more : (i : ℕ) → i ≢ r → first_wide L (rows_operations a b i r n c) ≡ None → first_wide L (combination_row_operations n (a i) b c) ≡ None → first_wide L (rows_operations a b (i + 1) r n c) ≡ None
   unfolding rows_operations
   fits_more i d h w = joined_fits_more L i made h (ap (first_wide L) (made_is i d) ∙ w)
 
+  -- where the next row is the pivot's, one row more makes no wide operation
   pub fits_past : (i : ℕ) → i ≡ r → first_wide L (rows_operations a b i r n c) ≡ None → first_wide L (rows_operations a b (i + 1) r n c) ≡ None
   unfolding rows_operations
   fits_past i e h = joined_fits_more L i made h (ap (λ t. first_wide L (cond t [] (combination_row_operations n (a i) b c))) (eq-eqb i r e))
 
+  -- the first wide operation of the next row is the first of all rows
   pub row_refused : (i k : ℕ) (o : Operation) → i < k → i ≢ r → first_wide L (rows_operations a b i r n c) ≡ None → first_wide L (combination_row_operations n (a i) b c) ≡ Some o → first_wide L (rows_operations a b k r n c) ≡ Some o
   unfolding rows_operations
   row_refused i k o l d h w = joined_wide_at L i k made o l h (ap (first_wide L) (made_is i d) ∙ w)

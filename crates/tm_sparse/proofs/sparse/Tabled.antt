@@ -95,10 +95,12 @@ module _ {F : Type 0} (m : F → ℚ) (bs ns ms : List ℕ) (rows ys zs : List (
         entry = λ i k l b. ap (λ es. value_at m es k) (row_left i) ∙ value_left m z k (row_at rows (skip (length bs) i)) ∙ ap (λ y. numbers m rows (skip (length bs) i) (skip y k)) z_is;
       }
 
+  -- the rows rise below the new width when a column and a goal are left out
   pub leave_rises : EachRises (suc (length ns)) rows → EachRises (suc (length ms)) zs
   leave_rises h i =
       let e : suc (length ms) ≡ length ns = let f = length-remove ns z z_in in let g = ap length ms_is in omega (arith, f, g) in
       subst (λ n. Rises 0 n (row_at zs i)) (sym e) (subst (Rises 0 (length ns)) (sym (row_left i)) (left_out_rises z 0 0 (length ns) (row_at rows (skip (length bs) i)) (omega (arith, z_in)) (omega arith) (λ l. absurd (omega (arith, l))) (h (skip (length bs) i))))
 
+  -- no row has a zero entry when a column and a goal are left out
   pub leave_no_zeros : NoZeros m rows → NoZeros m zs
   leave_no_zeros h i = subst (HasNoZero m) (sym (row_left i)) (no_zero_left m z (row_at rows (skip (length bs) i)) (h (skip (length bs) i)))
