@@ -120,7 +120,7 @@ abbrev mutual
   complete nil = true
   complete (cons s rest) = completes s && complete rest
 
--- the work that is left behind a point's mark; none behind a point that no run comes to
+-- the work that is left after a point's mark; none after a point that no run comes to
 abbrev pub Behind : Type 0
 Behind = Option (List Item)
 
@@ -130,7 +130,7 @@ unreached zero = []
 unreached (suc k) = None ∷ unreached k
 
 abbrev mutual
-  -- the work that is left behind the mark of each point that a node and the nodes in it make, in order, where `rest` is left behind the node
+  -- the work that is left after the mark of each point that a node and the nodes in it make, in order, where `rest` is left after the node
   pub behind_of : Statement → ℕ → List Item → List Behind
   behind_of (set var form line) n rest = []
   behind_of (havoc var line) n rest = []
@@ -142,14 +142,14 @@ abbrev mutual
   behind_of (jump kind line) n rest = []
   behind_of (label name line) n rest = Some rest ∷ []
 
-  -- the same for a list of nodes; no run comes to those behind a jump
+  -- the same for a list of nodes; no run comes to those after a jump
   pub behind_in : Statements → ℕ → List Item → List Behind
   behind_in nil n rest = []
   behind_in (cons s more) n rest =
       behind_of s n (nodes more (n + points_of s) ++ rest)
       ++ (if completes s then behind_in more (n + points_of s) rest else unreached (points_in more))
 
--- the work that is left behind each point of a program, in order
+-- the work that is left after each point of a program, in order
 abbrev pub behind_points : Statements → List Behind
 behind_points body =
     Some (nodes body 1 ++ mark (exit_of body) ∷ [])
@@ -160,7 +160,7 @@ abbrev pub ways_behind : Behind → List Way
 ways_behind None = []
 ways_behind (Some work) = ways_from work
 
--- the edges from the points behind which these works are left, the first point being p
+-- the edges from the points after which these works are left, the first point being p
 abbrev pub edges_from : ℕ → List Behind → List Edge
 edges_from p [] = []
 edges_from p (behind ∷ more) = map (λ w. record { from = p; to = w.to; actions = w.actions }) (ways_behind behind) ++ edges_from (suc p) more

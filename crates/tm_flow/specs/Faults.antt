@@ -47,13 +47,14 @@ is_long e = nat_lt 256 (length e.actions)
 abbrev pub long_fault : List Edge → Option FlowFault
 long_fault edges = option_map (λ e. fault.Actions e) (position is_long edges)
 
--- what is seen by counting: the first statement with a condition of more than 64 cases, or else too many points, or else more than 256 edges
+-- what is seen by counting: the first line with a condition of more than 64 cases, or else too many points, or else more than 256 edges
 abbrev pub counted_after : List ℕ → Statements → Option FlowFault
 counted_after [] body =
     if nat_lt MOST_POINTS (point_count body) then Some (fault.Points (point_count body))
     else (if nat_lt 256 (length (edges_of_program body)) then Some fault.Edges else None)
 counted_after (line ∷ lines) body = Some (fault.Cases line)
 
+-- what is seen by counting of a program
 abbrev pub counted_fault : Statements → Option FlowFault
 counted_fault body = counted_after (wide_lines_in body) body
 

@@ -22,7 +22,7 @@ pub record IsNumbered (body : Statements) : Type 0 where
 abbrev pub PointsAreNumbered : Type 0
 PointsAreNumbered = (body : Statements) → IsNumbered body
 
--- labelled steps come to the mark of a point exactly where the list has work behind it, and leave that work alone behind it
+-- labelled steps come to the mark of a point exactly where the list has work after it, and leave that work alone after it
 abbrev pub BehindPoints : Type 0
 BehindPoints = (body : Statements) (p : ℕ) (rest : List Item) →
     (slice_get (behind_points body) p ≡ Some (Some rest)) ↔ ((actions : List Action) × Leads (start_work body) actions (mark p ∷ rest))

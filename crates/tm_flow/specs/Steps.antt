@@ -26,7 +26,7 @@ guards forms = map Guard forms
 abbrev pub choices : Bool → Condition → List Item → List Labelled
 choices truth c work = map (λ forms. labelled (guards forms) work) (cases_of truth c)
 
--- the labelled steps with an item, behind which `rest` is left, in order; a mark is only dropped
+-- the labelled steps with an item, after which `rest` is left, in order; a mark is only dropped
 abbrev pub steps_of : Item → (rest : List Item) → List Labelled
 steps_of (mark p) rest = []
 steps_of (node (set var form line) n) rest = labelled (Assign var form ∷ []) rest ∷ []

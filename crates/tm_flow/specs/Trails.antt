@@ -61,7 +61,7 @@ abbrev mutual
   edges_in_node (jump kind line) n jumps next = []
   edges_in_node (label name line) n jumps next = reached (begun_at n) next
 
-  -- the same for a list of nodes; none from those behind a jump
+  -- the same for a list of nodes; none from those after a jump
   pub edges_in_nodes : Statements → ℕ → Jumps → List Way → List Edge
   edges_in_nodes nil n jumps next = []
   edges_in_nodes (cons s rest) n jumps next =

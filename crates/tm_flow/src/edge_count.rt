@@ -30,7 +30,7 @@ pub(crate) fn edge_count(body: &Block) -> u32
     sum(way_count(stmts, none, 1), edge_count_in(stmts, none, 1))
 }
 
-/// The number of ways along the statements to the next point, where so many go on by jumps and from what comes after
+/// The number of ways along the statements to the next point, from the numbers of those that go on by jumps and from what comes after
 /// the statements; counted up to `ENOUGH`.
 fn way_count(stmts: &[Stmt], jumps: JumpCounts, next: u32) -> u32
     requires jumps { AreCounted jumps }
@@ -66,7 +66,7 @@ fn way_count(stmts: &[Stmt], jumps: JumpCounts, next: u32) -> u32
 }
 
 /// The number of edges from the points that the statements and those in them make, counted up to `ENOUGH`; none from
-/// those behind a jump.
+/// those after a jump.
 #[cycle(edge_counts)]
 fn edge_count_in(stmts: &[Stmt], jumps: JumpCounts, next: u32) -> u32
     requires jumps { AreCounted jumps }
@@ -138,7 +138,7 @@ fn join_count(first: &Block, second: &Block, next: u32) -> u32
     }
 }
 
-/// The number of ways by a choice, where so many go on after the cases for true and for false.
+/// The number of ways by a choice, from the numbers of those that go on after the cases for true and for false.
 fn choice_count(cond: &Cond, held: u32, failed: u32) -> u32
     requires held { held ≤ ENOUGH }
     requires failed { failed ≤ ENOUGH }

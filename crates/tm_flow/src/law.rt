@@ -19,8 +19,8 @@ pub fn ways_are_steps()
     ensures { WaysAreSteps }
 {}
 
-/// Labelled steps from the start come to the mark of a point exactly where the list of work behind points has some for it,
-/// and leave that work behind the mark.
+/// Labelled steps from the start come to the mark of a point exactly where the list of work after points has some for it,
+/// and leave that work after the mark.
 pub fn work_behind_points()
     ensures { BehindPoints }
 {}

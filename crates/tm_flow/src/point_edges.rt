@@ -40,7 +40,7 @@ pub(crate) fn edges_of(alloc: Global, body: &Block, exit: u32) -> Result<Vec<Edg
     Ok(edges)
 }
 
-/// Adds the edges from the points that the statements and those in them make, in order; none from those behind a jump.
+/// Adds the edges from the points that the statements and those in them make, in order; none from those after a jump.
 ///
 /// `first` is the number of the first point that the statements make. At their end a way goes on by each edge of `next`,
 /// at a jump by those of `jumps`.

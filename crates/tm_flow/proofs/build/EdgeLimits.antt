@@ -44,6 +44,7 @@ mutual
   room_of n i (jump kind line) h = refl
   room_of n i (label name line) h = refl
 
+  -- all conditions of statements within the limits leave room for their guards
   pub room_in : (n : ℕ) (i : Bool) (ss : Statements) → IsTrue (are_statements n i ss) → IsTrue (have_rooms ss)
   room_in n i nil h = refl
   room_in n i (cons s rest) h =
@@ -64,6 +65,7 @@ mutual
   few_of (jump kind line) = omega arith
   few_of (label name line) = omega arith
 
+  -- statements make at most one point each
   pub few_in : (ss : Statements) → points_in ss ≤ nodes_in ss
   few_in nil = omega arith
   few_in (cons s rest) = omega (arith, few_of s, few_in rest)
@@ -100,7 +102,9 @@ module _ (n : ℕ) where
 
   -- the ways of jumps
   record JumpsFit (jumps : Jumps) : Type 0 where
+    -- those by a `break` fit
     pub broken : Each WayFits jumps.broken
+    -- those by a `continue` fit
     pub continued : Each WayFits jumps.continued
 
   mutual
@@ -192,6 +196,7 @@ module _ (n : ℕ) where
         (edges_fit_of i s p j (ways_in rest m j next) t.0 k (ways_fit_in i rest m j next t.1 k a))
         (if_edges_fit (completes s) (edges_in_nodes rest m j next) (edges_fit_in i rest m j next t.1 k a))
 
+  -- the edges of a body within the limits have actions over its variables
   pub edges_fit : (body : Statements) → IsTrue (are_statements n false body) → Each EdgeFits (kept_edges body)
   edges_fit body h =
       let exit = arrived (exit_of body) in

@@ -19,8 +19,11 @@ use Rattle.tm_flow.proofs.guard.GuardLemmas.{nat_abs-neg, are_numbers-negated}
 abbrev pub IsForm : ℕ → Form → Type 0
 IsForm n f = IsTrue (is_form n f)
 
+-- a form that is compared: over n variables, with room for its guards
 pub record Compared (n : ℕ) (f : Form) : Type 0 where
+  -- it is over n variables
   pub form : IsForm n f
+  -- its constant has room for 1 more
   pub room : IsTrue (has_room f)
 
 compared : (n : ℕ) (f : Form) → IsTrue (is_compared n f) → Compared n f
@@ -74,6 +77,7 @@ crossed_forms n (u ∷ us) vs h k =
     each-append (Each (IsForm n)) (map (λ v. u ++ v) vs) (crossed us vs)
     (each-map (Each (IsForm n)) (Each (IsForm n)) (λ v. u ++ v) (λ v m. each-append (IsForm n) u v h.0 m) vs k) (crossed_forms n us vs h.1 k)
 
+-- the cases of a condition over n variables are lists of forms over these
 pub cases_forms : (n : ℕ) (truth : Bool) (c : Condition) → IsTrue (is_condition n c) → AreForms n (cases_of truth c)
 cases_forms n truth free h = (tt, tt)
 cases_forms n truth (compare rel f) h = comparison_forms n truth rel f (compared n f h)

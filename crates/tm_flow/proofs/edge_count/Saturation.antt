@@ -12,12 +12,13 @@ use Rattle.tm_flow.proofs.count.Counting.{sum_counted, product_counted}
 
 -- two numbers are the same up to the limit
 pub record Same (a b : ℕ) : Type 0 where
+  -- capped, they are one number
   pub up_to : min a ENOUGH ≡ min b ENOUGH
 
-pub same : (a : ℕ) → Same a a
+same : (a : ℕ) → Same a a
 same a = record { up_to = refl }
 
-pub capped_same : (a : ℕ) → Same (min a ENOUGH) a
+capped_same : (a : ℕ) → Same (min a ENOUGH) a
 capped_same a = record { up_to = omega arith }
 
 same_sum : (a b c d : ℕ) → Same a b → Same c d → Same (a + c) (b + d)
@@ -38,11 +39,14 @@ same_choice c a b m n h k =
     same_sum (case_count true c * a) (case_count true c * b) (case_count false c * m) (case_count false c * n) (same_product (case_count true c) a b h)
     (same_product (case_count false c) m n k)
 
+-- the counts of jumps are the same up to the limit
 pub record SameJumps (j k : JumpCounts) : Type 0 where
+  -- those of a `break`
   pub broken : Same j.broken k.broken
+  -- those of a `continue`
   pub continued : Same j.continued k.continued
 
-pub same_jumps : (j : JumpCounts) → SameJumps j j
+same_jumps : (j : JumpCounts) → SameJumps j j
 same_jumps j = record { broken = same j.broken; continued = same j.continued }
 
 mutual
@@ -56,7 +60,7 @@ mutual
   same_ways_of (jump continues line) j k m n a h = a.continued
   same_ways_of (label name line) j k m n a h = same 1
 
-  pub same_ways_in : (ss : Statements) (j k : JumpCounts) (m n : ℕ) → SameJumps j k → Same m n → Same (way_count_in ss j m) (way_count_in ss k n)
+  same_ways_in : (ss : Statements) (j k : JumpCounts) (m n : ℕ) → SameJumps j k → Same m n → Same (way_count_in ss j m) (way_count_in ss k n)
   same_ways_in nil j k m n a h = h
   same_ways_in (cons s rest) j k m n a h = same_ways_of s j k (way_count_in rest j m) (way_count_in rest k n) a (same_ways_in rest j k m n a h)
 
@@ -81,7 +85,7 @@ same_head (for_loop g) c body m n h = same_turn (for_loop g) c body m n h
 same_head do_loop c body m n h = same_body do_loop c body m n h
 
 mutual
-  pub same_edges_of : (s : Statement) (j k : JumpCounts) (m n : ℕ) → SameJumps j k → Same m n → Same (edge_count_of s j m) (edge_count_of s k n)
+  same_edges_of : (s : Statement) (j k : JumpCounts) (m n : ℕ) → SameJumps j k → Same m n → Same (edge_count_of s j m) (edge_count_of s k n)
   same_edges_of (set var form line) j k m n a h = same 0
   same_edges_of (havoc var line) j k m n a h = same 0
   same_edges_of (assume c line) j k m n a h = same_if (splits c) m n 0 0 h (same 0)
@@ -95,7 +99,7 @@ mutual
   same_edges_of (jump kind line) j k m n a h = same 0
   same_edges_of (label name line) j k m n a h = h
 
-  pub same_edges_in : (ss : Statements) (j k : JumpCounts) (m n : ℕ) → SameJumps j k → Same m n → Same (edge_count_in ss j m) (edge_count_in ss k n)
+  same_edges_in : (ss : Statements) (j k : JumpCounts) (m n : ℕ) → SameJumps j k → Same m n → Same (edge_count_in ss j m) (edge_count_in ss k n)
   same_edges_in nil j k m n a h = same 0
   same_edges_in (cons s rest) j k m n a h =
       same_sum (edge_count_of s j (way_count_in rest j m)) (edge_count_of s k (way_count_in rest k n)) _ _

@@ -44,9 +44,11 @@ length-both : (c : Condition) (us vs : List Way) (k l : ℕ) → length us ≡ k
 length-both c us vs k l e f =
     length-append (by_case true c us) (by_case false c vs) ∙ ap₂ (λ x y. x + y) (length-by_case true c us k e) (length-by_case false c vs l f)
 
--- ---- ways, where those of jumps and from what comes after are so many
+-- ---- the number of ways, from the numbers of those of jumps and from what comes after
 record Counted (jumps : Jumps) (counts : JumpCounts) : Type 0 where
+  -- those by a `break`
   pub broken : length jumps.broken ≡ counts.broken
+  -- those by a `continue`
   pub continued : length jumps.continued ≡ counts.continued
 
 mutual
@@ -141,5 +143,6 @@ counted_edges body =
     (edges_of_nodes body 1 no_jumps no_jump_counts exit 1 none refl))
     ∙ ap length (walked_program body) ∙ length-map (edges_of_program body) kept_edge
 
+-- the capped count of a program's edges is the capped length of their list
 pub counted_up_to : (body : Statements) (r limit : ℕ) → r ≡ min (edge_count body) limit → r ≡ min (length (edges_of_program body)) limit
 counted_up_to body r limit e = e ∙ ap (λ k. min k limit) (counted_edges body)

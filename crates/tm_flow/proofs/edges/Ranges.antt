@@ -35,6 +35,7 @@ points_onward body =
     let later : AllNumbered (λ k w. 0 < k) 1 ws = numbered_all (λ k w. 0 < k) 1 ws (λ k h w. omega (arith, h)) in
     points_hold Onward (λ k w. 0 < k) mark_onward steps_onward body later (λ w m. absurd m)
 
+-- each edge of a program goes from one of its points to one of its points other than the entry
 pub ranges_law : EdgesInRange
 ranges_law body e m =
     let ws = behind_points body in

@@ -68,7 +68,7 @@ later-points true p k ws edges e = e
 later-points false p k ws edges e = unreached-points p k
 
 mutual
-  pub walked_of : (s : Statement) (n : ℕ) (rest : List Item) → cut (edges_from n (behind_of s n rest)) ≡ edges_in_node s n (jumps_from rest) (ways_from rest)
+  walked_of : (s : Statement) (n : ℕ) (rest : List Item) → cut (edges_from n (behind_of s n rest)) ≡ edges_in_node s n (jumps_from rest) (ways_from rest)
   walked_of (set var form line) n rest = refl
   walked_of (havoc var line) n rest = refl
   walked_of (assume c line) n rest = if-point (splits c) n rest
@@ -91,7 +91,7 @@ mutual
   walked_of (jump kind line) n rest = refl
   walked_of (label name line) n rest = one-point n rest
 
-  pub walked_in : (ss : Statements) (n : ℕ) (rest : List Item) → cut (edges_from n (behind_in ss n rest)) ≡ edges_in_nodes ss n (jumps_from rest) (ways_from rest)
+  walked_in : (ss : Statements) (n : ℕ) (rest : List Item) → cut (edges_from n (behind_in ss n rest)) ≡ edges_in_nodes ss n (jumps_from rest) (ways_from rest)
   walked_in nil n rest = refl
   walked_in (cons s more) n rest =
       let m = n + points_of s in
@@ -103,6 +103,7 @@ mutual
       (walked_of s n after ∙ ap₂ (edges_in_node s n) (jumps-nodes more m rest) (ways-nodes more m rest))
       (later-points (completes s) m (points_in more) ws _ (walked_in more m rest))
 
+-- the edges that are walked are the program's edges, each with the first 257 of its actions
 pub walked_program : (body : Statements) → kept_edges body ≡ cut (edges_of_program body)
 walked_program body =
     let exit = mark (exit_of body) ∷ [] in

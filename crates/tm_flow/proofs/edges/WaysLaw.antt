@@ -43,6 +43,7 @@ ways-body : (kind : LoopKind) (c : Condition) (body : Statements) (line n : ℕ)
     ways_from (body_work kind c body line n rest) ≡ body_ways kind c body n (ways_from rest)
 ways-body kind c body line n rest = ways-nodes body (n + 1) (end kind c body line n ∷ rest)
 
+-- the ways from the head of a loop are those of the work that begins there
 pub ways-head : (kind : LoopKind) (c : Condition) (body : Statements) (line n : ℕ) (rest : List Item) →
     ways_from (head_work kind c body line n rest) ≡ head_ways kind c body n (ways_from rest)
 ways-head while_loop c body line n rest = refl
@@ -82,6 +83,7 @@ ways-both c yes_work no_work yes_ways no_ways p q =
     sym (flat_map-append on (choices true c yes_work) (choices false c no_work)
     ∙ ap₂ (λ u v. u ++ v) (ways-choices true c yes_work ∙ ap (by_case true c) p) (ways-choices false c no_work ∙ ap (by_case false c) q))
 
+-- an item that is no mark leads on exactly by its labelled steps, in order
 pub ways_law : WaysAreSteps
 ways_law (mark p) rest other = absurd (other tt)
 ways_law (node (set var form line) n) rest other = sym (append-nil _)

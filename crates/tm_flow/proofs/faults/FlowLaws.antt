@@ -32,12 +32,18 @@ use Rattle.tm_flow.specs.declared.limits.TheConstants.{MOST_POINTS}
 use Rattle.tm_tree.specs.declared.limits.TheConstants.{MOST_VARIABLES}
 
 -- ---- a program's limits
+-- a program's numbers of variables and nodes, and its statements, are within the limits
 pub record Limits (n : ℕ) (body : Statements) : Type 0 where
+  -- there is a variable
   pub some_name : 1 ≤ n
+  -- there are at most as many variables as allowed
   pub names : n ≤ MOST_VARIABLES
+  -- there are at most 512 nodes
   pub nodes : nodes_in body ≤ 512
+  -- the statements are within the limits
   pub statements : IsTrue (are_statements n false body)
 
+-- a program within the limits has each of its parts within them
 pub limits : (n : ℕ) (body : Statements) → IsTrue (is_program n body) → Limits n body
 limits n body h =
     let p = and_parts (nat_le 1 n) (nat_le n MOST_VARIABLES && (nat_le (nodes_in body) 512 && are_statements n false body)) h in
@@ -45,6 +51,7 @@ limits n body h =
     let r = and_parts (nat_le (nodes_in body) 512) (are_statements n false body) q.1 in
     record { some_name = leb-true 1 n p.0; names = leb-true n MOST_VARIABLES q.0; nodes = leb-true (nodes_in body) 512 r.0; statements = r.1 }
 
+-- a program within the limits has at most 514 points
 pub few_points : (n : ℕ) (body : Statements) → IsTrue (is_program n body) → point_count body ≤ 514
 few_points n body h = let l = limits n body h in omega (arith, few_in body, l.nodes)
 
@@ -60,7 +67,7 @@ none_after [] body h =
     (ltb-false MOST_POINTS (point_count body) p.0, ltb-false 256 (length (edges_of_program body)) p.1)
 none_after (line ∷ lines) body h = cc
 
-pub none_counted : (body : Statements) → counted_fault body ≡ None → (point_count body ≤ MOST_POINTS) × (length (edges_of_program body) ≤ 256)
+none_counted : (body : Statements) → counted_fault body ≡ None → (point_count body ≤ MOST_POINTS) × (length (edges_of_program body) ≤ 256)
 none_counted body h = none_after (wide_lines_in body) body h
 
 -- ---- edges that are too long
@@ -79,6 +86,7 @@ from-kept : (i : ℕ) (es : List Edge) → position_from is_long i (map kept_edg
 from-kept i [] = refl
 from-kept i (e ∷ es) = ap₂ (λ b r. let o : Option ℕ = cond b (Some i) r in o) (long-kept e) (from-kept (i + 1) es)
 
+-- the first edge that is too long is the same when each edge keeps 257 actions
 pub long_place-kept : (es : List Edge) → position is_long (map kept_edge es) ≡ position is_long es
 long_place-kept es = position_from-zero is_long (map kept_edge es) ∙ from-kept 0 es ∙ sym (position_from-zero is_long es)
 
@@ -109,17 +117,20 @@ nothing_cut body h =
     walked_program body
     ∙ whole (edges_of_program body) (short (edges_of_program body) (sym (long_place-kept (edges_of_program body)) ∙ ap (position is_long) (sym (walked_program body)) ∙ h))
 
-pub place_of_long : (body : Statements) → position is_long (kept_edges body) ≡ position is_long (edges_of_program body)
+place_of_long : (body : Statements) → position is_long (kept_edges body) ≡ position is_long (edges_of_program body)
 place_of_long body = ap (position is_long) (walked_program body) ∙ long_place-kept (edges_of_program body)
 
+-- where counting finds no fault and no kept edge is too long, the program has no fault
 pub no_fault : (body : Statements) → counted_fault body ≡ None → position is_long (kept_edges body) ≡ None → fault_of_program body ≡ None
 no_fault body h k =
     ap (λ o. fault_or o (long_fault (edges_of_program body))) h ∙ ap (option_map (λ e. fault.Actions e)) (sym (place_of_long body) ∙ k)
 
+-- where counting finds no fault, the first kept edge that is too long is the program's fault
 pub long_faulted : (body : Statements) (k : ℕ) → counted_fault body ≡ None → position is_long (kept_edges body) ≡ Some k → fault_of_program body ≡ Some (fault.Actions k)
 long_faulted body k h l =
     ap (λ o. fault_or o (long_fault (edges_of_program body))) h ∙ ap (option_map (λ e. fault.Actions e)) (sym (place_of_long body) ∙ l)
 
+-- where counting finds no fault, there are fewer than 2 ^ 32 edges
 pub few_kept : (body : Statements) → counted_fault body ≡ None → length (kept_edges body) < 2 ^ 32
 few_kept body h = omega (arith, (none_counted body h).1, ap length (walked_program body), length-map (edges_of_program body) kept_edge)
 
@@ -207,6 +218,7 @@ program_within names body h k l =
     (and_from (begins_with_entry points && list_all has_line points) _ (points_within body)
     (and_from (nat_le (length edges) 256) (list_all (is_edge n (length points)) edges) (le-leb (length edges) 256 (few_edges body k)) all)))
 
+-- where there is no fault, names, points and edges are a flow within the limits
 pub flow_within : (names : List (List ℕ)) (points : List Point) (edges : List Edge) (body : Statements) → IsTrue (is_program (length names) body) → points ≡ points_of_program body →
     edges ≡ kept_edges body → counted_fault body ≡ None → position is_long (kept_edges body) ≡ None → IsTrue (is_flow names points edges)
 flow_within names points edges body h e f k l = rw (e, f) (program_within names body h k l)

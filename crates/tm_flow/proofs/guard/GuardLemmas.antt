@@ -4,11 +4,13 @@ use Rattle.std.specs.Prelude.{ℤ, pos, negsuc, neg_ℤ, nat_abs, IsTrue, zero, 
 use Rattle.std.proofs.lemmas.Bool.{and_parts, and_from}
 use Rattle.tm_tree.specs.Numbers.{is_number, are_numbers}
 
+-- a negated integer is as far from 0
 pub nat_abs-neg : (z : ℤ) → nat_abs (neg_ℤ z) ≡ nat_abs z
 nat_abs-neg (pos zero) = refl
 nat_abs-neg (pos (suc n)) = refl
 nat_abs-neg (negsuc n) = refl
 
+-- negated numbers within the limits are within the limits
 pub are_numbers-negated : (zs : List ℤ) → IsTrue (are_numbers zs) → IsTrue (are_numbers (map neg_ℤ zs))
 are_numbers-negated [] h = refl
 are_numbers-negated (z ∷ zs) h =

@@ -14,9 +14,12 @@ use Rattle.tm_flow.specs.Edges.{Way, arrived, prefixed, by_case, changed, Jumps,
 use Rattle.tm_flow.specs.Trails.{Begun, begun_at, followed, reached, split, walked, edges_in_node, edges_in_nodes}
 use Rattle.tm_flow.proofs.trail.TrailLemmas.{append-kept, reached-append, reached-prefixed, reached-by_case}
 
+-- the ways lead to the same edges, whatever was walked before them
 pub record Alike (us vs : List Way) : Type 0 where
+  -- from whatever was begun, they reach the same edges
   pub at : (b : Begun) → reached b us ≡ reached b vs
 
+-- ways lead to the same edges as themselves
 pub alike_same : (ways : List Way) → Alike ways ways
 alike_same ways = record { at = λ b. refl }
 
@@ -26,6 +29,7 @@ rewalked p b [] = refl
 rewalked p b (w ∷ ways) =
     ap₂ (λ a r. let e : Edge = record { from = b.from; to = w.to; actions = a } in e ∷ r) (append-kept b.actions w.actions) (rewalked p b ways)
 
+-- the ways that walked edges are lead to the same edges as the ways that they were walked by
 pub alike_walked : (p : ℕ) (ways : List Way) → Alike (walked (reached (begun_at p) ways)) ways
 alike_walked p ways = record { at = λ b. rewalked p b ways }
 
@@ -52,8 +56,11 @@ alike_if true p us vs h = alike_same (arrived p)
 alike_if false p us vs h = h
 
 -- ---- the ways along statements, where those of jumps and from what comes after are alike
+-- the ways of jumps lead to the same edges
 pub record AlikeJumps (j k : Jumps) : Type 0 where
+  -- those of a `break`
   pub broken : Alike j.broken k.broken
+  -- those of a `continue`
   pub continued : Alike j.continued k.continued
 
 mutual
@@ -69,6 +76,7 @@ mutual
   alike_of (jump continues line) n j k us vs a h = a.continued
   alike_of (label name line) n j k us vs a h = alike_same (arrived n)
 
+  -- with alike ways of jumps and alike ways onward, the ways along statements are alike
   pub alike_in : (ss : Statements) (n : ℕ) (j k : Jumps) (us vs : List Way) → AlikeJumps j k → Alike us vs → Alike (ways_in ss n j us) (ways_in ss n k vs)
   alike_in nil n j k us vs a h = h
   alike_in (cons s rest) n j k us vs a h =
@@ -79,7 +87,7 @@ alike_end while_loop c n us vs h = alike_same (arrived n)
 alike_end (for_loop g) c n us vs h = alike_same (changed g (arrived n))
 alike_end do_loop c n us vs h = alike_both c (arrived n) (arrived n) us vs (alike_same (arrived n)) h
 
-pub alike_jumps : (kind : LoopKind) (c : Condition) (n : ℕ) (us vs : List Way) → Alike us vs → AlikeJumps (loop_jumps kind c n us) (loop_jumps kind c n vs)
+alike_jumps : (kind : LoopKind) (c : Condition) (n : ℕ) (us vs : List Way) → Alike us vs → AlikeJumps (loop_jumps kind c n us) (loop_jumps kind c n vs)
 alike_jumps kind c n us vs h = record { broken = h; continued = alike_end kind c n us vs h }
 
 alike_body : (kind : LoopKind) (c : Condition) (body : Statements) (n : ℕ) (us vs : List Way) → Alike us vs → Alike (body_ways kind c body n us) (body_ways kind c body n vs)
@@ -101,6 +109,7 @@ edges_if true xs ys e = e
 edges_if false xs ys e = refl
 
 mutual
+  -- with alike ways of jumps and alike ways onward, a statement makes the same edges
   pub edges_alike_of : (s : Statement) (n : ℕ) (j k : Jumps) (us vs : List Way) → AlikeJumps j k → Alike us vs → edges_in_node s n j us ≡ edges_in_node s n k vs
   edges_alike_of (set var form line) n j k us vs a h = refl
   edges_alike_of (havoc var line) n j k us vs a h = refl
@@ -118,6 +127,7 @@ mutual
   edges_alike_of (jump kind line) n j k us vs a h = refl
   edges_alike_of (label name line) n j k us vs a h = h.at (begun_at n)
 
+  -- with alike ways of jumps and alike ways onward, statements make the same edges
   pub edges_alike_in : (ss : Statements) (n : ℕ) (j k : Jumps) (us vs : List Way) → AlikeJumps j k → Alike us vs → edges_in_nodes ss n j us ≡ edges_in_nodes ss n k vs
   edges_alike_in nil n j k us vs a h = refl
   edges_alike_in (cons s rest) n j k us vs a h =

@@ -27,7 +27,8 @@ step_way item rest step w other m h =
     let put : Way → Way = λ v. way (step.actions ++ v.actions) v.to in
     subst (λ ways. In ways (put w)) (sym (ways_law item rest other)) (in-flat_map on (steps_of item rest) step (put w) m (in-map put (ways_from step.work) w h))
 
-pub way_of_arrival : (work : List Item) (actions : List Action) (p : ℕ) (behind : List Item) → Arrives work actions p behind → In (ways_from work) (way actions p)
+-- each arrival of labelled steps at a mark is a way
+way_of_arrival : (work : List Item) (actions : List Action) (p : ℕ) (behind : List Item) → Arrives work actions p behind → In (ways_from work) (way actions p)
 way_of_arrival work actions p behind (at_mark q rest) = inl refl
 way_of_arrival work actions p behind (by_step (mark q) rest step later p' behind' m h) = absurd m
 way_of_arrival work actions p behind (by_step (node s n) rest step later p' behind' m h) =
@@ -60,6 +61,7 @@ numbered_all F n [] f = tt
 numbered_all F n (None ∷ ws) f = (tt, numbered_all F (n + 1) ws (λ k h w. f k (omega (arith, h)) w))
 numbered_all F n (Some v ∷ ws) f = (f n (omega arith) v, numbered_all F (n + 1) ws (λ k h w. f k (omega (arith, h)) w))
 
+-- what holds of each work with its number holds of the work at each place
 pub numbered_at : (F : ℕ → List Item → Type 0) (n : ℕ) (ws : List Behind) (i : ℕ) (w : List Item) → AllNumbered F n ws → slice_get ws i ≡ Some (Some w) → F (n + i) w
 numbered_at F n [] i w a e = cc
 numbered_at F n (v ∷ ws) zero w a e =
@@ -82,12 +84,12 @@ numbered_itself F n (v ∷ ws) f = (
     itself None g = tt
     itself (Some w) g = g w refl
 
--- ---- the work behind a mark that labelled steps reach
+-- ---- the work after a mark that labelled steps reach
 module _ (body : Statements) where
   abbrev pub IsBehind : ℕ → List Item → Type 0
   IsBehind p rest = slice_get (behind_points body) p ≡ Some (Some rest)
 
-  -- at the next mark, the work behind that point is left
+  -- at the next mark, the work after that point is left
   abbrev pub Known : List Item → Type 0
   Known work = (actions : List Action) (p : ℕ) (behind : List Item) → Arrives work actions p behind → IsBehind p behind
 
@@ -106,6 +108,7 @@ module _ (body : Statements) where
       none work actions q behind (at_mark p rest) e = cc
       none work actions q behind (by_step item rest step later q' behind' m h) e = cc
 
+  -- labelled steps from the work after any point arrive at a mark with the work that the list has after it
   pub behind_known : AllNumbered (λ k w. Known w) 0 (behind_points body)
   behind_known = program_holds Known IsBehind mark_known steps_known body (numbered_itself IsBehind 0 (behind_points body) (λ i w e. let z : i ≡ 0 + i = omega arith in subst (λ j. IsBehind j w) z e)) nothing_known
 
@@ -124,9 +127,11 @@ module _ (body : Statements) where
   behind_mark : (actions : List Action) (p : ℕ) (behind : List Item) → Leads (start_work body) actions (mark p ∷ behind) → IsBehind p behind
   behind_mark actions p behind h = leads_known (start_work body) actions (mark p ∷ behind) h start_known p behind refl
 
+  -- each way from the work after any point is an arrival of labelled steps
   pub behind_arrives : AllNumbered (λ k w. Arriving w) 0 (behind_points body)
   behind_arrives = program_holds Arriving (λ k w. Unit {0}) mark_arrives steps_arrive body (numbered_all (λ k w. Unit {0}) 0 (behind_points body) (λ k h w. tt)) (λ w m. absurd m)
 
+-- labelled steps come to a point's mark exactly where the list has work after it, and leave that work
 pub behind_law : BehindPoints
 behind_law body p rest = (
   (λ e. let r = numbered_at (AtPoint (start_work body)) 0 (behind_points body) p rest (points_reached body) e in
@@ -157,6 +162,7 @@ reached_way : (v : Behind) (w : Way) → In (ways_behind v) w → (work : List I
 reached_way None w m = absurd m
 reached_way (Some work) w m = (work, refl, m)
 
+-- an edge in the list comes from a point that is reached, by a way from the work after it
 pub from_edges : (k : ℕ) (ws : List Behind) (e : Edge) → In (edges_from k ws) e →
     (p : ℕ) × (work : List Item) × (slice_get ws p ≡ Some (Some work)) × (e.from ≡ k + p) × In (ways_from work) (way e.actions e.to)
 from_edges k [] e m = absurd m
@@ -172,6 +178,7 @@ from_edges k (v ∷ ws) e m =
     (suc t.0, t.1, t.2, t.3 ∙ z, t.4))
     (in-append (map here_edge (ways_behind v)) (edges_from (suc k) ws) e m)
 
+-- the edges of every program are exactly its paths
 pub edges_law : EdgesOfPrograms
 edges_law body = record { complete = complete; sound = sound }
   where

@@ -216,7 +216,7 @@ leaving =
 leaving_points : points_of_program leaving ≡ point Entry 0 ∷ (point Loop 1 ∷ (point (Label (109 ∷ (105 ∷ (100 ∷ [])))) 1 ∷ (point Join 1 ∷ (point Exit 0 ∷ []))))
 leaving_points = refl
 
--- the points 2 and 3 stand behind the `break`: no run comes to them, and they have no edges
+-- the points 2 and 3 stand after the `break`: no run comes to them, and they have no edges
 abbrev leaving_list : List Edge
 leaving_list =
     edge 0 1 (Assign 0 (form (pos 0) (pos 0)) ∷ [])

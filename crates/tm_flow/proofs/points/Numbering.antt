@@ -11,7 +11,7 @@ use Rattle.tm_flow.specs.declared.point.Point.{Point}
 use Rattle.tm_flow.specs.Points.{Made, made, made_by, made_in}
 use Rattle.tm_flow.specs.PathLaws.{PointsAreNumbered}
 
-pub range-append : (a m n : ℕ) → range_with_len a (m + n) ≡ range_with_len a m ++ range_with_len (a + m) n
+range-append : (a m n : ℕ) → range_with_len a (m + n) ≡ range_with_len a m ++ range_with_len (a + m) n
 range-append a zero n =
     let e : 0 + n ≡ n = omega arith in
     let f : a ≡ a + 0 = omega arith in
@@ -56,6 +56,7 @@ mutual
 made_count : (body : Statements) → length (made_in body 1) ≡ points_in body
 made_count body = sym (length-map (made_in body 1) (λ m. m.number)) ∙ ap length (numbers_in body 1) ∙ length-range_with_len 1 (points_in body)
 
+-- the nodes of every program make the points 1, 2, 3 and so on, each once, in order
 pub numbering : PointsAreNumbered
 numbering body =
     let inner : List Point = map (λ m. m.point) (made_in body 1) in

@@ -1,4 +1,4 @@
--- A plain program that finds points and edges by following labelled steps from the start. It sees a program as work alone, and stops after so many steps.
+-- A plain program that finds points and edges by following labelled steps from the start. It sees a program as work alone, and stops after a number of steps.
 use Rattle.std.specs.Prelude.{ℕ, zero, suc, ◌==◌, List, [], ◌∷◌, ◌++◌, map, flat_map, if◌then◌else◌}
 use Rattle.std.specs.List.{list_any}
 use Rattle.tm_tree.specs.Tree.{Statements}
@@ -7,16 +7,19 @@ use Rattle.tm_flow.specs.declared.edge.Action.{Action}
 use Rattle.tm_flow.specs.declared.edge.Edge.{Edge}
 use Rattle.tm_flow.specs.Steps.{steps_of}
 
--- an arrival at a point: what was done, the point's number, and the work behind its mark
+-- an arrival at a point: what was done, the point's number, and the work after its mark
 pub record Arrival : Type 0 where
+  -- what was done
   pub actions : List Action
+  -- the point's number
   pub to : ℕ
+  -- the work after its mark
   pub behind : List Item
 
 abbrev pub done_before : List Action → Arrival → Arrival
 done_before actions a = record a { actions = actions ++ a.actions }
 
--- all arrivals at the next mark, within so many steps each
+-- all arrivals at the next mark, each within this number of steps
 abbrev pub arrivals : ℕ → List Item → List Arrival
 arrivals zero work = []
 arrivals (suc steps) [] = []

@@ -43,7 +43,7 @@ some_crossed : (as' bs : List (List Form)) → HasCase as' → HasCase bs → Ha
 some_crossed [] bs h k = absurd h.1
 some_crossed (a ∷ rest) bs h k = (a ++ k.0, in-append_left (map (λ b. a ++ b) bs) (crossed rest bs) (a ++ k.0) (in-map (λ b. a ++ b) bs k.0 k.1))
 
-pub some_case : (truth : Bool) (c : Condition) → HasCase (cases_of truth c)
+some_case : (truth : Bool) (c : Condition) → HasCase (cases_of truth c)
 some_case true free = ([], inl refl)
 some_case false free = ([], inl refl)
 some_case true (compare r f) = some_comparison true r f
@@ -79,7 +79,7 @@ module _ (start : List Item) where
   reached_by item rest s work m e h =
       subst Reached e (h.0 ++ (s.actions ++ []), leads_then start (item ∷ rest) s.work h.0 (s.actions ++ []) h.1 (done item rest s [] s.work m (here s.work)))
 
-  -- the point's mark, and this work behind it
+  -- the point's mark, and this work after it
   abbrev pub AtPoint : ℕ → List Item → Type 0
   AtPoint p work = Reached (mark p ∷ work)
 
@@ -201,7 +201,7 @@ module _ (start : List Item) where
           numbered-append AtPoint n us vs a.1 (subst (λ k. AllNumbered AtPoint (n + k) vs) (sym (behind_count_of s n after)) all),
         )
 
--- each point of a program that has work behind it is reached with this work
+-- each point of a program that has work after it is reached with this work
 pub points_reached : (body : Statements) → AllNumbered (AtPoint (start_work body)) 0 (behind_points body)
 points_reached body =
     let start = start_work body in

@@ -131,5 +131,6 @@ stepped (end (for_loop g) c body line n) rest x work y other r =
 stepped (end do_loop c body line n) rest x work y other r =
     taken_step (end do_loop c body line n) rest c (λ t. repeat_work t c body line n rest) x work y refl r
 
+-- a step of a run does what one of its labelled steps records, and each labelled step that can be taken is a step
 pub steps_law : StepsAreRecorded
 steps_law item rest x work y other = ((λ d. recorded item rest x work y other d), (λ r. stepped item rest x work y other r))

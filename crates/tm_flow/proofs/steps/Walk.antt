@@ -1,4 +1,4 @@
--- A property of work lists that the labelled steps and the marks allow holds of the work behind each point.
+-- A property of work lists that the labelled steps and the marks allow holds of the work after each point.
 use Rattle.std.proofs.Common.{◌≡◌, ⊎_elim, ℕ, zero, suc, ◌+◌, Bool, true, false, List, [], ◌∷◌, ◌++◌, length, refl, sym, ap, subst, arith}
 use Rattle.std.proofs.Common.{length-append}
 use Rattle.std.proofs.lemmas.Bool.{and_from, or_left, or_right}
@@ -31,6 +31,7 @@ count_reached true ws k e = e
 count_reached false ws k e = unreached_count k
 
 mutual
+  -- a statement has as many works after points as it makes points
   pub behind_count_of : (s : Statement) (n : ℕ) (rest : List Item) → length (behind_of s n rest) ≡ points_of s
   behind_count_of (set var form line) n rest = refl
   behind_count_of (havoc var line) n rest = refl
@@ -49,6 +50,7 @@ mutual
   behind_count_of (jump kind line) n rest = refl
   behind_count_of (label name line) n rest = refl
 
+  -- statements have as many works after points as they make points
   pub behind_count_in : (ss : Statements) (n : ℕ) (rest : List Item) → length (behind_in ss n rest) ≡ points_in ss
   behind_count_in nil n rest = refl
   behind_count_in (cons s more) n rest =
@@ -62,8 +64,7 @@ mutual
         length-append (behind_of s n after) reached,
       )
 
--- ---- facts of each work
--- a fact of the work behind a point that is reached
+-- a fact of the work after a point that is reached
 abbrev pub OfSome : (List Item → Type 0) → Behind → Type 0
 OfSome F None = Unit {0}
 OfSome F (Some work) = F work
@@ -73,17 +74,18 @@ abbrev pub AllNumbered : (ℕ → List Item → Type 0) → ℕ → List Behind 
 AllNumbered F n [] = Unit {0}
 AllNumbered F n (w ∷ ws) = OfSome (F n) w × AllNumbered F (n + 1) ws
 
+-- what holds of two lists of works with their numbers holds of the joined list
 pub numbered-append : (F : ℕ → List Item → Type 0) (n : ℕ) (us ws : List Behind) → AllNumbered F n us → AllNumbered F (n + length us) ws → AllNumbered F n (us ++ ws)
 numbered-append F n [] ws a b = let e : n + 0 ≡ n = omega arith in subst (λ k. AllNumbered F k ws) e b
 numbered-append F n (u ∷ us) ws a b =
     let e : n + suc (length us) ≡ n + 1 + length us = omega arith in
     (a.0, numbered-append F (n + 1) us ws a.1 (subst (λ k. AllNumbered F k ws) e b))
 
-pub numbered_left : (F : ℕ → List Item → Type 0) (n : ℕ) (us ws : List Behind) → AllNumbered F n (us ++ ws) → AllNumbered F n us
+numbered_left : (F : ℕ → List Item → Type 0) (n : ℕ) (us ws : List Behind) → AllNumbered F n (us ++ ws) → AllNumbered F n us
 numbered_left F n [] ws a = tt
 numbered_left F n (u ∷ us) ws a = (a.0, numbered_left F (n + 1) us ws a.1)
 
-pub numbered_right : (F : ℕ → List Item → Type 0) (n : ℕ) (us ws : List Behind) → AllNumbered F n (us ++ ws) → AllNumbered F (n + length us) ws
+numbered_right : (F : ℕ → List Item → Type 0) (n : ℕ) (us ws : List Behind) → AllNumbered F n (us ++ ws) → AllNumbered F (n + length us) ws
 numbered_right F n [] ws a = let e : n ≡ n + 0 = omega arith in subst (λ k. AllNumbered F k ws) e a
 numbered_right F n (u ∷ us) ws a =
     let e : n + 1 + length us ≡ n + suc (length us) = omega arith in
@@ -103,7 +105,7 @@ numbered_reached F true n k ws t a = a
 numbered_reached F false n k ws t a = cc
 
 -- the one work that is reached on a condition
-pub some_if : (F : List Item → Type 0) (b : Bool) (rest : List Item) → (IsTrue b → F rest) → OfSome F (if b then Some rest else None)
+some_if : (F : List Item → Type 0) (b : Bool) (rest : List Item) → (IsTrue b → F rest) → OfSome F (if b then Some rest else None)
 some_if F true rest f = f refl
 some_if F false rest f = tt
 
@@ -116,12 +118,13 @@ pub past-nodes : (ss : Statements) (n : ℕ) (rest : List Item) → past_loop (n
 past-nodes nil n rest = refl
 past-nodes (cons s more) n rest = past-nodes more (n + points_of s) rest
 
+-- nodes that stand before work don't hide the end of a loop in it
 pub end-nodes : (ss : Statements) (n : ℕ) (rest : List Item) → end_of_body (nodes ss n ++ rest) ≡ end_of_body rest
 end-nodes nil n rest = refl
 end-nodes (cons s more) n rest = end-nodes more (n + points_of s) rest
 
 -- a choice leaves the work that it is given
-pub choice_work : (truth : Bool) (c : Condition) (work : List Item) (s : Labelled) → In (choices truth c work) s → s.work ≡ work
+choice_work : (truth : Bool) (c : Condition) (work : List Item) (s : Labelled) → In (choices truth c work) s → s.work ≡ work
 choice_work truth c work s h = let r = from_map (λ forms. labelled (guards forms) work) (cases_of truth c) s h in ap (λ t. t.work) (sym r.2)
 
 module _ (P : List Item → Type 0) (Allowed : ℕ → List Item → Type 0)
@@ -234,7 +237,7 @@ module _ (P : List Item → Type 0) (Allowed : ℕ → List Item → Type 0)
         (λ t. nodes_hold more (n + points_of s) rest (parts.1 t) (λ u. h (and_from (completes s) (complete more) t u)) j)
         (jumps_before more (n + points_of s) rest j)
 
-  -- ---- the work behind each point
+  -- ---- the work after each point
   if_holds : (b : Bool) (n : ℕ) (rest : List Item) → P rest → AllNumbered (λ k w. P w) n (if b then Some rest ∷ [] else [])
   if_holds true n rest h = (h, tt)
   if_holds false n rest h = tt
@@ -301,6 +304,7 @@ module _ (P : List Item → Type 0) (Allowed : ℕ → List Item → Type 0)
         (subst (λ k. AllNumbered F (n + k) vs) (sym (behind_count_of s n after))
         (numbered_if F (completes s) m (points_in more) ws (λ t. behind_nodes more m rest (parts.1 t) (later t) j)))
 
+  -- where all that a body's points go on with is allowed, the property holds of the work after each point
   pub points_hold : (body : Statements) → AllNumbered Allowed 1 (behind_in body 1 (mark (exit_of body) ∷ []) ++ (if complete body then Some [] else None) ∷ []) → P [] →
       AllNumbered (λ k w. P w) 0 (behind_points body)
   points_hold body a none =
@@ -316,10 +320,11 @@ module _ (P : List Item → Type 0) (Allowed : ℕ → List Item → Type 0)
       let last : AllNumbered F (1 + length ws) (finish ∷ []) = (some_if P (complete body) [] (λ t. none), tt) in
       (nodes_hold body 1 exit left at_exit (none, none), numbered-append F 1 ws (finish ∷ []) (behind_nodes body 1 exit left at_exit (none, none)) last)
 
+  -- where the work after each point is allowed, and the property holds of no work, it holds of the work after each point
   pub program_holds : (body : Statements) → AllNumbered Allowed 0 (behind_points body) → P [] → AllNumbered (λ k w. P w) 0 (behind_points body)
   program_holds body a none = points_hold body a.1 none
 
--- a program has as many works behind points as points
+-- a program has as many works after points as points
 pub behind_count : (body : Statements) → length (behind_points body) ≡ point_count body
 behind_count body =
     let exit = mark (exit_of body) ∷ [] in

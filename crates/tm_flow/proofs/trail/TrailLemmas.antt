@@ -14,11 +14,12 @@ use Rattle.tm_flow.specs.Edges.{Way, prefixed, by_case}
 use Rattle.tm_flow.specs.Trails.{Begun, kept, followed, reached, split}
 use Rattle.tm_flow.proofs.count.Counting.{either_way}
 
+-- of at most 257 actions all are kept
 pub kept_all : (xs : List Action) → length xs ≤ 257 → kept xs ≡ xs
 kept_all xs h = take_all 257 xs h
 
 -- what is cut off already changes nothing
-pub kept-append : (xs ys : List Action) → kept (kept xs ++ ys) ≡ kept (xs ++ ys)
+kept-append : (xs ys : List Action) → kept (kept xs ++ ys) ≡ kept (xs ++ ys)
 kept-append xs ys =
     ⊎_elim
     (λ (h : 257 ≤ length xs).
@@ -38,16 +39,18 @@ take-append-take (suc k) m (x ∷ xs) ys h = ap (λ r. x ∷ r) (take-append-tak
 pub append-kept : (xs ys : List Action) → kept (xs ++ kept ys) ≡ kept (xs ++ ys)
 append-kept xs ys = take-append-take 257 257 xs ys (omega arith)
 
+-- what is kept of kept actions is what was kept
 pub kept_twice : (xs : List Action) → kept (kept xs) ≡ kept xs
 kept_twice xs = take-take 257 257 xs (omega arith)
 
 abbrev begun : ℕ → List Action → Begun
 begun p actions = record { from = p; actions = actions }
 
+-- following an edge by no action leaves it as it is
 pub followed_by_nothing : (b : Begun) → length b.actions ≤ 257 → followed b [] ≡ b
 followed_by_nothing b h = ap (begun b.from) (ap kept (append-nil b.actions) ∙ kept_all b.actions h)
 
-pub followed_on : (b : Begun) (xs ys : List Action) → followed (followed b xs) ys ≡ followed b (xs ++ ys)
+followed_on : (b : Begun) (xs ys : List Action) → followed (followed b xs) ys ≡ followed b (xs ++ ys)
 followed_on b xs ys = ap (begun b.from) (kept-append (b.actions ++ xs) ys ∙ ap kept (append_assoc b.actions xs ys))
 
 -- one more action, where there is room for it
@@ -67,6 +70,7 @@ arrow b w = record { from = b.from; to = w.to; actions = kept (b.actions ++ w.ac
 pub reached-append : (b : Begun) (us vs : List Way) → reached b (us ++ vs) ≡ reached b us ++ reached b vs
 reached-append b us vs = map-append (arrow b) us vs
 
+-- edges that go on by ways with actions before them are edges followed by the actions that go on by the ways
 pub reached-prefixed : (b : Begun) (actions : List Action) (ways : List Way) → reached b (prefixed actions ways) ≡ reached (followed b actions) ways
 reached-prefixed b actions [] = refl
 reached-prefixed b actions (w ∷ ways) =
@@ -79,10 +83,11 @@ reached-cases b (forms ∷ cases) ways =
     reached-append b (prefixed (guards forms) ways) (flat_map (λ f. prefixed (guards f) ways) cases)
     ∙ ap₂ (λ u v. u ++ v) (reached-prefixed b (guards forms) ways) (reached-cases b cases ways)
 
+-- edges that go on by the ways of a condition's cases are the edges that go on by each case
 pub reached-by_case : (b : Begun) (truth : Bool) (c : Condition) (ways : List Way) → reached b (by_case truth c ways) ≡ split b (cases_of truth c) ways
 reached-by_case b truth c ways = reached-cases b (cases_of truth c) ways
 
-pub reached-both : (b : Begun) (c : Condition) (us vs : List Way) →
+reached-both : (b : Begun) (c : Condition) (us vs : List Way) →
     reached b (by_case true c us ++ by_case false c vs) ≡ split b (cases_of true c) us ++ split b (cases_of false c) vs
 reached-both b c us vs =
     reached-append b (by_case true c us) (by_case false c vs) ∙ ap₂ (λ u v. u ++ v) (reached-by_case b true c us) (reached-by_case b false c vs)
@@ -98,11 +103,12 @@ chosen before middle after b t c held failed us vs xs ys p f g u v h i =
     ∙ ap (λ z. before ++ z) (sym (reached-both b c us vs))
 
 -- one guard more
-pub guards_more : (forms : List Form) (i : ℕ) (x : Form) → i < length forms → x ≡ get_or forms i x → guards (take i forms) ++ Guard x ∷ [] ≡ guards (take (i + 1) forms)
+guards_more : (forms : List Form) (i : ℕ) (x : Form) → i < length forms → x ≡ get_or forms i x → guards (take i forms) ++ Guard x ∷ [] ≡ guards (take (i + 1) forms)
 guards_more forms i x l e =
     let one : List Form = x ∷ [] in
     sym (ap guards (take_more forms i x l ∙ ap (λ y. take i forms ++ y ∷ []) (sym e)) ∙ map-append Guard (take i forms) one)
 
+-- after the guards of i forms, the next form's guard makes those of i + 1 forms
 pub followed_more : (b before after : Begun) (forms : List Form) (i : ℕ) (x y : Form) → i < length forms → x ≡ get_or forms i x → y ≡ x →
     after ≡ followed before (Guard y ∷ []) → before ≡ followed b (guards (take i forms)) → after ≡ followed b (guards (take (i + 1) forms))
 followed_more b before after forms i x y l e f g h =
