@@ -23,23 +23,26 @@ below_faults (Some b) = if b.den == 0 then ZeroBelow b.at ∷ [] else []
 abbrev pub name_faults : List Written → List ℕ → ℕ → List EquFault
 name_faults es name at = if list_any (is_named name) es then [] else UnknownName at ∷ []
 
--- the faults of a part: its ratio stands before its name
+-- a name of a part without an equation
 abbrev pub names_faults : List Written → Part → List EquFault
 names_faults es (Multiple factor name at) = name_faults es name at
 names_faults es (Constant minus ratio) = []
 
+-- the faults of a part: its ratio stands before its name
 abbrev pub part_faults : List Written → Part → List EquFault
 part_faults es p = below_faults (part_below p) ++ names_faults es p
 
--- the place of a part's first token
+-- the place of a multiple's first token
 abbrev pub multiple_at : Option Ratio → ℕ → ℕ
 multiple_at None at = at
 multiple_at (Some r) at = r.at
 
+-- the place of a constant's first token
 abbrev pub constant_at : Option ℕ → ℕ → ℕ
 constant_at None at = at
 constant_at (Some minus) at = minus
 
+-- the place of a part's first token
 abbrev pub part_at : Part → ℕ
 part_at (Multiple factor name at) = multiple_at factor at
 part_at (Constant minus ratio) = constant_at minus ratio.at

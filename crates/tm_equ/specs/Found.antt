@@ -22,7 +22,7 @@ abbrev pub EndsPart : List Symbol → Type 0
 EndsPart (Plus ∷ ss) = Unit {0}
 EndsPart ss = EndsSum ss
 
--- This was found, and these symbols stand behind it.
+-- This was found, and these symbols stand after it.
 abbrev pub Finds : {X : Type 0} → Option (X × Bor (List Symbol)) → X → List Symbol → Type 0
 Finds None x rest = ⊥
 Finds (Some found) x rest = (found.0 ≡ x) × (found.1.now ≡ rest)

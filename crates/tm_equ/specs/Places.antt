@@ -9,11 +9,12 @@ use Rattle.tm_equ.specs.declared.reading.place.Place.TheVariants.{First, Name, E
 use Rattle.tm_equ.specs.declared.reading.place.Place.TheVariants.{Alternative, MinOpening, Part, Factor, FactorDen, FactorEnd, Times, Constant}
 use Rattle.tm_equ.specs.declared.reading.place.Place.TheVariants.{ConstantBelow, ConstantDen, AfterPart, Semicolon, Done}
 
--- behind the `,` after a sum, and behind the `)`
+-- after the `,` that follows a sum
 abbrev pub comma_next : Within → Place
 comma_next Alone = Alternative
 comma_next Minimum = Part Minimum
 
+-- after the `)` that follows a sum
 abbrev pub paren_next : Within → Place
 paren_next Alone = Semicolon
 paren_next Minimum = Alternatives
@@ -32,12 +33,13 @@ part_next w (symbol.Number value at) = Some (Factor w)
 part_next w (symbol.Minus at) = Some (Constant w)
 part_next w s = None
 
--- what follows a number that may be a factor, without a `:` so far and with one
+-- what follows a number that may be a factor, without a `:` so far
 abbrev pub factor_next : Within → Symbol → Option Place
 factor_next w symbol.Colon = Some (FactorDen w)
 factor_next w symbol.Star = Some (Times w)
 factor_next w s = within_next w s
 
+-- what follows a number that may be a factor, with its `:`
 abbrev pub factor_end_next : Within → Symbol → Option Place
 factor_end_next w symbol.Star = Some (Times w)
 factor_end_next w s = within_next w s
@@ -47,11 +49,12 @@ abbrev pub constant_below_next : Within → Symbol → Option Place
 constant_below_next w symbol.Colon = Some (ConstantDen w)
 constant_below_next w s = within_next w s
 
--- a number, and a name
+-- a number alone
 abbrev pub number_next : Place → Symbol → Option Place
 number_next after (symbol.Number value at) = Some after
 number_next after s = None
 
+-- a name alone
 abbrev pub name_next : Place → Symbol → Option Place
 name_next after (symbol.Named name at) = Some after
 name_next after s = None
@@ -91,7 +94,7 @@ only_next MinOpening symbol.LeftParen = Some (Part Minimum)
 only_next Semicolon symbol.Semicolon = Some Name
 only_next p s = None
 
--- the place behind a symbol, if it may stand at this place
+-- the place after a symbol, if it may stand at this place
 abbrev pub next : Place → Symbol → Option Place
 next First s = name_next Equal s
 next Name s = name_or_end_next s
@@ -117,7 +120,7 @@ next MinOpening s = only_next MinOpening s
 next Semicolon s = only_next Semicolon s
 next Done s = None
 
--- the place behind symbols, if each may stand where it does
+-- the place after symbols, if each may stand where it does
 abbrev pub run : Place → List Symbol → Option Place
 run p [] = Some p
 run p (s ∷ ss) = option_and_then (λ q. run q ss) (next p s)
@@ -126,7 +129,7 @@ run p (s ∷ ss) = option_and_then (λ q. run q ss) (next p s)
 abbrev pub GoesThrough : List Symbol → Type 0
 GoesThrough symbols = (p : Place) × (run First symbols ≡ Some p)
 
--- So many symbols may stand where they do, and with the next one not all of them may.
+-- the first i symbols may stand where they do, and with the next one not all of them may
 pub record RefusedAt (symbols : List Symbol) (i : ℕ) : Type 0 where
   pub within : i < length symbols
   pub place : Place

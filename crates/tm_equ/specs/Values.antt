@@ -56,10 +56,11 @@ sum_value s values =
     else if has_part is_neg_inf s.coeffs values then neg_inf
     else fin ((parts_sum s.coeffs values +ℚ whole s.constant) /ℚ whole s.den)
 
--- the lesser and the greater of two
+-- the lesser of two
 abbrev pub lesser : Ext → Ext → Ext
 lesser x y = min_by_ordering (cmp_ᴱ x y) x y
 
+-- the greater of two
 abbrev pub greater : Ext → Ext → Ext
 greater x y = max_by_ordering (cmp_ᴱ x y) x y
 

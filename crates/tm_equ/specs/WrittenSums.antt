@@ -19,11 +19,12 @@ abbrev pub den_of : Option Below → ℕ
 den_of None = 1
 den_of (Some b) = b.den
 
--- the second number of a part's ratio
+-- the second number of a factor
 abbrev pub factor_below : Option Ratio → Option Below
 factor_below None = None
 factor_below (Some r) = r.below
 
+-- the second number of a part's ratio
 abbrev pub part_below : Part → Option Below
 part_below (Multiple factor name at) = factor_below factor
 part_below (Constant minus ratio) = ratio.below
@@ -81,6 +82,7 @@ scaled_value den p = (part_value p).num *ℤ pos (den / (part_value p).den)
 abbrev pub Amount : Type 0
 Amount = ℕ × ℤ
 
+-- a part's amount: the name that it goes to, and what it adds over the common denominator
 abbrev pub amount : List Written → ℕ → Part → Amount
 amount es den p = (key es p, scaled_value den p)
 

@@ -91,7 +91,7 @@ fn entry_and_loop(alloc: Global) -> Result<Points, AllocError>
     Ok(Points::new(list))
 }
 
-// The row of each of so many names.
+// The row of each of n names.
 fn rows(alloc: Global, names: u32) -> Result<Template, AllocError>
     requires some { 1 ≤ names }
     requires few { names ≤ MOST_EQUATIONS }

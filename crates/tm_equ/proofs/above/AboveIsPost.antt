@@ -122,5 +122,6 @@ module _ (equations : List Equation) (v : Vector) (sound : AreSound equations) (
           (subst (λ (g : Edge). Fits (system_of equations) v g.from x) (sym b.2) t.fits)
           (subst (λ (g : Edge). Traces g.actions x y) (sym b.2) t.trace))
 
+  -- where the entry has +inf and the values at the loop are above the equations, the vector is a post-solution
   pub above_is_post : PostSolution (system_of equations) v
   above_is_post = record { entry = λ r h. entry r (subst (λ k. r < k) (length-rows (length equations)) h); closed = closed }

@@ -20,6 +20,7 @@ use Rattle.tm_equ.proofs.traces.Rows.{length-rows}
 use Rattle.tm_equ.proofs.above.AboveIsPost.{above_is_post}
 use Rattle.tm_equ.proofs.above.PostIsAbove.{post_is_above}
 
+-- a vector that is +inf at the entry is a post-solution exactly where its values at the loop are above the equations
 pub post_above : PostSolutionsAreAbove
 post_above equations v h entry = let sound = sound_equations equations h in (post_is_above equations v sound entry, above_is_post equations v sound entry)
 
@@ -29,6 +30,7 @@ abbrev at_loop : Values → Vector
 at_loop values zero r = pos_inf
 at_loop values (suc p) r = values r
 
+-- the values at the loop of the least vector are the least above the equations
 pub least_above : LeastVectorsAreLeastAbove
 least_above equations v h least =
     let sound = sound_equations equations h in
@@ -88,10 +90,12 @@ module _ (equations : List Equation) (values : Values) (sound : AreSound equatio
       let under = least.least lowered lowered_above k (slice_get_within equations k e s) in
       ext_not_le_of_lt (right_side e values) (values k) smaller (subst (λ x. values k ≤ᴱ x) lowered_here under)
 
+-- the least values above the equations equal their right sides
 pub equal_right_sides : LeastAboveEqualRightSides
 equal_right_sides equations values h least k e s =
     ⊎_elim (λ l. ≤ᴱ_antisymm (values k) (right_side e values) l (least.above k e s)) (λ l. absurd (not_least equations values (sound_equations equations h) least k e s l))
     (ext_le_or_lt (values k) (right_side e values))
 
+-- two least values above the equations are the same at each name
 pub at_most_one : AtMostOneLeastAbove
 at_most_one equations values others h i k l = ≤ᴱ_antisymm (values k) (others k) (h.least others i.above k l) (i.least values h.above k l)

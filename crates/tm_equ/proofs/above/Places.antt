@@ -13,6 +13,7 @@ in_enumerated {A} (y ∷ xs) k zero j x e p =
     inl (subst (λ (z : A). ◌≡◌ {A = ℕ × A} (k, y) (j, z)) same (ap (λ (m : ℕ). let r : ℕ × A = (m, y) in r) place))
 in_enumerated (y ∷ xs) k (suc i) j x e p = inr (in_enumerated xs (k + 1) i j x e (omega arith))
 
+-- an element with a place is the list's element at that place
 pub of_enumerated : {A : Type 0} (xs : List A) (k : ℕ) (p : ℕ × A) → In (enumerate_from k xs) p → (i : ℕ) × (slice_get xs i ≡ Some p.1) × (k + i ≡ p.0)
 of_enumerated [] k p m = absurd m
 of_enumerated {A} (y ∷ xs) k p m =

@@ -151,5 +151,6 @@ module _ (equations : List Equation) (v : Vector) (sound : AreSound equations) (
         let r = reach_sums (length equations) sums (v 1) q good finite (λ u j. ≤ᴱ_trans (fin q) (least_value sums (v 1)) (sum_value u (v 1)) h (least_le sums (v 1) u j)) in
         q_below q r.0 (r.2 r.0 (≤ℚ_refl r.0)))
 
+  -- where the entry has +inf, the values at the loop of a post-solution are above the equations
   pub post_is_above : IsAbove equations (v 1)
   post_is_above k e s = greatest_le (v 1 k) (fin e.start) e.alternatives (v 1) (start_below k e s) (alternative_below k e s)

@@ -18,6 +18,7 @@ written_once text es fs h k =
     let tokens : h.tokens ≡ k.tokens = one_token_list text h.tokens k.tokens h.reads k.reads in
     spelled_once (symbols_of text k.tokens) es fs (subst (λ (ts : List Token). Spells (symbols_of text ts) es) tokens h.spelled) k.spelled
 
+-- two answers to a text are the same
 pub answers_once : (text : List ℕ) (one other : Result (List Equation) EquFault) → Answers text one → Answers text other → one ≡ other
 answers_once text one other (a_lexical_fault fault e h) k = e ∙ sym (lexical_alone text fault h other k)
 answers_once text one other (an_unexpected at e h) k = e ∙ sym (unexpected_alone text at h other k)

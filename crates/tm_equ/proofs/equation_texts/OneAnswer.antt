@@ -83,6 +83,7 @@ fault_alone text es fault w only s right (some_equations fs e v f) =
     let none : Some fault ≡ None = sym s ∙ (ap (λ x. slice_get (faults_of x) 0) (only fs v) ∙ ap (λ x. slice_get x 0) f) in
     absurd cc
 
+-- a text that spells these equations alone, without a fault, has them as its only answer
 pub equations_alone : (text : List ℕ) (es : List Written) → ReadsWritten text es → ((other : List Written) → ReadsWritten text other → es ≡ other) → faults_of es ≡ [] → (right : Result (List Equation) EquFault) → Answers text right → right ≡ Ok (equations_of es)
 equations_alone text es w only s right (a_lexical_fault other e k) = absurd (no_fault text _ other w.reads k)
 equations_alone text es w only s right (an_unexpected at e k) = absurd (unexpected_none text at es k w)
@@ -96,6 +97,7 @@ fault_given : (text : List ℕ) (fault : EquFault) → (fault ≢ NoMemory → (
 fault_given text NoMemory h right a = inl refl
 fault_given text fault h right a = inr (h (λ e. cc) right a)
 
+-- a result that is the only answer, or is want of memory, is given whatever the answer
 pub gives_alone : (text : List ℕ) (result : Result (List Equation) EquFault) → IfOk result (λ equations. (right : Result (List Equation) EquFault) → Answers text right → right ≡ Ok equations) → IfErr result (λ fault. fault ≢ NoMemory → (right : Result (List Equation) EquFault) → Answers text right → right ≡ Err fault) → (right : Result (List Equation) EquFault) → Answers text right → Gives result right
 gives_alone text (Ok equations) h k right a = h right a
 gives_alone text (Err fault) h k right a = fault_given text fault k right a

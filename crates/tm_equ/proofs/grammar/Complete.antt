@@ -60,6 +60,7 @@ sum_ends_part (symbol.Comma ∷ ss) h = h
 sum_ends_part (symbol.RightParen ∷ ss) h = h
 sum_ends_part ss h = absurd h
 
+-- what may follow a sum may follow a part when further parts stand before it
 pub parts_end : (ps : List Part) (ss : List Symbol) → EndsSum ss → EndsPart (parts_then ps ss)
 parts_end [] ss h = sum_ends_part ss h
 parts_end (p ∷ ps) ss h = tt
@@ -71,10 +72,12 @@ parts_run w (p ∷ ps) ss h = part_run w p (parts_then ps ss) (parts_end ps ss h
 sum_run : (w : Within) (s : Addends) (ss : List Symbol) → EndsSum ss → run (place.Part w) (sum_then s ss) ≡ run (place.AfterPart w) ss
 sum_run w s ss h = part_run w s.first (parts_then s.more ss) (parts_end s.more ss h) ∙ parts_run w s.more ss h
 
+-- `,` or `)` stands first where further sums of a minimum follow
 pub sums_end : (sums : List Addends) (ss : List Symbol) → EndsSum (sums_then sums ss)
 sums_end [] ss = tt
 sums_end (s ∷ sums) ss = tt
 
+-- `,` or `)` stands first where further alternatives follow
 pub choices_end : (cs : List Choice) (ss : List Symbol) → EndsSum (choices_then cs ss)
 choices_end [] ss = tt
 choices_end (c ∷ cs) ss = tt

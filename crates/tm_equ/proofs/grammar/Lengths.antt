@@ -58,6 +58,7 @@ equations_len [] = omega arith
 equations_len (e ∷ es) =
     omega (arith, equation_len e (equations_symbols es), equations_len es, sum_by_from (λ (x : Written). length x.choices) (0 + length e.choices) es)
 
+-- equations and their alternatives together are at most as many as their symbols
 pub spelled_len : (ss : List Symbol) (es : List Written) → Spells ss es → length es + choice_count es ≤ length ss
 spelled_len ss [] h = absurd h
 spelled_len ss (e ∷ es) h = omega (arith, ap length h, equations_len (e ∷ es))

@@ -14,7 +14,7 @@ use Rattle.tm_equ.specs.Found.{NoColon, EndsSum, EndsPart}
 use Rattle.tm_equ.specs.Grammar.{below_then, ratio_then, factor_then, minus_then, part_then, parts_then, sum_then, sums_then, choice_then, choices_then, equation_then, equations_symbols, Spells}
 use Rattle.tm_equ.proofs.grammar.Complete.{parts_end, sums_end, choices_end}
 
--- what stands behind a part is no `:` and no `*`
+-- what stands after a part is no `:` and no `*`
 no_colon : (ss : List Symbol) → EndsPart ss → NoColon ss
 no_colon (Plus ∷ ss) h = tt
 no_colon (Comma ∷ ss) h = tt
@@ -187,6 +187,7 @@ equations_once (d ∷ ds) (e ∷ es) h =
     let x = equation_once d e (equations_symbols ds) (equations_symbols es) h in
     ap₂ (λ a b. a ∷ b) x.0 (equations_once ds es x.1)
 
+-- two lists of equations that the same symbols spell are the same
 pub spelled_once : (symbols : List Symbol) (ds es : List Written) → Spells symbols ds → Spells symbols es → ds ≡ es
 spelled_once symbols [] es h k = absurd h
 spelled_once symbols (d ∷ ds) [] h k = absurd k

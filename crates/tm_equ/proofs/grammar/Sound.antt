@@ -43,7 +43,7 @@ PartOf w ss = (p : Part) × (r : List Symbol) × (ss ≡ part_then p r) × After
 abbrev StartOf : List Symbol → Type 0
 StartOf ss = (r : Ratio) × (cs : List Choice) × (es : List Written) × (ss ≡ ratio_then r (choices_then cs (equations_symbols es)))
 
--- a start, maybe with a `-`, and what may follow it, behind these
+-- a start, maybe with a `-`, and what may follow it, after these
 abbrev BodyOf : (List Symbol → List Symbol) → List Symbol → Type 0
 BodyOf f ss = (m : Option ℕ) × (r : Ratio) × (cs : List Choice) × (es : List Written) × (ss ≡ f (minus_then m (ratio_then r (choices_then cs (equations_symbols es)))))
 
@@ -128,6 +128,7 @@ named_equation : (name : List ℕ) (at : ℕ) (ss : List Symbol) → Rest place.
 named_equation name at ss h =
     (record { name = name; at = at; minus = h.0; start = h.1; choices = h.2 }, h.3, ap (λ x. symbol.Named name at ∷ x) h.4)
 
+-- symbols that go through to the end from a place are what may follow there
 pub sound : (p : Place) (ss : List Symbol) → run p ss ≡ Some place.Done → Rest p ss
 sound place.First (symbol.Named name at ∷ ss) h = let e = named_equation name at ss (sound place.Equal ss h) in (e.0 ∷ e.1, e.2)
 sound place.First ss h = absurd cc

@@ -113,6 +113,7 @@ few_cells equations h =
 abbrev pub HasFew : ℕ → ℕ → List Edge → List (List ℤ) → Type 0
 HasFew variables points edges template = cells_of (record { variables = variables; points = points; edges = edges; template = template }) ≤ 160890
 
+-- the joint problems of a system of equations have at most 160890 cells
 pub few_cells_in : (equations : List Equation) (names : List (List ℕ)) (points : List Point) (edges : List Edge) (template : List (List ℤ)) → IsTrue (are_equations equations) →
     names ≡ variables_of equations → points ≡ entry_and_loop → edges ≡ edges_of equations → template ≡ rows_of (length equations) →
     HasFew (length names) (length points) edges template

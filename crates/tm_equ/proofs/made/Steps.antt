@@ -9,7 +9,7 @@ use Rattle.tm_flow.proofs.steps.ElementLemmas.{contains_in}
 use Rattle.tm_equ.proofs.values.Sound.{all_at}
 
 -- an element at a place passes what all pass
-pub at_element : {A : Type 0} (p : A → Bool) (xs : List A) (i : ℕ) (x : A) → list_all p xs ≡ true → i < length xs → x ≡ get_or xs i x → p x ≡ true
+at_element : {A : Type 0} (p : A → Bool) (xs : List A) (i : ℕ) (x : A) → list_all p xs ≡ true → i < length xs → x ≡ get_or xs i x → p x ≡ true
 at_element p xs i x h l e = all_at p xs x h (contains_in xs x (i, l, sym e))
 
 -- one more value of a function of numbers
@@ -18,7 +18,7 @@ pub ranged_more : {B : Type 0} (f : ℕ → B) (k : ℕ) (list more : List B) (y
 ranged_more f k list more y e p v = p ∙ ap (λ l. l ++ y ∷ []) e ∙ ap (λ z. map f (range_with_len 0 k) ++ z ∷ []) v ∙ sym (map-range_with_len_more f 0 k k (zero-add k))
 
 -- one more value of a function of elements
-pub pushed_more : {A B : Type 0} (f : A → B) (front list more : List B) (xs : List A) (i : ℕ) (x : A) (y : B) → i < length xs → x ≡ get_or xs i x →
+pushed_more : {A B : Type 0} (f : A → B) (front list more : List B) (xs : List A) (i : ℕ) (x : A) (y : B) → i < length xs → x ≡ get_or xs i x →
     list ≡ front ++ map f (take i xs) → more ≡ list ++ y ∷ [] → y ≡ f x → more ≡ front ++ map f (take (i + 1) xs)
 pushed_more f front list more xs i x y l e h p v =
     p ∙ ap (λ ys. ys ++ y ∷ []) h ∙ append_assoc front (map f (take i xs)) (y ∷ [])

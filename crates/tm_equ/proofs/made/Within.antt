@@ -79,7 +79,7 @@ negated_numbers (c ∷ cs) d h k =
     let parts = and_parts (is_number c) (are_numbers cs) h in
     and_from (is_number (neg_ℤ c)) (are_numbers (map neg_ℤ cs ++ d ∷ [])) (number_negated c parts.0) (negated_numbers cs d parts.1 k)
 
--- the negated numbers, with one more behind them
+-- the negated numbers, with one more after them
 pub negated_pushed : (cs list more : List ℤ) (y d : ℤ) → list ≡ map neg_ℤ cs → more ≡ list ++ y ∷ [] → y ≡ d → are_numbers cs ≡ true → is_number d ≡ true → are_numbers more ≡ true
 negated_pushed cs list more y d e p v h k =
     subst (λ zs. are_numbers zs ≡ true) (sym (p ∙ ap (λ ys. ys ++ y ∷ []) e ∙ ap (λ z. map neg_ℤ cs ++ z ∷ []) v)) (negated_numbers cs d h k)
@@ -172,6 +172,7 @@ module _ (equations : List Equation) (sound : AreSound equations) where
   few_edges : length (edges_of equations) ≤ 256
   few_edges = let e = length-edges (length equations) equations 0 in let f = sound.few_alternatives in omega arith
 
+-- there is one variable for each equation, and one more
 pub length-variables : (equations : List Equation) → length (variables_of equations) ≡ length equations + 1
 length-variables equations = length_push (map (λ (e : Equation). e.name) equations) (105 ∷ 110 ∷ 116 ∷ []) ∙ ap (λ m. m + 1) (length-map equations (λ (e : Equation). e.name))
 
@@ -189,6 +190,7 @@ flow_limits equations h =
     (and_from (nat_le (length edges) 256) (list_all (is_edge names 2) edges) (le-leb (length edges) 256 (few_edges equations sound))
     (subst (λ k. list_all (is_edge k 2) edges ≡ true) (sym e) (edges_within equations sound)))))
 
+-- variables, points and edges of equations within the limits are a flow within the limits
 pub flow_within : (equations : List Equation) (names : List (List ℕ)) (points : List Point) (edges : List Edge) → IsTrue (are_equations equations) →
     names ≡ variables_of equations → points ≡ entry_and_loop → edges ≡ edges_of equations → IsTrue (is_flow names points edges)
 flow_within equations names points edges h e f g =
@@ -226,6 +228,7 @@ rows_limits n h k =
     let p = row_passes n row m in
     and_from (is_row row) (length row == width_of (rows_of n)) p.0 (eq-eqb (length row) (width_of (rows_of n)) (p.1 ∙ sym (width-rows n h)))))
 
+-- one row for each of at most 11 names is a template within the limits
 pub rows_within : (n k : ℕ) (rows : List (List ℤ)) → rows ≡ map (multiple (n + 1) (pos 1)) (range_with_len 0 k) → k ≡ n → 1 ≤ n → n ≤ 11 → IsTrue (is_template rows)
 rows_within n k rows e f h l = subst (λ x. IsTrue (is_template x)) (sym (e ∙ ap (λ m. map (multiple (n + 1) (pos 1)) (range_with_len 0 m)) f)) (rows_limits n h l)
 
@@ -240,6 +243,7 @@ system_limits equations h =
     (all_from (λ row. length row == names) (rows_of n) (λ row m. eq-eqb (length row) names ((row_passes n row m).1 ∙ sym (length-variables equations))))
     (le-leb (2 * length (rows_of n)) 2048 (omega arith))
 
+-- variables, points and rows of equations within the limits are a system within the limits
 pub system_within : (equations : List Equation) (names : List (List ℕ)) (points : List Point) (template : List (List ℤ)) → IsTrue (are_equations equations) →
     names ≡ variables_of equations → points ≡ entry_and_loop → template ≡ rows_of (length equations) → IsTrue (is_system (length names) (length points) template)
 system_within equations names points template h e f g =

@@ -52,6 +52,7 @@ module _ (n : ℕ) (s : Sum) (x : RationalState) (sound : IsSound n s) (size : l
       by : (q d p k : ℚ) → q *ℚ d ≤ℚ p +ℚ k → (d *ℚ q -ℚ p) +ℚ neg_ℚ k ≤ℚ zero_ℚ
       by q d p k i = lin_le (q ∷ d ∷ p ∷ k ∷ []) (le i ∷ []) (search reads_all depth 40) tt
 
+  -- a state that passes a sum's guard has the last variable, times the denominator, at most the sum
   pub passes_guard : valueℚ (sum_form s) x ≤ℚ zero_ℚ → get_or x n zero_ℚ *ℚ whole s.den ≤ℚ parts_sum s.coeffs (values_of x) +ℚ whole s.constant
   passes_guard h = by (get_or x n zero_ℚ) (whole s.den) (parts_sum s.coeffs (values_of x)) (whole s.constant) (subst (λ y. y ≤ℚ zero_ℚ) (sum_form_value n s x sound size) h)
     where

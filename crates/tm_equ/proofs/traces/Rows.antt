@@ -39,9 +39,11 @@ dot_from c i a (suc d) (suc n) (y ∷ x) e h =
     ap₂ (λ z w. (whole z *ℚ y) +ℚ w) (term_other c i a (λ f. omega arith)) (dot_from c i (a + 1) d n x (omega arith) (omega arith))
     ∙ none_added y (whole c *ℚ get_or x d zero_ℚ)
 
+-- the row with one coefficient c is worth c times its variable
 pub dot_multiple : (width : ℕ) (c : ℤ) (i : ℕ) (x : RationalState) → i < width → dotℚ (multiple width c i) x ≡ whole c *ℚ get_or x i zero_ℚ
 dot_multiple width c i x h = dot_from c i 0 i width x (zero-add i) h
 
+-- the row with one coefficient 1 is worth its variable
 pub one_times : (width i : ℕ) (x : RationalState) → i < width → dotℚ (multiple width (pos 1) i) x ≡ get_or x i zero_ℚ
 one_times width i x h = dot_multiple width (pos 1) i x h ∙ ap (λ c. c *ℚ get_or x i zero_ℚ) whole-one ∙ *ℚ_idl (get_or x i zero_ℚ)
 
@@ -62,11 +64,13 @@ row_there n r h = slice_get-get_or (rows_of n) r [] (subst (λ k. r < k) (sym (l
 
 -- ---- states that fit
 module _ (equations : List Equation) (v : Vector) (p : ℕ) (x : RationalState) where
+  -- a state that fits has each name at most at its value
   pub fits_out : Fits (system_of equations) v p x → (r : ℕ) → r < length equations → fin (get_or x r zero_ℚ) ≤ᴱ v p r
   fits_out fits r h =
       let n = length equations in
       subst (λ q. fin q ≤ᴱ v p r) (one_times (n + 1) r x (omega arith)) (fits r (multiple (n + 1) (pos 1) r) (row_there n r h))
 
+  -- a state that has each name at most at its value fits
   pub fits_from : ((r : ℕ) → r < length equations → fin (get_or x r zero_ℚ) ≤ᴱ v p r) → Fits (system_of equations) v p x
   fits_from h r row e =
       let n = length equations in

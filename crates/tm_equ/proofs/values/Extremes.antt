@@ -8,6 +8,7 @@ use Rattle.tm_num.proofs.extended.ExtendedLaws.{≤ᴱ_refl, ≤ᴱ_trans, ext_l
 use Rattle.tm_equ.specs.declared.equation.Sum.{Sum}
 use Rattle.tm_equ.specs.Values.{Values, sum_value, lesser, greater, least_value, greatest_value}
 
+-- each extended number is at most +inf
 pub le_top : (x : Ext) → x ≤ᴱ pos_inf
 le_top neg_inf = tt
 le_top (fin q) = tt
@@ -52,6 +53,7 @@ least_le (t ∷ sums) values s m =
     let both = lesser_by x y (cmp_ᴱ x y) refl in
     ⊎_elim (λ e. subst (λ u. lesser x y ≤ᴱ sum_value u values) e both.0) (λ k. ≤ᴱ_trans (lesser x y) y (sum_value s values) both.1 (least_le sums values s k)) m
 
+-- what is at most each sum is at most the least of them
 pub le_least : (z : Ext) (sums : List Sum) (values : Values) → ((s : Sum) → In sums s → z ≤ᴱ sum_value s values) → z ≤ᴱ least_value sums values
 le_least z [] values h = le_top z
 le_least z (s ∷ sums) values h = le_lesser z (sum_value s values) (least_value sums values) (h s (inl refl)) (le_least z sums values (λ t m. h t (inr m)))
@@ -64,6 +66,7 @@ start_le x (sums ∷ more) values =
     let z = greatest_value x more values in
     ≤ᴱ_trans x z (greater y z) (start_le x more values) (greater_by y z (cmp_ᴱ y z) refl).1
 
+-- an alternative is at most the greatest of them
 pub alternative_le : (x : Ext) (alternatives : List (List Sum)) (values : Values) (sums : List Sum) → In alternatives sums → least_value sums values ≤ᴱ greatest_value x alternatives values
 alternative_le x [] values sums m = absurd m
 alternative_le x (other ∷ more) values sums m =
@@ -73,6 +76,7 @@ alternative_le x (other ∷ more) values sums m =
     ⊎_elim (λ e. subst (λ u. least_value u values ≤ᴱ greater y z) e both.0)
     (λ k. ≤ᴱ_trans (least_value sums values) z (greater y z) (alternative_le x more values sums k) both.1) m
 
+-- where the start and each alternative are at most z, the greatest of them is
 pub greatest_le : (z x : Ext) (alternatives : List (List Sum)) (values : Values) → x ≤ᴱ z → ((sums : List Sum) → In alternatives sums → least_value sums values ≤ᴱ z) →
     greatest_value x alternatives values ≤ᴱ z
 greatest_le z x [] values h i = h

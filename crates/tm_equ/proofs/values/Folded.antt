@@ -70,6 +70,7 @@ scaled-choose s true b q = refl
 scaled-choose s false true q = refl
 scaled-choose s false false q = refl
 
+-- the value of a sum is the sum of its parts' values, with the constant added, and divided
 pub sum_value_is : (s : Sum) (values : Values) → sum_value s values ≡ scaled s (folded s.coeffs values)
 sum_value_is s values =
     sym (ap (scaled s) (folded_is s.coeffs values)
@@ -81,6 +82,7 @@ part_fin (pos zero) q = refl
 part_fin (pos (suc n)) q = refl
 part_fin (negsuc n) q = refl
 
+-- at fractions the sum of the parts is the fraction that they add up to
 pub folded_fin : (cs : List ℤ) (f : ℕ → ℚ) → folded cs (λ k. fin (f k)) ≡ fin (parts_sum cs (λ k. fin (f k)))
 folded_fin [] f = refl
 folded_fin (c ∷ cs) f = ap₂ plus (part_fin c (f 0)) (folded_fin cs (λ k. f (suc k)))
@@ -92,7 +94,7 @@ parts_sum_same (c ∷ cs) values others h =
     ap₂ (λ x y. (whole c *ℚ number x) +ℚ y) (h 0 (zero-lt-suc (length cs))) (parts_sum_same cs (later values) (later others) (λ k l. h (suc k) (omega arith)))
 
 -- ---- monotone
-pub times_le : {a b : ℚ} (c : ℚ) → zero_ℚ ≤ℚ c → a ≤ℚ b → c *ℚ a ≤ℚ c *ℚ b
+times_le : {a b : ℚ} (c : ℚ) → zero_ℚ ≤ℚ c → a ≤ℚ b → c *ℚ a ≤ℚ c *ℚ b
 times_le {a} {b} c h i = lin_le (a ∷ b ∷ c ∷ []) (ge0 (h ⊗ gap i) ∷ []) (search reads_all depth 40) tt
 
 none_times : (a b : ℚ) → whole (pos zero) *ℚ a ≤ℚ whole (pos zero) *ℚ b
@@ -134,6 +136,7 @@ plus_mono pos_inf neg_inf y y' h i = absurd h
 plus_mono pos_inf (fin c) y y' h i = absurd h
 plus_mono pos_inf pos_inf y y' h i = tt
 
+-- greater values make a greater sum, where no coefficient is below 0
 pub folded_mono : (cs : List ℤ) (values others : Values) → list_all (is_from 0) cs ≡ true → ((k : ℕ) → k < length cs → values k ≤ᴱ others k) → folded cs values ≤ᴱ folded cs others
 folded_mono [] values others h i = ≤ℚ_refl zero_ℚ
 folded_mono (c ∷ cs) values others h i =
@@ -149,6 +152,7 @@ le_times {a} {b} {d} h i = lin_le (a ∷ b ∷ d ∷ []) (ge0 (le_of_lt_ℚ h �
 times_lt : {a b d : ℚ} → zero_ℚ <ℚ d → a <ℚ b → a *ℚ d <ℚ b *ℚ d
 times_lt {a} {b} {d} h i = lin_lt (a ∷ b ∷ d ∷ []) (gt0 (*ℚ_pos (gap_lt i) h) ∷ []) (search reads_all depth 40) tt
 
+-- a number is at most another where its product with a number above 0 is at most the other's
 pub le_by_times : {a b d : ℚ} → zero_ℚ <ℚ d → a *ℚ d ≤ℚ b *ℚ d → a ≤ℚ b
 le_by_times {a} {b} {d} h i = ⊎_elim (λ l. l) (λ l. absurd (not_le_of_lt (times_lt h l) i)) (le_or_lt a b)
 
@@ -157,16 +161,17 @@ module _ (d : ℚ) (h : zero_ℚ <ℚ d) where
   back a = quotient_times a d (λ e. ne_of_lt_ℚ h (sym e))
 
   -- a number is at most a quotient exactly where its product is at most the dividend
-  pub product_le : (q a : ℚ) → q ≤ℚ a /ℚ d → q *ℚ d ≤ℚ a
+  product_le : (q a : ℚ) → q ≤ℚ a /ℚ d → q *ℚ d ≤ℚ a
   product_le q a i = subst (λ y. q *ℚ d ≤ℚ y) (back a) (le_times h i)
 
-  pub le_quotient : (q a : ℚ) → q *ℚ d ≤ℚ a → q ≤ℚ a /ℚ d
+  le_quotient : (q a : ℚ) → q *ℚ d ≤ℚ a → q ≤ℚ a /ℚ d
   le_quotient q a i = le_by_times h (subst (λ y. q *ℚ d ≤ℚ y) (sym (back a)) i)
 
   -- a quotient is at most a number exactly where the dividend is at most the product
   pub dividend_le : (a q : ℚ) → a /ℚ d ≤ℚ q → a ≤ℚ q *ℚ d
   dividend_le a q i = subst (λ y. y ≤ℚ q *ℚ d) (back a) (le_times h i)
 
+  -- a quotient is at most q where the dividend is at most q times the divisor
   pub quotient_le : (a q : ℚ) → a ≤ℚ q *ℚ d → a /ℚ d ≤ℚ q
   quotient_le a q i = le_by_times h (subst (λ y. y ≤ℚ q *ℚ d) (sym (back a)) i)
 
@@ -191,6 +196,7 @@ scaled_below s q (fin a) h i = over (whole s.den) (whole s.constant) (product_le
     over d k l = lin_le (q ∷ d ∷ a ∷ k ∷ []) (le l ∷ []) (search reads_all depth 40) tt
 scaled_below s q pos_inf h i = tt
 
+-- q is at most a sum where q times the denominator is at most the parts and the constant
 pub below_scaled : (s : Sum) (q a : ℚ) → zero_ℚ <ℚ whole s.den → q *ℚ whole s.den ≤ℚ a +ℚ whole s.constant → fin q ≤ᴱ scaled s (fin a)
 below_scaled s q a h i = le_quotient (whole s.den) h q (a +ℚ whole s.constant) i
 

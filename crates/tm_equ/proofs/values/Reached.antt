@@ -109,6 +109,7 @@ reach_sum n s values q sound m i =
     over : (k x y : ℚ) → x -ℚ k ≤ℚ y → x ≤ℚ y +ℚ k
     over k x y h = lin_le (k ∷ x ∷ y ∷ []) (le h ∷ []) (search reads_all depth 40) tt
 
+-- where q is at most each sum, great enough fractions in place of +inf pass the guard of each
 pub reach_sums : (n : ℕ) (sums : List Sum) (values : Values) (q : ℚ) → ((s : Sum) → In sums s → IsSound n s) → ((k : ℕ) → k < n → ¬ (values k ≡ neg_inf)) →
     ((s : Sum) → In sums s → fin q ≤ᴱ sum_value s values) → Finally (λ top. (s : Sum) → In sums s → IsAsked q values top s)
 reach_sums n [] values q sound m i = (zero_ℚ, ≤ℚ_refl zero_ℚ, λ top l s k. absurd k)

@@ -26,10 +26,15 @@ in_slice (y ∷ xs) (suc k) x e = inr (in_slice xs k x e)
 
 -- a sum over n names
 pub record IsSound (n : ℕ) (s : Sum) : Type 0 where
+  -- there is one coefficient for each name
   pub size : length s.coeffs ≡ n
+  -- no coefficient is below 0, and each is at most 2^63 - 1
   pub coeffs : list_all (is_from 0) s.coeffs ≡ true
+  -- the constant is a number of a program
   pub constant : is_number s.constant ≡ true
+  -- the denominator is at least 1 and at most 2^63 - 1
   pub den : is_from 1 s.den ≡ true
+  -- the denominator is above 0 as a fraction
   pub positive : zero_ℚ <ℚ whole s.den
 
 den_positive : (d : ℤ) → is_from 1 d ≡ true → zero_ℚ <ℚ whole d
@@ -38,7 +43,7 @@ den_positive (pos n) h =
     subst (λ z. z <ℚ whole (pos n)) whole-zero (whole_lt (pos 0) (pos n) (omega (arith, ints)))
 den_positive (negsuc n) h = absurd (true≢false (sym h))
 
-pub sound_sum : (n : ℕ) (s : Sum) → is_sum n s ≡ true → IsSound n s
+sound_sum : (n : ℕ) (s : Sum) → is_sum n s ≡ true → IsSound n s
 sound_sum n s h =
     let a = and_parts (length s.coeffs == n) (list_all (is_from 0) s.coeffs && (is_number s.constant && is_from 1 s.den)) h in
     let b = and_parts (list_all (is_from 0) s.coeffs) (is_number s.constant && is_from 1 s.den) a.1 in
@@ -47,10 +52,12 @@ sound_sum n s h =
 
 -- an alternative over n names
 pub record IsSoundAlternative (n : ℕ) (sums : List Sum) : Type 0 where
+  -- there are no more sums than there may be
   pub few : length sums ≤ MOST_SUMS
+  -- each sum is sound
   pub each : (s : Sum) → In sums s → IsSound n s
 
-pub sound_alternative : (n : ℕ) (sums : List Sum) → is_alternative n sums ≡ true → IsSoundAlternative n sums
+sound_alternative : (n : ℕ) (sums : List Sum) → is_alternative n sums ≡ true → IsSoundAlternative n sums
 sound_alternative n sums h =
     let a = and_parts (nat_le 1 (length sums)) (nat_le (length sums) MOST_SUMS && list_all (is_sum n) sums) h in
     let b = and_parts (nat_le (length sums) MOST_SUMS) (list_all (is_sum n) sums) a.1 in
@@ -58,21 +65,28 @@ sound_alternative n sums h =
 
 -- an equation over n names
 pub record IsSoundEquation (n : ℕ) (e : Equation) : Type 0 where
+  -- the start is within the limits
   pub start : is_start e.start ≡ true
+  -- each alternative is sound
   pub alternatives : (sums : List Sum) → In e.alternatives sums → IsSoundAlternative n sums
 
-pub sound_equation : (n : ℕ) (e : Equation) → is_equation n e ≡ true → IsSoundEquation n e
+sound_equation : (n : ℕ) (e : Equation) → is_equation n e ≡ true → IsSoundEquation n e
 sound_equation n e h =
     let a = and_parts (is_start e.start) (list_all (is_alternative n) e.alternatives) h in
     record { start = a.0; alternatives = λ sums m. sound_alternative n sums (all_at (is_alternative n) e.alternatives sums a.1 m) }
 
 -- equations
 pub record AreSound (equations : List Equation) : Type 0 where
+  -- there is an equation
   pub some : 1 ≤ length equations
+  -- there are no more equations than there may be
   pub few : length equations ≤ MOST_EQUATIONS
+  -- there are no more alternatives than there may be
   pub few_alternatives : alternative_count equations ≤ MOST_ALTERNATIVES
+  -- each equation is sound
   pub each : (e : Equation) → In equations e → IsSoundEquation (length equations) e
 
+-- equations within the limits are sound
 pub sound_equations : (equations : List Equation) → IsTrue (are_equations equations) → AreSound equations
 sound_equations equations h =
     let n = length equations in

@@ -12,9 +12,11 @@ use Rattle.tm_equ.specs.Totals.{AreTotals}
 use Rattle.tm_equ.specs.WrittenSums.{Amount, share, total, fits_after, stay_within}
 use Rattle.tm_equ.proofs.equ_faults.First.{dropped}
 
+-- a number of a program fits 64 bits
 pub number_fits : (z : ℤ) → IsTrue (is_number z) → FitsSigned w64 z
 number_fits z h = fits_signed_from_abs w64 z (omega (arith, leb-true _ _ h))
 
+-- the total with one more amount is the total before, plus what the amount adds
 pub total_more : (k : ℕ) (before : List Amount) (a : Amount) → total k (before ++ a ∷ []) ≡ total k before +ℤ share k a
 total_more k before a = fold-append (λ sum x. sum +ℤ share k x) (pos 0) before (a ∷ [])
 
@@ -58,10 +60,12 @@ pub stays_out : (f : Part → Amount) (before : List Amount) (s : Bool) (ps : Li
 stays_out f before s ps i p h e k out =
     k ∙ (ap (λ x. stay_within before (map f x)) (dropped ps i p h e) ∙ and_false (fits_after before (f p)) _ out)
 
+-- where an amount fits after those before it, all that are to come fit exactly where those after it do
 pub stays_more : (f : Part → Amount) (before : List Amount) (s : Bool) (ps : List Part) (i : ℕ) (p : Part) → i < length ps → p ≡ get_or ps i p → s ≡ stay_within before (map f (drop i ps)) → IsTrue (fits_after before (f p)) → s ≡ stay_within (before ++ f p ∷ []) (map f (drop (i + 1) ps))
 stays_more f before s ps i p h e k fits =
     k ∙ (ap (λ x. stay_within before (map f x)) (dropped ps i p h e) ∙ and_true (fits_after before (f p)) _ fits)
 
+-- the amounts of i + 1 parts after the first are those of i parts, and one more
 pub amounts_more : (f : Part → Amount) (first : Part) (ps : List Part) (i : ℕ) (p : Part) → i < length ps → p ≡ get_or ps i p → map f (first ∷ take (i + 1) ps) ≡ map f (first ∷ take i ps) ++ f p ∷ []
 amounts_more f first ps i p h e =
     ap (λ x. f first ∷ map f x) (take_more ps i p h)
@@ -72,5 +76,6 @@ pub first_fits : {X : Type 0} (K : X → Type 0) (r : Option X) (b c : Bool) →
 first_fits K r true c h m = m
 first_fits K r false c h m = cc
 
+-- where the first of two tests fails, both together fail
 pub first_out : (b c : Bool) → IsFalse b → IsFalse (b && c)
 first_out b c h = and_false b c h

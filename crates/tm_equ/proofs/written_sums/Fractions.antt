@@ -32,19 +32,21 @@ not_zero d h e = omega (arith, ap nat_abs e)
 fraction : (n d : ℕ) → 0 < d → ratio (pos n) d ≡ whole (pos n) /ℚ whole (pos d)
 fraction n d h = ratio_is_fraction (pos n) (pos d) (not_zero d h)
 
+-- the numerator of a fraction of two literals is the first divided by their greatest common divisor
 pub num_fraction : (n d : ℕ) → 0 < d → (whole (pos n) /ℚ whole (pos d)).num ≡ pos (n / gcd n d)
 num_fraction n d h = ap (λ (q : ℚ). q.num) (sym (fraction n d h)) ∙ num_ratio n d h
 
-pub den_fraction : (n d : ℕ) → 0 < d → (whole (pos n) /ℚ whole (pos d)).den ≡ d / gcd n d
+den_fraction : (n d : ℕ) → 0 < d → (whole (pos n) /ℚ whole (pos d)).den ≡ d / gcd n d
 den_fraction n d h = ap (λ (q : ℚ). q.den) (sym (fraction n d h)) ∙ den_ratio n d h
 
 -- the fraction of two literals fits
-pub fraction_fits : (n d : ℕ) → n ≤ 9223372036854775807 → d ≤ 9223372036854775807 → 0 < d → Fits long_limit (whole (pos n) /ℚ whole (pos d))
+fraction_fits : (n d : ℕ) → n ≤ 9223372036854775807 → d ≤ 9223372036854775807 → 0 < d → Fits long_limit (whole (pos n) /ℚ whole (pos d))
 fraction_fits n d a b h = record {
   num_fits = let e = ap nat_abs (num_fraction n d h) in omega (arith, ints, e, div-le_self n (gcd n d));
   den_fits = let e = den_fraction n d h in omega (arith, ints, e, div-le_self d (gcd n d));
 }
 
+-- `make` makes a fraction of two literals whose second isn't 0
 pub made_some : (n d : ℕ) (x y : ℤ) (P : ℚ → Type 0) (o : Option ℚ) → x ≡ pos n → y ≡ pos d → n ≤ 9223372036854775807 → 1 ≤ d → d ≤ 9223372036854775807 → MatchOption o ((y ≡ pos 0) ⊎ (¬ (Fits long_limit (whole x /ℚ whole y)))) P → IsSome o
 made_some n d x y P (Some q) e f a b g m = refl
 made_some n d x y P None e f a b g m =
@@ -74,7 +76,7 @@ regroup x g y m d a b =
     ap (λ t. x * t) (sym b) ∙ (c ∙ ap (λ t. t * y) a)
 
 -- a multiple is no less
-pub lcm_above : (m d : ℕ) → 0 < d → m ≤ lcm m d
+lcm_above : (m d : ℕ) → 0 < d → m ≤ lcm m d
 lcm_above m d h =
     let g = gcd m d in
     let is = gcd_is m d in
@@ -85,6 +87,7 @@ lcm_above m d h =
     let e : m * 1 ≤ m * (d / g) = mul-le-mul_left m one in
     omega (arith, c, e)
 
+-- a least common multiple with the denominators of parts is at least the number that it starts with
 pub fold_above : (m : ℕ) (ps : List Part) → m ≤ common_multiple_of m ps
 fold_above m [] = omega arith
 fold_above m (p ∷ ps) = omega (arith, lcm_above m (part_value p).den (den_pos (part_value p)), fold_above (lcm m (part_value p).den) ps)

@@ -86,7 +86,7 @@ den_from : (ps : List Part) (p : Part) → 1 ≤ common_den (p ∷ ps)
 den_from ps p = omega (arith, den_pos (part_value p), fold_above (part_value p).den ps)
 
 -- a sum without a fault
-pub sum_is : (es : List Written) (s : Addends) → sum_faults es s ≡ [] → is_sum (length es) (sum_of es s) ≡ true
+sum_is : (es : List Written) (s : Addends) → sum_faults es s ≡ [] → is_sum (length es) (sum_of es s) ≡ true
 sum_is es s h =
     let small = sound_small es s h in
     let f : ℕ → ℤ = λ k. total k (amounts_of es s) in
@@ -112,7 +112,7 @@ few_sums es k (s ∷ ss) h f =
         no_true : (b : Bool) → b ≡ false → b ≡ true → ⊥
         no_true b f t = cc
 
-pub sums_are : (es : List Written) (k : ℕ) (ss : List Addends) → flat_map (nth_sum_faults es) (enumerate_from k ss) ≡ [] → list_all (is_sum (length es)) (map (sum_of es) ss) ≡ true
+sums_are : (es : List Written) (k : ℕ) (ss : List Addends) → flat_map (nth_sum_faults es) (enumerate_from k ss) ≡ [] → list_all (is_sum (length es)) (map (sum_of es) ss) ≡ true
 sums_are es k [] f = refl
 sums_are es k (s ∷ ss) f =
     let one = front_none (nth_sum_faults es (k, s)) (flat_map (nth_sum_faults es) (enumerate_from (k + 1) ss)) f in
@@ -123,12 +123,13 @@ some_sums : (c : Choice) → 1 ≤ length (sums_of c)
 some_sums (Alone s) = omega arith
 some_sums (Least first more) = omega arith
 
-pub alternative_is : (es : List Written) (c : Choice) → choice_faults es c ≡ [] → is_alternative (length es) (alternative_of es c) ≡ true
+alternative_is : (es : List Written) (c : Choice) → choice_faults es c ≡ [] → is_alternative (length es) (alternative_of es c) ≡ true
 alternative_is es c f =
     let n : length (alternative_of es c) ≡ length (sums_of c) = length-map (sums_of c) (sum_of es) in
     and_from _ _ (le-leb 1 (length (alternative_of es c)) (omega (arith, n, some_sums c)))
     (and_from _ _ (le-leb (length (alternative_of es c)) 16 (omega (arith, n, few_sums es 0 (sums_of c) (omega arith) f))) (sums_are es 0 (sums_of c) f))
 
+-- alternatives without a fault are within the limits
 pub alternatives_are : (es : List Written) (cs : List Choice) → flat_map (choice_faults es) cs ≡ [] → list_all (is_alternative (length es)) (map (alternative_of es) cs) ≡ true
 alternatives_are es [] f = refl
 alternatives_are es (c ∷ cs) f =
@@ -155,6 +156,7 @@ count_few es h =
     at_most (length es) 11 (Count (length es))
     (front_none (count_faults (length es)) _ (back_none (flat_map (twice_faults es) (enumerate_from 0 es)) _ h))
 
+-- where equations have no fault, no right side has one
 pub sides_sound : (es : List Written) → faults_of es ≡ [] → flat_map (equation_faults es) es ≡ []
 sides_sound es h =
     front_none (flat_map (equation_faults es) es) _ (back_none (count_faults (length es)) _ (back_none (flat_map (twice_faults es) (enumerate_from 0 es)) _ h))
@@ -164,6 +166,7 @@ alternatives_few es h =
     at_most (choice_count es) 255 (Alternatives (choice_count es))
     (back_none (flat_map (equation_faults es) es) _ (back_none (count_faults (length es)) _ (back_none (flat_map (twice_faults es) (enumerate_from 0 es)) _ h)))
 
+-- equations without a fault, each within the limits, are equations within the limits
 pub equations_are : (es : List Written) (made : List Equation) → faults_of es ≡ [] → 1 ≤ length es → made ≡ equations_of es → list_all (is_equation (length es)) made ≡ true → are_equations made ≡ true
 equations_are es made h some e fit =
     let n : length made ≡ length es = ap length e ∙ length-map es (equation_of es) in

@@ -28,13 +28,15 @@ small_by false f h = cc
 pub sound_zeros : (es : List Written) (s : Addends) → sum_faults es s ≡ [] → NoZeros (parts_of s)
 sound_zeros es s h = sound_parts es (parts_of s) (front_none (flat_map (part_faults es) (parts_of s)) (big_faults es s) h)
 
+-- the numbers of a sum without a fault are small
 pub sound_small : (es : List Written) (s : Addends) → sum_faults es s ≡ [] → is_small es s ≡ true
 sound_small es s h = small_by (is_small es s) (Big (part_at s.first)) (back_none (flat_map (part_faults es) (parts_of s)) (big_faults es s) h)
 
+-- the common denominator of a sum of small numbers is at most 2^63 - 1
 pub small_den : (es : List Written) (s : Addends) → is_small es s ≡ true → common_den (parts_of s) ≤ 9223372036854775807
 small_den es s h = leb-true _ _ (and_parts _ _ h).0
 
-pub small_stays : (es : List Written) (s : Addends) → is_small es s ≡ true → stay_within [] (amounts_of es s) ≡ true
+small_stays : (es : List Written) (s : Addends) → is_small es s ≡ true → stay_within [] (amounts_of es s) ≡ true
 small_stays es s h = (and_parts _ _ h).1
 
 -- the common denominator is found where it is small; told are the parts as the code passes them
@@ -42,6 +44,7 @@ pub den_some : (o : Option ℕ) (first : Part) (more told : List Part) → told 
 den_some (Some n) first more told e l h = refl
 den_some None first more told e l h = let m = ap (λ x. common_den (first ∷ x)) e in absurd (omega (arith, h, l, m))
 
+-- the common denominator that was found is that of the sum
 pub den_value : (o : Option ℕ) (n : ℕ) (first : Part) (more told : List Part) → o ≡ Some n → told ≡ more → MatchOption o (9223372036854775807 < common_den (first ∷ told)) (λ n. (n ≡ common_den (first ∷ told)) × (n ≤ 9223372036854775807)) → n ≡ common_den (first ∷ more)
 den_value None n first more told e t h = cc
 den_value (Some m) n first more told e t h = let same : m ≡ n = cc in sym same ∙ (h.0 ∙ ap (λ x. common_den (first ∷ x)) t)
@@ -66,14 +69,16 @@ as_told es s den told o d t m =
     let Q : List Part → Type 0 = λ x. TotalsFound es den (s.first ∷ x) o in
     subst P d (subst Q t m)
 
+-- where the numbers of a sum are small, its totals are found
 pub totals_some : (es : List Written) (s : Addends) (den : ℕ) (told : List Part) (o : Option (List ℤ)) → is_small es s ≡ true → den ≡ common_den (parts_of s) → told ≡ s.more → TotalsFound es den (s.first ∷ told) o → IsSome o
 totals_some es s den told o h d t m = found_some es (common_den (parts_of s)) (parts_of s) o (small_stays es s h) (as_told es s den told o d t m)
 
+-- the totals that were found are those of the sum's amounts
 pub totals_value : (es : List Written) (s : Addends) (den : ℕ) (told : List Part) (o : Option (List ℤ)) (totals : List ℤ) → o ≡ Some totals → is_small es s ≡ true → den ≡ common_den (parts_of s) → told ≡ s.more → TotalsFound es den (s.first ∷ told) o → AreTotals totals (amounts_of es s)
 totals_value es s den told o totals e h d t m = found_value es (common_den (parts_of s)) (parts_of s) o totals e (small_stays es s h) (as_told es s den told o d t m)
 
 -- the totals of the names are the coefficients
-pub coefficients : (t : List ℤ) (amounts : List Amount) (n : ℕ) → n ≤ 12 → AreTotals t amounts → take n t ≡ map (λ k. total k amounts) (range_with_len 0 n)
+coefficients : (t : List ℤ) (amounts : List Amount) (n : ℕ) → n ≤ 12 → AreTotals t amounts → take n t ≡ map (λ k. total k amounts) (range_with_len 0 n)
 coefficients t amounts n h a =
     let f : ℕ → ℤ = λ k. total k amounts in
     ap (take n) (fill_by_all f t 12 (pos 0) a.places a.each) ∙ take-map-range_with_len f 0 12 n h
@@ -83,7 +88,7 @@ number_either true old own value h k = k refl
 number_either false old own value h k = ap is_number (+ℤ_idr old) ∙ h
 
 -- what stays within is within in the end
-pub totals_within : (before rest : List Amount) → ((k : ℕ) → is_number (total k before) ≡ true) → stay_within before rest ≡ true → (k : ℕ) → is_number (total k (before ++ rest)) ≡ true
+totals_within : (before rest : List Amount) → ((k : ℕ) → is_number (total k before) ≡ true) → stay_within before rest ≡ true → (k : ℕ) → is_number (total k (before ++ rest)) ≡ true
 totals_within before [] h s k = ap (λ x. is_number (total k x)) (append-nil before) ∙ h k
 totals_within before (a ∷ more_amounts) h s k =
     let both = and_parts (fits_after before a) (stay_within (before ++ a ∷ []) more_amounts) s in
@@ -94,10 +99,11 @@ totals_within before (a ∷ more_amounts) h s k =
     (λ e. ap (λ i. is_number (total i before +ℤ a.1)) (sym (eqb-true a.0 j e)) ∙ fits.1) in
     ap (λ x. is_number (total k x)) (sym (append_assoc before (a ∷ []) more_amounts)) ∙ totals_within (before ++ a ∷ []) more_amounts more both.1 k
 
+-- each total of a sum of small numbers is a number of a program
 pub small_total : (es : List Written) (s : Addends) → is_small es s ≡ true → (k : ℕ) → is_number (total k (amounts_of es s)) ≡ true
 small_total es s h k = totals_within [] (amounts_of es s) (λ j. refl) (small_stays es s h) k
 
-pub numbers_all : (f : ℕ → ℤ) (ks : List ℕ) → ((k : ℕ) → is_number (f k) ≡ true) → are_numbers (map f ks) ≡ true
+numbers_all : (f : ℕ → ℤ) (ks : List ℕ) → ((k : ℕ) → is_number (f k) ≡ true) → are_numbers (map f ks) ≡ true
 numbers_all f [] h = refl
 numbers_all f (k ∷ ks) h = and_from _ _ (h k) (numbers_all f ks h)
 
@@ -123,11 +129,13 @@ nth_sound es k (s ∷ ss) h =
     let one : sum_faults es s ≡ [] = back_none (cond (eqb k 16) (Terms (part_at s.first) ∷ []) []) (sum_faults es s) (front_none (nth_sum_faults es (k, s)) _ h) in
     ap (λ x. x ++ flat_map (sum_faults es) ss) one ∙ nth_sound es (k + 1) ss (back_none (nth_sum_faults es (k, s)) _ h)
 
+-- the first sum of a minimum without a fault has none
 pub least_first : (es : List Written) (c : Choice) (first : Addends) (more : List Addends) → c ≡ Least first more → choice_faults es c ≡ [] → sum_faults es first ≡ []
 least_first es c first more e h =
     back_none (cond (eqb 0 16) (Terms (part_at first.first) ∷ []) []) (sum_faults es first)
     (front_none (nth_sum_faults es (0, first)) (flat_map (nth_sum_faults es) (enumerate_from 1 more)) (ap (choice_faults es) (sym e) ∙ h))
 
+-- the further sums of a minimum without a fault have none
 pub least_more : (es : List Written) (c : Choice) (first : Addends) (more told : List Addends) → c ≡ Least first more → told ≡ more → choice_faults es c ≡ [] → flat_map (sum_faults es) told ≡ []
 least_more es c first more told e t h =
     ap (flat_map (sum_faults es)) t

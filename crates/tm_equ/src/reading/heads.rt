@@ -45,7 +45,7 @@ fn is(symbol: &Symbol, mark: Mark) -> bool
     }
 }
 
-/// The symbols behind this one, if it stands first.
+/// The symbols after this one, if it stands first.
 pub(crate) fn behind<'s>(symbols: &'s [Symbol], mark: Mark) -> Option<&'s [Symbol]>
     ensures { MatchOption result ((rest : List Symbol) → symbols.now ≡ mark_symbol mark ∷ rest → ⊥)
         (λ after. symbols.now ≡ mark_symbol mark ∷ after.now) }
@@ -56,7 +56,7 @@ pub(crate) fn behind<'s>(symbols: &'s [Symbol], mark: Mark) -> Option<&'s [Symbo
     }
 }
 
-/// The number that stands first, its place, and the symbols behind it.
+/// The number that stands first, its place, and the symbols after it.
 pub(crate) fn number<'s>(symbols: &'s [Symbol]) -> Option<(Literal, u32, &'s [Symbol])>
     ensures { MatchOption result ((n at : ℕ) (rest : List Symbol) → symbols.now ≡ Number n at ∷ rest → ⊥)
         (λ found. symbols.now ≡ Number found.0 found.1 ∷ found.2.now) }
@@ -70,7 +70,7 @@ pub(crate) fn number<'s>(symbols: &'s [Symbol]) -> Option<(Literal, u32, &'s [Sy
     }
 }
 
-/// The name that stands first, its place, and the symbols behind it.
+/// The name that stands first, its place, and the symbols after it.
 pub(crate) fn name<'s>(symbols: &'s [Symbol]) -> Option<(Name, u32, &'s [Symbol])>
     ensures { MatchOption result ((n : List ℕ) (at : ℕ) (rest : List Symbol) → symbols.now ≡ Named n at ∷ rest → ⊥)
         (λ found. symbols.now ≡ Named found.0 found.1 ∷ found.2.now) }
@@ -84,7 +84,7 @@ pub(crate) fn name<'s>(symbols: &'s [Symbol]) -> Option<(Name, u32, &'s [Symbol]
     }
 }
 
-/// The place of the `-` that stands first, if one does, and the symbols behind it.
+/// The place of the `-` that stands first, if one does, and the symbols after it.
 pub(crate) fn minus<'s>(symbols: &'s [Symbol]) -> (Option<u32>, &'s [Symbol])
     ensures spelled { symbols.now ≡ minus_then result.0 result.1.now }
     ensures whole { NoMinus result.0 symbols.now }

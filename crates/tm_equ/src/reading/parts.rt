@@ -17,7 +17,7 @@ use crate::reading::written::{Addends, Below, Part, Ratio};
 use std::alloc::{AllocError, Global};
 use tm_list::Sequence;
 
-// `:` and a number, if they stand first, and the symbols behind them.
+// `:` and a number, if they stand first, and the symbols after them.
 fn below<'s>(symbols: &'s [Symbol]) -> Option<(Option<Below>, &'s [Symbol])>
     ensures found { (b : Option Below) (rest : List Symbol) → NoColon rest → symbols.now ≡ below_then b rest → Finds result b rest }
     ensures shorter { IfSome result (λ found. length found.1.now ≤ length symbols.now) }
@@ -31,7 +31,7 @@ fn below<'s>(symbols: &'s [Symbol]) -> Option<(Option<Below>, &'s [Symbol])>
     }
 }
 
-/// The ratio that stands first, and the symbols behind it.
+/// The ratio that stands first, and the symbols after it.
 pub(crate) fn ratio<'s>(symbols: &'s [Symbol]) -> Option<(Ratio, &'s [Symbol])>
     ensures found { (r : Ratio) (rest : List Symbol) → NoColon rest → symbols.now ≡ ratio_then r rest → Finds result r rest }
     ensures shorter { IfSome result (λ found. length found.1.now < length symbols.now) }
@@ -45,7 +45,7 @@ pub(crate) fn ratio<'s>(symbols: &'s [Symbol]) -> Option<(Ratio, &'s [Symbol])>
     }
 }
 
-// A ratio with a `-` of this place before it, and the symbols behind it.
+// A ratio with a `-` of this place before it, and the symbols after it.
 fn negative<'s>(at: u32, symbols: &'s [Symbol]) -> Option<(Part, &'s [Symbol])>
     ensures found { (r : Ratio) (rest : List Symbol) → NoColon rest → symbols.now ≡ ratio_then r rest → Finds result (Constant (Some at) r) rest }
     ensures shorter { IfSome result (λ found. length found.1.now < length symbols.now) }
@@ -62,7 +62,7 @@ fn negative<'s>(at: u32, symbols: &'s [Symbol]) -> Option<(Part, &'s [Symbol])>
     }
 }
 
-// What a ratio that stands first makes: a multiple where `*` follows, else a constant; and the symbols behind it.
+// What a ratio that stands first makes: a multiple where `*` follows, else a constant; and the symbols after it.
 fn factor<'s>(symbols: &'s [Symbol]) -> Option<(Part, &'s [Symbol])>
     ensures multiple { (r : Ratio) (n : List ℕ) (at : ℕ) (rest : List Symbol) → symbols.now ≡ ratio_then r (Star ∷ Named n at ∷ rest)
         → Finds result (Multiple (Some r) n at) rest }
@@ -88,7 +88,7 @@ fn factor<'s>(symbols: &'s [Symbol]) -> Option<(Part, &'s [Symbol])>
     }
 }
 
-// The part that stands first, and the symbols behind it.
+// The part that stands first, and the symbols after it.
 fn part<'s>(symbols: &'s [Symbol]) -> Option<(Part, &'s [Symbol])>
     ensures found { (p : Part) (rest : List Symbol) → EndsPart rest → symbols.now ≡ part_then p rest → Finds result p rest }
     ensures shorter { IfSome result (λ found. length found.1.now < length symbols.now) }
@@ -109,7 +109,7 @@ fn part<'s>(symbols: &'s [Symbol]) -> Option<(Part, &'s [Symbol])>
     }
 }
 
-/// The sum that stands first, and the symbols behind it.
+/// The sum that stands first, and the symbols after it.
 pub(crate) fn sum<'s>(
     alloc: Global,
     symbols: &'s [Symbol],

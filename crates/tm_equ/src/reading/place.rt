@@ -22,37 +22,37 @@ pub enum Place {
     Name,
     Equal,
     Max,
-    /// `(` behind `max`
+    /// `(` after `max`
     Opening,
     /// The start, maybe with a `-`.
     Start,
-    /// The number behind the start's `-`.
+    /// The number after the start's `-`.
     StartNumber,
     /// `:`, or what may follow the start.
     StartBelow,
-    /// The number behind the start's `:`.
+    /// The number after the start's `:`.
     StartDen,
     /// `,` and an alternative, or `)`.
     Alternatives,
     /// An alternative.
     Alternative,
-    /// `(` behind `min`
+    /// `(` after `min`
     MinOpening,
     /// A part of a sum.
     Part(Within),
     /// `:`, `*`, or what may follow a part.
     Factor(Within),
-    /// The number behind `:`, where a `*` may follow.
+    /// The number after `:`, where a `*` may follow.
     FactorDen(Within),
     /// `*`, or what may follow a part.
     FactorEnd(Within),
-    /// The name behind `*`.
+    /// The name after `*`.
     Times(Within),
-    /// The number behind a part's `-`.
+    /// The number after a part's `-`.
     Constant(Within),
     /// `:`, or what may follow a part.
     ConstantBelow(Within),
-    /// The number behind this `:`.
+    /// The number after this `:`.
     ConstantDen(Within),
     /// `+` and a part, or what may follow a sum.
     AfterPart(Within),
@@ -222,7 +222,7 @@ fn only(place: Place, symbol: &Symbol) -> Option<Place>
     }
 }
 
-// The place behind a symbol, if it may stand at this place.
+// The place after a symbol, if it may stand at this place.
 fn next(place: Place, symbol: &Symbol) -> Option<Place>
     ensures { result ≡ next place symbol.now }
 {

@@ -18,7 +18,7 @@ use std::alloc::{AllocError, Global};
 use tm_list::Sequence;
 use tm_tree::Name;
 
-// The further sums of a minimum up to its `)`, and the symbols behind it.
+// The further sums of a minimum up to its `)`, and the symbols after it.
 fn sums<'s>(
     alloc: Global,
     symbols: &'s [Symbol],
@@ -41,7 +41,7 @@ fn sums<'s>(
     }
 }
 
-// The sums of a minimum whose `min` and `(` came before, and the symbols behind its `)`.
+// The sums of a minimum whose `min` and `(` came before, and the symbols after its `)`.
 fn least<'s>(
     alloc: Global,
     symbols: &'s [Symbol],
@@ -59,7 +59,7 @@ fn least<'s>(
     Ok(Some((Choice::Least { first, more }, rest)))
 }
 
-// The symbols behind `min` and `(`, if these stand first.
+// The symbols after `min` and `(`, if these stand first.
 fn minimum<'s>(symbols: &'s [Symbol]) -> Option<&'s [Symbol]>
     ensures { MatchOption result ((rest : List Symbol) → symbols.now ≡ Min ∷ LeftParen ∷ rest → ⊥)
         (λ after. symbols.now ≡ Min ∷ LeftParen ∷ after.now) }
@@ -70,7 +70,7 @@ fn minimum<'s>(symbols: &'s [Symbol]) -> Option<&'s [Symbol]>
     }
 }
 
-// The alternative that stands first, and the symbols behind it.
+// The alternative that stands first, and the symbols after it.
 fn choice<'s>(
     alloc: Global,
     symbols: &'s [Symbol],
@@ -87,7 +87,7 @@ fn choice<'s>(
     }
 }
 
-// The alternatives up to the `)` and `;` of their equation, and the symbols behind these.
+// The alternatives up to the `)` and `;` of their equation, and the symbols after these.
 fn choices<'s>(
     alloc: Global,
     symbols: &'s [Symbol],
@@ -110,7 +110,7 @@ fn choices<'s>(
     }
 }
 
-// The symbols behind `)` and `;`, if these stand first.
+// The symbols after `)` and `;`, if these stand first.
 fn ending<'s>(symbols: &'s [Symbol]) -> Option<&'s [Symbol]>
     ensures { MatchOption result ((rest : List Symbol) → symbols.now ≡ RightParen ∷ Semicolon ∷ rest → ⊥)
         (λ after. symbols.now ≡ RightParen ∷ Semicolon ∷ after.now) }
@@ -121,7 +121,7 @@ fn ending<'s>(symbols: &'s [Symbol]) -> Option<&'s [Symbol]>
     }
 }
 
-// The symbols behind `=`, `max` and `(`, if these stand first.
+// The symbols after `=`, `max` and `(`, if these stand first.
 fn beginning<'s>(symbols: &'s [Symbol]) -> Option<&'s [Symbol]>
     ensures { MatchOption result ((rest : List Symbol) → symbols.now ≡ Equal ∷ Max ∷ LeftParen ∷ rest → ⊥)
         (λ after. symbols.now ≡ Equal ∷ Max ∷ LeftParen ∷ after.now) }
@@ -135,7 +135,7 @@ fn beginning<'s>(symbols: &'s [Symbol]) -> Option<&'s [Symbol]>
     }
 }
 
-// The start and the alternatives of an equation with this name, and the symbols behind its `;`.
+// The start and the alternatives of an equation with this name, and the symbols after its `;`.
 fn body<'s>(
     alloc: Global,
     name: Name,
@@ -163,7 +163,7 @@ fn body<'s>(
     Ok(Some((written, rest)))
 }
 
-// The equation that stands first, and the symbols behind it.
+// The equation that stands first, and the symbols after it.
 fn equation<'s>(
     alloc: Global,
     symbols: &'s [Symbol],
