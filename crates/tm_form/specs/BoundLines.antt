@@ -23,7 +23,7 @@ line_data line = list_data bound_data line
 abbrev pub ext_line_data : List Ext → Data
 ext_line_data line = list_data ext_data line
 
--- so many lists of this length, one after another
+-- n lists of this length, one after another
 abbrev pub lines_of : {A : Type 0} → ℕ → ℕ → List A → List (List A)
 lines_of rows zero xs = []
 lines_of rows (suc n) xs = take rows xs ∷ lines_of rows n (drop rows xs)

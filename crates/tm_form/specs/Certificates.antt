@@ -100,7 +100,7 @@ steps_in s d = list_from Steps (is_step s) (step_in s) (get (codes "steps") d)
 abbrev pub uppers_in : Data → Result (List Upper) FormFault
 uppers_in d = list_from Uppers is_upper upper_in (get (codes "uppers") d)
 
--- so many values are refused where traces are named: all that they hold, counted once for each naming
+-- this number of values is refused where traces are named: all that they hold, counted once for each naming
 abbrev pub is_over : Option (List Trace) → ℕ → Bool
 is_over None values = false
 is_over (Some traces) values = nat_lt MOST_VALUES values

@@ -61,7 +61,7 @@ index_data n = number (unsigned n)
 
 -- ---- unknowns
 
--- the number of the unknown of a point and a row, where there are so many rows
+-- the number of the unknown of a point and a row, where there is this number of rows
 abbrev pub numbered : ℕ → ℕ → ℕ → Option ℕ
 numbered rows point row = if nat_lt row rows && nat_lt (point * rows + row) (2 ^ 32) then Some (point * rows + row) else None
 

@@ -100,7 +100,7 @@ pub(crate) fn joined(alloc: Global, lines: &[Line]) -> Result<Vec<Ext>, AllocErr
     Ok(list)
 }
 
-// The bounds of each point, where there are so many rows.
+// The bounds of each point, where there are `rows` rows.
 fn cut(alloc: Global, rows: usize, bounds: &[Ext]) -> Result<Vec<Line>, AllocError>
     ensures { IfOk result (λ lines. lines.items ≡ lines_of rows (length bounds.now / rows) bounds.now) }
 {

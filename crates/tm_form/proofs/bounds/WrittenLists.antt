@@ -39,6 +39,7 @@ module _ {A : Type 0} (write : A → Data) where
         by true r e k = k e
         by false r e k = e
 
+    -- a list of written elements that each pass a test does so with one more that passes
     pub shape_more : (xs : List A) (x : A) → all_items test (items_data write xs) ≡ true → test (write x) ≡ true → all_items test (items_data write (xs ++ x ∷ [])) ≡ true
     shape_more xs x e f = ap (all_items test) (items_data-push xs x) ∙ all_items-snoc (items_data write xs) (write x) e f
 
@@ -63,6 +64,7 @@ module _ {A : Type 0} (write : A → Data) where
     items_in-snoc no_items d = only (read d)
     items_in-snoc (item e ds) d = ap (front (read e)) (items_in-snoc ds d) ∙ regroup (read e) (items_in read ds) (read d)
 
+    -- a list of written elements that are read back is so with one more that is read back
     pub back_more : (xs : List A) (x : A) → items_in read (items_data write xs) ≡ Some xs → read (write x) ≡ Some x → items_in read (items_data write (xs ++ x ∷ [])) ≡ Some (xs ++ x ∷ [])
     back_more xs x e f = ap (items_in read) (items_data-push xs x) ∙ items_in-snoc (items_data write xs) (write x) ∙ ap₂ more e f
 
@@ -72,6 +74,6 @@ all_true [] = refl
 all_true (x ∷ xs) = all_true xs
 
 -- and where there are rows
-pub all_under_rows : {A : Type 0} (rows : ℕ) (xs : List A) → 0 < rows → list_all (λ _. nat_lt 0 rows) xs ≡ true
+all_under_rows : {A : Type 0} (rows : ℕ) (xs : List A) → 0 < rows → list_all (λ _. nat_lt 0 rows) xs ≡ true
 all_under_rows rows [] h = refl
 all_under_rows rows (x ∷ xs) h = ap₂ (λ a b. a && b) (lt-ltb 0 rows h) (all_under_rows rows xs h)

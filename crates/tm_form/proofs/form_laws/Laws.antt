@@ -29,9 +29,11 @@ ok_same x y r e f = cc
 same_data : (bytes : List ℕ) (d f : Data) → Spells bytes d → Spells bytes f → d ≡ f
 same_data bytes d f s t = some_same (sym s.value ∙ t.value)
 
+-- bytes are one certificate at most
 pub one_reading : OneReading
 one_reading bytes c e s t = ok_same c e (cert_in s.data_is) s.reads (ap cert_in (same_data bytes s.data_is t.data_is s.spells t.spells) ∙ t.reads)
 
+-- a text is read as a fraction exactly where it is the canonical text of one that fits
 pub fractions : FractionsByText
 fractions text q = (λ e. frac_text_of text q e, λ h. ap frac_of h.0 ∙ frac_back q h.1)
 
@@ -51,6 +53,7 @@ whole_from : (text : List ℕ) (o : Option ℚ) (z : ℤ) → frac_of text ≡ o
 whole_from text None z f e = absurd cc
 whole_from text (Some q) z f e = whole_parts text q z (frac_text_of text q f).0 (q.den == 1) refl e
 
+-- a text is read as a whole number exactly where it is the decimal text of one within 2^63 - 1
 pub wholes : WholesByText
 wholes text z = (
   λ e. (whole_from text (frac_of text) z refl e, whole_small text (frac_of text) z refl e),
@@ -74,6 +77,7 @@ ext_back NegInf f = refl
 ext_back (Fin q) f = fin_back q f
 ext_back PosInf f = refl
 
+-- a text is read as a bound exactly where it is the text of a fraction that fits or of an infinity
 pub bounds : BoundsByText
 bounds text e = (
   λ h. ext_from text e (bytes_eq text (codes "-inf")) (bytes_eq text (codes "+inf")) refl refl h,
@@ -90,6 +94,7 @@ module _ (bytes : List ℕ) (a : Result Cert FormFault) (d : Data) (s : Spells b
   refused_with : (f : FormFault) → (e : Data) × Spells bytes e × (cert_in e ≡ Err f) → Err f ≡ a
   refused_with f h = answer_same (Err f) h.0 h.1 h.2
 
+  -- bytes that spell a value are read as what that value is, or memory is wanted
   pub one_answer : (r : Result Cert FormFault) → IfOk r (λ e. SpellsCert bytes e) → (IsErrOf r NotJson → (e : Data) → Spells bytes e → ⊥)
       → IfErr r (λ f. f ≢ NotJson → f ≢ NoMemory → (e : Data) × Spells bytes e × (cert_in e ≡ Err f)) → (r ≡ a) ⊎ (r ≡ Err NoMemory)
   one_answer (Ok e) h n k = inl (answer_same (Ok e) h.data_is h.spells h.reads)
@@ -110,6 +115,7 @@ module _ (c : Cert) where
   abbrev over : Bool
   over = nat_lt MOST_VALUES (values_of (named_traces c.steps))
 
+  -- bytes that a certificate is written as spell a value that is read as the certificate, or as one that expands too far
   pub read_as : (bytes : List ℕ) → (IsWithin c → SpellsCert bytes c) → (IsBeyond c → SpellsTooMany bytes) → (d : Data) × Spells bytes d × (cert_in d ≡ read_again c)
   read_as bytes w b = by over refl
     where
@@ -117,6 +123,7 @@ module _ (c : Cert) where
       by true h = b (lt_from MOST_VALUES (values_of (named_traces c.steps)) h)
       by false h = let k = w (le_from MOST_VALUES (values_of (named_traces c.steps)) h) in (k.data_is, k.spells, k.reads)
 
+  -- a certificate that is read again is the same
   pub again_same : (r : Result Cert FormFault) → (r ≡ read_again c) ⊎ (r ≡ Err NoMemory) → IfOk r (λ e. e ≡ c)
   again_same (Err f) h = tt
   again_same (Ok e) (inl h) = by over h
@@ -126,6 +133,7 @@ module _ (c : Cert) where
       by false k = cc
   again_same (Ok e) (inr h) = absurd cc
 
+  -- a certificate that is read again is within the limit of values
   pub again_within : (r : Result Cert FormFault) → (r ≡ read_again c) ⊎ (r ≡ Err NoMemory) → IfOk r (λ _. IsWithin c)
   again_within (Err f) h = tt
   again_within (Ok e) (inl h) = by over refl h
@@ -135,6 +143,7 @@ module _ (c : Cert) where
       by false p k = le_from MOST_VALUES (values_of (named_traces c.steps)) p
   again_within (Ok e) (inr h) = absurd cc
 
+  -- a certificate is refused when it is read again only for want of memory, or where it expands too far
   pub again_refused : (r : Result Cert FormFault) → (r ≡ read_again c) ⊎ (r ≡ Err NoMemory) → IfErr r (λ f. (f ≡ NoMemory) ⊎ ((f ≡ Expanded) × IsBeyond c))
   again_refused (Ok e) h = tt
   again_refused (Err f) (inl h) = by over refl h

@@ -18,7 +18,7 @@ capped_more : (total m a b : ℕ) → m ≡ capped a → capped (total + (a + b)
 capped_more total m a b e = omega (arith, e)
 
 module _ {A : Type 0} (read : Data → Option A) (traces_of : A → List Trace) where
-  -- so many values that were counted, and those that are left
+  -- a number of values that were counted, and those that are left
   abbrev pub counted : ℕ → Option (List A) → Option ℕ
   counted total rest = option_map (λ (xs : List A). capped (total + values_of (flat_map traces_of xs))) rest
 
@@ -26,7 +26,7 @@ module _ {A : Type 0} (read : Data → Option A) (traces_of : A → List Trace) 
   abbrev pub count_all : List Value → Option ℕ
   count_all vs = option_map (λ (xs : List A). capped (values_of (flat_map traces_of xs))) (items_in read (items_view vs))
 
-  pub counted_none : (o : Option (List A)) → option_map (λ (xs : List A). capped (values_of (flat_map traces_of xs))) o ≡ counted 0 o
+  counted_none : (o : Option (List A)) → option_map (λ (xs : List A). capped (values_of (flat_map traces_of xs))) o ≡ counted 0 o
   counted_none None = refl
   counted_none (Some xs) = let z : values_of (flat_map traces_of xs) ≡ 0 + values_of (flat_map traces_of xs) = omega arith in ap (λ n. Some (capped n)) z
 
@@ -36,6 +36,7 @@ module _ {A : Type 0} (read : Data → Option A) (traces_of : A → List Trace) 
   counted_push total m x (Some xs) e =
       ap Some (ap (λ n. capped (total + n)) (values_of-append (traces_of x) (flat_map traces_of xs)) ∙ capped_more total m (values_of (traces_of x)) (values_of (flat_map traces_of xs)) e)
 
+  -- where value i is read, the values of its traces are counted, and the rest is left
   pub counted_more : (vs : List Value) (i : ℕ) (v : Value) (m total now : ℕ) (all : Option ℕ) → i < length vs → v ≡ get_or vs i v
       → Some m ≡ option_map (λ (x : A). capped (values_of (traces_of x))) (read (view v)) → now ≡ capped (total + m) → all ≡ counted total (left_to_read read vs i)
       → all ≡ counted now (left_to_read read vs (i + 1))
@@ -50,7 +51,7 @@ module _ {A : Type 0} (read : Data → Option A) (traces_of : A → List Trace) 
           e ∙ ap (counted total) (next_read read vs i v lt is ∙ ap (λ s. option_and_then (λ (y : A). option_map (λ (xs : List A). y ∷ xs) (left_to_read read vs (suc i))) s) o)
           ∙ counted_push total m x (left_to_read read vs (suc i)) (some_same h) ∙ ap₂ (λ k n. counted k (left_to_read read vs n)) (sym more) one
 
-  pub counted_stop : (vs : List Value) (i : ℕ) (v : Value) (total : ℕ) (all : Option ℕ) → i < length vs → v ≡ get_or vs i v
+  counted_stop : (vs : List Value) (i : ℕ) (v : Value) (total : ℕ) (all : Option ℕ) → i < length vs → v ≡ get_or vs i v
       → None ≡ option_map (λ (x : A). capped (values_of (traces_of x))) (read (view v)) → all ≡ counted total (left_to_read read vs i) → None ≡ all
   counted_stop vs i v total all lt is none e = by (read (view v)) refl none
     where
@@ -59,12 +60,12 @@ module _ {A : Type 0} (read : Data → Option A) (traces_of : A → List Trace) 
           sym (e ∙ ap (counted total) (next_read read vs i v lt is ∙ ap (λ s. option_and_then (λ (y : A). option_map (λ (xs : List A). y ∷ xs) (left_to_read read vs (suc i))) s) o))
       by (Some x) o h = absurd cc
 
-  pub counted_all : (vs : List Value) (i : ℕ) (total : ℕ) (all : Option ℕ) → length vs ≤ i → capped total ≡ total → all ≡ counted total (left_to_read read vs i) → Some total ≡ all
+  counted_all : (vs : List Value) (i : ℕ) (total : ℕ) (all : Option ℕ) → length vs ≤ i → capped total ≡ total → all ≡ counted total (left_to_read read vs i) → Some total ≡ all
   counted_all vs i total all le small e =
       let z : total + 0 ≡ total = omega arith in
       sym (e ∙ ap (counted total) (all_read read vs i le) ∙ ap (λ n. Some (capped n)) z ∙ ap Some small)
 
 -- one count of what another one is read as
-pub fused : {A B C : Type 0} (f : B → C) (g : A → B) (o : Option A) → option_map f (option_map g o) ≡ option_map (λ (x : A). f (g x)) o
+fused : {A B C : Type 0} (f : B → C) (g : A → B) (o : Option A) → option_map f (option_map g o) ≡ option_map (λ (x : A). f (g x)) o
 fused f g None = refl
 fused f g (Some x) = refl

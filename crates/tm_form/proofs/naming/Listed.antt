@@ -18,7 +18,7 @@ use Rattle.tm_form.proofs.bounds.WrittenLists.{one_more}
 
 module _ {A : Type 0} (traces_of : A → List Trace) where
   -- one element more
-  pub traces_more : (start now next : List Trace) (xs : List A) (i : ℕ) (x : A) → i < length xs → x ≡ get_or xs i x → now ≡ with_traces start (flat_map traces_of (take i xs))
+  traces_more : (start now next : List Trace) (xs : List A) (i : ℕ) (x : A) → i < length xs → x ≡ get_or xs i x → now ≡ with_traces start (flat_map traces_of (take i xs))
       → next ≡ with_traces now (traces_of x) → next ≡ with_traces start (flat_map traces_of (take (i + 1) xs))
   traces_more start now next xs i x lt is e f =
       f ∙ ap (λ ts. with_traces ts (traces_of x)) e ∙ sym (fold-append with_trace start (flat_map traces_of (take i xs)) (traces_of x))
@@ -64,6 +64,7 @@ and_split : (a b : Bool) → (a && b) ≡ true → (a ≡ true) × (b ≡ true)
 and_split true b e = (refl, e)
 and_split false b e = absurd cc
 
+-- where there are rows and all traces of elements are listed, those of each element are
 pub each_listed : {A : Type 0} (rows : ℕ) (names : List Trace) (traces_of : A → List Trace) (xs : List A) → 0 < rows → list_all (is_listed names) (flat_map traces_of xs) ≡ true
     → list_all (λ (x : A). nat_lt 0 rows && list_all (is_listed names) (traces_of x)) xs ≡ true
 each_listed rows names traces_of [] l h = refl
@@ -82,6 +83,7 @@ steps_written rows names (s ∷ steps) e h =
     let f = and_split (nat_lt 0 rows && has_item s) (list_all (λ (r : Step). nat_lt 0 rows && has_item r) steps) e in
     ap₂ (λ a b. a && b) (ap₂ (λ a b. a && b) f.0 k.0) (steps_written rows names steps f.1 k.1)
 
+-- steps that have items can be written with the traces that they name
 pub steps_listed : (rows : ℕ) (steps : List Step) → list_all (λ (s : Step). nat_lt 0 rows && has_item s) steps ≡ true
     → list_all (λ (s : Step). nat_lt 0 rows && has_item s && list_all (is_listed (with_traces [] (named_traces steps))) (step_traces s)) steps ≡ true
 steps_listed rows steps e = steps_written rows (with_traces [] (named_traces steps)) steps e (all_listed [] (named_traces steps))

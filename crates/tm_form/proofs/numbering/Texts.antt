@@ -46,6 +46,7 @@ module _ (text : List ℕ) (t : Trace) (keys : List (Vec ℕ Global)) (ts : List
 spelt_same : (t u : Trace) → spelt_trace (trace_text t) ≡ Some t → spelt_trace (trace_text u) ≡ Some u → same_text t u ≡ true → u ≡ t
 spelt_same t u e f s = some_same (sym f ∙ ap spelt_trace (sym ((bytes_eq-Decides (trace_text t) (trace_text u)).0 s)) ∙ e)
 
+-- a listed trace is found at its number
 pub found_back : (ts : List Trace) (t : Trace) → spelt_trace (trace_text t) ≡ Some t → AreSpelt ts → is_listed ts t ≡ true → slice_get ts (number_in ts t) ≡ Some t
 found_back [] t e k h = absurd cc
 found_back (u ∷ ts) t e k h = by (same_text t u) refl h (λ g. found_back ts t e k.1 g)
@@ -57,16 +58,20 @@ found_back (u ∷ ts) t e k h = by (same_text t u) refl h (λ g. found_back ts t
 
 -- ---- one trace more
 
+-- the texts of traces still spell them with one more whose text spells it
 pub spelt_more : (ts : List Trace) (t : Trace) → AreSpelt ts → spelt_trace (trace_text t) ≡ Some t → AreSpelt (ts ++ t ∷ [])
 spelt_more [] t k e = (e, tt)
 spelt_more (u ∷ ts) t k e = (k.0, spelt_more ts t k.1 e)
 
+-- a trace that is listed is added to nothing
 pub with_listed : (ts : List Trace) (t : Trace) → is_listed ts t ≡ true → ts ≡ with_trace ts t
 with_listed ts t h = ap (λ b. cond b ts (ts ++ t ∷ [])) (sym h)
 
+-- a trace that isn't listed is added at the end
 pub with_new : (ts : List Trace) (t : Trace) → is_listed ts t ≡ false → ts ++ t ∷ [] ≡ with_trace ts t
 with_new ts t h = ap (λ b. cond b ts (ts ++ t ∷ [])) (sym h)
 
+-- with the key of a new trace put in, the keys are the texts of the traces with it
 pub texts_more : (keys now : List (Vec ℕ Global)) (key : Vec ℕ Global) (ts : List Trace) (t : Trace) → key.items ≡ trace_text t → texts_of keys ≡ map trace_text ts → is_listed ts t ≡ false
     → now ≡ insert_key (λ x y. bytes_eq x.items y.items) keys key → texts_of now ≡ map trace_text (ts ++ t ∷ [])
 texts_more keys now key ts t k same n h =

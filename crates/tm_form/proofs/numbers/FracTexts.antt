@@ -37,7 +37,7 @@ unsigned (x ∷ xs) l h =
     ∙ ap (λ b. pos (digits_value 10 (drop (cond b 1 0) (x ∷ xs)))) plus
 
 -- a whole number is what its decimal text writes
-pub signed_back : (z : ℤ) → nat_abs z < 2 ^ 63 → signed_digits_value 10 (signed_decimal z) ≡ z
+signed_back : (z : ℤ) → nat_abs z < 2 ^ 63 → signed_digits_value 10 (signed_decimal z) ≡ z
 signed_back (pos n) h = let k = decimal_is_IsNumeral n (omega (arith, h)) in unsigned (decimal n) k.0.0 k.0.1 ∙ ap pos k.1
 signed_back (negsuc n) h = let k = decimal_is_IsNumeral (suc n) (omega (arith, h)) in ap (λ m. neg_ℤ (pos m)) k.1
 
@@ -121,6 +121,7 @@ one_or_more d h false = slashed
     slashed zero = omega arith
     slashed (suc i) = IsAscii-decimal d h i
 
+-- the text of a fraction that fits is ASCII
 pub frac_ascii : (q : ℚ) → Fits long_limit q → IsAscii (frac_text q)
 frac_ascii q f = IsAscii-append (signed_decimal q.num) _ (IsAscii-signed q.num (mag_small q.num (small_num q f))) (one_or_more q.den (omega (arith, small_den q f)) (q.den == 1))
 

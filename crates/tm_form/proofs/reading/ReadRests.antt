@@ -36,12 +36,12 @@ then_err r f next e = ap (λ r. and_then r next) e
 abbrev counted : Result (List Step) FormFault → Result ℕ FormFault
 counted r = and_then r (λ (steps : List Step). Ok (capped (values_of (named_traces steps))))
 
-pub number_counted : (field : Field) (o : Option (List Step)) (n : Option ℕ) → n ≡ option_map (λ (steps : List Step). capped (values_of (named_traces steps))) o
+number_counted : (field : Field) (o : Option (List Step)) (n : Option ℕ) → n ≡ option_map (λ (steps : List Step). capped (values_of (named_traces steps))) o
     → (k : ℕ) → n ≡ Some k → Ok k ≡ counted (or_number field o)
 number_counted field None n e k h = absurd cc
 number_counted field (Some steps) n e k h = let is : Some k ≡ Some (capped (values_of (named_traces steps))) = sym h ∙ e in cc
 
-pub number_missed : (field : Field) (o : Option (List Step)) (n : Option ℕ) → n ≡ option_map (λ (steps : List Step). capped (values_of (named_traces steps))) o
+number_missed : (field : Field) (o : Option (List Step)) (n : Option ℕ) → n ≡ option_map (λ (steps : List Step). capped (values_of (named_traces steps))) o
     → n ≡ None → Err (Number field) ≡ counted (or_number field o)
 number_missed field None n e h = refl
 number_missed field (Some steps) n e h = let is : None ≡ Some (capped (values_of (named_traces steps))) = sym h ∙ e in absurd cc
@@ -81,14 +81,16 @@ module _ (s : Setting) (traces : List Trace) (d m : Data) (listed : s.traces ≡
       ap (λ b. if b then or_number Steps (list_in (step_in s) m) else Err (Shape Steps)) (sym shape)
       ∙ ap (list_from Steps (is_step s) (step_in s)) there
 
+  -- where the count of the steps' values is found, it is that of the steps read
   pub steps_counted : (k : ℕ) → n ≡ Some k → Ok k ≡ counted (steps_in s d)
   steps_counted k h = number_counted Steps (list_in (step_in s) m) n count_here k h ∙ ap counted steps_here
 
+  -- where no count of the steps' values is found, a number of a step is refused
   pub steps_missed : n ≡ None → Err (Number Steps) ≡ counted (steps_in s d)
   steps_missed h = number_missed Steps (list_in (step_in s) m) n count_here h ∙ ap counted steps_here
 
 -- steps that are refused
-pub rest_no_steps : (s : Setting) (d : Data) (f : FormFault) → steps_in s d ≡ Err f → rest_in s d ≡ Err f
+rest_no_steps : (s : Setting) (d : Data) (f : FormFault) → steps_in s d ≡ Err f → rest_in s d ≡ Err f
 rest_no_steps s d f e =
     ap (λ (r : Result (List Step) FormFault). and_then r (λ (steps : List Step). and_then (uppers_in d) (λ (uppers : List Upper).
     if is_over s.traces (values_of (named_traces steps)) then Err Expanded else Ok (steps, uppers)))) e
@@ -102,20 +104,20 @@ rest_after s d steps r e f =
     ∙ ap (λ (r : Result (List Upper) FormFault). and_then r (λ (uppers : List Upper). if is_over s.traces (values_of (named_traces steps)) then Err Expanded else Ok (steps, uppers))) f
 
 module _ (s : Setting) (traces : List Trace) (d : Data) (listed : s.traces ≡ Some traces) where
-  pub listed_no_steps : (f : FormFault) → Err f ≡ counted (steps_in s d) → rest_in s d ≡ Err f
+  listed_no_steps : (f : FormFault) → Err f ≡ counted (steps_in s d) → rest_in s d ≡ Err f
   listed_no_steps f e = rest_no_steps s d f (counted_err (steps_in s d) f e)
 
   module _ (n : ℕ) (count : Ok n ≡ counted (steps_in s d)) where
-    pub listed_no_uppers : (f : FormFault) → uppers_in d ≡ Err f → rest_in s d ≡ Err f
+    listed_no_uppers : (f : FormFault) → uppers_in d ≡ Err f → rest_in s d ≡ Err f
     listed_no_uppers f e = let k = counted_ok (steps_in s d) n count in rest_after s d k.0 (Err f) k.1 e
 
-    pub listed_expanded : (uppers : List Upper) → uppers_in d ≡ Ok uppers → MOST_VALUES < n → rest_in s d ≡ Err Expanded
+    listed_expanded : (uppers : List Upper) → uppers_in d ≡ Ok uppers → MOST_VALUES < n → rest_in s d ≡ Err Expanded
     listed_expanded uppers e h =
         let k = counted_ok (steps_in s d) n count in
         rest_after s d k.0 (Ok uppers) k.1 e
         ∙ ap (λ b. if b then Err Expanded else Ok (k.0, uppers)) (ap (λ o. is_over o (values_of (named_traces k.0))) listed ∙ over_capped n (values_of (named_traces k.0)) k.2 h)
 
-    pub listed_read : (steps : List Step) (uppers : List Upper) → steps_in s d ≡ Ok steps → uppers_in d ≡ Ok uppers → n ≤ MOST_VALUES → rest_in s d ≡ Ok (steps, uppers)
+    listed_read : (steps : List Step) (uppers : List Upper) → steps_in s d ≡ Ok steps → uppers_in d ≡ Ok uppers → n ≤ MOST_VALUES → rest_in s d ≡ Ok (steps, uppers)
     listed_read steps uppers f e h =
         let k = counted_ok (steps_in s d) n count in
         rest_after s d k.0 (Ok uppers) k.1 e
@@ -134,6 +136,7 @@ module _ (d : Data) (u : ⊤) (rows : List (List ℤ)) (n : ℕ) (top : is_top d
       let c : Cert = record { rows = rows; bounds = map extended (joined lines); steps = rest.0; uppers = rest.1 } in Ok c))) ≡ y → cert_in d ≡ y
   from_rows y e = then_ok (top_in d) tt _ y top_read (then_ok (format_in d) u _ y format (then_ok (rows_in d) rows _ y rows_read e))
 
+  -- where the bounds are refused, the certificate is refused so
   pub cert_no_lines : (f : FormFault) → bounds_in n d ≡ Err f → cert_in d ≡ Err f
   cert_no_lines f e = from_rows (Err f) (then_err (bounds_in (length rows) d) f _ (ap (λ k. bounds_in k d) long ∙ e))
 
@@ -141,6 +144,7 @@ module _ (d : Data) (u : ⊤) (rows : List (List ℤ)) (n : ℕ) (top : is_top d
     lines_here : bounds_in (length rows) d ≡ Ok lines
     lines_here = ap (λ k. bounds_in k d) long ∙ lines_read
 
+    -- where the traces are refused, the certificate is refused so
     pub cert_no_traces : (f : FormFault) → traces_in d ≡ Err f → cert_in d ≡ Err f
     cert_no_traces f e = from_rows (Err f) (then_ok (bounds_in (length rows) d) lines _ (Err f) lines_here (then_err (traces_in d) f _ e))
 
@@ -148,11 +152,13 @@ module _ (d : Data) (u : ⊤) (rows : List (List ℤ)) (n : ℕ) (top : is_top d
       rest_here : (r : Result (List Step × List Upper) FormFault) → rest_in (record { rows = n; traces = traces }) d ≡ r → rest_in (record { rows = length rows; traces = traces }) d ≡ r
       rest_here r e = ap (λ k. rest_in (record { rows = k; traces = traces }) d) long ∙ e
 
+      -- where the steps or the evidence are refused, the certificate is refused so
       pub cert_no_rest : (f : FormFault) → rest_in (record { rows = n; traces = traces }) d ≡ Err f → cert_in d ≡ Err f
       cert_no_rest f e =
           from_rows (Err f) (then_ok (bounds_in (length rows) d) lines _ (Err f) lines_here (then_ok (traces_in d) traces _ (Err f) traces_read
           (then_err (rest_in (record { rows = length rows; traces = traces }) d) f _ (rest_here (Err f) e))))
 
+      -- where all fields are read, the certificate is that of these fields
       pub cert_read : (steps : List Step) (uppers : List Upper) (r : List (List ℤ)) (b : List Extended) (s : List Step) (p : List Upper)
           → rest_in (record { rows = n; traces = traces }) d ≡ Ok (steps, uppers)
           → r ≡ rows → b ≡ map extended (joined lines) → s ≡ steps → p ≡ uppers → cert_in d ≡ Ok (record { rows = r; bounds = b; steps = s; uppers = p })

@@ -44,8 +44,11 @@ then_from (Ok x) next y e = (x, refl, e)
 then_from (Err f) next y e = absurd cc
 
 pub record IsRead {A : Type 0} (test : Data → Bool) (read : Data → Option A) (xs : List A) : Type 0 where
+  -- the value that was read
   pub value : Data
+  -- its elements pass the test
   pub passes : is_list test value ≡ true
+  -- they are read as these
   pub reads : list_in read value ≡ Some xs
 
 number_from : {A : Type 0} (field : Field) (o : Option (List A)) (xs : List A) → or_number field o ≡ Ok xs → o ≡ Some xs
@@ -78,7 +81,7 @@ module _ {A : Type 0} (test : Data → Bool) (read : Data → Option A) where
     some_hold None xs p e = absurd cc
     some_hold (Some ds) xs p e = items_hold ds xs p e
 
-    pub each_holds : (xs : List A) → IsRead test read xs → list_all holds xs ≡ true
+    each_holds : (xs : List A) → IsRead test read xs → list_all holds xs ≡ true
     each_holds xs h = some_hold (as_array h.value) xs h.passes h.reads
 
 module _ {A : Type 0} (read : Data → Option A) where
@@ -250,7 +253,7 @@ nothing_long : {A : Type 0} (xs : List A) → length xs ≡ 0 → xs ≡ []
 nothing_long [] e = refl
 nothing_long (x ∷ xs) e = absurd (omega (arith, e))
 
--- the setting of so many rows
+-- the setting of this number of rows
 abbrev under : ℕ → Option (List Trace) → Setting
 under n traces = record { rows = n; traces = traces }
 
@@ -287,7 +290,7 @@ rest_steps s d rest e =
     let is = if_ok (is_over s.traces (values_of (named_traces k.0))) (k.0, u.0) rest u.2 in
     k.1 ∙ ap (λ (r : List Step × List Upper). let o : Result (List Step) FormFault = Ok r.0 in o) is
 
-pub read_writable : (d : Data) (c : Cert) → cert_in d ≡ Ok c → IsWritable c
+read_writable : (d : Data) (c : Cert) → cert_in d ≡ Ok c → IsWritable c
 read_writable d c e =
     let t = then_from (top_in d) _ c e in
     let f = then_from (format_in d) _ c t.2 in
@@ -300,6 +303,7 @@ read_writable d c e =
     (field_from Bounds (is_line (length r.0)) line_in (get (codes "bounds") d) b.0 b.1)
     (field_from Steps (is_step (under (length r.0) l.0)) (step_in (under (length r.0) l.0)) (get (codes "steps") d) s.0.0 (rest_steps (under (length r.0) l.0) d s.0 s.1)))
 
+-- a certificate that was read can be written
 pub answer_writable : (d : Data) (r : Result Cert FormFault) (Q : FormFault → Type 0) → MatchResult r (λ c. cert_in d ≡ Ok c) Q → IfOk r IsWritable
 answer_writable d (Ok c) Q e = read_writable d c e
 answer_writable d (Err f) Q e = tt

@@ -19,6 +19,7 @@ if_num : (q : ℚ) (b : Bool) (z : ℤ) → (if b then Some q.num else None) ≡
 if_num q true z e = cc
 if_num q false z e = absurd cc
 
+-- a whole number that is read is within 2^63 - 1
 pub whole_small : (text : List ℕ) (o : Option ℚ) (z : ℤ) → frac_of text ≡ o → option_and_then if_whole o ≡ Some z → is_number z ≡ true
 whole_small text None z f e = absurd cc
 whole_small text (Some q) z f e = subst (λ y. is_number y ≡ true) (if_num q (q.den == 1) z e) (num_small q (frac_text_of text q f).1)

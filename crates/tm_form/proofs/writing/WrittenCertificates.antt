@@ -104,7 +104,7 @@ line_deep line = omega (arith, items_deep bound_data 0 line (λ e. omega arith))
 line_whole : (line : List Extended) → has_float (line_data line) ≡ false
 line_whole line = items_whole bound_data line (λ e. refl)
 
-pub cert_deep : (c : Cert) → depth (cert_data c) ≤ 127
+cert_deep : (c : Cert) → depth (cert_data c) ≤ 127
 cert_deep c =
     let n = length c.rows in
     omega (
@@ -116,6 +116,7 @@ cert_deep c =
       items_deep upper_data 2 c.uppers upper_deep,
     )
 
+-- the value of a certificate has no float
 pub cert_whole : (c : Cert) → has_float (cert_data c) ≡ false
 cert_whole c =
     let n = length c.rows in
@@ -125,6 +126,7 @@ cert_whole c =
 
 -- ---- the text of a trace
 
+-- where a trace is read back from its value, the text that was written for it spells it
 pub trace_spelt : (r : Result (Vec ℕ Global) AllocError) (d : Data) (t : Trace) → d ≡ trace_data t → trace_in (trace_data t) ≡ Some t → IfOk r (λ b. depth d ≤ 127 → read b.items ≡ Some d)
     → IfOk r (λ b. b.items ≡ trace_text t) → IfOk r (λ _. spelt_trace (trace_text t) ≡ Some t)
 unfolding spelt_trace
@@ -132,6 +134,7 @@ trace_spelt (Err e) d t is back reads text = tt
 trace_spelt (Ok b) d t is back reads text =
     ap (λ x. option_and_then trace_in (read x)) (sym text) ∙ ap (λ o. option_and_then trace_in o) (reads (subst (λ x. depth x ≤ 127) (sym is) (omega (arith, trace_deep t)))) ∙ ap trace_in is ∙ back
 
+-- the text that was written for a trace's value is the trace's text
 pub trace_written : (r : Result (Vec ℕ Global) AllocError) (d : Data) (t : Trace) → d ≡ trace_data t → IfOk r (λ b. has_float d ≡ false → b.items ≡ compact_text d) → IfOk r (λ b. b.items ≡ trace_text t)
 unfolding trace_text
 trace_written (Err e) d t is text = tt
@@ -160,6 +163,7 @@ module _ (c : Cert) where
   abbrev under : Setting
   under = listing rows_of (listed_traces c)
 
+  -- where each part of a certificate is read back from its value, the whole is
   pub cert_back : is_list (is_line rows_of) (bounds_data rows_of c.bounds) ≡ true → (lines : List (List Ext)) → list_in line_in (bounds_data rows_of c.bounds) ≡ Some lines → map extended (joined lines) ≡ c.bounds
       → is_list are_texts (list_data row_data c.rows) ≡ true → list_in (list_in whole_in) (list_data row_data c.rows) ≡ Some c.rows
       → is_list (is_step under) (list_data (step_data rows_of (listed_traces c)) c.steps) ≡ true → list_in (step_in under) (list_data (step_data rows_of (listed_traces c)) c.steps) ≡ Some c.steps
@@ -178,6 +182,7 @@ module _ (c : Cert) where
       ∙ made_again c (record { rows = c.rows; bounds = map extended (joined lines); steps = c.steps; uppers = c.uppers }) (nat_lt MOST_VALUES (values_of (named_traces c.steps)))
       (ap (λ (b : List Extended). let r : Cert = record { rows = c.rows; bounds = b; steps = c.steps; uppers = c.uppers } in r) be))))
 
+-- the value with the values of a certificate's parts is the value of the certificate
 pub cert_data_is : (c : Cert) (b r s t u : Data) → b ≡ bounds_data (length c.rows) c.bounds → r ≡ list_data row_data c.rows → s ≡ list_data (step_data (length c.rows) (listed_traces c)) c.steps
     → t ≡ list_data trace_data (listed_traces c) → u ≡ list_data upper_data c.uppers → cert_object b r s t u ≡ cert_data c
 cert_data_is c b r s t u eb er es et eu =
@@ -190,6 +195,7 @@ cert_data_is c b r s t u eb er es et eu =
 whole_shaped : (b n : ℕ) → b % n ≡ 0 → b / n * n ≡ b
 whole_shaped b n e = omega (arith, div-add-mod' b n, e)
 
+-- the bounds of a certificate that can be written are those of whole points
 pub writable_whole : (c : Cert) → IsWritable c → length c.bounds / length c.rows * length c.rows ≡ length c.bounds
 writable_whole c h = ⊎_elim (λ s. whole_shaped (length c.bounds) (length c.rows) s.points) (λ e. empty e) h
   where
@@ -208,7 +214,7 @@ steps_shaped n (s ∷ steps) l h = by (has_item s) h (λ k. steps_shaped n steps
     by true k more = ap₂ (λ a b. (a && true) && b) (lt-ltb 0 n l) (more k)
     by false k more = absurd cc
 
-pub writable_steps : (c : Cert) → IsWritable c → list_all (λ (s : Step). nat_lt 0 (length c.rows) && has_item s) c.steps ≡ true
+writable_steps : (c : Cert) → IsWritable c → list_all (λ (s : Step). nat_lt 0 (length c.rows) && has_item s) c.steps ≡ true
 writable_steps c h =
     ⊎_elim (λ s. steps_shaped (length c.rows) c.steps s.row s.items) (λ e. subst (λ (ss : List Step). list_all (λ (s : Step). nat_lt 0 (length c.rows) && has_item s) ss ≡ true) (sym e.steps) refl) h
 
@@ -231,12 +237,14 @@ again_within c h = ap (λ b. if b then Err Expanded else Ok c) (le-lt_false (val
 again_beyond : (c : Cert) → IsBeyond c → read_again c ≡ Err Expanded
 again_beyond c h = ap (λ b. if b then Err Expanded else Ok c) (lt-ltb MOST_VALUES (values_of (named_traces c.steps)) h)
 
+-- the bytes written for a certificate within the limit of values spell it
 pub spelled : (r : Result (Vec ℕ Global) AllocError) (d : Data) (c : Cert) → IfOk r (λ b. IsUtf8 b.items) → IfOk r (λ b. depth d ≤ 127 → read b.items ≡ Some d) → d ≡ cert_data c → cert_in (cert_data c) ≡ read_again c
     → IfOk r (λ b. IsWithin c → SpellsCert b.items c)
 spelled (Err e) d c utf8 back is reads = tt
 spelled (Ok b) d c utf8 back is reads = λ h.
     record { data_is = d; spells = record { utf8 = utf8; value = back (subst (λ x. depth x ≤ 127) (sym is) (cert_deep c)) }; reads = ap cert_in is ∙ reads ∙ again_within c h }
 
+-- the bytes written for a certificate beyond the limit of values spell one that expands too far
 pub spelled_beyond : (r : Result (Vec ℕ Global) AllocError) (d : Data) (c : Cert) → IfOk r (λ b. IsUtf8 b.items) → IfOk r (λ b. depth d ≤ 127 → read b.items ≡ Some d) → d ≡ cert_data c → cert_in (cert_data c) ≡ read_again c
     → IfOk r (λ b. IsBeyond c → SpellsTooMany b.items)
 spelled_beyond (Err e) d c utf8 back is reads = tt
