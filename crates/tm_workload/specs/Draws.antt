@@ -26,7 +26,7 @@ loop_at state = record {
 abbrev pub following : ℕ → ℕ
 following variable = (variable + 1) % 3
 
--- so many loops
+-- a number of loops from a state
 abbrev pub loops_from : ℕ → ℕ → List Loop
 loops_from state zero = []
 loops_from state (suc loops) = loop_at state ∷ loops_from (after_loop state) loops

@@ -22,7 +22,7 @@ generated_equations seed loops = record {
   template = intervals_of 3;
 }
 
--- The text of so many loops from a seed is short enough to be read, and reads as tokens that mean the body over a, b and c. This has
+-- The text of a number of loops from a seed is short enough to be read, and reads as tokens that mean the body over a, b and c. This has
 -- points and edges within the limits, one point for each loop beside the entry and the exit; and its system over intervals has unknowns
 -- and joint problems within them.
 pub record IsSolvable (seed loops : ℕ) : Type 0 where

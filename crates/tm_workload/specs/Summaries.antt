@@ -5,7 +5,7 @@ use Rattle.tm_eqsys.specs.Equations.{Vector}
 use Rattle.tm_eqsys.specs.Report.{line, point_lines}
 use Rattle.tm_report.specs.Points.{point_of}
 
--- a line with a number behind these words
+-- a line with a number after these words
 abbrev pub counted_line : List ℕ → ℕ → List ℕ
 counted_line words number = line (words ++ decimal number)
 

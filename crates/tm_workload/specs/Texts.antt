@@ -37,10 +37,10 @@ loop_text l =
 abbrev pub front_text : List ℕ
 front_text = line (codes "int main() {") ++ line (codes "  int a = 0, b = 0, c = 0;")
 
--- the two lines behind them
+-- the two lines after them
 abbrev pub back_text : List ℕ
 back_text = line (codes "  return 0;") ++ line (codes "}")
 
--- the text of so many loops from a seed
+-- the text of a number of loops from a seed
 abbrev pub generated_text : ℕ → ℕ → List ℕ
 generated_text seed loops = front_text ++ (flat_map loop_text (loops_from seed loops) ++ back_text)

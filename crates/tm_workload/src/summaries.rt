@@ -9,7 +9,7 @@ use std::alloc::{AllocError, Global};
 use tm_eqsys::{Bounds, System};
 use tm_report::point_text;
 
-/// Appends a line with a number behind these words.
+/// Appends a line with a number after these words.
 fn push_counted(text: &mut Vec<u8>, words: &[u8], number: u64) -> Result<(), AllocError>
     ensures { IfOk result (λ _. text.new.items ≡ text.old.items ++ counted_line words.now number) }
 {
@@ -75,8 +75,8 @@ fn push_exit(
     Ok(())
 }
 
-/// The summary of the bounds of a generated program of so many bytes, found in so many improvements: which program it was, its
-/// points and unknowns with those of the entry, and the lines of its exit (docs/FORMATS.md, "The generator and the summary").
+/// The summary of the bounds of a generated program, from the number of its bytes and that of the improvements: which program it was,
+/// its points and unknowns with those of the entry, and the lines of its exit (docs/FORMATS.md, "The generator and the summary").
 pub fn summary(
     alloc: Global,
     seed: u32,

@@ -102,7 +102,7 @@ fn push_drawn(text: &mut Vec<u8>, state: u32) -> Result<u32, AllocError>
     Ok(after)
 }
 
-/// The text of a program with so many loops, drawn from the seed (docs/FORMATS.md, "The generator and the summary").
+/// The text of a program with this number of loops, drawn from the seed (docs/FORMATS.md, "The generator and the summary").
 pub fn generate(alloc: Global, seed: u32, loops: u32) -> Result<Vec<u8>, AllocError>
     requires seed { seed < 2147483648 }
     requires some { 1 ≤ loops }

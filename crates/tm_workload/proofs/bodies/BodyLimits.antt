@@ -46,6 +46,7 @@ loops_made : (n : ℕ) (ls : List Loop) (p : ℕ) → length (made_in (loops_bod
 loops_made n [] p = refl
 loops_made n (l ∷ ls) p = omega (arith, loops_made (n + 5) ls (p + 0 + (1 + (0 + (0 + 0)))))
 
+-- a generated program has one point for each loop beside the entry and the exit
 pub generated_points : (seed loops : ℕ) → length (points_of_program (generated_body seed loops)) ≡ loops + 2
 generated_points seed loops =
     let made = made_in (generated_body seed loops) 1 in
@@ -58,6 +59,7 @@ generated_points seed loops =
       count_drawn seed loops,
     )
 
+-- the system over intervals of a generated program with at most 46 loops has at most 288 unknowns
 pub generated_unknowns : (seed loops : ℕ) → loops ≤ 46 → length (points_of_program (generated_body seed loops)) * length (intervals_of 3) ≤ 288
 generated_unknowns seed loops h =
     let six : length (intervals_of 3) ≡ 6 = refl in
@@ -157,11 +159,13 @@ none_from i (e ∷ es) h =
 none_long : (es : List Edge) → Each IsFew es → position is_long es ≡ None
 none_long es h = position_from-zero is_long es ∙ none_from 0 es h
 
+-- a generated program with at most 46 loops has no fault
 pub generated_within : (seed loops : ℕ) → loops ≤ 46 → fault_of_program (generated_body seed loops) ≡ None
 generated_within seed loops h =
     let body = generated_body seed loops in
     no_fault body (generated_counted seed loops h) (none_long (kept_edges body) (kept_few seed loops))
 
+-- each edge of a generated program has at most four actions
 pub generated_few : (seed loops : ℕ) → Each IsFew (edges_of_program (generated_body seed loops))
 generated_few seed loops =
     let body = generated_body seed loops in

@@ -32,9 +32,12 @@ fine_below (suc k) n h l = let both = and_parts (is_fine k) (are_fine k) h in fi
 
 -- the same as facts
 pub record IsShortNumeral (n : ℕ) : Type 0 where
+  -- the decimal text is a numeral of the number
   pub numeral : IsNumeral n (decimal n)
+  -- it has at most three digits
   pub short : length (decimal n) ≤ 3
 
+-- a number up to 100 has a decimal text of at most three digits, which is a numeral of it
 pub short_numeral : (n : ℕ) → n ≤ 100 → IsShortNumeral n
 short_numeral n h =
     let fine : is_fine n ≡ true = fine_below 101 n all_fine (omega arith) in

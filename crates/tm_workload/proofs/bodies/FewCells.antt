@@ -41,6 +41,7 @@ sum_bound : (system : Equations) (size : ℕ → ℕ) (m : ℕ) → ((p : ℕ) �
 sum_bound system size m h k =
     omega (arith, sum_few (λ p. length system.template * size p) m (targets system) h, mul-le (length (targets system)) m 47 m (omega (arith, few_targets system)) (omega arith))
 
+-- the joint problems of a generated program with at most 46 loops have at most 134217728 cells
 pub generated_cells : (seed loops : ℕ) → loops ≤ 46 → cells_of (generated_equations seed loops) ≤ 134217728
 generated_cells seed loops h =
     let system = generated_equations seed loops in

@@ -32,7 +32,7 @@ abbrev pub lines_at : ℕ → List Part → List ℕ
 lines_at line [] = []
 lines_at line (p ∷ ps) = part_lines line p ++ lines_at (line_behind line p) ps
 
--- the line behind all parts
+-- the line after all parts
 abbrev pub line_after : ℕ → List Part → ℕ
 line_after line [] = line
 line_after line (p ∷ ps) = line_after (line_behind line p) ps
@@ -42,7 +42,7 @@ abbrev pub lines_of : (ℕ → ℕ) → List g.Token → List ℕ
 lines_of line [] = []
 lines_of line (g.token k a ∷ ts) = line a ∷ lines_of line ts
 
-pub lines_append : (line : ℕ → ℕ) (xs ys : List g.Token) → lines_of line (xs ++ ys) ≡ lines_of line xs ++ lines_of line ys
+lines_append : (line : ℕ → ℕ) (xs ys : List g.Token) → lines_of line (xs ++ ys) ≡ lines_of line xs ++ lines_of line ys
 lines_append line [] ys = refl
 lines_append line (g.token k a ∷ xs) ys = ap (λ l. line a ∷ l) (lines_append line xs ys)
 
@@ -109,6 +109,7 @@ part_lines_are text front after at line (sign s) e f h = ap (λ (x : ℕ). x ∷
 part_lines_are text front after at line (letter b) e f h = ap (λ (x : ℕ). x ∷ []) (line_here text front after at line e f h)
 part_lines_are text front after at line (number n bytes) e f h = ap (λ (x : ℕ). x ∷ []) (line_here text front after at line e f h)
 
+-- the lines of the tokens of parts within a text are those counted part by part
 pub lines_are : (text front after : List ℕ) (at line : ℕ) (ps : List Part) → AllGood ps → front ++ (spelled ps ++ after) ≡ text → length front ≡ at → 1 + feeds front ≡ line → lines_of (line_at text) (tokens_at at ps) ≡ lines_at line ps
 lines_are text front after at line [] g e f h = refl
 lines_are text front after at line (p ∷ ps) g e f h =
@@ -122,7 +123,7 @@ lines_are text front after at line (p ∷ ps) g e f h =
     ∙ ap₂ (λ (x y : List ℕ). x ++ y) (part_lines_are text front (part_bytes p ++ (spelled ps ++ after)) at line p one f h)
     (lines_are text (front ++ part_bytes p) after (at + length (part_bytes p)) (line_behind line p) ps good.1 more size lines)
 
--- the line behind all parts
+-- the line after all parts
 pub behind_all : (front : List ℕ) (line : ℕ) (ps : List Part) → AllGood ps → 1 + feeds front ≡ line → 1 + feeds (front ++ spelled ps) ≡ line_after line ps
 behind_all front line [] g h = ap (λ (x : List ℕ). 1 + feeds x) (append-nil front) ∙ h
 behind_all front line (p ∷ ps) g h =

@@ -21,7 +21,7 @@ use Rattle.tm_workload.proofs.bodies.Pieces.{spelled, spelled_append, tokens_at,
 use Rattle.tm_workload.proofs.bodies.LineNumbers.{feeds, lines_of, lines_at, line_after, lines_are, behind_all}
 use Rattle.tm_workload.proofs.draws.TextParts.{front_parts, back_parts, parts_of, loop_parts, loops_parts, AreDrawn, one_good}
 
--- what is known behind the declarations, with so many nodes
+-- what is known after the declarations, with k nodes
 abbrev pub state_at : ℕ → State
 state_at k = record { names = (97 ∷ []) ∷ ((98 ∷ []) ∷ ((99 ∷ []) ∷ [])); known = 0 ∷ 1 ∷ 2 ∷ []; labels = []; count = k }
 
@@ -52,7 +52,7 @@ record Small (k bound step : ℕ) : Type 0 where
   minus_fits : nat_le (nat_abs (neg_ℤ (pos bound))) 9223372036854775807 ≡ true
   comparable : nat_le (nat_abs (neg_ℤ (pos bound)) + 1) 9223372036854775807 ≡ true
 
--- what stands behind a loop: a name, or `return`
+-- what stands after a loop: a name, or `return`
 abbrev pub next : Option (List ℕ) → g.Kind
 next (Some x) = g.a_name x
 next None = g.return_word
@@ -90,7 +90,7 @@ small k bound step h i j = record {
   comparable = le-leb (nat_abs (neg_ℤ (pos bound)) + 1) 9223372036854775807 (omega (arith, abs_minus bound));
 }
 
-pub followed_assoc : (xs ys zs : Statements) → followed_by (followed_by xs ys) zs ≡ followed_by xs (followed_by ys zs)
+followed_assoc : (xs ys zs : Statements) → followed_by (followed_by xs ys) zs ≡ followed_by xs (followed_by ys zs)
 followed_assoc nil ys zs = refl
 followed_assoc (cons x xs) ys zs = ap (cons x) (followed_assoc xs ys zs)
 
@@ -102,13 +102,13 @@ abbrev tail : List g.Token → List g.Token
 tail [] = []
 tail (t ∷ ts) = ts
 
--- what begins behind a loop
+-- what begins after a loop
 starts : (ls : List Loop) (q : ℕ) (o : Option (List ℕ)) (a : ℕ) (rest : List g.Token) →
     (n : Option (List ℕ)) × (b : ℕ) × (more : List g.Token) × (tokens_at q (loops_parts ls) ++ g.token (next o) a ∷ rest ≡ g.token (next n) b ∷ more)
 starts [] q o a rest = (o, a, rest, refl)
 starts (l ∷ ls) q o a rest = (Some ((97 + l.variable) ∷ []), q + 1 + 1, tail (tokens_at q (loops_parts (l ∷ ls)) ++ g.token (next o) a ∷ rest), refl)
 
--- so many nodes behind the loops
+-- the number of nodes after the loops
 abbrev pub count_behind : ℕ → List Loop → ℕ
 count_behind k [] = k
 count_behind k (l ∷ ls) = count_behind (suc (suc (suc (suc k)))) ls
@@ -122,7 +122,7 @@ nodes_are n l ls m e ns =
     ∙ followed_assoc ns (first_node l.variable (lines_at n (loop_parts l))) (followed_by (second_node l.variable (following l.variable) l.bound l.step (lines_at n (loop_parts l))) (loops_body m ls))
     ∙ rw (two, e) refl
 
--- the loops of a text, where they stand behind a front
+-- the loops of a text, where they stand after a front
 pub loops_fed : (text front after : List ℕ) (p n : ℕ) (ls : List Loop) → AreDrawn ls → front ++ (spelled (loops_parts ls) ++ after) ≡ text → length front ≡ p → 1 + feeds front ≡ n →
     (k : ℕ) → k + 4 * length ls ≤ 512 → (ns : Statements) (o : Option (List ℕ)) (a : ℕ) (rest : List g.Token) →
     feed (line_at text) 3 (tokens_at p (loops_parts ls) ++ g.token (next o) a ∷ rest) (machine_at k ns)
@@ -149,13 +149,15 @@ loops_fed text front after p n (l ∷ ls) d e f h k c ns o a rest =
     ∙ loops_fed text (front ++ spelled (loop_parts l)) after q (line_after n (loop_parts l)) ls d.1 more size behind (suc (suc (suc (suc k)))) (omega arith) ms o a rest
     ∙ ap (λ (x : Statements). feed line 3 last (machine_at (count_behind (suc (suc (suc (suc k)))) ls) x)) (nodes_are n l ls (line_after n (loop_parts l)) five ns)
 
--- ---- the lines before the loops and behind them
+-- ---- the lines before the loops and after them
 abbrev pub front_nodes : List ℕ → Statements
 front_nodes ls = cons (set 0 (constant_form 3 (pos 0)) (nth ls 6)) (cons (set 1 (constant_form 3 (pos 0)) (nth ls 10)) (cons (set 2 (constant_form 3 (pos 0)) (nth ls 14)) nil))
 
+-- the tokens before the loops declare the three variables and set them to 0
 pub front_fed : (line : ℕ → ℕ) (rest : List g.Token) → feed line 3 (tokens_at 0 front_parts ++ rest) begin ≡ feed line 3 rest (machine_at 3 (front_nodes (lines_of line (tokens_at 0 front_parts))))
 front_fed line rest = refl
 
+-- the tokens after the loops end the program with the nodes so far
 pub back_fed : (line : ℕ → ℕ) (p k : ℕ) (ns : Statements) (z : ℕ) → (feed line 3 (tokens_at p back_parts ++ g.token g.the_end z ∷ []) (machine_at k ns) >>= λ s. result_of s) ≡ Ok (generated_names, ns)
 back_fed line p k ns z = refl
 
@@ -163,12 +165,14 @@ back_fed line p k ns z = refl
 abbrev pub in_program : List Goal
 in_program = statement in_main 0 ∷ only text_end ∷ []
 
+-- the grammar's machine goes through the tokens before the loops into the program
 pub front_scanned : (rest : List g.Token) → scan start (tokens_at 0 front_parts ++ rest) ≡ scan in_program rest
 front_scanned rest = refl
 
 loop_scanned : (p v w bound step : ℕ) (bs ss : List ℕ) (rest : List g.Token) → scan in_program (tokens_at p (parts_of v w bound bs step ss) ++ rest) ≡ scan in_program rest
 loop_scanned p v w bound step bs ss rest = refl
 
+-- the grammar's machine goes through the tokens of the loops and is in the program still
 pub loops_scanned : (p : ℕ) (ls : List Loop) (rest : List g.Token) → scan in_program (tokens_at p (loops_parts ls) ++ rest) ≡ scan in_program rest
 loops_scanned p [] rest = refl
 loops_scanned p (l ∷ ls) rest =
@@ -177,5 +181,6 @@ loops_scanned p (l ∷ ls) rest =
     ∙ loop_scanned p l.variable (following l.variable) l.bound l.step (decimal l.bound) (decimal l.step) (tokens_at q (loops_parts ls) ++ rest)
     ∙ loops_scanned q ls rest
 
+-- the grammar's machine goes through the tokens after the loops to the end
 pub back_scanned : (p z : ℕ) → scan in_program (tokens_at p back_parts ++ g.token g.the_end z ∷ []) ≡ whole
 back_scanned p z = refl

@@ -51,16 +51,18 @@ part_is (sign s) = refl
 part_is (letter b) = refl
 part_is (number n bytes) = refl
 
+-- the spelling of parts as pieces is their text
 pub spelled_is : (ps : List Part) → spelling (map piece_of ps) ≡ spelled ps
 spelled_is [] = refl
 spelled_is (p ∷ ps) = ap₂ (λ (x y : List ℕ). x ++ y) (part_is p) (spelled_is ps)
 
+-- the text of parts joined is their texts joined
 pub spelled_append : (ps qs : List Part) → spelled (ps ++ qs) ≡ spelled ps ++ spelled qs
 spelled_append [] qs = refl
 spelled_append (p ∷ ps) qs = ap (λ (x : List ℕ). part_bytes p ++ x) (spelled_append ps qs) ∙ sym (append_assoc (part_bytes p) (spelled ps) (spelled qs))
 
 -- ---- how they fit
--- what each part needs of the bytes behind it
+-- what each part needs of the bytes after it
 abbrev pub stands : Part → List ℕ → Bool
 stands (space b) rest = is_blank b
 stands (word w) rest = not (heads is_word_byte rest)
@@ -74,9 +76,13 @@ all_stand (p ∷ ps) rest = stands p (spelled ps ++ rest) && all_stand ps rest
 
 -- the digits are those of the number
 pub record IsNumeral (n : ℕ) (bytes : List ℕ) : Type 0 where
+  -- they are digits of a numeral
   pub digits : is_numeral bytes ≡ true
+  -- they don't begin with a 0 that isn't needed
   pub plain : is_padded bytes ≡ false
+  -- they are worth the number
   pub value : digits_value 10 bytes ≡ n
+  -- the number is at most the greatest literal
   pub small : n ≤ greatest_literal
 
 -- a letter is one, and the digits of a number are its own
@@ -92,6 +98,7 @@ AllGood (letter b ∷ ps) = (is_letter b ≡ true) × AllGood ps
 AllGood (number n bytes ∷ ps) = IsNumeral n bytes × AllGood ps
 AllGood (_ ∷ ps) = AllGood ps
 
+-- where parts are good, the first and the rest are
 pub good_parts : (p : Part) (ps : List Part) → AllGood (p ∷ ps) → IsGood p × AllGood ps
 good_parts (space b) ps g = (tt, g)
 good_parts (word w) ps g = (tt, g)
@@ -99,6 +106,7 @@ good_parts (sign s) ps g = (tt, g)
 good_parts (letter b) ps g = (g.0, g.1)
 good_parts (number n bytes) ps g = (g.0, g.1)
 
+-- good parts joined are good
 pub good_append : (ps qs : List Part) → AllGood ps → AllGood qs → AllGood (ps ++ qs)
 good_append [] qs g h = h
 good_append (space b ∷ ps) qs g h = good_append ps qs g h
@@ -116,6 +124,7 @@ part_fits (number n bytes) rest g h =
     let both = and_parts (not (heads is_digit rest)) (not (starts_with_letter rest)) h in
     a_whole_number n bytes rest g.digits g.plain g.value g.small (not-true (heads is_digit rest) both.0) (not-true (starts_with_letter rest) both.1)
 
+-- good parts that stand before what follows them fit
 pub all_fit : (ps : List Part) (rest : List ℕ) → AllGood ps → all_stand ps rest ≡ true → AllFit (map piece_of ps) rest
 all_fit [] rest g h = tt
 all_fit (p ∷ ps) rest g h =
@@ -127,6 +136,7 @@ and_true : (a b c : Bool) → a ≡ true → b ≡ c → (a && b) ≡ c
 and_true true b c h e = e
 and_true false b c h e = cc
 
+-- where the first parts stand before the others, both joined stand where the others do
 pub stand_append : (ps qs : List Part) (rest : List ℕ) → all_stand ps (spelled qs ++ rest) ≡ true → all_stand (ps ++ qs) rest ≡ all_stand qs rest
 stand_append [] qs rest h = refl
 stand_append (p ∷ ps) qs rest h =
@@ -146,6 +156,7 @@ abbrev pub tokens_at : ℕ → List Part → List g.Token
 tokens_at at [] = []
 tokens_at at (p ∷ ps) = part_tokens at p ++ tokens_at (at + length (part_bytes p)) ps
 
+-- the tokens of parts joined are those of the first, and then of the others at their places
 pub tokens_append : (at : ℕ) (ps qs : List Part) → tokens_at at (ps ++ qs) ≡ tokens_at at ps ++ tokens_at (at + length (spelled ps)) qs
 tokens_append at [] qs = let e : at + 0 ≡ at = omega arith in ap (λ (x : ℕ). tokens_at x qs) (sym e)
 tokens_append at (p ∷ ps) qs =
@@ -163,11 +174,11 @@ part_tokens_are text front after at (sign s) e f = refl
 part_tokens_are text front after at (letter b) e f = ap (λ (x : List ℕ). g.token (g.a_name x) at ∷ []) (ap (λ (t : List ℕ). slice_range t at (at + 1)) (sym e) ∙ range_is front (b ∷ []) after at (at + 1) f refl)
 part_tokens_are text front after at (number n bytes) e f = refl
 
-pub map_append : {A B : Type 0} (f : A → B) (xs ys : List A) → map f (xs ++ ys) ≡ map f xs ++ map f ys
+map_append : {A B : Type 0} (f : A → B) (xs ys : List A) → map f (xs ++ ys) ≡ map f xs ++ map f ys
 map_append f [] ys = refl
 map_append f (x ∷ xs) ys = ap (λ l. f x ∷ l) (map_append f xs ys)
 
--- the tokens of the text, where these parts stand behind a front
+-- the tokens of the text, where these parts stand after a front
 pub tokens_are : (text front after : List ℕ) (at : ℕ) (ps : List Part) → front ++ (spelled ps ++ after) ≡ text → length front ≡ at → tokens_of text (tokens_from at (map piece_of ps)) ≡ tokens_at at ps
 tokens_are text front after at [] e f = refl
 tokens_are text front after at (p ∷ ps) e f =

@@ -32,7 +32,7 @@ use Rattle.tm_tree.specs.declared.limits.TheConstants.{MOST_VARIABLES}
 abbrev pub lexed : List ℕ → List Loop → List lex_token.Token
 lexed text ls = tokens_from 0 (map piece_of (text_parts ls)) ++ end_at (length text) ∷ []
 
-pub text_reads : (text : List ℕ) (ls : List Loop) → AreDrawn ls → spelled (text_parts ls) ≡ text → Reads text (lexed text ls)
+text_reads : (text : List ℕ) (ls : List Loop) → AreDrawn ls → spelled (text_parts ls) ≡ text → Reads text (lexed text ls)
 text_reads text ls d e =
     let pieces = map piece_of (text_parts ls) in
     let same : spelling pieces ≡ text = spelled_is (text_parts ls) ∙ e in
@@ -52,7 +52,7 @@ text_reads text ls d e =
 abbrev ended : List ℕ → List g.Token
 ended text = g.token g.the_end (length text) ∷ []
 
--- the places behind the front, and behind the loops
+-- the places after the front, and after the loops
 abbrev front_end : ℕ
 front_end = 0 + length (spelled front_parts)
 
@@ -154,9 +154,11 @@ text_means text ls d c e =
     let means = read_means text tokens 3 read (read_width text (lexed text ls) 3 read (three_wide text ls)) in
     subst (Means text tokens) (ap (λ (x : List g.Token). feed (line_at text) 3 x begin >>= λ s. result_of s) same ∙ fed text ls d c e) means
 
+-- a generated text reads as the tokens of its parts
 pub generated_reads : (seed loops : ℕ) → Reads (generated_text seed loops) (lexed (generated_text seed loops) (loops_from seed loops))
 generated_reads seed loops = text_reads (generated_text seed loops) (loops_from seed loops) (are_drawn seed loops) (text_spelled seed loops)
 
+-- the tokens of a generated text with at most 46 loops mean its body over a, b and c
 pub generated_means : (seed loops : ℕ) → loops ≤ 46 → Means (generated_text seed loops) (tokens_of (generated_text seed loops) (lexed (generated_text seed loops) (loops_from seed loops))) (Ok (generated_names, generated_body seed loops))
 generated_means seed loops h = text_means (generated_text seed loops) (loops_from seed loops) (are_drawn seed loops) (omega (arith, count_drawn seed loops)) (text_spelled seed loops)
 
@@ -171,6 +173,7 @@ loops_length : (ls : List Loop) → AreDrawn ls → length (spelled (loops_parts
 loops_length [] d = omega arith
 loops_length (l ∷ ls) d = omega (arith, ap length (spelled_append (loop_parts l) (loops_parts ls)), length-append (spelled (loop_parts l)) (spelled (loops_parts ls)), loop_length l d.0, loops_length ls d.1)
 
+-- a generated text with at most 46 loops has at most 65536 bytes
 pub generated_short : (seed loops : ℕ) → loops ≤ 46 → length (generated_text seed loops) ≤ 65536
 generated_short seed loops h =
     let ls = loops_from seed loops in

@@ -23,10 +23,12 @@ front_short p [] [] (o ∷ other) after h k e = cc
 front_short p [] (r ∷ rest) (o ∷ other) after h k e = let same : o ≡ r = cc in let yes : p o ≡ true = (and_parts (p o) (list_all p other) k).0 in let no : p o ≡ false = ap p same ∙ h in cc
 front_short p (b ∷ bytes) rest (o ∷ other) after h k e = let less = front_short p bytes rest other after h (and_parts (p o) (list_all p other) k).1 (cc) in omega arith
 
+-- each byte of a word is one of a word
 pub word_passes : (bytes : List ℕ) → is_word bytes ≡ true → list_all is_word_byte bytes ≡ true
 word_passes [] h = refl
 word_passes (b ∷ bs) h = let both = and_parts (is_letter b) (list_all is_word_byte bs) h in and_from (is_word_byte b) (list_all is_word_byte bs) (or_left (is_letter b) (is_digit b) both.0) both.1
 
+-- each byte of a numeral is a digit
 pub numeral_passes : (bytes : List ℕ) → is_numeral bytes ≡ true → list_all is_digit bytes ≡ true
 numeral_passes [] h = refl
 numeral_passes (b ∷ bs) h = h
@@ -137,12 +139,15 @@ long_word VerifierAssume = omega arith
 long_word VerifierAssert = omega arith
 long_word VerifierNondetInt = omega arith
 
+-- a reserved word is a whole token where no byte of a word follows
 pub a_whole_word : (word : Word) (rest : List ℕ) → heads is_word_byte rest ≡ false → IsWholeToken (kind.Word word) (word_bytes word) rest
 a_whole_word word rest h = record { is_token = refl; longest = word_whole (word_bytes word) rest (word_spelled word) h; apart = tt }
 
+-- a sign is a whole token where no second byte of a sign follows
 pub a_whole_sign : (sign : Sign) (rest : List ℕ) → heads is_second rest ≡ false → IsWholeToken (kind.Sign sign) (sign_bytes sign) rest
 a_whole_sign sign rest h = record { is_token = refl; longest = sign_whole sign (sign_bytes sign) rest refl (sign_heads sign) h; apart = tt }
 
+-- a letter is a whole token where no byte of a word follows
 pub a_whole_letter : (b : ℕ) (rest : List ℕ) → is_letter b ≡ true → heads is_word_byte rest ≡ false → IsWholeToken kind.Name (b ∷ []) rest
 a_whole_letter b rest l h = record { is_token = name; longest = word_whole (b ∷ []) rest word h; apart = tt }
   where
@@ -152,6 +157,7 @@ a_whole_letter b rest l h = record { is_token = name; longest = word_whole (b �
     name : IsName (b ∷ [])
     name = record { word = word; free = λ r. (let e = ap length r.1 in let more = long_word r.0 in absurd (omega arith)); short = omega arith }
 
+-- a numeral is a whole token where neither a digit nor a letter follows
 pub a_whole_number : (n : ℕ) (bytes rest : List ℕ) → is_numeral bytes ≡ true → is_padded bytes ≡ false → digits_value 10 bytes ≡ n → n ≤ greatest_literal → heads is_digit rest ≡ false → starts_with_letter rest ≡ false → IsWholeToken (kind.Number (pos n)) bytes rest
 a_whole_number n bytes rest d p e s h l = record {
   is_token = record { digits = d; plain = p; value_is = ap pos (sym e); within = subst (λ (x : ℕ). x ≤ greatest_literal) (sym e) s };

@@ -18,7 +18,7 @@ front_parts =
     ∷ space 32 ∷ letter 98 ∷ space 32 ∷ sign Assign ∷ space 32 ∷ number 0 (48 ∷ []) ∷ sign Comma
     ∷ space 32 ∷ letter 99 ∷ space 32 ∷ sign Assign ∷ space 32 ∷ number 0 (48 ∷ []) ∷ sign Semicolon ∷ space 10 ∷ []
 
--- the lines behind them
+-- the lines after them
 abbrev pub back_parts : List Part
 back_parts = space 32 ∷ space 32 ∷ word Return ∷ space 32 ∷ number 0 (48 ∷ []) ∷ sign Semicolon ∷ space 10 ∷ sign RightBrace ∷ space 10 ∷ []
 
@@ -43,8 +43,11 @@ text_parts ls = front_parts ++ (loops_parts ls ++ back_parts)
 
 -- what is true of every loop that is drawn
 pub record IsDrawn (l : Loop) : Type 0 where
+  -- the variable is one of three
   pub variable : l.variable < 3
+  -- the bound is at most 100
   pub bound : l.bound ≤ 100
+  -- the step is at most 9
   pub step : l.step ≤ 9
 
 abbrev pub AreDrawn : List Loop → Type 0
@@ -54,22 +57,25 @@ AreDrawn (l ∷ ls) = IsDrawn l × AreDrawn ls
 loop_drawn : (state : ℕ) → IsDrawn (loop_at state)
 loop_drawn state = record { variable = omega arith; bound = omega arith; step = omega arith }
 
+-- loops drawn from any state have variables, bounds and steps within the ranges
 pub are_drawn : (state loops : ℕ) → AreDrawn (loops_from state loops)
 are_drawn state zero = tt
 are_drawn state (suc loops) = (loop_drawn state, are_drawn (after_loop state) loops)
 
+-- there are as many loops as are drawn
 pub count_drawn : (state loops : ℕ) → length (loops_from state loops) ≡ loops
 count_drawn state zero = refl
 count_drawn state (suc loops) = omega (arith, count_drawn (after_loop state) loops)
 
 -- ---- the parts spell the text
-pub loop_spelled : (l : Loop) → spelled (loop_parts l) ≡ loop_text l
+loop_spelled : (l : Loop) → spelled (loop_parts l) ≡ loop_text l
 loop_spelled l = sym (simp append_assoc)
 
 loops_spelled : (ls : List Loop) → spelled (loops_parts ls) ≡ flat_map loop_text ls
 loops_spelled [] = refl
 loops_spelled (l ∷ ls) = spelled_append (loop_parts l) (loops_parts ls) ∙ ap₂ (λ (x y : List ℕ). x ++ y) (loop_spelled l) (loops_spelled ls)
 
+-- the parts of the loops spell the generated text
 pub text_spelled : (seed loops : ℕ) → spelled (text_parts (loops_from seed loops)) ≡ generated_text seed loops
 text_spelled seed loops =
     let ls = loops_from seed loops in
@@ -89,6 +95,7 @@ loops_stand (l ∷ ls) rest h =
     stand_append (loop_parts l) (loops_parts ls) rest (stand_case l.variable h.0.variable (following l.variable) l.bound (decimal l.bound) l.step (decimal l.step) (spelled (loops_parts ls) ++ rest))
     ∙ loops_stand ls rest h.1
 
+-- the parts of drawn loops each stand before what follows them
 pub text_stands : (ls : List Loop) → AreDrawn ls → all_stand (text_parts ls) [] ≡ true
 text_stands ls h =
     stand_append front_parts (loops_parts ls ++ back_parts) [] refl
@@ -103,15 +110,18 @@ loop_good (suc zero) w l e bound bs step ss h k = rw e (refl, (zero_is, (refl, (
 loop_good (suc (suc zero)) w l e bound bs step ss h k = rw e (refl, (zero_is, (refl, (h, (refl, (k, (refl, (refl, tt))))))))
 loop_good (suc (suc (suc v))) w l e bound bs step ss h k = absurd (omega arith)
 
+-- the parts of a drawn loop are good
 pub one_good : (l : Loop) → IsDrawn l → AllGood (loop_parts l)
 one_good l h = loop_good l.variable (following l.variable) h.variable refl l.bound (decimal l.bound) l.step (decimal l.step) (short_numeral l.bound h.bound).numeral (short_numeral l.step (omega (arith, h.step))).numeral
 
-pub loops_good : (ls : List Loop) → AreDrawn ls → AllGood (loops_parts ls)
+loops_good : (ls : List Loop) → AreDrawn ls → AllGood (loops_parts ls)
 loops_good [] h = tt
 loops_good (l ∷ ls) h = good_append (loop_parts l) (loops_parts ls) (one_good l h.0) (loops_good ls h.1)
 
+-- the parts before the loops are good
 pub front_good : AllGood front_parts
 front_good = (refl, (zero_is, (refl, (zero_is, (refl, (zero_is, tt))))))
 
+-- the parts of a text with drawn loops are good
 pub text_good : (ls : List Loop) → AreDrawn ls → AllGood (text_parts ls)
 text_good ls h = good_append front_parts (loops_parts ls ++ back_parts) front_good (good_append (loops_parts ls) back_parts (loops_good ls h) (zero_is, tt))

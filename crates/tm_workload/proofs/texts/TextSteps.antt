@@ -5,17 +5,21 @@ use Rattle.std.proofs.lemmas.List.{append_assoc}
 use Rattle.tm_workload.specs.Draws.{after_loop, loop_at, loops_from}
 use Rattle.tm_workload.specs.Texts.{loop_text, front_text, back_text, generated_text}
 
--- what is still to come behind the text so far makes it whole
+-- what is still to come after the text so far makes it whole
 pub record IsBegun (seed loops : ℕ) (text : List ℕ) (state counter : ℕ) : Type 0 where
+  -- the state has at most 31 bits
   pub small : state < 2147483648
+  -- the text so far, the loops still to come and the last lines are the generated text
   pub whole : text ++ (flat_map loop_text (loops_from state (loops - counter)) ++ back_text) ≡ generated_text seed loops
 
+-- the lines before the loops begin the generated text
 pub begun : (seed loops : ℕ) (text : List ℕ) → seed < 2147483648 → text ≡ front_text → IsBegun seed loops text seed 0
 begun seed loops text h e = record {
   small = h;
   whole = let none : loops - 0 ≡ loops = omega arith in rw (e, none) refl;
 }
 
+-- with one loop more the text still begins the generated text
 pub begun_more : (seed loops : ℕ) (text more : List ℕ) (state after counter : ℕ) → counter < loops → after < 2147483648 → after ≡ after_loop state → more ≡ text ++ loop_text (loop_at state) → IsBegun seed loops text state counter → IsBegun seed loops more after (counter + 1)
 begun_more seed loops text more state after counter h s e m b = record {
   small = s;
@@ -28,6 +32,7 @@ begun_more seed loops text more state after counter h s e m b = record {
       ∙ b.whole);
 }
 
+-- after all loops and the last lines the text is the generated text
 pub begun_whole : (seed loops : ℕ) (text out : List ℕ) (state counter : ℕ) → loops ≤ counter → out ≡ text ++ back_text → IsBegun seed loops text state counter → out ≡ generated_text seed loops
 begun_whole seed loops text out state counter h e b =
     let none : loops - counter ≡ 0 = omega arith in
