@@ -10,6 +10,7 @@ use Rattle.tm_rows.specs.declared.limits.TheConstants.{MOST_ROWS}
 use Rattle.tm_flow.specs.declared.limits.TheConstants.{MOST_POINTS}
 use Rattle.tm_tree.specs.declared.limits.TheConstants.{MOST_VARIABLES}
 
+-- two tests that hold together each hold
 pub both : (a b : Bool) → IsTrue (a && b) → IsTrue a × IsTrue b
 both true true e = (refl, refl)
 both true false e = absurd (true≢false (sym e))
@@ -17,11 +18,16 @@ both false b e = absurd (true≢false (sym e))
 
 -- the sizes of a flow
 pub record FlowSizes (flow : Flow) : Type 0 where
+  -- there are at most as many names as allowed
   pub names : length flow.names ≤ MOST_VARIABLES
+  -- there are at least two points
   pub two_points : 2 ≤ length flow.points
+  -- there are at most as many points as allowed
   pub points : length flow.points ≤ MOST_POINTS
+  -- each edge is within the limits
   pub edges : IsTrue (list_all (is_edge (length flow.names) (length flow.points)) flow.edges)
 
+-- the sizes of each flow are within the limits
 pub flow_sizes : (flow : Flow) → FlowSizes flow
 flow_sizes flow =
     let a = both (nat_le 1 (length flow.names) && nat_le (length flow.names) MOST_VARIABLES) _ flow.within_limits in
@@ -32,6 +38,7 @@ flow_sizes flow =
     let e = both (nat_le (length flow.edges) 256) (list_all (is_edge (length flow.names) (length flow.points)) flow.edges) c.1 in
     record { names = leb-true (length flow.names) MOST_VARIABLES n.1; two_points = leb-true 2 (length flow.points) p.0; points = leb-true (length flow.points) MOST_POINTS p.1; edges = e.1 }
 
+-- a template within the limits has at most as many rows as allowed
 pub template_size : (template : List (List ℤ)) → IsTrue (is_template template) → length template ≤ MOST_ROWS
 template_size template h =
     let a = both (nat_le 1 (length template) && nat_le (length template) MOST_ROWS) _ h in

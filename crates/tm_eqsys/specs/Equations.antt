@@ -4,7 +4,7 @@ use Rattle.tm_num.specs.Extended.{Ext, fin, pos_inf, ◌≤ᴱ◌, ◌<ᴱ◌}
 use Rattle.tm_flow.specs.declared.edge.Edge.{Edge}
 use Rattle.tm_eqsys.specs.States.{RationalState, dotℚ, Traces}
 
--- so many variables and points, edges between the points, and the rows of a template
+-- an equation system: numbers of variables and points, edges between the points, and the rows of a template
 pub record Equations : Type 0 where
   pub variables : ℕ
   pub points : ℕ

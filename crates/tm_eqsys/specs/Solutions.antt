@@ -7,7 +7,7 @@ use Rattle.tm_flow.specs.Edges.{edges_of_program}
 use Rattle.tm_eqsys.specs.States.{rational}
 use Rattle.tm_eqsys.specs.Equations.{Equations, Vector, Fits}
 
--- the system of a program over so many variables, and a template
+-- the system of a program over a number of variables, and a template
 abbrev pub equations_of_program : ℕ → Statements → List (List ℤ) → Equations
 equations_of_program variables body template = record { variables = variables; points = point_count body; edges = edges_of_program body; template = template }
 

@@ -40,21 +40,23 @@ pub record Fails (actions : List Action) (x : RationalState) (free : List ℚ) :
   pub ends : (y : RationalState) → ¬ (Follows actions x free y)
   pub first : (row : List ℤ) → first_wide long_limit (trace_operations actions x free row) ≡ None
 
--- what one action answers: how many free values it takes, or that its guard fails
+-- what one action is: its number of free values and where it leads on, or its guard fails
 abbrev pub StepIs : Action → RationalState → List ℚ → RationalState → Option ℕ → Type 0
 StepIs action x free z None = (rest : List Action) → Fails (action ∷ rest) x free
 StepIs action x free z (Some n) = (n ≡ free_count (action ∷ [])) × ((rest : List Action) → LeadsOn (action ∷ rest) x free rest z (drop n free))
 
+-- what one action answers: what it is, or its first operation that is wide
 abbrev pub StepAnswers : Action → RationalState → List ℚ → RationalState → Result (Option ℕ) (Wide ℚ) → Type 0
 StepAnswers action x free z result =
     MatchResult result (λ o. StepIs action x free z o) (λ w. (rest : List Action) (row : List ℤ) →
     first_wide long_limit (trace_operations (action ∷ rest) x free row) ≡ Some (operation_of (λ q. q) w))
 
--- what all actions answer: whether the trace has an end, the state z
+-- what all actions are: the trace leads to the state z, or a guard fails
 abbrev pub FollowIs : List Action → RationalState → List ℚ → RationalState → Bool → Type 0
 FollowIs actions x free z true = LeadsOn actions x free [] z []
 FollowIs actions x free z false = Fails actions x free
 
+-- what all actions answer: what they are, or their first operation that is wide
 abbrev pub FollowAnswers : List Action → RationalState → List ℚ → RationalState → Result Bool (Wide ℚ) → Type 0
 FollowAnswers actions x free z result =
     MatchResult result (λ b. FollowIs actions x free z b) (λ w. (row : List ℤ) →

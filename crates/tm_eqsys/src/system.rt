@@ -19,7 +19,7 @@ pub struct System {
 /// Why a flow and a template make no system.
 #[derive(Clone, Copy, Debug, PartialEq, Eq, Drop)]
 pub enum SystemFault {
-    /// There are more than `MOST_UNKNOWNS` unknowns: so many.
+    /// There are more than `MOST_UNKNOWNS` unknowns: `count`.
     Unknowns { count: u32 },
 }
 

@@ -232,5 +232,5 @@ module _ (w : Vector) (other : PostSolution system w) where
   below (suc (suc (suc p))) r h k = absurd (omega (arith, h))
 
 -- these bounds are least
-pub counting_least : Least system bounds
+counting_least : Least system bounds
 counting_least = record { solves = record { post = post; supported = supported }; below = λ w other p r h k. below w other p r h k }

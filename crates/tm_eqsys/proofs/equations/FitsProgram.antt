@@ -69,5 +69,5 @@ rows_out (first ∷ rows) bounds x f =
     refl_some = cc
 
 -- the program finds what the definition says
-pub fits_program : (system : Equations) (v : Vector) (p : ℕ) (x : RationalState) → T (fits_rows system.template (v p) x) ↔ Fits system v p x
+fits_program : (system : Equations) (v : Vector) (p : ℕ) (x : RationalState) → T (fits_rows system.template (v p) x) ↔ Fits system v p x
 fits_program system v p x = (rows_in system.template (v p) x, rows_out system.template (v p) x)

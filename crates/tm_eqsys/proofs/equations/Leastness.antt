@@ -11,6 +11,7 @@ use Rattle.tm_eqsys.specs.States.{RationalState, dotℚ}
 use Rattle.tm_eqsys.specs.Equations.{Equations, Vector, Fits, Transition, PostSolution, Exceeds, Solves}
 use Rattle.tm_eqsys.specs.SolutionLaws.{AtMostOneLeast, LeastSolutionsAreSupported, LeastWhereDecided, UnreachedAtAllRows}
 
+-- there is at most one least vector, and it is any that solves the system and is at most every post-solution
 pub at_most_one : AtMostOneLeast
 at_most_one system v w least solves below p r h i = ≤ᴱ_antisymm (v p r) (w p r) (least.below w solves.post p r h i) (below v least.solves.post p r h i)
 
@@ -39,6 +40,7 @@ not_above neg_inf h = refl
 not_above (fin q) h = absurd (h tt)
 not_above pos_inf h = absurd (h tt)
 
+-- a bound of a solution at a point is -inf for all rows or for none
 pub unreached_law : UnreachedAtAllRows
 unreached_law system v solves zero r s within h i e =
     let top = solves.post.entry r h in
@@ -95,11 +97,13 @@ module _ (system : Equations) (v : Vector) (post : PostSolution system v) (p r :
   lowered_post : PostSolution system (lowered v p r number)
   lowered_post = record { entry = lowered_entry; closed = lowered_closed }
 
+-- where a post-solution is at most every post-solution, no number below a bound can do for it
 pub supported_law : LeastSolutionsAreSupported
 supported_law system v post below p r row number later within listed smaller never =
     let under = below (lowered v p r number) (lowered_post system v post p r row number later listed smaller never) p r within (slice_get_within system.template r row listed) in
     ext_not_le_of_lt number (v p r) smaller (subst (λ x. v p r ≤ᴱ x) (lowered_itself v p r number) under)
 
+-- a post-solution at most every post-solution is least where it is decided whether transitions exceed numbers
 pub decided_law : LeastWhereDecided
 decided_law system v post below decides =
     record {

@@ -36,11 +36,13 @@ untruth : (b : Bool) → b ≡ true → T b
 untruth true e = tt
 untruth false e = absurd (true≢false (sym e))
 
+-- the test of a bound answers yes for a value that is at most the bound
 pub at_most_yes : (q : ℚ) (b : Ext) → fin q ≤ᴱ b → is_at_most q b ≡ true
 at_most_yes q neg_inf h = absurd h
 at_most_yes q (fin b) h = truth (le_ℚ q b) h.le
 at_most_yes q pos_inf h = refl
 
+-- the test of a bound answers no for any other value
 pub at_most_no : (q : ℚ) (b : Ext) → ¬ (fin q ≤ᴱ b) → is_at_most q b ≡ false
 at_most_no q neg_inf n = refl
 at_most_no q (fin b) n = by (le_ℚ q b) refl
@@ -60,10 +62,12 @@ in_range (y ∷ ys) (suc r) row e = let l = in_range ys r row e in omega (arith,
 
 -- a test as far as its first i rows are passed
 pub record IsTested (rows : List (List ℤ)) (bounds : ℕ → Ext) (x : RationalState) (i : ℕ) : Type 0 where
+  -- the first i rows are at most their bounds
   pub passed : (r : ℕ) (row : List ℤ) → r < i → slice_get rows r ≡ Some row → fin (dotℚ row x) ≤ᴱ bounds r
+  -- the first wide operation of the test is that of the rows from i on
   pub first : first_wide long_limit (fit_operations rows bounds 0 x) ≡ first_wide long_limit (fit_operations (drop i rows) bounds i x)
 
-pub tested_none : (rows : List (List ℤ)) (bounds : ℕ → Ext) (x : RationalState) → IsTested rows bounds x 0
+tested_none : (rows : List (List ℤ)) (bounds : ℕ → Ext) (x : RationalState) → IsTested rows bounds x 0
 tested_none rows bounds x = record { passed = λ r row l e. absurd (omega (arith, l)); first = refl }
 
 module _ (rows : List (List ℤ)) (bounds : ℕ → Ext) (x : RationalState) (i : ℕ) (h : IsTested rows bounds x i) (row : List ℤ) (l : i < length rows) (e : row ≡ get_or rows i row) (bound : Ext) (k : bound ≡ bounds i) where
@@ -92,6 +96,7 @@ module _ (rows : List (List ℤ)) (bounds : ℕ → Ext) (x : RationalState) (i 
       left ∙ first_wide_later long_limit (row_test row x bound) (cond (is_at_most (dotℚ row x) bound) (fit_operations (drop (i + 1) rows) bounds (suc i) x) []) n
       ∙ ap (λ t. first_wide long_limit (cond t (fit_operations (drop (i + 1) rows) bounds (suc i) x) [])) (at_most_no (dotℚ row x) bound b)
 
+  -- where a row's value isn't at most its bound, not all rows are at most theirs
   pub fails_at : ¬ (fin (dotℚ row x) ≤ᴱ bound) → ¬ ((r : ℕ) (other : List ℤ) → slice_get rows r ≡ Some other → fin (dotℚ other x) ≤ᴱ bounds r)
   fails_at b all = b (subst (λ y. fin (dotℚ row x) ≤ᴱ y) (sym k) (all i row (slice_get-at rows i row l e)))
 

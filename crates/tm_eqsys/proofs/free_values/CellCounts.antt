@@ -21,6 +21,7 @@ use Rattle.tm_eqsys.proofs.Sizes.{both, flow_sizes}
 use Rattle.tm_rows.specs.declared.limits.TheConstants.{MOST_ROWS}
 use Rattle.tm_tree.specs.declared.limits.TheConstants.{MOST_VARIABLES}
 
+-- the number of free assignments is the count of the actions that are free assignments
 pub free_count-is : (actions : List Action) → free_count actions ≡ count_by is_havoc actions
 free_count-is actions = is_count_by free_count is_havoc refl step actions
   where
@@ -44,10 +45,12 @@ module _ (count : List Action → ℕ) where
       ∙ ap greatest (map-append (λ e. count e.actions) (filter (λ e. e.to == p) edges) (e ∷ []))
       ∙ greatest-push (map (λ e. count e.actions) (filter (λ e. e.to == p) edges)) (count e.actions)
 
+  -- where edge i ends at the point, the greatest count of i + 1 edges is that of i edges or edge i's
   pub most_yes : (edges : List Edge) (i : ℕ) (e : Edge) (p : ℕ) → i < length edges → e ≡ get_or edges i e → e.to ≡ p →
       most count (take (i + 1) edges) p ≡ max (most count (take i edges) p) (count e.actions)
   most_yes edges i e p l h k = ap (λ es. most count es p) (take_more edges i e l ∙ ap (λ x. take i edges ++ x ∷ []) (sym h)) ∙ most-push_yes (take i edges) e p k
 
+  -- where edge i ends elsewhere, the greatest count of i + 1 edges is that of i edges
   pub most_no : (edges : List Edge) (i : ℕ) (e : Edge) (p : ℕ) → i < length edges → e ≡ get_or edges i e → (e.to == p) ≡ false →
       most count (take (i + 1) edges) p ≡ most count (take i edges) p
   most_no edges i e p l h k =
@@ -62,7 +65,7 @@ module _ (count : List Action → ℕ) where
       nothing_more (n ∷ ns) = ap (λ x. n ∷ x) (nothing_more ns)
 
 -- an edge has at most 256 actions
-pub most_few : (count : List Action → ℕ) → ((actions : List Action) → count actions ≤ length actions) → (n points : ℕ) (edges : List Edge) (p : ℕ) → IsTrue (list_all (is_edge n points) edges) → most count edges p ≤ 256
+most_few : (count : List Action → ℕ) → ((actions : List Action) → count actions ≤ length actions) → (n points : ℕ) (edges : List Edge) (p : ℕ) → IsTrue (list_all (is_edge n points) edges) → most count edges p ≤ 256
 most_few count few n points [] p h = let l : 0 ≤ 256 = omega arith in l
 most_few count few n points (e ∷ es) p h =
     let t = both (is_edge n points e) (list_all (is_edge n points) es) h in
@@ -81,15 +84,19 @@ most_few count few n points (e ∷ es) p h =
     at_edge true k l = omega (arith, k, l)
     at_edge false k l = l
 
+-- there are at most as many guards as actions
 pub guards_few : (actions : List Action) → guard_count actions ≤ length actions
 guards_few actions = count_by-le-length _ actions
 
+-- there are at most as many free assignments as actions
 pub frees_few : (actions : List Action) → free_count actions ≤ length actions
 frees_few actions = omega (arith, free_count-is actions, count_by-le-length is_havoc actions)
 
+-- the rows of an unknown's joint problem, for each row of the template, are within their limit
 pub rows_bound : (rows guards : ℕ) → rows ≤ MOST_ROWS → guards ≤ 256 → rows * (rows + 1 + guards) ≤ MOST_ROWS * (MOST_ROWS + 257)
 rows_bound rows guards h k = mul-le rows (rows + 1 + guards) MOST_ROWS (MOST_ROWS + 257) h (omega (arith, h, k))
 
+-- the columns of an unknown's joint problem, for each row of the template, are within their limit
 pub columns_bound : (rows names frees : ℕ) → rows ≤ MOST_ROWS → names ≤ MOST_VARIABLES → frees ≤ 256 → rows * (1 + 2 * (names + frees)) ≤ MOST_ROWS * (2 * MOST_VARIABLES + 513)
 columns_bound rows names frees h k l = mul-le rows (1 + 2 * (names + frees)) MOST_ROWS (2 * MOST_VARIABLES + 513) h (omega (arith, k, l))
 

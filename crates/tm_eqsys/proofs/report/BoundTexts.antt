@@ -5,7 +5,7 @@ use Rattle.tm_frac.specs.declared.ext.Ext.TheVariants.{NegInf, Fin, PosInf}
 use Rattle.tm_frac.specs.Extended.{extended, ext_text}
 use Rattle.tm_eqsys.specs.Report.{bound_text}
 
-pub bound_text-extended : (e : Ext) → bound_text (extended e) ≡ ext_text e
+bound_text-extended : (e : Ext) → bound_text (extended e) ≡ ext_text e
 bound_text-extended NegInf = refl
 bound_text-extended (Fin q) = refl
 bound_text-extended PosInf = refl

@@ -34,10 +34,11 @@ started_list points rows P R n all start a b h e k f =
     ∙ map-append extended (replicate rows PosInf) (replicate ((points - 1) * rows) NegInf)
     ∙ ap₂ (λ xs ys. xs ++ ys) (map-replicate rows PosInf) (map-replicate ((points - 1) * rows) NegInf)
 
--- a bound of a list of bounds that are -inf, and what stands for one behind it
+-- a bound of a list of bounds that are -inf, and what stands for one past its end
 get_or-same : (n i : ℕ) → get_or (replicate n neg_inf) i neg_inf ≡ neg_inf
 get_or-same n i = ⊎_elim (λ l. get_or-replicate n i neg_inf neg_inf l) (λ l. get_or_past (replicate n neg_inf) i neg_inf (omega (arith, l, length-replicate n neg_inf))) (cases_lt i n)
 
+-- the vector of the bounds from which an analysis starts is +inf at the entry and -inf elsewhere
 pub started_vector : (points rows : ℕ) (bounds : List Ext) → bounds ≡ start_bounds points rows → (p r : ℕ) → p < points → r < rows → vector_of rows bounds p r ≡ start_vector p r
 started_vector points rows bounds e zero r h i =
     let k : 0 * rows + r ≡ r = omega arith in

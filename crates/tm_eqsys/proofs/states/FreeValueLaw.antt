@@ -37,6 +37,7 @@ same_end (Assign var form ∷ actions) x free y z h k = same_end actions (slice_
 same_end (Havoc var ∷ actions) x [] y z h k = absurd h
 same_end (Havoc var ∷ actions) x (q ∷ free) y z h k = same_end actions (slice_set x var q) free y z h k
 
+-- a trace is determined by its start and the values at its free assignments
 pub free_value_law : TracesAreFollowed
 free_value_law actions = record {
   trace = λ x y. ((λ h. traced actions x y h), (λ r. followed actions x r.0 y r.1));

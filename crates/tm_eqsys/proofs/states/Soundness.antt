@@ -26,7 +26,7 @@ use Rattle.tm_eqsys.specs.SolutionLaws.{PostSolutionsHold, ProgramPostSolutionsH
 use Rattle.tm_eqsys.proofs.states.RationalStates.{value_rational}
 
 -- ---- a step of a run is a labelled step and a trace
-pub trace-append : (a b : List Action) (x y z : RationalState) → Traces a x y → Traces b y z → Traces (a ++ b) x z
+trace-append : (a b : List Action) (x y z : RationalState) → Traces a x y → Traces b y z → Traces (a ++ b) x z
 trace-append [] b x y z h k = subst (λ w. Traces b w z) h k
 trace-append (Guard f ∷ a) b x y z h k = (h.0, trace-append a b x y z h.1 k)
 trace-append (Assign var f ∷ a) b x y z h k = trace-append a b (slice_set x var (valueℚ f x)) y z h k
@@ -68,7 +68,7 @@ keeps_length (end (for_loop g) c body line n) rest x work y d = ap length d.1
 keeps_length (end do_loop c body line n) rest x work y d = ap length d.3
 
 -- ---- since the last mark
--- labelled steps from the work that a mark left behind, with no mark on the way
+-- labelled steps from the work after a mark, with no mark on the way
 data Part (start : List Item) : List Action → List Item → Type 0 where
   none : Part start [] start
   more : (actions : List Action) (item : Item) (rest : List Item) (s : Labelled) → Part start actions (item ∷ rest) → In (steps_of item rest) s → Part start (actions ++ s.actions) s.work
@@ -191,8 +191,10 @@ module _ (system : Equations) (body : Statements) (v : Vector) (paths : EdgesAre
       let k = known_all a cs run.2 (record { size = run.1; past_work = inl run.0 }) c (contains_in (a ∷ cs) c m) in
       (marked p at_p.0 (rational c.state) (subst (λ w. (w ≡ start_work body) ⊎ Since w (rational c.state)) at_p.1 k.past_work)).fits
 
+-- where the edges are the paths of a program, every post-solution holds in every run
 pub soundness : PostSolutionsHold
 soundness system body v paths post = holds system body v paths post
 
+-- every post-solution of a program's system holds in every run
 pub program_soundness : ProgramPostSolutionsHold
 program_soundness variables body template v post = holds (equations_of_program variables body template) body v (edges_law body) post

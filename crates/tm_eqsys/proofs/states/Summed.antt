@@ -24,9 +24,12 @@ use Rattle.tm_eqsys.proofs.Widths.{first_wide_later, first_wide_sooner, first_wi
 
 -- a sum from the left as far as its first i products are added: what is left of value and operations
 pub record IsSummed (row : List ℤ) (state : RationalState) (i : ℕ) (sum : ℚ) : Type 0 where
+  -- the row's value is the sum so far, and that of the products still to come
   pub value : dotℚ row state ≡ sum +ℚ dotℚ (drop i row) (drop i state)
+  -- the first wide operation of the row is that of the products still to come
   pub first : first_wide long_limit (row_operations row state) ≡ first_wide long_limit (products_operations sum (drop i row) (drop i state))
 
+-- before any product is added the sum is 0
 pub summed_none : (row : List ℤ) (state : RationalState) (sum : ℚ) → sum ≡ zero_ℚ → IsSummed row state 0 sum
 summed_none row state sum e = record { value = sym (ap (λ s. s +ℚ dotℚ row state) e ∙ +ℚ_idl (dotℚ row state)); first = ap (λ s. first_wide long_limit (products_operations s row state)) (sym e) }
 
@@ -70,6 +73,7 @@ product_refused sum f x c w e n k =
     first_wide_here long_limit (record { op = Mul; left = whole c; right = x }) (record { op = Add; left = sum; right = whole c *ℚ x } ∷ []) (λ h. n (subst (λ g. Fits long_limit (g *ℚ x)) (sym e) h))
     ∙ ap (λ g. Some (record { op = Mul; left = g; right = x })) (sym e) ∙ ap (λ (y : Wide ℚ). Some (operation_of (λ q. q) y)) (sym k)
 
+-- where the product fits, the answer of the sum is that of the product and the sum
 pub product_added : (sum f x p : ℚ) (c : ℤ) (res : Result ℚ (Wide ℚ)) → f ≡ whole c → p ≡ f *ℚ x → Fits long_limit p →
     MatchResult res (λ r. (r ≡ sum +ℚ p) × Fits long_limit r) (λ e. (¬ (Fits long_limit (sum +ℚ p))) × (e ≡ record { op = Add; left = sum; right = p })) →
     SumAnswers (sum +ℚ (whole c *ℚ x)) (product_operations sum c x) res
@@ -93,9 +97,11 @@ number_at row i h l = by (is_number (get_or row i (pos 0))) refl
     by true e = refl
     by false e = absurd (true≢false (sym h ∙ list_all_at is_number row i (pos 0) l e))
 
+-- a number of a program is itself as code passes it
 pub number_same : (z : ℤ) → IsTrue (is_number z) → to_z w64 (of_z w64 z) ≡ z
 number_same z h = let l = leb-true (nat_abs z) 9223372036854775807 h in to_z-of_z w64 z (omega (arith, ints, l))
 
+-- a number of a program is made as a fraction
 pub number_made : (z : ℤ) (o : Option ℚ) → IsTrue (is_number z) →
     MatchOption o ((pos 1 ≡ pos 0) ⊎ (¬ (Fits long_limit (whole z /ℚ whole (pos 1))))) (λ r. (r ≡ whole z /ℚ whole (pos 1)) × Fits long_limit r × (pos 1 ≢ pos 0)) → IsSome o
 number_made z None h a = ⊎_elim (λ e. absurd (omega (arith, ints, e))) (λ n. absurd (n (number_fits z h))) a
@@ -108,6 +114,7 @@ form_refused form state coeffs w e h =
     first_wide_sooner long_limit (row_operations form.coeffs state) (record { op = Add; left = dotℚ form.coeffs state; right = whole form.constant } ∷ []) (operation_of (λ q. q) w)
     (ap (λ cs. first_wide long_limit (row_operations cs state)) (sym e) ∙ h)
 
+-- where no operation of the row is wide, the answer of adding the constant is that of the form
 pub form_added : (form : Form) (state : RationalState) (coeffs : List ℤ) (sum constant : ℚ) (res : Result ℚ (Wide ℚ)) → coeffs ≡ form.coeffs → sum ≡ dotℚ coeffs state → first_wide long_limit (row_operations coeffs state) ≡ None →
     constant ≡ whole form.constant →
     MatchResult res (λ r. (r ≡ sum +ℚ constant) × Fits long_limit r) (λ e. (¬ (Fits long_limit (sum +ℚ constant))) × (e ≡ record { op = Add; left = sum; right = constant })) →
@@ -117,5 +124,6 @@ form_added form state coeffs sum constant res e v n k m =
     (ap (λ cs. first_wide long_limit (row_operations cs state)) (sym e) ∙ n)
     (subst₂ (λ x y. SumAnswers (x +ℚ y) (record { op = Add; left = x; right = y } ∷ []) res) (v ∙ ap (λ cs. dotℚ cs state) e) k (one_answer Add sum constant res m))
 
+-- the constant of a form within the limits is a number of a program
 pub constant_at : (n : ℕ) (form : Form) → IsTrue (is_form n form) → IsTrue (is_number form.constant)
 constant_at n form h = (both (are_numbers form.coeffs) (is_number form.constant) (both (length form.coeffs == n) (are_numbers form.coeffs && is_number form.constant) h).1).1

@@ -26,6 +26,7 @@ all_at p xs i d h l = by (p (get_or xs i d)) refl
     by true e = refl
     by false e = absurd (true≢false (sym h ∙ list_all_at p xs i d l e))
 
+-- the free assignments of actions are those of the first and those of the rest
 pub free_count-cons : (action : Action) (rest : List Action) → free_count (action ∷ rest) ≡ free_count (action ∷ []) + free_count rest
 free_count-cons (Guard form) rest = let e : free_count rest ≡ 0 + free_count rest = omega arith in e
 free_count-cons (Assign var form) rest = let e : free_count rest ≡ 0 + free_count rest = omega arith in e
@@ -33,13 +34,16 @@ free_count-cons (Havoc var) rest = omega arith
 
 -- ---- one action
 module _ (form : Form) (x : RationalState) (free : List ℚ) where
+  -- where an operation of a guard's form is wide, it is the first of the trace
   pub guard_refused : (o : Operation) → first_wide long_limit (form_operations form x) ≡ Some o → (rest : List Action) (row : List ℤ) → first_wide long_limit (trace_operations (Guard form ∷ rest) x free row) ≡ Some o
   guard_refused o w rest row = first_wide_sooner long_limit (form_operations form x) (cond (le_ℚ (valueℚ form x) zero_ℚ) (trace_operations rest x free row) []) o w
 
+  -- where an operation of an assigned form is wide, it is the first of the trace
   pub assign_refused : (var : ℕ) (o : Operation) → first_wide long_limit (form_operations form x) ≡ Some o → (rest : List Action) (row : List ℤ) → first_wide long_limit (trace_operations (Assign var form ∷ rest) x free row) ≡ Some o
   assign_refused var o w rest row = first_wide_sooner long_limit (form_operations form x) (trace_operations rest (slice_set x var (valueℚ form x)) free row) o w
 
   module _ (v : ℚ) (e : v ≡ valueℚ form x) (n : first_wide long_limit (form_operations form x) ≡ None) where
+    -- a guard whose value is at most 0 leads on from the same state
     pub guard_passed : v ≤ℚ zero_ℚ → (rest : List Action) → LeadsOn (Guard form ∷ rest) x free rest x free
     guard_passed h rest =
         let k : valueℚ form x ≤ℚ zero_ℚ = subst (λ y. y ≤ℚ zero_ℚ) e h in
@@ -49,6 +53,7 @@ module _ (form : Form) (x : RationalState) (free : List ℚ) where
               ∙ ap (λ t. first_wide long_limit (cond t (trace_operations rest x free row) [])) (at_most_yes (valueℚ form x) (fin zero_ℚ) k);
         }
 
+    -- a guard whose value is above 0 fails
     pub guard_failed : ¬ (v ≤ℚ zero_ℚ) → (rest : List Action) → Fails (Guard form ∷ rest) x free
     guard_failed h rest =
         let k : ¬ (valueℚ form x ≤ℚ zero_ℚ) = λ l. h (subst (λ y. y ≤ℚ zero_ℚ) (sym e) l) in
@@ -58,6 +63,7 @@ module _ (form : Form) (x : RationalState) (free : List ℚ) where
               ∙ ap (λ t. first_wide long_limit (cond t (trace_operations rest x free row) [])) (at_most_no (valueℚ form x) (fin zero_ℚ) k);
         }
 
+    -- an assignment leads on from the state with the form's value in its place
     pub assigned : (var : ℕ) (rest : List Action) → LeadsOn (Assign var form ∷ rest) x free rest (slice_set x var v) free
     assigned var rest = record {
       ends = λ y. (λ f. subst (λ u. Follows rest (slice_set x var u) free y) (sym e) f, λ f. subst (λ u. Follows rest (slice_set x var u) free y) e f);
@@ -67,29 +73,33 @@ module _ (form : Form) (x : RationalState) (free : List ℚ) where
 
 -- ---- all actions
 module _ (actions : List Action) (x : RationalState) (free : List ℚ) where
+  -- before any action a trace leads on from its start
   pub leads_none : LeadsOn actions x free actions x free
   leads_none = record { ends = λ y. (λ f. f, λ f. f); first = λ row. refl }
 
   -- the action at i, and what is left of actions and free values
   module _ (i taken : ℕ) (z : RationalState) (h : LeadsOn actions x free (drop i actions) z (drop taken free)) (action : Action) (l : i < length actions) (e : action ≡ get_or actions i action) where
-    pub next_actions : drop i actions ≡ action ∷ drop (i + 1) actions
+    next_actions : drop i actions ≡ action ∷ drop (i + 1) actions
     next_actions = drop_more actions i action l ∙ ap (λ a. a ∷ drop (i + 1) actions) (sym e)
 
     to_next : LeadsOn actions x free (action ∷ drop (i + 1) actions) z (drop taken free)
     to_next = subst (λ later. LeadsOn actions x free later z (drop taken free)) next_actions h
 
+    -- a trace that leads on to action i leads on past it as that action does
     pub leads_more : (n : ℕ) (y : RationalState) → LeadsOn (action ∷ drop (i + 1) actions) z (drop taken free) (drop (i + 1) actions) y (drop n (drop taken free)) → LeadsOn actions x free (drop (i + 1) actions) y (drop (taken + n) free)
     leads_more n y s =
         subst (λ left. LeadsOn actions x free (drop (i + 1) actions) y left) (drop-drop n taken free)
         (record { ends = λ w. (λ f. (s.ends w).0 ((to_next.ends w).0 f), λ f. (to_next.ends w).1 ((s.ends w).1 f)); first = λ row. to_next.first row ∙ s.first row })
 
+    -- where action i fails, the trace fails
     pub leads_fails : Fails (action ∷ drop (i + 1) actions) z (drop taken free) → Fails actions x free
     leads_fails s = record { ends = λ y f. s.ends y ((to_next.ends y).0 f); first = λ row. to_next.first row ∙ s.first row }
 
+    -- the first wide operation from action i on is the first of the trace
     pub leads_wide : (o : Operation) → ((row : List ℤ) → first_wide long_limit (trace_operations (action ∷ drop (i + 1) actions) z (drop taken free) row) ≡ Some o) → (row : List ℤ) → first_wide long_limit (trace_operations actions x free row) ≡ Some o
     leads_wide o w row = to_next.first row ∙ w row
 
-  pub leads_all : (i taken : ℕ) (z : RationalState) → LeadsOn actions x free (drop i actions) z (drop taken free) → length actions ≤ i → length (drop taken free) ≡ free_count (drop i actions) → LeadsOn actions x free [] z []
+  leads_all : (i taken : ℕ) (z : RationalState) → LeadsOn actions x free (drop i actions) z (drop taken free) → length actions ≤ i → length (drop taken free) ≡ free_count (drop i actions) → LeadsOn actions x free [] z []
   leads_all i taken z h l n =
       let none = drop_all i actions l in
       subst (λ left. LeadsOn actions x free [] z left) (nil_from_length (drop taken free) (n ∙ ap free_count none)) (subst (λ later. LeadsOn actions x free later z (drop taken free)) none h)

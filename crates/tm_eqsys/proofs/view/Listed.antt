@@ -70,5 +70,6 @@ list-vector points rows bounds e =
         subst (λ j. get_or (bounds_of points rows (vector_of rows bounds)) j neg_inf ≡ get_or bounds j neg_inf) s.4
         (vector-listed points rows (vector_of rows bounds) s.0 s.1 s.2 s.3)
 
+-- each vector is that of its list at every unknown, and each list of the right length is that of its vector
 pub listed_law : VectorsAreLists
 listed_law points rows = record { vector = vector-listed points rows; count = λ v. length-from_point v rows 0 points; list = list-vector points rows }
