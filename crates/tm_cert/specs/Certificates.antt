@@ -1,4 +1,4 @@
--- The certificates of the theory that the types of the code stand for, under a template of so many rows.
+-- The certificates of the theory that the types of the code stand for, under a template of a number of rows.
 use Rattle.std.specs.Prelude.{ℕ, ◌/◌, ◌%◌, [], map}
 use Rattle.tm_eqsys.specs.declared.trace.Trace.{Trace}
 use Rattle.tm_cert.specs.declared.step.Item.{Item}
@@ -52,6 +52,6 @@ evidence_of (Unreached row) = Evidence.Unreached row
 evidence_of (Empty rows guards) = Evidence.Empty rows guards
 evidence_of (Bound rows guards) = Evidence.Bound rows guards
 
--- the certificate that a value of the code stands for, where the template has so many rows
+-- the certificate that a value of the code stands for, where the template has this number of rows
 abbrev pub certificate_of : ℕ → Cert → Certificate
 certificate_of rows c = record { bounds = c.bounds; steps = map (step_of rows) c.steps; uppers = map evidence_of c.uppers }
