@@ -52,7 +52,7 @@ guard_side (m ∷ ms) (g ∷ gs) = m *ℚ neg_ℚ g.constant +ℚ guard_side ms 
 unfoldable pub side : Equations → Vector → Edge → List ℚ → List ℚ → ℚ
 side system z edge rows guards = row_side rows (z edge.from) +ℚ guard_side guards (guard_forms system.variables edge.actions)
 
--- two lists of coefficients are the same on so many columns
+-- two lists of coefficients are the same on this number of columns
 abbrev pub SameColumns : ℕ → List ℚ → List ℚ → Type 0
 SameColumns columns u v = (k : ℕ) → k < columns → get_or u k zero_ℚ ≡ get_or v k zero_ℚ
 

@@ -9,8 +9,11 @@ use Rattle.tm_validity.specs.Certificates.{edges_into}
 
 -- the greater of two extended numbers, as far as both are at most it and it is one of them
 pub record Greater (x y z : Ext) : Type 0 where
+  -- the first is at most it
   pub left : x ≤ᴱ z
+  -- the second is at most it
   pub right : y ≤ᴱ z
+  -- it is one of the two
   pub one : (z ≡ x) ⊎ (z ≡ y)
 
 -- two extended numbers have a greater one

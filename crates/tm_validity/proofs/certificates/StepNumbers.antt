@@ -31,8 +31,11 @@ share b c top = (c -ℚ b) /ℚ (top -ℚ b)
 
 -- a part t of the way from b to the top leads to c
 pub record Part (b c top t : ℚ) : Type 0 where
+  -- the part is at least 0
   pub from_zero : zero_ℚ ≤ℚ t
+  -- the part is below 1
   pub below_one : t <ℚ one_ℚ
+  -- the part of the way to the top is the way to c
   pub times : t *ℚ (top -ℚ b) ≡ c -ℚ b
 
 -- the share is that part
@@ -66,7 +69,9 @@ time b c rate = (c -ℚ b) /ℚ rate
 
 -- in time t a rate leads from b to c
 pub record Takes (b c rate t : ℚ) : Type 0 where
+  -- the time is at least 0
   pub from_zero : zero_ℚ ≤ℚ t
+  -- the time at the rate is the way to c
   pub times : t *ℚ rate ≡ c -ℚ b
 
 -- the time is that one

@@ -31,7 +31,7 @@ out_unknowns system u m =
     subst (λ v. (v.0 < system.points) × (v.1 < length system.template)) b.2 (omega (arith, h), omega (arith, i))
 
 -- ---- steps
-pub steps_fault_none : (system : Equations) (z : Vector) (s : ℕ) (steps : List Step) → (steps_fault system z s steps ≡ None) ↔ ValidSteps system z steps
+steps_fault_none : (system : Equations) (z : Vector) (s : ℕ) (steps : List Step) → (steps_fault system z s steps ≡ None) ↔ ValidSteps system z steps
 unfolding steps_fault
 steps_fault_none system z s [] = ((λ e. tt), (λ h. refl))
 steps_fault_none system z s (step ∷ steps) =

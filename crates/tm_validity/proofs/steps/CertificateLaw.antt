@@ -44,7 +44,7 @@ post_of_uppers system q entry upper = record { entry = entry; closed = closed }
         subst (λ s. fin (dotℚ row s) ≤ᴱ q edge.to r) w.4 (upper edge r row t.listed e (x ++ w.0) runs)
 
 -- uppers that pass at a vector with +∞ at the entry make it a post-solution
-pub uppers_post : (system : Equations) (F : Vector) → ((r : ℕ) → r < length system.template → F 0 r ≡ pos_inf) → UppersPass system F → PostSolution system F
+uppers_post : (system : Equations) (F : Vector) → ((r : ℕ) → r < length system.template → F 0 r ≡ pos_inf) → UppersPass system F → PostSolution system F
 uppers_post system F entry uppers = post_of_uppers system F entry (λ edge r row listed e. by edge r row (uppers edge r row listed e))
   where
     by : (edge : Edge) (r : ℕ) (row : List ℤ) → (F edge.to r ≡ pos_inf) ⊎ ((evidence : Evidence) × EvidencePasses system F edge row (F edge.to r) evidence) →
@@ -69,14 +69,14 @@ led_up system [] z v = below_itself system z
 led_up system (step ∷ steps) z v = below_trans system z (after_step step z) (after_steps steps (after_step step z)) (step_up system z step v.0) (led_up system steps (after_step step z) v.1)
 
 -- and at most every post-solution above the first
-pub led_below : (system : Equations) (steps : List Step) (z q : Vector) → ValidSteps system z steps → PostSolution system q → Below system z q → Below system (after_steps steps z) q
+led_below : (system : Equations) (steps : List Step) (z q : Vector) → ValidSteps system z steps → PostSolution system q → Below system z q → Below system (after_steps steps z) q
 unfolding after_steps
 led_below system [] z q v post below = below
 led_below system (step ∷ steps) z q v post below =
     led_below system steps (after_step step z) q v.1 post (step_below system z q step v.0 below (bounds_items system q step.items post v.0.placed))
 
 -- and stably shown where the first is
-pub led_shown : (system : Equations) (steps : List Step) (z : Vector) → ValidSteps system z steps → StablyShown system z → StablyShown system (after_steps steps z)
+led_shown : (system : Equations) (steps : List Step) (z : Vector) → ValidSteps system z steps → StablyShown system z → StablyShown system (after_steps steps z)
 unfolding after_steps
 led_shown system [] z v shown = shown
 led_shown system (step ∷ steps) z v shown = led_shown system steps (after_step step z) v.1 (step_shown system z step v.0 shown)
@@ -92,7 +92,7 @@ entry_top : (system : Equations) (F : Vector) → Below system start_vector F �
 unfolding start_vector
 entry_top system F below r l = top_from_le (F 0 r) (below 0 r l)
 
--- behind the points nothing is named
+-- past the points nothing is named
 unnamed_past : (system : Equations) (items : List Item) (p r : ℕ) → ((item : Item) → In items item → Placed system item) → system.points ≤ p → Unnamed items p r
 unnamed_past system items p r placed past = ⊎_elim
     (λ n. let w = (placed n.0 n.1).point_within in let e = n.2 in absurd (omega arith))
@@ -116,7 +116,7 @@ bounds-past system bounds p r size past =
     get_or-eq_default bounds neg_inf (subst (λ n. n ≤ p * length system.template + r) (sym size) (le_trans (mul-le-mul_right (length system.template) past) (le-add_right (p * length system.template) r)))
 
 -- the bounds of a valid certificate are the vector to which its steps lead
-pub bounds_are : (system : Equations) (certificate : Certificate) → 0 < system.points → ValidCertificate system certificate → (p r : ℕ) → r < length system.template →
+bounds_are : (system : Equations) (certificate : Certificate) → 0 < system.points → ValidCertificate system certificate → (p r : ℕ) → r < length system.template →
     after_steps certificate.steps start_vector p r ≡ bounds_vector system certificate.bounds p r
 bounds_are system certificate h v p r l = by (dec_lt p system.points)
   where

@@ -96,7 +96,7 @@ pub below_trans : (system : Equations) (x y z : Vector) → Below system x y →
 below_trans system x y z h i p r l = ≤ᴱ_trans (x p r) (y p r) (z p r) (h p r l) (i p r l)
 
 -- a state that fits a vector fits a greater one
-pub fits_below : (system : Equations) (z q : Vector) (p : ℕ) (x : RationalState) → Below system z q → Fits system z p x → Fits system q p x
+fits_below : (system : Equations) (z q : Vector) (p : ℕ) (x : RationalState) → Below system z q → Fits system z p x → Fits system q p x
 fits_below system z q p x below h r row e = ≤ᴱ_trans (fin (dotℚ row x)) (z p r) (q p r) (h r row e) (below p r (slice_get_within system.template r row e))
 
 -- a word that runs at a vector runs at a greater one

@@ -26,12 +26,12 @@ unfolding moved
 length-moved w s d e = length-add_vec w (scale_vec s d) (e ∙ sym (length-scale_vec s d))
 
 -- one item is a valid step where it is placed and valid
-pub single_plain : (system : Equations) (z : Vector) (item : Item) → Placed system item → PlainItem system z item → ValidStep system z (record { kind = Plain; items = item ∷ [] })
+single_plain : (system : Equations) (z : Vector) (item : Item) → Placed system item → PlainItem system z item → ValidStep system z (record { kind = Plain; items = item ∷ [] })
 single_plain system z item placed valid =
     record { distinct = (tt, tt); placed = λ i m. ⊎_elim (λ e. subst (Placed system) e placed) (λ k. absurd k) m; valid = λ i m. ⊎_elim (λ e. subst (PlainItem system z) e valid) (λ k. absurd k) m }
 
 -- likewise for a ray
-pub single_ray : (system : Equations) (z : Vector) (item : Item) → Placed system item → RayItem system z (item ∷ []) item → ValidStep system z (record { kind = Ray; items = item ∷ [] })
+single_ray : (system : Equations) (z : Vector) (item : Item) → Placed system item → RayItem system z (item ∷ []) item → ValidStep system z (record { kind = Ray; items = item ∷ [] })
 single_ray system z item placed valid =
     record { distinct = (tt, tt); placed = λ i m. ⊎_elim (λ e. subst (Placed system) e placed) (λ k. absurd k) m; valid = λ i m. ⊎_elim (λ e. subst (RayItem system z (item ∷ [])) e valid) (λ k. absurd k) m }
 

@@ -1,5 +1,5 @@
 -- A valid certificate with a ray, a source that nothing reaches and guards that nothing passes:
--- x := 0; while * { x := x + 1 }; then a point behind x <= -1, with a loop of its own.
+-- x := 0; while * { x := x + 1 }; then a point after x <= -1, with a loop of its own.
 use Rattle.std.proofs.Common.{◌≡◌, inl, inr, ℕ, zero, suc, ◌<◌, List, [], ◌∷◌, ℤ, pos, negsuc, get_or, refl, subst, arith}
 use Rattle.std.specs.Prelude.{slice_get, Some}
 use Rattle.std.proofs.lemmas.Option.{same_Some}

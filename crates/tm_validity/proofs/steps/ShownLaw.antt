@@ -40,7 +40,7 @@ item_exceeds system F item number w placed runs above =
     (Contains-get_or system.edges item.edge (record { from = 0; to = 0; actions = [] }) placed.edge_within) placed.into runs above
 
 -- below a fraction that is at most another
-pub lt_le : (v : Ext) (a b : ℚ) → v <ᴱ fin a → a ≤ℚ b → v <ᴱ fin b
+lt_le : (v : Ext) (a b : ℚ) → v <ᴱ fin a → a ≤ℚ b → v <ᴱ fin b
 lt_le neg_inf a b h i = tt
 lt_le (fin c) a b h i = lt_of_lt_of_le_ℚ h i
 lt_le pos_inf a b h i = absurd h

@@ -27,7 +27,7 @@ end_value-mix system edge row t u v = end-mix system.variables edge.actions row 
 
 -- ---- plain steps
 -- the new bound of a plain item is at most the number of a vector that bounds it
-pub plain_below : (system : Equations) (z q : Vector) (item : Item) → Below system z q → PlainItem system z item →
+plain_below : (system : Equations) (z q : Vector) (item : Item) → Below system z q → PlainItem system z item →
     Upper system q (edge_of system item) (row_of system item) (q item.point item.row) → fin item.number ≤ᴱ q item.point item.row
 plain_below system z q item below valid upper =
     ≤ᴱ_trans (fin item.number) (fin (item_value system item (word item.low))) (q item.point item.row) valid.reached
@@ -131,7 +131,7 @@ module _ (system : Equations) (z q : Vector) (items : List Item) where
       same_fin a b e = cc
 
   -- every new bound of a valid jump is at most the number of a greater vector that bounds its items
-  pub jump_below : Below system z q → Distinct items → ((item : Item) → In items item → Placed system item) →
+  jump_below : Below system z q → Distinct items → ((item : Item) → In items item → Placed system item) →
       ((item : Item) → In items item → JumpItem system z (put (new_value Jump) items z) item) → BoundsItems system q items →
       (item : Item) → In items item → fin item.number ≤ᴱ q item.point item.row
   unfolding jumped JumpGood JumpBad

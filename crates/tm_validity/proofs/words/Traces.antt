@@ -20,7 +20,7 @@ val-first : (x : ℚ) (w : Word) → val (column 0) (x ∷ w) ≡ x
 unfolding val column dot
 val-first x w = +ℚ_idr (one_ℚ *ℚ x +ℚ dot [] w) ∙ +ℚ_idr (one_ℚ *ℚ x) ∙ *ℚ_idl x
 
--- the value of the column behind some values
+-- the value of the column after some values
 pub val-column : (base : Word) (q : ℚ) (rest : Word) → val (column (length base)) (base ++ q ∷ rest) ≡ q
 unfolding column
 val-column [] q rest = val-first q rest
@@ -81,7 +81,7 @@ unfolding start_of end_of guard_forms
 trace_of_word n actions w h = trace_from actions n (columns n) w h.all
 
 -- ---- a trace is a word that passes
--- the free values of a trace that goes on from a state of forms with these values, whatever comes behind
+-- the free values of a trace that goes on from a state of forms with these values, whatever comes after
 abbrev Frees : List Action → ℕ → List Affine → Word → RationalState → Type 0
 Frees actions k fs base y =
     (free : Word) × (length free ≡ free_count actions) × AllAtMost (guards_from k fs actions) (base ++ free) × (y ≡ values (ends_from k fs actions) (base ++ free))
@@ -115,7 +115,7 @@ frees_from (Havoc var ∷ actions) fs base x y at h =
       subst (λ j. y ≡ values (ends_from j next actions) (base ++ q ∷ r.0)) e (subst (λ w. y ≡ values (ends_from (length (base ++ q ∷ [])) next actions) w) same r.3),
     )
 
--- a trace from a state with so many variables is a word that passes, with the same start, end and number of free values
+-- a trace from a state with n variables is a word that passes, with the same start, end and number of free values
 pub word_of_trace : (n : ℕ) (actions : List Action) (x y : RationalState) → length x ≡ n → Traces actions x y →
     (free : Word) × (length free ≡ free_count actions) × Passes n actions (x ++ free) × (start_of n (x ++ free) ≡ x) × (end_of n actions (x ++ free) ≡ y)
 unfolding end_of guard_forms

@@ -85,7 +85,7 @@ pub transformer_mono : (system : Equations) (z q : Vector) (edge : Edge) (row : 
 transformer_mono system z q edge row v w below a b = a.least w (λ word runs. b.upper word (runs_below system z q edge word below runs))
 
 -- and depend on the source's bounds alone
-pub runs_local : (system : Equations) (z q : Vector) (edge : Edge) (w : Word) → ((r : ℕ) → r < length system.template → z edge.from r ≡ q edge.from r) → Runs system z edge w → Runs system q edge w
+runs_local : (system : Equations) (z q : Vector) (edge : Edge) (w : Word) → ((r : ℕ) → r < length system.template → z edge.from r ≡ q edge.from r) → Runs system z edge w → Runs system q edge w
 runs_local system z q edge w same runs =
     record { passes = runs.passes; fits = λ r row e. subst (λ v. fin (dotℚ row (start_of system.variables w)) ≤ᴱ v) (same r (slice_get_within system.template r row e)) (runs.fits r row e) }
 

@@ -1,4 +1,4 @@
--- A composed form has no column behind a word's, so coefficients that are the same on those are the same.
+-- A composed form has no column past a word's, so coefficients that are the same on those are the same.
 use Rattle.std.proofs.Common.{◌≡◌, ◌∙◌, ℕ, zero, suc, ◌+◌, ◌<◌, ◌≤◌, List, [], ◌∷◌, length, map, get_or, refl, sym, ap, subst, arith, le_trans}
 use Rattle.std.specs.Prelude.{ℤ, slice_set}
 use Rattle.std.proofs.Math.ListN.{get_or-eq_default}
@@ -15,7 +15,7 @@ use Rattle.tm_eqsys.specs.Equations.{Equations}
 use Rattle.tm_validity.specs.Words.{Affine, shifted, column, columns, combined, composed, guards_from, ends_from, free_count, width, guard_forms, start_form, end_form}
 use Rattle.tm_validity.specs.Certificates.{coefficients, combination, SameColumns}
 
--- lists of at most so many entries
+-- forms of at most m coefficients
 abbrev pub Narrow : ℕ → List Affine → Type 0
 Narrow m [] = Unit {0}
 Narrow m (f ∷ fs) = (length f.coeffs ≤ m) × Narrow m fs

@@ -9,7 +9,7 @@ use Rattle.tm_validity.specs.Words.{Word, Affine, val, lin, shifted, column, col
 use Rattle.tm_validity.proofs.words.WordForms.{val-mix, val-moved, val-combined, mix_pass, move_pass}
 
 -- the forms of a row have the values of the row at the two states
-pub val-start_form : (n : ℕ) (row : List ℤ) (w : Word) → val (start_form n row) w ≡ dotℚ row (start_of n w)
+val-start_form : (n : ℕ) (row : List ℤ) (w : Word) → val (start_form n row) w ≡ dotℚ row (start_of n w)
 unfolding start_form start_of
 val-start_form n row w = val-combined row (columns n) w
 
