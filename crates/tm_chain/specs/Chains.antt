@@ -61,7 +61,7 @@ pub record IsChain (system : Equations) (policy : Offer → ℕ → Type 0) (n :
   pub next_pick : (k : ℕ) → k < n → IsNextPick system policy (vectors k) (picks k) (picks (suc k))
   pub next_vector : (k : ℕ) → k < n → IsNextVector system (picks (suc k)) (vectors k) (vectors (suc k))
 
--- so many improvements lead to a vector, and end there
+-- a chain of n improvements leads to a vector, and ends there
 pub record EndsAfter (system : Equations) (policy : Offer → ℕ → Type 0) (n : ℕ) (v : Vector) : Type 0 where
   pub vectors : ℕ → Vector
   pub picks : ℕ → Pick
@@ -69,7 +69,7 @@ pub record EndsAfter (system : Equations) (policy : Offer → ℕ → Type 0) (n
   pub ended : IsEnd system (vectors n)
   pub same : (p r : ℕ) → p < system.points → r < length system.template → v p r ≡ vectors n p r
 
--- so many improvements don't end it
+-- a chain of n improvements goes on
 pub record GoesOnAfter (system : Equations) (policy : Offer → ℕ → Type 0) (n : ℕ) : Type 0 where
   pub vectors : ℕ → Vector
   pub picks : ℕ → Pick

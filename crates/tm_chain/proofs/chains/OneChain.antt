@@ -45,7 +45,7 @@ module _ (system : Equations) (policy : Offer → ℕ → Type 0) (one : Answers
 
   module _ (n m : ℕ) (vectors others : ℕ → Vector) (picks more : ℕ → Pick) (a : IsChain system policy n vectors picks) (b : IsChain system policy m others more) where
     -- after each number of improvements both chains are at the same vector by the same pick
-    pub chain_one : (k : ℕ) → k ≤ n → k ≤ m → IsSameAfter system k vectors others picks more
+    chain_one : (k : ℕ) → k ≤ n → k ≤ m → IsSameAfter system k vectors others picks more
     chain_one zero h i = record { vector = start; pick = λ p r l. a.unpicked p r l ∙ sym (b.unpicked p r l) }
       where
         start : Agree system (vectors 0) (others 0)
@@ -73,12 +73,14 @@ module _ (system : Equations) (policy : Offer → ℕ → Type 0) (one : Answers
   not_longer n m v others more a b l x =
       ended_or_not system (a.vectors n) (others n) (chain_one system policy one n m a.vectors others a.picks more a.chain b n (omega arith) l).vector a.ended x
 
+  -- two chains by a policy that answers one position end after the same number of improvements
   pub number_one : (n m : ℕ) (v w : Vector) → EndsAfter system policy n v → EndsAfter system policy m w → n ≡ m
   number_one n m v w a b =
       ⊎_elim (λ l. absurd (not_longer n m v b.vectors b.picks a b.chain (omega arith) (b.chain.goes n l)))
       (λ l. ⊎_elim (λ h. absurd (not_longer m n w a.vectors a.picks b a.chain (omega arith) (a.chain.goes m h))) (λ h. omega arith) (cases_lt m n))
       (cases_lt n m)
 
+  -- a chain by such a policy that goes on after a number of improvements ends after more than that
   pub number_above : (limit n : ℕ) (v : Vector) → GoesOnAfter system policy limit → EndsAfter system policy n v → limit < n
   number_above limit n v g a =
       ⊎_elim (λ l. l) (λ l. absurd (not_longer n limit v g.vectors g.picks a g.chain l (at l))) (cases_lt limit n)

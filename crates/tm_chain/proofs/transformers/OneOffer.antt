@@ -15,6 +15,7 @@ use Rattle.tm_chain.specs.Offers.{Offer, IsOffer, SomeExceeds}
 abbrev pub Agree : Equations → Vector → Vector → Type 0
 Agree system v w = (p r : ℕ) → r < length system.template → v p r ≡ w p r
 
+-- that vectors agree at the template's rows doesn't depend on their order
 pub agree_sym : (system : Equations) (v w : Vector) → Agree system v w → Agree system w v
 agree_sym system v w h p r l = sym (h p r l)
 
@@ -28,6 +29,7 @@ some_row a b e = cc
 some_edge : (a b : Edge) → Some a ≡ Some b → a ≡ b
 some_edge a b e = cc
 
+-- a transition along an edge under a vector is one under each vector that agrees with it
 pub transition_agrees : (system : Equations) (v w : Vector) (edge : Edge) (x y : RationalState) → Agree system v w → Transition system v edge x y → Transition system w edge x y
 transition_agrees system v w edge x y h t =
     record {
@@ -62,6 +64,7 @@ offer_agrees system v w p r offer h l o = record {
       record { edge = t.edge; is_edge = t.is_edge; row = t.row; is_row = t.is_row; is_transformer = transformer_agrees system v w t.edge t.row number h t.is_transformer };
 }
 
+-- two offers of an unknown under one vector are the same
 pub offer_one : (system : Equations) (v : Vector) (p r : ℕ) (offer other : Offer) → IsOffer system v p r offer → IsOffer system v p r other → offer ≡ other
 offer_one system v p r offer other a b = λ i. record { bound = bounds i; edges = edges i; values = values i }
   where
