@@ -1,4 +1,5 @@
--- A plain program that finds points and edges by following labelled steps from the start. It sees a program as work alone, and stops after a number of steps.
+-- A plain program that finds points and edges by following labelled steps from the start. It sees a program as work alone, and stops
+-- after a number of steps.
 use Rattle.std.specs.Prelude.{ℕ, zero, suc, ◌==◌, List, [], ◌∷◌, ◌++◌, map, flat_map, if◌then◌else◌}
 use Rattle.std.specs.List.{list_any}
 use Rattle.tm_tree.specs.Tree.{Statements}
