@@ -31,6 +31,7 @@ line_comment_from body n e = rw e record {
   kind_is = refl;
 }
 
+-- a text that starts with `//` has a line comment first, up to the next line feed
 pub line_comment_stands : (rest : List ℕ) (n : ℕ) → 2 ≤ length rest → get_or rest 0 0 ≡ 47 → get_or rest 1 0 ≡ 47 → n ≡ prefix_len is_on_line (take (length rest - 2) (drop 2 rest)) → StandsFirst rest (record { kind = None; len = 2 + n })
 line_comment_stands rest n some e f h =
     subst (λ (r : List ℕ). StandsFirst r (record { kind = None; len = 2 + n })) (first_two rest 47 47 some e f)
@@ -79,11 +80,13 @@ block_comment_from body k first = record {
     length_is : length (47 ∷ 42 ∷ (take k body ++ 42 ∷ 47 ∷ [])) ≡ k + 4
     length_is = omega (arith, length-append (take k body) (42 ∷ 47 ∷ []), length-take-le k body (omega (arith, within)))
 
+-- a text that starts with `/*` has a block comment first, up to the first `*/` that follows
 pub block_comment_stands : (rest : List ℕ) (k : ℕ) → 2 ≤ length rest → get_or rest 0 0 ≡ 47 → get_or rest 1 0 ≡ 42 → IsFirstClose (take (length rest - 2) (drop 2 rest)) (Some k) → StandsFirst rest (record { kind = None; len = k + 4 })
 block_comment_stands rest k some e f h =
     subst (λ (r : List ℕ). StandsFirst r (record { kind = None; len = k + 4 })) (first_two rest 47 42 some e f)
     (block_comment_from (drop 2 rest) k (rw (take_rest rest 2) at h))
 
+-- a text that starts with `/*` and has no `*/` after it starts with an open comment
 pub open_comment_stands : (rest : List ℕ) → 2 ≤ length rest → get_or rest 0 0 ≡ 47 → get_or rest 1 0 ≡ 42 → IsFirstClose (take (length rest - 2) (drop 2 rest)) None → IsOpen rest
 open_comment_stands rest some e f h = record {
   more = drop 2 rest;

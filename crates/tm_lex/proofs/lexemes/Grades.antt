@@ -14,6 +14,7 @@ use Rattle.tm_lex.specs.Faults.{is_bad}
 use Rattle.tm_lex.proofs.lexemes.Heads.{heads, is_mark, sign_heads, word_heads, word_spelled, numeral_heads, letter_no_digit, mark_is}
 use Rattle.tm_lex.proofs.lexemes.Spellings.{one_word, one_sign, word_short}
 
+-- what the longest lexeme of a text is: a word or a numeral within its limits, one past them, a malformed numeral, or a sign
 pub data Grade : Type 0 where
   short_word : Grade
   long_word : Grade
@@ -25,9 +26,11 @@ pub data Grade : Type 0 where
 abbrev number_grade : List ℕ → List ℕ → Grade
 number_grade bytes after = cond (is_bad bytes after) bad_number (cond (ltb greatest_literal (digits_value 10 bytes)) great_number good_number)
 
+-- the grade of the longest lexeme, from its bytes and what follows
 abbrev pub grade : List ℕ → List ℕ → Grade
 grade bytes after = cond (heads is_letter bytes) (cond (ltb longest_word (length bytes)) long_word short_word) (cond (heads is_digit bytes) (number_grade bytes after) plain_sign)
 
+-- the grade that each kind of token has
 abbrev pub kind_grade : Kind → Grade
 kind_grade (kind.Word word) = short_word
 kind_grade kind.Name = short_word
@@ -55,6 +58,7 @@ mark_no_digit (b ∷ bs) h = (mark_is b h).no_digit
 short_word_grade : (bytes after : List ℕ) → is_word bytes ≡ true → length bytes ≤ longest_word → grade bytes after ≡ short_word
 short_word_grade bytes after w h = rw (word_heads bytes w, le-ltb longest_word (length bytes) h) refl
 
+-- a word of too many bytes has the grade of long words
 pub long_word_grade : (bytes after : List ℕ) → is_word bytes ≡ true → longest_word < length bytes → grade bytes after ≡ long_word
 long_word_grade bytes after w h = rw (word_heads bytes w, lt-ltb longest_word (length bytes) h) refl
 
@@ -64,15 +68,18 @@ numeral_grade bytes after d = let digit = numeral_heads bytes d in rw (numeral_n
 good_number_grade : (bytes after : List ℕ) → is_numeral bytes ≡ true → is_bad bytes after ≡ false → digits_value 10 bytes ≤ greatest_literal → grade bytes after ≡ good_number
 good_number_grade bytes after d good h = numeral_grade bytes after d ∙ rw (good, le-ltb greatest_literal (digits_value 10 bytes) h) refl
 
+-- a numeral that is too great has the grade of great numbers
 pub great_number_grade : (bytes after : List ℕ) → is_numeral bytes ≡ true → is_bad bytes after ≡ false → greatest_literal < digits_value 10 bytes → grade bytes after ≡ great_number
 great_number_grade bytes after d good h = numeral_grade bytes after d ∙ rw (good, lt-ltb greatest_literal (digits_value 10 bytes) h) refl
 
+-- a numeral that is malformed has the grade of bad numbers
 pub bad_number_grade : (bytes after : List ℕ) → is_numeral bytes ≡ true → is_bad bytes after ≡ true → grade bytes after ≡ bad_number
 bad_number_grade bytes after d bad = numeral_grade bytes after d ∙ rw bad refl
 
 sign_grade : (bytes after : List ℕ) → heads is_mark bytes ≡ true → grade bytes after ≡ plain_sign
 sign_grade bytes after m = rw (mark_no_letter bytes m, mark_no_digit bytes m) refl
 
+-- a token has the grade of its kind
 pub token_grade : (kind : Kind) (bytes after : List ℕ) → IsWholeToken kind bytes after → grade bytes after ≡ kind_grade kind
 token_grade (kind.Word word) bytes after t = rw (← t.is_token) (short_word_grade (word_bytes word) after (word_spelled word) (word_short word))
 token_grade kind.Name bytes after t = short_word_grade bytes after t.is_token.word t.is_token.short
@@ -99,5 +106,6 @@ one_longest a x b y s t e =
     let high : length a ≤ length b = t.longest a x e s.lexeme in
     sym (take_at a x (length a) refl) ∙ (ap (take (length a)) e ∙ take_at b y (length a) (omega arith))
 
+-- what follows equal fronts of a text is equal
 pub one_rest : (a x b y : List ℕ) → a ≡ b → a ++ x ≡ b ++ y → x ≡ y
 one_rest a x b y same e = append_cancel_left b x y (rw same at e)

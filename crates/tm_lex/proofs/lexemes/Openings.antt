@@ -9,6 +9,7 @@ use Rattle.tm_lex.specs.Reading.{Piece, blank, line_comment, block_comment, toke
 use Rattle.tm_lex.specs.Faults.{NothingStarts, Stands}
 use Rattle.tm_lex.proofs.lexemes.Longest.{Leads, letter, digit, mark, leads}
 
+-- what a text opens with: a blank, a comment of either kind, or anything else
 pub data Opening : Type 0 where
   a_blank : Opening
   a_line_comment : Opening
@@ -19,16 +20,19 @@ abbrev second_opening : List ℕ → Opening
 second_opening [] = another
 second_opening (b ∷ bs) = cond (eqb b 47) a_line_comment (cond (eqb b 42) a_block_comment another)
 
+-- the opening of a text, by its first two bytes
 abbrev pub opening : List ℕ → Opening
 opening [] = another
 opening (b ∷ bs) = cond (is_blank b) a_blank (cond (eqb b 47) (second_opening bs) another)
 
+-- the opening of a text that starts with this piece
 abbrev pub piece_opening : Piece → Opening
 piece_opening (blank b) = a_blank
 piece_opening (line_comment body) = a_line_comment
 piece_opening (block_comment body) = a_block_comment
 piece_opening (token kind bytes) = another
 
+-- the opening of a text that starts with this fault
 abbrev pub fault_opening : LexFault → Opening
 fault_opening (OpenComment at) = a_block_comment
 fault_opening fault = another
@@ -45,6 +49,7 @@ digit_no_blank b d k = grind (arith, leb-true, eqb-true)
 digit_no_slash : (b : ℕ) → is_digit b ≡ true → eqb b 47 ≡ true → ⊥
 digit_no_slash b d k = grind (arith, leb-true, eqb-true)
 
+-- the first byte of a lexeme is no blank and no slash
 pub lead_plain : (b : ℕ) → Leads b → (is_blank b ≡ false) × (eqb b 47 ≡ false)
 lead_plain b (letter h) = (false_from_ne_true (is_blank b) (letter_no_blank b h), false_from_ne_true (eqb b 47) (letter_no_slash b h))
 lead_plain b (digit h) = (false_from_ne_true (is_blank b) (digit_no_blank b h), false_from_ne_true (eqb b 47) (digit_no_slash b h))
@@ -54,6 +59,7 @@ lexeme_opening : (text bytes after : List ℕ) → bytes ++ after ≡ text → I
 lexeme_opening [] bytes after e lexeme = refl
 lexeme_opening (b ∷ bs) bytes after e lexeme = let plain = lead_plain b (leads bytes after bs b e lexeme) in rw (plain.0, plain.1) refl
 
+-- a text that starts with a piece has the opening of that piece
 pub opening_of_piece : (piece : Piece) (rest : List ℕ) → Fits piece rest → opening (piece_bytes piece ++ rest) ≡ piece_opening piece
 opening_of_piece (blank b) rest fits = rw fits refl
 opening_of_piece (line_comment body) rest fits = refl
@@ -75,6 +81,7 @@ nothing_opening (b ∷ bs) n =
     let no_blank : is_blank b ≡ false = sym (ap is_blank same) ∙ n.no_blank in
     rw no_blank (cond_both (eqb b 47) (second_opening bs) another (λ (o : Opening). o ≡ another) (λ h. second_none (b ∷ bs) bs b refl n (eqb-true b 47 h)) (λ h. refl))
 
+-- a text that starts with a fault has the opening of that fault
 pub opening_of_fault : (fault : LexFault) (place : ℕ) (rest : List ℕ) → Stands fault place rest → opening rest ≡ fault_opening fault
 opening_of_fault (BadByte at) place rest s = nothing_opening rest s.1
 opening_of_fault (OpenComment at) place rest s = rw (← s.1.split) refl

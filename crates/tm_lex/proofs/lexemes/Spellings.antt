@@ -35,16 +35,19 @@ sign_back : (sign : Sign) → sign_of (sign_bytes sign) ≡ Some sign
 sign_back LeftParen = refl
 sign_back _ = refl
 
+-- two reserved words with one spelling are the same
 pub one_word : (w v : Word) (bytes : List ℕ) → word_bytes w ≡ bytes → word_bytes v ≡ bytes → w ≡ v
 one_word w v bytes e f =
     let same : Some w ≡ Some v = sym (word_back w) ∙ (ap word_of (e ∙ sym f) ∙ word_back v) in
     cc
 
+-- two signs with one spelling are the same
 pub one_sign : (s t : Sign) (bytes : List ℕ) → sign_bytes s ≡ bytes → sign_bytes t ≡ bytes → s ≡ t
 one_sign s t bytes e f =
     let same : Some s ≡ Some t = sym (sign_back s) ∙ (ap sign_of (e ∙ sym f) ∙ sign_back t) in
     cc
 
+-- a reserved word has at most 32 bytes
 pub word_short : (word : Word) → length (word_bytes word) ≤ 32
 word_short Auto = omega arith
 word_short _ = omega arith

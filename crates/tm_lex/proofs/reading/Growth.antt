@@ -16,6 +16,7 @@ heads_some : (p : ℕ → Bool) (xs : List ℕ) → heads p xs ≡ true → 0 < 
 heads_some p [] h = cc
 heads_some p (x ∷ xs) h = omega arith
 
+-- a lexeme has a byte
 pub lexeme_some : (bytes : List ℕ) → IsLexeme bytes → 0 < length bytes
 lexeme_some bytes (a_word w) = heads_some is_letter bytes (word_heads bytes w)
 lexeme_some bytes (a_numeral d) = heads_some is_digit bytes (numeral_heads bytes d)
@@ -46,6 +47,7 @@ tokens_push at (p ∷ pieces) piece =
     let more = tokens_push (at + length (piece_bytes p)) pieces piece in
     ap (λ (ts : List Token). piece_tokens at p ++ ts) (rw next at more) ∙ sym (append_assoc (piece_tokens at p) (tokens_from (at + length (piece_bytes p)) pieces) (piece_tokens (at + length (piece_bytes p ++ spelling pieces)) piece))
 
+-- every text reads up to its start, as no tokens
 pub reads_none : (text : List ℕ) → ReadsUpTo text 0 [] text
 reads_none text = record { pieces = []; spelled = refl; fit = tt; place = refl; told = refl }
 
@@ -60,6 +62,7 @@ found_piece at (blank b) kind len e f = rw (← f) refl
 found_piece at (line_comment body) kind len e f = rw (← f) refl
 found_piece at (block_comment body) kind len e f = rw (← f) refl
 
+-- a reading goes on by the piece that stands first in the rest
 pub reads_more : (text : List ℕ) (at : ℕ) (tokens : List Token) (rest : List ℕ) (found : Found) → ReadsUpTo text at tokens rest → StandsFirst rest found → ReadsUpTo text (at + found.len) (tokens ++ found_tokens at found.kind found.len) (drop found.len rest)
 reads_more text at tokens rest found reads stands = record {
   pieces = pieces;
@@ -91,6 +94,7 @@ reads_more text at tokens rest found reads stands = record {
 pub found_some : (rest : List ℕ) (found : Found) → StandsFirst rest found → 0 < found.len
 found_some rest found stands = omega (arith, piece_some stands.piece stands.after stands.fits, stands.length_is)
 
+-- what is found lies within the rest
 pub found_within : (rest : List ℕ) (found : Found) → StandsFirst rest found → found.len ≤ length rest
 found_within rest found stands = omega (arith, stands.length_is, ap length stands.split, length-append (piece_bytes stands.piece) stands.after)
 
@@ -101,5 +105,6 @@ reads_step text at tokens items found reads stands e =
     let more = reads_more text at tokens (drop at text) found reads here in
     rw e (rw (drop-drop found.len at text) at more)
 
+-- what is found from a place on ends within the text
 pub found_fits : (text : List ℕ) (at : ℕ) (found : Found) → at ≤ length text → StandsFirst (take (length text - at) (drop at text)) found → at + found.len ≤ length text
 found_fits text at found within stands = omega (arith, found_within (drop at text) found (rw (take_rest text at) at stands), length-drop at text)

@@ -121,7 +121,7 @@ closed_or_open body rest o =
     o.unclosed body rest (sym (closed_text body rest) ∙ sym more)
 
 -- no piece stands where a fault does
-pub no_piece : (p : Piece) (r : List ℕ) (fault : LexFault) (place : ℕ) → Fits p r → Stands fault place (piece_bytes p ++ r) → ⊥
+no_piece : (p : Piece) (r : List ℕ) (fault : LexFault) (place : ℕ) → Fits p r → Stands fault place (piece_bytes p ++ r) → ⊥
 no_piece p r NoMemory place f s = s
 no_piece (block_comment body) r (OpenComment at) place f s = closed_or_open body r s.1
 no_piece (token k a) r (BadByte at) place f s = s.1.no_token a r refl f.longest.lexeme
@@ -131,7 +131,7 @@ no_piece (token k a) r (BadNumber at) place f s = let no : is_kind_grade bad_num
 no_piece p r fault place f s = let same : piece_opening p ≡ fault_opening fault = sym (opening_of_piece p r f) ∙ opening_of_fault fault place (piece_bytes p ++ r) s in cc
 
 -- one fault stands at a place
-pub one_fault : (f g : LexFault) (place : ℕ) (rest : List ℕ) → Stands f place rest → Stands g place rest → f ≡ g
+one_fault : (f g : LexFault) (place : ℕ) (rest : List ℕ) → Stands f place rest → Stands g place rest → f ≡ g
 one_fault NoMemory g place rest s t = absurd s
 one_fault f NoMemory place rest s t = absurd t
 one_fault (BadByte x) (BadByte y) place rest s t = ap BadByte (s.0 ∙ sym t.0)
@@ -191,11 +191,13 @@ same_reading text place other tokens others rest after a b c d =
       rests = append_cancel_left (spelling b.pieces) rest after (rw pieces at whole);
     }
 
+-- a text has at most one list of tokens
 pub one_token_list : (text : List ℕ) (tokens others : List Token) → Reads text tokens → Reads text others → tokens ≡ others
 one_token_list text tokens others a b =
     let same = same_reading text (length text) (length text) a.front b.front [] [] a.whole b.whole end_last end_last in
     sym a.told ∙ (ap (λ (ts : List Token). ts ++ end_at (length text) ∷ []) same.lists ∙ b.told)
 
+-- a text has at most one fault
 pub one_text_fault : (text : List ℕ) (fault other : LexFault) → HasFault text fault → HasFault text other → fault ≡ other
 one_text_fault text fault other a b =
     let same = same_reading text a.place b.place a.tokens b.tokens a.rest b.rest a.reads b.reads (fault_last fault a.place a.rest a.stands) (fault_last other b.place b.rest b.stands) in
@@ -213,6 +215,7 @@ nothing_at_end (LongName at) place s = lexeme_at_end s.1.bytes s.1.after s.1.spl
 nothing_at_end (BadNumber at) place s = lexeme_at_end s.1.bytes s.1.after s.1.split s.1.longest
 nothing_at_end NoMemory place s = s
 
+-- a text with a reading has no fault
 pub no_fault : (text : List ℕ) (tokens : List Token) (fault : LexFault) → Reads text tokens → HasFault text fault → ⊥
 no_fault text tokens fault a b =
     let same = same_reading text (length text) b.place a.front b.tokens [] b.rest a.whole b.reads end_last (fault_last fault b.place b.rest b.stands) in

@@ -32,6 +32,7 @@ placed_from text front (token kind bytes ∷ pieces) at low e f low_is fit = (
 placed_from text front (piece ∷ pieces) at low e f low_is fit =
     placed_from text (front ++ piece_bytes piece) pieces (at + length (piece_bytes piece)) low (append_assoc front (piece_bytes piece) (spelling pieces) ∙ e) (omega (arith, length-append front (piece_bytes piece))) (omega arith) fit.1
 
+-- the tokens of a reading are tokens of the text in order, with its end last
 pub placed_tokens : (text : List ℕ) (tokens : List Token) → Reads text tokens → AreTokensOf text tokens
 placed_tokens text tokens reads = record {
   front = reads.front;

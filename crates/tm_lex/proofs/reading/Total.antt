@@ -250,6 +250,7 @@ at_other place b bs no_blank no_slash no_letter no_digit = from (longest_sign b 
     from : LongestSign b (second_of (b ∷ bs)) → AtPlace place (b ∷ bs)
     from s = by_answer s.answer s.longest
 
+-- at every byte a piece or a fault stands
 pub at_place : (place b : ℕ) (bs : List ℕ) → AtPlace place (b ∷ bs)
 at_place place b bs = ⊎_elim
     (λ (is : is_blank b ≡ true). a_piece _ (blank_stands (b ∷ bs) (omega arith) is))
@@ -282,5 +283,6 @@ answer_from (suc most) text at tokens (b ∷ bs) short reads = elim (at_place at
   | a_fault fault stands ↦ inr (fault, record { place = at; tokens = tokens; rest = b ∷ bs; reads = reads; stands = stands })
 ]
 
+-- every text has a reading or a fault
 pub has_answer : (text : List ℕ) → HasAnswer text
 has_answer text = answer_from (length text) text 0 [] text (omega arith) (reads_none text)

@@ -21,6 +21,7 @@ second_of [] = None
 second_of (a ∷ []) = None
 second_of (a ∷ b ∷ bs) = Some b
 
+-- a look-up at index 1 reads the second byte, if there is one
 pub second_read : (rest : List ℕ) (o : Option (Bor ℕ)) → is_some o ≡ ltb 1 (length rest) → IfSome o (λ x. x.now ≡ get_or rest 1 x.now) → option_copied o ≡ second_of rest
 second_read [] None e h = refl
 second_read [] (Some x) e h = cc
@@ -29,6 +30,7 @@ second_read (a ∷ []) (Some x) e h = cc
 second_read (a ∷ b ∷ bs) None e h = let yes : ltb 1 (suc (suc (length bs))) ≡ true = lt-ltb 1 (suc (suc (length bs))) (omega arith) in cc
 second_read (a ∷ b ∷ bs) (Some x) e h = ap (λ (n : ℕ). Some n) h
 
+-- a sign has at most two bytes
 pub sign_short : (sign : Sign) → length (sign_bytes sign) ≤ 2
 sign_short LeftParen = omega arith
 sign_short _ = omega arith
@@ -73,10 +75,12 @@ sign_from first bs sign len longest no_letter no_digit e =
       kind_is = refl;
     }
 
+-- the longest sign that starts with the first two bytes stands first
 pub sign_stands : (rest : List ℕ) (sign : Sign) (len : ℕ) → 1 ≤ length rest → is_letter (get_or rest 0 0) ≡ false → is_digit (get_or rest 0 0) ≡ false → IsLongestSign (get_or rest 0 0) (second_of rest) (Some sign) → len ≡ length (sign_bytes sign) → StandsFirst rest (record { kind = Some (kind.Sign sign); len = len })
 sign_stands [] sign len some no_letter no_digit longest e = absurd (omega arith)
 sign_stands (first ∷ bs) sign len some no_letter no_digit longest e = sign_from first bs sign len longest no_letter no_digit e
 
+-- where no sign starts with the first two bytes, and nothing else does, nothing starts at all
 pub nothing_stands : (rest : List ℕ) → 1 ≤ length rest → is_blank (get_or rest 0 0) ≡ false → get_or rest 0 0 ≢ 47 → is_letter (get_or rest 0 0) ≡ false → is_digit (get_or rest 0 0) ≡ false → IsLongestSign (get_or rest 0 0) (second_of rest) None → NothingStarts rest
 nothing_stands [] some no_blank no_slash no_letter no_digit none = absurd (omega arith)
 nothing_stands (first ∷ bs) some no_blank no_slash no_letter no_digit none = record {

@@ -12,6 +12,7 @@ all_run_cons : {X : Type 0} (p : X → Bool) (x : X) (xs : List X) (n : ℕ) (b 
 all_run_cons p x xs n true e h = let one : 1 + n ≡ suc n = omega arith in rw one (and_from _ _ e h)
 all_run_cons p x xs n false e h = refl
 
+-- every element of the longest front that passes does pass
 pub all_run : {X : Type 0} (p : X → Bool) (xs : List X) → list_all p (take (prefix_len p xs) xs) ≡ true
 all_run p [] = refl
 all_run p (x ∷ xs) = all_run_cons p x xs (prefix_len p xs) (p x) refl (all_run p xs)
@@ -20,6 +21,7 @@ stops_run_cons : {X : Type 0} (p : X → Bool) (x : X) (xs : List X) (n : ℕ) (
 stops_run_cons p x xs n true e h = let one : 1 + n ≡ suc n = omega arith in rw one h
 stops_run_cons p x xs n false e h = rw e refl
 
+-- the longest front that passes ends at the end of the list or before an element that fails
 pub stops_run : {X : Type 0} (p : X → Bool) (xs : List X) → stops p (drop (prefix_len p xs) xs) ≡ true
 stops_run p [] = refl
 stops_run p (x ∷ xs) = stops_run_cons p x xs (prefix_len p xs) (p x) refl (stops_run p xs)
