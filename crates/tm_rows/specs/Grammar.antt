@@ -79,6 +79,7 @@ Amount = ℤ × List ℕ
 abbrev pub signed : Bool → ℤ → ℤ
 signed negative factor = if negative then neg_ℤ factor else factor
 
+-- what a written term stands for
 abbrev pub amount : Written → Amount
 amount t = (signed t.negative (unwrap_or t.factor (pos 1)), t.name)
 

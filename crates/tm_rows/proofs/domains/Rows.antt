@@ -16,6 +16,7 @@ use Rattle.tm_tree.specs.declared.limits.TheConstants.{MOST_VARIABLES}
 pub term_own : (c : ℤ) (i k : ℕ) → k ≡ i → term c i k ≡ c
 term_own c i k e = rw (eq-eqb k i e) refl
 
+-- the coefficient of another variable is 0
 pub term_other : (c : ℤ) (i k : ℕ) → (k ≡ i → ⊥) → term c i k ≡ pos 0
 term_other c i k n = grind (arith, nat_tests)
 
@@ -23,9 +24,11 @@ term_other c i k n = grind (arith, nat_tests)
 pub terms_first : (c d : ℤ) (i j k : ℕ) → i ≢ j → k ≡ i → term c i k +ℤ term d j k ≡ c
 terms_first c d i j k n e = rw (term_own c i k e, term_other d j k (λ h. n (sym e ∙ h))) (+ℤ_idr c)
 
+-- the coefficient of the second variable is the second number
 pub terms_second : (c d : ℤ) (i j k : ℕ) → (k ≡ i → ⊥) → k ≡ j → term c i k +ℤ term d j k ≡ d
 terms_second c d i j k n e = rw (term_other c i k n, term_own d j k e) (+ℤ_idl d)
 
+-- the coefficient of a third variable is 0
 pub terms_third : (c d : ℤ) (i j k : ℕ) → (k ≡ i → ⊥) → (k ≡ j → ⊥) → term c i k +ℤ term d j k ≡ pos 0
 terms_third c d i j k n m = rw (term_other c i k n, term_other d j k m) refl
 
@@ -33,6 +36,7 @@ term_number : (c : ℤ) (b : Bool) → is_number c ≡ true → is_number (cond 
 term_number c true h = h
 term_number c false h = refl
 
+-- the coefficients of one term stay within 2^63 - 1
 pub numbers-terms : (c : ℤ) (i : ℕ) (ks : List ℕ) → is_number c ≡ true → are_numbers (map (term c i) ks) ≡ true
 numbers-terms c i [] h = refl
 numbers-terms c i (k ∷ ks) h = and_from _ _ (term_number c (eqb k i) h) (numbers-terms c i ks h)
@@ -43,6 +47,7 @@ two_number c d true false n h k = rw (+ℤ_idr c) h
 two_number c d false true n h k = rw (+ℤ_idl d) k
 two_number c d false false n h k = refl
 
+-- the coefficients of two terms over different variables stay within 2^63 - 1
 pub numbers-sums : (c d : ℤ) (i j : ℕ) (ks : List ℕ) → i ≢ j → is_number c ≡ true → is_number d ≡ true → are_numbers (map (λ k. term c i k +ℤ term d j k) ks) ≡ true
 numbers-sums c d i j [] n h m = refl
 numbers-sums c d i j (k ∷ ks) n h m =
@@ -69,12 +74,15 @@ parts_more f front list more new k e p v =
 pub two_pushes : {X : Type 0} (list mid more : List X) (x y : X) → mid ≡ list ++ x ∷ [] → more ≡ mid ++ y ∷ [] → more ≡ list ++ (x ∷ y ∷ [])
 two_pushes list mid more x y e p = p ∙ (ap (λ l. l ++ y ∷ []) e ∙ append_assoc list (x ∷ []) (y ∷ []))
 
+-- a variable has no difference to itself
 pub difference_none : (n i j : ℕ) → i ≡ j → [] ≡ difference n i j
 difference_none n i j e = sym (rw (eq-eqb i j e) refl)
 
+-- two different variables have one difference
 pub difference_one : (n i j : ℕ) → i ≢ j → combination n (pos 1) i (negsuc 0) j ∷ [] ≡ difference n i j
 difference_one n i j d = rw (ne_eqb i j d) refl
 
+-- two variables have signed sums only where the second comes after the first
 pub signed_sums_none : (n i j : ℕ) → j ≤ i → [] ≡ signed_sums n i j
 signed_sums_none n i j e = sym (rw (le-ltb i j e) refl)
 
@@ -95,11 +103,14 @@ counted rows count all (suc k) low high =
     let b = and_parts (eqb (width_of (rows n)) n) (eqb (length (rows n)) (count n)) a.1 in
     (a.0, eqb-true (width_of (rows n)) n b.0, eqb-true (length (rows n)) (count n) b.1)
 
+-- the intervals over n variables are a template over them, of 2n rows
 pub intervals_counted : (n : ℕ) → 1 ≤ n → n ≤ MOST_VARIABLES → IsCounted intervals_of (λ n. 2 * n) n
 intervals_counted = counted intervals_of (λ n. 2 * n) refl
 
+-- the zones over n variables are a template over them, of 2n + n(n - 1) rows
 pub zones_counted : (n : ℕ) → 1 ≤ n → n ≤ MOST_VARIABLES → IsCounted zones_of (λ n. 2 * n + n * (n - 1)) n
 zones_counted = counted zones_of (λ n. 2 * n + n * (n - 1)) refl
 
+-- the octagons over n variables are a template over them, of 2n^2 rows
 pub octagons_counted : (n : ℕ) → 1 ≤ n → n ≤ MOST_VARIABLES → IsCounted octagons_of (λ n. 2 * n * n) n
 octagons_counted = counted octagons_of (λ n. 2 * n * n) refl

@@ -46,12 +46,14 @@ all_pieces : (n : ℕ) (lines : List (Bor (List ℕ))) → list_all (λ (line : 
 all_pieces n [] = refl
 all_pieces n (l ∷ ls) = ap (λ b. nat_le (length l.now) n && b) (all_pieces n ls)
 
+-- the lines of a text are no longer than the text
 pub pieces_short : (n : ℕ) (text : List ℕ) (lines : List (Bor (List ℕ))) → length text ≤ n → pieces lines ≡ lines_of text → list_all (λ (line : Bor (List ℕ)). nat_le (length line.now) n) lines ≡ true
 pieces_short n text lines h e = all_pieces n lines ∙ (ap (list_all (is_within n)) e ∙ lines_short n text h)
 
 count_le : (p : ℕ → Bool) (xs : List ℕ) → length (slice_split p xs) ≤ length xs + 1
 count_le p xs = omega (arith, length-slice_split p xs, count_by-le-length p xs)
 
+-- a text has at most one line more than bytes
 pub pieces_few : (text : List ℕ) (lines : List (Bor (List ℕ))) → pieces lines ≡ lines_of text → length lines ≤ length text + 1
 pieces_few text lines e =
     let same : length lines ≡ length (lines_of text) = sym (length-map lines (λ line. line.now)) ∙ ap length e in
@@ -68,6 +70,7 @@ one_row names line (Some row) others r h =
     let width : length row ≡ length names = ap length r.row_is ∙ length-map-range_with_len (coefficient_by names (λ name. total name r.amounts)) 0 (length names) in
     and_from _ _ (and_from _ _ r.nonzero (eq-eqb (length row) (length names) width)) h
 
+-- the rows that lines read as are rows over the variables
 pub rows_over : (names : List (List ℕ)) (lines : List (List ℕ)) (rows : List (List ℤ)) → LinesRead names lines rows → list_all (is_row_over (length names)) rows ≡ true
 rows_over names [] rows h = ap (list_all (is_row_over (length names))) h
 rows_over names (line ∷ lines) rows h =

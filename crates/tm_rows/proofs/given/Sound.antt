@@ -8,6 +8,7 @@ use Rattle.tm_rows.specs.Rows.{is_row, is_template, width_of}
 use Rattle.tm_rows.specs.RowFaults.{row_faults, count_faults, faults_from, faults_of}
 use Rattle.tm_rows.specs.declared.limits.TheConstants.{MOST_ROWS}
 
+-- a list without a first element is empty
 pub none_first : {X : Type 0} (xs : List X) → slice_get xs 0 ≡ None → xs ≡ []
 none_first [] h = refl
 none_first (x ∷ xs) h = cc
@@ -39,6 +40,7 @@ all_rows n line (row ∷ rows) h =
     and_from _ _ (both_pass (eqb (length row) n) (is_row row) _ _ (front_none (row_faults n (line, row)) _ h))
     (all_rows n (line + 1) rows (back_none (row_faults n (line, row)) _ h))
 
+-- where a number of rows has no fault, it is at least 1 and at most the limit
 pub count_within : (count : ℕ) → count_faults count ≡ [] → (nat_le 1 count && nat_le count MOST_ROWS) ≡ true
 count_within count h = within (nat_le 1 count && nat_le count MOST_ROWS) (Count count) h
 
@@ -50,6 +52,7 @@ template_from n (row ∷ rows) h k =
     let wide : list_all (is_row_over (length row)) (row ∷ rows) ≡ true = subst (λ m. list_all (is_row_over m) (row ∷ rows) ≡ true) (sym same) h in
     (and_from _ _ k wide, same)
 
+-- rows without a fault are a template over the variables
 pub template_of_sound : (n : ℕ) (rows : List (List ℤ)) → faults_of n rows ≡ [] → (is_template rows ≡ true) × (width_of rows ≡ n)
 template_of_sound n rows h =
     template_from n rows (all_rows n 1 rows (front_none (faults_from n 1 rows) _ h))

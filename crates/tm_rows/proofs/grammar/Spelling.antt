@@ -6,8 +6,11 @@ use Rattle.tm_rows.specs.Pending.{Continues, Pending}
 
 -- two terms that start the same symbols are the same, but for their signs
 pub record SameTerm (f g : Option ℤ) (a b : List ℕ) (more others : List Symbol) : Type 0 where
+  -- the factors are the same
   pub factor : f ≡ g
+  -- the names are the same
   pub name : a ≡ b
+  -- what follows the terms is the same
   pub rest : more ≡ others
 
 one_term : (f g : Option ℤ) (a b : List ℕ) (more others : List Symbol) → (factor_symbols f ++ named a ∷ []) ++ more ≡ (factor_symbols g ++ named b ∷ []) ++ others → SameTerm f g a b more others
@@ -95,6 +98,7 @@ more_only whole done negative next rest after others t (v ∷ vs) c u s e a =
       spelled = cc;
     }
 
+-- after one more term and a sign, the terms with that one are pending
 pub pending_more : (all : List Symbol) (done : List Written) (negative next : Bool) (rest after others : List Symbol) (t : Written) → Pending all done negative rest → t.negative ≡ negative → rest ≡ unsigned_symbols t ++ after → after ≡ sign_symbol next ∷ others → Pending all (done ++ t ∷ []) next others
 pending_more all done negative next rest after others t p s e a = record {
   goes_on = λ v vs n d.

@@ -40,11 +40,11 @@ pub untold_is_none : (line : List ℕ) → ((tokens : List Token) → Reads line
 untold_is_none line h amounts r = h r.tokens r.reads
 
 -- tokens that spell no row are none
-pub unspelled_is_none : (line : List ℕ) (tokens : List Token) → Reads line tokens → NoRow (symbols_of line tokens) → (amounts : List Amount) → ReadsTerms line amounts → ⊥
+unspelled_is_none : (line : List ℕ) (tokens : List Token) → Reads line tokens → NoRow (symbols_of line tokens) → (amounts : List Amount) → ReadsTerms line amounts → ⊥
 unspelled_is_none line tokens reads h amounts r =
     h r.terms (subst (λ ts. Spells (symbols_of line ts) r.terms) (one_token_list line r.tokens tokens r.reads reads) r.spelled)
 
-pub reads_kept : (line : List ℕ) (tokens : List Token) (kept : List Term) → IsFalse (list_any (λ b. eqb b 47) line) → Reads line tokens → SpellsKept (symbols_of line tokens) kept → ReadsKept line kept
+reads_kept : (line : List ℕ) (tokens : List Token) (kept : List Term) → IsFalse (list_any (λ b. eqb b 47) line) → Reads line tokens → SpellsKept (symbols_of line tokens) kept → ReadsKept line kept
 reads_kept line tokens kept slash reads h =
     let here : ReadsTerms line (map kept_amount kept) = record {
       no_slash = slash;

@@ -10,9 +10,11 @@ use Rattle.tm_rows.specs.Sums.{is_among, coefficient_by, row_by, row_of, total, 
 use Rattle.tm_rows.specs.RowFiles.{are_known}
 use Rattle.tm_rows.specs.Kept.{kept_amount}
 
+-- the coefficient at an index whose name stands earlier, too, is 0
 pub coefficient_repeated : (names : List (List ℕ)) (sum : List ℕ → ℤ) (i : ℕ) (name : List ℕ) → get_or names i [] ≡ name → is_among (take i names) name ≡ true → coefficient_by names sum i ≡ pos 0
 coefficient_repeated names sum i name e h = rw (e, h) refl
 
+-- the coefficient at an index whose name stands there first is the sum of that name
 pub coefficient_first : (names : List (List ℕ)) (sum : List ℕ → ℤ) (i : ℕ) (name : List ℕ) → get_or names i [] ≡ name → is_among (take i names) name ≡ false → coefficient_by names sum i ≡ sum name
 coefficient_first names sum i name e h = rw (e, h) refl
 
@@ -40,11 +42,13 @@ coefficients_numbers names f (k ∷ ks) h =
 pub kept_row : (names : List (List ℕ)) (sum : List ℕ → ℤ) (amounts : List Amount) → ((name : List ℕ) → sum name ≡ total name amounts) → row_by names sum ≡ row_of names amounts
 kept_row names sum amounts h = coefficients_same names sum (λ name. total name amounts) (range_with_len 0 (length names)) h
 
+-- where the coefficients stay in their range, the row's stay within 2^63 - 1
 pub row_numbers : (names : List (List ℕ)) (amounts : List Amount) → StaysWithin amounts → are_numbers (row_of names amounts) ≡ true
 row_numbers names amounts w =
     coefficients_numbers names (λ name. total name amounts) (range_with_len 0 (length names))
     (λ name. ap (λ a. is_number (total name a)) (sym (take_all (length amounts) amounts (omega arith))) ∙ w name (length amounts) (omega arith))
 
+-- the names of kept terms are known exactly where those of their amounts are
 pub known_kept : (names : List (List ℕ)) (terms : List Term) → list_all (λ (t : Term). is_among names t.name.now) terms ≡ are_known names (map kept_amount terms)
 known_kept names [] = refl
 known_kept names (t ∷ ts) = ap (λ b. is_among names t.name.now && b) (known_kept names ts)

@@ -72,7 +72,9 @@ fault_no_rows names lines fault rows f h =
 
 -- where the first faulty line stands
 pub record SamePlace (before others : List (List ℕ)) (line other : List ℕ) : Type 0 where
+  -- the lines before are the same
   pub before_is : before ≡ others
+  -- the faulty lines are the same
   pub line_is : line ≡ other
 
 place_once : (names : List (List ℕ)) (b c : List (List ℕ)) (l k : List ℕ) (a d : List (List ℕ)) (n m : ℕ) (f g : RowFault) (r s : List (List ℤ)) → b ++ l ∷ a ≡ c ++ k ∷ d → LinesRead names b r → LinesRead names c s → FaultAt names l n f → FaultAt names k m g → SamePlace b c l k
@@ -103,6 +105,7 @@ count_right a faults h k = cc
 count_once : (a b : ℕ) (faults : List RowFault) → faults ≡ Count a ∷ [] → faults ≡ Count b ∷ [] → a ≡ b
 count_once a b faults h k = cc
 
+-- a file has one answer at most
 pub one_answer : (names : List (List ℕ)) (text : List ℕ) (x y : Result (List (List ℤ)) RowFault) → Answers names text x → Answers names text y → x ≡ y
 one_answer names text x y (a_template rows e h) (a_template others d k) = e ∙ (ap Ok (lines_once names (lines_of text) rows others h.read k.read) ∙ sym d)
 one_answer names text x y (a_template rows e h) (a_count count d k) =

@@ -17,6 +17,7 @@ use Rattle.tm_rows.specs.Grammar.{Amount}
 use Rattle.tm_rows.specs.Sums.{share, total, StaysWithin}
 use Rattle.tm_rows.specs.Kept.{sum_at}
 
+-- a coefficient in its range fits 64 bits
 pub number_fits : (z : ℤ) → is_number z ≡ true → FitsSigned w64 z
 number_fits z h = fits_signed_from_abs w64 z (omega (arith, leb-true _ _ h))
 
@@ -25,6 +26,7 @@ chosen : (m : BTreeMap (Bor (List ℕ)) ℤ) (bs name : List ℕ) (c sum : ℤ) 
 chosen m bs name c sum true same s = s ∙ ap (λ q. sum_at m q +ℤ c) ((bytes_eq-Decides bs name).0 same)
 chosen m bs name c sum false other s = sym (+ℤ_idr _)
 
+-- where a term is added, the sum of each name grows by the term's share of it
 pub term_added : (m n : BTreeMap (Bor (List ℕ)) ℤ) (bs : List ℕ) (c sum : ℤ) → UpdatesBy (λ (x y : Bor (List ℕ)). slice_cmp nat_cmp x.now y.now) (λ k. slice_cmp nat_cmp bs k.now) m n (Some sum) → sum ≡ sum_at m bs +ℤ c → (name : List ℕ) → sum_at n name ≡ sum_at m name +ℤ share name (c, bs)
 term_added m n bs c sum u s name =
     ap (λ o. unwrap_or o (pos 0)) (btree_map_updates_str bs m n (Some sum) u name) ∙ chosen m bs name c sum (bytes_eq bs name) refl s
@@ -33,6 +35,7 @@ term_added m n bs c sum u s name =
 abbrev pub WithinUpTo : List Amount → ℕ → Type 0
 WithinUpTo amounts i = (name : List ℕ) (k : ℕ) → k ≤ i → IsTrue (is_number (total name (take k amounts)))
 
+-- the total of a name up to one more term grows by that term's share of it
 pub total_more : (a : List Amount) (i : ℕ) (t : Amount) (name : List ℕ) → i < length a → get_or a i t ≡ t → total name (take (i + 1) a) ≡ total name (take i a) +ℤ share name t
 total_more a i t name h e =
     fold_more (λ sum x. sum +ℤ share name x) (pos 0) a i t h ∙ ap (λ x. total name (take i a) +ℤ share name x) e
@@ -41,6 +44,7 @@ within_share : (before c : ℤ) (own : ℤ) (bs name : List ℕ) (b : Bool) → 
 within_share before c own bs name true e same w f = rw (same ((bytes_eq-Decides bs name).0 e)) f
 within_share before c own bs name false e same w f = rw (+ℤ_idr before) w
 
+-- where the sum of one more term stays in its range, the coefficients stay within it up to that term
 pub within_more : (a : List Amount) (i : ℕ) (t : Amount) → i < length a → get_or a i t ≡ t → WithinUpTo a i → is_number (total t.1 (take i a) +ℤ t.0) ≡ true → WithinUpTo a (i + 1)
 within_more a i t h e w f = λ name k le.
     ⊎_elim

@@ -11,6 +11,7 @@ use Rattle.tm_rows.specs.Kept.{kept_amount, AllFit, TakesTerm, NoTerm, TakesName
 rest_is : (t : Token) (ts : List Token) → take (length (t ∷ ts) - 1) (drop 1 (t ∷ ts)) ≡ ts
 rest_is t ts = take_all (length (t ∷ ts) - 1) ts (omega arith)
 
+-- a name that stands first is a term without a factor
 pub name_first : (line : List ℕ) (tokens : List Token) (d : Token) (negative : Bool) (kept : Term) → 1 ≤ length tokens → (get_or tokens 0 d).kind ≡ kind.Name → kept.coefficient ≡ signed negative (pos 1) → kept.name.now ≡ slice_range line (get_or tokens 0 d).at ((get_or tokens 0 d).at + (get_or tokens 0 d).len) → AllFit line tokens → TakesTerm line tokens negative kept (take (length tokens - 1) (drop 1 tokens))
 name_first line [] d negative kept l k c n fit = absurd (omega arith)
 name_first line (t ∷ ts) d negative kept l k c n fit =
@@ -41,6 +42,7 @@ number_before line t ts negative factor (Some found) k h = record {
   fit = h.fit;
 }
 
+-- a number that stands first is the factor of a term, where `*` and a name follow, and else no term
 pub number_first : (line : List ℕ) (tokens : List Token) (d : Token) (negative : Bool) (factor same : ℤ) (r : Option (Term × Bor (List Token))) → 1 ≤ length tokens → (get_or tokens 0 d).kind ≡ kind.Number factor → same ≡ factor → MatchOption r (NoName (symbols_of line (take (length tokens - 1) (drop 1 tokens)))) (λ found. TakesName line (take (length tokens - 1) (drop 1 tokens)) negative same found.0 found.1.now) → MatchOption r (NoTerm (symbols_of line tokens)) (λ found. TakesTerm line tokens negative found.0 found.1.now)
 number_first line [] d negative factor same r l k e h = absurd (omega arith)
 number_first line (t ∷ ts) d negative factor same r l k e h =
