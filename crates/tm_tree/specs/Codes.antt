@@ -11,6 +11,7 @@ use Rattle.tm_tree.specs.Tree.{Condition, free, compare, negation, both, either,
 use Rattle.tm_tree.specs.Tree.{Statement, Statements, set, havoc, assume, branch, loop, jump, label, nil, cons}
 
 -- ---- numbers, names and forms
+-- the code of a number
 abbrev pub int_code : ℤ → Gv
 int_code (pos n) = gcons gnil (gnum n)
 int_code (negsuc n) = gnum n
@@ -25,6 +26,7 @@ unfolding int_from
 int_back (pos n) = refl
 int_back (negsuc n) = refl
 
+-- the code of a list of numbers
 abbrev pub ints_code : List ℤ → Gv
 ints_code [] = gnil
 ints_code (z ∷ zs) = gcons (int_code z) (ints_code zs)
@@ -38,6 +40,7 @@ unfolding ints_from
 ints_back [] = refl
 ints_back (z ∷ zs) = ap₂ ◌∷◌ (int_back z) (ints_back zs)
 
+-- the code of a name
 abbrev pub name_code : List ℕ → Gv
 name_code [] = gnil
 name_code (b ∷ bs) = gcons (gnum b) (name_code bs)
@@ -51,6 +54,7 @@ unfolding name_from
 name_back [] = refl
 name_back (b ∷ bs) = ap (λ r. b ∷ r) (name_back bs)
 
+-- the code of a form
 abbrev pub form_code : Form → Gv
 form_code f = gcons (int_code f.constant) (ints_code f.coeffs)
 
@@ -63,6 +67,7 @@ unfolding form_from
 form_back f = ap₂ (λ cs c. let r : Form = record { coeffs = cs; constant = c } in r) (ints_back f.coeffs) (int_back f.constant)
 
 -- ---- conditions
+-- the code of a relation
 abbrev pub rel_code : Rel → Gv
 rel_code Eq = gnum 0
 rel_code Ne = gnum 1
@@ -88,6 +93,7 @@ rel_back Le = refl
 rel_back Gt = refl
 rel_back Ge = refl
 
+-- the code of a condition
 abbrev pub condition_code : Condition → Gv
 condition_code free = gnil
 condition_code (compare r f) = gcons (gnum 0) (gcons (rel_code r) (form_code f))
@@ -111,6 +117,7 @@ condition_back (both c d) = ap₂ both (condition_back c) (condition_back d)
 condition_back (either c d) = ap₂ either (condition_back c) (condition_back d)
 
 -- ---- loops and jumps
+-- the code of a change
 abbrev pub change_code : Change → Gv
 change_code change.Unchanged = gnil
 change_code (change.Set var form line) = gcons (form_code form) (gcons (gnum var) (gnum line))
@@ -127,6 +134,7 @@ change_back change.Unchanged = refl
 change_back (change.Set var form line) = ap (λ f. change.Set var f line) (form_back form)
 change_back (change.Havoc var line) = refl
 
+-- the code of a kind of loop
 abbrev pub kind_code : LoopKind → Gv
 kind_code while_loop = gnum 0
 kind_code (for_loop c) = gcons gnil (change_code c)
@@ -143,6 +151,7 @@ kind_back while_loop = refl
 kind_back (for_loop c) = ap for_loop (change_back c)
 kind_back do_loop = refl
 
+-- the code of a jump
 abbrev pub jump_code : Jump → Gv
 jump_code breaks = gnum 0
 jump_code continues = gnum 1
@@ -158,6 +167,7 @@ jump_back continues = refl
 
 -- ---- statements
 abbrev mutual
+  -- the code of a statement
   pub statement_code : Statement → Gv
   statement_code (set var form line) = gcons (gnum 0) (gcons (gnum var) (gcons (form_code form) (gnum line)))
   statement_code (havoc var line) = gcons (gnum 1) (gcons (gnum var) (gnum line))
@@ -169,6 +179,7 @@ abbrev mutual
   statement_code (jump kind line) = gcons (gnum 5) (gcons (jump_code kind) (gnum line))
   statement_code (label name line) = gcons (gnum 6) (gcons (name_code name) (gnum line))
 
+  -- the code of a list of statements
   pub statements_code : Statements → Gv
   statements_code nil = gnil
   statements_code (cons s rest) = gcons (statement_code s) (statements_code rest)
@@ -210,8 +221,10 @@ mutual
   statements_back nil = refl
   statements_back (cons s rest) = ap₂ cons (statement_back s) (statements_back rest)
 
+-- two lists of statements with one code are the same
 pub statements_inj : (x y : Statements) → statements_code x ≡ statements_code y → x ≡ y
 statements_inj x y e = sym (statements_back x) ∙ ap statements_from e ∙ statements_back y
 
+-- statements are told apart by their codes
 abbrev pub coded_statements : Coded Statements
 coded_statements = record { code = statements_code; inj = statements_inj }

@@ -20,6 +20,7 @@ deep_one (Break line) = omega arith
 deep_one (Continue line) = omega arith
 deep_one (Label name line) = omega arith
 
+-- blocks nest at most as deep as they have statements
 pub deep_all : (ss : List Stmt) → most deep-Stmt ss ≤ nodes_in (statements_of ss)
 deep_all [] = omega arith
 deep_all (s ∷ ss) = omega (arith, deep_one s, deep_all ss)

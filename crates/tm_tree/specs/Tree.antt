@@ -24,8 +24,8 @@ pub data Jump : Type 0 where
   breaks : Jump
   continues : Jump
 
--- a statement with its line, and a list of statements
 mutual
+  -- a statement with its line
   pub data Statement : Type 0 where
     set : (var : ℕ) (form : Form) (line : ℕ) → Statement
     havoc : (var line : ℕ) → Statement
@@ -35,6 +35,7 @@ mutual
     jump : Jump → (line : ℕ) → Statement
     label : (name : List ℕ) (line : ℕ) → Statement
 
+  -- a list of statements
   pub data Statements : Type 0 where
     nil : Statements
     cons : Statement → Statements → Statements

@@ -23,10 +23,10 @@ dot-negated [] xs = refl
 dot-negated (c ∷ cs) [] = refl
 dot-negated (c ∷ cs) (x ∷ xs) = rw (neg_ℤ-+ℤ, dot-negated cs xs, neg-times c x)
 
-pub value-negated : (f : Form) (x : State) → value (negated f) x ≡ neg_ℤ (value f x)
+value-negated : (f : Form) (x : State) → value (negated f) x ≡ neg_ℤ (value f x)
 value-negated f x = rw (dot-negated f.coeffs x) (sym (neg_ℤ-+ℤ (dot f.coeffs x) f.constant))
 
-pub value-plus_one : (f : Form) (x : State) → value (plus_one f) x ≡ value f x +ℤ pos 1
+value-plus_one : (f : Form) (x : State) → value (plus_one f) x ≡ value f x +ℤ pos 1
 value-plus_one f x = let d = dot f.coeffs x in omega (arith, ints)
 
 -- ---- one guard, and the case of it alone
@@ -147,6 +147,7 @@ sums e f = ((λ h. ⊎_elim (λ a. inl (e.0 a)) (λ b. inr (f.0 b)) h), (λ h. �
 through : {A B C : Type 0} → A ↔ B → C ↔ B → A ↔ C
 through e f = ((λ h. f.1 (e.0 h)), (λ h. e.1 (f.0 h)))
 
+-- a condition may have a truth exactly where all guards of some case of it hold
 pub cases_law : CasesAreTruth
 cases_law true free x = ((λ h. inl tt), (λ h. tt))
 cases_law false free x = ((λ h. inl tt), (λ h. tt))
