@@ -8,8 +8,11 @@ use Rattle.std.specs.Io.KnownBytes.{Appends, Keeps}
 
 -- a front of the piece was appended, and this rest is left
 pub record HasWritten (before now : Option (List ℕ)) (piece rest : List ℕ) : Type 0 where
+  -- the front that was written
   pub front : List ℕ
+  -- the piece is that front and the rest
   pub split : piece ≡ front ++ rest
+  -- that front was appended
   pub appended : Appends before now front
 
 -- what was appended is a prefix
