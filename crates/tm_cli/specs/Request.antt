@@ -16,12 +16,14 @@ use Rattle.tm_cli.specs.declared.request.Purpose.TheVariants.{Report, Certificat
 
 -- ---- the texts of a request that borrows them
 
+-- the domain with its file's name as a text
 abbrev pub domain_text : Domain (Bor Text) → Domain Text
 domain_text Intervals = Intervals
 domain_text Zones = Zones
 domain_text Octagons = Octagons
 domain_text (Rows file) = Rows file.now
 
+-- the analysis with its names as texts
 abbrev pub analysis_text : Analysis (Bor Text) → Analysis Text
 analysis_text a = record {
   program = a.program.now;
@@ -30,6 +32,7 @@ analysis_text a = record {
   policy = a.policy;
 }
 
+-- the request with its names as texts
 abbrev pub request_text : Request (Bor Text) → Request Text
 request_text (Analyse purpose a) = Analyse purpose (analysis_text a)
 request_text (Check program certificate) = Check program.now certificate.now
@@ -65,27 +68,34 @@ analysis_in given =
     (domain_in (unwrap_or (first_of (codes "domain") given) (codes "intervals")) (first_of (codes "rows") given)))
     (first_of (codes "program") given)
 
+-- `solve` and `certify`: an analysis for this purpose
 abbrev pub analyse_in : Purpose → List Row → Option (Request Text)
 analyse_in purpose given = option_map (λ a. Analyse purpose a) (analysis_in given)
 
+-- `check`: a program and a certificate
 abbrev pub check_in : List Row → Option (Request Text)
 check_in given = option_and_then (λ program. option_map (λ certificate. Check program certificate)
     (first_of (codes "certificate") given)) (first_of (codes "program") given)
 
+-- `bench`: a seed up to 2^31 - 1, and 1 to 46 loops
 abbrev pub bench_in : List Row → Option (Request Text)
 bench_in given = option_and_then (λ seed. option_map (λ loops. Bench seed loops)
     (option_and_then (number_in 1 46) (first_of (codes "loops") given)))
     (option_and_then (number_in 0 2147483647) (first_of (codes "seed") given))
 
+-- `upgrade`: a certificate
 abbrev pub upgrade_in : List Row → Option (Request Text)
 upgrade_in given = option_map (λ certificate. Upgrade certificate) (first_of (codes "certificate") given)
 
+-- `prove`: claims and an analysis
 abbrev pub prove_in : List Row → Option (Request Text)
 prove_in given = option_and_then (λ a. option_map (λ claims. Prove claims a) (first_of (codes "claims") given)) (analysis_in given)
 
+-- `transitions`: an analysis of a file of transitions
 abbrev pub transitions_in : List Row → Option (Request Text)
 transitions_in given = option_map (λ a. Transitions a) (analysis_in given)
 
+-- `equations`: a file of equations, how many improvements at most, and by which rule
 abbrev pub equations_in : List Row → Option (Request Text)
 equations_in given =
     option_and_then (λ file.

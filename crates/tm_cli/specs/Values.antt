@@ -21,6 +21,7 @@ number_in least most text =
 abbrev pub meaning_in : {A : Type 0} → List (Text × A) → Text → Option A
 meaning_in table word = option_map (λ row. row.1) (find (λ row. bytes_eq word row.0) table)
 
+-- the rules by which an edge is picked
 abbrev pub policies : List (Text × Policy)
 policies = (codes "best", Best) ∷ (codes "first", First) ∷ []
 

@@ -47,6 +47,7 @@ analysed [] None request e = cc
 analysed [] (Some a) request e = (a, cc)
 analysed (kind ∷ kinds) o request e = cc
 
+-- words that begin with `solve` ask for the report of an analysis, if for anything
 pub reports : (rest : List Text) (request : Request Text) → request_of (codes "solve" ∷ rest) ≡ Some request → (a : Analysis Text) × (request ≡ Analyse Report a)
 unfolding request_of
 reports rest request e =

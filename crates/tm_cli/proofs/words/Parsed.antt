@@ -11,10 +11,12 @@ use Rattle.clap.proofs.OnLiterals.{clap_on_literals}
 use Rattle.tm_cli.specs.CommandLine.{tmpl_app}
 use Rattle.tm_cli.specs.Request.{command_in, request_of, request_text, unless_fault}
 
+-- the command line is simple: the words alone give its matches
 pub simple : is_simple tmpl_app ≡ true
 unfolding clap_on_literals
 simple = refl
 
+-- the command line is simple, and no argument of it has a rule on another
 pub free : is_simple_and_free tmpl_app ≡ true
 unfolding clap_on_literals
 free = refl
@@ -35,6 +37,7 @@ pub given : (o : Option (Request (Bor Text))) (r : Result (Request (Bor Text)) W
 given None r asked e s = rw e tt
 given (Some x) r asked e s = rw e (sym s)
 
+-- where the matches name no request, the words ask for nothing
 pub absent : (o : Option (Request (Bor Text))) (r : Result (Request (Bor Text)) WordsFault) (asked : Option (Request Text)) → r ≡ ok_or o Usage → option_map request_text o ≡ asked → IsErrOf r Usage → asked ≡ None
 absent None r asked e s is = sym s
 absent (Some x) r asked e s is = let bad : IsErrOf (ok_or (Some x) Usage) Usage = rw e at is in cc
