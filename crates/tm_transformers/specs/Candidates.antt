@@ -15,6 +15,7 @@ pub record Supported (system : Equations) (b q : Vector) (u : Listed) : Type 0 w
   pub above : b u.point u.row ≤ᴱ fin bound
   pub supported : fin bound ≤ᴱ transformer system q (picked system u) (own_row system u)
 
+-- each unknown of the list is supported
 abbrev pub AllSupported : Equations → Vector → Vector → List Listed → Type 0
 AllSupported system b q [] = Unit {0}
 AllSupported system b q (u ∷ rest) = Supported system b q u × AllSupported system b q rest

@@ -25,6 +25,7 @@ unfoldable pub guard_limits : (List ℚ → List ℚ) → List Affine → List L
 guard_limits embed [] = []
 guard_limits embed (g ∷ gs) = record { coeffs = embed g.coeffs; side = neg_ℚ g.constant } ∷ guard_limits embed gs
 
+-- the rows of an edge's problem: those of its source, and then its guards
 unfoldable pub edge_limits : Equations → Vector → Edge → List Limit
 edge_limits system z edge =
     source_limits (λ r u. u) system.variables (z edge.from) system.template ++ guard_limits (λ u. u) (guard_forms system.variables edge.actions)
@@ -34,6 +35,7 @@ unfoldable pub edge_problem : Equations → Vector → Edge → List ℤ → Pro
 edge_problem system z edge row = limits_problem (width system.variables edge.actions) (edge_limits system z edge)
     (end_form system.variables edge.actions row).coeffs
 
+-- whether a bound is −∞
 abbrev pub is_lost : Ext → Bool
 is_lost neg_inf = true
 is_lost (fin c) = false

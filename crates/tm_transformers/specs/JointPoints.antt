@@ -38,6 +38,7 @@ word_points system [] ws = λ k. zero_ℚ
 word_points system (u ∷ rest) [] = λ k. zero_ℚ
 word_points system (u ∷ rest) (w ∷ ws) = join (columns_of system u + columns_of system u) (pos_neg (at w)) (word_points system rest ws)
 
+-- the rises, and then the split words
 unfoldable pub joint_point : Equations → List Listed → (ℕ → ℚ) → List Word → (ℕ → ℚ)
 joint_point system list x ws = join (length list) x (word_points system list ws)
 

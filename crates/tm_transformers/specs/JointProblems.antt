@@ -19,12 +19,15 @@ pub record Listed : Type 0 where
   pub row : ℕ
   pub edge : ℕ
 
+-- the picked edge of an unknown
 unfoldable pub picked : Equations → Listed → Edge
 picked system u = get_or system.edges u.edge (record { from = 0; to = 0; actions = [] })
 
+-- the template row of an unknown
 unfoldable pub own_row : Equations → Listed → List ℤ
 own_row system u = get_or system.template u.row []
 
+-- whether an unknown is at this point and row
 unfoldable pub is_at : Listed → ℕ → ℕ → Bool
 is_at u p r = eqb u.point p && eqb u.row r
 
@@ -32,6 +35,7 @@ is_at u p r = eqb u.point p && eqb u.row r
 unfoldable pub columns_of : Equations → Listed → ℕ
 columns_of system u = width system.variables (picked system u).actions
 
+-- n ones
 unfoldable pub ones : ℕ → List ℚ
 ones zero = []
 ones (suc n) = one_ℚ ∷ ones n
@@ -51,6 +55,7 @@ unfoldable pub rise_at : List Listed → (ℕ → ℚ) → ℕ → ℕ → ℚ
 rise_at [] x p r = zero_ℚ
 rise_at (u ∷ list) x p r = if is_at u p r then x 0 else rise_at list (λ k. x (suc k)) p r
 
+-- a bound raised by a number, if it is finite
 unfoldable pub raise_by : Ext → ℚ → Ext
 raise_by neg_inf q = neg_inf
 raise_by (fin c) q = fin (c +ℚ q)
@@ -96,6 +101,7 @@ unfoldable pub words_of : Equations → List Listed → (ℕ → ℚ) → List W
 words_of system [] x = []
 words_of system (u ∷ rest) x = tabulate (columns_of system u) (unsplit x) ∷ words_of system rest (shift (columns_of system u + columns_of system u) x)
 
+-- the words of a joint problem's point
 unfoldable pub joint_words : Equations → List Listed → (ℕ → ℚ) → List Word
 joint_words system list x = words_of system list (shift (length list) x)
 
@@ -104,6 +110,7 @@ pub record Supports (system : Equations) (y : Vector) (u : Listed) (w : Word) : 
   pub runs : Runs system y (picked system u) w
   pub reaches : y u.point u.row ≤ᴱ fin (end_value system (picked system u) (own_row system u) w)
 
+-- each listed unknown has its word that supports it
 abbrev pub AllSupport : Equations → Vector → List Listed → List Word → Type 0
 AllSupport system y [] ws = Unit {0}
 AllSupport system y (u ∷ rest) [] = ⊥
@@ -115,6 +122,7 @@ pub record Rising (system : Equations) (b : Vector) (u : Listed) : Type 0 where
   pub finite : b u.point u.row ≡ fin bound
   pub above : fin bound <ᴱ transformer system b (picked system u) (own_row system u)
 
+-- each listed unknown meets the list condition
 abbrev pub AllRising : Equations → Vector → List Listed → Type 0
 AllRising system b [] = Unit {0}
 AllRising system b (u ∷ rest) = Rising system b u × AllRising system b rest
@@ -127,6 +135,7 @@ pub record Follows (system : Equations) (b : Vector) (all : List Listed) (rates 
   pub falls : Falls system.variables (picked system u).actions d
   pub gains : rise_at all rates u.point u.row ≤ℚ lin (end_form system.variables (picked system u).actions (own_row system u)) d
 
+-- each listed unknown has its direction that keeps to the rates
 abbrev pub AllFollow : Equations → Vector → List Listed → (ℕ → ℚ) → List Listed → List Word → Type 0
 AllFollow system b all rates [] ds = Unit {0}
 AllFollow system b all rates (u ∷ rest) [] = ⊥

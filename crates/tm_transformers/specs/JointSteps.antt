@@ -16,6 +16,7 @@ pub record Low (system : Equations) (b : Vector) (u : Listed) (w : Word) : Type 
   pub runs : Runs system b (picked system u) w
   pub above : b u.point u.row <ᴱ fin (end_value system (picked system u) (own_row system u) w)
 
+-- each listed unknown has its low word
 abbrev pub AllLow : Equations → Vector → List Listed → List Word → Type 0
 AllLow system b [] ws = Unit {0}
 AllLow system b (u ∷ rest) [] = ⊥
@@ -29,6 +30,7 @@ pub record IsPicked (system : Equations) (u : Listed) : Type 0 where
   pub edge_within : u.edge < length system.edges
   pub into : (picked system u).to ≡ u.point
 
+-- each listed unknown is picked
 abbrev pub AllPicked : Equations → List Listed → Type 0
 AllPicked system [] = Unit {0}
 AllPicked system (u ∷ rest) = IsPicked system u × AllPicked system rest
@@ -37,6 +39,7 @@ AllPicked system (u ∷ rest) = IsPicked system u × AllPicked system rest
 unfoldable pub pieces : ℕ → Word → Pieces
 pieces n w = record { start = take n w; free = drop n w }
 
+-- the item of a step that an unknown's words and number make
 unfoldable pub item_of : ℕ → Listed → Word → Word → ℚ → Item
 item_of n u low second number = record { point = u.point; row = u.row; edge = u.edge; low = pieces n low; second = pieces n second; number = number }
 

@@ -37,5 +37,6 @@ pub record PartsOf (system : Equations) (list : List Listed) : Type 0 where
   pub classes : AreClasses system list (parts system list)
   pub ordered : Admissible system list [] (parts system list)
 
+-- the parts of every list are such
 abbrev pub PartsAreOrdered : Type 0
 PartsAreOrdered = (system : Equations) (list : List Listed) → PartsOf system list

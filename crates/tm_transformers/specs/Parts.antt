@@ -9,6 +9,7 @@ use Rattle.tm_transformers.specs.JointProblems.{Listed, picked}
 unfoldable pub leans : Equations → Listed → Listed → Bool
 leans system u v = eqb (picked system u).from v.point
 
+-- whether two unknowns are equal
 unfoldable pub same : Listed → Listed → Bool
 same u v = eqb u.point v.point && (eqb u.row v.row && eqb u.edge v.edge)
 
@@ -26,14 +27,17 @@ reaches system (x ∷ xs) u v = reaches system xs u v || (reaches system xs u x 
 unfoldable pub together : Equations → List Listed → Listed → Listed → Bool
 together system list u v = reaches system list u v && reaches system list v u
 
+-- whether a test passes at each unknown of a list
 unfoldable pub all_in : (Listed → Bool) → List Listed → Bool
 all_in f [] = true
 all_in f (u ∷ list) = f u && all_in f list
 
+-- the unknowns of a list at which a test passes, in order
 unfoldable pub keep : (Listed → Bool) → List Listed → List Listed
 keep f [] = []
 keep f (u ∷ list) = if f u then u ∷ keep f list else keep f list
 
+-- the first unknown of a list at which a test passes
 unfoldable pub first_of : (Listed → Bool) → List Listed → Option Listed
 first_of f [] = None
 first_of f (u ∷ list) = if f u then Some u else first_of f list
@@ -93,6 +97,7 @@ InOrder system list rest (part ∷ more) =
 abbrev pub Lower : Listed → Listed → Type 0
 Lower u v = (u.point < v.point) ⊎ ((u.point ≡ v.point) × (u.row < v.row))
 
+-- an unknown comes before each of a list
 abbrev pub LowerThanAll : Listed → List Listed → Type 0
 LowerThanAll u [] = Unit {0}
 LowerThanAll u (v ∷ list) = Lower u v × LowerThanAll u list
@@ -102,6 +107,7 @@ abbrev pub IsRising : List Listed → Type 0
 IsRising [] = Unit {0}
 IsRising (u ∷ list) = LowerThanAll u list × IsRising list
 
+-- each part rises
 abbrev pub AllRise : List (List Listed) → Type 0
 AllRise [] = Unit {0}
 AllRise (part ∷ more) = IsRising part × AllRise more

@@ -26,10 +26,12 @@ pub start_within : (system : Equations) (edge : Edge) (row : List ℤ) → lengt
 unfolding width
 start_within system edge row = let l = start_form_width system.variables row in omega (arith, l)
 
+-- the product of a row's start form and a word is the row's value at the word's start
 pub start_is : (n : ℕ) (row : List ℤ) (w : Word) → dot (start_form n row).coeffs w ≡ dotℚ row (start_of n w)
 unfolding lin
 start_is n row w = start-coeffs n row w
 
+-- a word has at least a column for each variable
 pub wider : (n : ℕ) (actions : List Action) (k : ℕ) → k ≤ n → k ≤ width n actions
 unfolding width
 wider n actions k l = omega (arith, l)
@@ -43,7 +45,7 @@ edge_within system z edge =
     (source_within m (λ r u. u) n (z edge.from) system.template (λ r u l. wider n edge.actions (length u) l)) (guards_within m (λ u. u) m (guard_forms n edge.actions) (guard_forms_width n edge.actions) (λ u l. l))
 
 -- a number at most each finite bound is at most the bound, if that isn't −∞
-pub at_most_bound : (a : ℚ) (v : Ext) → neg_inf <ᴱ v → ((c : ℚ) → v ≡ fin c → a ≤ℚ c) → fin a ≤ᴱ v
+at_most_bound : (a : ℚ) (v : Ext) → neg_inf <ᴱ v → ((c : ℚ) → v ≡ fin c → a ≤ℚ c) → fin a ≤ᴱ v
 at_most_bound a neg_inf h i = h
 at_most_bound a (fin c) h i = i c refl
 at_most_bound a pos_inf h i = tt
@@ -84,6 +86,7 @@ pub point_runs : (system : Equations) (z : Vector) (edge : Edge) (row : List ℤ
 unfolding edge_problem limits_problem
 point_runs system z edge row x none p = edge_runs system z edge x none (under_from true (width system.variables edge.actions) (edge_limits system z edge) x (edge_within system z edge) p.meets)
 
+-- a word that runs is a point of the edge's problem
 pub runs_point : (system : Equations) (z : Vector) (edge : Edge) (row : List ℤ) (w : Word) → Runs system z edge w → IsFreePoint (edge_problem system z edge row) (at w)
 unfolding edge_problem limits_problem
 runs_point system z edge row w runs = record { meets = under_into true (width system.variables edge.actions) (edge_limits system z edge) (at w) (edge_within system z edge) (edge_meets system z edge w runs) }

@@ -51,7 +51,7 @@ none_lost bounds (first ∷ rows) e =
     by h n (suc r) row f = n.above r row f
 
 -- else there is one
-pub some_lost : (bounds : ℕ → Ext) (rows : List (List ℤ)) → lost bounds rows ≡ true → (r : ℕ) × (row : List ℤ) × (slice_get rows r ≡ Some row) × (bounds r ≡ neg_inf)
+some_lost : (bounds : ℕ → Ext) (rows : List (List ℤ)) → lost bounds rows ≡ true → (r : ℕ) × (row : List ℤ) × (slice_get rows r ≡ Some row) × (bounds r ≡ neg_inf)
 unfolding lost
 some_lost bounds [] e = absurd (true≢false (sym e))
 some_lost bounds (first ∷ rows) e =
@@ -156,6 +156,7 @@ transformer_source system z edge row l = reach_source system z edge row (transfo
 abbrev pub BelowAt : Equations → ℕ → Vector → Vector → Type 0
 BelowAt system p z q = (r : ℕ) → r < length system.template → z p r ≤ᴱ q p r
 
+-- a word that runs at a vector runs at one whose bounds at the source are at least as great
 pub runs_below_at : (system : Equations) (z q : Vector) (edge : Edge) (w : Word) → BelowAt system edge.from z q → Runs system z edge w → Runs system q edge w
 runs_below_at system z q edge w below runs = record {
   passes = runs.passes;

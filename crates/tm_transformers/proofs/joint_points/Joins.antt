@@ -8,21 +8,24 @@ use Rattle.tm_transformers.specs.Limits.{shift, tabulate}
 use Rattle.tm_transformers.specs.JointPoints.{join, positive, greater, pos_neg}
 use Rattle.tm_transformers.proofs.limits.Products.{tabulate_same}
 
+-- past the first part stands the second
 pub shift-join : (n : ℕ) (f g : ℕ → ℚ) → shift n (join n f g) ≡ g
 shift-join zero f g = refl
 shift-join (suc n) f g = shift-join n (λ k. f (suc k)) g
 
+-- the first n entries are those of the first part
 pub join_below : (n : ℕ) (f g : ℕ → ℚ) (k : ℕ) → k < n → join n f g k ≡ f k
 join_below zero f g k l = absurd (omega arith)
 join_below (suc n) f g zero l = refl
 join_below (suc n) f g (suc k) l = join_below n (λ j. f (suc j)) g k (omega arith)
 
+-- where both parts are at least 0, the joined point is
 pub join_nonneg : (n : ℕ) (f g : ℕ → ℚ) → ((k : ℕ) → k < n → zero_ℚ ≤ℚ f k) → ((k : ℕ) → zero_ℚ ≤ℚ g k) → (k : ℕ) → zero_ℚ ≤ℚ join n f g k
 join_nonneg zero f g h i k = i k
 join_nonneg (suc n) f g h i zero = h 0 (omega arith)
 join_nonneg (suc n) f g h i (suc k) = join_nonneg n (λ j. f (suc j)) g (λ j l. h (suc j) (omega arith)) i k
 
-pub positive_nonneg : (q : ℚ) → zero_ℚ ≤ℚ positive q
+positive_nonneg : (q : ℚ) → zero_ℚ ≤ℚ positive q
 unfolding positive
 positive_nonneg q = by (le_or_lt zero_ℚ q)
   where
@@ -40,6 +43,7 @@ parts_difference q = by (le_or_lt zero_ℚ q) (le_or_lt zero_ℚ (neg_ℚ q))
     by (inr h) (inl i) = lin_eq (q ∷ []) (le i ∷ []) (search reads_all depth 40) tt
     by (inr h) (inr i) = lin_eq (q ∷ []) (lt h ∷ lt i ∷ []) (search reads_all depth 40) tt
 
+-- positive and negative parts are at least 0
 pub pos_neg_nonneg : (f : ℕ → ℚ) (k : ℕ) → zero_ℚ ≤ℚ pos_neg f k
 unfolding pos_neg
 pos_neg_nonneg f zero = positive_nonneg (f 0)
@@ -57,7 +61,7 @@ pos_neg_odd f zero = refl
 pos_neg_odd f (suc j) = let e : suc (suc j + suc j) ≡ suc (suc (suc (j + j))) = omega arith in ap (pos_neg f) e ∙ pos_neg_odd (λ j. f (suc j)) j
 
 -- the parts' difference
-pub unsplit-pos_neg : (f : ℕ → ℚ) (j : ℕ) → unsplit (pos_neg f) j ≡ f j
+unsplit-pos_neg : (f : ℕ → ℚ) (j : ℕ) → unsplit (pos_neg f) j ≡ f j
 unsplit-pos_neg f j = ap (λ s. s -ℚ pos_neg f (suc (j + j))) (pos_neg_even f j) ∙ ap (λ s. positive (f j) -ℚ s) (pos_neg_odd f j) ∙ parts_difference (f j)
 
 -- the word of a split word
@@ -75,8 +79,10 @@ greater_is a b = by (le_or_lt a b)
     by (inl h) = inl (refl, h)
     by (inr h) = inr (refl, le_of_lt_ℚ h)
 
+-- the greater of two numbers is at least the first
 pub greater_first : (a b : ℚ) → a ≤ℚ greater a b
 greater_first a b = ⊎_elim (λ h. subst (λ s. a ≤ℚ s) (sym h.0) h.1) (λ h. subst (λ s. a ≤ℚ s) (sym h.0) (≤ℚ_refl a)) (greater_is a b)
 
+-- the greater of two numbers is at least the second
 pub greater_second : (a b : ℚ) → b ≤ℚ greater a b
 greater_second a b = ⊎_elim (λ h. subst (λ s. b ≤ℚ s) (sym h.0) (≤ℚ_refl b)) (λ h. subst (λ s. b ≤ℚ s) (sym h.0) h.1) (greater_is a b)

@@ -37,7 +37,7 @@ unfolding raised
 raised-nothing list b = λ i p r. (ap (raise_by (b p r)) (no_rise list p r) ∙ raise_nothing (b p r)) i
 
 -- the base has words that run and exceed it
-pub low_words : (system : Equations) (b : Vector) (list : List Listed) → AllRising system b list → (ws : List Word) × AllSupport system b list ws
+low_words : (system : Equations) (b : Vector) (list : List Listed) → AllRising system b list → (ws : List Word) × AllSupport system b list ws
 low_words system b [] h = ([], tt)
 low_words system b (u ∷ rest) h =
     let e = transformer_exceeds system b (picked system u) (own_row system u) (fin h.0.bound) h.0.above in

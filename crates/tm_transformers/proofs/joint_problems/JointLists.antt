@@ -11,23 +11,28 @@ use Rattle.tm_transformers.specs.JointPoints.{Unlisted, Distinct}
 use Rattle.tm_transformers.specs.Candidates.{Supported, AllSupported, rises_of}
 use Rattle.tm_transformers.proofs.joint_problems.Rises.{is_at_means, is_at_itself}
 
+-- each member of a list that rises does
 pub rising_at : (system : Equations) (b : Vector) (list : List Listed) (u : Listed) → AllRising system b list → In list u → Rising system b u
 rising_at system b [] u h m = absurd m
 rising_at system b (v ∷ list) u h m = ⊎_elim (λ e. subst (λ s. Rising system b s) e h.0) (λ k. rising_at system b list u h.1 k) m
 
+-- each member of a list that is supported is
 pub supported_at : (system : Equations) (b q : Vector) (list : List Listed) (u : Listed) → AllSupported system b q list → In list u → Supported system b q u
 supported_at system b q [] u h m = absurd m
 supported_at system b q (v ∷ list) u h m = ⊎_elim (λ e. subst (λ s. Supported system b q s) e h.0) (λ k. supported_at system b q list u h.1 k) m
 
+-- a list whose members are all supported is supported
 pub all_supported : (system : Equations) (b q : Vector) (list : List Listed) → ((u : Listed) → In list u → Supported system b q u) → AllSupported system b q list
 all_supported system b q [] h = tt
 all_supported system b q (u ∷ list) h = (h u (inl refl), all_supported system b q list (λ v m. h v (inr m)))
 
+-- each member of a list with supporting words has one
 pub support_at : (system : Equations) (y : Vector) (list : List Listed) (ws : List Word) (u : Listed) → AllSupport system y list ws → In list u → (w : Word) × Supports system y u w
 support_at system y [] ws u h m = absurd m
 support_at system y (v ∷ list) [] u h m = absurd h
 support_at system y (v ∷ list) (w ∷ ws) u h m = ⊎_elim (λ e. (w, subst (λ s. Supports system y s w) e h.0)) (λ k. support_at system y list ws u h.1 k) m
 
+-- each member of a list with directions that keep to the rates has one
 pub follow_at : (system : Equations) (b : Vector) (all : List Listed) (rates : ℕ → ℚ) (list : List Listed) (ds : List Word) (u : Listed) → AllFollow system b all rates list ds → In list u →
     (d : Word) × Follows system b all rates u d
 follow_at system b all rates [] ds u h m = absurd m
@@ -39,6 +44,7 @@ pub unlisted_other : (list : List Listed) (p r : ℕ) (u : Listed) → Unlisted 
 unlisted_other [] p r u n m = absurd m
 unlisted_other (v ∷ list) p r u n m = ⊎_elim (λ e. subst (λ s. is_at s p r ≡ false) e n.0) (λ k. unlisted_other list p r u n.1 k) m
 
+-- a member of a list is not unlisted
 pub not_unlisted : (list : List Listed) (u : Listed) → In list u → Unlisted list u.point u.row → ⊥
 not_unlisted list u m n = true≢false (sym (is_at_itself u) ∙ unlisted_other list u.point u.row u n m)
 
@@ -61,11 +67,16 @@ distinct_same (x ∷ list) u v d m n e = by m n (λ k l. distinct_same list u v 
 
 -- the element that stands at a place
 pub record Placed (list : List Listed) (b q : Vector) (x : ℕ → ℚ) (k : ℕ) : Type 0 where
+  -- the unknown that stands there
   pub unknown : Listed
+  -- it is a member of the list
   pub listed : In list unknown
+  -- its rise is the entry at this place
   pub rise : rise_at list x unknown.point unknown.row ≡ x k
+  -- its rise over the base is the entry at this place
   pub over : rises_of list b q k ≡ num (q unknown.point unknown.row) -ℚ num (b unknown.point unknown.row)
 
+-- at each place of a list without repetition stands an unknown with the rises of that place
 pub placed : (list : List Listed) (b q : Vector) (x : ℕ → ℚ) (k : ℕ) → Distinct list → k < length list → Placed list b q x k
 unfolding rise_at rises_of
 placed [] b q x k d l = absurd (omega (arith, l))

@@ -21,14 +21,14 @@ use Rattle.tm_transformers.proofs.edge_problems.EdgePoints.{edge_runs, edge_meet
 use Rattle.tm_transformers.proofs.edge_problems.TransformerOf.{transformer_exceeds}
 
 -- a word cut to its edge's columns runs as it does, with its value
-pub cut_runs : (system : Equations) (z : Vector) (u : Listed) (w : Word) → Runs system z (picked system u) w → Runs system z (picked system u) (tabulate (columns_of system u) (at w))
+cut_runs : (system : Equations) (z : Vector) (u : Listed) (w : Word) → Runs system z (picked system u) w → Runs system z (picked system u) (tabulate (columns_of system u) (at w))
 unfolding columns_of
 cut_runs system z u w runs =
     edge_runs system z (picked system u) (at w)
     (record { above = λ r row g. above_neg_inf (dotℚ row (start_of system.variables w)) (z (picked system u).from r) (runs.fits r row g) })
     (edge_meets system z (picked system u) w runs)
 
-pub cut_value : (system : Equations) (u : Listed) (w : Word) → end_value system (picked system u) (own_row system u) w ≡ end_value system (picked system u) (own_row system u) (tabulate (columns_of system u) (at w))
+cut_value : (system : Equations) (u : Listed) (w : Word) → end_value system (picked system u) (own_row system u) w ≡ end_value system (picked system u) (own_row system u) (tabulate (columns_of system u) (at w))
 unfolding columns_of end_value val
 cut_value system u w =
     let n = system.variables in
@@ -60,15 +60,18 @@ AllSized system [] ws = Unit {0}
 AllSized system (u ∷ rest) [] = ⊥
 AllSized system (u ∷ rest) (w ∷ ws) = (length w ≡ columns_of system u) × AllSized system rest ws
 
+-- the words of a point have a value for each column
 pub words_sized : (system : Equations) (list : List Listed) (x : ℕ → ℚ) → AllSized system list (words_of system list x)
 unfolding words_of
 words_sized system [] x = tt
 words_sized system (u ∷ rest) x = (length-tabulate (columns_of system u) (unsplit x), words_sized system rest (shift (columns_of system u + columns_of system u) x))
 
+-- an item of a picked unknown is placed
 pub item_placed : (system : Equations) (u : Listed) (l h : Word) (c : ℚ) → IsPicked system u → Placed system (item_of system.variables u l h c)
 unfolding item_of edge_of picked
 item_placed system u l h c p = record { later = p.later; point_within = p.point_within; row_within = p.row_within; edge_within = p.edge_within; into = p.into }
 
+-- each member of a list of picked unknowns is picked
 pub picked_at : (system : Equations) (list : List Listed) (u : Listed) → AllPicked system list → In list u → IsPicked system u
 picked_at system [] u h m = absurd m
 picked_at system (v ∷ list) u h m = ⊎_elim (λ e. subst (λ s. IsPicked system s) e h.0) (λ k. picked_at system list u h.1 k) m
@@ -85,6 +88,7 @@ pub word_pieces : (n : ℕ) (w : Word) → word (pieces n w) ≡ w
 unfolding pieces
 word_pieces n w = take-append-drop n w
 
+-- the pieces of a word with a value for each column have a value for each variable and for each free value
 pub pieces_sized : (system : Equations) (u : Listed) (w : Word) → length w ≡ columns_of system u →
     (length (pieces system.variables w).start ≡ system.variables) × (length (pieces system.variables w).free ≡ free_count (picked system u).actions)
 unfolding pieces columns_of width

@@ -132,7 +132,7 @@ unfolding rise_at
 rise_at-join [] x g p r = refl
 rise_at-join (u ∷ list) x g p r = ap (λ s. if is_at u p r then x 0 else s) (rise_at-join list (λ k. x (suc k)) g p r)
 
-pub raised-point : (system : Equations) (b : Vector) (list : List Listed) (x : ℕ → ℚ) (ws : List Word) → raised list (joint_point system list x ws) b ≡ raised list x b
+raised-point : (system : Equations) (b : Vector) (list : List Listed) (x : ℕ → ℚ) (ws : List Word) → raised list (joint_point system list x ws) b ≡ raised list x b
 unfolding raised joint_point
 raised-point system b list x ws = λ i p r. raise_by (b p r) (rise_at-join list x (word_points system list ws) p r i)
 

@@ -11,12 +11,13 @@ use Rattle.tm_transformers.specs.Limits.{product, shift, tabulate}
 use Rattle.tm_transformers.specs.JointProblems.{Listed, is_at, ones, split_list, on_rise, rise_at}
 use Rattle.tm_transformers.proofs.limits.Products.{product-append, product-tabulate}
 
+-- the product of zeros with a point is 0
 pub product-zeros : (n : ℕ) (x : ℕ → ℚ) → product (zeros n) x ≡ zero_ℚ
 unfolding product
 product-zeros zero x = refl
 product-zeros (suc n) x = ap (λ s. s +ℚ product (zeros n) (λ k. x (suc k))) (zero-*ℚ (x 0)) ∙ +ℚ_idl (product (zeros n) (λ k. x (suc k))) ∙ product-zeros n (λ k. x (suc k))
 
-pub product_behind : (n : ℕ) (v : List ℚ) (x : ℕ → ℚ) → product (zeros n ++ v) x ≡ product v (shift n x)
+product_behind : (n : ℕ) (v : List ℚ) (x : ℕ → ℚ) → product (zeros n ++ v) x ≡ product v (shift n x)
 unfolding product
 product_behind zero v x = refl
 product_behind (suc n) v x =
@@ -34,13 +35,14 @@ pair_up : (a p n s : ℚ) → a *ℚ p +ℚ (neg_ℚ a *ℚ n +ℚ s) ≡ a *ℚ
 pair_up a p n s = ring (a ∷ p ∷ n ∷ s ∷ []) (search reads depth 40) refl
 
 -- a split form at a point is the form at the unsplit point
-pub product-split : (u : List ℚ) (x : ℕ → ℚ) → product (split_list u) x ≡ product u (unsplit x)
+product-split : (u : List ℚ) (x : ℕ → ℚ) → product (split_list u) x ≡ product u (unsplit x)
 unfolding product split_list
 product-split [] x = refl
 product-split (a ∷ u) x =
     pair_up a (x 0) (x 1) (product (split_list u) (λ k. x (suc (suc k))))
     ∙ ap (λ s. a *ℚ (x 0 -ℚ x 1) +ℚ s) (product-split u (λ k. x (suc (suc k))) ∙ product_same u (unsplit (λ k. x (suc (suc k)))) (λ k. unsplit x (suc k)) (unsplit-suc x))
 
+-- the coefficients on the rises are as many as the listed unknowns
 pub length-on_rise : (c : ℚ) (list : List Listed) (p r : ℕ) → length (on_rise c list p r) ≡ length list
 unfolding on_rise
 length-on_rise c [] p r = refl
@@ -70,6 +72,7 @@ product_of_row a n offset v x m e l =
     (ap (λ k. product (zeros offset ++ split_list v) (shift k x)) e ∙ product_behind offset (split_list v) (shift n x) ∙ product-split v (shift offset (shift n x))
     ∙ sym (product-tabulate v m (unsplit (shift offset (shift n x))) l))
 
+-- a split list has twice as many entries
 pub length-split : (u : List ℚ) → length (split_list u) ≡ length u + length u
 unfolding split_list
 length-split [] = refl
@@ -81,6 +84,7 @@ unfolding product ones sum_to
 product-ones zero x = refl
 product-ones (suc n) x = ap (λ s. s +ℚ product (ones n) (λ k. x (suc k))) (*ℚ_idl (x 0)) ∙ ap (λ s. x 0 +ℚ s) (product-ones n (λ k. x (suc k))) ∙ sym (sum_first n x)
 
+-- a list of n ones has n entries
 pub length-ones : (n : ℕ) → length (ones n) ≡ n
 unfolding ones
 length-ones zero = refl

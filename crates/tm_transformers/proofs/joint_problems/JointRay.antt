@@ -36,6 +36,7 @@ ray_rises system b list x d distinct u =
 pub ray_follows : (system : Equations) (b : Vector) (list : List Listed) (x d : ℕ → ℚ) → IsUnbounded (joint_problem system b list) x d → AllFollow system b list d list (joint_words system list d)
 ray_follows system b list x d u = direction_follows system b list d u.keeps
 
+-- each listed unknown has a direction that keeps to the ray's rates
 pub ray_direction : (system : Equations) (b : Vector) (list : List Listed) (x d : ℕ → ℚ) → IsUnbounded (joint_problem system b list) x d → (u : Listed) → In list u → (e : Word) × Follows system b list d u e
 ray_direction system b list x d h u m = follow_at system b list d list (joint_words system list d) u (ray_follows system b list x d h) m
 
@@ -48,7 +49,7 @@ rise_under v w r a c e f h =
     plain h = lin_le (a ∷ r ∷ c ∷ []) (le h ∷ []) (search reads_all depth 40) tt
 
 -- where the joint problem is unbounded there is no greatest supported vector
-pub ray_no_greatest : (system : Equations) (b : Vector) (list : List Listed) (x d : ℕ → ℚ) → AllRising system b list → Distinct list → IsUnbounded (joint_problem system b list) x d →
+ray_no_greatest : (system : Equations) (b : Vector) (list : List Listed) (x d : ℕ → ℚ) → AllRising system b list → Distinct list → IsUnbounded (joint_problem system b list) x d →
     (q : Vector) → GreatestSupported system b list q → ⊥
 unfolding raised
 ray_no_greatest system b list x d rising distinct u q g =
@@ -65,6 +66,7 @@ ray_no_greatest system b list x d rising distinct u q g =
         (rise_under (b t.unknown.point t.unknown.row) (q t.unknown.point t.unknown.row) (rise_at list z t.unknown.point t.unknown.row) h.bound s.bound h.finite s.finite
         (g.greatest (raised list z b) (raised_candidate system b list z rising p) t.unknown.point t.unknown.row))
 
+-- the exact run on a joint problem has the greatest supported vector, or a ray and then there is none
 pub joint_outcome : (system : Equations) (b : Vector) (list : List Listed) → AllRising system b list → Distinct list → JointOutcome system b list (lp (joint_problem system b list))
 joint_outcome system b list rising distinct = by (lp (joint_problem system b list)) (lp_is (joint_problem system b list))
   where

@@ -109,6 +109,7 @@ source_above system b u rising r row e =
     over pos_inf h = tt
 
 -- ---- the rows of one unknown
+-- where its rows are met, an unknown's word supports base plus rise
 pub block_out : (system : Equations) (b : Vector) (all : List Listed) (offset : ℕ) (u : Listed) (x : ℕ → ℚ) → Rising system b u →
     AllUnder true (block_limits system b all offset u) x → Supports system (raised all x b) u (word_at system all offset u x)
 unfolding block_limits raised raise_by own_limit
@@ -141,6 +142,7 @@ block_out system b all offset u x rising h =
           (subst (λ s. s ≤ℚ f.constant -ℚ num (b u.point u.row)) (own_product system b all offset u x) own))));
     }
 
+-- where an unknown's word supports base plus rise, its rows are met
 pub block_in : (system : Equations) (b : Vector) (all : List Listed) (offset : ℕ) (u : Listed) (x : ℕ → ℚ) → Rising system b u →
     Supports system (raised all x b) u (word_at system all offset u x) → AllUnder true (block_limits system b all offset u) x
 unfolding block_limits raised raise_by own_limit

@@ -32,7 +32,7 @@ top_above (fin c) = tt
 top_above pos_inf = tt
 
 -- a ray step doesn't lower
-pub joint_ray_above : (system : Equations) (b : Vector) (list : List Listed) (d : ℕ → ℚ) (ls : List Word) (p r : ℕ) → AllLow system b list ls → b p r ≤ᴱ after_step (joint_ray system list d ls) b p r
+joint_ray_above : (system : Equations) (b : Vector) (list : List Listed) (d : ℕ → ℚ) (ls : List Word) (p r : ℕ) → AllLow system b list ls → b p r ≤ᴱ after_step (joint_ray system list d ls) b p r
 joint_ray_above system b list d ls p r lo = ⊎_elim
     (λ h. subst (λ s. b p r ≤ᴱ s) (sym (joint_ray_stays system b list d ls p r lo h)) (≤ᴱ_refl (b p r)))
     (λ h. subst (λ s. b p r ≤ᴱ s) (sym (joint_ray_top system b list d ls p r lo h)) (top_above (b p r)))

@@ -103,7 +103,7 @@ abbrev pub joint_jump : Equations → Vector → List Listed → (ℕ → ℚ) �
 joint_jump system b list x ls = record { kind = Jump; items = jump_items system.variables (raised list x b) list ls (joint_words system list x) }
 
 -- it leads to base plus rise
-pub joint_jump_leads : (system : Equations) (b : Vector) (list : List Listed) (x : ℕ → ℚ) (ls : List Word) → AllRising system b list → AllLow system b list ls → IsPoint (joint_problem system b list) x →
+joint_jump_leads : (system : Equations) (b : Vector) (list : List Listed) (x : ℕ → ℚ) (ls : List Word) → AllRising system b list → AllLow system b list ls → IsPoint (joint_problem system b list) x →
     (p r : ℕ) → after_step (joint_jump system b list x ls) b p r ≡ raised list x b p r
 unfolding after_step joint_words
 joint_jump_leads system b list x ls rising lo point p r =

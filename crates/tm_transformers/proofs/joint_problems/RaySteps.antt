@@ -19,21 +19,30 @@ use Rattle.tm_transformers.proofs.joint_problems.JointLows.{word_pieces, pieces_
 
 -- what an item of the ray is made of
 pub record Made (system : Equations) (b : Vector) (rate : ℕ → ℕ → ℚ) (all list : List Listed) (rates : ℕ → ℚ) (item : Item) : Type 0 where
+  -- the item's unknown
   pub unknown : Listed
+  -- the unknown is a member of the list
   pub listed : In list unknown
+  -- the item's low word
   pub low : Word
+  -- the item's direction
   pub direction : Word
+  -- the item is made of these and of the unknown's rate
   pub is : item ≡ item_of system.variables unknown low direction (rate unknown.point unknown.row)
+  -- the unknown's rate is above 0
   pub positive : zero_ℚ <ℚ rate unknown.point unknown.row
+  -- the low word is one of the unknown
   pub low_is : Low system b unknown low
+  -- the direction has a value for each column
   pub sized : length direction ≡ columns_of system unknown
+  -- the direction keeps to the rates
   pub follows : Follows system b all rates unknown direction
 
 made_more : (system : Equations) (b : Vector) (rate : ℕ → ℕ → ℚ) (all list : List Listed) (u : Listed) (rates : ℕ → ℚ) (item : Item) → Made system b rate all list rates item → Made system b rate all (u ∷ list) rates item
 made_more system b rate all list u rates item m =
     record { unknown = m.unknown; listed = inr m.listed; low = m.low; direction = m.direction; is = m.is; positive = m.positive; low_is = m.low_is; sized = m.sized; follows = m.follows }
 
-pub ray_made : (system : Equations) (b : Vector) (rate : ℕ → ℕ → ℚ) (all list : List Listed) (rates : ℕ → ℚ) (ls ds : List Word) → AllLow system b list ls → AllSized system list ds → AllFollow system b all rates list ds →
+ray_made : (system : Equations) (b : Vector) (rate : ℕ → ℕ → ℚ) (all list : List Listed) (rates : ℕ → ℚ) (ls ds : List Word) → AllLow system b list ls → AllSized system list ds → AllFollow system b all rates list ds →
     (item : Item) → In (ray_items system.variables rate list ls ds) item → Made system b rate all list rates item
 unfolding ray_items
 ray_made system b rate all [] rates ls ds lo si fo item m = absurd m
@@ -135,6 +144,7 @@ one_item system b list x d ls rising pick lo un items it si u l e m pos low size
         (unnamed_rate system b (rise_at list d) list ls (joint_words system list d) lo si v.0 v.1
         (subst (λ s. Unnamed s v.0.point v.0.row) it (subst (λ s. Unnamed items v.0.point s) (sym v.3) (subst (λ s. Unnamed items s r) (sym v.2) o)))))
 
+-- the words of a direction have a value for each column
 pub sized_words : (system : Equations) (list : List Listed) (d : ℕ → ℚ) → AllSized system list (joint_words system list d)
 unfolding joint_words
 sized_words system list d = words_sized system list _

@@ -16,10 +16,12 @@ use Rattle.tm_transformers.specs.Candidates.{rises_of}
 
 -- ---- naming
 
+-- an unknown that is at a point and a row has that point and that row
 pub is_at_means : (u : Listed) (p r : ℕ) → is_at u p r ≡ true → (u.point ≡ p) × (u.row ≡ r)
 unfolding is_at
 is_at_means u p r e = let h = and_parts (eqb u.point p) (eqb u.row r) e in (eqb-true u.point p h.0, eqb-true u.row r h.1)
 
+-- an unknown is at its own point and row
 pub is_at_itself : (u : Listed) → is_at u u.point u.row ≡ true
 unfolding is_at
 is_at_itself u = ap (λ b. b && eqb u.row u.row) (eq-eqb u.point u.point refl) ∙ eq-eqb u.row u.row refl
@@ -33,6 +35,7 @@ listed_or_not (u ∷ list) p r = ⊎_elim
     (cases_Bool (is_at u p r))
 
 -- ---- rises
+-- the rise of an unknown that isn't listed is 0
 pub rise_unlisted : (list : List Listed) (x : ℕ → ℚ) (p r : ℕ) → Unlisted list p r → rise_at list x p r ≡ zero_ℚ
 unfolding rise_at
 rise_unlisted [] x p r n = refl
@@ -73,18 +76,21 @@ rise_mono (u ∷ list) x y p r h = by (is_at u p r) (rise_mono list (λ k. x (su
     by true i = h 0 (omega arith)
     by false i = i
 
+-- a bound that is raised by more is at least as great
 pub raise_mono : (v : Ext) (x y : ℚ) → x ≤ℚ y → raise_by v x ≤ᴱ raise_by v y
 unfolding raise_by
 raise_mono neg_inf x y h = tt
 raise_mono (fin c) x y h = lin_le (c ∷ x ∷ y ∷ []) (le h ∷ []) (search reads_all depth 40) tt
 raise_mono pos_inf x y h = tt
 
+-- a bound that is raised by 0 stays
 pub raise_nothing : (v : Ext) → raise_by v zero_ℚ ≡ v
 unfolding raise_by
 raise_nothing neg_inf = refl
 raise_nothing (fin c) = ap fin (+ℚ_idr c)
 raise_nothing pos_inf = refl
 
+-- a bound that is raised by its difference to another becomes that one
 pub raise_to : (v w : Ext) (a c : ℚ) → v ≡ fin a → w ≡ fin c → raise_by v (num w -ℚ num v) ≡ w
 unfolding raise_by num
 raise_to v w a c e f = subst (λ s. raise_by s (num w -ℚ num s) ≡ w) (sym e) (subst (λ s. raise_by (fin a) (num s -ℚ num (fin a)) ≡ s) (sym f) (ap fin (lin_eq (a ∷ c ∷ []) [] (search reads_all depth 40) tt)))

@@ -8,6 +8,7 @@ use Rattle.tm_lp.specs.Listed.{at}
 use Rattle.tm_lp.proofs.listed.ListedSums.{sum_is_dot}
 use Rattle.tm_transformers.specs.Limits.{product, shift, tabulate}
 
+-- the product of a list with a point is the sum over enough columns
 pub product_is_sum : (u : List ℚ) (n : ℕ) (x : ℕ → ℚ) → length u ≤ n → sum_to n (λ k. at u k *ℚ x k) ≡ product u x
 unfolding product
 product_is_sum [] n x l = sum_nothing n (λ k. zero_ℚ *ℚ x k) (λ k m. zero-*ℚ (x k))
@@ -36,6 +37,7 @@ pub tabulate_same : (n : ℕ) (x y : ℕ → ℚ) → ((k : ℕ) → k < n → x
 tabulate_same zero x y h = refl
 tabulate_same (suc n) x y h = ap (λ s. s ∷ tabulate n (λ k. x (suc k))) (h 0 (omega arith)) ∙ ap (λ t. y 0 ∷ t) (tabulate_same n (λ k. x (suc k)) (λ k. y (suc k)) (λ k l. h (suc k) (omega arith)))
 
+-- the list of a point's first n entries has n entries
 pub length-tabulate : (n : ℕ) (x : ℕ → ℚ) → length (tabulate n x) ≡ n
 length-tabulate zero x = refl
 length-tabulate (suc n) x = ap suc (length-tabulate n (λ k. x (suc k)))

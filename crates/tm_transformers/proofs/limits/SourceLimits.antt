@@ -45,6 +45,7 @@ joined_in t embed n row rest x neg_inf h i = i
 joined_in t embed n row rest x (fin d) h i = (h d refl, i)
 joined_in t embed n row rest x pos_inf h i = i
 
+-- where each template row with a finite bound is met, the rows of the source are
 pub source_in : (t : Bool) (embed : ℕ → List ℚ → List ℚ) (n : ℕ) (bounds : ℕ → Ext) (rows : List (List ℤ)) (x : ℕ → ℚ) →
     ((r : ℕ) (row : List ℤ) (c : ℚ) → slice_get rows r ≡ Some row → bounds r ≡ fin c → product (embed r (start_form n row).coeffs) x ≤ℚ side_for t c) → AllUnder t (source_limits embed n bounds rows) x
 unfolding source_limits
@@ -60,6 +61,7 @@ joined_within m embed n row rest neg_inf h i = i
 joined_within m embed n row rest (fin d) h i = (h, i)
 joined_within m embed n row rest pos_inf h i = i
 
+-- the rows of a source are within the columns in which they are embedded
 pub source_within : (m : ℕ) (embed : ℕ → List ℚ → List ℚ) (n : ℕ) (bounds : ℕ → Ext) (rows : List (List ℤ)) →
     ((r : ℕ) (u : List ℚ) → length u ≤ n → length (embed r u) ≤ m) → AllWithin m (source_limits embed n bounds rows)
 unfolding source_limits
@@ -75,24 +77,28 @@ moved_over a c h = lin_le (a ∷ c ∷ []) (le h ∷ []) (search reads_all depth
 moved_back : (a c : ℚ) → a +ℚ c ≤ℚ zero_ℚ → a ≤ℚ neg_ℚ c
 moved_back a c h = lin_le (a ∷ c ∷ []) (le h ∷ []) (search reads_all depth 40) tt
 
+-- a word that meets the rows of guards passes them
 pub guards_out : (embed : List ℚ → List ℚ) (m : ℕ) (gs : List Affine) (x : ℕ → ℚ) (w : Word) → Narrow m gs → ((u : List ℚ) → length u ≤ m → product (embed u) x ≡ dot u w) →
     AllUnder true (guard_limits embed gs) x → AllAtMost gs w
 unfolding guard_limits val
 guards_out embed m [] x w n e h = tt
 guards_out embed m (g ∷ gs) x w n e h = (moved_over (dot g.coeffs w) g.constant (subst (λ s. s ≤ℚ neg_ℚ g.constant) (e g.coeffs n.0) h.0), guards_out embed m gs x w n.1 e h.1)
 
+-- along a direction that keeps the rows of guards no guard rises
 pub guards_fall : (embed : List ℚ → List ℚ) (m : ℕ) (gs : List Affine) (x : ℕ → ℚ) (w : Word) → Narrow m gs → ((u : List ℚ) → length u ≤ m → product (embed u) x ≡ dot u w) →
     AllUnder false (guard_limits embed gs) x → AllFall gs w
 unfolding guard_limits lin
 guards_fall embed m [] x w n e h = tt
 guards_fall embed m (g ∷ gs) x w n e h = (subst (λ s. s ≤ℚ zero_ℚ) (e g.coeffs n.0) h.0, guards_fall embed m gs x w n.1 e h.1)
 
+-- a word that passes guards meets their rows
 pub guards_in : (embed : List ℚ → List ℚ) (m : ℕ) (gs : List Affine) (x : ℕ → ℚ) (w : Word) → Narrow m gs → ((u : List ℚ) → length u ≤ m → product (embed u) x ≡ dot u w) →
     AllAtMost gs w → AllUnder true (guard_limits embed gs) x
 unfolding guard_limits val
 guards_in embed m [] x w n e h = tt
 guards_in embed m (g ∷ gs) x w n e h = (subst (λ s. s ≤ℚ neg_ℚ g.constant) (sym (e g.coeffs n.0)) (moved_back (dot g.coeffs w) g.constant h.0), guards_in embed m gs x w n.1 e h.1)
 
+-- the rows of guards are within the columns in which they are embedded
 pub guards_within : (k : ℕ) (embed : List ℚ → List ℚ) (m : ℕ) (gs : List Affine) → Narrow m gs → ((u : List ℚ) → length u ≤ m → length (embed u) ≤ k) → AllWithin k (guard_limits embed gs)
 unfolding guard_limits
 guards_within k embed m [] n h = tt

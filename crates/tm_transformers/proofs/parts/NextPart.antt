@@ -8,6 +8,7 @@ use Rattle.tm_transformers.specs.Parts.{leans, reaches, together, all_in, ready}
 use Rattle.tm_transformers.proofs.parts.Reaching.{reach_itself, reach_leans, reach_trans}
 
 -- ---- all of a list
+-- a test that passes on a whole list passes at each member
 pub all_at : (f : Listed → Bool) (list : List Listed) (u : Listed) → all_in f list ≡ true → In list u → f u ≡ true
 unfolding all_in
 all_at f [] u e m = absurd m
@@ -61,14 +62,17 @@ count_lt f g (v ∷ list) u h m e k = by (f v) (g v) refl refl (h v (inl refl)) 
     by false false p q i (inr n) l t = t n
 
 -- ---- together
+-- an unknown is in its own part
 pub together_itself : (system : Equations) (list : List Listed) (u : Listed) → together system list u u ≡ true
 unfolding together
 together_itself system list u = and_from (reaches system list u u) (reaches system list u u) (reach_itself system list u) (reach_itself system list u)
 
+-- being in one part is symmetric
 pub together_back : (system : Equations) (list : List Listed) (u v : Listed) → together system list u v ≡ true → together system list v u ≡ true
 unfolding together
 together_back system list u v e = let h = and_parts (reaches system list u v) (reaches system list v u) e in and_from (reaches system list v u) (reaches system list u v) h.1 h.0
 
+-- being in one part is transitive at members of the list
 pub together_trans : (system : Equations) (list : List Listed) (u w v : Listed) → In list w → together system list u w ≡ true → together system list w v ≡ true → together system list u v ≡ true
 unfolding together
 together_trans system list u w v m e f =
@@ -77,6 +81,7 @@ together_trans system list u w v m e f =
     and_from (reaches system list u v) (reaches system list v u) (reach_trans system list u w v m h.0 i.0) (reach_trans system list v w u m i.1 h.1)
 
 -- ---- what being ready means
+-- where an unknown's part is ready, its members lean on no unplaced unknown outside it
 pub ready_means : (system : Equations) (list rest : List Listed) (u v w : Listed) → ready system list rest u ≡ true → In rest v → together system list u v ≡ true → In rest w → leans system v w ≡ true →
     together system list u w ≡ true
 unfolding ready

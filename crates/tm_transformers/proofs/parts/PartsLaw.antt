@@ -21,7 +21,7 @@ in_second : (xs ys : List Listed) (u : Listed) → In ys u → In (xs ++ ys) u
 in_second [] ys u m = m
 in_second (x ∷ xs) ys u m = inr (in_second xs ys u m)
 
-pub keep_in : (f : Listed → Bool) (list : List Listed) (u : Listed) → In list u → f u ≡ true → In (keep f list) u
+keep_in : (f : Listed → Bool) (list : List Listed) (u : Listed) → In list u → f u ≡ true → In (keep f list) u
 unfolding keep
 keep_in f [] u m e = absurd m
 keep_in f (v ∷ list) u m e = by (f v) refl m (λ k. keep_in f list u k e)
@@ -32,7 +32,7 @@ keep_in f (v ∷ list) u m e = by (f v) refl m (λ k. keep_in f list u k e)
     by false g (inl i) t = absurd (true≢false (sym e ∙ ap f (sym i) ∙ g))
     by false g (inr k) t = t k
 
-pub keep_out : (f : Listed → Bool) (list : List Listed) (u : Listed) → In (keep f list) u → In list u × (f u ≡ true)
+keep_out : (f : Listed → Bool) (list : List Listed) (u : Listed) → In (keep f list) u → In list u × (f u ≡ true)
 unfolding keep
 keep_out f [] u m = absurd m
 keep_out f (v ∷ list) u m = by (f v) refl m (λ k. keep_out f list u k)
@@ -50,7 +50,7 @@ keep_length f (v ∷ list) = by (f v) (keep_length f list)
     by true h = omega (arith, h)
     by false h = omega (arith, h)
 
-pub keep_shorter : (f : Listed → Bool) (list : List Listed) (u : Listed) → In list u → f u ≡ false → length (keep f list) < length list
+keep_shorter : (f : Listed → Bool) (list : List Listed) (u : Listed) → In list u → f u ≡ false → length (keep f list) < length list
 unfolding keep
 keep_shorter f [] u m e = absurd m
 keep_shorter f (v ∷ list) u m e = by (f v) refl m (keep_length f list) (λ k. keep_shorter f list u k e)
@@ -109,6 +109,7 @@ from_in_order (suc n) system list rest sub l =
         let s = keep_shorter others rest u (first_in (ready system list rest) rest u h) (ap not (together_itself system list u)) in
         (u, h, refl, t (keep others rest) (λ x m. sub x (keep_out others rest x m).0) (omega (arith, s, l)))
 
+-- the parts of a list are in the stated order, and none is missing
 pub parts_in_order : (system : Equations) (list : List Listed) → InOrder system list list (parts system list)
 unfolding parts
 parts_in_order system list = from_in_order (length list) system list list (λ x m. m) (omega arith)

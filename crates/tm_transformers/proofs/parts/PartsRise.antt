@@ -17,7 +17,7 @@ keep_lower f u (v ∷ list) h = by (f v) (keep_lower f u list h.1)
     by true k = (h.0, k)
     by false k = k
 
-pub keep_rising : (f : Listed → Bool) (list : List Listed) → IsRising list → IsRising (keep f list)
+keep_rising : (f : Listed → Bool) (list : List Listed) → IsRising list → IsRising (keep f list)
 unfolding keep
 keep_rising f [] h = tt
 keep_rising f (v ∷ list) h = by (f v) (keep_lower f v list h.0) (keep_rising f list h.1)

@@ -8,6 +8,7 @@ use Rattle.tm_transformers.specs.Parts.{leans, same, Chain, stays, goes, reaches
 
 -- ---- tests
 
+-- an unknown is the same as itself
 pub same_itself : (u : Listed) → same u u ≡ true
 unfolding same
 same_itself u = and_from (eqb u.point u.point) (eqb u.row u.row && eqb u.edge u.edge) (eq-eqb u.point u.point refl) (and_from (eqb u.row u.row) (eqb u.edge u.edge) (eq-eqb u.row u.row refl) (eq-eqb u.edge u.edge refl))
@@ -15,6 +16,7 @@ same_itself u = and_from (eqb u.point u.point) (eqb u.row u.row && eqb u.edge u.
 made : ℕ → ℕ → ℕ → Listed
 made p r e = record { point = p; row = r; edge = e }
 
+-- unknowns that the test takes for the same are equal
 pub same_equal : (u v : Listed) → same u v ≡ true → u ≡ v
 unfolding same made
 same_equal u v e =
@@ -23,15 +25,17 @@ same_equal u v e =
     ap (λ p. made p u.row u.edge) (eqb-true u.point v.point a.0) ∙ ap (λ r. made v.point r u.edge) (eqb-true u.row v.row b.0) ∙ ap (λ k. made v.point v.row k) (eqb-true u.edge v.edge b.1)
 
 -- ---- reaching
-pub reach_more : (system : Equations) (x : Listed) (xs : List Listed) (u v : Listed) → reaches system xs u v ≡ true → reaches system (x ∷ xs) u v ≡ true
+reach_more : (system : Equations) (x : Listed) (xs : List Listed) (u v : Listed) → reaches system xs u v ≡ true → reaches system (x ∷ xs) u v ≡ true
 unfolding reaches
 reach_more system x xs u v e = or_left (reaches system xs u v) (reaches system xs u x && reaches system xs x v) e
 
+-- an unknown reaches itself
 pub reach_itself : (system : Equations) (xs : List Listed) (u : Listed) → reaches system xs u u ≡ true
 unfolding reaches
 reach_itself system [] u = or_left (same u u) (leans system u u) (same_itself u)
 reach_itself system (x ∷ xs) u = reach_more system x xs u u (reach_itself system xs u)
 
+-- an unknown reaches those on which it leans
 pub reach_leans : (system : Equations) (xs : List Listed) (u v : Listed) → leans system u v ≡ true → reaches system xs u v ≡ true
 unfolding reaches
 reach_leans system [] u v e = or_right (same u v) (leans system u v) e

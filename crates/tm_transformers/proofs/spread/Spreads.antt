@@ -17,33 +17,40 @@ use Rattle.tm_transformers.specs.Spread.{spread_one, spread, skip_one, skip}
 -- ---- entries of sums of lists
 
 -- ---- sums over limits
+-- a column's entries of these rows, each times its multiplier, summed
 unfoldable pub column_sum : List Limit → (ℕ → ℚ) → ℕ → ℚ
 column_sum [] y j = zero_ℚ
 column_sum (l ∷ ls) y j = y 0 *ℚ at l.coeffs j +ℚ column_sum ls (λ k. y (suc k)) j
 
+-- the sides of these rows, each times its multiplier, summed
 unfoldable pub side_sum : List Limit → (ℕ → ℚ) → ℚ
 side_sum [] y = zero_ℚ
 side_sum (l ∷ ls) y = y 0 *ℚ l.side +ℚ side_sum ls (λ k. y (suc k))
 
+-- a multiplier of at least 0 for each row
 abbrev pub NonnegFor : List Limit → (ℕ → ℚ) → Type 0
 NonnegFor [] y = Unit {0}
 NonnegFor (l ∷ ls) y = (zero_ℚ ≤ℚ y 0) × NonnegFor ls (λ k. y (suc k))
 
+-- the sum over a problem's rows at a column is the column sum of its limits
 pub column_sum_is : (ls : List Limit) (y : ℕ → ℚ) (j : ℕ) → sum_to (length ls) (λ r. y r *ℚ at (get_or ls r no_limit).coeffs j) ≡ column_sum ls y j
 unfolding column_sum sum_to
 column_sum_is [] y j = refl
 column_sum_is (l ∷ ls) y j = sum_first (length ls) (λ r. y r *ℚ at (get_or (l ∷ ls) r no_limit).coeffs j) ∙ ap (λ s. y 0 *ℚ at l.coeffs j +ℚ s) (column_sum_is ls (λ k. y (suc k)) j)
 
+-- the sum over a problem's sides is the side sum of its limits
 pub side_sum_is : (ls : List Limit) (y : ℕ → ℚ) → sum_to (length ls) (λ r. y r *ℚ (get_or ls r no_limit).side) ≡ side_sum ls y
 unfolding side_sum sum_to
 side_sum_is [] y = refl
 side_sum_is (l ∷ ls) y = sum_first (length ls) (λ r. y r *ℚ (get_or (l ∷ ls) r no_limit).side) ∙ ap (λ s. y 0 *ℚ l.side +ℚ s) (side_sum_is ls (λ k. y (suc k)))
 
+-- multipliers that are at least 0 by number are so for each row
 pub nonneg_for : (ls : List Limit) (y : ℕ → ℚ) → ((r : ℕ) → r < length ls → zero_ℚ ≤ℚ y r) → NonnegFor ls y
 nonneg_for [] y h = tt
 nonneg_for (l ∷ ls) y h = (h 0 (omega arith), nonneg_for ls (λ k. y (suc k)) (λ r i. h (suc r) (omega (arith, i))))
 
 -- ---- guards
+-- the column sum of guards is that of their coefficients times the multipliers
 pub guard_columns : (gs : List Affine) (y : ℕ → ℚ) (j : ℕ) → column_sum (guard_limits (λ u. u) gs) y j ≡ at (vec_mat (tabulate (length gs) y) (coefficients gs)) j
 unfolding column_sum guard_limits vec_mat coefficients
 guard_columns [] y j = refl
@@ -51,11 +58,13 @@ guard_columns (g ∷ gs) y j =
     ap (λ s. y 0 *ℚ at g.coeffs j +ℚ s) (guard_columns gs (λ k. y (suc k)) j)
     ∙ sym (get_or-add_vec (scale_vec (y 0) g.coeffs) (vec_mat (tabulate (length gs) (λ k. y (suc k))) (map (λ f. f.coeffs) gs)) j ∙ ap (λ s. s +ℚ at (vec_mat (tabulate (length gs) (λ k. y (suc k))) (map (λ f. f.coeffs) gs)) j) (get_or-scale_vec (y 0) g.coeffs j))
 
+-- the side sum of guards is their side under the multipliers
 pub guard_sides : (gs : List Affine) (y : ℕ → ℚ) → side_sum (guard_limits (λ u. u) gs) y ≡ guard_side (tabulate (length gs) y) gs
 unfolding side_sum guard_limits guard_side
 guard_sides [] y = refl
 guard_sides (g ∷ gs) y = ap (λ s. y 0 *ℚ neg_ℚ g.constant +ℚ s) (guard_sides gs (λ k. y (suc k)))
 
+-- multipliers of at least 0 for the rows of guards are at least 0 as a list
 pub guard_nonneg : (gs : List Affine) (y : ℕ → ℚ) → NonnegFor (guard_limits (λ u. u) gs) y → AllNonneg (tabulate (length gs) y)
 unfolding guard_limits
 guard_nonneg [] y h = tt
@@ -83,6 +92,7 @@ one_column n (fin c) row ls ms y j rows rest tail h =
     ∙ ap (λ s. s +ℚ column_sum ms (tail (λ k. y (suc k))) j) (sym (vec_mat_at (y 0) (start_form n row).coeffs (rest (λ k. y (suc k))) rows j))
 one_column n pos_inf row ls ms y j rows rest tail h = h y ∙ ap (λ s. s +ℚ column_sum ms (tail y) j) (no_multiple (start_form n row).coeffs (rest y) rows j)
 
+-- the column sum of a source and further rows is that of the spread multipliers and that of the further rows
 pub source_columns : (n : ℕ) (bounds : ℕ → Ext) (rows : List (List ℤ)) (ms : List Limit) (y : ℕ → ℚ) (j : ℕ) → column_sum (source_limits (λ r u. u) n bounds rows ++ ms) y j
     ≡ at (vec_mat (spread bounds rows y) (coefficients (map (start_form n) rows))) j +ℚ column_sum ms (skip bounds rows y) j
 unfolding source_limits spread skip coefficients vec_mat
@@ -104,6 +114,7 @@ one_side n (fin c) row ls ms y bounds rest tail e h =
     ∙ ap (λ s. (y 0 *ℚ num s +ℚ row_side (rest (λ k. y (suc k))) (λ r. bounds (suc r))) +ℚ side_sum ms (tail (λ k. y (suc k)))) (sym e)
 one_side n pos_inf row ls ms y bounds rest tail e h = h y ∙ ap (λ s. s +ℚ side_sum ms (tail y)) (no_side (num (bounds 0)) (row_side (rest y) (λ r. bounds (suc r))))
 
+-- the side sum of a source and further rows is that of the spread multipliers and that of the further rows
 pub source_sides : (n : ℕ) (bounds : ℕ → Ext) (rows : List (List ℤ)) (ms : List Limit) (y : ℕ → ℚ) → side_sum (source_limits (λ r u. u) n bounds rows ++ ms) y
     ≡ row_side (spread bounds rows y) bounds +ℚ side_sum ms (skip bounds rows y)
 unfolding source_limits spread skip row_side
@@ -119,6 +130,7 @@ one_nonneg n neg_inf row ls ms y rest tail h i = let r = h y i in ((≤ℚ_refl 
 one_nonneg n (fin c) row ls ms y rest tail h i = let r = h (λ k. y (suc k)) i.1 in ((i.0, r.0), r.1)
 one_nonneg n pos_inf row ls ms y rest tail h i = let r = h y i in ((≤ℚ_refl zero_ℚ, r.0), r.1)
 
+-- multipliers of at least 0 stay so when they are spread, and so do those of the further rows
 pub source_nonneg : (n : ℕ) (bounds : ℕ → Ext) (rows : List (List ℤ)) (ms : List Limit) (y : ℕ → ℚ) → NonnegFor (source_limits (λ r u. u) n bounds rows ++ ms) y →
     AllNonneg (spread bounds rows y) × NonnegFor ms (skip bounds rows y)
 unfolding source_limits spread skip
@@ -132,6 +144,7 @@ one_length neg_inf y rest k h = ap suc (h y)
 one_length (fin c) y rest k h = ap suc (h (λ k. y (suc k)))
 one_length pos_inf y rest k h = ap suc (h y)
 
+-- the spread multipliers are as many as the template rows
 pub spread_length : (bounds : ℕ → Ext) (rows : List (List ℤ)) (y : ℕ → ℚ) → length (spread bounds rows y) ≡ length rows
 unfolding spread
 spread_length bounds [] y = refl
@@ -149,6 +162,7 @@ later_zero neg_inf y rest r h = h y
 later_zero (fin c) y rest r h = h (λ k. y (suc k))
 later_zero pos_inf y rest r h = h y
 
+-- a template row whose bound isn't finite has the multiplier 0
 pub spread_zero : (bounds : ℕ → Ext) (rows : List (List ℤ)) (y : ℕ → ℚ) (r : ℕ) → NotFinite (bounds r) → get_or (spread bounds rows y) r zero_ℚ ≡ zero_ℚ
 unfolding spread
 spread_zero bounds [] y r h = refl
