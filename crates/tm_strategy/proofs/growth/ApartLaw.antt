@@ -19,7 +19,7 @@ use Rattle.tm_strategy.proofs.growth.GrowthLaw.{items-append}
 use Rattle.tm_strategy.proofs.round.TurnLaw.{unnamed_by_all}
 
 -- ---- distinct lists
-pub unnamed_both : (xs ys : List Item) (p r : ℕ) → Unnamed xs p r → Unnamed ys p r → Unnamed (xs ++ ys) p r
+unnamed_both : (xs ys : List Item) (p r : ℕ) → Unnamed xs p r → Unnamed ys p r → Unnamed (xs ++ ys) p r
 unnamed_both [] ys p r a b = b
 unnamed_both (x ∷ xs) ys p r a b = (a.0, unnamed_both xs ys p r a.1 b)
 
@@ -77,10 +77,15 @@ choices_distinct system pick =
 -- ---- the log's unknowns
 -- the items come from the list, are distinct, and none is left
 pub record Apart (us : List Item) (log : Log) : Type 0 where
+  -- each item of the log's steps is for an unknown and edge of the list
   pub from : (v : Item) → In (items_of log.steps) v → (u : Item) × In us u × SameChoice v u
+  -- no two items are for one unknown
   pub distinct : Distinct (items_of log.steps)
+  -- the unknowns that are left are of the list
   pub within : (u : Item) → In log.left u → In us u
+  -- no unknown is left twice
   pub left_distinct : Distinct log.left
+  -- no unknown that is left was raised
   pub left_apart : (u : Item) → In log.left u → Unnamed (items_of log.steps) u.point u.row
 
 -- what a list doesn't name, items from it don't

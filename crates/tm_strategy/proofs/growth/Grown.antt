@@ -24,13 +24,21 @@ use Rattle.tm_strategy.proofs.growth.PassLaw.{passes_done}
 
 -- what is known of the growth from d to z by its steps
 pub record Grown (system : Equations) (T : Transformer) (d : Vector) (pick : Pick) (steps : List Step) (z : Vector) : Type 0 where
+  -- the steps are valid
   pub valid : ValidSteps system d steps
+  -- they lead from d to z
   pub leads : after_steps steps d ≡ z
+  -- their items are picked
   pub items : (step : Step) → In steps step → (u : Item) → In step.items u → Picks pick u
+  -- z is at least d
   pub over : Below system d z
+  -- z is at most every closed vector that is at least d
   pub below : (q : Vector) → Below system d q → Closed system T q pick → Below system z q
+  -- an unknown that wasn't raised keeps its bound
   pub unraised : (p r : ℕ) → Unnamed (items_of steps) p r → z p r ≡ d p r
+  -- a raised unknown is picked, has risen and is settled
   pub raised : (u : Item) → In (items_of steps) u → Raised system T pick d z u
+  -- the transformer of a picked unknown that wasn't raised is its bound, at d and at z
   pub still : (u : Item) → Picks pick u → Unnamed (items_of steps) u.point u.row → (value_at system T d u ≡ d u.point u.row) × (value_at system T z u ≡ d u.point u.row)
 
 module _ (fitting : ℚ → Bool) (system : Equations) (T : Transformer) (reaches : Evident system T)

@@ -26,6 +26,7 @@ unfolding items_of
 items-append [] b = refl
 items-append (s ∷ a) b = ap (λ l. s.items ++ l) (items-append a b) ∙ sym (append_assoc s.items (items_of a) (items_of b))
 
+-- steps after steps lead where the second lead from the end of the first
 pub led-append : (a b : List Step) (z : Vector) → after_steps (a ++ b) z ≡ after_steps b (after_steps a z)
 unfolding after_steps
 led-append [] b z = refl
@@ -57,8 +58,11 @@ raises_valid system T pick (s ∷ steps) z h = (h.0.valid, raises_valid system T
 
 -- what is known of a raised unknown at the end
 pub record Raised (system : Equations) (T : Transformer) (pick : Pick) (z f : Vector) (u : Item) : Type 0 where
+  -- the unknown is picked
   pub picked : Picks pick u
+  -- its bound has risen
   pub rises : z u.point u.row <ᴱ f u.point u.row
+  -- it is settled
   pub settled : Settled system T f u
 
 module _ (system : Equations) (T : Transformer) (reaches : Evident system T) (pick : Pick) (is_pick : IsPick system pick) where

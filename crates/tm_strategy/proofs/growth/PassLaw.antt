@@ -18,9 +18,13 @@ use Rattle.tm_strategy.proofs.growth.GrowthLaw.{Raises, items-append, led-append
 
 -- what is known of raises over unknowns
 pub record Logged (system : Equations) (T : Transformer) (pick : Pick) (z : Vector) (us : List Item) (log : Log) : Type 0 where
+  -- the steps are raises
   pub raises : Raises system T pick z log.steps
+  -- each unknown is left or was raised
   pub covers : (u : Item) → In us u → In log.left u ⊎ ((v : Item) × In (items_of log.steps) v × SameChoice v u)
+  -- the unknowns that are left are among them
   pub within : (u : Item) → In log.left u → In us u
+  -- as many are left or raised as there are
   pub count : length log.left + length log.steps ≡ length us
 
 module _ (fitting : ℚ → Bool) (system : Equations) (T : Transformer) (reaches : Evident system T)
@@ -75,7 +79,9 @@ module _ (fitting : ℚ → Bool) (system : Equations) (T : Transformer) (reache
 
   -- what is known of the passes
   pub record PassesDone (z : Vector) (us : List Item) (log : Log) : Type 0 where
+    -- the steps are raises over these unknowns
     pub logged : Logged system T pick z us log
+    -- at the end no transformer of an unknown that is left exceeds its bound
     pub ended : (u : Item) → In log.left u → value_at system T (after_steps log.steps z) u ≤ᴱ after_steps log.steps z u.point u.row
 
   -- a pass and the passes after it

@@ -32,7 +32,7 @@ both_true true false e = cc
 both_true false b e = cc
 
 -- the number between a bound and a transformer
-pub between_is : (fitting : ℚ → Bool) (b v : ℚ) → b <ℚ v → (b <ℚ between fitting b v) × (between fitting b v <ℚ v)
+between_is : (fitting : ℚ → Bool) (b v : ℚ) → b <ℚ v → (b <ℚ between fitting b v) × (between fitting b v <ℚ v)
 unfolding between
 between_is fitting b v h = by (fitting (whole (floor b +ℤ pos 1)) && lt_ℚ (whole (floor b +ℤ pos 1)) v) refl
   where
@@ -50,8 +50,11 @@ raised_to_is fitting pos_inf v h = absurd h
 
 -- what is known of a ray's low word
 pub record Exceeding (system : Equations) (z : Vector) (edge : Edge) (row : List ℤ) (bound : Ext) (w : Word) : Type 0 where
+  -- the word has a value for each column
   pub size : length w ≡ width system.variables edge.actions
+  -- the word runs
   pub runs : Runs system z edge w
+  -- its end value exceeds the bound
   pub exceeds : bound <ᴱ fin (end_value system edge row w)
 
 long_enough : (b e rate : ℚ) → zero_ℚ <ℚ rate → e ≤ℚ b → (zero_ℚ ≤ℚ whole (floor ((b -ℚ e) /ℚ rate) +ℤ pos 1)) × (b <ℚ e +ℚ whole (floor ((b -ℚ e) /ℚ rate) +ℤ pos 1) *ℚ rate)

@@ -27,18 +27,28 @@ Settled system T z u = ((z u.point u.row ≡ pos_inf) × (value_at system T z u 
 
 -- a valid step with one item, for an unknown that the pick has, which rises and is settled
 pub record Raise (system : Equations) (T : Transformer) (pick : Pick) (z : Vector) (step : Step) : Type 0 where
+  -- the item of the step
   pub item : Item
+  -- the step has no other
   pub single : step.items ≡ item ∷ []
+  -- the item is picked
   pub picked : Picks pick item
+  -- the step is valid
   pub valid : ValidStep system z step
+  -- the item's bound rises
   pub rises : z item.point item.row <ᴱ after_step step z item.point item.row
+  -- the item's unknown is settled after the step
   pub settled : Settled system T (after_step step z) item
+  -- its bound is +∞ after the step, or it is listed with its low word
   pub own : (after_step step z item.point item.row ≡ pos_inf) ⊎ Listed system pick (after_step step z) item
 
 -- an item for the same unknown and edge
 pub record SameChoice (u v : Item) : Type 0 where
+  -- the points are the same
   pub point : u.point ≡ v.point
+  -- the rows are the same
   pub row : u.row ≡ v.row
+  -- the edges are the same
   pub edge : u.edge ≡ v.edge
 
 -- what items for one unknown and edge share
@@ -48,9 +58,11 @@ value_same system T z u v s =
     ap (λ k. T z (get_or system.edges k (record { from = 0; to = 0; actions = [] })) (get_or system.template u.row [])) s.edge
     ∙ ap (λ r. T z (get_or system.edges v.edge (record { from = 0; to = 0; actions = [] })) (get_or system.template r [])) s.row
 
+-- the bounds of items for one unknown are the same
 pub at_same : (z : Vector) (u v : Item) → SameChoice u v → z u.point u.row ≡ z v.point v.row
 at_same z u v s = ap (λ p. z p u.row) s.point ∙ ap (λ r. z v.point r) s.row
 
+-- an item for one unknown and edge is settled where another is
 pub settled_same : (system : Equations) (T : Transformer) (z : Vector) (u v : Item) → SameChoice u v → Settled system T z u → Settled system T z v
 unfolding edge_of row_of
 settled_same system T z u v s (inl h) = inl (sym (at_same z u v s) ∙ h.0, sym (value_same system T z u v s) ∙ h.1)

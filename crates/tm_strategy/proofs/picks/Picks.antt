@@ -53,7 +53,7 @@ module _ (system : Equations) (T : Transformer) (reaches : (z : Vector) (edge : 
       (subst (λ v. Reaches system e edge row v) (sym same) (reaches e edge row)) (reach_is system y edge row (T y edge row) (reaches y edge row))
 
   -- a post-solution is closed under every pick
-  pub post_closed : (q : Vector) (pick : Pick) → PostSolution system q → IsPick system pick → Closed system T q pick
+  post_closed : (q : Vector) (pick : Pick) → PostSolution system q → IsPick system pick → Closed system T q pick
   unfolding edge_of row_of
   post_closed q pick post is_pick u h =
       let p = is_pick u h in

@@ -26,12 +26,19 @@ use Rattle.tm_strategy.proofs.round.RoundGives.{Improved, round_facts}
 
 -- n rounds from the start vector: pick k + 1 improves pick k at vector k, in one unknown at least, and the round by it leads to vector k + 1
 pub record Chain (system : Equations) (T : Transformer) (n : ℕ) (d z : ℕ → Vector) (pick : ℕ → Pick) (grown steps : ℕ → List Step) : Type 0 where
+  -- the first vector is the start vector
   pub start : d 0 ≡ start_vector
+  -- the first pick is empty
   pub empty : (p r : ℕ) → pick 0 p r ≡ None
+  -- each later pick is a pick of the system
   pub is_pick : (k : ℕ) → k < n → IsPick system (pick (suc k))
+  -- each pick improves the one before
   pub improves : (k : ℕ) → k < n → Improves system T (d k) (pick k) (pick (suc k))
+  -- each pick improves on it in one unknown at least
   pub improved : (k : ℕ) → k < n → Improved system T (d k) (pick (suc k))
+  -- each round begins with the growth of its pick
   pub growth : (k : ℕ) → k < n → Grown system T (d k) (pick (suc k)) (grown k) (z k)
+  -- each round leads to the next vector
   pub round : (k : ℕ) → k < n → RoundDone system T (d k) (z k) (pick (suc k)) (grown k) (steps k) (d (suc k))
 
 -- the steps of the first k rounds, in order
@@ -63,7 +70,7 @@ module _ (system : Equations) (T : Transformer) (reaches : Evident system T) (n 
   none_picked u h = none-some u.edge (sym (chain.empty u.point u.row) ∙ h)
 
   -- each pick is tight at its vector
-  pub chain_tight : (k : ℕ) → k ≤ n → Tight system T (d k) (pick k)
+  chain_tight : (k : ℕ) → k ≤ n → Tight system T (d k) (pick k)
   chain_tight zero h = record {
     supported = record {
       is_pick = λ u p. absurd (none_picked u p);
@@ -85,7 +92,7 @@ module _ (system : Equations) (T : Transformer) (reaches : Evident system T) (n 
   chain_up k h = (chain.round k h).above.over
 
   -- the facts of each round; a bound rises where the pick changes, so one at least
-  pub chain_facts : (k : ℕ) → k < n → RoundFacts system (d k) (z k) (d (suc k)) (pick k) (pick (suc k)) (steps k)
+  chain_facts : (k : ℕ) → k < n → RoundFacts system (d k) (z k) (d (suc k)) (pick k) (pick (suc k)) (steps k)
   chain_facts k h = round_facts system T reaches (d k) (z k) (d (suc k)) (pick k) (pick (suc k)) (grown k) (steps k) (chain.is_pick k h) (chain.growth k h) (chain.round k h) (chain.improves k h) (chain.improved k h)
 
   -- each vector is at most every post-solution

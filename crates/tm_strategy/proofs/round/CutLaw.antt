@@ -51,7 +51,7 @@ module _ (system : Equations) (T : Transformer) (reaches : Evident system T) (pi
       (step_below system z q s valid.0 below (λ v m. value_upper system T reaches q v (q v.point v.row) (closed v (picked s (inl refl) v m))))
 
   -- where the source bounds are the same, a transformer is
-  pub value_local : (z q : Vector) (u : Item) → ((r : ℕ) → r < length system.template → z (edge_of system u).from r ≡ q (edge_of system u).from r) → value_at system T z u ≡ value_at system T q u
+  value_local : (z q : Vector) (u : Item) → ((r : ℕ) → r < length system.template → z (edge_of system u).from r ≡ q (edge_of system u).from r) → value_at system T z u ≡ value_at system T q u
   value_local z q u same =
       let edge = edge_of system u in
       let row = row_of system u in

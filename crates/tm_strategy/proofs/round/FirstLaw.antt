@@ -28,15 +28,22 @@ use Rattle.tm_strategy.proofs.round.RoundChain.{one_round, rise, pick_stays}
 
 -- a word of a picked edge that runs at a vector and reaches the vector's number at the unknown
 pub record HighWord (system : Equations) (y : Vector) (u : Item) : Type 0 where
+  -- the word
   pub word : Word
+  -- the word runs along the item's edge
   pub runs : Runs system y (edge_of system u) word
+  -- its end value is at least the vector's number at the unknown
   pub reaches : y u.point u.row ≤ᴱ fin (item_value system u word)
 
 -- a vector that is at least another one, the same where that isn't finite, finite where it is, and supported by words of the pick there
 pub record Supports (system : Equations) (d y : Vector) (pick : Pick) : Type 0 where
+  -- the vector is at least the other
   pub over : Below system d y
+  -- it is the same where the other isn't finite
   pub same : (p r : ℕ) → r < length system.template → NotFinite (d p r) → y p r ≡ d p r
+  -- it is finite where the other is
   pub finite : (p r : ℕ) (c : ℚ) → r < length system.template → d p r ≡ fin c → (b : ℚ) × (y p r ≡ fin b)
+  -- each picked unknown with a finite number has its word
   pub highs : (u : Item) (c : ℚ) → Picks pick u → d u.point u.row ≡ fin c → HighWord system y u
 
 module _ (system : Equations) (T : Transformer) (reaches : (z : Vector) (edge : Edge) (row : List ℤ) → Reaches system z edge row (T z edge row))

@@ -31,9 +31,13 @@ Joined system T pick joint = (b : Vector) (list : List Item) → ListCondition s
 
 -- what is known of a part's steps from b
 pub record PartDone (system : Equations) (T : Transformer) (z b : Vector) (list : List Item) (steps : List Step) : Type 0 where
+  -- the steps are valid
   pub valid : ValidSteps system b steps
+  -- their items are for unknowns and edges of the list
   pub items : (step : Step) → In steps step → (v : Item) → In step.items v → (u : Item) × In list u × SameChoice u v
+  -- each unknown of the list has risen
   pub risen : (u : Item) → In list u → z u.point u.row <ᴱ after_steps steps b u.point u.row
+  -- each unknown's transformer is its bound
   pub same : (u : Item) → In list u → value_at system T (after_steps steps b) u ≡ after_steps steps b u.point u.row
 
 module _ (system : Equations) (T : Transformer) (reaches : Evident system T) (pick : Pick) (is_pick : IsPick system pick) (joint : Vector → List Item → Outcome) (joined : Joined system T pick joint) (z : Vector) where
@@ -216,6 +220,7 @@ module _ (system : Equations) (T : Transformer) (reaches : Evident system T) (pi
           sym (value_same system T f v u s) ∙ value_later v k ∙ sym (subst₂ (λ p r. f p r ≡ pos_inf) e g (top_later v k))
 
   -- ---- a part
+  -- enough turns of a part lead by valid steps to where each of its unknowns has risen to its transformer
   pub part_done : (n : ℕ) (list : List Item) (b : Vector) → length list ≤ n → Below system z b → Distinct list → ((u : Item) → In list u → Listed system pick z u) →
       ((u : Item) → In list u → b u.point u.row ≡ z u.point u.row) → PartDone system T z b list (part joint n b list)
   unfolding part turn after_step

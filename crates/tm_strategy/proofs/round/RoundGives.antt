@@ -17,14 +17,17 @@ use Rattle.tm_strategy.proofs.round.RoundLaw.{RoundDone}
 
 -- an unknown whose new edge's transformer exceeds its bound
 pub record Improved (system : Equations) (T : Transformer) (d : Vector) (pick : Pick) : Type 0 where
+  -- the unknown with its new edge
   pub item : Item
+  -- the pick has that edge
   pub picked : Picks pick item
+  -- the edge's transformer exceeds the unknown's bound
   pub exceeds : d item.point item.row <ᴱ value_at system T d item
 
 module _ (system : Equations) (T : Transformer) (reaches : Evident system T) (d z f : Vector) (old pick : Pick) (grown steps : List Step) (is_pick : IsPick system pick)
     (growth : Grown system T d pick grown z) (done : RoundDone system T d z pick grown steps f) where
   -- a picked unknown whose transformer exceeded its bound has risen
-  pub improved_rises : (u : Item) → Picks pick u → d u.point u.row <ᴱ value_at system T d u → d u.point u.row <ᴱ f u.point u.row
+  improved_rises : (u : Item) → Picks pick u → d u.point u.row <ᴱ value_at system T d u → d u.point u.row <ᴱ f u.point u.row
   improved_rises u p h =
       ext_lt_of_lt_of_le (d u.point u.row) (value_at system T d u) (f u.point u.row) h
       (subst (λ v. value_at system T d u ≤ᴱ v) (done.tight.same u p) (value_mono system T reaches d f u done.above.over))

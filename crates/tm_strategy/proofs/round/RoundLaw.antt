@@ -26,20 +26,32 @@ use Rattle.tm_strategy.proofs.round.CutLaw.{unnamed_items, valid_append, led_clo
 
 -- an admissible cut of the unknowns that the growth raised to fractions, with their low words
 pub record IsCut (system : Equations) (pick : Pick) (z : Vector) (steps : List Step) (lists : List (List Item)) : Type 0 where
+  -- the cut is admissible
   pub admissible : Admissible system lists
+  -- its unknowns are listed with their low words
   pub listed : (u : Item) → In (members lists) u → Listed system pick z u
+  -- its unknowns were raised by the growth
   pub raised : (u : Item) → In (members lists) u → (v : Item) × In (items_of steps) v × SameChoice v u
+  -- each unknown that the growth raised to a fraction is in the cut
   pub complete : (v : Item) (c : ℚ) → In (items_of steps) v → z v.point v.row ≡ fin c → (u : Item) × In (members lists) u × SameChoice u v
 
 -- what is known of a round from d to f, with the vector z after the growth by the first steps
 pub record RoundDone (system : Equations) (T : Transformer) (d z : Vector) (pick : Pick) (grown steps : List Step) (f : Vector) : Type 0 where
+  -- the round leads to the vector above d by the pick
   pub above : Above system T d pick f
+  -- the pick is tight there
   pub tight : Tight system T f pick
+  -- the steps are valid
   pub valid : ValidSteps system d steps
+  -- they lead from d to f
   pub leads : after_steps steps d ≡ f
+  -- their items are picked
   pub items : (step : Step) → In steps step → (v : Item) → In step.items v → Picks pick v
+  -- f is at least the vector after the growth
   pub turns : Below system z f
+  -- an unknown that the growth didn't raise keeps its bound
   pub unraised : (p r : ℕ) → Unnamed (items_of grown) p r → f p r ≡ d p r
+  -- an unknown that the growth raised is picked and has risen
   pub raised : (u : Item) → In (items_of grown) u → Picks pick u × (d u.point u.row <ᴱ f u.point u.row)
 
 module _ (system : Equations) (T : Transformer) (reaches : Evident system T) (pick : Pick) (joint : Vector → List Item → Outcome) (joined : Joined system T pick joint)

@@ -22,8 +22,11 @@ use Rattle.tm_strategy.proofs.round.WholeCut.{Cuts, round_is}
 
 -- a policy answers with an improved pick, or with none where no transformer exceeds its bound
 pub record Better (system : Equations) (T : Transformer) (d : Vector) (pick better : Pick) : Type 0 where
+  -- the answer is a pick of the system
   pub is_pick : IsPick system better
+  -- it improves the old pick
   pub improves : Improves system T d pick better
+  -- it improves on it in one unknown at least
   pub improved : Improved system T d better
 
 -- what a policy answers
@@ -98,9 +101,13 @@ module _ (fitting : ℚ → Bool) (system : Equations) (T : Transformer) (reache
 
   -- where the policy first has no answer
   record Ends (n : ℕ) : Type 0 where
+    -- the number of rounds
     pub rounds : ℕ
+    -- it is below n
     pub within : rounds < n
+    -- the policy has no answer there
     pub none : policy rounds (now rounds).vector (now rounds).pick ≡ None
+    -- before it every round goes on
     pub before : (k : ℕ) → k < rounds → Goes k
 
   look : (n : ℕ) → Ends n ⊎ ((k : ℕ) → k < n → Goes k)
@@ -120,11 +127,17 @@ module _ (fitting : ℚ → Bool) (system : Equations) (T : Transformer) (reache
 
   -- the rounds end, after fewer than there are picks, and lead by valid steps from the start vector to the least solution
   pub record Solved : Type 0 where
+    -- the number of rounds
     pub rounds : ℕ
+    -- it is below the number of picks
     pub few : rounds < pick_count system
+    -- the steps of the rounds
     pub steps : List Step
+    -- the steps are valid from the start vector
     pub valid : ValidSteps system start_vector steps
+    -- they lead to the last vector
     pub leads : after_steps steps start_vector ≡ (now rounds).vector
+    -- the last vector is the least solution
     pub least : Least system (now rounds).vector
 
   -- with any policy the rounds end

@@ -35,6 +35,7 @@ listed_same system pick z u v s h =
     }
 
 -- ---- lists without named unknowns
+-- an unknown of the list that no item names is in the rest
 pub in_without : (items us : List Item) (u : Item) → In us u → Unnamed items u.point u.row → In (without items us) u
 unfolding without
 in_without items [] u m n = absurd m

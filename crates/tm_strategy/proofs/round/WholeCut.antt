@@ -36,6 +36,7 @@ of_finite z (v ∷ us) u m = by (z v.point v.row) refl m (λ k. of_finite z us u
     by (fin c) e m rec = ⊎_elim (λ f. (inl f, (c, subst (λ i. z i.point i.row ≡ fin c) f e))) (λ k. let r = rec k in (inr r.0, r.1)) m
     by pos_inf e m rec = let r = rec m in (inr r.0, r.1)
 
+-- an item whose unknown is finite at the vector is among the items at fractions
 pub in_finite : (z : Vector) (us : List Item) (u : Item) (c : ℚ) → In us u → z u.point u.row ≡ fin c → In (finite_items z us) u
 unfolding finite_items keep
 in_finite z [] u c m e = absurd m
@@ -117,8 +118,11 @@ module _ (fitting : ℚ → Bool) (system : Equations) (T : Transformer) (reache
 
   -- parts are a cut of the rising unknowns
   pub record Cuts (d : Vector) (pick : Pick) (lists : List (List Item)) : Type 0 where
+    -- the parts are an admissible cut
     pub admissible : Admissible system lists
+    -- their members are rising unknowns
     pub from : (u : Item) → In (members lists) u → In (rising fitting system T reaches d pick) u
+    -- each rising unknown is a member
     pub all : (u : Item) → In (rising fitting system T reaches d pick) u → In (members lists) u
 
   -- admissible parts with the rising unknowns as members are a cut
