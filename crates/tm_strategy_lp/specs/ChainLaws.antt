@@ -26,6 +26,7 @@ pub record IsImprovement (policy : Offer → ℕ → Type 0) (fitting : ℚ → 
       EndsAfter system policy n (exact_state fitting system choose n).vector
   pub goes_on : Goes system (choose n) (exact_state fitting system choose n) → GoesOnAfter system policy n
 
+-- chains of exact rounds are chains of improvements by a policy
 abbrev pub RoundsAreImprovements : (Offer → ℕ → Type 0) → Type 0
 RoundsAreImprovements policy = (fitting : ℚ → Bool) (system : Equations) → PointsInRange system → (choose : ℕ → Choice) → ((k : ℕ) → TakesOne (choose k)) →
     (n : ℕ) →
@@ -42,11 +43,13 @@ pub record IsShort (policy : Offer → ℕ → Type 0) (system : Equations) (n :
   pub once : (i j : ℕ) → i < j → j ≤ n → ((p r : ℕ) → r < length system.template → picks i p r ≡ picks j p r) → ⊥
   pub few : n < pick_count system
 
+-- chains of improvements by a policy are short
 abbrev pub ChainsAreShort : (Offer → ℕ → Type 0) → Type 0
 ChainsAreShort policy =
     (system : Equations) → PointsInRange system → (n : ℕ) (vectors : ℕ → Vector) (picks : ℕ → Pick) → IsChain system policy n vectors picks →
     IsShort policy system n vectors picks
 
+-- chains of improvements by a policy end at the least vector
 abbrev pub EndsAreLeast : (Offer → ℕ → Type 0) → Type 0
 EndsAreLeast policy = (system : Equations) → PointsInRange system → (n : ℕ) (v : Vector) → (e : EndsAfter system policy n v) → Least system (e.vectors n)
 
@@ -64,6 +67,7 @@ pub record IsDecided (policy : Offer → ℕ → Type 0) (system : Equations) (l
   pub one : EndsWithin policy system limit ⊎ GoesOnAfter system policy limit
   pub not_both : EndsWithin policy system limit → GoesOnAfter system policy limit → ⊥
 
+-- a policy ends within every limit or goes on after it
 abbrev pub EndsOrGoesOn : (Offer → ℕ → Type 0) → Type 0
 EndsOrGoesOn policy = (system : Equations) → PointsInRange system → (limit : ℕ) → IsDecided policy system limit
 

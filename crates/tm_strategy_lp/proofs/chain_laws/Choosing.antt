@@ -56,6 +56,7 @@ greatest_of x (y ∷ ys) = by (greatest_of y ys)
             firsts zero l = h
             firsts (suc i) l = g.first i (omega arith)
 
+-- the policy of the best edge always chooses
 pub best_chooses : Chooses Best
 best_chooses offer s = by offer.values refl
   where
@@ -87,18 +88,23 @@ earliest_of bound (x ∷ xs) j h = by (ext_le_or_lt x bound) j h (λ i g. earlie
         firsts e zero l = le
         firsts e (suc i) l = e.first i (omega arith)
 
+-- the policy of the first edge always chooses
 pub first_chooses : Chooses First
 first_chooses offer s = let e = earliest_of offer.bound offer.values s.0 s.1 in (e.position, record { exceeds = e.exceeds; first = e.first }, e.exceeds)
 
 -- ---- laws
+-- each unknown at a row of the template has an offer
 pub offers_law : OffersAreThere
 offers_law system z p r l = (exact_offer system z p r, offer_meant system z p r l)
 
+-- chains of exact rounds by choices that follow a policy are chains of improvements by it
 pub improvements_law : (policy : Offer → ℕ → Type 0) → RoundsAreImprovements policy
 improvements_law policy fitting system range choose among n goes follows = improvement_meant policy fitting system range choose among n goes follows
 
+-- chains by a policy that always chooses and answers one position end within a limit or go on after it
 pub decided_law : (policy : Offer → ℕ → Type 0) → Chooses policy → AnswersOne policy → EndsOrGoesOn policy
 decided_law policy chooses one system range limit = decided policy chooses none_fits system range one limit
 
+-- by every function that answers what exceeds, chains end within a limit or go on after it
 pub every_decided : EveryPolicyEndsOrGoesOn
 every_decided answer exceeds = decided_law (By answer) (λ offer s. (answer offer, refl, exceeds offer s)) (by_is_one answer)

@@ -31,6 +31,7 @@ of_item_for (v ∷ items) w u m = by (is_at w v.point v.row) refl m (λ k. of_it
     by true e (inr j) k = absurd j
     by false e j k = let r = k j in (inr r.0, r.1)
 
+-- an item of a distinct list is the one for its unknown
 pub item_for_is : (items : List Item) (u : Item) → Distinct items → In items u → item_for items (listed_item u) ≡ u ∷ []
 unfolding item_for
 item_for_is [] u d m = absurd m
@@ -90,7 +91,7 @@ module _ (items : List Item) (distinct : Distinct items) (apart : Apart (listed_
               (subst₂ (λ a b. Unlisted part a b) (sym (e ∙ ap (λ (s : Listed). s.point) u.2)) (sym (f ∙ ap (λ (s : Listed). s.row) u.2)) d.0))
 
   -- stand for just those unknowns
-  pub listed_for : (part : List Listed) → ((w : Listed) → In part w → In (listed_items items) w) → listed_items (items_for items part) ≡ part
+  listed_for : (part : List Listed) → ((w : Listed) → In part w → In (listed_items items) w) → listed_items (items_for items part) ≡ part
   unfolding items_for listed_items
   listed_for [] within = refl
   listed_for (w ∷ part) within =

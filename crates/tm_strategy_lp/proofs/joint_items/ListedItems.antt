@@ -25,7 +25,7 @@ of_listed [] v m = absurd m
 of_listed (u ∷ list) v m = ⊎_elim (λ e. (u, inl refl, e)) (λ k. let r = of_listed list v k in (r.0, inr r.1, r.2)) m
 
 -- what no item names isn't listed
-pub unlisted_items : (list : List Item) (p r : ℕ) → Unnamed list p r → Unlisted (listed_items list) p r
+unlisted_items : (list : List Item) (p r : ℕ) → Unnamed list p r → Unlisted (listed_items list) p r
 unfolding listed_items names is_at
 unlisted_items [] p r n = tt
 unlisted_items (u ∷ list) p r n = (n.0, unlisted_items list p r n.1)

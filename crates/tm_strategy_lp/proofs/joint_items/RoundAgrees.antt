@@ -53,7 +53,7 @@ module _ (system : Equations) (b c : Vector) (agree : Agree system b c) where
       ap (λ s. s ++ joint_limits system b all next list) (block_agrees all offset u (rows u (inl refl))) ∙ ap (λ s. block_limits system c all offset u ++ s) (limits_agree all next list (λ v m. rows v (inr m)))
 
   -- the joint problem is the same
-  pub joint_problem_agrees : (list : List Listed) → ((u : Listed) → In list u → u.row < length system.template) → joint_problem system b list ≡ joint_problem system c list
+  joint_problem_agrees : (list : List Listed) → ((u : Listed) → In list u → u.row < length system.template) → joint_problem system b list ≡ joint_problem system c list
   unfolding joint_problem
   joint_problem_agrees list rows = ap (λ s. limits_problem (length list + word_columns system list) s (ones (length list))) (limits_agree list 0 list rows)
 

@@ -22,7 +22,7 @@ use Rattle.tm_strategy_lp.specs.Evidence.{whole_problem, outcome_is}
 use Rattle.tm_strategy_lp.specs.Made.{lowest_lost, row_multipliers, guard_multipliers, outcome_upper, exact_upper}
 
 -- ---- the lowest row at −∞
-pub lowest_lost_within : (bounds : ℕ → Ext) (rows : List (List ℤ)) → lost bounds rows ≡ true → lowest_lost bounds rows < length rows
+lowest_lost_within : (bounds : ℕ → Ext) (rows : List (List ℤ)) → lost bounds rows ≡ true → lowest_lost bounds rows < length rows
 unfolding lost lowest_lost
 lowest_lost_within bounds [] e = absurd (true≢false (sym e))
 lowest_lost_within bounds (row ∷ rows) e = by (is_lost (bounds 0)) refl (λ f. lowest_lost_within (λ r. bounds (suc r)) rows f)
@@ -37,7 +37,7 @@ is_neg neg_inf e = refl
 is_neg (fin c) e = absurd (true≢false (sym e))
 is_neg pos_inf e = absurd (true≢false (sym e))
 
-pub lowest_lost_is : (bounds : ℕ → Ext) (rows : List (List ℤ)) → lost bounds rows ≡ true → bounds (lowest_lost bounds rows) ≡ neg_inf
+lowest_lost_is : (bounds : ℕ → Ext) (rows : List (List ℤ)) → lost bounds rows ≡ true → bounds (lowest_lost bounds rows) ≡ neg_inf
 unfolding lost lowest_lost
 lowest_lost_is bounds [] e = absurd (true≢false (sym e))
 lowest_lost_is bounds (row ∷ rows) e = by (is_lost (bounds 0)) refl (λ f. lowest_lost_is (λ r. bounds (suc r)) rows f)

@@ -51,7 +51,7 @@ module _ (system : Equations) (z q : Vector) (agree : Agree system z q) where
       ap (λ s. limits_problem (width system.variables edge.actions) (s ++ guard_limits (λ u. u) (guard_forms system.variables edge.actions)) (end_form system.variables edge.actions row).coeffs)
       (same_sources (λ r u. u) system.variables (z edge.from) (q edge.from) system.template (λ r l. agree edge.from r l))
 
-  pub outcome_agrees : (u : Item) → outcome_at system z u ≡ outcome_at system q u
+  outcome_agrees : (u : Item) → outcome_at system z u ≡ outcome_at system q u
   outcome_agrees u = ap (λ P. lp (split_problem P)) (problem_agrees (edge_of system u) (row_of system u))
 
   -- and a transformer

@@ -9,20 +9,25 @@ use Rattle.tm_strategy_lp.proofs.joint_items.RoundAgrees.{grown_agrees, round_st
 use Rattle.tm_strategy_lp.proofs.rounds.NextAgrees.{exact_next_agrees}
 use Rattle.tm_strategy_lp.proofs.rounds.MadeCertificate.{made_valid}
 
+-- the growth of a supported pick makes valid steps, to a vector that every closed vector bounds
 pub growths_law : GrowthsAreExact
 growths_law = exact_grow_is
 
+-- the turn of a list that meets the list condition is a point at its transformers, or a ray
 pub turns_law : TurnsAreExact
 turns_law = exact_joined
 
+-- the cut of a growth's unknowns is admissible and has them all
 pub cuts_law : CutsAreExact
 cuts_law fitting system d pick is_pick =
     let c = exact_cuts fitting system d pick is_pick in
     record { admissible = c.admissible; from = c.from; all = c.all }
 
+-- the round by a supported pick makes valid steps to the vector above the first, where the pick is tight
 pub rounds_law : RoundsAreExact
 rounds_law = exact_round_is
 
+-- rounds with any choices among what exceeds lead by valid steps to tight picks, and to the least solution where none exceeds
 pub chains_law : ChainsAreExact
 chains_law fitting system range choose among n goes =
     record {
@@ -35,11 +40,13 @@ chains_law fitting system range choose among n goes =
       certified = λ e. made_valid fitting system range choose among n goes (state_ends fitting system range choose among n goes e);
     }
 
+-- with any choices the rounds end, after fewer than there are picks
 pub end_law : RoundsEnd
 end_law fitting system range choose among =
     let e = rounds_end fitting system range choose among in
     record { rounds = e.rounds; few = e.within; made = e.before; ended = e.none }
 
+-- from vectors that agree at the template's rows a round makes the same steps, to vectors that agree
 pub rows_law : RowsDecide
 rows_law fitting system pick is_pick d e agree =
     record {

@@ -31,6 +31,7 @@ in_has e (x ∷ xs) m = by (eqb e x) (eqb_tells e x) m (λ t. in_has e xs t)
 pub clamp : ℕ → ℕ → List ℕ → ℕ
 clamp e k ks = if has e (k ∷ ks) then e else k
 
+-- the choice is one of the listed numbers
 pub clamp_among : (e k : ℕ) (ks : List ℕ) → In (k ∷ ks) (clamp e k ks)
 unfolding clamp
 clamp_among e k ks = by (has e (k ∷ ks)) refl
@@ -39,6 +40,7 @@ clamp_among e k ks = by (has e (k ∷ ks)) refl
     by true h = has_in e (k ∷ ks) h
     by false h = inl refl
 
+-- a listed number is its own choice
 pub clamp_is : (e k : ℕ) (ks : List ℕ) → In (k ∷ ks) e → clamp e k ks ≡ e
 unfolding clamp
 clamp_is e k ks m = ap (λ b. if b then e else k) (in_has e (k ∷ ks) m)

@@ -31,9 +31,13 @@ module _ (fitting : ℚ → Bool) (system : Equations) (range : PointsInRange sy
 
   -- what is known of a round from one state to another
   pub record RoundMade (s t : State) : Type 0 where
+    -- the next pick is better than the old one
     pub better : Better system (transformer system) s.vector s.pick t.pick
+    -- the next pick is supported at the first vector
     pub supported : Supported system (transformer system) s.vector t.pick
+    -- the growth of the next pick
     pub growth : Grown system (transformer system) s.vector t.pick (exact_grow fitting system s.vector t.pick) (exact_grown fitting system s.vector t.pick)
+    -- the round leads to the second vector
     pub done : RoundDone system (transformer system) s.vector (exact_grown fitting system s.vector t.pick) t.pick (exact_grow fitting system s.vector t.pick) (exact_round_steps fitting system s.vector t.pick) t.vector
 
   made_by : (s : State) (better : Pick) → Tight system (transformer system) s.vector s.pick → Better system (transformer system) s.vector s.pick better → RoundMade s (next_of (Some better) s)

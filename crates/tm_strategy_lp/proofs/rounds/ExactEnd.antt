@@ -47,6 +47,7 @@ pub with_choice-at : (choose : ℕ → Choice) (n : ℕ) (other : Choice) → wi
 unfolding with_choice
 with_choice-at choose n other = ⊎_elim (λ h. ap (λ b. if b then other else choose n) h.0) (λ h. absurd (h.1 refl)) (eqb_tells n n)
 
+-- the choices before the changed one are the old ones
 pub with_choice-before : (choose : ℕ → Choice) (n : ℕ) (other : Choice) (k : ℕ) → k < n → with_choice choose n other k ≡ choose k
 unfolding with_choice
 with_choice-before choose n other k l = ⊎_elim (λ h. absurd (less h.1)) (λ h. ap (λ b. if b then other else choose k) h.0) (eqb_tells k n)
@@ -69,9 +70,13 @@ module _ (fitting : ℚ → Bool) (system : Equations) (range : PointsInRange sy
 
   -- where no choice goes for the first time
   pub record Ends (n : ℕ) : Type 0 where
+    -- the number of rounds
     pub rounds : ℕ
+    -- it is below n
     pub within : rounds < n
+    -- there no choice goes
     pub none : exact_next system (choose rounds) (now rounds).vector (now rounds).pick ≡ None
+    -- before it every choice goes
     pub before : (k : ℕ) → k < rounds → Goes system (choose k) (now k)
 
   look : (n : ℕ) → Ends n ⊎ ((k : ℕ) → k < n → Goes system (choose k) (now k))

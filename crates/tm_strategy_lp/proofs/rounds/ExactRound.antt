@@ -27,7 +27,7 @@ exact_sizes system z edge row = evidence_sizes system z edge row
 
 module _ (fitting : ℚ → Bool) (system : Equations) where
   -- the unknowns that the growth raised to fractions are distinct
-  pub rising_apart : (d : Vector) (pick : Pick) → IsPick system pick → Distinct (exact_rising fitting system d pick)
+  rising_apart : (d : Vector) (pick : Pick) → IsPick system pick → Distinct (exact_rising fitting system d pick)
   rising_apart d pick is_pick = (whole_cut fitting system (transformer system) (exact_evidence system) (exact_sizes system) d pick is_pick).admissible.0
 
   -- and in order they rise

@@ -31,7 +31,7 @@ module _ (fitting : ℚ → Bool) (system : Equations) where
   value_agrees z q u agree = transformer_agrees system z q agree (edge_of system u) (row_of system u)
 
   -- a pass makes the same steps
-  pub pass_agrees : (us : List Item) (z q : Vector) → Agree system z q → HaveRows system us → exact_pass fitting system z us ≡ exact_pass fitting system q us
+  pass_agrees : (us : List Item) (z q : Vector) → Agree system z q → HaveRows system us → exact_pass fitting system z us ≡ exact_pass fitting system q us
   unfolding pass
   pass_agrees [] z q agree rows = refl
   pass_agrees (u ∷ us) z q agree rows =
@@ -47,7 +47,7 @@ module _ (fitting : ℚ → Bool) (system : Equations) where
       ∙ ap (λ l. log_by (value_at system (transformer system) q u) (q u.point u.row) (stay u (exact_pass fitting system q us)) (go b l)) later
 
   -- what a pass leaves is some of its unknowns
-  pub pass_left : (us : List Item) (z : Vector) (u : Item) → In (exact_pass fitting system z us).left u → In us u
+  pass_left : (us : List Item) (z : Vector) (u : Item) → In (exact_pass fitting system z us).left u → In us u
   unfolding pass stay go
   pass_left [] z u m = m
   pass_left (v ∷ us) z u m =
@@ -60,7 +60,7 @@ module _ (fitting : ℚ → Bool) (system : Equations) where
       by (inr h) m a b = inr (b m)
 
   -- passes make the same steps
-  pub passes_agree : (n : ℕ) (us : List Item) (z q : Vector) → Agree system z q → HaveRows system us → exact_passes fitting system n z us ≡ exact_passes fitting system n q us
+  passes_agree : (n : ℕ) (us : List Item) (z q : Vector) → Agree system z q → HaveRows system us → exact_passes fitting system n z us ≡ exact_passes fitting system n q us
   unfolding passes continue
   passes_agree zero us z q agree rows = refl
   passes_agree (suc n) us z q agree rows =
@@ -77,12 +77,12 @@ module _ (fitting : ℚ → Bool) (system : Equations) where
       by log h rec = more log.steps log h rec
 
   -- a growth makes the same steps
-  pub growth_agrees : (us : List Item) (z q : Vector) → Agree system z q → HaveRows system us → exact_growth fitting system z us ≡ exact_growth fitting system q us
+  growth_agrees : (us : List Item) (z q : Vector) → Agree system z q → HaveRows system us → exact_growth fitting system z us ≡ exact_growth fitting system q us
   unfolding growth
   growth_agrees us z q agree rows = passes_agree (length us) us z q agree rows
 
   -- ---- picks
-  pub choices_rows : (pick : Pick) → IsPick system pick → HaveRows system (choices system pick)
+  choices_rows : (pick : Pick) → IsPick system pick → HaveRows system (choices system pick)
   choices_rows pick is_pick u m = (is_pick u (choices_picked system pick u m)).row_within
 
   -- the growth of a pick
@@ -99,6 +99,7 @@ module _ (fitting : ℚ → Bool) (system : Equations) where
       let s = of_items (exact_grow fitting system d pick) u m in
       raises_picked system (transformer system) (exact_evidence system) pick is_pick (exact_grow fitting system d pick) d done.logged.raises s.0 s.1 u s.2
 
+  -- the items at fractions are some of the items
   pub of_finite : (z : Vector) (us : List Item) (u : Item) → In (finite_items z us) u → In us u
   unfolding finite_items keep
   of_finite z [] u m = absurd m
@@ -110,11 +111,12 @@ module _ (fitting : ℚ → Bool) (system : Equations) where
       by pos_inf m rec = inr (rec m)
 
   -- those that it raised to fractions are picked
-  pub rising_picked : (pick : Pick) → IsPick system pick → (d : Vector) (u : Item) → In (exact_rising fitting system d pick) u → Picks pick u
+  rising_picked : (pick : Pick) → IsPick system pick → (d : Vector) (u : Item) → In (exact_rising fitting system d pick) u → Picks pick u
   unfolding rising
   rising_picked pick is_pick d u m =
       grow_picked pick is_pick d u (of_finite (after_steps (exact_grow fitting system d pick) d) (items_of (exact_grow fitting system d pick)) u m)
 
+  -- those that it raised to fractions stand at rows of the template
   pub rising_rows : (pick : Pick) → IsPick system pick → (d : Vector) → HaveRows system (exact_rising fitting system d pick)
   rising_rows pick is_pick d u m = (is_pick u (rising_picked pick is_pick d u m)).row_within
 
@@ -125,7 +127,7 @@ module _ (fitting : ℚ → Bool) (system : Equations) where
       ap (λ v. keep v u (finite_items z us)) (agree u.point u.row (rows u (inl refl))) ∙ ap (λ s. keep (q u.point u.row) u s) (finite_agrees us z q agree (λ v m. rows v (inr m)))
 
   -- the unknowns that it raised to fractions
-  pub rising_agrees : (pick : Pick) → IsPick system pick → (d e : Vector) → Agree system d e → exact_rising fitting system d pick ≡ exact_rising fitting system e pick
+  rising_agrees : (pick : Pick) → IsPick system pick → (d e : Vector) → Agree system d e → exact_rising fitting system d pick ≡ exact_rising fitting system e pick
   unfolding rising
   rising_agrees pick is_pick d e agree =
       let s = exact_grow fitting system d pick in

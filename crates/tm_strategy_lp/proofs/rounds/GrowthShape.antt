@@ -53,6 +53,7 @@ module _ (fitting : ℚ → Bool) (system : Equations) (pick : Pick) (is_pick : 
   unfolding rising
   to_rising u c m e = in_finite (exact_grown fitting system d pick) (items_of (exact_grow fitting system d pick)) u c m e
 
+  -- the unknowns that it raised to fractions are raised ones with a fraction as bound
   pub of_rising : (u : Item) → In (exact_rising fitting system d pick) u → In (items_of (exact_grow fitting system d pick)) u × ((c : ℚ) × (exact_grown fitting system d pick u.point u.row ≡ fin c))
   unfolding rising
   of_rising u m = of_finite (exact_grown fitting system d pick) (items_of (exact_grow fitting system d pick)) u m

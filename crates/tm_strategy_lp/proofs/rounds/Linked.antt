@@ -74,12 +74,13 @@ module _ (system : Equations) (z : Vector) where
           let f = follows p r k ks l e in
           record { offer = f.0; is_offer = f.1; taken = λ s. (f.2.0, f.2.1, f.2.2, sym f.2.3); kept = λ n. absurd (n (f.2.0, f.2.2)) }
 
-  pub next_meant : (policy : Offer → ℕ → Type 0) (choose : Choice) (pick better : Pick) → Follows policy system z choose → exact_next system choose z pick ≡ Some better →
+  next_meant : (policy : Offer → ℕ → Type 0) (choose : Choice) (pick better : Pick) → Follows policy system z choose → exact_next system choose z pick ≡ Some better →
       IsNextPick system policy z pick better
   next_meant policy choose pick better follows e =
       subst (λ b. IsNextPick system policy z pick b) (sym (next_changes choose pick better e).same) (λ p r l. changed_edge policy choose pick follows p r l)
 
   -- ---- where something exceeds, and where nothing does
+  -- where a choice goes, some transformer exceeds its bound
   pub goes_exceeded : (choose : Choice) (pick better : Pick) → exact_next system choose z pick ≡ Some better → IsExceeded system z
   goes_exceeded choose pick better e =
       let c = next_changes choose pick better e in
@@ -93,6 +94,7 @@ module _ (system : Equations) (z : Vector) where
         exceeds = something_exceeds system z c.point c.row c.first c.rest c.offered;
       }
 
+  -- where no transformer exceeds its bound, the chain ends
   pub end_meant : NoneExceeds system (transformer system) z → IsEnd system z
   end_meant none p r l = (exact_offer system z p r, offer_meant system z p r l, by)
     where
@@ -121,6 +123,7 @@ module _ (system : Equations) (pick : Pick) (is_pick : IsPick system pick) where
       (upper_of_transitions system q edge row (q u.point u.row) (Contains-get_or system.edges u.edge (record { from = 0; to = 0; actions = [] }) p.edge_within)
       (closed u.point u.row u.edge edge row h (slice_get-get_or system.edges u.edge (record { from = 0; to = 0; actions = [] }) p.edge_within) (slice_get-get_or system.template u.row [] p.row_within)))
 
+  -- the vector above the first by a pick is the next vector that the definition means
   pub above_meant : (d e : Vector) → Above system (transformer system) d pick e → IsNextVector system pick d e
   above_meant d e a = record { over = a.over; closed = closed_meant e a.closed; least = λ w under closed. a.least w under (meant_closed w closed) }
 
@@ -135,7 +138,7 @@ module _ (policy : Offer → ℕ → Type 0) (fitting : ℚ → Bool) (system : 
   unfolding next
   picked k l = ap (λ (s : State). s.pick) (state_after fitting system choose k (goes k l).0 (goes k l).1)
 
-  pub chain_meant : IsChain system policy n (λ k. (now k).vector) (λ k. (now k).pick)
+  chain_meant : IsChain system policy n (λ k. (now k).vector) (λ k. (now k).pick)
   unfolding state start_vector
   chain_meant = record {
     entry = λ r l. refl;
@@ -152,6 +155,7 @@ module _ (policy : Offer → ℕ → Type 0) (fitting : ℚ → Bool) (system : 
       others zero r h = absurd (omega arith)
       others (suc p) r h = refl
 
+  -- chains of exact rounds by choices that follow a policy are chains of improvements by it
   pub improvement_meant : IsImprovement policy fitting system choose n
   improvement_meant = record {
     chain = chain_meant;

@@ -36,7 +36,7 @@ bounds_past system bounds p r size past =
     get_or-eq_default bounds neg_inf (subst (λ n. n ≤ p * length system.template + r) (sym size) (le_trans (mul-le-mul_right (length system.template) past) (le-add_right (p * length system.template) r)))
 
 -- a vector to which valid steps lead is that of its list of bounds
-pub listed_agrees : (system : Equations) (steps : List Step) (z : Vector) → 0 < system.points → ValidSteps system start_vector steps → after_steps steps start_vector ≡ z → Agree system (bounds_vector system (listed_bounds system z)) z
+listed_agrees : (system : Equations) (steps : List Step) (z : Vector) → 0 < system.points → ValidSteps system start_vector steps → after_steps steps start_vector ≡ z → Agree system (bounds_vector system (listed_bounds system z)) z
 unfolding bounds_vector
 listed_agrees system steps z some valid leads p r l = by (cases_lt p system.points)
   where

@@ -23,6 +23,7 @@ use Rattle.tm_chain.specs.Transformers.{IsUpper, IsTransformer}
 use Rattle.tm_chain.specs.Offers.{Offer, numbers_into, IsOffer, Exceeds, SomeExceeds}
 
 -- ---- transformers
+-- an upper bound of the words' end values is one of the transitions' values
 pub upper_of_words : (system : Equations) (z : Vector) (edge : Edge) (row : List ℤ) (number : Ext) → Upper system z edge row number → IsUpper system z edge row number
 unfolding end_value
 upper_of_words system z edge row number upper x y t =
@@ -30,13 +31,14 @@ upper_of_words system z edge row number upper x y t =
     let runs : Runs system z edge (x ++ w.0) = record { passes = w.2; fits = subst (λ s. Fits system z edge.from s) (sym w.3) t.fits } in
     subst (λ s. fin (dotℚ row s) ≤ᴱ number) w.4 (upper (x ++ w.0) runs)
 
+-- an upper bound of the transitions' values is one of the words' end values
 pub upper_of_transitions : (system : Equations) (z : Vector) (edge : Edge) (row : List ℤ) (number : Ext) → Contains system.edges edge → IsUpper system z edge row number → Upper system z edge row number
 unfolding end_value
 upper_of_transitions system z edge row number listed upper w runs =
     upper (start_of system.variables w) (end_of system.variables edge.actions w)
     (record { listed = listed; starts = start_length system.variables w; fits = runs.fits; trace = trace_of_word system.variables edge.actions w runs.passes })
 
-pub transformer_meant : (system : Equations) (z : Vector) (edge : Edge) (row : List ℤ) → Contains system.edges edge → IsTransformer system z edge row (transformer system z edge row)
+transformer_meant : (system : Equations) (z : Vector) (edge : Edge) (row : List ℤ) → Contains system.edges edge → IsTransformer system z edge row (transformer system z edge row)
 transformer_meant system z edge row listed =
     let t = transformer_is system z edge row in
     record {
@@ -113,6 +115,7 @@ module _ (system : Equations) (z : Vector) (p r : ℕ) where
       by : Some (T edge) ≡ Some number → T edge ≡ number
       by h = cc
 
+  -- the exact offer is the one that the definition means
   pub offer_meant : r < length system.template → IsOffer system z p r (exact_offer system z p r)
   unfolding exact_offer
   offer_meant l = record {
@@ -193,7 +196,7 @@ module _ (system : Equations) (z : Vector) (p r : ℕ) where
       by true (inr lt) (suc i) g rec = let f = rec i g in (f.0, f.1, inr f.2)
 
   -- some transformer exceeds exactly where something is offered
-  pub offered_exceeds : (n : ℕ) → In (offers system (transformer system) z p r) n → (j : ℕ) × (slice_get (exact_offer system z p r).edges j ≡ Some n) × Exceeds (exact_offer system z p r) j
+  offered_exceeds : (n : ℕ) → In (offers system (transformer system) z p r) n → (j : ℕ) × (slice_get (exact_offer system z p r).edges j ≡ Some n) × Exceeds (exact_offer system z p r) j
   unfolding offers exact_offer
   offered_exceeds n m = by (ltb r (length system.template)) m
     where
@@ -202,15 +205,18 @@ module _ (system : Equations) (z : Vector) (p r : ℕ) where
       by true m = let h = position_of 0 system.edges n m in (h.position, h.is_number, h.exceeds)
       by false m = absurd m
 
+  -- a position that exceeds is offered
   pub exceeds_offered : r < length system.template → (j : ℕ) → Exceeds (exact_offer system z p r) j → (n : ℕ) × (slice_get (exact_offer system z p r).edges j ≡ Some n) × In (offers system (transformer system) z p r) n
   unfolding offers exact_offer
   exceeds_offered l j h =
       let f = edge_of_position 0 system.edges j h in
       (f.0, f.1, subst (λ b. In (if b then exceeding system (transformer system) z p r 0 system.edges else []) f.0) (sym (lt-ltb r (length system.template) l)) f.2)
 
+  -- where nothing is offered, nothing exceeds
   pub nothing_exceeds : offers system (transformer system) z p r ≡ [] → r < length system.template → SomeExceeds (exact_offer system z p r) → ⊥
   nothing_exceeds e l s = let f = exceeds_offered l s.0 s.1 in subst (λ os. In os f.0) e f.2
 
+  -- where something is offered, something exceeds
   pub something_exceeds : (k : ℕ) (ks : List ℕ) → offers system (transformer system) z p r ≡ k ∷ ks → SomeExceeds (exact_offer system z p r)
   something_exceeds k ks e = let f = offered_exceeds k (subst (λ os. In os k) (sym e) (inl refl)) in (f.0, f.2)
 

@@ -141,7 +141,7 @@ module _ (fitting : ℚ → Bool) (system : Equations) (range : PointsInRange sy
   }
 
   -- where the chain ends, the vector is least
-  pub chain_least : IsEnd system (vectors n) → Least system (vectors n)
+  chain_least : IsEnd system (vectors n) → Least system (vectors n)
   chain_least ended = by (exact_next system (choose n) (now n).vector (now n).pick) refl
     where
       at : IsAt n
@@ -155,8 +155,10 @@ module _ (fitting : ℚ → Bool) (system : Equations) (range : PointsInRange sy
 pub none_fits : ℚ → Bool
 none_fits q = false
 
+-- in a chain of improvements no pick comes twice, and there are fewer improvements than picks
 pub short_law : (policy : Offer → ℕ → Type 0) → ChainsAreShort policy
 short_law policy system range n vectors picks chain = chain_short none_fits system range policy n vectors picks chain
 
+-- a chain of improvements that ends ends at the least vector
 pub least_law : (policy : Offer → ℕ → Type 0) → EndsAreLeast policy
 least_law policy system range n v e = chain_least none_fits system range policy n e.vectors e.picks e.chain e.ended

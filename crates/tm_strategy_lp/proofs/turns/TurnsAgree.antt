@@ -18,10 +18,14 @@ use Rattle.tm_strategy_lp.proofs.joint_items.RoundAgrees.{joint_agrees, part_agr
 
 -- two turns with one list and number, at vectors that agree
 pub record Like (system : Equations) (t s : Turn) : Type 0 where
+  -- the vectors agree
   pub vector : Agree system t.vector s.vector
+  -- the lists are the same
   pub list : t.list ≡ s.list
+  -- the numbers are the same
   pub number : t.number ≡ s.number
 
+-- a turn like a second is like each turn that the second is like
 pub like_trans : (system : Equations) (t s r : Turn) → Like system t s → Like system s r → Like system t r
 like_trans system t s r a b = record { vector = λ p q l. a.vector p q l ∙ b.vector p q l; list = a.list ∙ b.list; number = a.number ∙ b.number }
 
