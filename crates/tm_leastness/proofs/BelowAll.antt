@@ -57,6 +57,7 @@ module _ (system : Equations) (range : PointsInRange system) (v : Vector) (post 
   lowered_least : Least system lowered
   lowered_least = least_of_below system (transformer system) (transformer_reaches system) lowered lowered_post lowered_below
 
+  -- the vector is least
   pub below_all_least : Least system v
   below_all_least = record {
     solves = record {
