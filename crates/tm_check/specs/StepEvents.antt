@@ -106,6 +106,7 @@ second_pass_events kind system z all s k [] = []
 second_pass_events kind system z all s k (item ∷ items) = second_events kind system z all s k item ++ second_pass_events kind system z all s (suc k) items
 
 -- ---- steps
+-- one step: its first pass, and then its second
 unfoldable pub step_events : Equations → Vector → ℕ → Step → List Event
 step_events system z s step = first_pass_events step.kind system z s 0 [] step.items ++ second_pass_events step.kind system z step.items s 0 step.items
 

@@ -21,6 +21,7 @@ edge_passes n points (first ∷ edges) h edge m =
     let b = both (is_edge n points first) (list_all (is_edge n points) edges) h in
     ⊎_elim (λ e. subst (λ x. IsTrue (is_edge n points x)) e b.0) (λ k. edge_passes n points edges b.1 edge k) m
 
+-- the edges of a system end at its points
 pub points_in_range : (system : System) → PointsInRange (equations_of system)
 points_in_range system =
     let sizes = flow_sizes system.flow in
@@ -36,6 +37,7 @@ points_in_range system =
           ltb-true edge.to points d.0;
     }
 
+-- a system has at most 256 edges
 pub few_edges : (flow : Flow) → length flow.edges ≤ 256
 few_edges flow =
     let a = both (nat_le 1 (length flow.names) && nat_le (length flow.names) MOST_VARIABLES) _ flow.within_limits in

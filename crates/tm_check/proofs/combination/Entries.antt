@@ -34,5 +34,6 @@ constant_read guards g f x e read =
 pub bound_at_row : (system : Equations) (bounds : List Ext) (z : Vector) → Stands system bounds z → (p r n : ℕ) (b : Ext) → p < system.points → r < length system.template → n ≡ length system.template → b ≡ get_or bounds (p * n + r) neg_inf → b ≡ z p r
 bound_at_row system bounds z h p r n b l k e read = read ∙ ap (λ m. get_or bounds (p * m + r) neg_inf) e ∙ h.at p r l k
 
+-- a number that is read is the list's at that place
 pub number_read : (f : ℕ → ℚ) (n r : ℕ) (x : ℚ) → r < n → x ≡ f r → x ≡ get_or (map f (range_with_len 0 n)) r x
 number_read f n r x l e = e ∙ sym (get_or-map-range_with_len f 0 n r r x l (zero-add r))

@@ -18,6 +18,7 @@ use Rattle.tm_check.specs.EvidenceEvents.{guard_column, guard_numbers}
 abbrev pub no_edge : Edge
 no_edge = record { from = 0; to = 0; actions = [] }
 
+-- the forms of an edge with no actions over no template
 abbrev pub no_forms : EdgeForms
 no_forms = record { frees = 0; guards = []; rows = [] }
 
@@ -25,7 +26,8 @@ no_forms = record { frees = 0; guards = []; rows = [] }
 pub edge_there : (edges : List Edge) (k : ℕ) → k < length edges → slice_get edges k ≡ Some (get_or edges k no_edge)
 edge_there edges k l = slice_get-get_or edges k no_edge l
 
-pub forms_there : (paths : List EdgeForms) (k : ℕ) → k < length paths → slice_get paths k ≡ Some (get_or paths k no_forms)
+-- forms that are there, read at their place
+forms_there : (paths : List EdgeForms) (k : ℕ) → k < length paths → slice_get paths k ≡ Some (get_or paths k no_forms)
 forms_there paths k l = slice_get-get_or paths k no_forms l
 
 -- the number of a guard is that of a multiplier, where there is one for each
@@ -51,12 +53,14 @@ module _ (system : Equations) (paths : List EdgeForms) (h : AreComposed system p
   abbrev Width : ℕ
   Width = width system.variables e.actions
 
+  -- at an edge's place stand the edge's forms
   pub forms_at : slice_get paths k ≡ Some (edge_forms system.variables system.template e.actions)
   forms_at =
       ap (λ ps. slice_get ps k) h.same ∙ slice_get-map (λ (x : Edge). edge_forms system.variables system.template x.actions) system.edges k
       ∙ ap (option_map (λ (x : Edge). edge_forms system.variables system.template x.actions)) found
 
   module _ (forms : EdgeForms) (at : slice_get paths k ≡ Some forms) where
+    -- forms that are read there are the edge's
     pub forms_are : forms ≡ edge_forms system.variables system.template e.actions
     forms_are = same_forms forms (edge_forms system.variables system.template e.actions) (sym at ∙ forms_at)
 
@@ -64,6 +68,7 @@ module _ (system : Equations) (paths : List EdgeForms) (h : AreComposed system p
     pub guard_count : length forms.guards ≡ length (guard_forms system.variables e.actions)
     guard_count = ap (λ (x : EdgeForms). length x.guards) forms_are ∙ length-map (guard_forms system.variables e.actions) (dense Width)
 
+    -- there is an end value for each row of the template
     pub row_count : length forms.rows ≡ length system.template
     row_count = ap (λ (x : EdgeForms). length x.rows) forms_are ∙ length-map system.template (λ row. dense Width (end_form system.variables e.actions row))
 
@@ -71,6 +76,7 @@ module _ (system : Equations) (paths : List EdgeForms) (h : AreComposed system p
     pub column_is : (j : ℕ) → j < Width → dense_column j forms.guards ≡ guard_column system e j
     column_is j l = ap (λ (x : EdgeForms). dense_column j x.guards) forms_are ∙ column-dense Width j (guard_forms system.variables e.actions) l
 
+    -- the negated constants of the guards are those of the edge
     pub constants_are : negated_constants forms.guards ≡ guard_numbers system e
     constants_are = ap (λ (x : EdgeForms). negated_constants x.guards) forms_are ∙ constants_dense Width (guard_forms system.variables e.actions)
 
@@ -85,8 +91,10 @@ module _ (system : Equations) (paths : List EdgeForms) (h : AreComposed system p
           (sym taken ∙ ap (λ (x : EdgeForms). slice_get x.rows r) forms_are ∙ slice_get-map (λ row. dense Width (end_form system.variables e.actions row)) system.template r
           ∙ ap (option_map (λ row. dense Width (end_form system.variables e.actions row))) (slice_get-get_or system.template r [] l))
 
+      -- the coefficients of a composed end value are those of the row's end form
       pub end_at : (j : ℕ) → j < Width → get_or end.coeffs j zero_ℚ ≡ get_or Ending.coeffs j zero_ℚ
       end_at j k = ap (λ (x : Affine). get_or x.coeffs j zero_ℚ) end_is ∙ get_or-first_entries Width Ending.coeffs j k
 
+      -- the constant of a composed end value is that of the row's end form
       pub end_constant : end.constant ≡ Ending.constant
       end_constant = ap (λ (x : Affine). x.constant) end_is

@@ -19,6 +19,7 @@ multiple_refused sum m x w n k =
     first_wide_here long_limit (record { op = Mul; left = m; right = x }) (record { op = Add; left = sum; right = m *ℚ x } ∷ []) n
     ∙ ap (λ (y : Wide ℚ). Some (operation_of (λ q. q) y)) (sym k)
 
+-- a product that is not wide is added, or the sum is wide
 pub multiple_added : (sum m x p : ℚ) (res : Result ℚ (Wide ℚ)) → p ≡ m *ℚ x → Fits long_limit p →
     MatchResult res (λ r. (r ≡ sum +ℚ p) × Fits long_limit r) (λ e. (¬ (Fits long_limit (sum +ℚ p))) × (e ≡ record { op = Add; left = sum; right = p })) →
     SumAnswers (total sum (m ∷ []) (x ∷ [])) (products sum (m ∷ []) (x ∷ [])) res
@@ -31,9 +32,12 @@ multiple_added sum m x p res e h a =
 -- ---- multiples as far as the first i are added
 -- what is left of value and operations
 pub record IsAdded (start : ℚ) (xs ys : List ℚ) (i : ℕ) (sum : ℚ) : Type 0 where
+  -- the total is that of what is left, from the sum so far
   pub value : total start xs ys ≡ total sum (drop i xs) (drop i ys)
+  -- the first wide operation is that of what is left, from the sum so far
   pub first : first_wide long_limit (products start xs ys) ≡ first_wide long_limit (products sum (drop i xs) (drop i ys))
 
+-- at the start no multiple is added
 pub added_none : (start : ℚ) (xs ys : List ℚ) (sum : ℚ) → sum ≡ start → IsAdded start xs ys 0 sum
 added_none start xs ys sum e = record { value = ap (λ s. total s xs ys) (sym e); first = ap (λ s. first_wide long_limit (products s xs ys)) (sym e) }
 

@@ -79,7 +79,7 @@ step_then system z s step =
         ∙ sym (ap (λ a. and_then a (second_pass step.kind system z step.items s 0 step.items)) e)
 
 -- steps
-pub steps_then : (system : Equations) (z : Vector) (s : ℕ) (steps : List Step) → first_fault (steps_events system z s steps) ≡ steps_fault system z s steps
+steps_then : (system : Equations) (z : Vector) (s : ℕ) (steps : List Step) → first_fault (steps_events system z s steps) ≡ steps_fault system z s steps
 unfolding first_fault steps_events steps_fault
 steps_then system z s [] = refl
 steps_then system z s (step ∷ steps) =
@@ -170,6 +170,7 @@ uppers_then system z (n ∷ ns) (e ∷ es) =
     ∙ ap (unless (dec_evidence system z n.edge row (z n.edge.to n.row) e) (UpperFault u n.number)) (uppers_then system z ns es)
 
 -- ---- the whole check
+-- the first test of a check that fails is the certificate's fault
 pub tests_are_faults : (system : Equations) (certificate : Certificate) → first_fault (check_events system certificate) ≡ certificate_fault system certificate
 unfolding check_events certificate_fault
 tests_are_faults system certificate =

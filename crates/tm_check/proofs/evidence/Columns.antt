@@ -36,12 +36,15 @@ module _ (site : Site) (fault : Fault) (system : Equations) (e : Edge) (rows gua
     number : i < width system.variables e.actions → i ≡ get_or (columns_of system e) i i
     number l = sym (get_or-range_with_len 0 (width system.variables e.actions) i i l ∙ zero-add i)
 
+    -- where nothing stops at a column, the next columns are left
     pub columns_more : i < width system.variables e.actions → first_stop (At i) ≡ None → Left (i + 1)
     columns_more l n = all_more At (columns_of system e) i h i (within l) (number l) n
 
+    -- where something stops at a column, the columns stop there
     pub columns_stop : i < width system.variables e.actions → (a : CheckFault) → first_stop (At i) ≡ Some a → first_stop (columns_events site fault system e rows guards goal (columns_of system e)) ≡ Some a
     columns_stop l a n = all_stop At (columns_of system e) i h i (within l) (number l) a n
 
+    -- where all columns are compared, none stops
     pub columns_all : width system.variables e.actions ≤ i → first_stop (columns_events site fault system e rows guards goal (columns_of system e)) ≡ None
     columns_all l = all_pass At (columns_of system e) i h (subst (λ n. n ≤ i) (sym (length-range_with_len 0 (width system.variables e.actions))) l)
 

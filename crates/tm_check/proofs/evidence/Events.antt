@@ -117,7 +117,7 @@ module _ (site : Site) (fault : Fault) (system : Equations) (z : Vector) (e : Ed
         by (no k) = test_no (no k) fault (Test (decided (dec_finite number)) fault ∷ BoundTail) k
 
     -- a finite bound: the combination, and then what is compared with the bound
-    pub bound_as : (limit : ℚ) → number ≡ fin limit → (goal : List ℚ) → Columns goal ≡ Columns Ending.coeffs → first_stop BoundEvents ≡ first_stop (Combined goal ++ (sums site Added ++ BoundTest))
+    bound_as : (limit : ℚ) → number ≡ fin limit → (goal : List ℚ) → Columns goal ≡ Columns Ending.coeffs → first_stop BoundEvents ≡ first_stop (Combined goal ++ (sums site Added ++ BoundTest))
     unfolding evidence_events
     bound_as limit is goal same = by Allowed
       where
@@ -156,6 +156,7 @@ module _ (site : Site) (fault : Fault) (system : Equations) (z : Vector) (e : Ed
         pub bound_yes : first_wide long_limit Added ≡ None → (v : ℚ) → v ≡ Value +ℚ Ending.constant → v ≤ℚ limit → first_stop BoundEvents ≡ None
         bound_yes s v q l = bound_last ∙ tested_yes (dec_leᴱ (fin (Value +ℚ Ending.constant)) number) site fault Added s (subst₂ (λ x y. fin x ≤ᴱ y) q (sym is) l)
 
+        -- a value at the end that is more than the bound is a fault
         pub bound_no : first_wide long_limit Added ≡ None → (v : ℚ) → v ≡ Value +ℚ Ending.constant → ¬ (v ≤ℚ limit) → first_stop BoundEvents ≡ Some (fault_answer fault)
         bound_no s v q n = bound_last ∙ tested_no (dec_leᴱ (fin (Value +ℚ Ending.constant)) number) site fault Added s (λ l. n (subst₂ (λ x y. fin x ≤ᴱ y) (sym q) is l))
 
@@ -177,11 +178,15 @@ module _ (site : Site) (fault : Fault) (system : Equations) (z : Vector) (e : Ed
 -- ---- what a bound is compared with
 -- the bound is finite, and the composed end value that is read has the coefficients and the constant of the row's end form
 pub record IsRead (site : Site) (fault : Fault) (system : Equations) (z : Vector) (e : Edge) (row : List ℤ) (number : Ext) (rows guards : List ℚ) (limit : ℚ) (end : Affine) (goal : List ℚ) : Type 0 where
+  -- the number is finite
   pub finite : number ≡ fin limit
+  -- the columns are compared with the coefficients of the row's end form
   pub columns : columns_events site fault system e rows guards goal (columns_of system e) ≡ columns_events site fault system e rows guards (end_form system.variables e.actions row).coeffs (columns_of system e)
+  -- the constant is that of the row's end form
   pub constant : end.constant ≡ (end_form system.variables e.actions row).constant
 
 module _ (site : Site) (fault : Fault) (system : Equations) (paths : List EdgeForms) (composed : AreComposed system paths) (bounds : List Ext) (z : Vector) (h : Stands system bounds z) (k : ℕ) (e : Edge) (found : slice_get system.edges k ≡ Some e) (rows guards : List ℚ) where
+  -- what is read of an unknown and its edge is its bound and its end form
   pub is_read : (u : ℕ) → u < length bounds → (b : Ext) → b ≡ get_or bounds u neg_inf → (limit : ℚ) → b ≡ fin limit → (n : ℕ) → n ≡ length system.template → (end : Affine) → ((forms : EdgeForms) → slice_get paths k ≡ Some forms → slice_get forms.rows (u % n) ≡ Some end) →
       (goal : List ℚ) → goal ≡ end.coeffs → IsRead site fault system z e (get_or system.template (u % length system.template) []) (z (u / length system.template) (u % length system.template)) rows guards limit end goal
   is_read u within b at limit finite n count end taken goal same =
@@ -202,10 +207,12 @@ module _ (site : Site) (fault : Fault) (system : Equations) (z : Vector) (e : Ed
   abbrev UnreachedEvents : List Event
   UnreachedEvents = evidence_events site fault system z e row number (Unreached r)
 
+  -- a row of the source that is at −∞ passes
   pub unreached_yes : (r < length system.template) × (z e.from r ≡ neg_inf) → first_stop UnreachedEvents ≡ None
   unfolding evidence_events
   unreached_yes h = test_yes (dec_lt r (length system.template)) fault (Test (decided (ext_same (z e.from r) neg_inf)) fault ∷ []) h.0 ∙ alone_yes (ext_same (z e.from r) neg_inf) fault h.1
 
+  -- a row that is not there or not at −∞ is a fault
   pub unreached_no : ¬ ((r < length system.template) × (z e.from r ≡ neg_inf)) → first_stop UnreachedEvents ≡ Some (fault_answer fault)
   unfolding evidence_events
   unreached_no n = by (dec_lt r (length system.template))

@@ -31,12 +31,15 @@ module _ {P : Type 0} (d : Dec P) (site : Site) (fault : Fault) (os : List Opera
   abbrev pub Tested : List Event
   Tested = sums site os ++ Test (decided d) fault ∷ []
 
+  -- a sum that is wide stops, before its test
   pub tested_wide : (w : Operation) → first_wide long_limit os ≡ Some w → first_stop Tested ≡ Some (wide_answer site w)
   tested_wide w e = stop_sooner (sums site os) (Test (decided d) fault ∷ []) (wide_answer site w) (sums_some site os w e)
 
+  -- where no operation is wide and the test passes, nothing stops
   pub tested_yes : first_wide long_limit os ≡ None → P → first_stop Tested ≡ None
   tested_yes e p = stop_later (sums site os) (Test (decided d) fault ∷ []) (sums_none site os e) ∙ alone_yes d fault p
 
+  -- where no operation is wide and the test fails, its fault stops
   pub tested_no : first_wide long_limit os ≡ None → ¬ P → first_stop Tested ≡ Some (fault_answer fault)
   tested_no e n = stop_later (sums site os) (Test (decided d) fault ∷ []) (sums_none site os e) ∙ test_no d fault [] n
 
@@ -46,12 +49,15 @@ module _ (f : ℕ → List Event) (ks : List ℕ) (i : ℕ) (h : first_stop (fla
     left : first_stop (flat_map f ks) ≡ first_stop (f k ++ flat_map f (drop (i + 1) ks))
     left = h ∙ ap (λ js. first_stop (flat_map f js)) (drop_more ks i k l) ∙ ap (λ j. first_stop (f j ++ flat_map f (drop (i + 1) ks))) (sym e)
 
+    -- where a number's events don't stop, the next numbers are left
     pub all_more : first_stop (f k) ≡ None → first_stop (flat_map f ks) ≡ first_stop (flat_map f (drop (i + 1) ks))
     all_more n = left ∙ stop_later (f k) (flat_map f (drop (i + 1) ks)) n
 
+    -- where a number's events stop, the list stops there
     pub all_stop : (a : CheckFault) → first_stop (f k) ≡ Some a → first_stop (flat_map f ks) ≡ Some a
     all_stop a n = left ∙ stop_sooner (f k) (flat_map f (drop (i + 1) ks)) a n
 
+  -- where all numbers are passed, nothing stops
   pub all_pass : length ks ≤ i → first_stop (flat_map f ks) ≡ None
   unfolding first_stop
   all_pass l = h ∙ ap (λ js. first_stop (flat_map f js)) (drop_all i ks l)
@@ -62,6 +68,7 @@ module _ (es : List Event) (fault : Fault) (o : Option (Unit {0})) (r : Bool) (e
   abbrev Told : Option (Unit {0}) → Type 0
   Told x = MatchOption x (first_stop es ≡ Some (fault_answer fault)) (λ u. Unit {0} × (first_stop es ≡ None))
 
+  -- where the call answers none, the fault stops
   pub told_no : r ≡ true → Told o → first_stop es ≡ Some (fault_answer fault)
   told_no t h = by o refl
     where
@@ -69,6 +76,7 @@ module _ (es : List Event) (fault : Fault) (o : Option (Unit {0})) (r : Bool) (e
       by None q = subst Told q h
       by (Some u) q = absurd (true≢false (sym (ap is_some q) ∙ e ∙ ap not t))
 
+  -- where the call answers a value, nothing stops
   pub told_yes : r ≡ false → Told o → first_stop es ≡ None
   told_yes t h = by o refl
     where
@@ -82,9 +90,11 @@ module _ (es : List Event) (fault : Fault) (x : ℚ) where
   abbrev Found : Option ℚ → Type 0
   Found o = MatchOption o (first_stop es ≡ Some (fault_answer fault)) (λ v. (v ≡ x) × (first_stop es ≡ None))
 
+  -- where no value is found, the fault stops
   pub found_none : (o : Option ℚ) → ((v : ℚ) → o ≡ Some v → ⊥) → Found o → first_stop es ≡ Some (fault_answer fault)
   found_none None n h = h
   found_none (Some v) n h = absurd (n v refl)
 
+  -- a value that is found is the right one, and nothing stops
   pub found_some : (o : Option ℚ) (v : ℚ) → o ≡ Some v → Found o → (v ≡ x) × (first_stop es ≡ None)
   found_some o v e h = subst Found e h

@@ -24,6 +24,7 @@ Found x events r = IsRun (λ v. v ≡ x) events r
 abbrev pub finds : ℚ → Result ℚ CheckFault
 finds v = Ok v
 
+-- an answer that is a fault
 abbrev pub loses : CheckFault → Result ℚ CheckFault
 loses e = Err e
 
@@ -48,6 +49,7 @@ run_after P before rest (Err f) none h = stop_later before rest none ∙ h
 abbrev pub goes_on : Result (Unit {0}) CheckFault
 goes_on = Ok tt
 
+-- a test that fails ends the check with its fault
 abbrev pub ends_with : CheckFault → Result (Unit {0}) CheckFault
 ends_with e = Err e
 

@@ -15,6 +15,7 @@ module _ (system : Equations) (z goal : Vector) where
   abbrev pub FinalLeft : ℕ → Type 0
   FinalLeft u = first_stop (final_events system z goal (unknowns system)) ≡ first_stop (final_events system z goal (unknowns_from system u))
 
+  -- at first all unknowns are left
   pub final_first : FinalLeft 0
   final_first = ap (λ us. first_stop (final_events system z goal us)) (unknowns_all system)
 
@@ -34,6 +35,7 @@ module _ (system : Equations) (z goal : Vector) where
         next_left l ∙ test_no (ext_same (z (u / length system.template) (u % length system.template)) (goal (u / length system.template) (u % length system.template))) (FinalFault (u / length system.template * length system.template + u % length system.template)) (final_events system z goal (unknowns_from system (u + 1))) n
         ∙ ap (λ k. Some (Final k)) (number_is u (length system.template))
 
+    -- where all unknowns are compared, nothing stops
     pub final_all : system.points * length system.template ≤ u → first_stop (final_events system z goal (unknowns system)) ≡ None
     unfolding final_events first_stop
     final_all l = h ∙ ap (λ us. first_stop (final_events system z goal (flat_map (λ v. (v / length system.template, v % length system.template) ∷ []) us))) (range_end u (system.points * length system.template) l)

@@ -94,9 +94,10 @@ module _ (system : Equations) (b : List Ext) (z : Vector) (h : Stands system b z
   fit_same (row ∷ rows) k x e =
       ap₂ (λ v rest. row_test row x v ++ cond (is_at_most (dotℚ row x) v) rest []) (h.at p k l (omega (arith, e))) (fit_same rows (suc k) x (omega (arith, e)))
 
-  pub fits_to : (x : RationalState) → Fits system (vector_of (length system.template) b) p x → Fits system z p x
+  fits_to : (x : RationalState) → Fits system (vector_of (length system.template) b) p x → Fits system z p x
   fits_to x f r row e = subst (λ v. fin (dotℚ row x) ≤ᴱ v) (h.at p r l (slice_get_within system.template r row e)) (f r row e)
 
+  -- a state that fits at the vector fits at the list of bounds
   pub fits_from : (x : RationalState) → Fits system z p x → Fits system (vector_of (length system.template) b) p x
   fits_from x f r row e = subst (λ v. fin (dotℚ row x) ≤ᴱ v) (sym (h.at p r l (slice_get_within system.template r row e))) (f r row e)
 
@@ -105,19 +106,19 @@ module _ (system : Equations) (b : List Ext) (z : Vector) (h : Stands system b z
     same = fit_same system.template 0 x (omega arith)
 
     -- a state that fits, one that doesn't, and one whose sums are too wide
-    pub fit_yes : Fits system (vector_of (length system.template) b) p x → first_wide long_limit (fit_operations system.template (vector_of (length system.template) b p) 0 x) ≡ None → first_stop (fit_events site f system z p x) ≡ None
+    fit_yes : Fits system (vector_of (length system.template) b) p x → first_wide long_limit (fit_operations system.template (vector_of (length system.template) b p) 0 x) ≡ None → first_stop (fit_events site f system z p x) ≡ None
     unfolding fit_events
     fit_yes k n =
         stop_later (sums site (fit_operations system.template (z p) 0 x)) (Test (decided (dec_fits system z p x)) f ∷ []) (sums_none site (fit_operations system.template (z p) 0 x) (ap (first_wide long_limit) (sym same) ∙ n))
         ∙ alone_yes (dec_fits system z p x) f (fits_to x k)
 
-    pub fit_no : ¬ (Fits system (vector_of (length system.template) b) p x) → first_wide long_limit (fit_operations system.template (vector_of (length system.template) b p) 0 x) ≡ None → first_stop (fit_events site f system z p x) ≡ Some (fault_answer f)
+    fit_no : ¬ (Fits system (vector_of (length system.template) b) p x) → first_wide long_limit (fit_operations system.template (vector_of (length system.template) b p) 0 x) ≡ None → first_stop (fit_events site f system z p x) ≡ Some (fault_answer f)
     unfolding fit_events
     fit_no k n =
         stop_later (sums site (fit_operations system.template (z p) 0 x)) (Test (decided (dec_fits system z p x)) f ∷ []) (sums_none site (fit_operations system.template (z p) 0 x) (ap (first_wide long_limit) (sym same) ∙ n))
         ∙ test_no (dec_fits system z p x) f [] (λ j. k (fits_from x j))
 
-    pub fit_wide : (w : Operation) → first_wide long_limit (fit_operations system.template (vector_of (length system.template) b p) 0 x) ≡ Some w → first_stop (fit_events site f system z p x) ≡ Some (wide_answer site w)
+    fit_wide : (w : Operation) → first_wide long_limit (fit_operations system.template (vector_of (length system.template) b p) 0 x) ≡ Some w → first_stop (fit_events site f system z p x) ≡ Some (wide_answer site w)
     unfolding fit_events
     fit_wide w e =
         stop_sooner (sums site (fit_operations system.template (z p) 0 x)) (Test (decided (dec_fits system z p x)) f ∷ []) (wide_answer site w)
@@ -164,7 +165,7 @@ module _ (site : Site) (f : Fault) (system : Equations) (z : Vector) (edge : Edg
         (sums site (trace_operations edge.actions t.start t.free row) ++ Test (decided (dec_runs system z edge (word t))) f ∷ []) (fitting ∙ e)
 
     -- a trace that runs, with its value; one that doesn't; and one whose sums are too wide
-    pub run_yes : Fits system z edge.from t.start → (v : ℚ) → TraceValue edge.actions t.start t.free row (Some v) → first_wide long_limit (trace_operations edge.actions t.start t.free row) ≡ None →
+    run_yes : Fits system z edge.from t.start → (v : ℚ) → TraceValue edge.actions t.start t.free row (Some v) → first_wide long_limit (trace_operations edge.actions t.start t.free row) ≡ None →
         (v ≡ end_value system edge row (word t)) × (first_stop (run_events site f system z edge row t) ≡ None)
     run_yes k v h n =
         let y = h.0 in
@@ -174,12 +175,12 @@ module _ (site : Site) (f : Fault) (system : Equations) (z : Vector) (edge : Edg
               ∙ alone_yes (dec_runs system z edge (word t)) f ((runs_iff system z edge t.start t.free start frees).1 (k, (y, g))),
         )
 
-    pub run_no : TraceValue edge.actions t.start t.free row None → first_wide long_limit (trace_operations edge.actions t.start t.free row) ≡ None → first_stop (run_events site f system z edge row t) ≡ Some (fault_answer f)
+    run_no : TraceValue edge.actions t.start t.free row None → first_wide long_limit (trace_operations edge.actions t.start t.free row) ≡ None → first_stop (run_events site f system z edge row t) ≡ Some (fault_answer f)
     run_no h n =
         run_later ∙ stop_later (sums site (trace_operations edge.actions t.start t.free row)) (Test (decided (dec_runs system z edge (word t))) f ∷ []) (sums_none site (trace_operations edge.actions t.start t.free row) n)
         ∙ test_no (dec_runs system z edge (word t)) f [] (λ r. let j = ((runs_iff system z edge t.start t.free start frees).0 r).1 in h j.0 j.1)
 
-    pub run_wide : (w : Operation) → first_wide long_limit (trace_operations edge.actions t.start t.free row) ≡ Some w → first_stop (run_events site f system z edge row t) ≡ Some (wide_answer site w)
+    run_wide : (w : Operation) → first_wide long_limit (trace_operations edge.actions t.start t.free row) ≡ Some w → first_stop (run_events site f system z edge row t) ≡ Some (wide_answer site w)
     run_wide w n =
         run_later ∙ stop_sooner (sums site (trace_operations edge.actions t.start t.free row)) (Test (decided (dec_runs system z edge (word t))) f ∷ []) (wide_answer site w) (sums_some site (trace_operations edge.actions t.start t.free row) w n)
 
@@ -192,6 +193,7 @@ module _ (site : Site) (f : Fault) (system : Equations) (z : Vector) (edge : Edg
     run_answers k (Err w) h = run_wide (operation_of (λ q. q) w) h
 
   -- ---- directions
+  -- a direction whose start stops stops there
   pub carry_sooner : (a : CheckFault) → first_stop (fit_events site f system z edge.from t.start) ≡ Some a → first_stop (carry_events site f system z edge row t) ≡ Some a
   unfolding carry_events
   carry_sooner a e =
@@ -205,7 +207,7 @@ module _ (site : Site) (f : Fault) (system : Equations) (z : Vector) (edge : Edg
         stop_later (fit_events site f system z edge.from (start_of system.variables (word t)))
         (sums site (trace_operations (map linear_action edge.actions) t.start t.free row) ++ Test (decided (dec_falls system edge (word t))) f ∷ []) (fitting ∙ e)
 
-    pub carry_yes : (v : ℚ) → TraceValue (map linear_action edge.actions) t.start t.free row (Some v) → first_wide long_limit (trace_operations (map linear_action edge.actions) t.start t.free row) ≡ None →
+    carry_yes : (v : ℚ) → TraceValue (map linear_action edge.actions) t.start t.free row (Some v) → first_wide long_limit (trace_operations (map linear_action edge.actions) t.start t.free row) ≡ None →
         (v ≡ lin (end_form system.variables edge.actions row) (word t)) × (first_stop (carry_events site f system z edge row t) ≡ None)
     carry_yes v h n =
         let y = h.0 in
@@ -215,12 +217,12 @@ module _ (site : Site) (f : Fault) (system : Equations) (z : Vector) (edge : Edg
               ∙ alone_yes (dec_falls system edge (word t)) f ((falls_followed system.variables edge.actions t.start t.free start frees).1 (y, g)),
         )
 
-    pub carry_no : TraceValue (map linear_action edge.actions) t.start t.free row None → first_wide long_limit (trace_operations (map linear_action edge.actions) t.start t.free row) ≡ None → first_stop (carry_events site f system z edge row t) ≡ Some (fault_answer f)
+    carry_no : TraceValue (map linear_action edge.actions) t.start t.free row None → first_wide long_limit (trace_operations (map linear_action edge.actions) t.start t.free row) ≡ None → first_stop (carry_events site f system z edge row t) ≡ Some (fault_answer f)
     carry_no h n =
         carry_later ∙ stop_later (sums site (trace_operations (map linear_action edge.actions) t.start t.free row)) (Test (decided (dec_falls system edge (word t))) f ∷ []) (sums_none site (trace_operations (map linear_action edge.actions) t.start t.free row) n)
         ∙ test_no (dec_falls system edge (word t)) f [] (λ r. let j = (falls_followed system.variables edge.actions t.start t.free start frees).0 r in h j.0 j.1)
 
-    pub carry_wide : (w : Operation) → first_wide long_limit (trace_operations (map linear_action edge.actions) t.start t.free row) ≡ Some w → first_stop (carry_events site f system z edge row t) ≡ Some (wide_answer site w)
+    carry_wide : (w : Operation) → first_wide long_limit (trace_operations (map linear_action edge.actions) t.start t.free row) ≡ Some w → first_stop (carry_events site f system z edge row t) ≡ Some (wide_answer site w)
     carry_wide w n =
         carry_later ∙ stop_sooner (sums site (trace_operations (map linear_action edge.actions) t.start t.free row)) (Test (decided (dec_falls system edge (word t))) f ∷ []) (wide_answer site w) (sums_some site (trace_operations (map linear_action edge.actions) t.start t.free row) w n)
 

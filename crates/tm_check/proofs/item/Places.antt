@@ -19,6 +19,7 @@ jump_second rows (Plain items) e = cc
 jump_second rows (Jump items) e = refl
 jump_second rows (Ray items) e = cc
 
+-- a ray has second traces
 pub ray_second : (rows : ℕ) (step : Step) → (step_of rows step).kind ≡ Kind.Ray → IsTrue (has_second step)
 ray_second rows (Plain items) e = cc
 ray_second rows (Jump items) e = cc

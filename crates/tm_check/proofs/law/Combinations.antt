@@ -21,10 +21,12 @@ use Rattle.tm_check.proofs.law.Totals.{column_total, side_total}
 
 module _ (system : Equations) (e : Edge) (rows guards : List ℚ) where
   -- ---- a column
+  -- a column whose rows' part is wide is wide there
   pub column_refused : (j : ℕ) (o : Operation) → first_wide long_limit (products zero_ℚ rows (row_column system j)) ≡ Some o → first_wide long_limit (column_operations system e rows guards j) ≡ Some o
   column_refused j o h = first_wide_sooner long_limit (products zero_ℚ rows (row_column system j)) (products (total zero_ℚ rows (row_column system j)) guards (guard_column system e j)) o h
 
   -- ---- the side
+  -- a side whose rows' part is wide is wide there
   pub side_refused : (z : Vector) (o : Operation) → first_wide long_limit (products zero_ℚ rows (row_numbers system z e)) ≡ Some o → first_wide long_limit (side_operations system z e rows guards) ≡ Some o
   side_refused z o h = first_wide_sooner long_limit (products zero_ℚ rows (row_numbers system z e)) (products (total zero_ℚ rows (row_numbers system z e)) guards (guard_numbers system e)) o h
 
@@ -42,6 +44,7 @@ module _ (system : Equations) (e : Edge) (rows guards : List ℚ) where
         subst (λ v. SumAnswers v (column_operations system e rows guards j) res) (column_total system e rows guards j over)
         (after (total (total zero_ℚ rows (row_column system j)) guards (guard_column system e j)) (products zero_ℚ rows (row_column system j)) (products (total zero_ℚ rows (row_column system j)) guards (guard_column system e j)) res none b)
 
+    -- the guards' part of the side, after a first part that isn't wide, gives the side
     pub side_answers : (z : Vector) (sum : ℚ) → sum ≡ total zero_ℚ rows (row_numbers system z e) → first_wide long_limit (products zero_ℚ rows (row_numbers system z e)) ≡ None →
         (res : Result ℚ (Wide ℚ)) → ((forms : EdgeForms) → slice_get paths k ≡ Some forms → SumAnswers (total sum guards (negated_constants forms.guards)) (products sum guards (negated_constants forms.guards)) res) →
         SumAnswers (side system z e rows guards) (side_operations system z e rows guards) res

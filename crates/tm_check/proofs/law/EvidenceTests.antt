@@ -17,6 +17,7 @@ use Rattle.tm_check.specs.Events.{Event, Sum, Test, sums, decided, first_fault}
 use Rattle.tm_check.specs.Runs.{dec_fits, fit_events, run_events}
 
 -- ---- lists of events
+-- the first fault of two lists of events is that of the first one, and else that of the second
 pub first_fault-append : (a b : List Event) → first_fault (a ++ b) ≡ and_then (first_fault a) (first_fault b)
 unfolding first_fault
 first_fault-append [] b = refl
@@ -100,6 +101,7 @@ module _ {P : ℕ → Type 0} (d : (k : ℕ) → Dec (P k)) where
       by (yes i) = more k (omega (arith, i)) (omega (arith, m))
       by (no i) = subst P (let e : a ≡ k = omega (arith, i, l) in e) h
 
+  -- whether all numbers from a on pass is decided
   pub dec_from : (a n : ℕ) → Dec (From a n)
   dec_from a zero = yes (all_none a)
   dec_from a (suc n) = dec_by (λ p. all_more a n p.0 p.1) (λ h. (all_first a n h, all_later a n h)) (dec_and (d a) (dec_from (a + 1) n))

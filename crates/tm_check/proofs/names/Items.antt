@@ -49,24 +49,29 @@ module _ (kind : Kind) (system : Equations) (z : Vector) (s : ℕ) (items : List
     unfolding first_pass_events earlier_items
     first_left k = k ∙ ap (λ is. first_stop (first_pass_events kind system z s i (earlier_items items i) is)) (drop-cons items i no_item l)
 
+    -- where the first pass doesn't stop at an item, the next items are left
     pub first_more : first_stop (first_events kind system z s i (earlier_items items i) (get_or items i no_item)) ≡ None → FirstLeft (i + 1)
     first_more e =
         first_left h ∙ stop_later (first_events kind system z s i (earlier_items items i) (get_or items i no_item)) (first_pass_events kind system z s (suc i) (earlier_items items (suc i)) (drop (suc i) items)) e
         ∙ ap (λ j. first_stop (first_pass_events kind system z s j (earlier_items items j) (drop j items))) (sym (add-one i))
 
+    -- where the first pass stops at an item, the whole pass stops there
     pub first_stops : (f : CheckFault) → first_stop (first_events kind system z s i (earlier_items items i) (get_or items i no_item)) ≡ Some f → first_stop (first_pass_events kind system z s 0 [] items) ≡ Some f
     first_stops f e =
         first_left h ∙ stop_sooner (first_events kind system z s i (earlier_items items i) (get_or items i no_item)) (first_pass_events kind system z s (suc i) (earlier_items items (suc i)) (drop (suc i) items)) f e
 
+  -- at first all items are left to the first pass
   pub first_none : FirstLeft 0
   unfolding earlier_items
   first_none = refl
 
+  -- where the first pass has passed all items, nothing stops
   pub first_all : (i : ℕ) → length items ≤ i → FirstLeft i → first_stop (first_pass_events kind system z s 0 [] items) ≡ None
   unfolding first_stop first_pass_events
   first_all i l h = h ∙ ap (λ is. first_stop (first_pass_events kind system z s i (earlier_items items i) is)) (drop_all i items l)
 
   -- ---- the second pass
+  -- what the second pass leaves from item i on
   abbrev pub SecondLeft : ℕ → Type 0
   SecondLeft i = first_stop (second_pass_events kind system z items s 0 items) ≡ first_stop (second_pass_events kind system z items s i (drop i items))
 
@@ -75,17 +80,21 @@ module _ (kind : Kind) (system : Equations) (z : Vector) (s : ℕ) (items : List
     unfolding second_pass_events
     second_left = h ∙ ap (λ is. first_stop (second_pass_events kind system z items s i is)) (drop-cons items i no_item l)
 
+    -- where the second pass doesn't stop at an item, the next items are left
     pub second_more : first_stop (second_events kind system z items s i (get_or items i no_item)) ≡ None → SecondLeft (i + 1)
     second_more e =
         second_left ∙ stop_later (second_events kind system z items s i (get_or items i no_item)) (second_pass_events kind system z items s (suc i) (drop (suc i) items)) e
         ∙ ap (λ j. first_stop (second_pass_events kind system z items s j (drop j items))) (sym (add-one i))
 
+    -- where the second pass stops at an item, the whole pass stops there
     pub second_stops : (f : CheckFault) → first_stop (second_events kind system z items s i (get_or items i no_item)) ≡ Some f → first_stop (second_pass_events kind system z items s 0 items) ≡ Some f
     second_stops f e = second_left ∙ stop_sooner (second_events kind system z items s i (get_or items i no_item)) (second_pass_events kind system z items s (suc i) (drop (suc i) items)) f e
 
+  -- at first all items are left to the second pass
   pub second_none : SecondLeft 0
   second_none = refl
 
+  -- where the second pass has passed all items, nothing stops
   pub second_all : (i : ℕ) → length items ≤ i → SecondLeft i → first_stop (second_pass_events kind system z items s 0 items) ≡ None
   unfolding first_stop second_pass_events
   second_all i l h = h ∙ ap (λ is. first_stop (second_pass_events kind system z items s i is)) (drop_all i items l)
@@ -100,11 +109,12 @@ eqb_out a b e = ⊎_elim (λ h. h.1) (λ h. absurd (true≢false (sym e ∙ h.0)
 
 -- an item with this unknown names it, and no other unknown that is there
 module _ (rows : ℕ) (item : Item) (u : ℕ) (point : item.point ≡ u / rows) (row : item.row ≡ u % rows) (p r : ℕ) (l : r < rows) where
-  pub names_yes : u ≡ p * rows + r → names item p r ≡ true
+  names_yes : u ≡ p * rows + r → names item p r ≡ true
   unfolding names
   names_yes e =
       ap₂ (λ a b. a && b) (eqb_yes item.point p (point ∙ ap (λ v. v / rows) e ∙ div-mul-add p rows r l)) (eqb_yes item.row r (row ∙ ap (λ v. v % rows) e ∙ mod-mul-add p rows r l))
 
+  -- an item with another unknown doesn't name this one
   pub names_no : u ≢ p * rows + r → names item p r ≡ false
   names_no n = by (names item p r) refl
     where
@@ -218,6 +228,7 @@ unfolding earlier_items
 earlier_more items j p r e u = subst (λ n. Unnamed (earlier_items items n) p r) (sym (add-one j)) (e, u)
 
 -- ---- bounds that are set from the last item on
+-- past the last item no bound has been set
 pub settled_none : (system : Equations) (b : List Ext) (z : Vector) (value : Item → Ext) (items : List Item) (n : ℕ) → length items ≤ n → Stands system b z → Stands system b (put value (drop n items) z)
 unfolding put
 settled_none system b z value items n l h = subst (λ is. Stands system b (put value is z)) (sym (drop_all n items l)) h

@@ -54,10 +54,12 @@ usable kind system z s items e =
 
 -- ---- a step's two passes
 module _ (system : Equations) (z : Vector) (s : ℕ) (step : Step) where
+  -- where the first pass of a step stops, the step stops there
   pub step_first : (f : CheckFault) → first_stop (first_pass_events step.kind system z s 0 [] step.items) ≡ Some f → first_stop (step_events system z s step) ≡ Some f
   unfolding step_events
   step_first f e = stop_sooner (first_pass_events step.kind system z s 0 [] step.items) (second_pass_events step.kind system z step.items s 0 step.items) f e
 
+  -- where the first pass of a step passes, the step stops where the second does
   pub step_second : (o : Option CheckFault) → first_stop (first_pass_events step.kind system z s 0 [] step.items) ≡ None → first_stop (second_pass_events step.kind system z step.items s 0 step.items) ≡ o → first_stop (step_events system z s step) ≡ o
   unfolding step_events
   step_second o e f = stop_later (first_pass_events step.kind system z s 0 [] step.items) (second_pass_events step.kind system z step.items s 0 step.items) e ∙ f

@@ -45,14 +45,17 @@ module _ (system : Equations) (z : Vector) where
   abbrev pub CountLeft : ℕ → ℕ → Type 0
   CountLeft u count = count + length (needs_from system z u) ≡ length (needs system z)
 
+  -- before the first unknown past the entry nothing is needed
   pub count_first : CountLeft (length system.template) 0
   count_first = let e = ap (λ ns. length ns) (needs_all system z) in omega (arith, e)
 
+  -- with one more unknown so much more is needed
   pub count_more : (u count more : ℕ) → u < system.points * length system.template → more ≡ length (needs_of system z u) → CountLeft u count → CountLeft (u + 1) (count + more)
   count_more u count more l q h =
       let e = ap (λ ns. length ns) (needs_next system z u l) in
       let a = length-append (needs_of system z u) (needs_from system z (u + 1)) in
       omega (arith, e, a, q, h)
 
+  -- with all unknowns the count is what is needed
   pub count_all : (u count : ℕ) → system.points * length system.template < suc u → CountLeft u count → count ≡ length (needs system z)
   count_all u count l h = let e = ap (λ ns. length ns) (needs_end system z u (omega (arith, l))) in omega (arith, e, h)

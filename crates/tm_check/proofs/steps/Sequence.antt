@@ -20,6 +20,7 @@ module _ (system : Equations) (steps : List Step) (i : ℕ) (z : Vector) (left :
     next_left : drop i steps ≡ step ∷ drop (suc i) steps
     next_left = drop-cons steps i step l ∙ ap (λ s. s ∷ drop (suc i) steps) (sym e)
 
+    -- where nothing stops at a step, the next steps are left
     pub steps_more : first_stop (step_events system z i step) ≡ None → first_stop (steps_events system start_vector 0 steps) ≡ first_stop (steps_events system (after_step step z) (i + 1) (drop (i + 1) steps))
     unfolding steps_events
     steps_more n =
@@ -27,18 +28,22 @@ module _ (system : Equations) (steps : List Step) (i : ℕ) (z : Vector) (left :
         ∙ stop_later (step_events system z i step) (steps_events system (after_step step z) (suc i) (drop (suc i) steps)) n
         ∙ ap (λ j. first_stop (steps_events system (after_step step z) j (drop j steps))) (sym (add-one i))
 
+    -- the next steps lead from the vector after this one
     pub leads_more : after_steps steps start_vector ≡ after_steps (drop (i + 1) steps) (after_step step z)
     unfolding after_steps
     leads_more = leads ∙ ap (λ s. after_steps s z) next_left ∙ ap (λ j. after_steps (drop j steps) (after_step step z)) (sym (add-one i))
 
+    -- where something stops at a step, the steps stop there
     pub steps_stop : (f : CheckFault) → first_stop (step_events system z i step) ≡ Some f → first_stop (steps_events system start_vector 0 steps) ≡ Some f
     unfolding steps_events
     steps_stop f n = left ∙ ap (λ s. first_stop (steps_events system z i s)) next_left ∙ stop_sooner (step_events system z i step) (steps_events system (after_step step z) (suc i) (drop (suc i) steps)) f n
 
+  -- where all steps are taken, nothing stops
   pub steps_all : length steps ≤ i → first_stop (steps_events system start_vector 0 steps) ≡ None
   unfolding first_stop steps_events
   steps_all l = left ∙ ap (λ s. first_stop (steps_events system z i s)) (drop_all i steps l)
 
+  -- where all steps are taken, they lead to this vector
   pub led_all : length steps ≤ i → after_steps steps start_vector ≡ z
   unfolding after_steps
   led_all l = leads ∙ ap (λ s. after_steps s z) (drop_all i steps l)

@@ -69,6 +69,7 @@ alone_points rs (p ∷ ps) = ap₂ (λ xs rest. xs ++ rest) (alone_row p rs) (al
 abbrev pub unknowns_from : Equations → ℕ → List (ℕ × ℕ)
 unknowns_from system u = flat_map (λ v. (v / length system.template, v % length system.template) ∷ []) (range_with_len u (system.points * length system.template - u))
 
+-- all unknowns are those from number 0 on
 pub unknowns_all : (system : Equations) → unknowns system ≡ unknowns_from system 0
 unfolding unknowns
 unknowns_all system =
@@ -86,6 +87,7 @@ needs_of system z u = needs_at system (u / length system.template) (u % length s
 abbrev pub needs_from : Equations → Vector → ℕ → List Need
 needs_from system z u = flat_map (needs_of system z) (range_with_len u (system.points * length system.template - u))
 
+-- all needs are those from the first unknown past the entry on
 pub needs_all : (system : Equations) (z : Vector) → needs system z ≡ needs_from system z (length system.template)
 unfolding needs
 needs_all system z =
@@ -97,9 +99,11 @@ needs_all system z =
     rest zero w = let a : zero - 1 ≡ 0 = omega arith in ap (λ n. n * w) a ∙ (let b : 0 * w ≡ zero * w - w = omega arith in b)
     rest (suc p) w = let a : suc p - 1 ≡ p = omega arith in ap (λ n. n * w) a ∙ (let b : p * w ≡ suc p * w - w = omega arith in b)
 
+-- the needs from an unknown on are its own and those from the next on
 pub needs_next : (system : Equations) (z : Vector) (u : ℕ) → u < system.points * length system.template → needs_from system z u ≡ needs_of system z u ++ needs_from system z (u + 1)
 needs_next system z u l = ap (flat_map (needs_of system z)) (range_next u (system.points * length system.template) l)
 
+-- past the last unknown nothing is needed
 pub needs_end : (system : Equations) (z : Vector) (u : ℕ) → system.points * length system.template ≤ u → needs_from system z u ≡ []
 needs_end system z u l = ap (flat_map (needs_of system z)) (range_end u (system.points * length system.template) l)
 

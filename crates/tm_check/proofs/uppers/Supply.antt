@@ -26,6 +26,7 @@ pub told_passes : (events : List Event) (fault : Fault) (o : Option (Unit {0})) 
 told_passes events fault None u e h = cc
 told_passes events fault (Some v) u e h = h.1
 
+-- where an answer about evidence is none, the fault stops
 pub told_fails : (events : List Event) (fault : Fault) (o : Option (Unit {0})) → o ≡ None → MatchOption o (first_stop events ≡ Some (fault_answer fault)) (λ r. Unit {0} × (first_stop events ≡ None)) → first_stop events ≡ Some (fault_answer fault)
 told_fails events fault None e h = h
 told_fails events fault (Some v) e h = cc
@@ -39,23 +40,24 @@ module _ (system : Equations) (z : Vector) where
   given need e = evidence_events (Upper (number_of system need.edge.to need.row) need.number) (UpperFault (number_of system need.edge.to need.row) need.number) system z need.edge (get_or system.template need.row []) (z need.edge.to need.row) e
 
   -- the evidence of first needs, and then what is left
-  pub uppers-append : (a b : List Need) (es : List Evidence) → uppers_events system z (a ++ b) es ≡ uppers_events system z a es ++ uppers_events system z b (drop (length a) es)
+  uppers-append : (a b : List Need) (es : List Evidence) → uppers_events system z (a ++ b) es ≡ uppers_events system z a es ++ uppers_events system z b (drop (length a) es)
   unfolding uppers_events
   uppers-append [] b es = refl
   uppers-append (n ∷ a) b [] = ap (λ rest. absent n ∷ rest) (uppers-append a b [] ∙ ap (λ r. uppers_events system z a [] ++ uppers_events system z b r) (drop_all (length a) [] (omega arith)))
   uppers-append (n ∷ a) b (e ∷ es) = ap (λ rest. given n e ++ rest) (uppers-append a b es) ∙ sym (append_assoc (given n e) (uppers_events system z a es) (uppers_events system z b (drop (length a) es)))
 
   -- what stops at the first needs
-  pub uppers_sooner : (a b : List Need) (es : List Evidence) (place : ℕ) (f : CheckFault) → first_stop (uppers_events system z a (drop place es)) ≡ Some f → first_stop (uppers_events system z (a ++ b) (drop place es)) ≡ Some f
+  uppers_sooner : (a b : List Need) (es : List Evidence) (place : ℕ) (f : CheckFault) → first_stop (uppers_events system z a (drop place es)) ≡ Some f → first_stop (uppers_events system z (a ++ b) (drop place es)) ≡ Some f
   uppers_sooner a b es place f e =
       ap first_stop (uppers-append a b (drop place es)) ∙ stop_sooner (uppers_events system z a (drop place es)) (uppers_events system z b (drop (length a) (drop place es))) f e
 
   -- where nothing does, the rest decides
-  pub uppers_later : (a b : List Need) (es : List Evidence) (place : ℕ) → first_stop (uppers_events system z a (drop place es)) ≡ None → first_stop (uppers_events system z (a ++ b) (drop place es)) ≡ first_stop (uppers_events system z b (drop (place + length a) es))
+  uppers_later : (a b : List Need) (es : List Evidence) (place : ℕ) → first_stop (uppers_events system z a (drop place es)) ≡ None → first_stop (uppers_events system z (a ++ b) (drop place es)) ≡ first_stop (uppers_events system z b (drop (place + length a) es))
   uppers_later a b es place e =
       ap first_stop (uppers-append a b (drop place es)) ∙ stop_later (uppers_events system z a (drop place es)) (uppers_events system z b (drop (length a) (drop place es))) e
       ∙ ap (λ r. first_stop (uppers_events system z b r)) (drop-drop (length a) place es)
 
+  -- where nothing is needed, nothing stops
   pub uppers_none : (es : List Evidence) → first_stop (uppers_events system z [] es) ≡ None
   unfolding uppers_events first_stop
   uppers_none es = refl
@@ -87,19 +89,23 @@ module _ (system : Equations) (z : Vector) where
     abbrev pub UnknownLeft : ℕ → ℕ → Type 0
     UnknownLeft u place = first_stop (uppers_events system z (needs system z) es) ≡ first_stop (uppers_events system z (needs_from system z u) (drop place es))
 
+    -- at first the needs of all unknowns are left
     pub unknown_first : UnknownLeft (length system.template) 0
     unknown_first = ap (λ ns. first_stop (uppers_events system z ns es)) (needs_all system z)
 
     module _ (u place : ℕ) (h : UnknownLeft u place) where
+      -- where nothing stops at an unknown's needs, the next unknowns are left
       pub unknown_more : u < system.points * length system.template → (next : ℕ) → next ≡ place + length (needs_of system z u) → first_stop (uppers_events system z (needs_of system z u) (drop place es)) ≡ None → UnknownLeft (u + 1) next
       unknown_more l next q e =
           h ∙ ap (λ ns. first_stop (uppers_events system z ns (drop place es))) (needs_next system z u l) ∙ uppers_later (needs_of system z u) (needs_from system z (u + 1)) es place e
           ∙ ap (λ n. first_stop (uppers_events system z (needs_from system z (u + 1)) (drop n es))) (sym q)
 
+      -- where something stops at an unknown's needs, the evidence stops there
       pub unknown_stops : u < system.points * length system.template → (f : CheckFault) → first_stop (uppers_events system z (needs_of system z u) (drop place es)) ≡ Some f → first_stop (uppers_events system z (needs system z) es) ≡ Some f
       unknown_stops l f e =
           h ∙ ap (λ ns. first_stop (uppers_events system z ns (drop place es))) (needs_next system z u l) ∙ uppers_sooner (needs_of system z u) (needs_from system z (u + 1)) es place f e
 
+      -- where all unknowns are passed, nothing stops
       pub unknown_all : system.points * length system.template ≤ u → first_stop (uppers_events system z (needs system z) es) ≡ None
       unknown_all l = h ∙ ap (λ ns. first_stop (uppers_events system z ns (drop place es))) (needs_end system z u l) ∙ uppers_none (drop place es)
 
@@ -132,6 +138,7 @@ module _ (system : Equations) (z : Vector) where
       pub left_same : eqb edge.to p ≡ false → IntoLeft edges k next → IntoLeft edges (k + 1) next
       left_same e h = h ∙ ap (λ ns. first_stop (uppers_events system z ns (drop next es))) (into_no e) ∙ ap (λ j. first_stop (uppers_events system z (into_needs p r j (drop j edges)) (drop next es))) (sym (add-one k))
 
+      -- an edge that ends elsewhere takes no evidence
       pub taken_same : eqb edge.to p ≡ false → IntoTaken edges k next → IntoTaken edges (k + 1) next
       taken_same e h =
           let a = ap (λ ns. length ns) (into_no e) in
@@ -140,6 +147,7 @@ module _ (system : Equations) (z : Vector) where
 
       -- one that ends at the point
       module _ (e : eqb edge.to p ≡ true) where
+        -- where the evidence of an edge into the point passes, the next edges are left
         pub left_more : IntoLeft edges k next → first_stop (uppers_events system z (record { edge = edge; number = k; row = r } ∷ []) (drop next es)) ≡ None → IntoLeft edges (k + 1) (next + 1)
         unfolding needed
         left_more h n =
@@ -147,12 +155,14 @@ module _ (system : Equations) (z : Vector) where
             ∙ uppers_later (needed ∷ []) (into_needs p r (suc k) (drop (suc k) edges)) es next n
             ∙ ap (λ j. first_stop (uppers_events system z (into_needs p r j (drop j edges)) (drop (next + 1) es))) (sym (add-one k))
 
+        -- an edge into the point takes one piece of evidence
         pub taken_more : IntoTaken edges k next → IntoTaken edges (k + 1) (next + 1)
         taken_more h =
             let a = ap (λ ns. length ns) (into_yes e) in
             let b = ap (λ j. length (into_needs p r j (drop j edges))) (add-one k) in
             omega (arith, a, b, h)
 
+        -- where the evidence of an edge into the point stops, that of the unknown stops there
         pub left_stops : IntoLeft edges k next → (f : CheckFault) → first_stop (uppers_events system z (record { edge = edge; number = k; row = r } ∷ []) (drop next es)) ≡ Some f → first_stop (uppers_events system z (into_needs p r 0 edges) (drop place es)) ≡ Some f
         unfolding needed
         left_stops h f n =
@@ -163,8 +173,10 @@ module _ (system : Equations) (z : Vector) where
     unfolding into_needs
     into_end edges k l = ap (into_needs p r k) (drop_all k edges l)
 
+    -- where all edges are passed, nothing stops
     pub left_all : (edges : List Edge) (k next : ℕ) → length edges ≤ k → IntoLeft edges k next → first_stop (uppers_events system z (into_needs p r 0 edges) (drop place es)) ≡ None
     left_all edges k next l h = h ∙ ap (λ ns. first_stop (uppers_events system z ns (drop next es))) (into_end edges k l) ∙ uppers_none (drop next es)
 
+    -- where all edges are passed, as much is taken as the unknown needs
     pub taken_all : (edges : List Edge) (k next : ℕ) → length edges ≤ k → IntoTaken edges k next → next ≡ place + length (into_needs p r 0 edges)
     taken_all edges k next l h = let a = ap (λ ns. length ns) (into_end edges k l) in omega (arith, a, h)
