@@ -49,7 +49,7 @@ module _ (system : Equations) (z : Vector) where
   pub count_first : CountLeft (length system.template) 0
   count_first = let e = ap (λ ns. length ns) (needs_all system z) in omega (arith, e)
 
-  -- with one more unknown so much more is needed
+  -- with one more unknown its own needs are counted too
   pub count_more : (u count more : ℕ) → u < system.points * length system.template → more ≡ length (needs_of system z u) → CountLeft u count → CountLeft (u + 1) (count + more)
   count_more u count more l q h =
       let e = ap (λ ns. length ns) (needs_next system z u l) in

@@ -34,7 +34,7 @@ pub under_both : (t : Bool) (ls ms : List Limit) (x : ℕ → ℚ) → AllUnder 
 under_both t [] ms x h i = i
 under_both t (l ∷ ls) ms x h i = (h.0, under_both t ls ms x h.1 i)
 
--- where each of two parts is within so many columns, both are
+-- where each of two parts is within n columns, both are
 pub within_both : (n : ℕ) (ls ms : List Limit) → AllWithin n ls → AllWithin n ms → AllWithin n (ls ++ ms)
 within_both n [] ms h i = i
 within_both n (l ∷ ls) ms h i = (h.0, within_both n ls ms h.1 i)
