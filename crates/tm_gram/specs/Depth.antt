@@ -17,33 +17,40 @@ opens_expr d (grouped a e b) = Some d ∷ (opens_expr (suc d) e ++ None ∷ [])
 opens_expr d (prefixed p a e) = Some d ∷ opens_expr (suc d) e
 opens_expr d (joined e o a f) = opens_expr d e ++ None ∷ opens_expr d f
 
+-- what the tokens of a declarator open
 abbrev pub opens_declarator : ℕ → Declarator → List (Option ℕ)
 opens_declarator d (bare x a) = None ∷ []
 opens_declarator d (given x a b e) = None ∷ None ∷ opens_expr d e
 
+-- what the tokens of declarators open
 abbrev pub opens_declarators : ℕ → Declarators → List (Option ℕ)
 opens_declarators d (declares x a) = opens_declarator d x ++ None ∷ []
 opens_declarators d (declares_more x a xs) = opens_declarator d x ++ None ∷ opens_declarators d xs
 
+-- what the tokens of an assignment or a step open
 abbrev pub opens_update : ℕ → Update → List (Option ℕ)
 opens_update d (set x a g b e) = None ∷ None ∷ opens_expr d e
 opens_update d (step_after x a g b) = None ∷ None ∷ []
 opens_update d (step_before g a x b) = None ∷ None ∷ []
 
+-- what the tokens of the first part of a `for`'s head open
 abbrev pub opens_first : ℕ → ForFirst → List (Option ℕ)
 opens_first d (no_first a) = None ∷ []
 opens_first d (declared_first a xs) = None ∷ opens_declarators d xs
 opens_first d (updated_first u a) = opens_update d u ++ None ∷ []
 
+-- what the tokens of its condition open
 abbrev pub opens_test : ℕ → ForTest → List (Option ℕ)
 opens_test d (no_test a) = None ∷ []
 opens_test d (given_test e a) = opens_expr d e ++ None ∷ []
 
+-- what the tokens of its change open
 abbrev pub opens_last : ℕ → ForLast → List (Option ℕ)
 opens_last d (no_last a) = None ∷ []
 opens_last d (updated_last u a) = opens_update d u ++ None ∷ []
 
 abbrev mutual
+  -- what the tokens of a statement without labels open
   pub opens_core : ℕ → Core → List (Option ℕ)
   opens_core d (empty a) = None ∷ []
   opens_core d (block a is b) = Some d ∷ (opens_items (suc d) is ++ None ∷ [])
@@ -57,25 +64,30 @@ abbrev mutual
   opens_core d (assumed a b e c i) = None ∷ None ∷ (opens_expr d e ++ None ∷ None ∷ [])
   opens_core d (updates u c) = opens_update d u ++ None ∷ []
 
+  -- what the tokens of a statement with its labels open
   pub opens_sub : ℕ → Sub → List (Option ℕ)
   opens_sub d (labelled x a b s) = None ∷ None ∷ opens_sub d s
   opens_sub d (plain c) = opens_core d c
 
+  -- what the tokens of the statements of a block open
   pub opens_items : ℕ → Items → List (Option ℕ)
   opens_items d no_items = []
   opens_items d (label x a b is) = None ∷ None ∷ opens_items d is
   opens_items d (declaration a xs is) = None ∷ (opens_declarators d xs ++ opens_items d is)
   opens_items d (item c is) = opens_core d c ++ opens_items d is
 
+-- what the tokens between the parentheses of `main` open
 abbrev pub opens_parameters : Parameters → List (Option ℕ)
 opens_parameters nothing = []
 opens_parameters (void_at a) = None ∷ []
 
+-- what the tokens of the end of `main` open
 abbrev pub opens_return : Return → List (Option ℕ)
 opens_return no_return = []
 opens_return (returns a n b c) = None ∷ None ∷ None ∷ []
 opens_return (returns_minus a b n c d) = None ∷ None ∷ None ∷ None ∷ []
 
+-- what the tokens of a program open
 abbrev pub opens : Program → List (Option ℕ)
 opens (program a b c ps d e is r f g) = None ∷ None ∷ None ∷ (opens_parameters ps ++ None ∷ None ∷ (opens_items 0 is ++ (opens_return r ++ None ∷ None ∷ [])))
 
@@ -86,6 +98,7 @@ opened_operand d bang = Some d
 opened_operand d left_paren = Some d
 opened_operand d _ = None
 
+-- what a token opens where a statement has to come
 abbrev pub opened_core : ℕ → Kind → Option ℕ
 opened_core d left_brace = Some d
 opened_core d if_word = Some d
@@ -94,6 +107,7 @@ opened_core d do_word = Some d
 opened_core d for_word = Some d
 opened_core d _ = None
 
+-- what a token opens that a goal takes
 abbrev pub opened_by : Goal → Kind → Option ℕ
 opened_by (operand d) k = opened_operand d k
 opened_by (more e d) k = None
@@ -115,10 +129,12 @@ opened_by returned k = None
 opened_by some_number k = None
 opened_by (only m) k = None
 
+-- what a token opens at a stack
 abbrev pub opened : List Goal → Kind → Option ℕ
 opened [] k = None
 opened (g ∷ gs) k = elim (entry g k) [ takes next ↦ opened_by g k | skips ↦ opened gs k | stops ↦ None ]
 
+-- what each token of a text opens at a stack
 abbrev pub trace : List Goal → List Token → List (Option ℕ)
 trace gs [] = []
 trace gs (token k a ∷ ts) = opened gs k ∷ elim (step gs k) [ None ↦ [] | Some next ↦ trace next ts ]
@@ -129,11 +145,13 @@ pub data Verdict : Type 0 where
   refused : Verdict
   too_deep : Verdict
 
+-- a token is refused, opens one construct too many, or the machine goes on
 abbrev pub judged : Option (List Goal) → Option ℕ → Verdict
 judged None depth = refused
 judged (Some next) None = goes next
 judged (Some next) (Some d) = elim (nat_lt d 64) [ true ↦ goes next | false ↦ too_deep ]
 
+-- what becomes of a token at a stack
 abbrev pub verdict : List Goal → Kind → Verdict
 verdict gs k = judged (step gs k) (opened gs k)
 
@@ -144,10 +162,12 @@ pub data Scan : Type 0 where
   unexpected : ℕ → Scan
   nested : ℕ → Scan
 
+-- a text ends well where nothing has to come, and else too early
 abbrev pub end_of : List Goal → Scan
 end_of [] = whole
 end_of (g ∷ gs) = short
 
+-- what becomes of a text at a stack
 abbrev pub scan : List Goal → List Token → Scan
 scan gs [] = end_of gs
 scan gs (token k a ∷ ts) = elim (verdict gs k) [ goes next ↦ scan next ts | refused ↦ unexpected a | too_deep ↦ nested a ]

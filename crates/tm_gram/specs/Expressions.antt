@@ -62,6 +62,7 @@ FindsExpr (nests_at a) ts =
 abbrev pub expression_start : List Goal
 expression_start = operand 0 ∷ more until_semicolon 0 ∷ []
 
+-- a sign that stands between two sides
 abbrev pub is_infix : Kind → Bool
 is_infix (infix_sign o) = true
 is_infix _ = false
@@ -79,6 +80,7 @@ longer runs_out = runs_out
 longer (stops_at a) = stops_at a
 longer (nests_at a) = nests_at a
 
+-- how far an expression reaches from a stack on
 abbrev pub reach : List Goal → List Token → Reach
 reach gs [] = runs_out
 reach gs (token k a ∷ ts) = elim (ends_before gs k) [

@@ -75,11 +75,13 @@ pub data Kind : Type 0 where
 pub data Token : Type 0 where
   token : Kind → ℕ → Token
 
+-- the token of a sign that stands before one side
 abbrev pub sign_of : Prefix → Kind
 sign_of negative = infix_sign minus_op
 sign_of positive = infix_sign plus_op
 sign_of negation = bang
 
+-- how tightly a comparison holds its sides
 abbrev pub relation_level : Relation → ℕ
 relation_level equal = 2
 relation_level unequal = 2
@@ -106,6 +108,7 @@ pub data Expr : Type 0 where
   prefixed : Prefix → ℕ → Expr → Expr
   joined : Expr → Op → ℕ → Expr → Expr
 
+-- how an expression is spelled
 abbrev pub spell_expr : Expr → List Token
 spell_expr (number n a) = token (a_number n) a ∷ []
 spell_expr (variable x a) = token (a_name x) a ∷ []
@@ -133,18 +136,22 @@ pub data Declarators : Type 0 where
   declares : Declarator → ℕ → Declarators
   declares_more : Declarator → ℕ → Declarators → Declarators
 
+-- how a declarator is spelled
 abbrev pub spell_declarator : Declarator → List Token
 spell_declarator (bare x a) = token (a_name x) a ∷ []
 spell_declarator (given x a b e) = token (a_name x) a ∷ token (change_sign replaces) b ∷ spell_expr e
 
+-- how declarators are spelled
 abbrev pub spell_declarators : Declarators → List Token
 spell_declarators (declares x a) = spell_declarator x ++ token semicolon a ∷ []
 spell_declarators (declares_more x a xs) = spell_declarator x ++ token comma a ∷ spell_declarators xs
 
+-- an initialiser groups as it must
 abbrev pub GoodDeclarator : Declarator → Type 0
 GoodDeclarator (bare x a) = Unit {0}
 GoodDeclarator (given x a b e) = Groups 0 e
 
+-- each initialiser groups as it must
 abbrev pub GoodDeclarators : Declarators → Type 0
 GoodDeclarators (declares x a) = GoodDeclarator x
 GoodDeclarators (declares_more x a xs) = GoodDeclarator x × GoodDeclarators xs
@@ -161,52 +168,63 @@ pub data ForFirst : Type 0 where
   declared_first : ℕ → Declarators → ForFirst
   updated_first : Update → ℕ → ForFirst
 
+-- the condition of a `for`, or none
 pub data ForTest : Type 0 where
   no_test : ℕ → ForTest
   given_test : Expr → ℕ → ForTest
 
+-- the change of a `for`, or none
 pub data ForLast : Type 0 where
   no_last : ℕ → ForLast
   updated_last : Update → ℕ → ForLast
 
+-- how an assignment or a step is spelled
 abbrev pub spell_update : Update → List Token
 spell_update (set x a g b e) = token (a_name x) a ∷ token (change_sign g) b ∷ spell_expr e
 spell_update (step_after x a g b) = token (a_name x) a ∷ token (step_sign g) b ∷ []
 spell_update (step_before g a x b) = token (step_sign g) a ∷ token (a_name x) b ∷ []
 
+-- how the first part of a `for`'s head is spelled
 abbrev pub spell_first : ForFirst → List Token
 spell_first (no_first a) = token semicolon a ∷ []
 spell_first (declared_first a xs) = token int_word a ∷ spell_declarators xs
 spell_first (updated_first u a) = spell_update u ++ token semicolon a ∷ []
 
+-- how the condition of a `for`'s head is spelled
 abbrev pub spell_test : ForTest → List Token
 spell_test (no_test a) = token semicolon a ∷ []
 spell_test (given_test e a) = spell_expr e ++ token semicolon a ∷ []
 
+-- how the change of a `for`'s head is spelled
 abbrev pub spell_last : ForLast → List Token
 spell_last (no_last a) = token right_paren a ∷ []
 spell_last (updated_last u a) = spell_update u ++ token right_paren a ∷ []
 
+-- the expression of an assignment groups as it must
 abbrev pub GoodUpdate : Update → Type 0
 GoodUpdate (set x a g b e) = Groups 0 e
 GoodUpdate (step_after x a g b) = Unit {0}
 GoodUpdate (step_before g a x b) = Unit {0}
 
+-- the expressions of the first part of a `for`'s head group as they must
 abbrev pub GoodFirst : ForFirst → Type 0
 GoodFirst (no_first a) = Unit {0}
 GoodFirst (declared_first a xs) = GoodDeclarators xs
 GoodFirst (updated_first u a) = GoodUpdate u
 
+-- the condition of a `for`'s head groups as it must
 abbrev pub GoodTest : ForTest → Type 0
 GoodTest (no_test a) = Unit {0}
 GoodTest (given_test e a) = Groups 0 e
 
+-- the expression of the change of a `for`'s head groups as it must
 abbrev pub GoodLast : ForLast → Type 0
 GoodLast (no_last a) = Unit {0}
 GoodLast (updated_last u a) = GoodUpdate u
 
 -- Statements: `repeat` is a `while`, `repeat_after` a `do`.
 mutual
+  -- a statement without labels
   pub data Core : Type 0 where
     empty : ℕ → Core
     block : ℕ → Items → ℕ → Core
@@ -219,10 +237,12 @@ mutual
     assumed : ℕ → ℕ → Expr → ℕ → ℕ → Core
     updates : Update → ℕ → Core
 
+  -- a statement under another one, with its labels
   pub data Sub : Type 0 where
     labelled : List ℕ → ℕ → ℕ → Sub → Sub
     plain : Core → Sub
 
+  -- the statements, labels and declarations of a block
   pub data Items : Type 0 where
     no_items : Items
     label : List ℕ → ℕ → ℕ → Items → Items
@@ -230,6 +250,7 @@ mutual
     item : Core → Items → Items
 
 abbrev mutual
+  -- how a statement without labels is spelled
   pub spell_core : Core → List Token
   spell_core (empty a) = token semicolon a ∷ []
   spell_core (block a is b) = token left_brace a ∷ (spell_items is ++ token right_brace b ∷ [])
@@ -244,10 +265,12 @@ abbrev mutual
   spell_core (assumed a b e c d) = token assume_word a ∷ token left_paren b ∷ (spell_expr e ++ token right_paren c ∷ token semicolon d ∷ [])
   spell_core (updates u c) = spell_update u ++ token semicolon c ∷ []
 
+  -- how a statement with its labels is spelled
   pub spell_sub : Sub → List Token
   spell_sub (labelled x a b s) = token (a_name x) a ∷ token colon b ∷ spell_sub s
   spell_sub (plain c) = spell_core c
 
+  -- how the statements of a block are spelled
   pub spell_items : Items → List Token
   spell_items no_items = []
   spell_items (label x a b is) = token (a_name x) a ∷ token colon b ∷ spell_items is
@@ -260,6 +283,7 @@ pub data Ending : Type 0 where
   waiting : Ending
 
 abbrev mutual
+  -- whether a statement without labels ends with such an `if`
   pub ending_core : Core → Ending
   ending_core (empty a) = shut
   ending_core (block a is b) = shut
@@ -272,12 +296,14 @@ abbrev mutual
   ending_core (assumed a b e c d) = shut
   ending_core (updates u c) = shut
 
+  -- whether a statement with its labels ends with such an `if`
   pub ending_sub : Sub → Ending
   ending_sub (labelled x a b s) = ending_sub s
   ending_sub (plain c) = ending_core c
 
 -- Expressions group as they must, and each `else` belongs to the nearest `if` that has none.
 abbrev mutual
+  -- a statement without labels is good
   pub GoodCore : Core → Type 0
   GoodCore (empty a) = Unit {0}
   GoodCore (block a is b) = GoodItems is
@@ -290,10 +316,12 @@ abbrev mutual
   GoodCore (assumed a b e c d) = Groups 0 e
   GoodCore (updates u c) = GoodUpdate u
 
+  -- a statement with its labels is good
   pub GoodSub : Sub → Type 0
   GoodSub (labelled x a b s) = GoodSub s
   GoodSub (plain c) = GoodCore c
 
+  -- the statements of a block are good
   pub GoodItems : Items → Type 0
   GoodItems no_items = Unit {0}
   GoodItems (label x a b is) = GoodItems is
@@ -311,10 +339,12 @@ pub data Return : Type 0 where
   returns : ℕ → ℕ → ℕ → ℕ → Return
   returns_minus : ℕ → ℕ → ℕ → ℕ → ℕ → Return
 
+-- how the parameters of `main` are spelled
 abbrev pub spell_parameters : Parameters → List Token
 spell_parameters nothing = []
 spell_parameters (void_at a) = token void_word a ∷ []
 
+-- how the end of `main` is spelled
 abbrev pub spell_return : Return → List Token
 spell_return no_return = []
 spell_return (returns a n b c) = token return_word a ∷ token (a_number n) b ∷ token semicolon c ∷ []
@@ -324,11 +354,13 @@ spell_return (returns_minus a b n c d) = token return_word a ∷ token (infix_si
 pub data Program : Type 0 where
   program : ℕ → ℕ → ℕ → Parameters → ℕ → ℕ → Items → Return → ℕ → ℕ → Program
 
+-- how a program is spelled
 abbrev pub spell : Program → List Token
 spell (program a b c ps d e is r f g) =
     token int_word a ∷ token main_word b ∷ token left_paren c ∷ (spell_parameters ps
     ++ token right_paren d ∷ token left_brace e ∷ (spell_items is ++ (spell_return r ++ token right_brace f ∷ token the_end g ∷ [])))
 
+-- the statements of the program are good
 abbrev pub Good : Program → Type 0
 Good (program a b c ps d e is r f g) = GoodItems is
 

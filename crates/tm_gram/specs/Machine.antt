@@ -28,6 +28,7 @@ pub data Mark : Type 0 where
   int_type : Mark
   text_end : Mark
 
+-- the kind of that token
 abbrev pub mark_kind : Mark → Kind
 mark_kind opening = left_paren
 mark_kind closing = right_paren
@@ -68,6 +69,7 @@ pub data Goal : Type 0 where
   some_number : Goal
   only : Mark → Goal
 
+-- what becomes of a goal at a token
 pub data Entry : Type 0 where
   -- the token is taken, and these have to come next
   takes : List Goal → Entry
@@ -75,11 +77,13 @@ pub data Entry : Type 0 where
   skips : Entry
   stops : Entry
 
+-- a sign where an operand has to come
 abbrev pub prefix_entry : Op → ℕ → Entry
 prefix_entry plus_op d = takes (operand (suc d) ∷ [])
 prefix_entry minus_op d = takes (operand (suc d) ∷ [])
 prefix_entry _ d = stops
 
+-- a token where an operand has to come
 abbrev pub operand_entry : ℕ → Kind → Entry
 operand_entry d (a_name x) = takes []
 operand_entry d (a_number n) = takes []
@@ -89,6 +93,7 @@ operand_entry d left_paren = takes (operand (suc d) ∷ more until_paren (suc d)
 operand_entry d nondet_word = takes (only opening ∷ only closing ∷ [])
 operand_entry d _ = stops
 
+-- a token after an operand
 abbrev pub more_entry : Ender → ℕ → Kind → Entry
 more_entry e d (infix_sign o) = takes (operand d ∷ more e d ∷ [])
 more_entry until_paren d right_paren = takes []
@@ -103,21 +108,25 @@ next in_sub d = []
 next in_block d = statement in_block d ∷ []
 next in_main d = statement in_main d ∷ []
 
+-- `int` where a statement may stand
 abbrev pub declaration_entry : Place → ℕ → Entry
 declaration_entry in_sub d = stops
 declaration_entry in_block d = takes (declarator d ∷ statement in_block d ∷ [])
 declaration_entry in_main d = takes (declarator d ∷ statement in_main d ∷ [])
 
+-- `}` where a statement may stand
 abbrev pub close_entry : Place → Entry
 close_entry in_sub = stops
 close_entry in_block = takes []
 close_entry in_main = takes []
 
+-- `return` where a statement may stand
 abbrev pub return_entry : Place → Entry
 return_entry in_sub = stops
 return_entry in_block = stops
 return_entry in_main = takes (returned ∷ only statement_end ∷ only brace_closing ∷ [])
 
+-- a token where a statement has to come
 abbrev pub statement_entry : Place → ℕ → Kind → Entry
 statement_entry p d (a_name x) = takes (after_name p d ∷ next p d)
 statement_entry p d semicolon = takes (next p d)
@@ -140,27 +149,33 @@ label_entry in_sub d = takes (statement in_sub d ∷ [])
 label_entry in_block d = takes []
 label_entry in_main d = takes []
 
+-- a token after the name of an assignment or a step
 abbrev pub updating_entry : Ender → ℕ → Kind → Entry
 updating_entry e d (change_sign g) = takes (operand d ∷ more e d ∷ [])
 updating_entry e d (step_sign g) = takes (only (ender_mark e) ∷ [])
 updating_entry e d _ = stops
 
+-- a token after a name with which a statement begins
 abbrev pub name_entry : Place → ℕ → Kind → Entry
 name_entry p d colon = label_entry p d
 name_entry p d k = updating_entry until_semicolon d k
 
+-- a token where an `else` may come
 abbrev pub else_entry : ℕ → Kind → Entry
 else_entry d else_word = takes (statement in_sub d ∷ [])
 else_entry d _ = skips
 
+-- a token where a condition in parentheses has to come
 abbrev pub condition_entry : ℕ → Kind → Entry
 condition_entry d left_paren = takes (operand d ∷ more until_paren d ∷ [])
 condition_entry d _ = stops
 
+-- a token after the statement of a `do`
 abbrev pub do_end_entry : ℕ → Kind → Entry
 do_end_entry d while_word = takes (condition d ∷ only statement_end ∷ [])
 do_end_entry d _ = stops
 
+-- a token where the head of a `for` has to come
 abbrev pub header_entry : ℕ → Kind → Entry
 header_entry d left_paren = takes (header_first d ∷ header_test d ∷ header_last d ∷ [])
 header_entry d _ = stops
@@ -171,6 +186,7 @@ update_entry e d (a_name x) = takes (updating e d ∷ [])
 update_entry e d (step_sign g) = takes (some_name ∷ only (ender_mark e) ∷ [])
 update_entry e d _ = stops
 
+-- a token at the first part of a `for`'s head
 abbrev pub first_entry : ℕ → Kind → Entry
 first_entry d semicolon = takes []
 first_entry d int_word = takes (declarator d ∷ [])
@@ -182,42 +198,51 @@ then_goal (takes gs) g = takes (gs ++ g ∷ [])
 then_goal skips g = skips
 then_goal stops g = stops
 
+-- a token at the condition of a `for`'s head
 abbrev pub test_entry : ℕ → Kind → Entry
 test_entry d semicolon = takes []
 test_entry d k = then_goal (operand_entry d k) (more until_semicolon d)
 
+-- a token at the change of a `for`'s head
 abbrev pub last_entry : ℕ → Kind → Entry
 last_entry d right_paren = takes []
 last_entry d k = update_entry until_paren d k
 
+-- a token where the name of a declarator has to come
 abbrev pub declarator_entry : ℕ → Kind → Entry
 declarator_entry d (a_name x) = takes (declared d ∷ [])
 declarator_entry d _ = stops
 
+-- a token after the name of a declarator
 abbrev pub declared_entry : ℕ → Kind → Entry
 declared_entry d (change_sign replaces) = takes (operand d ∷ more until_declared d ∷ [])
 declared_entry d comma = takes (declarator d ∷ [])
 declared_entry d semicolon = takes []
 declared_entry d _ = stops
 
+-- a token where a name has to come
 abbrev pub some_name_entry : Kind → Entry
 some_name_entry (a_name x) = takes []
 some_name_entry _ = stops
 
+-- a token between the parentheses of `main`
 abbrev pub parameters_entry : Kind → Entry
 parameters_entry void_word = takes (only closing ∷ [])
 parameters_entry right_paren = takes []
 parameters_entry _ = stops
 
+-- a token after `return`
 abbrev pub returned_entry : Kind → Entry
 returned_entry (infix_sign minus_op) = takes (some_number ∷ [])
 returned_entry (a_number n) = takes []
 returned_entry _ = stops
 
+-- a token where a number has to come
 abbrev pub some_number_entry : Kind → Entry
 some_number_entry (a_number n) = takes []
 some_number_entry _ = stops
 
+-- a token where one token alone may stand
 abbrev pub only_entry : Mark → Kind → Entry
 only_entry opening left_paren = takes []
 only_entry closing right_paren = takes []
@@ -256,6 +281,7 @@ abbrev pub step : List Goal → Kind → Option (List Goal)
 step [] k = None
 step (g ∷ gs) k = elim (entry g k) [ takes next ↦ Some (next ++ gs) | skips ↦ step gs k | stops ↦ None ]
 
+-- the stack after the tokens of a text, if each may stand there
 abbrev pub run : List Goal → List Token → Option (List Goal)
 run gs [] = Some gs
 run gs (token k a ∷ ts) = elim (step gs k) [ None ↦ None | Some next ↦ run next ts ]

@@ -86,6 +86,7 @@ kind_of bytes lex_kind.TheVariants.End = g.the_end
 abbrev pub token_of : List ℕ → lex_token.Token → Token
 token_of text t = g.token (kind_of (slice_range text t.at (t.at + t.len)) t.kind) t.at
 
+-- the tokens of this text
 abbrev pub tokens_of : List ℕ → List lex_token.Token → List Token
 tokens_of text ts = map (token_of text) ts
 
@@ -97,9 +98,11 @@ plain_kind (lex_kind.TheVariants.Number n) = g.a_number 0
 plain_kind (lex_kind.TheVariants.Sign s) = sign_kind s
 plain_kind lex_kind.TheVariants.End = g.the_end
 
+-- a token without its name or number
 abbrev pub plain_token : lex_token.Token → Token
 plain_token t = g.token (plain_kind t.kind) t.at
 
+-- what a comparison of the code stands for
 abbrev pub relation_of : code_relation.Relation → Relation
 relation_of code_relation.TheVariants.Equal = g.equal
 relation_of code_relation.TheVariants.Unequal = g.unequal
@@ -108,6 +111,7 @@ relation_of code_relation.TheVariants.AtMost = g.at_most
 relation_of code_relation.TheVariants.Greater = g.greater
 relation_of code_relation.TheVariants.AtLeast = g.at_least
 
+-- what a sign of the code stands for
 abbrev pub op_of : code_op.Op → Op
 op_of code_op.TheVariants.Or = g.or_op
 op_of code_op.TheVariants.And = g.and_op
@@ -116,19 +120,23 @@ op_of code_op.TheVariants.Plus = g.plus_op
 op_of code_op.TheVariants.Minus = g.minus_op
 op_of code_op.TheVariants.Times = g.times_op
 
+-- what an assignment of the code stands for
 abbrev pub change_of : code_change.Change → Change
 change_of code_change.TheVariants.Replaces = g.replaces
 change_of code_change.TheVariants.Adds = g.adds
 change_of code_change.TheVariants.Subtracts = g.subtracts
 
+-- what a step of the code stands for
 abbrev pub direction_of : code_direction.Direction → Direction
 direction_of code_direction.TheVariants.Up = g.up
 direction_of code_direction.TheVariants.Down = g.down
 
+-- what a jump of the code stands for
 abbrev pub jump_of : code_jump.Jump → Jump
 jump_of code_jump.TheVariants.Breaks = g.breaks
 jump_of code_jump.TheVariants.Continues = g.continues
 
+-- what a symbol of the code stands for
 abbrev pub symbol_kind : code_symbol.Symbol → Kind
 symbol_kind code_symbol.TheVariants.Name = g.a_name []
 symbol_kind code_symbol.TheVariants.Number = g.a_number 0
@@ -158,16 +166,19 @@ symbol_kind code_symbol.TheVariants.Nondet = g.nondet_word
 symbol_kind code_symbol.TheVariants.Other = g.other_word
 symbol_kind code_symbol.TheVariants.End = g.the_end
 
+-- what the end of an expression stands for
 abbrev pub ender_of : code_ender.Ender → Ender
 ender_of code_ender.TheVariants.Paren = m.until_paren
 ender_of code_ender.TheVariants.Semicolon = m.until_semicolon
 ender_of code_ender.TheVariants.Declared = m.until_declared
 
+-- what the place of a statement stands for
 abbrev pub place_of : code_place.Place → Place
 place_of code_place.TheVariants.Sub = m.in_sub
 place_of code_place.TheVariants.Block = m.in_block
 place_of code_place.TheVariants.Main = m.in_main
 
+-- what a mark of the code stands for
 abbrev pub mark_of : code_mark.Mark → Mark
 mark_of code_mark.TheVariants.LeftParen = m.opening
 mark_of code_mark.TheVariants.RightParen = m.closing
@@ -178,6 +189,7 @@ mark_of code_mark.TheVariants.Main = m.main_name
 mark_of code_mark.TheVariants.Int = m.int_type
 mark_of code_mark.TheVariants.End = m.text_end
 
+-- what a goal of the code stands for
 abbrev pub goal_of : code_goal.Goal → Goal
 goal_of (code_goal.TheVariants.Operand d) = m.operand d
 goal_of (code_goal.TheVariants.More e d) = m.more (ender_of e) d
@@ -199,6 +211,7 @@ goal_of code_goal.TheVariants.Returned = m.returned
 goal_of code_goal.TheVariants.SomeNumber = m.some_number
 goal_of (code_goal.TheVariants.Only k) = m.only (mark_of k)
 
+-- what an entry of the code stands for
 abbrev pub entry_of : code_entry.Entry → Entry
 entry_of code_entry.TheVariants.Nothing = takes []
 entry_of (code_entry.TheVariants.One a) = takes (goal_of a ∷ [])
@@ -209,15 +222,18 @@ entry_of code_entry.TheVariants.Skips = skips
 entry_of code_entry.TheVariants.Stops = stops
 entry_of code_entry.TheVariants.Deep = stops
 
+-- the token is taken
 abbrev pub IsTaken : Entry → Type 0
 IsTaken (takes next) = Unit {0}
 IsTaken skips = ⊥
 IsTaken stops = ⊥
 
+-- a construct is opened at the limit or past it
 abbrev pub IsDeep : Option ℕ → Type 0
 IsDeep None = ⊥
 IsDeep (Some d) = 64 ≤ d
 
+-- no construct is opened, or one within the limit
 abbrev pub IsShallow : Option ℕ → Type 0
 IsShallow None = Unit {0}
 IsShallow (Some d) = d < 64
@@ -227,6 +243,7 @@ abbrev pub Enters : code_entry.Entry → Entry → Option ℕ → Type 0
 Enters code_entry.TheVariants.Deep wanted depth = IsTaken wanted × IsDeep depth
 Enters e wanted depth = (entry_of e ≡ wanted) × (IsTaken wanted → IsShallow depth)
 
+-- the code's entry is that of the goal at the token
 abbrev pub Entered : code_entry.Entry → Goal → Kind → Type 0
 Entered e g k = Enters e (entry g k) (opened_by g k)
 
@@ -234,16 +251,19 @@ Entered e g k = Enters e (entry g k) (opened_by g k)
 abbrev pub stack_of : List code_goal.Goal → List Goal
 stack_of gs = map goal_of (reverse gs)
 
+-- the stack that an entry leaves
 abbrev pub added : Entry → List Goal → List Goal
 added (takes next) gs = next ++ gs
 added skips gs = gs
 added stops gs = gs
 
+-- the code's outcome is the verdict, and its stack the one after the token
 abbrev pub Advances : code_outcome.Outcome → Verdict → List Goal → Type 0
 Advances code_outcome.TheVariants.Went v now = v ≡ goes now
 Advances code_outcome.TheVariants.Refused v now = v ≡ refused
 Advances code_outcome.TheVariants.TooDeep v now = v ≡ too_deep
 
+-- what the code says of a text
 abbrev pub scan_of : code_syntax.Syntax → Scan
 scan_of code_syntax.TheVariants.Whole = whole
 scan_of code_syntax.TheVariants.Short = short

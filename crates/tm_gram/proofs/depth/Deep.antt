@@ -17,6 +17,7 @@ use Rattle.tm_gram.proofs.grammar.Sound.{below_six}
 closing : (gs : List Goal) (x : List Token) (t : Token) (w : List Token) (o r : List (Option ℕ)) (d : ℕ) → trace gs (x ++ t ∷ w) ≡ o ++ None ∷ r → Some d ∷ trace gs ((x ++ t ∷ []) ++ w) ≡ Some d ∷ ((o ++ None ∷ []) ++ r)
 closing gs x t w o r d h = ap (λ (y : List Token). Some d ∷ trace gs y) (append_assoc x (t ∷ []) w) ∙ ap (λ y. Some d ∷ y) h ∙ ap (λ y. Some d ∷ y) (sym (append_assoc o (None ∷ []) r))
 
+-- a token that opens a construct, one that opens none, and what follows
 abbrev pub two : ℕ → List (Option ℕ) → List (Option ℕ)
 two d x = Some d ∷ None ∷ x
 
@@ -49,6 +50,7 @@ mutual
   operand_trace (prefixed negation a e) d gs w g = ap (λ x. Some d ∷ x) (operand_trace e (suc d) gs w g)
   operand_trace (joined e o a f) d gs w g = absurd (omega (arith, g.0, below_six o))
 
+  -- the machine counts what an expression's tokens open as the tree does
   pub expr_trace : (e : Expr) (n : Ender) (l d : ℕ) (gs : List Goal) (w : List Token) → Groups l e → trace (operand d ∷ more n d ∷ gs) (spell_expr e ++ w) ≡ opens_expr d e ++ trace (more n d ∷ gs) w
   expr_trace (number m a) n l d gs w g = refl
   expr_trace (variable x a) n l d gs w g = refl

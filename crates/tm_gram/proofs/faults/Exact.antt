@@ -18,6 +18,7 @@ scan_front (token k a ∷ ts) rest gs now h s = on_step (step gs k) (opened gs k
   on_step (Some n) None a ts rest now f h s = f n h s
   on_step (Some n) (Some d) a ts rest now f h s = ap (λ (t : Bool). elim (elim t as (λ x. Verdict) [ true ↦ goes n | false ↦ too_deep ]) as (λ x. Scan) [ goes next ↦ scan next (ts ++ rest) | refused ↦ unexpected a | too_deep ↦ nested a ]) (lt-ltb d 64 s.0) ∙ f n h s.1
 
+-- equally long fronts of one list are the same
 pub append_same : (xs ys u v : List (Option ℕ)) → length xs ≡ length ys → xs ++ u ≡ ys ++ v → xs ≡ ys
 append_same [] [] u v h e = refl
 append_same [] (y ∷ ys) u v h e = cc
@@ -36,14 +37,15 @@ scan_one gs k a ts h = on_step (step gs k) (opened gs k) a ts h where
   on_step None o a ts h = refl
   on_step (Some n) o a ts h = cc
 
-pub exact_whole : (ts : List Token) (p : Program) → Reads ts p → Fine ts → scan start ts ≡ whole
+exact_whole : (ts : List Token) (p : Program) → Reads ts p → Fine ts → scan start ts ≡ whole
 exact_whole ts p r f = let h = (accepts_law ts).1 (p, r) in ap (λ (x : List Token). scan start x) (sym (append-nil ts)) ∙ scan_front ts [] start [] h (shallow_of ts [] h f)
 
-pub exact_unexpected : (ts front : List Token) (k : Kind) (a : ℕ) (rest : List Token) → ts ≡ front ++ token k a ∷ rest → IsUnexpected front (token k a) → Fine front → scan start ts ≡ unexpected a
+exact_unexpected : (ts front : List Token) (k : Kind) (a : ℕ) (rest : List Token) → ts ≡ front ++ token k a ∷ rest → IsUnexpected front (token k a) → Fine front → scan start ts ≡ unexpected a
 exact_unexpected ts front k a rest e u f = by_run ts front k a rest e (unexpected_back front (token k a) u) f where
   by_run : (ts front : List Token) (k : Kind) (a : ℕ) (rest : List Token) → ts ≡ front ++ token k a ∷ rest → ((gs : List Goal) × (run start front ≡ Some gs)) × (run start (front ++ token k a ∷ []) ≡ None) → Fine front → scan start ts ≡ unexpected a
   by_run ts front k a rest e ((now, h), n) f = ap (λ (x : List Token). scan start x) e ∙ scan_front front (token k a ∷ rest) start now h (shallow_of front now h f) ∙ scan_one now k a rest (sym (run_front start now front (token k a ∷ []) h) ∙ n)
 
+-- the last elements of one list are the same
 pub last_same : (xs ys : List (Option ℕ)) (x y : Option ℕ) → xs ++ x ∷ [] ≡ ys ++ y ∷ [] → x ≡ y
 last_same [] [] x y e = cc
 last_same [] (y ∷ []) x z e = cc
@@ -59,13 +61,14 @@ scan_deep gs next k a d ts h e b = on_step (step gs k) (opened gs k) next a d ts
   on_step (Some n) None next a d ts h e b = cc
   on_step (Some n) (Some c) next a d ts h e b = let i : d ≡ c = cc in ap (λ (t : Bool). elim (elim t as (λ x. Verdict) [ true ↦ goes n | false ↦ too_deep ]) as (λ x. Scan) [ goes next ↦ scan next ts | refused ↦ unexpected a | too_deep ↦ nested a ]) (le-ltb c 64 (subst (λ x. 64 ≤ x) i b))
 
+-- one token is traced by what it opens
 pub opened_last : (gs next : List Goal) (k : Kind) (a : ℕ) → run gs (token k a ∷ []) ≡ Some next → trace gs (token k a ∷ []) ≡ opened gs k ∷ []
 opened_last gs next k a h = on_step (step gs k) (opened gs k) where
   on_step : (s : Option (List Goal)) (o : Option ℕ) → o ∷ elim s as (λ x. List (Option ℕ)) [ None ↦ [] | Some next ↦ [] ] ≡ o ∷ []
   on_step None o = refl
   on_step (Some n) o = refl
 
-pub exact_nested : (ts front : List Token) (k : Kind) (a : ℕ) (rest : List Token) (depths : List (Option ℕ)) (d : ℕ) → ts ≡ front ++ token k a ∷ rest → Fine front → Begins (front ++ token k a ∷ []) → Opens (front ++ token k a ∷ []) (depths ++ Some d ∷ []) → 64 ≤ d → scan start ts ≡ nested a
+exact_nested : (ts front : List Token) (k : Kind) (a : ℕ) (rest : List Token) (depths : List (Option ℕ)) (d : ℕ) → ts ≡ front ++ token k a ∷ rest → Fine front → Begins (front ++ token k a ∷ []) → Opens (front ++ token k a ∷ []) (depths ++ Some d ∷ []) → 64 ≤ d → scan start ts ≡ nested a
 exact_nested ts front k a rest depths d e f b o q = by_run ts front k a rest depths d e f b o q ((begins_law front).1 f.0) ((begins_law (front ++ token k a ∷ [])).1 b) where
   by_run : (ts front : List Token) (k : Kind) (a : ℕ) (rest : List Token) (depths : List (Option ℕ)) (d : ℕ) → ts ≡ front ++ token k a ∷ rest → Fine front → Begins (front ++ token k a ∷ []) → Opens (front ++ token k a ∷ []) (depths ++ Some d ∷ []) → 64 ≤ d → ((gs : List Goal) × (run start front ≡ Some gs)) → ((gs : List Goal) × (run start (front ++ token k a ∷ []) ≡ Some gs)) → scan start ts ≡ nested a
   by_run ts front k a rest depths d e f b o q (now, h) (next, i) =

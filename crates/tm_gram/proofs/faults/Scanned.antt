@@ -15,15 +15,18 @@ Found short gs ts = (now : List Goal) × (run gs ts ≡ Some now) × AllShallow 
 Found (unexpected a) gs ts = (front : List Token) × (k : Kind) × (rest : List Token) × (now : List Goal) × (ts ≡ front ++ token k a ∷ rest) × (run gs front ≡ Some now) × (step now k ≡ None) × AllShallow (trace gs front)
 Found (nested a) gs ts = (front : List Token) × (k : Kind) × (rest : List Token) × (now : List Goal) × (ts ≡ front ++ token k a ∷ rest) × (run gs front ≡ Some now) × ((next : List Goal) × (step now k ≡ Some next)) × ((d : ℕ) × (opened now k ≡ Some d) × (64 ≤ d)) × AllShallow (trace gs front)
 
+-- the run of a text goes on after its first token
 pub run_one : (gs next : List Goal) (k : Kind) (a : ℕ) (ts : List Token) → step gs k ≡ Some next → run gs (token k a ∷ ts) ≡ run next ts
 run_one gs next k a ts e = ap (λ (o : Option (List Goal)). elim o as (λ x. Option (List Goal)) [ None ↦ None | Some next ↦ run next ts ]) e
 
 run_stop : (gs : List Goal) (k : Kind) (a : ℕ) (ts : List Token) → step gs k ≡ None → run gs (token k a ∷ ts) ≡ None
 run_stop gs k a ts e = ap (λ (o : Option (List Goal)). elim o as (λ x. Option (List Goal)) [ None ↦ None | Some next ↦ run next ts ]) e
 
+-- the trace of a text goes on after its first token
 pub trace_one : (gs next : List Goal) (o : Option ℕ) (k : Kind) (a : ℕ) (ts : List Token) → step gs k ≡ Some next → opened gs k ≡ o → trace gs (token k a ∷ ts) ≡ o ∷ trace next ts
 trace_one gs next o k a ts e f = ap₂ (λ (x : Option ℕ) (o : Option (List Goal)). x ∷ elim o as (λ x. List (Option ℕ)) [ None ↦ [] | Some next ↦ trace next ts ]) f e
 
+-- a token opens no construct, or one that is within the limit
 abbrev pub Low : Option ℕ → Type 0
 Low None = Unit {0}
 Low (Some d) = d < 64
@@ -32,6 +35,7 @@ shallow_more : (o : Option ℕ) (os : List (Option ℕ)) → Low o → AllShallo
 shallow_more None os h i = i
 shallow_more (Some d) os h i = (h, i)
 
+-- a shallow trace stays shallow with one more token in front that opens nothing too deep
 pub trace_low : (gs next : List Goal) (o : Option ℕ) (k : Kind) (a : ℕ) (ts : List Token) → step gs k ≡ Some next → opened gs k ≡ o → Low o → AllShallow (trace next ts) → AllShallow (trace gs (token k a ∷ ts))
 trace_low gs next o k a ts e f h i = subst AllShallow (sym (trace_one gs next o k a ts e f)) (shallow_more o (trace next ts) h i)
 
@@ -55,6 +59,7 @@ found [] [] = (refl, tt)
 found [] (g ∷ gs) = (g ∷ gs, refl, tt)
 found (token k a ∷ ts) gs = one (step gs k) (opened gs k) gs k a ts refl refl (λ n. found ts n)
 
+-- the trace of a text is that of a front that runs, and that of the rest
 pub trace_front : (front rest : List Token) (gs now : List Goal) → run gs front ≡ Some now → trace gs (front ++ rest) ≡ trace gs front ++ trace now rest
 trace_front [] rest gs now h = let e : gs ≡ now = cc in ap (λ (x : List Goal). trace x rest) e
 trace_front (token k a ∷ ts) rest gs now h = on_step (step gs k) (opened gs k) ts rest now (λ n e. trace_front ts rest n now e) h where
@@ -62,6 +67,7 @@ trace_front (token k a ∷ ts) rest gs now h = on_step (step gs k) (opened gs k)
   on_step None o ts rest now f h = cc
   on_step (Some n) o ts rest now f h = ap (λ x. o ∷ x) (f n h)
 
+-- the trace of a front that runs has an entry for each token
 pub trace_length : (front : List Token) (gs now : List Goal) → run gs front ≡ Some now → length (trace gs front) ≡ length front
 trace_length [] gs now h = refl
 trace_length (token k a ∷ ts) gs now h = length_step (step gs k) (opened gs k) ts now (λ n e. trace_length ts n now e) h where
@@ -69,6 +75,7 @@ trace_length (token k a ∷ ts) gs now h = length_step (step gs k) (opened gs k)
   length_step None o ts now f h = cc
   length_step (Some n) o ts now f h = ap suc (f n h)
 
+-- the trace of a front that runs says what each sentence that begins with it opens
 pub opens_front : (front : List Token) (now : List Goal) → run start front ≡ Some now → Opens front (trace start front)
 opens_front front now h = (trace_length front start now h, λ p rest r. (trace now rest, sym (traced p r.good) ∙ ap (λ (x : List Token). trace start x) r.spelled ∙ trace_front front rest start now h))
 
@@ -85,8 +92,10 @@ finds short ts (now, h, s) = fine ts now h s
 finds (unexpected a) ts (front, k, rest, now, i, h, e, s) = (front, k, rest, i, unexpected_law front now (token k a) h (run_front start now front (token k a ∷ []) h ∙ run_stop now k a [] e), fine front now h s)
 finds (nested a) ts (front, k, rest, now, i, h, (next, e), (d, f, b), s) = (front, k, rest, i, fine front now h s, alive_begins (front ++ token k a ∷ []) next (run_front start now front (token k a ∷ []) h ∙ run_one now next k a [] e), (trace start front, d, subst (Opens (front ++ token k a ∷ [])) (trace_last front now next k a d h e f) (opens_front (front ++ token k a ∷ []) next (run_front start now front (token k a ∷ []) h ∙ run_one now next k a [] e)), b))
 
+-- what the scan says of a text from its start is so
 pub scan_finds : (ts : List Token) → Finds (scan start ts) ts
 scan_finds ts = finds (scan start ts) ts (found ts start)
 
+-- an answer that is the scan's is so
 pub found_by : (s : Scan) (ts : List Token) → s ≡ scan start ts → Finds s ts
 found_by s ts e = subst (λ (x : Scan). Finds x ts) (sym e) (scan_finds ts)

@@ -10,6 +10,7 @@ use Rattle.tm_gram.specs.Grammar.{returns_minus, spell_return, nothing, void_at,
 use Rattle.tm_gram.specs.Machine.{do_end, header_first, header_test, header_last, until_paren, until_semicolon, Ender, until_declared, Place, in_sub, in_block, in_main, next, Goal, operand, more, statement, maybe_else, declarator, only}
 use Rattle.tm_gram.specs.Machine.{statement_end, text_end, skips, else_entry, step, run, start}
 
+-- the machine takes an expression where an operand has to come
 pub expr_run : (e : Expr) (n : Ender) (d c : ℕ) (gs : List Goal) (w : List Token) → run (operand d ∷ more n c ∷ gs) (spell_expr e ++ w) ≡ run (more n c ∷ gs) w
 expr_run (number m a) n d c gs w = refl
 expr_run (variable x a) n d c gs w = refl
@@ -20,6 +21,7 @@ expr_run (prefixed positive a e) n d c gs w = expr_run e n (suc d) c gs w
 expr_run (prefixed negation a e) n d c gs w = expr_run e n (suc d) c gs w
 expr_run (joined e o a f) n d c gs w = rw append_assoc (expr_run e n d c gs _ ∙ expr_run f n c c gs w)
 
+-- the machine takes declarators where one has to come
 pub declarators_run : (xs : Declarators) (d : ℕ) (gs : List Goal) (w : List Token) → run (declarator d ∷ gs) (spell_declarators xs ++ w) ≡ run gs w
 declarators_run (declares (bare x a) c) d gs w = refl
 declarators_run (declares (given x a b e) c) d gs w = rw append_assoc (expr_run e until_declared d d gs (token semicolon c ∷ w))
@@ -57,6 +59,7 @@ last_run (updated_last (step_before g a x b) c) d gs w = refl
 
 -- the `if`s at the end that may still take an `else`
 abbrev mutual
+  -- the goals of a statement's open `if`s
   pub pending_core : ℕ → Core → List Goal
   pending_core d (empty a) = []
   pending_core d (block a is b) = []
@@ -69,6 +72,7 @@ abbrev mutual
   pending_core d (assumed a b e c i) = []
   pending_core d (updates u c) = []
 
+  -- the goals of the open `if`s of a statement with its labels
   pub pending_sub : ℕ → Sub → List Goal
   pending_sub d (labelled x a b s) = pending_sub d s
   pending_sub d (plain c) = pending_core d c
@@ -83,10 +87,12 @@ mutual
   none_core d (repeat_for a b f t l s) h = none_sub (suc d) s h
   none_core d _ h = refl
 
+  -- a statement with its labels that ends with no open `if` has no such goal
   pub none_sub : (d : ℕ) (s : Sub) → ending_sub s ≡ shut → pending_sub d s ≡ []
   none_sub d (labelled x a b s) h = none_sub d s h
   none_sub d (plain c) h = none_core d c h
 
+-- the token is no `else`
 abbrev pub NotElse : Kind → Type 0
 NotElse k = else_entry 0 k ≡ skips
 
@@ -95,6 +101,7 @@ pass_one d else_word gs h = cc
 pass_one d _ gs h = refl
 
 mutual
+  -- a token other than `else` passes the open `if`s of a statement
   pub pass_core : (d : ℕ) (c : Core) (gs : List Goal) (k : Kind) → NotElse k → step (pending_core d c ++ gs) k ≡ step gs k
   pass_core d (empty a) gs k h = refl
   pass_core d (block a is b) gs k h = refl
@@ -104,6 +111,7 @@ mutual
   pass_core d (repeat_for a b f t l s) gs k h = pass_sub (suc d) s gs k h
   pass_core d _ gs k h = refl
 
+  -- a token other than `else` passes the open `if`s of a statement with its labels
   pub pass_sub : (d : ℕ) (s : Sub) (gs : List Goal) (k : Kind) → NotElse k → step (pending_sub d s ++ gs) k ≡ step gs k
   pass_sub d (labelled x a b s) gs k h = pass_sub d s gs k h
   pass_sub d (plain c) gs k h = pass_core d c gs k h
@@ -121,12 +129,14 @@ pass_sub_run : (d : ℕ) (s : Sub) (gs : List Goal) (w : List Token) → GoesOn 
 pass_sub_run d s gs [] h = absurd h
 pass_sub_run d s gs (token k a ∷ ts) h = ap (λ (o : Option (List Goal)). elim o as (λ x. Option (List Goal)) [ None ↦ None | Some next ↦ run next ts ]) (pass_sub d s gs k h)
 
+-- no statement begins with `else`
 pub core_head : (c : Core) (w : List Token) → GoesOn (spell_core c ++ w)
 core_head (updates (set x a g b e) c) w = refl
 core_head (updates (step_after x a g b) c) w = refl
 core_head (updates (step_before g a x b) c) w = refl
 core_head _ w = refl
 
+-- statements before a text that doesn't go on with `else` don't begin with it
 pub items_head : (is : Items) (w : List Token) → GoesOn w → GoesOn (spell_items is ++ w)
 items_head no_items w h = h
 items_head (label x b c is) w h = refl
@@ -170,6 +180,7 @@ mutual
   items_run (declaration a xs is) in_sub m d gs w g h = absurd m
   items_run (item c is) in_sub m d gs w g h = absurd m
 
+-- the end of `main` doesn't begin with `else`
 pub return_head : (r : Return) (f : ℕ) (w : List Token) → GoesOn (spell_return r ++ token right_brace f ∷ w)
 return_head no_return f w = refl
 return_head (returns a n b c) f w = refl

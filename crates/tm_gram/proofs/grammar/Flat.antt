@@ -5,10 +5,12 @@ use Rattle.std.proofs.lemmas.List.{append-nil}
 use Rattle.tm_gram.specs.Grammar.{Op, level, infix_sign, Token, token, Groups, Expr, number, variable, free, grouped, prefixed, joined, spell_expr}
 use Rattle.tm_gram.proofs.grammar.Sound.{Links, ended, link, spell_links, extend, extend_all}
 
+-- links and then further ones
 abbrev pub after : Links → Links → Links
 after ended ms = ms
 after (link o a u ls) ms = link o a u (after ls ms)
 
+-- the first operand of an expression
 abbrev pub first : Expr → Expr
 first (joined e o a f) = first e
 first (number n a) = number n a
@@ -17,6 +19,7 @@ first (free i j k) = free i j k
 first (grouped i e j) = grouped i e j
 first (prefixed p i e) = prefixed p i e
 
+-- the signs and operands after the first operand
 abbrev pub links : Expr → Links
 links (joined e o a f) = after (links e) (link o a (first f) (links f))
 links (number n a) = ended
@@ -62,6 +65,7 @@ spell_after : (ls ms : Links) → spell_links (after ls ms) ≡ spell_links ls +
 spell_after ended ms = refl
 spell_after (link o a u ls) ms = ap (λ (x : List Token). token (infix_sign o) a ∷ (spell_expr u ++ x)) (spell_after ls ms) ∙ ap (λ x. token (infix_sign o) a ∷ x) (sym (append_assoc (spell_expr u) (spell_links ls) (spell_links ms)))
 
+-- an expression is spelled as its first operand and its links
 pub spell_flat : (e : Expr) → spell_expr e ≡ spell_expr (first e) ++ spell_links (links e)
 spell_flat (joined e o a f) = ap (λ (x : List Token). x ++ token (infix_sign o) a ∷ spell_expr f) (spell_flat e) ∙ append_assoc (spell_expr (first e)) (spell_links (links e)) (token (infix_sign o) a ∷ spell_expr f) ∙ ap (λ (x : List Token). spell_expr (first e) ++ (spell_links (links e) ++ token (infix_sign o) a ∷ x)) (spell_flat f) ∙ ap (λ (x : List Token). spell_expr (first e) ++ x) (sym (spell_after (links e) (link o a (first f) (links f))))
 spell_flat (number n a) = refl
@@ -70,6 +74,7 @@ spell_flat (free i j k) = refl
 spell_flat (grouped i e j) = sym (append-nil (spell_expr (grouped i e j)))
 spell_flat (prefixed p i e) = sym (append-nil (spell_expr (prefixed p i e)))
 
+-- the first operand of an expression that groups as it must is an operand
 pub first_good : (l : ℕ) (e : Expr) → Groups l e → Groups 6 (first e)
 first_good l (joined e o a f) g = first_good (level o) e g.1
 first_good l (number n a) g = tt

@@ -18,10 +18,12 @@ pub data Links : Type 0 where
   ended : Links
   link : Op → ℕ → Expr → Links → Links
 
+-- how links are spelled
 abbrev pub spell_links : Links → List Token
 spell_links ended = []
 spell_links (link o a e ls) = token (infix_sign o) a ∷ (spell_expr e ++ spell_links ls)
 
+-- each operand of the links is one
 abbrev pub GoodLinks : Links → Type 0
 GoodLinks ended = Unit {0}
 GoodLinks (link o a e ls) = Groups 6 e × GoodLinks ls
@@ -35,6 +37,7 @@ extend (free i j k) o a u = joined (free i j k) o a u
 extend (grouped i e j) o a u = joined (grouped i e j) o a u
 extend (prefixed p i e) o a u = joined (prefixed p i e) o a u
 
+-- the tree with all these signs and operands at its end
 abbrev pub extend_all : Expr → Links → Expr
 extend_all e ended = e
 extend_all e (link o a u ls) = extend_all (extend e o a u) ls
@@ -47,14 +50,17 @@ spell_extend (joined e p b f) o a u = spell_pick (nat_lt (level p) (level o)) e 
 spell_extend (number n b) o a u = refl
 spell_extend _ o a u = refl
 
+-- an expression with links at its end is spelled as it and the links
 pub spell_all : (e : Expr) (ls : Links) → spell_expr (extend_all e ls) ≡ spell_expr e ++ spell_links ls
 spell_all e ended = sym (append-nil (spell_expr e))
 spell_all e (link o a u ls) = spell_all (extend e o a u) ls ∙ rw (spell_extend e o a u) (append_assoc (spell_expr e) (token (infix_sign o) a ∷ spell_expr u) (spell_links ls))
 
+-- every sign holds looser than an operand
 pub below_six : (o : Op) → level o < 6
 below_six (compare_op equal) = omega arith
 below_six _ = omega arith
 
+-- an operand groups at every level
 pub any_level : (l : ℕ) (u : Expr) → Groups 6 u → Groups l u
 any_level l (number n a) g = tt
 any_level l (variable x a) g = tt
@@ -67,7 +73,7 @@ groups_pick : (l : ℕ) (t : Bool) (e : Expr) (p : Op) (b : ℕ) (f : Expr) (o :
 groups_pick l true e p b f o a u g h k i w = (g.0, g.1, i (ltb-true (level p) (level o) w))
 groups_pick l false e p b f o a u g h k i w = (h, (ltb-false (level p) (level o) w, g.1, g.2), any_level _ u k)
 
-pub groups_extend : (l : ℕ) (e : Expr) (o : Op) (a : ℕ) (u : Expr) → Groups l e → l ≤ level o → Groups 6 u → Groups l (extend e o a u)
+groups_extend : (l : ℕ) (e : Expr) (o : Op) (a : ℕ) (u : Expr) → Groups l e → l ≤ level o → Groups 6 u → Groups l (extend e o a u)
 groups_extend l (joined e p b f) o a u g h k = groups_pick l (nat_lt (level p) (level o)) e p b f o a u g h k (λ t. groups_extend (suc (level p)) f o a u g.2 t k) refl
 groups_extend l (number n b) o a u g h k = (h, tt, any_level _ u k)
 groups_extend l (variable x b) o a u g h k = (h, tt, any_level _ u k)
@@ -75,6 +81,7 @@ groups_extend l (free i j m) o a u g h k = (h, tt, any_level _ u k)
 groups_extend l (grouped i e j) o a u g h k = (h, g, any_level _ u k)
 groups_extend l (prefixed p i e) o a u g h k = (h, g, any_level _ u k)
 
+-- an expression with links at its end groups as it must
 pub groups_all : (e : Expr) (ls : Links) → Groups 0 e → GoodLinks ls → Groups 0 (extend_all e ls)
 groups_all e ended g h = g
 groups_all e (link o a u ls) g h = groups_all (extend e o a u) ls (groups_extend 0 e o a u g (omega arith) h.0) h.1
@@ -90,10 +97,12 @@ pub data Rest : Type 0 where
   no_more : ℕ → Rest
   and_more : ℕ → Declarators → Rest
 
+-- how what ends an initialiser is spelled
 abbrev pub spell_rest : Rest → List Token
 spell_rest (no_more a) = token semicolon a ∷ []
 spell_rest (and_more a xs) = token comma a ∷ spell_declarators xs
 
+-- the declarators after it are good
 abbrev pub GoodRest : Rest → Type 0
 GoodRest (no_more a) = Unit {0}
 GoodRest (and_more a xs) = GoodDeclarators xs
@@ -109,6 +118,7 @@ pub data Result : Type 0 where
   just : ℕ → ℕ → Result
   minus : ℕ → ℕ → ℕ → Result
 
+-- how the number after `return` is spelled
 abbrev pub spell_result : Result → List Token
 spell_result (just n a) = token (a_number n) a ∷ []
 spell_result (minus a n b) = token (infix_sign minus_op) a ∷ token (a_number n) b ∷ []

@@ -5,6 +5,7 @@ use Rattle.tm_gram.specs.Grammar.{variable, free, grouped, prefixed, joined, spe
 use Rattle.tm_gram.proofs.grammar.Sound.{Links, ended, link, spell_links, GoodLinks, extend_all, below_six}
 use Rattle.tm_gram.proofs.grammar.Flat.{after, first, links, again, spell_flat, first_good}
 
+-- the number of operands of an expression, with one for each pair of parentheses and each sign before an operand
 abbrev pub weight : Expr → ℕ
 weight (number n a) = 1
 weight (variable x a) = 1
@@ -33,13 +34,16 @@ links_good : (l : ℕ) (e : Expr) → Groups l e → GoodLinks (links e)
 links_good l (joined e o a f) g = after_good (links e) (link o a (first f) (links f)) (links_good (level o) e g.1) (first_good (suc (level o)) f g.2, links_good (suc (level o)) f g.2)
 links_good l _ g = tt
 
+-- the token is no sign between two sides
 abbrev pub IsEnd : Token → Type 0
 IsEnd (token (infix_sign o) a) = ⊥
 IsEnd (token _ a) = Unit {0}
 
+-- equal lists have equal rests
 pub tail_of : (t s : Token) (xs ys : List Token) → t ∷ xs ≡ s ∷ ys → xs ≡ ys
 tail_of t s xs ys e = cc
 
+-- equal lists have equal first tokens
 pub head_of : (t s : Token) (xs ys : List Token) → t ∷ xs ≡ s ∷ ys → t ≡ s
 head_of t s xs ys e = cc
 
@@ -59,6 +63,7 @@ unique_links n f (link o a u ls) (link p c v ms) t s w x b g h i j e =
     let l : ls ≡ ms = q.0 in
     ((cc), q.1)
 
+-- expressions before tokens that end them are the same where their spellings are
 pub unique_expr : (n : ℕ) → Unique n → (e f : Expr) (t s : Token) (w x : List Token) → weight e < n → Groups 0 e → Groups 0 f → IsEnd t → IsEnd s → spell_expr e ++ t ∷ w ≡ spell_expr f ++ s ∷ x → (e ≡ f) × (t ∷ w ≡ s ∷ x)
 unique_expr n un e f t s w x b g h i j k =
     let c = flat_weight e in
@@ -82,6 +87,7 @@ unique_prefix n un p a e c f w x h g k q =
     let j : a ≡ c = cc in
     ((cc), m.1)
 
+-- two operands with one spelling are the same
 pub unique : (n : ℕ) → Unique n
 unique zero u v w x h g k e = absurd (omega arith)
 unique (suc n) (joined u o a y) v w x h g k e = absurd (omega (arith, g.0, below_six o))

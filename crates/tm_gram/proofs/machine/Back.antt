@@ -20,6 +20,7 @@ use Rattle.tm_gram.proofs.grammar.Complete.{NotElse}
 use Rattle.tm_gram.proofs.grammar.Sound.{Links, ended, link, spell_links, GoodLinks, extend_all, spell_all, groups_all, any_level, Clear, no_more, and_more, Ended}
 use Rattle.tm_gram.proofs.grammar.Sound.{just, minus, Holds}
 
+-- where a text after the token is spelled as the entry asks, it is so with the token as the goal asks
 abbrev pub Back : Entry → Goal → List Goal → Kind → ℕ → List Token → Type 0
 Back (takes next) g gs k a w = Holds (next ++ gs) w → Holds (g ∷ gs) (token k a ∷ w)
 Back skips g gs k a w = Holds gs (token k a ∷ w) → Holds (g ∷ gs) (token k a ∷ w)
@@ -29,9 +30,11 @@ Back stops g gs k a w = Unit {0}
 pub whole : (e : Expr) (ls : Links) (w u v : List Token) → w ≡ spell_expr e ++ u → u ≡ spell_links ls ++ v → Groups 6 e → GoodLinks ls → (w ≡ spell_expr (extend_all e ls) ++ v) × Groups 0 (extend_all e ls)
 whole e ls w u v h i g k = (h ∙ ap (λ x. spell_expr e ++ x) i ∙ sym (append_assoc (spell_expr e) (spell_links ls) v) ∙ ap (λ x. x ++ v) (sym (spell_all e ls)), groups_all e ls (any_level 0 e g) k)
 
+-- the text is an expression, what ends it, and what these goals ask
 abbrev pub ExprThen : Ender → List Goal → List Token → Type 0
 ExprThen n gs w = (e : Expr) × (u : List Token) × (v : List Token) × (w ≡ spell_expr e ++ u) × Groups 0 e × Ended n u v × Holds gs v
 
+-- an operand and what goes on with it are an expression
 pub expr_then : (n : Ender) (d c : ℕ) (gs : List Goal) (w : List Token) → Holds (operand d ∷ more n c ∷ gs) w → ExprThen n gs w
 expr_then n d c gs w (e, x, q, g, (ls, u, v, r, k, m, rest)) = (extend_all e ls, u, v, (whole e ls w x u q r g k).0, (whole e ls w x u q r g k).1, m, rest)
 
@@ -66,6 +69,7 @@ back_more until_declared d semicolon gs a w = λ h. (ended, token semicolon a �
 back_more until_declared d comma gs a w = λ h. back_comma d a gs w h
 back_more n d _ gs a w = tt
 
+-- the text is a statement without labels, and what these goals ask
 abbrev pub OneCore : List Goal → List Token → Type 0
 OneCore gs w = (c : Core) × (v : List Token) × (w ≡ spell_core c ++ v) × GoodCore c × Clear (ending_core c) v × Holds gs v
 
@@ -386,6 +390,7 @@ some_nil : (gs : List Goal) → ◌≡◌ {A = Option (List Goal)} (Some gs) (So
 some_nil [] e = refl
 some_nil (g ∷ gs) e = cc
 
+-- a text with which the machine ends is spelled as the goals ask
 pub holds : (w : List Token) (gs : List Goal) → run gs w ≡ Some [] → Holds gs w
 holds [] gs e = some_nil gs e
 holds (token k a ∷ w) gs e = run_back (step gs k) gs (token k a) w (step_back gs k a w) (λ next i. holds w next i) e

@@ -5,6 +5,7 @@ use Rattle.tm_gram.specs.Machine.{until_paren, until_semicolon, until_declared, 
 use Rattle.tm_gram.specs.Machine.{statement_end, main_name, int_type, text_end, mark_kind, ender_mark, Goal, operand, more, statement, after_name, maybe_else, condition}
 use Rattle.tm_gram.specs.Machine.{do_end, header, header_first, header_test, header_last, updating, declarator, declared, some_name, parameters, returned, some_number, only, step, run}
 
+-- tokens with which a stack can be completed
 abbrev pub finish : List Goal → List Token
 finish [] = []
 finish (operand d ∷ gs) = token (a_number 0) 0 ∷ finish gs
@@ -33,6 +34,7 @@ finish (returned ∷ gs) = token (a_number 0) 0 ∷ finish gs
 finish (some_number ∷ gs) = token (a_number 0) 0 ∷ finish gs
 finish (only m ∷ gs) = token (mark_kind m) 0 ∷ finish gs
 
+-- the machine ends with those tokens
 pub finishes : (gs : List Goal) → run gs (finish gs) ≡ Some []
 finishes [] = refl
 finishes (operand d ∷ gs) = finishes gs

@@ -13,6 +13,7 @@ reads_accepted w p r = ap (λ x. run start x) (sym r.spelled) ∙ accepted p r.g
 pub accepts_law : (w : List Token) → (run start w ≡ Some []) ↔ ((p : Program) × Reads w p)
 accepts_law w = ((λ h. accepted_reads w h), (λ h. reads_accepted w h.0 h.1))
 
+-- a front that the machine has taken begins a sentence
 pub alive_begins : (front : List Token) (gs : List Goal) → run start front ≡ Some gs → Begins front
 alive_begins front gs h = let r = accepted_reads (front ++ finish gs) (run_front start gs front (finish gs) h ∙ finishes gs) in (r.0, finish gs, r.1)
 
@@ -31,6 +32,7 @@ begins_law front = ((λ h. alive_begins front h.0 h.1), (λ b. alive_of front (r
 pub unexpected_law : (front : List Token) (gs : List Goal) (t : Token) → run start front ≡ Some gs → run start (front ++ t ∷ []) ≡ None → IsUnexpected front t
 unexpected_law front gs t h i = (alive_begins front gs h, λ b. none_clash (front ++ t ∷ []) i b)
 
+-- at a token that is unexpected the machine has a stack before it, and stops at it
 pub unexpected_back : (front : List Token) (t : Token) → IsUnexpected front t → ((gs : List Goal) × (run start front ≡ Some gs)) × (run start (front ++ t ∷ []) ≡ None)
 unexpected_back front t (b, n) = (alive_of front (run start front) refl b, gone (run start (front ++ t ∷ [])) refl) where
   gone : (o : Option (List Goal)) → run start (front ++ t ∷ []) ≡ o → run start (front ++ t ∷ []) ≡ None

@@ -27,6 +27,7 @@ goes_shape n (takes m) (Some d) gs k e h = let i : n ≡ m = cc in shallow d (m 
 goes_shape n skips o gs k e h = cc
 goes_shape n stops o gs k e h = cc
 
+-- where the code's entry takes the token, the machine goes on with the goals that it adds
 pub goes_on : (e : code_entry.Entry) (g : Goal) (gs : List Goal) (k : Kind) → Entered e g k → (e ≡ variant.Skips → ⊥) → (e ≡ variant.Stops → ⊥) → (e ≡ variant.Deep → ⊥) → verdict (g ∷ gs) k ≡ goes (added (entry_of e) gs)
 goes_on variant.Nothing g gs k h p q r = goes_shape _ (entry g k) (opened_by g k) gs k h.0 h.1
 goes_on (variant.One a) g gs k h p q r = goes_shape _ (entry g k) (opened_by g k) gs k h.0 h.1
@@ -40,5 +41,6 @@ goes_on variant.Deep g gs k h p q r = absurd (r refl)
 stack_top : (gs rest : List code_goal.Goal) (g : code_goal.Goal) → gs ≡ rest ++ g ∷ [] → stack_of gs ≡ goal_of g ∷ stack_of rest
 stack_top gs rest g e = ap stack_of e ∙ ap (map goal_of) (reverse-append rest (g ∷ []))
 
+-- where the code's entry takes the token, its stack is the machine's after the token
 pub went : (v : Verdict) (gs rest : List code_goal.Goal) (g : code_goal.Goal) (e : code_entry.Entry) (k : Kind) (now : List Goal) → v ≡ verdict (stack_of gs) k → gs ≡ rest ++ g ∷ [] → Entered e (goal_of g) k → (e ≡ variant.Skips → ⊥) → (e ≡ variant.Stops → ⊥) → (e ≡ variant.Deep → ⊥) → now ≡ added (entry_of e) (stack_of rest) → v ≡ goes now
 went old gs rest g e k now h i j p q r m = h ∙ ap (λ (x : List Goal). verdict x k) (stack_top gs rest g i) ∙ goes_on e (goal_of g) (stack_of rest) k j p q r ∙ ap goes (sym m)

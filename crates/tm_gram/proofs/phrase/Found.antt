@@ -77,6 +77,7 @@ found [] gs p = (gs, refl, p, tt)
 found (token k a ∷ ts) gs p = by_end (ends_before gs k) gs k a ts p refl (λ next q. found ts next q)
 
 -- ---- in the words of trees
+-- an expression ends before a token only where it is whole and the token doesn't go on with it
 pub ended : (now : List Goal) (k : Kind) → IsPending now → ends_before now k ≡ true → (now ≡ at_end) × (is_infix k ≡ false)
 ended [] k p e = cc
 ended (g ∷ []) k p e = (ap (λ (x : Goal). x ∷ []) p, not_true (is_infix k) e) where
@@ -168,8 +169,10 @@ finds (nests_at a) ts (k, s, h, (next, e), (d, f, b)) =
       ),
     )
 
+-- what the machine finds at an expression is so
 pub reach_finds : (ts : List Token) → FindsExpr (reach expression_start ts) ts
 reach_finds ts = finds (reach expression_start ts) ts (found ts expression_start start_pending)
 
+-- an answer that is what the machine finds is so
 pub found_by : (x : Reach) (ts : List Token) → x ≡ reach expression_start ts → FindsExpr x ts
 found_by x ts e = subst (λ (y : Reach). FindsExpr y ts) (sym e) (reach_finds ts)

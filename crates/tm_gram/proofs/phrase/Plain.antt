@@ -22,6 +22,7 @@ ends_same (g ∷ h ∷ gs) k l e = refl
 abbrev by : Bool → Verdict → ℕ → (List Goal → Reach) → Reach
 by b v a f = elim b as (λ x. Reach) [ true ↦ reaches 0 | false ↦ elim v as (λ x. Reach) [ goes next ↦ longer (f next) | refused ↦ stops_at a | too_deep ↦ nests_at a ] ]
 
+-- an expression reaches as far whatever names and numbers are
 pub plain_reach : (text : List ℕ) (gs : List Goal) (ts : List lex_token.Token) → reach gs (map plain_token ts) ≡ reach gs (tokens_of text ts)
 plain_reach text gs [] = refl
 plain_reach text gs (t ∷ ts) =

@@ -14,10 +14,12 @@ IsInner (only opening) = Unit {0}
 IsInner (only closing) = Unit {0}
 IsInner _ = ⊥
 
+-- each goal is a part of an operand
 abbrev pub AllInner : List Goal → Type 0
 AllInner [] = Unit {0}
 AllInner (g ∷ gs) = IsInner g × AllInner gs
 
+-- a stack at an expression: its end at the bottom, and parts of operands above it
 abbrev pub IsPending : List Goal → Type 0
 IsPending [] = ⊥
 IsPending (g ∷ []) = g ≡ more until_semicolon 0
@@ -78,6 +80,7 @@ end_step (infix_sign o) next h e = cc
 end_step semicolon next h e = cc
 end_step _ next h e = cc
 
+-- a sign after a whole expression leaves an operand and its end to come
 pub sign_steps : (k : Kind) → is_infix k ≡ true → step (more until_semicolon 0 ∷ []) k ≡ Some expression_start
 sign_steps (infix_sign o) h = refl
 sign_steps _ h = cc
@@ -102,5 +105,6 @@ pending_step (g ∷ f ∷ gs) next k p e h = on_entry (entry g k) (inner g k p.0
 pub left_alone : (g : Goal) → IsPending (g ∷ []) → g ≡ more until_semicolon 0
 left_alone g p = p
 
+-- the stack at the start of an expression is such a one
 pub start_pending : IsPending expression_start
 start_pending = (tt, refl)

@@ -17,6 +17,7 @@ use Rattle.tm_gram.proofs.machine.Finish.{finish, finishes, run_front, none_fron
 abbrev pub at_end : List Goal
 at_end = more until_semicolon 0 ∷ []
 
+-- tokens that read as an expression leave its end alone to come
 pub reads_run : (front : List Token) (e : Expr) → ReadsExpr front e → run expression_start front ≡ Some at_end
 reads_run front e r = ap (run expression_start) (sym r.spelled ∙ sym (append-nil (spell_expr e))) ∙ expr_run e until_semicolon 0 0 [] []
 
@@ -74,6 +75,7 @@ end_reads front h = on (accepted_expr (front ++ token semicolon 0 ∷ []) (run_f
   on (e, a, q, g) = (e, record { spelled = sym (same_front front (spell_expr e) (token semicolon 0) (token semicolon a) q); good = g })
 
 -- ---- what is open
+-- the trace of a front says what each expression that begins with it opens
 pub opens_front : (front : List Token) (now : List Goal) → run expression_start front ≡ Some now → OpensExpr front (trace expression_start front)
 opens_front front now h = (
   trace_length front expression_start now h,
@@ -84,13 +86,16 @@ opens_front front now h = (
   ),
 )
 
+-- the numbers of what a front opens are those of its trace
 pub depths_same : (front : List Token) (now : List Goal) (depths : List (Option ℕ)) → run expression_start front ≡ Some now → BeginsExpr front → OpensExpr front depths
     → depths ≡ trace expression_start front
 depths_same front now depths h (e, rest, r) o =
     let i = opens_front front now h in append_same depths (trace expression_start front) _ _ (o.0 ∙ sym i.0) (sym (o.1 e rest r).1 ∙ (i.1 e rest r).1)
 
+-- a front that is traced within the limit and has something to come is fine
 pub fine_expr : (front : List Token) (g : Goal) (gs : List Goal) → run expression_start front ≡ Some (g ∷ gs) → AllShallow (trace expression_start front) → FineExpr front
 fine_expr front g gs h s = (alive_expr front g gs h, (trace expression_start front, opens_front front (g ∷ gs) h, s))
 
+-- the trace of a fine front is within the limit
 pub shallow_of : (front : List Token) (now : List Goal) → run expression_start front ≡ Some now → FineExpr front → AllShallow (trace expression_start front)
 shallow_of front now h (b, (depths, o, s)) = subst AllShallow (depths_same front now depths h b o) s

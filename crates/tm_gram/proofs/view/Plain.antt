@@ -43,6 +43,7 @@ module _ (k l : Kind) (same : (g : Goal) → entry g k ≡ entry g l) (opens : (
   verdict_same : (gs : List Goal) → verdict gs k ≡ verdict gs l
   verdict_same gs = ap₂ judged (step_same gs) (opened_same gs)
 
+-- the machine judges a token the same whatever names and numbers are
 pub plain_verdict : (gs : List Goal) (k : lex_kind.Kind) (bytes : List ℕ) → verdict gs (plain_kind k) ≡ verdict gs (kind_of bytes k)
 plain_verdict gs (lex_kind.TheVariants.Word w) bytes = refl
 plain_verdict gs lex_kind.TheVariants.Name bytes = verdict_same (a_name []) (a_name bytes) (λ g. name_entry_same g bytes) (λ g. name_opens g [] ∙ sym (name_opens g bytes)) gs
