@@ -24,6 +24,7 @@ pub record ReadsWith (text : List ℕ) (tokens : List Token) (comments : List Co
   pub reads : Reads (with_comments 0 text comments) (map (token_moved_by comments) tokens)
   pub same : tokens_of (with_comments 0 text comments) (map (token_moved_by comments) tokens) ≡ moved (moved_by comments) (tokens_of text tokens)
 
+-- A text with comments has the same tokens, where comments may stand.
 abbrev pub TokensStay : Type 0
 TokensStay = (text : List ℕ) (tokens : List Token) (comments : List Comment) → Reads text tokens → MayStand text tokens comments
     → ReadsWith text tokens comments
@@ -36,6 +37,7 @@ pub record MeansWith (text : List ℕ) (comments : List Comment) (names : List (
   pub means : Means (with_comments 0 text comments) (tokens_of (with_comments 0 text comments) tokens) (Ok (names, now))
   pub same : without_lines now ≡ without_lines body
 
+-- A text with comments means the same program but for its lines, where comments may stand.
 abbrev pub ProgramsStay : Type 0
 ProgramsStay = (text : List ℕ) (tokens : List Token) (comments : List Comment) (names : List (List ℕ)) (body : Statements)
     → Reads text tokens → Means text (tokens_of text tokens) (Ok (names, body)) → MayStand text tokens comments

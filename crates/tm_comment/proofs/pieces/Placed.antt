@@ -10,8 +10,11 @@ use Rattle.tm_gram.specs.View.{kind_of, token_of, tokens_of}
 
 -- a token with its bytes at its place
 pub record Placed : Type 0 where
+  -- what the token is
   pub kind : Kind
+  -- the token's bytes
   pub bytes : List ℕ
+  -- the token's place
   pub at : ℕ
 
 -- the same at another place

@@ -11,7 +11,7 @@ use Rattle.tm_lex.proofs.lexemes.Heads.{heads}
 use Rattle.tm_comment.proofs.pieces.Plain.{starts_gap, lexeme_plain, no_gap_in_plain, gap_no_letter}
 
 -- the shorter of two fronts of a list is a front of the other one
-pub shorter_front : (xs ys zs vs : List ℕ) → xs ++ ys ≡ zs ++ vs → length xs ≤ length zs → (between : List ℕ) × (xs ++ between ≡ zs) × (between ++ vs ≡ ys)
+shorter_front : (xs ys zs vs : List ℕ) → xs ++ ys ≡ zs ++ vs → length xs ≤ length zs → (between : List ℕ) × (xs ++ between ≡ zs) × (between ++ vs ≡ ys)
 shorter_front [] ys zs vs e h = (zs, refl, sym e)
 shorter_front (x ∷ xs) ys [] vs e h = absurd (omega arith)
 shorter_front (x ∷ xs) ys (z ∷ zs) vs e h =
@@ -22,11 +22,17 @@ shorter_front (x ∷ xs) ys (z ∷ zs) vs e h =
 
 -- Two rests begin alike, and then go on alike, or the second goes on with what starts a blank or a comment.
 pub record Meets (rest now : List ℕ) : Type 0 where
+  -- the front that both rests have
   pub front : List ℕ
+  -- what follows it in the first rest
   pub before : List ℕ
+  -- what follows it in the second rest
   pub after : List ℕ
+  -- the first rest is that front and what follows
   pub was : front ++ before ≡ rest
+  -- the second rest is that front and what follows
   pub is : front ++ after ≡ now
+  -- they go on alike, or the second goes on with what starts a blank or a comment
   pub on : (before ≡ after) ⊎ (heads starts_gap after ≡ true)
 
 module _ (bytes front before after : List ℕ) (longest : IsLongest bytes (front ++ before)) where

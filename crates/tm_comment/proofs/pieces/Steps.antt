@@ -19,15 +19,22 @@ IsMove at more comments to = (place : ℕ) → at ≤ place → to place ≡ mor
 
 -- pieces with comments put in: they spell what is written, fit, and have the same tokens at the places where these stand then
 pub record Mixed (at : ℕ) (pieces : List Piece) (comments : List Comment) : Type 0 where
+  -- the pieces with the comments among them
   pub now : List Piece
+  -- they spell the text with the comments put in
   pub spelled : spelling now ≡ with_comments at (spelling pieces) comments
+  -- they fit up to the end of the text
   pub fit : AllFit now []
+  -- their tokens are the old ones at the places where these stand then
   pub told : (more : ℕ) (to : ℕ → ℕ) → IsMove at more comments to → placed_from (more + at) now ≡ map (place_at to) (placed_from at pieces)
 
 -- comments that may be put between these pieces
 pub record MayStandIn (ended : Bool) (at to : ℕ) (pieces : List Piece) (comments : List Comment) : Type 0 where
+  -- the comments stand in order within the text of the pieces
   pub order : Ascend at to (places comments)
+  -- each stands where a token begins or ends
   pub held : AllByRecursion (λ c. MayHold ended at pieces c.place) comments
+  -- each is a blank or a comment of the language
   pub gaps : AllByRecursion (λ c. IsGap c.bytes) comments
 
 -- no pieces and no comments

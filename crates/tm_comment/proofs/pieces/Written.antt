@@ -13,8 +13,11 @@ comments_from comments i c within is =
 
 -- the next comment stands within the text, behind what is written
 pub record IsNext (at to : ℕ) (c : Comment) (cs : List Comment) : Type 0 where
+  -- the comment stands at the place that is written up to, or later
   pub low : at ≤ c.place
+  -- the comment stands within the text
   pub high : c.place ≤ to
+  -- the further comments stand in order after it
   pub order : Ascend c.place to (places cs)
 
 -- the next comment of those that are in order
