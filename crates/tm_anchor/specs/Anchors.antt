@@ -27,10 +27,12 @@ pub record Scope : Type 0 where
 abbrev pub declared_one : Scope → Scope
 declared_one s = record { declared = s.declared + 1; known = s.known ++ s.declared ∷ [] }
 
+-- the scope after declarators
 abbrev pub scope_declarators : Declarators → Scope → Scope
 scope_declarators (declares x a) s = declared_one s
 scope_declarators (declares_more x a xs) s = scope_declarators xs (declared_one s)
 
+-- the scope after the first part of a `for`'s head
 abbrev pub scope_first : ForFirst → Scope → Scope
 scope_first (no_first a) s = s
 scope_first (declared_first a xs) s = scope_declarators xs s
@@ -54,10 +56,12 @@ abbrev mutual
   scope_core (assumed a b e c d) s = s
   scope_core (updates u c) s = s
 
+  -- the scope after a statement with its labels
   pub scope_sub : Sub → Scope → Scope
   scope_sub (labelled x a b body) s = scope_sub body s
   scope_sub (plain c) s = scope_core c s
 
+  -- the scope after statements in a row
   pub scope_items : Items → Scope → Scope
   scope_items no_items s = s
   scope_items (label x a b is) s = scope_items is s
@@ -86,10 +90,12 @@ abbrev mutual
   anchors_core (assumed a b e c d) s = []
   anchors_core (updates u c) s = []
 
+  -- the anchors in a statement with its labels
   pub anchors_sub : Sub → Scope → List Anchor
   anchors_sub (labelled x a b body) s = label_at x a b s ∷ anchors_sub body s
   anchors_sub (plain c) s = anchors_core c s
 
+  -- the anchors in statements in a row
   pub anchors_items : Items → Scope → List Anchor
   anchors_items no_items s = []
   anchors_items (label x a b is) s = label_at x a b s ∷ anchors_items is s
@@ -106,6 +112,7 @@ end_place no_return brace = brace
 end_place (returns a n b c) brace = a
 end_place (returns_minus a b n c d) brace = a
 
+-- the anchor of the end of `main`
 abbrev pub end_at : ℕ → Scope → Anchor
 end_at place s = record { what = the_end; first = place; place = place; known = s.known }
 

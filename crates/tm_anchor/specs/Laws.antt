@@ -20,6 +20,7 @@ what_point line a_loop first = record { place = Loop; line = line first }
 what_point line (a_label name) first = record { place = Label name; line = line first }
 what_point line the_end first = record { place = Exit; line = 0 }
 
+-- the point of an anchor
 abbrev pub point_of : (ℕ → ℕ) → Anchor → Point
 point_of line anchor = what_point line anchor.what anchor.first
 
@@ -32,6 +33,7 @@ is_anchored Join = false
 is_anchored Assume = false
 is_anchored Exit = true
 
+-- the points of a list that have anchors, in order
 abbrev pub anchored : List Point → List Point
 anchored [] = []
 anchored (point ∷ points) = if is_anchored point.place then point ∷ anchored points else anchored points
@@ -46,6 +48,7 @@ pub record AnchorsStandIn (text : List ℕ) (tokens : List lex_token.Token) (anc
   pub order : Ascend 0 (length text) (map (λ a. a.place) anchors)
   pub edges : All (λ a. IsEdge tokens a.place) anchors
 
+-- The anchors of a program stand in its text.
 abbrev pub AnchorsStand : Type 0
 AnchorsStand = (text : List ℕ) (tokens : List lex_token.Token) (p : Program) → lex.Reads text tokens → Reads (tokens_of text tokens) p
     → AnchorsStandIn text tokens (anchors_of p)

@@ -11,9 +11,11 @@ use Rattle.tm_anchor.specs.declared.search.Search.{Search}
 abbrev pub stack_of : List Goal → List Goal
 stack_of goals = reverse goals
 
+-- the scope of the search
 abbrev pub scope_in : Search → Scope
 scope_in search = record { declared = search.declared; known = search.known.items }
 
+-- the state of the machine that the search stands for
 abbrev pub state_of : Search → State
 state_of search = record { goals = stack_of search.goals.items; scope = scope_in search; found = search.anchors.items }
 

@@ -38,7 +38,7 @@ main_found is r f g h =
     ∙ sym (map-append plain_anchor (anchors_items is no_scope) (spec.end_at (spec.end_place r f) (scope_items is no_scope) ∷ []))
 
 -- What the machine finds in the spelling of a program are its anchors.
-pub program_found : (p : Program) → Good p → (run start (spell p)).found ≡ plain_anchors (anchors_of p)
+program_found : (p : Program) → Good p → (run start (spell p)).found ≡ plain_anchors (anchors_of p)
 program_found (program a b c nothing d e is r f g) h = main_found is r f g h
 program_found (program a b c (void_at x) d e is r f g) h = main_found is r f g h
 

@@ -21,7 +21,7 @@ none_more : (xs : List ℕ) → Extends xs xs
 none_more xs = ([], rw append-nil refl)
 
 -- Declarations make more names known,
-pub declarators_extend : (xs : Declarators) (s : Scope) → Extends s.known (scope_declarators xs s).known
+declarators_extend : (xs : Declarators) (s : Scope) → Extends s.known (scope_declarators xs s).known
 declarators_extend (declares x a) s = (s.declared ∷ [], refl)
 declarators_extend (declares_more x a xs) s = extends_once s.known (declared_one s).known (scope_declarators xs (declared_one s)).known (s.declared ∷ [], refl) (declarators_extend xs (declared_one s))
 
@@ -33,7 +33,7 @@ first_extends (updated_first u a) s = none_more s.known
 
 mutual
   -- but behind a statement no more are known than before it.
-  pub core_known : (c : Core) (s : Scope) → (scope_core c s).known ≡ s.known
+  core_known : (c : Core) (s : Scope) → (scope_core c s).known ≡ s.known
   core_known (empty a) s = refl
   core_known (block a is b) s = refl
   core_known (if_alone a b e c body) s = sub_known body s
@@ -46,19 +46,19 @@ mutual
   core_known (updates u c) s = refl
 
   -- the same under a loop, an `if` or a label
-  pub sub_known : (b : Sub) (s : Scope) → (scope_sub b s).known ≡ s.known
+  sub_known : (b : Sub) (s : Scope) → (scope_sub b s).known ≡ s.known
   sub_known (labelled x a b body) s = sub_known body s
   sub_known (plain c) s = core_known c s
 
 -- Statements of a block make more known inside it.
-pub items_extend : (is : Items) (s : Scope) → Extends s.known (scope_items is s).known
+items_extend : (is : Items) (s : Scope) → Extends s.known (scope_items is s).known
 items_extend no_items s = none_more s.known
 items_extend (label x a b is) s = items_extend is s
 items_extend (declaration a xs is) s = extends_once s.known (scope_declarators xs s).known (scope_items is (scope_declarators xs s)).known (declarators_extend xs s) (items_extend is (scope_declarators xs s))
 items_extend (item c is) s = let (more, h) = items_extend is (scope_core c s) in (more, h ∙ ap (λ l. l ++ more) (core_known c s))
 
 -- the first names are those of before
-pub taken_back : (xs ys : List ℕ) → Extends xs ys → take (length xs) ys ≡ xs
+taken_back : (xs ys : List ℕ) → Extends xs ys → take (length xs) ys ≡ xs
 taken_back xs ys (more, h) = rw h (take-append_seam xs more)
 
 -- So what is known behind a block is told by their number,

@@ -26,7 +26,7 @@ AreInner [] = Unit {0}
 AreInner (token k a ∷ ts) = IsInner k × AreInner ts
 
 -- tokens in a row
-pub inner_append : (xs ys : List Token) → AreInner xs → AreInner ys → AreInner (xs ++ ys)
+inner_append : (xs ys : List Token) → AreInner xs → AreInner ys → AreInner (xs ++ ys)
 inner_append [] ys h i = i
 inner_append (token k a ∷ xs) ys h i = (h.0, inner_append xs ys h.1 i)
 
@@ -90,7 +90,7 @@ passes g stays [] h gs s found w = refl
 passes g stays (token k a ∷ ts) h gs s found w = ap (λ (st : State). run st (ts ++ w)) (stays k h.0 a gs s found) ∙ passes g stays ts h.1 gs s found w
 
 -- An expression in parentheses closes what it opens.
-pub paren_expr : (e : Expr) (gs : List Goal) (s : Scope) (found : List Anchor) (w : List Token) → run (state (goal.Paren ∷ gs) s found) (spell_expr e ++ w) ≡ run (state (goal.Paren ∷ gs) s found) w
+paren_expr : (e : Expr) (gs : List Goal) (s : Scope) (found : List Anchor) (w : List Token) → run (state (goal.Paren ∷ gs) s found) (spell_expr e ++ w) ≡ run (state (goal.Paren ∷ gs) s found) w
 paren_expr (number m a) gs s found w = refl
 paren_expr (variable x a) gs s found w = refl
 paren_expr (free i j k) gs s found w = refl

@@ -46,7 +46,7 @@ module _ (P : ℕ → Type 0) where
     sub_placed (plain c) s from to h = core_placed c s from to h
 
     -- of statements in a row
-    pub items_placed : (is : Items) (s : Scope) (from to : ℕ) → Standing P from (spell_items is) to → Placed P from (anchors_items is s) to
+    items_placed : (is : Items) (s : Scope) (from to : ℕ) → Standing P from (spell_items is) to → Placed P from (anchors_items is s) to
     items_placed no_items s from to h = h
     items_placed (label x a b is) s from to h = (omega (arith, h.0, h.2.0), h.2.1.behind refl, items_placed is s (b + 1) to h.2.2)
     items_placed (declaration a xs is) s from to h =

@@ -16,7 +16,9 @@ is_colon _ = false
 module _ (P : ℕ → Type 0) where
   -- It holds of the token's place if this isn't the end, and behind it if it is a colon.
   pub record HoldsAt (k : Kind) (a : ℕ) : Type 0 where
+    -- it holds of the token's place, if the token isn't the end
     pub begin : is_end k ≡ false → P a
+    -- it holds of the place after the token, if the token is a colon
     pub behind : is_colon k ≡ true → P (a + 1)
 
   -- tokens in order between these places, and it holds of each
@@ -36,8 +38,11 @@ module _ (P : ℕ → Type 0) where
 
   -- the place between tokens and those that follow
   pub record Split (from : ℕ) (xs ys : List Token) (to : ℕ) : Type 0 where
+    -- the place between them
     pub between : ℕ
+    -- the first tokens stand before it
     pub left : Standing from xs between
+    -- the others stand after it
     pub right : Standing between ys to
 
   -- Tokens in a row stand one behind the other.
@@ -57,9 +62,13 @@ module _ (P : ℕ → Type 0) where
 
   -- a word, an expression in parentheses behind it, and what follows
   pub record Headed (from : ℕ) (k : Kind) (a c : ℕ) (ts : List Token) (to : ℕ) : Type 0 where
+    -- the word stands after the first place
     pub after : from ≤ a
+    -- it holds of the word's place
     pub held : HoldsAt k a
+    -- the word stands before the closing parenthesis
     pub before : a + 1 ≤ c
+    -- what follows stands after the closing parenthesis
     pub rest : Standing (c + 1) ts to
 
   -- A condition has its places before those of what follows.

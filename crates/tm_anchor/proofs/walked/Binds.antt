@@ -5,8 +5,11 @@ use Rattle.tm_parse.specs.Results.{◌>>=◌}
 
 -- a value that was met, and what came of it
 pub record Met {A B : Type 0} (r : Result A ParseFault) (f : A → Result B ParseFault) (y : B) : Type 0 where
+  -- the value that was met
   pub value : A
+  -- the first result is that value
   pub was : r ≡ Ok value
+  -- what goes on from that value gives the last result
   pub gave : f value ≡ Ok y
 
 -- A result that is a value was made of one.

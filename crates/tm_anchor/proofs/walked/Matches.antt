@@ -21,7 +21,9 @@ use Rattle.tm_anchor.proofs.walked.Points.{anchored_in, anchored_made, followed,
 
 -- a way from scope to scope, and anchors by the scope before them, where the walk goes from one state to another and gives nodes
 pub record Matches (line : ℕ → ℕ) (scope : Scope → Scope) (anchors : Scope → List Anchor) (st now : State) (nodes : Statements) : Type 0 where
+  -- the way leads from the scope of the first state to that of the second
   pub behind : scope (scope_of st) ≡ scope_of now
+  -- the anchors' points are those of the nodes that have anchors
   pub points : (s : Scope) (n : ℕ) → map (point_of line) (anchors s) ≡ anchored_in nodes n
 
 module _ (line : ℕ → ℕ) (width : ℕ) where
@@ -79,7 +81,7 @@ module _ (line : ℕ → ℕ) (width : ℕ) where
 
   mutual
     -- a statement
-    pub core_matches : (inside : Bool) (c : Core) (st : State) (r : State × Statements) → IsOk (walk_core line width inside c st) r → Matches line (scope_core c) (anchors_core c) st r.0 r.1
+    core_matches : (inside : Bool) (c : Core) (st : State) (r : State × Statements) → IsOk (walk_core line width inside c st) r → Matches line (scope_core c) (anchors_core c) st r.0 r.1
     core_matches inside (empty a) st r h = matched _ _ st (st, nil) r h (record { behind = refl; points = λ s n. refl })
     core_matches inside (block a is b) st r h =
         let q = met (walk_items line width inside is st) _ r h in
@@ -132,7 +134,7 @@ module _ (line : ℕ → ℕ) (width : ℕ) where
         record { behind = p.behind; points = λ s n. none_anchored r.1 p.none n }
 
     -- a statement under a loop, an `if` or a label
-    pub sub_matches : (inside : Bool) (b : Sub) (st : State) (r : State × Statements) → IsOk (walk_sub line width inside b st) r → Matches line (scope_sub b) (anchors_sub b) st r.0 r.1
+    sub_matches : (inside : Bool) (b : Sub) (st : State) (r : State × Statements) → IsOk (walk_sub line width inside b st) r → Matches line (scope_sub b) (anchors_sub b) st r.0 r.1
     sub_matches inside (labelled x a b body) st r h =
         let now = met (labelled_by x a st) _ r h in
         let q = met (walk_sub line width inside body now.value) _ r now.gave in

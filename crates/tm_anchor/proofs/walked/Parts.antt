@@ -48,14 +48,16 @@ assignment_makes i (Some f) line n = refl
 assignment_makes i None line n = refl
 
 -- nor does a change.
-pub change_makes : (c : tree_change.Change) (n : ℕ) → made_in (change_nodes c) n ≡ []
+change_makes : (c : tree_change.Change) (n : ℕ) → made_in (change_nodes c) n ≡ []
 change_makes change.Unchanged n = refl
 change_makes (change.Set i f line) n = refl
 change_makes (change.Havoc i line) n = refl
 
 -- a variable that is declared, and a node that makes no point
 pub record Declares (st now : State) (node : Statement) : Type 0 where
+  -- the scope has one variable more
   pub scope : declared_one (scope_of st) ≡ scope_of now
+  -- the node makes no point
   pub none : (n : ℕ) → made_by node n ≡ []
 
 -- what has been met behind a declaration
@@ -90,7 +92,9 @@ declarator_adds line width (given x a b e) st r h =
 
 -- the scope behind them is this one, and they make no points
 pub record Passes (scope : Scope) (now : State) (nodes : Statements) : Type 0 where
+  -- the scope is that of the state
   pub behind : scope ≡ scope_of now
+  -- the nodes make no points
   pub none : (n : ℕ) → made_in nodes n ≡ []
 
 -- nodes in a row that make no point
@@ -113,7 +117,7 @@ declarators_pass line width (declares_more x a xs) st r h =
     subst P (ok_is _ r rest.gave) (record { behind = ap (scope_declarators xs) adds.scope ∙ passes.behind; none = one_made one.value.1 rest.value.1 adds.none passes.none })
 
 -- An assignment or a step declares nothing,
-pub update_scope : (line : ℕ → ℕ) (width : ℕ) (u : Update) (st : State) (r : State × tree_change.Change) → IsOk (walk_update line width u st) r → scope_of st ≡ scope_of r.0
+update_scope : (line : ℕ → ℕ) (width : ℕ) (u : Update) (st : State) (r : State × tree_change.Change) → IsOk (walk_update line width u st) r → scope_of st ≡ scope_of r.0
 update_scope line width (set x a g b e) st r h =
     let i = met (known_number x a st) _ r h in
     let now = met (counted a st) _ r i.gave in

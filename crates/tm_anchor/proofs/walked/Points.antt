@@ -28,7 +28,7 @@ anchored_append [] ys = refl
 anchored_append (x ∷ xs) ys = ap (λ (l : List Point). if is_anchored x.place then x ∷ l else l) (anchored_append xs ys) ∙ if_append (is_anchored x.place) x (anchored xs) (anchored ys)
 
 -- and what nodes in a row make.
-pub made_append : (xs ys : List Made) → anchored_made (xs ++ ys) ≡ anchored_made xs ++ anchored_made ys
+made_append : (xs ys : List Made) → anchored_made (xs ++ ys) ≡ anchored_made xs ++ anchored_made ys
 made_append xs ys = ap anchored (map-append (λ (m : Made). m.point) xs ys) ∙ anchored_append (map (λ m. m.point) xs) (map (λ m. m.point) ys)
 
 -- Nodes behind others have some number.
