@@ -11,6 +11,7 @@ KeptAt R (Err e) now = Unit {0}
 
 -- both answers are related, where the first is no fault
 pub record Kept {A B : Type 0} (R : A → B → Type 0) (first : Result A ParseFault) (now : Result B ParseFault) : Type 0 where
+  -- the second answer is related to the first
   pub kept : KeptAt R first now
 
 -- the second is what a view makes of the first
@@ -38,7 +39,7 @@ pub alike_ok : {A : Type 0} (without : A → A) (st : State) (x y : A) → witho
 alike_ok without st x y h = kept_ok (Alike without) (st, x) (st, y) (refl, h)
 
 -- both go on from answers that are related
-pub kept_then : {A B C D : Type 0} (R : A → B → Type 0) (S : C → D → Type 0) (r : Result A ParseFault) (s : Result B ParseFault)
+kept_then : {A B C D : Type 0} (R : A → B → Type 0) (S : C → D → Type 0) (r : Result A ParseFault) (s : Result B ParseFault)
     (f : A → Result C ParseFault) (g : B → Result D ParseFault) → Kept R r s → ((x : A) (y : B) → R x y → Kept S (f x) (g y)) → Kept S (r >>= f) (s >>= g)
 kept_then R S (Ok x) s f g h k = subst (λ z. Kept S (f x) (z >>= g)) (sym h.kept.1) (k x h.kept.0 h.kept.2)
 kept_then R S (Err e) s f g h k = record { kept = tt }
