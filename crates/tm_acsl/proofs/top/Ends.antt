@@ -21,7 +21,7 @@ use Rattle.tm_acsl.specs.Annotated.{IsAnnotated, IsAnnotatedOn}
 use Rattle.tm_acsl.specs.Messages.{IsSaid, said}
 
 -- what is annotated ends as its report does
-pub annotated_ends : (files : Option Contents) (a : Analysis (List ℕ)) (bytes : List ℕ) → IsAnnotatedOn files a bytes → Ends files (Analyse Report a) Done
+annotated_ends : (files : Option Contents) (a : Analysis (List ℕ)) (bytes : List ℕ) → IsAnnotatedOn files a bytes → Ends files (Analyse Report a) Done
 annotated_ends files a bytes (text, rows, inputs, solvable, r) = (text, rows, inputs, rounds_end solvable.0 refl solvable.1 solvable.2)
 
 words_end : (files : Option Contents) (words : List (List ℕ)) (request : Request) (bytes : List ℕ) → request_of words ≡ Some request → IsAnnotated files words bytes

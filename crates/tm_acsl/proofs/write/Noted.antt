@@ -50,9 +50,13 @@ OneReading = (text : List ℕ) (tokens others : List lex_token.Token) → lex.Re
 
 -- what the code found of a program: its tokens, its anchors by their tree, and its comments by its anchors
 pub record IsNoted (text : List ℕ) (bounds : LeastBounds) (tokens : List lex_token.Token) (places : List code_anchor.Anchor) (list : List Comment) : Type 0 where
+  -- the text reads as the tokens
   pub reads : lex.Reads text tokens
+  -- the names of the variables are words
   pub words : All (λ name. IsTrue (is_word name)) bounds.system.flow.names
+  -- the anchors are those of the tokens' tree
   pub anchors : (p : Program) → Reads (tokens_of text tokens) p → places ≡ plain_anchors (anchors_of p)
+  -- the comments are those of the anchors with the bounds found
   pub comments : (l : List Anchor) → places ≡ plain_anchors l
       → list ≡ comments_from text bounds.system.flow.names bounds.system.template (vector_at bounds.system bounds.solved.bounds) 0 bounds.system.flow.points l
 
@@ -83,12 +87,18 @@ module _ (text : List ℕ) (rows : Domain (List ℕ)) (policy : Policy) (limit :
     (one : OneReading) (stand : CommentsMayStand) where
   -- what they are by the definitions
   pub record Stands : Type 0 where
+    -- the tree of the program
     pub tree : Program
+    -- the tree is that of the program found
     pub is_tree : IsTreeOf text found.solved.names found.solved.body tree
+    -- the tokens mean the program found
     pub means : Means text (tokens_of text tokens) (Ok (found.solved.names, found.solved.body))
+    -- the comments are those of the definition
     pub list_is : list ≡ notes text found.solved.names found.solved.body found.solved.template (vector_at bounds.system bounds.solved.bounds) tree
+    -- the comments may stand where they do
     pub may_stand : MayStand text tokens (notes text found.solved.names found.solved.body found.solved.template (vector_at bounds.system bounds.solved.bounds) tree)
 
+  -- what was found of the program is what the definitions say
   pub stands : Stands
   stands =
       let s = found.solved in
