@@ -69,7 +69,7 @@ put_line text s (is_done e) = subst (λ x. 0 ≡ line_in text x) (sym e) refl
 put_line text s (is_unwritten e) = subst (λ x. 0 ≡ line_in text x) (sym e) refl
 put_line text s (wants_memory e) = subst (λ x. 0 ≡ line_in text x) (sym e) refl
 
--- a put names no row
+-- a put numbers no unknown by rows
 pub put_rows : (count : ℕ) (s : Status) → IsPutEnd s → 0 ≡ rows_of count s
 put_rows count s (is_done e) = subst (λ x. 0 ≡ rows_of count x) (sym e) refl
 put_rows count s (is_unwritten e) = subst (λ x. 0 ≡ rows_of count x) (sym e) refl

@@ -62,7 +62,7 @@ module _ (P : ℕ → Type 0) where
 
   -- a word, an expression in parentheses behind it, and what follows
   pub record Headed (from : ℕ) (k : Kind) (a c : ℕ) (ts : List Token) (to : ℕ) : Type 0 where
-    -- the word stands after the first place
+    -- the word stands at the first place or after it
     pub after : from ≤ a
     -- it holds of the word's place
     pub held : HoldsAt k a

@@ -228,7 +228,7 @@ unfolding earlier_items
 earlier_more items j p r e u = subst (λ n. Unnamed (earlier_items items n) p r) (sym (add-one j)) (e, u)
 
 -- ---- bounds that are set from the last item on
--- past the last item no bound has been set
+-- before any new bound is set, the bounds stand for the vector that the step finds
 pub settled_none : (system : Equations) (b : List Ext) (z : Vector) (value : Item → Ext) (items : List Item) (n : ℕ) → length items ≤ n → Stands system b z → Stands system b (put value (drop n items) z)
 unfolding put
 settled_none system b z value items n l h = subst (λ is. Stands system b (put value is z)) (sym (drop_all n items l)) h

@@ -34,7 +34,7 @@ pub record MayStandIn (ended : Bool) (at to : ℕ) (pieces : List Piece) (commen
   pub order : Ascend at to (places comments)
   -- each stands where a token begins or ends
   pub held : AllByRecursion (λ c. MayHold ended at pieces c.place) comments
-  -- each is a blank or a comment of the language
+  -- each is made of blanks and comments alone
   pub gaps : AllByRecursion (λ c. IsGap c.bytes) comments
 
 -- no pieces and no comments

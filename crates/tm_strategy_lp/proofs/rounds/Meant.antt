@@ -23,7 +23,7 @@ use Rattle.tm_chain.specs.Transformers.{IsUpper, IsTransformer}
 use Rattle.tm_chain.specs.Offers.{Offer, numbers_into, IsOffer, Exceeds, SomeExceeds}
 
 -- ---- transformers
--- an upper bound of the words' end values is one of the transitions' values
+-- what bounds the words' end values bounds the values after transitions
 pub upper_of_words : (system : Equations) (z : Vector) (edge : Edge) (row : List ℤ) (number : Ext) → Upper system z edge row number → IsUpper system z edge row number
 unfolding end_value
 upper_of_words system z edge row number upper x y t =
@@ -31,7 +31,7 @@ upper_of_words system z edge row number upper x y t =
     let runs : Runs system z edge (x ++ w.0) = record { passes = w.2; fits = subst (λ s. Fits system z edge.from s) (sym w.3) t.fits } in
     subst (λ s. fin (dotℚ row s) ≤ᴱ number) w.4 (upper (x ++ w.0) runs)
 
--- an upper bound of the transitions' values is one of the words' end values
+-- what bounds the values after transitions bounds the words' end values
 pub upper_of_transitions : (system : Equations) (z : Vector) (edge : Edge) (row : List ℤ) (number : Ext) → Contains system.edges edge → IsUpper system z edge row number → Upper system z edge row number
 unfolding end_value
 upper_of_transitions system z edge row number listed upper w runs =
