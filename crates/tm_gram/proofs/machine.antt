@@ -1,4 +1,5 @@
 pub mod Finish
+pub mod BackPieces
 pub mod Back
 pub mod Meaning
 pub mod Tokens

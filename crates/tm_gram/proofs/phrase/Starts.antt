@@ -10,7 +10,8 @@ use Rattle.tm_gram.proofs.depth.Deep.{expr_trace}
 use Rattle.tm_gram.proofs.faults.Exact.{append_same}
 use Rattle.tm_gram.proofs.faults.Scanned.{trace_front, trace_length}
 use Rattle.tm_gram.proofs.grammar.Complete.{expr_run}
-use Rattle.tm_gram.proofs.machine.Back.{expr_then, holds, ExprThen}
+use Rattle.tm_gram.proofs.machine.Back.{holds}
+use Rattle.tm_gram.proofs.machine.BackPieces.{expr_then, ExprThen}
 use Rattle.tm_gram.proofs.machine.Finish.{finish, finishes, run_front, none_front}
 
 -- what is left behind a whole expression
