@@ -1,5 +1,5 @@
 -- A text has at most one program.
-use Rattle.std.proofs.Common.{◌≡◌, ◌∙◌, ◌++◌, ℕ, suc, List, ◌∷◌, refl, sym, ap, ap₂, append_assoc, arith}
+use Rattle.std.proofs.Common.{◌≡◌, ◌∙◌, ◌++◌, ℕ, suc, List, [], ◌∷◌, refl, sym, ap, ap₂, append_assoc, arith}
 use Rattle.tm_gram.specs.Grammar.{Kind, infix_sign, minus_op, a_name, a_number, right_paren, left_paren, right_brace, left_brace}
 use Rattle.tm_gram.specs.Grammar.{semicolon, change_sign, int_word, main_word, if_word, else_word, while_word, return_word, assume_word, the_end}
 use Rattle.tm_gram.specs.Grammar.{do_word, for_word, negative, positive, negation, number, variable, free, grouped, prefixed, joined}

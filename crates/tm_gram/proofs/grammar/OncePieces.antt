@@ -1,5 +1,5 @@
 -- The pieces of statements and declarations have at most one reading.
-use Rattle.std.proofs.Common.{◌≡◌, ◌∙◌, ◌++◌, ℕ, suc, List, ◌∷◌, refl, sym, ap, append_assoc, arith, subst}
+use Rattle.std.proofs.Common.{◌≡◌, ◌∙◌, ◌++◌, ℕ, suc, List, [], ◌∷◌, refl, sym, ap, append_assoc, arith, subst}
 use Rattle.tm_gram.specs.Grammar.{Change, replaces, Kind, infix_sign, a_name, left_paren, right_brace, comma}
 use Rattle.tm_gram.specs.Grammar.{semicolon, colon, change_sign, int_word, else_word, return_word}
 use Rattle.tm_gram.specs.Grammar.{do_word, for_word}

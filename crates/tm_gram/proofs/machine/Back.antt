@@ -1,5 +1,5 @@
 -- Each entry of the machine, read backwards.
-use Rattle.std.proofs.Common.{◌≡◌, ◌∙◌, ◌++◌, inl, inr, ℕ, suc, List, ◌∷◌, Option, Some, None, refl, sym, ap, append_assoc}
+use Rattle.std.proofs.Common.{◌≡◌, ◌∙◌, ◌++◌, inl, inr, ℕ, suc, List, [], ◌∷◌, Option, Some, None, refl, sym, ap, append_assoc}
 use Rattle.tm_gram.specs.Grammar.{plus_op, minus_op, Change, replaces, Direction, Kind, a_name, a_number, infix_sign, bang}
 use Rattle.tm_gram.specs.Grammar.{left_paren, right_paren, left_brace, right_brace, comma, semicolon, colon, change_sign, step_sign, int_word, main_word}
 use Rattle.tm_gram.specs.Grammar.{do_word, for_word, jump_word, Update, spell_update, GoodUpdate, no_first, declared_first, updated_first}

@@ -1,5 +1,5 @@
 -- Each entry of the machine, read backwards: expressions, and statements that begin with a word.
-use Rattle.std.proofs.Common.{◌≡◌, ◌∙◌, ◌++◌, inl, inr, ℕ, suc, List, ◌∷◌, refl, sym, ap, append_assoc, subst}
+use Rattle.std.proofs.Common.{◌≡◌, ◌∙◌, ◌++◌, inl, inr, ℕ, suc, List, [], ◌∷◌, refl, sym, ap, append_assoc, subst}
 use Rattle.tm_gram.specs.Grammar.{Op, plus_op, minus_op, negative, positive, negation, Kind, a_name, a_number, infix_sign, bang}
 use Rattle.tm_gram.specs.Grammar.{left_paren, right_paren, left_brace, right_brace, comma, semicolon}
 use Rattle.tm_gram.specs.Grammar.{do_word, for_word, jump_word, Jump, ForFirst}
