@@ -12,7 +12,8 @@ use Rattle.tm_gram.proofs.grammar.Complete.{NotElse, GoesOn}
 use Rattle.tm_gram.proofs.grammar.Sound.{Clear}
 use Rattle.tm_gram.proofs.grammar.Unique.{weight, IsEnd, unique, unique_expr, tail_of, head_of}
 
-record Cond (a b : ℕ) (e : Expr) (c a2 b2 : ℕ) (f : Expr) (c2 : ℕ) (y z : List Token) : Type 0 where
+-- two conditions in parentheses are the same, and so is what follows them
+pub record Cond (a b : ℕ) (e : Expr) (c a2 b2 : ℕ) (f : Expr) (c2 : ℕ) (y z : List Token) : Type 0 where
   pub one : a ≡ a2
   pub two : b ≡ b2
   pub same : e ≡ f
