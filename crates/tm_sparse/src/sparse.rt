@@ -30,7 +30,8 @@ pub struct Sparse<F> {
     ghost sized: { length rows.items ≡ length basics.items + goals },
     ghost two: { goals ≤ 2 },
     ghost few: { length others.items < 4294967296 },
-    ghost rising: { spent ≡ false → EachRises (suc (length others.items)) rows.items } by { Prim.hlevel (EachRises-prop (suc (length others.items)) rows.items) },
+    ghost rising: { spent ≡ false
+        → EachRises (suc (length others.items)) rows.items } by { Prim.hlevel (EachRises-prop (suc (length others.items)) rows.items) },
 }
 
 impl<F: OrderedField> Tableau<F> for Sparse<F> {
