@@ -11,6 +11,8 @@ mod certificates;
 #[cfg(test)]
 mod claims;
 #[cfg(test)]
+mod counts;
+#[cfg(test)]
 mod equations;
 #[cfg(test)]
 mod faults;
