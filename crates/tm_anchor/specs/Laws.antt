@@ -10,7 +10,7 @@ use Rattle.tm_flow.specs.declared.point.Place.{Place}
 use Rattle.tm_flow.specs.declared.point.Place.TheVariants.{Entry, Loop, Label, Join, Assume, Exit}
 use Rattle.tm_flow.specs.declared.point.Point.{Point}
 use Rattle.tm_tree.specs.Tree.{Statements}
-use Rattle.tm_parse.specs.Walk.{State, walk, walk_items}
+use Rattle.lang_meaning.specs.Walk.{State, walk, walk_items}
 use Rattle.tm_comment.specs.Places.{Ascend, IsEdge}
 use Rattle.tm_anchor.specs.Anchors.{Anchor, Scope, What, a_loop, a_label, anchors_of, scope_items, the_end}
 

@@ -3,7 +3,7 @@ use Rattle.std.specs.Prelude.{◌≡◌, ℕ, List, Ok, length, map}
 use Rattle.tm_gram.specs.View.{tokens_of}
 use Rattle.tm_lex.specs.Reading.{Reads}
 use Rattle.tm_lex.specs.declared.token.Token.{Token}
-use Rattle.tm_parse.specs.Meaning.{Means}
+use Rattle.lang_meaning.specs.Meaning.{Means}
 use Rattle.tm_shift.specs.Moves.{moved, without_lines}
 use Rattle.tm_tree.specs.Tree.{Statements}
 use Rattle.tm_comment.specs.Places.{Ascend, MayStand}

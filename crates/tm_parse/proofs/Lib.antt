@@ -1,5 +1,2 @@
-pub mod modes
 pub mod meaning
-pub mod feed
 pub mod walk
-pub mod results

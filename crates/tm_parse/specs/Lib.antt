@@ -1,13 +1,1 @@
-pub mod Forms
-pub mod Results
-pub mod Names
-pub mod Walk
-pub mod Feed
-pub mod Gives
-pub mod Values
-pub mod Views
-pub mod Frames
-pub mod Modes
-pub mod Width
-pub mod Meaning
 pub mod Expressions

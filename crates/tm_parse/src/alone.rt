@@ -1,5 +1,5 @@
 //! An expression by itself.
-#![tactic(auto, using(crate::proofs::results::Binds::then_ok, crate::proofs::results::Binds::then_err))]
+#![tactic(auto, using(lang_meaning::proofs::results::Binds::then_ok, lang_meaning::proofs::results::Binds::then_err))]
 
 ghost use Rattle.std.specs.Prelude.{◌≡◌, ◌≤◌, ◌<◌, ℕ, drop, length, IfOk, IfErr, IsTrue};
 ghost use Rattle.tm_tree.specs.Limits.{is_tested};
@@ -8,21 +8,19 @@ ghost use Rattle.tm_gram.specs.View.{tokens_of};
 ghost use Rattle.tm_lex.specs.Lines.{line_at};
 ghost use Rattle.tm_lex.specs.TokenLists.{AreTokensOf};
 ghost use Rattle.tm_tree.specs.declared.limits.TheConstants.{MOST_VARIABLES};
-ghost use Rattle.tm_parse.specs.declared.fault.ParseFault.TheVariants.{NoMemory};
-ghost use Rattle.tm_parse.specs.Expressions.{ExpressionAnswer, ExpressionMeans, HasLongest, IsRefused, expr_of, read_of};
-ghost use Rattle.tm_parse.specs.Expressions.{knowing, meaning_of, valued, reading_of, MeaningFits, as_truth};
-ghost use Rattle.tm_parse.specs.Gives.{Gives};
-ghost use Rattle.tm_parse.specs.Modes.{AllProper};
-ghost use Rattle.tm_parse.specs.Values.{value_of};
+ghost use Rattle.lang_meaning.specs.declared.fault.ParseFault.TheVariants.{NoMemory};
+ghost use Rattle.lang_meaning.specs.Expressions.{ExpressionAnswer, ExpressionMeans, HasLongest, IsRefused};
+ghost use Rattle.tm_parse.specs.Expressions.{expr_of, read_of};
+ghost use Rattle.lang_meaning.specs.Expressions.{knowing, meaning_of, MeaningFits, as_truth};
+ghost use Rattle.lang_feed.specs.Readings.{valued, reading_of};
+ghost use Rattle.lang_meaning.specs.Gives.{Gives};
+ghost use Rattle.lang_meaning.specs.Proper.{AllProper};
+ghost use Rattle.lang_reader.specs.Values.{value_of};
 
-use crate::context::Context;
-use crate::fault::{Limit, ParseFault};
-use crate::lexeme::Lexeme;
-use crate::mode::Mode;
-use crate::operand::tested;
 use crate::pass::fed;
-use crate::statement::in_mode;
-use crate::value::{Value, as_condition};
+use crate::turn::in_mode;
+use lang_meaning::{Limit, ParseFault};
+use lang_reader::{Lexeme, Mode, Reader, Source, Value, as_condition, tested};
 use std::alloc::Global;
 use tm_gram::{Extent, Symbol, examine_expression};
 use tm_lex::Token;
@@ -68,40 +66,20 @@ fn reach(alloc: Global, tokens: &[Token], text: &[u8], from: usize) -> Result<us
 
 // The second pass: the value of an expression that begins at `first`.
 fn valued(
-    alloc: Global,
+    source: &Source,
     tokens: &[Token],
-    text: &[u8],
     names: &[Name],
     first: u32,
 ) -> Result<Value, ParseFault>
-    requires size { length text.now ≤ 65536 }
     requires names { length names.now ≤ MOST_VARIABLES }
-    requires proper { AllProper text.now tokens.now }
-    ensures { Gives value_of result (valued (line_at text.now) (length names.now) (knowing names.now) first (tokens_of text.now tokens.now)) }
+    requires proper { AllProper source.now.text.now tokens.now }
+    ensures { Gives value_of result (valued (line_at source.now.text.now) source.now.width (knowing names.now) first
+        (tokens_of source.now.text.now tokens.now)) }
 {
-    let width = names.len();
-    let mut context = Context::knowing(alloc, names)?;
-    let mut frames = Vec::new(alloc);
-    let mode = fed(
-        alloc,
-        tokens,
-        text,
-        width,
-        &mut context,
-        &mut frames,
-        Mode::Wants,
-    )?;
+    let mut reader = Reader::knowing(source.alloc, names)?;
+    let mode = fed(source, tokens, &mut reader, Mode::Wants)?;
     let end = Lexeme::Plain(Symbol::Semicolon);
-    match in_mode(
-        alloc,
-        text,
-        width,
-        &mut context,
-        &mut frames,
-        mode,
-        end,
-        first,
-    )? {
+    match in_mode(source, &mut reader, mode, end, first)? {
         Mode::Has(value) => Ok(value),
         _ => Err(ParseFault::Unexpected { at: first }),
     }
@@ -133,7 +111,12 @@ fn read_tokens(
     ensures gives { Gives read_of result (reading_of text.now names.now first (tokens_of text.now tokens.now) next) }
     ensures next { IfOk result (λ read. read.next ≡ next) }
 {
-    let value = valued(alloc, tokens, text, names, first)?;
+    let source = Source {
+        alloc,
+        text,
+        width: names.len(),
+    };
+    let value = valued(&source, tokens, names, first)?;
     let expr = meaning(first, value)?;
     Ok(Read { expr, next })
 }
@@ -158,9 +141,11 @@ pub fn expression(
     requires from { from < length tokens.now }
     requires names { length names.now ≤ MOST_VARIABLES }
     // What is answered is meant.
-    ensures found { (wanted : ExpressionAnswer) × ExpressionMeans text.now (tokens_of text.now tokens.now) from names.now wanted × Gives read_of result wanted }
+    ensures found { (wanted : ExpressionAnswer) × ExpressionMeans text.now
+        (tokens_of text.now tokens.now) from names.now wanted × Gives read_of result wanted }
     // What is meant is answered.
-    ensures exact { (wanted : ExpressionAnswer) → ExpressionMeans text.now (tokens_of text.now tokens.now) from names.now wanted → Gives read_of result wanted }
+    ensures exact { (wanted : ExpressionAnswer) → ExpressionMeans text.now
+        (tokens_of text.now tokens.now) from names.now wanted → Gives read_of result wanted }
     // Its numbers are in range, and a condition has at most 64 leaves.
     ensures fits { IfOk result (λ read. MeaningFits (length names.now) (expr_of read.expr)) }
     // The token behind it is there.

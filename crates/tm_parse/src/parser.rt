@@ -3,13 +3,14 @@
 ghost use Rattle.std.specs.Prelude.{◌≡◌, ◌≤◌, length, Err, IfOk, IfErr};
 ghost use Rattle.tm_gram.specs.View.{tokens_of};
 ghost use Rattle.tm_lex.specs.TokenLists.{AreTokensOf};
-ghost use Rattle.tm_parse.specs.declared.fault.ParseFault.TheVariants.{NoMemory};
-ghost use Rattle.tm_parse.specs.Gives.{Gives};
-ghost use Rattle.tm_parse.specs.Meaning.{Answer, IsRead, Means};
+ghost use Rattle.lang_meaning.specs.declared.fault.ParseFault.TheVariants.{NoMemory};
+ghost use Rattle.lang_meaning.specs.Gives.{Gives};
+ghost use Rattle.lang_meaning.specs.Meaning.{Answer, IsRead, Means};
 
-use crate::fault::{Limit, ParseFault};
 use crate::pass::walked;
 use crate::width::width;
+use lang_meaning::{Limit, ParseFault};
+use lang_reader::Source;
 use std::alloc::Global;
 use tm_gram::{Syntax, examine};
 use tm_lex::Token;
@@ -44,6 +45,11 @@ pub fn parse(alloc: Global, tokens: &[Token], text: &[u8]) -> Result<Program, Pa
     ensures exact { (wanted : Answer) → Means text.now (tokens_of text.now tokens.now) wanted → Gives (λ p. (p.names, p.body)) result wanted }
 {
     first_pass(alloc, tokens, text)?;
-    let (names, body) = walked(alloc, tokens, text, width(tokens))?;
+    let source = Source {
+        alloc,
+        text,
+        width: width(tokens),
+    };
+    let (names, body) = walked(&source, tokens)?;
     Ok(Program { names, body })
 }

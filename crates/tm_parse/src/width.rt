@@ -2,7 +2,7 @@
 
 ghost use Rattle.std.specs.Prelude.{◌≡◌, ◌≤◌, ◌-◌, min, map};
 ghost use Rattle.tm_gram.specs.View.{plain_kind, plain_token};
-ghost use Rattle.tm_parse.specs.Width.{mark, total};
+ghost use Rattle.lang_feed.specs.Width.{mark, total};
 
 use tm_lex::{Kind, Sign, Token, Word};
 use tm_tree::MOST_VARIABLES;

@@ -1,7 +1,7 @@
 -- Tokens at other places mean the same program.
 use Rattle.std.specs.Prelude.{◌≡◌, ℕ, List, Ok}
 use Rattle.tm_gram.specs.Grammar.{Token}
-use Rattle.tm_parse.specs.Meaning.{Means}
+use Rattle.lang_meaning.specs.Meaning.{Means}
 use Rattle.tm_tree.specs.Tree.{Statements}
 use Rattle.tm_shift.specs.Moves.{moved, without_lines}
 

@@ -2,7 +2,7 @@
 use Rattle.std.specs.Prelude.{ℕ, ◌+◌, pos, neg_ℤ, List, [], ◌∷◌, codes}
 use Rattle.tm_tree.specs.declared.cond.Rel.TheVariants.{Lt}
 use Rattle.tm_tree.specs.Tree.{Statements, compare, while_loop, set, loop, nil, cons}
-use Rattle.tm_parse.specs.Forms.{constant_form, variable_form}
+use Rattle.lang_meaning.specs.Forms.{constant_form, variable_form}
 use Rattle.tm_workload.specs.declared.draws.Loop.{Loop}
 use Rattle.tm_workload.specs.Draws.{following, loops_from}
 

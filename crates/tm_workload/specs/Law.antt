@@ -3,7 +3,7 @@ use Rattle.std.specs.Prelude.{◌≡◌, ◌≤◌, ◌+◌, ◌*◌, ℕ, List,
 use Rattle.tm_lex.specs.declared.token.Token.{Token}
 use Rattle.tm_lex.specs.Reading.{Reads}
 use Rattle.tm_gram.specs.View.{tokens_of}
-use Rattle.tm_parse.specs.Meaning.{Means}
+use Rattle.lang_meaning.specs.Meaning.{Means}
 use Rattle.tm_flow.specs.Edges.{edges_of_program}
 use Rattle.tm_flow.specs.Faults.{fault_of_program}
 use Rattle.tm_flow.specs.Points.{points_of_program}

@@ -1,7 +1,7 @@
 -- What was met on the way to a result.
 use Rattle.std.proofs.Common.{◌≡◌, Result, Ok, Err, refl}
-use Rattle.tm_parse.specs.declared.fault.ParseFault.{ParseFault}
-use Rattle.tm_parse.specs.Results.{◌>>=◌}
+use Rattle.lang_meaning.specs.declared.fault.ParseFault.{ParseFault}
+use Rattle.lang_meaning.specs.Results.{◌>>=◌}
 
 -- a value that was met, and what came of it
 pub record Met {A B : Type 0} (r : Result A ParseFault) (f : A → Result B ParseFault) (y : B) : Type 0 where

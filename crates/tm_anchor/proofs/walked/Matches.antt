@@ -9,8 +9,8 @@ use Rattle.tm_tree.specs.Tree.{Condition, LoopKind, Statements, nil, cons}
 use Rattle.tm_tree.specs.PointNumbers.{points_in}
 use Rattle.tm_flow.specs.declared.point.Point.{Point}
 use Rattle.tm_flow.specs.Points.{made_in}
-use Rattle.tm_parse.specs.Walk.{State, closed, followed_by, counted, labelled_by, jumped, tested, one, walk_expr, walk_declarators, walk_first}
-use Rattle.tm_parse.specs.Walk.{walk_test, walk_last, walk_core, walk_sub, walk_items}
+use Rattle.lang_meaning.specs.Walk.{State, closed, followed_by, counted, labelled_by, jumped, tested, one, walk_expr, walk_declarators, walk_first}
+use Rattle.lang_meaning.specs.Walk.{walk_test, walk_last, walk_core, walk_sub, walk_items}
 use Rattle.tm_anchor.specs.Anchors.{Anchor, Scope, loop_at, label_at, scope_declarators, scope_first, scope_core, scope_sub, scope_items, anchors_core, anchors_sub, anchors_items}
 use Rattle.tm_anchor.specs.Laws.{point_of, scope_of}
 use Rattle.tm_anchor.specs.Machine.{kept}

@@ -9,14 +9,14 @@ use Rattle.tm_tree.specs.declared.change.Change.TheVariants as change
 use Rattle.tm_tree.specs.Tree.{Statement, Statements, nil, cons}
 use Rattle.tm_tree.specs.PointNumbers.{points_of}
 use Rattle.tm_flow.specs.Points.{Made, made_by, made_in}
-use Rattle.tm_parse.specs.declared.fault.ParseFault.{ParseFault}
-use Rattle.tm_parse.specs.declared.fault.ParseFault.TheVariants as fault
-use Rattle.tm_parse.specs.declared.fault.Limit.TheVariants as limit
+use Rattle.lang_meaning.specs.declared.fault.ParseFault.{ParseFault}
+use Rattle.lang_meaning.specs.declared.fault.ParseFault.TheVariants as fault
+use Rattle.lang_meaning.specs.declared.fault.Limit.TheVariants as limit
 use Rattle.tm_tree.specs.declared.limits.TheConstants.{MOST_VARIABLES}
-use Rattle.tm_parse.specs.Results.{◌>>=◌}
-use Rattle.tm_parse.specs.Names.{place_of}
-use Rattle.tm_parse.specs.Walk.{State, known_number, counted, labelled_by, jumped, assignment, assigned, change_nodes, declared_by, right_side}
-use Rattle.tm_parse.specs.Walk.{walk_expr, walk_declarator, walk_declarators, walk_update, walk_first, walk_last}
+use Rattle.lang_meaning.specs.Results.{◌>>=◌}
+use Rattle.lang_meaning.specs.Names.{place_of}
+use Rattle.lang_meaning.specs.Walk.{State, known_number, counted, labelled_by, jumped, assignment, assigned, change_nodes, declared_by, right_side}
+use Rattle.lang_meaning.specs.Walk.{walk_expr, walk_declarator, walk_declarators, walk_update, walk_first, walk_last}
 use Rattle.tm_anchor.specs.Anchors.{Scope, declared_one, scope_declarators, scope_first}
 use Rattle.tm_anchor.specs.Laws.{scope_of}
 use Rattle.tm_anchor.proofs.walked.Binds.{met, IsOk, ok_is}

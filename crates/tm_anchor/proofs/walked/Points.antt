@@ -6,7 +6,7 @@ use Rattle.tm_tree.specs.PointNumbers.{splits, points_of, points_in, join_of}
 use Rattle.tm_flow.specs.declared.point.Place.TheVariants.{Loop, Join, Assume}
 use Rattle.tm_flow.specs.declared.point.Point.{Point}
 use Rattle.tm_flow.specs.Points.{Made, made, made_by, made_in}
-use Rattle.tm_parse.specs.Walk.{followed_by, one}
+use Rattle.lang_meaning.specs.Walk.{followed_by, one}
 use Rattle.tm_anchor.specs.Laws.{is_anchored, anchored}
 
 -- of the points that were made, those that have anchors

@@ -7,9 +7,9 @@ use Rattle.tm_tree.specs.declared.limits.TheConstants.{MOST_VARIABLES}
 use Rattle.tm_flow.specs.declared.point.Place.TheVariants.{Exit}
 use Rattle.tm_flow.specs.declared.point.Point.{Point}
 use Rattle.tm_flow.specs.Points.{Made, made_in, points_of_program}
-use Rattle.tm_parse.specs.declared.fault.ParseFault.{ParseFault}
-use Rattle.tm_parse.specs.declared.fault.ParseFault.TheVariants.{NoVariables}
-use Rattle.tm_parse.specs.Walk.{State, start_state, declared_items, program_of, walk, walk_items}
+use Rattle.lang_meaning.specs.declared.fault.ParseFault.{ParseFault}
+use Rattle.lang_meaning.specs.declared.fault.ParseFault.TheVariants.{NoVariables}
+use Rattle.lang_meaning.specs.Walk.{State, start_state, declared_items, program_of, walk, walk_items}
 use Rattle.tm_anchor.specs.Anchors.{no_scope, end_place, end_at, scope_items, anchors_items, anchors_of}
 use Rattle.tm_anchor.specs.Laws.{point_of, anchored}
 use Rattle.tm_anchor.proofs.walked.Binds.{met, IsOk, ok_is}

@@ -2,7 +2,7 @@
 use Rattle.std.proofs.Common.{List, Ok, map, sym, subst}
 use Rattle.tm_gram.specs.Grammar as g
 use Rattle.tm_gram.specs.View.{tokens_of}
-use Rattle.tm_parse.specs.Meaning.{Means}
+use Rattle.lang_meaning.specs.Meaning.{Means}
 use Rattle.tm_shift.specs.Law.{TokensMayMove}
 use Rattle.tm_comment.specs.Law.{ProgramsStay, token_moved_by}
 use Rattle.tm_comment.specs.Texts.{moved_by, with_comments}

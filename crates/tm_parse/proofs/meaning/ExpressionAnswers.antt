@@ -1,19 +1,22 @@
--- What is answered of an expression, found and exact.
-use Rattle.std.proofs.Common.{◌≡◌, ◌+◌, ◌<◌, ℕ, List, length, drop, get_or, Result, Err, subst}
+-- What is answered of an expression: found, exact and within the limits.
+use Rattle.std.proofs.Common.{◌≡◌, ◌+◌, ◌<◌, ℕ, List, length, drop, get_or, Result, Ok, Err, subst}
 use Rattle.std.specs.Prelude.{slice_range}
-use Rattle.std.specs.Result.{IsErrAnd}
+use Rattle.std.specs.Result.{IsErrAnd, IfOk}
 use Rattle.tm_gram.specs.Grammar.{Token}
 use Rattle.tm_gram.specs.View.{tokens_of}
 use Rattle.tm_lex.specs.declared.token.Token as lex_token
 use Rattle.tm_parse.specs.declared.alone.Read.{Read}
-use Rattle.tm_parse.specs.declared.fault.ParseFault.{ParseFault}
-use Rattle.tm_parse.specs.declared.fault.ParseFault.TheVariants.{NoMemory}
-use Rattle.tm_parse.specs.Expressions.{ExpressionAnswer, ExpressionMeans, HasLongest, IsRefused, reading_of, read_of}
-use Rattle.tm_parse.specs.Gives.{Gives}
-use Rattle.tm_parse.proofs.meaning.Expressions.{some_meaning, reading_means}
-use Rattle.tm_parse.proofs.meaning.OneExpression.{expression_once}
-use Rattle.tm_parse.proofs.meaning.WholeTexts.{EndsWell}
-use Rattle.tm_parse.proofs.results.Binds.{handed_on}
+use Rattle.lang_meaning.specs.declared.fault.ParseFault.{ParseFault}
+use Rattle.lang_meaning.specs.declared.fault.ParseFault.TheVariants.{NoMemory}
+use Rattle.lang_meaning.specs.Expressions.{ExpressionAnswer, ExpressionMeans, HasLongest, IsRefused, MeaningFits}
+use Rattle.lang_feed.specs.Readings.{reading_of}
+use Rattle.tm_parse.specs.Expressions.{read_of, expr_of}
+use Rattle.lang_meaning.specs.Gives.{Gives}
+use Rattle.lang_feed.proofs.texts.Expressions.{some_meaning, reading_means}
+use Rattle.lang_meaning.proofs.meaning.OneExpression.{expression_once}
+use Rattle.lang_feed.proofs.counts.WholeTexts.{EndsWell}
+use Rattle.lang_meaning.proofs.results.Binds.{handed_on}
+use Rattle.lang_meaning.proofs.limits.Expressions.{AnswerFits, means_fits}
 
 abbrev pub Found : List ℕ → List Token → ℕ → List (List ℕ) → Result Read ParseFault → Type 0
 Found text ts from names result = (wanted : ExpressionAnswer) × ExpressionMeans text ts from names wanted × Gives read_of result wanted
@@ -40,3 +43,11 @@ module _ (text : List ℕ) (ts : List Token) (from : ℕ) (names : List (List �
 
   pub refused_found : EndsWell (drop from ts) → Found text ts from names result
   refused_found e = let s = some_meaning text ts from names e in (s.0, s.1, refused_exact s.0 s.1)
+
+-- what is answered of what is meant
+pub read_fits : (text : List ℕ) (ts : List Token) (from : ℕ) (names : List (List ℕ)) (r : ExpressionAnswer) → ExpressionMeans text ts from names r
+    → (result : Result Read ParseFault) → Gives read_of result r → IfOk result (λ read. MeaningFits (length names) (expr_of read.expr))
+read_fits text ts from names r m result g = on result g where
+  on : (result : Result Read ParseFault) → Gives read_of result r → IfOk result (λ read. MeaningFits (length names) (expr_of read.expr))
+  on (Ok x) h = subst (AnswerFits (length names)) h (means_fits text ts from names r m)
+  on (Err e) h = tt

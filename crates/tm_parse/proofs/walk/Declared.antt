@@ -1,9 +1,9 @@
 -- Whether a variable is declared.
 use Rattle.std.proofs.Common.{◌≡◌, ℕ, List, [], ◌∷◌, length, Result, Ok, Err, refl, arith}
 use Rattle.tm_tree.specs.Tree.{Statements}
-use Rattle.tm_parse.specs.declared.fault.ParseFault.{ParseFault}
-use Rattle.tm_parse.specs.declared.fault.ParseFault.TheVariants.{NoVariables}
-use Rattle.tm_parse.specs.Walk.{State, program_of}
+use Rattle.lang_meaning.specs.declared.fault.ParseFault.{ParseFault}
+use Rattle.lang_meaning.specs.declared.fault.ParseFault.TheVariants.{NoVariables}
+use Rattle.lang_meaning.specs.Walk.{State, program_of}
 
 pub program_of_none : (st : State) (ns : Statements) → length st.names ≡ 0 → program_of (st, ns) ≡ Err NoVariables
 program_of_none st ns h = by_names st.names h where

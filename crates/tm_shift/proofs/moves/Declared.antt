@@ -3,7 +3,7 @@ use Rattle.std.proofs.Common.{◌≡◌, ℕ, suc, refl, ap, arith}
 use Rattle.tm_gram.specs.Grammar.{Declarators, declares, declares_more, ForFirst, no_first, declared_first, updated_first, Core, empty, block, if_alone}
 use Rattle.tm_gram.specs.Grammar.{if_else, repeat, repeat_after, repeat_for, jumps, assumed, updates, Sub, labelled, plain, Items, no_items, label}
 use Rattle.tm_gram.specs.Grammar.{declaration, item}
-use Rattle.tm_parse.specs.Walk.{declared_in, declared_before, declared_core, declared_sub, declared_items}
+use Rattle.lang_meaning.specs.Walk.{declared_in, declared_before, declared_core, declared_sub, declared_items}
 use Rattle.tm_shift.proofs.moves.Trees.{move_declarators, move_first, move_core, move_sub, move_items}
 
 module _ (to : ℕ → ℕ) where

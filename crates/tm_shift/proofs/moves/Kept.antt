@@ -1,8 +1,8 @@
 -- A walk of the moved tree that answers what the walk of the tree answered, where that was no fault.
 use Rattle.std.proofs.Common.{◌≡◌, Bool, true, false, cond, Result, Ok, Err, refl, sym, subst}
-use Rattle.tm_parse.specs.declared.fault.ParseFault.{ParseFault}
-use Rattle.tm_parse.specs.Results.{◌>>=◌}
-use Rattle.tm_parse.specs.Walk.{State}
+use Rattle.lang_meaning.specs.declared.fault.ParseFault.{ParseFault}
+use Rattle.lang_meaning.specs.Results.{◌>>=◌}
+use Rattle.lang_meaning.specs.Walk.{State}
 
 -- the second answer is related to the first, where that is no fault
 abbrev pub KeptAt : {A B : Type 0} → (A → B → Type 0) → Result A ParseFault → Result B ParseFault → Type 0

@@ -4,10 +4,10 @@ use Rattle.tm_lex.specs.Lines.{line_at}
 use Rattle.tm_gram.specs.Grammar.{Program, program}
 use Rattle.tm_tree.specs.Tree.{Statements}
 use Rattle.tm_tree.specs.declared.limits.TheConstants.{MOST_VARIABLES}
-use Rattle.tm_parse.specs.declared.fault.ParseFault.{ParseFault}
-use Rattle.tm_parse.specs.declared.fault.ParseFault.TheVariants as fault
-use Rattle.tm_parse.specs.Results.{◌>>=◌}
-use Rattle.tm_parse.specs.Walk.{State, start_state, walk_items, declared_items, program_of, walk}
+use Rattle.lang_meaning.specs.declared.fault.ParseFault.{ParseFault}
+use Rattle.lang_meaning.specs.declared.fault.ParseFault.TheVariants as fault
+use Rattle.lang_meaning.specs.Results.{◌>>=◌}
+use Rattle.lang_meaning.specs.Walk.{State, start_state, walk_items, declared_items, program_of, walk}
 use Rattle.tm_shift.specs.Moves.{without_lines}
 use Rattle.tm_shift.specs.Law.{TokensMayMove}
 use Rattle.tm_shift.proofs.moves.Trees.{move_items, move_program}

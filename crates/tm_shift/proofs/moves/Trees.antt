@@ -5,7 +5,7 @@ use Rattle.tm_gram.specs.Grammar.{declares_more, Update, set, step_after, step_b
 use Rattle.tm_gram.specs.Grammar.{no_test, given_test, ForLast, no_last, updated_last, Core, empty, block, if_alone, if_else, repeat, repeat_after}
 use Rattle.tm_gram.specs.Grammar.{repeat_for, jumps, assumed, updates, Sub, labelled, plain, Items, no_items, label, declaration, item, Parameters}
 use Rattle.tm_gram.specs.Grammar.{nothing, void_at, Return, no_return, returns, returns_minus, Program, program}
-use Rattle.tm_parse.specs.Walk.{Value, a_form, a_truth, a_nondet}
+use Rattle.lang_meaning.specs.Walk.{Value, a_form, a_truth, a_nondet}
 
 module _ (to : ℕ → ℕ) where
   -- an expression at other places

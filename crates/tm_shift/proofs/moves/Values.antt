@@ -8,15 +8,15 @@ use Rattle.tm_tree.specs.declared.cond.Rel.TheVariants as rel
 use Rattle.tm_tree.specs.Numbers.{is_number}
 use Rattle.tm_tree.specs.Tree as tree
 use Rattle.tm_tree.specs.Tree.{Condition, leaf_count}
-use Rattle.tm_parse.specs.declared.fault.ParseFault.TheVariants.{UnknownName, NotAffine, NondetHere, BigNumber}
-use Rattle.tm_parse.specs.declared.fault.ParseFault.TheVariants as fault
-use Rattle.tm_parse.specs.declared.fault.Limit.TheVariants.{Leaves}
-use Rattle.tm_parse.specs.declared.fault.Limit.TheVariants as limit
-use Rattle.tm_parse.specs.Names.{place_of}
-use Rattle.tm_parse.specs.Forms.{constant_form, variable_form, plus, minus, scaled, is_constant, is_comparable}
-use Rattle.tm_parse.specs.Walk.{Value, a_form, a_truth, a_nondet, State, counted, number_if_known, known_number, number_of, as_condition, ranged_number}
-use Rattle.tm_parse.specs.Walk.{ranged_numbers, ranged, first_of, two_numbers, two_conditions, rel_of, compared, product, combined, prefix_value}
-use Rattle.tm_parse.specs.Walk.{regarded, few_leaves, tested, right_side, assigned, walk_expr}
+use Rattle.lang_meaning.specs.declared.fault.ParseFault.TheVariants.{UnknownName, NotAffine, NondetHere, BigNumber}
+use Rattle.lang_meaning.specs.declared.fault.ParseFault.TheVariants as fault
+use Rattle.lang_meaning.specs.declared.fault.Limit.TheVariants.{Leaves}
+use Rattle.lang_meaning.specs.declared.fault.Limit.TheVariants as limit
+use Rattle.lang_meaning.specs.Names.{place_of}
+use Rattle.lang_meaning.specs.Forms.{constant_form, variable_form, plus, minus, scaled, is_constant, is_comparable}
+use Rattle.lang_meaning.specs.Walk.{Value, a_form, a_truth, a_nondet, State, counted, number_if_known, known_number, number_of, as_condition, ranged_number}
+use Rattle.lang_meaning.specs.Walk.{ranged_numbers, ranged, first_of, two_numbers, two_conditions, rel_of, compared, product, combined, prefix_value}
+use Rattle.lang_meaning.specs.Walk.{regarded, few_leaves, tested, right_side, assigned, walk_expr}
 use Rattle.tm_shift.proofs.moves.Trees.{move_expr, move_value}
 use Rattle.tm_shift.proofs.moves.Kept.{Kept, Viewed, Same, kept_ok, kept_err, viewed_then, same_then, kept_if}
 

@@ -10,15 +10,15 @@ use Rattle.tm_tree.specs.declared.form.Form.{Form}
 use Rattle.tm_tree.specs.declared.limits.TheConstants.{MOST_VARIABLES}
 use Rattle.tm_tree.specs.Tree as tree
 use Rattle.tm_tree.specs.Tree.{Condition, Statement, Statements, nil, cons}
-use Rattle.tm_parse.specs.declared.fault.ParseFault.{ParseFault}
-use Rattle.tm_parse.specs.declared.fault.ParseFault.TheVariants.{NameTwice, OutsideLoop}
-use Rattle.tm_parse.specs.declared.fault.ParseFault.TheVariants as fault
-use Rattle.tm_parse.specs.declared.fault.Limit.TheVariants as limit
-use Rattle.tm_parse.specs.Results.{◌>>=◌}
-use Rattle.tm_parse.specs.Names.{place_of}
-use Rattle.tm_parse.specs.Walk.{State, followed_by, one, counted, labelled_by, known_number, tested, right_side, assignment, assigned, changed}
-use Rattle.tm_parse.specs.Walk.{change_nodes, always, jumped, declared_by, closed, walk_expr, walk_declarator, walk_declarators, walk_update, walk_first}
-use Rattle.tm_parse.specs.Walk.{walk_test, walk_last, walk_core, walk_sub, walk_items}
+use Rattle.lang_meaning.specs.declared.fault.ParseFault.{ParseFault}
+use Rattle.lang_meaning.specs.declared.fault.ParseFault.TheVariants.{NameTwice, OutsideLoop}
+use Rattle.lang_meaning.specs.declared.fault.ParseFault.TheVariants as fault
+use Rattle.lang_meaning.specs.declared.fault.Limit.TheVariants as limit
+use Rattle.lang_meaning.specs.Results.{◌>>=◌}
+use Rattle.lang_meaning.specs.Names.{place_of}
+use Rattle.lang_meaning.specs.Walk.{State, followed_by, one, counted, labelled_by, known_number, tested, right_side, assignment, assigned, changed}
+use Rattle.lang_meaning.specs.Walk.{change_nodes, always, jumped, declared_by, closed, walk_expr, walk_declarator, walk_declarators, walk_update, walk_first}
+use Rattle.lang_meaning.specs.Walk.{walk_test, walk_last, walk_core, walk_sub, walk_items}
 use Rattle.tm_shift.specs.Moves.{change_without_line, without_line, without_lines}
 use Rattle.tm_shift.proofs.moves.Trees.{move_value, move_expr, move_declarator, move_declarators, move_update, move_first, move_test, move_last}
 use Rattle.tm_shift.proofs.moves.Trees.{move_core, move_sub, move_items}

@@ -10,7 +10,7 @@ use Rattle.tm_tree.specs.declared.form.Form.{Form}
 use Rattle.tm_tree.specs.Tree.{compare, while_loop, set, nil, cons}
 use Rattle.tm_tree.specs.PointNumbers.{points_in, point_count, exit_of}
 use Rattle.tm_tree.specs.Cases.{negated}
-use Rattle.tm_parse.specs.Forms.{constant_form, variable_form}
+use Rattle.lang_meaning.specs.Forms.{constant_form, variable_form}
 use Rattle.tm_flow.specs.declared.edge.Action.{Action}
 use Rattle.tm_flow.specs.declared.edge.Action.TheVariants.{Guard, Assign}
 use Rattle.tm_flow.specs.declared.edge.Edge.{Edge}

@@ -10,10 +10,10 @@ use Rattle.tm_gram.specs.Machine.{Goal, statement, in_main, only, text_end, star
 use Rattle.tm_gram.specs.Depth.{scan, whole}
 use Rattle.tm_tree.specs.declared.cond.Rel.TheVariants.{Lt}
 use Rattle.tm_tree.specs.Tree.{Statements, compare, while_loop, set, loop, nil, cons}
-use Rattle.tm_parse.specs.Forms.{constant_form, variable_form}
-use Rattle.tm_parse.specs.Walk.{State, followed_by, one}
-use Rattle.tm_parse.specs.Feed.{Machine, at, under, of_items, stands, feed, begin, result_of}
-use Rattle.tm_parse.specs.Results.{◌>>=◌}
+use Rattle.lang_meaning.specs.Forms.{constant_form, variable_form}
+use Rattle.lang_meaning.specs.Walk.{State, followed_by, one}
+use Rattle.lang_meaning.specs.Feed.{Machine, at, under, of_items, stands, feed, begin, result_of}
+use Rattle.lang_meaning.specs.Results.{◌>>=◌}
 use Rattle.tm_workload.specs.declared.draws.Loop.{Loop}
 use Rattle.tm_workload.specs.Draws.{following}
 use Rattle.tm_workload.specs.Bodies.{generated_names, loops_body}

@@ -10,13 +10,13 @@ use Rattle.tm_gram.specs.View.{tokens_of, token_of, plain_token, word_kind, sign
 use Rattle.tm_gram.specs.Machine.{start}
 use Rattle.tm_gram.specs.Depth.{scan, whole}
 use Rattle.tm_gram.proofs.faults.Scanned.{found_by}
-use Rattle.tm_parse.specs.Feed.{Outcome, feed, begin, result_of}
-use Rattle.tm_parse.specs.Walk.{followed_by}
-use Rattle.tm_parse.specs.Results.{◌>>=◌}
-use Rattle.tm_parse.specs.Meaning.{Means}
-use Rattle.tm_parse.specs.Width.{total, mark}
-use Rattle.tm_parse.proofs.walk.Counts.{total_append}
-use Rattle.tm_parse.proofs.meaning.Answers.{whole_is_read, read_means, read_width}
+use Rattle.lang_meaning.specs.Feed.{Outcome, feed, begin, result_of}
+use Rattle.lang_meaning.specs.Walk.{followed_by}
+use Rattle.lang_meaning.specs.Results.{◌>>=◌}
+use Rattle.lang_meaning.specs.Meaning.{Means}
+use Rattle.lang_feed.specs.Width.{total, mark}
+use Rattle.lang_feed.proofs.counts.Counts.{total_append}
+use Rattle.lang_feed.proofs.texts.Programs.{whole_is_read, read_means, read_width}
 use Rattle.tm_workload.specs.declared.draws.Loop.{Loop}
 use Rattle.tm_workload.specs.Draws.{following, loops_from}
 use Rattle.tm_workload.specs.Texts.{generated_text}

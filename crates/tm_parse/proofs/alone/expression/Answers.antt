@@ -2,10 +2,10 @@ use Rattle.std.proofs.Common.{arith}
 use Rattle.std.specs.Prelude.{◌+◌}
 use Rattle.std.proofs.lemmas.Result.{IfOk-weaker}
 use Rattle.tm_gram.specs.View.{tokens_of}
-use Rattle.tm_parse.proofs.meaning.Expressions.{ends_from, few_tokens, longest_within, proper_range}
-use Rattle.tm_parse.proofs.meaning.ExpressionAnswers.{reading_found, reading_exact, refused_found, refused_exact}
-use Rattle.tm_parse.proofs.meaning.ExpressionFits.{read_fits}
-use Rattle.tm_parse.proofs.modes.Proper.{all_proper}
+use Rattle.lang_feed.proofs.texts.Expressions.{ends_from, few_tokens, longest_within}
+use Rattle.lang_meaning.proofs.proper.Lexed.{proper_range}
+use Rattle.tm_parse.proofs.meaning.ExpressionAnswers.{reading_found, reading_exact, refused_found, refused_exact, read_fits}
+use Rattle.lang_meaning.proofs.proper.Lexed.{all_proper}
 use Rattle.tm_parse.proofs.alone.expression.Goals as goal
 
 pub returns-in_err-count-clause-exact : goal.returns-in_err-count-clause-exact

@@ -1,6 +1,6 @@
 use Rattle.std.proofs.Common.{drop}
 use Rattle.tm_gram.specs.View.{tokens_of}
-use Rattle.tm_parse.proofs.meaning.Expressions.{never_out, ends_from, found_from, refused_stops, refused_nests}
+use Rattle.lang_feed.proofs.texts.Expressions.{never_out, ends_from, found_from, refused_stops, refused_nests}
 use Rattle.tm_parse.proofs.alone.reach.Goals as goal
 
 pub unreachable-requires : goal.unreachable-requires

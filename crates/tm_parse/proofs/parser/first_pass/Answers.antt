@@ -1,8 +1,8 @@
 use Rattle.std.proofs.Common.{subst}
 use Rattle.tm_gram.specs.Faults.{Finds}
 use Rattle.tm_gram.specs.View.{scan_of, tokens_of}
-use Rattle.tm_parse.proofs.meaning.WholeTexts.{ends_well}
-use Rattle.tm_parse.proofs.meaning.Answers.{found_unexpected, found_nested, whole_is_read, short_is_read}
+use Rattle.lang_feed.proofs.counts.WholeTexts.{ends_well}
+use Rattle.lang_feed.proofs.texts.Programs.{found_unexpected, found_nested, whole_is_read, short_is_read}
 use Rattle.tm_parse.proofs.parser.first_pass.Goals as goal
 
 pub returns-in-Unexpected-clause-fault : goal.returns-in-Unexpected-clause-fault

@@ -1,11 +1,12 @@
 use Rattle.tm_gram.specs.View.{tokens_of}
 use Rattle.tm_lex.specs.Lines.{line_at}
-use Rattle.tm_parse.specs.Feed.{reading}
-use Rattle.tm_parse.proofs.results.Binds.{handed_on}
+use Rattle.lang_meaning.specs.Feed.{reading}
+use Rattle.lang_meaning.proofs.results.Binds.{handed_on}
 use Rattle.std.proofs.Common.{Err, refl}
-use Rattle.tm_parse.proofs.modes.Proper.{all_proper}
-use Rattle.tm_parse.proofs.meaning.WholeTexts.{ends_well}
-use Rattle.tm_parse.proofs.meaning.Answers.{given_fits, read_means, read_width, some_meaning, meant_value, meant_fault}
+use Rattle.lang_meaning.proofs.proper.Lexed.{all_proper}
+use Rattle.lang_feed.proofs.counts.WholeTexts.{ends_well}
+use Rattle.lang_feed.proofs.texts.Programs.{given_fits, read_means, read_width, some_meaning}
+use Rattle.lang_meaning.proofs.meaning.OneMeaning.{meant_value, meant_fault}
 use Rattle.tm_parse.proofs.parser.parse.Goals as goal
 
 pub returns-in_err-first_pass-clause-exact : goal.returns-in_err-first_pass-clause-exact
@@ -24,8 +25,8 @@ returns-in_err-first_pass-clause-found c =
           c.in_err-first_pass.field-0.0 s.1 (c.in_err-first_pass.ensures.fault n) refl),
     )
 
-pub walked-requires-clause-proper : goal.walked-requires-clause-proper
-walked-requires-clause-proper c = all_proper c.args.text.now c.args.tokens.now c.requires.tokens
+pub walked-requires : goal.walked-requires
+walked-requires c = all_proper c.args.text.now c.args.tokens.now c.requires.tokens
 
 pub returns-in_err-names-clause-exact : goal.returns-in_err-names-clause-exact
 returns-in_err-names-clause-exact c =

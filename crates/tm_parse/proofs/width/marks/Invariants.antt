@@ -1,6 +1,6 @@
 use Rattle.std.proofs.Common.{◌≡◌, ◌+◌, ◌≤◌, drop, map}
 use Rattle.tm_gram.specs.View.{plain_token}
-use Rattle.tm_parse.specs.Width.{mark, total}
+use Rattle.lang_feed.specs.Width.{mark, total}
 use Rattle.tm_parse.proofs.width.marks.Given as goal
 
 abbrev pub invariant-loop-token : goal.invariant-loop-token

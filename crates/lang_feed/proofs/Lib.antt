@@ -1,0 +1,3 @@
+pub mod feed
+pub mod counts
+pub mod texts

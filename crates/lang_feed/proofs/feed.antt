@@ -1,0 +1,4 @@
+pub mod SmallConditions
+pub mod Expressions
+pub mod StatementPieces
+pub mod Statements

@@ -1,0 +1,4 @@
+pub mod Values
+pub mod ProgramPieces
+pub mod Programs
+pub mod Expressions

@@ -1,0 +1,9 @@
+pub mod Forms
+pub mod Results
+pub mod Names
+pub mod Walk
+pub mod Meaning
+pub mod Expressions
+pub mod Feed
+pub mod Gives
+pub mod Proper

@@ -1,0 +1,15 @@
+use Rattle.std.proofs.Common.{◌≡◌, length}
+use Rattle.tm_lex.specs.Lines.{line_at}
+use Rattle.tm_tree.specs.View.{statements_of}
+use Rattle.lang_meaning.specs.Feed.{close}
+use Rattle.lang_reader.specs.Frames.{frames_of}
+use Rattle.lang_reader.specs.Views.{state_of}
+use Rattle.lang_statement.proofs.ending.close.Given as goal
+
+abbrev pub invariant-loop-more : goal.invariant-loop-more
+invariant-loop-more l = close (line_at l.source.text.now) (state_of l.fn.reader.context) (statements_of l.fn.nodes.items)
+    (frames_of l.fn.reader.frames)
+    ≡ close (line_at l.source.text.now) (state_of l.reader.context) (statements_of l.left.items) (frames_of l.reader.frames)
+
+abbrev pub decreases-loop-more : goal.decreases-loop-more
+decreases-loop-more l = length (frames_of l.reader.frames)

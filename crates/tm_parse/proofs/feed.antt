@@ -1,4 +1,0 @@
-pub mod SmallConditions
-pub mod Expressions
-pub mod Statements
-pub mod Operands

@@ -1,7 +1,0 @@
-use Rattle.std.proofs.Common.{ap, ◌∙◌}
-use Rattle.tm_tree.specs.View.{statements_of}
-use Rattle.tm_parse.proofs.walk.Appended.{statements_append}
-use Rattle.tm_parse.proofs.frame.followed.Goals as goal
-
-pub returns : goal.returns
-returns c = ap statements_of c.in_ok-append.ensures.items ∙ statements_append c.args.nodes.items c.args.more.items

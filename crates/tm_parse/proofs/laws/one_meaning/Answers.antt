@@ -1,5 +1,0 @@
-use Rattle.tm_parse.proofs.meaning.OneMeaning.{means_once}
-use Rattle.tm_parse.proofs.laws.one_meaning.Goals as goal
-
-pub returns : goal.returns
-returns c = λ text tokens r s m n. means_once text tokens r s m n
