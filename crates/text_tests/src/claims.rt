@@ -186,8 +186,15 @@ const LIMITS: &[(&[u8], &[u8], usize, &[u8], Option<ClaimFault>)] = &[
         b"",
         b"here: x;",
         64,
-        b"\n;",
+        b"\nnowhere",
         Some(ClaimFault::Count { at: 513 }),
+    ),
+    (
+        b"",
+        b"here: x;",
+        64,
+        b"\n;",
+        Some(ClaimFault::Parse(ParseFault::Unexpected { at: 513 })),
     ),
     (b"here: ", b"x&&", 63, b"x;", None),
     (

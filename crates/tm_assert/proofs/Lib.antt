@@ -1,4 +1,5 @@
 pub mod judging
 pub mod laws
 pub mod Rests
+pub mod grammar
 pub mod claims

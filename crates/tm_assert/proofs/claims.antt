@@ -1,5 +1,8 @@
 pub mod Binds
 pub mod Ends
-pub mod Means
+pub mod Kinds
 pub mod Parsed
+pub mod Turns
+pub mod Means
+pub mod Trees
 pub mod Leads

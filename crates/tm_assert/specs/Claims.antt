@@ -1,28 +1,30 @@
--- What claims are, and what a file of claims says: each claim in order, or the first fault.
-use Rattle.std.specs.Prelude.{◌≡◌, ◌⊎◌, ◌+◌, ◌<◌, if◌then◌else◌, nat_lt, ℕ, zero, suc, Bool, true, false, IsTrue, List, [], ◌∷◌, ◌++◌, length, get_or, position, slice_range}
+-- What a file of claims says: each claim in order, or the first fault.
+use Rattle.std.specs.Prelude.{◌≡◌, ◌⊎◌, ◌<◌, ◌≤◌, ◌++◌, if◌then◌else◌, ℕ, Bool, true, false, IsTrue, List, [], ◌∷◌, length}
+use Rattle.std.specs.Prelude.{position}
 use Rattle.std.specs.Prelude.{Option, Some, None, Result, Ok, Err}
 use Rattle.std.specs.List.{All}
 use Rattle.std.specs.Str.{bytes_eq}
 use Rattle.tm_lex.specs.Faults.{HasFault}
-use Rattle.tm_lex.specs.Reading.{Reads, end_at}
+use Rattle.tm_lex.specs.Reading.{Reads}
 use Rattle.tm_lex.specs.declared.fault.LexFault.{LexFault}
-use Rattle.tm_lex.specs.declared.sign.Sign.TheVariants as sign
-use Rattle.tm_lex.specs.declared.word.Word.TheVariants as word
-use Rattle.tm_lex.specs.declared.token.Kind as lex_kind
-use Rattle.tm_lex.specs.declared.token.Token.{Token}
+use Rattle.tm_lex.specs.declared.token.Token as lex_token
+use Rattle.tm_gram.specs.Expressions.{IsLongest, FindsExpr, FineExpr, ReadsExpr, nests_at}
+use Rattle.tm_gram.specs.Grammar.{Kind, a_name, colon, nondet_word, Token, token, Expr, spell_expr, Groups}
 use Rattle.tm_gram.specs.View.{tokens_of}
 use Rattle.tm_eqsys.specs.Equations.{Equations}
 use Rattle.tm_flow.specs.declared.graph.Flow.{Flow}
 use Rattle.tm_flow.specs.declared.point.Place.{Place}
 use Rattle.tm_flow.specs.declared.point.Place.TheVariants as place
 use Rattle.tm_flow.specs.declared.point.Point.{Point}
-use Rattle.tm_parse.specs.declared.fault.ParseFault.{ParseFault}
-use Rattle.tm_parse.specs.declared.fault.ParseFault.TheVariants as parse
-use Rattle.tm_parse.specs.Expressions.{ExpressionAnswer, ExpressionMeans, as_truth}
+use Rattle.lang_meaning.specs.declared.fault.Limit.TheVariants.{Nesting}
+use Rattle.lang_meaning.specs.declared.fault.ParseFault.{ParseFault}
+use Rattle.lang_meaning.specs.declared.fault.ParseFault.TheVariants as parse
+use Rattle.tm_parse.specs.Expressions.{as_truth, first_place, meant}
 use Rattle.tm_tree.specs.Cases.{cases_of}
 use Rattle.tm_tree.specs.Limits.{is_tested}
 use Rattle.tm_tree.specs.Tree.{Condition}
 use Rattle.tm_tree.specs.View.{condition_of}
+use Rattle.tm_assert.specs.Grammar.{Written, claim_then, claims_then, ReadsClaims, IsUnexpected}
 use Rattle.tm_assert.specs.Truth.{is_decided}
 use Rattle.tm_assert.specs.declared.claim.Claim.{Claim}
 use Rattle.tm_assert.specs.declared.fault.ClaimFault.{ClaimFault}
@@ -53,41 +55,6 @@ abbrev pub parsed : {A : Type 0} → Result A ParseFault → Result A ClaimFault
 parsed (Ok x) = Ok x
 parsed (Err f) = Err (of_parse f)
 
--- ---- tokens
-abbrev pub is_end : lex_kind.Kind → Bool
-is_end lex_kind.TheVariants.End = true
-is_end _ = false
-
-abbrev pub is_colon : lex_kind.Kind → Bool
-is_colon (lex_kind.TheVariants.Sign sign.Colon) = true
-is_colon _ = false
-
-abbrev pub is_semicolon : lex_kind.Kind → Bool
-is_semicolon (lex_kind.TheVariants.Sign sign.Semicolon) = true
-is_semicolon _ = false
-
-abbrev pub is_nondet : lex_kind.Kind → Bool
-is_nondet (lex_kind.TheVariants.Word word.Nondet) = true
-is_nondet (lex_kind.TheVariants.Word word.VerifierNondetInt) = true
-is_nondet _ = false
-
--- the token of this number
-abbrev pub token_at : List Token → ℕ → Token
-token_at tokens i = get_or tokens i (end_at 0)
-
--- the last token is the end of the text
-abbrev pub IsEnded : List Token → Type 0
-IsEnded tokens = (front : List Token) × (a : ℕ) × (front ++ end_at a ∷ [] ≡ tokens)
-
--- the bytes of a token
-abbrev pub bytes_of : List ℕ → Token → List ℕ
-bytes_of text t = slice_range text t.at (t.at + t.len)
-
--- a token that has to stand where it does
-abbrev pub expected : Bool → ℕ → Result (Unit {0}) ClaimFault
-expected true a = Ok tt
-expected false a = Err (fault.Parse (parse.Unexpected a))
-
 -- ---- the label
 abbrev pub is_place : List ℕ → Place → Bool
 is_place name (place.Label x) = bytes_eq name x
@@ -97,81 +64,112 @@ is_place name _ = false
 abbrev pub point_of : List ℕ → List Point → Option ℕ
 point_of name points = position (λ p. is_place name p.place) points
 
--- the point and the name of the label at this place
-abbrev pub known : List ℕ → ℕ → Option ℕ → Result (ℕ × List ℕ) ClaimFault
-known name a (Some p) = Ok (p, name)
-known name a None = Err (fault.UnknownLabel a)
-
-abbrev pub labelled : List Point → lex_kind.Kind → List ℕ → ℕ → Result (ℕ × List ℕ) ClaimFault
-labelled points lex_kind.TheVariants.Name name a = known name a (point_of name points)
-labelled points _ name a = Err (fault.Parse (parse.Unexpected a))
-
--- a label and the colon behind it
-abbrev pub headed : List Point → List ℕ → Token → Token → Result (ℕ × List ℕ) ClaimFault
-headed points text name colon = labelled points name.kind (bytes_of text name) name.at >>= λ h. expected (is_colon colon.kind) colon.at >>= λ _. Ok h
-
 -- ---- the condition
+abbrev pub is_choice : Kind → Bool
+is_choice nondet_word = true
+is_choice _ = false
+
 -- the place of the first `nondet` of these tokens
-abbrev pub first_choice : List Token → ℕ
-first_choice [] = 0
-first_choice (t ∷ ts) = if is_nondet t.kind then t.at else first_choice ts
+abbrev pub choice_at : List Token → ℕ
+choice_at [] = 0
+choice_at (token k a ∷ ts) = if is_choice k then a else choice_at ts
 
--- no `nondet` stands in the condition that these tokens are
-abbrev pub decided : List Token → Condition → Result (Unit {0}) ClaimFault
-decided ts c = if is_decided c then Ok tt else Err (fault.Parse (parse.NondetHere (first_choice ts)))
+-- a condition without `nondet`; the first one, if there is one, stands at this place
+abbrev pub decided : ℕ → Condition → Result (Unit {0}) ClaimFault
+decided a c = if is_decided c then Ok tt else Err (fault.Parse (parse.NondetHere a))
 
--- the condition of the claim whose name stands here may be false in at most 64 cases
-abbrev pub few_cases : ℕ → Condition → Result (Unit {0}) ClaimFault
-few_cases a c = if nat_lt 64 (length (cases_of false c)) then Err (fault.Cases a) else Ok tt
+-- what an expression says as a condition: its own faults come first, then that its number can't be a condition, then its `nondet`
+abbrev pub truth_of : List ℕ → List (List ℕ) → Expr → Result Condition ClaimFault
+truth_of text names e =
+    parsed (meant text names (first_place (spell_expr e)) e) >>= λ m. parsed (as_truth (first_place (spell_expr e)) m)
+    >>= λ c. decided (choice_at (spell_expr e)) c >>= λ _. Ok c
 
--- the rest of the claim whose name is token i, behind its expression: that the expression is a condition without `nondet`, the semicolon, the cases
-abbrev pub finished : List Token → ℕ → ℕ × List ℕ → ExpressionAnswer → Result (Stated × ℕ) ClaimFault
-finished tokens i h w =
-    parsed w >>= λ m. parsed (as_truth (token_at tokens (i + 2)).at m.0)
-    >>= λ c. decided (slice_range tokens (i + 2) m.1) c
-    >>= λ _. expected (is_semicolon (token_at tokens m.1).kind) (token_at tokens m.1).at
-    >>= λ _. few_cases (token_at tokens i).at c
-    >>= λ _. Ok (record { point = h.0; label = h.1; cond = c }, m.1 + 1)
+-- ---- what trees say
+-- The claim is without fault, and says this: its expression groups as it must and nothing in it opens one construct too many, its name is a
+-- label
+-- of this point, its expression says this condition, and that may be false in at most 64 cases.
+pub record Says (text : List ℕ) (names : List (List ℕ)) (points : List Point) (c : Written) (s : Stated) : Type 0 where
+  pub good : Groups 0 c.expr
+  pub shallow : FineExpr (spell_expr c.expr)
+  pub label : c.name ≡ s.label
+  pub point : point_of c.name points ≡ Some s.point
+  pub condition : truth_of text names c.expr ≡ Ok s.cond
+  pub few : length (cases_of false s.cond) ≤ 64
 
--- ---- claims
-abbrev pub GoesOn : List ℕ → List (List ℕ) → List Token → ℕ → Result (ℕ × List ℕ) ClaimFault → Result (Stated × ℕ) ClaimFault → Type 0
-GoesOn text names tokens i (Err f) r = r ≡ Err f
-GoesOn text names tokens i (Ok h) r = (w : ExpressionAnswer) × ExpressionMeans text (tokens_of text tokens) (i + 2) names w × (r ≡ finished tokens i h w)
+-- Each of these claims says what stands at its place in the list.
+abbrev pub AllSay : List ℕ → List (List ℕ) → List Point → List Written → List Stated → Type 0
+AllSay text names points [] [] = Unit {0}
+AllSay text names points (c ∷ cs) (s ∷ ss) = Says text names points c s × AllSay text names points cs ss
+AllSay text names points [] (s ∷ ss) = ⊥
+AllSay text names points (c ∷ cs) [] = ⊥
 
--- the claim whose name is token i, with the number of the token behind it, or its first fault
-abbrev pub ClaimMeans : List ℕ → List (List ℕ) → List Point → List Token → ℕ → Result (Stated × ℕ) ClaimFault → Type 0
-ClaimMeans text names points tokens i r = GoesOn text names tokens i (headed points text (token_at tokens i) (token_at tokens (i + 1))) r
+-- ---- the first fault
+-- A claim behind these may have this name: they are fewer than 64, and it is a label.
+pub record IsHead (points : List Point) (cs : List Written) (name : List ℕ) : Type 0 where
+  pub within : length cs < 64
+  pub point : ℕ
+  pub labels : point_of name points ≡ Some point
 
--- a claim before the others
-abbrev pub added : Stated → StatedClaims → StatedClaims
-added c (Ok cs) = Ok (c ∷ cs)
-added c (Err f) = Err f
+-- These tokens are what a claim behind others has before some token of it, and nothing in them is at fault: no token, its name, or its name
+-- and colon
+-- with what begins an expression, or with a whole one that says a condition.
+pub data Faultless (text : List ℕ) (names : List (List ℕ)) (points : List Point) (cs : List Written) (part : List Token) : Type 0 where
+  at_start : part ≡ [] → Faultless text names points cs part
+  behind_name : (x : List ℕ) (a : ℕ) → part ≡ token (a_name x) a ∷ [] → IsHead points cs x → Faultless text names points cs part
+  within_condition : (x : List ℕ) (a b : ℕ) (begun : List Token) → part ≡ token (a_name x) a ∷ token colon b ∷ begun → IsHead points cs x
+      → FineExpr begun → ((e : Expr) → ReadsExpr begun e → ⊥) → Faultless text names points cs part
+  behind_condition : (x : List ℕ) (a b : ℕ) (e : Expr) (d : Condition) → part ≡ token (a_name x) a ∷ token colon b ∷ spell_expr e
+      → IsHead points cs x
+      → Groups 0 e → FineExpr (spell_expr e) → truth_of text names e ≡ Ok d → Faultless text names points cs part
 
--- the claims from token i on, of which there may be so many
-abbrev pub ClaimsMean : List ℕ → List (List ℕ) → List Point → List Token → ℕ → ℕ → StatedClaims → Type 0
-ClaimsMean text names points tokens zero i r = r ≡ (if is_end (token_at tokens i).kind then Ok [] else Err (fault.Count (token_at tokens i).at))
-ClaimsMean text names points tokens (suc n) i r =
-    ((is_end (token_at tokens i).kind ≡ true) × (r ≡ Ok []))
-    ⊎ (((is_end (token_at tokens i).kind ≡ false) × ((f : ClaimFault) × ClaimMeans text names points tokens i (Err f) × (r ≡ Err f)))
-    ⊎ ((is_end (token_at tokens i).kind ≡ false) × ((c : Stated) × (next : ℕ) × ClaimMeans text names points tokens i (Ok (c, next))
-    × ((rest : StatedClaims) × ClaimsMean text names points tokens n next rest × (r ≡ added c rest)))))
+-- Behind these claims, which are without fault, these tokens have this fault first.
+pub data FirstFault (text : List ℕ) (names : List (List ℕ)) (points : List Point) (cs : List Written) (tokens : List Token)
+    (f : ClaimFault) : Type 0 where
+  -- a 65th claim begins here
+  too_many : (x : List ℕ) (a : ℕ) (rest : List Token) → tokens ≡ token (a_name x) a ∷ rest → length cs ≡ 64 → f ≡ fault.Count a
+      → FirstFault text names points cs tokens f
+  -- the name of a claim is no label
+  unknown_label : (x : List ℕ) (a : ℕ) (rest : List Token) → tokens ≡ token (a_name x) a ∷ rest → length cs < 64 → point_of x points ≡ None
+      → f ≡ fault.UnknownLabel a → FirstFault text names points cs tokens f
+  -- a token of an expression opens one construct too many
+  too_deep : (x : List ℕ) (a b : ℕ) (rest : List Token) (d : ℕ) → tokens ≡ token (a_name x) a ∷ token colon b ∷ rest → IsHead points cs x
+      → FindsExpr (nests_at d) rest → f ≡ fault.Parse (parse.Limit d Nesting) → FirstFault text names points cs tokens f
+  -- the longest expression behind the colon says no condition
+  no_condition : (x : List ℕ) (a b : ℕ) (rest : List Token) (n : ℕ) (e : Expr) → tokens ≡ token (a_name x) a ∷ token colon b ∷ rest
+      → IsHead points cs x
+      → IsLongest rest n e → truth_of text names e ≡ Err f → FirstFault text names points cs tokens f
+  -- a whole claim may be false in too many cases
+  many_cases : (c : Written) (rest : List Token) (d : Condition) → tokens ≡ claim_then c rest → IsHead points cs c.name → Groups 0 c.expr
+      → FineExpr (spell_expr c.expr) → truth_of text names c.expr ≡ Ok d → 64 < length (cases_of false d) → f ≡ fault.Cases c.name_at
+      → FirstFault text names points cs tokens f
+  -- the text's tokens before this one begin a file of claims, and with it none; and what stands before it is without fault
+  unexpected : (part : List Token) (k : Kind) (a : ℕ) (rest : List Token) → tokens ≡ part ++ token k a ∷ rest
+      → IsUnexpected (claims_then cs part) (token k a) → Faultless text names points cs part → f ≡ fault.Parse (parse.Unexpected a)
+      → FirstFault text names points cs tokens f
 
--- the claims that were read, and then those to come
-abbrev pub behind : List Stated → StatedClaims → StatedClaims
-behind [] r = r
-behind (c ∷ cs) r = added c (behind cs r)
+-- ---- what a file says
+-- The tokens read as at most 64 claims, of which each says what stands at its place in the list; or they begin with at most 64 such claims,
+-- and what
+-- follows has this fault first.
+abbrev pub ClaimsMean : List ℕ → List (List ℕ) → List Point → List Token → StatedClaims → Type 0
+ClaimsMean text names points tokens (Ok ss) =
+    (cs : List Written) × ReadsClaims tokens cs × AllSay text names points cs ss × (length cs ≤ 64)
+ClaimsMean text names points tokens (Err f) =
+    (cs : List Written) × (ss : List Stated) × (rest : List Token) × (tokens ≡ claims_then cs rest) × AllSay text names points cs ss
+    × (length cs ≤ 64) × FirstFault text names points cs rest f
 
--- What a text says over a program's variables and points: its first fault as tokens, or at most 64 claims.
+-- What a text says over a program's variables and points: its first fault as tokens, or what its tokens say.
 abbrev pub FileMeans : List ℕ → List (List ℕ) → List Point → StatedClaims → Type 0
 FileMeans text names points r =
     ((f : LexFault) × HasFault text f × (r ≡ Err (fault.Lex f)))
-    ⊎ ((tokens : List Token) × Reads text tokens × ClaimsMean text names points tokens 64 0 r)
+    ⊎ ((tokens : List lex_token.Token) × Reads text tokens × ClaimsMean text names points (tokens_of text tokens) r)
 
 -- ---- the code's claims
 abbrev pub stated_of : Claim → Stated
 stated_of c = record { point = c.point; label = c.label; cond = condition_of c.cond }
 
--- a claim that a verdict may be asked on: over so many variables, at the point that its label names, decided, with the cases of its negation
+-- a claim that a verdict may be asked on: over so many variables, at the point that its label names, decided, with the cases of its
+-- negation
 pub record Stands (names : List (List ℕ)) (points : List Point) (c : Claim) : Type 0 where
   pub within : c.point < length points
   pub named : point_of c.label points ≡ Some c.point

@@ -4,4 +4,6 @@ pub mod Verdicts
 pub mod AllVerdicts
 pub mod Lines
 pub mod Laws
+pub mod Grammar
 pub mod Claims
+pub mod Steps

@@ -13,7 +13,7 @@ pub enum ClaimFault {
     Parse(ParseFault),
     /// The name of a claim is no label of the program.
     UnknownLabel { at: u32 },
-    /// The first token of the 65th claim.
+    /// The name of the 65th claim.
     Count { at: u32 },
     /// The condition of the claim whose name stands here may be false in more than 64 cases.
     Cases { at: u32 },

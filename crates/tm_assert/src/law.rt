@@ -2,7 +2,9 @@
 
 ghost use Rattle.std.specs.Prelude.{◌≡◌, ℕ, List};
 ghost use Rattle.tm_flow.specs.declared.point.Point.{Point};
+ghost use Rattle.tm_gram.specs.Grammar.{Token};
 ghost use Rattle.tm_assert.specs.Claims.{StatedClaims, FileMeans};
+ghost use Rattle.tm_assert.specs.Grammar.{ReadsClaims, Written};
 ghost use Rattle.tm_assert.specs.Laws.{OpenStatesBreak, ProvedClaimsHold, ProvedVerdictsHold, RefusalsAreOne, VerdictsAreOne};
 ghost use Rattle.tm_assert.specs.Laws.{WideClaimsDontFit};
 
@@ -32,6 +34,11 @@ pub fn verdicts_are_one()
 pub fn refusals_are_one()
     ensures apart { WideClaimsDontFit }
     ensures one { RefusalsAreOne }
+{}
+
+/// Tokens read as at most one list of claims.
+pub fn one_list()
+    ensures { (tokens : List Token) (cs ds : List Written) → ReadsClaims tokens cs → ReadsClaims tokens ds → cs ≡ ds }
 {}
 
 /// A text says one thing over a program's variables and points: its claims, or one fault.

@@ -14,8 +14,8 @@ pub use claim::Claim;
 pub use fault::ClaimFault;
 pub use judge::verdict;
 pub use law::{
-    one_file, open_states_break, proved_claims_hold, proved_verdicts_hold, refusals_are_one,
-    verdicts_are_one,
+    one_file, one_list, open_states_break, proved_claims_hold, proved_verdicts_hold,
+    refusals_are_one, verdicts_are_one,
 };
 pub use lines::verdicts_text;
 pub use list::verdicts;

@@ -6,14 +6,18 @@ ghost use Rattle.tm_flow.specs.declared.limits.TheConstants.{MOST_POINTS};
 ghost use Rattle.tm_lex.specs.Reading.{end_at};
 ghost use Rattle.tm_lex.specs.TokenLists.{AreTokensOf};
 ghost use Rattle.tm_gram.specs.View.{tokens_of};
-ghost use Rattle.tm_parse.specs.Expressions.{ExpressionAnswer, ExpressionMeans, MeaningFits, as_truth, expr_of, read_of};
-ghost use Rattle.tm_parse.specs.Modes.{IsProper};
+ghost use Rattle.lang_meaning.specs.Expressions.{ExpressionAnswer, ExpressionMeans, MeaningFits, as_truth};
+ghost use Rattle.tm_parse.specs.Expressions.{expr_of, read_of};
+ghost use Rattle.lang_meaning.specs.Proper.{IsProper};
 ghost use Rattle.tm_flow.specs.Constants.{have_room};
 ghost use Rattle.tm_tree.specs.Cases.{cases_of};
 ghost use Rattle.tm_tree.specs.Limits.{is_tested};
 ghost use Rattle.tm_tree.specs.View.{condition_of};
-ghost use Rattle.tm_assert.specs.Claims.{is_end, is_colon, is_semicolon, is_nondet, is_place, bytes_of, token_at, point_of, expected, labelled, headed, first_choice, decided};
-ghost use Rattle.tm_assert.specs.Claims.{parsed, few_cases, finished, IsEnded, ClaimMeans, ClaimsMean, FileMeans, StatedClaims, Stands, Answers, Gives, stated_of};
+ghost use Rattle.tm_assert.specs.Claims.{is_place, point_of, decided, parsed, ClaimsMean, FileMeans, StatedClaims, Stands, Answers, Gives};
+ghost use Rattle.tm_assert.specs.Claims.{stated_of};
+ghost use Rattle.tm_assert.specs.Steps.{is_end, is_colon, is_semicolon, is_nondet, bytes_of, token_at, expected, surplus, labelled, headed};
+ghost use Rattle.tm_assert.specs.Steps.{first_choice};
+ghost use Rattle.tm_assert.specs.Steps.{few_cases, finished, IsEnded, BeginsClaim};
 ghost use Rattle.tm_assert.specs.Truth.{is_decided};
 
 use crate::claim::Claim;
@@ -72,6 +76,16 @@ fn expected(stands: bool, at: u32) -> Result<(), ClaimFault>
         Ok(())
     } else {
         Err(ClaimFault::Parse(ParseFault::Unexpected { at }))
+    }
+}
+
+// What a token behind 64 claims is that isn't the end.
+fn surplus(token: Token) -> ClaimFault
+    ensures { result ≡ surplus token.kind token.at }
+{
+    match token.kind {
+        Kind::Name => ClaimFault::Count { at: token.at },
+        _ => ClaimFault::Parse(ParseFault::Unexpected { at: token.at }),
     }
 }
 
@@ -159,7 +173,7 @@ fn first_choice(tokens: &[Token]) -> u32
 
 // A condition that these tokens are has no `nondet`.
 fn decided(tokens: &[Token], cond: &Cond) -> Result<(), ClaimFault>
-    ensures gives { Gives (λ x. x) result (decided tokens.now (condition_of cond.now)) }
+    ensures gives { Gives (λ x. x) result (decided (first_choice tokens.now) (condition_of cond.now)) }
     ensures decided { IfOk result (λ _. IsTrue (is_decided (condition_of cond.now))) }
 {
     if is_decided(cond) {
@@ -246,7 +260,8 @@ fn read_expression(
     requires size { length text.now ≤ 65536 }
     requires tokens { AreTokensOf text.now tokens.now }
     requires from { from < length tokens.now }
-    ensures found { (w : ExpressionAnswer) × ExpressionMeans text.now (tokens_of text.now tokens.now) from flow.now.names w × Gives read_of result (parsed w) }
+    ensures found { (w : ExpressionAnswer) × ExpressionMeans text.now (tokens_of text.now tokens.now) from flow.now.names w
+        × Gives read_of result (parsed w) }
     ensures fits { IfOk result (λ read. MeaningFits (length flow.now.names) (expr_of read.expr)) }
     ensures next { IfOk result (λ read. (from ≤ read.next) × (read.next < length tokens.now)) }
 {
@@ -265,7 +280,7 @@ fn read_claim(
     requires tokens { AreTokensOf text.now tokens.now }
     requires from { from < length tokens.now }
     requires goes_on { is_end (token_at tokens.now from).kind ≡ false }
-    ensures found { Answers (λ r. (stated_of r.0, r.1)) (ClaimMeans text.now flow.now.names flow.now.points tokens.now from) result }
+    ensures found { Answers (λ r. (stated_of r.0, r.1)) (BeginsClaim text.now flow.now.names flow.now.points tokens.now from) result }
     ensures stands { IfOk result (λ r. Stands flow.now.names flow.now.points r.0) }
     ensures within { IfOk result (λ r. r.1 < length tokens.now) }
 {
@@ -285,15 +300,15 @@ fn claims_of(
 ) -> Result<Vec<Claim>, ClaimFault>
     requires size { length text.now ≤ 65536 }
     requires tokens { AreTokensOf text.now tokens.now }
-    ensures found { Answers (λ claims. map stated_of claims.items) (ClaimsMean text.now flow.now.names flow.now.points tokens.now 64 0) result }
+    ensures found { Answers (λ claims. map stated_of claims.items) (ClaimsMean text.now flow.now.names flow.now.points
+        (tokens_of text.now tokens.now)) result }
     ensures stands { IfOk result (λ claims. All (Stands flow.now.names flow.now.points) claims.items) }
 {
     let mut claims = Vec::new(alloc);
     let mut next = 0;
     while !is_end(token_at(tokens, next).kind) {
         if claims.len() >= MOST_CLAIMS {
-            let at = token_at(tokens, next).at;
-            return Err(ClaimFault::Count { at });
+            return Err(surplus(token_at(tokens, next)));
         }
         let (claim, behind) = read_claim(alloc, tokens, text, flow, next)?;
         claims.push(claim)?;
@@ -320,14 +335,16 @@ fn file(alloc: Global, text: &[u8], flow: &Flow) -> Result<Vec<Claim>, ClaimFaul
 ///
 /// # Errors
 ///
-/// `Lex` comes first. Then each claim is read in order: `Count`, its name, `UnknownLabel`, the colon, the expression,
-/// `BigNumber` for a number that can't be a condition, `NondetHere`, the semicolon, `Cases`.
+/// `Lex` comes first. Then each claim is read in order: its name, `Count` for a 65th one, `UnknownLabel`, the colon, the expression,
+/// `BigNumber` for a number that can't be a condition, `NondetHere`, the semicolon, `Cases`. The first token with which the tokens
+/// begin no file of claims is `Unexpected`.
 pub fn read_claims(alloc: Global, text: &[u8], flow: &Flow) -> Result<Vec<Claim>, ClaimFault>
     requires { length text.now ≤ 65536 }
     // What is answered is meant.
     ensures found { Answers (λ claims. map stated_of claims.items) (FileMeans text.now flow.now.names flow.now.points) result }
     // What is meant is answered.
-    ensures exact { (wanted : StatedClaims) → FileMeans text.now flow.now.names flow.now.points wanted → Gives (λ claims. map stated_of claims.items) result wanted }
+    ensures exact { (wanted : StatedClaims) → FileMeans text.now flow.now.names flow.now.points wanted
+        → Gives (λ claims. map stated_of claims.items) result wanted }
     // A verdict may be asked on each.
     ensures stands { IfOk result (λ claims. All (Stands flow.now.names flow.now.points) claims.items) }
 {

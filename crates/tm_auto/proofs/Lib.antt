@@ -3,3 +3,5 @@ pub mod counted
 pub mod made
 pub mod along
 pub mod progress
+pub mod grammar
+pub mod trees

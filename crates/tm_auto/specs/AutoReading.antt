@@ -7,12 +7,12 @@ use Rattle.tm_tree.specs.declared.limits.TheConstants.{MOST_VARIABLES}
 use Rattle.tm_tree.specs.declared.form.Form.{Form}
 use Rattle.tm_tree.specs.Limits.{is_form}
 use Rattle.tm_tree.specs.Tree.{Condition, Statement, Statements, assume, nil, cons}
-use Rattle.tm_parse.specs.declared.fault.ParseFault.{ParseFault}
-use Rattle.tm_parse.specs.declared.fault.ParseFault.TheVariants as parse
-use Rattle.tm_parse.specs.declared.fault.Limit.TheVariants.{Variables}
-use Rattle.tm_parse.specs.Names.{place_of}
-use Rattle.tm_parse.specs.Walk.{assignment}
-use Rattle.tm_parse.specs.Expressions.{Meaning, a_number, a_condition, a_choice, ExpressionMeans, as_truth}
+use Rattle.lang_meaning.specs.declared.fault.ParseFault.{ParseFault}
+use Rattle.lang_meaning.specs.declared.fault.ParseFault.TheVariants as parse
+use Rattle.lang_meaning.specs.declared.fault.Limit.TheVariants.{Variables}
+use Rattle.lang_meaning.specs.Names.{place_of}
+use Rattle.lang_meaning.specs.Walk.{assignment}
+use Rattle.lang_meaning.specs.Expressions.{Meaning, a_number, a_condition, a_choice, ExpressionMeans, as_truth}
 use Rattle.tm_flow.specs.declared.limits.TheConstants.{MOST_POINTS}
 use Rattle.tm_flow.specs.declared.point.Place.TheVariants as point
 use Rattle.tm_flow.specs.declared.point.Point.{Point}

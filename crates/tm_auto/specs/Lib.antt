@@ -6,4 +6,6 @@ pub mod AutoRuns
 pub mod AutoLaws
 pub mod AutoSymbols
 pub mod AutoReading
+pub mod AutoGrammar
 pub mod AutoTexts
+pub mod AutoTrees

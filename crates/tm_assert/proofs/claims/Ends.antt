@@ -1,5 +1,6 @@
 -- Where tokens go on, and what a flow's limits say.
-use Rattle.std.proofs.Common.{◌≡◌, ◌∙◌, ◌+◌, ◌++◌, ◌<◌, ◌≤◌, ℕ, List, [], ◌∷◌, length, get_or, Bool, true, false, nat_lt, nat_le, IsTrue, refl, sym, ap, arith}
+use Rattle.std.proofs.Common.{◌≡◌, ◌∙◌, ◌+◌, ◌++◌, ◌<◌, ◌≤◌, ℕ, List, [], ◌∷◌, length, get_or, Bool, true, false, nat_lt, nat_le, IsTrue}
+use Rattle.std.proofs.Common.{refl, sym, ap, arith}
 use Rattle.std.proofs.Math.Seq.{get_or-append_seam}
 use Rattle.std.proofs.lemmas.Bool.{leb-true}
 use Rattle.std.proofs.lemmas.List.{length-append}
@@ -15,7 +16,7 @@ use Rattle.tm_eqsys.proofs.Sizes.{both as and_split}
 use Rattle.tm_tree.specs.Limits.{is_condition, is_tested}
 use Rattle.tm_tree.specs.Tree.{Condition, leaf_count}
 use Rattle.tm_tree.specs.declared.limits.TheConstants.{MOST_VARIABLES}
-use Rattle.tm_assert.specs.Claims.{is_end, is_colon, is_semicolon, token_at, IsEnded}
+use Rattle.tm_assert.specs.Steps.{is_end, is_colon, is_semicolon, token_at, IsEnded}
 
 pub ended : (text : List ℕ) (tokens : List Token) → AreTokensOf text tokens → IsEnded tokens
 ended text tokens h = (h.front, length text, h.ended)
@@ -24,7 +25,8 @@ pub some_token : (tokens : List Token) → IsEnded tokens → 0 < length tokens
 some_token tokens (front, a, e) = let size = ap length (sym e) ∙ length-append front (end_at a ∷ []) in omega (arith, size)
 
 -- behind a token that is not the end there is one more
-pub goes_on : (tokens : List Token) (i : ℕ) → IsEnded tokens → i < length tokens → is_end (token_at tokens i).kind ≡ false → i + 1 < length tokens
+pub goes_on : (tokens : List Token) (i : ℕ) → IsEnded tokens → i < length tokens → is_end (token_at tokens i).kind ≡ false
+    → i + 1 < length tokens
 goes_on tokens i (front, a, e) h k = on (nat_lt i (length front)) refl where
   size : length tokens ≡ length front + 1
   size = ap length (sym e) ∙ length-append front (end_at a ∷ [])
@@ -34,7 +36,8 @@ goes_on tokens i (front, a, e) h k = on (nat_lt i (length front)) refl where
   on false m =
       let n = Rattle.std.proofs.lemmas.Bool.ltb-false i (length front) m in
       let same : i ≡ length front = omega (arith, size, n, h) in
-      let there : get_or tokens i (end_at 0) ≡ end_at a = ap (λ x. get_or x i (end_at 0)) (sym e) ∙ ap (λ j. get_or (front ++ end_at a ∷ []) j (end_at 0)) same
+      let there : get_or tokens i (end_at 0) ≡ end_at a = ap (λ x. get_or x i (end_at 0)) (sym e)
+      ∙ ap (λ j. get_or (front ++ end_at a ∷ []) j (end_at 0)) same
       ∙ get_or-append_seam front (end_at a) [] (end_at 0) in
       let last : is_end (token_at tokens i).kind ≡ true = ap (λ (t : Token). is_end t.kind) there in absurd (cc)
 
@@ -47,10 +50,12 @@ semicolon_goes_on lex_kind.TheVariants.End h = cc
 semicolon_goes_on _ h = refl
 
 -- ---- limits
-pub few_points : (names : List (List ℕ)) (points : List Point) (edges : List Edge) → IsTrue (is_flow names points edges) → length points ≤ MOST_POINTS
+pub few_points : (names : List (List ℕ)) (points : List Point) (edges : List Edge) → IsTrue (is_flow names points edges)
+    → length points ≤ MOST_POINTS
 few_points names points edges h = leb-true (length points) MOST_POINTS (and_split _ _ (and_split _ _ (and_split _ _ h).1).0).1
 
-pub few_names : (names : List (List ℕ)) (points : List Point) (edges : List Edge) → IsTrue (is_flow names points edges) → length names ≤ MOST_VARIABLES
+pub few_names : (names : List (List ℕ)) (points : List Point) (edges : List Edge) → IsTrue (is_flow names points edges)
+    → length names ≤ MOST_VARIABLES
 few_names names points edges h = leb-true (length names) MOST_VARIABLES (and_split _ _ (and_split _ _ h).0).1
 
 pub is_over : (n : ℕ) (c : Condition) → IsTrue (is_tested n c) → IsTrue (is_condition n c)

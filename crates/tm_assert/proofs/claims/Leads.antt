@@ -1,78 +1,124 @@
 -- Claims one by one.
-use Rattle.std.proofs.Common.{◌≡◌, ◌∙◌, ◌-◌, ◌++◌, ◌<◌, ◌≤◌, inl, inr, ℕ, zero, suc, Bool, true, false, List, [], ◌∷◌, length, map, Ok, Err, refl, sym, ap, subst, arith}
-use Rattle.std.proofs.lemmas.List.{append-nil, length-append, map-append}
-use Rattle.std.specs.Prelude.{if◌then◌else◌, All}
+use Rattle.std.proofs.Common.{◌≡◌, ◌∙◌, ◌++◌, ◌<◌, ◌≤◌, ℕ, true, false, List, [], ◌∷◌, length, map, drop, Ok, Err, refl, sym, ap}
+use Rattle.std.proofs.Common.{ap₂, subst, arith}
+use Rattle.std.proofs.lemmas.List.{length-append, map-append}
+use Rattle.std.specs.Prelude.{All}
 use Rattle.std.proofs.lemmas.List.Elements.{All-nil, All-push}
 use Rattle.tm_flow.specs.declared.point.Point.{Point}
-use Rattle.tm_lex.specs.declared.token.Token.{Token}
+use Rattle.tm_gram.specs.Grammar.{Token, token}
+use Rattle.tm_gram.specs.View.{kind_of, tokens_of}
+use Rattle.tm_lex.specs.TokenLists.{AreTokensOf}
+use Rattle.tm_lex.specs.declared.token.Kind as lex_kind
+use Rattle.tm_lex.specs.declared.token.Token as lex_token
 use Rattle.tm_assert.specs.declared.claim.Claim.{Claim}
 use Rattle.tm_assert.specs.declared.fault.ClaimFault.{ClaimFault}
-use Rattle.tm_assert.specs.declared.fault.ClaimFault.TheVariants as fault
-use Rattle.tm_assert.specs.Claims.{Stated, StatedClaims, token_at, is_end, ClaimMeans, added, behind, ClaimsMean, Stands, stated_of}
+use Rattle.tm_assert.specs.Claims.{Stated, Says, AllSay, FirstFault, at_start, too_many, unexpected, ClaimsMean, Stands, stated_of}
+use Rattle.tm_assert.specs.Grammar.{Written, claims_then, AllGroup}
+use Rattle.tm_assert.specs.Steps.{token_at, bytes_of, is_end, surplus, BeginsClaim}
+use Rattle.tm_assert.proofs.claims.Kinds.{word_other, sign_other, drop_token, end_is, end_last}
+use Rattle.tm_assert.proofs.claims.Means.{all_group}
+use Rattle.tm_assert.proofs.grammar.Spelling.{claims_more}
+use Rattle.tm_assert.proofs.grammar.Unexpected.{names_claim, ends_text, unexpected_start}
 
-behind_value : (cs ds : List Stated) → behind cs (Ok ds) ≡ Ok (cs ++ ds)
-behind_value [] ds = refl
-behind_value (c ∷ cs) ds = ap (added c) (behind_value cs ds)
+module _ (text : List ℕ) (names : List (List ℕ)) (points : List Point) where
+  all_more : (cs : List Written) (ss : List Stated) (c : Written) (s : Stated) → AllSay text names points cs ss → Says text names points c s
+      → AllSay text names points (cs ++ c ∷ []) (ss ++ s ∷ [])
+  all_more [] [] c s h m = (m, tt)
+  all_more (d ∷ cs) (t ∷ ss) c s h m = (h.0, all_more cs ss c s h.1 m)
+  all_more [] (t ∷ ss) c s h m = absurd h
+  all_more (d ∷ cs) [] c s h m = absurd h
 
-behind_fault : (cs : List Stated) (f : ClaimFault) → behind cs (Err f) ≡ Err f
-behind_fault [] f = refl
-behind_fault (c ∷ cs) f = ap (added c) (behind_fault cs f)
+  -- behind 64 claims a name and any other token but the end are at fault
+  surplus_fault : (cs : List Written) (k : lex_kind.Kind) (bytes : List ℕ) (a : ℕ) (tokens rest : List Token) → AllGroup cs → length cs ≡ 64
+      → is_end k ≡ false
+      → tokens ≡ token (kind_of bytes k) a ∷ rest → FirstFault text names points cs tokens (surplus k a)
+  surplus_fault cs k bytes a tokens rest g full goes starts = on k goes starts where
+    other : (k : lex_kind.Kind) (f : ClaimFault) → tokens ≡ token (kind_of bytes k) a ∷ rest
+        → (names_claim (kind_of bytes k) ≡ false) × (ends_text (kind_of bytes k) ≡ false)
+        → f ≡ surplus (lex_kind.TheVariants.Number (Rattle.std.specs.Prelude.pos 0)) a → FirstFault text names points cs tokens f
+    other k f starts o is = unexpected [] (kind_of bytes k) a rest starts (unexpected_start cs g (kind_of bytes k) a o.0 o.1)
+        (at_start refl) is
 
-behind_more : (cs : List Stated) (c : Stated) (r : StatedClaims) → behind (cs ++ c ∷ []) r ≡ behind cs (added c r)
-behind_more [] c r = refl
-behind_more (d ∷ cs) c r = ap (added d) (behind_more cs c r)
+    on : (k : lex_kind.Kind) → is_end k ≡ false → tokens ≡ token (kind_of bytes k) a ∷ rest
+        → FirstFault text names points cs tokens (surplus k a)
+    on lex_kind.TheVariants.Name goes starts = too_many bytes a rest starts full refl
+    on lex_kind.TheVariants.End goes starts = cc
+    on (lex_kind.TheVariants.Word w) goes starts = other (lex_kind.TheVariants.Word w) _ starts (word_other w) refl
+    on (lex_kind.TheVariants.Sign s) goes starts = other (lex_kind.TheVariants.Sign s) _ starts (sign_other s) refl
+    on (lex_kind.TheVariants.Number n) goes starts = other (lex_kind.TheVariants.Number n) _ starts (refl, refl) refl
 
-module _ (text : List ℕ) (names : List (List ℕ)) (points : List Point) (tokens : List Token) where
-  -- What the tokens from one on mean goes on with the claims that were read.
-  abbrev pub Leads : List Claim → ℕ → Type 0
-  Leads claims next = (r : StatedClaims) → ClaimsMean text names points tokens (64 - length claims) next r
-      → ClaimsMean text names points tokens 64 0 (behind (map stated_of claims) r)
+  module _ (tokens : List lex_token.Token) where
+    -- what the loop over the claims keeps: the tokens begin with claims that say what was read, and go on with the next token
+    abbrev pub Keeps : List Claim → ℕ → Type 0
+    Keeps claims next =
+        (cs : List Written) × (tokens_of text tokens ≡ claims_then cs (drop next (tokens_of text tokens)))
+        × AllSay text names points cs (map stated_of claims) × (length cs ≡ length claims) × (next < length tokens) × (length claims ≤ 64)
+        × All (Stands names points) claims
 
-  pub lead_more : (claims : List Claim) (c : Claim) (next after : ℕ) → length claims < 64 → is_end (token_at tokens next).kind ≡ false
-      → ClaimMeans text names points tokens next (Ok (stated_of c, after)) → Leads claims next → Leads (claims ++ c ∷ []) after
-  lead_more claims c next after h k m leads =
-      λ r n. let size : 64 - length claims ≡ suc (64 - length (claims ++ c ∷ [])) = omega (arith, h, length-append claims (c ∷ [])) in
-      subst (λ x. ClaimsMean text names points tokens 64 0 x) (sym (ap (λ x. behind x r) (map-append stated_of claims (c ∷ [])) ∙ behind_more (map stated_of claims) (stated_of c) r))
-      (leads (added (stated_of c) r) (subst (λ x. ClaimsMean text names points tokens x next (added (stated_of c) r)) (sym size)
-      (inr (inr (k, (stated_of c, after, m, (r, n, refl)))))))
+    pub begins : (claims : List Claim) → claims ≡ [] → 0 < length tokens → Keeps claims 0
+    begins claims e h = subst (λ cs. Keeps cs 0) (sym e) ([], refl, tt, refl, h, omega arith, All-nil (Stands names points))
 
-  pub lead_end : (claims : List Claim) (next : ℕ) → is_end (token_at tokens next).kind ≡ true → Leads claims next
-      → ClaimsMean text names points tokens 64 0 (Ok (map stated_of claims))
-  lead_end claims next k leads =
-      subst (λ x. ClaimsMean text names points tokens 64 0 x) (behind_value (map stated_of claims) [] ∙ ap Ok (append-nil (map stated_of claims)))
-      (leads (Ok []) (on (64 - length claims))) where
-        on : (n : ℕ) → ClaimsMean text names points tokens n next (Ok [])
-        on zero = ap (λ (b : Bool). if b then Ok [] else Err (fault.Count (token_at tokens next).at)) (sym k)
-        on (suc n) = inl (k, refl)
+    pub keeps_on : (claims now : List Claim) (c : Claim) (next after : ℕ) → Keeps claims next → length claims < 64
+        → BeginsClaim text names points tokens next (Ok (stated_of c, after)) → Stands names points c → after < length tokens
+        → now ≡ claims ++ c ∷ [] → Keeps now after
+    keeps_on claims now c next after k h b s w e =
+        let size = length-append claims (c ∷ []) in
+        let grown = length-append k.0 (b.0 ∷ []) in
+        let same = k.3 in
+        subst (λ cs. Keeps cs after) (sym e) (
+          k.0 ++ b.0 ∷ [],
+          k.1 ∙ ap (claims_then k.0) b.1 ∙ sym (claims_more k.0 b.0 (drop after (tokens_of text tokens))),
+          subst (λ ss. AllSay text names points (k.0 ++ b.0 ∷ []) ss) (sym (map-append stated_of claims (c ∷ [])))
+              (all_more k.0 (map stated_of claims) b.0 (stated_of c) k.2 b.2),
+          omega (arith, size, grown, same),
+          w,
+          omega (arith, size, h),
+          All-push (Stands names points) claims c k.6 s,
+        )
 
-  pub lead_fault : (claims : List Claim) (next : ℕ) (f : ClaimFault) → length claims < 64 → is_end (token_at tokens next).kind ≡ false
-      → ClaimMeans text names points tokens next (Err f) → Leads claims next → ClaimsMean text names points tokens 64 0 (Err f)
-  lead_fault claims next f h k m leads =
-      let size : 64 - length claims ≡ suc (63 - length claims) = omega (arith, h) in
-      subst (λ x. ClaimsMean text names points tokens 64 0 x) (behind_fault (map stated_of claims) f)
-      (leads (Err f) (subst (λ x. ClaimsMean text names points tokens x next (Err f)) (sym size) (inr (inl (k, (f, m, refl))))))
+    pub lead_end : (claims : List Claim) (next : ℕ) → AreTokensOf text tokens → is_end (token_at tokens next).kind ≡ true
+        → Keeps claims next
+        → ClaimsMean text names points (tokens_of text tokens) (Ok (map stated_of claims))
+    lead_end claims next are h k = (
+      k.0,
+      record {
+        end_at = (token_at tokens next).at;
+        spelled = sym (k.1 ∙ ap (claims_then k.0) (drop_token text tokens next k.4
+            ∙ ap₂ (λ z y. token z (token_at tokens next).at ∷ y) (end_is (bytes_of text (token_at tokens next)) (token_at tokens next).kind
+            h) (end_last text tokens next are h)));
+        good = all_group text names points k.0 (map stated_of claims) k.2;
+      },
+      k.2,
+      let same = k.3 in let few = k.5 in omega (arith, same, few),
+    )
 
-  pub lead_count : (claims : List Claim) (next : ℕ) → 64 ≤ length claims → is_end (token_at tokens next).kind ≡ false → Leads claims next
-      → ClaimsMean text names points tokens 64 0 (Err (fault.Count (token_at tokens next).at))
-  lead_count claims next h k leads =
-      let size : 64 - length claims ≡ 0 = omega (arith, h) in
-      subst (λ x. ClaimsMean text names points tokens 64 0 x) (behind_fault (map stated_of claims) (fault.Count (token_at tokens next).at))
-      (leads (Err (fault.Count (token_at tokens next).at)) (subst (λ x. ClaimsMean text names points tokens x next (Err (fault.Count (token_at tokens next).at))) (sym size)
-      (ap (λ (b : Bool). if b then Ok [] else Err (fault.Count (token_at tokens next).at)) (sym k))))
+    pub lead_fault : (claims : List Claim) (next : ℕ) (f : ClaimFault) → length claims < 64
+        → BeginsClaim text names points tokens next (Err f) → Keeps claims next
+        → ClaimsMean text names points (tokens_of text tokens) (Err f)
+    lead_fault claims next f h b k =
+        let same = k.3 in (
+          k.0,
+          map stated_of claims,
+          drop next (tokens_of text tokens),
+          k.1,
+          k.2,
+          omega (arith, same, h),
+          b k.0 (all_group text names points k.0 (map stated_of claims) k.2) (omega (arith, same, h)),
+        )
 
-  pub lead_first : Leads [] 0
-  lead_first = λ r n. n
-
-  -- what the loop over the claims keeps
-  abbrev pub Keeps : List Claim → ℕ → Type 0
-  Keeps claims next = Leads claims next × (next < length tokens) × (length claims ≤ 64) × All (Stands names points) claims
-
-  pub begins : (claims : List Claim) → claims ≡ [] → 0 < length tokens → Keeps claims 0
-  begins claims e h = subst (λ cs. Keeps cs 0) (sym e) (lead_first, h, omega arith, All-nil (Stands names points))
-
-  pub keeps_on : (claims now : List Claim) (c : Claim) (next after : ℕ) → Keeps claims next → length claims < 64 → is_end (token_at tokens next).kind ≡ false
-      → ClaimMeans text names points tokens next (Ok (stated_of c, after)) → Stands names points c → after < length tokens → now ≡ claims ++ c ∷ [] → Keeps now after
-  keeps_on claims now c next after k h n m s w e =
-      let size = length-append claims (c ∷ []) in
-      subst (λ cs. Keeps cs after) (sym e)
-      (lead_more claims c next after h n m k.0, w, omega (arith, size, h), All-push (Stands names points) claims c k.3 s)
+    pub lead_count : (claims : List Claim) (next : ℕ) → 64 ≤ length claims → is_end (token_at tokens next).kind ≡ false → Keeps claims next
+        → ClaimsMean text names points (tokens_of text tokens) (Err (surplus (token_at tokens next).kind (token_at tokens next).at))
+    lead_count claims next h goes k =
+        let same = k.3 in
+        let few = k.5 in (
+          k.0,
+          map stated_of claims,
+          drop next (tokens_of text tokens),
+          k.1,
+          k.2,
+          omega (arith, same, few),
+          surplus_fault k.0 (token_at tokens next).kind (bytes_of text (token_at tokens next)) (token_at tokens next).at
+              (drop next (tokens_of text tokens)) _
+              (all_group text names points k.0 (map stated_of claims) k.2) (omega (arith, same, few, h)) goes
+              (drop_token text tokens next k.4),
+        )

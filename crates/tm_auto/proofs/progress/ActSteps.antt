@@ -5,11 +5,11 @@ use Rattle.tm_lex.specs.declared.token.Token.{Token}
 use Rattle.tm_gram.specs.View.{tokens_of}
 use Rattle.tm_tree.specs.declared.form.Form.{Form}
 use Rattle.tm_tree.specs.Tree.{Condition, Statement, assume}
-use Rattle.tm_parse.specs.declared.fault.ParseFault.{ParseFault}
-use Rattle.tm_parse.specs.declared.fault.ParseFault.TheVariants as parse
-use Rattle.tm_parse.specs.Names.{place_of}
-use Rattle.tm_parse.specs.Walk.{assignment}
-use Rattle.tm_parse.specs.Expressions.{Meaning, ExpressionMeans, as_truth}
+use Rattle.lang_meaning.specs.declared.fault.ParseFault.{ParseFault}
+use Rattle.lang_meaning.specs.declared.fault.ParseFault.TheVariants as parse
+use Rattle.lang_meaning.specs.Names.{place_of}
+use Rattle.lang_meaning.specs.Walk.{assignment}
+use Rattle.lang_meaning.specs.Expressions.{Meaning, ExpressionMeans, as_truth}
 use Rattle.tm_auto.specs.declared.auto_edge.AutoEdge.{AutoEdge}
 use Rattle.tm_auto.specs.declared.fault.AutoFault.{AutoFault}
 use Rattle.tm_auto.specs.declared.fault.AutoFault.TheVariants as fault

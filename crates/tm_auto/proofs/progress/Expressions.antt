@@ -3,10 +3,10 @@ use Rattle.std.proofs.Common.{◌≡◌, ◌∙◌, ℕ, ◌+◌, ◌≤◌, ◌
 use Rattle.std.proofs.lemmas.List.{length-map, length-drop}
 use Rattle.tm_lex.specs.declared.token.Token.{Token}
 use Rattle.tm_gram.specs.View.{token_of, tokens_of}
-use Rattle.tm_parse.specs.declared.fault.ParseFault.{ParseFault}
-use Rattle.tm_parse.specs.declared.fault.ParseFault.TheVariants as parse
-use Rattle.tm_parse.specs.Results.{◌>>=◌}
-use Rattle.tm_parse.specs.Expressions.{Meaning, ExpressionAnswer, ExpressionMeans, first_place, meant}
+use Rattle.lang_meaning.specs.declared.fault.ParseFault.{ParseFault}
+use Rattle.lang_meaning.specs.declared.fault.ParseFault.TheVariants as parse
+use Rattle.lang_meaning.specs.Results.{◌>>=◌}
+use Rattle.lang_meaning.specs.Expressions.{Meaning, ExpressionAnswer, ExpressionMeans, first_place, meant}
 use Rattle.tm_auto.specs.declared.fault.AutoFault.TheVariants as fault
 use Rattle.tm_auto.specs.AutoReading.{parse_fault}
 

@@ -5,9 +5,9 @@ use Rattle.std.proofs.lemmas.Bool.{lt-ltb, le-ltb, le-leb, lt-leb}
 use Rattle.tm_lex.specs.declared.token.Token.{Token}
 use Rattle.tm_tree.specs.declared.limits.TheConstants.{MOST_VARIABLES}
 use Rattle.tm_flow.specs.declared.limits.TheConstants.{MOST_POINTS}
-use Rattle.tm_parse.specs.declared.fault.ParseFault.TheVariants as parse
-use Rattle.tm_parse.specs.declared.fault.Limit.TheVariants.{Variables}
-use Rattle.tm_parse.specs.Names.{place_of}
+use Rattle.lang_meaning.specs.declared.fault.ParseFault.TheVariants as parse
+use Rattle.lang_meaning.specs.declared.fault.Limit.TheVariants.{Variables}
+use Rattle.lang_meaning.specs.Names.{place_of}
 use Rattle.tm_auto.specs.declared.fault.AutoFault.{AutoFault}
 use Rattle.tm_auto.specs.declared.fault.AutoFault.TheVariants as fault
 use Rattle.tm_auto.specs.declared.reading.point_name.PointName.{PointName}

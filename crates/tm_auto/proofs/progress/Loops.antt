@@ -6,7 +6,7 @@ use Rattle.std.proofs.lemmas.Bool.{and_from, and_parts, lt-ltb, le-leb}
 use Rattle.std.proofs.lemmas.List.{length-map}
 use Rattle.tm_tree.specs.declared.form.Form.{Form}
 use Rattle.tm_tree.specs.Limits.{is_form}
-use Rattle.tm_parse.specs.Walk.{assignment}
+use Rattle.lang_meaning.specs.Walk.{assignment}
 use Rattle.tm_lex.specs.declared.token.Token.{Token}
 use Rattle.tm_tree.specs.declared.limits.TheConstants.{MOST_VARIABLES}
 use Rattle.tm_tree.specs.declared.stmt.Stmt.{Stmt}

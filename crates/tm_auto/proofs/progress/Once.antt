@@ -5,8 +5,8 @@ use Rattle.tm_lex.specs.declared.token.Token.{Token}
 use Rattle.tm_lex.specs.Reading.{Reads}
 use Rattle.tm_lex.proofs.reading.Once.{one_token_list, one_text_fault, no_fault}
 use Rattle.tm_gram.specs.View.{tokens_of}
-use Rattle.tm_parse.specs.Expressions.{ExpressionAnswer, ExpressionMeans}
-use Rattle.tm_parse.proofs.meaning.OneExpression.{expression_once}
+use Rattle.lang_meaning.specs.Expressions.{ExpressionAnswer, ExpressionMeans}
+use Rattle.lang_meaning.proofs.meaning.OneExpression.{expression_once}
 use Rattle.tm_auto.specs.declared.auto.Auto.{Auto}
 use Rattle.tm_auto.specs.declared.fault.AutoFault.{AutoFault}
 use Rattle.tm_auto.specs.declared.fault.AutoFault.TheVariants as fault

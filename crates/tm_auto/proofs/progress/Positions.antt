@@ -5,7 +5,7 @@ use Rattle.std.specs.List.{position_from}
 use Rattle.std.specs.Str.{bytes_eq}
 use Rattle.std.proofs.lemmas.List.{at_drop_more, at_drop_all}
 use Rattle.std.proofs.lemmas.Iterator.Adapters.{position_from-zero}
-use Rattle.tm_parse.specs.Names.{place_of}
+use Rattle.lang_meaning.specs.Names.{place_of}
 use Rattle.tm_auto.specs.declared.reading.point_name.PointName.{PointName}
 use Rattle.tm_auto.specs.AutoReading.{names_of}
 

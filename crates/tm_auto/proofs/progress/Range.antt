@@ -12,8 +12,8 @@ use Rattle.tm_lex.specs.declared.sign.Sign.TheVariants as sign
 use Rattle.tm_lex.specs.Reading.{end_at}
 use Rattle.tm_lex.specs.TokenLists.{AreTokensAfter, AreTokensOf}
 use Rattle.tm_tree.specs.Word.{is_word}
-use Rattle.tm_parse.specs.Modes.{IsWordIn, IsProper, AllProper}
-use Rattle.tm_parse.proofs.modes.Proper.{all_proper}
+use Rattle.lang_meaning.specs.Proper.{IsWordIn, IsProper, AllProper}
+use Rattle.lang_meaning.proofs.proper.Lexed.{all_proper}
 use Rattle.tm_auto.specs.declared.reading.symbol.Symbol.TheVariants.{Name, End}
 use Rattle.tm_auto.specs.AutoSymbols.{sign_symbol, word_symbol, symbol_of, seen_or_end, seen_at, IsSource}
 

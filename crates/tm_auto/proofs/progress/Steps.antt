@@ -3,8 +3,8 @@ use Rattle.std.proofs.Common.{◌≡◌, ◌∙◌, ℕ, ◌+◌, List, refl, sy
 use Rattle.std.specs.Prelude.{Some, None, IsErrAnd}
 use Rattle.tm_lex.specs.declared.token.Token.{Token}
 use Rattle.tm_gram.specs.View.{tokens_of}
-use Rattle.tm_parse.specs.declared.fault.ParseFault.{ParseFault}
-use Rattle.tm_parse.specs.Expressions.{Meaning, ExpressionMeans}
+use Rattle.lang_meaning.specs.declared.fault.ParseFault.{ParseFault}
+use Rattle.lang_meaning.specs.Expressions.{Meaning, ExpressionMeans}
 use Rattle.tm_auto.specs.declared.fault.AutoFault.{AutoFault}
 use Rattle.tm_auto.specs.declared.fault.AutoFault.TheVariants as fault
 use Rattle.tm_auto.specs.declared.reading.symbol.Symbol.{Symbol}

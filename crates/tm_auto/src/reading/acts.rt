@@ -6,8 +6,8 @@ ghost use Rattle.tm_tree.specs.View.{statement_of, statements_of};
 ghost use Rattle.tm_auto.specs.declared.auto_edge.AutoEdge.{AutoEdge};
 ghost use Rattle.tm_auto.specs.declared.reading.point_name.PointName.{PointName};
 ghost use Rattle.tm_auto.specs.AutoLimits.{are_acts, is_act};
-ghost use Rattle.tm_parse.specs.Names.{place_of};
-ghost use Rattle.tm_parse.specs.Walk.{assignment};
+ghost use Rattle.lang_meaning.specs.Names.{place_of};
+ghost use Rattle.lang_meaning.specs.Walk.{assignment};
 ghost use Rattle.tm_auto.specs.AutoSymbols.{IsSource, seen_at};
 ghost use Rattle.tm_auto.specs.AutoReading.{Advances, at_act, at_edge, edge_to, progress, with_act};
 

@@ -1,7 +1,7 @@
 //! The places of names among names.
 
 ghost use Rattle.std.specs.Prelude.{◌≡◌, ◌<◌, IfSome, length};
-ghost use Rattle.tm_parse.specs.Names.{place_of};
+ghost use Rattle.lang_meaning.specs.Names.{place_of};
 ghost use Rattle.tm_auto.specs.AutoReading.{names_of};
 
 use crate::reading::point_name::PointName;

@@ -9,5 +9,6 @@ use Rattle.tm_assert.proofs.reading.file.Goals as goal
 
 pub returns-in-Ok-clause-found : goal.returns-in-Ok-clause-found
 returns-in-Ok-clause-found c =
-    file_of (λ (claims : Vec Claim Global). map stated_of claims.items) c.args.text.now c.args.flow.now.names c.args.flow.now.points c.as_slice.result.now
+    file_of (λ (claims : Vec Claim Global). map stated_of claims.items) c.args.text.now c.args.flow.now.names c.args.flow.now.points
+    c.as_slice.result.now
     c.claims_of.result (subst (Reads c.args.text.now) (sym c.as_slice.ensures.value) c.in-Ok.ensures.ok) c.claims_of.ensures.found

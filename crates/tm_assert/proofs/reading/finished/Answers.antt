@@ -2,7 +2,7 @@ use Rattle.std.proofs.Common.{◌∙◌, sym, ap}
 use Rattle.tm_flow.proofs.constants.FormLimits.{condition_room}
 use Rattle.tm_lex.specs.declared.token.Token.{Token}
 use Rattle.tm_tree.specs.View.{condition_of}
-use Rattle.tm_assert.specs.Claims.{is_semicolon, token_at}
+use Rattle.tm_assert.specs.Steps.{is_semicolon, token_at}
 use Rattle.tm_assert.proofs.claims.Ends.{goes_on, semicolon_goes_on, is_over}
 use Rattle.tm_assert.proofs.reading.finished.Goals as goal
 

@@ -1,5 +1,5 @@
 use Rattle.std.proofs.Common.{◌≡◌, drop}
-use Rattle.tm_assert.specs.Claims.{first_choice}
+use Rattle.tm_assert.specs.Steps.{first_choice}
 use Rattle.tm_assert.proofs.reading.first_choice.Given as goal
 
 abbrev pub invariant-loop-token : goal.invariant-loop-token

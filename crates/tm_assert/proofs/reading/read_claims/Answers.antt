@@ -8,4 +8,5 @@ use Rattle.tm_assert.proofs.reading.read_claims.Goals as goal
 
 pub returns-clause-exact : goal.returns-clause-exact
 returns-clause-exact c =
-    exact_by (λ (claims : Vec Claim Global). map stated_of claims.items) c.args.text.now c.args.flow.now.names c.args.flow.now.points c.file.result c.file.ensures.found
+    exact_by (λ (claims : Vec Claim Global). map stated_of claims.items) c.args.text.now c.args.flow.now.names c.args.flow.now.points
+    c.file.result c.file.ensures.found

@@ -1,7 +1,8 @@
 use Rattle.std.proofs.Common.{arith, ap, subst}
 use Rattle.tm_gram.specs.View.{tokens_of}
-use Rattle.tm_parse.proofs.meaning.Expressions.{few_tokens}
-use Rattle.tm_parse.specs.Expressions.{ExpressionMeans, read_of}
+use Rattle.lang_feed.proofs.texts.Expressions.{few_tokens}
+use Rattle.lang_meaning.specs.Expressions.{ExpressionMeans}
+use Rattle.tm_parse.specs.Expressions.{read_of}
 use Rattle.tm_assert.specs.Claims.{parsed}
 use Rattle.tm_assert.proofs.claims.Parsed.{parse_handed}
 use Rattle.tm_assert.proofs.reading.read_expression.Goals as goal
@@ -13,7 +14,8 @@ pub returns-in_err-expression-clause-found : goal.returns-in_err-expression-clau
 returns-in_err-expression-clause-found c =
     let f = c.in_err-expression.ensures.found in (
       f.0,
-      subst (λ names. ExpressionMeans c.args.text.now (tokens_of c.args.text.now c.args.tokens.now) c.args.from names f.0) c.as_slice.ensures f.1,
+      subst (λ names. ExpressionMeans c.args.text.now (tokens_of c.args.text.now c.args.tokens.now) c.args.from names f.0)
+          c.as_slice.ensures f.1,
       parse_handed read_of c.from_residual.result c.in_err-expression.field-0.0 f.0 c.from_residual.ensures.1 f.2,
     )
 
@@ -21,6 +23,7 @@ pub returns-clause-found : goal.returns-clause-found
 returns-clause-found c =
     let f = c.in_ok-expression.ensures.found in (
       f.0,
-      subst (λ names. ExpressionMeans c.args.text.now (tokens_of c.args.text.now c.args.tokens.now) c.args.from names f.0) c.as_slice.ensures f.1,
+      subst (λ names. ExpressionMeans c.args.text.now (tokens_of c.args.text.now c.args.tokens.now) c.args.from names f.0)
+          c.as_slice.ensures f.1,
       ap parsed f.2,
     )

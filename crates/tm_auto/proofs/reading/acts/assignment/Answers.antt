@@ -1,5 +1,5 @@
 use Rattle.std.proofs.Common.{◌∙◌, ◌+◌, Err, length, refl, sym, ap, subst}
-use Rattle.tm_parse.specs.Walk.{assignment}
+use Rattle.lang_meaning.specs.Walk.{assignment}
 use Rattle.tm_parse.specs.Expressions.{expr_of}
 use Rattle.tm_auto.specs.AutoSymbols.{seen_at}
 use Rattle.tm_auto.specs.AutoReading.{progress, at_act, at_right_side, as_side, assigned, with_act}

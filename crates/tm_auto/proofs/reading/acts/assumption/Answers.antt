@@ -1,7 +1,8 @@
 use Rattle.std.proofs.Common.{◌∙◌, ◌+◌, Err, sym, ap}
 use Rattle.tm_tree.specs.Tree.{assume}
 use Rattle.tm_tree.specs.View.{condition_of}
-use Rattle.tm_parse.specs.Expressions.{as_truth, expr_of}
+use Rattle.lang_meaning.specs.Expressions.{as_truth}
+use Rattle.tm_parse.specs.Expressions.{expr_of}
 use Rattle.tm_auto.specs.AutoReading.{progress, at_act, at_condition, assumed}
 use Rattle.tm_auto.proofs.progress.Steps.{passed_on}
 use Rattle.tm_auto.proofs.progress.ActSteps.{assume_goes, paren_goes, paren_fails, condition_goes, condition_refused, condition_fails, closing_goes, closing_fails, end_goes, end_fails}

@@ -1,6 +1,6 @@
 use Rattle.std.proofs.Common.{◌∙◌, ◌+◌, ◌++◌, [], ◌∷◌, Err, cond, refl, sym, ap, arith, length-append}
-use Rattle.tm_parse.specs.Names.{place_of}
-use Rattle.tm_parse.specs.declared.fault.ParseFault.TheVariants as parse
+use Rattle.lang_meaning.specs.Names.{place_of}
+use Rattle.lang_meaning.specs.declared.fault.ParseFault.TheVariants as parse
 use Rattle.tm_auto.specs.declared.fault.AutoFault.TheVariants as fault
 use Rattle.tm_auto.specs.AutoSymbols.{seen_at}
 use Rattle.tm_auto.specs.declared.reading.point_name.PointName.{PointName}

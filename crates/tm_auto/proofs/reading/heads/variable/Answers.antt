@@ -1,7 +1,7 @@
 use Rattle.std.proofs.Common.{◌∙◌, ◌+◌, ◌++◌, [], ◌∷◌, Err, cond, sym, ap, arith}
-use Rattle.tm_parse.specs.Names.{place_of}
-use Rattle.tm_parse.specs.declared.fault.ParseFault.TheVariants as parse
-use Rattle.tm_parse.specs.declared.fault.Limit.TheVariants.{Variables}
+use Rattle.lang_meaning.specs.Names.{place_of}
+use Rattle.lang_meaning.specs.declared.fault.ParseFault.TheVariants as parse
+use Rattle.lang_meaning.specs.declared.fault.Limit.TheVariants.{Variables}
 use Rattle.tm_auto.specs.declared.fault.AutoFault.TheVariants as fault
 use Rattle.tm_auto.specs.AutoReading.{progress, at_variable, at_points}
 use Rattle.tm_auto.proofs.progress.Steps.{passed_on, moved}

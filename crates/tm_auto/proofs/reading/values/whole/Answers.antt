@@ -1,6 +1,7 @@
 use Rattle.std.proofs.Common.{◌∙◌, subst}
 use Rattle.tm_gram.specs.View.{tokens_of}
-use Rattle.tm_parse.specs.Expressions.{ExpressionMeans, expr_of}
+use Rattle.lang_meaning.specs.Expressions.{ExpressionMeans}
+use Rattle.tm_parse.specs.Expressions.{expr_of}
 use Rattle.tm_auto.proofs.progress.Expressions.{expression_range, fault_told}
 use Rattle.tm_auto.proofs.reading.values.whole.Goals as goal
 
