@@ -1,7 +1,7 @@
-//! Calls over rounds: offers, one round after another, whole solutions.
+//! Calls over rounds: offers, whole solutions, and the steps of their rounds.
 
 mod lines;
 mod offers;
 mod solved;
-mod stages;
+mod steps;
 mod systems;

@@ -12,9 +12,12 @@ use Rattle.tm_eqsys.proofs.trace_tests.Traced.{all_at}
 
 -- an edge of a flow has few actions, over its names
 pub record EdgeFits (n : ℕ) (actions : List Action) : Type 0 where
+  -- an edge of the system has at most 256 actions
   pub few : length actions ≤ 256
+  -- each action of the edge is over the system's variables
   pub actions_fit : IsTrue (list_all (is_action n) actions)
 
+-- an edge read from a flow that fits has few actions, each over the flow's variables
 pub edge_fits : (flow : Flow) (edges : List Edge) (i : ℕ) (edge : Edge) → edges ≡ flow.edges → i < length edges → edge ≡ get_or edges i edge → EdgeFits (length flow.names) edge.actions
 edge_fits flow edges i edge same l e =
     let all = subst (λ es. IsTrue (list_all (is_edge (length flow.names) (length flow.points)) es)) (sym same) (flow_sizes flow).edges in

@@ -13,6 +13,7 @@ pub range_map : {X : Type 0} (f g : ℕ → X) (a n : ℕ) → ((k : ℕ) → k 
 range_map f g a zero h = refl
 range_map f g a (suc n) h = ap₂ (λ x xs. x ∷ xs) (h a (omega arith)) (range_map f g (a + 1) n (λ k l. h k (omega (arith, l))))
 
+-- two functions that agree below the end of a range give the same flat list over it
 pub range_flat : {X : Type 0} (f g : ℕ → List X) (a n : ℕ) → ((k : ℕ) → k < a + n → f k ≡ g k) → flat_map f (range_with_len a n) ≡ flat_map g (range_with_len a n)
 range_flat f g a zero h = refl
 range_flat f g a (suc n) h = ap₂ (λ x xs. x ++ xs) (h a (omega arith)) (range_flat f g (a + 1) n (λ k l. h k (omega (arith, l))))

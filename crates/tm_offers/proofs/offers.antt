@@ -1,3 +1,4 @@
 pub mod NextPick
+pub mod OfferStops
 pub mod Offered
 pub mod Unknowns

@@ -6,10 +6,8 @@ use Rattle.tm_num.specs.Extended.{Ext as Extended}
 use Rattle.tm_frac.specs.Extended.{extended}
 use Rattle.tm_frac.specs.declared.ext.Ext.{Ext}
 use Rattle.tm_frac.specs.declared.wide.Wide.{Wide}
-use Rattle.tm_eqsys.specs.declared.fault.Fault.{Fault}
 use Rattle.tm_eqsys.specs.declared.spot.Part.{Part}
 use Rattle.tm_eqsys.specs.declared.spot.PartFault.TheVariants.{Wide as WideIn}
-use Rattle.tm_eqsys.specs.declared.spot.Spot.{Spot}
 use Rattle.tm_eqsys.specs.declared.system.System.{System}
 use Rattle.tm_eqsys.specs.View.{equations_of}
 pub use Rattle.tm_eqsys.specs.View.{vector_at, edge_at, row_at}
@@ -17,7 +15,6 @@ use Rattle.tm_strategy.specs.Picks.{Transformer, Supported, Tight}
 use Rattle.tm_transformers.specs.EdgeProblems.{transformer}
 use Rattle.tm_offers.specs.declared.offer.Offer.{Offer}
 use Rattle.tm_offers.specs.Improvement.{pick_of, IsOffer, IsNext, NoneExceeds}
-use Rattle.tm_offers.specs.Stops.{IsStop}
 use Rattle.tm_oper.specs.Values.{IsOperatorFault}
 
 -- the exact transformers of a system
@@ -57,7 +54,3 @@ IsSupportedPick system bounds pick = Supported (equations_of system) (transforme
 -- each picked edge is one of the system
 abbrev pub EdgesAreThere : System → List (Option ℕ) → Type 0
 EdgesAreThere system pick = (u edge : ℕ) → get_or pick u None ≡ Some edge → edge < length system.flow.edges
-
--- a wide operation of an offer, or want of memory
-abbrev pub IsOfferStop : System → List Extended → ℕ → Fault Spot → Type 0
-IsOfferStop system bounds round stop = IsStop (equations_of system) (IsWidePart system bounds) round stop

@@ -15,7 +15,9 @@ pub type Policy = fn(&Offer) -> usize;
 pub struct Chooser {
     pub policy: fn(&Offer) -> usize,
     pub ghost takes: { (offer : _) → SomeExceeds offer.now → pre policy offer },
-    pub ghost exceeds: { (offer : _) (k : ℕ) → SomeExceeds offer.now → post policy offer k → Exceeds offer.now k } by { λ p q i offer k some answers. Exceeds-prop offer.now k (p offer k some answers) (q offer k some answers) i },
+    pub ghost exceeds: { (offer : _) (k : ℕ) → SomeExceeds offer.now → post policy offer k
+        → Exceeds offer.now k } by { λ p q i offer k some answers.
+            Exceeds-prop offer.now k (p offer k some answers) (q offer k some answers) i },
 }
 
 impl Chooser {

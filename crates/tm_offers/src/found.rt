@@ -6,8 +6,8 @@ ghost use Rattle.tm_cert.specs.Certificates.{evidence_of};
 ghost use Rattle.tm_compose.specs.Composed.{AreComposed};
 ghost use Rattle.tm_compose.specs.Value.{number_of};
 ghost use Rattle.tm_frac.specs.Extended.{extended};
-ghost use Rattle.tm_offers.specs.AtBounds.{IsOfferStop};
 ghost use Rattle.tm_offers.specs.Found.{IsFound, upper_read};
+ghost use Rattle.tm_offers.specs.Stops.{IsSolvedStop};
 
 use crate::stop::Stop;
 use std::alloc::Global;
@@ -66,7 +66,7 @@ pub fn solve_offer(
     requires bounds { length bounds.now ≡ length system.now.flow.points * length system.now.template }
     requires edge { edge < length system.now.flow.edges }
     requires row { row < length system.now.template }
-    ensures { MatchResult result (IsFound system.now bounds.now edge row) (IsOfferStop system.now bounds.now round) }
+    ensures { MatchResult result (IsFound system.now bounds.now edge row) (IsSolvedStop system.now bounds.now edge row round) }
 {
     match operator(alloc, system, paths, bounds, edge, row) {
         Ok(value) => Ok(Found {

@@ -45,7 +45,7 @@ impl Known {
     }
 
     /// Keeps what was found of an edge and a row.
-    pub fn keep(&mut self, system: &System, edge: u32, row: u32, found: Found)
+    pub(crate) fn keep(&mut self, system: &System, edge: u32, row: u32, found: Found)
         requires entries { HasEntries system.now self.old }
         requires edge { edge < length system.now.flow.edges }
         requires row { row < length system.now.template }

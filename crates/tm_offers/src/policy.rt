@@ -2,7 +2,6 @@
 
 ghost use Rattle.tm_offers.specs.Offers.{SomeExceeds, IsFirstGreatest, IsFirstExceeding};
 
-use crate::chooser::Chooser;
 use crate::offer::{Offer, exceeds};
 
 /// The first position of the greatest value. Takes no memory.
@@ -32,21 +31,4 @@ pub fn first(offer: &Offer) -> usize
         }
     }
     unreachable!()
-}
-
-/// The position that a chooser with the policy `best` answers.
-#[tactic(auto, using(crate::proofs::offers::Offered::best_exceeds))]
-pub fn chosen_by_best(offer: &Offer) -> usize
-    requires { SomeExceeds offer.now }
-    ensures { IsFirstGreatest offer.now.values result }
-{
-    Chooser::new(best).choose(offer)
-}
-
-/// The position that a chooser with the policy `first` answers.
-pub fn chosen_by_first(offer: &Offer) -> usize
-    requires { SomeExceeds offer.now }
-    ensures { IsFirstExceeding offer.now result }
-{
-    Chooser::new(first).choose(offer)
 }

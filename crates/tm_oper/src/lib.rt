@@ -10,8 +10,5 @@ mod stay;
 mod transform;
 
 pub use stay::guarded_value;
-pub use tm_compose::{
-    Affine, Affines, PathFault, Paths, Value, compose_all, composed_forms_have_columns,
-    composed_forms_mean, one_composition,
-};
+pub use tm_compose::{PathFault, Paths, Value, compose_all};
 pub use transform::operator;

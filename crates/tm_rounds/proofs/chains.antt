@@ -3,4 +3,3 @@ pub mod ChoicesAgree
 pub mod Improvements
 pub mod Listing
 pub mod OneNumber
-pub mod StartTight

@@ -2,7 +2,7 @@
 use Rattle.std.specs.Prelude.{◌≡◌, ◌⊎◌, ℕ, List}
 use Rattle.tm_base.specs.Elements.{In}
 use Rattle.tm_num.specs.Rational.{ℚ}
-use Rattle.tm_num.specs.Extended.{◌<ᴱ◌}
+use Rattle.tm_num.specs.Extended.{pos_inf, ◌<ᴱ◌}
 use Rattle.tm_frac.specs.Fits.{long_limit}
 use Rattle.tm_frac.specs.Operation.{first_wide, operation_of}
 use Rattle.std.specs.Prelude.{Some}
@@ -21,8 +21,10 @@ use Rattle.tm_eqsys.specs.declared.fault.Fault.{Fault}
 use Rattle.tm_eqsys.specs.declared.fault.Fault.TheVariants.{Wide, NoMemory}
 use Rattle.tm_rounds.specs.GrowthTests.{Test}
 
--- the first wide operation of a part of the problem of the tested unknown's edge and row, at the vector of the test
+-- the first wide operation of a part of the problem of the tested unknown's edge and row, at the vector of the test, where the
+-- unknown's bound is below +∞
 pub record IsTestSpot (system : Equations) (test : Test) (spot : Spot) : Type 0 where
+  pub limited : test.vector test.unknown.point test.unknown.row <ᴱ pos_inf
   pub part : Part
   pub site : spot.site ≡ Growth test.unknown.edge test.unknown.row part
   pub wide : IsOperatorFault system test.vector (edge_of system test.unknown) (row_of system test.unknown) (WideIn part spot.wide)

@@ -13,7 +13,8 @@ use Rattle.tm_eqsys.specs.declared.fault.Fault.TheVariants.{Wide as WideStop}
 use Rattle.tm_rounds.specs.declared.halt.Halt.{Halt}
 use Rattle.tm_rounds.specs.declared.halt.Halt.TheVariants.{Wide, Spent, NoMemory}
 use Rattle.tm_offers.specs.Improvement.{pick_of}
-use Rattle.tm_offers.specs.AtBounds.{vector_at, IsOfferStop}
+use Rattle.tm_offers.specs.AtBounds.{vector_at}
+use Rattle.tm_offers.specs.Stops.{IsOfferStop}
 use Rattle.tm_rounds.specs.Round.{IsRoundStop}
 use Rattle.tm_rounds.specs.Chains.{state_at, bounds_after, IsChain}
 

@@ -98,12 +98,17 @@ fn turns(
     Ok(())
 }
 
-/// The round by a pick from the bounds, as `round` gives it, where some of the transformers at the bounds may be known already.
+/// The round by a pick from the bounds: the growth, and then, part by part of the unknowns that it raised to fractions, the
+/// turns of joint problems. A point sets the unknowns of its list to their numbers and ends the part; a ray sets those with a
+/// rate above 0 to `+inf`, and the others are solved again. The bounds are the least that are at least the old ones and closed
+/// under the pick, and the pick is tight at them. Some of the transformers at the old bounds may be known already.
+/// `docs/METHOD.md` has growth, parts and turns.
 ///
 /// # Errors
 ///
-/// As `round`.
-pub fn round_from(
+/// `Wide` only where an operation of this round's growth or of one of its turns is too wide for a fraction: at the sites of the
+/// growth, or at that of the turn, which are numbered from 0 through the round, with the part of its joint problem. `NoMemory`.
+pub(crate) fn round_from(
     alloc: Global,
     system: &System,
     paths: &Paths,
@@ -152,38 +157,4 @@ pub fn round_from(
         raised: grown.raised,
         steps: Steps::new(steps),
     })
-}
-
-/// The round by a pick from the bounds: the growth, and then, part by part of the unknowns that it raised to fractions, the
-/// turns of joint problems. A point sets the unknowns of its list to their numbers and ends the part; a ray sets those with a
-/// rate above 0 to `+inf`, and the others are solved again. The bounds are the least that are at least the old ones and closed
-/// under the pick, and the pick is tight at them. `docs/METHOD.md` has growth, parts and turns.
-///
-/// # Errors
-///
-/// `Wide` only where an operation of this round's growth or of one of its turns is too wide for a fraction: at the sites of the
-/// growth, or at that of the turn, which are numbered from 0 through the round, with the part of its joint problem. `NoMemory`.
-pub fn round(
-    alloc: Global,
-    system: &System,
-    paths: &Paths,
-    bounds: &Bounds,
-    pick: &Pick,
-    round: u32,
-) -> Result<Grown, Stop>
-    requires composed { AreComposed (equations_of system.now) paths.now }
-    requires bounds { length bounds.now ≡ length system.now.flow.points * length system.now.template }
-    requires pick { length pick.now ≡ length system.now.flow.points * length system.now.template }
-    requires supported { IsSupportedPick system.now bounds.now pick.now }
-    ensures steps { IfOk result (λ grown. map (step_of (length system.now.template)) grown.steps ≡ round_at system.now bounds.now pick.now) }
-    ensures bounds { IfOk result (λ grown. AreBoundsOf system.now (rounded_at system.now bounds.now pick.now) grown.bounds) }
-    ensures size { IfOk result (λ grown. length grown.bounds ≡ length bounds.now) }
-    ensures above { IfOk result (λ grown. AreAbove system.now bounds.now pick.now grown.bounds) }
-    ensures tight { IfOk result (λ grown. IsTightPick system.now grown.bounds pick.now) }
-    ensures valid { IfOk result (λ grown. AreValidFrom system.now bounds.now (map (step_of (length system.now.template)) grown.steps)) }
-    ensures raised { IfOk result (λ grown. grown.raised ≡ named_at system.now (growth_at system.now bounds.now pick.now)) }
-    ensures stop { IfErr result (IsRoundStop system.now bounds.now pick.now round) }
-{
-    let known = Known::none(alloc, system)?;
-    round_from(alloc, system, paths, bounds, pick, round, &known)
 }

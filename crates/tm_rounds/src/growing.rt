@@ -2,7 +2,7 @@
 
 ghost use Rattle.tm_eqsys.specs.declared.limits.TheConstants.{MOST_UNKNOWNS};
 ghost use Rattle.std.specs.Prelude.{◌≡◌, ◌*◌, ◌<◌, ◌≤◌, ◌%◌, ℕ, length, get_or, IfOk, IfErr, Some, None, false, true};
-ghost use Rattle.tm_num.specs.Extended.{◌<ᴱ◌};
+ghost use Rattle.tm_num.specs.Extended.{◌<ᴱ◌, neg_inf, pos_inf};
 ghost use Rattle.tm_frac.specs.Extended.{extended};
 ghost use Rattle.tm_eqsys.specs.View.{equations_of};
 ghost use Rattle.tm_compose.specs.Composed.{AreComposed};
@@ -134,7 +134,8 @@ fn wake(system: &System, pick: &Pick, point: u32, quiet: &mut [bool])
     }
 }
 
-// Tests an unraised unknown with a pick, and raises it where the picked transformer exceeds its bound. Tells whether it did.
+// Tests an unraised unknown below `+inf` with a pick, and raises it where the picked transformer exceeds its bound. Tells whether it
+// did.
 fn test_picked(
     alloc: Global,
     system: &System,
@@ -152,6 +153,7 @@ fn test_picked(
     requires kept { IsKept system.now growing.old }
     requires quiet { AreQuiet system.now pick.now growing.old }
     requires unknown { unknown < length system.now.flow.points * length system.now.template }
+    requires limited { get_or growing.old.bounds unknown neg_inf <ᴱ pos_inf }
     requires unraised { get_or growing.old.raised.items unknown false ≡ false }
     requires awake { get_or growing.old.quiet.items unknown false ≡ false }
     ensures kept { IfOk result (λ told. IsKept system.now growing.new) }

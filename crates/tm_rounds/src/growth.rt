@@ -21,12 +21,12 @@ use tm_offers::{Known, Stop};
 use tm_oper::Paths;
 
 /// Numbers of unknowns in order.
-pub type UnknownNumbers = Sequence<u32>;
+pub(crate) type UnknownNumbers = Sequence<u32>;
 
 /// What unknowns grow to: the bounds then, the numbers of the unknowns that were raised, in rising order, and one step for each
 /// raise, in order of raises.
 #[derive(Drop)]
-pub struct Grown {
+pub(crate) struct Grown {
     pub bounds: Bounds,
     pub raised: UnknownNumbers,
     pub steps: Steps,
@@ -70,13 +70,16 @@ fn passes(
     Ok(())
 }
 
-/// The growth of a pick from the bounds, as `grow` gives it, where some of the transformers at the bounds may be known already:
-/// those that are and don't exceed their bounds aren't solved again.
+/// The growth of a pick from the bounds. In passes, the unknowns with a pick are tested in order of number; one that wasn't
+/// raised yet and whose picked edge's transformer exceeds its bound is raised at once, by one step, and later tests see its new
+/// bound. The passes end with one that raises nothing. Transformers that are known already and don't exceed their bounds aren't solved
+/// again. `docs/METHOD.md` says to which bound an unknown is raised.
 ///
 /// # Errors
 ///
-/// As `grow`.
-pub fn grow_from(
+/// `Wide` only where an operation of a test or of a raise of this growth is too wide for a fraction, in this round: at the site
+/// of the growth with the edge and row of the test, or at that of the raise with the number of raises before it. `NoMemory`.
+pub(crate) fn grow_from(
     alloc: Global,
     system: &System,
     paths: &Paths,
@@ -111,34 +114,4 @@ pub fn grow_from(
         raised,
         steps: Steps::new(growing.steps),
     })
-}
-
-/// The growth of a pick from the bounds. In passes, the unknowns with a pick are tested in order of number; one that wasn't
-/// raised yet and whose picked edge's transformer exceeds its bound is raised at once, by one step, and later tests see its new
-/// bound. The passes end with one that raises nothing. `docs/METHOD.md` says to which bound an unknown is raised.
-///
-/// # Errors
-///
-/// `Wide` only where an operation of a test or of a raise of this growth is too wide for a fraction, in this round: at the site
-/// of the growth with the edge and row of the test, or at that of the raise with the number of raises before it. `NoMemory`.
-pub fn grow(
-    alloc: Global,
-    system: &System,
-    paths: &Paths,
-    bounds: &Bounds,
-    pick: &Pick,
-    round: u32,
-) -> Result<Grown, Stop>
-    requires composed { AreComposed (equations_of system.now) paths.now }
-    requires bounds { length bounds.now ≡ length system.now.flow.points * length system.now.template }
-    requires pick { length pick.now ≡ length system.now.flow.points * length system.now.template }
-    requires edges { EdgesAreThere system.now pick.now }
-    ensures steps { IfOk result (λ grown. map (step_of (length system.now.template)) grown.steps ≡ growth_at system.now bounds.now pick.now) }
-    ensures bounds { IfOk result (λ grown. AreLed system.now bounds.now (map (step_of (length system.now.template)) grown.steps) grown.bounds) }
-    ensures size { IfOk result (λ grown. length grown.bounds ≡ length bounds.now) }
-    ensures raised { IfOk result (λ grown. grown.raised ≡ named_at system.now (map (step_of (length system.now.template)) grown.steps)) }
-    ensures stop { IfErr result (IsGrowthStop system.now bounds.now pick.now round) }
-{
-    let known = Known::none(alloc, system)?;
-    grow_from(alloc, system, paths, bounds, pick, round, &known)
 }

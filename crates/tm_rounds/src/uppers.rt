@@ -1,12 +1,14 @@
 //! The evidence of upper bounds that the offers at the last bounds show.
 
 ghost use Rattle.std.specs.Prelude.{◌≡◌, ◌<◌, ◌≤◌, ◌*◌, ◌++◌, ℕ, length, map, IfOk, IfErr};
+ghost use Rattle.tm_num.specs.Extended.{◌<ᴱ◌, pos_inf};
 ghost use Rattle.tm_eqsys.specs.View.{equations_of};
 ghost use Rattle.tm_cert.specs.Certificates.{evidence_of};
 ghost use Rattle.tm_compose.specs.Composed.{AreComposed};
 ghost use Rattle.tm_strategy_lp.specs.Made.{exact_upper, exact_uppers};
-ghost use Rattle.tm_offers.specs.AtBounds.{vector_at, edge_at, row_at, IsOfferStop};
+ghost use Rattle.tm_offers.specs.AtBounds.{vector_at, edge_at, row_at};
 ghost use Rattle.tm_offers.specs.Known.{AreKnown};
+ghost use Rattle.tm_offers.specs.Stops.{IsSolvedStop, IsOfferStop};
 ghost use Rattle.tm_rounds.specs.Uppers.{uppers_into, uppers_of_rows};
 
 use std::alloc::Global;
@@ -33,7 +35,7 @@ fn shown(
     requires known { AreKnown system.now bounds.now known.old }
     ensures upper { IfOk result (λ upper. evidence_of upper ≡ exact_upper (equations_of system.now) (vector_at system.now bounds.now)
         (edge_at system.now edge) (row_at system.now row)) }
-    ensures stop { IfErr result (IsOfferStop system.now bounds.now round) }
+    ensures stop { IfErr result (IsSolvedStop system.now bounds.now edge row round) }
     ensures known { AreKnown system.now bounds.now known.new }
 {
     match known.take(system, edge, row) {
@@ -45,7 +47,7 @@ fn shown(
     }
 }
 
-// Puts the evidence for each edge into a point, by edge number, behind the others.
+// Puts the evidence for each edge into a point, by edge number, behind the others, where the bound is below `+inf`.
 fn push_into(
     alloc: Global,
     system: &System,
@@ -60,6 +62,7 @@ fn push_into(
     requires composed { AreComposed (equations_of system.now) paths.now }
     requires bounds { length bounds.now ≡ length system.now.flow.points * length system.now.template }
     requires row { row < length system.now.template }
+    requires limited { vector_at system.now bounds.now point row <ᴱ pos_inf }
     requires known { AreKnown system.now bounds.now known.old }
     ensures uppers { IfOk result (λ done. map evidence_of uppers.new.items ≡ map evidence_of uppers.old.items
         ++ uppers_into (equations_of system.now) (vector_at system.now bounds.now) point row) }
@@ -122,7 +125,7 @@ fn push_point(
 /// # Errors
 ///
 /// `Wide` only where an operation of an offer is too wide for a fraction at these bounds, at the site of the offer and in this
-/// round. `NoMemory`.
+/// round, and the bound that the edge leads to is below `+inf`. `NoMemory`.
 pub(crate) fn uppers_at(
     alloc: Global,
     system: &System,

@@ -1,11 +1,9 @@
-//! What calls give, as one line: the bounds of all unknowns, then the raised unknowns, then the steps. An item of a step has its unknown and its edge.
-
-ghost use Rattle.std.specs.Prelude.{◌≤◌, length};
+//! What calls give, as one line: the bounds of all unknowns, numbers, steps. An item of a step has its unknown and its edge.
 
 use itoa::Buffer;
 use std::alloc::AllocError;
 use tm_cert::{Item, JumpItem, RayItem, Step};
-use tm_eqsys::{Bounds, Pick, Trace};
+use tm_eqsys::{Bounds, Trace};
 use tm_frac::{Ext, Frac};
 
 /// Appends a word and then a number.
@@ -48,19 +46,6 @@ pub(crate) fn add_bounds(line: &mut Vec<u8>, bounds: &Bounds) -> Result<(), Allo
     Ok(())
 }
 
-/// Appends the picked edges, with `-` where there is none.
-pub(crate) fn add_picks(line: &mut Vec<u8>, pick: &Pick, count: u32) -> Result<(), AllocError>
-    requires { count ≤ length pick.now }
-{
-    for unknown in 0..count {
-        match pick.at(unknown) {
-            Some(edge) => add_number(line, b" ", edge as u64)?,
-            None => line.extend_from_slice(b" -")?,
-        }
-    }
-    Ok(())
-}
-
 // Appends an item's unknown and edge.
 fn add_names(line: &mut Vec<u8>, unknown: u32, edge: u32) -> Result<(), AllocError> {
     add_number(line, b" ", unknown as u64)?;
@@ -93,8 +78,8 @@ fn add_ray(line: &mut Vec<u8>, item: &RayItem) -> Result<(), AllocError> {
     add_fraction(line, item.rate)
 }
 
-// Appends a step.
-fn add_step(line: &mut Vec<u8>, step: &Step) -> Result<(), AllocError> {
+/// Appends a step.
+pub(crate) fn add_step(line: &mut Vec<u8>, step: &Step) -> Result<(), AllocError> {
     match step {
         Step::Plain(items) => {
             line.extend_from_slice(b"; plain")?;
@@ -114,22 +99,6 @@ fn add_step(line: &mut Vec<u8>, step: &Step) -> Result<(), AllocError> {
                 add_ray(line, item)?;
             }
         }
-    }
-    Ok(())
-}
-
-/// Appends the raised unknowns and the steps.
-pub(crate) fn add_steps(
-    line: &mut Vec<u8>,
-    raised: &[u32],
-    steps: &[Step],
-) -> Result<(), AllocError> {
-    line.extend_from_slice(b"raised")?;
-    for unknown in raised {
-        add_number(line, b" ", *unknown as u64)?;
-    }
-    for step in steps {
-        add_step(line, step)?;
     }
     Ok(())
 }

@@ -5,7 +5,7 @@ ghost use Rattle.tm_offers.specs.Offers.{Exceeds, SomeExceeds};
 use crate::cases::{Case, first_wrong};
 use std::alloc::{AllocError, Global};
 use tm_frac::{Ext, Frac};
-use tm_offers::{Chooser, EdgeNumbers, Offer, Values, chosen_by_best, chosen_by_first, exceeds};
+use tm_offers::{Chooser, EdgeNumbers, Offer, Values, best, exceeds, first};
 
 /// The last position whose value exceeds the bound.
 pub(crate) fn last(offer: &Offer) -> usize
@@ -21,11 +21,11 @@ pub(crate) fn last(offer: &Offer) -> usize
     unreachable!()
 }
 
-// The positions that choosers with the policies `best`, `first` and `last` answer, where some value exceeds the bound.
+// The positions that `best`, `first` and a chooser with the policy `last` answer, where some value exceeds the bound.
 fn chosen(offer: &Offer) -> Option<[usize; 3]> {
     if offer.some_exceeds() {
         let by_last = Chooser::new(last).choose(offer);
-        Some([chosen_by_best(offer), chosen_by_first(offer), by_last])
+        Some([best(offer), first(offer), by_last])
     } else {
         None
     }

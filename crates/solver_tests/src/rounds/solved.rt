@@ -7,10 +7,11 @@ ghost use Rattle.tm_eqsys.specs.View.{equations_of};
 use crate::cases::{Case, Fail, first_wrong};
 use crate::rounds::lines::{add_bounds, add_number};
 use crate::rounds::offers::last;
-use crate::rounds::systems::{CASES, COUNTER, Domain, IDLE, TOGETHER, system_of};
+use crate::rounds::systems::{CASES, COUNTER, Domain, ENDLESS, IDLE, TOGETHER, system_of};
 use std::alloc::Global;
 use tm_eqsys::System;
-use tm_rounds::{Chooser, Halt, Solved, least, least_by_best, least_by_first, picks};
+use tm_offers::{Chooser, picks};
+use tm_rounds::{Halt, Solved, least, least_by_best, least_by_first};
 
 // A loop in a loop over three variables: five edges.
 const NESTED: &[u8] =
@@ -98,10 +99,19 @@ impl Case for Rounds<'_> {
     }
 }
 
-// The counter needs three rounds: the loop at 0, the loop at 100, the exit. The first and the third raise two unknowns and have two parts, the second
-// raises one. There are two edges into the
-// loop and one into the exit, each with two rows. After two rounds the exit isn't reached yet.
+// The counter needs three rounds: the loop at 0, the loop at 100, the exit. The first and the third raise two unknowns and have two
+// parts, the second raises one. There are two edges into the loop and one into the exit, each with two rows. After two rounds the
+// exit isn't reached yet. The loop without a guard needs two: its second round raises three unknowns, and rays set the two upper ones
+// to +inf. Only the lower bounds need evidence then.
 const COUNTERS: &[Rounds] = &[
+    Rounds {
+        text: COUNTER,
+        domain: Domain::Intervals,
+        by: By::First,
+        limit: 1,
+        start: b"spent +inf +inf 0 0 -inf -inf ",
+        is_whole: true,
+    },
     Rounds {
         text: COUNTER,
         domain: Domain::Intervals,
@@ -116,6 +126,30 @@ const COUNTERS: &[Rounds] = &[
         by: By::First,
         limit: 2,
         start: b"spent +inf +inf 100 0 -inf -inf ",
+        is_whole: true,
+    },
+    Rounds {
+        text: ENDLESS,
+        domain: Domain::Intervals,
+        by: By::First,
+        limit: 1,
+        start: b"spent +inf +inf 0 0 -inf -inf ",
+        is_whole: true,
+    },
+    Rounds {
+        text: ENDLESS,
+        domain: Domain::Intervals,
+        by: By::First,
+        limit: 2,
+        start: b"+inf +inf +inf 0 +inf 0 improvements 2 steps 10 uppers 3",
+        is_whole: true,
+    },
+    Rounds {
+        text: TOGETHER,
+        domain: Domain::Zones,
+        by: By::First,
+        limit: 2,
+        start: b"spent +inf +inf +inf +inf +inf +inf 10 0 10 0 0 0 -inf -inf -inf -inf -inf -inf ",
         is_whole: true,
     },
     Rounds {

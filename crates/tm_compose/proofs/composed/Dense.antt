@@ -13,11 +13,13 @@ use Rattle.tm_compose.specs.Composed.{first_entries, dense}
 use Rattle.tm_compose.specs.Operations.{column_values, constants}
 use Rattle.tm_compose.specs.Sums.{dense_column, dense_constants}
 
+-- the first w entries of a list are w entries
 pub length-first_entries : (w : ℕ) (xs : List ℚ) → length (first_entries w xs) ≡ w
 length-first_entries zero xs = refl
 length-first_entries (suc w) [] = ap suc (length-first_entries w [])
 length-first_entries (suc w) (x ∷ xs) = ap suc (length-first_entries w xs)
 
+-- the entry at a place below w is that of the list, or zero behind its end
 pub get_or-first_entries : (w : ℕ) (xs : List ℚ) (k : ℕ) → k < w → get_or (first_entries w xs) k zero_ℚ ≡ get_or xs k zero_ℚ
 get_or-first_entries zero xs k l = absurd (omega (arith, l))
 get_or-first_entries (suc w) [] zero l = refl
@@ -30,6 +32,7 @@ pub column-dense : (w k : ℕ) (forms : List Form) → k < w → dense_column k 
 column-dense w k [] l = refl
 column-dense w k (f ∷ forms) l = ap₂ (λ x xs. x ∷ xs) (get_or-first_entries w f.coeffs k l) (column-dense w k forms l)
 
+-- forms with all their columns have the constants of the forms
 pub constants-dense : (w : ℕ) (forms : List Form) → dense_constants (map (dense w) forms) ≡ constants forms
 constants-dense w [] = refl
 constants-dense w (f ∷ forms) = ap (λ xs. f.constant ∷ xs) (constants-dense w forms)
@@ -43,6 +46,7 @@ coeff-combined (c ∷ cs) (f ∷ forms) k =
     get_or-add_vec (scale_vec (whole c) f.coeffs) (combined cs forms).coeffs k
     ∙ ap₂ (λ x y. x +ℚ y) (get_or-scale_vec (whole c) f.coeffs k) (coeff-combined cs forms k)
 
+-- the constant of a row over forms is the row's product with their constants
 pub constant-combined : (row : List ℤ) (forms : List Form) → (combined row forms).constant ≡ dotℚ row (constants forms)
 unfolding combined
 constant-combined [] forms = refl
@@ -55,10 +59,12 @@ coeffs-combined w row forms =
     sym (fill_by_all (λ k. dotℚ row (column_values k forms)) (first_entries w (combined row forms).coeffs) w zero_ℚ (length-first_entries w (combined row forms).coeffs)
     (λ k l. get_or-first_entries w (combined row forms).coeffs k l ∙ coeff-combined row forms k))
 
+-- a program's form over forms has the coefficients of its row over them
 pub coeffs-composed : (form : ProgramForm) (forms : List Form) → (composed form forms).coeffs ≡ (combined form.coeffs forms).coeffs
 unfolding composed
 coeffs-composed form forms = refl
 
+-- the constant of a program's form over forms is its value at their constants
 pub constant-composed : (form : ProgramForm) (forms : List Form) → (composed form forms).constant ≡ valueℚ form (constants forms)
 unfolding composed
 constant-composed form forms = ap (λ y. y +ℚ whole form.constant) (constant-combined form.coeffs forms)
@@ -67,11 +73,13 @@ constant-composed form forms = ap (λ y. y +ℚ whole form.constant) (constant-c
 pub entries-first : (w : ℕ) (xs : List ℚ) → map (λ k. get_or xs k zero_ℚ) (range_with_len 0 w) ≡ first_entries w xs
 entries-first w xs = sym (fill_by_all (λ k. get_or xs k zero_ℚ) (first_entries w xs) w zero_ℚ (length-first_entries w xs) (get_or-first_entries w xs))
 
+-- a column's form has coefficient one at its own place
 pub column-here : (place : ℕ) → get_or (column place).coeffs place zero_ℚ ≡ one_ℚ
 unfolding column shifted
 column-here zero = refl
 column-here (suc place) = column-here place
 
+-- a column's form has coefficient zero at each other place
 pub column-other : (place k : ℕ) → k ≢ place → get_or (column place).coeffs k zero_ℚ ≡ zero_ℚ
 unfolding column shifted
 column-other zero zero n = absurd (n refl)
@@ -79,6 +87,7 @@ column-other zero (suc k) n = refl
 column-other (suc place) zero n = refl
 column-other (suc place) (suc k) n = column-other place k (λ e. n (ap suc e))
 
+-- a column's form has constant zero
 pub column-constant : (place : ℕ) → (column place).constant ≡ zero_ℚ
 unfolding column shifted
 column-constant zero = refl

@@ -14,6 +14,7 @@ use Rattle.tm_eqsys.specs.Faults.{OperationFault, IsFaultOf}
 use Rattle.tm_compose.proofs.operations.Walked.{guards_few}
 use Rattle.tm_compose.proofs.walk.States.{length-columns}
 
+-- the start variables and the free values of actions are together their width
 pub width_is : (n frees : ℕ) (actions : List Action) → frees ≡ free_count actions → n + frees ≡ width n actions
 unfolding width
 width_is n frees actions e = ap (λ h. n + h) e

@@ -21,9 +21,11 @@ use Rattle.tm_compose.proofs.composed.Dense.{length-first_entries}
 
 -- ---- the forms of an edge
 module _ (system : Equations) (paths : List EdgeForms) (h : AreComposed system paths) where
+  -- there is one composition for each edge of the system
   pub paths_count : length paths ≡ length system.edges
   paths_count = ap (λ (ps : List EdgeForms). length ps) h.same ∙ length-map system.edges (λ (edge : Edge). edge_forms system.variables system.template edge.actions)
 
+  -- the composition at an edge's place is that of the edge's actions
   pub forms_are : (k : ℕ) (edge : Edge) (forms : EdgeForms) → slice_get system.edges k ≡ Some edge → slice_get paths k ≡ Some forms → forms ≡ edge_forms system.variables system.template edge.actions
   forms_are k edge forms e p =
       let all = sym p ∙ ap (λ ps. slice_get ps k) h.same ∙ slice_get-map (λ (x : Edge). edge_forms system.variables system.template x.actions) system.edges k in
@@ -35,6 +37,7 @@ mapped v P all [] k y e = absurd cc
 mapped v P all (x ∷ xs) zero y e = subst P (let same : v x ≡ y = cc in same) (all x)
 mapped v P all (x ∷ xs) (suc k) y e = mapped v P all xs k y e
 
+-- the composed forms of actions have one coefficient for each start variable and each free value
 pub have_columns : (n : ℕ) (template : List (List ℤ)) (actions : List Action) (forms : EdgeForms) → forms ≡ edge_forms n template actions →
     (forms.frees ≡ free_count actions) × ((g : ℕ) (form : Affine) → slice_get forms.guards g ≡ Some form → length form.coeffs ≡ width n actions)
     × ((r : ℕ) (form : Affine) → slice_get forms.rows r ≡ Some form → length form.coeffs ≡ width n actions) × (length forms.rows ≡ length template)
@@ -64,7 +67,8 @@ dot-first (suc w) [] word e = nothing (suc w) word
 dot-first (suc w) (x ∷ xs) [] e = absurd (omega (arith, e))
 dot-first (suc w) (x ∷ xs) (y ∷ word) e = ap (λ s. (x *ℚ y) +ℚ s) (dot-first w xs word (omega (arith, e)))
 
-pub val-dense : (w : ℕ) (f : Form) (word : Word) → length word ≡ w → val (form_of (dense w f)) word ≡ val f word
+-- a form with all its columns has the form's value at a word of that width
+val-dense : (w : ℕ) (f : Form) (word : Word) → length word ≡ w → val (form_of (dense w f)) word ≡ val f word
 unfolding val
 val-dense w f word e = ap (λ s. s +ℚ f.constant) (dot-first w f.coeffs word e)
 
@@ -80,6 +84,7 @@ end-value : (n : ℕ) (actions : List Action) (row : List ℤ) (word : Word) →
 unfolding end_form end_of
 end-value n actions row word = val-combined row (Rattle.tm_validity.specs.Words.ends_from n (Rattle.tm_validity.specs.Words.columns n) actions) word
 
+-- the composed forms of actions say which traces go that way and what they end with
 pub mean_traces : (n : ℕ) (template : List (List ℤ)) (actions : List Action) (x : RationalState) (free : List ℚ) → length x ≡ n → length free ≡ free_count actions → MeanTraces template actions (edge_forms n template actions) x free
 mean_traces n template actions x free e f =
     let long = length-word n actions x free e f in

@@ -10,8 +10,10 @@ use Rattle.tm_eqsys.proofs.Widths.{first_wide_later, first_wide_sooner}
 
 -- what is left has the first wide operation of all
 pub record IsPassed {X : Type 0} (f : X → List Operation) (xs : List X) (i : ℕ) : Type 0 where
+  -- the first wide operation of all elements is that of the elements left
   pub first : first_wide long_limit (flat_map f xs) ≡ first_wide long_limit (flat_map f (drop i xs))
 
+-- before the first element nothing wide is passed
 pub passed_none : {X : Type 0} (f : X → List Operation) (xs : List X) → IsPassed f xs 0
 passed_none f xs = record { first = refl }
 
@@ -19,12 +21,15 @@ module _ {X : Type 0} (f : X → List Operation) (xs : List X) (i : ℕ) (h : Is
   left : first_wide long_limit (flat_map f xs) ≡ first_wide long_limit (f x ++ flat_map f (drop (i + 1) xs))
   left = h.first ∙ ap (λ ys. first_wide long_limit (flat_map f ys)) (drop_more xs i x l) ∙ ap (λ y. first_wide long_limit (f y ++ flat_map f (drop (i + 1) xs))) (sym e)
 
+  -- an element with no wide operation is passed
   pub passed_more : first_wide long_limit (f x) ≡ None → IsPassed f xs (i + 1)
   passed_more n = record { first = left ∙ first_wide_later long_limit (f x) (flat_map f (drop (i + 1) xs)) n }
 
+  -- the first wide operation of an element is the first of all, where none before it is wide
   pub passed_wide : (o : Operation) → first_wide long_limit (f x) ≡ Some o → first_wide long_limit (flat_map f xs) ≡ Some o
   passed_wide o w = left ∙ first_wide_sooner long_limit (f x) (flat_map f (drop (i + 1) xs)) o w
 
+-- where all elements are passed, none of their operations is wide
 pub passed_all : {X : Type 0} (f : X → List Operation) (xs : List X) (i : ℕ) → length xs ≤ i → IsPassed f xs i → first_wide long_limit (flat_map f xs) ≡ None
 passed_all f xs i l h = h.first ∙ ap (λ ys. first_wide long_limit (flat_map f ys)) (drop_all i xs l)
 

@@ -29,6 +29,7 @@ range_here : (w k : ℕ) → k < w → k ≡ get_or (range_with_len 0 w) k k
 range_here w k l = let e = get_or-range_with_len 0 w k k l in omega (arith, e)
 
 module _ (row : List ℤ) (state : List Affine) (w : ℕ) where
+  -- a column whose sum has no wide operation is passed
   pub columns_more : (k : ℕ) → k < w → IsPassed (λ j. row_operations row (dense_column j state)) (range_with_len 0 w) k → first_wide long_limit (row_operations row (dense_column k state)) ≡ None →
       IsPassed (λ j. row_operations row (dense_column j state)) (range_with_len 0 w) (k + 1)
   columns_more k l h n = passed_more (λ j. row_operations row (dense_column j state)) (range_with_len 0 w) k h k (let e = length-range_with_len 0 w in omega (arith, l)) (range_here w k l) n
@@ -78,6 +79,7 @@ module _ (w : ℕ) (form : ProgramForm) (forms : List Form) where
   parted : row_composition w forms form.coeffs ++ (record { op = Add; left = dotℚ form.coeffs (constants forms); right = whole form.constant } ∷ []) ≡ form_composition w forms form
   parted = append_assoc (column_operations w form.coeffs forms) (row_operations form.coeffs (constants forms)) (record { op = Add; left = dotℚ form.coeffs (constants forms); right = whole form.constant } ∷ [])
 
+  -- a fault of a form's row over the state is a fault of the form
   pub form_refused : (fault : OperationFault) → IsFaultOf (row_composition w forms form.coeffs) fault → IsFaultOf (form_composition w forms form) fault
   form_refused fault h = subst (λ os. IsFaultOf os fault) parted (sooner (row_composition w forms form.coeffs) (record { op = Add; left = dotℚ form.coeffs (constants forms); right = whole form.constant } ∷ []) fault h)
 
@@ -91,11 +93,13 @@ module _ (w : ℕ) (form : ProgramForm) (forms : List Form) where
         subst (λ y. SumAnswers (dotℚ form.coeffs (constants forms) +ℚ y) (record { op = Add; left = dotℚ form.coeffs (constants forms); right = y } ∷ []) res) k
         (subst (λ x. SumAnswers (x +ℚ right) (record { op = Add; left = x; right = right } ∷ []) res) left_is (one_answer Add row.constant right res m))
 
+    -- where the last sum is wide, that sum is the form's fault
     pub last_refused : (o : Wide ℚ) → (¬ (Fits long_limit (row.constant +ℚ right))) × (o ≡ record { op = Add; left = row.constant; right = right }) → IsFaultOf (form_composition w forms form) (WideFault o)
     last_refused o m =
         subst (λ os. IsFaultOf os (WideFault o)) parted
         (later (row_composition w forms form.coeffs) (record { op = Add; left = dotℚ form.coeffs (constants forms); right = whole form.constant } ∷ []) (WideFault o) n (sum_answers (Err o) m))
 
+    -- where the last sum fits, the row with that constant is the composed form
     pub form_composed : (coeffs : List ℚ) (r : ℚ) → coeffs ≡ row.coeffs → (r ≡ row.constant +ℚ right) × Fits long_limit r →
         (let f : Affine = record { coeffs = coeffs; constant = r } in f ≡ dense w (composed form forms)) × (first_wide long_limit (form_composition w forms form) ≡ None)
     form_composed coeffs r g m =

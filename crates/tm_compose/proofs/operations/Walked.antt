@@ -26,6 +26,7 @@ entries_all : (w : ℕ) (xs : List ℚ) → length xs ≡ w → xs ≡ first_ent
 entries_all w [] e = subst (λ n. [] ≡ first_entries n []) e refl
 entries_all w (x ∷ xs) e = subst (λ n. x ∷ xs ≡ first_entries n (x ∷ xs)) e (ap (λ ys. x ∷ ys) (entries_all (length xs) xs refl))
 
+-- a state of forms of one width is that of its own forms with all their columns
 pub state_of : (w : ℕ) (state : List Affine) → IsState w state → state ≡ map (dense w) (map form_of state)
 state_of w [] h = refl
 state_of w (f ∷ state) h =
@@ -55,9 +56,13 @@ ends_nil k forms = refl
 
 -- ---- all actions, as far as the first i are composed: the guards so far, the state of forms now, and what is left
 pub record IsWalked (w k : ℕ) (forms : List Form) (actions : List Action) (i next : ℕ) (state guards : List Affine) (now : List Form) : Type 0 where
+  -- the state is that of the forms now, with all their columns
   pub state_now : state ≡ map (dense w) now
+  -- all guards are those so far, and then those of the actions left
   pub guards_now : map (dense w) (guards_from k forms actions) ≡ guards ++ map (dense w) (guards_from next now (drop i actions))
+  -- the forms at the end are those that the actions left lead to
   pub ends_left : ends_from k forms actions ≡ ends_from next now (drop i actions)
+  -- the first wide operation of all actions is that of the actions left
   pub first_left : (template : List (List ℤ)) → first_wide long_limit (actions_composition w template k forms actions) ≡ first_wide long_limit (actions_composition w template next now (drop i actions))
 
 -- some state of forms is it
@@ -65,6 +70,7 @@ abbrev pub Walked : ℕ → ℕ → List Form → List Action → ℕ → ℕ �
 Walked w k forms actions i next state guards = (now : List Form) × IsWalked w k forms actions i next state guards now
 
 module _ (w k : ℕ) (forms : List Form) (actions : List Action) where
+  -- before the first action the walk is at its start
   pub walked_none : (next : ℕ) (state : List Affine) → next ≡ k → state ≡ map (dense w) forms → IsWalked w k forms actions 0 next state [] forms
   walked_none next state n e = record {
     state_now = e;
@@ -81,6 +87,7 @@ module _ (w k : ℕ) (forms : List Form) (actions : List Action) where
         first_wide long_limit (actions_composition w template k forms actions) ≡ first_wide long_limit (action_composition w now action ++ actions_composition w template (next_column next action) (next_state next now action) (drop (i + 1) actions))
     first_on template = h.first_left template ∙ ap (λ later. first_wide long_limit (actions_composition w template next now later)) left
 
+    -- an action that composes takes the walk one action further
     pub walked_more : (after : ℕ) (state' guards' : List Affine) → after ≡ next_column next action → state' ≡ map (dense w) (next_state next now action) → guards' ≡ guards ++ map (dense w) (action_guards now action) →
         first_wide long_limit (action_composition w now action) ≡ None → IsWalked w k forms actions (i + 1) after state' guards' (next_state next now action)
     walked_more after state' guards' n s g f = record {
@@ -96,6 +103,7 @@ module _ (w k : ℕ) (forms : List Form) (actions : List Action) where
           ∙ ap (λ j. first_wide long_limit (actions_composition w template j (next_state next now action) (drop (i + 1) actions))) (sym n);
     }
 
+    -- a fault of the action at hand is a fault of all actions
     pub walked_wide : (fault : OperationFault) → IsFaultOf (action_composition w now action) fault → (template : List (List ℤ)) → IsFaultOf (actions_composition w template k forms actions) fault
     walked_wide NoMemory f template = tt
     walked_wide (Wide o) f template =
@@ -105,12 +113,15 @@ module _ (w k : ℕ) (forms : List Form) (actions : List Action) where
     ends_now : ends_from k forms actions ≡ now
     ends_now = h.ends_left ∙ ap (ends_from next now) (drop_all i actions l) ∙ ends_nil next now
 
+    -- at the end the guards are those of all actions
     pub walked_guards : guards ≡ map (dense w) (guards_from k forms actions)
     walked_guards = sym (h.guards_now ∙ ap (λ later. guards ++ map (dense w) (guards_from next now later)) (drop_all i actions l) ∙ ap (λ gs. guards ++ map (dense w) gs) (guards_nil next now) ∙ append-nil guards)
 
+    -- at the end the state is that of the forms behind all actions
     pub walked_state : state ≡ map (dense w) (ends_from k forms actions)
     walked_state = h.state_now ∙ ap (map (dense w)) (sym ends_now)
 
+    -- at the end the operations that are left are those of the template's rows
     pub walked_first : (template : List (List ℤ)) → first_wide long_limit (actions_composition w template k forms actions) ≡ first_wide long_limit (flat_map (row_composition w (ends_from k forms actions)) template)
     walked_first template =
         h.first_left template ∙ ap (λ later. first_wide long_limit (actions_composition w template next now later)) (drop_all i actions l)
@@ -123,6 +134,7 @@ column_frees k (Guard form) = omega arith
 column_frees k (Assign var form) = omega arith
 column_frees k (Havoc var) = omega arith
 
+-- actions have at most as many guards as there are actions
 pub guards_few : (k : ℕ) (forms : List Form) (actions : List Action) → length (guards_from k forms actions) ≤ length actions
 unfolding guards_from
 guards_few k forms [] = omega arith

@@ -21,5 +21,6 @@ column_read state i k f coeffs x l h same read =
     ∙ ap (λ cs. get_or cs k zero_ℚ) same
     ∙ sym (get_or-map (λ (g : Affine). get_or g.coeffs k zero_ℚ) state i f x l)
 
+-- the constant of a form that is read from a state is read from the state's constants
 pub constant_read : (state : List Affine) (i : ℕ) (f : Affine) (x : ℚ) → i < length state → x ≡ (get_or state i f).constant → x ≡ get_or (dense_constants state) i x
 constant_read state i f x l read = read ∙ sym (get_or-map (λ (g : Affine). g.constant) state i f x l)

@@ -12,6 +12,7 @@ use Rattle.tm_eqsys.proofs.Widths.{first_wide_past}
 use Rattle.tm_eqsys.proofs.states.Summed.{product_added}
 use Rattle.tm_compose.specs.Sums.{FittingSum}
 
+-- zero fits
 pub zero_fits : Fits long_limit zero_ℚ
 zero_fits =
     let n = ap nat_abs (num-whole (pos 0)) in

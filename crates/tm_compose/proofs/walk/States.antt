@@ -23,6 +23,7 @@ pub state_dense : (w : ℕ) (forms : List Form) → IsState w (map (dense w) for
 state_dense w [] = refl
 state_dense w (f ∷ forms) = ap₂ (λ a b. a && b) (eq-eqb (length (dense w f).coeffs) w (length-first_entries w f.coeffs)) (state_dense w forms)
 
+-- forms with all w columns have w coefficients each
 pub state_is : (state : List Affine) (w : ℕ) (forms : List Form) → state ≡ map (dense w) forms → IsState w state
 state_is state w forms e = subst (IsState w) (sym e) (state_dense w forms)
 
@@ -32,6 +33,7 @@ unfolding column
 columns_shifted a zero = refl
 columns_shifted a (suc n) = ap₂ (λ x xs. x ∷ xs) (ap column (add-one a)) (columns_shifted (a + 1) n)
 
+-- the forms of the first n columns are those of the numbers below n
 pub columns_are : (n : ℕ) → columns n ≡ map column (range_with_len 0 n)
 unfolding columns
 columns_are zero = refl
@@ -41,9 +43,11 @@ map_map : {X Y Z : Type 0} (f : X → Y) (g : Y → Z) (xs : List X) → map (λ
 map_map f g [] = refl
 map_map f g (x ∷ xs) = ap (λ ys. g (f x) ∷ ys) (map_map f g xs)
 
+-- the start state is that of the variables' own columns
 pub start_is : (w n : ℕ) → map (λ k. dense w (column k)) (range_with_len 0 n) ≡ map (dense w) (columns n)
 start_is w n = map_map column (dense w) (range_with_len 0 n) ∙ ap (map (dense w)) (sym (columns_are n))
 
+-- there are as many columns as variables
 pub length-columns : (n : ℕ) → length (columns n) ≡ n
 unfolding columns
 length-columns zero = refl

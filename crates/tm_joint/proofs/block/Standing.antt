@@ -12,6 +12,7 @@ use Rattle.tm_transformers.specs.EdgeProblems.{source_limit, guard_limits}
 use Rattle.tm_joint.specs.Rows.{on_numbers, dense_row, StandsFor, AllStand, SameForm, embedded, own_limit_of}
 use Rattle.tm_joint.proofs.rows.Padded.{dense_same, length-dense, start_same, negated_same}
 
+-- what holds of a success holds where two facts of it give it
 pub on_ok_both : {T E P Q R : Type 0} (r : Result T E) → OnOk r P → OnOk r Q → (P → Q → R) → OnOk r R
 on_ok_both (Ok x) p q f = f p q
 on_ok_both (Err e) p q f = tt
@@ -38,6 +39,7 @@ stands_for cols c target list offset u v row side l h e = record {
   same_side = refl;
 }
 
+-- a template's row with its side stands for the limit of a source
 pub source_stands : (cols : ℕ) (target : ℕ) (list : List ℕ) (offset n : ℕ) (template_row : List ℤ) (coeffs row : List ℚ) (c side : ℚ) → length list + (offset + (length template_row + length template_row)) ≤ cols → length template_row ≤ n →
     coeffs ≡ map whole template_row → c ≡ neg_ℚ one_ℚ → row ≡ dense_row cols (on_numbers c target list) offset coeffs →
     StandsFor cols row side (record { coeffs = embedded (neg_ℚ one_ℚ) target list offset (start_form n template_row).coeffs; side = side })
@@ -45,28 +47,34 @@ source_stands cols target list offset n template_row coeffs row c side l m e f g
     stands_for cols (neg_ℚ one_ℚ) target list offset (map whole template_row) (start_form n template_row).coeffs row side (let k = length-map template_row whole in omega (arith, k, l)) (start_same n template_row m)
     (g ∙ ap₂ (λ a u. dense_row cols (on_numbers a target list) offset u) f e)
 
+-- a finite bound gives its row one limit
 pub source_finite : (embed : List ℚ → List ℚ) (n : ℕ) (side : ℚ) (row : List ℤ) → source_limit embed n (fin side) row [] ≡ record { coeffs = embed (start_form n row).coeffs; side = side } ∷ []
 unfolding source_limit
 source_finite embed n side row = refl
 
+-- a bound of minus infinity gives its row no limit
 pub source_below : (embed : List ℚ → List ℚ) (n : ℕ) (row : List ℤ) (ls : List Limit) → ls ++ source_limit embed n neg_inf row [] ≡ ls
 unfolding source_limit
 source_below embed n row ls = append-nil ls
 
+-- a bound of infinity gives its row no limit
 pub source_above : (embed : List ℚ → List ℚ) (n : ℕ) (row : List ℤ) (ls : List Limit) → ls ++ source_limit embed n pos_inf row [] ≡ ls
 unfolding source_limit
 source_above embed n row ls = append-nil ls
 
+-- a guard's row with its side stands for the guard's limit
 pub guard_stands : (cols : ℕ) (list : List ℕ) (offset : ℕ) (coeffs row : List ℚ) (c constant side : ℚ) (form : Affine) → length list + (offset + (length coeffs + length coeffs)) ≤ cols → SameForm coeffs constant form → c ≡ zero_ℚ →
     side ≡ neg_ℚ constant → row ≡ dense_row cols (on_numbers c 0 list) offset coeffs → StandsFor cols row side (record { coeffs = embedded zero_ℚ 0 list offset form.coeffs; side = neg_ℚ form.constant })
 guard_stands cols list offset coeffs row c constant side form l h z e f =
     subst (λ s. StandsFor cols row side (record { coeffs = embedded zero_ℚ 0 list offset form.coeffs; side = s })) (e ∙ ap neg_ℚ h.same_constant)
     (stands_for cols zero_ℚ 0 list offset coeffs form.coeffs row side l h.entries (f ∙ ap (λ a. dense_row cols (on_numbers a 0 list) offset coeffs) z))
 
+-- a guard gives one limit
 pub guard_one : (embed : List ℚ → List ℚ) (form : Affine) → guard_limits embed (form ∷ []) ≡ record { coeffs = embed form.coeffs; side = neg_ℚ form.constant } ∷ []
 unfolding guard_limits
 guard_one embed form = refl
 
+-- the row of an unknown's own form stands for the limit of its rise
 pub own_stands : (cols : ℕ) (target : ℕ) (list : List ℕ) (offset : ℕ) (coeffs turned row : List ℚ) (c side : ℚ) (form : Affine) → length list + (offset + (length coeffs + length coeffs)) ≤ cols → ((k : ℕ) → at coeffs k ≡ at form.coeffs k) → c ≡ one_ℚ →
     turned ≡ map neg_ℚ coeffs → row ≡ dense_row cols (on_numbers c target list) offset turned → StandsFor cols row side (own_limit_of (embedded one_ℚ target list offset) form side)
 own_stands cols target list offset coeffs turned row c side form l h z e f =

@@ -23,7 +23,8 @@ use Rattle.tm_joint.specs.Blocks.{edge_at, edge_for, own_of, block_of, blocks_fr
 same_true : (a b : ℕ) → a ≡ b → a == b ≡ true
 same_true a b e = ⊎_elim (λ h. h.0) (λ h. absurd (h.1 e)) (eqb_tells a b)
 
-pub same_false : (a b : ℕ) → ¬ (a ≡ b) → a == b ≡ false
+-- the comparison of two different numbers is false
+same_false : (a b : ℕ) → ¬ (a ≡ b) → a == b ≡ false
 same_false a b n = ⊎_elim (λ h. absurd (n h.1)) (λ h. h.0) (eqb_tells a b)
 
 -- a number is that of a point and a row where these are its quotient and its remainder
@@ -119,11 +120,13 @@ module _ (system : System) (pick : List (Option ℕ)) (base : List Ext) (list : 
   unfolding columns_of picked
   width_is u = refl
 
+  -- the columns of a list of numbers are those of the words of its unknowns
   pub columns_are : (rest : List ℕ) → split_columns system pick rest ≡ word_columns eqs (all_listed system pick rest)
   unfolding word_columns
   columns_are [] = refl
   columns_are (u ∷ rest) = ap₂ (λ x y. x + y) (width_is u) (columns_are rest)
 
+  -- the blocks of a list of numbers are the joint limits of its unknowns
   pub blocks_are : (offset : ℕ) (rest : List ℕ) → ArePicked system pick rest → blocks_from system pick base list offset rest ≡ joint_limits eqs b us offset (all_listed system pick rest)
   unfolding joint_limits
   blocks_are offset [] h = refl
@@ -142,6 +145,7 @@ module _ (system : System) (pick : List (Option ℕ)) where
         unlisted_behind u (v + 1) rest (omega (arith, l, a)) s h.1,
       )
 
+  -- the unknowns of a rising list of numbers are distinct
   pub listed_distinct : (k : ℕ) (list : List ℕ) → Rises k list → ArePicked system pick list → Distinct (all_listed system pick list)
   listed_distinct k [] h p = tt
   listed_distinct k (u ∷ rest) h p =

@@ -19,11 +19,13 @@ shift_at : (n : ℕ) (x : ℕ → ℚ) (j : ℕ) → shift n x j ≡ x (n + j)
 shift_at zero x j = let e : j ≡ 0 + j = omega arith in ap x e
 shift_at (suc n) x j = let e : suc (n + j) ≡ suc n + j = omega arith in shift_at n (λ k. x (suc k)) j ∙ ap x e
 
+-- the entry of a table at a place is the function's value there
 pub at_tabulate : (N : ℕ) (x : ℕ → ℚ) (c : ℕ) → c < N → get_or (tabulate N x) c zero_ℚ ≡ x c
 at_tabulate zero x c l = absurd (omega (arith, l))
 at_tabulate (suc N) x zero l = refl
 at_tabulate (suc N) x (suc c) l = at_tabulate N (λ k. x (suc k)) c (omega (arith, l))
 
+-- two functions that agree have the same table
 pub tabulate_same : (k : ℕ) (f g : ℕ → ℚ) → ((j : ℕ) → f j ≡ g j) → tabulate k f ≡ tabulate k g
 tabulate_same k f g h = ap (tabulate k) (fun_ext h)
 
@@ -65,6 +67,7 @@ word_is N x n offset names frees l =
     next k = let e : suc (n + offset + k) ≡ n + (offset + suc k) = omega arith in ap x e ∙ sym (shift_at n x (offset + suc k)) ∙ sym (shift_at offset (shift n x) (suc k))
 
 module _ (system : System) (pick : List (Option ℕ)) where
+  -- the traces that are read of a list are the words of its unknowns
   pub words_are : (N : ℕ) (x : ℕ → ℚ) (n place offset : ℕ) (rest : List ℕ) → n + offset + split_columns system pick rest ≤ N →
       map word_of (map (trace_at (tabulate N x)) (rises_from system pick n place offset rest)) ≡ words_of (equations_of system) (all_listed system pick rest) (shift offset (shift n x))
   unfolding words_of columns_of picked width

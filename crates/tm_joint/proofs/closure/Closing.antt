@@ -7,6 +7,7 @@ use Rattle.std.proofs.lemmas.List.FromFn.{length-range_with_len}
 use Rattle.tm_joint.specs.declared.node.Node.{Node}
 use Rattle.tm_joint.specs.Tables.{row_by, joined, stepped, closed}
 
+-- a closed table has one row for each point
 pub length-closed : (points : ℕ) (nodes : List Node) → length (closed points nodes) ≡ points
 length-closed points [] = length-map (range_with_len 0 points) (λ p. row_by points (λ q. p == q)) ∙ length-range_with_len 0 points
 length-closed points (a ∷ nodes) = length-map (closed points nodes) (joined a.point (get_or (closed points nodes) a.source [])) ∙ length-closed points nodes

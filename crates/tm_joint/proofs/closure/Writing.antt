@@ -5,11 +5,15 @@ use Rattle.std.proofs.lemmas.Grind.{drop_more_same}
 
 -- the first i elements are those of ts, and the others still those of ys
 pub record IsWritten {X : Type 0} (ts ys xs : List X) (i : ℕ) : Type 0 where
+  -- the list keeps its length
   pub size : length xs ≡ length ys
+  -- the front is as wanted
   pub done : take i xs ≡ take i ts
+  -- the rest is as before
   pub left : drop i xs ≡ drop i ys
 
 module _ {X : Type 0} (ts ys : List X) where
+  -- before the first place nothing is written
   pub write_none : IsWritten ts ys ys 0
   write_none = record { size = refl; done = refl; left = refl }
 
@@ -19,6 +23,7 @@ module _ {X : Type 0} (ts ys : List X) where
       let k : i + 0 ≡ i = omega arith in
       ap (λ j. get_or xs j d) (sym k) ∙ sym (get_or-drop i xs 0 d) ∙ ap (λ s. get_or s 0 d) h.left ∙ get_or-drop i ys 0 d ∙ ap (λ j. get_or ys j d) k
 
+  -- one element more is written at the place at hand
   pub write_more : (xs : List X) (i : ℕ) (y : X) → length ts ≡ length ys → IsWritten ts ys xs i → i < length xs → y ≡ get_or ts i y → IsWritten ts ys (set xs i y) (i + 1)
   write_more xs i y e h l k = record {
     size = length-set xs i y ∙ h.size;
@@ -26,5 +31,6 @@ module _ {X : Type 0} (ts ys : List X) where
     left = drop-set-lt (i + 1) xs i y (omega arith) ∙ drop_more_same xs ys i h.left;
   }
 
+  -- a list that is written up to its end is the wanted one
   pub write_all : (xs : List X) (i : ℕ) → length ts ≡ length ys → IsWritten ts ys xs i → length xs ≤ i → xs ≡ ts
   write_all xs i e h l = sym (take_all i xs l) ∙ h.done ∙ take_all i ts (let s = h.size in omega (arith, l, e, s))

@@ -21,6 +21,7 @@ module _ (rows : List (List Bool)) (n : ℕ) (all : List (List ℕ)) (lists : Li
   pub cut_stops : None ≡ find (may_come rows left) left → lists ≡ all
   cut_stops e = sym (h ∙ ap (λ ys. lists ++ ys) (step ∙ ap (cut_next rows left (cut_from rows (n - (turn + 1)))) (sym e)) ∙ append-nil lists)
 
+-- behind the last turn all parts are cut off
 pub cut_all : (rows : List (List Bool)) (n : ℕ) (all lists : List (List ℕ)) (turn : ℕ) (left : List Node) → all ≡ lists ++ cut_from rows (n - turn) left → n ≤ turn → lists ≡ all
 cut_all rows n all lists turn left h l = let e : n - turn ≡ 0 = omega (arith, l) in sym (h ∙ ap (λ m. lists ++ cut_from rows m left) e ∙ append-nil lists)
 

@@ -47,6 +47,7 @@ module _ (system : System) (pick : List (Option ℕ)) (list : List ℕ) where
   abbrev nodes : List Node
   nodes = nodes_of system pick list
 
+  -- each part of a rising list rises
   pub parts_rise : ArePicked system pick list → Rises 0 list → EachRises (part_numbers system pick list)
   parts_rise picked h = subst EachRises (parts_shown system pick list picked) (cut_rises (closed (length system.flow.points) nodes) (length nodes) nodes (subst (Rises 0) (sym (unknowns_all system pick list)) h))
 
@@ -66,6 +67,7 @@ module _ (system : System) (pick : List (Option ℕ)) (list : List ℕ) where
   parts_back [] sub = refl
   parts_back (xs ∷ ps) sub = ap₂ (λ y ys. y ∷ ys) (part_back xs (λ y m. sub y (inl m))) (parts_back ps (λ y m. sub y (inr m)))
 
+  -- the unknowns of the parts' numbers are the parts of the list's unknowns
   pub parts_listed : each_listed system pick (part_numbers system pick list) ≡ listed_parts system pick list
   parts_listed = parts_back (listed_parts system pick list) (λ x m. parts_sound (equations_of system) us x m)
 
@@ -73,8 +75,10 @@ module _ (system : System) (pick : List (Option ℕ)) (list : List ℕ) where
   pub number_classes : NumberClasses system pick list (part_numbers system pick list)
   number_classes = rw parts_listed (parts_classes (equations_of system) us)
 
+  -- the numbers of the parts are admissible
   pub numbers_admissible : NumbersAdmissible system pick list (part_numbers system pick list)
   numbers_admissible = rw parts_listed (parts_admissible (equations_of system) us)
 
+  -- the numbers of the parts are in order
   pub numbers_in_order : NumbersInOrder system pick list (part_numbers system pick list)
   numbers_in_order = rw parts_listed (parts_in_order (equations_of system) us)

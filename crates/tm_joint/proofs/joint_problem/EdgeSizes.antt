@@ -95,6 +95,7 @@ few_template system =
     let k : 2 * t ≤ length system.flow.points * t = mul-le-mul_right t p in
     omega (arith, s, k)
 
+-- a list's blocks have few rows for each of its unknowns
 pub few_rows : (system : System) (pick : List (Option ℕ)) (base : List Ext) (list : List ℕ) (offset : ℕ) (rest : List ℕ) → ArePicked system pick rest → length (blocks_from system pick base list offset rest) ≤ (MOST_UNKNOWNS + 257) * length rest
 few_rows system pick base list offset [] h = omega arith
 few_rows system pick base list offset (u ∷ rest) h =

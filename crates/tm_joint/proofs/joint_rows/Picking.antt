@@ -8,6 +8,7 @@ use Rattle.tm_eqsys.proofs.Sizes.{both}
 use Rattle.tm_joint.specs.Numbers.{Rises, IsPicked, ArePicked, edge_of}
 use Rattle.tm_eqsys.specs.declared.limits.TheConstants.{MOST_UNKNOWNS}
 
+-- each number of a list of picked unknowns is picked
 pub picked_at : (system : System) (pick : List (Option ℕ)) (list : List ℕ) (i : ℕ) → ArePicked system pick list → i < length list → IsPicked system pick (get_or list i 0)
 picked_at system pick [] i h l = absurd (omega (arith, l))
 picked_at system pick (u ∷ list) zero h l = h.0
@@ -23,14 +24,17 @@ rising_length system pick from (u ∷ list) r p l =
     let a = r.0 in
     omega (arith, k, a)
 
+-- a system has at most the greatest number of unknowns
 pub system_size : (system : System) → length system.flow.points * length system.template ≤ MOST_UNKNOWNS
 system_size system =
     let n = length system.flow.points * length system.template in
     leb-true n MOST_UNKNOWNS (both (is_over (length system.flow.names) system.template) (nat_le n MOST_UNKNOWNS) system.within_limits).1
 
+-- the template of a system is over its variables
 pub over : (system : System) → IsTrue (is_over (length system.flow.names) system.template)
 over system = (both (is_over (length system.flow.names) system.template) (nat_le (length system.flow.points * length system.template) MOST_UNKNOWNS) system.within_limits).0
 
+-- a rising list of picked unknowns is no longer than the greatest number of unknowns
 pub few_listed : (system : System) (pick : List (Option ℕ)) (list : List ℕ) → Rises 0 list → ArePicked system pick list → length list ≤ MOST_UNKNOWNS
 few_listed system pick list r p =
     let n = length system.flow.points * length system.template in

@@ -7,6 +7,7 @@ use Rattle.tm_validity.specs.Words.{width, free_count}
 use Rattle.tm_joint.specs.Blocks.{edge_at, edge_for, split_width, split_columns}
 use Rattle.tm_joint.specs.Layouts.{columns_from, rise_of, rises_from, layout_of}
 
+-- two columns more extend the columns by one
 pub columns_push : (first n : ℕ) → columns_from first (n + 1) ≡ columns_from first n ++ (first + n + n) ∷ []
 columns_push first zero = let e : first ≡ first + 0 + 0 = omega arith in ap (λ c. c ∷ []) e
 columns_push first (suc n) =
@@ -16,13 +17,17 @@ columns_push first (suc n) =
 
 -- the unknowns so far, and where the columns of the next one stand
 pub record IsLaid (system : System) (pick : List (Option ℕ)) (list : List ℕ) (done : List Rise) (offset i : ℕ) : Type 0 where
+  -- the whole layout is what is laid so far, and then that of the unknowns left
   pub rest : layout_of system pick list ≡ done ++ rises_from system pick (length list) i offset (drop i list)
+  -- the columns so far and those left are all columns
   pub columns : offset + split_columns system pick (drop i list) ≡ split_columns system pick list
 
 module _ (system : System) (pick : List (Option ℕ)) (list : List ℕ) where
+  -- before the first unknown nothing is laid
   pub laid_none : IsLaid system pick list [] 0 0
   laid_none = record { rest = refl; columns = let e : 0 + split_columns system pick list ≡ split_columns system pick list = omega arith in e }
 
+  -- the rise of the unknown at hand extends what is laid
   pub laid_more : (done : List Rise) (offset i next : ℕ) (rise : Rise) → IsLaid system pick list done offset i → i < length list → rise ≡ rise_of system pick (length list) i offset (get_or list i 0) →
       next ≡ offset + split_width system (edge_for pick (get_or list i 0)) → IsLaid system pick list (done ++ rise ∷ []) next (i + 1)
   laid_more done offset i next rise h l e f =
@@ -33,9 +38,11 @@ module _ (system : System) (pick : List (Option ℕ)) (list : List ℕ) where
         columns = let a = h.columns in let b = ap (split_columns system pick) more in omega (arith, a, b, f);
       }
 
+  -- the columns of the unknown at hand are within those of the list
   pub laid_fits : (done : List Rise) (offset i : ℕ) → IsLaid system pick list done offset i → i < length list → offset + split_width system (edge_for pick (get_or list i 0)) ≤ split_columns system pick list
   laid_fits done offset i h l = let a = h.columns in let b = ap (split_columns system pick) (drop_more list i 0 l) in omega (arith, a, b)
 
+  -- behind the last unknown the layout is complete
   pub laid_all : (done : List Rise) (offset i : ℕ) → IsLaid system pick list done offset i → length list ≤ i → done ≡ layout_of system pick list
   laid_all done offset i h l = sym (h.rest ∙ ap (λ xs. done ++ rises_from system pick (length list) i offset xs) (drop_all i list l) ∙ append-nil done)
 

@@ -51,6 +51,7 @@ module _ (system : System) (pick : List (Option ℕ)) (base : List Ext) where
       (numbers_from N x n (place + 1) (offset + split_width system (edge_for pick u)) rest g (omega (arith, l))
       (ap (drop 1) h ∙ tabulate_same (length rest) (λ j. x (place + suc j)) (λ j. x (place + 1 + j)) (λ j. let k : place + suc j ≡ place + 1 + j = omega arith in ap x k)))
 
+  -- the numbers that are read of a list are those of base plus rise
   pub numbers_are : (list : List ℕ) (N : ℕ) (x : ℕ → ℚ) → length list ≤ N → AllRising (equations_of system) (vector_of (length system.template) base) (all_listed system pick list) → Distinct (all_listed system pick list) →
       map (number_at base (tabulate N x)) (layout_of system pick list) ≡ map (λ u. num (raised (all_listed system pick list) x (vector_of (length system.template) base) u.point u.row)) (all_listed system pick list)
   unfolding raised

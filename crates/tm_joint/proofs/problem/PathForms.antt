@@ -61,6 +61,7 @@ module _ (system : System) (edge : ℕ) where
   abbrev forms : List Form
   forms = guard_forms n (edge_at system edge).actions
 
+  -- the composed edge has as many guards as forms are read
   pub guard_count : (k : ℕ) → k ≡ length (edge_forms n system.template (edge_at system edge).actions).guards → k ≡ length forms
   guard_count k e = e ∙ length-map forms (dense w)
 

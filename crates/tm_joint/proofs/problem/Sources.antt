@@ -36,11 +36,15 @@ later_more embed n bounds template i l =
 
 -- the rows of the template so far stand for their limits, behind those that stood before
 pub record AreSources (cols : ℕ) (embed : ℕ → List ℚ → List ℚ) (n : ℕ) (bounds : ℕ → Ext) (template : List (List ℤ)) (rows_old : List (List ℚ)) (sides_old : List ℚ) (rows : List (List ℚ)) (sides : List ℚ) (i : ℕ) : Type 0 where
+  -- the limits of the rows so far
   pub done : List Limit
+  -- all limits of the source are those so far, and then those of the rows left
   pub rest : source_limits embed n bounds template ≡ done ++ later_limits embed n bounds template i
+  -- the rows and sides put stand for the limits so far, behind those before
   pub stand : (ls : List Limit) → AllStand cols rows_old sides_old ls → AllStand cols rows sides (ls ++ done)
 
 module _ (cols : ℕ) (embed : ℕ → List ℚ → List ℚ) (n : ℕ) (bounds : ℕ → Ext) (template : List (List ℤ)) (rows_old : List (List ℚ)) (sides_old : List ℚ) where
+  -- before the first row nothing is put
   pub sources_none : AreSources cols embed n bounds template rows_old sides_old rows_old sides_old 0
   sources_none =
       let here = λ (r : ℕ). let e : r ≡ 0 + r = omega arith in e in
@@ -50,6 +54,7 @@ module _ (cols : ℕ) (embed : ℕ → List ℚ → List ℚ) (n : ℕ) (bounds 
         stand = λ ls h. subst (AllStand cols rows_old sides_old) (sym (append-nil ls)) h;
       }
 
+  -- a row that stands for its limits extends what is put
   pub sources_more : (rows new_rows : List (List ℚ)) (sides new_sides : List ℚ) (i : ℕ) (row : List ℤ) (b : Ext) → AreSources cols embed n bounds template rows_old sides_old rows sides i → i < length template → row ≡ get_or template i [] → b ≡ bounds i →
       ((ls : List Limit) → AllStand cols rows sides ls → AllStand cols new_rows new_sides (ls ++ source_limit (embed i) n b row [])) → AreSources cols embed n bounds template rows_old sides_old new_rows new_sides (i + 1)
   sources_more rows new_rows sides new_sides i row b h l e f k = record {
@@ -63,6 +68,7 @@ module _ (cols : ℕ) (embed : ℕ → List ℚ → List ℚ) (n : ℕ) (bounds 
   unfolding source_limits
   no_limits f g = refl
 
+  -- behind the last row the rows and sides stand for all limits of the source
   pub sources_all : (rows : List (List ℚ)) (sides : List ℚ) (i : ℕ) → AreSources cols embed n bounds template rows_old sides_old rows sides i → length template ≤ i →
       (ls : List Limit) → AllStand cols rows_old sides_old ls → AllStand cols rows sides (ls ++ source_limits embed n bounds template)
   sources_all rows sides i h l ls s =
@@ -75,10 +81,12 @@ unfolding guard_limits
 guard-append embed [] ys = refl
 guard-append embed (x ∷ xs) ys = ap (λ zs. record { coeffs = embed x.coeffs; side = neg_ℚ x.constant } ∷ zs) (guard-append embed xs ys)
 
+-- no guard adds no limit
 pub guards_none : (embed : List ℚ → List ℚ) (ls : List Limit) → ls ++ guard_limits embed [] ≡ ls
 unfolding guard_limits
 guards_none embed ls = append-nil ls
 
+-- the guard at hand adds its limit in front of those left
 pub guard_more : (embed : List ℚ → List ℚ) (forms : List Affine) (i : ℕ) (form : Affine) (ls : List Limit) → i < length forms → form ≡ get_or forms i form →
     (ls ++ guard_limits embed (take i forms)) ++ guard_limits embed (form ∷ []) ≡ ls ++ guard_limits embed (take (i + 1) forms)
 guard_more embed forms i form ls l e =

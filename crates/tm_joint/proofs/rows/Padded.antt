@@ -16,7 +16,8 @@ use Rattle.tm_joint.specs.Rows.{dense_row}
 abbrev pub Same : List ℚ → List ℚ → Type 0
 Same u v = (k : ℕ) → at u k ≡ at v k
 
-pub same_behind : (a u v : List ℚ) → Same u v → Same (a ++ u) (a ++ v)
+-- the same list in front keeps lists the same
+same_behind : (a u v : List ℚ) → Same u v → Same (a ++ u) (a ++ v)
 same_behind [] u v h k = h k
 same_behind (x ∷ a) u v h zero = refl
 same_behind (x ∷ a) u v h (suc k) = same_behind a u v h k
@@ -26,6 +27,7 @@ at_zeros zero k = refl
 at_zeros (suc n) zero = refl
 at_zeros (suc n) (suc k) = at_zeros n k
 
+-- zeros behind a list keep its entries
 pub same_zeros : (u : List ℚ) (n : ℕ) → Same (u ++ zeros n) u
 same_zeros [] n k = at_zeros n k
 same_zeros (x ∷ u) n zero = refl
@@ -39,7 +41,8 @@ split_empty (y ∷ v) h zero = h 0
 split_empty (y ∷ v) h (suc zero) = sym neg_ℚ-zero ∙ ap neg_ℚ (h 0)
 split_empty (y ∷ v) h (suc (suc k)) = split_empty v (λ j. h (suc j)) k
 
-pub split_same : (u v : List ℚ) → Same u v → Same (split_list u) (split_list v)
+-- lists with the same entries have the same split lists
+split_same : (u v : List ℚ) → Same u v → Same (split_list u) (split_list v)
 unfolding split_list
 split_same [] v h k = split_empty v h k
 split_same (x ∷ u) [] h k = sym (split_empty (x ∷ u) (λ j. sym (h j)) k)
@@ -54,6 +57,7 @@ dense_same cols rises offset u v h k =
     ∙ ap (λ xs. at xs k) (append_assoc rises (zeros offset) (split_list u))
     ∙ same_behind rises (zeros offset ++ split_list u) (zeros offset ++ split_list v) (same_behind (zeros offset) (split_list u) (split_list v) (split_same u v h)) k
 
+-- a row with all its columns has one entry for each column
 pub length-dense : (cols : ℕ) (rises : List ℚ) (offset : ℕ) (u : List ℚ) → length rises + (offset + (length u + length u)) ≤ cols → length (dense_row cols rises offset u) ≡ cols
 length-dense cols rises offset u l =
     omega (

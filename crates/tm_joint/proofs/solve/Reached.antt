@@ -56,13 +56,15 @@ module _ (system : System) (pick : List (Option ℕ)) where
         laid_within n cols (place + 1) (offset + split_width system (edge_for pick u)) rest (omega (arith, l)) (omega (arith, k)),
       )
 
-  pub layout_within : (list : List ℕ) → AreWithin (length list + split_columns system pick list) (layout_of system pick list)
+  -- the layout of a list is within the columns of its problem
+  layout_within : (list : List ℕ) → AreWithin (length list + split_columns system pick list) (layout_of system pick list)
   layout_within list = laid_within (length list) (length list + split_columns system pick list) 0 0 list (omega arith) (omega arith)
 
   laid_bounded : (m n place offset : ℕ) (rest : List ℕ) → m ≡ length system.flow.points * length system.template → ArePicked system pick rest → AreBounded m (rises_from system pick n place offset rest)
   laid_bounded m n place offset [] e h = tt
   laid_bounded m n place offset (u ∷ rest) e h = (let i = h.0.in_range in omega (arith, i, e), laid_bounded m n (place + 1) (offset + split_width system (edge_for pick u)) rest e h.1)
 
+  -- the unknowns of a layout are those of the system
   pub layout_bounded : (m : ℕ) (list : List ℕ) → m ≡ length system.flow.points * length system.template → ArePicked system pick list → AreBounded m (layout_of system pick list)
   layout_bounded m list e h = laid_bounded m (length list) 0 0 list e h
 
@@ -81,10 +83,12 @@ module _ (system : System) (pick : List (Option ℕ)) (base : List Ext) (list : 
   abbrev cols : ℕ
   cols = length list + split_columns system pick list
 
-  pub cols_are : (problem_of system pick base list).cols ≡ cols
+  -- the problem has the columns of the list's unknowns and words
+  cols_are : (problem_of system pick base list).cols ≡ cols
   unfolding joint_problem limits_problem
   cols_are = sym (ap₂ (λ x y. x + y) (sym (length-map list (listed_of (length system.template) pick))) (columns_are system pick base list rises list))
 
+  -- the outcome of a joint problem can be read by the layout
   pub readable : (o : lp.Outcome) (out : Outcome ℚ) → IsOutcomeOf (λ q. q) (problem_of system pick base list) o out → JointOutcome (equations_of system) (vector_of (length system.template) base) (all_listed system pick list) o → IsReadable (layout_of system pick list) out
   readable (best x v y) (Best point value multipliers) h k = subst (λ n. AreWithin n (layout_of system pick list)) (sym (h.0.size ∙ cols_are)) (layout_within system pick list)
   readable (best x v y) (Unbounded point ray) h k = absurd h
@@ -109,6 +113,7 @@ module _ (system : System) (pick : List (Option ℕ)) (base : List Ext) (list : 
   from_ray x d (Ok j) h = (subst (λ k. IsReadFrom system pick base list (unbounded x d) k) (sym h.0) refl, h.1)
   from_ray x d (Err f) h = h
 
+  -- an outcome that is read answers for the joint problem
   pub answered : (o : lp.Outcome) (out : Outcome ℚ) (result : Result Joined PartFault) → IsOutcomeOf (λ q. q) (problem_of system pick base list) o out →
       JointOutcome (equations_of system) (vector_of (length system.template) base) (all_listed system pick list) o → ReadsOutcome base (layout_of system pick list) out result → Answered o result
   answered (best x v y) (Best point value multipliers) result h k r =
@@ -138,6 +143,7 @@ module _ (system : System) (pick : List (Option ℕ)) (base : List Ext) (list : 
       ∙ ap (λ n. words_of eqs us (shift n x)) (sym (length-map list (listed_of (length system.template) pick)))
 
   module _ (rising : AllRising eqs b us) (distinct : Distinct us) where
+    -- what is read from a joint outcome has the meaning of the joint problem
     pub means_of : (o : lp.Outcome) (j : Joined) → JointOutcome eqs b us o → IsReadFrom system pick base list o j → JoinedMeans system pick base list j
     means_of (best x v y) (Point to highs) k h = record {
       reached = raised us x b;

@@ -106,6 +106,7 @@ module _ (system : System) (pick : List (Option ℕ)) (list : List ℕ) (picked 
       not_same false e n = refl
       not_same true e n = absurd (n (sym (number_back (length system.template) pick a.unknown) ∙ ap (number_of (length system.template)) (same_equal (shown system pick a) (shown system pick b) e) ∙ number_back (length system.template) pick b.unknown))
 
+  -- a node leans on another exactly where its unknown does
   pub leans_shown : (a b : Node) → In nodes a → In nodes b → a.source == b.point ≡ leans eqs (shown system pick a) (shown system pick b)
   unfolding leans
   leans_shown a b m n = ap₂ (λ x y. x == y) (node_in system pick list picked a m).source (node_in system pick list picked b n).point
@@ -139,6 +140,7 @@ module _ (system : System) (pick : List (Option ℕ)) (list : List ℕ) (picked 
       ∙ leads_reaches nodes (λ x i. i) a b m n
       ∙ ap (λ vs. reaches eqs vs (shown system pick a) (shown system pick b)) (shown_all system pick list)
 
+  -- two nodes are in one part exactly where their unknowns are
   pub one_part_shown : (a b : Node) → In nodes a → In nodes b → are_one_part (closed points nodes) a b ≡ together eqs us (shown system pick a) (shown system pick b)
   unfolding together
   one_part_shown a b m n = ap₂ (λ x y. x && y) (gets_shown a b m n) (gets_shown b a n m)

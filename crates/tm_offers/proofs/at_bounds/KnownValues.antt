@@ -132,7 +132,9 @@ module _ (system : System) (point number : ℕ) (mid : Known) (nothing : Nothing
 
 -- what is known after some points: it was known, and those of these points from which a known edge starts keep their bounds
 pub record StillKnown (system : System) (before after : List Extended) (old new : Known) (points : ℕ) : Type 0 where
+  -- there is one entry for each edge and row
   pub entries : HasEntries system new
+  -- each value that is known is that of its edge and row
   pub stand : (edge row : ℕ) (value : Found) → edge < length system.flow.edges → row < length system.template → known_at system new edge row ≡ Some value →
       (known_at system old edge row ≡ Some value) × ((edge_at system edge).from < points → IsSameAt system before after (edge_at system edge).from)
 

@@ -35,6 +35,7 @@ ends_pass system edge c =
 pub source_in_range : (system : System) (edge : ℕ) → edge < length system.flow.edges → (edge_at system edge).from < length system.flow.points
 source_in_range system edge l = (ends_pass system (edge_at system edge) (Contains-get_or system.flow.edges edge _ l)).0
 
+-- each edge of a system ends at one of its points
 pub points_in_range : (system : System) → PointsInRange (equations_of system)
 points_in_range system = record {
   entry = (let two = (flow_sizes system.flow).two_points in omega arith);

@@ -73,6 +73,7 @@ module _ (system : Equations) where
       same [] = refl
       same (r ∷ rs) = ap (λ xs. suc (length (edges_into p system.edges)) ∷ xs) (same rs)
 
+  -- the product over no point is one
   pub product_to-zero : product_to 0 ≡ 1
   unfolding product_to product
   product_to-zero = refl
@@ -95,6 +96,7 @@ module _ (system : Equations) where
       ∙ ap (λ us. product (map factor (flat_map at (range_with_len 0 n))) * product (map factor us)) (append-nil (at n))
       ∙ ap (λ x. product (map factor (flat_map at (range_with_len 0 n))) * x) (product_at n)
 
+  -- the product over all points is the number of picks
   pub product_to-all : product_to system.points ≡ pick_count system
   unfolding product_to factor at made pick_count unknowns
   product_to-all = refl

@@ -34,10 +34,14 @@ module _ (system : Equations) (z : Vector) (policy : Offer → ℕ → Type 0) w
 
   -- the unknowns before u have their next edges, and whether one of them was offered any
   pub record ImprovedTo (old new : List (Option ℕ)) (u : ℕ) (improved : Bool) : Type 0 where
+    -- there is one entry for each unknown
     pub size : length new ≡ system.points * length system.template
+    -- each unknown so far becomes what the policy says, and an offer to it marks an improvement
     pub each : (k : ℕ) → k < u → (offered : Bool) × UnknownBecomes system z policy k (get_or old k None) (get_or new k None) offered × (offered ≡ true → improved ≡ true)
+    -- an improvement comes from an unknown with an offer
     pub some : improved ≡ true → (k : ℕ) × (k < u) × IsListed (offers system (transformer system) z (k / length system.template) (k % length system.template)) true
 
+  -- before the first unknown nothing is improved
   pub improved_none : (old new : List (Option ℕ)) → length new ≡ system.points * length system.template → ImprovedTo old new 0 false
   improved_none old new size = record {
     size = size;
@@ -93,9 +97,11 @@ module _ (system : Equations) (z : Vector) (policy : Offer → ℕ → Type 0) w
         by [] offered t u = refl
         by (k ∷ ks) offered t u = absurd (true≢false (sym (u t) ∙ e))
 
+    -- where no unknown is improved, there is no next pick
     pub next_none : improved ≡ false → IsNext system (transformer system) z policy (pick_of (length system.template) old) None
     next_none e = no_next system (transformer system) z policy range old new old_size done.size becomes_at (none_offered e)
 
+    -- where an unknown is improved, the new pick is the next one
     pub next_some : improved ≡ true → IsNext system (transformer system) z policy (pick_of (length system.template) old) (Some (pick_of (length system.template) new))
     next_some e = by (offers_of s.0) refl s.2
       where

@@ -12,7 +12,8 @@ use Rattle.tm_offers.specs.AtBounds.{transformers, vector_at, IsTransformerAt}
 use Rattle.tm_offers.specs.Improvement.{numbers_into}
 
 module _ (p : ℕ) where
-  pub length-numbers_into : (k : ℕ) (edges : List Edge) → length (numbers_into p k edges) ≡ length (edges_into p edges)
+  -- there is one number for each edge into a point
+  length-numbers_into : (k : ℕ) (edges : List Edge) → length (numbers_into p k edges) ≡ length (edges_into p edges)
   unfolding numbers_into edges_into
   length-numbers_into k [] = refl
   length-numbers_into k (edge ∷ edges) = by (eqb edge.to p) (length-numbers_into (suc k) edges)
@@ -69,7 +70,8 @@ module _ (p : ℕ) where
     numbers_yes to = ap (numbers_into p 0) first_more ∙ numbers-more 0 (take i edges) edge
         ∙ ap₂ (λ n b. numbers_into p 0 (take i edges) ++ (if b then n ∷ [] else [])) count (eqb_is edge.to p to)
 
-    pub edges_yes : edge.to ≡ p → edges_into p (take (i + 1) edges) ≡ edges_into p (take i edges) ++ edge ∷ []
+    -- an edge into the point extends the edges into it
+    edges_yes : edge.to ≡ p → edges_into p (take (i + 1) edges) ≡ edges_into p (take i edges) ++ edge ∷ []
     unfolding this
     edges_yes to = ap (edges_into p) first_more ∙ edges-more (take i edges) edge ∙ ap (λ b. edges_into p (take i edges) ++ (if b then edge ∷ [] else [])) (eqb_is edge.to p to)
 
@@ -79,14 +81,17 @@ module _ (p : ℕ) where
     numbers_no to = ap (numbers_into p 0) first_more ∙ numbers-more 0 (take i edges) edge
         ∙ ap (λ b. numbers_into p 0 (take i edges) ++ (if b then (0 + length (take i edges)) ∷ [] else [])) (eqb_is_not edge.to p to) ∙ append-nil (numbers_into p 0 (take i edges))
 
-    pub edges_no : (edge.to ≡ p → ⊥) → edges_into p (take (i + 1) edges) ≡ edges_into p (take i edges)
+    -- an edge to another point leaves the edges into the point as they are
+    edges_no : (edge.to ≡ p → ⊥) → edges_into p (take (i + 1) edges) ≡ edges_into p (take i edges)
     unfolding this
     edges_no to = ap (edges_into p) first_more ∙ edges-more (take i edges) edge ∙ ap (λ b. edges_into p (take i edges) ++ (if b then edge ∷ [] else [])) (eqb_is_not edge.to p to) ∙ append-nil (edges_into p (take i edges))
 
+-- no edges have no numbers
 pub numbers_none : (p k : ℕ) → numbers_into p k [] ≡ []
 unfolding numbers_into
 numbers_none p k = refl
 
+-- no edges lead into a point
 pub edges_none : (p : ℕ) → edges_into p [] ≡ []
 unfolding edges_into
 edges_none p = refl
@@ -109,6 +114,7 @@ module _ (system : System) (bounds : List Extended) (row : ℕ) where
         map-append extended before (value ∷ []) ∙ ap₂ (λ xs x. xs ++ x ∷ []) e v
         ∙ sym (map-append row_value (edges_into p (take i edges)) (edge ∷ [])) ∙ ap (map row_value) (sym (edges_yes p edges i edge l is to))
 
+    -- an edge to another point leaves the values of the edges into the point as they are
     pub values_no : (edge.to ≡ p → ⊥) → map row_value (edges_into p (take i edges)) ≡ map row_value (edges_into p (take (i + 1) edges))
     values_no to = ap (map row_value) (sym (edges_no p edges i edge l is to))
 

@@ -67,6 +67,7 @@ module _ (system : Equations) (z q : Vector) (edge : Edge) (row : List ℤ) (sam
   outcome_same (unbounded x d) = refl
   outcome_same (empty y) = ap₂ Evidence.Empty (same_spread (z edge.from) (q edge.from) system.template y same) (guards_same y)
 
+  -- vectors with the same bounds at an edge's source give it the same evidence of an upper bound
   pub upper_by_source : exact_upper system z edge row ≡ exact_upper system q edge row
   unfolding exact_upper
   upper_by_source =

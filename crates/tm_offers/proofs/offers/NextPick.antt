@@ -66,6 +66,7 @@ module _ (system : Equations) (T : Transformer) (z : Vector) (policy : Offer →
   Listed : ℕ → ℕ → List Edge → Type 0
   Listed p r edges = (edge : Edge) × In edges edge × (edge.to ≡ p) × (z p r <ᴱ T z edge (get_or system.template r []))
 
+  -- an edge whose number is offered ends at the unknown's point and exceeds its bound
   pub ends_there : (p r k : ℕ) (edges : List Edge) (n : ℕ) → In (exceeding system T z p r k edges) n → (edge : Edge) × In edges edge × (edge.to ≡ p) × (z p r <ᴱ T z edge (get_or system.template r []))
   unfolding exceeding Listed
   ends_there p r k [] n m = absurd m

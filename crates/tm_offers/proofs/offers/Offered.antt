@@ -1,5 +1,5 @@
 -- Positions of values in offers.
-use Rattle.std.proofs.Common.{◌≡◌, ◌∙◌, ◌↔◌, ℕ, ◌+◌, ◌<◌, ◌≤◌, Bool, true, List, length, map, get_or, refl, sym, ap, subst, ⊎_elim, IsTrue, arith, below_more}
+use Rattle.std.proofs.Common.{◌≡◌, ◌∙◌, ◌↔◌, ℕ, ◌+◌, ◌<◌, ◌≤◌, Bool, true, false, List, length, map, get_or, refl, sym, ap, subst, ⊎_elim, IsTrue, arith, below_more}
 use Rattle.std.specs.Ordering.{is_lt}
 use Rattle.std.specs.declared.cmp.Ordering.{Ordering}
 use Rattle.std.specs.declared.cmp.Ordering.TheVariants.{Less, Equal, Greater}
@@ -11,7 +11,7 @@ use Rattle.tm_num.proofs.extended.ExtendedLaws.{≤ᴱ_refl, ≤ᴱ_trans, ext_l
 use Rattle.tm_frac.specs.declared.ext.Ext.{Ext}
 use Rattle.tm_frac.specs.Extended.{extended}
 use Rattle.tm_offers.specs.declared.offer.Offer.{Offer}
-use Rattle.tm_offers.specs.Offers.{Exceeds, SomeExceeds, IsFirstGreatest, IsFirstExceeding, is_top}
+use Rattle.tm_offers.specs.Offers.{Exceeds, SomeExceeds, IsFirstGreatest, is_top}
 
 is_lt-less : (o : Ordering) → is_lt o ≡ true → o ≡ Less
 is_lt-less Less e = refl
@@ -39,13 +39,17 @@ none_below pos_inf h = h
 abbrev pub value : List Ext → ℕ → Extended
 value xs k = get_or (map extended xs) k neg_inf
 
+-- a value that is read from a list is the value at its place
 pub value_read : (xs : List Ext) (k : ℕ) (x : Ext) → k < length xs → x ≡ get_or xs k x → value xs k ≡ extended x
 value_read xs k x l e = get_or-map extended xs k x neg_inf l ∙ ap extended (sym e)
 
 -- the first position of the greatest value so far
 pub record BestSoFar (V : ℕ → Extended) (best k : ℕ) : Type 0 where
+  -- the best position is among those so far
   pub within : best ≤ k
+  -- no value so far is above the best one
   pub greatest : (j : ℕ) → j < k → V j ≤ᴱ V best
+  -- each value before the best one is below it
   pub first : (j : ℕ) → j < best → V j <ᴱ V best
 
 module _ (V : ℕ → Extended) (best k : ℕ) (so_far : BestSoFar V best k) where
@@ -84,10 +88,6 @@ best_is values best bound m above so_far = record {
 pub best_exceeds : (offer : Offer) (k : ℕ) → SomeExceeds offer → IsFirstGreatest offer.values k → Exceeds offer k
 best_exceeds offer k some best = ext_lt_of_lt_of_le (extended offer.bound) (get_or offer.values some.0 neg_inf) (get_or offer.values k neg_inf) some.1 (best.greatest some.0)
 
--- the first exceeding position exceeds
-pub first_exceeds : (offer : Offer) (k : ℕ) → SomeExceeds offer → IsFirstExceeding offer k → Exceeds offer k
-first_exceeds offer k some first = first.exceeds
-
 -- a bound that no value exceeds
 pub none_exceeds : (values : List Extended) (bound : Extended) → ((j : ℕ) → j < length values → get_or values j neg_inf ≤ᴱ bound) → (m : ℕ) → bound <ᴱ get_or values m neg_inf → ⊥
 none_exceeds values bound all m above =
@@ -98,3 +98,9 @@ pub top_is : (x : Extended) → is_top x ≡ true → x ≡ pos_inf
 top_is neg_inf e = cc
 top_is (fin c) e = cc
 top_is pos_inf e = refl
+
+-- one that is told not to be is below it
+pub below_top : (x : Extended) → is_top x ≡ false → x <ᴱ pos_inf
+below_top neg_inf e = tt
+below_top (fin c) e = tt
+below_top pos_inf e = cc

@@ -1,6 +1,6 @@
 -- What becomes of an unknown by its offer.
 use Rattle.std.proofs.Common.{◌≡◌, ℕ, zero, suc, ◌*◌, ◌/◌, ◌%◌, ◌<◌, mul-zero, true, false, List, [], ◌∷◌, length, get_or, refl, sym, subst, arith}
-use Rattle.std.proofs.Math.Nat.{mod-lt}
+use Rattle.std.proofs.Math.Nat.{mod-lt, div-lt_iff_lt-mul}
 use Rattle.std.specs.Prelude.{Option, Some}
 use Rattle.tm_base.specs.Elements.{In}
 use Rattle.tm_eqsys.specs.Equations.{Equations, Vector}
@@ -16,6 +16,11 @@ use Rattle.tm_offers.proofs.offers.NextPick.{nothing_offered, nothing_at_top, ta
 pub row_within : (u points rows : ℕ) → u < points * rows → u % rows < rows
 row_within u points zero h = (let none : points * zero ≡ zero = mul-zero points in absurd (omega (arith, h, none)))
 row_within u points (suc n) h = mod-lt u (omega arith)
+
+-- its point is one of the points
+pub point_within : (u points rows : ℕ) → u < points * rows → u / rows < points
+point_within u points zero h = (let none : points * zero ≡ zero = mul-zero points in absurd (omega (arith, h, none)))
+point_within u points (suc n) h = (div-lt_iff_lt-mul (omega arith)).1 h
 
 module _ (system : Equations) (z : Vector) (policy : Offer → ℕ → Type 0) (u : ℕ) (before after : Option ℕ) (offer : Offer) (row : u % length system.template < length system.template)
     (is_offer : IsOffer system (transformer system) z (u / length system.template) (u % length system.template) offer) where

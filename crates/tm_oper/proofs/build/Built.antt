@@ -111,5 +111,6 @@ module _ (system : Equations) (z : Vector) (edge : Edge) (row : List ℤ) (w : �
             (length-guard_limits (guard_forms system.variables edge.actions) ∙ sym same ∙ sym e);
       }
 
+  -- the problem of an edge and a row has the sizes of the source's bounds, the template and the guards
   pub sizes_for : (count : ℕ) → count ≡ length guards → (P : lp.Problem) → P ≡ whole_problem system z edge row → HasSizes P w (bounds_at source) template count
   sizes_for count e P same = subst (λ Q. HasSizes Q w (bounds_at source) template count) (sym same) (built_sizes count e)

@@ -17,14 +17,17 @@ use Rattle.tm_oper.specs.Splits.{bounds_at, pairs, split_limit, source_row}
 use Rattle.tm_oper.specs.Readings.{finite_one, multiplier_one}
 use Rattle.tm_oper.proofs.split.Pairs.{start_entries}
 
+-- a bound that is read from the source is the bound at its row
 pub bound_read : (source : List Ext) (r : ℕ) (x : Ext) → r < length source → x ≡ get_or source r x → bounds_at source r ≡ extended x
 bound_read source r x l e = get_or-map extended source r x neg_inf l ∙ ap extended (sym e)
 
-pub above_lost : (x : Ext) → ¬ (x ≡ NegInf) → neg_inf <ᴱ extended x
+-- a bound other than minus infinity is above minus infinity
+above_lost : (x : Ext) → ¬ (x ≡ NegInf) → neg_inf <ᴱ extended x
 above_lost NegInf n = absurd (n refl)
 above_lost (Fin q) n = tt
 above_lost PosInf n = tt
 
+-- a row of the source that is not lost has a bound above minus infinity
 pub above_read : (source : List Ext) (r : ℕ) (d : Ext) → r < length source → ¬ (get_or source r d ≡ NegInf) → neg_inf <ᴱ bounds_at source r
 above_read source r d l n = subst (λ b. neg_inf <ᴱ b) (sym (get_or-map extended source r d neg_inf l)) (above_lost (get_or source r d) n)
 
@@ -32,7 +35,8 @@ above_read source r d l n = subst (λ b. neg_inf <ᴱ b) (sym (get_or-map extend
 abbrev pub later : (ℕ → Extended) → ℕ → ℕ → Extended
 later B r k = B (r + k)
 
-pub later_none : (B : ℕ → Extended) → later B 0 ≡ B
+-- the bounds from row 0 on are all bounds
+later_none : (B : ℕ → Extended) → later B 0 ≡ B
 later_none B = fun_ext (λ k. ap B (zero-add k))
 
 later_more : (B : ℕ → Extended) (r : ℕ) → (λ k. later B r (suc k)) ≡ later B (r + 1)
@@ -58,15 +62,18 @@ limits_step n B template r row l e =
     ap (source_limits (λ k u. u) n (later B r)) (drop_more template r row l ∙ ap (λ x. x ∷ drop (r + 1) template) (sym e))
     ∙ ap₂ (λ b f. source_limit (λ u. u) n b row (source_limits (λ k u. u) n f (drop (r + 1) template))) (later_first B r) (later_more B r)
 
+-- the limit of a row, where it has one, stands between those before and those left
 pub limits_more : (w n : ℕ) (B : ℕ → Extended) (template : List (List ℤ)) (r : ℕ) (row : List ℤ) (before after all : List Limit) → r < length template → row ≡ get_or template r row → length row ≡ n →
     after ≡ before ++ source_row w row (B r) → before ++ map (split_limit w) (limits_left n B template r) ≡ all → after ++ map (split_limit w) (limits_left n B template (r + 1)) ≡ all
 limits_more w n B template r row before after all l e m a h =
     ap (λ xs. xs ++ map (split_limit w) (limits_left n B template (r + 1))) a ∙ append_assoc before (source_row w row (B r)) (map (split_limit w) (limits_left n B template (r + 1)))
     ∙ ap (λ xs. before ++ xs) (sym (ap (map (split_limit w)) (limits_step n B template r row l e) ∙ source_added w n row (B r) (limits_left n B template (r + 1)) m)) ∙ h
 
+-- before the first row all limits are left
 pub limits_none : (n : ℕ) (B : ℕ → Extended) (template : List (List ℤ)) → limits_left n B template 0 ≡ source_limits (λ k u. u) n B template
 limits_none n B template = ap (λ f. source_limits (λ k u. u) n f template) (later_none B)
 
+-- behind the last row no limit is left
 pub limits_all : (n : ℕ) (B : ℕ → Extended) (template : List (List ℤ)) (r : ℕ) → length template ≤ r → limits_left n B template r ≡ []
 unfolding source_limits
 limits_all n B template r l = ap (source_limits (λ k u. u) n (later B r)) (drop_all r template l)
@@ -130,21 +137,26 @@ module _ (B : ℕ → Extended) (template : List (List ℤ)) (r : ℕ) (l : r < 
       ∙ sym (append_assoc before (m ∷ []) (spread (later B (r + 1)) (drop (r + 1) template) (λ k. y (next + more + k))))
       ∙ ap (λ xs. xs ++ spread (later B (r + 1)) (drop (r + 1) template) (λ k. y (next + more + k))) (sym d)
 
+  -- the row at hand skips its own multiplier, where it has one
   pub skip_more : (y : ℕ → ℚ) (count more : ℕ) → more ≡ finite_one (B r) → skip B template y ≡ skip (later B r) (drop r template) (λ k. y (count + k)) → skip B template y ≡ skip (later B (r + 1)) (drop (r + 1) template) (λ k. y (count + more + k))
   skip_more y count more c h =
       h ∙ skip_step (λ k. y (count + k))
       ∙ ap (skip (later B (r + 1)) (drop (r + 1) template)) (shifted_twice y count (finite_one (B r)) ∙ ap (λ j. onward y (count + j)) (sym c))
 
+-- before the first row all multipliers are left to spread
 pub spread_none : (B : ℕ → Extended) (template : List (List ℤ)) (y : ℕ → ℚ) → spread B template y ≡ spread (later B 0) template (λ k. y (0 + k))
 spread_none B template y = ap₂ (λ f z. spread f template z) (sym (later_none B)) (sym (shifted_none y))
 
+-- before the first row all multipliers are left to skip
 pub skip_none : (B : ℕ → Extended) (template : List (List ℤ)) (y : ℕ → ℚ) → skip B template y ≡ skip (later B 0) template (λ k. y (0 + k))
 skip_none B template y = ap₂ (λ f z. skip f template z) (sym (later_none B)) (sym (shifted_none y))
 
+-- behind the last row the list is the multipliers that are spread over all rows
 pub spread_all : (B : ℕ → Extended) (template : List (List ℤ)) (y z : ℕ → ℚ) (r : ℕ) (list : List ℚ) → length template ≤ r → spread B template y ≡ list ++ spread (later B r) (drop r template) z → list ≡ spread B template y
 unfolding spread
 spread_all B template y z r list l h = sym (h ∙ ap (λ rows. list ++ spread (later B r) rows z) (drop_all r template l) ∙ append-nil list)
 
+-- behind the last row no multiplier is left to skip
 pub skip_all : (B : ℕ → Extended) (template : List (List ℤ)) (z : ℕ → ℚ) (r : ℕ) → length template ≤ r → skip (later B r) (drop r template) z ≡ z
 unfolding skip
 skip_all B template z r l = ap (λ rows. skip (later B r) rows z) (drop_all r template l)
@@ -160,10 +172,12 @@ guards_more w forms i guard d before after all l e a h =
     ∙ ap (λ (g : Affine). before ++ (let m : Limit = record { coeffs = pairs g.coeffs; side = neg_ℚ g.constant } in m) ∷ map (split_limit w) (guard_limits (λ u. u) (drop (i + 1) forms))) e
     ∙ ap (λ fs. before ++ map (split_limit w) (guard_limits (λ u. u) fs)) (sym (drop_more forms i d l)) ∙ h
 
+-- behind the last form the list of guard limits is complete
 pub guards_none : (w : ℕ) (forms : List Form) (i : ℕ) (list : List Limit) → length forms ≤ i → list ++ map (split_limit w) (guard_limits (λ u. u) (drop i forms)) ≡ list
 unfolding guard_limits
 guards_none w forms i list l = ap (λ fs. list ++ map (split_limit w) (guard_limits (λ u. u) fs)) (drop_all i forms l) ∙ append-nil list
 
+-- each guard has one limit
 pub length-guard_limits : (gs : List Form) → length (guard_limits (λ u. u) gs) ≡ length gs
 unfolding guard_limits
 length-guard_limits [] = refl
@@ -176,6 +190,7 @@ one_size n m neg_inf row rest more e = e
 one_size n m (fin c) row rest more e = ap suc e
 one_size n m pos_inf row rest more e = e
 
+-- the number of limits of a source does not depend on the number of variables
 pub sizes_same : (n m : ℕ) (B : ℕ → Extended) (template : List (List ℤ)) → length (source_limits (λ k u. u) n B template) ≡ length (source_limits (λ k u. u) m B template)
 unfolding source_limits
 sizes_same n m B [] = refl
@@ -187,6 +202,7 @@ one_few n neg_inf row rest = omega arith
 one_few n (fin c) row rest = omega arith
 one_few n pos_inf row rest = omega arith
 
+-- a source has at most as many limits as the template has rows
 pub limits_few : (n : ℕ) (B : ℕ → Extended) (template : List (List ℤ)) → length (source_limits (λ k u. u) n B template) ≤ length template
 unfolding source_limits
 limits_few n B [] = omega arith

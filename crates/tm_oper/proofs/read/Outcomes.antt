@@ -32,9 +32,11 @@ pub multipliers_read : (B : ℕ → Extended) (template : List (List ℤ)) (coun
     AreMultipliers B template count y rows guards
 multipliers_read B template count first y rows guards e f g = record { of_rows = e; of_guards = g ∙ tabulate_all (λ k. y (first + k)) count ∙ ap (tabulate count) (sym f) }
 
+-- a last sum that does not fit is the first wide operation
 pub sum_wide : (v c : ℚ) (os : List Operation) (w : Wide ℚ) → (¬ (Fits long_limit (v +ℚ c))) × (w ≡ record { op = Add; left = v; right = c }) → first_wide long_limit (record { op = Add; left = v; right = c } ∷ os) ≡ Some (operation_of (λ q. q) w)
 sum_wide v c os w h = first_wide_here long_limit (record { op = Add; left = v; right = c }) os h.0 ∙ ap (λ (x : Wide ℚ). Some (operation_of (λ q. q) x)) (sym h.1)
 
+-- where the last sum fits, it has no wide operation
 pub sum_fits : (v c r : ℚ) → (r ≡ v +ℚ c) × Fits long_limit r → first_wide long_limit (record { op = Add; left = v; right = c } ∷ []) ≡ None
 sum_fits v c r h = first_wide_past long_limit (record { op = Add; left = v; right = c }) [] (subst (Fits long_limit) h.0 h.1)
 

@@ -20,6 +20,7 @@ pub pairs_push : (xs : List ℚ) (x n : ℚ) (items mid new : List ℚ) → item
 pairs_push xs x n items mid new h m e k =
     k ∙ ap₂ (λ ys y. ys ++ y ∷ []) m e ∙ append_assoc items (x ∷ []) (neg_ℚ x ∷ []) ∙ ap (λ ys. ys ++ pair x) h ∙ flat_map_more pair [] xs x
 
+-- a number and its negation extend the pairs by the next column
 pub pairs_range : (f : ℕ → ℚ) (i : ℕ) (x n : ℚ) (items mid new : List ℚ) → items ≡ pairs (map f (range_with_len 0 i)) → x ≡ f i → mid ≡ items ++ x ∷ [] → n ≡ neg_ℚ x → new ≡ mid ++ n ∷ [] → new ≡ pairs (map f (range_with_len 0 (i + 1)))
 pairs_range f i x n items mid new h g m e k =
     pairs_push (map f (range_with_len 0 i)) x n items mid new h m e k ∙ ap (λ y. pairs (map f (range_with_len 0 i) ++ y ∷ [])) g ∙ ap pairs (sym (map-range_with_len_more f 0 i i (omega arith)))
@@ -30,6 +31,7 @@ split_zero zero = refl
 split_zero (suc zero) = neg_ℚ-zero
 split_zero (suc (suc k)) = split_zero k
 
+-- an entry of the pairs of a list is that of its split form
 pub at-pairs : (w : ℕ) (u : List ℚ) (j : ℕ) → length u ≤ w → at (pairs (first_entries w u)) j ≡ split (at u) j
 at-pairs zero [] j l = sym (split_zero j)
 at-pairs zero (x ∷ u) j l = absurd (omega (arith, l))
@@ -40,6 +42,7 @@ at-pairs (suc w) (x ∷ u) zero l = refl
 at-pairs (suc w) (x ∷ u) (suc zero) l = refl
 at-pairs (suc w) (x ∷ u) (suc (suc k)) l = at-pairs w u k (omega (arith, l))
 
+-- the pairs of a list are twice as many as its entries
 pub length-pairs : (xs : List ℚ) → length (pairs xs) ≡ length xs + length xs
 length-pairs [] = refl
 length-pairs (x ∷ xs) = let h = length-pairs xs in omega (arith, h)
@@ -68,6 +71,7 @@ start_coeff : (n : ℕ) (row : List ℤ) (k : ℕ) → length row ≡ n → get_
 unfolding start_form
 start_coeff n row k e = coeff-combined row (columns n) k ∙ start_entry row n k e
 
+-- the start form of a row has the row's entries, and zeros at the free columns
 pub start_entries : (w n : ℕ) (row : List ℤ) → length row ≡ n → first_entries w (start_form n row).coeffs ≡ first_entries w (map whole row)
 start_entries w n row e =
     sym (entries-first w (start_form n row).coeffs)

@@ -34,6 +34,7 @@ side_same w [] r = refl
 side_same w (l ∷ ls) zero = refl
 side_same w (l ∷ ls) (suc r) = side_same w ls r
 
+-- the problem of split limits and a split goal is the split problem of them
 pub split_is : (w : ℕ) (limits : List Limit) (goal : List ℚ) → AllWithin w limits → length goal ≤ w →
     list_problem (length (pairs (first_entries w goal))) (map (λ l. l.coeffs) (map (split_limit w) limits)) (map (λ l. l.side) (map (split_limit w) limits)) (pairs (first_entries w goal)) ≡ split_problem (limits_problem w limits goal)
 unfolding split_problem limits_problem
@@ -56,6 +57,7 @@ rows_sides : (rows : List (Row ℚ)) → map (λ (r : Row ℚ). r.side) rows ≡
 rows_sides [] = refl
 rows_sides (r ∷ rows) = ap (λ xs. r.side ∷ xs) (rows_sides rows)
 
+-- a problem whose rows and goal are split limits and a split goal is exactly their split problem
 pub exact_is : (p : Problem ℚ) (w : ℕ) (limits : List Limit) (goal : List ℚ) → map limit_of p.rows.items ≡ map (split_limit w) limits → p.goal.items ≡ pairs (first_entries w goal) → AllWithin w limits → length goal ≤ w →
     exact (λ (q : ℚ). q) p ≡ split_problem (limits_problem w limits goal)
 exact_is p w limits goal h g within l =

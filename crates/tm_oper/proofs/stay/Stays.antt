@@ -26,6 +26,7 @@ zeros_more : (w : ℕ) → first_entries (w + 1) [] ≡ first_entries w [] ++ ze
 zeros_more zero = refl
 zeros_more (suc w) = ap (λ n. first_entries n []) (let e : suc w + 1 ≡ suc (w + 1) = omega arith in e) ∙ ap (λ xs. zero_ℚ ∷ xs) (zeros_more w)
 
+-- one zero more extends the list of zeros
 pub zeros_push : (w : ℕ) (xs ys : List ℚ) (q : ℚ) → xs ≡ first_entries w [] → ys ≡ xs ++ q ∷ [] → q ≡ zero_ℚ → ys ≡ first_entries (w + 1) []
 zeros_push w xs ys q h e f = e ∙ ap₂ (λ zs z. zs ++ z ∷ []) h f ∙ sym (zeros_more w)
 
@@ -40,6 +41,7 @@ form_long n g h = eqb-true (length g.coeffs) n (and_parts (length g.coeffs == n)
 form_constant : (n : ℕ) (g : Form) → IsTrue (is_form n g) → IsTrue (is_number g.constant)
 form_constant n g h = (and_parts (are_numbers g.coeffs) (is_number g.constant) (and_parts (length g.coeffs == n) (are_numbers g.coeffs && is_number g.constant) h).1).1
 
+-- the constants of forms that fit fit
 pub constants_fit : (n : ℕ) (gs : List Form) → IsTrue (list_all (is_form n) gs) → IsTrue (list_all (λ g. is_number g.constant) gs)
 constants_fit n [] h = refl
 constants_fit n (g ∷ gs) h =
@@ -66,6 +68,7 @@ guards_are n k (g ∷ gs) h =
 
 -- ---- the source
 module _ (system : Equations) (z : Vector) (p : ℕ) (gs : List Form) (forms : IsTrue (list_all (is_form system.variables) gs)) (template : List (List ℤ)) (t : template ≡ system.template) (source : List Ext) (b : bounds_at source ≡ z p) where
+  -- an edge that stays is the source of its guards and of the row without coefficients
   pub stay_source : (guards_list : List Affine) → guards_list ≡ map whole_form gs → (form : Affine) (w : ℕ) → form ≡ dense w nothing → w ≡ system.variables →
       IsSource system z (guarded_edge p gs) [] (system.variables + 0) template source guards_list form
   unfolding guard_forms end_form combined

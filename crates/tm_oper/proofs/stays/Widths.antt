@@ -4,6 +4,7 @@ use Rattle.tm_tree.specs.declared.form.Form.{Form}
 use Rattle.tm_flow.specs.Steps.{guards}
 use Rattle.tm_validity.specs.Words.{free_count, width}
 
+-- guards alone have no free values
 pub no_frees : (gs : List Form) → free_count (guards gs) ≡ 0
 unfolding free_count
 no_frees [] = refl

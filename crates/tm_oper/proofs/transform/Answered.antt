@@ -41,6 +41,7 @@ answered_lost system z e cs r h = record {
 -- where the problem of a source is solved and read
 module _ (system : Equations) (z : Vector) (e : Edge) (cs : List ℤ) (w : ℕ) (template : List (List ℤ)) (source : List Ext) (guards : List Affine) (form : Affine) (s : IsSource system z e cs w template source guards form) where
   module _ (P : lp.Problem) (same : P ≡ whole_problem system z e cs) (n : ℕ) (nn : n ≡ system.variables) (count : ℕ) (c : count ≡ length guards) (none : lost (z e.from) system.template ≡ false) where
+    -- a solved problem whose outcome is read answers for the edge and the row
     pub answered_solved : (res : Result Value PartFault) → IfOk res (ReadsOutcome n w form.constant (bounds_at source) template count (solved P)) → OnOk res (first_refused long_limit (run_operations P) ≡ None) →
         OnOk res (first_wide long_limit (reading_operations w form.constant (solved P)) ≡ None) → IfErr res (IsProblemFault P (reading_operations w form.constant (solved P))) → Operates system z e cs res
     answered_solved res reads pivots reading refused =

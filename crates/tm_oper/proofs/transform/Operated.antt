@@ -46,6 +46,7 @@ source_is list bounds rows rows' p p' e f g =
     ap (λ xs. get_or xs r neg_inf) (sym (drop-map extended (p' * rows') list)) ∙ get_or-drop (p' * rows') (map extended list) r neg_inf
     ∙ ap (λ xs. get_or xs (p' * rows' + r) neg_inf) e ∙ ap₂ (λ a b. get_or bounds (b * a + r) neg_inf) f g)
 
+-- the bounds that are taken from a list are those of the source
 pub source_taken : (list : List Ext) (bounds : List Extended) (rows rows' p p' : ℕ) → map extended list ≡ bounds → rows' ≡ rows → p' ≡ p →
     bounds_at (take (length list - p' * rows') (drop (p' * rows') list)) ≡ vector_of rows bounds p
 source_taken list bounds rows rows' p p' e f g = ap bounds_at (take_rest list (p' * rows')) ∙ source_is list bounds rows rows' p p' e f g
@@ -57,6 +58,7 @@ source_at s edge l edges same x list bounds e rows r =
     let d : Edge = record { from = 0; to = 0; actions = [] } in
     source_taken list bounds (length s.template) rows (edge_at s edge).from (get_or edges edge x).from e r (ap (λ (y : Edge). y.from) (ap (λ (es : List Edge). get_or es edge x) same ∙ get_or_default s.flow.edges edge x d l))
 
+-- a source with a row at minus infinity is lost
 pub lost_at : (B : ℕ → Extended) (rows : List (List ℤ)) (r : ℕ) → r < length rows → B r ≡ neg_inf → lost B rows ≡ true
 unfolding lost
 lost_at B [] r l e = absurd (omega (arith, l))
@@ -68,6 +70,7 @@ above_is neg_inf h = absurd h
 above_is (fin c) h = refl
 above_is pos_inf h = refl
 
+-- a source with no row at minus infinity is not lost
 pub none_at : (B : ℕ → Extended) (rows : List (List ℤ)) → ((k : ℕ) → k < length rows → neg_inf <ᴱ B k) → lost B rows ≡ false
 unfolding lost
 none_at B [] h = refl
@@ -90,12 +93,18 @@ forms_few n actions = guards_few n (columns n) actions
 
 -- the forms of an edge of a system, which has few free values and few guards
 pub record PathSizes (s : System) (paths : List EdgeForms) (edge : ℕ) : Type 0 where
+  -- the composed forms of the edge
   pub forms : EdgeForms
+  -- they stand at the edge's place
   pub here : slice_get paths edge ≡ Some forms
+  -- their free values are those of the edge's actions
   pub frees : forms.frees ≡ free_count (edge_at s edge).actions
+  -- there are at most 256 free values
   pub few_frees : forms.frees ≤ 256
+  -- there are at most 256 guards
   pub few_guards : length forms.guards ≤ 256
 
+-- the composed forms of an edge of the system have at most 256 free values and guards
 pub path_sizes : (s : System) (paths : List EdgeForms) (edge : ℕ) → AreComposed (equations_of s) paths → edge < length s.flow.edges → PathSizes s paths edge
 path_sizes s paths edge h l =
     let system = equations_of s in
@@ -116,10 +125,12 @@ module _ (system : Equations) (paths : List EdgeForms) (h : AreComposed system p
   inside_is : inside ≡ edge_forms system.variables system.template e.actions
   inside_is = view ∙ forms_are system paths h k e path i p
 
+  -- there is one composed form for each row of the template
   pub rows_are : length inside.rows ≡ length system.template
   rows_are = (have_columns system.variables system.template e.actions inside inside_is).3
 
   module _ (z : Vector) (row : ℕ) (cs : List ℤ) (j : slice_get system.template row ≡ Some cs) (w : ℕ) (columns : w ≡ width system.variables e.actions) (template : List (List ℤ)) (t : template ≡ system.template) (source : List Ext) (b : bounds_at source ≡ z e.from) where
+    -- the guards and a row of the edge's composed forms are the source of its problem
     pub source_from : (guards rows : List Affine) → guards ≡ inside.guards → rows ≡ inside.rows → (form : Affine) → form ≡ get_or rows row form → IsSource system z e cs w template source guards form
     source_from guards rows g rs form fr =
         let within : row < length inside.rows = let l = slice_get_within system.template row cs j in let c = rows_are in omega (arith, l, c) in
@@ -137,6 +148,7 @@ module _ (system : Equations) (paths : List EdgeForms) (h : AreComposed system p
 
 -- ---- the value
 module _ (system : Equations) (z : Vector) (e : Edge) (cs : List ℤ) (w : ℕ) (template : List (List ℤ)) (source : List Ext) (guards : List Affine) (form : Affine) (s : IsSource system z e cs w template source guards form) where
+  -- where no row of the source is at minus infinity, it is not lost
   pub not_lost : (n : ℕ) → n ≡ length system.template → ((k : ℕ) → k < n → neg_inf <ᴱ bounds_at source k) → lost (z e.from) system.template ≡ false
   not_lost n f h = none_at (z e.from) system.template (λ k l. subst (λ B. neg_inf <ᴱ B k) s.bounds (h k (subst (λ m. k < m) (sym f) l)))
 
@@ -169,10 +181,12 @@ module _ (system : Equations) (z : Vector) (e : Edge) (cs : List ℤ) (w : ℕ) 
     value_is (Best value trace rows multipliers) h = (none, moved (Best value trace rows multipliers) h)
     value_is (Unbounded trace direction) h = (none, moved (Unbounded trace direction) h)
 
+    -- a value that is read from the problem's outcome is the transformer's value
     pub value_of : (res : Result Value PartFault) → IfOk res (ReadsOutcome n w form.constant (bounds_at source) template count (solved P)) → IfOk res (IsValue system z e cs)
     value_of (Ok v) h = value_is v h
     value_of (Err f) h = tt
 
+    -- where solving and reading have no wide operation, the transformer has none
     pub none_of : (res : Result Value PartFault) → OnOk res (first_refused long_limit (run_operations P) ≡ None) → OnOk res (first_wide long_limit (reading_operations w form.constant (solved P)) ≡ None) → OnOk res (NoneWide system z e cs)
     none_of (Ok v) h g = λ f. (subst (λ Q. first_refused long_limit (run_operations Q) ≡ None) same h, subst (λ os. first_wide long_limit os ≡ None) reading_is g)
     none_of (Err f) h g = tt
@@ -181,6 +195,7 @@ module _ (system : Equations) (z : Vector) (e : Edge) (cs : List ℤ) (w : ℕ) 
     fault_is (Wide part wide) h = (none, subst₂ (λ Q os. IsProblemFault Q os (Wide part wide)) same reading_is h)
     fault_is NoMemory h = tt
 
+    -- a fault of the problem or of its reading is a fault of the transformer
     pub fault_of : (res : Result Value PartFault) → IfErr res (IsProblemFault P (reading_operations w form.constant (solved P))) → IfErr res (IsOperatorFault system z e cs)
     fault_of (Ok v) h = tt
     fault_of (Err f) h = fault_is f h

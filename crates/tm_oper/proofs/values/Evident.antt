@@ -56,6 +56,7 @@ module _ (system : Equations) (z : Vector) (edge : Edge) (row : List ℤ) where
       transformer_by_lp system z edge row e
       ∙ number_is system.variables (width system.variables edge.actions) (end_form system.variables edge.actions row).constant (z edge.from) system.template (length (guard_forms system.variables edge.actions)) (lp (whole_problem system z edge row)) v h
 
+  -- the number of a value is the transformer at the edge and the row
   pub is_transformer : (v : Value) → IsValue system z edge row v → transformer system z edge row ≡ number_of v
   is_transformer (Unreached r) h = transformer_lost system z edge row (lost_at (z edge.from) system.template r h.within h.is_lost)
   is_transformer (Empty rows guards) h = by_problem (Empty rows guards) h.0 h.1
@@ -172,6 +173,7 @@ module _ (system : Equations) (z : Vector) (edge : Edge) (row : List ℤ) where
   unfolding free_lp
   free_is = free_lp_is (edge_problem system z edge row)
 
+  -- a value comes with evidence at the edge and the row
   pub has_evidence : (v : Value) → IsValue system z edge row v → HasEvidence system z edge row v
   has_evidence (Unreached r) h = (h.within, h.is_lost)
   has_evidence (Empty rows guards) h = outcome_evidence (lp (whole_problem system z edge row)) free_is (none_lost (z edge.from) system.template h.0) (Empty rows guards) h.1

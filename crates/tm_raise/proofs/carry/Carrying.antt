@@ -33,6 +33,7 @@ module _ (constants : Constants) (x : RationalState) (free : List ℚ) where
       StepIs constants (Assign var form) x free (slice_set x var v) 0
   assign_made form var v e n = (refl, λ rest. assigned (form_with constants form) x free v e n var (moves constants rest))
 
+  -- a wide operation of an assignment's form is the first of the actions from there on
   pub assign_wide : (form : Form) (var : ℕ) (w : Wide ℚ) → first_wide long_limit (form_operations (form_with constants form) x) ≡ Some (operation_of (λ q. q) w) → (rest : List Action) →
       IsFirst constants (Assign var form ∷ rest) x free w
   assign_wide form var w h rest = assign_refused (form_with constants form) x free var (operation_of (λ q. q) w) h (moves constants rest)
@@ -50,21 +51,25 @@ havoc_made constants x (p ∷ free) var d q l e = (
 module _ (constants : Constants) (actions : List Action) (x : RationalState) (free : List ℚ) where
   -- the action at i, and what is left of actions and free values
   module _ (i taken : ℕ) (z : RationalState) (h : LeadsOn (moves constants actions) x free (moves constants (drop i actions)) z (drop taken free)) (action : Action) (l : i < length actions) (e : action ≡ get_or actions i action) where
+    -- the actions left are the action at hand and those behind it
     pub next_actions : drop i actions ≡ action ∷ drop (i + 1) actions
     next_actions = drop_more actions i action l ∙ ap (λ a. a ∷ drop (i + 1) actions) (sym e)
 
     to_next : LeadsOn (moves constants actions) x free (moves constants (action ∷ drop (i + 1) actions)) z (drop taken free)
     to_next = subst (λ later. LeadsOn (moves constants actions) x free (moves constants later) z (drop taken free)) next_actions h
 
+    -- a move from the action at hand leads on from the start
     pub leads_more : (n : ℕ) (y : RationalState) → LeadsOn (moves constants (action ∷ drop (i + 1) actions)) z (drop taken free) (moves constants (drop (i + 1) actions)) y (drop n (drop taken free)) →
         LeadsOn (moves constants actions) x free (moves constants (drop (i + 1) actions)) y (drop (taken + n) free)
     leads_more n y s =
         subst (λ left. LeadsOn (moves constants actions) x free (moves constants (drop (i + 1) actions)) y left) (drop-drop n taken free)
         (record { ends = λ w. (λ f. (s.ends w).0 ((to_next.ends w).0 f), λ f. (to_next.ends w).1 ((s.ends w).1 f)); first = λ row. to_next.first row ∙ s.first row })
 
+    -- a wide operation at the action at hand is the first of all actions
     pub leads_wide : (w : Wide ℚ) → IsFirst constants (action ∷ drop (i + 1) actions) z (drop taken free) w → IsFirst constants actions x free w
     leads_wide w s row = to_next.first row ∙ s row
 
+  -- behind the last action the moves have led through all actions and taken all free values
   pub leads_all : (i taken : ℕ) (z : RationalState) → LeadsOn (moves constants actions) x free (moves constants (drop i actions)) z (drop taken free) → length actions ≤ i → length (drop taken free) ≡ free_count (drop i actions) →
       LeadsOn (moves constants actions) x free [] z []
   leads_all i taken z h l n =

@@ -18,6 +18,7 @@ use Rattle.tm_raise.proofs.number.Widths.{then, stops}
 pub product_wide : (t x d : ℚ) (w : Wide ℚ) → ¬ (Fits long_limit (t *ℚ d)) → w ≡ record { op = Mul; left = t; right = d } → first_wide long_limit (entry_operations t x d) ≡ Some (operation_of (λ (q : ℚ). q) w)
 product_wide t x d w n e = stops (record { op = Mul; left = t; right = d }) (record { op = Add; left = x; right = t *ℚ d } ∷ []) w n (ap (operation_of (λ (q : ℚ). q)) e)
 
+-- the entry moved along a direction is answered, or its sum is wide
 pub entry_answer : (t x d p : ℚ) (res : Result ℚ (Wide ℚ)) → p ≡ t *ℚ d → Fits long_limit p →
     MatchResult res (λ r. (r ≡ x +ℚ p) × Fits long_limit r) (λ e. (¬ (Fits long_limit (x +ℚ p))) × (e ≡ record { op = Add; left = x; right = p })) →
     SumAnswers (x +ℚ (t *ℚ d)) (entry_operations t x d) res
@@ -27,9 +28,12 @@ entry_answer t x d p res e h m =
 
 -- as far as the first i entries are moved: what is left of entries and operations
 pub record IsMoved (t : ℚ) (xs ds : List ℚ) (i : ℕ) (done : List ℚ) : Type 0 where
+  -- the whole moved trace is the entries done, and then those left
   pub value : moved xs t ds ≡ done ++ moved (drop i xs) t (drop i ds)
+  -- the first wide operation of all entries is that of the entries left
   pub first : first_wide long_limit (entries_operations t xs ds) ≡ first_wide long_limit (entries_operations t (drop i xs) (drop i ds))
 
+-- before the first entry nothing is moved
 pub moved_none : (t : ℚ) (xs ds : List ℚ) → IsMoved t xs ds 0 []
 moved_none t xs ds = record { value = refl; first = refl }
 

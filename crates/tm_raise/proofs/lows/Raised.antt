@@ -36,6 +36,7 @@ pub edge_chosen : (system : Equations) (rows unknown k : ℕ) → k < length sys
 unfolding edge_of choice
 edge_chosen system rows unknown k l = slice_get-get_or system.edges k (record { from = 0; to = 0; actions = [] }) l
 
+-- the row that is read for an unknown is the row of its choice
 pub row_chosen : (system : Equations) (rows unknown k : ℕ) → unknown % rows < length system.template → slice_get system.template (unknown % rows) ≡ Some (row_of system (choice_of rows unknown k))
 unfolding row_of choice
 row_chosen system rows unknown k l = slice_get-get_or system.template (unknown % rows) [] l
@@ -98,6 +99,7 @@ module _ (system : Equations) (rows unknown k : ℕ) (b : Ext) where
   unfolding raise_operations
   towards_wide v trace rs gs f h = h
 
+  -- where the number to raise to fits, the step goes towards it or names a wide operation
   pub towards : (v to : ℚ) (trace : Trace) (rs gs : List ℚ) (res : Result Step OperationFault) → to ≡ raised_to fitting b v → first_wide long_limit (number_operations b v) ≡ None →
       AnswersBy {A = Step} (λ step. step ≡ Plain (record { unknown = unknown; edge = k; low = trace; to = to } ∷ [])) [] res →
       AnswersBy {A = Step} (λ step. step_of rows step ≡ raised system (choice_of rows unknown k) b (Best v trace rs gs)) (raise_operations system (choice_of rows unknown k) b (Best v trace rs gs)) res
@@ -119,10 +121,12 @@ module _ (system : Equations) (rows unknown k : ℕ) (b : Ext) where
     rate_wide f h = sooner rates lows f h
 
     module _ (n : first_wide long_limit rates ≡ None) where
+      -- a fault of the low trace is a fault of the raise
       pub low_wide : (f : OperationFault) → IsFaultOf lows f → IsFaultOf (raise_operations system (choice_of rows unknown k) b (Unbounded trace direction)) f
       unfolding raise_operations
       low_wide f h = later rates lows f n h
 
+      -- a low trace and a rate give the step that raises without end
       pub for_ever : (low : Trace) (rate : ℚ) (res : Result Step OperationFault) →
           pieces_of low ≡ low_of system (edge_of system (choice_of rows unknown k)) (row_of system (choice_of rows unknown k)) b trace direction → first_wide long_limit lows ≡ None →
           rate ≡ carried Zero system (edge_of system (choice_of rows unknown k)) (row_of system (choice_of rows unknown k)) direction →

@@ -44,6 +44,7 @@ module _ (n : ℕ) (start free : Word) (y : RationalState) (l : length start ≡
   unfolding end_of
   zero_end actions h = sym (end_of_moves (moves Zero actions) h ∙ ap (λ fs. values fs (start ++ free)) (ends-zero n (columns n) actions))
 
+-- the value that an edge's moves carry is that of its composed forms
 pub carried_is : (constants : Constants) (system : Equations) (edge : Edge) (row : List ℤ) (trace : Trace) (y : RationalState) → length trace.start ≡ system.variables →
     Follows (moves constants edge.actions) trace.start trace.free y → carried constants system edge row trace ≡ dotℚ row y
 unfolding end_value

@@ -18,6 +18,7 @@ use Rattle.tm_raise.proofs.number.Wholes.{one_more}
 abbrev last_sum : ℚ → Operation
 last_sum q = record { op = Add; left = whole (floor q); right = one_ℚ }
 
+-- the next whole number is answered, or its sum is wide
 pub next_answer : (q f o : ℚ) (res : Result ℚ (Wide ℚ)) → f ≡ whole (floor q) → o ≡ one_ℚ →
     MatchResult res (λ r. (r ≡ f +ℚ o) × Fits long_limit r) (λ e. (¬ (Fits long_limit (f +ℚ o))) × (e ≡ record { op = Add; left = f; right = o })) →
     SumAnswers (next_whole q) (last_sum q ∷ []) res
@@ -29,12 +30,15 @@ next_answer q f o res e g m =
 pub next_fits : (q : ℚ) → first_wide long_limit (last_sum q ∷ []) ≡ None → fitting (next_whole q) ≡ true
 next_fits q e = ap fitting (sym (one_more (floor q))) ∙ alone_fits (last_sum q) e
 
+-- where the last sum is wide, the next whole number does not fit
 pub next_wide : (q : ℚ) (p : Operation) → first_wide long_limit (last_sum q ∷ []) ≡ Some p → fitting (next_whole q) ≡ false
 next_wide q p e = ap fitting (sym (one_more (floor q))) ∙ alone_wide (last_sum q) p e
 
+-- a conjunction whose first part holds is its second part
 pub both_is : (b c d : Bool) → b ≡ true → c ≡ d → b && c ≡ d
 both_is b c d e f = ap (λ t. t && c) e ∙ f
 
+-- a conjunction whose first part fails is false
 pub neither : (b c : Bool) → b ≡ false → b && c ≡ false
 neither b c e = ap (λ t. t && c) e
 
@@ -47,6 +51,7 @@ module _ (b v : ℚ) where
     ap (λ t. first_wide long_limit (if t then [] else middle_operations b v)) f,
   )
 
+  -- where no whole number stands between, the middle is taken
   pub middle_taken : (res : Result ℚ (Wide ℚ)) → fitting (next_whole b) && lt_ℚ (next_whole b) v ≡ false → SumAnswers ((b +ℚ v) /ℚ whole (pos 2)) (middle_operations b v) res → SumAnswers (between fitting b v) (number_operations (fin b) v) res
   unfolding between number_operations
   middle_taken res f a =

@@ -17,6 +17,7 @@ shift_small : (z : ℤ) (d : ℕ) → nat_abs (shr_z z d) ≤ nat_abs z
 shift_small (pos n) d = div-le_self n d
 shift_small (negsuc n) d = let l = div-le_self n d in omega (arith, l)
 
+-- the floor of a fraction that fits is a number that fits
 pub floor_number : (q : ℚ) → Fits long_limit q → IsTrue (is_number (floor q))
 unfolding floor
 floor_number q h = let l = shift_small q.num q.den in let f = h.num_fits in le-leb (nat_abs (shr_z q.num q.den)) 9223372036854775807 (omega (arith, ints, l, f))
@@ -26,6 +27,7 @@ own_whole : (q : ℚ) → q.den ≡ 1 → q ≡ whole q.num
 unfolding whole
 own_whole q e = sym (ratio-parts q) ∙ ap (ratio q.num) e
 
+-- a fraction with denominator one is its own floor
 pub own_floor : (q : ℚ) → q.den ≡ 1 → q ≡ whole (floor q)
 own_floor q e = own_whole q e ∙ ap whole (sym (floor-whole q.num) ∙ ap floor (sym (own_whole q e)))
 

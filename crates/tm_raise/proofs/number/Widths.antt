@@ -26,6 +26,7 @@ alone : (b : Bool) (o : Operation) → cond (not b) (Some o) None ≡ None → b
 alone true o e = refl
 alone false o e = cc
 
+-- where an operation alone is not wide, its result fits
 pub alone_fits : (o : Operation) → first_wide long_limit (o ∷ []) ≡ None → fits long_limit (result_of o) ≡ true
 alone_fits o e = alone (fits long_limit (result_of o)) o e
 
@@ -33,6 +34,7 @@ other : (b : Bool) (o p : Operation) → cond (not b) (Some o) None ≡ Some p �
 other true o p e = cc
 other false o p e = refl
 
+-- where an operation alone is wide, its result does not fit
 pub alone_wide : (o p : Operation) → first_wide long_limit (o ∷ []) ≡ Some p → fits long_limit (result_of o) ≡ false
 alone_wide o p e = other (fits long_limit (result_of o)) o p e
 
@@ -52,6 +54,7 @@ not_less a b n = by (lt_ℚ a b) refl
     by true e = absurd (n (record { lt = untruth (lt_ℚ a b) e }))
     by false e = refl
 
+-- the code's comparison of two fractions is that of the theory
 pub less_is : (a b : ℚ) (r : Bool) → r ≡ partial_lt (as_partial_cmp cmp_ℚ) a b → lt_ℚ a b ≡ r
 less_is a b r e = by (cmp_ℚ a b) refl
   where

@@ -66,6 +66,7 @@ module _ (system : Equations) (z : Vector) (edge : Edge) (row : List ℤ) (trace
 item_same : (u : Item) (low low' second second' : Pieces) (number number' : ℚ) → low ≡ low' → second ≡ second' → number ≡ number' → with_words u low second number ≡ with_words u low' second' number'
 item_same u low low' second second' number number' e f g = ap (λ x. with_words u x second number) e ∙ ap₂ (λ x y. with_words u low' x y) f g
 
+-- the code's step of a raise is that of the theory
 pub agree : RaisesAgree
 unfolding raise raised split
 agree system z u neg_inf h (Unreached r) w = refl

@@ -10,15 +10,20 @@ use Rattle.tm_ray.specs.Answers.{IsReadingFault}
 
 -- the first i elements are read: the results so far, and none of their operations is wide
 pub record IsRead {X A : Type 0} (values : List X → List A) (operations : List X → List Operation) (xs : List X) (i : ℕ) (done : List A) : Type 0 where
+  -- all values are those gathered so far, and then those of the elements left
   pub value : values xs ≡ done ++ values (drop i xs)
+  -- the first wide operation of all elements is that of the elements left
   pub first : first_wide long_limit (operations xs) ≡ first_wide long_limit (operations (drop i xs))
 
 -- one element adds these results and these operations
 pub record Adds {X A : Type 0} (values : List X → List A) (operations : List X → List Operation) (x : X) (a : List A) (os : List Operation) : Type 0 where
+  -- an element adds its values in front of those of the rest
   pub value : (rest : List X) → values (x ∷ rest) ≡ a ++ values rest
+  -- an element adds its operations in front of those of the rest
   pub operation : (rest : List X) → operations (x ∷ rest) ≡ os ++ operations rest
 
 module _ {X A : Type 0} (values : List X → List A) (operations : List X → List Operation) where
+  -- before the first element nothing is gathered
   pub read_none : (xs : List X) → IsRead values operations xs 0 []
   read_none xs = record { value = refl; first = refl }
 
@@ -26,16 +31,19 @@ module _ {X A : Type 0} (values : List X → List A) (operations : List X → Li
     left : drop i xs ≡ x ∷ drop (i + 1) xs
     left = drop_more xs i x l ∙ ap (λ y. y ∷ drop (i + 1) xs) (sym e)
 
+    -- an element with no wide operation adds its values to those gathered
     pub read_more : first_wide long_limit os ≡ None → IsRead values operations xs (i + 1) (done ++ a)
     read_more n = record {
       value = h.value ∙ ap (λ ys. done ++ values ys) left ∙ ap (λ ys. done ++ ys) (k.value (drop (i + 1) xs)) ∙ sym (append_assoc done a (values (drop (i + 1) xs)));
       first = h.first ∙ ap (λ ys. first_wide long_limit (operations ys)) left ∙ ap (first_wide long_limit) (k.operation (drop (i + 1) xs)) ∙ first_wide_later long_limit os (operations (drop (i + 1) xs)) n;
     }
 
+    -- the first wide operation of an element is the first of all
     pub read_wide : (o : Operation) → first_wide long_limit os ≡ Some o → first_wide long_limit (operations xs) ≡ Some o
     read_wide o w =
         h.first ∙ ap (λ ys. first_wide long_limit (operations ys)) left ∙ ap (first_wide long_limit) (k.operation (drop (i + 1) xs)) ∙ first_wide_sooner long_limit os (operations (drop (i + 1) xs)) o w
 
+  -- behind the last element all values are gathered, and no operation is wide
   pub read_all : (xs : List X) (i : ℕ) (done : List A) → values [] ≡ [] → operations [] ≡ [] → length xs ≤ i → IsRead values operations xs i done →
       (done ≡ values xs) × (first_wide long_limit (operations xs) ≡ None)
   read_all xs i done v o l h =
@@ -47,5 +55,6 @@ pub fault_of : (os ps : List Operation) (f : PartFault) → ((o : Operation) →
 fault_of os ps (Wide part wide) k h = (h.0, k _ h.1)
 fault_of os ps NoMemory k h = tt
 
+-- a lack of memory is a fault of any reading
 pub fault_none : (os : List Operation) (f : PartFault) → f ≡ NoMemory → IsReadingFault os f
 fault_none os f e = subst (IsReadingFault os) (sym e) tt

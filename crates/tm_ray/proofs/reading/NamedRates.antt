@@ -25,6 +25,7 @@ split_at width [] i h l = absurd (omega (arith, l))
 split_at width (c ∷ cols) zero h l = h.0
 split_at width (c ∷ cols) (suc i) h l = split_at width cols i h.1 (omega (arith, l))
 
+-- an unknown that is read from a list within a width is within it
 pub within_at : (width : ℕ) (rises : List Rise) (i : ℕ) (x : Rise) → AreWithin width rises → i < length rises → IsWithin width (get_or rises i x)
 within_at width [] i x h l = absurd (omega (arith, l))
 within_at width (r ∷ rises) zero x h l = h.0
@@ -35,10 +36,12 @@ pub entry_read : (ray : List ℚ) (col : ℕ) (p q v : ℚ) → p ≡ at_column 
     (v ≡ difference ray col) × (first_wide long_limit (subtraction ray col ∷ []) ≡ None)
 entry_read ray col p q v e f h = subst₂ (λ a b. (v ≡ a -ℚ b) × (first_wide long_limit (record { op = Sub; left = a; right = b } ∷ []) ≡ None)) e f (one_answer Sub p q (Ok v) h)
 
+-- a difference that does not fit is the entry's wide operation
 pub entry_wide : (ray : List ℚ) (col : ℕ) (p q : ℚ) (w : Wide ℚ) → p ≡ at_column ray col → q ≡ at_column ray (col + 1) → (¬ (Fits long_limit (p -ℚ q))) × (w ≡ record { op = Sub; left = p; right = q }) →
     first_wide long_limit (subtraction ray col ∷ []) ≡ Some (operation_of (λ y. y) w)
 entry_wide ray col p q w e f h = subst₂ (λ a b. first_wide long_limit (record { op = Sub; left = a; right = b } ∷ []) ≡ Some (operation_of (λ y. y) w)) e f (one_answer Sub p q (Err w) h)
 
+-- an entry of a direction adds its difference and its subtraction
 pub adds_entry : (ray : List ℚ) (col : ℕ) (v : ℚ) → v ≡ difference ray col → Adds (differences ray) (subtractions ray) col (v ∷ []) (subtraction ray col ∷ [])
 adds_entry ray col v e = record { value = λ rest. ap (λ y. y ∷ differences ray rest) (sym e); operation = λ rest. refl }
 
@@ -55,6 +58,7 @@ module _ (ray : List ℚ) (rise : Rise) (rate z : ℚ) (r : Bool) (e : rate ≡ 
   above : z <ℚ rate → is_named ray rise ≡ true
   above h = ap₂ (λ a b. lt_ℚ a b) (sym k) (sym e) ∙ truth (lt_ℚ z rate) h.lt
 
+  -- an unknown without a rate above zero is not named
   pub is_left_out : r ≡ true → is_named ray rise ≡ false
   is_left_out y = by (lt_ℚ z rate) refl
     where
@@ -62,33 +66,40 @@ module _ (ray : List ℚ) (rise : Rise) (rate z : ℚ) (r : Bool) (e : rate ≡ 
       by true f = absurd (not_le_of_lt (let h : z <ℚ rate = record { lt = untruth (lt_ℚ z rate) f } in h) ((test_le rate z r t).0 y))
       by false f = ap₂ (λ a b. lt_ℚ a b) (sym k) (sym e) ∙ f
 
+  -- an unknown with a rate above zero is named
   pub is_taken : r ≡ false → is_named ray rise ≡ true
   is_taken n = ⊎_elim (λ h. absurd (true≢false (sym ((test_le rate z r t).1 h) ∙ n))) above (le_or_lt rate z)
 
 -- one unknown that is left out, and one that is named
 module _ (ray : List ℚ) (rise : Rise) where
+  -- an unknown that is not named adds no rate and no operation
   pub left_out : is_named ray rise ≡ false → (named_rates ray (rise ∷ []) ≡ []) × (named_operations ray (rise ∷ []) ≡ [])
   left_out e = (ap (λ b. map (rate_of ray) (cond b (rise ∷ []) [])) e, ap (λ b. flat_map (direction_operations ray) (cond b (rise ∷ []) [])) e)
 
-  pub named_value : is_named ray rise ≡ true → named_rates ray (rise ∷ []) ≡ rate_of ray rise ∷ []
+  -- a named unknown adds its rate
+  named_value : is_named ray rise ≡ true → named_rates ray (rise ∷ []) ≡ rate_of ray rise ∷ []
   named_value e = ap (λ b. map (rate_of ray) (cond b (rise ∷ []) [])) e
 
-  pub named_first : is_named ray rise ≡ true → first_wide long_limit (named_operations ray (rise ∷ [])) ≡ first_wide long_limit (direction_operations ray rise)
+  -- the first wide operation of a named unknown is that of its direction
+  named_first : is_named ray rise ≡ true → first_wide long_limit (named_operations ray (rise ∷ [])) ≡ first_wide long_limit (direction_operations ray rise)
   named_first e = ap (λ b. first_wide long_limit (flat_map (direction_operations ray) (cond b (rise ∷ []) []))) e ∙ ap (first_wide long_limit) (append-nil (direction_operations ray rise))
 
   -- the start values and then the free values
   pub start_wide : is_named ray rise ≡ true → (o : Operation) → first_wide long_limit (subtractions ray rise.starts) ≡ Some o → first_wide long_limit (named_operations ray (rise ∷ [])) ≡ Some o
   start_wide e o h = named_first e ∙ first_wide_sooner long_limit (subtractions ray rise.starts) (subtractions ray rise.frees) o h
 
+  -- where the entries at the start fit, the first wide operation is that of the free values
   pub start_fits : is_named ray rise ≡ true → first_wide long_limit (subtractions ray rise.starts) ≡ None → first_wide long_limit (named_operations ray (rise ∷ [])) ≡ first_wide long_limit (subtractions ray rise.frees)
   start_fits e h = named_first e ∙ first_wide_later long_limit (subtractions ray rise.starts) (subtractions ray rise.frees) h
 
+  -- the rate and the entries that are read of a named unknown are its rate
   pub rate_read : (rate : ℚ) (start free : List ℚ) → rate ≡ at_column ray rise.col → start ≡ differences ray rise.starts → free ≡ differences ray rise.frees → is_named ray rise ≡ true →
       record { unknown = rise.unknown; rate = rate; direction = record { start = start; free = free } } ∷ [] ≡ named_rates ray (rise ∷ [])
   rate_read rate start free e s f n =
       let P : ℚ → List ℚ → List ℚ → List RateOf = λ q a b. record { unknown = rise.unknown; rate = q; direction = record { start = a; free = b } } ∷ [] in
       ap (λ q. P q start free) e ∙ ap₂ (λ a b. P (at_column ray rise.col) a b) s f ∙ sym (named_value n)
 
+  -- an unknown adds its rates and their operations
   pub adds_rate : Adds (named_rates ray) (named_operations ray) rise (named_rates ray (rise ∷ [])) (named_operations ray (rise ∷ []))
   adds_rate = record { value = λ rest. by_value (is_named ray rise) rest; operation = λ rest. by_operation (is_named ray rise) rest }
     where

@@ -56,6 +56,7 @@ exceeds_within bound [] j h = absurd (nothing_below bound h)
 exceeds_within bound (x ∷ xs) zero h = omega arith
 exceeds_within bound (x ∷ xs) (suc j) h = let l = exceeds_within bound xs j h in omega arith
 
+-- the policy of the best offer means to choose a best edge
 pub best_means : Means by_best Best
 unfolding Means
 best_means code offer bound values j h s =
@@ -65,6 +66,7 @@ best_means code offer bound values j h s =
       g.within,
     )
 
+-- the policy of the first offer means to choose the first offered edge
 pub first_means : Means by_first First
 unfolding Means
 first_means code offer bound values j h s =
@@ -117,9 +119,11 @@ module _ (policy : CodeOffer → ℕ → Type 0) (meaning : Offer → ℕ → Ty
             absurd (unsolved (least_agrees (equations_of system) (state_at system choose n).vector (vector_at system (bounds_after system choose n)) (λ p r l. sym (bounds_agree system policy n choose chain p r l))
             (state_least fitting (equations_of system) range choose chain.among n chain.made (state_ends fitting (equations_of system) range choose chain.among n chain.made e))).solves.post)
 
+  -- the improvements of solved rounds end with their least vector
   pub solved_law : (system : System) (limit : ℕ) (solved : Solved) → IsSolved system policy limit solved → EndsAfter (equations_of system) meaning solved.improvements (vector_at system solved.bounds)
   solved_law system limit solved s =
       subst (λ bs. EndsAfter (equations_of system) meaning solved.improvements (vector_at system bs)) (sym s.bounds) (ends system solved.improvements s.choose s.chain s.ended)
 
+  -- where rounds spend their limit, the improvements go on after it
   pub spent_law : (system : System) (limit : ℕ) (bounds : List Extended) → IsSpent system policy limit bounds → GoesOnAfter (equations_of system) meaning limit
   spent_law system limit bounds s = goes_on system limit s.choose s.chain (λ post. s.unsolved (subst (λ bs. PostSolution (equations_of system) (vector_at system bs)) (sym s.same) post))

@@ -23,6 +23,7 @@ use Rattle.tm_eqsys.specs.declared.limits.TheConstants.{MOST_UNKNOWNS}
 each_in : (P : ℕ → Type 0) (xs list : List ℕ) → ((u : ℕ) → In xs u → In list u) → ((k : ℕ) → k < length list → P (get_or list k 0)) → (k : ℕ) → k < length xs → P (get_or xs k 0)
 each_in P xs list within h k l = let p = place_of list (get_or xs k 0) 0 (within (get_or xs k 0) (in_place xs 0 k l)) in subst P p.2 (h p.0 p.1)
 
+-- a list whose numbers are all picked is a picked list
 pub picked_all : (system : System) (pick : List (Option ℕ)) (xs : List ℕ) → ((k : ℕ) → k < length xs → IsPicked system pick (get_or xs k 0)) → ArePicked system pick xs
 picked_all system pick [] h = tt
 picked_all system pick (u ∷ xs) h = (h 0 (omega arith), picked_all system pick xs (λ k l. h (suc k) (omega arith)))

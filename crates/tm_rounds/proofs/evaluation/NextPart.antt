@@ -17,7 +17,9 @@ use Rattle.tm_eqsys.specs.declared.limits.TheConstants.{MOST_UNKNOWNS}
 
 -- a list is the part of this number
 pub record IsNumbered (system : System) (pick : List (Option ℕ)) (list : List ℕ) (number : ℕ) (p : List ℕ) : Type 0 where
+  -- the part's number is that of a part of the list
   pub within : number < length (part_numbers system pick list)
+  -- the part that is read is the one with this number
   pub is : p ≡ get_or (part_numbers system pick list) number []
 
 -- so is the one that the code reads
@@ -31,9 +33,11 @@ numbered system pick list {parts} {number} {count} {p} same size l e = record {
 module _ (system : System) (pick : List (Option ℕ)) (raises : List CodeStep) (places list : List ℕ) {number : ℕ} {p : List ℕ} (n : IsNumbered system pick list number p) where
   -- it is a list of the same kind, with at most as many unknowns as there are
   module _ (whole : IsPart system pick raises places list) {parts : List (List ℕ)} (same : parts ≡ part_numbers system pick list) (rise : EachRises parts) where
+    -- a numbered part is a part of the list's kind
     pub numbered_part : IsPart system pick raises places p
     numbered_part = subst (IsPart system pick raises places) (sym n.is) (each_part system pick raises places list whole (subst EachRises same rise) number n.within)
 
+    -- a numbered part has at most the greatest number of unknowns
     pub numbered_few : length p ≤ MOST_UNKNOWNS
     numbered_few = subst (λ xs. length xs ≤ MOST_UNKNOWNS) (sym n.is) (part_few system pick raises places list whole (system_size system) (subst EachRises same rise) number n.within)
 

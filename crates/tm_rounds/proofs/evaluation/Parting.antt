@@ -51,6 +51,7 @@ not_none (suc n) e = omega arith
 pub none_there : (n : ℕ) → n == 0 ≡ true → n ≡ 0
 none_there n e = eqb-true n 0 e
 
+-- a list of length zero is empty
 pub no_element : {A : Type 0} (xs : List A) → length xs ≡ 0 → xs ≡ []
 no_element [] e = refl
 no_element (x ∷ xs) e = absurd (omega arith)
@@ -70,15 +71,25 @@ module _ (system : System) (pick : List (Option ℕ)) (raises : List CodeStep) (
 
   -- some turns of a part are made, and these unknowns are left
   pub record IsParting (left : List ℕ) (now : Turning) : Type 0 where
+    -- the unknowns left are a part
     pub part_left : IsPart system pick raises places left
+    -- the bounds keep their number
     pub size : length now.bounds ≡ length old.bounds
+    -- the steps of the turns so far
     pub made : List Step
+    -- how many turns there may still be
     pub fuel : ℕ
+    -- there may be a turn for each unknown left
     pub enough : length left ≤ fuel
+    -- the steps now are those before and those of the turns so far
     pub steps : turns_so_far system now ≡ turns_so_far system old ++ made
+    -- the steps of the whole part are those so far, and then those of the unknowns left
     pub whole : part joint (length list) (vector_at system old.bounds) (items list) ≡ made ++ part joint fuel (vector_at system now.bounds) (items left)
+    -- the bounds are those after the steps so far
     pub agrees : Agrees system (after_steps made (vector_at system old.bounds)) now.bounds
+    -- each step takes an unknown from those left
     pub few : length now.steps.items + length left ≤ length old.steps.items + length list
+    -- the turns left are turns of the whole part
     pub turns : (t : Turn) → In (part_turns joint fuel (length now.steps.items) (vector_at system now.bounds) (items left)) t → LikeOne eqs (turns_of_part system pick raises places list old) t
 
   like_itself : (t : Turn) → Like eqs t t
@@ -132,7 +143,8 @@ module _ (system : System) (pick : List (Option ℕ)) (raises : List CodeStep) (
       by zero l f = absurd (omega arith)
       by (suc n) l f = f (record { vector = vector_at system now.bounds; list = items (u ∷ us); number = length now.steps.items }) (inl refl)
 
-  pub parting_condition : (u : ℕ) (us : List ℕ) (now : Turning) → HaveConditions system pick (turns_of_part system pick raises places list old) → IsParting (u ∷ us) now → MeetsCondition system pick raises places (u ∷ us) now.bounds
+  -- the turn at hand meets its condition where all turns of the part do
+  parting_condition : (u : ℕ) (us : List ℕ) (now : Turning) → HaveConditions system pick (turns_of_part system pick raises places list old) → IsParting (u ∷ us) now → MeetsCondition system pick raises places (u ∷ us) now.bounds
   parting_condition u us now conditions h =
       let s = parting_turn u us now h in
       condition_agrees eqs (pick_of rows pick) s.0.vector (vector_at system now.bounds) (items (u ∷ us)) (λ p r l. sym (s.2.vector p r l)) (part_rows system pick raises places (u ∷ us) h.part_left)
@@ -218,10 +230,12 @@ module _ (system : System) (pick : List (Option ℕ)) (raises : List CodeStep) (
   left_turn [] now l h = absurd (omega arith)
   left_turn (u ∷ us) now l h = parting_turn u us now h
 
+  -- the unknowns left meet the condition of their turn
   pub left_condition : (left : List ℕ) (now : Turning) → 0 < length left → HaveConditions system pick (turns_of_part system pick raises places list old) → IsParting left now → MeetsCondition system pick raises places left now.bounds
   left_condition [] now l conditions h = absurd (omega arith)
   left_condition (u ∷ us) now l conditions h = parting_condition u us now conditions h
 
+  -- one turn more takes the part one turn further
   pub left_more : (left more : List ℕ) (now new : Turning) → 0 < length left → IsParting left now → IsTurned system pick raises places left now new more → IsParting more new
   left_more [] more now new l h t = absurd (omega arith)
   left_more (u ∷ us) more now new l h t = parting_more u us more now new h t

@@ -62,12 +62,19 @@ module _ (system : System) (pick : List (Option ℕ)) (raises : List CodeStep) (
 
   -- the turns of some parts are made
   pub record ArePartings (number : ℕ) (now : Turning) : Type 0 where
+    -- the bounds keep their number
     pub size : length now.bounds ≡ length old.bounds
+    -- the steps of the parts so far
     pub made : List Step
+    -- the steps now are those before and those of the parts so far
     pub steps : turns_so_far system now ≡ turns_so_far system old ++ made
+    -- the steps of all parts are those so far, and then those of the parts left
     pub whole : turns joint (vector_at system old.bounds) (map items numbers) ≡ made ++ turns joint (vector_at system now.bounds) (map items (drop number numbers))
+    -- the bounds are those after the steps so far
     pub agrees : Agrees system (after_steps made (vector_at system old.bounds)) now.bounds
+    -- each part so far makes at most as many steps as there may be unknowns
     pub few : length now.steps.items ≤ MOST_UNKNOWNS * number
+    -- the turns of the parts left are turns of all parts
     pub turns_like : (t : Turn) → In (parts_turns joint (length now.steps.items) (vector_at system now.bounds) (map items (drop number numbers))) t → LikeOne eqs (turns_of_parts system pick raises places list old) t
 
   -- at first

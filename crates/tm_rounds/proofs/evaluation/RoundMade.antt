@@ -60,12 +60,18 @@ use Rattle.tm_rounds.proofs.evaluation.RoundRaises.{list_is, list_items}
 
 -- what was grown, where its raises stand, and the list of the unknowns that it raised to fractions
 pub record Setting (system : System) (bounds : List Extended) (pick : List (Option ℕ)) (raises : List CodeStep) (grown : List Extended) (places list : List ℕ) : Type 0 where
+  -- the raises are the steps of the growth
   pub same : map (step_of (length system.template)) raises ≡ growth_at system bounds pick
+  -- the grown bounds are those of the theory's growth
   pub agrees : Agrees system (exact_grown fitting (equations_of system) (vector_at system bounds) (pick_of (length system.template) pick)) grown
+  -- there is one place for each unknown
   pub size : length places ≡ length system.flow.points * length system.template
+  -- the places are those of the raises
   pub placed : ArePlaces raises places (length raises)
+  -- the list is the raised unknowns whose bounds are finite
   pub listed : list ≡ finite_in grown (named_at system (map (step_of (length system.template)) raises))
 
+-- the raises, places and list of a growth are the setting of its round
 pub setting : (system : System) (bounds : List Extended) (pick : List (Option ℕ)) (steps before raises : List CodeStep) (grown : List Extended) (places here raised from list here_list : List ℕ) →
     before ≡ steps → raises ≡ steps → here ≡ places → from ≡ raised → here_list ≡ list →
     map (step_of (length system.template)) steps ≡ growth_at system bounds pick → AreLed system bounds (map (step_of (length system.template)) steps) grown → raised ≡ named_at system (map (step_of (length system.template)) steps) →
@@ -160,6 +166,7 @@ module _ (system : System) (bounds : List Extended) (pick : List (Option ℕ)) (
   made_same : turns (joint_of system pick) at_grown cut ≡ made
   made_same = turns_agree eqs p cut at_grown (vector_at system grown) is.agrees cut_rows ∙ ap (turns (joint_of system pick) (vector_at system grown)) cut_same
 
+  -- the turns of the list's parts are turns of the round
   pub turns_like : (old : Turning) → old.bounds ≡ grown → length old.steps.items ≡ 0 → (t : Turn) → In (turns_of_parts system pick raises places list old) t → LikeOne eqs (turns_at system bounds pick) t
   unfolding exact_turns
   turns_like old e none t m =
@@ -167,6 +174,7 @@ module _ (system : System) (bounds : List Extended) (pick : List (Option ℕ)) (
       (subst (λ ls. In (parts_turns (joint_of system pick) 0 (vector_at system grown) ls) t) (sym cut_same)
       (subst₂ (λ n b. In (parts_turns (joint_of system pick) n (vector_at system b) (map items numbers)) t) none e m))
 
+  -- the turns of the list's parts have their conditions
   pub setting_conditions : (old : Turning) → old.bounds ≡ grown → length old.steps.items ≡ 0 → HaveConditions system pick (turns_of_parts system pick raises places list old)
   setting_conditions old e none = conditions_like system pick (turns_of_parts system pick raises places list old) (turns_at system bounds pick) chosen (λ t m. turn_condition fitting eqs d p chosen t m) (turns_like old e none)
 
@@ -178,6 +186,7 @@ module _ (system : System) (bounds : List Extended) (pick : List (Option ℕ)) (
   done_made : (old new : Turning) → old.bounds ≡ grown → old.steps.items ≡ [] → AreAllDone system pick raises places list old new → turns_so_far system new ≡ made
   done_made old new e none done = done.steps ∙ ap₂ (λ s b. map (step_of rows) s ++ turns (joint_of system pick) (vector_at system b) (map items numbers)) none e
 
+  -- the growth's raises and the turns' steps are the steps of the round
   pub setting_steps : (old new : Turning) (steps : List CodeStep) → old.bounds ≡ grown → old.steps.items ≡ [] → AreAllDone system pick raises places list old new → steps ≡ raises ++ new.steps.items →
       map (step_of rows) steps ≡ round_at system bounds pick
   setting_steps old new steps e none done appended =
@@ -187,6 +196,7 @@ module _ (system : System) (bounds : List Extended) (pick : List (Option ℕ)) (
       map_both [] ys = refl
       map_both (x ∷ xs) ys = ap (λ s. step_of rows x ∷ s) (map_both xs ys)
 
+  -- the bounds after all parts are those of the round
   pub setting_bounds : (old new : Turning) → old.bounds ≡ grown → AreAllDone system pick raises places list old new → Agrees system (rounded_at system bounds pick) new.bounds
   unfolding round
   setting_bounds old new e done q r l =
@@ -199,6 +209,7 @@ module _ (system : System) (pick : List (Option ℕ)) (z : Vector) (new : List E
   value_same : (u : Item) → transformers system z (edge_of (equations_of system) u) (row_of (equations_of system) u) ≡ transformers system (vector_at system new) (edge_of (equations_of system) u) (row_of (equations_of system) u)
   value_same u = transformer_agrees (equations_of system) z (vector_at system new) agree (edge_of (equations_of system) u) (row_of (equations_of system) u)
 
+  -- the new bounds are above the old ones
   pub above_bounds : (old : List Extended) → Above (equations_of system) (transformers system) (vector_at system old) (pick_of (length system.template) pick) z → AreAbove system old pick new
   above_bounds old h = record {
     over = λ q r l. subst (λ x. vector_at system old q r ≤ᴱ x) (agree q r l) (h.over q r l);
@@ -206,6 +217,7 @@ module _ (system : System) (pick : List (Option ℕ)) (z : Vector) (new : List E
     least = λ v o c q r l. subst (λ x. x ≤ᴱ v q r) (agree q r l) (h.least v o c q r l);
   }
 
+  -- the pick is tight at the new bounds
   pub tight_bounds : Tight (equations_of system) (transformers system) z (pick_of (length system.template) pick) → IsTightPick system new pick
   tight_bounds h = record {
     supported = record {

@@ -122,6 +122,7 @@ module _ (system : System) (pick : List (Option ℕ)) (bounds : List Extended) (
       equal j k l m f (inr h) (inl g) = absurd (clash k j g l (sym f))
       equal j k l m f (inr h) (inr g) = omega arith
 
+  -- there are at most as many raises as unknowns
   pub raises_few : length raises ≤ count
   raises_few =
       let a = grow_few fitting eqs p chosen d in

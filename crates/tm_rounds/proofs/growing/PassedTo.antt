@@ -33,9 +33,13 @@ told_both (t ∷ a) (s ∷ b) before now after f g if_told if_not = if_told g
 module _ (system : System) (pick : List (Option ℕ)) where
   -- the unknowns before k were passed, and later ones keep their marks
   pub record PassedTo (k : ℕ) (old new : Growing) (told : Bool) : Type 0 where
+    -- what the state must keep is kept
     pub kept : IsKept system new
+    -- the unknowns that are not raised are quiet
     pub quiet : AreQuiet system pick new
+    -- the unknowns below this one are passed
     pub passed : ArePassed system pick 0 k old new told
+    -- the marks from this unknown on are as before
     pub later : (u : ℕ) → k ≤ u → get_or new.raised.items u false ≡ get_or old.raised.items u false
 
   -- none yet

@@ -4,7 +4,7 @@ use Rattle.std.specs.Prelude.{slice_set, Some}
 use Rattle.std.proofs.lemmas.Nat.{div-add-mod', div-mul-add, mod-mul-add}
 use Rattle.std.proofs.lemmas.List.{get_or-set_same, get_or-set_other, map-append}
 use Rattle.tm_num.specs.Rational.{ℚ}
-use Rattle.tm_num.specs.Extended.{Ext as Extended, neg_inf, fin, ◌≤ᴱ◌, ◌<ᴱ◌}
+use Rattle.tm_num.specs.Extended.{Ext as Extended, neg_inf, fin, pos_inf, ◌≤ᴱ◌, ◌<ᴱ◌}
 use Rattle.tm_num.proofs.extended.ExtendedLaws.{ext_le_or_lt}
 use Rattle.tm_frac.specs.Fits.{long_limit}
 use Rattle.tm_frac.specs.Operation.{first_wide, operation_of}
@@ -157,11 +157,13 @@ module _ (system : System) (bounds : List Extended) (unknown : ℕ) (within : un
           (λ k. absurd (none (subst (λ b. b <ᴱ number_of value) (tested_bound ∙ sym is) (subst (λ v. z u.point u.row <ᴱ v) number_is k))))
           (ext_le_or_lt (value_at (equations_of system) (transformers system) z u) (z u.point u.row))
 
+      -- where the edge's value is not above the bound, the transformer's value stays within it
       pub stays_within : (bound : Extended) → bound ≡ get_or bounds unknown neg_inf → (bound <ᴱ number_of value → ⊥) → value_at (equations_of system) (transformers system) z u ≤ᴱ get_or bounds unknown neg_inf
       stays_within bound is none = subst (λ b. value_at (equations_of system) (transformers system) z u ≤ᴱ b) tested_bound (stays bound is none)
 
       module _ (bound : Extended) (is : bound ≡ get_or bounds unknown neg_inf) (exceeds : bound <ᴱ number_of value) where
-        pub exceeds_there : z u.point u.row <ᴱ value_at (equations_of system) (transformers system) z u
+        -- the transformer's value at the unknown exceeds its bound
+        exceeds_there : z u.point u.row <ᴱ value_at (equations_of system) (transformers system) z u
         exceeds_there =
             subst (λ v. z u.point u.row <ᴱ v) (sym number_is) (subst (λ b. b <ᴱ number_of value) (is ∙ sym tested_bound) exceeds)
 
@@ -205,21 +207,23 @@ module _ (system : System) (bounds : List Extended) (unknown : ℕ) (within : un
         step_stop raises round NoMemory k = tt
 
     -- a wide operation of the test
-    pub value_stop : (raises round : ℕ) (stop : Fault Spot) → IsValueStop system bounds edge (unknown % length system.template) round stop →
+    pub value_stop : get_or bounds unknown neg_inf <ᴱ pos_inf → (raises round : ℕ) (stop : Fault Spot) →
+        IsValueStop system bounds edge (unknown % length system.template) round stop →
         IsStopIn (equations_of system) (record { vector = z; unknown = tested system edge unknown; raises = raises } ∷ []) round stop
     unfolding edge_of row_of choice
-    value_stop raises round (Wide spot) k = record {
+    value_stop limited raises round (Wide spot) k = record {
       round = k.round;
       test = record { vector = z; unknown = tested system edge unknown; raises = raises };
       listed = inl refl;
       formula = inl (record {
+        limited = subst (λ b. b <ᴱ pos_inf) (sym bound_is) limited;
         part = k.part;
         site = k.site;
         wide = fault_agrees (equations_of system) (vector_at system bounds) z (edge_of (equations_of system) u) (row_of (equations_of system) u)
             (λ p r l. sym (agrees p r l)) k.part spot.wide k.wide;
       });
     }
-    value_stop raises round NoMemory k = tt
+    value_stop limited raises round NoMemory k = tt
 
 -- the sizes and the direction of a value that was found
 pub value_sizes : (system : System) (bounds : List Extended) (edge unknown : ℕ) (value : Value) → IsValueAt system bounds edge (unknown % length system.template) value →
@@ -227,6 +231,7 @@ pub value_sizes : (system : System) (bounds : List Extended) (edge unknown : ℕ
 unfolding edge_of row_of choice
 value_sizes system bounds edge unknown value h = sizes_are (equations_of system) (vector_at system bounds) (tested system edge unknown) value h.is_value
 
+-- where the code's value exceeds a bound, the transformer's value does
 pub value_rises : (system : System) (bounds : List Extended) (edge unknown : ℕ) (value : Value) → IsValueAt system bounds edge (unknown % length system.template) value →
     Rises (equations_of system) (choice_of (length system.template) unknown edge) value
 unfolding edge_of row_of choice

@@ -43,6 +43,7 @@ range-append a (suc n) m =
 pub left-append : (rows : ℕ) (pick : List (Option ℕ)) (raised : List Bool) (a n m : ℕ) → left_from rows pick raised a (n + m) ≡ left_from rows pick raised a n ++ left_from rows pick raised (a + n) m
 left-append rows pick raised a n m = ap (flat_map (left_at rows pick raised)) (range-append a n m) ∙ flat_map-append (left_at rows pick raised) (range_with_len a n) (range_with_len (a + n) m)
 
+-- the unknowns left of a range are those of its front and of its rest
 pub left_front : (rows : ℕ) (pick : List (Option ℕ)) (raised : List Bool) (n m : ℕ) → left_from rows pick raised 0 (n + m) ≡ left_from rows pick raised 0 n ++ left_from rows pick raised n m
 left_front rows pick raised n m = left-append rows pick raised 0 n m ∙ ap (λ k. left_from rows pick raised 0 n ++ left_from rows pick raised k m) (let e : 0 + n ≡ n = omega arith in e)
 
@@ -60,6 +61,7 @@ left_one rows pick raised u = append-nil (left_at rows pick raised u)
 pub left_marked : (rows : ℕ) (pick : List (Option ℕ)) (raised : List Bool) (u : ℕ) → get_or raised u false ≡ true → left_from rows pick raised u 1 ≡ []
 left_marked rows pick raised u e = left_one rows pick raised u ∙ ap (λ b. if b then [] else choice_at (u / rows) (u % rows) (get_or pick u None)) e
 
+-- an unknown without a pick is not left
 pub left_unpicked : (rows : ℕ) (pick : List (Option ℕ)) (raised : List Bool) (u : ℕ) → get_or raised u false ≡ false → get_or pick u None ≡ None → left_from rows pick raised u 1 ≡ []
 unfolding choice_at
 left_unpicked rows pick raised u e f =

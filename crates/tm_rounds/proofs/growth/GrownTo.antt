@@ -82,19 +82,27 @@ module _ (system : System) where
 
     -- the growth goes on from what has grown so far, with enough passes
     pub record GrowsOn (now : Growing) (n : ℕ) : Type 0 where
+      -- there may be a pass for each unknown left
       pub enough : length (rest now) ≤ n
+      -- the steps of the growth are those so far, and then those of the passes left
       pub steps : growth_at system bounds pick
           ≡ steps_so_far system now ++ (exact_passes fitting (equations_of system) n (reached now) (rest now)).steps
+      -- the tests of the passes left are tests of the growth
       pub tests : (t : Test) →
           In (passes_tests fitting (equations_of system) (transformers system) (exact_evidence (equations_of system)) n (length (steps_so_far system now)) (reached now)
           (rest now)) t → In (tests_at system bounds pick) t
 
     -- everything so far
     pub record GrowingTo (now : Growing) : Type 0 where
+      -- what the state must keep is kept
       pub kept : IsKept system now
+      -- the unknowns that are not raised are quiet
       pub quiet : AreQuiet system pick now
+      -- the bounds are those that the steps so far reach
       pub agrees : Agrees system (reached now) now.bounds
+      -- how many passes there may still be
       pub fuel : ℕ
+      -- the growth goes on with the passes left
       pub grows_on : GrowsOn now fuel
 
     -- a pass that raised something, and one that raised nothing

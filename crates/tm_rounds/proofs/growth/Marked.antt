@@ -20,9 +20,11 @@ marked_more raised k =
     ap (filter (λ u. get_or raised u false)) (range-append 0 k 1 ∙ ap (λ j. range_with_len 0 k ++ range_with_len j 1) (let e : 0 + k ≡ k = omega arith in e))
     ∙ filter-append (λ u. get_or raised u false) (range_with_len 0 k) (k ∷ [])
 
+-- a marked number extends the marked numbers
 pub marked_yes : (raised : List Bool) (k : ℕ) → get_or raised k false ≡ true → marked_numbers raised (k + 1) ≡ marked_numbers raised k ++ k ∷ []
 marked_yes raised k e = marked_more raised k ∙ ap (λ b. marked_numbers raised k ++ (if b then k ∷ [] else [])) e
 
+-- a number without a mark leaves the marked numbers as they are
 pub marked_no : (raised : List Bool) (k : ℕ) → get_or raised k false ≡ false → marked_numbers raised (k + 1) ≡ marked_numbers raised k
 marked_no raised k e = marked_more raised k ∙ ap (λ b. marked_numbers raised k ++ (if b then k ∷ [] else [])) e ∙ append-nil (marked_numbers raised k)
 

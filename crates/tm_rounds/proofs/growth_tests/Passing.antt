@@ -18,6 +18,7 @@ choose_le {A} a b x y h = by (ext_le_or_lt a b)
     by (inl k) = refl
     by (inr k) = absurd (ext_not_le_of_lt b a k h)
 
+-- a choice by order takes the second value where the second number is below the first
 pub choose_lt : {A : Type 0} (a b : Ext) (x y : A) → b <ᴱ a → ⊎_elim (λ (h : a ≤ᴱ b). x) (λ (h : b <ᴱ a). y) (ext_le_or_lt a b) ≡ y
 choose_lt {A} a b x y h = by (ext_le_or_lt a b)
   where

@@ -12,6 +12,7 @@ use Rattle.tm_rounds.specs.LeastLaws.{AnswersOne}
 neither : (j k : ℕ) → (j < k → ⊥) → (k < j → ⊥) → j ≡ k
 neither j k a b = ⊎_elim (λ l. absurd (a l)) (λ l. ⊎_elim (λ h. absurd (b h)) (λ h. omega arith) (cases_lt k j)) (cases_lt j k)
 
+-- the policy of the best offer answers one position
 pub best_is_one : AnswersOne by_best
 best_is_one offer other j k bound edges values h i =
     let g = subst (λ vs. IsFirstGreatest vs j) values h in
@@ -19,6 +20,7 @@ best_is_one offer other j k bound edges values h i =
     (λ l. ext_not_le_of_lt (get_or other.values j neg_inf) (get_or other.values k neg_inf) (i.first j l) (g.greatest k))
     (λ l. ext_not_le_of_lt (get_or other.values k neg_inf) (get_or other.values j neg_inf) (g.first k l) (i.greatest j))
 
+-- the policy of the first offer answers one position
 pub first_is_one : AnswersOne by_first
 first_is_one offer other j k bound edges values h i =
     neither j k

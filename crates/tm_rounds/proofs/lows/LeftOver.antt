@@ -49,6 +49,7 @@ kept_picked system pick test (u ∷ list) h = by (test u) (kept_picked system pi
     by true r = (h.0, r)
     by false r = r
 
+-- a filtered list is no longer than the list
 pub kept_length : (test : ℕ → Bool) (list : List ℕ) → length (filter test list) ≤ length list
 kept_length test [] = omega arith
 kept_length test (u ∷ list) = by (test u) (kept_length test list)

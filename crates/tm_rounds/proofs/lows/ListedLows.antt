@@ -12,11 +12,16 @@ use Rattle.tm_rounds.specs.Lows.{IsFilled, unknown_in, edge_in, low_in, item_in,
 
 -- what the item of a step with items is
 pub record IsItemOf (rows : ℕ) (step : CodeStep) : Type 0 where
+  -- the item's point is that of its unknown
   pub point : (item_in rows step).point ≡ unknown_in step / rows
+  -- the item's row is that of its unknown
   pub row : (item_in rows step).row ≡ unknown_in step % rows
+  -- the item's edge is that of its step
   pub edge : (item_in rows step).edge ≡ edge_in step
+  -- the item's low trace is that of its step
   pub low : (item_in rows step).low ≡ pieces_of (low_in step)
 
+-- a step that is filled has its item
 pub item_is : (rows : ℕ) (step : CodeStep) → IsFilled step → IsItemOf rows step
 item_is rows (Plain []) h = absurd (omega arith)
 item_is rows (Plain (item ∷ items)) h = record { point = refl; row = refl; edge = refl; low = refl }
@@ -39,6 +44,7 @@ some_edge (Some f) e h = same f e h
     same : (a b : ℕ) → Some a ≡ Some b → a ≡ b
     same a b h = cc
 
+-- a raised unknown with its picked edge is the listed unknown of its item
 pub listed_here : (rows : ℕ) (pick : List (Option ℕ)) (raises : List CodeStep) (places : List ℕ) (u : ℕ) → IsRaised raises places u → get_or pick u None ≡ Some (edge_in (raise_at raises places u)) →
     listed_item (item_in rows (raise_at raises places u)) ≡ listed_of rows pick u
 listed_here rows pick raises places u h e =

@@ -24,6 +24,7 @@ any_true {A} f (x ∷ xs) e = by (f x) refl e (λ h. any_true f xs h)
     by true h i rec = (x, inl refl, h)
     by false h i rec = let r = rec i in (r.0, inr r.1, r.2)
 
+-- a list with an element that passes a test has some that does
 pub true_any : {A : Type 0} (f : A → Bool) (xs : List A) (x : A) → In xs x → f x ≡ true → list_any f xs ≡ true
 true_any f [] x m e = absurd m
 true_any f (y ∷ xs) x m e = by (f y) refl m (λ k. true_any f xs x k e)
@@ -33,6 +34,7 @@ true_any f (y ∷ xs) x m e = by (f y) refl m (λ k. true_any f xs x k e)
     by false h (inl i) rec = absurd (true≢false (sym e ∙ ap f (sym i) ∙ h))
     by false h (inr k) rec = rec k
 
+-- an element of a filtered list passes the test
 pub passes_test : (test : ℕ → Bool) (list : List ℕ) (u : ℕ) → In (filter test list) u → test u ≡ true
 passes_test test [] u m = absurd m
 passes_test test (v ∷ list) u m = by (test v) refl m (λ k. passes_test test list u k)
@@ -41,6 +43,7 @@ passes_test test (v ∷ list) u m = by (test v) refl m (λ k. passes_test test l
     by true h i rec = ⊎_elim (λ e. ap test (sym e) ∙ h) (λ k. rec k) i
     by false h i rec = rec i
 
+-- an element that passes the test is in the filtered list
 pub to_filter : (test : ℕ → Bool) (list : List ℕ) (u : ℕ) → In list u → test u ≡ true → In (filter test list) u
 to_filter test [] u m e = absurd m
 to_filter test (v ∷ list) u m e = by (test v) refl m (λ k. to_filter test list u k e)
@@ -51,10 +54,12 @@ to_filter test (v ∷ list) u m e = by (test v) refl m (λ k. to_filter test lis
     by false h (inl i) rec = absurd (true≢false (sym e ∙ ap test (sym i) ∙ h))
     by false h (inr k) rec = rec k
 
+-- an element of a range is below the range's end
 pub of_range : (a n u : ℕ) → In (range_with_len a n) u → u < a + n
 of_range a zero u m = absurd m
 of_range a (suc n) u m = ⊎_elim (λ e. omega arith) (λ j. let h = of_range (a + 1) n u j in omega arith) m
 
+-- a range rises
 pub range_rises : (a n : ℕ) → Rises a (range_with_len a n)
 range_rises a zero = tt
 range_rises a (suc n) = (omega arith, range_rises (a + 1) n)
@@ -86,6 +91,7 @@ lower_all system pick u n (v ∷ list) some l h within = (
   lower_all system pick u (v + 1) list some (let a = h.0 in omega arith) h.1 (λ k m. within (suc k) (omega arith)),
 )
 
+-- the unknowns of a rising list of numbers rise
 pub rises_listed : (system : System) (pick : List (Option ℕ)) (n : ℕ) (list : List ℕ) → Rises n list → ((k : ℕ) → k < length list → get_or list k 0 % length system.template < length system.template) → IsRising (all_listed system pick list)
 rises_listed system pick n [] h within = tt
 rises_listed system pick n (u ∷ list) h within = (
@@ -105,6 +111,7 @@ one_item rows (Ray []) item e = cc
 one_item rows (Ray (i ∷ [])) item e = (omega arith, refl)
 one_item rows (Ray (i ∷ (j ∷ is))) item e = let l = ap length e in absurd (omega arith)
 
+-- the items of steps with one item each are those items in order
 pub items_map : (rows : ℕ) (ss : List CodeStep) → ((s : CodeStep) → In ss s → (step_of rows s).items ≡ item_in rows s ∷ []) → items_of (map (step_of rows) ss) ≡ map (item_in rows) ss
 unfolding items_of
 items_map rows [] h = refl

@@ -12,9 +12,13 @@ use Rattle.tm_rounds.proofs.turning.TurnItems.{place_of, in_place}
 
 -- the numbers and values of items by their places
 pub record AreNumbers (rows : ℕ) (d : Item) (items : List Item) (value : Item → Extended) (list : List ℕ) (at : ℕ → Extended) : Type 0 where
+  -- there is one number for each item
   pub size : length list ≡ length items
+  -- each item's row is a row of the template
   pub row : (k : ℕ) → k < length items → (get_or items k d).row < rows
+  -- each number is that of its item's point and row
   pub number : (k : ℕ) → k < length items → get_or list k 0 ≡ (get_or items k d).point * rows + (get_or items k d).row
+  -- each value is that of its item
   pub value_is : (k : ℕ) → k < length items → at k ≡ value (get_or items k d)
 
 -- one number is one point and row

@@ -24,7 +24,8 @@ use Rattle.tm_rounds.specs.declared.halt.Halt.TheVariants.{Spent}
 use Rattle.tm_offers.specs.declared.known.Known.{Known}
 use Rattle.tm_rounds.specs.declared.solution.Solved.{Solved}
 use Rattle.tm_rounds.specs.declared.solving.Progress.{Progress}
-use Rattle.tm_offers.specs.AtBounds.{transformers, vector_at, IsTightPick, IsNextPick, IsOfferStop, NothingExceeds}
+use Rattle.tm_offers.specs.AtBounds.{transformers, vector_at, IsTightPick, IsNextPick, NothingExceeds}
+use Rattle.tm_offers.specs.Stops.{IsOfferStop}
 use Rattle.tm_offers.specs.Improvement.{pick_of, IsNext}
 use Rattle.tm_rounds.specs.Round.{IsRoundStop, AreBoundsOf, round_at, rounded_at}
 use Rattle.tm_rounds.specs.Chains.{state_at, bounds_after, steps_after, IsChain, IsEnded}
@@ -143,6 +144,7 @@ module _ (system : System) (policy : Offer → ℕ → Type 0) (made : ℕ) (pro
           ∙ steps_next system policy made a.choose a.chain (pick_of (length system.template) better) next_one;
     }
 
+    -- a round that advances leads to the progress after one round more
     pub after_round : (new : Progress) → length better ≡ length system.flow.points * length system.template → IsAdvanced system better progress new → IsAfter system policy (made + 1) new
     after_round new size h = subst (λ n. IsAfter system policy n new) (let e : suc made ≡ made + 1 = omega arith in e) (after_next new size h)
 

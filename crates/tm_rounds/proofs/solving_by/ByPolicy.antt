@@ -67,6 +67,7 @@ module _ (policy other : Offer → ℕ → Type 0) (also : (offer : Offer) (k : 
   answer_solved system limit (Ok solved) h = solved_by system limit solved h
   answer_solved system limit (Err halt) h = tt
 
+  -- a halt by a policy is a halt by one that may answer whatever it answers
   pub answer_halt : (system : System) (limit : ℕ) (result : Result Solved Halt) → IfErr result (IsHalt system policy limit) → IfErr result (IsHalt system other limit)
   answer_halt system limit (Ok solved) h = tt
   answer_halt system limit (Err halt) h = halt_by system limit halt h

@@ -47,6 +47,7 @@ module _ (system : System) (pick : List (Option ℕ)) where
   laid_unknowns n place offset [] = refl
   laid_unknowns n place offset (u ∷ rest) = ap (λ xs. u ∷ xs) (laid_unknowns n (place + 1) (offset + split_width system (edge_for pick u)) rest)
 
+  -- the unknowns of a list's layout are the list
   pub layout_unknowns : (list : List ℕ) → map (λ (rise : Rise). rise.unknown) (layout_of system pick list) ≡ list
   layout_unknowns list = laid_unknowns (length list) 0 0 list
 

@@ -12,10 +12,12 @@ unfolding puts
 length-puts value list bounds zero = refl
 length-puts value list bounds (suc n) = length-set (puts value list bounds n) (get_or list n 0) (value n) ∙ length-puts value list bounds n
 
+-- before the first value is put the bounds are as they were
 pub puts-none : (value : ℕ → Extended) (list : List ℕ) (bounds : List Extended) → puts value list bounds 0 ≡ bounds
 unfolding puts
 puts-none value list bounds = refl
 
+-- one value more is put at the number at its place
 pub puts-more : (value : ℕ → Extended) (list : List ℕ) (bounds : List Extended) (n : ℕ) → puts value list bounds (n + 1) ≡ slice_set (puts value list bounds n) (get_or list n 0) (value n)
 unfolding puts
 puts-more value list bounds n = let e : n + 1 ≡ suc n = omega arith in ap (puts value list bounds) e

@@ -45,11 +45,13 @@ use Rattle.tm_rounds.proofs.lows.RateTurn.{rate_is}
 use Rattle.tm_rounds.proofs.putting.PutVector.{AreNumbers, put_agrees}
 use Rattle.tm_rounds.proofs.turning.LayoutReads.{layout_unknowns, layout_starts, layout_rises, layout_words, read_sizes}
 
+-- each number of a picked list is picked
 pub picked_in : (system : System) (pick : List (Option ℕ)) (list : List ℕ) → ArePicked system pick list → (k : ℕ) → k < length list → IsPicked system pick (get_or list k 0)
 picked_in system pick [] h k l = absurd (omega arith)
 picked_in system pick (u ∷ list) h zero l = h.0
 picked_in system pick (u ∷ list) h (suc k) l = picked_in system pick list h.1 k (omega arith)
 
+-- an item that stands where there is none
 pub no_item : Item
 no_item = choice 0 0 0
 
@@ -73,6 +75,7 @@ module _ (system : System) (pick : List (Option ℕ)) (raises : List CodeStep) (
   abbrev items : List Item
   items = items_at rows raises places list
 
+  -- the items list the unknowns
   pub same : listed_items items ≡ us
   same = listed_same system pick raises places list part.raised part.edges
 
@@ -80,12 +83,15 @@ module _ (system : System) (pick : List (Option ℕ)) (raises : List CodeStep) (
   pub rising : AllRising eqs V us
   rising = subst (AllRising eqs V) same (rising_items eqs (pick_of rows pick) V items condition)
 
+  -- the unknowns are apart
   pub apart : Apart us
   apart = listed_distinct system pick 0 list part.rises part.picked
 
+  -- each number of the list has a bound
   pub in_range : (k : ℕ) → k < length list → get_or list k 0 < length bounds
   in_range k l = subst (λ n. get_or list k 0 < n) (sym size) (picked_in system pick list part.picked k l).in_range
 
+  -- each number of the list has a row of the template
   pub row_in : (k : ℕ) → k < length list → get_or list k 0 % rows < rows
   row_in k l = row_within (get_or list k 0) (length system.flow.points) rows (picked_in system pick list part.picked k l).in_range
 

@@ -98,10 +98,15 @@ module _ (system : System) (pick : List (Option ℕ)) (is_pick : IsPick (equatio
 
   -- what is known of a turn by an outcome
   record TurnedAs (o : Outcome) : Type 0 where
+    -- the bounds keep their number
     pub size_kept : length new.bounds ≡ length old.bounds
+    -- the turn is one by the outcome of the joint problem
     pub turned : IsTurnedBy system raises places o list old new left
+    -- the unknowns left are a part
     pub kept : IsPart system pick raises places left
+    -- fewer unknowns are left than before
     pub fewer : length left < length list
+    -- the turn makes one step
     pub one : length new.steps.items ≡ length old.steps.items + 1
 
   by_point : (x : ℕ → ℚ) (v : ℚ) (y : ℕ → ℚ) (to : _) (highs : List Trace) → PointFacts eqs (transformers system) V items (point_items eqs.variables (raised (listed_items items) x V) items (joint_words eqs (listed_items items) x)) →

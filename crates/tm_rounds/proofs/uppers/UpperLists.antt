@@ -49,6 +49,7 @@ module _ (system : Equations) (z : Vector) where
     abbrev pub uppers_to : List Edge → ℕ → List Evidence
     uppers_to edges i = uppers_for system z (into_needs p r 0 (take i edges))
 
+    -- before the first edge there is no evidence of upper bounds
     pub uppers_none : (edges : List Edge) → uppers_to edges 0 ≡ []
     unfolding uppers_for into_needs
     uppers_none edges = refl
@@ -109,6 +110,7 @@ module _ (system : Equations) (z : Vector) where
   abbrev pub uppers_of_points : ℕ → List Evidence
   uppers_of_points n = flat_map (λ p. uppers_of_rows system z p (length system.template)) (range_with_len 1 n)
 
+  -- one point more extends the evidence of the points by that of its rows
   pub points_more : (n : ℕ) → uppers_of_points n ++ uppers_of_rows system z (1 + n) (length system.template) ≡ uppers_of_points (n + 1)
   points_more n =
       ap (λ s. uppers_of_points n ++ s) (sym (append-nil (uppers_of_rows system z (1 + n) (length system.template))))

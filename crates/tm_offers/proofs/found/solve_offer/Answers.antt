@@ -18,10 +18,6 @@ returns-in-Err-Wide c =
     let system = c.args.system.now in
     record {
       round = refl;
-      edge = c.args.edge;
-      is_edge = c.requires.edge;
-      row = c.args.row;
-      is_row = c.requires.row;
       part = c.in-Err-Wide.part;
       site = refl;
       wide = subst (IsOperatorFault (equations_of system) (vector_at system c.args.bounds.now) (edge_at system c.args.edge) (row_at system c.args.row)) c.in-Err-Wide.field-0-is

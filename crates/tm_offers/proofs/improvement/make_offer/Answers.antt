@@ -1,6 +1,8 @@
 use Rattle.std.proofs.Common.{◌∙◌, ◌∷◌, [], ◌++◌, map, take, ap, sym, subst}
 use Rattle.tm_frac.specs.Extended.{extended}
 use Rattle.tm_offers.specs.Known.{AreKnown}
+use Rattle.std.proofs.lemmas.Result.{err_from_is_err_and}
+use Rattle.tm_offers.proofs.offers.OfferStops.{stop_into}
 use Rattle.tm_offers.proofs.improvement.OfferLists.{numbers_none, edges_none, numbers_yes, numbers_no, row_value, value_here, values_yes, values_no, same_count}
 use Rattle.tm_offers.proofs.improvement.make_offer.Goals as goal
 use Rattle.tm_offers.proofs.improvement.make_offer.Goals.{then-edge-point+in_ok-value+in_ok-push+in_ok-push-2, else-edge-point}
@@ -41,3 +43,11 @@ invariant_of-result c = record {
   beside = same_count c.args.point (take c.loop-number.number c.as_slice-edge-items.result.now) (row_value c.args.system.now c.args.bounds.now c.args.row) c.new.result c.new-2.result
       (c.new.ensures ∙ c.loop-number.invariant.numbers) (c.new-2.ensures ∙ c.loop-number.invariant.values);
 }
+
+pub returns-in_err-value-clause-offer : goal.returns-in_err-value-clause-offer
+returns-in_err-value-clause-offer c =
+    let q = err_from_is_err_and c.from_residual.result c.from_residual.ensures.1 in
+    rw (q.1, q.2)
+    (stop_into c.args.system.now c.args.bounds.now c.args.row c.args.round c.requires.row c.args.point c.requires.limited
+    c.as_slice-edge-items.result.now c.loop-number.number c.edge-item.result c.as_slice-edge-items.ensures c.loop-number-test.true
+    c.edge-item.is c.if-edge-point.true c.in_err-value.field-0.0 c.in_err-value.ensures.value)

@@ -1,7 +1,9 @@
-use Rattle.std.proofs.Common.{◌∙◌, ◌<◌, length, refl, sym, ap, arith}
+use Rattle.std.proofs.Common.{◌∙◌, ◌<◌, length, get_or, refl, sym, ap, arith}
 use Rattle.std.proofs.lemmas.Result.{IfOk-weaker, IfErr-weaker}
+use Rattle.tm_num.specs.Extended.{neg_inf}
 use Rattle.tm_offers.specs.AtBounds.{vector_at}
 use Rattle.tm_offers.specs.Offers.{is_top}
+use Rattle.tm_offers.proofs.offers.Offered.{below_top}
 use Rattle.tm_rounds.proofs.growing.Kept.{mark_is}
 use Rattle.tm_rounds.proofs.growing.Quiet.{quiet_passed, top_passed}
 use Rattle.tm_rounds.proofs.growing.Walked.{left_marked, left_unpicked, passed_none, test_passed, test_stop, others_stay}
@@ -54,3 +56,8 @@ returns-in-Some-clause-stop c =
     IfErr-weaker c.test_picked.result _ _
     (λ stop h z agrees. test_stop system c.args.pick.now c.args.unknown c.in-Some.edge z c.args.growing.now c.test_picked.new.growing agrees (mark_is c.args.growing.now.raised.items c.args.unknown c.index.result.now (let r = c.requires.kept.raised in let u = c.requires.unknown in omega arith) c.index.ensures ∙ c.if-index.false) (sym c.at-2.ensures ∙ c.in-Some.is) within c.args.round stop (h z agrees))
     c.test_picked.ensures.stop
+
+pub test_picked-requires-clause-limited : goal.test_picked-requires-clause-limited
+test_picked-requires-clause-limited c =
+    below_top (get_or c.args.growing.now.bounds c.args.unknown neg_inf)
+    (sym (sym c.if-is_unlimited.false ∙ c.is_unlimited.ensures ∙ ap is_top c.at.ensures))

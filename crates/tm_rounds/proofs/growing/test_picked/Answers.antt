@@ -27,7 +27,8 @@ returns-in_err-value-clause-stop c =
     let system = c.args.system.now in
     let q = err_from_is_err_and c.from_residual.result c.from_residual.ensures.1 in
     rw (q.1, q.2)
-    (λ z agrees. value_stop system c.args.growing.now.bounds c.args.unknown c.requires.unknown c.requires.kept.bounds z agrees c.args.edge _ c.args.round c.in_err-value.field-0.0
+    (λ z agrees. value_stop system c.args.growing.now.bounds c.args.unknown c.requires.unknown c.requires.kept.bounds z agrees c.args.edge
+    c.requires.limited _ c.args.round c.in_err-value.field-0.0
     (subst (λ n. IsValueStop system c.args.growing.now.bounds c.args.edge (c.args.unknown % n) c.args.round c.in_err-value.field-0.0) (ap (λ t. length t) c.as_slice.ensures.rows) c.in_err-value.ensures.stop))
 
 pub returns-then-not-exceeds-clause-tested : goal.returns-then-not-exceeds-clause-tested

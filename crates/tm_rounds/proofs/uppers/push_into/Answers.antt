@@ -5,7 +5,9 @@ use Rattle.tm_cert.specs.Certificates.{evidence_of}
 use Rattle.tm_strategy_lp.specs.Made.{exact_upper}
 use Rattle.tm_offers.specs.AtBounds.{vector_at, row_at}
 use Rattle.tm_offers.specs.Known.{AreKnown}
+use Rattle.std.proofs.lemmas.Result.{err_from_is_err_and}
 use Rattle.tm_offers.proofs.at_bounds.Ranges.{edge_here}
+use Rattle.tm_offers.proofs.offers.OfferStops.{stop_into}
 use Rattle.tm_rounds.proofs.uppers.UpperLists.{uppers_to, uppers_none, uppers_yes, uppers_no, pushed}
 use Rattle.tm_rounds.proofs.uppers.push_into.Goals as goal
 use Rattle.tm_rounds.proofs.uppers.push_into.Goals.{then-edge-point+in_ok-upper+in_ok-push, else-edge-point}
@@ -43,3 +45,11 @@ loop-number-preserved c =
         known = subst (AreKnown system c.args.bounds.now) (sym w.known-is) c.loop-number.invariant.known;
       }
     ]
+
+pub returns-in_err-upper-clause-stop : goal.returns-in_err-upper-clause-stop
+returns-in_err-upper-clause-stop c =
+    let q = err_from_is_err_and c.from_residual.result c.from_residual.ensures.1 in
+    rw (q.1, q.2)
+    (stop_into c.args.system.now c.args.bounds.now c.args.row c.args.round c.requires.row c.args.point c.requires.limited
+    c.as_slice-edge-items.result.now c.loop-number.number c.edge-item.result c.as_slice-edge-items.ensures c.loop-number-test.true
+    c.edge-item.is c.if-edge-point.true c.in_err-upper.field-0.0 c.in_err-upper.ensures.stop)

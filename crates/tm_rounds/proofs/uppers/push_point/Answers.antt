@@ -6,6 +6,7 @@ use Rattle.tm_cert.specs.Certificates.{evidence_of}
 use Rattle.tm_offers.specs.AtBounds.{vector_at}
 use Rattle.tm_offers.specs.Known.{AreKnown}
 use Rattle.tm_offers.specs.Offers.{is_top}
+use Rattle.tm_offers.proofs.offers.Offered.{below_top}
 use Rattle.tm_rounds.specs.Uppers.{uppers_of_rows, uppers_into}
 use Rattle.tm_rounds.proofs.uppers.UpperLists.{rows_top, rows_edges}
 use Rattle.tm_rounds.proofs.uppers.push_point.Goals as goal
@@ -35,3 +36,11 @@ loop-row-preserved c =
         known = subst (AreKnown system c.args.bounds.now) (sym w.known-is) c.loop-row.invariant.known;
       }
     ]
+
+pub push_into-requires-clause-limited : goal.push_into-requires-clause-limited
+push_into-requires-clause-limited c =
+    let bounds = c.args.bounds.now in
+    let place = ap (λ n. get_or bounds (c.args.point * n + c.loop-row.row) neg_inf)
+    (ap (λ (t : List _). length t) c.as_slice.ensures.rows) in
+    below_top (vector_at c.args.system.now bounds c.args.point c.loop-row.row)
+    (sym (sym c.if-not-is_unlimited.true ∙ c.is_unlimited.ensures ∙ ap is_top (c.at.ensures ∙ place)))
