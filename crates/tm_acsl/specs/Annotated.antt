@@ -6,7 +6,7 @@ use Rattle.tm_lex.specs.Reading as lex
 use Rattle.tm_lex.specs.declared.token.Token as lex_token
 use Rattle.tm_gram.specs.Grammar.{Program, Reads}
 use Rattle.tm_gram.specs.View.{tokens_of}
-use Rattle.tm_parse.specs.Walk.{walk}
+use Rattle.lang_meaning.specs.Walk.{walk}
 use Rattle.tm_tree.specs.Tree.{Statements}
 use Rattle.tm_flow.specs.Points.{points_of_program}
 use Rattle.tm_eqsys.specs.Equations.{Least, Vector}
@@ -24,7 +24,7 @@ use Rattle.tm_cli.specs.declared.request.Domain.{Domain}
 use Rattle.tm_cli.specs.declared.request.Purpose.TheVariants.{Report}
 use Rattle.tm_cli.specs.declared.request.Request.TheVariants.{Analyse}
 use Rattle.tm_top.specs.Files.{AreInputs}
-use Rattle.tm_top.specs.Texts.{IsReady, IsSolvable}
+use Rattle.top_texts.specs.Texts.{IsReady, IsSolvable}
 
 -- the tree of a program's text: that of its tokens, which means these names and statements
 pub record IsTreeOf (text : List ℕ) (names : List (List ℕ)) (body : Statements) (tree : Program) : Type 0 where

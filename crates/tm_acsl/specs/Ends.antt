@@ -1,7 +1,7 @@
 -- How a put ends.
 use Rattle.std.specs.Prelude.{◌≡◌}
-use Rattle.tm_top.specs.declared.status.Status.{Status}
-use Rattle.tm_top.specs.declared.status.Status.TheVariants.{Done, Memory, Write}
+use Rattle.top_status.specs.declared.status.Status.{Status}
+use Rattle.top_status.specs.declared.status.Status.TheVariants.{Done, Memory, Write}
 
 -- all was put, the output failed, or memory was wanted
 pub data IsPutEnd (status : Status) : Type 0 where

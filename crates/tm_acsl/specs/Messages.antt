@@ -1,11 +1,11 @@
 -- The message of an ending.
 use Rattle.std.specs.Prelude.{◌≡◌, ◌++◌, ◌∷◌, [], ℕ, List, Option, codes}
 use Rattle.tm_io.specs.Files.{Contents}
-use Rattle.tm_top.specs.Meanings.{Meanings}
-use Rattle.tm_top.specs.Messages.{message_of}
+use Rattle.top_texts.specs.Meanings.{Meanings}
+use Rattle.top_status.specs.Messages.{message_of}
 use Rattle.tm_top.specs.Outputs.{IsMessage}
-use Rattle.tm_top.specs.declared.status.Status.{Status}
-use Rattle.tm_top.specs.declared.status.Status.TheVariants.{Done, Certificate, Usage, Read, Text, Wide, Spent, Memory, Write}
+use Rattle.top_status.specs.declared.status.Status.{Status}
+use Rattle.top_status.specs.declared.status.Status.TheVariants.{Done, Certificate, Usage, Read, Text, Wide, Spent, Memory, Write}
 
 -- the line, with its line feed, that says which words are a program and its options
 abbrev pub usage_text : List ℕ

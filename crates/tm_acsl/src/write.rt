@@ -7,7 +7,7 @@ ghost use Rattle.tm_lex.specs.TokenLists.{AreTokensOf};
 ghost use Rattle.tm_tree.specs.Word.{is_word};
 ghost use Rattle.tm_cli.specs.declared.request.Domain.{Domain};
 ghost use Rattle.tm_cli.specs.declared.request.Policy.{Policy};
-ghost use Rattle.tm_top.specs.Analyses.{IsFoundIn};
+ghost use Rattle.top_texts.specs.Analyses.{IsFoundIn};
 ghost use Rattle.tm_acsl.specs.Annotated.{IsAnnotatedOf};
 
 use std::alloc::{AllocError, Global};

@@ -1,7 +1,9 @@
+pub mod Putting
+pub mod Answered
+pub mod OfRounds
 pub mod OneEnding
 pub mod Worded
 pub mod Meant
 pub mod Put
-pub mod Putting
 pub mod Messages
 pub mod Ranges

@@ -1,4 +1,1 @@
-pub mod Once
-pub mod Judged
 pub mod Named
-pub mod OneText

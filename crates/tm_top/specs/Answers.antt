@@ -12,16 +12,17 @@ use Rattle.tm_cli.specs.declared.request.Purpose.{Purpose}
 use Rattle.tm_cli.specs.declared.request.Request.TheVariants.{Analyse, Check, Bench, Upgrade, Prove, Transitions, Equations}
 use Rattle.tm_form.specs.declared.fault.FormFault.{FormFault}
 use Rattle.tm_top.specs.Files.{AreChecked, AreInputs, HasCertificate, HasShortText, IsReached, IsTold, IsTooLong, Request}
-use Rattle.tm_top.specs.Meanings.{Meanings}
-use Rattle.tm_top.specs.Questions.{IsWideIn, QuestionEnds, analysis_question, bench_question, claims_question, equations_question, transitions_question}
-use Rattle.tm_top.specs.Texts.{IsRefusedProgram}
-use Rattle.tm_top.specs.declared.status.CertCause.{CertCause}
-use Rattle.tm_top.specs.declared.status.CertCause.TheVariants.{Form}
-use Rattle.tm_top.specs.declared.status.ReadCause.TheVariants.{Failed, TooLong}
-use Rattle.tm_top.specs.declared.status.Status.{Status}
-use Rattle.tm_top.specs.declared.status.Status.TheVariants.{Done, Certificate, Usage, Read, Text, Wide, Spent, Memory, Write}
-use Rattle.tm_top.specs.declared.status.TextCause.{TextCause}
-use Rattle.tm_top.specs.declared.status.Which.{Which}
+use Rattle.top_texts.specs.Meanings.{Meanings}
+use Rattle.top_texts.specs.Questions.{IsWideIn, QuestionEnds, analysis_question, bench_question, claims_question, equations_question}
+use Rattle.top_texts.specs.Questions.{transitions_question}
+use Rattle.top_texts.specs.Texts.{IsRefusedProgram}
+use Rattle.top_status.specs.declared.status.CertCause.{CertCause}
+use Rattle.top_status.specs.declared.status.CertCause.TheVariants.{Form}
+use Rattle.top_status.specs.declared.status.ReadCause.TheVariants.{Failed, TooLong}
+use Rattle.top_status.specs.declared.status.Status.{Status}
+use Rattle.top_status.specs.declared.status.Status.TheVariants.{Done, Certificate, Usage, Read, Text, Wide, Spent, Memory, Write}
+use Rattle.top_status.specs.declared.status.TextCause.{TextCause}
+use Rattle.top_status.specs.declared.status.Which.{Which}
 
 -- ---- the ending of words, where nothing fails outside, there is memory, and no operation of an analysis is too wide
 

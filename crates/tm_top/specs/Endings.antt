@@ -3,45 +3,17 @@ use Rattle.std.specs.Prelude.{◌≡◌, ◌⊎◌, ℕ, List, Option, None, Som
 use Rattle.tm_io.specs.Files.{Contents}
 use Rattle.tm_eqsys.specs.declared.spot.Spot.{Spot}
 use Rattle.tm_cli.specs.declared.request.Domain.{Domain}
-use Rattle.tm_top.specs.Checks.{IsAccepted, IsFormFault, IsRefusedCertificate, IsWideAt}
+use Rattle.top_texts.specs.Checks.{IsWideAt}
 use Rattle.tm_top.specs.Files.{AreChecked, AreInputs, HasCertificate, HasShortText, IsReached, IsTooLong, Request}
-use Rattle.tm_top.specs.Exact.{exact}
-use Rattle.tm_top.specs.Questions.{IsWideIn, QuestionEnds, analysis_question, bench_question, claims_question, equations_question, transitions_question}
+use Rattle.top_texts.specs.Exact.{exact}
+use Rattle.top_texts.specs.Questions.{IsWideIn, QuestionEnds, analysis_question, bench_question, claims_question, equations_question}
+use Rattle.top_texts.specs.Questions.{transitions_question}
 use Rattle.tm_cli.specs.Request.{request_of}
-use Rattle.tm_top.specs.Texts.{IsRefusedProgram}
-use Rattle.tm_top.specs.Upgrades.{IsUpgradeOf}
 use Rattle.tm_cli.specs.declared.request.Request.TheVariants.{Analyse, Check, Bench, Upgrade, Prove, Transitions, Equations}
-use Rattle.tm_top.specs.declared.status.CertCause.TheVariants.{Form, Rows, Unknowns, Check as CheckCause}
-use Rattle.tm_top.specs.declared.status.ReadCause.TheVariants.{Failed, TooLong}
-use Rattle.tm_top.specs.declared.status.Status.{Status}
-use Rattle.tm_top.specs.declared.status.Status.TheVariants.{Done, Certificate, Usage, Read, Text, Wide, Spent, Memory, Write}
-
--- this is the ending that the text of a program and the bytes of a certificate have
-abbrev pub CheckEnd : List ℕ → List ℕ → Status → Type 0
-CheckEnd text bytes Done = IsAccepted text bytes
-CheckEnd text bytes (Certificate cause) = IsRefusedCertificate text bytes cause
-CheckEnd text bytes Usage = ⊥
-CheckEnd text bytes (Read cause) = ⊥
-CheckEnd text bytes (Text cause) = IsRefusedProgram text cause
-CheckEnd text bytes (Wide spot) = IsWideAt text bytes spot
-CheckEnd text bytes (Spent number) = ⊥
-CheckEnd text bytes Memory = ⊥
-CheckEnd text bytes Write = ⊥
-
--- this is the ending that the bytes of a certificate have which are upgraded
-abbrev pub UpgradeEnd : List ℕ → Status → Type 0
-UpgradeEnd bytes Done = (written : List ℕ) × IsUpgradeOf bytes written
-UpgradeEnd bytes (Certificate (Form fault)) = IsFormFault bytes fault
-UpgradeEnd bytes (Certificate (Rows fault)) = ⊥
-UpgradeEnd bytes (Certificate (Unknowns count)) = ⊥
-UpgradeEnd bytes (Certificate (CheckCause fault)) = ⊥
-UpgradeEnd bytes Usage = ⊥
-UpgradeEnd bytes (Read cause) = ⊥
-UpgradeEnd bytes (Text cause) = ⊥
-UpgradeEnd bytes (Wide spot) = ⊥
-UpgradeEnd bytes (Spent number) = ⊥
-UpgradeEnd bytes Memory = ⊥
-UpgradeEnd bytes Write = ⊥
+use Rattle.top_status.specs.declared.status.ReadCause.TheVariants.{Failed, TooLong}
+use Rattle.top_status.specs.declared.status.Status.{Status}
+use Rattle.top_status.specs.declared.status.Status.TheVariants.{Done, Certificate, Usage, Read, Text, Wide, Spent, Memory, Write}
+use Rattle.top_texts.specs.Endings.{CheckEnd, UpgradeEnd}
 
 -- this is the ending that the texts which a request reads have
 abbrev pub InputsEnd : Option Contents → Request → Status → Type 0
@@ -51,7 +23,8 @@ InputsEnd files (Check program certificate) status =
     (text : List ℕ) × (bytes : List ℕ) × AreChecked files program certificate text bytes × CheckEnd text bytes status
 InputsEnd files (Bench seed loops) status = QuestionEnds (bench_question exact seed loops) status
 InputsEnd files (Upgrade certificate) status = (bytes : List ℕ) × HasCertificate files certificate bytes × UpgradeEnd bytes status
-InputsEnd files (Prove claims analysis) status = (text : List ℕ) × (rows : Domain (List ℕ)) × (given : List ℕ) × AreInputs files analysis text rows
+InputsEnd files (Prove claims analysis) status = (text : List ℕ) × (rows : Domain (List ℕ)) × (given : List ℕ)
+    × AreInputs files analysis text rows
     × HasShortText files claims given × QuestionEnds (claims_question exact text rows given analysis.policy analysis.improvements) status
 InputsEnd files (Transitions analysis) status = (text : List ℕ) × (rows : Domain (List ℕ)) × AreInputs files analysis text rows
     × QuestionEnds (transitions_question exact text rows analysis.policy analysis.improvements) status
@@ -66,7 +39,8 @@ IsSpotFor files (Check program certificate) spot =
     (text : List ℕ) × (bytes : List ℕ) × AreChecked files program certificate text bytes × IsWideAt text bytes spot
 IsSpotFor files (Bench seed loops) spot = IsWideIn (bench_question exact seed loops) spot
 IsSpotFor files (Upgrade certificate) spot = ⊥
-IsSpotFor files (Prove claims analysis) spot = (text : List ℕ) × (rows : Domain (List ℕ)) × (given : List ℕ) × AreInputs files analysis text rows
+IsSpotFor files (Prove claims analysis) spot = (text : List ℕ) × (rows : Domain (List ℕ)) × (given : List ℕ)
+    × AreInputs files analysis text rows
     × HasShortText files claims given × IsWideIn (claims_question exact text rows given analysis.policy analysis.improvements) spot
 IsSpotFor files (Transitions analysis) spot = (text : List ℕ) × (rows : Domain (List ℕ)) × AreInputs files analysis text rows
     × IsWideIn (transitions_question exact text rows analysis.policy analysis.improvements) spot

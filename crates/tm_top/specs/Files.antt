@@ -6,11 +6,12 @@ use Rattle.tm_cli.specs.declared.request.Domain.{Domain}
 use Rattle.tm_cli.specs.declared.request.Domain.TheVariants.{Intervals, Zones, Octagons, Rows}
 use Rattle.tm_cli.specs.declared.request.Request.{Request as RequestOf}
 use Rattle.tm_cli.specs.declared.request.Request.TheVariants.{Analyse, Check, Bench, Upgrade, Prove, Transitions, Equations}
-use Rattle.tm_top.specs.declared.status.Status.{Status}
-use Rattle.tm_top.specs.declared.status.Status.TheVariants.{Text}
-use Rattle.tm_top.specs.declared.status.TextCause.TheVariants.{Claims}
-use Rattle.tm_top.specs.declared.status.Which.{Which}
-use Rattle.tm_top.specs.declared.status.Which.TheVariants as which
+use Rattle.top_status.specs.declared.status.Status.{Status}
+use Rattle.top_status.specs.declared.status.Status.TheVariants.{Text}
+use Rattle.top_status.specs.declared.status.TextCause.TheVariants.{Claims}
+use Rattle.top_status.specs.declared.status.Which.{Which}
+use Rattle.top_status.specs.declared.status.Which.TheVariants as which
+use Rattle.top_texts.specs.Short.{IsShort, HasShortRows}
 
 -- an analysis of a program, the check of a certificate of a program, the analysis of a generated program, the upgrade of a certificate,
 -- the proof of claims about a program, the analysis of a transition system, or the solution of equations
@@ -71,10 +72,6 @@ most_bytes which.Claims = 65536
 most_bytes which.System = 65536
 most_bytes which.Equations = 65536
 
--- a text of at most 65,536 bytes
-abbrev pub IsShort : List ℕ → Type 0
-IsShort text = length text ≤ 65536
-
 -- the file is within its limit
 pub record IsShortFile (files : Option Contents) (which : Which) (name : List ℕ) : Type 0 where
   pub bytes : List ℕ
@@ -116,13 +113,6 @@ IsWithText files Zones rows = rows ≡ Zones
 IsWithText files Octagons rows = rows ≡ Octagons
 IsWithText files (Rows file) rows = (text : List ℕ) × HasContent files file text × (rows ≡ Rows text)
 
--- the text of its rows is short
-abbrev pub HasShortRows : Domain (List ℕ) → Type 0
-HasShortRows Intervals = Unit {0}
-HasShortRows Zones = Unit {0}
-HasShortRows Octagons = Unit {0}
-HasShortRows (Rows text) = IsShort text
-
 -- what an analysis reads: the text of its program or transition system, and its domain by the text of its rows, each within its limit
 pub record AreInputs (files : Option Contents) (analysis : Analysis (List ℕ)) (text : List ℕ) (rows : Domain (List ℕ)) : Type 0 where
   pub program : HasContent files analysis.program text
@@ -147,7 +137,8 @@ pub record HasShortText (files : Option Contents) (file text : List ℕ) : Type 
   pub content : HasContent files file text
   pub short : IsShort text
 
--- the file in which the message of an ending names a line, where claims about a program are proved: that of the claims, where they are refused
+-- the file in which the message of an ending names a line, where claims about a program are proved: that of the claims, where they are
+-- refused
 abbrev pub named_in : (program claims : List ℕ) → Status → List ℕ
 named_in program claims (Text (Claims fault)) = claims
 named_in program claims _ = program

@@ -18,19 +18,19 @@ use Rattle.tm_cli.specs.declared.request.Policy.TheVariants.{Best}
 use Rattle.tm_cli.specs.declared.request.Purpose.{Purpose}
 use Rattle.tm_cli.specs.declared.request.Purpose.TheVariants.{Report, Certificate as AsCertificate}
 use Rattle.tm_cli.specs.declared.request.Request.TheVariants.{Analyse, Check, Bench, Upgrade, Prove, Transitions, Equations}
-use Rattle.tm_top.specs.ClaimTexts.{AreVerdictsOf}
-use Rattle.tm_top.specs.EquationTexts.{AreValuesOf}
+use Rattle.top_texts.specs.ClaimTexts.{AreVerdictsOf}
+use Rattle.top_texts.specs.EquationTexts.{AreValuesOf}
 use Rattle.tm_top.specs.Files.{AreChecked, AreInputs, HasCertificate, HasContent, HasShortText, HasText, IsReached, IsTold, Request}
-use Rattle.tm_top.specs.LeastReports.{IsLeastReport, IsReportOf}
-use Rattle.tm_top.specs.Meanings.{Meanings}
-use Rattle.tm_top.specs.Rounds.{HasRounds}
-use Rattle.tm_top.specs.Texts.{IsReady, IsSolvedSystem}
-use Rattle.tm_top.specs.TransitionTexts.{IsAutoReport}
+use Rattle.top_texts.specs.LeastReports.{IsLeastReport, IsReportOf}
+use Rattle.top_texts.specs.Meanings.{Meanings}
+use Rattle.top_texts.specs.Rounds.{HasRounds}
+use Rattle.top_texts.specs.Texts.{IsReady, IsSolvedSystem}
+use Rattle.top_texts.specs.TransitionTexts.{IsAutoReport}
 use Rattle.tm_form.specs.declared.fault.FormFault.TheVariants.{Expanded}
-use Rattle.tm_top.specs.declared.status.CertCause.TheVariants.{Form}
-use Rattle.tm_top.specs.declared.status.Status.{Status}
-use Rattle.tm_top.specs.declared.status.Which.{Which}
-use Rattle.tm_top.specs.declared.status.Status.TheVariants.{Done, Memory, Write}
+use Rattle.top_status.specs.declared.status.CertCause.TheVariants.{Form}
+use Rattle.top_status.specs.declared.status.Status.{Status}
+use Rattle.top_status.specs.declared.status.Which.{Which}
+use Rattle.top_status.specs.declared.status.Status.TheVariants.{Done, Memory, Write}
 
 -- ---- the outside
 

@@ -1,74 +1,34 @@
--- What a run writes: reports of least vectors, certificates of them, the summary of a generated program, the upgrade of a certificate,
--- verdicts on claims, reports of transition systems, and values of equations.
-use Rattle.std.specs.Prelude.{◌≡◌, ◌≤◌, ℕ, List, Option, Some, length}
+-- What a run writes of the files that its words name.
+use Rattle.std.specs.Prelude.{◌≡◌, ℕ, List, Option, Some}
 use Rattle.tm_io.specs.Files.{Contents}
-use Rattle.tm_tree.specs.Tree.{Statements}
-use Rattle.tm_rows.specs.Domains.{intervals_of}
-use Rattle.tm_eqsys.specs.declared.footer.Footer.TheVariants.{Accepted}
-use Rattle.tm_eqsys.specs.declared.system.System.{System}
-use Rattle.tm_eqsys.specs.Equations.{Least, Vector}
-use Rattle.tm_eqsys.specs.Solutions.{equations_of_program}
-use Rattle.tm_validity.specs.Certificates.{bounds_vector}
-use Rattle.tm_cert.specs.declared.cert.Cert.{Cert}
-use Rattle.tm_workload.specs.Bodies.{generated_body, generated_names}
-use Rattle.tm_workload.specs.Summaries.{summary_of}
-use Rattle.tm_workload.specs.Texts.{generated_text}
 use Rattle.tm_cli.specs.declared.request.Domain.{Domain}
-use Rattle.tm_cli.specs.declared.request.Policy.{Policy}
-use Rattle.tm_cli.specs.declared.request.Policy.TheVariants.{Best}
-use Rattle.tm_top.specs.Checks.{IsValidFor, NoneIsWide, system_with, theirs}
-use Rattle.tm_top.specs.ClaimTexts.{AreVerdictsOf}
-use Rattle.tm_top.specs.EquationTexts.{AreValuesOf}
-use Rattle.tm_top.specs.Exact.{exact}
+use Rattle.top_texts.specs.ClaimTexts.{AreVerdictsOf}
+use Rattle.top_texts.specs.EquationTexts.{AreValuesOf}
+use Rattle.top_texts.specs.Exact.{exact}
 use Rattle.tm_top.specs.Files.{AreChecked, AreInputs, HasCertificate, HasShortText, Request}
-pub use Rattle.tm_top.specs.LeastReports.{IsLeastReport, IsReportOf}
-pub use Rattle.tm_top.specs.MadeCertificates.{IsCertificateOf}
 use Rattle.tm_cli.specs.Request.{request_of}
-use Rattle.tm_top.specs.Rounds.{HasRounds, IsSystemFor}
-use Rattle.tm_cli.specs.declared.request.Purpose.{Purpose}
-use Rattle.tm_cli.specs.declared.request.Purpose.TheVariants.{Report, Certificate}
 use Rattle.tm_cli.specs.declared.request.Request.TheVariants.{Analyse, Check, Bench, Upgrade, Prove, Transitions, Equations}
-use Rattle.tm_top.specs.TransitionTexts.{IsAutoReport}
-use Rattle.tm_top.specs.Upgrades.{IsUpgradeOf}
-
--- the bytes are the summary of a generated program: of its least vector over intervals, with the number of improvements by `best`
-pub record IsSummaryOf (seed loops : ℕ) (bytes : List ℕ) : Type 0 where
-  pub system : System
-  pub system_for : IsSystemFor generated_names (generated_body seed loops) (intervals_of 3) system
-  pub rounds : ℕ
-  pub within : rounds ≤ 1000
-  pub vector : Vector
-  pub has_rounds : HasRounds system Best rounds vector
-  pub least : Least (equations_of_program 3 (generated_body seed loops) (intervals_of 3)) vector
-  pub summary : bytes ≡ summary_of seed loops (length (generated_text seed loops)) system vector rounds
-
--- they are that of a certificate's bounds, where it is valid for the text of a program
-pub record IsReportBy (text certificate : List ℕ) (bytes : List ℕ) : Type 0 where
-  pub names : List (List ℕ)
-  pub body : Statements
-  pub cert : Cert
-  pub valid : IsValidFor text certificate names body cert
-  pub narrow : NoneIsWide (system_with names body cert) (theirs cert)
-  pub least : IsLeastReport names body cert.rows (bounds_vector (system_with names body cert) cert.bounds) Accepted bytes
-
--- what is put of an analysis
-abbrev pub IsPutOf : Purpose → List ℕ → Domain (List ℕ) → Policy → ℕ → List ℕ → Type 0
-IsPutOf Report text rows policy limit bytes = IsReportOf text rows policy limit bytes
-IsPutOf Certificate text rows policy limit bytes = IsCertificateOf text rows policy limit bytes
+use Rattle.top_texts.specs.TransitionTexts.{IsAutoReport}
+use Rattle.top_texts.specs.Upgrades.{IsUpgradeOf}
+use Rattle.top_texts.specs.Reports.{IsSummaryOf, IsReportBy, IsPutOf}
 
 -- the bytes are what a request puts of the texts that it reads
 abbrev pub IsReportOn : Option Contents → Request → List ℕ → Type 0
 IsReportOn files (Analyse purpose analysis) bytes =
-    (text : List ℕ) × (rows : Domain (List ℕ)) × AreInputs files analysis text rows × IsPutOf purpose text rows analysis.policy analysis.improvements bytes
+    (text : List ℕ) × (rows : Domain (List ℕ)) × AreInputs files analysis text rows
+    × IsPutOf purpose text rows analysis.policy analysis.improvements bytes
 IsReportOn files (Check program certificate) bytes =
     (text : List ℕ) × (given : List ℕ) × AreChecked files program certificate text given × IsReportBy text given bytes
 IsReportOn files (Bench seed loops) bytes = IsSummaryOf seed loops bytes
 IsReportOn files (Upgrade certificate) bytes = (given : List ℕ) × HasCertificate files certificate given × IsUpgradeOf given bytes
-IsReportOn files (Prove claims analysis) bytes = (text : List ℕ) × (rows : Domain (List ℕ)) × (given : List ℕ) × AreInputs files analysis text rows
+IsReportOn files (Prove claims analysis) bytes = (text : List ℕ) × (rows : Domain (List ℕ)) × (given : List ℕ)
+    × AreInputs files analysis text rows
     × HasShortText files claims given × AreVerdictsOf exact text rows given analysis.policy analysis.improvements bytes
 IsReportOn files (Transitions analysis) bytes =
-    (text : List ℕ) × (rows : Domain (List ℕ)) × AreInputs files analysis text rows × IsAutoReport text rows analysis.policy analysis.improvements bytes
-IsReportOn files (Equations file improvements policy) bytes = (text : List ℕ) × HasShortText files file text × AreValuesOf text policy improvements bytes
+    (text : List ℕ) × (rows : Domain (List ℕ)) × AreInputs files analysis text rows
+    × IsAutoReport text rows analysis.policy analysis.improvements bytes
+IsReportOn files (Equations file improvements policy) bytes = (text : List ℕ) × HasShortText files file text
+    × AreValuesOf text policy improvements bytes
 
 -- they are that of the request that the words ask for
 abbrev pub IsReportFor : Option Contents → List (List ℕ) → List ℕ → Type 0

@@ -6,16 +6,16 @@ use Rattle.tm_eqsys.specs.declared.system.System.{System}
 use Rattle.tm_cert.specs.declared.cert.Cert.{Cert}
 use Rattle.tm_form.specs.Certificates.{SpellsCert}
 use Rattle.tm_top.specs.Files.{AreInputs, HasContent, HasText, IsReached, IsTold, Request}
-use Rattle.tm_top.specs.CheckMessages.{rows_in, rows_of}
-use Rattle.tm_top.specs.Messages.{line_in}
+use Rattle.top_status.specs.CheckMessages.{rows_in, rows_of}
+use Rattle.top_status.specs.Messages.{line_in}
 use Rattle.tm_io.specs.Faults.{Rose}
 use Rattle.tm_cli.specs.Request.{request_of}
-use Rattle.tm_top.specs.Texts.{IsSolvedSystem}
+use Rattle.top_texts.specs.Texts.{IsSolvedSystem}
 use Rattle.tm_cli.specs.declared.request.Domain.{Domain}
 use Rattle.tm_cli.specs.declared.request.Request.TheVariants.{Analyse, Check, Bench, Upgrade, Prove, Transitions, Equations}
-use Rattle.tm_top.specs.declared.status.ReadCause.TheVariants.{Failed, TooLong}
-use Rattle.tm_top.specs.declared.status.Status.{Status}
-use Rattle.tm_top.specs.declared.status.Status.TheVariants.{Done, Certificate, Usage, Read, Text, Wide, Spent, Memory, Write}
+use Rattle.top_status.specs.declared.status.ReadCause.TheVariants.{Failed, TooLong}
+use Rattle.top_status.specs.declared.status.Status.{Status}
+use Rattle.top_status.specs.declared.status.Status.TheVariants.{Done, Certificate, Usage, Read, Text, Wide, Spent, Memory, Write}
 
 -- ---- the outside
 

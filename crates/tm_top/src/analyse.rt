@@ -8,38 +8,31 @@ ghost use Rattle.tm_eqsys.specs.View.{equations_of};
 ghost use Rattle.tm_cli.specs.Request.{analysis_text};
 ghost use Rattle.tm_cli.specs.declared.request.Domain.{Domain};
 ghost use Rattle.tm_cli.specs.declared.request.Request.TheVariants.{Analyse};
-ghost use Rattle.tm_top.specs.CheckMessages.{rows_of};
+ghost use Rattle.top_status.specs.CheckMessages.{rows_of};
 ghost use Rattle.tm_top.specs.Endings.{IsAnswerTo};
-ghost use Rattle.tm_top.specs.Exact.{exact};
-ghost use Rattle.tm_top.specs.Files.{AreInputs, HasContent, HasShortRows, IsTold};
-ghost use Rattle.tm_top.specs.Messages.{line_in};
+ghost use Rattle.top_texts.specs.Exact.{exact};
+ghost use Rattle.tm_top.specs.Files.{AreInputs, HasContent, IsTold};
+ghost use Rattle.top_texts.specs.Short.{HasShortRows};
+ghost use Rattle.top_status.specs.Messages.{line_in};
 ghost use Rattle.tm_top.specs.Outputs.{IsTaken, pieces_by};
-ghost use Rattle.tm_top.specs.Parted.{IsAnswerToSystem, IsOutputOf, QuestionAnswer, domain_of};
-ghost use Rattle.tm_top.specs.Questions.{analysis_question};
-ghost use Rattle.tm_top.specs.Reports.{IsPutOf, IsReportOn};
+ghost use Rattle.top_texts.specs.Parted.{IsAnswerToSystem, IsOutputOf, QuestionAnswer, domain_of};
+ghost use Rattle.top_texts.specs.Questions.{analysis_question};
+ghost use Rattle.top_texts.specs.Reports.{IsPutOf};
+ghost use Rattle.tm_top.specs.Reports.{IsReportOn};
 ghost use Rattle.tm_top.specs.Run.{FailsOnlyIn, OutputHolds};
-ghost use Rattle.tm_top.specs.Texts.{IsSolvedSystem};
+ghost use Rattle.top_texts.specs.Texts.{IsSolvedSystem};
 
-mod certify;
 pub(crate) mod inputs;
 pub(crate) mod least;
-pub(crate) mod rounds;
-pub(crate) mod system;
-pub(crate) mod template;
 
-use crate::ending::{Ending, plain_ending};
-use crate::message::place::{answer_line, answer_rows};
 use crate::output::{put_certificate, put_report};
-use crate::refusal::refused;
-use crate::status::{Status, Which};
-use certify::certificate_of;
 use inputs::{Inputs, load};
-use rounds::report_of;
 use std::alloc::Global;
-use system::system_on;
 use tm_cli::{Analysis, Policy, Purpose};
 use tm_eqsys::System;
 use tm_io::{Shelf, Sink};
+use top_status::{Ending, Status, Which, answer_line, answer_rows, plain_ending};
+use top_texts::{certificate_of, refused, report_of, system_on};
 
 // Puts the report of a system or its certificate.
 fn answer_system<K: Sink>(

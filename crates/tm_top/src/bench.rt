@@ -3,20 +3,17 @@
 ghost use Rattle.std.specs.Prelude.{◌≡◌, ◌≤◌, ◌<◌};
 ghost use Rattle.tm_io.specs.Faults.{Rose};
 ghost use Rattle.tm_top.specs.Outputs.{IsTaken, lines_of};
-ghost use Rattle.tm_top.specs.Exact.{exact};
-ghost use Rattle.tm_top.specs.Parted.{QuestionAnswer};
-ghost use Rattle.tm_top.specs.Questions.{bench_question};
-ghost use Rattle.tm_top.specs.Reports.{IsSummaryOf};
+ghost use Rattle.top_texts.specs.Exact.{exact};
+ghost use Rattle.top_texts.specs.Parted.{QuestionAnswer};
+ghost use Rattle.top_texts.specs.Questions.{bench_question};
+ghost use Rattle.top_texts.specs.Reports.{IsSummaryOf};
 ghost use Rattle.tm_top.specs.Run.{OutputHolds};
 
-mod summary;
-
 use crate::output::put_report;
-use crate::refusal::refused;
-use crate::status::Status;
 use std::alloc::Global;
-use summary::summary_on;
 use tm_io::Sink;
+use top_status::Status;
+use top_texts::{bench_text, refused};
 
 // Solves the program with so many loops that is drawn from a seed, and puts the summary.
 pub(crate) fn bench<K: Sink>(alloc: Global, seed: u32, loops: u32, out: &mut K) -> Status
@@ -28,7 +25,7 @@ pub(crate) fn bench<K: Sink>(alloc: Global, seed: u32, loops: u32, out: &mut K) 
     ensures pieces { result ≡ Status.Done → IsTaken lines_of (K.held out.old) (K.held out.new) (K.taken out.old) (K.taken out.new) }
     ensures write { result ≡ Status.Write → Rose (K.faults out.old) (K.faults out.new) }
 {
-    match summary_on(alloc, seed, loops) {
+    match bench_text(alloc, seed, loops) {
         Ok(bytes) => put_report(&bytes, out),
         Err(refusal) => refused(refusal),
     }

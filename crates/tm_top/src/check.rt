@@ -7,33 +7,28 @@ ghost use Rattle.tm_flow.specs.Points.{points_of_program};
 ghost use Rattle.tm_cert.specs.declared.cert.Cert.{Cert as CertValue};
 ghost use Rattle.tm_form.specs.Certificates.{SpellsCert};
 ghost use Rattle.tm_cli.specs.declared.request.Request.TheVariants.{Check};
-ghost use Rattle.tm_top.specs.CheckMessages.{rows_in};
-ghost use Rattle.tm_top.specs.Checks.{IsSpelt};
+ghost use Rattle.top_status.specs.CheckMessages.{rows_in};
+ghost use Rattle.top_texts.specs.Checks.{IsSpelt};
 ghost use Rattle.tm_top.specs.Endings.{IsAnswerTo};
 ghost use Rattle.tm_top.specs.Files.{HasContent, IsTold};
-ghost use Rattle.tm_top.specs.Messages.{line_in};
+ghost use Rattle.top_status.specs.Messages.{line_in};
 ghost use Rattle.tm_top.specs.Outputs.{IsTaken, lines_of};
-ghost use Rattle.tm_top.specs.Parted.{IsAnswerToCheck};
-ghost use Rattle.tm_top.specs.Reports.{IsReportBy, IsReportOn};
+ghost use Rattle.top_texts.specs.Parted.{IsAnswerToCheck};
+ghost use Rattle.top_texts.specs.Reports.{IsReportBy};
+ghost use Rattle.tm_top.specs.Reports.{IsReportOn};
 ghost use Rattle.tm_top.specs.Run.{FailsOnlyIn, OutputHolds};
 
-pub(crate) mod accept;
-mod certificate;
 mod inputs;
 
-use crate::ending::{Ending, plain_ending};
-use crate::message::place::{answer_line, answer_rows};
 use crate::output::put_report;
-use crate::refusal::refused;
-use crate::status::Status;
-use accept::report_by;
-use certificate::{Given, read_given};
 use inputs::{Inputs, load};
 use std::alloc::Global;
 use tm_cert::Cert;
 use tm_flow::Flow;
 use tm_io::{Shelf, Sink};
 use tm_tree::Program;
+use top_status::{Ending, Status, answer_line, answer_rows, plain_ending};
+use top_texts::{Given, read_given, refused, report_by};
 
 // Puts the report of the bounds of a certificate of a program where it is valid.
 fn answer_report<K: Sink>(

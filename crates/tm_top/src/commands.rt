@@ -6,26 +6,24 @@ ghost use Rattle.tm_cli.specs.Request.{request_of};
 ghost use Rattle.tm_top.specs.Answers.{Gives, IsAnswer, WordsEnd};
 ghost use Rattle.tm_top.specs.Endings.{IsAnswerToWords};
 ghost use Rattle.tm_top.specs.Files.{Request as NamedRequest};
-ghost use Rattle.tm_top.specs.Messages.{message_of};
+ghost use Rattle.top_status.specs.Messages.{message_of};
 ghost use Rattle.tm_top.specs.Outputs.{GetsMessage, HasFailed, IsInOnePiece, IsMessage, IsOutput, IsTaken, OutputGets, pieces_of};
 ghost use Rattle.tm_top.specs.Reports.{IsReportFor};
 ghost use Rattle.tm_top.specs.Run.{IsLine, IsRowCount, OutputHolds};
-ghost use Rattle.tm_top.specs.declared.status.Status.{Status as StatusValue};
+ghost use Rattle.top_status.specs.declared.status.Status.{Status as StatusValue};
 
 use crate::analyse::analyse;
 use crate::bench::bench;
 use crate::check::check;
-use crate::ending::{Ending, plain_ending};
 use crate::equations::equations;
 use crate::meaning::{Exact, Meaning};
-use crate::message::make_message;
 use crate::prove::prove;
-use crate::status::{ReadCause, Status, Which};
 use crate::transitions::transitions;
 use crate::upgrade::upgrade;
 use std::alloc::Global;
 use tm_cli::{Request, WordsFault, read_words};
 use tm_io::{Shelf, Sink};
+use top_status::{Ending, ReadCause, Status, Which, make_message, plain_ending};
 
 // Does what the words ask for.
 fn obey<S: Shelf, K: Sink>(alloc: Global, words: &[String], shelf: &mut S, out: &mut K) -> Ending

@@ -4,28 +4,23 @@ ghost use Rattle.std.specs.Prelude.{◌≡◌, ◌≤◌, ℕ, List, length};
 ghost use Rattle.tm_io.specs.Faults.{Rose};
 ghost use Rattle.tm_cli.specs.declared.request.Request.TheVariants.{Equations};
 ghost use Rattle.tm_top.specs.Endings.{IsAnswerTo};
-ghost use Rattle.tm_top.specs.EquationTexts.{AreValuesOf};
+ghost use Rattle.top_texts.specs.EquationTexts.{AreValuesOf};
 ghost use Rattle.tm_top.specs.Files.{HasContent, IsTold};
-ghost use Rattle.tm_top.specs.Messages.{line_in};
+ghost use Rattle.top_status.specs.Messages.{line_in};
 ghost use Rattle.tm_top.specs.Outputs.{IsTaken, lines_of};
-ghost use Rattle.tm_top.specs.Exact.{exact};
-ghost use Rattle.tm_top.specs.Parted.{QuestionAnswer};
-ghost use Rattle.tm_top.specs.Questions.{equations_question};
+ghost use Rattle.top_texts.specs.Exact.{exact};
+ghost use Rattle.top_texts.specs.Parted.{QuestionAnswer};
+ghost use Rattle.top_texts.specs.Questions.{equations_question};
 ghost use Rattle.tm_top.specs.Reports.{IsReportOn};
 ghost use Rattle.tm_top.specs.Run.{FailsOnlyIn, OutputHolds};
 
-mod solution;
-
-use crate::ending::{Ending, plain_ending};
 use crate::files::{MOST_BYTES, load_file, unloaded};
-use crate::message::place::answer_line;
 use crate::output::put_report;
-use crate::refusal::refused;
-use crate::status::{Status, Which};
-use solution::values_on;
 use std::alloc::Global;
 use tm_cli::Policy;
 use tm_io::{Shelf, Sink};
+use top_status::{Ending, Status, Which, answer_line, plain_ending};
+use top_texts::{equations_text, refused};
 
 // Puts the values of a text's equations, line by line.
 fn put_values<K: Sink>(
@@ -42,7 +37,7 @@ fn put_values<K: Sink>(
     ensures pieces { result ≡ Status.Done → IsTaken lines_of (K.held out.old) (K.held out.new) (K.taken out.old) (K.taken out.new) }
     ensures write { result ≡ Status.Write → Rose (K.faults out.old) (K.faults out.new) }
 {
-    match values_on(alloc, text, policy, limit) {
+    match equations_text(alloc, text, policy, limit) {
         Ok(bytes) => put_report(&bytes, out),
         Err(refusal) => refused(refusal),
     }

@@ -4,8 +4,8 @@ ghost use Rattle.std.specs.Prelude.{◌≡◌, ◌≤◌, ◌<◌, ◌^◌, IfOk
 ghost use Rattle.tm_top.specs.Files.{HasContent};
 ghost use Rattle.tm_top.specs.Parted.{IsNotLoaded, unloaded};
 
-use crate::status::{ReadCause, Status, Which};
 use tm_io::{LoadFault, Shelf};
+use top_status::{ReadCause, Status, Which};
 
 // How many bytes a program or a file of rows may have.
 pub(crate) const MOST_BYTES: usize = 65536;

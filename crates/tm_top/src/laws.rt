@@ -11,11 +11,11 @@ ghost use Rattle.tm_strategy.specs.PickCount.{pick_count};
 ghost use Rattle.tm_cli.specs.declared.request.Domain.{Domain};
 ghost use Rattle.tm_cli.specs.declared.request.Policy.{Policy};
 ghost use Rattle.tm_top.specs.Answers.{Ends, Tells};
-ghost use Rattle.tm_top.specs.ClaimTexts.{AreVerdictsOf};
-ghost use Rattle.tm_top.specs.EquationTexts.{AreValuesOf};
+ghost use Rattle.top_texts.specs.ClaimTexts.{AreVerdictsOf};
+ghost use Rattle.top_texts.specs.EquationTexts.{AreValuesOf};
 ghost use Rattle.tm_top.specs.Files.{Request};
-ghost use Rattle.tm_top.specs.Rounds.{RunsOut};
-ghost use Rattle.tm_top.specs.declared.status.Status.{Status};
+ghost use Rattle.top_texts.specs.Rounds.{RunsOut};
+ghost use Rattle.top_status.specs.declared.status.Status.{Status};
 
 use crate::meaning::{Exact, Meaning};
 

@@ -5,26 +5,19 @@ mod analyse;
 mod bench;
 mod check;
 mod commands;
-mod ending;
 mod equations;
 mod files;
-mod form;
 mod laws;
 mod meaning;
 mod memory;
-mod message;
 mod output;
-mod program;
 mod promise;
 mod prove;
-mod refusal;
-mod status;
 mod transitions;
 mod upgrade;
 
-pub use analyse::least::{Found, LeastBounds, find_least};
+pub use analyse::least::{Found, find_least};
 pub use commands::{run, tell};
-pub use ending::{Ending, plain_ending};
 pub use laws::{
     accepted_is_least, ending_is_one, spent_is_few, upgrade_is_one, values_are_one,
     verdicts_are_one,
@@ -33,5 +26,6 @@ pub use meaning::{Exact, Meaning};
 pub use memory::run_in_memory;
 pub use output::put_report;
 pub use promise::headline;
-pub use status::{CertCause, ReadCause, Status, TextCause, Which};
 pub use tm_workload::generate;
+pub use top_status::{CertCause, Ending, ReadCause, Status, TextCause, Which, plain_ending};
+pub use top_texts::LeastBounds;

@@ -1,6 +1,6 @@
 //! What the parts around the least bounds mean.
 
-ghost use Rattle.tm_top.specs.Meanings.{Meanings};
+ghost use Rattle.top_texts.specs.Meanings.{Meanings};
 
 /// Who says what the answers of a run mean that aren't reports of least bounds: which operations are too wide, which
 /// certificates are made, accepted and refused, which text a certificate has, which verdicts are given on claims, which programs are
@@ -17,7 +17,7 @@ pub trait Meaning {
 pub struct Exact;
 
 impl Meaning for Exact {
-    ghost use Rattle.tm_top.specs.Exact.{exact};
+    ghost use Rattle.top_texts.specs.Exact.{exact};
 
     ghost means = { exact };
 }

@@ -3,13 +3,13 @@
 ghost use Rattle.std.specs.Prelude.{◌≡◌, map, string_bytes};
 ghost use Rattle.tm_top.specs.Answers.{AnswersInMemory, WordsEnd};
 ghost use Rattle.tm_top.specs.Outputs.{IsOutput, OutputGets};
-ghost use Rattle.tm_top.specs.declared.status.Status.{Status as StatusValue};
+ghost use Rattle.top_status.specs.declared.status.Status.{Status as StatusValue};
 
 use crate::commands::run;
 use crate::meaning::{Exact, Meaning};
-use crate::status::Status;
 use std::alloc::Global;
 use tm_io::{PlainShelf, PlainSink, Shelf, Sink};
+use top_status::Status;
 
 /// What `run` does over files and bytes in memory. There no file fails that the shelf has, and no put fails: each ending that
 /// stands is answered wherever there is memory, but for a wide operation that stands in place of one that improvements decide.

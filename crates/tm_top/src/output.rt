@@ -6,8 +6,8 @@ ghost use Rattle.tm_io.specs.Puts.{AddsPieces, HasPutCause, Puts, as_pieces};
 ghost use Rattle.tm_top.specs.Outputs.{IsTaken, lines_of};
 ghost use Rattle.tm_top.specs.Parted.{PutsReport};
 
-use crate::status::Status;
 use tm_io::{PutFault, Sink};
+use top_status::Status;
 
 // The place of the first line feed.
 fn line_feed(text: &[u8]) -> Option<usize>

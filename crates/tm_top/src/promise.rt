@@ -4,12 +4,12 @@ ghost use Rattle.std.specs.Prelude.{◌≡◌, ℕ, List, map, string_bytes};
 ghost use Rattle.tm_cli.specs.declared.request.Analysis.{Analysis};
 ghost use Rattle.tm_cli.specs.declared.request.Domain.{Domain};
 ghost use Rattle.tm_top.specs.Headline.{Asks, IsGiven, Prints};
-ghost use Rattle.tm_top.specs.Texts.{IsSolvable};
+ghost use Rattle.top_texts.specs.Texts.{IsSolvable};
 
 use crate::commands::run;
-use crate::status::Status;
 use std::alloc::Global;
 use tm_io::{Shelf, Sink};
+use top_status::Status;
 
 /// The headline: `run` where the words ask for the report of a program. It does nothing else than `run`, whose contract says this
 /// and more; here stand the definitions alone, of programs, their runs, and least vectors.

@@ -4,30 +4,27 @@ ghost use Rattle.std.specs.Prelude.{◌≡◌, ◌≤◌, ℕ, List, IfOk, IfErr
 ghost use Rattle.tm_io.specs.Faults.{Rose};
 ghost use Rattle.tm_cli.specs.Request.{analysis_text};
 ghost use Rattle.tm_cli.specs.declared.request.Request.TheVariants.{Prove};
-ghost use Rattle.tm_top.specs.ClaimTexts.{AreVerdictsOf};
+ghost use Rattle.top_texts.specs.ClaimTexts.{AreVerdictsOf};
 ghost use Rattle.tm_top.specs.Endings.{IsAnswerTo};
-ghost use Rattle.tm_top.specs.Exact.{exact};
-ghost use Rattle.tm_top.specs.Files.{AreInputs, HasShortRows, HasShortText, HasText, IsTold, files_of, named_in};
-ghost use Rattle.tm_top.specs.Messages.{line_in};
+ghost use Rattle.top_texts.specs.Exact.{exact};
+ghost use Rattle.tm_top.specs.Files.{AreInputs, HasShortText, HasText, IsTold, files_of, named_in};
+ghost use Rattle.top_texts.specs.Short.{HasShortRows};
+ghost use Rattle.top_status.specs.Messages.{line_in};
 ghost use Rattle.tm_top.specs.Outputs.{IsTaken, lines_of};
-ghost use Rattle.tm_top.specs.Parted.{IsUnloaded, QuestionAnswer, domain_of};
-ghost use Rattle.tm_top.specs.Questions.{claims_question};
+ghost use Rattle.tm_top.specs.Parted.{IsUnloaded};
+ghost use Rattle.top_texts.specs.Parted.{QuestionAnswer, domain_of};
+ghost use Rattle.top_texts.specs.Questions.{claims_question};
 ghost use Rattle.tm_top.specs.Reports.{IsReportOn};
 ghost use Rattle.tm_top.specs.Run.{FailsOnlyIn, OutputHolds};
 
-mod verdict;
-
 use crate::analyse::inputs::{Inputs, load};
-use crate::ending::{Ending, plain_ending};
 use crate::files::{MOST_BYTES, load_file, unloaded};
-use crate::message::place::answer_line;
 use crate::output::put_report;
-use crate::refusal::refused;
-use crate::status::{Status, TextCause, Which};
 use std::alloc::Global;
 use tm_cli::{Analysis, Policy};
 use tm_io::{Shelf, Sink};
-use verdict::verdicts_on;
+use top_status::{Ending, Status, TextCause, Which, answer_line, plain_ending};
+use top_texts::{prove_text, refused};
 
 // What a proof of claims reads: what the analysis of the program reads, and the text of the claims.
 #[derive(Drop)]
@@ -89,7 +86,7 @@ fn put_verdicts<K: Sink>(
     ensures pieces { result ≡ Status.Done → IsTaken lines_of (K.held out.old) (K.held out.new) (K.taken out.old) (K.taken out.new) }
     ensures write { result ≡ Status.Write → Rose (K.faults out.old) (K.faults out.new) }
 {
-    match verdicts_on(
+    match prove_text(
         alloc,
         &given.inputs.text,
         &given.inputs.rows,

@@ -5,28 +5,24 @@ ghost use Rattle.tm_io.specs.Faults.{Rose};
 ghost use Rattle.tm_cli.specs.Request.{analysis_text};
 ghost use Rattle.tm_cli.specs.declared.request.Request.TheVariants.{Transitions};
 ghost use Rattle.tm_top.specs.Endings.{IsAnswerTo};
-ghost use Rattle.tm_top.specs.Exact.{exact};
-ghost use Rattle.tm_top.specs.Files.{HasContent, HasShortRows, IsTold};
-ghost use Rattle.tm_top.specs.Messages.{line_in};
+ghost use Rattle.top_texts.specs.Exact.{exact};
+ghost use Rattle.tm_top.specs.Files.{HasContent, IsTold};
+ghost use Rattle.top_texts.specs.Short.{HasShortRows};
+ghost use Rattle.top_status.specs.Messages.{line_in};
 ghost use Rattle.tm_top.specs.Outputs.{IsTaken, lines_of};
-ghost use Rattle.tm_top.specs.Parted.{QuestionAnswer, domain_of};
-ghost use Rattle.tm_top.specs.Questions.{transitions_question};
+ghost use Rattle.top_texts.specs.Parted.{QuestionAnswer, domain_of};
+ghost use Rattle.top_texts.specs.Questions.{transitions_question};
 ghost use Rattle.tm_top.specs.Reports.{IsReportOn};
 ghost use Rattle.tm_top.specs.Run.{FailsOnlyIn, OutputHolds};
-ghost use Rattle.tm_top.specs.TransitionTexts.{IsAutoReport};
-
-mod system;
+ghost use Rattle.top_texts.specs.TransitionTexts.{IsAutoReport};
 
 use crate::analyse::inputs::load;
-use crate::ending::{Ending, plain_ending};
-use crate::message::place::answer_line;
 use crate::output::put_report;
-use crate::refusal::refused;
-use crate::status::{Status, Which};
 use std::alloc::Global;
-use system::report_along;
 use tm_cli::{Analysis, Domain, Policy};
 use tm_io::{Shelf, Sink};
+use top_status::{Ending, Status, Which, answer_line, plain_ending};
+use top_texts::{refused, transitions_text};
 
 // Puts the report of the transition system of these texts, line by line.
 fn put_along<K: Sink>(
@@ -45,7 +41,7 @@ fn put_along<K: Sink>(
     ensures pieces { result ≡ Status.Done → IsTaken lines_of (K.held out.old) (K.held out.new) (K.taken out.old) (K.taken out.new) }
     ensures write { result ≡ Status.Write → Rose (K.faults out.old) (K.faults out.new) }
 {
-    match report_along(alloc, text, rows, policy, limit) {
+    match transitions_text(alloc, text, rows, policy, limit) {
         Ok(bytes) => put_report(&bytes, out),
         Err(refusal) => refused(refusal),
     }

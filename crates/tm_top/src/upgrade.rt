@@ -1,33 +1,22 @@
 //! The command `upgrade`: a certificate is read, in whichever of the formats it is, and written as certificates are written now.
 
-ghost use Rattle.std.specs.Prelude.{◌≡◌, IfOk, IfErr};
+ghost use Rattle.std.specs.Prelude.{◌≡◌};
 ghost use Rattle.tm_io.specs.Faults.{Rose};
 ghost use Rattle.tm_io.specs.Puts.{as_pieces};
 ghost use Rattle.tm_cli.specs.declared.request.Request.TheVariants.{Upgrade};
 ghost use Rattle.tm_top.specs.Endings.{IsAnswerTo};
 ghost use Rattle.tm_top.specs.Outputs.{IsTaken};
-ghost use Rattle.tm_top.specs.Parted.{IsAnswerToUpgrade, IsMisspelt};
+ghost use Rattle.top_texts.specs.Parted.{IsAnswerToUpgrade};
 ghost use Rattle.tm_top.specs.Reports.{IsReportOn};
 ghost use Rattle.tm_top.specs.Run.{FailsOnlyIn, OutputHolds};
-ghost use Rattle.tm_top.specs.Upgrades.{IsUpgradeOf};
+ghost use Rattle.top_texts.specs.Upgrades.{IsUpgradeOf};
 
 use crate::files::{MOST_CERTIFICATE_BYTES, load_file, unloaded};
-use crate::form::cert_of;
 use crate::output::put_certificate;
-use crate::refusal::{Refusal, refused};
-use crate::status::{Status, Which};
 use std::alloc::Global;
-use tm_form::write;
 use tm_io::{Shelf, Sink};
-
-// The text of the certificate that the bytes spell.
-fn rewritten(alloc: Global, bytes: &[u8]) -> Result<Vec<u8>, Refusal>
-    ensures ok { IfOk result (λ written. IsUpgradeOf bytes.now written.items) }
-    ensures err { IfErr result (λ refusal. IsMisspelt bytes.now refusal) }
-{
-    let cert = cert_of(alloc, bytes)?;
-    Ok(write(alloc, &cert)?)
-}
+use top_status::{Status, Which};
+use top_texts::{refused, upgrade_text};
 
 // Puts the text of the certificate that the bytes spell, in one piece.
 fn answer<K: Sink>(alloc: Global, bytes: &[u8], out: &mut K) -> Status
@@ -36,7 +25,7 @@ fn answer<K: Sink>(alloc: Global, bytes: &[u8], out: &mut K) -> Status
     ensures pieces { result ≡ Status.Done → IsTaken as_pieces (K.held out.old) (K.held out.new) (K.taken out.old) (K.taken out.new) }
     ensures write { result ≡ Status.Write → Rose (K.faults out.old) (K.faults out.new) }
 {
-    match rewritten(alloc, bytes) {
+    match upgrade_text(alloc, bytes) {
         Ok(written) => put_certificate(&written, out),
         Err(refusal) => refused(refusal),
     }

@@ -5,8 +5,8 @@ ghost use Rattle.std.specs.Prelude.{◌≡◌, map, string_bytes};
 ghost use Rattle.std.specs.Process.{exit_status};
 ghost use Rattle.tm_top.specs.Answers.{IsAnswer};
 ghost use Rattle.tm_top.specs.Outputs.{IsOutput, OutputGets};
-ghost use Rattle.tm_top.specs.Status.{code_of};
-ghost use Rattle.tm_top.specs.declared.status.Status.{Status};
+ghost use Rattle.top_status.specs.Status.{code_of};
+ghost use Rattle.top_status.specs.declared.status.Status.{Status};
 
 use std::alloc::Global;
 use std::process::ExitCode;

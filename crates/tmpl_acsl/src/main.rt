@@ -7,8 +7,8 @@ ghost use Rattle.tm_acsl.specs.Annotated.{IsAnnotated};
 ghost use Rattle.tm_acsl.specs.Words.{as_solve};
 ghost use Rattle.tm_top.specs.Answers.{IsAnswer};
 ghost use Rattle.tm_top.specs.Outputs.{OutputGets};
-ghost use Rattle.tm_top.specs.Status.{code_of};
-ghost use Rattle.tm_top.specs.declared.status.Status.{Status};
+ghost use Rattle.top_status.specs.Status.{code_of};
+ghost use Rattle.top_status.specs.declared.status.Status.{Status};
 
 use std::alloc::Global;
 use std::process::ExitCode;

@@ -8,13 +8,13 @@ use Rattle.tm_cli.specs.declared.request.Purpose.TheVariants.{Report}
 use Rattle.tm_cli.specs.declared.request.Request.TheVariants.{Analyse}
 use Rattle.tm_top.specs.Answers.{Tells}
 use Rattle.tm_top.specs.Endings.{Ends, IsAnswerToWords}
-use Rattle.tm_top.specs.Exact.{exact}
+use Rattle.top_texts.specs.Exact.{exact}
 use Rattle.tm_top.specs.Files.{Request}
 use Rattle.tm_top.specs.Outputs.{GetsMessage, IsInOnePiece}
-use Rattle.tm_top.specs.Questions.{rounds_end}
+use Rattle.top_texts.specs.Questions.{rounds_end}
 use Rattle.tm_top.specs.Run.{IsLine, IsRowCount, OutputHolds}
-use Rattle.tm_top.specs.declared.status.Status.{Status}
-use Rattle.tm_top.specs.declared.status.Status.TheVariants.{Done, Certificate, Usage, Read, Text, Wide, Spent, Memory, Write}
+use Rattle.top_status.specs.declared.status.Status.{Status}
+use Rattle.top_status.specs.declared.status.Status.TheVariants.{Done, Certificate, Usage, Read, Text, Wide, Spent, Memory, Write}
 use Rattle.tm_top.proofs.endings.Put.{is_message}
 use Rattle.tm_top.proofs.endings.Worded.{kept_of, no_request, nothing_of, same_request}
 use Rattle.tm_acsl.specs.Annotated.{IsAnnotated, IsAnnotatedOn}

@@ -8,18 +8,19 @@ use Rattle.tm_cli.specs.declared.request.Domain.{Domain}
 use Rattle.tm_cli.specs.declared.request.Policy.{Policy}
 use Rattle.tm_cli.specs.declared.request.Purpose.TheVariants.{Report}
 use Rattle.tm_cli.specs.declared.request.Request.TheVariants.{Analyse}
-use Rattle.tm_top.specs.Analyses.{IsFound, IsFoundIn, IsUnput}
-use Rattle.tm_top.specs.CheckMessages.{rows_of}
+use Rattle.tm_top.specs.Analyses.{IsFound}
+use Rattle.top_texts.specs.Analyses.{IsFoundIn, IsUnput}
+use Rattle.top_status.specs.CheckMessages.{rows_of}
 use Rattle.tm_top.specs.Endings.{Ends, IsAnswerTo}
-use Rattle.tm_top.specs.Messages.{line_in}
+use Rattle.top_status.specs.Messages.{line_in}
 use Rattle.tm_top.specs.Parted.{PutsReport, failed, wanting, whole}
-use Rattle.tm_top.specs.Questions.{rounds_end}
+use Rattle.top_texts.specs.Questions.{rounds_end}
 use Rattle.tm_top.specs.Run.{FailsOnlyIn, OutputHolds}
-use Rattle.tm_top.specs.Texts.{IsSolvable}
+use Rattle.top_texts.specs.Texts.{IsSolvable}
 use Rattle.tm_top.specs.declared.analyse.least.Found.{Found}
-use Rattle.tm_top.specs.declared.analyse.least.LeastBounds.{LeastBounds}
-use Rattle.tm_top.specs.declared.status.Status.{Status}
-use Rattle.tm_top.specs.declared.status.Status.TheVariants.{Done, Certificate, Usage, Read, Text, Wide, Spent, Memory, Write}
+use Rattle.top_texts.specs.declared.analyse.least.LeastBounds.{LeastBounds}
+use Rattle.top_status.specs.declared.status.Status.{Status}
+use Rattle.top_status.specs.declared.status.Status.TheVariants.{Done, Certificate, Usage, Read, Text, Wide, Spent, Memory, Write}
 use Rattle.tm_top.proofs.endings.Worded.{output_map}
 use Rattle.tm_acsl.specs.Annotated.{IsAnnotatedOf, IsAnnotatedOn}
 use Rattle.tm_acsl.specs.Ends.{IsPutEnd, is_done, is_unwritten, wants_memory}

@@ -3,10 +3,10 @@ use Rattle.std.proofs.Common.{◌≡◌, ◌≢◌, ◌≤◌, ℕ, List, length
 use Rattle.std.specs.Prelude.{Option, Result}
 use Rattle.tm_io.specs.Puts.{HasPutCause, Puts}
 use Rattle.tm_io.specs.declared.sink.PutFault.{PutFault}
-use Rattle.tm_top.specs.Messages.{message_of}
+use Rattle.top_status.specs.Messages.{message_of}
 use Rattle.tm_top.specs.Outputs.{GetsMessage}
-use Rattle.tm_top.specs.declared.status.Status.{Status}
-use Rattle.tm_top.specs.declared.status.Status.TheVariants.{Done, Certificate, Usage, Read, Text, Wide, Spent, Memory, Write}
+use Rattle.top_status.specs.declared.status.Status.{Status}
+use Rattle.top_status.specs.declared.status.Status.TheVariants.{Done, Certificate, Usage, Read, Text, Wide, Spent, Memory, Write}
 use Rattle.tm_top.proofs.endings.Messages.{gets}
 use Rattle.tm_acsl.specs.Messages.{said, usage_text}
 

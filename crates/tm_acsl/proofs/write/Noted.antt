@@ -8,7 +8,7 @@ use Rattle.tm_lex.specs.Reading as lex
 use Rattle.tm_lex.specs.declared.token.Token as lex_token
 use Rattle.tm_gram.specs.Grammar.{Program, Reads}
 use Rattle.tm_gram.specs.View.{tokens_of}
-use Rattle.tm_parse.specs.Meaning.{Means}
+use Rattle.lang_meaning.specs.Meaning.{Means}
 use Rattle.tm_tree.specs.Tree.{Statements}
 use Rattle.tm_tree.specs.Word.{is_word}
 use Rattle.tm_flow.specs.declared.point.Point.{Point}
@@ -32,9 +32,9 @@ use Rattle.tm_note.specs.Laws.{ClausesHold, CommentsMayStand}
 use Rattle.tm_note.specs.Texts.{comments_from}
 use Rattle.tm_cli.specs.declared.request.Domain.{Domain}
 use Rattle.tm_cli.specs.declared.request.Policy.{Policy}
-use Rattle.tm_top.specs.Analyses.{IsFoundIn}
-use Rattle.tm_top.specs.declared.analyse.least.LeastBounds.{LeastBounds}
-use Rattle.tm_top.proofs.texts.Once.{equations_are}
+use Rattle.top_texts.specs.Analyses.{IsFoundIn}
+use Rattle.top_texts.specs.declared.analyse.least.LeastBounds.{LeastBounds}
+use Rattle.top_texts.proofs.texts.Once.{equations_are}
 use Rattle.tm_acsl.specs.Annotated.{IsAnnotatedOf, IsTreeOf, notes}
 
 -- tokens that mean a program have a tree that does

@@ -1,90 +1,33 @@
--- What an analysis finds, and the endings that it has else.
+-- From what an analysis of texts finds, and the endings that it has else, to the files that hold them.
 use Rattle.std.proofs.Common.{◌≡◌, ◌∙◌, ℕ, List, ap, length, sym, subst}
 use Rattle.std.specs.Prelude.{IfErr, IfOk, Option, Result, Ok, Err}
 use Rattle.tm_io.specs.Files.{Contents}
-use Rattle.tm_eqsys.specs.Equations.{Least}
-use Rattle.tm_eqsys.specs.View.{IsVectorOf, equations_of, vector_at}
-use Rattle.tm_eqsys.specs.declared.system.System.{System}
 use Rattle.tm_cli.specs.declared.request.Analysis.{Analysis}
 use Rattle.tm_cli.specs.declared.request.Domain.{Domain}
-use Rattle.tm_cli.specs.declared.request.Policy.{Policy}
 use Rattle.tm_cli.specs.declared.request.Purpose.TheVariants.{Report}
 use Rattle.tm_cli.specs.declared.request.Request.TheVariants.{Analyse}
-use Rattle.tm_rounds.specs.Solutions.{IsSolved}
-use Rattle.tm_top.specs.Analyses.{IsFound, IsFoundIn, IsHaltedEnding, IsRefusedEnding, IsRefusedText, IsSolvedBy, IsUnput}
-use Rattle.tm_top.specs.CheckMessages.{rows_of}
+use Rattle.tm_top.specs.Analyses.{IsFound, IsRefusedEnding}
+use Rattle.top_texts.specs.Analyses.{IsFoundIn, IsRefusedText}
+use Rattle.top_status.specs.CheckMessages.{rows_of}
 use Rattle.tm_top.specs.Endings.{IsAnswerTo}
-use Rattle.tm_top.specs.Exact.{exact}
+use Rattle.top_texts.specs.Exact.{exact}
 use Rattle.tm_top.specs.Files.{AreInputs, Request, files_of}
-use Rattle.tm_top.specs.Messages.{line_in}
-use Rattle.tm_top.specs.Parted.{IsUnloaded, QuestionAnswer, refused}
-use Rattle.tm_top.specs.Policies.{rule_of}
-use Rattle.tm_top.specs.Questions.{Question, analysis_question}
+use Rattle.top_status.specs.Messages.{line_in}
+use Rattle.tm_top.specs.Parted.{IsUnloaded}
+use Rattle.top_texts.specs.Parted.{QuestionAnswer}
+use Rattle.top_texts.specs.Questions.{Question, analysis_question}
 use Rattle.tm_top.specs.Run.{FailsOnlyIn}
-use Rattle.tm_top.specs.Texts.{IsSolvedSystem}
+use Rattle.top_texts.specs.Texts.{IsSolvedSystem}
 use Rattle.tm_top.specs.declared.analyse.least.Found.{Found}
-use Rattle.tm_top.specs.declared.analyse.least.LeastBounds.{LeastBounds}
-use Rattle.tm_top.specs.declared.ending.Ending.{Ending}
-use Rattle.tm_top.specs.declared.refusal.Refusal.{Refusal}
-use Rattle.tm_top.specs.declared.refusal.Refusal.TheVariants as refusal
-use Rattle.tm_top.specs.declared.status.Status.{Status}
-use Rattle.tm_top.specs.declared.status.Status.TheVariants.{Done, Certificate, Usage, Read, Text, Wide, Spent, Memory, Write}
-use Rattle.tm_top.proofs.analyse.Analysed.{system_line, system_rows, system_texts}
+use Rattle.top_status.specs.declared.ending.Ending.{Ending}
+use Rattle.top_status.specs.declared.status.Status.{Status}
+use Rattle.top_status.specs.declared.status.Status.TheVariants.{Done, Certificate, Usage, Read, Text, Wide, Spent, Memory, Write}
 use Rattle.tm_top.proofs.endings.OneEnding.{texts_answer, with_text_once}
 use Rattle.tm_top.proofs.files.Loaded.{content_once, unloaded_answer, unloaded_failed, unloaded_line, unloaded_rows, unloaded_undone}
-use Rattle.tm_top.proofs.rounds.OneChain.{solved_rounds}
-
--- a refusal ends with nothing put
-pub refused_unput : (r : Refusal) (s : Status) → s ≡ refused r → IsUnput s
-refused_unput (refusal.Text cause) s e = record { undone = λ d. cc; unwritten = λ w. cc }
-refused_unput (refusal.Certificate cause) s e = record { undone = λ d. cc; unwritten = λ w. cc }
-refused_unput (refusal.Wide spot) s e = record { undone = λ d. cc; unwritten = λ w. cc }
-refused_unput (refusal.Spent number) s e = record { undone = λ d. cc; unwritten = λ w. cc }
-refused_unput refusal.NoMemory s e = record { undone = λ d. cc; unwritten = λ w. cc }
-
--- rounds that are done have found the least bounds
-pub solved_by : (system : System) (policy : Policy) (limit : ℕ) (least : LeastBounds) → least.system ≡ system → IsSolved system (rule_of policy) limit least.solved
-    → Least (equations_of system) (vector_at system least.solved.bounds) → IsVectorOf system least.solved.bounds → IsSolvedBy system policy limit least
-solved_by system policy limit least same is is_least count = record {
-  same = same;
-  within = is.within;
-  has_rounds = solved_rounds system policy limit least.solved is;
-  least = is_least;
-  count = count;
-}
-
--- those of a text's system are those of the text
-pub found_of : (text : List ℕ) (rows : Domain (List ℕ)) (system : System) (policy : Policy) (limit : ℕ) (least : LeastBounds) → IsSolvedSystem text rows system
-    → IsSolvedBy system policy limit least → IsFoundIn text rows policy limit least
-found_of text rows system policy limit least is by =
-    let moved : IsSolvedBy least.system policy limit least = subst (λ (s : System). IsSolvedBy s policy limit least) (sym by.same) by in
-    record {
-      solved = subst (λ (s : System). IsSolvedSystem text rows s) (sym by.same) is;
-      within = by.within;
-      has_rounds = moved.has_rounds;
-      least = moved.least;
-      count = moved.count;
-    }
-
--- and so is the ending where there are none
-halted_text : (text : List ℕ) (rows : Domain (List ℕ)) (system : System) (policy : Policy) (limit : ℕ) (ending : Ending) → IsSolvedSystem text rows system
-    → IsHaltedEnding system policy limit ending → IsRefusedText text rows policy limit ending
-halted_text text rows system policy limit ending is h = record {
-  answer = system_texts Report text rows system policy limit ending.status is h.answer;
-  unput = h.unput;
-  line = h.line ∙ system_line Report text system policy limit ending.status h.answer;
-  rows_named = λ other a. system_rows text rows system other ending.rows ending.status is h.rows_named a;
-}
-
-pub halted_texts : (text : List ℕ) (rows : Domain (List ℕ)) (system : System) (policy : Policy) (limit : ℕ) (r : Result LeastBounds Ending) → IsSolvedSystem text rows system
-    → IfErr r (IsHaltedEnding system policy limit) → IfErr r (IsRefusedText text rows policy limit)
-halted_texts text rows system policy limit (Ok bounds) is h = tt
-halted_texts text rows system policy limit (Err ending) is h = halted_text text rows system policy limit ending is h
-
--- ---- from texts to the files that hold them
 
 -- no answer to texts says that a file failed
-no_failure : (files : Option Contents) (f f' : ℕ) (l : List ℕ) (request : Request) (question : Question) (s : Status) → QuestionAnswer question s → FailsOnlyIn files f f' l request s
+no_failure : (files : Option Contents) (f f' : ℕ) (l : List ℕ) (request : Request) (question : Question) (s : Status)
+    → QuestionAnswer question s → FailsOnlyIn files f f' l request s
 no_failure files f f' l request question Done h = tt
 no_failure files f f' l request question (Certificate cause) h = absurd h
 no_failure files f f' l request question Usage h = absurd h
@@ -97,7 +40,8 @@ no_failure files f f' l request question Write h = tt
 
 module _ (files : Option Contents) (f f' : ℕ) (l : List ℕ) (a : Analysis (List ℕ)) where
   -- what was found in texts was found in their files
-  pub found_for : (text : List ℕ) (rows : Domain (List ℕ)) (r : Result Found Ending) → AreInputs files a text rows → IfOk r (λ found. found.text.items ≡ text)
+  pub found_for : (text : List ℕ) (rows : Domain (List ℕ)) (r : Result Found Ending) → AreInputs files a text rows
+      → IfOk r (λ found. found.text.items ≡ text)
       → IfOk r (λ found. IsFoundIn text rows a.policy a.improvements found.least) → IfOk r (IsFound files a)
   found_for text rows (Ok found) i e h = record {
     rows = rows;
@@ -112,7 +56,8 @@ module _ (files : Option Contents) (f f' : ℕ) (l : List ℕ) (a : Analysis (Li
   refused_for text rows (Ok found) i h = tt
   refused_for text rows (Err ending) i h = record {
     answer = texts_answer files Report a text rows ending.status i h.answer;
-    failed = no_failure files f f' l (Analyse Report a) (analysis_question exact Report text rows a.policy a.improvements) ending.status h.answer;
+    failed = no_failure files f f' l (Analyse Report a) (analysis_question exact Report text rows a.policy a.improvements) ending.status
+        h.answer;
     unput = h.unput;
     line = λ t told has. h.line ∙ ap (λ x. line_in x ending.status) (content_once files a.program text t told i.program has);
     rows_named = λ t domain system told inputs is. h.rows_named system
@@ -121,7 +66,8 @@ module _ (files : Option Contents) (f f' : ℕ) (l : List ℕ) (a : Analysis (Li
   }
 
   -- and so do files that aren't loaded
-  pub unloaded_for : (ending : Ending) (s : Status) → ending.status ≡ s → ending.line ≡ 0 → ending.rows ≡ 0 → IsUnloaded files (files_of (Analyse Report a)) f f' l s
+  pub unloaded_for : (ending : Ending) (s : Status) → ending.status ≡ s → ending.line ≡ 0 → ending.rows ≡ 0
+      → IsUnloaded files (files_of (Analyse Report a)) f f' l s
       → IsRefusedEnding files f f' l a ending
   unloaded_for ending s e line rows h = record {
     answer = subst (λ x. IsAnswerTo files (Analyse Report a) x) (sym e) (unloaded_answer files (Analyse Report a) f f' l s h);
@@ -132,5 +78,6 @@ module _ (files : Option Contents) (f f' : ℕ) (l : List ℕ) (a : Analysis (Li
     };
     line = λ t told has. line ∙ unloaded_line t files (files_of (Analyse Report a)) f f' l s h ∙ ap (λ x. line_in t x) (sym e);
     rows_named = λ t domain system told inputs is.
-        rows ∙ unloaded_rows (length system.template) files (files_of (Analyse Report a)) f f' l s h ∙ ap (λ x. rows_of (length system.template) x) (sym e);
+        rows ∙ unloaded_rows (length system.template) files (files_of (Analyse Report a)) f f' l s h
+        ∙ ap (λ x. rows_of (length system.template) x) (sym e);
   }

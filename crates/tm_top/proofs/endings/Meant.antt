@@ -8,15 +8,16 @@ use Rattle.tm_cli.specs.Request.{request_of}
 use Rattle.tm_cli.specs.declared.request.Request.TheVariants.{Analyse, Check, Bench, Upgrade, Prove, Transitions, Equations}
 use Rattle.tm_top.specs.Answers as public
 use Rattle.tm_top.specs.Answers.{Answers, CheckEnds, IsAnswer, IsTooWide, Tells, UpgradeEnds, WordsEnd}
-use Rattle.tm_top.specs.Checks.{IsAcceptedWith, system_with}
-use Rattle.tm_top.specs.Endings.{CheckEnd, Ends, InputsEnd, IsAnswerTo, IsAnswerToRequest, IsSpotFor, UpgradeEnd}
-use Rattle.tm_top.specs.Exact.{exact}
+use Rattle.top_texts.specs.Checks.{IsAcceptedWith, system_with}
+use Rattle.top_texts.specs.Endings.{CheckEnd, UpgradeEnd}
+use Rattle.tm_top.specs.Endings.{Ends, InputsEnd, IsAnswerTo, IsAnswerToRequest, IsSpotFor}
+use Rattle.top_texts.specs.Exact.{exact}
 use Rattle.tm_top.specs.Files.{Request}
-use Rattle.tm_top.specs.Questions.{analysis_question, bench_question, claims_question, equations_question, transitions_question}
-use Rattle.tm_top.specs.declared.status.CertCause.TheVariants as cause
-use Rattle.tm_top.specs.declared.status.ReadCause.TheVariants.{Failed, TooLong}
-use Rattle.tm_top.specs.declared.status.Status.{Status}
-use Rattle.tm_top.specs.declared.status.Status.TheVariants.{Done, Certificate as Refused, Usage, Read, Text, Wide, Spent, Memory, Write}
+use Rattle.top_texts.specs.Questions.{analysis_question, bench_question, claims_question, equations_question, transitions_question}
+use Rattle.top_status.specs.declared.status.CertCause.TheVariants as cause
+use Rattle.top_status.specs.declared.status.ReadCause.TheVariants.{Failed, TooLong}
+use Rattle.top_status.specs.declared.status.Status.{Status}
+use Rattle.top_status.specs.declared.status.Status.TheVariants.{Done, Certificate as Refused, Usage, Read, Text, Wide, Spent, Memory, Write}
 use Rattle.tm_top.proofs.endings.OneEnding.{ends_once, question_end, spot_after}
 
 -- ---- endings, from the commands' words
@@ -57,6 +58,7 @@ inputs_end files (Prove claims a) s (text, rows, given, i, c, e) = public.claime
 inputs_end files (Transitions a) s (text, rows, i, e) = public.traversed a text rows refl i e
 inputs_end files (Equations file limit policy) s (text, i, e) = public.equated file text limit policy refl i e
 
+-- an ending of a request is one by the exact meanings
 pub ends : (files : Option Contents) (request : Request) (s : Status) → Ends files request s → public.Ends exact files request s
 ends files request Done h = inputs_end files request Done h
 ends files request (Refused cause) h = inputs_end files request (Refused cause) h
@@ -74,6 +76,7 @@ ends files request Write h = absurd h
 accepted_with : (text bytes : List ℕ) (names : _) (body : _) (rows : _) (vector : _) → IsAcceptedWith text bytes names body rows vector → CheckEnd text bytes Done
 accepted_with text bytes names body rows vector a = (names, body, a.cert, a.valid, a.narrow)
 
+-- an ending by the exact meanings is one of the request
 pub ends_by : (files : Option Contents) (request : Request) (s : Status) → public.Ends exact files request s → Ends files request s
 ends_by files request s (public.too_long which e h) = subst (λ x. Ends files request x) (sym e) h
 ends_by files request s (public.analysed purpose a text rows e i h) =
@@ -125,6 +128,7 @@ answer_to files words (Some a) (Spent n) e h = public.is_ending a e (ends files 
 answer_to files words (Some a) Memory e h = public.is_memory refl
 answer_to files words (Some a) Write e h = public.is_unwritten a e refl (ends files a Done h)
 
+-- an answer to the request of the words is an answer to the words by the exact meanings
 pub answer : (files : Option Contents) (words : List (List ℕ)) (status : Status) → IsAnswerToRequest files (request_of words) status → IsAnswer exact files words status
 answer files words status h = answer_to files words (request_of words) status refl h
 

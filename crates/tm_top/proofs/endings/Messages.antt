@@ -6,11 +6,12 @@ use Rattle.std.proofs.Math.Seq.{take-length}
 use Rattle.tm_io.specs.Puts.{AddsPieces, HasPutCause, Puts, Takes, as_pieces}
 use Rattle.tm_io.specs.declared.sink.PutFault.{PutFault}
 use Rattle.tm_io.specs.declared.sink.PutFault.TheVariants.{Failed, NoMemory}
-use Rattle.tm_top.specs.Messages.{message_of}
+use Rattle.top_status.specs.Messages.{message_of}
 use Rattle.tm_top.specs.Outputs.{GetsMessage, IsInOnePiece}
-use Rattle.tm_top.specs.declared.status.Status.{Status}
-use Rattle.tm_top.specs.declared.status.Status.TheVariants.{Done}
+use Rattle.top_status.specs.declared.status.Status.{Status}
+use Rattle.top_status.specs.declared.status.Status.TheVariants.{Done}
 
+-- a message that is put in one piece is in the stream, or the stream is as it was
 pub gets : (status : Status) (message : List ℕ) (held now : Option (List ℕ)) (f f' s : ℕ) (r : Result (Unit {0}) PutFault)
     → status ≢ Done → length message ≤ 512 → Puts held now message r → HasPutCause f f' s message r → GetsMessage status message held now f f' s
 gets status message held now f f' s (Ok x) other short puts cause =

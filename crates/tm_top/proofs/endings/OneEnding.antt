@@ -11,27 +11,33 @@ use Rattle.tm_cli.specs.declared.request.Purpose.TheVariants.{Report, Certificat
 use Rattle.tm_cli.specs.declared.request.Request.TheVariants.{Analyse, Check, Bench, Upgrade, Prove, Transitions, Equations}
 use Rattle.tm_eqsys.specs.declared.spot.Spot.{Spot}
 use Rattle.tm_top.specs.Answers.{IsOfRounds, Tells}
-use Rattle.tm_top.specs.Endings.{CheckEnd, Ends, InputsEnd, IsAnswerTo, IsSpotFor}
-use Rattle.tm_top.specs.Exact.{exact}
-use Rattle.tm_top.specs.Files.{AreChecked, AreInputs, HasCertificate, HasShortRows, HasShortText, IsTold, IsTooLong, IsWithText, NamedFile, Request, files_of, rows_before}
-use Rattle.tm_top.specs.Parted.{IsAnswerToCheck, QuestionAnswer}
-use Rattle.tm_top.specs.Questions.{IsWideIn, Question, QuestionEnds, analysis_question, bench_question, claims_question, equations_question, transitions_question, is_refused, rounds_end, rounds_spent}
+use Rattle.top_texts.specs.Endings.{CheckEnd}
+use Rattle.tm_top.specs.Endings.{Ends, InputsEnd, IsAnswerTo, IsSpotFor}
+use Rattle.top_texts.specs.Exact.{exact}
+use Rattle.tm_top.specs.Files.{AreChecked, AreInputs, HasCertificate, HasShortText, IsTold, IsTooLong, IsWithText, NamedFile, Request}
+use Rattle.tm_top.specs.Files.{files_of, rows_before}
+use Rattle.top_texts.specs.Short.{HasShortRows}
+use Rattle.top_texts.specs.Parted.{IsAnswerToCheck, QuestionAnswer}
+use Rattle.top_texts.specs.Questions.{IsWideIn, Question, QuestionEnds, analysis_question, bench_question, claims_question}
+use Rattle.top_texts.specs.Questions.{equations_question, transitions_question, is_refused, rounds_end, rounds_spent}
 use Rattle.tm_top.specs.Reports.{IsReportOn}
 use Rattle.tm_top.specs.Run.{OutputHolds}
-use Rattle.tm_top.specs.declared.status.ReadCause.TheVariants.{Failed, TooLong}
-use Rattle.tm_top.specs.declared.status.Status.{Status}
-use Rattle.tm_top.specs.declared.status.Status.TheVariants.{Done, Certificate as Refused, Usage, Read, Text, Wide, Spent, Memory, Write}
-use Rattle.tm_top.specs.declared.status.Which.{Which}
-use Rattle.tm_top.specs.declared.status.Which.TheVariants as which
-use Rattle.tm_top.proofs.checks.CheckOnce.{CertEnds, CheckEnds, cert_ends_once, check_ends_once, check_staged, upgrade_staged}
+use Rattle.top_status.specs.declared.status.ReadCause.TheVariants.{Failed, TooLong}
+use Rattle.top_status.specs.declared.status.Status.{Status}
+use Rattle.top_status.specs.declared.status.Status.TheVariants.{Done, Certificate as Refused, Usage, Read, Text, Wide, Spent, Memory, Write}
+use Rattle.top_status.specs.declared.status.Which.{Which}
+use Rattle.top_status.specs.declared.status.Which.TheVariants as which
+use Rattle.top_texts.proofs.checks.CheckOnce.{CertEnds, CheckEnds, cert_ends_once, check_ends_once, check_staged, upgrade_staged}
 use Rattle.tm_top.proofs.files.Loaded.{AllShort, content_once, first_long_once, none_long}
-use Rattle.tm_top.proofs.questions.OneEnd.{question_ends_once, wide_of_rounds}
-use Rattle.tm_top.proofs.questions.OneMeaning.{analysis_once, bench_once, claims_once, solution_once, transitions_once}
-use Rattle.tm_top.proofs.prove.Judged.{verdicts_end}
-use Rattle.tm_top.proofs.rounds.OneChain.{solved_ends}
+use Rattle.top_texts.proofs.questions.OneEnd.{question_ends_once}
+use Rattle.tm_top.proofs.endings.OfRounds.{wide_of_rounds}
+use Rattle.top_texts.proofs.questions.OneMeaning.{analysis_once, bench_once, claims_once, solution_once, transitions_once}
+use Rattle.top_texts.proofs.claim_texts.Judged.{verdicts_end}
+use Rattle.top_texts.proofs.rounds.OneChain.{solved_ends}
 
 -- ---- what a request reads is told and within its limits
 
+-- files that are told tell what any request asks of them
 pub tells : (files : Option Contents) (request : Request) → IsTold files → Tells files request
 tells files (Analyse purpose a) t = t
 tells files (Check p c) t = t
@@ -51,6 +57,7 @@ told_long files (Prove claims a) w t l = t
 told_long files (Transitions a) w t l = t
 told_long files (Equations file limit policy) w t l = t
 
+-- a domain has one form with its text
 pub with_text_once : (files : Option Contents) (d x y : Domain (List ℕ)) → IsTold files → IsWithText files d x → IsWithText files d y → x ≡ y
 with_text_once files domain.Intervals x y t h k = h ∙ sym k
 with_text_once files domain.Zones x y t h k = h ∙ sym k
@@ -63,27 +70,33 @@ short_rows files domain.Zones rows rest w s a = a
 short_rows files domain.Octagons rows rest w s a = a
 short_rows files (domain.Rows file) rows rest (text, h, e) s a = (record { bytes = text; content = h; short = subst HasShortRows e s }, a)
 
+-- the texts of an analysis are short files
 pub inputs_short : (files : Option Contents) (a : Analysis (List ℕ)) (text : List ℕ) (rows : Domain (List ℕ)) (purpose : Purpose) → AreInputs files a text rows → AllShort files (files_of (Analyse purpose a))
 inputs_short files a text rows purpose i =
     (record { bytes = text; content = i.program; short = i.short }, short_rows files a.domain rows [] i.rows_are i.short_rows tt)
 
+-- the texts of a transition system's analysis are short files
 pub inputs_short_along : (files : Option Contents) (a : Analysis (List ℕ)) (text : List ℕ) (rows : Domain (List ℕ)) → AreInputs files a text rows → AllShort files (files_of (Transitions a))
 inputs_short_along files a text rows i =
     (record { bytes = text; content = i.program; short = i.short }, short_rows files a.domain rows [] i.rows_are i.short_rows tt)
 
+-- the texts of an analysis with claims are short files
 pub inputs_short_with : (files : Option Contents) (claims : List ℕ) (a : Analysis (List ℕ)) (text : List ℕ) (rows : Domain (List ℕ)) (given : List ℕ) → AreInputs files a text rows → HasShortText files claims given
     → AllShort files (files_of (Prove claims a))
 inputs_short_with files claims a text rows given i c =
     let behind : AllShort files ((which.Claims, claims) ∷ []) = (record { bytes = given; content = c.content; short = c.short }, tt) in
     (record { bytes = text; content = i.program; short = i.short }, short_rows files a.domain rows ((which.Claims, claims) ∷ []) i.rows_are i.short_rows behind)
 
+-- the text and the certificate of a check are short files
 pub checked_short : (files : Option Contents) (p c text bytes : List ℕ) → AreChecked files p c text bytes → AllShort files (files_of (Check p c))
 checked_short files p c text bytes i =
     (record { bytes = text; content = i.program_is; short = i.short }, (record { bytes = bytes; content = i.certificate_is; short = i.short_bytes }, tt))
 
+-- the certificate of an upgrade is a short file
 pub certificate_short : (files : Option Contents) (c bytes : List ℕ) → HasCertificate files c bytes → AllShort files (files_of (Upgrade c))
 certificate_short files c bytes i = (record { bytes = bytes; content = i.content; short = i.short }, tt)
 
+-- the text of equations is a short file
 pub short_text : (files : Option Contents) (file text : List ℕ) (limit : ℕ) (policy : Policy) → HasShortText files file text → AllShort files (files_of (Equations file limit policy))
 short_text files file text limit policy i = (record { bytes = text; content = i.content; short = i.short }, tt)
 
@@ -172,6 +185,7 @@ request_once files request s t told (long w l e) (inputs i) = absurd (not_long f
 request_once files request s t told (inputs i) (long w l e) = absurd (not_long files request w told (all_short files request s i) l)
 request_once files request s t told (inputs i) (inputs j) = texts_once files request s t told i j
 
+-- a request has one ending
 pub ends_once : (files : Option Contents) (request : Request) (s t : Status) → Tells files request → Ends files request s → Ends files request t → s ≡ t
 ends_once files request s t told h k = request_once files request s t told (staged files request s h) (staged files request t k)
 
@@ -204,6 +218,7 @@ wide_stage : (files : Option Contents) (request : Request) (s : Status) (spot : 
 wide_stage files request s spot told (long w l e) k = absurd (not_long files request w told (spot_short files request spot k) l)
 wide_stage files request s spot told (inputs i) k = wide_inputs files request s spot told i k
 
+-- a request with a wide operation ends with it, or by the end of its rounds
 pub spot_after : (files : Option Contents) (request : Request) (wanted : Status) (spot : Spot) → Tells files request → Ends files request wanted → IsSpotFor files request spot
     → IsOfRounds wanted ⊎ (wanted ≡ Wide spot)
 spot_after files request wanted spot told h k = wide_stage files request wanted spot told (staged files request wanted h) k
@@ -228,24 +243,29 @@ question_answer files request q (Spent n) f g h = f (Spent n) h
 question_answer files request q Memory f g h = tt
 question_answer files request q Write f g h = f Done h
 
+-- an answer to the texts of an analysis is an answer to its request
 pub texts_answer : (files : Option Contents) (purpose : Purpose) (a : Analysis (List ℕ)) (text : List ℕ) (rows : Domain (List ℕ)) (status : Status) → AreInputs files a text rows
     → QuestionAnswer (analysis_question exact purpose text rows a.policy a.improvements) status → IsAnswerTo files (Analyse purpose a) status
 texts_answer files purpose a text rows status i h =
     question_answer files (Analyse purpose a) (analysis_question exact purpose text rows a.policy a.improvements) status (λ x e. (text, rows, i, e)) (λ spot w. (text, rows, i, w)) h
 
+-- an answer to the question of a generated program is an answer to its request
 pub bench_answer : (files : Option Contents) (seed loops : ℕ) (status : Status) → QuestionAnswer (bench_question exact seed loops) status → IsAnswerTo files (Bench seed loops) status
 bench_answer files seed loops status h = question_answer files (Bench seed loops) (bench_question exact seed loops) status (λ x e. e) (λ spot w. w) h
 
+-- an answer to the question of claims is an answer to their request
 pub claims_answer : (files : Option Contents) (claims : List ℕ) (a : Analysis (List ℕ)) (text : List ℕ) (rows : Domain (List ℕ)) (given : List ℕ) (status : Status) → AreInputs files a text rows
     → HasShortText files claims given → QuestionAnswer (claims_question exact text rows given a.policy a.improvements) status → IsAnswerTo files (Prove claims a) status
 claims_answer files claims a text rows given status i c h =
     question_answer files (Prove claims a) (claims_question exact text rows given a.policy a.improvements) status (λ x e. (text, rows, given, i, c, e)) (λ spot w. (text, rows, given, i, c, w)) h
 
+-- an answer to the question of a transition system is an answer to its request
 pub transitions_answer : (files : Option Contents) (a : Analysis (List ℕ)) (text : List ℕ) (rows : Domain (List ℕ)) (status : Status) → AreInputs files a text rows
     → QuestionAnswer (transitions_question exact text rows a.policy a.improvements) status → IsAnswerTo files (Transitions a) status
 transitions_answer files a text rows status i h =
     question_answer files (Transitions a) (transitions_question exact text rows a.policy a.improvements) status (λ x e. (text, rows, i, e)) (λ spot w. (text, rows, i, w)) h
 
+-- an answer to the question of equations is an answer to their request
 pub equations_answer : (files : Option Contents) (file text : List ℕ) (limit : ℕ) (policy : Policy) (status : Status) → HasShortText files file text
     → QuestionAnswer (equations_question exact text policy limit) status → IsAnswerTo files (Equations file limit policy) status
 equations_answer files file text limit policy status i h =
@@ -254,6 +274,7 @@ equations_answer files file text limit policy status i h =
 check_end : (files : Option Contents) (p c text bytes : List ℕ) (status : Status) → AreChecked files p c text bytes → CheckEnd text bytes status → InputsEnd files (Check p c) status
 check_end files p c text bytes status i e = (text, bytes, i, e)
 
+-- an answer to a check of texts is an answer to its request
 pub check_answer : (files : Option Contents) (p c text bytes : List ℕ) (status : Status) → AreChecked files p c text bytes → IsAnswerToCheck text bytes status → IsAnswerTo files (Check p c) status
 check_answer files p c text bytes Done i h = check_end files p c text bytes Done i h
 check_answer files p c text bytes (Refused cause) i h = check_end files p c text bytes (Refused cause) i h
@@ -267,6 +288,7 @@ check_answer files p c text bytes Write i h = check_end files p c text bytes Don
 
 -- ---- where a refusal stands, nothing is put
 
+-- a request that has a report ends with success
 pub reported : (files : Option Contents) (request : Request) (bytes : List ℕ) → IsReportOn files request bytes → Ends files request Done
 reported files (Analyse Report a) bytes (text, rows, i, r) =
     (text, rows, i, rounds_end r.system refl (record { names = r.names; body = r.body; template = r.template; ready = r.ready; system_for = r.system_for }) (r.rounds, r.within, r.vector, r.has_rounds))

@@ -16,19 +16,20 @@ use Rattle.tm_cli.specs.declared.request.Domain.{Domain}
 use Rattle.tm_cli.specs.declared.request.Policy.{Policy}
 use Rattle.tm_cli.specs.declared.request.Purpose.TheVariants.{Report, Certificate as AsCertificate}
 use Rattle.tm_cli.specs.declared.request.Request.TheVariants.{Analyse, Check, Bench, Upgrade, Prove, Transitions, Equations as Solve}
-use Rattle.tm_top.specs.CheckMessages.{rows_of}
-use Rattle.tm_top.specs.Checks.{system_with}
-use Rattle.tm_top.specs.Exact.{exact}
+use Rattle.top_status.specs.CheckMessages.{rows_of}
+use Rattle.top_texts.specs.Checks.{system_with}
+use Rattle.top_texts.specs.Exact.{exact}
 use Rattle.tm_top.specs.Files.{IsTold, Request}
-use Rattle.tm_top.specs.Messages.{message_of}
+use Rattle.top_status.specs.Messages.{message_of}
 use Rattle.tm_top.specs.Outputs as public
 use Rattle.tm_top.specs.Outputs.{GetsMessage, HasRows, IsCertificate, IsChecked, IsInOnePiece, IsMessage, IsOutput, IsSummary, OutputGets}
-use Rattle.tm_top.specs.Reports.{IsCertificateOf, IsReportBy, IsReportFor, IsReportOn, IsSummaryOf}
+use Rattle.top_texts.specs.Reports.{IsCertificateOf, IsReportBy, IsSummaryOf}
+use Rattle.tm_top.specs.Reports.{IsReportFor, IsReportOn}
 use Rattle.tm_top.specs.Run.{IsLine, IsRowCount, IsRowCountIn, OutputHolds}
-use Rattle.tm_top.specs.declared.status.Status.{Status}
-use Rattle.tm_top.specs.declared.status.Status.TheVariants.{Done, Certificate as Refused, Usage, Read, Text, Wide, Spent, Memory, Write}
-use Rattle.tm_top.proofs.check.Accepted.{bounds_are}
-use Rattle.tm_top.proofs.texts.Once.{equations_are}
+use Rattle.top_status.specs.declared.status.Status.{Status}
+use Rattle.top_status.specs.declared.status.Status.TheVariants.{Done, Certificate as Refused, Usage, Read, Text, Wide, Spent, Memory, Write}
+use Rattle.top_texts.proofs.checks.Accepted.{bounds_are}
+use Rattle.top_texts.proofs.texts.Once.{equations_are}
 
 -- ---- the output
 
@@ -89,6 +90,7 @@ output_on files words (Prove claims a) bytes e (text, rows, given, i, c, v) = pu
 output_on files words (Transitions a) bytes e (text, rows, i, r) = public.is_report_along a text rows e i r
 output_on files words (Solve file limit policy) bytes e (text, i, v) = public.are_values file text limit policy e i v
 
+-- an output that holds one property gets another that follows from it
 pub gets : (P Q : List ℕ → Type 0) (status : Status) (held now : Option (List ℕ)) → ((bytes : List ℕ) → P bytes → Q bytes) → OutputHolds P status held now → OutputGets Q status held now
 gets P Q Done held now f (bytes, p, appended) = public.gets_whole refl bytes (f bytes p) appended
 gets P Q (Refused cause) held now f o = public.gets_nothing (λ e. cc) (λ e. cc) o
@@ -101,6 +103,7 @@ gets P Q Memory held now f o =
     ⊎_elim (λ e. public.gets_nothing (λ i. cc) (λ i. cc) e) (λ part. public.gets_part (inr refl) part.0 part.1 (f part.0 part.2) part.3) o
 gets P Q Write held now f (bytes, n, p, appended) = public.gets_part (inl refl) bytes n (f bytes p) appended
 
+-- the output of a run is what the words get by the exact meanings
 pub output : (files : Option Contents) (words : List (List ℕ)) (status : Status) (held now : Option (List ℕ)) → OutputHolds (IsReportFor files words) status held now
     → OutputGets (IsOutput exact files words) status held now
 output files words status held now o =
@@ -114,6 +117,7 @@ rows_in files request status rows count told h (public.template_rows purpose a t
 rows_in files request status rows count told h (public.certificate_rows p c bytes e has k) =
     subst (λ r. IsRowCountIn files r status rows) e h bytes k.cert told has k.spells ∙ sym (ap (λ n. rows_of n status) k.count_is)
 
+-- a message with the line and the row count of a run is a message to the words
 pub is_message : (files : Option Contents) (words : List (List ℕ)) (status : Status) (line rows : ℕ) → IsLine files words status line → IsRowCount files words status rows
     → IsMessage exact files words status (message_of line rows status)
 is_message files words status line rows h k = record {

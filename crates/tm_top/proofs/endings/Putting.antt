@@ -4,11 +4,11 @@ use Rattle.std.specs.Prelude.{Option, Err}
 use Rattle.tm_io.specs.Faults.{Rose}
 use Rattle.tm_io.specs.Puts.{HasPutCause}
 use Rattle.tm_io.specs.declared.sink.PutFault.{PutFault}
-use Rattle.tm_top.specs.Messages.{line_in}
+use Rattle.top_status.specs.Messages.{line_in}
 use Rattle.tm_top.specs.Parted.{PutsReport, failed, wanting, whole}
 use Rattle.tm_top.specs.Run.{OutputHolds}
-use Rattle.tm_top.specs.declared.status.Status.{Status}
-use Rattle.tm_top.specs.declared.status.Status.TheVariants.{Done, Memory, Write}
+use Rattle.top_status.specs.declared.status.Status.{Status}
+use Rattle.top_status.specs.declared.status.Status.TheVariants.{Done, Memory, Write}
 
 -- a report that is put
 pub put_output : (P : List ℕ → Type 0) (bytes : List ℕ) (result : Status) (held now : Option (List ℕ)) (f f' : ℕ) → P bytes → PutsReport bytes result held now f f' → OutputHolds P result held now

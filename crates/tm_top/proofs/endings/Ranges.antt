@@ -182,6 +182,7 @@ unfaulted : (kinds : Kinds) (o : Option (Request Text)) (r : Request Text) → u
 unfaulted [] o r e = e
 unfaulted (kind ∷ kinds) o r e = absurd (none_some r e)
 
+-- the numbers of a request are within their limits
 pub request_range : (words : List Text) (r : Request Text) → request_of words ≡ Some r → IsInRange r
 unfolding request_of
 request_range words r e =

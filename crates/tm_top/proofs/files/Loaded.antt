@@ -5,18 +5,19 @@ use Rattle.std.specs.declared.alloc.Global.{Global}
 use Rattle.std.proofs.lemmas.List.{length-take, take_all}
 use Rattle.tm_io.specs.Files.{Contents}
 use Rattle.tm_io.specs.Loads.{Gives, GivesIfTold}
-use Rattle.tm_top.specs.CheckMessages.{rows_of}
+use Rattle.top_status.specs.CheckMessages.{rows_of}
 use Rattle.tm_top.specs.Endings.{IsAnswerTo}
-use Rattle.tm_top.specs.Files.{HasContent, IsFirstLong, IsLongFile, IsReachedIn, IsShortFile, IsTold, NamedFile, Request, files_of, most_bytes}
-use Rattle.tm_top.specs.Messages.{line_in}
+use Rattle.tm_top.specs.Files.{HasContent, IsFirstLong, IsLongFile, IsReachedIn, IsShortFile, IsTold, NamedFile, Request, files_of}
+use Rattle.tm_top.specs.Files.{most_bytes}
+use Rattle.top_status.specs.Messages.{line_in}
 use Rattle.tm_top.specs.Parted.{IsNotLoaded, IsUnloaded, unloaded}
 use Rattle.tm_top.specs.Run.{FailsOnlyIn, OutputHolds}
 use Rattle.tm_top.specs.declared.files.LoadRefusal.{LoadRefusal}
 use Rattle.tm_top.specs.declared.files.LoadRefusal.TheVariants.{Failed, TooLong, NoMemory}
-use Rattle.tm_top.specs.declared.status.ReadCause.TheVariants as read
-use Rattle.tm_top.specs.declared.status.Status.{Status}
-use Rattle.tm_top.specs.declared.status.Status.TheVariants.{Done, Certificate, Usage, Read, Text, Wide, Spent, Memory, Write}
-use Rattle.tm_top.specs.declared.status.Which.{Which}
+use Rattle.top_status.specs.declared.status.ReadCause.TheVariants as read
+use Rattle.top_status.specs.declared.status.Status.{Status}
+use Rattle.top_status.specs.declared.status.Status.TheVariants.{Done, Certificate, Usage, Read, Text, Wide, Spent, Memory, Write}
+use Rattle.top_status.specs.declared.status.Which.{Which}
 
 loaded_whole : (most : ℕ) (text bytes : List ℕ) → bytes ≡ take (most + 1) text → length bytes ≤ most → bytes ≡ text
 loaded_whole most text bytes e h = e ∙ take_all (most + 1) text (omega (arith, ap length e, length-take (most + 1) text))
@@ -48,6 +49,7 @@ long_content (Some files) name most bytes g h = given_long most (files name) byt
 one_content : (o : Option (List ℕ)) (x y : List ℕ) → o ≡ Some x → o ≡ Some y → x ≡ y
 one_content o x y h k = cc
 
+-- a file that is told has one content
 pub content_once : (files : Option Contents) (name x y : List ℕ) → IsTold files → HasContent files name x → HasContent files name y → x ≡ y
 content_once None name x y t h k = absurd t
 content_once (Some files) name x y t h k = one_content (files name) x y h k
@@ -107,12 +109,14 @@ long_reached files ((first, file) ∷ rest) w name (inr (s, r)) l = inr (s, long
 
 -- ---- the endings of loads
 
+-- a file that is not loaded is refused where it is reached
 pub not_loaded : (files : Option Contents) (list : List NamedFile) (which : Which) (name : List ℕ) (f f' : ℕ) (l : List ℕ) (r : LoadRefusal) → IsReachedIn files list which name
     → IsNotLoaded files f f' l name (most_bytes which) r → IsUnloaded files list f f' l (unloaded which r)
 not_loaded files list which name f f' l Failed reached (rose, e) = (rose, subst (λ n. IsReachedIn files list which n) (sym e) reached)
 not_loaded files list which name f f' l TooLong reached (text, h, long) = long_reached files list which name reached (record { bytes = text; content = h; long = long })
 not_loaded files list which name f f' l NoMemory reached h = tt
 
+-- files that are not loaded give the answer to the request
 pub unloaded_answer : (files : Option Contents) (request : Request) (f f' : ℕ) (l : List ℕ) (s : Status) → IsUnloaded files (files_of request) f f' l s → IsAnswerTo files request s
 unloaded_answer files request f f' l Done h = absurd h
 unloaded_answer files request f f' l (Certificate cause) h = absurd h
@@ -125,6 +129,7 @@ unloaded_answer files request f f' l (Spent number) h = absurd h
 unloaded_answer files request f f' l Memory h = tt
 unloaded_answer files request f f' l Write h = absurd h
 
+-- files that are not loaded fail only where the request reads them
 pub unloaded_failed : (files : Option Contents) (request : Request) (f f' : ℕ) (l : List ℕ) (s : Status) → IsUnloaded files (files_of request) f f' l s → FailsOnlyIn files f f' l request s
 unloaded_failed files request f f' l Done h = absurd h
 unloaded_failed files request f f' l (Certificate cause) h = absurd h
@@ -162,6 +167,7 @@ unloaded_undone files list f f' l (Spent number) h = absurd h
 unloaded_undone files list f f' l Memory h = (λ e. cc, λ e. cc)
 unloaded_undone files list f f' l Write h = absurd h
 
+-- files that are not loaded have no line
 pub unloaded_line : (text : List ℕ) (files : Option Contents) (list : List NamedFile) (f f' : ℕ) (l : List ℕ) (s : Status) → IsUnloaded files list f f' l s → 0 ≡ line_in text s
 unloaded_line text files list f f' l Done h = absurd h
 unloaded_line text files list f f' l (Certificate cause) h = absurd h
@@ -173,6 +179,7 @@ unloaded_line text files list f f' l (Spent number) h = absurd h
 unloaded_line text files list f f' l Memory h = refl
 unloaded_line text files list f f' l Write h = absurd h
 
+-- files that are not loaded have no rows
 pub unloaded_rows : (count : ℕ) (files : Option Contents) (list : List NamedFile) (f f' : ℕ) (l : List ℕ) (s : Status) → IsUnloaded files list f f' l s → 0 ≡ rows_of count s
 unloaded_rows count files list f f' l Done h = absurd h
 unloaded_rows count files list f f' l (Certificate cause) h = absurd h

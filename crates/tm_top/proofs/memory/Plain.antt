@@ -6,13 +6,14 @@ use Rattle.tm_cli.specs.Request.{request_of}
 use Rattle.tm_top.specs.Answers as public
 use Rattle.tm_top.specs.Answers.{AnswersInMemory, Answers, WordsEnd}
 use Rattle.tm_top.specs.Files.{Request, IsReached, files_of}
-use Rattle.tm_top.specs.Meanings.{Meanings}
+use Rattle.top_texts.specs.Meanings.{Meanings}
 use Rattle.tm_top.specs.Outputs.{HasFailed}
-use Rattle.tm_top.specs.declared.status.ReadCause.TheVariants.{Failed}
-use Rattle.tm_top.specs.declared.status.Status.{Status}
-use Rattle.tm_top.specs.declared.status.Status.TheVariants.{Read, Write}
-use Rattle.tm_top.specs.declared.status.Which.{Which}
-use Rattle.tm_top.proofs.endings.OneEnding.{certificate_short, checked_short, inputs_short, inputs_short_along, inputs_short_with, short_text}
+use Rattle.top_status.specs.declared.status.ReadCause.TheVariants.{Failed}
+use Rattle.top_status.specs.declared.status.Status.{Status}
+use Rattle.top_status.specs.declared.status.Status.TheVariants.{Read, Write}
+use Rattle.top_status.specs.declared.status.Which.{Which}
+use Rattle.tm_top.proofs.endings.OneEnding.{certificate_short, checked_short, inputs_short, inputs_short_along, inputs_short_with}
+use Rattle.tm_top.proofs.endings.OneEnding.{short_text}
 use Rattle.tm_top.proofs.files.Loaded.{AllShort, long_there, short_there}
 
 -- where an ending stands, each file that is loaded is there
@@ -52,6 +53,7 @@ module _ (m : Meanings) (files now : Contents) (words : List (List ℕ)) (status
       let reached = subst (λ r. IsReached (Some files) r which last) (same_request (request_of words) failed.request request failed.asked e) failed.reached in
       loaded m files request ending which last h reached (subst (λ (c : Contents). c last ≡ None) (same_files now files kept) none)
 
+  -- over files and an output in memory neither reading nor writing fails outside
   pub in_memory : ((which : Which) → status ≡ Read (Failed which) → HasFailed (Some files) words which f f' last) → (status ≡ Write → ⊥)
       → (ending : Status) → WordsEnd m (Some files) words ending → Answers m (Some files) words ending status → AnswersInMemory m (Some files) words ending status
   in_memory read write ending h (public.given e) = public.given_in_memory e

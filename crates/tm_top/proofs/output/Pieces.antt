@@ -9,12 +9,18 @@ use Rattle.tm_top.specs.Outputs.{lines_of}
 
 -- what stands before the rest of the text was appended, and the sink kept its promises over it
 pub record HasPut (held now : Option (List ℕ)) (faults faults_now spare spare_now : ℕ) (text rest : List ℕ) : Type 0 where
+  -- the part of the text that is put
   pub front : List ℕ
+  -- the text is the part that is put, and then the rest
   pub whole : text ≡ front ++ rest
+  -- the part that is put stands behind what was held
   pub appended : Appends held now front
+  -- no fault comes from outside
   pub calm : faults_now ≡ faults
+  -- the room left shrinks by no more than the part that is put
   pub spared : spare ≤ spare_now + length front
 
+-- before the first piece nothing is put
 pub nothing_put : (held : Option (List ℕ)) (faults spare : ℕ) (text : List ℕ) → HasPut held held faults faults spare spare text text
 nothing_put held faults spare text = record { front = []; whole = refl; appended = Appends-nil held; calm = refl; spared = omega arith }
 
@@ -69,13 +75,18 @@ whole_piece (byte ∷ line) h = refl
 
 -- the lines before the rest of the text were taken, each as a piece
 pub record HasTaken (taken now : Option (List (List ℕ))) (text rest : List ℕ) : Type 0 where
+  -- the lines that are taken
   pub lines : List (List ℕ)
+  -- the lines of the text are those taken, and then those of the rest
   pub cut : lines_of text ≡ lines ++ lines_of rest
+  -- the lines taken stand behind the pieces before
   pub added : AddsPieces taken now lines
 
+-- before the first line nothing is taken
 pub none_taken : (taken : Option (List (List ℕ))) (text : List ℕ) → HasTaken taken taken text text
 none_taken taken text = record { lines = []; cut = refl; added = adds_nil taken }
 
+-- a line that is put is taken as the next piece
 pub next_taken : (taken now next : Option (List (List ℕ))) (text rest line others : List ℕ) → HasTaken taken now text rest → lines_of rest ≡ line ∷ lines_of others → 0 < length line
     → AddsPieces now next (as_pieces line) → HasTaken taken next text others
 next_taken taken now next text rest line others h cut some takes = record {
@@ -84,6 +95,7 @@ next_taken taken now next text rest line others h cut some takes = record {
   added = adds_trans taken now next h.lines (line ∷ []) h.added (subst (λ ps. AddsPieces now next ps) (whole_piece line some) takes);
 }
 
+-- where nothing is left, all lines of the text are taken
 pub all_taken : (taken now : Option (List (List ℕ))) (text rest : List ℕ) → HasTaken taken now text rest → rest ≡ [] → AddsPieces taken now (lines_of text)
 all_taken taken now text rest h none =
     subst (λ ls. AddsPieces taken now ls) (sym (h.cut ∙ ap (λ r. h.lines ++ lines_of r) none ∙ append-nil h.lines)) h.added

@@ -13,16 +13,16 @@ use Rattle.tm_top.specs.Answers as answers
 use Rattle.tm_top.specs.Answers.{Answers, Gives, WordsEnd}
 use Rattle.tm_top.specs.Files.{AreInputs, Request}
 use Rattle.tm_top.specs.Headline.{Asks, IsGiven, Prints, done, no_memory, too_wide, unread, unwritten}
-use Rattle.tm_top.specs.LeastReports.{IsReportOf}
-use Rattle.tm_top.specs.Meanings.{Meanings}
+use Rattle.top_texts.specs.LeastReports.{IsReportOf}
+use Rattle.top_texts.specs.Meanings.{Meanings}
 use Rattle.tm_top.specs.Outputs as outputs
 use Rattle.tm_top.specs.Outputs.{HasFailed, IsOutput, OutputGets}
-use Rattle.tm_top.specs.Texts.{IsSolvable}
-use Rattle.tm_top.specs.declared.status.ReadCause.TheVariants.{Failed}
-use Rattle.tm_top.specs.declared.status.Status.{Status}
-use Rattle.tm_top.specs.declared.status.Status.TheVariants.{Done, Memory, Read, Write}
-use Rattle.tm_top.specs.declared.status.Which.{Which}
-use Rattle.tm_top.specs.Questions.{rounds_end}
+use Rattle.top_texts.specs.Texts.{IsSolvable}
+use Rattle.top_status.specs.declared.status.ReadCause.TheVariants.{Failed}
+use Rattle.top_status.specs.declared.status.Status.{Status}
+use Rattle.top_status.specs.declared.status.Status.TheVariants.{Done, Memory, Read, Write}
+use Rattle.top_status.specs.declared.status.Which.{Which}
+use Rattle.top_texts.specs.Questions.{rounds_end}
 use Rattle.tm_top.proofs.endings.OneEnding.{with_text_once}
 use Rattle.tm_top.proofs.files.Loaded.{content_once}
 
@@ -85,10 +85,12 @@ module _ (m : Meanings) (files : Option Contents) (words : List (List ℕ)) (ana
       answers.asked (Analyse Report analysis) a.request a.told
       (answers.analysed Report analysis text rows refl a.inputs (rounds_end system refl is e))
 
+-- what a run promises makes its output sound
 pub sound : (m : Meanings) (files : Option Contents) (words : List (List ℕ)) (status : Status) (held now : Option (List ℕ)) → OutputGets (IsOutput m files words) status held now
     → (analysis : Analysis (List ℕ)) (text : List ℕ) (rows : Domain (List ℕ)) → Asks files words analysis text rows → status ≡ Done → Prints analysis text rows held now
 sound m files words status held now o analysis text rows a e = prints m files words analysis text rows a status held now o e
 
+-- what a run promises makes its output complete
 pub complete : (m : Meanings) (files : Option Contents) (words : List (List ℕ)) (status : Status) (held now : Option (List ℕ)) (faults faults_now output output_now : ℕ) (last : List ℕ)
     → ((ending : Status) → WordsEnd m files words ending → Gives m files words ending status held now)
     → ((which : Which) → status ≡ Read (Failed which) → HasFailed files words which faults faults_now last) → (status ≡ Write → Rose output output_now)

@@ -2,11 +2,12 @@
 use Rattle.std.proofs.Common.{◌≡◌, ℕ, List, Option}
 use Rattle.tm_io.specs.Files.{Contents}
 use Rattle.tm_top.specs.Files.{HasContent, IsTold, named_in}
-use Rattle.tm_top.specs.declared.status.Status.{Status}
-use Rattle.tm_top.specs.declared.status.Status.TheVariants.{Text}
-use Rattle.tm_top.specs.declared.status.TextCause.TheVariants.{Claims}
+use Rattle.top_status.specs.declared.status.Status.{Status}
+use Rattle.top_status.specs.declared.status.Status.TheVariants.{Text}
+use Rattle.top_status.specs.declared.status.TextCause.TheVariants.{Claims}
 use Rattle.tm_top.proofs.files.Loaded.{content_once}
 
+-- the text in which a line is named is that of its file
 pub named_content : (files : Option Contents) (program claims text given : List ℕ) (status : Status) (named : List ℕ) → IsTold files → HasContent files program text → HasContent files claims given
     → HasContent files (named_in program claims status) named → named_in text given status ≡ named
 named_content files program claims text given (Text (Claims f)) named t h k n = content_once files claims given named t k n

@@ -2,13 +2,15 @@
 
 ghost use Rattle.std.specs.Prelude.{◌≡◌, ◌∷◌, List, IfOk, IfErr};
 ghost use Rattle.tm_cli.specs.Request.{analysis_text, domain_text};
-ghost use Rattle.tm_top.specs.Files.{AreInputs, HasShortRows, IsWithText, NamedFile, most_bytes, rows_before};
-ghost use Rattle.tm_top.specs.Parted.{AreNotLoaded, IsUnloaded, domain_of};
+ghost use Rattle.tm_top.specs.Files.{AreInputs, IsWithText, NamedFile, most_bytes, rows_before};
+ghost use Rattle.top_texts.specs.Short.{HasShortRows};
+ghost use Rattle.tm_top.specs.Parted.{AreNotLoaded, IsUnloaded};
+ghost use Rattle.top_texts.specs.Parted.{domain_of};
 
 use crate::files::{LoadRefusal, MOST_BYTES, load_file, unloaded};
-use crate::status::{Status, Which};
 use tm_cli::{Analysis, Domain};
 use tm_io::Shelf;
+use top_status::{Status, Which};
 
 // What an analysis reads.
 #[derive(Drop)]

@@ -6,8 +6,8 @@ ghost use Rattle.tm_top.specs.Files.{AreChecked, files_of};
 ghost use Rattle.tm_top.specs.Parted.{IsUnloaded};
 
 use crate::files::{MOST_BYTES, MOST_CERTIFICATE_BYTES, load_file, unloaded};
-use crate::status::{Status, Which};
 use tm_io::Shelf;
+use top_status::{Status, Which};
 
 // What a check reads: the text of the program and the bytes of the certificate.
 #[derive(Drop)]

@@ -1,5 +1,5 @@
 use Rattle.std.proofs.Common.{◌≡◌, ◌≢◌, rules}
-use Rattle.tm_top.specs.declared.status.Status.TheVariants.{Usage}
+use Rattle.top_status.specs.declared.status.Status.TheVariants.{Usage}
 use Rattle.tm_acsl.proofs.usage.Put.{other_put, usage_put}
 use Rattle.tm_acsl.proofs.usage.say.Goals as goal
 

@@ -1,16 +1,18 @@
 use Rattle.std.proofs.Common.{ap, ◌∙◌, [], length, sym, subst}
-use Rattle.tm_top.specs.CheckMessages.{rows_of}
+use Rattle.top_status.specs.CheckMessages.{rows_of}
 use Rattle.tm_cli.specs.Request.{analysis_text}
 use Rattle.tm_top.specs.Endings.{IsAnswerTo}
 use Rattle.tm_top.specs.Files.{files_of}
-use Rattle.tm_top.specs.Messages.{line_in}
-use Rattle.tm_top.specs.Parted.{domain_of}
-use Rattle.tm_top.specs.Reports.{IsPutOf, IsReportOn}
+use Rattle.top_status.specs.Messages.{line_in}
+use Rattle.top_texts.specs.Parted.{domain_of}
+use Rattle.top_texts.specs.Reports.{IsPutOf}
+use Rattle.tm_top.specs.Reports.{IsReportOn}
 use Rattle.tm_top.specs.Run.{FailsOnlyIn, OutputHolds}
-use Rattle.tm_top.specs.Texts.{IsSolvedSystem}
+use Rattle.top_texts.specs.Texts.{IsSolvedSystem}
 use Rattle.tm_cli.specs.declared.request.Request.TheVariants.{Analyse}
 use Rattle.tm_top.proofs.endings.OneEnding.{texts_answer, with_text_once}
-use Rattle.tm_top.proofs.files.Loaded.{content_once, unloaded_answer, unloaded_failed, unloaded_held, unloaded_line, unloaded_rows, unloaded_undone}
+use Rattle.tm_top.proofs.files.Loaded.{content_once, unloaded_answer, unloaded_failed, unloaded_held, unloaded_line, unloaded_rows}
+use Rattle.tm_top.proofs.files.Loaded.{unloaded_undone}
 use Rattle.tm_top.proofs.endings.Worded.{output_map}
 use Rattle.tm_top.proofs.analyse.analyse.Goals as goal
 

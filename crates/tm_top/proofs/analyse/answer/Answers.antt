@@ -1,11 +1,11 @@
 use Rattle.std.proofs.Common.{◌≡◌, ◌∙◌, List, ap, length, subst, sym}
 use Rattle.std.specs.Prelude.{ℤ}
-use Rattle.tm_top.specs.CheckMessages.{rows_of}
-use Rattle.tm_top.specs.Parted.{IsOutputOf, domain_of}
-use Rattle.tm_top.specs.Reports.{IsPutOf}
-use Rattle.tm_top.specs.Texts.{IsSolvedSystem}
-use Rattle.tm_top.proofs.analyse.Analysed.{output_put, refused_answer, refused_rows, system_line, system_rows, system_texts}
-use Rattle.tm_top.proofs.check.Refused.{not_done}
+use Rattle.top_status.specs.CheckMessages.{rows_of}
+use Rattle.top_texts.specs.Parted.{IsOutputOf, domain_of}
+use Rattle.top_texts.specs.Reports.{IsPutOf}
+use Rattle.top_texts.specs.Texts.{IsSolvedSystem}
+use Rattle.top_texts.proofs.analyses.Analysed.{output_put, refused_answer, refused_rows, system_line, system_rows, system_texts}
+use Rattle.top_texts.proofs.checks.Refused.{not_done}
 use Rattle.tm_top.proofs.endings.Worded.{output_map}
 use Rattle.tm_top.proofs.analyse.answer.Goals as goal
 

@@ -1,9 +1,10 @@
 use Rattle.std.proofs.Common.{subst, sym}
 use Rattle.tm_cli.specs.declared.request.Purpose.TheVariants.{Certificate}
-use Rattle.tm_top.specs.Parted.{IsAnswerToSystem}
+use Rattle.top_texts.specs.Parted.{IsAnswerToSystem}
 use Rattle.tm_top.specs.Outputs.{IsTaken, pieces_by}
-use Rattle.tm_top.proofs.analyse.Analysed.{halted_answer, put_system}
-use Rattle.tm_top.proofs.check.Refused.{not_done}
+use Rattle.top_texts.proofs.analyses.Analysed.{halted_answer}
+use Rattle.tm_top.proofs.analyse.Putting.{put_system}
+use Rattle.top_texts.proofs.checks.Refused.{not_done}
 use Rattle.tm_top.proofs.analyse.answer_system.Goals as goal
 
 pub returns-in-Err-clause-answer : goal.returns-in-Err-clause-answer

@@ -1,9 +1,10 @@
-use Rattle.tm_top.specs.Exact.{exact}
-use Rattle.tm_top.specs.Questions.{bench_question}
-use Rattle.tm_top.proofs.bench.Benched.{summary_ends}
-use Rattle.tm_top.proofs.check.Refused.{not_done}
-use Rattle.tm_top.proofs.questions.Answered.{put_answered, unanswered}
-use Rattle.tm_top.proofs.bench.bench.Goals as goal
+use Rattle.top_texts.specs.Exact.{exact}
+use Rattle.top_texts.specs.Questions.{bench_question}
+use Rattle.top_texts.proofs.generated.Benched.{summary_ends}
+use Rattle.top_texts.proofs.checks.Refused.{not_done}
+use Rattle.tm_top.proofs.endings.Answered.{put_answered}
+use Rattle.top_texts.proofs.questions.Answered.{unanswered}
+use Rattle.top_texts.proofs.bench.bench.Goals as goal
 
 pub returns-in-Ok-clause-answer : goal.returns-in-Ok-clause-answer
 returns-in-Ok-clause-answer g c =

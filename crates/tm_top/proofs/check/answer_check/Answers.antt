@@ -1,8 +1,8 @@
 use Rattle.std.proofs.Common.{sym, subst, subst₂}
-use Rattle.tm_top.specs.Parted.{IsAnswerToCheck, IsUnspelt}
-use Rattle.tm_top.specs.Reports.{IsReportBy}
+use Rattle.top_texts.specs.Parted.{IsAnswerToCheck, IsUnspelt}
+use Rattle.top_texts.specs.Reports.{IsReportBy}
 use Rattle.tm_top.specs.Run.{OutputHolds}
-use Rattle.tm_top.proofs.check.Refused.{not_done, unspelt_answers}
+use Rattle.top_texts.proofs.checks.Refused.{not_done, unspelt_answers}
 use Rattle.tm_top.proofs.check.answer_check.Goals as goal
 
 pub returns-in-Ok-clause-answer : goal.returns-in-Ok-clause-answer

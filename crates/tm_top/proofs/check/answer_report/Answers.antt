@@ -1,7 +1,8 @@
 use Rattle.std.proofs.Common.{sym, subst}
-use Rattle.tm_top.specs.Parted.{IsAnswerToCheck}
-use Rattle.tm_top.proofs.check.Refused.{not_done, shown_check, shown_output, unreported_answers}
-use Rattle.tm_top.specs.Reports.{IsReportBy}
+use Rattle.top_texts.specs.Parted.{IsAnswerToCheck}
+use Rattle.top_texts.proofs.checks.Refused.{not_done, unreported_answers}
+use Rattle.tm_top.proofs.check.Shown.{shown_check, shown_output}
+use Rattle.top_texts.specs.Reports.{IsReportBy}
 use Rattle.tm_top.proofs.check.answer_report.Goals as goal
 
 pub returns-in-Ok-clause-answer : goal.returns-in-Ok-clause-answer

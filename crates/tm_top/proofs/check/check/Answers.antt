@@ -1,14 +1,16 @@
 use Rattle.std.proofs.Common.{ap, length, sym, ◌∙◌, subst}
 use Rattle.tm_form.specs.Certificates.{SpellsCert}
 use Rattle.tm_cli.specs.declared.request.Request.TheVariants.{Check}
-use Rattle.tm_top.specs.CheckMessages.{rows_in}
+use Rattle.top_status.specs.CheckMessages.{rows_in}
 use Rattle.tm_top.specs.Endings.{IsAnswerTo}
 use Rattle.tm_top.specs.Files.{files_of}
-use Rattle.tm_top.specs.Messages.{line_in}
-use Rattle.tm_top.specs.Reports.{IsReportBy, IsReportOn}
+use Rattle.top_status.specs.Messages.{line_in}
+use Rattle.top_texts.specs.Reports.{IsReportBy}
+use Rattle.tm_top.specs.Reports.{IsReportOn}
 use Rattle.tm_top.specs.Run.{FailsOnlyIn, OutputHolds}
 use Rattle.tm_top.proofs.endings.Worded.{output_map}
-use Rattle.tm_top.proofs.files.Loaded.{content_once, unloaded_answer, unloaded_failed, unloaded_held, unloaded_line, unloaded_rows, unloaded_undone}
+use Rattle.tm_top.proofs.files.Loaded.{content_once, unloaded_answer, unloaded_failed, unloaded_held, unloaded_line, unloaded_rows}
+use Rattle.tm_top.proofs.files.Loaded.{unloaded_undone}
 use Rattle.tm_top.proofs.check.check.Goals as goal
 
 pub returns-in-Ok-clause-held : goal.returns-in-Ok-clause-held

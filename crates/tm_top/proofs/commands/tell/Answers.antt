@@ -1,5 +1,5 @@
 use Rattle.std.proofs.Common.{◌≡◌, ◌≢◌, inl, refl, rules}
-use Rattle.tm_top.specs.declared.status.Status.TheVariants.{Done}
+use Rattle.top_status.specs.declared.status.Status.TheVariants.{Done}
 use Rattle.tm_top.proofs.endings.Messages.{one_piece, quiet, told_by}
 use Rattle.tm_top.proofs.commands.tell.Goals as goal
 

@@ -1,18 +1,20 @@
 use Rattle.std.proofs.Common.{ap, inl, refl, subst, sym, ◌∙◌}
 use Rattle.tm_cli.specs.declared.request.Request.TheVariants.{Equations}
 use Rattle.tm_top.specs.Endings.{IsAnswerTo}
-use Rattle.tm_top.specs.EquationTexts.{AreValuesOf}
-use Rattle.tm_top.specs.Exact.{exact}
+use Rattle.top_texts.specs.EquationTexts.{AreValuesOf}
+use Rattle.top_texts.specs.Exact.{exact}
 use Rattle.tm_top.specs.Files.{files_of}
-use Rattle.tm_top.specs.Messages.{line_in}
-use Rattle.tm_top.specs.Parted.{QuestionAnswer, unloaded}
-use Rattle.tm_top.specs.Questions.{equations_question}
+use Rattle.top_status.specs.Messages.{line_in}
+use Rattle.top_texts.specs.Parted.{QuestionAnswer}
+use Rattle.tm_top.specs.Parted.{unloaded}
+use Rattle.top_texts.specs.Questions.{equations_question}
 use Rattle.tm_top.specs.Reports.{IsReportOn}
 use Rattle.tm_top.specs.Run.{FailsOnlyIn, OutputHolds}
-use Rattle.tm_top.specs.declared.status.Which.TheVariants as which
+use Rattle.top_status.specs.declared.status.Which.TheVariants as which
 use Rattle.tm_top.proofs.endings.Worded.{output_map}
 use Rattle.tm_top.proofs.endings.OneEnding.{equations_answer}
-use Rattle.tm_top.proofs.files.Loaded.{content_once, not_loaded, unloaded_answer, unloaded_failed, unloaded_held, unloaded_line, unloaded_undone}
+use Rattle.tm_top.proofs.files.Loaded.{content_once, not_loaded, unloaded_answer, unloaded_failed, unloaded_held, unloaded_line}
+use Rattle.tm_top.proofs.files.Loaded.{unloaded_undone}
 use Rattle.tm_top.proofs.equations.equations.Goals as goal
 
 pub returns-in-Ok-clause-answer : goal.returns-in-Ok-clause-answer

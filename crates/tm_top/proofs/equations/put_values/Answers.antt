@@ -1,8 +1,9 @@
-use Rattle.tm_top.specs.Exact.{exact}
-use Rattle.tm_top.specs.Questions.{equations_question}
-use Rattle.tm_top.proofs.check.Refused.{not_done}
-use Rattle.tm_top.proofs.equations.Solved.{values_end}
-use Rattle.tm_top.proofs.questions.Answered.{put_answered, unanswered}
+use Rattle.top_texts.specs.Exact.{exact}
+use Rattle.top_texts.specs.Questions.{equations_question}
+use Rattle.top_texts.proofs.checks.Refused.{not_done}
+use Rattle.top_texts.proofs.equation_texts.Solved.{values_end}
+use Rattle.tm_top.proofs.endings.Answered.{put_answered}
+use Rattle.top_texts.proofs.questions.Answered.{unanswered}
 use Rattle.tm_top.proofs.equations.put_values.Goals as goal
 
 pub returns-in-Ok-clause-answer : goal.returns-in-Ok-clause-answer

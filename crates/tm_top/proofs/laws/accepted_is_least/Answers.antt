@@ -1,4 +1,4 @@
-use Rattle.tm_top.proofs.checks.Lawful.{accepted_least}
+use Rattle.tm_top.proofs.laws.Lawful.{accepted_least}
 use Rattle.tm_top.proofs.laws.accepted_is_least.Goals as goal
 
 pub returns : goal.returns

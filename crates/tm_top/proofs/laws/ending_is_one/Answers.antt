@@ -1,4 +1,4 @@
-use Rattle.tm_top.proofs.checks.Lawful.{one_ending}
+use Rattle.tm_top.proofs.laws.Lawful.{one_ending}
 use Rattle.tm_top.proofs.laws.ending_is_one.Goals as goal
 
 pub returns : goal.returns

@@ -1,4 +1,4 @@
-use Rattle.tm_top.proofs.rounds.OneChain.{runs_few}
+use Rattle.top_texts.proofs.rounds.OneChain.{runs_few}
 use Rattle.tm_top.proofs.laws.spent_is_few.Goals as goal
 
 pub returns : goal.returns

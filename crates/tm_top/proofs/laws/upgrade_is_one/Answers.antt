@@ -1,4 +1,4 @@
-use Rattle.tm_top.proofs.checks.Lawful.{one_upgrade}
+use Rattle.tm_top.proofs.laws.Lawful.{one_upgrade}
 use Rattle.tm_top.proofs.laws.upgrade_is_one.Goals as goal
 
 pub returns : goal.returns

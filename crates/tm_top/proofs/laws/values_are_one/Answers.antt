@@ -1,4 +1,4 @@
-use Rattle.tm_top.proofs.equations.OneText.{values_once}
+use Rattle.top_texts.proofs.equation_texts.OneText.{values_once}
 use Rattle.tm_top.proofs.laws.values_are_one.Goals as goal
 
 pub returns : goal.returns

@@ -1,4 +1,4 @@
-use Rattle.tm_top.proofs.prove.OneText.{verdicts_once}
+use Rattle.top_texts.proofs.claim_texts.OneText.{verdicts_once}
 use Rattle.tm_top.proofs.laws.verdicts_are_one.Goals as goal
 
 pub returns : goal.returns

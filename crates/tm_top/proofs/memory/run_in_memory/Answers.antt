@@ -1,5 +1,5 @@
 use Rattle.std.proofs.Common.{◌≡◌, arith}
-use Rattle.tm_top.specs.declared.status.Status.TheVariants.{Write}
+use Rattle.top_status.specs.declared.status.Status.TheVariants.{Write}
 use Rattle.tm_top.proofs.memory.Plain.{in_memory}
 use Rattle.tm_top.proofs.memory.run_in_memory.Goals as goal
 

@@ -1,5 +1,5 @@
 use Rattle.std.proofs.Common.{[], ◌∷◌}
-use Rattle.tm_top.specs.declared.status.Which.TheVariants as which
+use Rattle.top_status.specs.declared.status.Which.TheVariants as which
 use Rattle.tm_top.proofs.prove.load_all.Goals as goal
 
 pub returns-in-Err-clause-refused : goal.returns-in-Err-clause-refused

@@ -1,10 +1,10 @@
 use Rattle.std.proofs.Common.{◌∙◌, ap}
 use Rattle.tm_cli.specs.Request.{analysis_text}
 use Rattle.tm_cli.specs.declared.request.Request.TheVariants.{Prove}
-use Rattle.tm_top.specs.ClaimTexts.{AreVerdictsOf}
-use Rattle.tm_top.specs.Exact.{exact}
-use Rattle.tm_top.specs.Messages.{line_in}
-use Rattle.tm_top.specs.Parted.{domain_of}
+use Rattle.top_texts.specs.ClaimTexts.{AreVerdictsOf}
+use Rattle.top_texts.specs.Exact.{exact}
+use Rattle.top_status.specs.Messages.{line_in}
+use Rattle.top_texts.specs.Parted.{domain_of}
 use Rattle.tm_top.specs.Reports.{IsReportOn}
 use Rattle.tm_top.proofs.endings.Worded.{output_map}
 use Rattle.tm_top.proofs.endings.OneEnding.{claims_answer}

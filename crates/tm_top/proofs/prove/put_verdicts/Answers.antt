@@ -1,10 +1,10 @@
 use Rattle.std.proofs.Common.{subst₂}
-use Rattle.tm_top.specs.ClaimTexts.{AreVerdictsOf}
-use Rattle.tm_top.specs.Exact.{exact}
-use Rattle.tm_top.specs.Parted.{domain_of}
-use Rattle.tm_top.specs.Questions.{claims_question}
-use Rattle.tm_top.proofs.prove.Judged.{verdicts_end}
-use Rattle.tm_top.proofs.questions.Answered.{put_answered}
+use Rattle.top_texts.specs.ClaimTexts.{AreVerdictsOf}
+use Rattle.top_texts.specs.Exact.{exact}
+use Rattle.top_texts.specs.Parted.{domain_of}
+use Rattle.top_texts.specs.Questions.{claims_question}
+use Rattle.top_texts.proofs.claim_texts.Judged.{verdicts_end}
+use Rattle.tm_top.proofs.endings.Answered.{put_answered}
 use Rattle.tm_top.proofs.prove.put_verdicts.Goals as goal
 
 pub returns-in-Ok-clause-answer : goal.returns-in-Ok-clause-answer

@@ -1,9 +1,10 @@
-use Rattle.tm_top.specs.Exact.{exact}
-use Rattle.tm_top.specs.Parted.{domain_of}
-use Rattle.tm_top.specs.Questions.{transitions_question}
-use Rattle.tm_top.proofs.check.Refused.{not_done}
-use Rattle.tm_top.proofs.questions.Answered.{put_answered, unanswered}
-use Rattle.tm_top.proofs.transitions.Systems.{report_end}
+use Rattle.top_texts.specs.Exact.{exact}
+use Rattle.top_texts.specs.Parted.{domain_of}
+use Rattle.top_texts.specs.Questions.{transitions_question}
+use Rattle.top_texts.proofs.checks.Refused.{not_done}
+use Rattle.tm_top.proofs.endings.Answered.{put_answered}
+use Rattle.top_texts.proofs.questions.Answered.{unanswered}
+use Rattle.top_texts.proofs.transition_texts.Systems.{report_end}
 use Rattle.tm_top.proofs.transitions.put_along.Goals as goal
 
 pub returns-in-Ok-clause-answer : goal.returns-in-Ok-clause-answer

@@ -2,13 +2,13 @@ use Rattle.std.proofs.Common.{ap, ◌∙◌, [], sym, subst}
 use Rattle.tm_cli.specs.Request.{analysis_text}
 use Rattle.tm_top.specs.Endings.{IsAnswerTo}
 use Rattle.tm_top.specs.Files.{files_of}
-use Rattle.tm_top.specs.Messages.{line_in}
-use Rattle.tm_top.specs.Exact.{exact}
-use Rattle.tm_top.specs.Parted.{QuestionAnswer, domain_of}
-use Rattle.tm_top.specs.Questions.{transitions_question}
+use Rattle.top_status.specs.Messages.{line_in}
+use Rattle.top_texts.specs.Exact.{exact}
+use Rattle.top_texts.specs.Parted.{QuestionAnswer, domain_of}
+use Rattle.top_texts.specs.Questions.{transitions_question}
 use Rattle.tm_top.specs.Reports.{IsReportOn}
 use Rattle.tm_top.specs.Run.{FailsOnlyIn, OutputHolds}
-use Rattle.tm_top.specs.TransitionTexts.{IsAutoReport}
+use Rattle.top_texts.specs.TransitionTexts.{IsAutoReport}
 use Rattle.tm_cli.specs.declared.request.Request.TheVariants.{Transitions}
 use Rattle.tm_top.proofs.endings.OneEnding.{transitions_answer}
 use Rattle.tm_top.proofs.files.Loaded.{content_once, unloaded_answer, unloaded_failed, unloaded_held, unloaded_line, unloaded_undone}

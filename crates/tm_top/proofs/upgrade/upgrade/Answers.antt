@@ -4,9 +4,9 @@ use Rattle.tm_top.specs.Endings.{IsAnswerTo}
 use Rattle.tm_top.specs.Files.{files_of}
 use Rattle.tm_top.specs.Parted.{unloaded}
 use Rattle.tm_top.specs.Reports.{IsReportOn}
-use Rattle.tm_top.specs.Upgrades.{IsUpgradeOf}
+use Rattle.top_texts.specs.Upgrades.{IsUpgradeOf}
 use Rattle.tm_top.proofs.endings.Worded.{output_map}
-use Rattle.tm_top.specs.declared.status.Which.TheVariants as which
+use Rattle.top_status.specs.declared.status.Which.TheVariants as which
 use Rattle.tm_top.proofs.files.Loaded.{not_loaded, unloaded_answer}
 use Rattle.tm_top.proofs.upgrade.upgrade.Goals as goal
 

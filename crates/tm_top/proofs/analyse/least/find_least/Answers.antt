@@ -1,6 +1,6 @@
 use Rattle.std.proofs.Common.{[]}
 use Rattle.tm_cli.specs.Request.{analysis_text}
-use Rattle.tm_top.specs.Parted.{domain_of}
+use Rattle.top_texts.specs.Parted.{domain_of}
 use Rattle.tm_top.proofs.analyse.Found.{found_for, refused_for, unloaded_for}
 use Rattle.tm_top.proofs.analyse.least.find_least.Goals as goal
 

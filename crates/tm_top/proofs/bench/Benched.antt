@@ -1,9 +1,0 @@
--- What a request for a generated program is answered.
-use Rattle.std.proofs.Common.{ℕ, List, refl}
-use Rattle.tm_top.specs.Exact.{exact}
-use Rattle.tm_top.specs.Questions.{QuestionEnds, bench_question, rounds_end}
-use Rattle.tm_top.specs.Reports.{IsSummaryOf}
-use Rattle.tm_top.specs.declared.status.Status.TheVariants.{Done}
-
-pub summary_ends : (seed loops : ℕ) (bytes : List ℕ) → IsSummaryOf seed loops bytes → QuestionEnds (bench_question exact seed loops) Done
-summary_ends seed loops bytes r = rounds_end r.system refl r.system_for (r.rounds, r.within, r.vector, r.has_rounds)

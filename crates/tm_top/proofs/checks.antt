@@ -1,2 +1,0 @@
-pub mod CheckOnce
-pub mod Lawful

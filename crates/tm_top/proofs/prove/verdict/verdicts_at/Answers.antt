@@ -1,6 +1,0 @@
-use Rattle.tm_eqsys.specs.View.{equations_of, vector_at}
-use Rattle.tm_top.proofs.prove.verdict.verdicts_at.Goals as goal
-
-pub returns-in-Err-clause-err : goal.returns-in-Err-clause-err
-returns-in-Err-clause-err c =
-    c.verdict_refusal.ensures (equations_of c.args.system.now) (vector_at c.args.system.now c.args.bounds.now) c.args.claims.now c.in-Err.ensures.refused

@@ -1,7 +1,0 @@
--- What the parts of a message tell.
-use Rattle.tm_top.specs.Messages.{Words}
-use Rattle.tm_top.specs.declared.message.Parts.{Parts}
-
--- the words and the number
-abbrev pub told : Parts → Words
-told p = record { subject = p.subject.now; before = p.before.now; number = p.number; after = p.after.now }

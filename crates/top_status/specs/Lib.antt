@@ -1,0 +1,4 @@
+pub mod Status
+pub mod CheckMessages
+pub mod Messages
+pub mod Parts

@@ -1,0 +1,11 @@
+//! How a run ends, and what is said of it: statuses with their exit codes, and their messages.
+#![tactic(auto)]
+
+mod ending;
+mod message;
+mod status;
+
+pub use ending::{Ending, plain_ending};
+pub use message::place::{answer_line, answer_rows};
+pub use message::{Message, make_message};
+pub use status::{CertCause, ReadCause, Status, TextCause, Which};

@@ -1,0 +1,118 @@
+//! How a run ended, and its exit code.
+
+ghost use Rattle.std.specs.Prelude.{◌≡◌};
+ghost use Rattle.top_status.specs.Status.{code_of};
+
+use lang_meaning::ParseFault;
+use tm_assert::ClaimFault;
+use tm_auto::AutoFault;
+use tm_check::CheckFault;
+use tm_eqsys::Spot;
+use tm_equ::EquFault;
+use tm_flow::FlowFault;
+use tm_form::FormFault;
+use tm_lex::LexFault;
+use tm_rows::RowFault;
+
+/// A file that the words name.
+#[derive(Clone, Copy, Debug, PartialEq, Eq)]
+pub enum Which {
+    Program,
+    /// The file of the template's rows.
+    Rows,
+    Certificate,
+    /// The file of claims.
+    Claims,
+    /// The file of a transition system.
+    System,
+    /// The file of equations.
+    Equations,
+}
+
+/// Why a named file isn't read.
+#[derive(Clone, Copy, Debug, PartialEq, Eq)]
+pub enum ReadCause {
+    /// The load of this file failed.
+    Failed(Which),
+    /// This file has more bytes than it may have.
+    TooLong(Which),
+}
+
+/// Why the texts of a program, of its rows and of claims about it, that of a transition system, or that of equations, are refused (docs/FORMATS.md,
+/// "Messages"). The first that stands in this order is answered.
+#[derive(Clone, Copy, Debug, PartialEq, Eq)]
+pub enum TextCause {
+    /// It doesn't read as tokens.
+    Lex(LexFault),
+    /// Its tokens don't read as a program.
+    Parse(ParseFault),
+    /// Its program has no points and edges within the limits.
+    Flow(FlowFault),
+    /// The file of rows is no template over its variables.
+    Rows(RowFault),
+    /// There are more unknowns than `tm_eqsys::MOST_UNKNOWNS`, so many.
+    Unknowns(u32),
+    /// The largest joint problem has more than 134,217,728 cells, so many.
+    Cells(u64),
+    /// The text of the claims doesn't read as claims about the program.
+    Claims(ClaimFault),
+    /// The text doesn't read as equations.
+    Equ(EquFault),
+    /// The text doesn't read as a transition system, or its edges aren't within the limits.
+    Auto(AutoFault),
+}
+
+/// Why a certificate is refused (docs/FORMATS.md, "Messages"). The first that stands in this order is answered.
+#[derive(Clone, Copy, Debug, PartialEq, Eq)]
+pub enum CertCause {
+    /// The bytes spell no certificate.
+    Form(FormFault),
+    /// Its rows are no template over the program's variables. Rows are numbered from 1, as lines are.
+    Rows(RowFault),
+    /// There are more unknowns than `tm_eqsys::MOST_UNKNOWNS`, so many.
+    Unknowns(u32),
+    /// A test of the check fails, and no number before it is wide.
+    Check(CheckFault),
+}
+
+/// How a run ended.
+#[derive(Clone, Copy, Debug, PartialEq, Eq)]
+pub enum Status {
+    /// All bytes of the report were put.
+    Done,
+    /// The certificate is refused.
+    Certificate(CertCause),
+    /// The words are no command.
+    Usage,
+    /// A named file isn't read.
+    Read(ReadCause),
+    /// The texts are refused.
+    Text(TextCause),
+    /// An operation on fractions was too wide, at this spot.
+    Wide(Spot),
+    /// More improvements are needed than this number, which was asked for.
+    Spent(u32),
+    /// Memory was wanted.
+    Memory,
+    /// The output took less than the whole report.
+    Write,
+}
+
+impl Status {
+    /// The program's exit code, 0 to 8.
+    pub fn code(&self) -> u8
+        ensures { result ≡ code_of self.now }
+    {
+        match self {
+            Status::Done => 0,
+            Status::Certificate(_) => 1,
+            Status::Usage => 2,
+            Status::Read(_) => 3,
+            Status::Text(_) => 4,
+            Status::Wide(_) => 5,
+            Status::Spent(_) => 6,
+            Status::Memory => 7,
+            Status::Write => 8,
+        }
+    }
+}

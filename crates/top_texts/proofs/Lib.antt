@@ -1,0 +1,9 @@
+pub mod texts
+pub mod rounds
+pub mod checks
+pub mod claim_texts
+pub mod equation_texts
+pub mod transition_texts
+pub mod generated
+pub mod questions
+pub mod analyses

@@ -1,0 +1,4 @@
+pub mod Solved
+pub mod Systems
+pub mod Halted
+pub mod Made

@@ -1,0 +1,35 @@
+-- What the halts of rounds say of a system and a policy.
+use Rattle.std.proofs.Common.{inl, ℕ, List, refl}
+use Rattle.tm_num.specs.Extended.{Ext as Extended}
+use Rattle.tm_eqsys.specs.declared.spot.Spot.{Spot}
+use Rattle.tm_eqsys.specs.declared.system.System.{System}
+use Rattle.tm_rounds.specs.Halts.{IsSpent, IsSpotOf}
+use Rattle.tm_cli.specs.declared.request.Policy.{Policy}
+use Rattle.tm_cli.specs.declared.request.Policy.TheVariants.{Best, First}
+use Rattle.tm_chain.specs.Offers.{Best as MeantBest, First as MeantFirst}
+use Rattle.tm_rounds.proofs.chains.Improvements.{best_means, first_means, spent_law}
+use Rattle.tm_offers.specs.Policies.{by_best, by_first}
+use Rattle.top_texts.specs.Policies.{rule_of}
+use Rattle.top_texts.specs.Parted.{IsHalted}
+use Rattle.top_texts.specs.Rounds.{RunsOut}
+use Rattle.top_texts.specs.Spots.{HasSpot}
+use Rattle.tm_cli.specs.declared.request.Purpose.{Purpose}
+use Rattle.tm_cli.specs.declared.request.Purpose.TheVariants.{Report, Certificate}
+use Rattle.top_texts.specs.declared.refusal.Refusal.TheVariants as refusal
+
+-- improvements that are spent run out
+pub runs_out : (system : System) (policy : Policy) (limit : ℕ) (bounds : List Extended) → IsSpent system (rule_of policy) limit bounds → RunsOut system policy limit
+runs_out system Best limit bounds h = spent_law by_best MeantBest best_means system limit bounds h
+runs_out system First limit bounds h = spent_law by_first MeantFirst first_means system limit bounds h
+
+spot_has : (purpose : Purpose) (system : System) (policy : Policy) (limit : ℕ) (spot : Spot) → IsSpotOf system (rule_of policy) limit spot → HasSpot purpose system policy limit spot
+spot_has Report system policy limit spot h = h
+spot_has Certificate system policy limit spot h = inl h
+
+-- a wide operation of the rounds halts the analysis
+pub halted_wide : (purpose : Purpose) (system : System) (policy : Policy) (limit : ℕ) (spot : Spot) → IsSpotOf system (rule_of policy) limit spot → IsHalted purpose system policy limit (refusal.Wide spot)
+halted_wide purpose system policy limit spot h = spot_has purpose system policy limit spot h
+
+-- rounds that spend their limit halt the analysis
+pub halted_spent : (purpose : Purpose) (system : System) (policy : Policy) (limit : ℕ) (bounds : List Extended) → IsSpent system (rule_of policy) limit bounds → IsHalted purpose system policy limit (refusal.Spent limit)
+halted_spent purpose system policy limit bounds h = (runs_out system policy limit bounds h, refl)

@@ -1,0 +1,71 @@
+-- The report of a system's least vector is that of its program and template.
+use Rattle.std.proofs.Common.{◌≡◌, ℕ, List, [], ◌∷◌, length, refl, ap, ◌∙◌, subst}
+use Rattle.std.specs.Prelude.{ℤ, Bool, IsTrue, ◌&&◌, ◌==◌, nat_le}
+use Rattle.std.specs.List.{list_all}
+use Rattle.tm_tree.specs.Tree.{Statements}
+use Rattle.tm_tree.specs.PointNumbers.{point_count}
+use Rattle.tm_flow.specs.declared.edge.Edge.{Edge}
+use Rattle.tm_flow.specs.declared.point.Point.{Point}
+use Rattle.tm_flow.specs.Edges.{edges_of_program}
+use Rattle.tm_flow.specs.Points.{points_of_program}
+use Rattle.tm_flow.proofs.points.Numbering.{numbering}
+use Rattle.tm_rows.specs.Rows.{is_row, is_template, width_of}
+use Rattle.tm_eqsys.specs.declared.system.System.{System}
+use Rattle.tm_eqsys.specs.declared.footer.Footer.{Footer}
+use Rattle.tm_eqsys.specs.Equations.{Equations, Least, Vector}
+use Rattle.tm_eqsys.specs.Report.{report_of, report_text}
+use Rattle.tm_eqsys.specs.Solutions.{equations_of_program}
+use Rattle.tm_eqsys.specs.SystemLimits.{is_over}
+use Rattle.tm_eqsys.specs.View.{equations_of}
+use Rattle.tm_eqsys.proofs.Sizes.{both}
+use Rattle.tm_eqsys.proofs.states.Soundness.{program_soundness}
+use Rattle.top_texts.specs.Reports.{IsLeastReport}
+use Rattle.tm_rows.specs.declared.limits.TheConstants.{MOST_ROWS}
+
+-- the equation system of these parts
+abbrev made_of : ℕ → ℕ → List Edge → List (List ℤ) → Equations
+made_of variables points edges template = record { variables = variables; points = points; edges = edges; template = template }
+
+-- a flow and a template as the system of a program
+pub same_equations : (names : List (List ℕ)) (body : Statements) (s : System) → s.flow.names ≡ names → s.flow.points ≡ points_of_program body → s.flow.edges ≡ edges_of_program body
+    → equations_of s ≡ equations_of_program (length names) body s.template
+same_equations names body s n p e =
+    ap (λ k. made_of k (length s.flow.points) s.flow.edges s.template) (ap length n)
+    ∙ ap (λ k. made_of (length names) k s.flow.edges s.template) (ap length p ∙ (numbering body).count)
+    ∙ ap (λ es. made_of (length names) (point_count body) es s.template) e
+
+text_of : (names : List (List ℕ)) (body : Statements) (template : List (List ℤ)) (ns : List (List ℕ)) (points : List Point) (v : Vector) (footer : Footer) (bytes : List ℕ)
+    → ns ≡ names → points ≡ points_of_program body → bytes ≡ report_text ns points template v footer
+    → bytes ≡ report_text names (points_of_program body) template v footer
+text_of names body template ns points v footer bytes n p h =
+    subst (λ ps. bytes ≡ report_text names ps template v footer) p
+    (subst (λ xs. bytes ≡ report_text xs points template v footer) n h)
+
+-- the report of a system's least vector is that of its program and template
+pub least_report : (names : List (List ℕ)) (body : Statements) (s : System) (v : Vector) (footer : Footer) (bytes : List ℕ)
+    → s.flow.names ≡ names → s.flow.points ≡ points_of_program body → s.flow.edges ≡ edges_of_program body
+    → Least (equations_of s) v → bytes ≡ report_of s v footer → IsLeastReport names body s.template v footer bytes
+least_report names body s v footer bytes n p e least text =
+    let moved : Least (equations_of_program (length names) body s.template) v = subst (λ q. Least q v) (same_equations names body s n p e) least in
+    record {
+      least = moved;
+      holds = program_soundness (length names) body s.template v moved.solves.post;
+      report = text_of names body s.template s.flow.names s.flow.points v footer bytes n p text;
+    }
+
+-- ---- each row of a template is as wide as the first
+
+and_true : (a b : Bool) → IsTrue a → IsTrue b → IsTrue (a && b)
+and_true a b h k = rw (h, k) refl
+
+rows_over : (n : ℕ) (rows others : List (List ℤ)) → width_of others ≡ n → IsTrue (list_all (λ row. is_row row && length row == width_of others) rows) → IsTrue (list_all (λ row. length row == n) rows)
+rows_over n [] others e h = h
+rows_over n (row ∷ rows) others e h =
+    let t = both (is_row row && length row == width_of others) _ h in
+    let u = both (is_row row) (length row == width_of others) t.0 in
+    and_true (length row == n) _ (subst (λ w. IsTrue (length row == w)) e u.1) (rows_over n rows others e t.1)
+
+-- a template of width n is over n variables
+pub template_over : (n : ℕ) (template : List (List ℤ)) → IsTrue (is_template template) → width_of template ≡ n → IsTrue (is_over n template)
+template_over n template h e =
+    rows_over n template template e (both (nat_le 1 (length template) && nat_le (length template) MOST_ROWS) _ h).1

@@ -1,0 +1,54 @@
+-- The system that is made of the flow of a program and of a template is theirs.
+use Rattle.std.proofs.Common.{◌≡◌, ◌∙◌, ◌*◌, ◌≤◌, ◌<◌, ℕ, List, length, sym, ap, subst}
+use Rattle.std.specs.Prelude.{ℤ, Ok}
+use Rattle.tm_tree.specs.Tree.{Statements}
+use Rattle.tm_flow.specs.Edges.{edges_of_program}
+use Rattle.tm_flow.specs.Points.{points_of_program}
+use Rattle.tm_flow.specs.declared.graph.Flow.{Flow}
+use Rattle.tm_eqsys.specs.Cells.{cells_of}
+use Rattle.tm_eqsys.specs.View.{equations_of}
+use Rattle.tm_eqsys.specs.declared.system.System.{System}
+use Rattle.tm_cli.specs.declared.request.Domain.{Domain}
+use Rattle.top_texts.specs.Parted.{IsRefusedBy}
+use Rattle.top_texts.specs.Rounds.{IsSystemFor}
+use Rattle.top_texts.specs.Texts.{HasTemplate, IsAnalysed, IsSolvedSystem, IsSystemOf, unknowns}
+use Rattle.top_texts.specs.declared.refusal.Refusal.{Refusal}
+use Rattle.top_texts.specs.declared.refusal.Refusal.TheVariants as refusal
+use Rattle.top_status.specs.declared.status.TextCause.TheVariants.{Cells}
+use Rattle.top_texts.proofs.texts.Once.{equations_are}
+use Rattle.tm_eqsys.specs.declared.limits.TheConstants.{MOST_UNKNOWNS}
+
+module _ (text : List ℕ) (rows : Domain (List ℕ)) (names : List (List ℕ)) (body : Statements) (flow : Flow) (template : List (List ℤ)) (s : System)
+    (analysed : IsAnalysed text names body) (names_are : flow.names ≡ names) (points_are : flow.points ≡ points_of_program body) (edges_are : flow.edges ≡ edges_of_program body)
+    (given : HasTemplate rows names (Ok template)) (flow_is : s.flow ≡ flow) (template_is : s.template ≡ template) (within : length flow.points * length template ≤ MOST_UNKNOWNS) where
+  -- the system is the one for the program and the template
+  pub system_for : IsSystemFor names body template s
+  system_for = record {
+    names_are = ap (λ (f : Flow). f.names) flow_is ∙ names_are;
+    points_are = ap (λ (f : Flow). f.points) flow_is ∙ points_are;
+    edges_are = ap (λ (f : Flow). f.edges) flow_is ∙ edges_are;
+    template_is = template_is;
+  }
+
+  system_of : IsSystemOf text rows names body template
+  system_of = record { analysed = analysed; template_is = given }
+
+  few : unknowns body template ≤ MOST_UNKNOWNS
+  few = subst (λ ps. length ps * length template ≤ MOST_UNKNOWNS) points_are within
+
+  -- a system with few enough cells is the solved system of the texts
+  pub solved_system : cells_of (equations_of s) ≤ 134217728 → IsSolvedSystem text rows s
+  solved_system h = record {
+    names = names;
+    body = body;
+    template = template;
+    ready = record { system = system_of; within = few; cells_within = subst (λ q. cells_of q ≤ 134217728) (equations_are names body template s system_for) h };
+    system_for = system_for;
+  }
+
+  -- a system with too many cells is refused by their number
+  pub too_many_cells : 134217728 < cells_of (equations_of s) → (r : Refusal) → r ≡ refusal.Text (Cells (cells_of (equations_of s))) → IsRefusedBy text rows r
+  too_many_cells h r e =
+      let same = equations_are names body template s system_for in
+      subst (λ x. IsRefusedBy text rows x) (sym e)
+      (names, body, template, system_of, few, subst (λ q. 134217728 < cells_of q) same h, ap cells_of same)

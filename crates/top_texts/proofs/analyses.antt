@@ -1,0 +1,3 @@
+pub mod Analysed
+pub mod Found
+pub mod Unanswered

@@ -1,0 +1,223 @@
+-- What the analysis of a system puts is what the texts of its program and template get.
+use Rattle.std.proofs.Common.{◌≡◌, ◌∙◌, ℕ, ◌+◌, ◌≤◌, Bool, true, false, List, [], ◌∷◌, length, refl, sym, ap, subst, IsTrue}
+use Rattle.std.specs.Prelude.{ℤ, ◌&&◌, ◌==◌, nat_le, Ok}
+use Rattle.std.specs.List.{list_all}
+use Rattle.tm_tree.specs.Tree.{Statements}
+use Rattle.tm_rows.specs.Rows.{is_row, is_template, width_of}
+use Rattle.tm_rows.specs.RowFaults.{count_faults, faults_from, faults_of, row_faults}
+use Rattle.tm_eqsys.specs.declared.footer.Footer.TheVariants.{Improvements}
+use Rattle.tm_eqsys.specs.declared.system.System.{System}
+use Rattle.tm_eqsys.specs.Equations.{Least}
+use Rattle.tm_eqsys.specs.Solutions.{equations_of_program}
+use Rattle.tm_eqsys.specs.SystemLimits.{is_over}
+use Rattle.tm_eqsys.specs.View.{equations_of, vector_of}
+use Rattle.tm_eqsys.proofs.Sizes.{both}
+use Rattle.tm_validity.specs.Certificates.{ValidCertificate}
+use Rattle.tm_rounds.specs.Solutions.{cert_with, made_certificate}
+use Rattle.tm_cli.specs.declared.request.Domain.{Domain}
+use Rattle.tm_cli.specs.declared.request.Policy.{Policy}
+use Rattle.top_status.specs.CheckMessages.{rows_of}
+use Rattle.top_texts.specs.Checks.{NoneIsWide, system_with}
+use Rattle.top_texts.specs.Exact.{exact}
+use Rattle.top_status.specs.Messages.{line_in}
+use Rattle.top_texts.specs.Parted.{IsAnswerToSystem, IsHalted, IsOutputOf, IsRefusedBy, IsRoundsCertificate, IsRoundsReport, QuestionAnswer}
+use Rattle.top_texts.specs.Parted.{refused}
+use Rattle.top_texts.specs.Questions.{analysis_question, rounds_end, rounds_spent}
+use Rattle.top_texts.specs.Reports.{IsCertificateOf, IsLeastReport, IsPutOf, IsReportOf}
+use Rattle.top_texts.specs.Rounds.{EndsWithin}
+use Rattle.top_texts.specs.Texts.{HasTemplate, IsSolvedSystem, unknowns}
+use Rattle.tm_cli.specs.declared.request.Purpose.{Purpose}
+use Rattle.tm_cli.specs.declared.request.Purpose.TheVariants.{Report, Certificate as AsCertificate}
+use Rattle.top_texts.specs.declared.refusal.Refusal.{Refusal}
+use Rattle.top_texts.specs.declared.refusal.Refusal.TheVariants as refusal
+use Rattle.top_status.specs.declared.status.Status.{Status}
+use Rattle.top_status.specs.declared.status.Status.TheVariants.{Done, Certificate, Usage, Read, Text, Wide, Spent, Memory, Write}
+use Rattle.top_texts.proofs.rounds.OneChain.{solved_ends}
+use Rattle.top_texts.proofs.texts.Once.{equations_are}
+use Rattle.top_texts.proofs.texts.Readings.{program_once, rows_once}
+use Rattle.top_texts.proofs.analyse.Solved.{least_report, same_equations}
+use Rattle.tm_eqsys.specs.declared.limits.TheConstants.{MOST_UNKNOWNS}
+use Rattle.tm_rows.specs.declared.limits.TheConstants.{MOST_ROWS}
+
+-- ---- answers to a system
+
+-- where bytes are put, the improvements have ended
+pub output_ends : (purpose : Purpose) (system : System) (policy : Policy) (limit : ℕ) (bytes : List ℕ)
+    → IsOutputOf purpose system policy limit bytes → EndsWithin system policy limit
+output_ends Report system policy limit bytes r = (r.rounds, r.within, vector_of (length system.template) r.bounds, r.has_rounds)
+output_ends AsCertificate system policy limit bytes r = solved_ends system policy limit r.solved r.is_solved
+
+halted_system : (purpose : Purpose) (system : System) (policy : Policy) (limit : ℕ) (r : Refusal) → IsHalted purpose system policy limit r
+    → IsAnswerToSystem purpose system policy limit (refused r)
+halted_system purpose system policy limit (refusal.Text c) h = absurd h
+halted_system purpose system policy limit (refusal.Certificate c) h = absurd h
+halted_system purpose system policy limit (refusal.Wide s) h = h
+halted_system purpose system policy limit (refusal.Spent n) h = h
+halted_system purpose system policy limit refusal.NoMemory h = tt
+
+-- a halt of the rounds answers with its status
+pub halted_answer : (purpose : Purpose) (system : System) (policy : Policy) (limit : ℕ) (r : Refusal) (s : Status) → s ≡ refused r
+    → IsHalted purpose system policy limit r → IsAnswerToSystem purpose system policy limit s
+halted_answer purpose system policy limit r s e h = subst (λ x. IsAnswerToSystem purpose system policy limit x) (sym e)
+    (halted_system purpose system policy limit r h)
+
+-- ---- and to its texts
+
+-- the analysis of a system answers for the texts of its program and template
+pub system_texts : (purpose : Purpose) (text : List ℕ) (rows : Domain (List ℕ)) (system : System) (policy : Policy) (limit : ℕ)
+    (status : Status) → IsSolvedSystem text rows system
+    → IsAnswerToSystem purpose system policy limit status → QuestionAnswer (analysis_question exact purpose text rows policy limit) status
+system_texts purpose text rows system policy limit Done is h = rounds_end system refl is h
+system_texts purpose text rows system policy limit (Certificate cause) is h = absurd h
+system_texts purpose text rows system policy limit Usage is h = absurd h
+system_texts purpose text rows system policy limit (Read cause) is h = absurd h
+system_texts purpose text rows system policy limit (Text cause) is h = absurd h
+system_texts purpose text rows system policy limit (Wide spot) is h = record { system = system; meant = is; too_wide = h }
+system_texts purpose text rows system policy limit (Spent n) is h = rounds_spent system (ap Spent h.1) is h.0
+system_texts purpose text rows system policy limit Memory is h = tt
+system_texts purpose text rows system policy limit Write is h = rounds_end system refl is h
+
+refused_texts : (purpose : Purpose) (t : List ℕ) (rows : Domain (List ℕ)) (policy : Policy) (limit : ℕ) (r : Refusal) → IsRefusedBy t rows r
+    → QuestionAnswer (analysis_question exact purpose t rows policy limit) (refused r)
+refused_texts purpose t rows policy limit (refusal.Text c) h = h
+refused_texts purpose t rows policy limit (refusal.Certificate c) h = absurd h
+refused_texts purpose t rows policy limit (refusal.Wide s) h = absurd h
+refused_texts purpose t rows policy limit (refusal.Spent n) h = absurd h
+refused_texts purpose t rows policy limit refusal.NoMemory h = tt
+
+-- a refusal of a text answers with its status
+pub refused_answer : (purpose : Purpose) (t u : List ℕ) (rows : Domain (List ℕ)) (policy : Policy) (limit : ℕ) (r : Refusal) (s : Status)
+    → s ≡ refused r → u ≡ t → IsRefusedBy u rows r
+    → QuestionAnswer (analysis_question exact purpose t rows policy limit) s
+refused_answer purpose t u rows policy limit r s e i h =
+    subst (λ x. QuestionAnswer (analysis_question exact purpose t rows policy limit) x) (sym e)
+    (refused_texts purpose t rows policy limit r (subst (λ x. IsRefusedBy x rows r) i h))
+
+-- ---- no line, and the rows of the template
+
+-- the line of a system's analysis is that of its status
+pub system_line : (purpose : Purpose) (text : List ℕ) (system : System) (policy : Policy) (limit : ℕ) (status : Status)
+    → IsAnswerToSystem purpose system policy limit status → 0 ≡ line_in text status
+system_line purpose text system policy limit Done h = refl
+system_line purpose text system policy limit (Certificate cause) h = refl
+system_line purpose text system policy limit Usage h = refl
+system_line purpose text system policy limit (Read cause) h = refl
+system_line purpose text system policy limit (Text cause) h = absurd h
+system_line purpose text system policy limit (Wide spot) h = refl
+system_line purpose text system policy limit (Spent n) h = refl
+system_line purpose text system policy limit Memory h = refl
+system_line purpose text system policy limit Write h = refl
+
+template_once : (text : List ℕ) (rows : Domain (List ℕ)) (s t : System) → IsSolvedSystem text rows s → IsSolvedSystem text rows t
+    → s.template ≡ t.template
+template_once text rows s t a b =
+    let same = program_once text (a.names, a.body) (b.names, b.body) a.ready.system.analysed.reading b.ready.system.analysed.reading in
+    a.system_for.template_is
+    ∙ rows_once rows b.names a.template b.template (subst (λ (p : List (List ℕ) × Statements). HasTemplate rows p.0 (Ok a.template)) same
+    a.ready.system.template_is) b.ready.system.template_is
+    ∙ sym b.system_for.template_is
+
+-- the row count of a system's analysis is that of its texts
+pub system_rows : (text : List ℕ) (rows : Domain (List ℕ)) (s t : System) (count : ℕ) (status : Status) → IsSolvedSystem text rows s
+    → count ≡ rows_of (length s.template) status → IsSolvedSystem text rows t
+    → count ≡ rows_of (length t.template) status
+system_rows text rows s t count status a e b = e ∙ ap (λ (rs : List (List ℤ)). rows_of (length rs) status) (template_once text rows s t a b)
+
+-- texts that are refused have the row count of the refusal
+pub refused_rows : (text : List ℕ) (rows : Domain (List ℕ)) (r : Refusal) (count : ℕ) → IsRefusedBy text rows r
+    → 0 ≡ rows_of count (refused r)
+refused_rows text rows (refusal.Text c) count h = refl
+refused_rows text rows (refusal.Certificate c) count h = absurd h
+refused_rows text rows (refusal.Wide s) count h = absurd h
+refused_rows text rows (refusal.Spent n) count h = absurd h
+refused_rows text rows refusal.NoMemory count h = refl
+
+-- ---- rows of a template have no fault
+
+both_true : (a b : Bool) → (a && b) ≡ true → (a ≡ true) × (b ≡ true)
+both_true true true e = (refl, refl)
+both_true true false e = cc
+both_true false b e = cc
+
+row_sound : (n line : ℕ) (row : List ℤ) → is_row row ≡ true → (length row == n) ≡ true → row_faults n (line, row) ≡ []
+row_sound n line row h k = rw (k, h) refl
+
+no_row_faults : (n m line : ℕ) (rows : List (List ℤ)) → IsTrue (list_all (λ row. is_row row && length row == m) rows)
+    → IsTrue (list_all (λ row. length row == n) rows) → faults_from n line rows ≡ []
+no_row_faults n m line [] h k = refl
+no_row_faults n m line (row ∷ rows) h k =
+    let a = both (is_row row && length row == m) _ h in
+    let b = both (is_row row) (length row == m) a.0 in
+    let c = both (length row == n) _ k in
+    rw (row_sound n line row b.0 c.0) (no_row_faults n m (line + 1) rows a.1 c.1)
+
+count_sound : (count : ℕ) → (nat_le 1 count && nat_le count MOST_ROWS) ≡ true → count_faults count ≡ []
+count_sound count h = rw h refl
+
+sound : (n : ℕ) (template : List (List ℤ)) → IsTrue (is_template template) → IsTrue (is_over n template) → faults_of n template ≡ []
+sound n template h k =
+    let a = both (nat_le 1 (length template) && nat_le (length template) MOST_ROWS) _ h in
+    rw (no_row_faults n (width_of template) 1 template a.1 k) (count_sound (length template) a.0)
+
+-- ---- what is put
+
+report_put : (text : List ℕ) (rows : Domain (List ℕ)) (system : System) (policy : Policy) (limit : ℕ) (bytes : List ℕ)
+    → IsSolvedSystem text rows system → IsRoundsReport system policy limit bytes → IsReportOf text rows policy limit bytes
+report_put text rows system policy limit bytes is r = record {
+  names = is.names;
+  body = is.body;
+  template = is.template;
+  ready = is.ready;
+  system = system;
+  system_for = is.system_for;
+  rounds = r.rounds;
+  within = r.within;
+  has_rounds = r.has_rounds;
+  vector = vector_of (length system.template) r.bounds;
+  least = subst (λ t. IsLeastReport is.names is.body t (vector_of (length system.template) r.bounds) (Improvements r.rounds) bytes)
+      is.system_for.template_is
+      (least_report is.names is.body system (vector_of (length system.template) r.bounds) (Improvements r.rounds) bytes
+      is.system_for.names_are is.system_for.points_are is.system_for.edges_are r.least r.report);
+}
+
+certificate_put : (text : List ℕ) (rows : Domain (List ℕ)) (system : System) (policy : Policy) (limit : ℕ) (bytes : List ℕ)
+    → IsSolvedSystem text rows system → IsRoundsCertificate system policy limit bytes → IsCertificateOf text rows policy limit bytes
+certificate_put text rows system policy limit bytes is r =
+    let same : equations_of system ≡ system_with is.names is.body (cert_with system r.solved) =
+    same_equations is.names is.body system is.system_for.names_are is.system_for.points_are is.system_for.edges_are in
+    let over : IsTrue (is_over (length system.flow.names) system.template) =
+    (both (is_over (length system.flow.names) system.template) _ system.within_limits).0 in
+    record {
+      names = is.names;
+      body = is.body;
+      template = is.template;
+      ready = is.ready;
+      system = system;
+      system_for = is.system_for;
+      solved = r.solved;
+      is_solved = r.is_solved;
+      written = r.written;
+      valid = subst (λ q. ValidCertificate q (made_certificate system r.solved)) same r.valid;
+      accepted = λ few. record {
+        system = record {
+          spelt = record { analysed = is.ready.system.analysed; spells = r.spells few };
+          rows = sound (length is.names) system.template r.template (subst
+              (λ (names : List (List ℕ)). IsTrue (is_over (length names) system.template)) is.system_for.names_are over);
+          within = subst (λ t. unknowns is.body t ≤ MOST_UNKNOWNS) (sym is.system_for.template_is) is.ready.within;
+        };
+        valid = subst (λ q. ValidCertificate q (made_certificate system r.solved)) same r.valid;
+      };
+      expands = r.expands;
+      narrow = subst (λ q. NoneIsWide q (made_certificate system r.solved)) same r.narrow;
+      least = subst (λ t. Least (equations_of_program (length is.names) is.body is.template) (vector_of (length t) r.solved.bounds))
+          is.system_for.template_is
+          (subst (λ q. Least q (vector_of (length system.template) r.solved.bounds))
+          (equations_are is.names is.body is.template system is.system_for) r.least);
+    }
+
+-- what the analysis of a system puts is what its texts get
+pub output_put : (purpose : Purpose) (text : List ℕ) (rows : Domain (List ℕ)) (system : System) (policy : Policy) (limit : ℕ)
+    (bytes : List ℕ) → IsSolvedSystem text rows system → IsOutputOf purpose system policy limit bytes
+    → IsPutOf purpose text rows policy limit bytes
+output_put Report text rows system policy limit bytes is r = report_put text rows system policy limit bytes is r
+output_put AsCertificate text rows system policy limit bytes is r = certificate_put text rows system policy limit bytes is r

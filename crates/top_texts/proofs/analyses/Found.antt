@@ -1,0 +1,75 @@
+-- What an analysis of texts finds, and the endings that it has else.
+use Rattle.std.proofs.Common.{◌≡◌, ◌∙◌, ℕ, List, sym, subst}
+use Rattle.std.specs.Prelude.{IfErr, Result, Ok, Err}
+use Rattle.tm_eqsys.specs.Equations.{Least}
+use Rattle.tm_eqsys.specs.View.{IsVectorOf, equations_of, vector_at}
+use Rattle.tm_eqsys.specs.declared.system.System.{System}
+use Rattle.tm_cli.specs.declared.request.Domain.{Domain}
+use Rattle.tm_cli.specs.declared.request.Policy.{Policy}
+use Rattle.tm_cli.specs.declared.request.Purpose.TheVariants.{Report}
+use Rattle.tm_rounds.specs.Solutions.{IsSolved}
+use Rattle.top_texts.specs.Analyses.{IsFoundIn, IsHaltedEnding, IsRefusedText, IsSolvedBy, IsUnput}
+use Rattle.top_texts.specs.Parted.{refused}
+use Rattle.top_texts.specs.Policies.{rule_of}
+use Rattle.top_texts.specs.Texts.{IsSolvedSystem}
+use Rattle.top_texts.specs.declared.analyse.least.LeastBounds.{LeastBounds}
+use Rattle.top_status.specs.declared.ending.Ending.{Ending}
+use Rattle.top_texts.specs.declared.refusal.Refusal.{Refusal}
+use Rattle.top_texts.specs.declared.refusal.Refusal.TheVariants as refusal
+use Rattle.top_status.specs.declared.status.Status.{Status}
+use Rattle.top_status.specs.declared.status.Status.TheVariants.{Certificate, Text, Wide, Spent}
+use Rattle.top_texts.proofs.analyses.Analysed.{system_line, system_rows, system_texts}
+use Rattle.top_texts.proofs.rounds.OneChain.{solved_rounds}
+
+-- a refusal ends with nothing put
+pub refused_unput : (r : Refusal) (s : Status) → s ≡ refused r → IsUnput s
+refused_unput (refusal.Text cause) s e = record { undone = λ d. cc; unwritten = λ w. cc }
+refused_unput (refusal.Certificate cause) s e = record { undone = λ d. cc; unwritten = λ w. cc }
+refused_unput (refusal.Wide spot) s e = record { undone = λ d. cc; unwritten = λ w. cc }
+refused_unput (refusal.Spent number) s e = record { undone = λ d. cc; unwritten = λ w. cc }
+refused_unput refusal.NoMemory s e = record { undone = λ d. cc; unwritten = λ w. cc }
+
+-- rounds that are done have found the least bounds
+pub solved_by : (system : System) (policy : Policy) (limit : ℕ) (least : LeastBounds) → least.system ≡ system
+    → IsSolved system (rule_of policy) limit least.solved
+    → Least (equations_of system) (vector_at system least.solved.bounds) → IsVectorOf system least.solved.bounds
+    → IsSolvedBy system policy limit least
+solved_by system policy limit least same is is_least count = record {
+  same = same;
+  within = is.within;
+  has_rounds = solved_rounds system policy limit least.solved is;
+  least = is_least;
+  count = count;
+}
+
+-- those of a text's system are those of the text
+pub found_of : (text : List ℕ) (rows : Domain (List ℕ)) (system : System) (policy : Policy) (limit : ℕ) (least : LeastBounds)
+    → IsSolvedSystem text rows system
+    → IsSolvedBy system policy limit least → IsFoundIn text rows policy limit least
+found_of text rows system policy limit least is by =
+    let moved : IsSolvedBy least.system policy limit least = subst (λ (s : System). IsSolvedBy s policy limit least) (sym by.same) by in
+    record {
+      solved = subst (λ (s : System). IsSolvedSystem text rows s) (sym by.same) is;
+      within = by.within;
+      has_rounds = moved.has_rounds;
+      least = moved.least;
+      count = moved.count;
+    }
+
+-- and so is the ending where there are none
+halted_text : (text : List ℕ) (rows : Domain (List ℕ)) (system : System) (policy : Policy) (limit : ℕ) (ending : Ending)
+    → IsSolvedSystem text rows system
+    → IsHaltedEnding system policy limit ending → IsRefusedText text rows policy limit ending
+halted_text text rows system policy limit ending is h = record {
+  answer = system_texts Report text rows system policy limit ending.status is h.answer;
+  unput = h.unput;
+  line = h.line ∙ system_line Report text system policy limit ending.status h.answer;
+  rows_named = λ other a. system_rows text rows system other ending.rows ending.status is h.rows_named a;
+}
+
+-- rounds that halt give the texts no least bounds but the halt's ending
+pub halted_texts : (text : List ℕ) (rows : Domain (List ℕ)) (system : System) (policy : Policy) (limit : ℕ) (r : Result LeastBounds Ending)
+    → IsSolvedSystem text rows system
+    → IfErr r (IsHaltedEnding system policy limit) → IfErr r (IsRefusedText text rows policy limit)
+halted_texts text rows system policy limit (Ok bounds) is h = tt
+halted_texts text rows system policy limit (Err ending) is h = halted_text text rows system policy limit ending is h

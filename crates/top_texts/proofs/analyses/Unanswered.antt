@@ -1,0 +1,27 @@
+-- Why texts of a program have no report and no certificate.
+use Rattle.std.proofs.Common.{ℕ, List}
+use Rattle.tm_eqsys.specs.declared.system.System.{System}
+use Rattle.tm_cli.specs.declared.request.Domain.{Domain}
+use Rattle.tm_cli.specs.declared.request.Policy.{Policy}
+use Rattle.tm_cli.specs.declared.request.Purpose.{Purpose}
+use Rattle.top_texts.specs.Exact.{exact}
+use Rattle.top_texts.specs.Parted.{IsHalted, IsRefusedBy, IsUnanswered}
+use Rattle.top_texts.specs.Questions.{analysis_question}
+use Rattle.top_texts.specs.Texts.{IsSolvedSystem}
+use Rattle.top_texts.specs.declared.refusal.Refusal.{Refusal}
+use Rattle.top_texts.specs.declared.refusal.Refusal.TheVariants as refusal
+use Rattle.top_texts.proofs.questions.Answered.{halted}
+
+module _ (purpose : Purpose) (text : List ℕ) (rows : Domain (List ℕ)) (policy : Policy) (limit : ℕ) where
+  -- texts that are refused before there is a system
+  pub unsystematic : (r : Refusal) → IsRefusedBy text rows r → IsUnanswered (analysis_question exact purpose text rows policy limit) r
+  unsystematic (refusal.Text cause) h = h
+  unsystematic (refusal.Certificate cause) h = absurd h
+  unsystematic (refusal.Wide spot) h = absurd h
+  unsystematic (refusal.Spent n) h = absurd h
+  unsystematic refusal.NoMemory h = tt
+
+  -- rounds over their system that have no end
+  pub unsolved : (s : System) → IsSolvedSystem text rows s → (r : Refusal) → IsHalted purpose s policy limit r
+      → IsUnanswered (analysis_question exact purpose text rows policy limit) r
+  unsolved s is r h = halted (analysis_question exact purpose text rows policy limit) purpose s is (λ spot w. w) r h

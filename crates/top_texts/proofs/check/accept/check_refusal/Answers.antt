@@ -1,0 +1,10 @@
+use Rattle.std.proofs.Common.{◌≡◌, rules}
+use Rattle.tm_eqsys.specs.declared.spot.Spot.{Spot}
+use Rattle.tm_check.specs.declared.fault.CheckFault.TheVariants as check
+use Rattle.top_texts.proofs.checks.Refused.{check_refused}
+use Rattle.top_texts.proofs.check.accept.check_refusal.Goals as goal
+
+pub returns-in_default : goal.returns-in_default
+returns-in_default c =
+    let other : (spot : Spot) → c.args.fault ≡ check.Wide spot → ⊥ = search rules in
+    λ system certificate composition stop. check_refused system certificate _ other composition stop

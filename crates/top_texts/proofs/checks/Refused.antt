@@ -1,0 +1,179 @@
+-- Refusals, from one stage to the next.
+use Rattle.std.proofs.Common.{◌≡◌, ⊎_elim, ℕ, List, refl, ap, ◌∙◌}
+use Rattle.std.specs.Prelude.{None, Some}
+use Rattle.tm_tree.specs.Tree.{Statements}
+use Rattle.tm_eqsys.specs.declared.spot.Spot.{Spot}
+use Rattle.tm_eqsys.specs.Equations.{Equations}
+use Rattle.tm_validity.specs.Certificates.{Certificate as TheoryCertificate}
+use Rattle.tm_check.specs.CheckEvents.{check_events}
+use Rattle.tm_check.proofs.events.CheckTests.{stops_are_faults}
+use Rattle.tm_check.specs.Events.{fault_answer, first_stop}
+use Rattle.tm_check.specs.declared.fault.CheckFault.{CheckFault}
+use Rattle.tm_check.specs.declared.fault.CheckFault.TheVariants as check
+use Rattle.tm_validity.specs.Faults.{Fault, SizeFault, TraceFault, LowFault, HighFault, RayFault, FinalFault, UpperFault}
+use Rattle.tm_compose.specs.Operations.{wide_composition}
+use Rattle.tm_cert.specs.declared.cert.Cert.{Cert}
+use Rattle.tm_cli.specs.declared.request.Domain.{Domain}
+use Rattle.top_texts.specs.Checks.{IsSpelt, IsSystemWith, system_with, theirs}
+use Rattle.top_status.specs.CheckMessages.{rows_in}
+use Rattle.top_status.specs.Messages.{line_in}
+use Rattle.top_texts.specs.Parted.{GetsNoReport, IsAnswerToCheck, IsMisspelt, IsNoSystem, IsRefusedBy, IsUnaccepted, IsUnread, IsUnspelt}
+use Rattle.top_texts.specs.Parted.{refused}
+use Rattle.top_texts.specs.Texts.{IsAnalysed}
+use Rattle.top_texts.specs.declared.refusal.Refusal.{Refusal}
+use Rattle.top_texts.specs.declared.refusal.Refusal.TheVariants as refusal
+use Rattle.top_status.specs.declared.status.TextCause.TheVariants as text
+use Rattle.top_status.specs.declared.status.CertCause.TheVariants.{Form, Rows, Unknowns, Check}
+use Rattle.top_status.specs.declared.status.Status.{Status}
+use Rattle.top_status.specs.declared.status.Status.TheVariants.{Done, Write}
+
+-- ---- no refusal is done
+
+-- the status of a refusal is not that of success
+pub not_done : (r : Refusal) (s : Status) → s ≡ refused r → s ≡ Done → ⊥
+not_done (refusal.Text cause) s e d = cc
+not_done (refusal.Certificate cause) s e d = cc
+not_done (refusal.Wide spot) s e d = cc
+not_done (refusal.Spent number) s e d = cc
+not_done refusal.NoMemory s e d = cc
+
+-- ---- the text of a program
+
+-- a text that cannot be read is refused
+pub unread_refuses : (t : List ℕ) (rows : Domain (List ℕ)) (r : Refusal) → IsUnread t r → IsRefusedBy t rows r
+unread_refuses t rows (refusal.Text (text.Lex f)) h = h
+unread_refuses t rows (refusal.Text (text.Parse f)) h = h
+unread_refuses t rows (refusal.Text (text.Flow f)) h = h
+unread_refuses t rows (refusal.Text (text.Rows f)) h = absurd h
+unread_refuses t rows (refusal.Text (text.Unknowns c)) h = absurd h
+unread_refuses t rows (refusal.Text (text.Cells c)) h = absurd h
+unread_refuses t rows (refusal.Text (text.Claims f)) h = absurd h
+unread_refuses t rows (refusal.Text (text.Equ f)) h = absurd h
+unread_refuses t rows (refusal.Text (text.Auto f)) h = absurd h
+unread_refuses t rows (refusal.Certificate c) h = absurd h
+unread_refuses t rows (refusal.Wide s) h = absurd h
+unread_refuses t rows (refusal.Spent k) h = absurd h
+unread_refuses t rows refusal.NoMemory h = tt
+
+-- a text that cannot be read spells no check
+pub unread_unspelt : (t bytes : List ℕ) (r : Refusal) → IsUnread t r → IsUnspelt t bytes r
+unread_unspelt t bytes (refusal.Text c) h = h
+unread_unspelt t bytes (refusal.Certificate c) h = absurd h
+unread_unspelt t bytes (refusal.Wide s) h = absurd h
+unread_unspelt t bytes (refusal.Spent k) h = absurd h
+unread_unspelt t bytes refusal.NoMemory h = tt
+
+-- ---- the form of a certificate
+
+-- bytes that are misspelt spell no check
+pub misspelt_unspelt : (t bytes : List ℕ) (names : List (List ℕ)) (body : Statements) (r : Refusal) → IsAnalysed t names body → IsMisspelt bytes r → IsUnspelt t bytes r
+misspelt_unspelt t bytes names body (refusal.Text c) a h = absurd h
+misspelt_unspelt t bytes names body (refusal.Certificate (Form f)) a h = (names, body, a, h)
+misspelt_unspelt t bytes names body (refusal.Certificate (Rows f)) a h = absurd h
+misspelt_unspelt t bytes names body (refusal.Certificate (Unknowns c)) a h = absurd h
+misspelt_unspelt t bytes names body (refusal.Certificate (Check f)) a h = absurd h
+misspelt_unspelt t bytes names body (refusal.Wide s) a h = absurd h
+misspelt_unspelt t bytes names body (refusal.Spent k) a h = absurd h
+misspelt_unspelt t bytes names body refusal.NoMemory a h = tt
+
+-- ---- the check
+
+-- an answer that isn't wide is that of a test
+answer_is : (x : CheckFault) → ((spot : Spot) → x ≡ check.Wide spot → ⊥) → (f : Fault) × (x ≡ fault_answer f)
+answer_is check.Size n = (SizeFault, refl)
+answer_is (check.Trace s k) n = (TraceFault s k, refl)
+answer_is (check.Low s k) n = (LowFault s k, refl)
+answer_is (check.High s k) n = (HighFault s k, refl)
+answer_is (check.Ray s k) n = (RayFault s k, refl)
+answer_is (check.Upper u e) n = (UpperFault u e, refl)
+answer_is (check.Final u) n = (FinalFault u, refl)
+answer_is (check.Wide spot) n = absurd (n spot refl)
+
+-- a check that is refused but not as wide has no wide composition
+pub check_refused : (system : Equations) (certificate : TheoryCertificate) (x : CheckFault) → ((spot : Spot) → x ≡ check.Wide spot → ⊥) → wide_composition system ≡ None
+    → first_stop (check_events system certificate) ≡ Some x → IsUnaccepted system certificate (refusal.Certificate (Check x))
+check_refused system certificate x n composition stop =
+    let a = answer_is x n in
+    let at : first_stop (check_events system certificate) ≡ Some (fault_answer a.0) = stop ∙ ap Some a.1 in
+    (a.0, a.1, record { first = stops_are_faults system certificate a.0 at; composition = composition; stop = at })
+
+-- ---- the answers
+
+-- texts that spell no check answer with their refusal
+pub unspelt_answers : (t bytes : List ℕ) (r : Refusal) → IsUnspelt t bytes r → IsAnswerToCheck t bytes (refused r)
+unspelt_answers t bytes (refusal.Text c) h = h
+unspelt_answers t bytes (refusal.Certificate (Form f)) h = h
+unspelt_answers t bytes (refusal.Certificate (Rows f)) h = absurd h
+unspelt_answers t bytes (refusal.Certificate (Unknowns c)) h = absurd h
+unspelt_answers t bytes (refusal.Certificate (Check f)) h = absurd h
+unspelt_answers t bytes (refusal.Wide s) h = absurd h
+unspelt_answers t bytes (refusal.Spent k) h = absurd h
+unspelt_answers t bytes refusal.NoMemory h = tt
+
+-- what is refused before the certificate is known names no unknown
+pub unspelt_rows : (t bytes : List ℕ) (r : Refusal) (cert : Cert) → IsUnspelt t bytes r → 0 ≡ rows_in cert (refused r)
+unspelt_rows t bytes (refusal.Text c) cert h = refl
+unspelt_rows t bytes (refusal.Certificate (Form f)) cert h = refl
+unspelt_rows t bytes (refusal.Certificate (Rows f)) cert h = absurd h
+unspelt_rows t bytes (refusal.Certificate (Unknowns c)) cert h = absurd h
+unspelt_rows t bytes (refusal.Certificate (Check f)) cert h = absurd h
+unspelt_rows t bytes (refusal.Wide s) cert h = absurd h
+unspelt_rows t bytes (refusal.Spent k) cert h = absurd h
+unspelt_rows t bytes refusal.NoMemory cert h = refl
+
+no_system_answers : (t bytes : List ℕ) (names : List (List ℕ)) (body : Statements) (cert : Cert) (r : Refusal) → IsSpelt t bytes names body cert → IsNoSystem names body cert r → IsAnswerToCheck t bytes (refused r)
+no_system_answers t bytes names body cert (refusal.Text c) y h = absurd h
+no_system_answers t bytes names body cert (refusal.Certificate (Form f)) y h = absurd h
+no_system_answers t bytes names body cert (refusal.Certificate (Rows f)) y h = (names, body, cert, y, h)
+no_system_answers t bytes names body cert (refusal.Certificate (Unknowns c)) y h = (names, body, cert, y, h.0, h.1, h.2)
+no_system_answers t bytes names body cert (refusal.Certificate (Check f)) y h = absurd h
+no_system_answers t bytes names body cert (refusal.Wide s) y h = absurd h
+no_system_answers t bytes names body cert (refusal.Spent k) y h = absurd h
+no_system_answers t bytes names body cert refusal.NoMemory y h = tt
+
+unaccepted_answers : (t bytes : List ℕ) (names : List (List ℕ)) (body : Statements) (cert : Cert) (r : Refusal) → IsSystemWith t bytes names body cert
+    → IsUnaccepted (system_with names body cert) (theirs cert) r → IsAnswerToCheck t bytes (refused r)
+unaccepted_answers t bytes names body cert (refusal.Text c) y h = absurd h
+unaccepted_answers t bytes names body cert (refusal.Certificate (Form f)) y h = absurd h
+unaccepted_answers t bytes names body cert (refusal.Certificate (Rows f)) y h = absurd h
+unaccepted_answers t bytes names body cert (refusal.Certificate (Unknowns c)) y h = absurd h
+unaccepted_answers t bytes names body cert (refusal.Certificate (Check f)) y h = (names, body, cert, y, h)
+unaccepted_answers t bytes names body cert (refusal.Wide s) y h = (names, body, cert, y, h)
+unaccepted_answers t bytes names body cert (refusal.Spent k) y h = absurd h
+unaccepted_answers t bytes names body cert refusal.NoMemory y h = tt
+
+-- a certificate that gets no report answers with its refusal
+pub unreported_answers : (t bytes : List ℕ) (names : List (List ℕ)) (body : Statements) (cert : Cert) (r : Refusal) → IsSpelt t bytes names body cert → GetsNoReport names body cert r
+    → IsAnswerToCheck t bytes (refused r)
+unreported_answers t bytes names body cert r y h =
+    ⊎_elim (λ a. no_system_answers t bytes names body cert r y a)
+    (λ a. unaccepted_answers t bytes names body cert r (record { spelt = y; rows = a.0.rows; within = a.0.within }) a.1) h
+
+-- a check has no line once the certificate is known
+no_system_line : (t : List ℕ) (names : List (List ℕ)) (body : Statements) (cert : Cert) (r : Refusal) → IsNoSystem names body cert r → 0 ≡ line_in t (refused r)
+no_system_line t names body cert (refusal.Text c) h = absurd h
+no_system_line t names body cert (refusal.Certificate c) h = refl
+no_system_line t names body cert (refusal.Wide s) h = refl
+no_system_line t names body cert (refusal.Spent k) h = refl
+no_system_line t names body cert refusal.NoMemory h = refl
+
+unaccepted_line : (t : List ℕ) (names : List (List ℕ)) (body : Statements) (cert : Cert) (r : Refusal) → IsUnaccepted (system_with names body cert) (theirs cert) r → 0 ≡ line_in t (refused r)
+unaccepted_line t names body cert (refusal.Text c) h = absurd h
+unaccepted_line t names body cert (refusal.Certificate c) h = refl
+unaccepted_line t names body cert (refusal.Wide s) h = refl
+unaccepted_line t names body cert (refusal.Spent k) h = refl
+unaccepted_line t names body cert refusal.NoMemory h = refl
+
+-- a certificate that gets no report names no line
+pub unreported_line : (t : List ℕ) (names : List (List ℕ)) (body : Statements) (cert : Cert) (r : Refusal) → GetsNoReport names body cert r → 0 ≡ line_in t (refused r)
+unreported_line t names body cert r h = ⊎_elim (λ a. no_system_line t names body cert r a) (λ a. unaccepted_line t names body cert r a.1) h
+
+-- ---- no refusal says that the output failed
+
+-- no refusal is a failure to write
+pub not_written : (r : Refusal) → refused r ≡ Write → ⊥
+not_written (refusal.Text c) e = cc
+not_written (refusal.Certificate c) e = cc
+not_written (refusal.Wide s) e = cc
+not_written (refusal.Spent k) e = cc
+not_written refusal.NoMemory e = cc

@@ -1,0 +1,150 @@
+-- What the verdicts of the least bounds on the claims of a text say of the texts.
+use Rattle.std.proofs.Common.{◌≡◌, inl, inr, ℕ, List, length, map, refl, subst, subst₂}
+use Rattle.std.specs.Prelude.{Err, Some, slice_get}
+use Rattle.std.specs.List.{All}
+use Rattle.std.proofs.lemmas.Slice.Zip.{AllZip-long}
+use Rattle.std.proofs.lemmas.Option.{get_or_from_slice_get, slice_get_within}
+use Rattle.tm_flow.specs.Points.{points_of_program}
+use Rattle.tm_flow.specs.declared.graph.Flow.{Flow as Graph}
+use Rattle.tm_flow.specs.declared.point.Point.{Point}
+use Rattle.tm_eqsys.specs.Equations.{Equations, Least}
+use Rattle.tm_eqsys.specs.Solutions.{equations_of_program}
+use Rattle.tm_eqsys.specs.View.{equations_of, vector_of}
+use Rattle.tm_eqsys.specs.declared.system.System.{System}
+use Rattle.tm_rounds.specs.Solutions.{IsSolved}
+use Rattle.tm_rounds.specs.declared.solution.Solved.{Solved}
+use Rattle.tm_assert.specs.AllVerdicts.{AreVerdicts, IsVerdict}
+use Rattle.tm_assert.specs.Claims.{IsClaimOf, FileMeans, Stands, stated_of}
+use Rattle.tm_assert.specs.Laws.{OpenStatesBreak, ProvedVerdictsHold}
+use Rattle.tm_assert.specs.Lines.{verdicts_text}
+use Rattle.tm_assert.specs.declared.claim.Claim.{Claim}
+use Rattle.tm_assert.specs.declared.fault.ClaimFault.{ClaimFault}
+use Rattle.tm_assert.specs.declared.outcome.Verdict.{Verdict}
+use Rattle.tm_assert.proofs.laws.Lists.{verdict_at}
+use Rattle.tm_cli.specs.declared.request.Domain.{Domain}
+use Rattle.tm_cli.specs.declared.request.Policy.{Policy}
+use Rattle.tm_cli.specs.declared.request.Purpose.TheVariants.{Report}
+use Rattle.top_texts.specs.ClaimTexts.{AreClaimsOf, AreNoClaims, AreVerdictsOf, IsClaimedSystem}
+use Rattle.top_texts.specs.Exact.{exact}
+use Rattle.top_texts.specs.Parted.{AreUnjudged, IsHalted, IsRefusedBy, IsUnanswered}
+use Rattle.top_texts.specs.Policies.{rule_of}
+use Rattle.top_texts.specs.Questions.{QuestionEnds, claims_question, rounds_end}
+use Rattle.top_texts.specs.Texts.{IsRefused, IsSolvedSystem}
+use Rattle.top_texts.specs.declared.refusal.Refusal.{Refusal}
+use Rattle.top_texts.specs.declared.refusal.Refusal.TheVariants as refusal
+use Rattle.top_status.specs.declared.status.Status.TheVariants.{Done}
+use Rattle.top_status.specs.declared.status.TextCause.{TextCause}
+use Rattle.top_status.specs.declared.status.TextCause.TheVariants.{Lex, Parse, Flow, Rows, Unknowns, Cells, Claims, Equ, Auto}
+use Rattle.top_texts.proofs.questions.Answered.{halted}
+use Rattle.top_texts.proofs.rounds.OneChain.{solved_rounds}
+use Rattle.top_texts.proofs.texts.Once.{equations_are}
+
+-- ---- claims over a flow
+
+-- a verdict may be asked on each
+pub claims_stand : (flow : Graph) (claims : List Claim) → All (Stands flow.names flow.points) claims → All (IsClaimOf flow) claims
+claims_stand flow claims h k d within = let s = h k d within in record { point = s.within; condition = s.condition; against = s.against }
+
+-- the claim at a place stands
+stands_at : (names : List (List ℕ)) (points : List Point) (claims : List Claim) (k : ℕ) (claim : Claim) → All (Stands names points) claims → slice_get claims k ≡ Some claim → Stands names points claim
+stands_at names points claims k claim h e =
+    subst (λ c. Stands names points c) (get_or_from_slice_get claims k claim claim e) (h k claim (slice_get_within claims k claim e))
+
+-- ---- refusals
+
+refused_texts : (text : List ℕ) (rows : Domain (List ℕ)) (given : List ℕ) (cause : TextCause) → IsRefused text rows cause → AreNoClaims text rows given cause
+refused_texts text rows given (Lex f) h = h
+refused_texts text rows given (Parse f) h = h
+refused_texts text rows given (Flow f) h = h
+refused_texts text rows given (Rows f) h = h
+refused_texts text rows given (Unknowns n) h = h
+refused_texts text rows given (Cells n) h = h
+refused_texts text rows given (Claims f) h = absurd h
+refused_texts text rows given (Equ f) h = absurd h
+refused_texts text rows given (Auto f) h = absurd h
+
+module _ (text : List ℕ) (rows : Domain (List ℕ)) (given : List ℕ) (policy : Policy) (limit : ℕ) where
+  -- texts of a program and its rows that are refused
+  pub unsystematic : (r : Refusal) → IsRefusedBy text rows r → IsUnanswered (claims_question exact text rows given policy limit) r
+  unsystematic (refusal.Text cause) h = refused_texts text rows given cause h
+  unsystematic (refusal.Certificate cause) h = absurd h
+  unsystematic (refusal.Wide spot) h = absurd h
+  unsystematic (refusal.Spent n) h = absurd h
+  unsystematic refusal.NoMemory h = tt
+
+  module _ (s : System) (is : IsSolvedSystem text rows s) where
+    -- a text of claims that has a fault
+    pub unclaimed : (f : ClaimFault) → FileMeans given s.flow.names s.flow.points (Err f) → AreNoClaims text rows given (Claims f)
+    unclaimed f m =
+        (is.names, is.body, is.template, is.ready, subst₂ (λ ns ps. FileMeans given ns ps (Err f)) is.system_for.names_are is.system_for.points_are m)
+
+    module _ (claims : List Claim) (are : AreClaimsOf given s.flow.names s.flow.points claims) where
+      over : AreClaimsOf given is.names (points_of_program is.body) claims
+      over = subst₂ (λ ns ps. AreClaimsOf given ns ps claims) is.system_for.names_are is.system_for.points_are are
+
+      claimed : IsClaimedSystem text rows given s
+      claimed = record { solved = is; stated = map stated_of claims; reading = over.reading }
+
+      -- rounds that have no end
+      pub unsolved : (r : Refusal) → IsHalted Report s policy limit r → IsUnanswered (claims_question exact text rows given policy limit) r
+      unsolved r h = halted (claims_question exact text rows given policy limit) Report s claimed (λ spot w. inl w) r h
+
+      module _ (solved : Solved) (solution : IsSolved s (rule_of policy) limit solved) where
+        -- claims for which an operation is too wide
+        pub unjudged : (r : Refusal) → AreUnjudged (equations_of s) (vector_of (length s.template) solved.bounds) claims r → IsUnanswered (claims_question exact text rows given policy limit) r
+        unjudged (refusal.Text cause) h = absurd h
+        unjudged (refusal.Certificate cause) h = absurd h
+        unjudged (refusal.Wide spot) h = record {
+          system = s;
+          meant = claimed;
+          too_wide = inr (record {
+            rounds = solved.improvements;
+            within = solution.within;
+            vector = vector_of (length s.template) solved.bounds;
+            has_rounds = solved_rounds s policy limit solved solution;
+            claims = claims;
+            claims_are = are;
+            wide = h;
+          });
+        }
+        unjudged (refusal.Spent n) h = absurd h
+        unjudged refusal.NoMemory h = tt
+
+        -- verdicts
+        pub judged : ProvedVerdictsHold → OpenStatesBreak → Least (equations_of s) (vector_of (length s.template) solved.bounds) → (verdicts : List Verdict)
+            → AreVerdicts (equations_of s) (vector_of (length s.template) solved.bounds) claims verdicts → (bytes : List ℕ)
+            → bytes ≡ verdicts_text s.flow.names claims verdicts solved.improvements → AreVerdictsOf exact text rows given policy limit bytes
+        judged proved_hold open_break least verdicts h bytes written =
+            let vector = vector_of (length s.template) solved.bounds in
+            let system = equations_of_program (length is.names) is.body is.template in
+            let same : equations_of s ≡ system = equations_are is.names is.body is.template s is.system_for in
+            let lowest : Least system vector = subst (λ (q : Equations). Least q vector) same least in
+            let are_verdicts : AreVerdicts system vector claims verdicts = subst (λ (q : Equations). AreVerdicts q vector claims verdicts) same h in
+            record {
+              system = s;
+              solved = is;
+              claims = claims;
+              claims_are = over;
+              rounds = solved.improvements;
+              within = solution.within;
+              vector = vector;
+              has_rounds = solved_rounds s policy limit solved solution;
+              least = record {
+                least = lowest;
+                verdicts = verdicts;
+                verdicts_are = are_verdicts;
+                speak = record {
+                  one_each = AllZip-long (IsVerdict system vector) claims verdicts are_verdicts;
+                  proved_where = λ k claim verdict e f. (verdict_at system vector claims verdicts k claim verdict are_verdicts e f).proved;
+                  proved = λ k claim e f. proved_hold (length is.names) is.body is.template vector claims verdicts k claim lowest.solves.post are_verdicts e f
+                      (stands_at is.names (points_of_program is.body) claims k claim over.stand e).against;
+                  open_ones = λ k claim state e f. open_break system vector claims verdicts k claim state are_verdicts e f;
+                };
+                written = subst (λ ns. bytes ≡ verdicts_text ns claims verdicts solved.improvements) is.system_for.names_are written;
+              };
+            }
+
+  -- where verdicts are written, the improvements have ended
+  pub verdicts_end : (bytes : List ℕ) → AreVerdictsOf exact text rows given policy limit bytes → QuestionEnds (claims_question exact text rows given policy limit) Done
+  verdicts_end bytes v =
+      rounds_end v.system refl (record { solved = v.solved; stated = map stated_of v.claims; reading = v.claims_are.reading }) (v.rounds, v.within, v.vector, v.has_rounds)

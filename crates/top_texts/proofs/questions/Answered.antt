@@ -1,0 +1,33 @@
+-- What is answered to a question: where rounds have no end, and where texts are refused.
+use Rattle.std.proofs.Common.{◌≡◌, sym, ap, subst}
+use Rattle.tm_eqsys.specs.declared.spot.Spot.{Spot}
+use Rattle.tm_eqsys.specs.declared.system.System.{System}
+use Rattle.tm_cli.specs.declared.request.Purpose.{Purpose}
+use Rattle.top_texts.specs.Parted.{IsHalted, IsUnanswered, QuestionAnswer, refused}
+use Rattle.top_texts.specs.Questions.{Question, rounds_spent}
+use Rattle.top_texts.specs.Spots.{HasSpot}
+use Rattle.top_texts.specs.declared.refusal.Refusal.{Refusal}
+use Rattle.top_texts.specs.declared.refusal.Refusal.TheVariants as refusal
+use Rattle.top_status.specs.declared.status.Status.{Status}
+use Rattle.top_status.specs.declared.status.Status.TheVariants.{Spent}
+
+module _ (q : Question) where
+  refused_answer : (r : Refusal) → IsUnanswered q r → QuestionAnswer q (refused r)
+  refused_answer (refusal.Text cause) h = h
+  refused_answer (refusal.Certificate cause) h = absurd h
+  refused_answer (refusal.Wide spot) h = h
+  refused_answer (refusal.Spent n) h = h
+  refused_answer refusal.NoMemory h = tt
+
+  -- a question that a refusal leaves unanswered is answered with its status
+  pub unanswered : (r : Refusal) (s : Status) → s ≡ refused r → IsUnanswered q r → QuestionAnswer q s
+  unanswered r s e h = subst (λ x. QuestionAnswer q x) (sym e) (refused_answer r h)
+
+  -- rounds over a system that is meant have no end
+  pub halted : (purpose : Purpose) (system : System) → q.means system → ((spot : Spot) → HasSpot purpose system q.policy q.limit spot → q.too_wide system spot)
+      → (r : Refusal) → IsHalted purpose system q.policy q.limit r → IsUnanswered q r
+  halted purpose system is wide (refusal.Text cause) h = absurd h
+  halted purpose system is wide (refusal.Certificate cause) h = absurd h
+  halted purpose system is wide (refusal.Wide spot) h = record { system = system; meant = is; too_wide = wide spot h }
+  halted purpose system is wide (refusal.Spent n) h = rounds_spent system (ap Spent h.1) is h.0
+  halted purpose system is wide refusal.NoMemory h = tt

@@ -1,0 +1,17 @@
+use Rattle.std.proofs.Common.{length, subst, ◌∙◌, ap, rules}
+use Rattle.std.specs.Prelude.{Err, IsTrue}
+use Rattle.tm_rows.specs.Rows.{is_template}
+use Rattle.top_texts.specs.Parted.{domain_of}
+use Rattle.top_texts.specs.Texts.{HasTemplate}
+use Rattle.top_texts.proofs.analyse.Solved.{template_over}
+use Rattle.top_texts.proofs.transitions.rows_along.Goals as goal
+
+pub returns-in-Ok-clause-over : goal.returns-in-Ok-clause-over
+returns-in-Ok-clause-over c =
+    let h : IsTrue (is_template c.in-Ok.template) = search rules in
+    template_over _ _ h (c.in-Ok.ensures.width ∙ ap length c.as_slice.ensures)
+
+pub returns-in-Err-clause-err : goal.returns-in-Err-clause-err
+returns-in-Err-clause-err c =
+    λ text is. c.row_refusal.ensures text _
+    (λ other. (c.args.auto.now, is, subst (λ names. HasTemplate (domain_of c.args.rows.now) names (Err c.in-Err.fault)) c.as_slice.ensures (c.in-Err.ensures.refused other)))

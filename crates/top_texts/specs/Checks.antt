@@ -1,0 +1,127 @@
+-- What the text of a program and the bytes of a certificate are: a valid certificate of the program, or refused by a cause, or a number is wide on the way.
+-- The program comes first, then the certificate, its rows, the unknowns, the composition of the edges, and the tests.
+use Rattle.std.specs.Prelude.{◌≡◌, ◌≤◌, ◌<◌, ◌⊎◌, ℕ, ℤ, List, [], Err, Some, None, length, slice_get}
+use Rattle.tm_frac.specs.Fits.{long_limit}
+use Rattle.tm_frac.specs.Operation.{first_wide, operation_of}
+use Rattle.tm_tree.specs.Tree.{Statements}
+use Rattle.tm_rows.specs.RowFaults.{faults_of}
+use Rattle.tm_eqsys.specs.declared.spot.Spot.{Spot}
+use Rattle.tm_eqsys.specs.declared.spot.Site.TheVariants.{Compose}
+use Rattle.tm_eqsys.specs.Equations.{Equations, Vector}
+use Rattle.tm_eqsys.specs.Solutions.{equations_of_program}
+use Rattle.tm_validity.specs.Certificates.{Certificate, ValidCertificate, bounds_vector}
+use Rattle.tm_validity.specs.Faults.{Fault, certificate_fault}
+use Rattle.tm_cert.specs.Certificates.{certificate_of}
+use Rattle.tm_cert.specs.declared.cert.Cert.{Cert}
+use Rattle.tm_form.specs.Certificates.{Spells, SpellsCert, SpellsTooMany, cert_in}
+use Rattle.serde_json.specs.Data.{Data}
+use Rattle.tm_form.specs.declared.fault.FormFault.{FormFault}
+use Rattle.tm_form.specs.declared.fault.FormFault.TheVariants.{NotJson, Shape, Number, Version, Expanded, NoMemory}
+use Rattle.tm_compose.specs.Operations.{wide_composition}
+use Rattle.tm_check.specs.CheckEvents.{check_events}
+use Rattle.tm_check.specs.Events.{fault_answer, first_stop, operations_of}
+use Rattle.tm_check.specs.declared.fault.CheckFault.{CheckFault}
+use Rattle.tm_check.specs.declared.fault.CheckFault.TheVariants as check
+use Rattle.top_texts.specs.Texts.{IsAnalysed, unknowns}
+use Rattle.top_status.specs.declared.status.CertCause.{CertCause}
+use Rattle.top_status.specs.declared.status.CertCause.TheVariants.{Form, Rows, Unknowns, Check}
+use Rattle.tm_eqsys.specs.declared.limits.TheConstants.{MOST_UNKNOWNS}
+
+-- the bytes spell no certificate, by this fault
+abbrev pub IsFormFault : List ℕ → FormFault → Type 0
+IsFormFault bytes NotJson = (d : Data) → Spells bytes d → ⊥
+IsFormFault bytes (Shape field) = (d : Data) × Spells bytes d × (cert_in d ≡ Err (Shape field))
+IsFormFault bytes (Number field) = (d : Data) × Spells bytes d × (cert_in d ≡ Err (Number field))
+IsFormFault bytes Version = (d : Data) × Spells bytes d × (cert_in d ≡ Err Version)
+IsFormFault bytes Expanded = SpellsTooMany bytes
+IsFormFault bytes NoMemory = ⊥
+
+-- the text is a program within the limits, and the bytes spell this certificate
+pub record IsSpelt (text bytes : List ℕ) (names : List (List ℕ)) (body : Statements) (cert : Cert) : Type 0 where
+  pub analysed : IsAnalysed text names body
+  pub spells : SpellsCert bytes cert
+
+-- and the certificate's rows are a template over the program's variables, with no more unknowns than a system may have
+pub record IsSystemWith (text bytes : List ℕ) (names : List (List ℕ)) (body : Statements) (cert : Cert) : Type 0 where
+  pub spelt : IsSpelt text bytes names body cert
+  pub rows : faults_of (length names) cert.rows ≡ []
+  pub within : unknowns body cert.rows ≤ MOST_UNKNOWNS
+
+-- the system of a program and a certificate's rows
+abbrev pub system_with : List (List ℕ) → Statements → Cert → Equations
+system_with names body cert = equations_of_program (length names) body cert.rows
+
+-- the certificate of the theory
+abbrev pub theirs : Cert → Certificate
+theirs cert = certificate_of (length cert.rows) cert
+
+-- the bytes are a valid certificate of the text
+pub record IsValidFor (text bytes : List ℕ) (names : List (List ℕ)) (body : Statements) (cert : Cert) : Type 0 where
+  pub system : IsSystemWith text bytes names body cert
+  pub valid : ValidCertificate (system_with names body cert) (theirs cert)
+
+-- no operation of the composition and of the check is wide
+pub record NoneIsWide (system : Equations) (certificate : Certificate) : Type 0 where
+  pub composition : wide_composition system ≡ None
+  pub sums : first_wide long_limit (operations_of (check_events system certificate)) ≡ None
+
+-- the bytes are accepted for the text
+abbrev pub IsAccepted : List ℕ → List ℕ → Type 0
+IsAccepted text bytes =
+    (names : List (List ℕ)) × (body : Statements) × (cert : Cert)
+    × IsValidFor text bytes names body cert × NoneIsWide (system_with names body cert) (theirs cert)
+
+-- this is the first failing test of the certificate, and no operation before it is wide
+pub record StopsAt (system : Equations) (certificate : Certificate) (fault : Fault) : Type 0 where
+  pub first : certificate_fault system certificate ≡ Some fault
+  pub composition : wide_composition system ≡ None
+  pub stop : first_stop (check_events system certificate) ≡ Some (fault_answer fault)
+
+-- the check is refused by this answer of a test
+abbrev pub IsStopped : Equations → Certificate → CheckFault → Type 0
+IsStopped system certificate answer = (fault : Fault) × (answer ≡ fault_answer fault) × StopsAt system certificate fault
+
+-- the bytes are refused by this cause
+abbrev pub IsRefusedCertificate : List ℕ → List ℕ → CertCause → Type 0
+IsRefusedCertificate text bytes (Form fault) = (names : List (List ℕ)) × (body : Statements) × IsAnalysed text names body × IsFormFault bytes fault
+IsRefusedCertificate text bytes (Rows fault) =
+    (names : List (List ℕ)) × (body : Statements) × (cert : Cert) × IsSpelt text bytes names body cert
+    × (slice_get (faults_of (length names) cert.rows) 0 ≡ Some fault)
+IsRefusedCertificate text bytes (Unknowns count) =
+    (names : List (List ℕ)) × (body : Statements) × (cert : Cert) × IsSpelt text bytes names body cert × (faults_of (length names) cert.rows ≡ [])
+    × (MOST_UNKNOWNS < unknowns body cert.rows) × (count ≡ unknowns body cert.rows)
+IsRefusedCertificate text bytes (Check fault) =
+    (names : List (List ℕ)) × (body : Statements) × (cert : Cert) × IsSystemWith text bytes names body cert
+    × IsStopped (system_with names body cert) (theirs cert) fault
+
+-- the spot is that of the first wide operation of the composition
+pub record IsCompositionSpot (system : Equations) (spot : Spot) : Type 0 where
+  pub round : spot.round ≡ 0
+  pub edge : ℕ
+  pub site : spot.site ≡ Compose edge
+  pub wide : wide_composition system ≡ Some (edge, operation_of (λ q. q) spot.wide)
+
+-- the spot is that of the operation at which the check stops
+pub record IsCheckSpot (system : Equations) (certificate : Certificate) (spot : Spot) : Type 0 where
+  pub composition : wide_composition system ≡ None
+  pub stop : first_stop (check_events system certificate) ≡ Some (check.Wide spot)
+
+-- the operation of this spot is wide, in the composition or in the check, and nothing before it is refused
+abbrev pub IsWideAt : List ℕ → List ℕ → Spot → Type 0
+IsWideAt text bytes spot =
+    (names : List (List ℕ)) × (body : Statements) × (cert : Cert) × IsSystemWith text bytes names body cert
+    × (IsCompositionSpot (system_with names body cert) spot ⊎ IsCheckSpot (system_with names body cert) (theirs cert) spot)
+
+-- the bytes are accepted for the text, by this program, with these rows and this vector of bounds
+pub record IsAcceptedWith (text bytes : List ℕ) (names : List (List ℕ)) (body : Statements) (rows : List (List ℤ)) (vector : Vector) : Type 0 where
+  pub cert : Cert
+  pub rows_are : cert.rows ≡ rows
+  pub vector_is : bounds_vector (system_with names body cert) cert.bounds ≡ vector
+  pub valid : IsValidFor text bytes names body cert
+  pub narrow : NoneIsWide (system_with names body cert) (theirs cert)
+
+-- the bytes spell a certificate with so many rows
+pub record HasRowCount (bytes : List ℕ) (count : ℕ) : Type 0 where
+  pub cert : Cert
+  pub spells : SpellsCert bytes cert
+  pub count_is : count ≡ length cert.rows

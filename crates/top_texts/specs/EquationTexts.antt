@@ -1,0 +1,52 @@
+-- What texts of equations are, and what is written of them.
+use Rattle.std.specs.Prelude.{◌≡◌, ◌≤◌, ℕ, List, map, Ok, Err}
+use Rattle.tm_eqsys.specs.declared.footer.Footer.TheVariants.{Improvements}
+use Rattle.tm_eqsys.specs.declared.system.System.{System}
+use Rattle.tm_eqsys.specs.Equations.{Vector}
+use Rattle.tm_eqsys.specs.View.{equations_of}
+use Rattle.tm_equ.specs.declared.equation.Equation.{Equation}
+use Rattle.tm_equ.specs.EquationTexts.{Answers}
+use Rattle.tm_equ.specs.Solutions.{EqualsRightSides, IsLeastAbove}
+use Rattle.tm_equ.specs.System.{system_of}
+use Rattle.tm_equ.specs.Values.{Values}
+use Rattle.tm_report.specs.Values.{values_text}
+use Rattle.tm_cli.specs.declared.request.Policy.{Policy}
+use Rattle.top_texts.specs.Rounds.{HasRounds}
+use Rattle.top_status.specs.declared.status.TextCause.{TextCause}
+use Rattle.top_status.specs.declared.status.TextCause.TheVariants.{Lex, Parse, Flow, Rows, Unknowns, Cells, Claims, Equ, Auto}
+
+-- the text reads as equations, and this is their system
+pub record IsEquationSystem (text : List ℕ) (system : System) : Type 0 where
+  pub equations : List Equation
+  pub reading : Answers text (Ok equations)
+  pub system_is : equations_of system ≡ system_of equations
+
+-- the text is refused by this cause
+abbrev pub IsNoEquations : List ℕ → TextCause → Type 0
+IsNoEquations text (Lex fault) = ⊥
+IsNoEquations text (Parse fault) = ⊥
+IsNoEquations text (Flow fault) = ⊥
+IsNoEquations text (Rows fault) = ⊥
+IsNoEquations text (Unknowns count) = ⊥
+IsNoEquations text (Cells count) = ⊥
+IsNoEquations text (Claims fault) = ⊥
+IsNoEquations text (Equ fault) = Answers text (Err fault)
+IsNoEquations text (Auto fault) = ⊥
+
+-- so many improvements by the policy are made over the system of equations
+abbrev pub HasImprovements : List Equation → Policy → ℕ → Type 0
+HasImprovements equations policy rounds =
+    (system : System) × (equations_of system ≡ system_of equations) × (vector : Vector) × HasRounds system policy rounds vector
+
+-- the bytes are the values of the text's equations, with the number of improvements by the policy:
+-- the values equal their right sides, and are at most all values that are above the equations
+pub record AreValuesOf (text : List ℕ) (policy : Policy) (limit : ℕ) (bytes : List ℕ) : Type 0 where
+  pub equations : List Equation
+  pub reading : Answers text (Ok equations)
+  pub values : Values
+  pub equal : EqualsRightSides equations values
+  pub least : IsLeastAbove equations values
+  pub rounds : ℕ
+  pub within : rounds ≤ limit
+  pub improvements : HasImprovements equations policy rounds
+  pub written : bytes ≡ values_text (map (λ e. e.name) equations) values (Improvements rounds)

@@ -1,0 +1,35 @@
+-- Reports of least vectors.
+use Rattle.std.specs.Prelude.{◌≡◌, ◌≤◌, ℕ, ℤ, List, length}
+use Rattle.tm_tree.specs.Tree.{Statements}
+use Rattle.tm_flow.specs.Points.{points_of_program}
+use Rattle.tm_eqsys.specs.declared.footer.Footer.{Footer}
+use Rattle.tm_eqsys.specs.declared.footer.Footer.TheVariants.{Improvements}
+use Rattle.tm_eqsys.specs.declared.system.System.{System}
+use Rattle.tm_eqsys.specs.Equations.{Least, Vector}
+use Rattle.tm_eqsys.specs.Report.{report_text}
+use Rattle.tm_eqsys.specs.Solutions.{Holds, equations_of_program}
+use Rattle.tm_cli.specs.declared.request.Domain.{Domain}
+use Rattle.tm_cli.specs.declared.request.Policy.{Policy}
+use Rattle.top_texts.specs.Rounds.{HasRounds, IsSystemFor}
+use Rattle.top_texts.specs.Texts.{IsReady}
+
+-- the bytes are the report of a vector of a program over a template; this vector is the least one, and holds in every run of the program
+pub record IsLeastReport (names : List (List ℕ)) (body : Statements) (template : List (List ℤ)) (vector : Vector) (footer : Footer) (bytes : List ℕ)
+    : Type 0 where
+  pub least : Least (equations_of_program (length names) body template) vector
+  pub holds : Holds (equations_of_program (length names) body template) body vector
+  pub report : bytes ≡ report_text names (points_of_program body) template vector footer
+
+-- they are that of the program and the template of these texts, with the number of improvements by the policy
+pub record IsReportOf (text : List ℕ) (rows : Domain (List ℕ)) (policy : Policy) (limit : ℕ) (bytes : List ℕ) : Type 0 where
+  pub names : List (List ℕ)
+  pub body : Statements
+  pub template : List (List ℤ)
+  pub ready : IsReady text rows names body template
+  pub system : System
+  pub system_for : IsSystemFor names body template system
+  pub rounds : ℕ
+  pub within : rounds ≤ limit
+  pub vector : Vector
+  pub has_rounds : HasRounds system policy rounds vector
+  pub least : IsLeastReport names body template vector (Improvements rounds) bytes

@@ -1,0 +1,94 @@
+-- What is asked about equation systems: of the texts of a program and its rows, of a generated program, of claims about a program, of a
+-- transition system, and of equations. What is said of each such question, and of its endings, is said here once.
+use Rattle.std.specs.Prelude.{◌≡◌, ◌⊎◌, ℕ, List}
+use Rattle.tm_eqsys.specs.declared.spot.Spot.{Spot}
+use Rattle.tm_eqsys.specs.declared.system.System.{System}
+use Rattle.tm_cli.specs.declared.request.Domain.{Domain}
+use Rattle.tm_cli.specs.declared.request.Policy.{Policy}
+use Rattle.tm_cli.specs.declared.request.Policy.TheVariants.{Best}
+use Rattle.tm_cli.specs.declared.request.Purpose.{Purpose}
+use Rattle.tm_cli.specs.declared.request.Purpose.TheVariants.{Report}
+use Rattle.top_texts.specs.ClaimTexts.{AreNoClaims, IsClaimedSystem}
+use Rattle.top_texts.specs.EquationTexts.{IsEquationSystem, IsNoEquations}
+use Rattle.top_texts.specs.Meanings.{Meanings}
+use Rattle.top_texts.specs.Rounds.{EndsWithin, RunsOut}
+use Rattle.top_texts.specs.Texts.{IsRefused, IsSolvedSystem}
+use Rattle.top_texts.specs.TransitionTexts.{AreNoTransitions, IsTransitionSystem}
+use Rattle.top_status.specs.declared.status.Status.{Status}
+use Rattle.top_status.specs.declared.status.Status.TheVariants.{Done, Text, Spent}
+use Rattle.top_status.specs.declared.status.TextCause.{TextCause}
+
+-- which texts are refused, by which cause; which system they mean otherwise; where an operation on the way is too wide; by which policy improvements over the
+-- system are made, and at most how many
+pub record Question : Type 1 where
+  pub is_refused : TextCause → Type 0
+  pub means : System → Type 0
+  pub too_wide : System → Spot → Type 0
+  pub policy : Policy
+  pub limit : ℕ
+
+-- texts are refused by a cause, or mean a system over which the improvements end within the limit, or are spent; this is the ending where nothing fails
+-- outside, there is memory, and no operation is too wide
+pub data QuestionEnds (question : Question) (ending : Status) : Type 0 where
+  is_refused : (cause : TextCause) → ending ≡ Text cause → question.is_refused cause → QuestionEnds question ending
+  rounds_end : (system : System) → ending ≡ Done → question.means system → EndsWithin system question.policy question.limit → QuestionEnds question ending
+  rounds_spent : (system : System) → ending ≡ Spent question.limit → question.means system → RunsOut system question.policy question.limit
+      → QuestionEnds question ending
+
+-- an operation on the way is too wide
+pub record IsWideIn (question : Question) (spot : Spot) : Type 0 where
+  pub system : System
+  pub meant : question.means system
+  pub too_wide : question.too_wide system spot
+
+-- ---- the questions
+
+-- the analysis of a program over the rows of a domain, for its report or for its certificate
+abbrev pub analysis_question : Meanings → Purpose → (text : List ℕ) → Domain (List ℕ) → Policy → ℕ → Question
+analysis_question m purpose text rows policy limit = record {
+  is_refused = λ cause. IsRefused text rows cause;
+  means = λ system. IsSolvedSystem text rows system;
+  too_wide = λ system spot. m.too_wide purpose system policy limit spot;
+  policy = policy;
+  limit = limit;
+}
+
+-- the analysis of a generated program over intervals, by 1,000 improvements
+abbrev pub bench_question : Meanings → (seed loops : ℕ) → Question
+bench_question m seed loops = record {
+  is_refused = λ cause. ⊥;
+  means = λ system. m.generates seed loops system;
+  too_wide = λ system spot. m.too_wide Report system Best 1000 spot;
+  policy = Best;
+  limit = 1000;
+}
+
+-- what the least bounds of a program over the rows of a domain say of claims
+abbrev pub claims_question : Meanings → (text : List ℕ) → Domain (List ℕ) → (given : List ℕ) → Policy → ℕ → Question
+claims_question m text rows given policy limit = record {
+  is_refused = λ cause. AreNoClaims text rows given cause;
+  means = λ system. IsClaimedSystem text rows given system;
+  too_wide = λ system spot. m.too_wide Report system policy limit spot ⊎ m.too_wide_for given system policy limit spot;
+  policy = policy;
+  limit = limit;
+}
+
+-- the analysis of a transition system over the rows of a domain
+abbrev pub transitions_question : Meanings → (text : List ℕ) → Domain (List ℕ) → Policy → ℕ → Question
+transitions_question m text rows policy limit = record {
+  is_refused = λ cause. AreNoTransitions text rows cause;
+  means = λ system. IsTransitionSystem text rows system;
+  too_wide = λ system spot. m.too_wide Report system policy limit spot;
+  policy = policy;
+  limit = limit;
+}
+
+-- the least solution of equations
+abbrev pub equations_question : Meanings → (text : List ℕ) → Policy → ℕ → Question
+equations_question m text policy limit = record {
+  is_refused = λ cause. IsNoEquations text cause;
+  means = λ system. IsEquationSystem text system;
+  too_wide = λ system spot. m.too_wide Report system policy limit spot;
+  policy = policy;
+  limit = limit;
+}

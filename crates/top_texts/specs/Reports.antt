@@ -1,0 +1,47 @@
+-- What is written of texts: reports of least vectors, certificates of them, and the summary of a generated program.
+use Rattle.std.specs.Prelude.{◌≡◌, ◌≤◌, ℕ, List, length}
+use Rattle.tm_tree.specs.Tree.{Statements}
+use Rattle.tm_rows.specs.Domains.{intervals_of}
+use Rattle.tm_eqsys.specs.declared.footer.Footer.TheVariants.{Accepted}
+use Rattle.tm_eqsys.specs.declared.system.System.{System}
+use Rattle.tm_eqsys.specs.Equations.{Least, Vector}
+use Rattle.tm_eqsys.specs.Solutions.{equations_of_program}
+use Rattle.tm_validity.specs.Certificates.{bounds_vector}
+use Rattle.tm_cert.specs.declared.cert.Cert.{Cert}
+use Rattle.tm_workload.specs.Bodies.{generated_body, generated_names}
+use Rattle.tm_workload.specs.Summaries.{summary_of}
+use Rattle.tm_workload.specs.Texts.{generated_text}
+use Rattle.tm_cli.specs.declared.request.Domain.{Domain}
+use Rattle.tm_cli.specs.declared.request.Policy.{Policy}
+use Rattle.tm_cli.specs.declared.request.Policy.TheVariants.{Best}
+use Rattle.top_texts.specs.Checks.{IsValidFor, NoneIsWide, system_with, theirs}
+pub use Rattle.top_texts.specs.LeastReports.{IsLeastReport, IsReportOf}
+pub use Rattle.top_texts.specs.MadeCertificates.{IsCertificateOf}
+use Rattle.top_texts.specs.Rounds.{HasRounds, IsSystemFor}
+use Rattle.tm_cli.specs.declared.request.Purpose.{Purpose}
+use Rattle.tm_cli.specs.declared.request.Purpose.TheVariants.{Report, Certificate}
+
+-- the bytes are the summary of a generated program: of its least vector over intervals, with the number of improvements by `best`
+pub record IsSummaryOf (seed loops : ℕ) (bytes : List ℕ) : Type 0 where
+  pub system : System
+  pub system_for : IsSystemFor generated_names (generated_body seed loops) (intervals_of 3) system
+  pub rounds : ℕ
+  pub within : rounds ≤ 1000
+  pub vector : Vector
+  pub has_rounds : HasRounds system Best rounds vector
+  pub least : Least (equations_of_program 3 (generated_body seed loops) (intervals_of 3)) vector
+  pub summary : bytes ≡ summary_of seed loops (length (generated_text seed loops)) system vector rounds
+
+-- they are that of a certificate's bounds, where it is valid for the text of a program
+pub record IsReportBy (text certificate : List ℕ) (bytes : List ℕ) : Type 0 where
+  pub names : List (List ℕ)
+  pub body : Statements
+  pub cert : Cert
+  pub valid : IsValidFor text certificate names body cert
+  pub narrow : NoneIsWide (system_with names body cert) (theirs cert)
+  pub least : IsLeastReport names body cert.rows (bounds_vector (system_with names body cert) cert.bounds) Accepted bytes
+
+-- what is put of an analysis
+abbrev pub IsPutOf : Purpose → List ℕ → Domain (List ℕ) → Policy → ℕ → List ℕ → Type 0
+IsPutOf Report text rows policy limit bytes = IsReportOf text rows policy limit bytes
+IsPutOf Certificate text rows policy limit bytes = IsCertificateOf text rows policy limit bytes

@@ -1,0 +1,15 @@
+-- How long texts may be.
+use Rattle.std.specs.Prelude.{◌≤◌, ℕ, List, length}
+use Rattle.tm_cli.specs.declared.request.Domain.{Domain}
+use Rattle.tm_cli.specs.declared.request.Domain.TheVariants.{Intervals, Zones, Octagons, Rows}
+
+-- a text of at most 65,536 bytes
+abbrev pub IsShort : List ℕ → Type 0
+IsShort text = length text ≤ 65536
+
+-- the text of its rows is short
+abbrev pub HasShortRows : Domain (List ℕ) → Type 0
+HasShortRows Intervals = Unit {0}
+HasShortRows Zones = Unit {0}
+HasShortRows Octagons = Unit {0}
+HasShortRows (Rows text) = IsShort text

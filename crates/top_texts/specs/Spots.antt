@@ -1,0 +1,53 @@
+-- Where an operation of the rounds, of the check of their certificate, or for claims about where they end, is wide.
+use Rattle.std.specs.Prelude.{◌≡◌, ◌⊎◌, ◌≤◌, ℕ, List, Some}
+use Rattle.tm_eqsys.specs.declared.spot.Part.{Part}
+use Rattle.tm_eqsys.specs.declared.spot.Site.TheVariants.{Claim as AtClaim}
+use Rattle.tm_eqsys.specs.declared.spot.Spot.{Spot}
+use Rattle.tm_eqsys.specs.declared.system.System.{System}
+use Rattle.tm_eqsys.specs.Equations.{Equations, Vector}
+use Rattle.tm_eqsys.specs.View.{equations_of}
+use Rattle.tm_check.specs.CheckEvents.{check_events}
+use Rattle.tm_check.specs.Events.{first_stop}
+use Rattle.tm_check.specs.declared.fault.CheckFault.TheVariants.{Wide}
+use Rattle.tm_rounds.specs.declared.solution.Solved.{Solved}
+use Rattle.tm_rounds.specs.Halts.{IsSpotOf}
+use Rattle.tm_rounds.specs.Solutions.{IsSolved, made_certificate}
+use Rattle.tm_assert.specs.AllVerdicts.{IsClaimsFault}
+use Rattle.tm_assert.specs.declared.claim.Claim.{Claim}
+use Rattle.tm_assert.specs.declared.outcome.ClaimsFault.TheVariants.{Wide as WideFor}
+use Rattle.tm_cli.specs.declared.request.Policy.{Policy}
+use Rattle.tm_cli.specs.declared.request.Purpose.{Purpose}
+use Rattle.tm_cli.specs.declared.request.Purpose.TheVariants.{Report, Certificate}
+use Rattle.top_texts.specs.ClaimTexts.{AreClaimsOf}
+use Rattle.top_texts.specs.Policies.{rule_of}
+use Rattle.top_texts.specs.Rounds.{HasRounds}
+
+-- the spot is that of a wide sum of the check of the certificate that the rounds make
+pub record IsCertifySpot (system : System) (policy : Policy) (limit : ℕ) (spot : Spot) : Type 0 where
+  pub solved : Solved
+  pub is_solved : IsSolved system (rule_of policy) limit solved
+  pub stop : first_stop (check_events (equations_of system) (made_certificate system solved)) ≡ Some (Wide spot)
+
+-- the spots of an analysis: those of the composition and of the rounds, and for a certificate those of its check too
+abbrev pub HasSpot : Purpose → System → Policy → ℕ → Spot → Type 0
+HasSpot Report system policy limit spot = IsSpotOf system (rule_of policy) limit spot
+HasSpot Certificate system policy limit spot = IsSpotOf system (rule_of policy) limit spot ⊎ IsCertifySpot system policy limit spot
+
+-- the spot is that of the first operation for claims that is wide at a vector, in the problem of this case of this claim; it is in no round
+pub record IsWideFor (system : Equations) (vector : Vector) (claims : List Claim) (spot : Spot) : Type 0 where
+  pub claim : ℕ
+  pub case : ℕ
+  pub part : Part
+  pub round : spot.round ≡ 0
+  pub site : spot.site ≡ AtClaim claim case part
+  pub wide : IsClaimsFault system vector claims (WideFor claim case part spot.wide)
+
+-- the improvements end within the limit, and the spot is that of a wide operation for the claims of a text at the vector where they end
+pub record IsClaimSpot (given : List ℕ) (system : System) (policy : Policy) (limit : ℕ) (spot : Spot) : Type 0 where
+  pub rounds : ℕ
+  pub within : rounds ≤ limit
+  pub vector : Vector
+  pub has_rounds : HasRounds system policy rounds vector
+  pub claims : List Claim
+  pub claims_are : AreClaimsOf given system.flow.names system.flow.points claims
+  pub wide : IsWideFor (equations_of system) vector claims spot

@@ -1,0 +1,76 @@
+//! The certificate that the rounds over a system make.
+
+ghost use Rattle.std.specs.Prelude.{◌≡◌, ◌≤◌, ◌++◌, IfOk, IfErr, IsTrue, OnOk};
+ghost use Rattle.tm_rows.specs.Rows.{is_template};
+ghost use Rattle.tm_eqsys.specs.Cells.{cells_of};
+ghost use Rattle.tm_eqsys.specs.View.{equations_of};
+ghost use Rattle.tm_rounds.specs.Solutions.{cert_with};
+ghost use Rattle.top_texts.specs.Parted.{IsHalted, IsRoundsCertificate};
+ghost use Rattle.tm_cli.specs.declared.request.Purpose.TheVariants.{Certificate};
+
+use super::rounds::solve;
+use crate::check::accept::accept;
+use crate::refusal::Refusal;
+use std::alloc::{AllocError, Global};
+use tm_cert::{Cert, Rows};
+use tm_cli::Policy;
+use tm_eqsys::System;
+use tm_form::write;
+use tm_rounds::Solved;
+use tm_tree::Coeffs;
+
+// Adds the rows once more.
+fn add_rows(list: &mut Vec<Coeffs>, rows: &[Coeffs]) -> Result<(), AllocError>
+    ensures { OnOk result (list.new.items ≡ list.old.items ++ rows.now) }
+{
+    for row in rows {
+        list.push(row.again()?)?;
+    }
+    Ok(())
+}
+
+// A copy of the rows of a system's template.
+fn rows_of(alloc: Global, system: &System) -> Result<Rows, AllocError>
+    ensures rows { IfOk result (λ rows. rows ≡ system.now.template) }
+    ensures template { IsTrue (is_template system.now.template) }
+{
+    let mut list: Vec<Coeffs> = Vec::new(alloc);
+    add_rows(&mut list, system.template.as_slice())?;
+    Ok(Rows::new(list))
+}
+
+// The certificate of a solution.
+fn cert_of(alloc: Global, system: &System, solved: Solved) -> Result<Cert, AllocError>
+    ensures cert { IfOk result (λ cert. cert ≡ cert_with system.now solved) }
+    ensures template { IsTrue (is_template system.now.template) }
+{
+    let rows = rows_of(alloc, system)?;
+    Ok(Cert {
+        rows,
+        bounds: solved.bounds,
+        steps: solved.steps,
+        uppers: solved.uppers,
+    })
+}
+
+/// The bytes of the certificate that the rounds over a system make.
+///
+/// # Errors
+///
+/// Those of `report_of`; a wide operation may be one of the check of the certificate, too.
+pub fn certificate_of(
+    alloc: Global,
+    system: &System,
+    policy: Policy,
+    limit: u32,
+) -> Result<Vec<u8>, Refusal>
+    requires limit { limit ≤ 1000000 }
+    requires cells { cells_of (equations_of system.now) ≤ 134217728 }
+    ensures ok { IfOk result (λ bytes. IsRoundsCertificate system.now policy limit bytes.items) }
+    ensures err { IfErr result (λ refusal. IsHalted Certificate system.now policy limit refusal) }
+{
+    let solved = solve(alloc, system, policy, limit)?;
+    let cert = cert_of(alloc, system, solved)?;
+    accept(alloc, system, &cert)?;
+    Ok(write(alloc, &cert)?)
+}

@@ -1,0 +1,101 @@
+//! The rounds over a system, and the report of their solution.
+
+ghost use Rattle.std.specs.Prelude.{◌≡◌, ◌≤◌, ◌*◌, ℕ, IfOk, IfErr, length};
+ghost use Rattle.tm_eqsys.specs.Cells.{cells_of};
+ghost use Rattle.tm_eqsys.specs.Equations.{Least};
+ghost use Rattle.tm_eqsys.specs.View.{equations_of, vector_of};
+ghost use Rattle.tm_cert.specs.Shaped.{IsShaped};
+ghost use Rattle.tm_validity.specs.Certificates.{ValidCertificate};
+ghost use Rattle.tm_eqsys.specs.declared.system.System.{System as SystemValue};
+ghost use Rattle.tm_rounds.specs.Halts.{IsHalt};
+ghost use Rattle.tm_rounds.specs.Solutions.{AreNumbered, IsSolved, cert_with, made_certificate};
+ghost use Rattle.tm_cli.specs.declared.request.Policy.{Policy as PolicyValue};
+ghost use Rattle.tm_cli.specs.declared.request.Purpose.{Purpose};
+ghost use Rattle.top_texts.specs.Parted.{IsHalted, IsRoundsReport};
+ghost use Rattle.top_texts.specs.Policies.{rule_of};
+
+use crate::refusal::Refusal;
+use std::alloc::Global;
+use tm_cli::Policy;
+use tm_eqsys::{Footer, System};
+use tm_report::report;
+use tm_rounds::{Halt, Solved, least_by_best, least_by_first};
+
+// The rounds over a system by a policy.
+fn rounds_by(alloc: Global, system: &System, policy: Policy, limit: u32) -> Result<Solved, Halt>
+    requires limit { limit ≤ 1000000 }
+    requires cells { cells_of (equations_of system.now) ≤ 134217728 }
+    ensures solved { IfOk result (IsSolved system.now (rule_of policy) limit) }
+    ensures least { IfOk result (λ solved. Least (equations_of system.now) (vector_of (length system.now.template) solved.bounds)) }
+    ensures valid { IfOk result (λ solved. ValidCertificate (equations_of system.now) (made_certificate system.now solved)) }
+    ensures shaped { IfOk result (λ solved. IsShaped (cert_with system.now solved)) }
+    ensures numbered { IfOk result (λ solved. AreNumbered system.now solved.steps) }
+    ensures halt { IfErr result (IsHalt system.now (rule_of policy) limit) }
+{
+    match policy {
+        Policy::Best => least_by_best(alloc, system, limit),
+        Policy::First => least_by_first(alloc, system, limit),
+    }
+}
+
+// The refusal of rounds that halt, where so many are allowed.
+#[tactic(auto, using(crate::proofs::analyse::Halted::halted_wide, crate::proofs::analyse::Halted::halted_spent))]
+fn halted(halt: Halt, limit: u32) -> Refusal
+    ensures { (purpose : Purpose) (policy : PolicyValue) (system : SystemValue) → IsHalt system (rule_of policy) limit halt
+        → IsHalted purpose system policy limit result }
+{
+    match halt {
+        Halt::Wide(spot) => Refusal::Wide(spot),
+        Halt::Spent(_bounds) => Refusal::Spent(limit),
+        Halt::NoMemory => Refusal::NoMemory,
+    }
+}
+
+// The least bounds of a system, by rounds of a policy.
+pub(crate) fn solve(
+    alloc: Global,
+    system: &System,
+    policy: Policy,
+    limit: u32,
+) -> Result<Solved, Refusal>
+    requires limit { limit ≤ 1000000 }
+    requires cells { cells_of (equations_of system.now) ≤ 134217728 }
+    ensures solved { IfOk result (IsSolved system.now (rule_of policy) limit) }
+    ensures least { IfOk result (λ solved. Least (equations_of system.now) (vector_of (length system.now.template) solved.bounds)) }
+    ensures count { IfOk result (λ solved. length solved.bounds ≡ length system.now.flow.points * length system.now.template) }
+    ensures valid { IfOk result (λ solved. ValidCertificate (equations_of system.now) (made_certificate system.now solved)) }
+    ensures shaped { IfOk result (λ solved. IsShaped (cert_with system.now solved)) }
+    ensures numbered { IfOk result (λ solved. AreNumbered system.now solved.steps) }
+    ensures err { IfErr result (λ refusal. (purpose : Purpose) → IsHalted purpose system.now policy limit refusal) }
+{
+    match rounds_by(alloc, system, policy, limit) {
+        Ok(solved) => Ok(solved),
+        Err(halt) => Err(halted(halt, limit)),
+    }
+}
+
+/// The whole report of the least bounds of a system, with the number of improvements by the policy.
+///
+/// # Errors
+///
+/// Improvements that are spent, a wide operation, or want of memory.
+#[tactic(auto, using(crate::proofs::rounds::OneChain::rounds_report))]
+pub fn report_of(
+    alloc: Global,
+    system: &System,
+    policy: Policy,
+    limit: u32,
+) -> Result<Vec<u8>, Refusal>
+    requires limit { limit ≤ 1000000 }
+    requires cells { cells_of (equations_of system.now) ≤ 134217728 }
+    ensures ok { IfOk result (λ bytes. IsRoundsReport system.now policy limit bytes.items) }
+    ensures err { IfErr result (λ refusal. (purpose : Purpose) → IsHalted purpose system.now policy limit refusal) }
+{
+    let solved = solve(alloc, system, policy, limit)?;
+    Ok(report(
+        alloc,
+        system,
+        &solved.bounds,
+        Footer::Improvements(solved.improvements),
+    )?)
+}

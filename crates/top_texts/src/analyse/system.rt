@@ -1,0 +1,101 @@
+//! The system of the texts of a program and of its rows.
+
+ghost use Rattle.std.specs.Prelude.{◌≡◌, ◌*◌, ◌≤◌, ◌<◌, ◌≢◌, ℕ, List, IfOk, IfErr, IsTrue, Ok, Err, length};
+ghost use Rattle.tm_tree.specs.Tree.{Statements};
+ghost use Rattle.tm_rows.specs.declared.fault.RowFault.TheVariants.{NoMemory};
+ghost use Rattle.tm_eqsys.specs.Cells.{cells_of};
+ghost use Rattle.tm_eqsys.specs.SystemLimits.{is_over};
+ghost use Rattle.tm_eqsys.specs.View.{equations_of};
+ghost use Rattle.tm_cli.specs.declared.request.Domain.{Domain as DomainValue};
+ghost use Rattle.top_status.specs.declared.status.TextCause.TheVariants.{Cells, Unknowns};
+ghost use Rattle.top_texts.specs.Short.{HasShortRows};
+ghost use Rattle.top_texts.specs.Parted.{IsRefusedBy, domain_of};
+ghost use Rattle.top_texts.specs.Texts.{HasTemplate, IsAnalysed, IsSolvedSystem};
+ghost use Rattle.tm_eqsys.specs.declared.limits.TheConstants.{MOST_UNKNOWNS};
+
+use super::template::template_of;
+use crate::program::{flow_of, program_of};
+use crate::refusal::Refusal;
+use std::alloc::Global;
+use tm_cli::Domain;
+use tm_eqsys::{System, SystemFault};
+use tm_flow::Flow;
+use tm_rows::{RowFault, Template};
+use tm_tree::Program;
+use top_status::TextCause;
+
+// How many cells the largest joint problem may have.
+const MOST_CELLS: u64 = 134217728;
+
+// The refusal of rows that have this fault.
+fn row_refusal(fault: RowFault) -> Refusal
+    ensures { (text : List ℕ) (rows : DomainValue (List ℕ)) (names : List (List ℕ)) (body : Statements) → IsAnalysed text names body
+        → (fault ≢ NoMemory → HasTemplate rows names (Err fault)) → IsRefusedBy text rows result }
+{
+    match fault {
+        RowFault::NoMemory => Refusal::NoMemory,
+        _ => Refusal::Text(TextCause::Rows(fault)),
+    }
+}
+
+// The template over the variables of a program.
+fn rows_of(alloc: Global, rows: &Domain<Vec<u8>>, program: &Program) -> Result<Template, Refusal>
+    requires { HasShortRows (domain_of rows.now) }
+    ensures template { IfOk result (λ template. HasTemplate (domain_of rows.now) program.now.names (Ok template)) }
+    ensures over { IfOk result (λ template. IsTrue (is_over (length program.now.names) template)) }
+    ensures err { IfErr result (λ refusal. (text : List ℕ)
+        → IsAnalysed text program.now.names program.now.body → IsRefusedBy text (domain_of rows.now) refusal) }
+{
+    match template_of(alloc, rows, program.names.as_slice()) {
+        Ok(template) => Ok(template),
+        Err(fault) => Err(row_refusal(fault)),
+    }
+}
+
+// The system of a flow and a template.
+pub(crate) fn system_of(flow: Flow, template: Template) -> Result<System, Refusal>
+    requires { IsTrue (is_over (length flow.names) template) }
+    ensures flow { IfOk result (λ system. system.flow ≡ flow) }
+    ensures template { IfOk result (λ system. system.template ≡ template) }
+    ensures within { IfOk result (λ _. length flow.points * length template ≤ MOST_UNKNOWNS) }
+    ensures above { IfErr result (λ _. MOST_UNKNOWNS < length flow.points * length template) }
+    ensures count { IfErr result (λ refusal. refusal ≡ Refusal.Text (Unknowns (length flow.points * length template))) }
+{
+    match System::new(flow, template) {
+        Ok(system) => Ok(system),
+        Err(SystemFault::Unknowns { count }) => Err(Refusal::Text(TextCause::Unknowns(count))),
+    }
+}
+
+// Whether the joint problems of a system have few enough cells.
+pub(crate) fn count_cells(system: &System) -> Result<(), Refusal>
+    ensures within { IfOk result (λ _. cells_of (equations_of system.now) ≤ 134217728) }
+    ensures above { IfErr result (λ _. 134217728 < cells_of (equations_of system.now)) }
+    ensures count { IfErr result (λ refusal. refusal ≡ Refusal.Text (Cells (cells_of (equations_of system.now)))) }
+{
+    let cells = system.cells();
+    if cells > MOST_CELLS {
+        return Err(Refusal::Text(TextCause::Cells(cells)));
+    }
+    Ok(())
+}
+
+/// The system of the program of a text and of these rows.
+///
+/// # Errors
+///
+/// The first cause that stands: a fault of the text or of the rows, or too many unknowns or cells; or want of memory.
+pub fn system_on(alloc: Global, text: &[u8], rows: &Domain<Vec<u8>>) -> Result<System, Refusal>
+    requires short { length text.now ≤ 65536 }
+    requires short_rows { HasShortRows (domain_of rows.now) }
+    ensures ok { IfOk result (λ system. IsSolvedSystem text.now (domain_of rows.now) system) }
+    ensures cells { IfOk result (λ system. cells_of (equations_of system) ≤ 134217728) }
+    ensures err { IfErr result (λ refusal. IsRefusedBy text.now (domain_of rows.now) refusal) }
+{
+    let program = program_of(alloc, text)?;
+    let flow = flow_of(alloc, &program)?;
+    let template = rows_of(alloc, rows, &program)?;
+    let system = system_of(flow, template)?;
+    count_cells(&system)?;
+    Ok(system)
+}

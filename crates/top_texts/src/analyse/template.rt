@@ -1,0 +1,36 @@
+//! The template of a domain or of a file of rows.
+
+ghost use Rattle.std.specs.Prelude.{◌≡◌, ◌≤◌, ◌≢◌, IfOk, IfErr, Ok, Err, length};
+ghost use Rattle.tm_rows.specs.declared.fault.RowFault.TheVariants.{NoMemory};
+ghost use Rattle.tm_rows.specs.Rows.{width_of};
+ghost use Rattle.top_texts.specs.Short.{HasShortRows};
+ghost use Rattle.top_texts.specs.Parted.{domain_of};
+ghost use Rattle.top_texts.specs.Texts.{HasTemplate};
+ghost use Rattle.tm_tree.specs.declared.limits.TheConstants.{MOST_VARIABLES};
+
+use std::alloc::Global;
+use tm_cli::Domain;
+use tm_rows::{RowFault, Template, intervals, octagons, read_rows, zones};
+use tm_tree::Name;
+
+// The template over these variables.
+pub(crate) fn template_of(
+    alloc: Global,
+    rows: &Domain<Vec<u8>>,
+    names: &[Name],
+) -> Result<Template, RowFault>
+    requires some { 1 ≤ length names.now }
+    requires few { length names.now ≤ MOST_VARIABLES }
+    requires short { HasShortRows (domain_of rows.now) }
+    ensures template { IfOk result (λ template. HasTemplate (domain_of rows.now) names.now (Ok template)) }
+    ensures width { IfOk result (λ template. width_of template ≡ length names.now) }
+    ensures refused { IfErr result (λ fault. fault ≢ NoMemory → HasTemplate (domain_of rows.now) names.now (Err fault)) }
+{
+    let vars = names.len() as u32;
+    match rows {
+        Domain::Intervals => Ok(intervals(alloc, vars)?),
+        Domain::Zones => Ok(zones(alloc, vars)?),
+        Domain::Octagons => Ok(octagons(alloc, vars)?),
+        Domain::Rows(text) => read_rows(alloc, text, names),
+    }
+}

@@ -1,0 +1,98 @@
+//! The report of the bounds of a certificate that is accepted.
+
+ghost use Rattle.std.specs.Prelude.{◌≡◌, ◌*◌, ◌≤◌, ◌<◌, ◌^◌, ℕ, List, IfOk, IfErr, IsTrue, None, Some, length};
+ghost use Rattle.std.specs.List.{list_all};
+ghost use Rattle.tm_flow.specs.Edges.{edges_of_program};
+ghost use Rattle.tm_flow.specs.Points.{points_of_program};
+ghost use Rattle.tm_eqsys.specs.Equations.{Equations, Least};
+ghost use Rattle.tm_eqsys.specs.View.{equations_of};
+ghost use Rattle.tm_validity.specs.Certificates.{Certificate, ValidCertificate, bounds_vector};
+ghost use Rattle.tm_compose.specs.Composed.{AreComposed};
+ghost use Rattle.tm_compose.specs.Operations.{wide_composition};
+ghost use Rattle.tm_check.specs.CheckEvents.{check_events};
+ghost use Rattle.tm_check.specs.Events.{first_stop};
+ghost use Rattle.tm_check.specs.Items.{is_short};
+ghost use Rattle.top_texts.specs.Checks.{IsSpelt, NoneIsWide, theirs};
+ghost use Rattle.top_texts.specs.Parted.{GetsNoReport, IsUnaccepted};
+ghost use Rattle.top_texts.specs.Reports.{IsReportBy};
+
+use super::certificate::{is_countable, system_of};
+use crate::refusal::Refusal;
+use std::alloc::Global;
+use tm_cert::Cert;
+use tm_check::{CheckFault, Scratch, check};
+use tm_eqsys::{Footer, System};
+use tm_flow::Flow;
+use tm_oper::{PathFault, Paths, compose_all};
+use tm_report::report;
+use tm_tree::Program;
+use top_status::CertCause;
+
+// The composed edges of a system.
+fn paths_of(alloc: Global, system: &System) -> Result<Paths, Refusal>
+    ensures composed { IfOk result (λ paths. AreComposed (equations_of system.now) paths) }
+    ensures narrow { IfOk result (λ _. wide_composition (equations_of system.now) ≡ None) }
+    ensures err { IfErr result (λ refusal. (certificate : Certificate) → IsUnaccepted (equations_of system.now) certificate refusal) }
+{
+    match compose_all(alloc, system) {
+        Ok(paths) => Ok(paths),
+        Err(PathFault::Wide(spot)) => Err(Refusal::Wide(spot)),
+        Err(PathFault::NoMemory) => Err(Refusal::NoMemory),
+    }
+}
+
+// The refusal of a certificate whose check stops there.
+fn check_refusal(fault: CheckFault) -> Refusal
+    ensures { (system : Equations) (certificate : Certificate) → wide_composition system ≡ None
+        → first_stop (check_events system certificate) ≡ Some fault → IsUnaccepted system certificate result }
+{
+    match fault {
+        CheckFault::Wide(spot) => Refusal::Wide(spot),
+        _ => Refusal::Certificate(CertCause::Check(fault)),
+    }
+}
+
+// Whether the certificate is valid for a system with its rows.
+pub(crate) fn accept(alloc: Global, system: &System, cert: &Cert) -> Result<(), Refusal>
+    requires rows { system.now.template ≡ cert.now.rows }
+    requires few { length cert.now.steps < 2 ^ 32 }
+    requires short { IsTrue (list_all is_short cert.now.steps) }
+    ensures valid { IfOk result (λ _. ValidCertificate (equations_of system.now) (theirs cert.now)) }
+    ensures narrow { IfOk result (λ _. NoneIsWide (equations_of system.now) (theirs cert.now)) }
+    ensures least { IfOk result (λ _. Least (equations_of system.now) (bounds_vector (equations_of system.now) cert.now.bounds)) }
+    ensures err { IfErr result (λ refusal. IsUnaccepted (equations_of system.now) (theirs cert.now) refusal) }
+{
+    let paths = paths_of(alloc, system)?;
+    let mut scratch = Scratch::new(alloc, system)?;
+    match check(system, &paths, cert, &mut scratch) {
+        Ok(()) => Ok(()),
+        Err(fault) => Err(check_refusal(fault)),
+    }
+}
+
+/// The whole report of the bounds of a certificate, where it is valid for a program.
+///
+/// # Errors
+///
+/// The first cause that stands: a fault of the certificate's rows, too many unknowns, a test that fails, or a wide operation; or
+/// want of memory.
+pub fn report_by(
+    alloc: Global,
+    program: &Program,
+    flow: Flow,
+    cert: &Cert,
+) -> Result<Vec<u8>, Refusal>
+    requires names { flow.names ≡ program.now.names }
+    requires points { flow.points ≡ points_of_program program.now.body }
+    requires edges { flow.edges ≡ edges_of_program program.now.body }
+    ensures ok { IfOk result (λ bytes. (text given : List ℕ) → IsSpelt text given program.now.names program.now.body cert.now
+        → IsReportBy text given bytes.items) }
+    ensures err { IfErr result (λ refusal. GetsNoReport program.now.names program.now.body cert.now refusal) }
+{
+    if !is_countable(cert) {
+        return Err(Refusal::NoMemory);
+    }
+    let system = system_of(alloc, program, flow, cert)?;
+    accept(alloc, &system, cert)?;
+    Ok(report(alloc, &system, &cert.bounds, Footer::Accepted)?)
+}

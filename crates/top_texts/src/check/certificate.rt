@@ -1,0 +1,139 @@
+//! From the text of a program and the bytes of a certificate to a system and its certificate, or the cause for which they
+//! are refused.
+
+ghost use Rattle.std.specs.Prelude.{◌≡◌, ◌*◌, ◌≤◌, ◌<◌, ◌^◌, ◌≢◌, ◌&&◌, ℕ, List, [], IfOk, IfErr, IsTrue, Ok, Err, Some, length, slice_get, nat_lt};
+ghost use Rattle.std.specs.List.{list_all};
+ghost use Rattle.tm_tree.specs.Tree.{Statements};
+ghost use Rattle.tm_flow.specs.Edges.{edges_of_program};
+ghost use Rattle.tm_flow.specs.Points.{points_of_program};
+ghost use Rattle.tm_rows.specs.RowFaults.{faults_of};
+ghost use Rattle.tm_rows.specs.declared.fault.RowFault.TheVariants.{NoMemory};
+ghost use Rattle.tm_eqsys.specs.SystemLimits.{is_over};
+ghost use Rattle.tm_cert.specs.declared.cert.Cert.{Cert as CertValue};
+ghost use Rattle.tm_check.specs.Items.{is_short, item_count};
+ghost use Rattle.top_texts.specs.Checks.{IsSpelt};
+ghost use Rattle.top_texts.specs.Parted.{FitsProgram, IsNoSystem, IsUnspelt};
+
+use crate::form::cert_of;
+use crate::program::{flow_of, program_of};
+use crate::refusal::Refusal;
+use std::alloc::Global;
+use tm_cert::{Cert, Step};
+use tm_eqsys::{System, SystemFault};
+use tm_flow::Flow;
+use tm_rows::{RowFault, Template, from_rows};
+use tm_tree::Program;
+use top_status::CertCause;
+
+/// A program with its points and edges, and a certificate.
+#[derive(Drop)]
+pub struct Given {
+    pub program: Program,
+    pub flow: Flow,
+    pub cert: Cert,
+}
+
+/// The program of the text, and the certificate that the bytes spell.
+///
+/// # Errors
+///
+/// A fault of the text, or else of the form of the bytes; or want of memory.
+pub fn read_given(alloc: Global, text: &[u8], bytes: &[u8]) -> Result<Given, Refusal>
+    requires { length text.now ≤ 65536 }
+    ensures spelt { IfOk result (λ given. IsSpelt text.now bytes.now given.program.names given.program.body given.cert) }
+    ensures names { IfOk result (λ given. given.flow.names ≡ given.program.names) }
+    ensures points { IfOk result (λ given. given.flow.points ≡ points_of_program given.program.body) }
+    ensures edges { IfOk result (λ given. given.flow.edges ≡ edges_of_program given.program.body) }
+    ensures err { IfErr result (λ refusal. IsUnspelt text.now bytes.now refusal) }
+{
+    let program = program_of(alloc, text)?;
+    let flow = flow_of(alloc, &program)?;
+    let cert = cert_of(alloc, bytes)?;
+    Ok(Given {
+        program,
+        flow,
+        cert,
+    })
+}
+
+// Whether the items of a step can be numbered by 32 bits.
+fn is_short(step: &Step) -> bool
+    ensures { result ≡ is_short step.now }
+{
+    let count = match step {
+        Step::Plain(items) => items.as_slice().len(),
+        Step::Jump(items) => items.as_slice().len(),
+        Step::Ray(items) => items.as_slice().len(),
+    };
+    count < 4294967296
+}
+
+// Whether the items of each step can be numbered by 32 bits.
+fn are_short(steps: &[Step]) -> bool
+    ensures { result ≡ list_all is_short steps.now }
+{
+    steps.iter().all(|step| is_short(step))
+}
+
+// Whether the rows, the steps and the items of each step can be numbered by 32 bits. It is so of every certificate that a
+// file within its limit spells.
+pub(crate) fn is_countable(cert: &Cert) -> bool
+    ensures rows { IsTrue result → length cert.now.rows < 2 ^ 32 }
+    ensures steps { IsTrue result → length cert.now.steps < 2 ^ 32 }
+    ensures items { IsTrue result → IsTrue (list_all is_short cert.now.steps) }
+{
+    cert.rows.as_slice().len() < 4294967296
+        && cert.steps.as_slice().len() < 4294967296
+        && are_short(cert.steps.as_slice())
+}
+
+// The refusal of a certificate's rows that have this fault.
+fn row_refusal(fault: RowFault) -> Refusal
+    ensures { (names : List (List ℕ)) (body : Statements) (cert : CertValue)
+        → (fault ≢ NoMemory → slice_get (faults_of (length names) cert.rows) 0 ≡ Some fault)
+        → IsNoSystem names body cert result }
+{
+    match fault {
+        RowFault::NoMemory => Refusal::NoMemory,
+        _ => Refusal::Certificate(CertCause::Rows(fault)),
+    }
+}
+
+// The template of the certificate's rows, over the variables of a program.
+fn template_of(alloc: Global, program: &Program, cert: &Cert) -> Result<Template, Refusal>
+    requires { length cert.now.rows < 2 ^ 32 }
+    ensures rows { IfOk result (λ template. template ≡ cert.now.rows) }
+    ensures sound { IfOk result (λ _. faults_of (length program.now.names) cert.now.rows ≡ []) }
+    ensures over { IfOk result (λ template. IsTrue (is_over (length program.now.names) template)) }
+    ensures err { IfErr result (λ refusal. IsNoSystem program.now.names program.now.body cert.now refusal) }
+{
+    let vars = program.names.as_slice().len() as u32;
+    match from_rows(alloc, cert.rows.as_slice(), vars) {
+        Ok(template) => Ok(template),
+        Err(fault) => Err(row_refusal(fault)),
+    }
+}
+
+// The system of a program and of a certificate's rows.
+pub(crate) fn system_of(
+    alloc: Global,
+    program: &Program,
+    flow: Flow,
+    cert: &Cert,
+) -> Result<System, Refusal>
+    requires rows { length cert.now.rows < 2 ^ 32 }
+    requires names { flow.names ≡ program.now.names }
+    requires points { flow.points ≡ points_of_program program.now.body }
+    ensures flow { IfOk result (λ system. system.flow ≡ flow) }
+    ensures template { IfOk result (λ system. system.template ≡ cert.now.rows) }
+    ensures fits { IfOk result (λ _. FitsProgram program.now.names program.now.body cert.now) }
+    ensures err { IfErr result (λ refusal. IsNoSystem program.now.names program.now.body cert.now refusal) }
+{
+    let template = template_of(alloc, program, cert)?;
+    match System::new(flow, template) {
+        Ok(system) => Ok(system),
+        Err(SystemFault::Unknowns { count }) => {
+            Err(Refusal::Certificate(CertCause::Unknowns(count)))
+        }
+    }
+}

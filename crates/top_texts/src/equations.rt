@@ -1,0 +1,90 @@
+//! The values of a text's equations.
+
+ghost use Rattle.std.specs.Prelude.{◌≡◌, ◌≢◌, ◌*◌, ◌+◌, ◌≤◌, ℕ, List, IfOk, IfErr, IsTrue, Ok, Err, length, take};
+ghost use Rattle.tm_eqsys.specs.declared.footer.Footer.TheVariants.{Improvements};
+ghost use Rattle.tm_eqsys.specs.View.{vector_of};
+ghost use Rattle.tm_equ.specs.EquationTexts.{Answers};
+ghost use Rattle.tm_equ.specs.Equations.{are_equations};
+ghost use Rattle.tm_report.specs.Values.{values_text};
+ghost use Rattle.tm_cli.specs.declared.request.Policy.{Policy as PolicyValue};
+ghost use Rattle.top_texts.specs.EquationTexts.{AreValuesOf};
+ghost use Rattle.top_texts.specs.Exact.{exact};
+ghost use Rattle.top_texts.specs.Parted.{IsUnanswered};
+ghost use Rattle.top_texts.specs.Questions.{equations_question};
+
+use crate::analyse::rounds::solve;
+use crate::refusal::Refusal;
+use std::alloc::{AllocError, Global};
+use tm_cli::Policy;
+use tm_eqsys::{Bounds, Footer, System};
+use tm_equ::{
+    EquFault, Equations, least_above_equal_right_sides, least_vectors_are_least_above, read, system,
+};
+use tm_report::values;
+use top_status::TextCause;
+
+// The refusal of a text that has this fault.
+fn equation_refusal(fault: EquFault) -> Refusal
+    ensures { (text : List ℕ) (policy : PolicyValue) (limit : ℕ) → (fault ≢ EquFault.NoMemory → Answers text (Err fault))
+        → IsUnanswered (equations_question exact text policy limit) result }
+{
+    match fault {
+        EquFault::NoMemory => Refusal::NoMemory,
+        _ => Refusal::Text(TextCause::Equ(fault)),
+    }
+}
+
+// The equations that the text reads as.
+fn equations_of(alloc: Global, text: &[u8]) -> Result<Equations, Refusal>
+    requires { length text.now ≤ 65536 }
+    ensures ok { IfOk result (λ equations. Answers text.now (Ok equations)) }
+    ensures within { IfOk result (λ equations. IsTrue (are_equations equations)) }
+    ensures err { IfErr result (λ refusal. (policy : PolicyValue) (limit : ℕ) → IsUnanswered (equations_question exact text.now policy limit) refusal) }
+{
+    match read(alloc, text) {
+        Ok(equations) => Ok(equations),
+        Err(fault) => Err(equation_refusal(fault)),
+    }
+}
+
+// The lines of the values at the loop of a system of equations: that of each row by the name of its variable.
+fn lines_of(
+    alloc: Global,
+    system: &System,
+    bounds: &Bounds,
+    improvements: u32,
+) -> Result<Vec<u8>, AllocError>
+    requires rows { length system.now.template ≤ length system.now.flow.names }
+    requires bounds { 2 * length system.now.template ≤ length bounds.now }
+    ensures { IfOk result (λ bytes. bytes.items ≡ values_text (take (length system.now.template) system.now.flow.names)
+        (vector_of (length system.now.template) bounds.now 1) (Improvements improvements)) }
+{
+    let rows = system.template.as_slice().len();
+    let names = &system.flow.names.as_slice()[..rows];
+    values(alloc, names, bounds, 1, Footer::Improvements(improvements))
+}
+
+/// The values of a text's equations, with the number of improvements by the policy, of which there may be `limit`
+/// (docs/FORMATS.md, "Equations").
+///
+/// # Errors
+///
+/// The first cause that stands: a fault of the text, or improvements that are spent; or a wide operation, or want of memory.
+pub fn equations_text(
+    alloc: Global,
+    text: &[u8],
+    policy: Policy,
+    limit: u32,
+) -> Result<Vec<u8>, Refusal>
+    requires short { length text.now ≤ 65536 }
+    requires limit { limit ≤ 1000000 }
+    ensures ok { IfOk result (λ bytes. AreValuesOf text.now policy limit bytes.items) }
+    ensures err { IfErr result (λ refusal. IsUnanswered (equations_question exact text.now policy limit) refusal) }
+{
+    least_vectors_are_least_above();
+    least_above_equal_right_sides();
+    let equations = equations_of(alloc, text)?;
+    let system = system(alloc, &equations)?;
+    let solved = solve(alloc, &system, policy, limit)?;
+    Ok(lines_of(alloc, &system, &solved.bounds, solved.improvements)?)
+}

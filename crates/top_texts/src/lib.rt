@@ -1,0 +1,32 @@
+//! What the texts of a command answer: from loaded texts to the bytes that are put, or the cause for which there are none. No file has a
+//! name here.
+#![tactic(auto)]
+
+mod analyse;
+mod bench;
+mod check;
+mod equations;
+mod form;
+mod program;
+mod prove;
+mod refusal;
+mod transitions;
+mod upgrade;
+
+// One call for each command.
+pub use analyse::{certify_text, solve_text};
+pub use bench::bench_text;
+pub use check::check_text;
+pub use equations::equations_text;
+pub use prove::prove_text;
+pub use transitions::transitions_text;
+pub use upgrade::upgrade_text;
+
+// The parts of an analysis and of a check, for other outputs and for messages.
+pub use analyse::certify::certificate_of;
+pub use analyse::least::{LeastBounds, least_on};
+pub use analyse::rounds::report_of;
+pub use analyse::system::system_on;
+pub use check::accept::report_by;
+pub use check::certificate::{Given, read_given};
+pub use refusal::{Refusal, refused};

@@ -1,0 +1,126 @@
+//! The verdicts of a program's least bounds on the claims of a text.
+
+ghost use Rattle.std.specs.Prelude.{◌≡◌, ◌≢◌, ◌≤◌, ℕ, List, IfOk, IfErr, Err, length};
+ghost use Rattle.std.specs.List.{All};
+ghost use Rattle.tm_eqsys.specs.Equations.{Equations, Vector};
+ghost use Rattle.tm_eqsys.specs.View.{equations_of, vector_at, IsVectorOf};
+ghost use Rattle.tm_eqsys.specs.declared.system.System.{System as SystemValue};
+ghost use Rattle.tm_assert.specs.AllVerdicts.{AreVerdicts, IsClaimsFault};
+ghost use Rattle.tm_assert.specs.Claims.{FileMeans, Stands};
+ghost use Rattle.tm_assert.specs.declared.claim.Claim.{Claim as ClaimValue};
+ghost use Rattle.tm_cli.specs.declared.request.Domain.{Domain as DomainValue};
+ghost use Rattle.tm_cli.specs.declared.request.Policy.{Policy as PolicyValue};
+ghost use Rattle.top_texts.specs.ClaimTexts.{AreClaimsOf, AreVerdictsOf};
+ghost use Rattle.top_texts.specs.Exact.{exact};
+ghost use Rattle.top_texts.specs.Short.{HasShortRows};
+ghost use Rattle.top_texts.specs.Parted.{AreUnjudged, IsUnanswered, domain_of};
+ghost use Rattle.top_texts.specs.Questions.{claims_question};
+ghost use Rattle.top_texts.specs.Texts.{IsSolvedSystem};
+
+use crate::analyse::rounds::solve;
+use crate::analyse::system::system_on;
+use crate::refusal::Refusal;
+use std::alloc::Global;
+use tm_assert::{
+    Claim, ClaimFault, ClaimsFault, Verdict, open_states_break, proved_verdicts_hold, read_claims,
+    verdicts, verdicts_text,
+};
+use tm_cli::{Domain, Policy};
+use tm_eqsys::{Bounds, Site, Spot, System};
+use top_status::TextCause;
+
+// The refusal of a text of claims that has this fault over a system's names and points.
+fn claim_refusal(fault: ClaimFault) -> Refusal
+    ensures { (text : List ℕ) (rows : DomainValue (List ℕ)) (given : List ℕ) (policy : PolicyValue) (limit : ℕ) (system : SystemValue)
+        → IsSolvedSystem text rows system
+        → (fault ≢ ClaimFault.NoMemory → FileMeans given system.flow.names system.flow.points (Err fault))
+        → IsUnanswered (claims_question exact text rows given policy limit) result }
+{
+    match fault {
+        ClaimFault::NoMemory => Refusal::NoMemory,
+        _ => Refusal::Text(TextCause::Claims(fault)),
+    }
+}
+
+// The claims that a text states over a system's names and points.
+fn claims_of(alloc: Global, given: &[u8], system: &System) -> Result<Vec<Claim>, Refusal>
+    requires { length given.now ≤ 65536 }
+    ensures ok { IfOk result (λ claims. AreClaimsOf given.now system.now.flow.names system.now.flow.points claims.items) }
+    ensures err { IfErr result (λ refusal. (text : List ℕ) (rows : DomainValue (List ℕ)) (policy : PolicyValue) (limit : ℕ)
+        → IsSolvedSystem text rows system.now → IsUnanswered (claims_question exact text rows given.now policy limit) refusal) }
+{
+    match read_claims(alloc, given, &system.flow) {
+        Ok(claims) => Ok(claims),
+        Err(fault) => Err(claim_refusal(fault)),
+    }
+}
+
+// The refusal of claims for which an operation is too wide.
+fn verdict_refusal(fault: ClaimsFault) -> Refusal
+    ensures { (system : Equations) (vector : Vector) (claims : List ClaimValue) → IsClaimsFault system vector claims fault
+        → AreUnjudged system vector claims result }
+{
+    match fault {
+        ClaimsFault::Wide {
+            claim,
+            case,
+            part,
+            wide,
+        } => Refusal::Wide(Spot {
+            round: 0,
+            site: Site::Claim { claim, case, part },
+            wide,
+        }),
+        ClaimsFault::NoMemory => Refusal::NoMemory,
+    }
+}
+
+// The verdicts of bounds on claims over a system's names and points.
+fn verdicts_at(
+    alloc: Global,
+    system: &System,
+    bounds: &Bounds,
+    claims: &[Claim],
+) -> Result<Vec<Verdict>, Refusal>
+    requires bounds { IsVectorOf system.now bounds.now }
+    requires claims { All (Stands system.now.flow.names system.now.flow.points) claims.now }
+    ensures ok { IfOk result (λ list. AreVerdicts (equations_of system.now) (vector_at system.now bounds.now) claims.now list.items) }
+    ensures err { IfErr result (λ refusal. AreUnjudged (equations_of system.now) (vector_at system.now bounds.now) claims.now refusal) }
+{
+    match verdicts(alloc, system, bounds, claims) {
+        Ok(list) => Ok(list),
+        Err(fault) => Err(verdict_refusal(fault)),
+    }
+}
+
+/// The verdicts of the least bounds of the program of `text`, over these rows, on the claims that `given` states, with the
+/// number of improvements by the policy, of which there may be `limit` (docs/FORMATS.md, "Verdicts").
+///
+/// # Errors
+///
+/// The first cause that stands: one of the analysis, a fault of the claims, or improvements that are spent; or a wide operation,
+/// or want of memory.
+pub fn prove_text(
+    alloc: Global,
+    text: &[u8],
+    rows: &Domain<Vec<u8>>,
+    given: &[u8],
+    policy: Policy,
+    limit: u32,
+) -> Result<Vec<u8>, Refusal>
+    requires short { length text.now ≤ 65536 }
+    requires short_rows { HasShortRows (domain_of rows.now) }
+    requires short_claims { length given.now ≤ 65536 }
+    requires limit { limit ≤ 1000000 }
+    ensures ok { IfOk result (λ bytes. AreVerdictsOf exact text.now (domain_of rows.now) given.now policy limit bytes.items) }
+    ensures err { IfErr result (λ refusal. IsUnanswered (claims_question exact text.now (domain_of rows.now) given.now policy limit) refusal) }
+{
+    proved_verdicts_hold();
+    open_states_break();
+    let system = system_on(alloc, text, rows)?;
+    let claims = claims_of(alloc, given, &system)?;
+    let solved = solve(alloc, &system, policy, limit)?;
+    let list = verdicts_at(alloc, &system, &solved.bounds, &claims)?;
+    let names = system.flow.names.as_slice();
+    Ok(verdicts_text(alloc, names, &claims, &list, solved.improvements)?)
+}

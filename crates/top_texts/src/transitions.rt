@@ -1,0 +1,133 @@
+//! The system of the texts of a transition system and of its rows, and the report of its least bounds.
+
+ghost use Rattle.std.specs.Prelude.{◌≡◌, ◌≢◌, ◌≤◌, ℕ, List, IfOk, IfErr, IsTrue, None, Ok, Err, length};
+ghost use Rattle.tm_auto.specs.AutoFaults.{fault_of};
+ghost use Rattle.tm_auto.specs.AutoTexts.{IsAuto, content};
+ghost use Rattle.tm_auto.specs.Choices.{edges_of};
+ghost use Rattle.tm_eqsys.specs.Cells.{cells_of};
+ghost use Rattle.tm_eqsys.specs.SystemLimits.{is_over};
+ghost use Rattle.tm_eqsys.specs.View.{equations_of};
+ghost use Rattle.tm_rows.specs.declared.fault.RowFault.TheVariants as row_fault;
+ghost use Rattle.tm_cli.specs.declared.request.Domain.{Domain as DomainValue};
+ghost use Rattle.top_texts.specs.Exact.{exact};
+ghost use Rattle.top_texts.specs.Short.{HasShortRows};
+ghost use Rattle.top_texts.specs.Parted.{IsRefusedAlong, IsUnanswered, domain_of};
+ghost use Rattle.top_texts.specs.Questions.{transitions_question};
+ghost use Rattle.top_texts.specs.Texts.{HasTemplate};
+ghost use Rattle.top_texts.specs.TransitionTexts.{AreNoTransitions, IsAutoReport, IsAutoText, IsTransitionSystem};
+
+use crate::analyse::rounds::report_of;
+use crate::analyse::system::{count_cells, system_of};
+use crate::analyse::template::template_of;
+use crate::refusal::Refusal;
+use std::alloc::Global;
+use tm_auto::{Auto, AutoFault, flow, post_solutions_hold_along, read};
+use tm_cli::{Domain, Policy};
+use tm_eqsys::System;
+use tm_flow::Flow;
+use tm_rows::{RowFault, Template};
+use top_status::TextCause;
+
+// The refusal of a text that has this fault.
+fn auto_refusal(fault: AutoFault) -> Refusal
+    ensures { (text : List ℕ) (rows : DomainValue (List ℕ))
+        → (fault ≢ AutoFault.NoMemory → AreNoTransitions text rows (TextCause.Auto fault)) → IsRefusedAlong text rows result }
+{
+    match fault {
+        AutoFault::NoMemory => Refusal::NoMemory,
+        _ => Refusal::Text(TextCause::Auto(fault)),
+    }
+}
+
+// The refusal of rows that have this fault.
+fn row_refusal(fault: RowFault) -> Refusal
+    ensures { (text : List ℕ) (rows : DomainValue (List ℕ))
+        → (fault ≢ row_fault.NoMemory → AreNoTransitions text rows (TextCause.Rows fault)) → IsRefusedAlong text rows result }
+{
+    match fault {
+        RowFault::NoMemory => Refusal::NoMemory,
+        _ => Refusal::Text(TextCause::Rows(fault)),
+    }
+}
+
+// The transition system that the text reads as.
+fn auto_of(alloc: Global, text: &[u8]) -> Result<Auto, Refusal>
+    requires { length text.now ≤ 65536 }
+    ensures ok { IfOk result (λ auto. IsAuto text.now (Ok (content auto))) }
+    ensures err { IfErr result (λ refusal. (rows : DomainValue (List ℕ)) → IsRefusedAlong text.now rows refusal) }
+{
+    match read(alloc, text) {
+        Ok(auto) => Ok(auto),
+        Err(fault) => Err(auto_refusal(fault)),
+    }
+}
+
+// Its points and edges.
+fn flow_along(alloc: Global, auto: &Auto) -> Result<Flow, Refusal>
+    ensures names { IfOk result (λ flow. flow.names ≡ auto.now.names) }
+    ensures points { IfOk result (λ flow. flow.points ≡ auto.now.points) }
+    ensures edges { IfOk result (λ flow. flow.edges ≡ edges_of (length auto.now.points) auto.now.edges) }
+    ensures within { IfOk result (λ _. fault_of (length auto.now.points) auto.now.edges ≡ None) }
+    ensures err { IfErr result (λ refusal. (text : List ℕ) (rows : DomainValue (List ℕ))
+        → IsAuto text (Ok (content auto.now)) → IsRefusedAlong text rows refusal) }
+{
+    match flow(alloc, auto) {
+        Ok(flow) => Ok(flow),
+        Err(fault) => Err(auto_refusal(fault)),
+    }
+}
+
+// The template over its variables.
+fn rows_along(alloc: Global, rows: &Domain<Vec<u8>>, auto: &Auto) -> Result<Template, Refusal>
+    requires { HasShortRows (domain_of rows.now) }
+    ensures template { IfOk result (λ template. HasTemplate (domain_of rows.now) auto.now.names (Ok template)) }
+    ensures over { IfOk result (λ template. IsTrue (is_over (length auto.now.names) template)) }
+    ensures err { IfErr result (λ refusal. (text : List ℕ) → IsAutoText text auto.now → IsRefusedAlong text (domain_of rows.now) refusal) }
+{
+    match template_of(alloc, rows, auto.names.as_slice()) {
+        Ok(template) => Ok(template),
+        Err(fault) => Err(row_refusal(fault)),
+    }
+}
+
+// The system of these texts.
+fn system_along(alloc: Global, text: &[u8], rows: &Domain<Vec<u8>>) -> Result<System, Refusal>
+    requires short { length text.now ≤ 65536 }
+    requires short_rows { HasShortRows (domain_of rows.now) }
+    ensures ok { IfOk result (λ system. IsTransitionSystem text.now (domain_of rows.now) system) }
+    ensures cells { IfOk result (λ system. cells_of (equations_of system) ≤ 134217728) }
+    ensures err { IfErr result (λ refusal. IsRefusedAlong text.now (domain_of rows.now) refusal) }
+{
+    let auto = auto_of(alloc, text)?;
+    let flow = flow_along(alloc, &auto)?;
+    let template = rows_along(alloc, rows, &auto)?;
+    let system = system_of(flow, template)?;
+    count_cells(&system)?;
+    Ok(system)
+}
+
+/// The whole report of the least bounds of the transition system of `text`, over these rows, with the number of improvements
+/// by the policy, of which there may be `limit` (docs/FORMATS.md, "The report").
+///
+/// # Errors
+///
+/// The first cause that stands: a fault of the text, of its edges or of the rows, too many unknowns or cells, or improvements that
+/// are spent; or a wide operation, or want of memory.
+pub fn transitions_text(
+    alloc: Global,
+    text: &[u8],
+    rows: &Domain<Vec<u8>>,
+    policy: Policy,
+    limit: u32,
+) -> Result<Vec<u8>, Refusal>
+    requires short { length text.now ≤ 65536 }
+    requires short_rows { HasShortRows (domain_of rows.now) }
+    requires limit { limit ≤ 1000000 }
+    ensures ok { IfOk result (λ bytes. IsAutoReport text.now (domain_of rows.now) policy limit bytes.items) }
+    ensures err { IfErr result (λ refusal. IsUnanswered (transitions_question exact text.now (domain_of rows.now) policy limit) refusal) }
+{
+    post_solutions_hold_along();
+    let system = system_along(alloc, text, rows)?;
+    let bytes = report_of(alloc, &system, policy, limit)?;
+    Ok(bytes)
+}
