@@ -1,10 +1,10 @@
 #!/bin/bash
 # Solves the linear programs of bench/lp with both tableaux of this repository, with glpsol's exact solver and with QSopt_ex's esolver,
 # as far as these are installed, and prints seconds of processor time, the least of five runs, and how many times as long the sparse
-# tableau takes as each of the others. Wants the program: (cd crates/lp_bench && rt run), and the packages glpk-utils and qsopt-ex.
+# tableau takes as each of the others. Wants the program: (cd crates/bench_lp && rt run), and the packages glpk-utils and qsopt-ex.
 #     bench/lp.sh [RUNS] [FILE..]
 cd "$(dirname "$0")/.." || exit 1
-program=$PWD/crates/lp_bench/out/lp_bench
+program=$PWD/crates/bench_lp/out/bench_lp
 runs=${1:-5}
 shift
 [ $# -gt 0 ] || set -- bench/lp/*.lp

@@ -1,4 +1,4 @@
-// The work of the program frac_bench, done by GMP's mpq: the same pseudo-random operands, and the same sums over the
+// The work of the program bench_fractions, done by GMP's mpq: the same pseudo-random operands, and the same sums over the
 // results, where a result counts as wide if a part of it is above 9223372036854775807.
 //     gcc -O2 bench/mpq.c -o mpq -lgmp && ./mpq 1
 #include <gmp.h>

@@ -1,6 +1,6 @@
 -- What comes of the right side of an assignment.
 use Rattle.std.specs.Prelude.{ℕ, List, Option, Result, Ok}
-use Rattle.tm_tree.specs.declared.form.Form.{Form}
+use Rattle.lang_tree.specs.declared.form.Form.{Form}
 use Rattle.lang_meaning.specs.declared.fault.ParseFault.{ParseFault}
 use Rattle.lang_meaning.specs.Results.{◌>>=◌}
 use Rattle.lang_meaning.specs.Walk.{State, one, assignment}

@@ -1,9 +1,9 @@
 //! What follows a value, and what comes of an expression that ends.
 #![tactic(auto, using(lang_meaning::proofs::results::Binds::then_ok, lang_meaning::proofs::results::Binds::then_err))]
 
-ghost use Rattle.tm_gram.specs.View.{change_of};
-ghost use Rattle.tm_lex.specs.Lines.{line_at};
-ghost use Rattle.tm_tree.specs.View.{condition_of};
+ghost use Rattle.lang_grammar.specs.View.{change_of};
+ghost use Rattle.lang_tokens.specs.Lines.{line_at};
+ghost use Rattle.lang_tree.specs.View.{condition_of};
 ghost use Rattle.lang_meaning.specs.Walk.{assigned};
 ghost use Rattle.lang_meaning.specs.Feed.{decided, after_paren, after_semicolon, after_comma, followed};
 ghost use Rattle.lang_meaning.specs.Gives.{Gives};
@@ -19,9 +19,9 @@ use lang_reader::{
     Frame, Lexeme, Mode, Reader, Source, Test, Value, Within, assignment, level, one, regarded,
     tested,
 };
-use tm_gram::{Change, Symbol};
-use tm_lex::line_of;
-use tm_tree::{Cond, Stmt};
+use lang_grammar::{Change, Symbol};
+use lang_tokens::line_of;
+use lang_tree::{Cond, Stmt};
 
 // The condition of the statement at `place` is there.
 fn decided(

@@ -2,8 +2,8 @@
 #![tactic(auto, using(lang_meaning::proofs::results::Binds::then_ok, lang_meaning::proofs::results::Binds::then_err))]
 
 ghost use Rattle.std.specs.Prelude.{◌≡◌, IfOk};
-ghost use Rattle.tm_gram.specs.View.{symbol_kind};
-ghost use Rattle.tm_lex.specs.Lines.{line_at};
+ghost use Rattle.lang_grammar.specs.View.{symbol_kind};
+ghost use Rattle.lang_tokens.specs.Lines.{line_at};
 ghost use Rattle.lang_meaning.specs.Feed.{signed, wanted};
 ghost use Rattle.lang_meaning.specs.Gives.{Gives};
 ghost use Rattle.lang_reader.specs.Frames.{frames_of};
@@ -16,7 +16,7 @@ use lang_reader::{
     variable_form,
 };
 use std::alloc::AllocError;
-use tm_gram::{Op, Symbol};
+use lang_grammar::{Op, Symbol};
 
 // A sign, a parenthesis or `nondet` where an operand has to stand.
 fn signed(frames: &mut Frames, symbol: Symbol, place: u32) -> Result<Mode, AllocError>

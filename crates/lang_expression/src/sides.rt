@@ -2,15 +2,15 @@
 #![tactic(auto, using(lang_meaning::proofs::results::Binds::then_ok, lang_meaning::proofs::results::Binds::then_err))]
 
 ghost use Rattle.std.specs.Prelude.{◌≡◌};
-ghost use Rattle.tm_gram.specs.View.{change_of};
+ghost use Rattle.lang_grammar.specs.View.{change_of};
 ghost use Rattle.lang_meaning.specs.Walk.{right_side, assigned};
 ghost use Rattle.lang_meaning.specs.Gives.{Gives};
 ghost use Rattle.lang_reader.specs.Values.{value_of};
 
 use lang_meaning::ParseFault;
 use lang_reader::{Source, Value, number_of, together, variable_form};
-use tm_gram::Change;
-use tm_tree::Form;
+use lang_grammar::Change;
+use lang_tree::Form;
 
 // The right side of the `=` at `sign`: a form, or any value.
 pub(crate) fn right_side(sign: u32, value: Value) -> Result<Option<Form>, ParseFault>

@@ -1,7 +1,7 @@
 -- The second pass over the tokens of an expression.
 use Rattle.std.specs.Prelude.{ℕ, List, [], length, Result, Ok, Err}
-use Rattle.tm_gram.specs.Grammar.{semicolon, Token, token}
-use Rattle.tm_lex.specs.Lines.{line_at}
+use Rattle.lang_grammar.specs.Grammar.{semicolon, Token, token}
+use Rattle.lang_tokens.specs.Lines.{line_at}
 use Rattle.lang_meaning.specs.declared.fault.ParseFault.{ParseFault}
 use Rattle.lang_meaning.specs.declared.fault.ParseFault.TheVariants as fault
 use Rattle.lang_meaning.specs.Results.{◌>>=◌}

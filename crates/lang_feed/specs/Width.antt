@@ -1,6 +1,6 @@
 -- How many variables a text declares, told by its tokens.
 use Rattle.std.specs.Prelude.{ℕ, ◌+◌, List, [], ◌∷◌}
-use Rattle.tm_gram.specs.Grammar.{Kind, comma, int_word, Token, token}
+use Rattle.lang_grammar.specs.Grammar.{Kind, comma, int_word, Token, token}
 
 -- the sum of what each token counts
 abbrev pub total : (Kind → ℕ) → List Token → ℕ

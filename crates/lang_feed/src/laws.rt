@@ -1,10 +1,10 @@
 //! What is true of the second pass.
 
 ghost use Rattle.std.specs.Prelude.{◌≡◌, ℕ, List};
-ghost use Rattle.tm_gram.specs.Grammar.{Token, Program, Reads, Expr, Groups, spell_expr};
-ghost use Rattle.tm_gram.specs.View.{tokens_of};
-ghost use Rattle.tm_lex.specs.TokenLists.{AreTokensOf};
-ghost use Rattle.tm_lex.specs.declared.token.Token as lex_token;
+ghost use Rattle.lang_grammar.specs.Grammar.{Token, Program, Reads, Expr, Groups, spell_expr};
+ghost use Rattle.lang_grammar.specs.View.{tokens_of};
+ghost use Rattle.lang_tokens.specs.TokenLists.{AreTokensOf};
+ghost use Rattle.lang_tokens.specs.declared.token.Token as lex_token;
 ghost use Rattle.lang_meaning.specs.Walk.{walk, width_of};
 ghost use Rattle.lang_meaning.specs.Meaning.{Answer, Means};
 ghost use Rattle.lang_meaning.specs.Feed.{reading};

@@ -1,11 +1,11 @@
 -- What an expression by itself means: a number, a condition or `nondet()`, with the token behind it, or the first fault.
 use Rattle.std.specs.Prelude.{◌≡◌, ◌⊎◌, ◌+◌, ℕ, suc, zero, List, [], ◌∷◌, drop, length, Result, Ok, Err, IsTrue}
-use Rattle.tm_gram.specs.Grammar.{Token, token, Expr}
-use Rattle.tm_gram.specs.Expressions.{IsLongest, FindsExpr, stops_at, nests_at}
-use Rattle.tm_lex.specs.Lines.{line_at}
-use Rattle.tm_tree.specs.declared.form.Form.{Form}
-use Rattle.tm_tree.specs.Limits.{is_form, is_tested}
-use Rattle.tm_tree.specs.Tree.{Condition, free}
+use Rattle.lang_grammar.specs.Grammar.{Token, token, Expr}
+use Rattle.lang_grammar.specs.Expressions.{IsLongest, FindsExpr, stops_at, nests_at}
+use Rattle.lang_tokens.specs.Lines.{line_at}
+use Rattle.lang_tree.specs.declared.form.Form.{Form}
+use Rattle.lang_tree.specs.Limits.{is_form, is_tested}
+use Rattle.lang_tree.specs.Tree.{Condition, free}
 use Rattle.lang_meaning.specs.declared.fault.ParseFault.{ParseFault}
 use Rattle.lang_meaning.specs.declared.fault.ParseFault.TheVariants as fault
 use Rattle.lang_meaning.specs.declared.fault.Limit.TheVariants.{Nesting}

@@ -1,12 +1,12 @@
 -- The walk token by token, with a stack of what is pending.
 use Rattle.std.specs.Prelude.{if◌then◌else◌, nat_lt, Bool, true, false, ℕ, pos, List, [], ◌∷◌, length, Option, Some, None, Result, Ok}
-use Rattle.tm_gram.specs.Grammar.{Op, or_op, and_op, compare_op, plus_op, minus_op, times_op, level, Prefix, negative, positive, negation, Change, Direction}
-use Rattle.tm_gram.specs.Grammar.{Kind, a_name, a_number, infix_sign, bang, left_paren, right_paren, left_brace, right_brace, comma, semicolon, colon}
-use Rattle.tm_gram.specs.Grammar.{change_sign, step_sign, int_word, if_word, else_word, while_word, do_word, for_word, jump_word, return_word, assume_word, nondet_word, Token, token}
-use Rattle.tm_tree.specs.declared.change.Change as tree_change
-use Rattle.tm_tree.specs.declared.change.Change.TheVariants as change
-use Rattle.tm_tree.specs.Tree as tree
-use Rattle.tm_tree.specs.Tree.{Condition, Statement, Statements, nil, cons, leaf_count}
+use Rattle.lang_grammar.specs.Grammar.{Op, or_op, and_op, compare_op, plus_op, minus_op, times_op, level, Prefix, negative, positive, negation, Change, Direction}
+use Rattle.lang_grammar.specs.Grammar.{Kind, a_name, a_number, infix_sign, bang, left_paren, right_paren, left_brace, right_brace, comma, semicolon, colon}
+use Rattle.lang_grammar.specs.Grammar.{change_sign, step_sign, int_word, if_word, else_word, while_word, do_word, for_word, jump_word, return_word, assume_word, nondet_word, Token, token}
+use Rattle.lang_tree.specs.declared.change.Change as tree_change
+use Rattle.lang_tree.specs.declared.change.Change.TheVariants as change
+use Rattle.lang_tree.specs.Tree as tree
+use Rattle.lang_tree.specs.Tree.{Condition, Statement, Statements, nil, cons, leaf_count}
 use Rattle.lang_meaning.specs.declared.fault.ParseFault.{ParseFault}
 use Rattle.lang_meaning.specs.Results.{◌>>=◌}
 use Rattle.lang_meaning.specs.Forms.{constant_form, variable_form}

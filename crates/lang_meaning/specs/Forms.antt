@@ -2,7 +2,7 @@
 use Rattle.std.specs.Prelude.{ℕ, ℤ, pos, ◌+◌, ◌+ℤ◌, ◌-ℤ◌, ◌*ℤ◌, Bool, true, false, List, [], ◌∷◌, nat_abs, nat_le, replicate, slice_set}
 use Rattle.std.specs.List.{list_all}
 use Rattle.std.specs.Ordering.{int_eq}
-use Rattle.tm_tree.specs.declared.form.Form.{Form}
+use Rattle.lang_tree.specs.declared.form.Form.{Form}
 
 -- the whole number z
 abbrev pub constant_form : ℕ → ℤ → Form

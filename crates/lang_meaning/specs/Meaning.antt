@@ -1,10 +1,10 @@
 -- What the tokens of a text mean: a program, or the first fault.
 use Rattle.std.specs.Prelude.{◌≡◌, ◌⊎◌, ℕ, List, Result, Err}
-use Rattle.tm_gram.specs.Grammar.{Token, Program, Reads}
-use Rattle.tm_gram.specs.Depth.{unexpected, nested}
-use Rattle.tm_gram.specs.Faults.{Fine, Finds}
-use Rattle.tm_lex.specs.Lines.{line_at}
-use Rattle.tm_tree.specs.Tree.{Statements}
+use Rattle.lang_grammar.specs.Grammar.{Token, Program, Reads}
+use Rattle.lang_grammar.specs.Depth.{unexpected, nested}
+use Rattle.lang_grammar.specs.Faults.{Fine, Finds}
+use Rattle.lang_tokens.specs.Lines.{line_at}
+use Rattle.lang_tree.specs.Tree.{Statements}
 use Rattle.lang_meaning.specs.declared.fault.ParseFault.{ParseFault}
 use Rattle.lang_meaning.specs.declared.fault.ParseFault.TheVariants as fault
 use Rattle.lang_meaning.specs.declared.fault.Limit.TheVariants.{Nesting}

@@ -1,8 +1,8 @@
 -- The bytes of names among the tokens of a text.
 use Rattle.std.specs.Prelude.{◌≤◌, ◌+◌, ℕ, List, [], ◌∷◌, IsTrue, length, slice_range}
-use Rattle.tm_lex.specs.declared.token.Kind as lex_kind
-use Rattle.tm_lex.specs.declared.token.Token.{Token}
-use Rattle.tm_tree.specs.Word.{is_word}
+use Rattle.lang_tokens.specs.declared.token.Kind as lex_kind
+use Rattle.lang_tokens.specs.declared.token.Token.{Token}
+use Rattle.lang_tree.specs.Word.{is_word}
 
 -- the bytes of a name are a word of the text
 abbrev pub IsWordIn : lex_kind.Kind → List ℕ → Token → Type 0

@@ -2,20 +2,20 @@
 use Rattle.std.specs.Prelude.{if◌then◌else◌, ◌++◌, Bool, true, false, nat_lt, nat_eq, ℕ, suc, ℤ, pos, negsuc, List, [], ◌∷◌, length, take, Option, Some, None, Result, Ok, Err}
 use Rattle.std.specs.Prelude.{min, ◌+◌}
 use Rattle.std.specs.List.{list_any}
-use Rattle.tm_gram.specs.Grammar.{Relation, equal, unequal, less, at_most, greater, at_least, Op, or_op, and_op, compare_op, plus_op, minus_op, times_op}
-use Rattle.tm_gram.specs.Grammar.{Prefix, negative, positive, negation, Change, replaces, adds, subtracts, Direction, up, down, Expr, number, variable, free}
-use Rattle.tm_gram.specs.Grammar.{grouped, prefixed, joined, Declarator, bare, given, Declarators, declares, declares_more, Core, empty, block, if_alone}
-use Rattle.tm_gram.specs.Grammar.{if_else, repeat, repeat_after, repeat_for, jumps, assumed, updates, Update, set, step_after, step_before, ForFirst, no_first}
-use Rattle.tm_gram.specs.Grammar.{declared_first, updated_first, ForTest, no_test, given_test, ForLast, no_last, updated_last, Jump, breaks, continues}
-use Rattle.tm_gram.specs.Grammar.{Sub, labelled, plain, Items, no_items, label, declaration, item, Program, program}
-use Rattle.tm_tree.specs.declared.change.Change as tree_change
-use Rattle.tm_tree.specs.declared.change.Change.TheVariants as change
-use Rattle.tm_tree.specs.declared.form.Form.{Form}
-use Rattle.tm_tree.specs.declared.cond.Rel.{Rel}
-use Rattle.tm_tree.specs.declared.cond.Rel.TheVariants as rel
-use Rattle.tm_tree.specs.Numbers.{is_number}
-use Rattle.tm_tree.specs.Tree as tree
-use Rattle.tm_tree.specs.Tree.{Condition, Statement, Statements, nil, cons, leaf_count}
+use Rattle.lang_grammar.specs.Grammar.{Relation, equal, unequal, less, at_most, greater, at_least, Op, or_op, and_op, compare_op, plus_op, minus_op, times_op}
+use Rattle.lang_grammar.specs.Grammar.{Prefix, negative, positive, negation, Change, replaces, adds, subtracts, Direction, up, down, Expr, number, variable, free}
+use Rattle.lang_grammar.specs.Grammar.{grouped, prefixed, joined, Declarator, bare, given, Declarators, declares, declares_more, Core, empty, block, if_alone}
+use Rattle.lang_grammar.specs.Grammar.{if_else, repeat, repeat_after, repeat_for, jumps, assumed, updates, Update, set, step_after, step_before, ForFirst, no_first}
+use Rattle.lang_grammar.specs.Grammar.{declared_first, updated_first, ForTest, no_test, given_test, ForLast, no_last, updated_last, Jump, breaks, continues}
+use Rattle.lang_grammar.specs.Grammar.{Sub, labelled, plain, Items, no_items, label, declaration, item, Program, program}
+use Rattle.lang_tree.specs.declared.change.Change as tree_change
+use Rattle.lang_tree.specs.declared.change.Change.TheVariants as change
+use Rattle.lang_tree.specs.declared.form.Form.{Form}
+use Rattle.lang_tree.specs.declared.cond.Rel.{Rel}
+use Rattle.lang_tree.specs.declared.cond.Rel.TheVariants as rel
+use Rattle.lang_tree.specs.Numbers.{is_number}
+use Rattle.lang_tree.specs.Tree as tree
+use Rattle.lang_tree.specs.Tree.{Condition, Statement, Statements, nil, cons, leaf_count}
 use Rattle.lang_meaning.specs.declared.fault.ParseFault.{ParseFault}
 use Rattle.lang_meaning.specs.declared.fault.ParseFault.TheVariants.{UnknownName, NameTwice, NotAffine, NondetHere, BigNumber, NoVariables, OutsideLoop}
 use Rattle.lang_meaning.specs.declared.fault.ParseFault.TheVariants as fault
@@ -24,7 +24,7 @@ use Rattle.lang_meaning.specs.declared.fault.Limit.TheVariants as limit
 use Rattle.lang_meaning.specs.Results.{◌>>=◌}
 use Rattle.lang_meaning.specs.Names.{place_of}
 use Rattle.lang_meaning.specs.Forms.{constant_form, variable_form, plus, minus, scaled, is_constant, is_comparable}
-use Rattle.tm_tree.specs.declared.limits.TheConstants.{MOST_VARIABLES}
+use Rattle.lang_tree.specs.declared.limits.TheConstants.{MOST_VARIABLES}
 
 -- What an expression is: a number with the place of its first token, a truth value, or `nondet()` at its place.
 pub data Value : Type 0 where

@@ -1,11 +1,11 @@
 //! What is true of the meaning of texts.
 
 ghost use Rattle.std.specs.Prelude.{◌≡◌, ℕ, List, Ok, IsTrue, length};
-ghost use Rattle.tm_gram.specs.Grammar.{Token};
+ghost use Rattle.lang_grammar.specs.Grammar.{Token};
 ghost use Rattle.lang_meaning.specs.Meaning.{Answer, Means};
 ghost use Rattle.lang_meaning.specs.Expressions.{Meaning, ExpressionAnswer, ExpressionMeans, MeaningFits};
-ghost use Rattle.tm_tree.specs.Limits.{is_program};
-ghost use Rattle.tm_tree.specs.Tree.{Statements};
+ghost use Rattle.lang_tree.specs.Limits.{is_program};
+ghost use Rattle.lang_tree.specs.Tree.{Statements};
 
 /// The tokens of a text mean one thing: one program, or one fault.
 pub fn one_meaning()

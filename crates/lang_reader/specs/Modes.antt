@@ -1,8 +1,8 @@
 -- What the tokens, the modes and the reader of the second pass stand for.
 use Rattle.std.specs.Prelude.{List}
-use Rattle.tm_gram.specs.Grammar.{Kind, a_name, a_number, other_word}
-use Rattle.tm_gram.specs.View.{symbol_kind, direction_of, literal}
-use Rattle.tm_tree.specs.View.{statements_of}
+use Rattle.lang_grammar.specs.Grammar.{Kind, a_name, a_number, other_word}
+use Rattle.lang_grammar.specs.View.{symbol_kind, direction_of, literal}
+use Rattle.lang_tree.specs.View.{statements_of}
 use Rattle.lang_meaning.specs.Walk.{State}
 use Rattle.lang_meaning.specs.Feed.{Frame, Machine, at}
 use Rattle.lang_meaning.specs.Feed.{Mode, heading, stands, named, wants, has, calls, closes, opens, heads, first_part, test_part, last_part}

@@ -1,7 +1,7 @@
 -- Steps that several tokens take.
 use Rattle.std.specs.Prelude.{ℕ, List, ◌∷◌, Option, Ok}
-use Rattle.tm_tree.specs.Tree.{nil}
-use Rattle.tm_tree.specs.declared.form.Form.{Form}
+use Rattle.lang_tree.specs.Tree.{nil}
+use Rattle.lang_tree.specs.declared.form.Form.{Form}
 use Rattle.lang_meaning.specs.Results.{◌>>=◌}
 use Rattle.lang_meaning.specs.Walk.{State, counted, declared_by}
 use Rattle.lang_meaning.specs.Feed.{Frame, Within, under, Mode, stands, at, Outcome, pushed}

@@ -1,5 +1,5 @@
 -- What the values of the second pass stand for.
-use Rattle.tm_tree.specs.View.{condition_of}
+use Rattle.lang_tree.specs.View.{condition_of}
 use Rattle.lang_meaning.specs.Walk.{Value, a_form, a_truth, a_nondet}
 use Rattle.lang_reader.specs.declared.value.Value as code_value
 

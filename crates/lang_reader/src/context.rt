@@ -1,8 +1,8 @@
 //! What has been met so far: variables, labels and the number of statements.
 
 ghost use Rattle.std.specs.Prelude.{◌≡◌, ◌≤◌, length, IfOk};
-ghost use Rattle.tm_lex.specs.Lines.{line_at};
-ghost use Rattle.tm_tree.specs.View.{statement_of};
+ghost use Rattle.lang_tokens.specs.Lines.{line_at};
+ghost use Rattle.lang_tree.specs.View.{statement_of};
 ghost use Rattle.lang_meaning.specs.Expressions.{knowing};
 ghost use Rattle.lang_meaning.specs.Walk.{start_state, counted, jumped, labelled_by, known_number, assignment, declared_by, closed};
 ghost use Rattle.lang_meaning.specs.Gives.{Gives};
@@ -11,8 +11,8 @@ ghost use Rattle.lang_reader.specs.Views.{state_of};
 use crate::names::NameTable;
 use lang_meaning::{Limit, ParseFault};
 use std::alloc::{AllocError, Global};
-use tm_lex::line_of;
-use tm_tree::{Form, MOST_VARIABLES, Name, Names, Stmt};
+use lang_tokens::line_of;
+use lang_tree::{Form, MOST_VARIABLES, Name, Names, Stmt};
 
 /// The most statements.
 const STATEMENTS: u32 = 512;

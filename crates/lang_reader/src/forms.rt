@@ -2,14 +2,14 @@
 #![tactic(auto, using(lang_meaning::proofs::results::Binds::then_ok, lang_meaning::proofs::results::Binds::then_err))]
 
 ghost use Rattle.std.specs.Prelude.{◌≡◌, ◌*ℤ◌, pos, IfOk, IsTrue, replicate, slice_set};
-ghost use Rattle.tm_tree.specs.Numbers.{are_numbers};
+ghost use Rattle.lang_tree.specs.Numbers.{are_numbers};
 ghost use Rattle.lang_meaning.specs.Forms.{constant_form, variable_form, sum_or_difference, pairwise, together, products, scaled, is_constant, is_comparable};
 ghost use Rattle.lang_meaning.specs.Walk.{ranged_number, ranged_numbers, ranged};
 ghost use Rattle.lang_meaning.specs.Gives.{Gives};
 
 use lang_meaning::ParseFault;
 use std::alloc::{AllocError, Global};
-use tm_tree::{Coeffs, Form};
+use lang_tree::{Coeffs, Form};
 
 /// The greatest absolute value of a number.
 const GREATEST: i128 = i64::MAX as i128;

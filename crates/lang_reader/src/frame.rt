@@ -1,8 +1,8 @@
 //! What is pending while a text is read.
 
 use crate::value::Value;
-use tm_gram::{Change, Op};
-use tm_tree::{Block, Change as ForChange, Cond, Name, Stmt};
+use lang_grammar::{Change, Op};
+use lang_tree::{Block, Change as ForChange, Cond, Name, Stmt};
 
 /// A sign before an operand.
 #[derive(Clone, Copy)]

@@ -2,9 +2,9 @@
 #![tactic(auto, using(lang_meaning::proofs::results::Binds::then_ok, lang_meaning::proofs::results::Binds::then_err))]
 
 ghost use Rattle.std.specs.Prelude.{◌≡◌, [], ◌∷◌, OnOk, MatchOption};
-ghost use Rattle.tm_gram.specs.Grammar.{level};
-ghost use Rattle.tm_gram.specs.View.{op_of};
-ghost use Rattle.tm_tree.specs.View.{statement_of};
+ghost use Rattle.lang_grammar.specs.Grammar.{level};
+ghost use Rattle.lang_grammar.specs.View.{op_of};
+ghost use Rattle.lang_tree.specs.View.{statement_of};
 ghost use Rattle.lang_meaning.specs.Walk.{prefix_value, regarded};
 ghost use Rattle.lang_meaning.specs.Feed.{complete, join_tighter, pushed, is_body, is_inside, next_mode};
 ghost use Rattle.lang_meaning.specs.Gives.{Gives};
@@ -20,8 +20,8 @@ use crate::value::{Value, as_condition, combined, number_of};
 use lang_meaning::ParseFault;
 use std::alloc::{AllocError, Global};
 use std::marker::Model;
-use tm_gram::{Op, Relation};
-use tm_tree::{Cond, Stmt};
+use lang_grammar::{Op, Relation};
+use lang_tree::{Cond, Stmt};
 
 /// What is pending. Contracts see the list of it, the top first.
 #[derive(Drop)]
@@ -35,9 +35,9 @@ impl Model for Frames {
 
     ghost Value = { List Frame };
 
-    ghost use Rattle.tm_tree.specs.contracts.cond.Cond as cond;
-    ghost use Rattle.tm_tree.specs.contracts.stmt.Stmt as stmt;
-    ghost use Rattle.tm_tree.specs.Codes.{coded_statements};
+    ghost use Rattle.lang_tree.specs.contracts.cond.Cond as cond;
+    ghost use Rattle.lang_tree.specs.contracts.stmt.Stmt as stmt;
+    ghost use Rattle.lang_tree.specs.Codes.{coded_statements};
     ghost use Rattle.std.specs.Coded.{codes};
 
     ghost coded = { Prim.hlevel (codes, cond.the_row.coded, stmt.the_row.coded, coded_statements) };

@@ -1,13 +1,13 @@
 //! Tokens with the bytes of names.
 
 ghost use Rattle.std.specs.Prelude.{◌≡◌, ◌+◌, slice_range, pos};
-ghost use Rattle.tm_gram.specs.View.{kind_of, literal};
+ghost use Rattle.lang_grammar.specs.View.{kind_of, literal};
 ghost use Rattle.lang_reader.specs.Modes.{lexeme_kind};
 ghost use Rattle.lang_meaning.specs.Proper.{IsProper};
 
-use tm_gram::{Symbol, symbol_of};
-use tm_lex::{Kind, Token};
-use tm_tree::Name;
+use lang_grammar::{Symbol, symbol_of};
+use lang_tokens::{Kind, Token};
+use lang_tree::Name;
 
 /// A token with its name or its number.
 #[derive(Drop)]

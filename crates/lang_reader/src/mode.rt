@@ -2,8 +2,8 @@
 
 use crate::frame::Test;
 use crate::value::Value;
-use tm_gram::Direction;
-use tm_tree::{Name, Stmt};
+use lang_grammar::Direction;
+use lang_tree::{Name, Stmt};
 
 /// What is read next. A place is that of a statement's or a declarator's first token.
 #[derive(Drop)]

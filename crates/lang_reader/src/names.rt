@@ -6,7 +6,7 @@ ghost use Rattle.lang_meaning.specs.Names.{place_of};
 use indexmap::IndexMap;
 use std::alloc::{AllocError, Global};
 use std::marker::Model;
-use tm_tree::{Name, Names};
+use lang_tree::{Name, Names};
 
 /// Names, numbered from 0; where a name stands twice, its first place is its number.
 #[derive(Drop)]

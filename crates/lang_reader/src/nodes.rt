@@ -2,12 +2,12 @@
 #![tactic(auto, using(lang_meaning::proofs::results::Binds::then_ok, lang_meaning::proofs::results::Binds::then_err))]
 
 ghost use Rattle.std.specs.Prelude.{◌≡◌, IfOk};
-ghost use Rattle.tm_tree.specs.View.{statement_of, statements_of};
+ghost use Rattle.lang_tree.specs.View.{statement_of, statements_of};
 ghost use Rattle.lang_meaning.specs.Walk.{followed_by, one};
 ghost use Rattle.lang_meaning.specs.Feed.{change_in};
 
 use std::alloc::{AllocError, Global};
-use tm_tree::{Change, Stmt};
+use lang_tree::{Change, Stmt};
 
 /// The nodes of one list and then those of another.
 pub fn followed(nodes: Vec<Stmt>, more: Vec<Stmt>) -> Result<Vec<Stmt>, AllocError>

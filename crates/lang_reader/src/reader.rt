@@ -2,8 +2,8 @@
 #![tactic(auto, using(lang_meaning::proofs::results::Binds::then_ok, lang_meaning::proofs::results::Binds::then_err))]
 
 ghost use Rattle.std.specs.Prelude.{◌≡◌, ◌≤◌, [], length, IfOk};
-ghost use Rattle.tm_lex.specs.Lines.{line_at};
-ghost use Rattle.tm_tree.specs.View.{statements_of, condition_of};
+ghost use Rattle.lang_tokens.specs.Lines.{line_at};
+ghost use Rattle.lang_tree.specs.View.{statements_of, condition_of};
 ghost use Rattle.lang_meaning.specs.Walk.{start_state, always};
 ghost use Rattle.lang_meaning.specs.Expressions.{knowing};
 ghost use Rattle.lang_meaning.specs.Feed.{settled, headed};
@@ -22,7 +22,7 @@ use crate::nodes::{change_in, followed};
 use crate::source::Source;
 use lang_meaning::ParseFault;
 use std::alloc::{AllocError, Global};
-use tm_tree::{Cond, Form, MOST_VARIABLES, Name, Rel, Stmt};
+use lang_tree::{Cond, Form, MOST_VARIABLES, Name, Rel, Stmt};
 
 /// What has been met of a text, and what is pending.
 #[derive(Drop)]

@@ -2,10 +2,10 @@
 #![tactic(auto, using(lang_meaning::proofs::results::Binds::then_ok, lang_meaning::proofs::results::Binds::then_err))]
 
 ghost use Rattle.std.specs.Prelude.{◌≡◌, ◌≤◌, ◌+◌, min};
-ghost use Rattle.tm_tree.specs.Tree.{leaf_count};
-ghost use Rattle.tm_tree.specs.View.{condition_of};
-ghost use Rattle.tm_gram.specs.Grammar.{or_op, and_op};
-ghost use Rattle.tm_gram.specs.View.{relation_of, op_of};
+ghost use Rattle.lang_tree.specs.Tree.{leaf_count};
+ghost use Rattle.lang_tree.specs.View.{condition_of};
+ghost use Rattle.lang_grammar.specs.Grammar.{or_op, and_op};
+ghost use Rattle.lang_grammar.specs.View.{relation_of, op_of};
 ghost use Rattle.lang_meaning.specs.Walk.{number_of, as_condition, first_of, rel_of, compared, product, tested};
 ghost use Rattle.lang_meaning.specs.Feed.{combined_small};
 ghost use Rattle.lang_meaning.specs.Gives.{Gives};
@@ -14,8 +14,8 @@ ghost use Rattle.lang_reader.specs.Values.{value_of};
 use crate::forms::{is_comparable, is_constant, scaled, together};
 use lang_meaning::{Limit, ParseFault};
 use std::alloc::Global;
-use tm_gram::{Op, Relation};
-use tm_tree::{Cond, Form, Rel};
+use lang_grammar::{Op, Relation};
+use lang_tree::{Cond, Form, Rel};
 
 /// The most leaves of a condition.
 const LEAVES: u32 = 64;

@@ -2,9 +2,9 @@
 use Rattle.std.specs.Prelude.{◌≡◌, ◌<◌, List, length, Option, Some, None}
 use Rattle.std.specs.declared.alloc.Global.{Global}
 use Rattle.std.specs.declared.vec.Vec.{Vec}
-use Rattle.tm_tree.specs.declared.stmt.Stmt.{Stmt}
-use Rattle.tm_tree.specs.Tree.{Statements}
-use Rattle.tm_tree.specs.View.{statements_of}
+use Rattle.lang_tree.specs.declared.stmt.Stmt.{Stmt}
+use Rattle.lang_tree.specs.Tree.{Statements}
+use Rattle.lang_tree.specs.View.{statements_of}
 use Rattle.lang_meaning.specs.Walk.{State}
 use Rattle.lang_meaning.specs.Feed.{Frame}
 

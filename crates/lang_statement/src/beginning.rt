@@ -1,8 +1,8 @@
 //! How statements begin.
 #![tactic(auto, using(lang_meaning::proofs::results::Binds::then_ok, lang_meaning::proofs::results::Binds::then_err))]
 
-ghost use Rattle.tm_gram.specs.View.{symbol_kind};
-ghost use Rattle.tm_lex.specs.Lines.{line_at};
+ghost use Rattle.lang_grammar.specs.View.{symbol_kind};
+ghost use Rattle.lang_tokens.specs.Lines.{line_at};
 ghost use Rattle.lang_meaning.specs.Feed.{begun};
 ghost use Rattle.lang_meaning.specs.Gives.{Gives};
 ghost use Rattle.lang_reader.specs.Frames.{frames_of};
@@ -13,8 +13,8 @@ use crate::ending::items_end;
 use crate::jumps::jump_node;
 use lang_meaning::ParseFault;
 use lang_reader::{Frame, Lexeme, Mode, Reader, Source, Test, Within, one};
-use tm_gram::Symbol;
-use tm_lex::line_of;
+use lang_grammar::Symbol;
+use lang_tokens::line_of;
 
 /// The first token of a statement, or what follows items.
 pub fn begun(

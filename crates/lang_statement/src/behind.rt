@@ -2,9 +2,9 @@
 #![tactic(auto, using(lang_meaning::proofs::results::Binds::then_ok, lang_meaning::proofs::results::Binds::then_err))]
 
 ghost use Rattle.std.specs.Prelude.{◌≡◌};
-ghost use Rattle.tm_gram.specs.View.{direction_of};
-ghost use Rattle.tm_lex.specs.Lines.{line_at};
-ghost use Rattle.tm_tree.specs.View.{statements_of};
+ghost use Rattle.lang_grammar.specs.View.{direction_of};
+ghost use Rattle.lang_tokens.specs.Lines.{line_at};
+ghost use Rattle.lang_tree.specs.View.{statements_of};
 ghost use Rattle.lang_meaning.specs.Feed.{behind_name, behind_step, is_else, behind_closed, behind_statement, behind_declarator};
 ghost use Rattle.lang_meaning.specs.Gives.{Gives};
 ghost use Rattle.lang_reader.specs.Frames.{frames_of};
@@ -16,9 +16,9 @@ use crate::ending::{attach, close, while_behind};
 use crate::jumps::step_node;
 use lang_meaning::ParseFault;
 use lang_reader::{Frame, Lexeme, Mode, Reader, Source};
-use tm_gram::{Direction, Symbol};
-use tm_lex::line_of;
-use tm_tree::{Name, Stmt};
+use lang_grammar::{Direction, Symbol};
+use lang_tokens::line_of;
+use lang_tree::{Name, Stmt};
 
 /// What follows a name at the beginning of the statement at `from`.
 pub fn behind_name(

@@ -2,8 +2,8 @@
 #![tactic(auto, using(lang_meaning::proofs::results::Binds::then_ok, lang_meaning::proofs::results::Binds::then_err))]
 
 ghost use Rattle.std.specs.Prelude.{◌≡◌, OnOk, IfOk};
-ghost use Rattle.tm_lex.specs.Lines.{line_at};
-ghost use Rattle.tm_tree.specs.View.{statements_of};
+ghost use Rattle.lang_tokens.specs.Lines.{line_at};
+ghost use Rattle.lang_tree.specs.View.{statements_of};
 ghost use Rattle.lang_meaning.specs.Feed.{wrapped, close, attach, items_end, while_behind};
 ghost use Rattle.lang_reader.specs.Frames.{within_of, frames_of};
 ghost use Rattle.lang_reader.specs.Modes.{machine_of, pending_of};
@@ -12,8 +12,8 @@ ghost use Rattle.lang_statement.specs.Closing.{GoesOn};
 
 use lang_reader::{Frame, Mode, Reader, Source, Test, Within, followed, one};
 use std::alloc::AllocError;
-use tm_lex::line_of;
-use tm_tree::{Block, Stmt};
+use lang_tokens::line_of;
+use lang_tree::{Block, Stmt};
 
 // The statement whose last part has these nodes.
 fn wrapped(source: &Source, within: Within, nodes: Vec<Stmt>) -> Result<Vec<Stmt>, AllocError>

@@ -2,7 +2,7 @@
 #![tactic(auto, using(lang_meaning::proofs::results::Binds::then_ok, lang_meaning::proofs::results::Binds::then_err))]
 
 ghost use Rattle.std.specs.Prelude.{◌≡◌, IfOk};
-ghost use Rattle.tm_lex.specs.Lines.{line_at};
+ghost use Rattle.lang_tokens.specs.Lines.{line_at};
 ghost use Rattle.lang_meaning.specs.Feed.{a_declarator, in_heading, in_return, in_first, in_last};
 ghost use Rattle.lang_meaning.specs.Gives.{Gives};
 ghost use Rattle.lang_reader.specs.Frames.{frames_of};
@@ -14,7 +14,7 @@ use crate::ending::items_end;
 use lang_meaning::ParseFault;
 use lang_reader::{Frame, Frames, Lexeme, Mode, Reader, Source, Within};
 use std::alloc::{AllocError, Global};
-use tm_gram::Symbol;
+use lang_grammar::Symbol;
 
 /// The head of `main`, up to its `{`.
 pub fn in_heading(alloc: Global, frames: &mut Frames, lexeme: Lexeme) -> Result<Mode, AllocError>

@@ -2,17 +2,17 @@
 #![tactic(auto, using(lang_meaning::proofs::results::Binds::then_ok, lang_meaning::proofs::results::Binds::then_err))]
 
 ghost use Rattle.std.specs.Prelude.{◌≡◌, IfOk};
-ghost use Rattle.tm_gram.specs.View.{direction_of, jump_of};
-ghost use Rattle.tm_lex.specs.Lines.{line_at};
-ghost use Rattle.tm_tree.specs.Tree.{jump};
-ghost use Rattle.tm_tree.specs.View.{statement_of, statements_of};
+ghost use Rattle.lang_grammar.specs.View.{direction_of, jump_of};
+ghost use Rattle.lang_tokens.specs.Lines.{line_at};
+ghost use Rattle.lang_tree.specs.Tree.{jump};
+ghost use Rattle.lang_tree.specs.View.{statement_of, statements_of};
 ghost use Rattle.lang_meaning.specs.Walk.{step_node, jump_kind};
 
 use lang_reader::{Source, one, variable_form};
 use std::alloc::AllocError;
-use tm_gram::{Direction, Jump};
-use tm_lex::line_of;
-use tm_tree::Stmt;
+use lang_grammar::{Direction, Jump};
+use lang_tokens::line_of;
+use lang_tree::Stmt;
 
 // The node of `++` or `--`.
 pub(crate) fn step_node(

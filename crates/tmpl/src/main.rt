@@ -3,8 +3,8 @@
 
 ghost use Rattle.std.specs.Prelude.{◌≡◌, map, string_bytes};
 ghost use Rattle.std.specs.Process.{exit_status};
-ghost use Rattle.tm_top.specs.Answers.{IsAnswer};
-ghost use Rattle.tm_top.specs.Outputs.{IsOutput, OutputGets};
+ghost use Rattle.top_run.specs.Answers.{IsAnswer};
+ghost use Rattle.top_run.specs.Outputs.{IsOutput, OutputGets};
 ghost use Rattle.top_status.specs.Status.{code_of};
 ghost use Rattle.top_status.specs.declared.status.Status.{Status};
 
@@ -12,8 +12,8 @@ use std::alloc::Global;
 use std::process::ExitCode;
 use std::rt::Env;
 use std::{env, io};
-use tm_io::{FileShelf, Shelf, Sink, StreamSink};
-use tm_top::{Exact, Meaning, run};
+use base_files::{FileShelf, Shelf, Sink, StreamSink};
+use top_run::{Exact, Meaning, run};
 
 /// The code of a system that doesn't give the program its words, for another cause than memory.
 const NO_WORDS: u8 = 9;

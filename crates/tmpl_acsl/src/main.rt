@@ -3,10 +3,10 @@
 
 ghost use Rattle.std.specs.Prelude.{◌≡◌, map, string_bytes};
 ghost use Rattle.std.specs.Process.{exit_status};
-ghost use Rattle.tm_acsl.specs.Annotated.{IsAnnotated};
-ghost use Rattle.tm_acsl.specs.Words.{as_solve};
-ghost use Rattle.tm_top.specs.Answers.{IsAnswer};
-ghost use Rattle.tm_top.specs.Outputs.{OutputGets};
+ghost use Rattle.acsl_annotate.specs.Annotated.{IsAnnotated};
+ghost use Rattle.acsl_annotate.specs.Words.{as_solve};
+ghost use Rattle.top_run.specs.Answers.{IsAnswer};
+ghost use Rattle.top_run.specs.Outputs.{OutputGets};
 ghost use Rattle.top_status.specs.Status.{code_of};
 ghost use Rattle.top_status.specs.declared.status.Status.{Status};
 
@@ -14,9 +14,9 @@ use std::alloc::Global;
 use std::process::ExitCode;
 use std::rt::Env;
 use std::{env, io};
-use tm_acsl::annotate;
-use tm_io::{FileShelf, Shelf, Sink, StreamSink};
-use tm_top::{Exact, Meaning};
+use acsl_annotate::annotate;
+use base_files::{FileShelf, Shelf, Sink, StreamSink};
+use top_run::{Exact, Meaning};
 
 /// The code of a system that doesn't give the program its words, for another cause than memory.
 const NO_WORDS: u8 = 9;

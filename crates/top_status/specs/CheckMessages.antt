@@ -1,20 +1,20 @@
 -- The messages of a check: a certificate that is refused, and an operation that is too wide.
 use Rattle.std.specs.Prelude.{◌++◌, ◌/◌, ◌%◌, ℕ, Bool, true, false, if◌then◌else◌, List, length, codes, decimal}
-use Rattle.tm_frac.specs.Texts.{frac_text}
-use Rattle.tm_frac.specs.declared.wide.Op.{Op}
-use Rattle.tm_frac.specs.declared.wide.Op.TheVariants.{Add, Sub, Mul, Div}
-use Rattle.tm_eqsys.specs.declared.spot.Part.{Part}
-use Rattle.tm_eqsys.specs.declared.spot.Part.TheVariants.{Side, Pivot, Reading}
-use Rattle.tm_eqsys.specs.declared.spot.Site.{Site}
-use Rattle.tm_eqsys.specs.declared.spot.Site.TheVariants as site
-use Rattle.tm_eqsys.specs.declared.spot.Spot.{Spot}
-use Rattle.tm_cert.specs.declared.cert.Cert.{Cert}
-use Rattle.tm_form.specs.declared.fault.Field.{Field}
-use Rattle.tm_form.specs.declared.fault.Field.TheVariants as field
-use Rattle.tm_form.specs.declared.fault.FormFault.{FormFault}
-use Rattle.tm_form.specs.declared.fault.FormFault.TheVariants as form
-use Rattle.tm_check.specs.declared.fault.CheckFault.{CheckFault}
-use Rattle.tm_check.specs.declared.fault.CheckFault.TheVariants as check
+use Rattle.base_fractions.specs.Texts.{frac_text}
+use Rattle.base_fractions.specs.declared.wide.Op.{Op}
+use Rattle.base_fractions.specs.declared.wide.Op.TheVariants.{Add, Sub, Mul, Div}
+use Rattle.flow_systems.specs.declared.spot.Part.{Part}
+use Rattle.flow_systems.specs.declared.spot.Part.TheVariants.{Side, Pivot, Reading}
+use Rattle.flow_systems.specs.declared.spot.Site.{Site}
+use Rattle.flow_systems.specs.declared.spot.Site.TheVariants as site
+use Rattle.flow_systems.specs.declared.spot.Spot.{Spot}
+use Rattle.cert_types.specs.declared.cert.Cert.{Cert}
+use Rattle.cert_text.specs.declared.fault.Field.{Field}
+use Rattle.cert_text.specs.declared.fault.Field.TheVariants as field
+use Rattle.cert_text.specs.declared.fault.FormFault.{FormFault}
+use Rattle.cert_text.specs.declared.fault.FormFault.TheVariants as form
+use Rattle.cert_checker.specs.declared.fault.CheckFault.{CheckFault}
+use Rattle.cert_checker.specs.declared.fault.CheckFault.TheVariants as check
 use Rattle.top_status.specs.declared.status.CertCause.{CertCause}
 use Rattle.top_status.specs.declared.status.CertCause.TheVariants.{Form, Rows, Unknowns, Check}
 use Rattle.top_status.specs.declared.status.Status.{Status}

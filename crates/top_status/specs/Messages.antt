@@ -1,23 +1,23 @@
 -- The messages of a run.
 use Rattle.std.specs.Prelude.{ℕ, List, [], ◌++◌, Option, Some, None, codes, decimal}
-use Rattle.tm_lex.specs.declared.fault.LexFault.{LexFault}
-use Rattle.tm_lex.specs.declared.fault.LexFault.TheVariants as lex
-use Rattle.tm_lex.specs.Lines.{line_at}
+use Rattle.lang_tokens.specs.declared.fault.LexFault.{LexFault}
+use Rattle.lang_tokens.specs.declared.fault.LexFault.TheVariants as lex
+use Rattle.lang_tokens.specs.Lines.{line_at}
 use Rattle.lang_meaning.specs.declared.fault.Limit.{Limit}
 use Rattle.lang_meaning.specs.declared.fault.Limit.TheVariants.{Nesting, Variables, Statements, Leaves}
 use Rattle.lang_meaning.specs.declared.fault.ParseFault.{ParseFault}
 use Rattle.lang_meaning.specs.declared.fault.ParseFault.TheVariants as parse
-use Rattle.tm_flow.specs.declared.fault.FlowFault.{FlowFault}
-use Rattle.tm_flow.specs.declared.fault.FlowFault.TheVariants as flow
-use Rattle.tm_rows.specs.declared.fault.RowFault.{RowFault}
-use Rattle.tm_rows.specs.declared.fault.RowFault.TheVariants as rows
-use Rattle.tm_assert.specs.declared.fault.ClaimFault.{ClaimFault}
-use Rattle.tm_assert.specs.declared.fault.ClaimFault.TheVariants as claims
-use Rattle.tm_equ.specs.declared.fault.EquFault.{EquFault}
-use Rattle.tm_equ.specs.declared.fault.EquFault.TheVariants as equ
-use Rattle.tm_auto.specs.declared.fault.AutoFault.{AutoFault}
-use Rattle.tm_auto.specs.declared.fault.AutoFault.TheVariants as auto
-use Rattle.tm_cli.specs.Usage.{usage_text}
+use Rattle.flow_edges.specs.declared.fault.FlowFault.{FlowFault}
+use Rattle.flow_edges.specs.declared.fault.FlowFault.TheVariants as flow
+use Rattle.flow_templates.specs.declared.fault.RowFault.{RowFault}
+use Rattle.flow_templates.specs.declared.fault.RowFault.TheVariants as rows
+use Rattle.ask_claims.specs.declared.fault.ClaimFault.{ClaimFault}
+use Rattle.ask_claims.specs.declared.fault.ClaimFault.TheVariants as claims
+use Rattle.flow_rationals.specs.declared.fault.EquFault.{EquFault}
+use Rattle.flow_rationals.specs.declared.fault.EquFault.TheVariants as equ
+use Rattle.flow_transitions.specs.declared.fault.AutoFault.{AutoFault}
+use Rattle.flow_transitions.specs.declared.fault.AutoFault.TheVariants as auto
+use Rattle.ask_words.specs.Usage.{usage_text}
 use Rattle.top_status.specs.CheckMessages.{certificate_message, wide_message}
 use Rattle.top_status.specs.declared.status.Which.TheVariants as which
 use Rattle.top_status.specs.declared.status.ReadCause.{ReadCause}

@@ -13,13 +13,13 @@ use check::{certificate_message, wide_message};
 use itoa::Buffer;
 use lang_meaning::{Limit, ParseFault};
 use std::marker::Model;
-use tm_assert::ClaimFault;
-use tm_auto::AutoFault;
-use tm_cli::usage_line;
-use tm_equ::EquFault;
-use tm_flow::FlowFault;
-use tm_lex::LexFault;
-use tm_rows::RowFault;
+use ask_claims::ClaimFault;
+use flow_transitions::AutoFault;
+use ask_words::usage_line;
+use flow_rationals::EquFault;
+use flow_edges::FlowFault;
+use lang_tokens::LexFault;
+use flow_templates::RowFault;
 
 // What is refused, words, a number and words, with a line feed at the end.
 #[derive(Clone, Copy, Drop)]

@@ -4,15 +4,15 @@ ghost use Rattle.std.specs.Prelude.{◌≡◌};
 ghost use Rattle.top_status.specs.Status.{code_of};
 
 use lang_meaning::ParseFault;
-use tm_assert::ClaimFault;
-use tm_auto::AutoFault;
-use tm_check::CheckFault;
-use tm_eqsys::Spot;
-use tm_equ::EquFault;
-use tm_flow::FlowFault;
-use tm_form::FormFault;
-use tm_lex::LexFault;
-use tm_rows::RowFault;
+use ask_claims::ClaimFault;
+use flow_transitions::AutoFault;
+use cert_checker::CheckFault;
+use flow_systems::Spot;
+use flow_rationals::EquFault;
+use flow_edges::FlowFault;
+use cert_text::FormFault;
+use lang_tokens::LexFault;
+use flow_templates::RowFault;
 
 /// A file that the words name.
 #[derive(Clone, Copy, Debug, PartialEq, Eq)]
@@ -50,7 +50,7 @@ pub enum TextCause {
     Flow(FlowFault),
     /// The file of rows is no template over its variables.
     Rows(RowFault),
-    /// There are more unknowns than `tm_eqsys::MOST_UNKNOWNS`, so many.
+    /// There are more unknowns than `flow_systems::MOST_UNKNOWNS`, so many.
     Unknowns(u32),
     /// The largest joint problem has more than 134,217,728 cells, so many.
     Cells(u64),
@@ -69,7 +69,7 @@ pub enum CertCause {
     Form(FormFault),
     /// Its rows are no template over the program's variables. Rows are numbered from 1, as lines are.
     Rows(RowFault),
-    /// There are more unknowns than `tm_eqsys::MOST_UNKNOWNS`, so many.
+    /// There are more unknowns than `flow_systems::MOST_UNKNOWNS`, so many.
     Unknowns(u32),
     /// A test of the check fails, and no number before it is wide.
     Check(CheckFault),

@@ -1,11 +1,11 @@
 -- The least bounds of texts, for other outputs than their report; and the endings that there are else, which are those of the report.
 use Rattle.std.specs.Prelude.{◌≡◌, ◌≤◌, ℕ, List, length}
-use Rattle.tm_eqsys.specs.Equations.{Least}
-use Rattle.tm_eqsys.specs.View.{IsVectorOf, equations_of, vector_at}
-use Rattle.tm_eqsys.specs.declared.system.System.{System}
-use Rattle.tm_cli.specs.declared.request.Domain.{Domain}
-use Rattle.tm_cli.specs.declared.request.Policy.{Policy}
-use Rattle.tm_cli.specs.declared.request.Purpose.TheVariants.{Report}
+use Rattle.flow_systems.specs.Equations.{Least}
+use Rattle.flow_systems.specs.View.{IsVectorOf, equations_of, vector_at}
+use Rattle.flow_systems.specs.declared.system.System.{System}
+use Rattle.ask_words.specs.declared.request.Domain.{Domain}
+use Rattle.ask_words.specs.declared.request.Policy.{Policy}
+use Rattle.ask_words.specs.declared.request.Purpose.TheVariants.{Report}
 use Rattle.top_status.specs.CheckMessages.{rows_of}
 use Rattle.top_texts.specs.Exact.{exact}
 use Rattle.top_status.specs.Messages.{line_in}

@@ -1,31 +1,31 @@
 -- What the text of a program and the bytes of a certificate are: a valid certificate of the program, or refused by a cause, or a number is wide on the way.
 -- The program comes first, then the certificate, its rows, the unknowns, the composition of the edges, and the tests.
 use Rattle.std.specs.Prelude.{◌≡◌, ◌≤◌, ◌<◌, ◌⊎◌, ℕ, ℤ, List, [], Err, Some, None, length, slice_get}
-use Rattle.tm_frac.specs.Fits.{long_limit}
-use Rattle.tm_frac.specs.Operation.{first_wide, operation_of}
-use Rattle.tm_tree.specs.Tree.{Statements}
-use Rattle.tm_rows.specs.RowFaults.{faults_of}
-use Rattle.tm_eqsys.specs.declared.spot.Spot.{Spot}
-use Rattle.tm_eqsys.specs.declared.spot.Site.TheVariants.{Compose}
-use Rattle.tm_eqsys.specs.Equations.{Equations, Vector}
-use Rattle.tm_eqsys.specs.Solutions.{equations_of_program}
-use Rattle.tm_validity.specs.Certificates.{Certificate, ValidCertificate, bounds_vector}
-use Rattle.tm_validity.specs.Faults.{Fault, certificate_fault}
-use Rattle.tm_cert.specs.Certificates.{certificate_of}
-use Rattle.tm_cert.specs.declared.cert.Cert.{Cert}
-use Rattle.tm_form.specs.Certificates.{Spells, SpellsCert, SpellsTooMany, cert_in}
+use Rattle.base_fractions.specs.Fits.{long_limit}
+use Rattle.base_fractions.specs.Operation.{first_wide, operation_of}
+use Rattle.lang_tree.specs.Tree.{Statements}
+use Rattle.flow_templates.specs.RowFaults.{faults_of}
+use Rattle.flow_systems.specs.declared.spot.Spot.{Spot}
+use Rattle.flow_systems.specs.declared.spot.Site.TheVariants.{Compose}
+use Rattle.flow_systems.specs.Equations.{Equations, Vector}
+use Rattle.flow_systems.specs.Solutions.{equations_of_program}
+use Rattle.theory_validity.specs.Certificates.{Certificate, ValidCertificate, bounds_vector}
+use Rattle.theory_validity.specs.Faults.{Fault, certificate_fault}
+use Rattle.cert_types.specs.Certificates.{certificate_of}
+use Rattle.cert_types.specs.declared.cert.Cert.{Cert}
+use Rattle.cert_text.specs.Certificates.{Spells, SpellsCert, SpellsTooMany, cert_in}
 use Rattle.serde_json.specs.Data.{Data}
-use Rattle.tm_form.specs.declared.fault.FormFault.{FormFault}
-use Rattle.tm_form.specs.declared.fault.FormFault.TheVariants.{NotJson, Shape, Number, Version, Expanded, NoMemory}
-use Rattle.tm_compose.specs.Operations.{wide_composition}
-use Rattle.tm_check.specs.CheckEvents.{check_events}
-use Rattle.tm_check.specs.Events.{fault_answer, first_stop, operations_of}
-use Rattle.tm_check.specs.declared.fault.CheckFault.{CheckFault}
-use Rattle.tm_check.specs.declared.fault.CheckFault.TheVariants as check
+use Rattle.cert_text.specs.declared.fault.FormFault.{FormFault}
+use Rattle.cert_text.specs.declared.fault.FormFault.TheVariants.{NotJson, Shape, Number, Version, Expanded, NoMemory}
+use Rattle.solve_composition.specs.Operations.{wide_composition}
+use Rattle.cert_checker.specs.CheckEvents.{check_events}
+use Rattle.cert_checker.specs.Events.{fault_answer, first_stop, operations_of}
+use Rattle.cert_checker.specs.declared.fault.CheckFault.{CheckFault}
+use Rattle.cert_checker.specs.declared.fault.CheckFault.TheVariants as check
 use Rattle.top_texts.specs.Texts.{IsAnalysed, unknowns}
 use Rattle.top_status.specs.declared.status.CertCause.{CertCause}
 use Rattle.top_status.specs.declared.status.CertCause.TheVariants.{Form, Rows, Unknowns, Check}
-use Rattle.tm_eqsys.specs.declared.limits.TheConstants.{MOST_UNKNOWNS}
+use Rattle.flow_systems.specs.declared.limits.TheConstants.{MOST_UNKNOWNS}
 
 -- the bytes spell no certificate, by this fault
 abbrev pub IsFormFault : List ℕ → FormFault → Type 0

@@ -1,24 +1,24 @@
 -- What texts of claims about a program are, and what is written of them.
 use Rattle.std.specs.Prelude.{◌≡◌, ◌≤◌, ◌↔◌, ℕ, ℤ, List, Ok, Err, Some, length, map, slice_get, Contains}
 use Rattle.std.specs.List.{All}
-use Rattle.tm_tree.specs.Runs.{Configuration, IsAt, IsRun}
-use Rattle.tm_tree.specs.Tree.{Statements}
-use Rattle.tm_tree.specs.View.{condition_of}
-use Rattle.tm_flow.specs.declared.point.Point.{Point}
-use Rattle.tm_flow.specs.Points.{points_of_program}
-use Rattle.tm_eqsys.specs.declared.system.System.{System}
-use Rattle.tm_eqsys.specs.Equations.{Equations, Least, Vector}
-use Rattle.tm_eqsys.specs.Solutions.{equations_of_program}
-use Rattle.tm_eqsys.specs.States.{RationalState}
-use Rattle.tm_assert.specs.Breaking.{BreaksSome, NoneAgainst}
-use Rattle.tm_assert.specs.Truth.{IsTrueAt}
-use Rattle.tm_assert.specs.Claims.{FileMeans, Stands, Stated, stated_of}
-use Rattle.tm_assert.specs.Lines.{verdicts_text}
-use Rattle.tm_assert.specs.declared.claim.Claim.{Claim}
-use Rattle.tm_assert.specs.declared.outcome.Verdict.{Verdict}
-use Rattle.tm_assert.specs.declared.outcome.Verdict.TheVariants.{Proved, Open}
-use Rattle.tm_cli.specs.declared.request.Domain.{Domain}
-use Rattle.tm_cli.specs.declared.request.Policy.{Policy}
+use Rattle.lang_tree.specs.Runs.{Configuration, IsAt, IsRun}
+use Rattle.lang_tree.specs.Tree.{Statements}
+use Rattle.lang_tree.specs.View.{condition_of}
+use Rattle.flow_edges.specs.declared.point.Point.{Point}
+use Rattle.flow_edges.specs.Points.{points_of_program}
+use Rattle.flow_systems.specs.declared.system.System.{System}
+use Rattle.flow_systems.specs.Equations.{Equations, Least, Vector}
+use Rattle.flow_systems.specs.Solutions.{equations_of_program}
+use Rattle.flow_systems.specs.States.{RationalState}
+use Rattle.ask_claims.specs.Breaking.{BreaksSome, NoneAgainst}
+use Rattle.ask_claims.specs.Truth.{IsTrueAt}
+use Rattle.ask_claims.specs.Claims.{FileMeans, Stands, Stated, stated_of}
+use Rattle.ask_claims.specs.Lines.{verdicts_text}
+use Rattle.ask_claims.specs.declared.claim.Claim.{Claim}
+use Rattle.ask_claims.specs.declared.outcome.Verdict.{Verdict}
+use Rattle.ask_claims.specs.declared.outcome.Verdict.TheVariants.{Proved, Open}
+use Rattle.ask_words.specs.declared.request.Domain.{Domain}
+use Rattle.ask_words.specs.declared.request.Policy.{Policy}
 use Rattle.top_texts.specs.Meanings.{Meanings}
 use Rattle.top_texts.specs.Rounds.{HasRounds}
 use Rattle.top_texts.specs.Texts.{IsReady, IsRefused, IsSolvedSystem}

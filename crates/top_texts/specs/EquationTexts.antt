@@ -1,16 +1,16 @@
 -- What texts of equations are, and what is written of them.
 use Rattle.std.specs.Prelude.{◌≡◌, ◌≤◌, ℕ, List, map, Ok, Err}
-use Rattle.tm_eqsys.specs.declared.footer.Footer.TheVariants.{Improvements}
-use Rattle.tm_eqsys.specs.declared.system.System.{System}
-use Rattle.tm_eqsys.specs.Equations.{Vector}
-use Rattle.tm_eqsys.specs.View.{equations_of}
-use Rattle.tm_equ.specs.declared.equation.Equation.{Equation}
-use Rattle.tm_equ.specs.EquationTexts.{Answers}
-use Rattle.tm_equ.specs.Solutions.{EqualsRightSides, IsLeastAbove}
-use Rattle.tm_equ.specs.System.{system_of}
-use Rattle.tm_equ.specs.Values.{Values}
-use Rattle.tm_report.specs.Values.{values_text}
-use Rattle.tm_cli.specs.declared.request.Policy.{Policy}
+use Rattle.flow_systems.specs.declared.footer.Footer.TheVariants.{Improvements}
+use Rattle.flow_systems.specs.declared.system.System.{System}
+use Rattle.flow_systems.specs.Equations.{Vector}
+use Rattle.flow_systems.specs.View.{equations_of}
+use Rattle.flow_rationals.specs.declared.equation.Equation.{Equation}
+use Rattle.flow_rationals.specs.EquationTexts.{Answers}
+use Rattle.flow_rationals.specs.Solutions.{EqualsRightSides, IsLeastAbove}
+use Rattle.flow_rationals.specs.System.{system_of}
+use Rattle.flow_rationals.specs.Values.{Values}
+use Rattle.out_report.specs.Values.{values_text}
+use Rattle.ask_words.specs.declared.request.Policy.{Policy}
 use Rattle.top_texts.specs.Rounds.{HasRounds}
 use Rattle.top_status.specs.declared.status.TextCause.{TextCause}
 use Rattle.top_status.specs.declared.status.TextCause.TheVariants.{Lex, Parse, Flow, Rows, Unknowns, Cells, Claims, Equ, Auto}

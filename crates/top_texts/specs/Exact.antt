@@ -1,8 +1,8 @@
 -- What the parts around the least bounds mean where exact fractions with numerators and denominators up to 2^63 - 1 decide, as they do in the program.
 use Rattle.std.specs.Prelude.{length}
-use Rattle.tm_assert.specs.AllVerdicts.{AreVerdicts}
-use Rattle.tm_workload.specs.Summaries.{summary_of}
-use Rattle.tm_workload.specs.Texts.{generated_text}
+use Rattle.ask_claims.specs.AllVerdicts.{AreVerdicts}
+use Rattle.out_workload.specs.Summaries.{summary_of}
+use Rattle.out_workload.specs.Texts.{generated_text}
 use Rattle.top_status.specs.CheckMessages.{rows_of}
 use Rattle.top_texts.specs.Checks.{HasRowCount, IsAcceptedWith, IsFormFault, IsRefusedCertificate, IsWideAt}
 use Rattle.top_texts.specs.Generated.{IsGenerated}

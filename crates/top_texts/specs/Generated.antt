@@ -1,8 +1,8 @@
 -- Systems of generated programs.
 use Rattle.std.specs.Prelude.{ℕ}
-use Rattle.tm_rows.specs.Domains.{intervals_of}
-use Rattle.tm_eqsys.specs.declared.system.System.{System}
-use Rattle.tm_workload.specs.Bodies.{generated_body, generated_names}
+use Rattle.flow_templates.specs.Domains.{intervals_of}
+use Rattle.flow_systems.specs.declared.system.System.{System}
+use Rattle.out_workload.specs.Bodies.{generated_body, generated_names}
 use Rattle.top_texts.specs.Rounds.{IsSystemFor}
 
 -- the system of a generated program over intervals

@@ -1,15 +1,15 @@
 -- Reports of least vectors.
 use Rattle.std.specs.Prelude.{◌≡◌, ◌≤◌, ℕ, ℤ, List, length}
-use Rattle.tm_tree.specs.Tree.{Statements}
-use Rattle.tm_flow.specs.Points.{points_of_program}
-use Rattle.tm_eqsys.specs.declared.footer.Footer.{Footer}
-use Rattle.tm_eqsys.specs.declared.footer.Footer.TheVariants.{Improvements}
-use Rattle.tm_eqsys.specs.declared.system.System.{System}
-use Rattle.tm_eqsys.specs.Equations.{Least, Vector}
-use Rattle.tm_eqsys.specs.Report.{report_text}
-use Rattle.tm_eqsys.specs.Solutions.{Holds, equations_of_program}
-use Rattle.tm_cli.specs.declared.request.Domain.{Domain}
-use Rattle.tm_cli.specs.declared.request.Policy.{Policy}
+use Rattle.lang_tree.specs.Tree.{Statements}
+use Rattle.flow_edges.specs.Points.{points_of_program}
+use Rattle.flow_systems.specs.declared.footer.Footer.{Footer}
+use Rattle.flow_systems.specs.declared.footer.Footer.TheVariants.{Improvements}
+use Rattle.flow_systems.specs.declared.system.System.{System}
+use Rattle.flow_systems.specs.Equations.{Least, Vector}
+use Rattle.flow_systems.specs.Report.{report_text}
+use Rattle.flow_systems.specs.Solutions.{Holds, equations_of_program}
+use Rattle.ask_words.specs.declared.request.Domain.{Domain}
+use Rattle.ask_words.specs.declared.request.Policy.{Policy}
 use Rattle.top_texts.specs.Rounds.{HasRounds, IsSystemFor}
 use Rattle.top_texts.specs.Texts.{IsReady}
 

@@ -1,17 +1,17 @@
 -- The certificate that the rounds make of the texts of a program and its rows.
 use Rattle.std.specs.Prelude.{◌≡◌, ℕ, ℤ, List, length}
 use Rattle.serde_json.specs.Written.{compact_text}
-use Rattle.tm_tree.specs.Tree.{Statements}
-use Rattle.tm_eqsys.specs.declared.system.System.{System}
-use Rattle.tm_eqsys.specs.Equations.{Least}
-use Rattle.tm_eqsys.specs.Solutions.{equations_of_program}
-use Rattle.tm_eqsys.specs.View.{vector_of}
-use Rattle.tm_validity.specs.Certificates.{ValidCertificate}
-use Rattle.tm_form.specs.Certificates.{IsBeyond, IsWithin, SpellsTooMany, cert_data}
-use Rattle.tm_rounds.specs.declared.solution.Solved.{Solved}
-use Rattle.tm_rounds.specs.Solutions.{IsSolved, cert_with}
-use Rattle.tm_cli.specs.declared.request.Domain.{Domain}
-use Rattle.tm_cli.specs.declared.request.Policy.{Policy}
+use Rattle.lang_tree.specs.Tree.{Statements}
+use Rattle.flow_systems.specs.declared.system.System.{System}
+use Rattle.flow_systems.specs.Equations.{Least}
+use Rattle.flow_systems.specs.Solutions.{equations_of_program}
+use Rattle.flow_systems.specs.View.{vector_of}
+use Rattle.theory_validity.specs.Certificates.{ValidCertificate}
+use Rattle.cert_text.specs.Certificates.{IsBeyond, IsWithin, SpellsTooMany, cert_data}
+use Rattle.solve_rounds.specs.declared.solution.Solved.{Solved}
+use Rattle.solve_rounds.specs.Solutions.{IsSolved, cert_with}
+use Rattle.ask_words.specs.declared.request.Domain.{Domain}
+use Rattle.ask_words.specs.declared.request.Policy.{Policy}
 use Rattle.top_texts.specs.Checks.{IsValidFor, NoneIsWide, system_with, theirs}
 use Rattle.top_texts.specs.Policies.{rule_of}
 use Rattle.top_texts.specs.Rounds.{IsSystemFor}

@@ -1,15 +1,15 @@
 -- What the parts around the least bounds mean: an interface, which the contract of a run speaks of. Who implements it says each meaning.
 use Rattle.std.specs.Prelude.{ℕ, ℤ, List}
-use Rattle.tm_tree.specs.Tree.{Statements}
-use Rattle.tm_eqsys.specs.declared.spot.Spot.{Spot}
-use Rattle.tm_eqsys.specs.declared.system.System.{System}
-use Rattle.tm_eqsys.specs.Equations.{Equations, Vector}
-use Rattle.tm_assert.specs.declared.claim.Claim.{Claim}
-use Rattle.tm_assert.specs.declared.outcome.Verdict.{Verdict}
-use Rattle.tm_cli.specs.declared.request.Domain.{Domain}
-use Rattle.tm_cli.specs.declared.request.Policy.{Policy}
-use Rattle.tm_cli.specs.declared.request.Purpose.{Purpose}
-use Rattle.tm_form.specs.declared.fault.FormFault.{FormFault}
+use Rattle.lang_tree.specs.Tree.{Statements}
+use Rattle.flow_systems.specs.declared.spot.Spot.{Spot}
+use Rattle.flow_systems.specs.declared.system.System.{System}
+use Rattle.flow_systems.specs.Equations.{Equations, Vector}
+use Rattle.ask_claims.specs.declared.claim.Claim.{Claim}
+use Rattle.ask_claims.specs.declared.outcome.Verdict.{Verdict}
+use Rattle.ask_words.specs.declared.request.Domain.{Domain}
+use Rattle.ask_words.specs.declared.request.Policy.{Policy}
+use Rattle.ask_words.specs.declared.request.Purpose.{Purpose}
+use Rattle.cert_text.specs.declared.fault.FormFault.{FormFault}
 use Rattle.top_status.specs.declared.status.CertCause.{CertCause}
 use Rattle.top_status.specs.declared.status.Status.{Status}
 

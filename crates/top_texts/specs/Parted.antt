@@ -1,25 +1,25 @@
 -- What the parts of an answer to loaded texts say to one another.
 use Rattle.std.specs.Prelude.{◌≡◌, ◌≤◌, ◌<◌, ◌⊎◌, ℕ, List, [], IsTrue, Some, length, slice_get, Vec}
 use Rattle.std.specs.declared.alloc.Global.{Global}
-use Rattle.tm_tree.specs.Tree.{Statements}
-use Rattle.tm_rows.specs.RowFaults.{faults_of}
-use Rattle.tm_rows.specs.Rows.{is_template}
-use Rattle.tm_num.specs.Extended.{Ext}
-use Rattle.tm_eqsys.specs.declared.footer.Footer.TheVariants.{Improvements}
-use Rattle.tm_eqsys.specs.declared.system.System.{System}
-use Rattle.tm_eqsys.specs.Equations.{Equations, Least, Vector}
-use Rattle.tm_eqsys.specs.Report.{report_of}
-use Rattle.tm_eqsys.specs.View.{equations_of, vector_of}
-use Rattle.tm_validity.specs.Certificates.{Certificate as TheoryCertificate, ValidCertificate}
-use Rattle.tm_cert.specs.declared.cert.Cert.{Cert}
+use Rattle.lang_tree.specs.Tree.{Statements}
+use Rattle.flow_templates.specs.RowFaults.{faults_of}
+use Rattle.flow_templates.specs.Rows.{is_template}
+use Rattle.base_numbers.specs.Extended.{Ext}
+use Rattle.flow_systems.specs.declared.footer.Footer.TheVariants.{Improvements}
+use Rattle.flow_systems.specs.declared.system.System.{System}
+use Rattle.flow_systems.specs.Equations.{Equations, Least, Vector}
+use Rattle.flow_systems.specs.Report.{report_of}
+use Rattle.flow_systems.specs.View.{equations_of, vector_of}
+use Rattle.theory_validity.specs.Certificates.{Certificate as TheoryCertificate, ValidCertificate}
+use Rattle.cert_types.specs.declared.cert.Cert.{Cert}
 use Rattle.serde_json.specs.Written.{compact_text}
-use Rattle.tm_form.specs.Certificates.{IsBeyond, IsWithin, SpellsCert, SpellsTooMany, cert_data}
-use Rattle.tm_rounds.specs.declared.solution.Solved.{Solved}
-use Rattle.tm_rounds.specs.Solutions.{IsSolved, cert_with, made_certificate}
-use Rattle.tm_assert.specs.declared.claim.Claim.{Claim}
-use Rattle.tm_cli.specs.declared.request.Domain.{Domain}
-use Rattle.tm_cli.specs.declared.request.Domain.TheVariants as domain
-use Rattle.tm_cli.specs.declared.request.Policy.{Policy}
+use Rattle.cert_text.specs.Certificates.{IsBeyond, IsWithin, SpellsCert, SpellsTooMany, cert_data}
+use Rattle.solve_rounds.specs.declared.solution.Solved.{Solved}
+use Rattle.solve_rounds.specs.Solutions.{IsSolved, cert_with, made_certificate}
+use Rattle.ask_claims.specs.declared.claim.Claim.{Claim}
+use Rattle.ask_words.specs.declared.request.Domain.{Domain}
+use Rattle.ask_words.specs.declared.request.Domain.TheVariants as domain
+use Rattle.ask_words.specs.declared.request.Policy.{Policy}
 use Rattle.top_texts.specs.Checks.{IsCheckSpot, IsCompositionSpot, IsFormFault, IsRefusedCertificate, NoneIsWide, IsStopped, system_with}
 use Rattle.top_texts.specs.Checks.{theirs}
 use Rattle.top_texts.specs.Endings.{CheckEnd, UpgradeEnd}
@@ -29,14 +29,14 @@ use Rattle.top_texts.specs.Rounds.{EndsWithin, HasRounds, RunsOut}
 use Rattle.top_texts.specs.Spots.{HasSpot, IsWideFor}
 use Rattle.top_texts.specs.TransitionTexts.{AreNoTransitions}
 use Rattle.top_texts.specs.Texts.{IsRefused, IsRefusedProgram, unknowns}
-use Rattle.tm_cli.specs.declared.request.Purpose.{Purpose}
-use Rattle.tm_cli.specs.declared.request.Purpose.TheVariants.{Report, Certificate as AsCertificate}
+use Rattle.ask_words.specs.declared.request.Purpose.{Purpose}
+use Rattle.ask_words.specs.declared.request.Purpose.TheVariants.{Report, Certificate as AsCertificate}
 use Rattle.top_status.specs.declared.status.CertCause.TheVariants as form
 use Rattle.top_status.specs.declared.status.Status.{Status}
 use Rattle.top_status.specs.declared.status.Status.TheVariants as status
 use Rattle.top_texts.specs.declared.refusal.Refusal.{Refusal}
 use Rattle.top_texts.specs.declared.refusal.Refusal.TheVariants.{Text, Certificate, Wide, Spent, NoMemory}
-use Rattle.tm_eqsys.specs.declared.limits.TheConstants.{MOST_UNKNOWNS}
+use Rattle.flow_systems.specs.declared.limits.TheConstants.{MOST_UNKNOWNS}
 
 -- the domain by the text of its rows
 abbrev pub domain_of : Domain (Vec ℕ Global) → Domain (List ℕ)

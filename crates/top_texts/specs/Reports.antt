@@ -1,25 +1,25 @@
 -- What is written of texts: reports of least vectors, certificates of them, and the summary of a generated program.
 use Rattle.std.specs.Prelude.{◌≡◌, ◌≤◌, ℕ, List, length}
-use Rattle.tm_tree.specs.Tree.{Statements}
-use Rattle.tm_rows.specs.Domains.{intervals_of}
-use Rattle.tm_eqsys.specs.declared.footer.Footer.TheVariants.{Accepted}
-use Rattle.tm_eqsys.specs.declared.system.System.{System}
-use Rattle.tm_eqsys.specs.Equations.{Least, Vector}
-use Rattle.tm_eqsys.specs.Solutions.{equations_of_program}
-use Rattle.tm_validity.specs.Certificates.{bounds_vector}
-use Rattle.tm_cert.specs.declared.cert.Cert.{Cert}
-use Rattle.tm_workload.specs.Bodies.{generated_body, generated_names}
-use Rattle.tm_workload.specs.Summaries.{summary_of}
-use Rattle.tm_workload.specs.Texts.{generated_text}
-use Rattle.tm_cli.specs.declared.request.Domain.{Domain}
-use Rattle.tm_cli.specs.declared.request.Policy.{Policy}
-use Rattle.tm_cli.specs.declared.request.Policy.TheVariants.{Best}
+use Rattle.lang_tree.specs.Tree.{Statements}
+use Rattle.flow_templates.specs.Domains.{intervals_of}
+use Rattle.flow_systems.specs.declared.footer.Footer.TheVariants.{Accepted}
+use Rattle.flow_systems.specs.declared.system.System.{System}
+use Rattle.flow_systems.specs.Equations.{Least, Vector}
+use Rattle.flow_systems.specs.Solutions.{equations_of_program}
+use Rattle.theory_validity.specs.Certificates.{bounds_vector}
+use Rattle.cert_types.specs.declared.cert.Cert.{Cert}
+use Rattle.out_workload.specs.Bodies.{generated_body, generated_names}
+use Rattle.out_workload.specs.Summaries.{summary_of}
+use Rattle.out_workload.specs.Texts.{generated_text}
+use Rattle.ask_words.specs.declared.request.Domain.{Domain}
+use Rattle.ask_words.specs.declared.request.Policy.{Policy}
+use Rattle.ask_words.specs.declared.request.Policy.TheVariants.{Best}
 use Rattle.top_texts.specs.Checks.{IsValidFor, NoneIsWide, system_with, theirs}
 pub use Rattle.top_texts.specs.LeastReports.{IsLeastReport, IsReportOf}
 pub use Rattle.top_texts.specs.MadeCertificates.{IsCertificateOf}
 use Rattle.top_texts.specs.Rounds.{HasRounds, IsSystemFor}
-use Rattle.tm_cli.specs.declared.request.Purpose.{Purpose}
-use Rattle.tm_cli.specs.declared.request.Purpose.TheVariants.{Report, Certificate}
+use Rattle.ask_words.specs.declared.request.Purpose.{Purpose}
+use Rattle.ask_words.specs.declared.request.Purpose.TheVariants.{Report, Certificate}
 
 -- the bytes are the summary of a generated program: of its least vector over intervals, with the number of improvements by `best`
 pub record IsSummaryOf (seed loops : ℕ) (bytes : List ℕ) : Type 0 where

@@ -1,15 +1,15 @@
 -- The improvements over the system of a program and a template: where they end, by their meaning.
 use Rattle.std.specs.Prelude.{◌≡◌, ◌≤◌, ℕ, ℤ, List}
-use Rattle.tm_tree.specs.Tree.{Statements}
-use Rattle.tm_flow.specs.Edges.{edges_of_program}
-use Rattle.tm_flow.specs.Points.{points_of_program}
-use Rattle.tm_eqsys.specs.declared.system.System.{System}
-use Rattle.tm_eqsys.specs.Equations.{Vector}
-use Rattle.tm_eqsys.specs.View.{equations_of}
-use Rattle.tm_chain.specs.Chains.{EndsAfter, GoesOnAfter}
-use Rattle.tm_chain.specs.Offers.{Offer, Best as MeantBest, First as MeantFirst}
-use Rattle.tm_cli.specs.declared.request.Policy.{Policy}
-use Rattle.tm_cli.specs.declared.request.Policy.TheVariants.{Best, First}
+use Rattle.lang_tree.specs.Tree.{Statements}
+use Rattle.flow_edges.specs.Edges.{edges_of_program}
+use Rattle.flow_edges.specs.Points.{points_of_program}
+use Rattle.flow_systems.specs.declared.system.System.{System}
+use Rattle.flow_systems.specs.Equations.{Vector}
+use Rattle.flow_systems.specs.View.{equations_of}
+use Rattle.theory_chains.specs.Chains.{EndsAfter, GoesOnAfter}
+use Rattle.theory_chains.specs.Offers.{Offer, Best as MeantBest, First as MeantFirst}
+use Rattle.ask_words.specs.declared.request.Policy.{Policy}
+use Rattle.ask_words.specs.declared.request.Policy.TheVariants.{Best, First}
 
 -- the system has the points and edges of this program, and this template
 pub record IsSystemFor (names : List (List ℕ)) (body : Statements) (template : List (List ℤ)) (system : System) : Type 0 where

@@ -1,7 +1,7 @@
 -- How long texts may be.
 use Rattle.std.specs.Prelude.{◌≤◌, ℕ, List, length}
-use Rattle.tm_cli.specs.declared.request.Domain.{Domain}
-use Rattle.tm_cli.specs.declared.request.Domain.TheVariants.{Intervals, Zones, Octagons, Rows}
+use Rattle.ask_words.specs.declared.request.Domain.{Domain}
+use Rattle.ask_words.specs.declared.request.Domain.TheVariants.{Intervals, Zones, Octagons, Rows}
 
 -- a text of at most 65,536 bytes
 abbrev pub IsShort : List ℕ → Type 0

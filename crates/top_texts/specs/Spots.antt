@@ -1,23 +1,23 @@
 -- Where an operation of the rounds, of the check of their certificate, or for claims about where they end, is wide.
 use Rattle.std.specs.Prelude.{◌≡◌, ◌⊎◌, ◌≤◌, ℕ, List, Some}
-use Rattle.tm_eqsys.specs.declared.spot.Part.{Part}
-use Rattle.tm_eqsys.specs.declared.spot.Site.TheVariants.{Claim as AtClaim}
-use Rattle.tm_eqsys.specs.declared.spot.Spot.{Spot}
-use Rattle.tm_eqsys.specs.declared.system.System.{System}
-use Rattle.tm_eqsys.specs.Equations.{Equations, Vector}
-use Rattle.tm_eqsys.specs.View.{equations_of}
-use Rattle.tm_check.specs.CheckEvents.{check_events}
-use Rattle.tm_check.specs.Events.{first_stop}
-use Rattle.tm_check.specs.declared.fault.CheckFault.TheVariants.{Wide}
-use Rattle.tm_rounds.specs.declared.solution.Solved.{Solved}
-use Rattle.tm_rounds.specs.Halts.{IsSpotOf}
-use Rattle.tm_rounds.specs.Solutions.{IsSolved, made_certificate}
-use Rattle.tm_assert.specs.AllVerdicts.{IsClaimsFault}
-use Rattle.tm_assert.specs.declared.claim.Claim.{Claim}
-use Rattle.tm_assert.specs.declared.outcome.ClaimsFault.TheVariants.{Wide as WideFor}
-use Rattle.tm_cli.specs.declared.request.Policy.{Policy}
-use Rattle.tm_cli.specs.declared.request.Purpose.{Purpose}
-use Rattle.tm_cli.specs.declared.request.Purpose.TheVariants.{Report, Certificate}
+use Rattle.flow_systems.specs.declared.spot.Part.{Part}
+use Rattle.flow_systems.specs.declared.spot.Site.TheVariants.{Claim as AtClaim}
+use Rattle.flow_systems.specs.declared.spot.Spot.{Spot}
+use Rattle.flow_systems.specs.declared.system.System.{System}
+use Rattle.flow_systems.specs.Equations.{Equations, Vector}
+use Rattle.flow_systems.specs.View.{equations_of}
+use Rattle.cert_checker.specs.CheckEvents.{check_events}
+use Rattle.cert_checker.specs.Events.{first_stop}
+use Rattle.cert_checker.specs.declared.fault.CheckFault.TheVariants.{Wide}
+use Rattle.solve_rounds.specs.declared.solution.Solved.{Solved}
+use Rattle.solve_rounds.specs.Halts.{IsSpotOf}
+use Rattle.solve_rounds.specs.Solutions.{IsSolved, made_certificate}
+use Rattle.ask_claims.specs.AllVerdicts.{IsClaimsFault}
+use Rattle.ask_claims.specs.declared.claim.Claim.{Claim}
+use Rattle.ask_claims.specs.declared.outcome.ClaimsFault.TheVariants.{Wide as WideFor}
+use Rattle.ask_words.specs.declared.request.Policy.{Policy}
+use Rattle.ask_words.specs.declared.request.Purpose.{Purpose}
+use Rattle.ask_words.specs.declared.request.Purpose.TheVariants.{Report, Certificate}
 use Rattle.top_texts.specs.ClaimTexts.{AreClaimsOf}
 use Rattle.top_texts.specs.Policies.{rule_of}
 use Rattle.top_texts.specs.Rounds.{HasRounds}

@@ -1,26 +1,26 @@
 -- What texts are: a system to be solved, or refused by a cause. Tokens come first, then the program, its points and edges, the template, and the unknowns.
 use Rattle.std.specs.Prelude.{◌≡◌, ◌*◌, ◌≤◌, ◌<◌, ℕ, ℤ, List, Result, Ok, Err, Some, None, length}
-use Rattle.tm_lex.specs.declared.token.Token.{Token}
-use Rattle.tm_lex.specs.Reading.{Reads}
-use Rattle.tm_lex.specs.Faults.{HasFault}
-use Rattle.tm_gram.specs.View.{tokens_of}
+use Rattle.lang_tokens.specs.declared.token.Token.{Token}
+use Rattle.lang_tokens.specs.Reading.{Reads}
+use Rattle.lang_tokens.specs.Faults.{HasFault}
+use Rattle.lang_grammar.specs.View.{tokens_of}
 use Rattle.lang_meaning.specs.Meaning.{Answer, Means}
-use Rattle.tm_tree.specs.Tree.{Statements}
-use Rattle.tm_flow.specs.Faults.{fault_of_program}
-use Rattle.tm_flow.specs.Points.{points_of_program}
-use Rattle.tm_rows.specs.Domains.{intervals_of, zones_of, octagons_of}
-use Rattle.tm_rows.specs.RowFiles.{Answers}
-use Rattle.tm_rows.specs.declared.fault.RowFault.{RowFault}
-use Rattle.tm_eqsys.specs.declared.system.System.{System}
-use Rattle.tm_eqsys.specs.Cells.{cells_of}
-use Rattle.tm_eqsys.specs.Solutions.{equations_of_program}
-use Rattle.tm_cli.specs.declared.request.Domain.{Domain}
-use Rattle.tm_cli.specs.declared.request.Policy.{Policy}
-use Rattle.tm_cli.specs.declared.request.Domain.TheVariants as domain
+use Rattle.lang_tree.specs.Tree.{Statements}
+use Rattle.flow_edges.specs.Faults.{fault_of_program}
+use Rattle.flow_edges.specs.Points.{points_of_program}
+use Rattle.flow_templates.specs.Domains.{intervals_of, zones_of, octagons_of}
+use Rattle.flow_templates.specs.RowFiles.{Answers}
+use Rattle.flow_templates.specs.declared.fault.RowFault.{RowFault}
+use Rattle.flow_systems.specs.declared.system.System.{System}
+use Rattle.flow_systems.specs.Cells.{cells_of}
+use Rattle.flow_systems.specs.Solutions.{equations_of_program}
+use Rattle.ask_words.specs.declared.request.Domain.{Domain}
+use Rattle.ask_words.specs.declared.request.Policy.{Policy}
+use Rattle.ask_words.specs.declared.request.Domain.TheVariants as domain
 use Rattle.top_status.specs.declared.status.TextCause.{TextCause}
 use Rattle.top_status.specs.declared.status.TextCause.TheVariants.{Lex, Parse, Flow, Rows, Unknowns, Cells, Claims, Equ, Auto}
 use Rattle.top_texts.specs.Rounds.{EndsWithin, IsSystemFor}
-use Rattle.tm_eqsys.specs.declared.limits.TheConstants.{MOST_UNKNOWNS}
+use Rattle.flow_systems.specs.declared.limits.TheConstants.{MOST_UNKNOWNS}
 
 -- the text's tokens mean this: names and statements, or a fault
 abbrev pub Reading : List ℕ → Answer → Type 0

@@ -1,18 +1,18 @@
 -- What texts of transition systems are, and what is written of them.
 use Rattle.std.specs.Prelude.{◌≡◌, ◌⊎◌, ◌*◌, ◌≤◌, ◌<◌, ℕ, ℤ, List, Ok, Err, Some, None, length}
-use Rattle.tm_auto.specs.declared.auto.Auto.{Auto}
-use Rattle.tm_auto.specs.AutoFaults.{fault_of}
-use Rattle.tm_auto.specs.AutoLaws.{HoldsAlong, equations_of_auto}
-use Rattle.tm_auto.specs.AutoTexts.{IsAuto, content}
-use Rattle.tm_auto.specs.Choices.{edges_of}
-use Rattle.tm_eqsys.specs.declared.footer.Footer.TheVariants.{Improvements}
-use Rattle.tm_eqsys.specs.declared.limits.TheConstants.{MOST_UNKNOWNS}
-use Rattle.tm_eqsys.specs.declared.system.System.{System}
-use Rattle.tm_eqsys.specs.Cells.{cells_of}
-use Rattle.tm_eqsys.specs.Equations.{Least, Vector}
-use Rattle.tm_eqsys.specs.Report.{report_text}
-use Rattle.tm_cli.specs.declared.request.Domain.{Domain}
-use Rattle.tm_cli.specs.declared.request.Policy.{Policy}
+use Rattle.flow_transitions.specs.declared.auto.Auto.{Auto}
+use Rattle.flow_transitions.specs.AutoFaults.{fault_of}
+use Rattle.flow_transitions.specs.AutoLaws.{HoldsAlong, equations_of_auto}
+use Rattle.flow_transitions.specs.AutoTexts.{IsAuto, content}
+use Rattle.flow_transitions.specs.Choices.{edges_of}
+use Rattle.flow_systems.specs.declared.footer.Footer.TheVariants.{Improvements}
+use Rattle.flow_systems.specs.declared.limits.TheConstants.{MOST_UNKNOWNS}
+use Rattle.flow_systems.specs.declared.system.System.{System}
+use Rattle.flow_systems.specs.Cells.{cells_of}
+use Rattle.flow_systems.specs.Equations.{Least, Vector}
+use Rattle.flow_systems.specs.Report.{report_text}
+use Rattle.ask_words.specs.declared.request.Domain.{Domain}
+use Rattle.ask_words.specs.declared.request.Policy.{Policy}
 use Rattle.top_texts.specs.Rounds.{HasRounds}
 use Rattle.top_texts.specs.Texts.{HasTemplate}
 use Rattle.top_status.specs.declared.status.TextCause.{TextCause}

@@ -1,7 +1,7 @@
 //! The analysis of the text of a program: its report, its certificate, and its least bounds.
 
 ghost use Rattle.std.specs.Prelude.{◌≤◌, IfOk, IfErr, length};
-ghost use Rattle.tm_cli.specs.declared.request.Purpose.TheVariants.{Report, Certificate};
+ghost use Rattle.ask_words.specs.declared.request.Purpose.TheVariants.{Report, Certificate};
 ghost use Rattle.top_texts.specs.Exact.{exact};
 ghost use Rattle.top_texts.specs.Parted.{IsUnanswered, domain_of};
 ghost use Rattle.top_texts.specs.Questions.{analysis_question};
@@ -19,7 +19,7 @@ use certify::certificate_of;
 use rounds::report_of;
 use std::alloc::Global;
 use system::system_on;
-use tm_cli::{Domain, Policy};
+use ask_words::{Domain, Policy};
 
 /// The whole report of the least bounds of the program of `text`, over these rows, with the number of improvements by the
 /// policy, of which there may be `limit` (docs/FORMATS.md, "The report").

@@ -10,8 +10,8 @@ use crate::analyse::rounds::solve;
 use crate::analyse::system::system_on;
 use crate::refusal::Refusal;
 use std::alloc::Global;
-use tm_cli::{Domain, Policy};
-use tm_workload::{generate, generated_texts_read, summary};
+use ask_words::{Domain, Policy};
+use out_workload::{generate, generated_texts_read, summary};
 
 // How many improvements are made at most.
 const MOST_IMPROVEMENTS: u32 = 1000;

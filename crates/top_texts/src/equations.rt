@@ -1,12 +1,12 @@
 //! The values of a text's equations.
 
 ghost use Rattle.std.specs.Prelude.{◌≡◌, ◌≢◌, ◌*◌, ◌+◌, ◌≤◌, ℕ, List, IfOk, IfErr, IsTrue, Ok, Err, length, take};
-ghost use Rattle.tm_eqsys.specs.declared.footer.Footer.TheVariants.{Improvements};
-ghost use Rattle.tm_eqsys.specs.View.{vector_of};
-ghost use Rattle.tm_equ.specs.EquationTexts.{Answers};
-ghost use Rattle.tm_equ.specs.Equations.{are_equations};
-ghost use Rattle.tm_report.specs.Values.{values_text};
-ghost use Rattle.tm_cli.specs.declared.request.Policy.{Policy as PolicyValue};
+ghost use Rattle.flow_systems.specs.declared.footer.Footer.TheVariants.{Improvements};
+ghost use Rattle.flow_systems.specs.View.{vector_of};
+ghost use Rattle.flow_rationals.specs.EquationTexts.{Answers};
+ghost use Rattle.flow_rationals.specs.Equations.{are_equations};
+ghost use Rattle.out_report.specs.Values.{values_text};
+ghost use Rattle.ask_words.specs.declared.request.Policy.{Policy as PolicyValue};
 ghost use Rattle.top_texts.specs.EquationTexts.{AreValuesOf};
 ghost use Rattle.top_texts.specs.Exact.{exact};
 ghost use Rattle.top_texts.specs.Parted.{IsUnanswered};
@@ -15,12 +15,12 @@ ghost use Rattle.top_texts.specs.Questions.{equations_question};
 use crate::analyse::rounds::solve;
 use crate::refusal::Refusal;
 use std::alloc::{AllocError, Global};
-use tm_cli::Policy;
-use tm_eqsys::{Bounds, Footer, System};
-use tm_equ::{
+use ask_words::Policy;
+use flow_systems::{Bounds, Footer, System};
+use flow_rationals::{
     EquFault, Equations, least_above_equal_right_sides, least_vectors_are_least_above, read, system,
 };
-use tm_report::values;
+use out_report::values;
 use top_status::TextCause;
 
 // The refusal of a text that has this fault.

@@ -1,14 +1,14 @@
 //! The certificate that the bytes of a file spell, or the fault of their form.
 
 ghost use Rattle.std.specs.Prelude.{◌≡◌, ◌≢◌, ℕ, List, IfOk, IfErr};
-ghost use Rattle.tm_form.specs.Certificates.{IsWritable, SpellsCert};
+ghost use Rattle.cert_text.specs.Certificates.{IsWritable, SpellsCert};
 ghost use Rattle.top_texts.specs.Checks.{IsFormFault};
 ghost use Rattle.top_texts.specs.Parted.{IsMisspelt};
 
 use crate::refusal::Refusal;
 use std::alloc::Global;
-use tm_cert::Cert;
-use tm_form::{FormFault, read};
+use cert_types::Cert;
+use cert_text::{FormFault, read};
 use top_status::CertCause;
 
 // The refusal of bytes that have this fault.

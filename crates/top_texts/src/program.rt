@@ -1,21 +1,21 @@
 //! From the text of a program to its points and edges, or the cause for which it is refused.
 
 ghost use Rattle.std.specs.Prelude.{◌≡◌, ◌≤◌, ◌⊎◌, ℕ, List, IfOk, IfErr, Ok, Err, None, Some, length};
-ghost use Rattle.tm_lex.specs.Faults.{HasFault};
+ghost use Rattle.lang_tokens.specs.Faults.{HasFault};
 ghost use Rattle.lang_meaning.specs.Meaning.{Answer};
-ghost use Rattle.tm_tree.specs.Tree.{Statements};
-ghost use Rattle.tm_flow.specs.Edges.{edges_of_program};
-ghost use Rattle.tm_flow.specs.Faults.{fault_of_program};
-ghost use Rattle.tm_flow.specs.Points.{points_of_program};
+ghost use Rattle.lang_tree.specs.Tree.{Statements};
+ghost use Rattle.flow_edges.specs.Edges.{edges_of_program};
+ghost use Rattle.flow_edges.specs.Faults.{fault_of_program};
+ghost use Rattle.flow_edges.specs.Points.{points_of_program};
 ghost use Rattle.top_texts.specs.Parted.{IsUnread};
 ghost use Rattle.top_texts.specs.Texts.{Reading};
 
 use crate::refusal::Refusal;
 use std::alloc::Global;
-use tm_flow::{Flow, FlowFault, flow};
-use tm_lex::{LexFault, lex};
-use tm_parse::{ParseFault, parse};
-use tm_tree::Program;
+use flow_edges::{Flow, FlowFault, flow};
+use lang_tokens::{LexFault, lex};
+use lang_parser::{ParseFault, parse};
+use lang_tree::Program;
 use top_status::TextCause;
 
 // The refusal of a text that has this fault instead of tokens.

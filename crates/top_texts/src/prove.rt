@@ -2,14 +2,14 @@
 
 ghost use Rattle.std.specs.Prelude.{◌≡◌, ◌≢◌, ◌≤◌, ℕ, List, IfOk, IfErr, Err, length};
 ghost use Rattle.std.specs.List.{All};
-ghost use Rattle.tm_eqsys.specs.Equations.{Equations, Vector};
-ghost use Rattle.tm_eqsys.specs.View.{equations_of, vector_at, IsVectorOf};
-ghost use Rattle.tm_eqsys.specs.declared.system.System.{System as SystemValue};
-ghost use Rattle.tm_assert.specs.AllVerdicts.{AreVerdicts, IsClaimsFault};
-ghost use Rattle.tm_assert.specs.Claims.{FileMeans, Stands};
-ghost use Rattle.tm_assert.specs.declared.claim.Claim.{Claim as ClaimValue};
-ghost use Rattle.tm_cli.specs.declared.request.Domain.{Domain as DomainValue};
-ghost use Rattle.tm_cli.specs.declared.request.Policy.{Policy as PolicyValue};
+ghost use Rattle.flow_systems.specs.Equations.{Equations, Vector};
+ghost use Rattle.flow_systems.specs.View.{equations_of, vector_at, IsVectorOf};
+ghost use Rattle.flow_systems.specs.declared.system.System.{System as SystemValue};
+ghost use Rattle.ask_claims.specs.AllVerdicts.{AreVerdicts, IsClaimsFault};
+ghost use Rattle.ask_claims.specs.Claims.{FileMeans, Stands};
+ghost use Rattle.ask_claims.specs.declared.claim.Claim.{Claim as ClaimValue};
+ghost use Rattle.ask_words.specs.declared.request.Domain.{Domain as DomainValue};
+ghost use Rattle.ask_words.specs.declared.request.Policy.{Policy as PolicyValue};
 ghost use Rattle.top_texts.specs.ClaimTexts.{AreClaimsOf, AreVerdictsOf};
 ghost use Rattle.top_texts.specs.Exact.{exact};
 ghost use Rattle.top_texts.specs.Short.{HasShortRows};
@@ -21,12 +21,12 @@ use crate::analyse::rounds::solve;
 use crate::analyse::system::system_on;
 use crate::refusal::Refusal;
 use std::alloc::Global;
-use tm_assert::{
+use ask_claims::{
     Claim, ClaimFault, ClaimsFault, Verdict, open_states_break, proved_verdicts_hold, read_claims,
     verdicts, verdicts_text,
 };
-use tm_cli::{Domain, Policy};
-use tm_eqsys::{Bounds, Site, Spot, System};
+use ask_words::{Domain, Policy};
+use flow_systems::{Bounds, Site, Spot, System};
 use top_status::TextCause;
 
 // The refusal of a text of claims that has this fault over a system's names and points.

@@ -4,7 +4,7 @@ ghost use Rattle.std.specs.Prelude.{◌≡◌};
 ghost use Rattle.top_texts.specs.Parted.{refused};
 
 use std::alloc::AllocError;
-use tm_eqsys::Spot;
+use flow_systems::Spot;
 use top_status::{CertCause, Status, TextCause};
 
 /// Why texts have no answer.

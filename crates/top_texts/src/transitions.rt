@@ -1,14 +1,14 @@
 //! The system of the texts of a transition system and of its rows, and the report of its least bounds.
 
 ghost use Rattle.std.specs.Prelude.{◌≡◌, ◌≢◌, ◌≤◌, ℕ, List, IfOk, IfErr, IsTrue, None, Ok, Err, length};
-ghost use Rattle.tm_auto.specs.AutoFaults.{fault_of};
-ghost use Rattle.tm_auto.specs.AutoTexts.{IsAuto, content};
-ghost use Rattle.tm_auto.specs.Choices.{edges_of};
-ghost use Rattle.tm_eqsys.specs.Cells.{cells_of};
-ghost use Rattle.tm_eqsys.specs.SystemLimits.{is_over};
-ghost use Rattle.tm_eqsys.specs.View.{equations_of};
-ghost use Rattle.tm_rows.specs.declared.fault.RowFault.TheVariants as row_fault;
-ghost use Rattle.tm_cli.specs.declared.request.Domain.{Domain as DomainValue};
+ghost use Rattle.flow_transitions.specs.AutoFaults.{fault_of};
+ghost use Rattle.flow_transitions.specs.AutoTexts.{IsAuto, content};
+ghost use Rattle.flow_transitions.specs.Choices.{edges_of};
+ghost use Rattle.flow_systems.specs.Cells.{cells_of};
+ghost use Rattle.flow_systems.specs.SystemLimits.{is_over};
+ghost use Rattle.flow_systems.specs.View.{equations_of};
+ghost use Rattle.flow_templates.specs.declared.fault.RowFault.TheVariants as row_fault;
+ghost use Rattle.ask_words.specs.declared.request.Domain.{Domain as DomainValue};
 ghost use Rattle.top_texts.specs.Exact.{exact};
 ghost use Rattle.top_texts.specs.Short.{HasShortRows};
 ghost use Rattle.top_texts.specs.Parted.{IsRefusedAlong, IsUnanswered, domain_of};
@@ -21,11 +21,11 @@ use crate::analyse::system::{count_cells, system_of};
 use crate::analyse::template::template_of;
 use crate::refusal::Refusal;
 use std::alloc::Global;
-use tm_auto::{Auto, AutoFault, flow, post_solutions_hold_along, read};
-use tm_cli::{Domain, Policy};
-use tm_eqsys::System;
-use tm_flow::Flow;
-use tm_rows::{RowFault, Template};
+use flow_transitions::{Auto, AutoFault, flow, post_solutions_hold_along, read};
+use ask_words::{Domain, Policy};
+use flow_systems::System;
+use flow_edges::Flow;
+use flow_templates::{RowFault, Template};
 use top_status::TextCause;
 
 // The refusal of a text that has this fault.

@@ -1,6 +1,6 @@
 -- What stands where an operand has to stand, and is no name and no number.
 use Rattle.std.proofs.Common.{◌≡◌, ℕ, List, Ok, refl}
-use Rattle.tm_gram.specs.Grammar.{Kind, a_name}
+use Rattle.lang_grammar.specs.Grammar.{Kind, a_name}
 use Rattle.lang_meaning.specs.Walk.{State}
 use Rattle.lang_meaning.specs.Feed.{Frame, at, signed, wanted}
 use Rattle.lang_reader.specs.Modes.{unnamed}

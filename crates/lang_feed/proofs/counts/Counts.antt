@@ -1,14 +1,14 @@
 -- What the spelling of a program counts.
 use Rattle.std.proofs.Common.{◌≡◌, ◌∙◌, ◌++◌, ◌+◌, ℕ, zero, suc, List, [], ◌∷◌, refl, ap, arith}
-use Rattle.tm_gram.specs.Grammar.{replaces, minus_op, Prefix, negative, positive, negation, Kind, a_name, a_number, infix_sign, left_paren, right_paren}
-use Rattle.tm_gram.specs.Grammar.{left_brace, right_brace, comma, semicolon, colon, change_sign, step_sign, int_word, main_word, void_word, if_word}
-use Rattle.tm_gram.specs.Grammar.{else_word, while_word, return_word, assume_word, nondet_word, the_end, sign_of, Token, token, Expr, number, variable, free}
-use Rattle.tm_gram.specs.Grammar.{grouped, prefixed, joined, spell_expr, Declarator, bare, given, Declarators, declares, declares_more, spell_declarator}
-use Rattle.tm_gram.specs.Grammar.{spell_declarators, do_word, for_word, jump_word, Update, set, step_after, step_before, spell_update, ForFirst, no_first}
-use Rattle.tm_gram.specs.Grammar.{declared_first, updated_first, spell_first, ForTest, no_test, given_test, spell_test, ForLast, no_last, updated_last}
-use Rattle.tm_gram.specs.Grammar.{spell_last, Core, empty, block, if_alone, if_else, repeat, repeat_after, repeat_for, jumps, assumed, updates, Sub, labelled}
-use Rattle.tm_gram.specs.Grammar.{plain, Items, no_items, label, declaration, item, spell_core, spell_sub, spell_items, Parameters, nothing, void_at}
-use Rattle.tm_gram.specs.Grammar.{spell_parameters, Return, no_return, returns, returns_minus, spell_return}
+use Rattle.lang_grammar.specs.Grammar.{replaces, minus_op, Prefix, negative, positive, negation, Kind, a_name, a_number, infix_sign, left_paren, right_paren}
+use Rattle.lang_grammar.specs.Grammar.{left_brace, right_brace, comma, semicolon, colon, change_sign, step_sign, int_word, main_word, void_word, if_word}
+use Rattle.lang_grammar.specs.Grammar.{else_word, while_word, return_word, assume_word, nondet_word, the_end, sign_of, Token, token, Expr, number, variable, free}
+use Rattle.lang_grammar.specs.Grammar.{grouped, prefixed, joined, spell_expr, Declarator, bare, given, Declarators, declares, declares_more, spell_declarator}
+use Rattle.lang_grammar.specs.Grammar.{spell_declarators, do_word, for_word, jump_word, Update, set, step_after, step_before, spell_update, ForFirst, no_first}
+use Rattle.lang_grammar.specs.Grammar.{declared_first, updated_first, spell_first, ForTest, no_test, given_test, spell_test, ForLast, no_last, updated_last}
+use Rattle.lang_grammar.specs.Grammar.{spell_last, Core, empty, block, if_alone, if_else, repeat, repeat_after, repeat_for, jumps, assumed, updates, Sub, labelled}
+use Rattle.lang_grammar.specs.Grammar.{plain, Items, no_items, label, declaration, item, spell_core, spell_sub, spell_items, Parameters, nothing, void_at}
+use Rattle.lang_grammar.specs.Grammar.{spell_parameters, Return, no_return, returns, returns_minus, spell_return}
 use Rattle.lang_meaning.specs.Walk.{declared_in, declared_before, declared_core, declared_sub, declared_items}
 use Rattle.lang_feed.specs.Width.{total}
 

@@ -1,18 +1,18 @@
 -- Tokens that end with `End` and begin a sentence are one; and the width of a sentence.
 use Rattle.std.proofs.Common.{◌≡◌, ◌∙◌, ◌++◌, ◌+◌, ◌-◌, ℕ, zero, suc, List, [], ◌∷◌, length, map, min, refl, sym, ap, ap₂, subst, arith, append_assoc}
 use Rattle.std.proofs.lemmas.List.{append-nil, map-append}
-use Rattle.tm_gram.specs.Grammar.{Kind, left_paren, right_paren, left_brace, right_brace, comma, int_word, main_word, the_end, Token, token, Items}
-use Rattle.tm_gram.specs.Grammar.{spell_items, Parameters, spell_parameters, Return, spell_return, Program, program, spell, Reads, Begins}
-use Rattle.tm_gram.specs.View.{kind_of, plain_kind, token_of, tokens_of, plain_token}
-use Rattle.tm_lex.specs.declared.token.Kind.TheVariants as lex
-use Rattle.tm_lex.specs.declared.token.Kind as lex_kind
-use Rattle.tm_lex.specs.declared.token.Token as lex_token
-use Rattle.tm_lex.specs.Reading.{end_at}
-use Rattle.tm_lex.specs.TokenLists.{AreTokensOf}
+use Rattle.lang_grammar.specs.Grammar.{Kind, left_paren, right_paren, left_brace, right_brace, comma, int_word, main_word, the_end, Token, token, Items}
+use Rattle.lang_grammar.specs.Grammar.{spell_items, Parameters, spell_parameters, Return, spell_return, Program, program, spell, Reads, Begins}
+use Rattle.lang_grammar.specs.View.{kind_of, plain_kind, token_of, tokens_of, plain_token}
+use Rattle.lang_tokens.specs.declared.token.Kind.TheVariants as lex
+use Rattle.lang_tokens.specs.declared.token.Kind as lex_kind
+use Rattle.lang_tokens.specs.declared.token.Token as lex_token
+use Rattle.lang_tokens.specs.Reading.{end_at}
+use Rattle.lang_tokens.specs.TokenLists.{AreTokensOf}
 use Rattle.lang_meaning.specs.Walk.{declared_items}
 use Rattle.lang_feed.specs.Width.{total, mark}
 use Rattle.lang_feed.proofs.counts.Counts.{total_append, times, IsPlain, front, front_total}
-use Rattle.tm_tree.specs.declared.limits.TheConstants.{MOST_VARIABLES}
+use Rattle.lang_tree.specs.declared.limits.TheConstants.{MOST_VARIABLES}
 
 -- the end of a text
 abbrev pub ending : Kind → ℕ

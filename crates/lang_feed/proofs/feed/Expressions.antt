@@ -2,9 +2,9 @@
 use Rattle.std.proofs.Common.{◌≡◌, ◌∙◌, ◌++◌, ◌<◌, ◌≤◌, ℕ, suc, List, [], ◌∷◌, Result, Ok, refl, sym, ap, append_assoc, arith, Bool, true, false}
 use Rattle.std.proofs.lemmas.Bool.{lt-ltb, le-ltb}
 use Rattle.std.specs.Prelude.{pos}
-use Rattle.tm_gram.specs.Grammar.{Op, level, Prefix, negative, positive, negation, infix_sign, right_paren, comma, semicolon, Token, token, Groups, Expr}
-use Rattle.tm_gram.specs.Grammar.{number, variable, free, grouped, prefixed, joined, spell_expr}
-use Rattle.tm_gram.proofs.grammar.Sound.{below_six}
+use Rattle.lang_grammar.specs.Grammar.{Op, level, Prefix, negative, positive, negation, infix_sign, right_paren, comma, semicolon, Token, token, Groups, Expr}
+use Rattle.lang_grammar.specs.Grammar.{number, variable, free, grouped, prefixed, joined, spell_expr}
+use Rattle.lang_grammar.proofs.grammar.Sound.{below_six}
 use Rattle.lang_meaning.specs.declared.fault.ParseFault.{ParseFault}
 use Rattle.lang_meaning.specs.Results.{◌>>=◌}
 use Rattle.lang_meaning.specs.Forms.{constant_form, variable_form}

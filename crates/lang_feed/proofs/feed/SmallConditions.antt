@@ -2,16 +2,16 @@
 use Rattle.std.proofs.Common.{◌≡◌, ◌∙◌, ◌⊎◌, inl, inr, ◌+◌, ◌<◌, ℕ, pos, negsuc, Option, Some, subst, Bool, true, false, cond, nat_lt, Result, Ok, Err, refl}
 use Rattle.std.proofs.Common.{sym, ap, ap₂, arith}
 use Rattle.std.proofs.lemmas.Bool.{lt-ltb, ltb-true}
-use Rattle.tm_gram.specs.Grammar.{Op, or_op, and_op, compare_op, plus_op, minus_op, times_op, Prefix, negative, positive, negation, Change, replaces, adds}
-use Rattle.tm_gram.specs.Grammar.{subtracts, Expr, number, variable, free, grouped, prefixed, joined}
-use Rattle.tm_tree.specs.Tree as tree
-use Rattle.tm_tree.specs.Tree.{Condition, leaf_count}
+use Rattle.lang_grammar.specs.Grammar.{Op, or_op, and_op, compare_op, plus_op, minus_op, times_op, Prefix, negative, positive, negation, Change, replaces, adds}
+use Rattle.lang_grammar.specs.Grammar.{subtracts, Expr, number, variable, free, grouped, prefixed, joined}
+use Rattle.lang_tree.specs.Tree as tree
+use Rattle.lang_tree.specs.Tree.{Condition, leaf_count}
 use Rattle.lang_meaning.specs.declared.fault.ParseFault.{ParseFault}
 use Rattle.lang_meaning.specs.declared.fault.ParseFault.TheVariants as fault
 use Rattle.lang_meaning.specs.declared.fault.Limit.TheVariants.{Leaves}
 use Rattle.lang_meaning.specs.Results.{◌>>=◌}
 use Rattle.lang_meaning.specs.Forms.{constant_form, variable_form, plus, minus, scaled}
-use Rattle.tm_tree.specs.declared.form.Form.{Form}
+use Rattle.lang_tree.specs.declared.form.Form.{Form}
 use Rattle.lang_meaning.specs.Walk.{Value, a_form, a_truth, a_nondet, State, known_number, number_of, as_condition, ranged, first_of, two_numbers, two_conditions}
 use Rattle.lang_meaning.specs.Walk.{compared, product, combined, prefix_value, regarded, few_leaves, tested, right_side, assigned, walk_expr}
 use Rattle.lang_meaning.specs.Feed.{grown, combined_small}

@@ -1,9 +1,9 @@
 -- What a statement leaves within another one, and behind it.
 use Rattle.std.proofs.Common.{◌≡◌, ◌∙◌, ℕ, List, [], ◌∷◌, Ok, refl, sym, ap, ◌++◌, length, Bool, Result, append_assoc}
-use Rattle.tm_gram.specs.Grammar.{Kind, else_word, while_word, Token, token, Ending, shut, waiting, right_paren, left_paren, right_brace, left_brace, semicolon, if_word, do_word, Groups, Expr, spell_expr, assumed, spell_core}
-use Rattle.tm_gram.proofs.grammar.Complete.{NotElse, GoesOn}
-use Rattle.tm_tree.specs.Tree as tree
-use Rattle.tm_tree.specs.Tree.{Condition, Statement, Statements, nil, cons}
+use Rattle.lang_grammar.specs.Grammar.{Kind, else_word, while_word, Token, token, Ending, shut, waiting, right_paren, left_paren, right_brace, left_brace, semicolon, if_word, do_word, Groups, Expr, spell_expr, assumed, spell_core}
+use Rattle.lang_grammar.proofs.grammar.Complete.{NotElse, GoesOn}
+use Rattle.lang_tree.specs.Tree as tree
+use Rattle.lang_tree.specs.Tree.{Condition, Statement, Statements, nil, cons}
 use Rattle.lang_meaning.specs.Results.{◌>>=◌}
 use Rattle.lang_meaning.specs.Walk.{State, followed_by, one, closed, counted, tested, walk_expr, walk_core}
 use Rattle.lang_meaning.specs.Feed as feeds

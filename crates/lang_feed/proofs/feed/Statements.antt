@@ -1,19 +1,19 @@
 -- Feeding the spelling of statements and of a program is walking them.
 use Rattle.std.proofs.Common.{◌≡◌, ◌∙◌, ℕ, List, [], ◌∷◌, Ok, refl, sym, ap, ◌++◌, length, Bool, true, false, Option, Some, None, Result, ap₂, append_assoc}
-use Rattle.tm_gram.specs.Grammar.{Kind, else_word, Token, token, Ending, a_name, right_paren, left_paren, right_brace, comma, semicolon, colon, int_word, for_word, the_end, Expr, spell_expr, Declarators, Declarator, declares, number, variable, free, grouped, prefixed, joined, negative, positive, negation, infix_sign, declares_more, bare, given, spell_declarator, spell_declarators, GoodDeclarator, GoodDeclarators, Update, set, step_after, step_before, spell_update, GoodUpdate, ForFirst, no_first, declared_first, updated_first, spell_first, GoodFirst, ForTest, no_test, given_test, spell_test, GoodTest, ForLast, no_last, updated_last, spell_last, GoodLast, Jump, Core, empty, block, if_alone, if_else, repeat, repeat_after, repeat_for, jumps, assumed, updates, Sub, labelled, plain, Items, no_items, label, declaration, item, spell_core, spell_sub, spell_items, ending_core, ending_sub, GoodCore, GoodSub, GoodItems, Return, no_return, returns, returns_minus, spell_return, Parameters, nothing, void_at, program, spell}
-use Rattle.tm_gram.proofs.grammar.Complete.{GoesOn, items_head, return_head}
-use Rattle.tm_tree.specs.Tree as tree
-use Rattle.tm_tree.specs.Tree.{Condition, Statement, Statements, nil, cons}
+use Rattle.lang_grammar.specs.Grammar.{Kind, else_word, Token, token, Ending, a_name, right_paren, left_paren, right_brace, comma, semicolon, colon, int_word, for_word, the_end, Expr, spell_expr, Declarators, Declarator, declares, number, variable, free, grouped, prefixed, joined, negative, positive, negation, infix_sign, declares_more, bare, given, spell_declarator, spell_declarators, GoodDeclarator, GoodDeclarators, Update, set, step_after, step_before, spell_update, GoodUpdate, ForFirst, no_first, declared_first, updated_first, spell_first, GoodFirst, ForTest, no_test, given_test, spell_test, GoodTest, ForLast, no_last, updated_last, spell_last, GoodLast, Jump, Core, empty, block, if_alone, if_else, repeat, repeat_after, repeat_for, jumps, assumed, updates, Sub, labelled, plain, Items, no_items, label, declaration, item, spell_core, spell_sub, spell_items, ending_core, ending_sub, GoodCore, GoodSub, GoodItems, Return, no_return, returns, returns_minus, spell_return, Parameters, nothing, void_at, program, spell}
+use Rattle.lang_grammar.proofs.grammar.Complete.{GoesOn, items_head, return_head}
+use Rattle.lang_tree.specs.Tree as tree
+use Rattle.lang_tree.specs.Tree.{Condition, Statement, Statements, nil, cons}
 use Rattle.lang_meaning.specs.Results.{◌>>=◌}
 use Rattle.lang_meaning.specs.Walk.{State, followed_by, one, closed, Value, start_state, counted, labelled_by, known_number, tested, right_side, assignment, changed, change_nodes, assigned, always, jump_kind, jumped, step_node, step_change, declared_by, program_of, walk_expr, walk_declarator, walk_declarators, walk_update, walk_first, walk_test, walk_last, walk_core, walk_sub, walk_items}
 use Rattle.lang_meaning.specs.Feed as feeds
 use Rattle.lang_meaning.specs.Feed.{Frame, before, assigns, initial, header, header_tested, of_items, of_branch, of_other, of_loop, of_body, of_for, under, stands, Machine, at, Outcome, is_inside, pushed, settled, wants, has, first_part, test_part, last_part, ends, Mode, change_in, next_mode, begin, result_of, declares as names_next}
 use Rattle.lang_feed.proofs.feed.Expressions.{feed, Next, fed_expr}
 use Rattle.lang_meaning.specs.declared.fault.ParseFault.{ParseFault}
-use Rattle.tm_tree.specs.declared.form.Form.{Form}
-use Rattle.tm_tree.specs.declared.change.Change.{Change}
-use Rattle.tm_tree.specs.declared.change.Change.TheVariants as change
-use Rattle.tm_gram.specs.Grammar as assign
+use Rattle.lang_tree.specs.declared.form.Form.{Form}
+use Rattle.lang_tree.specs.declared.change.Change.{Change}
+use Rattle.lang_tree.specs.declared.change.Change.TheVariants as change
+use Rattle.lang_grammar.specs.Grammar as assign
 use Rattle.lang_meaning.proofs.results.Binds.{bind_both, bind_left, bind_right, bind_same}
 use Rattle.lang_feed.proofs.feed.SmallConditions.{walk_small, small_then, tested_same, side_respects, assigned_respects}
 use Rattle.lang_feed.proofs.feed.StatementPieces.{follow_nil, follow_assoc, Follows, goes_follows, shut_follows, IsOpen, pushed_close, pushed_attach, pushed_open, pushed_inside, settled_open, pass, pass_items, Walk, Does, DoesItems, case_block, case_if_alone, case_repeat, case_if_else, case_assumed, case_do}

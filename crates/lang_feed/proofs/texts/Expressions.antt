@@ -4,15 +4,15 @@ use Rattle.std.proofs.Common.{arith, append_assoc}
 use Rattle.std.proofs.Math.Seq.{take-append_seam}
 use Rattle.std.proofs.lemmas.List.{drop-map, drop_more, length-append, length-drop, length-map, take_rest}
 use Rattle.std.specs.Prelude.{slice_range}
-use Rattle.tm_gram.specs.Grammar.{the_end, semicolon, Token, token, Expr, spell_expr, Groups}
-use Rattle.tm_gram.specs.Expressions.{IsLongest, Reach, reaches, runs_out, stops_at, nests_at, FindsExpr, expression_start, reach, reach_of}
-use Rattle.tm_gram.specs.declared.expression.Extent as code_extent
-use Rattle.tm_gram.specs.View.{token_of, tokens_of}
-use Rattle.tm_gram.proofs.phrase.Found.{reach_finds}
-use Rattle.tm_lex.specs.Lines.{line_at}
-use Rattle.tm_lex.specs.Reading.{end_at}
-use Rattle.tm_lex.specs.TokenLists.{AreTokensAfter, AreTokensOf}
-use Rattle.tm_lex.specs.declared.token.Token as lex_token
+use Rattle.lang_grammar.specs.Grammar.{the_end, semicolon, Token, token, Expr, spell_expr, Groups}
+use Rattle.lang_grammar.specs.Expressions.{IsLongest, Reach, reaches, runs_out, stops_at, nests_at, FindsExpr, expression_start, reach, reach_of}
+use Rattle.lang_grammar.specs.declared.expression.Extent as code_extent
+use Rattle.lang_grammar.specs.View.{token_of, tokens_of}
+use Rattle.lang_grammar.proofs.phrase.Found.{reach_finds}
+use Rattle.lang_tokens.specs.Lines.{line_at}
+use Rattle.lang_tokens.specs.Reading.{end_at}
+use Rattle.lang_tokens.specs.TokenLists.{AreTokensAfter, AreTokensOf}
+use Rattle.lang_tokens.specs.declared.token.Token as lex_token
 use Rattle.lang_meaning.specs.declared.fault.ParseFault.{ParseFault}
 use Rattle.lang_meaning.specs.declared.fault.ParseFault.TheVariants as fault
 use Rattle.lang_meaning.specs.declared.fault.Limit.TheVariants.{Nesting}

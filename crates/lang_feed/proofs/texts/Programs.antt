@@ -1,12 +1,12 @@
 -- What is read of a text, and what the second pass gives, is what the text means.
 use Rattle.std.proofs.Common.{◌≡◌, ◌∙◌, inl, inr, ◌-◌, ℕ, List, map, min, Ok, Err, refl, sym, ap₂}
-use Rattle.tm_gram.specs.Grammar.{Token, Program, program, Reads}
-use Rattle.tm_gram.specs.Depth.{Scan, whole, short, unexpected, nested, scan}
-use Rattle.tm_gram.specs.Faults.{Finds}
-use Rattle.tm_gram.specs.Machine.{start}
-use Rattle.tm_gram.proofs.faults.Scanned.{scan_finds}
-use Rattle.tm_lex.specs.Lines.{line_at}
-use Rattle.tm_tree.specs.Tree.{Statements}
+use Rattle.lang_grammar.specs.Grammar.{Token, Program, program, Reads}
+use Rattle.lang_grammar.specs.Depth.{Scan, whole, short, unexpected, nested, scan}
+use Rattle.lang_grammar.specs.Faults.{Finds}
+use Rattle.lang_grammar.specs.Machine.{start}
+use Rattle.lang_grammar.proofs.faults.Scanned.{scan_finds}
+use Rattle.lang_tokens.specs.Lines.{line_at}
+use Rattle.lang_tree.specs.Tree.{Statements}
 use Rattle.lang_meaning.specs.declared.fault.ParseFault.TheVariants as fault
 use Rattle.lang_meaning.specs.declared.fault.Limit.TheVariants.{Nesting}
 use Rattle.lang_meaning.specs.Results.{◌>>=◌}
@@ -15,11 +15,11 @@ use Rattle.lang_meaning.specs.Feed.{feed, begin, result_of}
 use Rattle.lang_meaning.specs.Meaning.{Answer, IsRead, Means}
 use Rattle.lang_feed.proofs.feed.Statements.{program_fed}
 use Rattle.lang_meaning.proofs.limits.Programs.{IsProgram, walk_fits, ok_fits}
-use Rattle.tm_gram.specs.View.{tokens_of, plain_token}
-use Rattle.tm_lex.specs.declared.token.Token as lex_token
+use Rattle.lang_grammar.specs.View.{tokens_of, plain_token}
+use Rattle.lang_tokens.specs.declared.token.Token as lex_token
 use Rattle.lang_feed.specs.Width.{total, mark}
 use Rattle.lang_feed.proofs.counts.WholeTexts.{EndsWell, begun_is_whole, width_is}
-use Rattle.tm_tree.specs.declared.limits.TheConstants.{MOST_VARIABLES}
+use Rattle.lang_tree.specs.declared.limits.TheConstants.{MOST_VARIABLES}
 
 pub found_unexpected : (text : List ℕ) (a : ℕ) (ts : List Token) → Finds (unexpected a) ts → Means text ts (Err (fault.Unexpected a))
 found_unexpected text a ts f = inl (a, f, refl)

@@ -2,7 +2,7 @@
 use Rattle.std.proofs.Common.{◌≡◌, ◌∙◌, ℕ, zero, suc, ℤ, pos, List, [], ◌∷◌, Bool, true, false, ◌&&◌, IsTrue, cond}
 use Rattle.std.proofs.Common.{Result, Ok, Err, refl, sym, ap, replicate}
 use Rattle.std.proofs.Math.ListN.{set}
-use Rattle.tm_tree.specs.Numbers.{is_number, are_numbers}
+use Rattle.lang_tree.specs.Numbers.{is_number, are_numbers}
 use Rattle.lang_meaning.specs.declared.fault.ParseFault.{ParseFault}
 use Rattle.lang_meaning.specs.declared.fault.ParseFault.TheVariants.{BigNumber}
 use Rattle.lang_meaning.specs.Results.{◌>>=◌}

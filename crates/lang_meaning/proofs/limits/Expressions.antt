@@ -1,7 +1,7 @@
 -- What is read as an expression fits its limits.
 use Rattle.std.proofs.Common.{◌+◌, inl, inr, ℕ, List, length, drop, Ok, sym, subst}
-use Rattle.tm_gram.specs.Grammar.{Token, Expr}
-use Rattle.tm_lex.specs.Lines.{line_at}
+use Rattle.lang_grammar.specs.Grammar.{Token, Expr}
+use Rattle.lang_tokens.specs.Lines.{line_at}
 use Rattle.lang_meaning.specs.Walk.{Value, a_form, a_truth, a_nondet, few_leaves, walk_expr}
 use Rattle.lang_meaning.specs.Expressions.{a_condition, ExpressionAnswer, ExpressionMeans, MeaningFits, knowing, meaning_of, meant, first_place}
 use Rattle.lang_meaning.proofs.limits.Values.{OnValue, on_bind, ValueFits, TestFits, tested_fits}

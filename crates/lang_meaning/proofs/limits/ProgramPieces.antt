@@ -4,12 +4,12 @@ use Rattle.std.proofs.Common.{Result, Ok, Err, Option, Some, None, refl, arith, 
 use Rattle.std.proofs.lemmas.Bool.{lt-ltb, ltb-true}
 use Rattle.std.specs.List.{list_any, position_or_len}
 use Rattle.std.specs.Str.{bytes_eq}
-use Rattle.tm_tree.specs.declared.form.Form.{Form}
-use Rattle.tm_tree.specs.Limits.{is_form, is_change, is_statement, are_statements}
-use Rattle.tm_tree.specs.declared.change.Change.{Change}
-use Rattle.tm_tree.specs.declared.change.Change.TheVariants as change
-use Rattle.tm_tree.specs.Tree as tree
-use Rattle.tm_tree.specs.Tree.{Statement, Statements, nil, cons, change_count, nodes_in}
+use Rattle.lang_tree.specs.declared.form.Form.{Form}
+use Rattle.lang_tree.specs.Limits.{is_form, is_change, is_statement, are_statements}
+use Rattle.lang_tree.specs.declared.change.Change.{Change}
+use Rattle.lang_tree.specs.declared.change.Change.TheVariants as change
+use Rattle.lang_tree.specs.Tree as tree
+use Rattle.lang_tree.specs.Tree.{Statement, Statements, nil, cons, change_count, nodes_in}
 use Rattle.lang_meaning.specs.declared.fault.ParseFault.{ParseFault}
 use Rattle.lang_meaning.specs.declared.fault.ParseFault.TheVariants as fault
 use Rattle.lang_meaning.specs.declared.fault.Limit.TheVariants as limit
@@ -17,7 +17,7 @@ use Rattle.lang_meaning.specs.Names.{place_of}
 use Rattle.lang_meaning.specs.Walk.{State, followed_by, one, counted, labelled_by, number_if_known, known_number}
 use Rattle.lang_meaning.specs.Walk.{assignment, changed, change_nodes}
 use Rattle.lang_meaning.proofs.forms.Ranges.{both_true, and_split}
-use Rattle.tm_tree.specs.declared.limits.TheConstants.{MOST_VARIABLES}
+use Rattle.lang_tree.specs.declared.limits.TheConstants.{MOST_VARIABLES}
 use Rattle.lang_meaning.proofs.limits.Values.{OnValue, on_cond}
 use Rattle.lang_meaning.proofs.limits.Values.{SideFits}
 

@@ -3,17 +3,17 @@ use Rattle.std.proofs.Common.{◌≡◌, ◌∙◌, ◌++◌, ◌+◌, ◌≤◌
 use Rattle.std.proofs.Common.{Result, Ok, Err, Option, Some, None, refl, sym, ap, arith, replicate, nat_le, nat_lt, min, subst}
 use Rattle.std.proofs.lemmas.Bool.{lt-ltb, le-leb, ltb-true}
 use Rattle.std.proofs.lemmas.List.{length-append, length-replicate}
-use Rattle.tm_gram.specs.Grammar.{Jump, Update, set as set_update, ForFirst, no_first, declared_first, updated_first, ForTest, no_test, given_test, ForLast}
-use Rattle.tm_gram.specs.Grammar.{no_last, updated_last, repeat_after, repeat_for, jumps, updates, Direction, up, down, Expr, number, variable, free, grouped, prefixed, joined, Declarator, bare}
-use Rattle.tm_gram.specs.Grammar.{given, Declarators, declares, declares_more, Core, empty, block, if_alone, if_else, repeat, assumed}
-use Rattle.tm_gram.specs.Grammar.{step_after, step_before, Sub, labelled, plain, Items, no_items, label, declaration, item, Token, Program, program}
-use Rattle.tm_tree.specs.declared.form.Form.{Form}
-use Rattle.tm_tree.specs.Numbers.{is_number}
-use Rattle.tm_tree.specs.Limits.{is_form, is_condition, is_tested, is_change, is_kind, is_statement, are_statements, is_program}
-use Rattle.tm_tree.specs.declared.change.Change.{Change}
-use Rattle.tm_tree.specs.declared.change.Change.TheVariants as change
-use Rattle.tm_tree.specs.Tree as tree
-use Rattle.tm_tree.specs.Tree.{Condition, Statement, Statements, nil, cons, change_count, kind_count, nodes_in}
+use Rattle.lang_grammar.specs.Grammar.{Jump, Update, set as set_update, ForFirst, no_first, declared_first, updated_first, ForTest, no_test, given_test, ForLast}
+use Rattle.lang_grammar.specs.Grammar.{no_last, updated_last, repeat_after, repeat_for, jumps, updates, Direction, up, down, Expr, number, variable, free, grouped, prefixed, joined, Declarator, bare}
+use Rattle.lang_grammar.specs.Grammar.{given, Declarators, declares, declares_more, Core, empty, block, if_alone, if_else, repeat, assumed}
+use Rattle.lang_grammar.specs.Grammar.{step_after, step_before, Sub, labelled, plain, Items, no_items, label, declaration, item, Token, Program, program}
+use Rattle.lang_tree.specs.declared.form.Form.{Form}
+use Rattle.lang_tree.specs.Numbers.{is_number}
+use Rattle.lang_tree.specs.Limits.{is_form, is_condition, is_tested, is_change, is_kind, is_statement, are_statements, is_program}
+use Rattle.lang_tree.specs.declared.change.Change.{Change}
+use Rattle.lang_tree.specs.declared.change.Change.TheVariants as change
+use Rattle.lang_tree.specs.Tree as tree
+use Rattle.lang_tree.specs.Tree.{Condition, Statement, Statements, nil, cons, change_count, kind_count, nodes_in}
 use Rattle.lang_meaning.specs.declared.fault.ParseFault.{ParseFault}
 use Rattle.lang_meaning.specs.declared.fault.ParseFault.TheVariants as fault
 use Rattle.lang_meaning.specs.declared.fault.Limit.TheVariants as limit
@@ -27,10 +27,10 @@ use Rattle.lang_meaning.specs.Walk.{step_change, declared_by, closed, walk_expr,
 use Rattle.lang_meaning.specs.Walk.{walk_declarator, walk_declarators, walk_core, walk_sub, walk_items, declared_in, declared_core, declared_sub, declared_items}
 use Rattle.lang_meaning.specs.Walk.{program_of}
 use Rattle.lang_meaning.proofs.forms.Ranges.{both_true, zeros_fit}
-use Rattle.tm_tree.specs.declared.limits.TheConstants.{MOST_VARIABLES}
+use Rattle.lang_tree.specs.declared.limits.TheConstants.{MOST_VARIABLES}
 use Rattle.lang_meaning.specs.Walk.{walk}
 use Rattle.lang_meaning.specs.Meaning.{Answer, Means}
-use Rattle.tm_lex.specs.Lines.{line_at}
+use Rattle.lang_tokens.specs.Lines.{line_at}
 use Rattle.lang_meaning.proofs.limits.Values.{OnValue, on_bind, FormFits, form_fits, ranged_fits, constant_length, variable_fits, ValueFits}
 use Rattle.lang_meaning.proofs.limits.Values.{compared_fits, combined_fits, prefix_fits, regarded_fits, TestFits, tested_fits, SideFits, side_fits, assigned_fits}
 use Rattle.lang_meaning.proofs.limits.ProgramPieces.{Below, known_below, Fits, Grows, Counted, Turns, counted_fits, follow_good, follow_count, one_good, assignment_good, assignment_count, changed_good, changed_count, change_nodes_good, change_nodes_count, label_fits}

@@ -4,12 +4,12 @@ use Rattle.std.proofs.Common.{Result, Ok, Err, Option, Some, None, refl, ap, ari
 use Rattle.std.proofs.Math.ListN.{set}
 use Rattle.std.proofs.lemmas.Bool.{le-leb, ltb-false, eq-eqb, eqb-true}
 use Rattle.std.proofs.lemmas.List.{length-set, length-replicate}
-use Rattle.tm_gram.specs.Grammar.{Relation, Op, or_op, and_op, compare_op, plus_op, minus_op, times_op, Prefix, negative, positive, negation, Change as Assigning}
-use Rattle.tm_gram.specs.Grammar.{replaces, adds, subtracts}
-use Rattle.tm_tree.specs.declared.form.Form.{Form}
-use Rattle.tm_tree.specs.Numbers.{is_number, are_numbers}
-use Rattle.tm_tree.specs.Limits.{is_form, is_compared, is_condition, is_tested}
-use Rattle.tm_tree.specs.Tree.{Condition, leaf_count}
+use Rattle.lang_grammar.specs.Grammar.{Relation, Op, or_op, and_op, compare_op, plus_op, minus_op, times_op, Prefix, negative, positive, negation, Change as Assigning}
+use Rattle.lang_grammar.specs.Grammar.{replaces, adds, subtracts}
+use Rattle.lang_tree.specs.declared.form.Form.{Form}
+use Rattle.lang_tree.specs.Numbers.{is_number, are_numbers}
+use Rattle.lang_tree.specs.Limits.{is_form, is_compared, is_condition, is_tested}
+use Rattle.lang_tree.specs.Tree.{Condition, leaf_count}
 use Rattle.lang_meaning.specs.declared.fault.ParseFault.{ParseFault}
 use Rattle.lang_meaning.specs.declared.fault.ParseFault.TheVariants as fault
 use Rattle.lang_meaning.specs.declared.fault.Limit.TheVariants as limit

@@ -1,8 +1,8 @@
 -- The tokens of an expression mean one thing.
 use Rattle.std.proofs.Common.{◌≡◌, ◌∙◌, ◌+◌, inl, inr, ℕ, List, drop, Ok, Err, sym, ap, ap₂}
-use Rattle.tm_gram.specs.Grammar.{Token, Expr}
-use Rattle.tm_gram.specs.Expressions.{IsLongest, FindsExpr, reaches, stops_at, nests_at}
-use Rattle.tm_gram.proofs.phrase.Once.{found_is, longest_size, longest_once}
+use Rattle.lang_grammar.specs.Grammar.{Token, Expr}
+use Rattle.lang_grammar.specs.Expressions.{IsLongest, FindsExpr, reaches, stops_at, nests_at}
+use Rattle.lang_grammar.proofs.phrase.Once.{found_is, longest_size, longest_once}
 use Rattle.lang_meaning.specs.declared.fault.ParseFault.TheVariants as fault
 use Rattle.lang_meaning.specs.declared.fault.Limit.TheVariants.{Nesting}
 use Rattle.lang_meaning.specs.Results.{◌>>=◌}

@@ -1,15 +1,15 @@
 -- A text means one thing.
 use Rattle.std.proofs.Common.{◌≡◌, ◌∙◌, inl, inr, ℕ, List, Ok, Err, refl, sym, ap}
-use Rattle.tm_gram.specs.Grammar.{Token, Program, Reads}
-use Rattle.tm_gram.specs.Machine.{start}
-use Rattle.tm_gram.specs.Depth.{Scan, whole, short, unexpected, nested, scan}
-use Rattle.tm_gram.specs.Faults.{Fine, Finds}
-use Rattle.tm_gram.proofs.faults.Exact.{exact_by}
-use Rattle.tm_gram.proofs.grammar.Once.{reads_once}
-use Rattle.tm_lex.specs.Lines.{line_at}
+use Rattle.lang_grammar.specs.Grammar.{Token, Program, Reads}
+use Rattle.lang_grammar.specs.Machine.{start}
+use Rattle.lang_grammar.specs.Depth.{Scan, whole, short, unexpected, nested, scan}
+use Rattle.lang_grammar.specs.Faults.{Fine, Finds}
+use Rattle.lang_grammar.proofs.faults.Exact.{exact_by}
+use Rattle.lang_grammar.proofs.grammar.Once.{reads_once}
+use Rattle.lang_tokens.specs.Lines.{line_at}
 use Rattle.lang_meaning.specs.declared.fault.ParseFault.{ParseFault}
 use Rattle.lang_meaning.specs.declared.fault.ParseFault.TheVariants as fault
-use Rattle.tm_tree.specs.Tree.{Statements}
+use Rattle.lang_tree.specs.Tree.{Statements}
 use Rattle.lang_meaning.specs.declared.fault.Limit.TheVariants.{Nesting}
 use Rattle.lang_meaning.specs.Walk.{walk}
 use Rattle.lang_meaning.specs.Meaning.{Answer, Means}

@@ -3,15 +3,15 @@ use Rattle.std.proofs.Common.{◌≡◌, ◌∙◌, ◌++◌, ◌+◌, ◌≤◌
 use Rattle.std.proofs.Common.{sym, subst, arith}
 use Rattle.std.specs.Prelude.{slice_range}
 use Rattle.std.proofs.lemmas.Bool.{le-leb}
-use Rattle.tm_lex.specs.declared.token.Kind.{Kind}
-use Rattle.tm_lex.specs.declared.token.Kind.TheVariants as kind
-use Rattle.tm_lex.specs.declared.token.Token.{Token}
-use Rattle.tm_lex.specs.Lexemes.{IsToken, IsName}
-use Rattle.tm_lex.specs.Reading.{end_at}
-use Rattle.tm_lex.specs.TokenLists.{AreTokensAfter, AreTokensOf}
-use Rattle.tm_tree.specs.Word.{is_word, begins_word, is_letter, is_word_byte}
+use Rattle.lang_tokens.specs.declared.token.Kind.{Kind}
+use Rattle.lang_tokens.specs.declared.token.Kind.TheVariants as kind
+use Rattle.lang_tokens.specs.declared.token.Token.{Token}
+use Rattle.lang_tokens.specs.Lexemes.{IsToken, IsName}
+use Rattle.lang_tokens.specs.Reading.{end_at}
+use Rattle.lang_tokens.specs.TokenLists.{AreTokensAfter, AreTokensOf}
+use Rattle.lang_tree.specs.Word.{is_word, begins_word, is_letter, is_word_byte}
 use Rattle.std.specs.Char.{is_ascii_digit}
-use Rattle.tm_lex.specs.Lexemes as lexemes
+use Rattle.lang_tokens.specs.Lexemes as lexemes
 use Rattle.std.specs.List.{list_all}
 use Rattle.lang_meaning.specs.Proper.{IsWordIn, IsProper, AllProper}
 use Rattle.lang_meaning.proofs.forms.Ranges.{both_true}

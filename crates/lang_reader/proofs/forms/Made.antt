@@ -3,8 +3,8 @@ use Rattle.std.proofs.Common.{◌≡◌, ◌∙◌, ◌++◌, ◌+◌, ◌*ℤ�
 use Rattle.std.proofs.Common.{Result, Ok, Err, refl, sym, ap, arith, get_or, append_assoc, replicate, min, add-one}
 use Rattle.std.proofs.lemmas.List.{append-nil}
 use Rattle.std.proofs.Math.Seq.{drop-cons}
-use Rattle.tm_tree.specs.declared.form.Form.{Form}
-use Rattle.tm_tree.specs.Numbers.{is_number, are_numbers}
+use Rattle.lang_tree.specs.declared.form.Form.{Form}
+use Rattle.lang_tree.specs.Numbers.{is_number, are_numbers}
 use Rattle.lang_meaning.specs.declared.fault.ParseFault.{ParseFault}
 use Rattle.lang_meaning.specs.declared.fault.ParseFault.TheVariants.{BigNumber}
 use Rattle.lang_meaning.specs.Results.{◌>>=◌}

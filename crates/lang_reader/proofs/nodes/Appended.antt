@@ -1,8 +1,8 @@
 -- Lists of statements in a row.
 use Rattle.std.proofs.Common.{◌≡◌, ◌++◌, List, [], ◌∷◌, refl, ap}
-use Rattle.tm_tree.specs.declared.stmt.Stmt.{Stmt}
-use Rattle.tm_tree.specs.Tree.{cons}
-use Rattle.tm_tree.specs.View.{statement_of, statements_of}
+use Rattle.lang_tree.specs.declared.stmt.Stmt.{Stmt}
+use Rattle.lang_tree.specs.Tree.{cons}
+use Rattle.lang_tree.specs.View.{statement_of, statements_of}
 use Rattle.lang_meaning.specs.Walk.{followed_by}
 
 pub statements_append : (xs ys : List Stmt) → statements_of (xs ++ ys) ≡ followed_by (statements_of xs) (statements_of ys)

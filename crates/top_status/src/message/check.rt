@@ -1,7 +1,7 @@
 //! The messages of a check: a certificate that is refused, and an operation that is too wide.
 
 ghost use Rattle.std.specs.Prelude.{◌≡◌, ◌≤◌, ◌+◌, ◌++◌, ◌/◌, ◌%◌, codes, decimal, length};
-ghost use Rattle.tm_frac.specs.Texts.{frac_text};
+ghost use Rattle.base_fractions.specs.Texts.{frac_text};
 ghost use Rattle.top_status.specs.CheckMessages.{
   cause_text,
   certificate_message,
@@ -21,10 +21,10 @@ ghost use Rattle.top_status.specs.CheckMessages.{
 use crate::message::Message;
 use crate::status::CertCause;
 use itoa::Buffer;
-use tm_check::CheckFault;
-use tm_eqsys::{Part, Site, Spot};
-use tm_form::{Field, FormFault};
-use tm_frac::{Frac, Op};
+use cert_checker::CheckFault;
+use flow_systems::{Part, Site, Spot};
+use cert_text::{Field, FormFault};
+use base_fractions::{Frac, Op};
 
 // Adds some words at the end.
 fn push_words(message: &mut Message, words: &[u8])

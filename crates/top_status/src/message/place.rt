@@ -7,12 +7,12 @@ ghost use Rattle.top_status.specs.Messages.{place_of};
 
 use crate::status::{CertCause, Status, TextCause};
 use lang_meaning::ParseFault;
-use tm_assert::ClaimFault;
-use tm_auto::AutoFault;
-use tm_check::CheckFault;
-use tm_eqsys::Site;
-use tm_equ::EquFault;
-use tm_lex::{LexFault, line_of};
+use ask_claims::ClaimFault;
+use flow_transitions::AutoFault;
+use cert_checker::CheckFault;
+use flow_systems::Site;
+use flow_rationals::EquFault;
+use lang_tokens::{LexFault, line_of};
 
 // The place of a cause in its text.
 fn place_of(cause: TextCause) -> Option<u32>

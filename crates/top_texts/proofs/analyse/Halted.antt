@@ -1,20 +1,20 @@
 -- What the halts of rounds say of a system and a policy.
 use Rattle.std.proofs.Common.{inl, ℕ, List, refl}
-use Rattle.tm_num.specs.Extended.{Ext as Extended}
-use Rattle.tm_eqsys.specs.declared.spot.Spot.{Spot}
-use Rattle.tm_eqsys.specs.declared.system.System.{System}
-use Rattle.tm_rounds.specs.Halts.{IsSpent, IsSpotOf}
-use Rattle.tm_cli.specs.declared.request.Policy.{Policy}
-use Rattle.tm_cli.specs.declared.request.Policy.TheVariants.{Best, First}
-use Rattle.tm_chain.specs.Offers.{Best as MeantBest, First as MeantFirst}
-use Rattle.tm_rounds.proofs.chains.Improvements.{best_means, first_means, spent_law}
-use Rattle.tm_offers.specs.Policies.{by_best, by_first}
+use Rattle.base_numbers.specs.Extended.{Ext as Extended}
+use Rattle.flow_systems.specs.declared.spot.Spot.{Spot}
+use Rattle.flow_systems.specs.declared.system.System.{System}
+use Rattle.solve_rounds.specs.Halts.{IsSpent, IsSpotOf}
+use Rattle.ask_words.specs.declared.request.Policy.{Policy}
+use Rattle.ask_words.specs.declared.request.Policy.TheVariants.{Best, First}
+use Rattle.theory_chains.specs.Offers.{Best as MeantBest, First as MeantFirst}
+use Rattle.solve_rounds.proofs.chains.Improvements.{best_means, first_means, spent_law}
+use Rattle.solve_offers.specs.Policies.{by_best, by_first}
 use Rattle.top_texts.specs.Policies.{rule_of}
 use Rattle.top_texts.specs.Parted.{IsHalted}
 use Rattle.top_texts.specs.Rounds.{RunsOut}
 use Rattle.top_texts.specs.Spots.{HasSpot}
-use Rattle.tm_cli.specs.declared.request.Purpose.{Purpose}
-use Rattle.tm_cli.specs.declared.request.Purpose.TheVariants.{Report, Certificate}
+use Rattle.ask_words.specs.declared.request.Purpose.{Purpose}
+use Rattle.ask_words.specs.declared.request.Purpose.TheVariants.{Report, Certificate}
 use Rattle.top_texts.specs.declared.refusal.Refusal.TheVariants as refusal
 
 -- improvements that are spent run out

@@ -3,35 +3,35 @@ use Rattle.std.proofs.Common.{◌≡◌, ◌∙◌, ◌⊎◌, inl, inr, ℕ, �
 use Rattle.std.specs.Prelude.{Option, Some, None, ◌&&◌, nat_le}
 use Rattle.std.specs.List.{list_all}
 use Rattle.serde_json.specs.Written.{compact_text}
-use Rattle.tm_rows.specs.Rows.{is_template}
-use Rattle.tm_eqsys.specs.declared.spot.Spot.{Spot}
-use Rattle.tm_eqsys.specs.declared.system.System.{System}
-use Rattle.tm_eqsys.specs.Equations.{Least}
-use Rattle.tm_eqsys.specs.SystemLimits.{is_over}
-use Rattle.tm_eqsys.specs.View.{equations_of, vector_of}
-use Rattle.tm_eqsys.proofs.Sizes.{both}
-use Rattle.tm_validity.specs.Certificates.{ValidCertificate}
-use Rattle.tm_validity.specs.Faults.{Fault, certificate_fault}
-use Rattle.tm_validity.proofs.faults.CertificateFaults.{certificate_fault_none}
-use Rattle.tm_cert.specs.Shaped.{IsShaped}
-use Rattle.tm_cert.specs.declared.cert.Cert.{Cert}
-use Rattle.tm_cert.specs.declared.step.Step.{Step}
-use Rattle.tm_cert.specs.declared.step.Step.TheVariants.{Plain, Jump, Ray}
-use Rattle.tm_form.specs.Certificates.{IsBeyond, IsWithin, IsWritable, SpellsCert, SpellsTooMany, cert_data}
-use Rattle.tm_check.specs.Items.{is_short}
-use Rattle.tm_check.proofs.events.CheckTests.{stops_are_faults}
-use Rattle.tm_rounds.specs.declared.solution.Solved.{Solved}
-use Rattle.tm_rounds.specs.Solutions.{AreNumbered, IsSolved, cert_with, has_most, made_certificate}
-use Rattle.tm_cli.specs.declared.request.Policy.{Policy}
+use Rattle.flow_templates.specs.Rows.{is_template}
+use Rattle.flow_systems.specs.declared.spot.Spot.{Spot}
+use Rattle.flow_systems.specs.declared.system.System.{System}
+use Rattle.flow_systems.specs.Equations.{Least}
+use Rattle.flow_systems.specs.SystemLimits.{is_over}
+use Rattle.flow_systems.specs.View.{equations_of, vector_of}
+use Rattle.flow_systems.proofs.Sizes.{both}
+use Rattle.theory_validity.specs.Certificates.{ValidCertificate}
+use Rattle.theory_validity.specs.Faults.{Fault, certificate_fault}
+use Rattle.theory_validity.proofs.faults.CertificateFaults.{certificate_fault_none}
+use Rattle.cert_types.specs.Shaped.{IsShaped}
+use Rattle.cert_types.specs.declared.cert.Cert.{Cert}
+use Rattle.cert_types.specs.declared.step.Step.{Step}
+use Rattle.cert_types.specs.declared.step.Step.TheVariants.{Plain, Jump, Ray}
+use Rattle.cert_text.specs.Certificates.{IsBeyond, IsWithin, IsWritable, SpellsCert, SpellsTooMany, cert_data}
+use Rattle.cert_checker.specs.Items.{is_short}
+use Rattle.cert_checker.proofs.events.CheckTests.{stops_are_faults}
+use Rattle.solve_rounds.specs.declared.solution.Solved.{Solved}
+use Rattle.solve_rounds.specs.Solutions.{AreNumbered, IsSolved, cert_with, has_most, made_certificate}
+use Rattle.ask_words.specs.declared.request.Policy.{Policy}
 use Rattle.top_texts.specs.Checks.{IsCheckSpot, IsCompositionSpot, IsStopped, NoneIsWide, theirs}
 use Rattle.top_texts.specs.Parted.{IsHalted, IsRoundsCertificate, IsUnaccepted}
 use Rattle.top_texts.specs.Policies.{rule_of}
 use Rattle.top_texts.specs.Spots.{HasSpot}
-use Rattle.tm_cli.specs.declared.request.Purpose.TheVariants.{Certificate as AsCertificate}
+use Rattle.ask_words.specs.declared.request.Purpose.TheVariants.{Certificate as AsCertificate}
 use Rattle.top_texts.specs.declared.refusal.Refusal.{Refusal}
 use Rattle.top_texts.specs.declared.refusal.Refusal.TheVariants as refusal
 use Rattle.top_status.specs.declared.status.CertCause.TheVariants.{Form, Rows, Unknowns, Check}
-use Rattle.tm_eqsys.specs.declared.limits.TheConstants.{MOST_UNKNOWNS}
+use Rattle.flow_systems.specs.declared.limits.TheConstants.{MOST_UNKNOWNS}
 
 -- ---- its steps and items can be numbered
 

@@ -2,25 +2,25 @@
 use Rattle.std.proofs.Common.{◌≡◌, ℕ, List, [], ◌∷◌, length, refl, ap, ◌∙◌, subst}
 use Rattle.std.specs.Prelude.{ℤ, Bool, IsTrue, ◌&&◌, ◌==◌, nat_le}
 use Rattle.std.specs.List.{list_all}
-use Rattle.tm_tree.specs.Tree.{Statements}
-use Rattle.tm_tree.specs.PointNumbers.{point_count}
-use Rattle.tm_flow.specs.declared.edge.Edge.{Edge}
-use Rattle.tm_flow.specs.declared.point.Point.{Point}
-use Rattle.tm_flow.specs.Edges.{edges_of_program}
-use Rattle.tm_flow.specs.Points.{points_of_program}
-use Rattle.tm_flow.proofs.points.Numbering.{numbering}
-use Rattle.tm_rows.specs.Rows.{is_row, is_template, width_of}
-use Rattle.tm_eqsys.specs.declared.system.System.{System}
-use Rattle.tm_eqsys.specs.declared.footer.Footer.{Footer}
-use Rattle.tm_eqsys.specs.Equations.{Equations, Least, Vector}
-use Rattle.tm_eqsys.specs.Report.{report_of, report_text}
-use Rattle.tm_eqsys.specs.Solutions.{equations_of_program}
-use Rattle.tm_eqsys.specs.SystemLimits.{is_over}
-use Rattle.tm_eqsys.specs.View.{equations_of}
-use Rattle.tm_eqsys.proofs.Sizes.{both}
-use Rattle.tm_eqsys.proofs.states.Soundness.{program_soundness}
+use Rattle.lang_tree.specs.Tree.{Statements}
+use Rattle.lang_tree.specs.PointNumbers.{point_count}
+use Rattle.flow_edges.specs.declared.edge.Edge.{Edge}
+use Rattle.flow_edges.specs.declared.point.Point.{Point}
+use Rattle.flow_edges.specs.Edges.{edges_of_program}
+use Rattle.flow_edges.specs.Points.{points_of_program}
+use Rattle.flow_edges.proofs.points.Numbering.{numbering}
+use Rattle.flow_templates.specs.Rows.{is_row, is_template, width_of}
+use Rattle.flow_systems.specs.declared.system.System.{System}
+use Rattle.flow_systems.specs.declared.footer.Footer.{Footer}
+use Rattle.flow_systems.specs.Equations.{Equations, Least, Vector}
+use Rattle.flow_systems.specs.Report.{report_of, report_text}
+use Rattle.flow_systems.specs.Solutions.{equations_of_program}
+use Rattle.flow_systems.specs.SystemLimits.{is_over}
+use Rattle.flow_systems.specs.View.{equations_of}
+use Rattle.flow_systems.proofs.Sizes.{both}
+use Rattle.flow_systems.proofs.states.Soundness.{program_soundness}
 use Rattle.top_texts.specs.Reports.{IsLeastReport}
-use Rattle.tm_rows.specs.declared.limits.TheConstants.{MOST_ROWS}
+use Rattle.flow_templates.specs.declared.limits.TheConstants.{MOST_ROWS}
 
 -- the equation system of these parts
 abbrev made_of : ℕ → ℕ → List Edge → List (List ℤ) → Equations

@@ -1,14 +1,14 @@
 -- The system that is made of the flow of a program and of a template is theirs.
 use Rattle.std.proofs.Common.{◌≡◌, ◌∙◌, ◌*◌, ◌≤◌, ◌<◌, ℕ, List, length, sym, ap, subst}
 use Rattle.std.specs.Prelude.{ℤ, Ok}
-use Rattle.tm_tree.specs.Tree.{Statements}
-use Rattle.tm_flow.specs.Edges.{edges_of_program}
-use Rattle.tm_flow.specs.Points.{points_of_program}
-use Rattle.tm_flow.specs.declared.graph.Flow.{Flow}
-use Rattle.tm_eqsys.specs.Cells.{cells_of}
-use Rattle.tm_eqsys.specs.View.{equations_of}
-use Rattle.tm_eqsys.specs.declared.system.System.{System}
-use Rattle.tm_cli.specs.declared.request.Domain.{Domain}
+use Rattle.lang_tree.specs.Tree.{Statements}
+use Rattle.flow_edges.specs.Edges.{edges_of_program}
+use Rattle.flow_edges.specs.Points.{points_of_program}
+use Rattle.flow_edges.specs.declared.graph.Flow.{Flow}
+use Rattle.flow_systems.specs.Cells.{cells_of}
+use Rattle.flow_systems.specs.View.{equations_of}
+use Rattle.flow_systems.specs.declared.system.System.{System}
+use Rattle.ask_words.specs.declared.request.Domain.{Domain}
 use Rattle.top_texts.specs.Parted.{IsRefusedBy}
 use Rattle.top_texts.specs.Rounds.{IsSystemFor}
 use Rattle.top_texts.specs.Texts.{HasTemplate, IsAnalysed, IsSolvedSystem, IsSystemOf, unknowns}
@@ -16,7 +16,7 @@ use Rattle.top_texts.specs.declared.refusal.Refusal.{Refusal}
 use Rattle.top_texts.specs.declared.refusal.Refusal.TheVariants as refusal
 use Rattle.top_status.specs.declared.status.TextCause.TheVariants.{Cells}
 use Rattle.top_texts.proofs.texts.Once.{equations_are}
-use Rattle.tm_eqsys.specs.declared.limits.TheConstants.{MOST_UNKNOWNS}
+use Rattle.flow_systems.specs.declared.limits.TheConstants.{MOST_UNKNOWNS}
 
 module _ (text : List ℕ) (rows : Domain (List ℕ)) (names : List (List ℕ)) (body : Statements) (flow : Flow) (template : List (List ℤ)) (s : System)
     (analysed : IsAnalysed text names body) (names_are : flow.names ≡ names) (points_are : flow.points ≡ points_of_program body) (edges_are : flow.edges ≡ edges_of_program body)

@@ -2,20 +2,20 @@
 use Rattle.std.proofs.Common.{◌≡◌, ◌∙◌, ℕ, ◌+◌, ◌≤◌, Bool, true, false, List, [], ◌∷◌, length, refl, sym, ap, subst, IsTrue}
 use Rattle.std.specs.Prelude.{ℤ, ◌&&◌, ◌==◌, nat_le, Ok}
 use Rattle.std.specs.List.{list_all}
-use Rattle.tm_tree.specs.Tree.{Statements}
-use Rattle.tm_rows.specs.Rows.{is_row, is_template, width_of}
-use Rattle.tm_rows.specs.RowFaults.{count_faults, faults_from, faults_of, row_faults}
-use Rattle.tm_eqsys.specs.declared.footer.Footer.TheVariants.{Improvements}
-use Rattle.tm_eqsys.specs.declared.system.System.{System}
-use Rattle.tm_eqsys.specs.Equations.{Least}
-use Rattle.tm_eqsys.specs.Solutions.{equations_of_program}
-use Rattle.tm_eqsys.specs.SystemLimits.{is_over}
-use Rattle.tm_eqsys.specs.View.{equations_of, vector_of}
-use Rattle.tm_eqsys.proofs.Sizes.{both}
-use Rattle.tm_validity.specs.Certificates.{ValidCertificate}
-use Rattle.tm_rounds.specs.Solutions.{cert_with, made_certificate}
-use Rattle.tm_cli.specs.declared.request.Domain.{Domain}
-use Rattle.tm_cli.specs.declared.request.Policy.{Policy}
+use Rattle.lang_tree.specs.Tree.{Statements}
+use Rattle.flow_templates.specs.Rows.{is_row, is_template, width_of}
+use Rattle.flow_templates.specs.RowFaults.{count_faults, faults_from, faults_of, row_faults}
+use Rattle.flow_systems.specs.declared.footer.Footer.TheVariants.{Improvements}
+use Rattle.flow_systems.specs.declared.system.System.{System}
+use Rattle.flow_systems.specs.Equations.{Least}
+use Rattle.flow_systems.specs.Solutions.{equations_of_program}
+use Rattle.flow_systems.specs.SystemLimits.{is_over}
+use Rattle.flow_systems.specs.View.{equations_of, vector_of}
+use Rattle.flow_systems.proofs.Sizes.{both}
+use Rattle.theory_validity.specs.Certificates.{ValidCertificate}
+use Rattle.solve_rounds.specs.Solutions.{cert_with, made_certificate}
+use Rattle.ask_words.specs.declared.request.Domain.{Domain}
+use Rattle.ask_words.specs.declared.request.Policy.{Policy}
 use Rattle.top_status.specs.CheckMessages.{rows_of}
 use Rattle.top_texts.specs.Checks.{NoneIsWide, system_with}
 use Rattle.top_texts.specs.Exact.{exact}
@@ -26,8 +26,8 @@ use Rattle.top_texts.specs.Questions.{analysis_question, rounds_end, rounds_spen
 use Rattle.top_texts.specs.Reports.{IsCertificateOf, IsLeastReport, IsPutOf, IsReportOf}
 use Rattle.top_texts.specs.Rounds.{EndsWithin}
 use Rattle.top_texts.specs.Texts.{HasTemplate, IsSolvedSystem, unknowns}
-use Rattle.tm_cli.specs.declared.request.Purpose.{Purpose}
-use Rattle.tm_cli.specs.declared.request.Purpose.TheVariants.{Report, Certificate as AsCertificate}
+use Rattle.ask_words.specs.declared.request.Purpose.{Purpose}
+use Rattle.ask_words.specs.declared.request.Purpose.TheVariants.{Report, Certificate as AsCertificate}
 use Rattle.top_texts.specs.declared.refusal.Refusal.{Refusal}
 use Rattle.top_texts.specs.declared.refusal.Refusal.TheVariants as refusal
 use Rattle.top_status.specs.declared.status.Status.{Status}
@@ -36,8 +36,8 @@ use Rattle.top_texts.proofs.rounds.OneChain.{solved_ends}
 use Rattle.top_texts.proofs.texts.Once.{equations_are}
 use Rattle.top_texts.proofs.texts.Readings.{program_once, rows_once}
 use Rattle.top_texts.proofs.analyse.Solved.{least_report, same_equations}
-use Rattle.tm_eqsys.specs.declared.limits.TheConstants.{MOST_UNKNOWNS}
-use Rattle.tm_rows.specs.declared.limits.TheConstants.{MOST_ROWS}
+use Rattle.flow_systems.specs.declared.limits.TheConstants.{MOST_UNKNOWNS}
+use Rattle.flow_templates.specs.declared.limits.TheConstants.{MOST_ROWS}
 
 -- ---- answers to a system
 

@@ -1,13 +1,13 @@
 -- What an analysis of texts finds, and the endings that it has else.
 use Rattle.std.proofs.Common.{◌≡◌, ◌∙◌, ℕ, List, sym, subst}
 use Rattle.std.specs.Prelude.{IfErr, Result, Ok, Err}
-use Rattle.tm_eqsys.specs.Equations.{Least}
-use Rattle.tm_eqsys.specs.View.{IsVectorOf, equations_of, vector_at}
-use Rattle.tm_eqsys.specs.declared.system.System.{System}
-use Rattle.tm_cli.specs.declared.request.Domain.{Domain}
-use Rattle.tm_cli.specs.declared.request.Policy.{Policy}
-use Rattle.tm_cli.specs.declared.request.Purpose.TheVariants.{Report}
-use Rattle.tm_rounds.specs.Solutions.{IsSolved}
+use Rattle.flow_systems.specs.Equations.{Least}
+use Rattle.flow_systems.specs.View.{IsVectorOf, equations_of, vector_at}
+use Rattle.flow_systems.specs.declared.system.System.{System}
+use Rattle.ask_words.specs.declared.request.Domain.{Domain}
+use Rattle.ask_words.specs.declared.request.Policy.{Policy}
+use Rattle.ask_words.specs.declared.request.Purpose.TheVariants.{Report}
+use Rattle.solve_rounds.specs.Solutions.{IsSolved}
 use Rattle.top_texts.specs.Analyses.{IsFoundIn, IsHaltedEnding, IsRefusedText, IsSolvedBy, IsUnput}
 use Rattle.top_texts.specs.Parted.{refused}
 use Rattle.top_texts.specs.Policies.{rule_of}

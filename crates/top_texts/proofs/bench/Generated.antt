@@ -1,24 +1,24 @@
 -- The text of a generated program is its system, and is refused by no cause.
 use Rattle.std.proofs.Common.{◌≡◌, ◌∙◌, ℕ, ◌≤◌, List, length, refl, sym, ap, subst, arith}
 use Rattle.std.specs.Prelude.{ℤ, Ok, Result}
-use Rattle.tm_tree.specs.Tree.{Statements}
-use Rattle.tm_flow.specs.Edges.{edges_of_program}
-use Rattle.tm_flow.proofs.points.Numbering.{numbering}
-use Rattle.tm_rows.specs.Domains.{intervals_of}
-use Rattle.tm_rows.specs.declared.fault.RowFault.{RowFault}
-use Rattle.tm_eqsys.specs.Cells.{cells_of}
-use Rattle.tm_eqsys.specs.Equations.{Least}
-use Rattle.tm_eqsys.specs.Solutions.{equations_of_program}
-use Rattle.tm_eqsys.specs.View.{equations_of, vector_of}
-use Rattle.tm_eqsys.specs.declared.system.System.{System}
-use Rattle.tm_rounds.specs.declared.solution.Solved.{Solved}
-use Rattle.tm_rounds.specs.Solutions.{IsSolved}
-use Rattle.tm_workload.specs.Bodies.{generated_body, generated_names}
-use Rattle.tm_workload.specs.Law.{GeneratedTextsRead, generated_equations}
-use Rattle.tm_workload.specs.Summaries.{summary_of}
-use Rattle.tm_workload.specs.Texts.{generated_text}
-use Rattle.tm_cli.specs.declared.request.Domain.TheVariants.{Intervals}
-use Rattle.tm_cli.specs.declared.request.Policy.TheVariants.{Best}
+use Rattle.lang_tree.specs.Tree.{Statements}
+use Rattle.flow_edges.specs.Edges.{edges_of_program}
+use Rattle.flow_edges.proofs.points.Numbering.{numbering}
+use Rattle.flow_templates.specs.Domains.{intervals_of}
+use Rattle.flow_templates.specs.declared.fault.RowFault.{RowFault}
+use Rattle.flow_systems.specs.Cells.{cells_of}
+use Rattle.flow_systems.specs.Equations.{Least}
+use Rattle.flow_systems.specs.Solutions.{equations_of_program}
+use Rattle.flow_systems.specs.View.{equations_of, vector_of}
+use Rattle.flow_systems.specs.declared.system.System.{System}
+use Rattle.solve_rounds.specs.declared.solution.Solved.{Solved}
+use Rattle.solve_rounds.specs.Solutions.{IsSolved}
+use Rattle.out_workload.specs.Bodies.{generated_body, generated_names}
+use Rattle.out_workload.specs.Law.{GeneratedTextsRead, generated_equations}
+use Rattle.out_workload.specs.Summaries.{summary_of}
+use Rattle.out_workload.specs.Texts.{generated_text}
+use Rattle.ask_words.specs.declared.request.Domain.TheVariants.{Intervals}
+use Rattle.ask_words.specs.declared.request.Policy.TheVariants.{Best}
 use Rattle.top_texts.specs.Generated.{IsGenerated}
 use Rattle.top_texts.specs.Parted.{IsHalted, IsRefusedBy, IsUnanswered}
 use Rattle.top_texts.specs.Exact.{exact}
@@ -28,7 +28,7 @@ use Rattle.top_texts.specs.Reports.{IsSummaryOf}
 use Rattle.top_texts.proofs.rounds.OneChain.{solved_rounds}
 use Rattle.top_texts.specs.Rounds.{IsSystemFor}
 use Rattle.top_texts.specs.Texts.{IsReady, IsRefused, IsSolvedSystem, Reading}
-use Rattle.tm_cli.specs.declared.request.Purpose.TheVariants.{Report}
+use Rattle.ask_words.specs.declared.request.Purpose.TheVariants.{Report}
 use Rattle.top_texts.specs.declared.refusal.Refusal.{Refusal}
 use Rattle.top_texts.specs.declared.refusal.Refusal.TheVariants as refusal
 use Rattle.top_status.specs.declared.status.TextCause.{TextCause}

@@ -1,18 +1,18 @@
 -- A certificate that is accepted for a system is valid for its program, and the report is that of its bounds.
 use Rattle.std.proofs.Common.{◌≡◌, ℕ, List, length, refl, sym, ap, ◌∙◌, subst}
 use Rattle.std.specs.Prelude.{ℤ}
-use Rattle.tm_num.specs.Extended.{Ext}
-use Rattle.tm_tree.specs.Tree.{Statements}
-use Rattle.tm_flow.specs.Edges.{edges_of_program}
-use Rattle.tm_flow.specs.Points.{points_of_program}
-use Rattle.tm_eqsys.specs.declared.system.System.{System}
-use Rattle.tm_eqsys.specs.declared.footer.Footer.TheVariants.{Accepted}
-use Rattle.tm_eqsys.specs.Equations.{Equations, Least, Vector}
-use Rattle.tm_eqsys.specs.Report.{report_of}
-use Rattle.tm_eqsys.specs.Solutions.{equations_of_program}
-use Rattle.tm_eqsys.specs.View.{equations_of, vector_of}
-use Rattle.tm_validity.specs.Certificates.{ValidCertificate, bounds_vector}
-use Rattle.tm_cert.specs.declared.cert.Cert.{Cert}
+use Rattle.base_numbers.specs.Extended.{Ext}
+use Rattle.lang_tree.specs.Tree.{Statements}
+use Rattle.flow_edges.specs.Edges.{edges_of_program}
+use Rattle.flow_edges.specs.Points.{points_of_program}
+use Rattle.flow_systems.specs.declared.system.System.{System}
+use Rattle.flow_systems.specs.declared.footer.Footer.TheVariants.{Accepted}
+use Rattle.flow_systems.specs.Equations.{Equations, Least, Vector}
+use Rattle.flow_systems.specs.Report.{report_of}
+use Rattle.flow_systems.specs.Solutions.{equations_of_program}
+use Rattle.flow_systems.specs.View.{equations_of, vector_of}
+use Rattle.theory_validity.specs.Certificates.{ValidCertificate, bounds_vector}
+use Rattle.cert_types.specs.declared.cert.Cert.{Cert}
 use Rattle.top_texts.specs.Checks.{IsSpelt, NoneIsWide, system_with, theirs}
 use Rattle.top_texts.specs.Parted.{FitsProgram, IsUnaccepted}
 use Rattle.top_texts.specs.Reports.{IsLeastReport, IsReportBy}

@@ -2,31 +2,31 @@
 -- bytes of a certificate that is upgraded.
 use Rattle.std.proofs.Common.{◌≡◌, ◌≤◌, ◌<◌, ◌⊎◌, inl, inr, ⊎_elim, ℕ, List, [], true, false, refl, sym, ap, ap₂, ◌∙◌, subst, arith}
 use Rattle.std.specs.Prelude.{Bool, Option, Result, Ok, Err, Some, None, nat_lt, slice_get, length}
-use Rattle.tm_frac.specs.Operation.{Operation, operation_of}
-use Rattle.tm_lex.specs.declared.fault.LexFault.{LexFault}
-use Rattle.tm_lex.specs.Faults.{HasFault}
-use Rattle.tm_lex.proofs.reading.Once.{one_text_fault, no_fault}
+use Rattle.base_fractions.specs.Operation.{Operation, operation_of}
+use Rattle.lang_tokens.specs.declared.fault.LexFault.{LexFault}
+use Rattle.lang_tokens.specs.Faults.{HasFault}
+use Rattle.lang_tokens.proofs.reading.Once.{one_text_fault, no_fault}
 use Rattle.lang_meaning.specs.declared.fault.ParseFault.{ParseFault}
-use Rattle.tm_tree.specs.Tree.{Statements}
-use Rattle.tm_flow.specs.declared.fault.FlowFault.{FlowFault}
-use Rattle.tm_flow.specs.Faults.{fault_of_program}
-use Rattle.tm_rows.specs.declared.fault.RowFault.{RowFault}
-use Rattle.tm_rows.specs.RowFaults.{faults_of}
-use Rattle.tm_eqsys.specs.declared.spot.Site.TheVariants.{Compose}
-use Rattle.tm_eqsys.specs.declared.spot.Spot.{Spot}
-use Rattle.tm_validity.specs.Faults.{Fault, SizeFault, TraceFault, LowFault, HighFault, RayFault, FinalFault, UpperFault}
-use Rattle.tm_cert.specs.declared.cert.Cert.{Cert}
+use Rattle.lang_tree.specs.Tree.{Statements}
+use Rattle.flow_edges.specs.declared.fault.FlowFault.{FlowFault}
+use Rattle.flow_edges.specs.Faults.{fault_of_program}
+use Rattle.flow_templates.specs.declared.fault.RowFault.{RowFault}
+use Rattle.flow_templates.specs.RowFaults.{faults_of}
+use Rattle.flow_systems.specs.declared.spot.Site.TheVariants.{Compose}
+use Rattle.flow_systems.specs.declared.spot.Spot.{Spot}
+use Rattle.theory_validity.specs.Faults.{Fault, SizeFault, TraceFault, LowFault, HighFault, RayFault, FinalFault, UpperFault}
+use Rattle.cert_types.specs.declared.cert.Cert.{Cert}
 use Rattle.serde_json.specs.Data.{Data}
-use Rattle.tm_form.specs.Certificates.{Spells, SpellsCert, cert_in}
-use Rattle.tm_form.specs.declared.fault.FormFault.{FormFault}
-use Rattle.tm_form.specs.declared.fault.FormFault.TheVariants.{NotJson, Shape, Number, Version, Expanded, NoMemory}
-use Rattle.tm_form.proofs.form_laws.Laws.{one_reading}
-use Rattle.tm_compose.specs.Operations.{wide_composition}
-use Rattle.tm_check.specs.CheckEvents.{check_events}
-use Rattle.tm_check.specs.Events.{fault_answer, first_stop}
-use Rattle.tm_check.specs.declared.fault.CheckFault.{CheckFault}
-use Rattle.tm_check.specs.declared.fault.CheckFault.TheVariants as check
-use Rattle.tm_check.proofs.events.CheckTests.{unstopped_is_valid}
+use Rattle.cert_text.specs.Certificates.{Spells, SpellsCert, cert_in}
+use Rattle.cert_text.specs.declared.fault.FormFault.{FormFault}
+use Rattle.cert_text.specs.declared.fault.FormFault.TheVariants.{NotJson, Shape, Number, Version, Expanded, NoMemory}
+use Rattle.cert_text.proofs.form_laws.Laws.{one_reading}
+use Rattle.solve_composition.specs.Operations.{wide_composition}
+use Rattle.cert_checker.specs.CheckEvents.{check_events}
+use Rattle.cert_checker.specs.Events.{fault_answer, first_stop}
+use Rattle.cert_checker.specs.declared.fault.CheckFault.{CheckFault}
+use Rattle.cert_checker.specs.declared.fault.CheckFault.TheVariants as check
+use Rattle.cert_checker.proofs.events.CheckTests.{unstopped_is_valid}
 use Rattle.top_texts.specs.Checks.{IsCompositionSpot, IsFormFault, system_with, theirs}
 use Rattle.top_texts.specs.Endings.{CheckEnd, UpgradeEnd}
 use Rattle.top_texts.specs.Texts.{IsAnalysed, Reading, unknowns}
@@ -35,7 +35,7 @@ use Rattle.top_status.specs.declared.status.TextCause.TheVariants as text
 use Rattle.top_status.specs.declared.status.CertCause.TheVariants.{Form, Rows, Unknowns, Check}
 use Rattle.top_status.specs.declared.status.Status.{Status}
 use Rattle.top_status.specs.declared.status.Status.TheVariants.{Done, Certificate, Usage, Read, Text, Wide, Spent, Memory, Write}
-use Rattle.tm_eqsys.specs.declared.limits.TheConstants.{MOST_UNKNOWNS}
+use Rattle.flow_systems.specs.declared.limits.TheConstants.{MOST_UNKNOWNS}
 
 -- ---- a fault of the form is the only one
 

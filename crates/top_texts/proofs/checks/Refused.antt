@@ -1,19 +1,19 @@
 -- Refusals, from one stage to the next.
 use Rattle.std.proofs.Common.{◌≡◌, ⊎_elim, ℕ, List, refl, ap, ◌∙◌}
 use Rattle.std.specs.Prelude.{None, Some}
-use Rattle.tm_tree.specs.Tree.{Statements}
-use Rattle.tm_eqsys.specs.declared.spot.Spot.{Spot}
-use Rattle.tm_eqsys.specs.Equations.{Equations}
-use Rattle.tm_validity.specs.Certificates.{Certificate as TheoryCertificate}
-use Rattle.tm_check.specs.CheckEvents.{check_events}
-use Rattle.tm_check.proofs.events.CheckTests.{stops_are_faults}
-use Rattle.tm_check.specs.Events.{fault_answer, first_stop}
-use Rattle.tm_check.specs.declared.fault.CheckFault.{CheckFault}
-use Rattle.tm_check.specs.declared.fault.CheckFault.TheVariants as check
-use Rattle.tm_validity.specs.Faults.{Fault, SizeFault, TraceFault, LowFault, HighFault, RayFault, FinalFault, UpperFault}
-use Rattle.tm_compose.specs.Operations.{wide_composition}
-use Rattle.tm_cert.specs.declared.cert.Cert.{Cert}
-use Rattle.tm_cli.specs.declared.request.Domain.{Domain}
+use Rattle.lang_tree.specs.Tree.{Statements}
+use Rattle.flow_systems.specs.declared.spot.Spot.{Spot}
+use Rattle.flow_systems.specs.Equations.{Equations}
+use Rattle.theory_validity.specs.Certificates.{Certificate as TheoryCertificate}
+use Rattle.cert_checker.specs.CheckEvents.{check_events}
+use Rattle.cert_checker.proofs.events.CheckTests.{stops_are_faults}
+use Rattle.cert_checker.specs.Events.{fault_answer, first_stop}
+use Rattle.cert_checker.specs.declared.fault.CheckFault.{CheckFault}
+use Rattle.cert_checker.specs.declared.fault.CheckFault.TheVariants as check
+use Rattle.theory_validity.specs.Faults.{Fault, SizeFault, TraceFault, LowFault, HighFault, RayFault, FinalFault, UpperFault}
+use Rattle.solve_composition.specs.Operations.{wide_composition}
+use Rattle.cert_types.specs.declared.cert.Cert.{Cert}
+use Rattle.ask_words.specs.declared.request.Domain.{Domain}
 use Rattle.top_texts.specs.Checks.{IsSpelt, IsSystemWith, system_with, theirs}
 use Rattle.top_status.specs.CheckMessages.{rows_in}
 use Rattle.top_status.specs.Messages.{line_in}

@@ -4,26 +4,26 @@ use Rattle.std.specs.Prelude.{Err, Some, slice_get}
 use Rattle.std.specs.List.{All}
 use Rattle.std.proofs.lemmas.Slice.Zip.{AllZip-long}
 use Rattle.std.proofs.lemmas.Option.{get_or_from_slice_get, slice_get_within}
-use Rattle.tm_flow.specs.Points.{points_of_program}
-use Rattle.tm_flow.specs.declared.graph.Flow.{Flow as Graph}
-use Rattle.tm_flow.specs.declared.point.Point.{Point}
-use Rattle.tm_eqsys.specs.Equations.{Equations, Least}
-use Rattle.tm_eqsys.specs.Solutions.{equations_of_program}
-use Rattle.tm_eqsys.specs.View.{equations_of, vector_of}
-use Rattle.tm_eqsys.specs.declared.system.System.{System}
-use Rattle.tm_rounds.specs.Solutions.{IsSolved}
-use Rattle.tm_rounds.specs.declared.solution.Solved.{Solved}
-use Rattle.tm_assert.specs.AllVerdicts.{AreVerdicts, IsVerdict}
-use Rattle.tm_assert.specs.Claims.{IsClaimOf, FileMeans, Stands, stated_of}
-use Rattle.tm_assert.specs.Laws.{OpenStatesBreak, ProvedVerdictsHold}
-use Rattle.tm_assert.specs.Lines.{verdicts_text}
-use Rattle.tm_assert.specs.declared.claim.Claim.{Claim}
-use Rattle.tm_assert.specs.declared.fault.ClaimFault.{ClaimFault}
-use Rattle.tm_assert.specs.declared.outcome.Verdict.{Verdict}
-use Rattle.tm_assert.proofs.laws.Lists.{verdict_at}
-use Rattle.tm_cli.specs.declared.request.Domain.{Domain}
-use Rattle.tm_cli.specs.declared.request.Policy.{Policy}
-use Rattle.tm_cli.specs.declared.request.Purpose.TheVariants.{Report}
+use Rattle.flow_edges.specs.Points.{points_of_program}
+use Rattle.flow_edges.specs.declared.graph.Flow.{Flow as Graph}
+use Rattle.flow_edges.specs.declared.point.Point.{Point}
+use Rattle.flow_systems.specs.Equations.{Equations, Least}
+use Rattle.flow_systems.specs.Solutions.{equations_of_program}
+use Rattle.flow_systems.specs.View.{equations_of, vector_of}
+use Rattle.flow_systems.specs.declared.system.System.{System}
+use Rattle.solve_rounds.specs.Solutions.{IsSolved}
+use Rattle.solve_rounds.specs.declared.solution.Solved.{Solved}
+use Rattle.ask_claims.specs.AllVerdicts.{AreVerdicts, IsVerdict}
+use Rattle.ask_claims.specs.Claims.{IsClaimOf, FileMeans, Stands, stated_of}
+use Rattle.ask_claims.specs.Laws.{OpenStatesBreak, ProvedVerdictsHold}
+use Rattle.ask_claims.specs.Lines.{verdicts_text}
+use Rattle.ask_claims.specs.declared.claim.Claim.{Claim}
+use Rattle.ask_claims.specs.declared.fault.ClaimFault.{ClaimFault}
+use Rattle.ask_claims.specs.declared.outcome.Verdict.{Verdict}
+use Rattle.ask_claims.proofs.laws.Lists.{verdict_at}
+use Rattle.ask_words.specs.declared.request.Domain.{Domain}
+use Rattle.ask_words.specs.declared.request.Policy.{Policy}
+use Rattle.ask_words.specs.declared.request.Purpose.TheVariants.{Report}
 use Rattle.top_texts.specs.ClaimTexts.{AreClaimsOf, AreNoClaims, AreVerdictsOf, IsClaimedSystem}
 use Rattle.top_texts.specs.Exact.{exact}
 use Rattle.top_texts.specs.Parted.{AreUnjudged, IsHalted, IsRefusedBy, IsUnanswered}

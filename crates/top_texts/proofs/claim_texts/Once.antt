@@ -1,13 +1,13 @@
 -- The texts of a program, of its rows and of claims are refused by one cause, or mean a system.
 use Rattle.std.proofs.Common.{◌≡◌, ◌∙◌, ℕ, List, refl, sym, ap, subst}
 use Rattle.std.specs.Prelude.{ℤ, Ok, Err}
-use Rattle.tm_tree.specs.Tree.{Statements}
-use Rattle.tm_flow.specs.Points.{points_of_program}
-use Rattle.tm_eqsys.specs.declared.system.System.{System}
-use Rattle.tm_assert.specs.Claims.{FileMeans, Stated, StatedClaims}
-use Rattle.tm_assert.specs.declared.fault.ClaimFault.{ClaimFault}
-use Rattle.tm_assert.proofs.claims.Means.{file_once}
-use Rattle.tm_cli.specs.declared.request.Domain.{Domain}
+use Rattle.lang_tree.specs.Tree.{Statements}
+use Rattle.flow_edges.specs.Points.{points_of_program}
+use Rattle.flow_systems.specs.declared.system.System.{System}
+use Rattle.ask_claims.specs.Claims.{FileMeans, Stated, StatedClaims}
+use Rattle.ask_claims.specs.declared.fault.ClaimFault.{ClaimFault}
+use Rattle.ask_claims.proofs.claims.Means.{file_once}
+use Rattle.ask_words.specs.declared.request.Domain.{Domain}
 use Rattle.top_texts.specs.ClaimTexts.{AreNoClaims, IsClaimedSystem}
 use Rattle.top_texts.specs.Texts.{IsReady, IsRefused}
 use Rattle.top_status.specs.declared.status.TextCause.{TextCause}

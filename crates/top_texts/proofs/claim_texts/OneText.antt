@@ -4,27 +4,27 @@ use Rattle.std.specs.Prelude.{ℤ, Ok, ◌↔◌, codes, count_by, decimal}
 use Rattle.std.specs.List.{All}
 use Rattle.std.proofs.lemmas.List.{length-map}
 use Rattle.std.proofs.lemmas.List.Elements.{All-head, All-tail}
-use Rattle.tm_tree.specs.Cases.{cases_of}
-use Rattle.tm_tree.specs.Tree.{Statements}
-use Rattle.tm_flow.specs.Points.{points_of_program}
-use Rattle.tm_flow.specs.declared.point.Point.{Point}
-use Rattle.tm_flow.proofs.points.Numbering.{numbering}
-use Rattle.tm_eqsys.specs.Equations.{Equations, Vector}
-use Rattle.tm_eqsys.specs.Report.{footer_line, line}
-use Rattle.tm_eqsys.specs.Solutions.{equations_of_program}
-use Rattle.tm_eqsys.specs.declared.footer.Footer.TheVariants.{Improvements}
-use Rattle.tm_eqsys.proofs.equations.Leastness.{at_most_one}
-use Rattle.tm_assert.specs.AllVerdicts.{AreVerdicts, IsVerdict}
-use Rattle.tm_assert.specs.Breaking.{NoneOpen}
-use Rattle.tm_assert.specs.Claims.{AreAtPoints, Stands, Stated, stated_of}
-use Rattle.tm_assert.specs.Verdicts.{SaysOpen}
-use Rattle.tm_assert.specs.Lines.{claim_lines, is_proved, verdict_text, verdicts_text}
-use Rattle.tm_assert.specs.declared.claim.Claim.{Claim}
-use Rattle.tm_assert.specs.declared.outcome.Verdict.{Verdict}
-use Rattle.tm_assert.specs.declared.outcome.Verdict.TheVariants.{Proved}
-use Rattle.tm_assert.proofs.laws.Lists.{verdicts_are_one}
-use Rattle.tm_cli.specs.declared.request.Domain.{Domain}
-use Rattle.tm_cli.specs.declared.request.Policy.{Policy}
+use Rattle.lang_tree.specs.Cases.{cases_of}
+use Rattle.lang_tree.specs.Tree.{Statements}
+use Rattle.flow_edges.specs.Points.{points_of_program}
+use Rattle.flow_edges.specs.declared.point.Point.{Point}
+use Rattle.flow_edges.proofs.points.Numbering.{numbering}
+use Rattle.flow_systems.specs.Equations.{Equations, Vector}
+use Rattle.flow_systems.specs.Report.{footer_line, line}
+use Rattle.flow_systems.specs.Solutions.{equations_of_program}
+use Rattle.flow_systems.specs.declared.footer.Footer.TheVariants.{Improvements}
+use Rattle.flow_systems.proofs.equations.Leastness.{at_most_one}
+use Rattle.ask_claims.specs.AllVerdicts.{AreVerdicts, IsVerdict}
+use Rattle.ask_claims.specs.Breaking.{NoneOpen}
+use Rattle.ask_claims.specs.Claims.{AreAtPoints, Stands, Stated, stated_of}
+use Rattle.ask_claims.specs.Verdicts.{SaysOpen}
+use Rattle.ask_claims.specs.Lines.{claim_lines, is_proved, verdict_text, verdicts_text}
+use Rattle.ask_claims.specs.declared.claim.Claim.{Claim}
+use Rattle.ask_claims.specs.declared.outcome.Verdict.{Verdict}
+use Rattle.ask_claims.specs.declared.outcome.Verdict.TheVariants.{Proved}
+use Rattle.ask_claims.proofs.laws.Lists.{verdicts_are_one}
+use Rattle.ask_words.specs.declared.request.Domain.{Domain}
+use Rattle.ask_words.specs.declared.request.Policy.{Policy}
 use Rattle.top_texts.specs.ClaimTexts.{AreClaimsOf, AreLeastVerdicts, AreVerdictsOf}
 use Rattle.top_texts.specs.Exact.{exact}
 use Rattle.top_texts.specs.Texts.{HasTemplate}

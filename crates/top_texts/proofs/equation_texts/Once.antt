@@ -1,13 +1,13 @@
 -- A text of equations is refused by one cause, or means systems with the same equations.
 use Rattle.std.proofs.Common.{◌≡◌, ◌∙◌, ℕ, List, refl, sym, ap}
 use Rattle.std.specs.Prelude.{Result, Ok, Err}
-use Rattle.tm_eqsys.specs.View.{equations_of}
-use Rattle.tm_eqsys.specs.declared.system.System.{System}
-use Rattle.tm_equ.specs.declared.equation.Equation.{Equation}
-use Rattle.tm_equ.specs.declared.fault.EquFault.{EquFault}
-use Rattle.tm_equ.specs.EquationTexts.{Answers}
-use Rattle.tm_equ.specs.System.{system_of}
-use Rattle.tm_equ.proofs.equation_texts.Once.{answers_once}
+use Rattle.flow_systems.specs.View.{equations_of}
+use Rattle.flow_systems.specs.declared.system.System.{System}
+use Rattle.flow_rationals.specs.declared.equation.Equation.{Equation}
+use Rattle.flow_rationals.specs.declared.fault.EquFault.{EquFault}
+use Rattle.flow_rationals.specs.EquationTexts.{Answers}
+use Rattle.flow_rationals.specs.System.{system_of}
+use Rattle.flow_rationals.proofs.equation_texts.Once.{answers_once}
 use Rattle.top_texts.specs.EquationTexts.{IsEquationSystem, IsNoEquations}
 use Rattle.top_status.specs.declared.status.TextCause.{TextCause}
 use Rattle.top_status.specs.declared.status.TextCause.TheVariants.{Lex, Parse, Flow, Rows, Unknowns, Cells, Claims, Equ, Auto}

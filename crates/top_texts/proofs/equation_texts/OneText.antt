@@ -2,15 +2,15 @@
 use Rattle.std.proofs.Common.{◌≡◌, ◌∙◌, ◌++◌, ℕ, suc, ◌+◌, ◌<◌, ◌≤◌, List, [], ◌∷◌, length, map, refl, sym, ap₂, subst, arith}
 use Rattle.std.specs.Prelude.{Ok}
 use Rattle.std.proofs.lemmas.List.{length-map}
-use Rattle.tm_num.specs.Extended.{Ext}
-use Rattle.tm_eqsys.specs.declared.footer.Footer.TheVariants.{Improvements}
-use Rattle.tm_eqsys.specs.Report.{footer_line}
-use Rattle.tm_equ.specs.declared.equation.Equation.{Equation}
-use Rattle.tm_equ.specs.Solutions.{IsLeastAbove}
-use Rattle.tm_equ.proofs.above.LeastAbove.{at_most_one}
-use Rattle.tm_equ.proofs.equation_texts.Once.{answers_once}
-use Rattle.tm_report.specs.Values.{value_line, value_lines, values_text}
-use Rattle.tm_cli.specs.declared.request.Policy.{Policy}
+use Rattle.base_numbers.specs.Extended.{Ext}
+use Rattle.flow_systems.specs.declared.footer.Footer.TheVariants.{Improvements}
+use Rattle.flow_systems.specs.Report.{footer_line}
+use Rattle.flow_rationals.specs.declared.equation.Equation.{Equation}
+use Rattle.flow_rationals.specs.Solutions.{IsLeastAbove}
+use Rattle.flow_rationals.proofs.above.LeastAbove.{at_most_one}
+use Rattle.flow_rationals.proofs.equation_texts.Once.{answers_once}
+use Rattle.out_report.specs.Values.{value_line, value_lines, values_text}
+use Rattle.ask_words.specs.declared.request.Policy.{Policy}
 use Rattle.top_texts.specs.EquationTexts.{AreValuesOf, HasImprovements}
 use Rattle.top_texts.proofs.equation_texts.Once.{same_equations}
 use Rattle.top_texts.proofs.rounds.OneChain.{rounds_once}

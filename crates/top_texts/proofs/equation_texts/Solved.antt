@@ -4,21 +4,21 @@ use Rattle.std.specs.Prelude.{IsTrue, Ok, codes, pos}
 use Rattle.std.proofs.Math.Seq.{take-append_seam}
 use Rattle.std.proofs.lemmas.List.{length-map}
 use Rattle.std.proofs.lemmas.List.FromFn.{length-map-range_with_len}
-use Rattle.tm_eqsys.specs.Equations.{Equations, Least}
-use Rattle.tm_eqsys.specs.View.{equations_of, vector_of}
-use Rattle.tm_eqsys.specs.declared.footer.Footer.TheVariants.{Improvements}
-use Rattle.tm_eqsys.specs.declared.system.System.{System}
-use Rattle.tm_rows.specs.Domains.{multiple}
-use Rattle.tm_equ.specs.declared.equation.Equation.{Equation}
-use Rattle.tm_equ.specs.Equations.{are_equations}
-use Rattle.tm_equ.specs.EquationTexts.{Answers}
-use Rattle.tm_equ.specs.Laws.{LeastAboveEqualRightSides, LeastVectorsAreLeastAbove}
-use Rattle.tm_equ.specs.System.{system_of, variables_of}
-use Rattle.tm_report.specs.Values.{values_text}
-use Rattle.tm_rounds.specs.Solutions.{IsSolved}
-use Rattle.tm_rounds.specs.declared.solution.Solved.{Solved}
-use Rattle.tm_cli.specs.declared.request.Policy.{Policy}
-use Rattle.tm_cli.specs.declared.request.Purpose.TheVariants.{Report}
+use Rattle.flow_systems.specs.Equations.{Equations, Least}
+use Rattle.flow_systems.specs.View.{equations_of, vector_of}
+use Rattle.flow_systems.specs.declared.footer.Footer.TheVariants.{Improvements}
+use Rattle.flow_systems.specs.declared.system.System.{System}
+use Rattle.flow_templates.specs.Domains.{multiple}
+use Rattle.flow_rationals.specs.declared.equation.Equation.{Equation}
+use Rattle.flow_rationals.specs.Equations.{are_equations}
+use Rattle.flow_rationals.specs.EquationTexts.{Answers}
+use Rattle.flow_rationals.specs.Laws.{LeastAboveEqualRightSides, LeastVectorsAreLeastAbove}
+use Rattle.flow_rationals.specs.System.{system_of, variables_of}
+use Rattle.out_report.specs.Values.{values_text}
+use Rattle.solve_rounds.specs.Solutions.{IsSolved}
+use Rattle.solve_rounds.specs.declared.solution.Solved.{Solved}
+use Rattle.ask_words.specs.declared.request.Policy.{Policy}
+use Rattle.ask_words.specs.declared.request.Purpose.TheVariants.{Report}
 use Rattle.top_texts.specs.EquationTexts.{AreValuesOf, IsEquationSystem}
 use Rattle.top_texts.specs.Parted.{IsHalted, IsUnanswered}
 use Rattle.top_texts.specs.Exact.{exact}

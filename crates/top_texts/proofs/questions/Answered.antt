@@ -1,8 +1,8 @@
 -- What is answered to a question: where rounds have no end, and where texts are refused.
 use Rattle.std.proofs.Common.{◌≡◌, sym, ap, subst}
-use Rattle.tm_eqsys.specs.declared.spot.Spot.{Spot}
-use Rattle.tm_eqsys.specs.declared.system.System.{System}
-use Rattle.tm_cli.specs.declared.request.Purpose.{Purpose}
+use Rattle.flow_systems.specs.declared.spot.Spot.{Spot}
+use Rattle.flow_systems.specs.declared.system.System.{System}
+use Rattle.ask_words.specs.declared.request.Purpose.{Purpose}
 use Rattle.top_texts.specs.Parted.{IsHalted, IsUnanswered, QuestionAnswer, refused}
 use Rattle.top_texts.specs.Questions.{Question, rounds_spent}
 use Rattle.top_texts.specs.Spots.{HasSpot}

@@ -1,7 +1,7 @@
 -- A question has one ending.
 use Rattle.std.proofs.Common.{◌≡◌, ◌∙◌, sym, ap}
-use Rattle.tm_eqsys.specs.View.{equations_of}
-use Rattle.tm_eqsys.specs.declared.system.System.{System}
+use Rattle.flow_systems.specs.View.{equations_of}
+use Rattle.flow_systems.specs.declared.system.System.{System}
 use Rattle.top_texts.specs.Questions.{Question, QuestionEnds, is_refused, rounds_end, rounds_spent}
 use Rattle.top_status.specs.declared.status.TextCause.{TextCause}
 use Rattle.top_status.specs.declared.status.Status.{Status}

@@ -1,12 +1,12 @@
 -- Each question has one meaning: its texts are refused by one cause, or mean systems with the same equations.
 use Rattle.std.proofs.Common.{◌≡◌, ◌∙◌, ℕ, List, sym}
-use Rattle.tm_rows.specs.Domains.{intervals_of}
-use Rattle.tm_eqsys.specs.View.{equations_of}
-use Rattle.tm_eqsys.specs.declared.system.System.{System}
-use Rattle.tm_workload.specs.Bodies.{generated_body, generated_names}
-use Rattle.tm_cli.specs.declared.request.Domain.{Domain}
-use Rattle.tm_cli.specs.declared.request.Policy.{Policy}
-use Rattle.tm_cli.specs.declared.request.Purpose.{Purpose}
+use Rattle.flow_templates.specs.Domains.{intervals_of}
+use Rattle.flow_systems.specs.View.{equations_of}
+use Rattle.flow_systems.specs.declared.system.System.{System}
+use Rattle.out_workload.specs.Bodies.{generated_body, generated_names}
+use Rattle.ask_words.specs.declared.request.Domain.{Domain}
+use Rattle.ask_words.specs.declared.request.Policy.{Policy}
+use Rattle.ask_words.specs.declared.request.Purpose.{Purpose}
 use Rattle.top_texts.specs.Exact.{exact}
 use Rattle.top_texts.specs.Generated.{IsGenerated}
 use Rattle.top_texts.specs.Questions.{analysis_question, bench_question, claims_question, equations_question, transitions_question}

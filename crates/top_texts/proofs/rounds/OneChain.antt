@@ -1,24 +1,24 @@
 -- The improvements by a policy of the command line have one end.
 use Rattle.std.proofs.Common.{◌≡◌, ℕ, ◌<◌, List, length, sym, subst, arith}
-use Rattle.tm_eqsys.specs.Equations.{Equations, Least, Vector}
-use Rattle.tm_eqsys.specs.Report.{report_of}
-use Rattle.tm_eqsys.specs.View.{equations_of, vector_of}
-use Rattle.tm_eqsys.specs.declared.footer.Footer.TheVariants.{Improvements}
-use Rattle.tm_eqsys.specs.declared.system.System.{System}
-use Rattle.tm_chain.specs.Chains.{EndsAfter, GoesOnAfter}
-use Rattle.tm_chain.specs.Offers.{Best as MeantBest, First as MeantFirst}
-use Rattle.tm_chain.specs.Laws.{AnswersOne}
-use Rattle.tm_chain.proofs.chains.OneChain.{number_above, number_one}
-use Rattle.tm_chain.proofs.offers.OnePosition.{best_is_one, first_is_one}
-use Rattle.tm_strategy.specs.PickCount.{pick_count}
-use Rattle.tm_strategy_lp.proofs.rounds.Retraced.{short_law}
-use Rattle.tm_rounds.proofs.chains.Improvements.{best_means, first_means, solved_law}
-use Rattle.tm_offers.proofs.at_bounds.Ranges.{points_in_range}
-use Rattle.tm_offers.specs.Policies.{by_best, by_first}
-use Rattle.tm_rounds.specs.Solutions.{IsSolved}
-use Rattle.tm_rounds.specs.declared.solution.Solved.{Solved}
-use Rattle.tm_cli.specs.declared.request.Policy.{Policy}
-use Rattle.tm_cli.specs.declared.request.Policy.TheVariants.{Best, First}
+use Rattle.flow_systems.specs.Equations.{Equations, Least, Vector}
+use Rattle.flow_systems.specs.Report.{report_of}
+use Rattle.flow_systems.specs.View.{equations_of, vector_of}
+use Rattle.flow_systems.specs.declared.footer.Footer.TheVariants.{Improvements}
+use Rattle.flow_systems.specs.declared.system.System.{System}
+use Rattle.theory_chains.specs.Chains.{EndsAfter, GoesOnAfter}
+use Rattle.theory_chains.specs.Offers.{Best as MeantBest, First as MeantFirst}
+use Rattle.theory_chains.specs.Laws.{AnswersOne}
+use Rattle.theory_chains.proofs.chains.OneChain.{number_above, number_one}
+use Rattle.theory_chains.proofs.offers.OnePosition.{best_is_one, first_is_one}
+use Rattle.theory_strategy.specs.PickCount.{pick_count}
+use Rattle.theory_rounds.proofs.rounds.Retraced.{short_law}
+use Rattle.solve_rounds.proofs.chains.Improvements.{best_means, first_means, solved_law}
+use Rattle.solve_offers.proofs.at_bounds.Ranges.{points_in_range}
+use Rattle.solve_offers.specs.Policies.{by_best, by_first}
+use Rattle.solve_rounds.specs.Solutions.{IsSolved}
+use Rattle.solve_rounds.specs.declared.solution.Solved.{Solved}
+use Rattle.ask_words.specs.declared.request.Policy.{Policy}
+use Rattle.ask_words.specs.declared.request.Policy.TheVariants.{Best, First}
 use Rattle.top_texts.specs.Parted.{IsRoundsReport}
 use Rattle.top_texts.specs.Policies.{rule_of}
 use Rattle.top_texts.specs.Rounds.{EndsWithin, HasRounds, RunsOut, chosen_by}

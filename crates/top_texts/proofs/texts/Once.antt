@@ -1,25 +1,25 @@
 -- Texts are refused by one cause, or mean a system: by stages, each of which has one cause or goes on to the next.
 use Rattle.std.proofs.Common.{◌≡◌, ◌≤◌, ◌<◌, ℕ, List, length, refl, sym, ap, ◌∙◌, subst, arith}
 use Rattle.std.specs.Prelude.{ℤ, Option, Ok, Err, Some, None}
-use Rattle.tm_lex.specs.declared.fault.LexFault.{LexFault}
-use Rattle.tm_lex.specs.Faults.{HasFault}
-use Rattle.tm_lex.proofs.reading.Once.{one_text_fault, no_fault}
+use Rattle.lang_tokens.specs.declared.fault.LexFault.{LexFault}
+use Rattle.lang_tokens.specs.Faults.{HasFault}
+use Rattle.lang_tokens.proofs.reading.Once.{one_text_fault, no_fault}
 use Rattle.lang_meaning.specs.declared.fault.ParseFault.{ParseFault}
-use Rattle.tm_tree.specs.Tree.{Statements}
-use Rattle.tm_flow.specs.declared.fault.FlowFault.{FlowFault}
-use Rattle.tm_flow.specs.Faults.{fault_of_program}
-use Rattle.tm_rows.specs.declared.fault.RowFault.{RowFault}
-use Rattle.tm_eqsys.specs.declared.system.System.{System}
-use Rattle.tm_eqsys.specs.Solutions.{equations_of_program}
-use Rattle.tm_eqsys.specs.View.{equations_of}
-use Rattle.tm_cli.specs.declared.request.Domain.{Domain}
+use Rattle.lang_tree.specs.Tree.{Statements}
+use Rattle.flow_edges.specs.declared.fault.FlowFault.{FlowFault}
+use Rattle.flow_edges.specs.Faults.{fault_of_program}
+use Rattle.flow_templates.specs.declared.fault.RowFault.{RowFault}
+use Rattle.flow_systems.specs.declared.system.System.{System}
+use Rattle.flow_systems.specs.Solutions.{equations_of_program}
+use Rattle.flow_systems.specs.View.{equations_of}
+use Rattle.ask_words.specs.declared.request.Domain.{Domain}
 use Rattle.top_texts.specs.Rounds.{IsSystemFor}
 use Rattle.top_texts.proofs.analyse.Solved.{same_equations}
 use Rattle.top_texts.specs.Texts.{HasTemplate, IsReady, IsRefused, IsSolvedSystem, Reading, cells, unknowns}
 use Rattle.top_texts.proofs.texts.Readings.{program_once, fault_once, not_both, rows_once, row_fault_once, not_rows}
 use Rattle.top_status.specs.declared.status.TextCause.{TextCause}
 use Rattle.top_status.specs.declared.status.TextCause.TheVariants.{Lex, Parse, Flow, Rows, Unknowns, Cells, Claims, Equ, Auto}
-use Rattle.tm_eqsys.specs.declared.limits.TheConstants.{MOST_UNKNOWNS}
+use Rattle.flow_systems.specs.declared.limits.TheConstants.{MOST_UNKNOWNS}
 
 -- ---- the last stage: too many unknowns, too many cells, or neither
 

@@ -1,16 +1,16 @@
 -- A text reads as one program, or has one fault; and a domain is one template over given variables, or has one fault.
 use Rattle.std.proofs.Common.{◌≡◌, ℕ, List, sym, ◌∙◌, subst}
 use Rattle.std.specs.Prelude.{ℤ, Result, Ok, Err}
-use Rattle.tm_lex.proofs.reading.Once.{one_token_list}
-use Rattle.tm_gram.specs.View.{tokens_of}
+use Rattle.lang_tokens.proofs.reading.Once.{one_token_list}
+use Rattle.lang_grammar.specs.View.{tokens_of}
 use Rattle.lang_meaning.specs.Meaning.{Answer, Means}
 use Rattle.lang_meaning.proofs.meaning.OneMeaning.{means_once}
 use Rattle.lang_meaning.specs.declared.fault.ParseFault.{ParseFault}
-use Rattle.tm_rows.specs.declared.fault.RowFault.{RowFault}
-use Rattle.tm_rows.proofs.row_files.OneAnswer.{one_answer}
-use Rattle.tm_tree.specs.Tree.{Statements}
-use Rattle.tm_cli.specs.declared.request.Domain.{Domain}
-use Rattle.tm_cli.specs.declared.request.Domain.TheVariants.{Intervals, Zones, Octagons, Rows}
+use Rattle.flow_templates.specs.declared.fault.RowFault.{RowFault}
+use Rattle.flow_templates.proofs.row_files.OneAnswer.{one_answer}
+use Rattle.lang_tree.specs.Tree.{Statements}
+use Rattle.ask_words.specs.declared.request.Domain.{Domain}
+use Rattle.ask_words.specs.declared.request.Domain.TheVariants.{Intervals, Zones, Octagons, Rows}
 use Rattle.top_texts.specs.Texts.{HasTemplate, Reading}
 
 abbrev answered : Answer → Answer

@@ -1,19 +1,19 @@
 -- The texts of a transition system and of its rows are refused by one cause, or mean systems with the same equations.
 use Rattle.std.proofs.Common.{◌≡◌, ◌∙◌, ◌≤◌, ◌<◌, ◌*◌, inl, inr, ℕ, List, length, refl, sym, ap, subst, arith}
 use Rattle.std.specs.Prelude.{ℤ, Option, Some, None, Ok, Err}
-use Rattle.tm_auto.specs.declared.fault.AutoFault.{AutoFault}
-use Rattle.tm_auto.specs.AutoFaults.{fault_of}
-use Rattle.tm_auto.specs.AutoReading.{AutoAnswer, Content}
-use Rattle.tm_auto.specs.AutoTexts.{IsAuto, content}
-use Rattle.tm_auto.specs.Choices.{edges_of}
-use Rattle.tm_auto.proofs.progress.Once.{one_answer}
-use Rattle.tm_eqsys.specs.Cells.{cells_of}
-use Rattle.tm_eqsys.specs.Equations.{Equations}
-use Rattle.tm_eqsys.specs.View.{equations_of}
-use Rattle.tm_eqsys.specs.declared.limits.TheConstants.{MOST_UNKNOWNS}
-use Rattle.tm_eqsys.specs.declared.system.System.{System}
-use Rattle.tm_rows.specs.declared.fault.RowFault.{RowFault}
-use Rattle.tm_cli.specs.declared.request.Domain.{Domain}
+use Rattle.flow_transitions.specs.declared.fault.AutoFault.{AutoFault}
+use Rattle.flow_transitions.specs.AutoFaults.{fault_of}
+use Rattle.flow_transitions.specs.AutoReading.{AutoAnswer, Content}
+use Rattle.flow_transitions.specs.AutoTexts.{IsAuto, content}
+use Rattle.flow_transitions.specs.Choices.{edges_of}
+use Rattle.flow_transitions.proofs.progress.Once.{one_answer}
+use Rattle.flow_systems.specs.Cells.{cells_of}
+use Rattle.flow_systems.specs.Equations.{Equations}
+use Rattle.flow_systems.specs.View.{equations_of}
+use Rattle.flow_systems.specs.declared.limits.TheConstants.{MOST_UNKNOWNS}
+use Rattle.flow_systems.specs.declared.system.System.{System}
+use Rattle.flow_templates.specs.declared.fault.RowFault.{RowFault}
+use Rattle.ask_words.specs.declared.request.Domain.{Domain}
 use Rattle.top_texts.specs.Texts.{HasTemplate}
 use Rattle.top_texts.specs.TransitionTexts.{AreNoTransitions, IsTransitionSystem}
 use Rattle.top_status.specs.declared.status.TextCause.{TextCause}

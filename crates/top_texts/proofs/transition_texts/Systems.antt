@@ -1,23 +1,23 @@
 -- The system that is made of the flow of a transition system and of a template is theirs, and so is its report.
 use Rattle.std.proofs.Common.{◌≡◌, ◌∙◌, ◌*◌, ◌≤◌, ◌<◌, ℕ, List, length, refl, sym, ap, subst}
 use Rattle.std.specs.Prelude.{ℤ, None, Ok}
-use Rattle.tm_auto.specs.declared.auto.Auto.{Auto}
-use Rattle.tm_auto.specs.AutoFaults.{fault_of}
-use Rattle.tm_auto.specs.AutoLaws.{PostSolutionsHoldAlong, equations_of_auto}
-use Rattle.tm_auto.specs.AutoTexts.{IsAuto, content}
-use Rattle.tm_auto.specs.Choices.{edges_of}
-use Rattle.tm_flow.specs.declared.edge.Edge.{Edge}
-use Rattle.tm_flow.specs.declared.graph.Flow.{Flow}
-use Rattle.tm_flow.specs.declared.point.Point.{Point}
-use Rattle.tm_eqsys.specs.Cells.{cells_of}
-use Rattle.tm_eqsys.specs.Equations.{Equations, Least}
-use Rattle.tm_eqsys.specs.Report.{report_text}
-use Rattle.tm_eqsys.specs.View.{equations_of, vector_of}
-use Rattle.tm_eqsys.specs.declared.footer.Footer.TheVariants.{Improvements}
-use Rattle.tm_eqsys.specs.declared.limits.TheConstants.{MOST_UNKNOWNS}
-use Rattle.tm_eqsys.specs.declared.system.System.{System}
-use Rattle.tm_cli.specs.declared.request.Domain.{Domain}
-use Rattle.tm_cli.specs.declared.request.Policy.{Policy}
+use Rattle.flow_transitions.specs.declared.auto.Auto.{Auto}
+use Rattle.flow_transitions.specs.AutoFaults.{fault_of}
+use Rattle.flow_transitions.specs.AutoLaws.{PostSolutionsHoldAlong, equations_of_auto}
+use Rattle.flow_transitions.specs.AutoTexts.{IsAuto, content}
+use Rattle.flow_transitions.specs.Choices.{edges_of}
+use Rattle.flow_edges.specs.declared.edge.Edge.{Edge}
+use Rattle.flow_edges.specs.declared.graph.Flow.{Flow}
+use Rattle.flow_edges.specs.declared.point.Point.{Point}
+use Rattle.flow_systems.specs.Cells.{cells_of}
+use Rattle.flow_systems.specs.Equations.{Equations, Least}
+use Rattle.flow_systems.specs.Report.{report_text}
+use Rattle.flow_systems.specs.View.{equations_of, vector_of}
+use Rattle.flow_systems.specs.declared.footer.Footer.TheVariants.{Improvements}
+use Rattle.flow_systems.specs.declared.limits.TheConstants.{MOST_UNKNOWNS}
+use Rattle.flow_systems.specs.declared.system.System.{System}
+use Rattle.ask_words.specs.declared.request.Domain.{Domain}
+use Rattle.ask_words.specs.declared.request.Policy.{Policy}
 use Rattle.top_texts.specs.Exact.{exact}
 use Rattle.top_texts.specs.Parted.{IsRefusedAlong, IsRoundsReport, IsUnanswered}
 use Rattle.top_texts.specs.Questions.{QuestionEnds, rounds_end, transitions_question}

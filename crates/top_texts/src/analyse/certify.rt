@@ -1,23 +1,23 @@
 //! The certificate that the rounds over a system make.
 
 ghost use Rattle.std.specs.Prelude.{◌≡◌, ◌≤◌, ◌++◌, IfOk, IfErr, IsTrue, OnOk};
-ghost use Rattle.tm_rows.specs.Rows.{is_template};
-ghost use Rattle.tm_eqsys.specs.Cells.{cells_of};
-ghost use Rattle.tm_eqsys.specs.View.{equations_of};
-ghost use Rattle.tm_rounds.specs.Solutions.{cert_with};
+ghost use Rattle.flow_templates.specs.Rows.{is_template};
+ghost use Rattle.flow_systems.specs.Cells.{cells_of};
+ghost use Rattle.flow_systems.specs.View.{equations_of};
+ghost use Rattle.solve_rounds.specs.Solutions.{cert_with};
 ghost use Rattle.top_texts.specs.Parted.{IsHalted, IsRoundsCertificate};
-ghost use Rattle.tm_cli.specs.declared.request.Purpose.TheVariants.{Certificate};
+ghost use Rattle.ask_words.specs.declared.request.Purpose.TheVariants.{Certificate};
 
 use super::rounds::solve;
 use crate::check::accept::accept;
 use crate::refusal::Refusal;
 use std::alloc::{AllocError, Global};
-use tm_cert::{Cert, Rows};
-use tm_cli::Policy;
-use tm_eqsys::System;
-use tm_form::write;
-use tm_rounds::Solved;
-use tm_tree::Coeffs;
+use cert_types::{Cert, Rows};
+use ask_words::Policy;
+use flow_systems::System;
+use cert_text::write;
+use solve_rounds::Solved;
+use lang_tree::Coeffs;
 
 // Adds the rows once more.
 fn add_rows(list: &mut Vec<Coeffs>, rows: &[Coeffs]) -> Result<(), AllocError>

@@ -1,8 +1,8 @@
 //! The least bounds of the program of a text, for other outputs than its report.
 
 ghost use Rattle.std.specs.Prelude.{◌≡◌, ◌≤◌, IfOk, IfErr, length};
-ghost use Rattle.tm_eqsys.specs.Cells.{cells_of};
-ghost use Rattle.tm_eqsys.specs.View.{equations_of};
+ghost use Rattle.flow_systems.specs.Cells.{cells_of};
+ghost use Rattle.flow_systems.specs.View.{equations_of};
 ghost use Rattle.top_texts.specs.Analyses.{IsFoundIn, IsHaltedEnding, IsRefusedText, IsSolvedBy};
 ghost use Rattle.top_texts.specs.Short.{HasShortRows};
 ghost use Rattle.top_texts.specs.Parted.{domain_of};
@@ -11,9 +11,9 @@ use super::rounds::solve;
 use super::system::system_on;
 use crate::refusal::refused;
 use std::alloc::Global;
-use tm_cli::{Domain, Policy};
-use tm_eqsys::System;
-use tm_rounds::Solved;
+use ask_words::{Domain, Policy};
+use flow_systems::System;
+use solve_rounds::Solved;
 use top_status::{Ending, answer_line, answer_rows};
 
 /// The equation system of a program and of its rows, and its least bounds with the number of improvements that led to them.

@@ -1,25 +1,25 @@
 //! The rounds over a system, and the report of their solution.
 
 ghost use Rattle.std.specs.Prelude.{◌≡◌, ◌≤◌, ◌*◌, ℕ, IfOk, IfErr, length};
-ghost use Rattle.tm_eqsys.specs.Cells.{cells_of};
-ghost use Rattle.tm_eqsys.specs.Equations.{Least};
-ghost use Rattle.tm_eqsys.specs.View.{equations_of, vector_of};
-ghost use Rattle.tm_cert.specs.Shaped.{IsShaped};
-ghost use Rattle.tm_validity.specs.Certificates.{ValidCertificate};
-ghost use Rattle.tm_eqsys.specs.declared.system.System.{System as SystemValue};
-ghost use Rattle.tm_rounds.specs.Halts.{IsHalt};
-ghost use Rattle.tm_rounds.specs.Solutions.{AreNumbered, IsSolved, cert_with, made_certificate};
-ghost use Rattle.tm_cli.specs.declared.request.Policy.{Policy as PolicyValue};
-ghost use Rattle.tm_cli.specs.declared.request.Purpose.{Purpose};
+ghost use Rattle.flow_systems.specs.Cells.{cells_of};
+ghost use Rattle.flow_systems.specs.Equations.{Least};
+ghost use Rattle.flow_systems.specs.View.{equations_of, vector_of};
+ghost use Rattle.cert_types.specs.Shaped.{IsShaped};
+ghost use Rattle.theory_validity.specs.Certificates.{ValidCertificate};
+ghost use Rattle.flow_systems.specs.declared.system.System.{System as SystemValue};
+ghost use Rattle.solve_rounds.specs.Halts.{IsHalt};
+ghost use Rattle.solve_rounds.specs.Solutions.{AreNumbered, IsSolved, cert_with, made_certificate};
+ghost use Rattle.ask_words.specs.declared.request.Policy.{Policy as PolicyValue};
+ghost use Rattle.ask_words.specs.declared.request.Purpose.{Purpose};
 ghost use Rattle.top_texts.specs.Parted.{IsHalted, IsRoundsReport};
 ghost use Rattle.top_texts.specs.Policies.{rule_of};
 
 use crate::refusal::Refusal;
 use std::alloc::Global;
-use tm_cli::Policy;
-use tm_eqsys::{Footer, System};
-use tm_report::report;
-use tm_rounds::{Halt, Solved, least_by_best, least_by_first};
+use ask_words::Policy;
+use flow_systems::{Footer, System};
+use out_report::report;
+use solve_rounds::{Halt, Solved, least_by_best, least_by_first};
 
 // The rounds over a system by a policy.
 fn rounds_by(alloc: Global, system: &System, policy: Policy, limit: u32) -> Result<Solved, Halt>

@@ -1,27 +1,27 @@
 //! The system of the texts of a program and of its rows.
 
 ghost use Rattle.std.specs.Prelude.{◌≡◌, ◌*◌, ◌≤◌, ◌<◌, ◌≢◌, ℕ, List, IfOk, IfErr, IsTrue, Ok, Err, length};
-ghost use Rattle.tm_tree.specs.Tree.{Statements};
-ghost use Rattle.tm_rows.specs.declared.fault.RowFault.TheVariants.{NoMemory};
-ghost use Rattle.tm_eqsys.specs.Cells.{cells_of};
-ghost use Rattle.tm_eqsys.specs.SystemLimits.{is_over};
-ghost use Rattle.tm_eqsys.specs.View.{equations_of};
-ghost use Rattle.tm_cli.specs.declared.request.Domain.{Domain as DomainValue};
+ghost use Rattle.lang_tree.specs.Tree.{Statements};
+ghost use Rattle.flow_templates.specs.declared.fault.RowFault.TheVariants.{NoMemory};
+ghost use Rattle.flow_systems.specs.Cells.{cells_of};
+ghost use Rattle.flow_systems.specs.SystemLimits.{is_over};
+ghost use Rattle.flow_systems.specs.View.{equations_of};
+ghost use Rattle.ask_words.specs.declared.request.Domain.{Domain as DomainValue};
 ghost use Rattle.top_status.specs.declared.status.TextCause.TheVariants.{Cells, Unknowns};
 ghost use Rattle.top_texts.specs.Short.{HasShortRows};
 ghost use Rattle.top_texts.specs.Parted.{IsRefusedBy, domain_of};
 ghost use Rattle.top_texts.specs.Texts.{HasTemplate, IsAnalysed, IsSolvedSystem};
-ghost use Rattle.tm_eqsys.specs.declared.limits.TheConstants.{MOST_UNKNOWNS};
+ghost use Rattle.flow_systems.specs.declared.limits.TheConstants.{MOST_UNKNOWNS};
 
 use super::template::template_of;
 use crate::program::{flow_of, program_of};
 use crate::refusal::Refusal;
 use std::alloc::Global;
-use tm_cli::Domain;
-use tm_eqsys::{System, SystemFault};
-use tm_flow::Flow;
-use tm_rows::{RowFault, Template};
-use tm_tree::Program;
+use ask_words::Domain;
+use flow_systems::{System, SystemFault};
+use flow_edges::Flow;
+use flow_templates::{RowFault, Template};
+use lang_tree::Program;
 use top_status::TextCause;
 
 // How many cells the largest joint problem may have.

@@ -1,17 +1,17 @@
 //! The template of a domain or of a file of rows.
 
 ghost use Rattle.std.specs.Prelude.{◌≡◌, ◌≤◌, ◌≢◌, IfOk, IfErr, Ok, Err, length};
-ghost use Rattle.tm_rows.specs.declared.fault.RowFault.TheVariants.{NoMemory};
-ghost use Rattle.tm_rows.specs.Rows.{width_of};
+ghost use Rattle.flow_templates.specs.declared.fault.RowFault.TheVariants.{NoMemory};
+ghost use Rattle.flow_templates.specs.Rows.{width_of};
 ghost use Rattle.top_texts.specs.Short.{HasShortRows};
 ghost use Rattle.top_texts.specs.Parted.{domain_of};
 ghost use Rattle.top_texts.specs.Texts.{HasTemplate};
-ghost use Rattle.tm_tree.specs.declared.limits.TheConstants.{MOST_VARIABLES};
+ghost use Rattle.lang_tree.specs.declared.limits.TheConstants.{MOST_VARIABLES};
 
 use std::alloc::Global;
-use tm_cli::Domain;
-use tm_rows::{RowFault, Template, intervals, octagons, read_rows, zones};
-use tm_tree::Name;
+use ask_words::Domain;
+use flow_templates::{RowFault, Template, intervals, octagons, read_rows, zones};
+use lang_tree::Name;
 
 // The template over these variables.
 pub(crate) fn template_of(

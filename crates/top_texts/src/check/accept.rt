@@ -2,16 +2,16 @@
 
 ghost use Rattle.std.specs.Prelude.{◌≡◌, ◌*◌, ◌≤◌, ◌<◌, ◌^◌, ℕ, List, IfOk, IfErr, IsTrue, None, Some, length};
 ghost use Rattle.std.specs.List.{list_all};
-ghost use Rattle.tm_flow.specs.Edges.{edges_of_program};
-ghost use Rattle.tm_flow.specs.Points.{points_of_program};
-ghost use Rattle.tm_eqsys.specs.Equations.{Equations, Least};
-ghost use Rattle.tm_eqsys.specs.View.{equations_of};
-ghost use Rattle.tm_validity.specs.Certificates.{Certificate, ValidCertificate, bounds_vector};
-ghost use Rattle.tm_compose.specs.Composed.{AreComposed};
-ghost use Rattle.tm_compose.specs.Operations.{wide_composition};
-ghost use Rattle.tm_check.specs.CheckEvents.{check_events};
-ghost use Rattle.tm_check.specs.Events.{first_stop};
-ghost use Rattle.tm_check.specs.Items.{is_short};
+ghost use Rattle.flow_edges.specs.Edges.{edges_of_program};
+ghost use Rattle.flow_edges.specs.Points.{points_of_program};
+ghost use Rattle.flow_systems.specs.Equations.{Equations, Least};
+ghost use Rattle.flow_systems.specs.View.{equations_of};
+ghost use Rattle.theory_validity.specs.Certificates.{Certificate, ValidCertificate, bounds_vector};
+ghost use Rattle.solve_composition.specs.Composed.{AreComposed};
+ghost use Rattle.solve_composition.specs.Operations.{wide_composition};
+ghost use Rattle.cert_checker.specs.CheckEvents.{check_events};
+ghost use Rattle.cert_checker.specs.Events.{first_stop};
+ghost use Rattle.cert_checker.specs.Items.{is_short};
 ghost use Rattle.top_texts.specs.Checks.{IsSpelt, NoneIsWide, theirs};
 ghost use Rattle.top_texts.specs.Parted.{GetsNoReport, IsUnaccepted};
 ghost use Rattle.top_texts.specs.Reports.{IsReportBy};
@@ -19,13 +19,13 @@ ghost use Rattle.top_texts.specs.Reports.{IsReportBy};
 use super::certificate::{is_countable, system_of};
 use crate::refusal::Refusal;
 use std::alloc::Global;
-use tm_cert::Cert;
-use tm_check::{CheckFault, Scratch, check};
-use tm_eqsys::{Footer, System};
-use tm_flow::Flow;
-use tm_oper::{PathFault, Paths, compose_all};
-use tm_report::report;
-use tm_tree::Program;
+use cert_types::Cert;
+use cert_checker::{CheckFault, Scratch, check};
+use flow_systems::{Footer, System};
+use flow_edges::Flow;
+use solve_transformer::{PathFault, Paths, compose_all};
+use out_report::report;
+use lang_tree::Program;
 use top_status::CertCause;
 
 // The composed edges of a system.

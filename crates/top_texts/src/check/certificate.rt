@@ -3,14 +3,14 @@
 
 ghost use Rattle.std.specs.Prelude.{◌≡◌, ◌*◌, ◌≤◌, ◌<◌, ◌^◌, ◌≢◌, ◌&&◌, ℕ, List, [], IfOk, IfErr, IsTrue, Ok, Err, Some, length, slice_get, nat_lt};
 ghost use Rattle.std.specs.List.{list_all};
-ghost use Rattle.tm_tree.specs.Tree.{Statements};
-ghost use Rattle.tm_flow.specs.Edges.{edges_of_program};
-ghost use Rattle.tm_flow.specs.Points.{points_of_program};
-ghost use Rattle.tm_rows.specs.RowFaults.{faults_of};
-ghost use Rattle.tm_rows.specs.declared.fault.RowFault.TheVariants.{NoMemory};
-ghost use Rattle.tm_eqsys.specs.SystemLimits.{is_over};
-ghost use Rattle.tm_cert.specs.declared.cert.Cert.{Cert as CertValue};
-ghost use Rattle.tm_check.specs.Items.{is_short, item_count};
+ghost use Rattle.lang_tree.specs.Tree.{Statements};
+ghost use Rattle.flow_edges.specs.Edges.{edges_of_program};
+ghost use Rattle.flow_edges.specs.Points.{points_of_program};
+ghost use Rattle.flow_templates.specs.RowFaults.{faults_of};
+ghost use Rattle.flow_templates.specs.declared.fault.RowFault.TheVariants.{NoMemory};
+ghost use Rattle.flow_systems.specs.SystemLimits.{is_over};
+ghost use Rattle.cert_types.specs.declared.cert.Cert.{Cert as CertValue};
+ghost use Rattle.cert_checker.specs.Items.{is_short, item_count};
 ghost use Rattle.top_texts.specs.Checks.{IsSpelt};
 ghost use Rattle.top_texts.specs.Parted.{FitsProgram, IsNoSystem, IsUnspelt};
 
@@ -18,11 +18,11 @@ use crate::form::cert_of;
 use crate::program::{flow_of, program_of};
 use crate::refusal::Refusal;
 use std::alloc::Global;
-use tm_cert::{Cert, Step};
-use tm_eqsys::{System, SystemFault};
-use tm_flow::Flow;
-use tm_rows::{RowFault, Template, from_rows};
-use tm_tree::Program;
+use cert_types::{Cert, Step};
+use flow_systems::{System, SystemFault};
+use flow_edges::Flow;
+use flow_templates::{RowFault, Template, from_rows};
+use lang_tree::Program;
 use top_status::CertCause;
 
 /// A program with its points and edges, and a certificate.

@@ -1,4 +1,4 @@
-use Rattle.tm_gram.specs.View.{tokens_of}
+use Rattle.lang_grammar.specs.View.{tokens_of}
 use Rattle.lang_feed.proofs.counts.WholeTexts.{ends_well}
 use Rattle.lang_feed.proofs.texts.Programs.{some_meaning}
 use Rattle.lang_feed.proofs.laws.every_text_means.Goals as goal

@@ -1,7 +1,7 @@
 use Rattle.std.proofs.Common.{◌≡◌, ◌∙◌, Result, Ok, Err, List, ℤ, sym, ap₂, replicate, pos, FitsSigned, w64, rules}
 use Rattle.std.proofs.lemmas.Int.{to_z-of_z}
 use mir.Syntax.{w128}
-use Rattle.tm_tree.specs.declared.form.Form.{Form}
+use Rattle.lang_tree.specs.declared.form.Form.{Form}
 use Rattle.lang_meaning.specs.declared.fault.ParseFault.{ParseFault}
 use Rattle.lang_meaning.specs.Walk.{ranged_number}
 use Rattle.lang_meaning.proofs.results.Binds.{then_ok, then_err, handed_on}

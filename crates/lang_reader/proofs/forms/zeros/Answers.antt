@@ -1,5 +1,5 @@
 use Rattle.std.proofs.Common.{rules, sym, subst, IsTrue, List, ℤ, ◌≡◌, replicate, pos}
-use Rattle.tm_tree.specs.Numbers.{are_numbers}
+use Rattle.lang_tree.specs.Numbers.{are_numbers}
 use Rattle.lang_meaning.proofs.forms.Ranges.{zeros_fit}
 use Rattle.lang_reader.proofs.forms.zeros.Goals as goal
 

@@ -1,5 +1,5 @@
 use Rattle.std.proofs.Common.{ap, ◌∙◌}
-use Rattle.tm_tree.specs.View.{statements_of}
+use Rattle.lang_tree.specs.View.{statements_of}
 use Rattle.lang_reader.proofs.nodes.Appended.{statements_append}
 use Rattle.lang_reader.proofs.nodes.followed.Goals as goal
 

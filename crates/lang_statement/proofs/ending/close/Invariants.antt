@@ -1,6 +1,6 @@
 use Rattle.std.proofs.Common.{◌≡◌, length}
-use Rattle.tm_lex.specs.Lines.{line_at}
-use Rattle.tm_tree.specs.View.{statements_of}
+use Rattle.lang_tokens.specs.Lines.{line_at}
+use Rattle.lang_tree.specs.View.{statements_of}
 use Rattle.lang_meaning.specs.Feed.{close}
 use Rattle.lang_reader.specs.Frames.{frames_of}
 use Rattle.lang_reader.specs.Views.{state_of}

@@ -1,5 +1,5 @@
 use Rattle.std.proofs.Common.{rules}
-use Rattle.tm_cli.specs.declared.request.Purpose.TheVariants.{Certificate}
+use Rattle.ask_words.specs.declared.request.Purpose.TheVariants.{Certificate}
 use Rattle.top_texts.specs.Exact.{exact}
 use Rattle.top_texts.specs.Parted.{IsUnanswered, domain_of}
 use Rattle.top_texts.specs.Questions.{analysis_question}

@@ -1,11 +1,11 @@
 use Rattle.std.proofs.Common.{◌≡◌, ◌∙◌, ◌≤◌, ap, arith, length, rules, subst, sym}
-use Rattle.tm_workload.specs.Texts.{generated_text}
-use Rattle.tm_cli.specs.declared.request.Domain.TheVariants.{Intervals}
+use Rattle.out_workload.specs.Texts.{generated_text}
+use Rattle.ask_words.specs.declared.request.Domain.TheVariants.{Intervals}
 use Rattle.top_texts.specs.Exact.{exact}
 use Rattle.top_texts.specs.Parted.{IsRefusedBy, IsUnanswered}
 use Rattle.top_texts.specs.Questions.{bench_question}
 use Rattle.top_texts.specs.Texts.{IsSolvedSystem}
-use Rattle.tm_cli.specs.declared.request.Purpose.TheVariants.{Report}
+use Rattle.ask_words.specs.declared.request.Purpose.TheVariants.{Report}
 use Rattle.top_texts.proofs.bench.Generated.{summed, unended, unread}
 use Rattle.top_texts.proofs.bench.bench_text.Goals as goal
 

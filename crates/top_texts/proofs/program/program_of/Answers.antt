@@ -1,5 +1,5 @@
 use Rattle.std.proofs.Common.{ap, subst, subst₂}
-use Rattle.tm_gram.specs.View.{tokens_of}
+use Rattle.lang_grammar.specs.View.{tokens_of}
 use Rattle.lang_meaning.specs.Meaning.{Means}
 use Rattle.top_texts.proofs.program.program_of.Goals as goal
 

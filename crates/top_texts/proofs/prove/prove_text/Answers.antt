@@ -1,10 +1,10 @@
 use Rattle.std.proofs.Common.{◌≡◌, ℕ, List, rules, subst}
-use Rattle.tm_eqsys.specs.View.{equations_of, vector_at}
-use Rattle.tm_assert.specs.AllVerdicts.{AreVerdicts}
-use Rattle.tm_assert.specs.Lines.{verdicts_text}
-use Rattle.tm_assert.specs.declared.claim.Claim.{Claim}
-use Rattle.tm_assert.specs.declared.outcome.Verdict.{Verdict}
-use Rattle.tm_cli.specs.declared.request.Purpose.TheVariants.{Report}
+use Rattle.flow_systems.specs.View.{equations_of, vector_at}
+use Rattle.ask_claims.specs.AllVerdicts.{AreVerdicts}
+use Rattle.ask_claims.specs.Lines.{verdicts_text}
+use Rattle.ask_claims.specs.declared.claim.Claim.{Claim}
+use Rattle.ask_claims.specs.declared.outcome.Verdict.{Verdict}
+use Rattle.ask_words.specs.declared.request.Purpose.TheVariants.{Report}
 use Rattle.top_texts.specs.Exact.{exact}
 use Rattle.top_texts.specs.Parted.{AreUnjudged, IsUnanswered, domain_of}
 use Rattle.top_texts.specs.Questions.{claims_question}

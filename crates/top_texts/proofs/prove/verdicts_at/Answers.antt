@@ -1,4 +1,4 @@
-use Rattle.tm_eqsys.specs.View.{equations_of, vector_at}
+use Rattle.flow_systems.specs.View.{equations_of, vector_at}
 use Rattle.top_texts.proofs.prove.verdicts_at.Goals as goal
 
 pub returns-in-Err-clause-err : goal.returns-in-Err-clause-err

@@ -1,6 +1,6 @@
 use Rattle.std.proofs.Common.{rules}
 use Rattle.top_texts.specs.Parted.{IsHalted}
-use Rattle.tm_cli.specs.declared.request.Purpose.TheVariants.{Certificate}
+use Rattle.ask_words.specs.declared.request.Purpose.TheVariants.{Certificate}
 use Rattle.top_texts.proofs.analyse.Made.{made_certified, made_halts, made_short}
 use Rattle.top_texts.proofs.analyse.certify.certificate_of.Goals as goal
 

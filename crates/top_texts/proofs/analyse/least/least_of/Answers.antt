@@ -1,6 +1,6 @@
 use Rattle.std.proofs.Common.{◌∙◌, ap, length, refl}
 use Rattle.std.specs.Prelude.{List, ℤ}
-use Rattle.tm_cli.specs.declared.request.Purpose.TheVariants.{Report}
+use Rattle.ask_words.specs.declared.request.Purpose.TheVariants.{Report}
 use Rattle.top_status.specs.CheckMessages.{rows_of}
 use Rattle.top_texts.proofs.analyses.Analysed.{halted_answer}
 use Rattle.top_texts.proofs.analyses.Found.{refused_unput, solved_by}

@@ -1,6 +1,6 @@
 use Rattle.std.proofs.Common.{refl, subst, sym}
 use Rattle.std.specs.Prelude.{◌≡◌, length}
-use Rattle.tm_cli.specs.declared.request.Purpose.TheVariants.{Report}
+use Rattle.ask_words.specs.declared.request.Purpose.TheVariants.{Report}
 use Rattle.top_status.specs.CheckMessages.{rows_of}
 use Rattle.top_texts.specs.Parted.{domain_of}
 use Rattle.top_texts.proofs.analyses.Analysed.{refused_answer, refused_rows}

@@ -1,5 +1,5 @@
 use Rattle.std.proofs.Common.{refl, subst}
-use Rattle.tm_rounds.specs.Halts.{IsHalt}
+use Rattle.solve_rounds.specs.Halts.{IsHalt}
 use Rattle.top_texts.specs.Policies.{rule_of}
 use Rattle.top_texts.proofs.analyse.Halted.{runs_out}
 use Rattle.top_texts.proofs.analyse.rounds.halted.Goals as goal

@@ -1,6 +1,6 @@
 use Rattle.std.proofs.Common.{length, subst, ◌∙◌, ap, rules}
 use Rattle.std.specs.Prelude.{Err, IsTrue}
-use Rattle.tm_rows.specs.Rows.{is_template}
+use Rattle.flow_templates.specs.Rows.{is_template}
 use Rattle.top_texts.specs.Parted.{domain_of}
 use Rattle.top_texts.specs.Texts.{HasTemplate}
 use Rattle.top_texts.proofs.analyse.Solved.{template_over}

@@ -1,9 +1,9 @@
 use Rattle.std.proofs.Common.{◌≡◌, length, rules, subst}
 use Rattle.std.specs.Prelude.{Some}
-use Rattle.tm_eqsys.specs.View.{equations_of}
-use Rattle.tm_cert.specs.Certificates.{certificate_of}
-use Rattle.tm_check.specs.CheckEvents.{check_events}
-use Rattle.tm_check.specs.Events.{first_stop}
+use Rattle.flow_systems.specs.View.{equations_of}
+use Rattle.cert_types.specs.Certificates.{certificate_of}
+use Rattle.cert_checker.specs.CheckEvents.{check_events}
+use Rattle.cert_checker.specs.Events.{first_stop}
 use Rattle.top_texts.specs.Checks.{theirs}
 use Rattle.top_texts.specs.Parted.{IsUnaccepted}
 use Rattle.top_texts.proofs.check.accept.accept.Goals as goal

@@ -1,6 +1,6 @@
 use Rattle.std.proofs.Common.{◌≡◌, rules}
-use Rattle.tm_eqsys.specs.declared.spot.Spot.{Spot}
-use Rattle.tm_check.specs.declared.fault.CheckFault.TheVariants as check
+use Rattle.flow_systems.specs.declared.spot.Spot.{Spot}
+use Rattle.cert_checker.specs.declared.fault.CheckFault.TheVariants as check
 use Rattle.top_texts.proofs.checks.Refused.{check_refused}
 use Rattle.top_texts.proofs.check.accept.check_refusal.Goals as goal
 

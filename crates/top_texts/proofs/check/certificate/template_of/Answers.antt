@@ -1,7 +1,7 @@
 use Rattle.std.proofs.Common.{◌≡◌, length, rules, ap, subst₂, ◌∙◌}
 use Rattle.std.specs.Prelude.{IsTrue, Some, slice_get}
-use Rattle.tm_rows.specs.RowFaults.{faults_of}
-use Rattle.tm_rows.specs.Rows.{is_template}
+use Rattle.flow_templates.specs.RowFaults.{faults_of}
+use Rattle.flow_templates.specs.Rows.{is_template}
 use Rattle.top_texts.proofs.analyse.Solved.{template_over}
 use Rattle.top_texts.proofs.check.certificate.template_of.Goals as goal
 

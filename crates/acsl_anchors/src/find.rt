@@ -1,0 +1,30 @@
+//! The anchors of a text.
+
+ghost use Rattle.std.specs.Prelude.{◌≡◌, ◌≤◌, IfOk, length};
+ghost use Rattle.lang_grammar.specs.Grammar.{Program, Reads};
+ghost use Rattle.lang_grammar.specs.View.{tokens_of};
+ghost use Rattle.lang_tokens.specs.TokenLists.{AreTokensOf};
+ghost use Rattle.acsl_anchors.specs.Anchors.{anchors_of};
+ghost use Rattle.acsl_anchors.specs.View.{plain_anchors};
+
+use crate::anchor::Anchor;
+use crate::part::part_seen;
+use crate::search::Search;
+use std::alloc::{AllocError, Global};
+use lang_tokens::Token;
+
+/// The anchors of the program that these tokens of a text read as, in the order of the text: its loops, its labels and its
+/// end (docs/FORMATS.md, "Grammar").
+///
+/// Where the tokens read as no program, the answer says nothing.
+pub fn anchors(alloc: Global, tokens: &[Token], text: &[u8]) -> Result<Vec<Anchor>, AllocError>
+    requires size { length text.now ≤ 65536 }
+    requires tokens { AreTokensOf text.now tokens.now }
+    ensures { (p : Program) → Reads (tokens_of text.now tokens.now) p → IfOk result (λ anchors. anchors.items ≡ plain_anchors (anchors_of p)) }
+{
+    let mut search = Search::new(alloc)?;
+    for token in tokens {
+        search.take(part_seen(token.kind), token.at)?;
+    }
+    Ok(search.into_anchors())
+}

@@ -1,0 +1,214 @@
+//! What has to come next, and what it makes of a token.
+
+ghost use Rattle.std.specs.Prelude.{◌≡◌, ◌<◌};
+ghost use Rattle.acsl_anchors.specs.Machine.{entry, close_entry, else_entry, first_entry, label_next, paren_entry, return_entry, statement_entry};
+
+use crate::part::Part;
+
+/// Where a statement stands.
+#[derive(Clone, Copy)]
+pub enum Place {
+    /// Under an `if`, an `else`, a loop or a label before it.
+    Sub,
+    /// In a block before which so many variables are known.
+    Block(usize),
+    /// In the body of `main`.
+    Main,
+}
+
+/// What has to come.
+#[derive(Clone, Copy)]
+pub enum Goal {
+    /// All that stands before the statements of `main`.
+    Front,
+    Statement(Place),
+    /// What follows the name, which begins at this byte, that a statement begins with.
+    AfterName(Place, u32),
+    MaybeElse,
+    /// All up to a `;`.
+    Rest,
+    /// What follows a declared name, up to the `;`.
+    Declared,
+    /// The parenthesis of a condition, and what it holds.
+    Condition,
+    /// All up to the parenthesis that closes.
+    Paren,
+    /// The parts of the head of the `for` that begins at this byte.
+    First(u32),
+    Test(u32),
+    /// Nothing: no more than so many variables are known from here on.
+    Known(usize),
+}
+
+/// What a token tells besides what has to come.
+#[derive(Clone, Copy)]
+pub enum Effect {
+    Nothing,
+    /// A variable is declared.
+    Declares,
+    /// An anchor, by the byte at which it begins.
+    Loop(u32),
+    /// The same, and the byte of its colon.
+    Label(u32, u32),
+    End(u32),
+}
+
+/// What has to come, the first first.
+#[derive(Clone, Copy)]
+pub enum Next {
+    Zero,
+    One(Goal),
+    Two(Goal, Goal),
+    Three(Goal, Goal, Goal),
+}
+
+/// What a goal makes of a token.
+#[derive(Clone, Copy)]
+pub enum Entry {
+    /// The token is taken. What is listed has to come next, and then the further statements of the place.
+    Takes(Effect, Next, Place),
+    /// Nothing is wanted, and the token belongs to what comes later.
+    Drops,
+    /// The same, and only the first so many variables are known from here on.
+    Keeps(usize),
+}
+
+// The token is taken, tells nothing, and leaves this to come.
+fn taken(next: Next) -> Entry
+    ensures { result ≡ Entry.Takes Effect.Nothing next Place.Sub }
+{
+    Entry::Takes(Effect::Nothing, next, Place::Sub)
+}
+
+// The `}` at this byte.
+fn close(place: Place, at: u32) -> Entry
+    ensures { result ≡ close_entry place at }
+{
+    match place {
+        Place::Sub => taken(Next::Zero),
+        Place::Block(known) => taken(Next::One(Goal::Known(known))),
+        Place::Main => Entry::Takes(Effect::End(at), Next::Zero, Place::Sub),
+    }
+}
+
+// The `return` at this byte.
+fn finish(place: Place, at: u32) -> Entry
+    ensures { result ≡ return_entry place at }
+{
+    match place {
+        Place::Main => Entry::Takes(Effect::End(at), Next::Zero, Place::Sub),
+        _ => Entry::Takes(Effect::Nothing, Next::One(Goal::Rest), place),
+    }
+}
+
+fn statement(place: Place, part: Part, at: u32, known: usize) -> Entry
+    ensures { result ≡ statement_entry place part at known }
+{
+    let body = Goal::Statement(Place::Sub);
+    match part {
+        Part::Name => Entry::Takes(
+            Effect::Nothing,
+            Next::One(Goal::AfterName(place, at)),
+            place,
+        ),
+        Part::Semicolon => Entry::Takes(Effect::Nothing, Next::Zero, place),
+        Part::LeftBrace => {
+            let inner = Goal::Statement(Place::Block(known));
+            Entry::Takes(Effect::Nothing, Next::One(inner), place)
+        }
+        Part::RightBrace => close(place, at),
+        Part::Int => Entry::Takes(Effect::Declares, Next::One(Goal::Declared), place),
+        Part::Return => finish(place, at),
+        Part::If => {
+            let next = Next::Three(Goal::Condition, body, Goal::MaybeElse);
+            Entry::Takes(Effect::Nothing, next, place)
+        }
+        Part::While => Entry::Takes(Effect::Loop(at), Next::Two(Goal::Condition, body), place),
+        Part::Do => Entry::Takes(Effect::Loop(at), Next::Two(body, Goal::Rest), place),
+        Part::For => {
+            let next = Next::Three(Goal::First(at), body, Goal::Known(known));
+            Entry::Takes(Effect::Nothing, next, place)
+        }
+        _ => Entry::Takes(Effect::Nothing, Next::One(Goal::Rest), place),
+    }
+}
+
+// What a label leaves to come.
+fn behind_label(place: Place) -> Next
+    ensures { result ≡ label_next place }
+{
+    match place {
+        Place::Sub => Next::One(Goal::Statement(Place::Sub)),
+        _ => Next::Zero,
+    }
+}
+
+fn first(start: u32, part: Part) -> Entry
+    ensures { result ≡ first_entry start part }
+{
+    match part {
+        Part::LeftParen => taken(Next::One(Goal::First(start))),
+        Part::Semicolon => taken(Next::One(Goal::Test(start))),
+        Part::Int => {
+            let next = Next::Two(Goal::Declared, Goal::Test(start));
+            Entry::Takes(Effect::Declares, next, Place::Sub)
+        }
+        _ => taken(Next::Two(Goal::Rest, Goal::Test(start))),
+    }
+}
+
+fn paren(part: Part) -> Entry
+    ensures { result ≡ paren_entry part }
+{
+    match part {
+        Part::LeftParen => taken(Next::Two(Goal::Paren, Goal::Paren)),
+        Part::RightParen => taken(Next::Zero),
+        _ => taken(Next::One(Goal::Paren)),
+    }
+}
+
+fn maybe_else(part: Part) -> Entry
+    ensures { result ≡ else_entry part }
+{
+    match part {
+        Part::Else => taken(Next::One(Goal::Statement(Place::Sub))),
+        _ => Entry::Drops,
+    }
+}
+
+/// What the goal makes of the token at this byte, where so many variables are known.
+pub fn enter(goal: Goal, part: Part, at: u32, known: usize) -> Entry
+    ensures { result ≡ entry goal part at known }
+{
+    match (goal, part) {
+        (Goal::Front, Part::LeftBrace) => taken(Next::One(Goal::Statement(Place::Main))),
+        (Goal::Front, _) => taken(Next::One(Goal::Front)),
+        (Goal::Statement(place), _) => statement(place, part, at, known),
+        (Goal::AfterName(place, name), Part::Colon) => Entry::Takes(
+            Effect::Label(name, at),
+            behind_label(place),
+            Place::Sub,
+        ),
+        (Goal::AfterName(_, _), _) => taken(Next::One(Goal::Rest)),
+        (Goal::MaybeElse, _) => maybe_else(part),
+        (Goal::Rest, Part::Semicolon) => taken(Next::Zero),
+        (Goal::Rest, _) => taken(Next::One(Goal::Rest)),
+        (Goal::Declared, Part::Semicolon) => taken(Next::Zero),
+        (Goal::Declared, Part::Comma) => Entry::Takes(
+            Effect::Declares,
+            Next::One(Goal::Declared),
+            Place::Sub,
+        ),
+        (Goal::Declared, _) => taken(Next::One(Goal::Declared)),
+        (Goal::Condition, _) => taken(Next::One(Goal::Paren)),
+        (Goal::Paren, _) => paren(part),
+        (Goal::First(start), _) => first(start, part),
+        (Goal::Test(start), Part::Semicolon) => Entry::Takes(
+            Effect::Loop(start),
+            Next::One(Goal::Paren),
+            Place::Sub,
+        ),
+        (Goal::Test(start), _) => taken(Next::One(Goal::Test(start))),
+        (Goal::Known(before), _) => Entry::Keeps(before),
+    }
+}

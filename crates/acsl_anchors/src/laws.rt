@@ -1,0 +1,18 @@
+//! Laws of the definitions, each the contract of a function that does nothing.
+
+ghost use Rattle.acsl_anchors.specs.Laws.{AnchorsArePoints, AnchorsStand, ScopesAreWalked};
+
+/// The anchors of a program are its points that have one, in their order, each with what it is, its line and its name.
+pub fn anchors_are_points()
+    ensures { AnchorsArePoints }
+{}
+
+/// The anchors of a program stand in its text in order, each where a token begins or ends.
+pub fn anchors_stand()
+    ensures { AnchorsStand }
+{}
+
+/// What is known behind statements is what the language's rule on names says there.
+pub fn scopes_are_walked()
+    ensures { ScopesAreWalked }
+{}

@@ -1,0 +1,47 @@
+//! The words, as those of `solve`.
+
+ghost use Rattle.std.specs.Prelude.{◌≡◌, ◌∷◌, IfOk, IsErrOf, None, Some, map, string_bytes};
+ghost use Rattle.ask_words.specs.Request.{analysis_text, request_of};
+ghost use Rattle.ask_words.specs.declared.request.Purpose.TheVariants.{Report};
+ghost use Rattle.ask_words.specs.declared.request.Request.TheVariants.{Analyse};
+ghost use Rattle.acsl_annotate.specs.Words.{IsSolve, as_solve};
+
+use std::alloc::{AllocError, Global};
+use ask_words::laws::solve_reports;
+use ask_words::{Analysis, Purpose, Request, WordsFault, read_words};
+
+// The words with `solve` before them.
+pub(crate) fn solve_words(alloc: Global, words: &[String]) -> Result<Vec<String>, AllocError>
+    ensures { IfOk result (λ all. map string_bytes all.items ≡ as_solve (map string_bytes words.now)) }
+{
+    let mut all = Vec::new(alloc);
+    all.push(String::from_str(alloc, "solve")?)?;
+    for word in words {
+        all.push(String::from_str(alloc, word)?)?;
+    }
+    Ok(all)
+}
+
+// What words that begin with `solve` ask for.
+pub(crate) fn read_analysis<'a>(
+    alloc: Global,
+    words: &'a [String],
+) -> Result<Analysis<&'a str>, WordsFault>
+    requires { IsSolve (map string_bytes words.now) }
+    ensures ok { IfOk result (λ analysis.
+        request_of (map string_bytes words.entry.now) ≡ Some (Analyse Report (analysis_text analysis))) }
+    ensures usage { IsErrOf result WordsFault.Usage → request_of (map string_bytes words.entry.now) ≡ None }
+{
+    solve_reports();
+    match read_words(alloc, words) {
+        Ok(
+            Request::Analyse {
+                purpose: Purpose::Report,
+                analysis,
+            },
+        ) => Ok(analysis),
+        // `solve` asks for nothing else.
+        Ok(_) => Err(WordsFault::Usage),
+        Err(fault) => Err(fault),
+    }
+}

@@ -1,0 +1,51 @@
+-- What stands in a gap: blanks and comments, and no token.
+use Rattle.std.proofs.Common.{◌≡◌, ◌-◌, ◌⊎◌, inl, inr, ℕ, true, List, [], ◌∷◌, ◌++◌, take, drop, refl, ap, ◌∙◌, subst}
+use Rattle.std.proofs.lemmas.List.{append_assoc, take-append-drop}
+use Rattle.std.proofs.lemmas.Bool.{or_left}
+use Rattle.std.specs.List.{AllByRecursion}
+use Rattle.lang_tokens.specs.Bytes.{is_blank}
+use Rattle.lang_tokens.specs.Reading.{Piece, blank, line_comment, block_comment, token, spelling, AllFit, tokens_from}
+use Rattle.lang_tokens.proofs.lexemes.Heads.{heads}
+use Rattle.acsl_comments.specs.Places.{IsGap}
+use Rattle.acsl_comments.specs.Texts.{with_comments}
+use Rattle.acsl_comments.specs.declared.comment.Comment.{Comment}
+use Rattle.acsl_comments.proofs.pieces.Plain.{starts_gap}
+use Rattle.acsl_comments.proofs.pieces.Rests.{Meets}
+
+-- what follows doesn't change the first byte
+heads_more : (xs ys : List ℕ) → heads starts_gap xs ≡ true → heads starts_gap (xs ++ ys) ≡ true
+heads_more [] ys h = cc
+heads_more (x ∷ xs) ys h = h
+
+-- the same of its pieces
+gap_pieces_start : (pieces : List Piece) → tokens_from 0 pieces ≡ [] → AllFit pieces [] → (spelling pieces ≡ []) ⊎ (heads starts_gap (spelling pieces) ≡ true)
+gap_pieces_start [] e fit = inl refl
+gap_pieces_start (blank b ∷ pieces) e fit = inr (or_left (is_blank b) _ fit.0)
+gap_pieces_start (line_comment body ∷ pieces) e fit = inr refl
+gap_pieces_start (block_comment body ∷ pieces) e fit = inr refl
+gap_pieces_start (token kind bytes ∷ pieces) e fit = cc
+
+-- a gap is empty, or starts as blanks and comments do
+gap_starts : (bytes : List ℕ) → IsGap bytes → (bytes ≡ []) ⊎ (heads starts_gap bytes ≡ true)
+gap_starts bytes gap = subst (λ (bs : List ℕ). (bs ≡ []) ⊎ (heads starts_gap bs ≡ true)) gap.spelled (gap_pieces_start gap.pieces (gap.tokenless 0) (gap.fit []))
+
+-- what stands before both rests
+meets_behind : (n : ℕ) (rest now : List ℕ) → Meets (drop n rest) now → Meets rest (take n rest ++ now)
+meets_behind n rest now meets = record {
+  front = take n rest ++ meets.front;
+  before = meets.before;
+  after = meets.after;
+  was = append_assoc (take n rest) meets.front meets.before ∙ (ap (λ (bs : List ℕ). take n rest ++ bs) meets.was ∙ take-append-drop n rest);
+  is = append_assoc (take n rest) meets.front meets.after ∙ ap (λ (bs : List ℕ). take n rest ++ bs) meets.is;
+  on = meets.on;
+}
+
+-- a gap before the second rest
+meets_gap : (rest bytes now : List ℕ) → (bytes ≡ []) ⊎ (heads starts_gap bytes ≡ true) → Meets rest now → Meets rest (bytes ++ now)
+meets_gap rest bytes now (inl e) meets = rw e meets
+meets_gap rest bytes now (inr h) meets = record { front = []; before = rest; after = bytes ++ now; was = refl; is = refl; on = inr (heads_more bytes now h) }
+
+-- what is written begins as the text does, and goes on alike or with a gap
+pub meets_comments : (at : ℕ) (rest : List ℕ) (comments : List Comment) → AllByRecursion (λ c. IsGap c.bytes) comments → Meets rest (with_comments at rest comments)
+meets_comments at rest [] gaps = record { front = []; before = rest; after = rest; was = refl; is = refl; on = inl refl }
+meets_comments at rest (c ∷ cs) gaps = meets_behind (c.place - at) rest _ (meets_gap (drop (c.place - at) rest) c.bytes _ (gap_starts c.bytes gaps.0) (meets_comments c.place (drop (c.place - at) rest) cs gaps.1))

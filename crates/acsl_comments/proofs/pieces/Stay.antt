@@ -1,0 +1,106 @@
+-- The tokens of a text stay when comments are put in.
+use Rattle.std.proofs.Common.{◌≡◌, inr, ℕ, false, List, [], ◌∷◌, ◌++◌, length, map, refl, ap, ap₂, sym, ◌∙◌, subst₂, arith}
+use Rattle.std.proofs.lemmas.List.{append-nil, map-append}
+use Rattle.std.proofs.lemmas.List.Elements.{recursion_from_All, All-weaker}
+use Rattle.std.specs.List.{AllByRecursion}
+use Rattle.lang_tokens.specs.declared.token.Token.{Token}
+use Rattle.lang_tokens.specs.Reading.{Piece, spelling, AllFit, tokens_from, end_at, Reads}
+use Rattle.lang_grammar.specs.Grammar as g
+use Rattle.lang_grammar.specs.View.{token_of, tokens_of}
+use Rattle.acsl_shift.specs.Moves.{move, moved}
+use Rattle.acsl_comments.specs.Law.{TokensStay, ReadsWith, token_moved_by}
+use Rattle.acsl_comments.specs.Places.{IsEdge, IsGap, MayStand}
+use Rattle.acsl_comments.specs.Texts.{moved_by}
+use Rattle.acsl_comments.specs.declared.comment.Comment.{Comment}
+use Rattle.acsl_comments.proofs.pieces.Edges.{MayHold, edge_in}
+use Rattle.acsl_comments.proofs.pieces.Places.{length-with_comments}
+use Rattle.acsl_comments.proofs.pieces.Placed.{Placed, place_at, placed_from, lexed, parsed, tokens_lexed, tokens_parsed}
+use Rattle.acsl_comments.proofs.pieces.Steps.{Mixed}
+use Rattle.acsl_comments.proofs.pieces.Whole.{mixed_from}
+
+-- all tokens of pieces, with the end of their text
+abbrev all_tokens : List Piece → List Token
+all_tokens pieces = tokens_from 0 pieces ++ end_at (length (spelling pieces)) ∷ []
+
+-- the same as the grammar sees them
+abbrev all_parsed : List Piece → List g.Token
+all_parsed pieces = map parsed (placed_from 0 pieces) ++ g.token g.the_end (length (spelling pieces)) ∷ []
+
+-- tokens at other places, as the lexer sees them
+lexed_moved : (comments : List Comment) (ps : List Placed) → map lexed (map (place_at (moved_by comments)) ps) ≡ map (token_moved_by comments) (map lexed ps)
+lexed_moved comments [] = refl
+lexed_moved comments (p ∷ ps) = ap (λ (ts : List Token). token_moved_by comments (lexed p) ∷ ts) (lexed_moved comments ps)
+
+-- tokens at other places, as the grammar sees them
+parsed_moved : (comments : List Comment) (ps : List Placed) → map parsed (map (place_at (moved_by comments)) ps) ≡ moved (moved_by comments) (map parsed ps)
+parsed_moved comments [] = refl
+parsed_moved comments (p ∷ ps) = ap (λ (ts : List g.Token). move (moved_by comments) (parsed p) ∷ ts) (parsed_moved comments ps)
+
+-- what the tokens are to the grammar
+all_tokens_parsed : (pieces : List Piece) → tokens_of (spelling pieces) (all_tokens pieces) ≡ all_parsed pieces
+all_tokens_parsed pieces =
+    let text = spelling pieces in
+    let first : tokens_of text (tokens_from 0 pieces) ≡ map parsed (placed_from 0 pieces) = ap (tokens_of text) (tokens_lexed 0 pieces) ∙ tokens_parsed text [] 0 pieces refl refl in
+    map-append (token_of text) (tokens_from 0 pieces) (end_at (length text) ∷ []) ∙ ap (λ (ts : List g.Token). ts ++ g.token g.the_end (length text) ∷ []) first
+
+module _ (pieces : List Piece) (comments : List Comment) (fit : AllFit pieces []) (stand : MayStand (spelling pieces) (all_tokens pieces) comments) where
+  -- each comment may stand among the pieces
+  held : AllByRecursion (λ c. MayHold false 0 pieces c.place) comments
+  held = recursion_from_All (λ c. MayHold false 0 pieces c.place) comments
+      (All-weaker (λ c. IsEdge (all_tokens pieces) c.place) (λ c. MayHold false 0 pieces c.place) (λ c edge. inr (edge_in pieces (length (spelling pieces)) c.place edge)) comments stand.edges)
+
+  -- the pieces with the comments put in
+  mixed : Mixed 0 pieces comments
+  mixed = mixed_from false 0 (length (spelling pieces)) pieces fit (omega arith) comments (record {
+    order = stand.order;
+    held = held;
+    gaps = recursion_from_All (λ c. IsGap c.bytes) comments stand.gaps;
+  })
+
+  -- their tokens
+  told : placed_from 0 mixed.now ≡ map (place_at (moved_by comments)) (placed_from 0 pieces)
+  told = mixed.told 0 (moved_by comments) (λ place h. omega arith)
+
+  -- where they end
+  end_moved : length (spelling mixed.now) ≡ moved_by comments (length (spelling pieces))
+  end_moved = omega (arith, ap length mixed.spelled, length-with_comments 0 (length (spelling pieces)) (spelling pieces) comments stand.order (omega arith))
+
+  -- the lexer's tokens are those of the text, moved
+  tokens_moved : all_tokens mixed.now ≡ map (token_moved_by comments) (all_tokens pieces)
+  tokens_moved =
+      let front : tokens_from 0 mixed.now ≡ map (token_moved_by comments) (tokens_from 0 pieces) =
+      tokens_lexed 0 mixed.now ∙ (ap (map lexed) told ∙ (lexed_moved comments (placed_from 0 pieces) ∙ ap (map (token_moved_by comments)) (sym (tokens_lexed 0 pieces)))) in
+      ap₂ (λ (ts : List Token) (n : ℕ). ts ++ end_at n ∷ []) front end_moved ∙ sym (map-append (token_moved_by comments) (tokens_from 0 pieces) (end_at (length (spelling pieces)) ∷ []))
+
+  -- and so are the grammar's
+  parsed_too : all_parsed mixed.now ≡ moved (moved_by comments) (all_parsed pieces)
+  parsed_too =
+      let front : map parsed (placed_from 0 mixed.now) ≡ moved (moved_by comments) (map parsed (placed_from 0 pieces)) = ap (map parsed) told ∙ parsed_moved comments (placed_from 0 pieces) in
+      ap₂ (λ (ts : List g.Token) (n : ℕ). ts ++ g.token g.the_end n ∷ []) front end_moved ∙ sym (map-append (move (moved_by comments)) (map parsed (placed_from 0 pieces)) (g.token g.the_end (length (spelling pieces)) ∷ []))
+
+  -- they read as their tokens
+  reads_now : Reads (spelling mixed.now) (all_tokens mixed.now)
+  reads_now = record {
+    front = tokens_from 0 mixed.now;
+    whole = record { pieces = mixed.now; spelled = append-nil (spelling mixed.now); fit = mixed.fit; place = refl; told = refl };
+    told = refl;
+  }
+
+  -- the text of the pieces has the tokens that were there before, moved
+  same_now : tokens_of (spelling mixed.now) (all_tokens mixed.now) ≡ moved (moved_by comments) (tokens_of (spelling pieces) (all_tokens pieces))
+  same_now = all_tokens_parsed mixed.now ∙ (parsed_too ∙ ap (moved (moved_by comments)) (sym (all_tokens_parsed pieces)))
+
+  -- the tokens of a text that is given by its pieces stay
+  stay_spelled : ReadsWith (spelling pieces) (all_tokens pieces) comments
+  stay_spelled = record {
+    reads = subst₂ Reads mixed.spelled tokens_moved reads_now;
+    same = subst₂ (λ (text : List ℕ) (tokens : List Token). tokens_of text tokens ≡ moved (moved_by comments) (tokens_of (spelling pieces) (all_tokens pieces))) mixed.spelled tokens_moved same_now;
+  }
+
+-- The tokens of a text stay.
+pub stay : TokensStay
+stay text tokens comments reads stand =
+    let pieces = reads.whole.pieces in
+    let spelled : spelling pieces ≡ text = sym (append-nil (spelling pieces)) ∙ reads.whole.spelled in
+    let all : all_tokens pieces ≡ tokens = ap₂ (λ (ts : List Token) (n : ℕ). ts ++ end_at n ∷ []) reads.whole.told (ap length spelled) ∙ reads.told in
+    subst₂ (λ (text : List ℕ) (tokens : List Token). MayStand text tokens comments → ReadsWith text tokens comments) spelled all (stay_spelled pieces comments reads.whole.fit) stand

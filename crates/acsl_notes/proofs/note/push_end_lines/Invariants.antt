@@ -1,0 +1,9 @@
+use Rattle.std.proofs.Common.{◌≡◌, ◌++◌, Some, drop}
+use Rattle.acsl_notes.specs.Texts.{end_comment}
+use Rattle.acsl_notes.specs.View.{clauses_of_said}
+use Rattle.acsl_notes.proofs.note.push_end_lines.Given as goal
+
+abbrev pub invariant-loop-clause : goal.invariant-loop-clause
+invariant-loop-clause l =
+    l.text.items ++ end_comment l.names (Some l.blanks) (clauses_of_said l.rows (drop l.clause-index l.said))
+    ≡ l.initial.text.items ++ end_comment l.names (Some l.blanks) (clauses_of_said l.rows l.said)

@@ -1,0 +1,43 @@
+-- Tokens at other places, and statements without their lines.
+use Rattle.std.specs.Prelude.{ℕ, List, map}
+use Rattle.lang_grammar.specs.Grammar.{Token, token}
+use Rattle.lang_tree.specs.declared.change.Change.{Change}
+use Rattle.lang_tree.specs.declared.change.Change.TheVariants as change
+use Rattle.lang_tree.specs.Tree.{LoopKind, while_loop, for_loop, do_loop}
+use Rattle.lang_tree.specs.Tree.{Statement, Statements, set, havoc, assume, branch, loop, jump, label, nil, cons}
+
+-- a token at another place
+abbrev pub move : (ℕ → ℕ) → Token → Token
+move to (token kind at) = token kind (to at)
+
+-- tokens, each at another place
+abbrev pub moved : (ℕ → ℕ) → List Token → List Token
+moved to tokens = map (move to) tokens
+
+-- the change of a `for` without its line
+abbrev pub change_without_line : Change → Change
+change_without_line change.Unchanged = change.Unchanged
+change_without_line (change.Set var form line) = change.Set var form 0
+change_without_line (change.Havoc var line) = change.Havoc var 0
+
+-- the kind of a loop without the line of its change
+abbrev pub kind_without_line : LoopKind → LoopKind
+kind_without_line while_loop = while_loop
+kind_without_line (for_loop c) = for_loop (change_without_line c)
+kind_without_line do_loop = do_loop
+
+abbrev mutual
+  -- a statement whose lines are all 0
+  pub without_line : Statement → Statement
+  without_line (set var form line) = set var form 0
+  without_line (havoc var line) = havoc var 0
+  without_line (assume cond line) = assume cond 0
+  without_line (branch cond first second line) = branch cond (without_lines first) (without_lines second) 0
+  without_line (loop kind cond body line) = loop (kind_without_line kind) cond (without_lines body) 0
+  without_line (jump kind line) = jump kind 0
+  without_line (label name line) = label name 0
+
+  -- statements whose lines are all 0: a program but for its lines
+  pub without_lines : Statements → Statements
+  without_lines nil = nil
+  without_lines (cons s rest) = cons (without_line s) (without_lines rest)

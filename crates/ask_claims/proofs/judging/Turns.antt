@@ -1,0 +1,47 @@
+-- The cases that the loop has judged.
+use Rattle.std.proofs.Common.{◌≡◌, ◌∙◌, ℕ, ◌+◌, ◌<◌, List, [], length, get_or, ap, subst, ⊎_elim, below_more, arith}
+use Rattle.std.proofs.lemmas.Bool.{cases_lt}
+use Rattle.std.proofs.lemmas.List.{get_or_default}
+use Rattle.lang_tree.specs.declared.form.Form.{Form}
+use Rattle.flow_systems.specs.States.{RationalState}
+use Rattle.flow_systems.specs.Equations.{Equations, Vector}
+use Rattle.ask_claims.specs.declared.outcome.Verdict.TheVariants.{Proved, Open}
+use Rattle.ask_claims.specs.Breaking.{Breaks, NoneBreaks, NoneOpen}
+use Rattle.ask_claims.specs.Verdicts.{FitsFor, AllFit}
+
+-- no state breaks one of the first i cases, and none of their problems has a wide operation
+pub record IsJudged (system : Equations) (z : Vector) (p : ℕ) (cases : List (List Form)) (i : ℕ) : Type 0 where
+  pub none : NoneOpen system z p cases i
+  pub fit : (k : ℕ) → k < i → FitsFor system z p (get_or cases k [])
+
+-- the case that an element of the list is
+pub case_at : (cases : List (List Form)) (i : ℕ) (item case : List Form) → i < length cases → item ≡ get_or cases i item → case ≡ item → case ≡ get_or cases i []
+case_at cases i item case l e f = f ∙ e ∙ get_or_default cases i item [] l
+
+module _ (system : Equations) (z : Vector) (p : ℕ) (cases : List (List Form)) (i : ℕ) (judged : IsJudged system z p cases i) (case : List Form) (e : case ≡ get_or cases i []) (fit : FitsFor system z p case) where
+  fit_here : FitsFor system z p (get_or cases i [])
+  fit_here = subst (FitsFor system z p) e fit
+
+  -- one case more that no state breaks
+  pub judged_more : NoneBreaks system z p case → IsJudged system z p cases (i + 1)
+  judged_more none = record {
+    none = below_more (λ k. NoneBreaks system z p (get_or cases k [])) i judged.none (subst (NoneBreaks system z p) e none);
+    fit = below_more (λ k. FitsFor system z p (get_or cases k [])) i judged.fit fit_here;
+  }
+
+  -- a case that a state breaks
+  module _ (against : List (List Form)) (same : cases ≡ against) (within : i < length cases) (x : RationalState) (breaks : Breaks system z p case x) where
+    breaks_here : Breaks system z p (get_or against i []) x
+    breaks_here = subst (λ g. Breaks system z p g x) (e ∙ ap (λ (cs : List (List Form)). get_or cs i []) same) breaks
+
+    pub open_somewhere : NoneOpen system z p against (length against) → ⊥
+    open_somewhere none = none i (subst (λ (cs : List (List Form)). i < length cs) same within) x breaks_here
+
+    pub open_fits : AllFit system z p against
+    open_fits k l none =
+        let all = below_more (λ j. FitsFor system z p (get_or cases j [])) i judged.fit fit_here in
+        ⊎_elim (λ past. absurd (none i past x breaks_here)) (λ before. subst (λ (cs : List (List Form)). FitsFor system z p (get_or cs k [])) same (all k (omega (arith, before)))) (cases_lt i k)
+
+-- an open verdict isn't proved
+pub open_apart : (x : RationalState) → Open x ≡ Proved → ⊥
+open_apart x e = cc

@@ -1,0 +1,5 @@
+use Rattle.ask_words.proofs.request.Solve.{reports}
+use Rattle.ask_words.proofs.laws.solve_reports.Goals as goal
+
+pub returns : goal.returns
+returns c = reports

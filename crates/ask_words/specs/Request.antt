@@ -1,0 +1,126 @@
+-- What a list of words asks for.
+use Rattle.std.specs.Prelude.{ℕ, List, [], ◌∷◌, Option, None, codes, option_and_then, option_map, unwrap_or, if◌then◌else◌}
+use Rattle.std.specs.Str.{bytes_eq}
+use Rattle.std.specs.Borrow.{Bor}
+use Rattle.clap.specs.Words.{Kinds, Row, Text, fault_of, first_of, subcommand_of}
+use Rattle.ask_words.specs.CommandLine.{tmpl_app}
+use Rattle.ask_words.specs.Values.{domain_in, meaning_in, number_in, policies}
+use Rattle.ask_words.specs.declared.request.Analysis.{Analysis}
+use Rattle.ask_words.specs.declared.request.Domain.{Domain}
+use Rattle.ask_words.specs.declared.request.Domain.TheVariants.{Intervals, Zones, Octagons, Rows}
+use Rattle.ask_words.specs.declared.request.Request.{Request}
+use Rattle.ask_words.specs.declared.request.Policy.{Policy}
+use Rattle.ask_words.specs.declared.request.Request.TheVariants.{Analyse, Check, Bench, Upgrade, Prove, Transitions, Equations}
+use Rattle.ask_words.specs.declared.request.Purpose.{Purpose}
+use Rattle.ask_words.specs.declared.request.Purpose.TheVariants.{Report, Certificate}
+
+-- ---- the texts of a request that borrows them
+
+-- the domain with its file's name as a text
+abbrev pub domain_text : Domain (Bor Text) → Domain Text
+domain_text Intervals = Intervals
+domain_text Zones = Zones
+domain_text Octagons = Octagons
+domain_text (Rows file) = Rows file.now
+
+-- the analysis with its names as texts
+abbrev pub analysis_text : Analysis (Bor Text) → Analysis Text
+analysis_text a = record {
+  program = a.program.now;
+  domain = domain_text a.domain;
+  improvements = a.improvements;
+  policy = a.policy;
+}
+
+-- the request with its names as texts
+abbrev pub request_text : Request (Bor Text) → Request Text
+request_text (Analyse purpose a) = Analyse purpose (analysis_text a)
+request_text (Check program certificate) = Check program.now certificate.now
+request_text (Bench seed loops) = Bench seed loops
+request_text (Upgrade certificate) = Upgrade certificate.now
+request_text (Prove claims a) = Prove claims.now (analysis_text a)
+request_text (Transitions a) = Transitions (analysis_text a)
+request_text (Equations file improvements policy) = Equations file.now improvements policy
+
+-- ---- commands, by the words and options that were given
+
+-- how many improvements are made at most
+abbrev pub improvements_in : List Row → Option ℕ
+improvements_in given = number_in 0 1000000 (unwrap_or (first_of (codes "improvements") given) (codes "1000"))
+
+-- by which rule an edge is picked
+abbrev pub policy_in : List Row → Option Policy
+policy_in given = meaning_in policies (unwrap_or (first_of (codes "policy") given) (codes "best"))
+
+-- what is analysed, and how
+abbrev pub analysis_in : List Row → Option (Analysis Text)
+analysis_in given =
+    option_and_then (λ program.
+    option_and_then (λ domain.
+    option_and_then (λ improvements.
+    option_map (λ policy. record {
+      program = program;
+      domain = domain;
+      improvements = improvements;
+      policy = policy;
+    }) (policy_in given))
+    (improvements_in given))
+    (domain_in (unwrap_or (first_of (codes "domain") given) (codes "intervals")) (first_of (codes "rows") given)))
+    (first_of (codes "program") given)
+
+-- `solve` and `certify`: an analysis for this purpose
+abbrev pub analyse_in : Purpose → List Row → Option (Request Text)
+analyse_in purpose given = option_map (λ a. Analyse purpose a) (analysis_in given)
+
+-- `check`: a program and a certificate
+abbrev pub check_in : List Row → Option (Request Text)
+check_in given = option_and_then (λ program. option_map (λ certificate. Check program certificate)
+    (first_of (codes "certificate") given)) (first_of (codes "program") given)
+
+-- `bench`: a seed up to 2^31 - 1, and 1 to 46 loops
+abbrev pub bench_in : List Row → Option (Request Text)
+bench_in given = option_and_then (λ seed. option_map (λ loops. Bench seed loops)
+    (option_and_then (number_in 1 46) (first_of (codes "loops") given)))
+    (option_and_then (number_in 0 2147483647) (first_of (codes "seed") given))
+
+-- `upgrade`: a certificate
+abbrev pub upgrade_in : List Row → Option (Request Text)
+upgrade_in given = option_map (λ certificate. Upgrade certificate) (first_of (codes "certificate") given)
+
+-- `prove`: claims and an analysis
+abbrev pub prove_in : List Row → Option (Request Text)
+prove_in given = option_and_then (λ a. option_map (λ claims. Prove claims a) (first_of (codes "claims") given)) (analysis_in given)
+
+-- `transitions`: an analysis of a file of transitions
+abbrev pub transitions_in : List Row → Option (Request Text)
+transitions_in given = option_map (λ a. Transitions a) (analysis_in given)
+
+-- `equations`: a file of equations, how many improvements at most, and by which rule
+abbrev pub equations_in : List Row → Option (Request Text)
+equations_in given =
+    option_and_then (λ file.
+    option_and_then (λ improvements.
+    option_map (λ policy. Equations file improvements policy) (policy_in given))
+    (improvements_in given))
+    (first_of (codes "file") given)
+
+-- the request of a command by its name
+abbrev pub command_in : Text × List Row → Option (Request Text)
+command_in (name, given) = if bytes_eq name (codes "solve") then analyse_in Report given
+    else (if bytes_eq name (codes "certify") then analyse_in Certificate given
+    else (if bytes_eq name (codes "check") then check_in given
+    else (if bytes_eq name (codes "bench") then bench_in given
+    else (if bytes_eq name (codes "upgrade") then upgrade_in given
+    else (if bytes_eq name (codes "prove") then prove_in given
+    else (if bytes_eq name (codes "transitions") then transitions_in given
+    else (if bytes_eq name (codes "equations") then equations_in given else None)))))))
+
+-- what is asked, where `clap` finds no fault
+abbrev pub unless_fault : Kinds → Option (Request Text) → Option (Request Text)
+unless_fault [] asked = asked
+unless_fault (kind ∷ kinds) asked = None
+
+-- the request that the words make: `clap` takes them for the command line, and each value is in form
+unfoldable pub request_of : List Text → Option (Request Text)
+request_of words = unless_fault (fault_of tmpl_app words)
+    (option_and_then command_in (subcommand_of tmpl_app words))

@@ -1,0 +1,35 @@
+-- What the value of an option means.
+use Rattle.std.specs.Prelude.{◌&&◌, ℕ, List, [], ◌∷◌, length, find, Option, Some, None, if◌then◌else◌, nat_le, nat_lt, codes, option_map}
+use Rattle.std.specs.Char.{is_ascii_digit}
+use Rattle.std.specs.List.{list_all}
+use Rattle.std.specs.Str.{bytes_eq}
+use Rattle.std.specs.Str.Parse.{digits_value}
+use Rattle.clap.specs.Words.{Text}
+use Rattle.ask_words.specs.declared.request.Policy.{Policy}
+use Rattle.ask_words.specs.declared.request.Policy.TheVariants.{Best, First}
+use Rattle.ask_words.specs.declared.request.Domain.{Domain}
+use Rattle.ask_words.specs.declared.request.Domain.TheVariants.{Intervals, Zones, Octagons, Rows}
+
+-- one to ten decimal digits whose number lies between `least` and `most`
+abbrev pub number_in : (least most : ℕ) → Text → Option ℕ
+number_in least most text =
+    if nat_lt 0 (length text) && (nat_le (length text) 10 && (list_all is_ascii_digit text
+    && (nat_le least (digits_value 10 text) && nat_le (digits_value 10 text) most)))
+    then Some (digits_value 10 text) else None
+
+-- what a word stands for in a table
+abbrev pub meaning_in : {A : Type 0} → List (Text × A) → Text → Option A
+meaning_in table word = option_map (λ row. row.1) (find (λ row. bytes_eq word row.0) table)
+
+-- the rules by which an edge is picked
+abbrev pub policies : List (Text × Policy)
+policies = (codes "best", Best) ∷ (codes "first", First) ∷ []
+
+-- the domains that need no file
+abbrev pub built_in_domains : List (Text × Domain Text)
+built_in_domains = (codes "intervals", Intervals) ∷ (codes "zones", Zones) ∷ (codes "octagons", Octagons) ∷ []
+
+-- a file of rows is given exactly where the domain is `rows`
+abbrev pub domain_in : Text → (rows : Option Text) → Option (Domain Text)
+domain_in word None = meaning_in built_in_domains word
+domain_in word (Some file) = meaning_in ((codes "rows", Rows file) ∷ []) word

@@ -1,0 +1,79 @@
+//! The values of options. Each is taken as a text and read here.
+
+ghost use Rattle.std.specs.Prelude.{◌≡◌, codes, option_map};
+ghost use Rattle.std.specs.List.{list_all};
+ghost use Rattle.std.specs.Char.{is_ascii_digit};
+ghost use Rattle.ask_words.specs.Request.{domain_text};
+ghost use Rattle.ask_words.specs.Values.{built_in_domains, domain_in, meaning_in, number_in, policies};
+
+use crate::request::{Domain, Policy};
+
+/// The number of one to ten decimal digits, where it lies between `least` and `most`.
+pub(crate) fn number(text: &str, least: u32, most: u32) -> Option<u32>
+    ensures { result ≡ number_in least most text.now }
+{
+    if text.len() > 10 || !is_digits(text) {
+        return None;
+    }
+    match text.parse::<u32>() {
+        Ok(value) => {
+            if least <= value && value <= most {
+                Some(value)
+            } else {
+                None
+            }
+        }
+        Err(_) => None,
+    }
+}
+
+// Whether there are decimal digits and nothing else.
+fn is_digits(text: &str) -> bool
+    ensures { result ≡ list_all is_ascii_digit text.now }
+{
+    text.as_bytes().iter().all(|b| b.is_ascii_digit())
+}
+
+/// The policy of this name.
+pub(crate) fn policy(name: &str) -> Option<Policy>
+    ensures { result ≡ meaning_in policies name.now }
+{
+    if name == "best" {
+        Some(Policy::Best)
+    } else if name == "first" {
+        Some(Policy::First)
+    } else {
+        None
+    }
+}
+
+/// The domain of this name. A file of rows is given exactly where the name is `rows`.
+pub(crate) fn domain<'a>(name: &str, rows: Option<&'a str>) -> Option<Domain<&'a str>>
+    ensures { option_map domain_text result
+        ≡ domain_in name.now (option_map (λ file. file.now) rows.entry) }
+{
+    match rows {
+        Some(file) => {
+            if name == "rows" {
+                Some(Domain::Rows(file))
+            } else {
+                None
+            }
+        }
+        None => built_in_domain(name),
+    }
+}
+
+fn built_in_domain<'a>(name: &str) -> Option<Domain<&'a str>>
+    ensures { option_map domain_text result ≡ meaning_in built_in_domains name.now }
+{
+    if name == "intervals" {
+        Some(Domain::Intervals)
+    } else if name == "zones" {
+        Some(Domain::Zones)
+    } else if name == "octagons" {
+        Some(Domain::Octagons)
+    } else {
+        None
+    }
+}

@@ -1,0 +1,12 @@
+use Rattle.std.proofs.Common.{pos, ◌∙◌, lit≤}
+use Rattle.base_numbers.proofs.rational.Laws.{whole-zero}
+use Rattle.base_fractions.proofs.fits.Made.{small_made, small_value}
+use Rattle.base_fractions.proofs.field.OrderedField.zero.Goals as goal
+
+pub unwrap-requires : goal.unwrap-requires
+unwrap-requires g c =
+    small_made g.Self.OrderedField.LIMIT g.Self.OrderedField.meaning (pos 0) c.make.result g.met.Self.OrderedField.limit_low (lit≤ tt) c.make.ensures
+
+pub returns-clause-value : goal.returns-clause-value
+returns-clause-value g c =
+    small_value g.Self.OrderedField.LIMIT g.Self.OrderedField.meaning (pos 0) c.make.result c.unwrap.ensures c.make.ensures ∙ whole-zero

@@ -1,0 +1,15 @@
+//! What the fields of a certificate are read under.
+
+use flow_systems::Trace;
+use base_list::Sequence;
+
+/// Traces in order, numbered from 0.
+pub(crate) type Traces = Sequence<Trace>;
+
+/// What the fields of a certificate are read under: how many rows the template has, and the traces that items name by
+/// their numbers, or `None` where traces stand in their places.
+#[derive(Drop)]
+pub(crate) struct Setting {
+    pub(crate) rows: usize,
+    pub(crate) traces: Option<Traces>,
+}

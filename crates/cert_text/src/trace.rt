@@ -1,0 +1,240 @@
+//! Lists of fractions, and traces: where they stand, or by their numbers.
+
+ghost use Rattle.std.specs.Prelude.{◌≡◌, ◌+◌, IfOk, Some, codes, length, option_map, true};
+ghost use Rattle.serde_json.specs.Data.{member, no_members, object};
+ghost use Rattle.serde_json.specs.View.{view};
+ghost use Rattle.cert_text.specs.Keys.{passes_at};
+ghost use Rattle.cert_text.specs.Traces.{
+  are_texts,
+  fracs_at,
+  fracs_data,
+  fracs_in,
+  is_trace,
+  is_trace_by,
+  numbered_trace,
+  trace_at,
+  trace_by,
+  trace_data,
+  trace_in,
+};
+ghost use Rattle.cert_text.specs.Naming.{capped};
+
+use crate::entry::{Entry, is_list, read_list, write_list};
+use crate::keys::member_count;
+use crate::limits::MOST_VALUES;
+use crate::numbering::Numbering;
+use crate::setting::Setting;
+use serde_json::{Value, json};
+use std::alloc::{AllocError, Global};
+use flow_systems::{Fracs, Trace};
+use base_fractions::Frac;
+
+/// Whether the member of this key is there and a list of texts.
+pub(crate) fn are_texts_at(setting: &Setting, value: &Value, key: &str) -> bool
+    ensures { result ≡ passes_at are_texts key.now (view value.now) }
+{
+    match value.get(key) {
+        Some(list) => is_list::<Frac>(setting, list),
+        None => false,
+    }
+}
+
+/// The fractions that the member of this key is.
+pub(crate) fn fracs_at(
+    alloc: Global,
+    setting: &Setting,
+    value: &Value,
+    key: &str,
+) -> Result<Option<Fracs>, AllocError>
+    ensures { IfOk result (λ list. list ≡ fracs_at key.now (view value.now)) }
+{
+    match value.get(key) {
+        Some(member) => match read_list::<Frac>(alloc, setting, member)? {
+            Some(list) => Ok(Some(Fracs::new(list))),
+            None => Ok(None),
+        },
+        None => Ok(None),
+    }
+}
+
+/// Fractions as a value.
+pub(crate) fn fracs_value(
+    alloc: Global,
+    names: &Numbering,
+    list: &Fracs,
+) -> Result<Value, AllocError>
+    ensures value { IfOk result (λ v. view v ≡ fracs_data list.now) }
+    ensures shape { IfOk result (λ _. are_texts (fracs_data list.now) ≡ true) }
+    ensures back { IfOk result (λ _. fracs_in (fracs_data list.now) ≡ Some list.now) }
+{
+    write_list(alloc, 0, names, list.as_slice())
+}
+
+// Whether the value has the shape of a trace.
+fn is_trace(setting: &Setting, value: &Value) -> bool
+    ensures { result ≡ is_trace (view value.now) }
+{
+    member_count(value) == 2
+        && are_texts_at(setting, value, "free")
+        && are_texts_at(setting, value, "start")
+}
+
+// The trace that the value is.
+fn trace(alloc: Global, setting: &Setting, value: &Value) -> Result<Option<Trace>, AllocError>
+    ensures { IfOk result (λ trace. trace ≡ trace_in (view value.now)) }
+{
+    let Some(free) = fracs_at(alloc, setting, value, "free")? else {
+        return Ok(None);
+    };
+    let Some(start) = fracs_at(alloc, setting, value, "start")? else {
+        return Ok(None);
+    };
+    Ok(Some(Trace { start, free }))
+}
+
+// The two lists as a value.
+fn trace_object(alloc: Global, free: Value, start: Value) -> Result<Value, AllocError>
+    ensures { IfOk result (λ v. view v ≡ object (member (codes "free") (view free) (member (codes "start") (view start) no_members))) }
+{
+    json!(in alloc; {"free": free, "start": start})
+}
+
+/// The trace as a value.
+pub(crate) fn trace_value(
+    alloc: Global,
+    names: &Numbering,
+    trace: &Trace,
+) -> Result<Value, AllocError>
+    ensures value { IfOk result (λ v. view v ≡ trace_data trace.now) }
+    ensures shape { IfOk result (λ _. is_trace (trace_data trace.now) ≡ true) }
+    ensures back { IfOk result (λ _. trace_in (trace_data trace.now) ≡ Some trace.now) }
+{
+    let free = fracs_value(alloc, names, &trace.free)?;
+    let start = fracs_value(alloc, names, &trace.start)?;
+    trace_object(alloc, free, start)
+}
+
+impl Entry for Trace {
+    ghost use Rattle.std.specs.Prelude.{true};
+    ghost use Rattle.cert_text.specs.Traces.{is_trace, trace_data, trace_in};
+
+    ghost shaped = { λ _ d. is_trace d };
+
+    ghost element_in = { λ _ d. trace_in d };
+
+    ghost element_data = { λ _ _ t. trace_data t };
+
+    ghost writable = { λ _ _ _. true };
+
+    fn has_shape(setting: &Setting, value: &Value) -> bool {
+        is_trace(setting, value)
+    }
+
+    fn read(alloc: Global, setting: &Setting, value: &Value) -> Result<Option<Trace>, AllocError> {
+        trace(alloc, setting, value)
+    }
+
+    fn write(&self, alloc: Global, _rows: usize, names: &Numbering) -> Result<Value, AllocError> {
+        trace_value(alloc, names, self)
+    }
+}
+
+/// A trace of its own with the same values.
+pub(crate) fn copied(alloc: Global, trace: &Trace) -> Result<Trace, AllocError>
+    ensures { IfOk result (λ copy. copy ≡ trace.now) }
+{
+    let start = trace.start.as_slice().to_vec(alloc)?;
+    let free = trace.free.as_slice().to_vec(alloc)?;
+    Ok(Trace {
+        start: Fracs::new(start),
+        free: Fracs::new(free),
+    })
+}
+
+/// How many values a trace holds, counted up to `MOST_VALUES + 1`.
+pub(crate) fn trace_values(trace: &Trace) -> usize
+    ensures { result ≡ capped (length trace.now.start + length trace.now.free) }
+{
+    let start = trace.start.as_slice().len().min(MOST_VALUES + 1);
+    let free = trace.free.as_slice().len().min(MOST_VALUES + 1);
+    (start + free).min(MOST_VALUES + 1)
+}
+
+// The trace that the value names among these by its number, counted from 0.
+fn numbered_trace<'a>(traces: &'a [Trace], value: &Value) -> Option<&'a Trace>
+    ensures { option_map (λ t. t.now) result ≡ numbered_trace traces.now (view value.now) }
+{
+    match value.as_u64() {
+        Some(number) => traces.get(number as usize),
+        None => None,
+    }
+}
+
+/// The trace that the member of this key names among these.
+pub(crate) fn named_at<'a>(traces: &'a [Trace], value: &Value, key: &str) -> Option<&'a Trace>
+    ensures { option_map (λ t. t.now) result ≡ trace_at (Some traces.now) key.now (view value.now) }
+{
+    match value.get(key) {
+        Some(member) => numbered_trace(traces, member),
+        None => None,
+    }
+}
+
+// Whether the value has the shape of a trace, or names one, where traces are listed.
+fn is_trace_by(setting: &Setting, value: &Value) -> bool
+    ensures { result ≡ is_trace_by setting.now.traces (view value.now) }
+{
+    match &setting.traces {
+        Some(traces) => numbered_trace(traces.as_slice(), value).is_some(),
+        None => is_trace(setting, value),
+    }
+}
+
+/// Whether the member of this key is there and a trace, or names one, where traces are listed.
+pub(crate) fn is_trace_at(setting: &Setting, value: &Value, key: &str) -> bool
+    ensures { result ≡ passes_at (is_trace_by setting.now.traces) key.now (view value.now) }
+{
+    match value.get(key) {
+        Some(member) => is_trace_by(setting, member),
+        None => false,
+    }
+}
+
+// A copy of the trace that the value names among these.
+fn copy_numbered(
+    alloc: Global,
+    traces: &[Trace],
+    value: &Value,
+) -> Result<Option<Trace>, AllocError>
+    ensures { IfOk result (λ trace. trace ≡ numbered_trace traces.now (view value.now)) }
+{
+    match numbered_trace(traces, value) {
+        Some(trace) => Ok(Some(copied(alloc, trace)?)),
+        None => Ok(None),
+    }
+}
+
+// The trace that the value is, or a copy of the one that it names, where traces are listed.
+fn trace_by(alloc: Global, setting: &Setting, value: &Value) -> Result<Option<Trace>, AllocError>
+    ensures { IfOk result (λ trace. trace ≡ trace_by setting.now.traces (view value.now)) }
+{
+    match &setting.traces {
+        Some(traces) => copy_numbered(alloc, traces.as_slice(), value),
+        None => trace(alloc, setting, value),
+    }
+}
+
+/// The trace that the member of this key is, or a copy of the one that it names, where traces are listed.
+pub(crate) fn trace_at(
+    alloc: Global,
+    setting: &Setting,
+    value: &Value,
+    key: &str,
+) -> Result<Option<Trace>, AllocError>
+    ensures { IfOk result (λ trace. trace ≡ trace_at setting.now.traces key.now (view value.now)) }
+{
+    match value.get(key) {
+        Some(member) => trace_by(alloc, setting, member),
+        None => Ok(None),
+    }
+}

@@ -1,0 +1,126 @@
+-- Edges that are begun, and more actions after them.
+use Rattle.std.proofs.Common.{◌≡◌, ◌∙◌, ⊎_elim, ℕ, zero, suc, ◌+◌, ◌≤◌, ◌<◌, Bool, true, false, List, [], ◌∷◌, ◌++◌, length, get_or, take, refl, sym, ap, ap₂, arith}
+use Rattle.std.proofs.Common.{append_assoc, length-append}
+use Rattle.std.specs.Prelude.{flat_map}
+use Rattle.std.proofs.lemmas.List.{map-append, append-nil, take_more, take_all, take-append-le, take-take, length-take}
+use Rattle.lang_tree.specs.declared.form.Form.{Form}
+use Rattle.lang_tree.specs.Tree.{Condition}
+use Rattle.lang_tree.specs.Cases.{cases_of}
+use Rattle.flow_edges.specs.declared.edge.Action.{Action}
+use Rattle.flow_edges.specs.declared.edge.Action.TheVariants.{Guard}
+use Rattle.flow_edges.specs.declared.edge.Edge.{Edge}
+use Rattle.flow_edges.specs.Steps.{guards}
+use Rattle.flow_edges.specs.Edges.{Way, prefixed, by_case}
+use Rattle.flow_edges.specs.Trails.{Begun, kept, followed, reached, split}
+use Rattle.flow_edges.proofs.count.Counting.{either_way}
+
+-- of at most 257 actions all are kept
+pub kept_all : (xs : List Action) → length xs ≤ 257 → kept xs ≡ xs
+kept_all xs h = take_all 257 xs h
+
+-- what is cut off already changes nothing
+kept-append : (xs ys : List Action) → kept (kept xs ++ ys) ≡ kept (xs ++ ys)
+kept-append xs ys =
+    ⊎_elim
+    (λ (h : 257 ≤ length xs).
+    let l : length (kept xs) ≡ 257 = omega (arith, length-take 257 xs) in
+    let m : 257 ≤ length (kept xs) = omega arith in
+    let n : length (kept xs) ≤ 257 = omega arith in
+    take-append-le 257 (kept xs) ys m ∙ take_all 257 (kept xs) n ∙ sym (take-append-le 257 xs ys h))
+    (λ (h : length xs < 257). ap (λ z. kept (z ++ ys)) (kept_all xs (omega arith)))
+    (either_way 257 (length xs))
+
+take-append-take : (k m : ℕ) (xs ys : List Action) → k ≤ m → take k (xs ++ take m ys) ≡ take k (xs ++ ys)
+take-append-take k m [] ys h = take-take k m ys h
+take-append-take zero m (x ∷ xs) ys h = refl
+take-append-take (suc k) m (x ∷ xs) ys h = ap (λ r. x ∷ r) (take-append-take k m xs ys (omega arith))
+
+-- also what is cut off of later actions
+pub append-kept : (xs ys : List Action) → kept (xs ++ kept ys) ≡ kept (xs ++ ys)
+append-kept xs ys = take-append-take 257 257 xs ys (omega arith)
+
+-- what is kept of kept actions is what was kept
+pub kept_twice : (xs : List Action) → kept (kept xs) ≡ kept xs
+kept_twice xs = take-take 257 257 xs (omega arith)
+
+abbrev begun : ℕ → List Action → Begun
+begun p actions = record { from = p; actions = actions }
+
+-- following an edge by no action leaves it as it is
+pub followed_by_nothing : (b : Begun) → length b.actions ≤ 257 → followed b [] ≡ b
+followed_by_nothing b h = ap (begun b.from) (ap kept (append-nil b.actions) ∙ kept_all b.actions h)
+
+followed_on : (b : Begun) (xs ys : List Action) → followed (followed b xs) ys ≡ followed b (xs ++ ys)
+followed_on b xs ys = ap (begun b.from) (kept-append (b.actions ++ xs) ys ∙ ap kept (append_assoc b.actions xs ys))
+
+-- one more action, where there is room for it
+pub followed_by_one : (b : Begun) (a : Action) (items : List Action) → items ≡ b.actions ++ a ∷ [] → length b.actions < 257 → begun b.from items ≡ followed b (a ∷ [])
+followed_by_one b a items e h =
+    let one : List Action = a ∷ [] in
+    ap (begun b.from) (e ∙ sym (kept_all (b.actions ++ one) (omega (arith, length-append b.actions one))))
+
+-- and where there is none
+pub followed_past : (b : Begun) (xs : List Action) → 257 ≤ length b.actions → length b.actions ≤ 257 → b ≡ followed b xs
+followed_past b xs h k = sym (ap (begun b.from) (take-append-le 257 b.actions xs h ∙ kept_all b.actions k))
+
+abbrev arrow : Begun → Way → Edge
+arrow b w = record { from = b.from; to = w.to; actions = kept (b.actions ++ w.actions) }
+
+-- ---- the edges that go on from there
+pub reached-append : (b : Begun) (us vs : List Way) → reached b (us ++ vs) ≡ reached b us ++ reached b vs
+reached-append b us vs = map-append (arrow b) us vs
+
+-- edges that go on by ways with actions before them are edges followed by the actions that go on by the ways
+pub reached-prefixed : (b : Begun) (actions : List Action) (ways : List Way) → reached b (prefixed actions ways) ≡ reached (followed b actions) ways
+reached-prefixed b actions [] = refl
+reached-prefixed b actions (w ∷ ways) =
+    ap₂ (λ a r. let e : Edge = record { from = b.from; to = w.to; actions = a } in e ∷ r)
+    (ap kept (sym (append_assoc b.actions actions w.actions)) ∙ sym (kept-append (b.actions ++ actions) w.actions)) (reached-prefixed b actions ways)
+
+reached-cases : (b : Begun) (cases : List (List Form)) (ways : List Way) → reached b (flat_map (λ forms. prefixed (guards forms) ways) cases) ≡ split b cases ways
+reached-cases b [] ways = refl
+reached-cases b (forms ∷ cases) ways =
+    reached-append b (prefixed (guards forms) ways) (flat_map (λ f. prefixed (guards f) ways) cases)
+    ∙ ap₂ (λ u v. u ++ v) (reached-prefixed b (guards forms) ways) (reached-cases b cases ways)
+
+-- edges that go on by the ways of a condition's cases are the edges that go on by each case
+pub reached-by_case : (b : Begun) (truth : Bool) (c : Condition) (ways : List Way) → reached b (by_case truth c ways) ≡ split b (cases_of truth c) ways
+reached-by_case b truth c ways = reached-cases b (cases_of truth c) ways
+
+reached-both : (b : Begun) (c : Condition) (us vs : List Way) →
+    reached b (by_case true c us ++ by_case false c vs) ≡ split b (cases_of true c) us ++ split b (cases_of false c) vs
+reached-both b c us vs =
+    reached-append b (by_case true c us) (by_case false c vs) ∙ ap₂ (λ u v. u ++ v) (reached-by_case b true c us) (reached-by_case b false c vs)
+
+-- the edges of a choice: those by the cases for true, and then those by the cases for false
+pub chosen : (before middle after : List Edge) (b t : Begun) (c : Condition) (held failed : List (List Form)) (us vs xs ys : List Way) → t ≡ b →
+    held ≡ cases_of true c → failed ≡ cases_of false c → xs ≡ us → ys ≡ vs → middle ≡ before ++ split t held xs → after ≡ middle ++ split t failed ys →
+    after ≡ before ++ reached b (by_case true c us ++ by_case false c vs)
+chosen before middle after b t c held failed us vs xs ys p f g u v h i =
+    let one : split t held xs ≡ split b (cases_of true c) us = rw (p, f, u) refl in
+    let other : split t failed ys ≡ split b (cases_of false c) vs = rw (p, g, v) refl in
+    i ∙ ap₂ (λ z w. z ++ w) (h ∙ ap (λ z. before ++ z) one) other ∙ append_assoc before (split b (cases_of true c) us) (split b (cases_of false c) vs)
+    ∙ ap (λ z. before ++ z) (sym (reached-both b c us vs))
+
+-- one guard more
+guards_more : (forms : List Form) (i : ℕ) (x : Form) → i < length forms → x ≡ get_or forms i x → guards (take i forms) ++ Guard x ∷ [] ≡ guards (take (i + 1) forms)
+guards_more forms i x l e =
+    let one : List Form = x ∷ [] in
+    sym (ap guards (take_more forms i x l ∙ ap (λ y. take i forms ++ y ∷ []) (sym e)) ∙ map-append Guard (take i forms) one)
+
+-- after the guards of i forms, the next form's guard makes those of i + 1 forms
+pub followed_more : (b before after : Begun) (forms : List Form) (i : ℕ) (x y : Form) → i < length forms → x ≡ get_or forms i x → y ≡ x →
+    after ≡ followed before (Guard y ∷ []) → before ≡ followed b (guards (take i forms)) → after ≡ followed b (guards (take (i + 1) forms))
+followed_more b before after forms i x y l e f g h =
+    let one : List Action = Guard y ∷ [] in
+    let same : List Action → Begun = λ a. followed b a in
+    g ∙ ap (λ t. followed t one) h ∙ followed_on b (guards (take i forms)) one
+    ∙ ap (λ z. same (guards (take i forms) ++ Guard z ∷ [])) f ∙ ap same (guards_more forms i x l e)
+
+-- one action more
+pub followed_further : (b before after : Begun) (actions : List Action) (i : ℕ) (x y : Action) → i < length actions → x ≡ get_or actions i x → y ≡ x →
+    after ≡ followed before (y ∷ []) → before ≡ followed b (take i actions) → after ≡ followed b (take (i + 1) actions)
+followed_further b before after actions i x y l e f g h =
+    let one : List Action = y ∷ [] in
+    g ∙ ap (λ t. followed t one) h ∙ followed_on b (take i actions) one
+    ∙ ap (λ z. followed b (take i actions ++ z ∷ [])) (f ∙ e) ∙ ap (followed b) (sym (take_more actions i x l))

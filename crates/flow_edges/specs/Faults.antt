@@ -1,0 +1,68 @@
+-- Why a program has no flow within the limits.
+use Rattle.std.specs.Prelude.{ℕ, ◌||◌, Bool, true, false, List, [], ◌∷◌, ◌++◌, Option, Some, None, length, nat_lt, option_map, position, if◌then◌else◌}
+use Rattle.lang_tree.specs.Tree.{Condition, Statement, Statements, set, havoc, assume, branch, loop, jump, label, nil, cons}
+use Rattle.lang_tree.specs.Cases.{cases_of}
+use Rattle.lang_tree.specs.PointNumbers.{point_count}
+use Rattle.flow_edges.specs.declared.edge.Edge.{Edge}
+use Rattle.flow_edges.specs.declared.fault.FlowFault.{FlowFault}
+use Rattle.flow_edges.specs.declared.fault.FlowFault.TheVariants as fault
+use Rattle.flow_edges.specs.Edges.{edges_of_program}
+use Rattle.flow_edges.specs.declared.limits.TheConstants.{MOST_POINTS}
+
+-- a condition has more than 64 cases for this truth
+abbrev pub is_wide : Bool → Condition → Bool
+is_wide truth c = nat_lt 64 (length (cases_of truth c))
+
+-- the line alone where the test holds
+abbrev pub line_if : Bool → ℕ → List ℕ
+line_if b line = if b then line ∷ [] else []
+
+abbrev mutual
+  -- the lines of a statement and of those in it, in order of the text,
+  -- whose condition has more than 64 cases for a truth that is used: an assumption uses true alone
+  pub wide_lines_of : Statement → List ℕ
+  wide_lines_of (set var form line) = []
+  wide_lines_of (havoc var line) = []
+  wide_lines_of (assume c line) = line_if (is_wide true c) line
+  wide_lines_of (branch c first second line) = line_if (is_wide true c || is_wide false c) line ++ (wide_lines_in first ++ wide_lines_in second)
+  wide_lines_of (loop kind c body line) = line_if (is_wide true c || is_wide false c) line ++ wide_lines_in body
+  wide_lines_of (jump kind line) = []
+  wide_lines_of (label name line) = []
+
+  -- the same for a list of statements
+  pub wide_lines_in : Statements → List ℕ
+  wide_lines_in nil = []
+  wide_lines_in (cons s rest) = wide_lines_of s ++ wide_lines_in rest
+
+-- the first of a list
+abbrev pub first_of : List ℕ → Option ℕ
+first_of [] = None
+first_of (n ∷ ns) = Some n
+
+-- an edge with more than 256 actions
+abbrev pub is_long : Edge → Bool
+is_long e = nat_lt 256 (length e.actions)
+
+-- the first edge that is too long
+abbrev pub long_fault : List Edge → Option FlowFault
+long_fault edges = option_map (λ e. fault.Actions e) (position is_long edges)
+
+-- what is seen by counting: the first line with a condition of more than 64 cases, or else too many points, or else more than 256 edges
+abbrev pub counted_after : List ℕ → Statements → Option FlowFault
+counted_after [] body =
+    if nat_lt MOST_POINTS (point_count body) then Some (fault.Points (point_count body))
+    else (if nat_lt 256 (length (edges_of_program body)) then Some fault.Edges else None)
+counted_after (line ∷ lines) body = Some (fault.Cases line)
+
+-- what is seen by counting of a program
+abbrev pub counted_fault : Statements → Option FlowFault
+counted_fault body = counted_after (wide_lines_in body) body
+
+-- the first of two
+abbrev pub fault_or : Option FlowFault → Option FlowFault → Option FlowFault
+fault_or None other = other
+fault_or (Some f) other = Some f
+
+-- the first fault of a program: what is seen by counting, or else the first edge that is too long
+abbrev pub fault_of_program : Statements → Option FlowFault
+fault_of_program body = fault_or (counted_fault body) (long_fault (edges_of_program body))

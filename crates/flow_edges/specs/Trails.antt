@@ -1,0 +1,87 @@
+-- Edges that are walked, action by action.
+use Rattle.std.specs.Prelude.{ℕ, ◌+◌, ◌||◌, true, false, List, [], ◌++◌, map, flat_map, take, if◌then◌else◌}
+use Rattle.lang_tree.specs.declared.form.Form.{Form}
+use Rattle.lang_tree.specs.Tree.{Condition, Statement, Statements, set, havoc, assume, branch, loop, jump, label, nil, cons}
+use Rattle.lang_tree.specs.PointNumbers.{splits, points_of, points_in, join_of, exit_of}
+use Rattle.flow_edges.specs.declared.edge.Action.{Action}
+use Rattle.flow_edges.specs.declared.edge.Edge.{Edge}
+use Rattle.flow_edges.specs.declared.onward.JumpEdges.{JumpEdges}
+use Rattle.flow_edges.specs.Steps.{guards}
+use Rattle.flow_edges.specs.Edges.{Way, arrived, by_case, Jumps, no_jumps, end_ways, loop_jumps, head_ways, ways_in, complete, completes}
+
+-- an edge as far as it has been walked
+pub record Begun : Type 0 where
+  pub from : ℕ
+  pub actions : List Action
+
+-- of an edge's actions the first 257 are kept: with more than 256 it is refused
+abbrev pub kept : List Action → List Action
+kept actions = take 257 actions
+
+-- an edge that is begun at a point
+abbrev pub begun_at : ℕ → Begun
+begun_at p = record { from = p; actions = [] }
+
+-- more actions after it
+abbrev pub followed : Begun → List Action → Begun
+followed b actions = record { from = b.from; actions = kept (b.actions ++ actions) }
+
+-- the edges that go on by each of the ways
+abbrev pub reached : Begun → List Way → List Edge
+reached b ways = map (λ w. record { from = b.from; to = w.to; actions = kept (b.actions ++ w.actions) }) ways
+
+-- the edges that go on by each case and then by each of the ways
+abbrev pub split : Begun → List (List Form) → List Way → List Edge
+split b cases ways = flat_map (λ forms. reached (followed b (guards forms)) ways) cases
+
+-- the ways that edges are which have been walked
+abbrev pub walked : List Edge → List Way
+walked edges = map (λ e. record { actions = e.actions; to = e.to }) edges
+
+-- the ways of the jumps
+abbrev pub jumps_of : JumpEdges → Jumps
+jumps_of jumps = record { broken = walked jumps.broken; continued = walked jumps.continued }
+
+-- the ways from the head of a loop that tests its condition there: into the body, at whose end a `continue` goes on, or past the loop
+abbrev pub ways_by_turn : Condition → Statements → ℕ → Jumps → List Way
+ways_by_turn c body n jumps = by_case true c (ways_in body (n + 1) jumps jumps.continued) ++ by_case false c jumps.broken
+
+abbrev mutual
+  -- the edges from the points that a node and the nodes in it make, in order, given the ways of jumps and those from what comes after it
+  pub edges_in_node : Statement → ℕ → Jumps → List Way → List Edge
+  edges_in_node (set var form line) n jumps next = []
+  edges_in_node (havoc var line) n jumps next = []
+  edges_in_node (assume c line) n jumps next = if splits c then reached (begun_at n) next else []
+  edges_in_node (branch c first second line) n jumps next =
+      edges_in_nodes first n jumps (arrived (join_of first second n))
+      ++ (edges_in_nodes second (n + points_in first) jumps (arrived (join_of first second n))
+      ++ (if complete first || complete second then reached (begun_at (join_of first second n)) next else []))
+  edges_in_node (loop kind c body line) n jumps next =
+      reached (begun_at n) (head_ways kind c body n next) ++ edges_in_nodes body (n + 1) (loop_jumps kind c n next) (end_ways kind c n next)
+  edges_in_node (jump kind line) n jumps next = []
+  edges_in_node (label name line) n jumps next = reached (begun_at n) next
+
+  -- the same for a list of nodes; none from those after a jump
+  pub edges_in_nodes : Statements → ℕ → Jumps → List Way → List Edge
+  edges_in_nodes nil n jumps next = []
+  edges_in_nodes (cons s rest) n jumps next =
+      edges_in_node s n jumps (ways_in rest (n + points_of s) jumps next)
+      ++ (if completes s then edges_in_nodes rest (n + points_of s) jumps next else [])
+
+-- those of a loop and of the nodes in it, which don't depend on the jumps outside; none of another node
+abbrev pub edges_in_loop : Statement → ℕ → List Way → List Edge
+edges_in_loop (set var form line) n next = []
+edges_in_loop (havoc var line) n next = []
+edges_in_loop (assume c line) n next = []
+edges_in_loop (branch c first second line) n next = []
+edges_in_loop (loop kind c body line) n next = edges_in_node (loop kind c body line) n no_jumps next
+edges_in_loop (jump kind line) n next = []
+edges_in_loop (label name line) n next = []
+
+-- the edges of a program, each with the first 257 of its actions
+abbrev pub kept_edges : Statements → List Edge
+kept_edges body = reached (begun_at 0) (ways_in body 1 no_jumps (arrived (exit_of body))) ++ edges_in_nodes body 1 no_jumps (arrived (exit_of body))
+
+-- an edge with the first 257 of its actions
+abbrev pub kept_edge : Edge → Edge
+kept_edge e = record e { actions = kept e.actions }

@@ -1,0 +1,21 @@
+//! A program as points and edges.
+
+ghost use Rattle.std.specs.Prelude.{IsTrue};
+ghost use Rattle.flow_edges.specs.FlowLimits.{is_flow};
+
+use crate::edge::Edges;
+use crate::point::Points;
+use lang_tree::Names;
+
+/// The points and the edges of a program over these variables.
+///
+/// There are 1 to `MOST_VARIABLES` variables, 2 to `MOST_POINTS` points, at most 256 edges and at most 256 actions on each. The first point alone is
+/// the entry, and no edge ends there. Every point and every variable that an edge names is there; each form has one
+/// coefficient for each variable, and its numbers are within `2^63 - 1` in absolute value.
+#[derive(Drop)]
+pub struct Flow {
+    pub names: Names,
+    pub points: Points,
+    pub edges: Edges,
+    pub ghost within_limits: { IsTrue (is_flow names points edges) },
+}

@@ -1,0 +1,200 @@
+-- Every post-solution of a program's system holds in every run.
+use Rattle.std.proofs.Common.{◌≡◌, ◌∙◌, ◌⊎◌, inl, inr, ⊎_elim, ℕ, List, [], ◌∷◌, ◌++◌, refl, sym, ap, subst, append_assoc, append-nil, length}
+use Rattle.std.specs.Prelude.{pos, slice_set}
+use Rattle.std.proofs.lemmas.List.{map-set, length-set, length-map}
+use Rattle.std.proofs.lemmas.Option.{slice_get_within}
+use Rattle.base_facts.specs.Elements.{In}
+use Rattle.base_numbers.specs.Rational.{whole, zero_ℚ, ◌≤ℚ◌}
+use Rattle.base_numbers.specs.Extended.{fin, ◌≤ᴱ◌}
+use Rattle.base_numbers.proofs.rational.Laws.{whole-zero, whole_le}
+use Rattle.lang_tree.specs.Tree.{Statements, while_loop, for_loop, do_loop, breaks, continues, set, havoc, assume, branch, loop, jump, label}
+use Rattle.lang_tree.specs.Meaning.{State, value}
+use Rattle.lang_tree.specs.Runs.{Item, node, mark, turn, end, start_work, Does, Configuration, Step, Follows}
+use Rattle.flow_edges.specs.declared.edge.Action.{Action}
+use Rattle.flow_edges.specs.declared.edge.Action.TheVariants.{Guard, Assign, Havoc}
+use Rattle.flow_edges.specs.Steps.{Labelled, steps_of, Acts}
+use Rattle.flow_edges.specs.Paths.{Leads, here, past, done, Arrives, at_mark, by_step, Path}
+use Rattle.flow_edges.specs.PathLaws.{EdgesArePaths, IsMark}
+use Rattle.flow_edges.proofs.steps.ElementLemmas.{contains_in}
+use Rattle.flow_edges.proofs.steps.StepLaw.{steps_law}
+use Rattle.flow_edges.proofs.steps.Reach.{leads_then}
+use Rattle.flow_edges.proofs.paths.PathLaw.{edges_law}
+use Rattle.flow_systems.specs.States.{RationalState, dotℚ, valueℚ, rational, Traces}
+use Rattle.flow_systems.specs.Equations.{Equations, Vector, Fits, PostSolution}
+use Rattle.flow_systems.specs.Solutions.{equations_of_program, Holds}
+use Rattle.flow_systems.specs.SolutionLaws.{PostSolutionsHold, ProgramPostSolutionsHold}
+use Rattle.flow_systems.proofs.states.RationalStates.{value_rational}
+
+-- ---- a step of a run is a labelled step and a trace
+trace-append : (a b : List Action) (x y z : RationalState) → Traces a x y → Traces b y z → Traces (a ++ b) x z
+trace-append [] b x y z h k = subst (λ w. Traces b w z) h k
+trace-append (Guard f ∷ a) b x y z h k = (h.0, trace-append a b x y z h.1 k)
+trace-append (Assign var f ∷ a) b x y z h k = trace-append a b (slice_set x var (valueℚ f x)) y z h k
+trace-append (Havoc var ∷ a) b x y z h k = (h.0, trace-append a b (slice_set x var h.0) y z h.1 k)
+
+-- actions that lead from one integer state to another are a trace
+acts_trace : (actions : List Action) (x y : State) → Acts actions x y → Traces actions (rational x) (rational y)
+acts_trace [] x y h = ap rational h
+acts_trace (Guard f ∷ actions) x y h =
+    let at_most : whole (value f x) ≤ℚ zero_ℚ = subst (λ q. whole (value f x) ≤ℚ q) whole-zero (whole_le (value f x) (pos 0) h.0) in
+    (subst (λ q. q ≤ℚ zero_ℚ) (sym (value_rational f x)) at_most, acts_trace actions x y h.1)
+acts_trace (Assign var f ∷ actions) x y h =
+    let e : rational (slice_set x var (value f x)) ≡ slice_set (rational x) var (valueℚ f (rational x)) = map-set whole x var (value f x) ∙ ap (slice_set (rational x) var) (sym (value_rational f x)) in
+    subst (λ z. Traces actions z (rational y)) e (acts_trace actions (slice_set x var (value f x)) y h)
+acts_trace (Havoc var ∷ actions) x y h =
+    (whole h.0, subst (λ z. Traces actions z (rational y)) (map-set whole x var h.0) (acts_trace actions (slice_set x var h.0) y h.1))
+
+-- a labelled step with the item that leaves this work, along which a trace leads from one state to the other
+abbrev Recorded : Item → List Item → State → List Item → State → Type 0
+Recorded item rest x work y = (s : Labelled) × In (steps_of item rest) s × (s.work ≡ work) × Traces s.actions (rational x) (rational y)
+
+recorded : (item : Item) (rest : List Item) (x : State) (work : List Item) (y : State) → ¬ (IsMark item) → Does item rest x work y → Recorded item rest x work y
+recorded item rest x work y other d = let r = (steps_law item rest x work y other).0 d in (r.0, r.1, r.2, acts_trace r.0.actions x y r.3)
+
+-- a state keeps its length
+keeps_length : (item : Item) (rest : List Item) (x : State) (work : List Item) (y : State) → Does item rest x work y → length y ≡ length x
+keeps_length (mark p) rest x work y d = ap length d.1
+keeps_length (node (set var form line) n) rest x work y d = ap length d.1 ∙ length-set x var (value form x)
+keeps_length (node (havoc var line) n) rest x work y d = ap length d.2 ∙ length-set x var d.0
+keeps_length (node (assume c line) n) rest x work y d = ap length d.2
+keeps_length (node (branch c first second line) n) rest x work y d = ap length d.3
+keeps_length (node (loop kind c body line) n) rest x work y d = ap length d.1
+keeps_length (node (jump breaks line) n) rest x work y d = ap length d.1
+keeps_length (node (jump continues line) n) rest x work y d = ap length d.1
+keeps_length (node (label name line) n) rest x work y d = ap length d.1
+keeps_length (turn kind c body line n) rest x work y d = ap length d.3
+keeps_length (end while_loop c body line n) rest x work y d = ap length d.1
+keeps_length (end (for_loop g) c body line n) rest x work y d = ap length d.1
+keeps_length (end do_loop c body line n) rest x work y d = ap length d.3
+
+-- ---- since the last mark
+-- labelled steps from the work after a mark, with no mark on the way
+data Part (start : List Item) : List Action → List Item → Type 0 where
+  none : Part start [] start
+  more : (actions : List Action) (item : Item) (rest : List Item) (s : Labelled) → Part start actions (item ∷ rest) → In (steps_of item rest) s → Part start (actions ++ s.actions) s.work
+
+part_arrives : (start : List Item) (actions : List Action) (work : List Item) (later : List Action) (p : ℕ) (behind : List Item) →
+    Part start actions work → Arrives work later p behind → Arrives start (actions ++ later) p behind
+part_arrives start actions work later p behind none l = l
+part_arrives start actions work later p behind (more before item rest s part m) l =
+    subst (λ a. Arrives start a p behind) (sym (append_assoc before s.actions later))
+    (part_arrives start before (item ∷ rest) (s.actions ++ later) p behind part (by_step item rest s later p behind m l))
+
+part_leads : (start : List Item) (actions : List Action) (work : List Item) → Part start actions work → Leads start actions work
+part_leads start actions work none = here start
+part_leads start actions work (more before item rest s part m) =
+    let one = done item rest s [] s.work m (here s.work) in
+    subst (λ a. Leads start (before ++ a) s.work) (append-nil s.actions) (leads_then start (item ∷ rest) s.work before (s.actions ++ []) (part_leads start before (item ∷ rest) part) one)
+
+module _ (system : Equations) (body : Statements) (v : Vector) (paths : EdgesArePaths system.edges body) (post : PostSolution system v) where
+  -- the mark of a point that labelled steps reach, with a state that fits there
+  record AtMark (p : ℕ) (behind : List Item) (x : RationalState) : Type 0 where
+    before : List Action
+    reached : Leads (start_work body) before (mark p ∷ behind)
+    fits : Fits system v p x
+
+  -- the last mark, and what was done since
+  record Since (work : List Item) (x : RationalState) : Type 0 where
+    from : ℕ
+    behind : List Item
+    begin : RationalState
+    last : AtMark from behind begin
+    starts : length begin ≡ system.variables
+    actions : List Action
+    part : Part behind actions work
+    trace : Traces actions begin x
+
+  -- what holds of a configuration in a run
+  record Known (c : Configuration) : Type 0 where
+    size : length c.state ≡ system.variables
+    past_work : (c.work ≡ start_work body) ⊎ Since c.work (rational c.state)
+
+  fits_entry : (x : RationalState) → Fits system v 0 x
+  fits_entry x r row listed = subst (λ b. fin (dotℚ row x) ≤ᴱ b) (sym (post.entry r (slice_get_within system.template r row listed))) tt
+
+  arrived : (p : ℕ) (rest : List Item) (x : RationalState) → Since (mark p ∷ rest) x → AtMark p rest x
+  arrived p rest x s =
+      let arrives = part_arrives s.behind s.actions (mark p ∷ rest) [] p rest s.part (at_mark p rest) in
+      let path : Path body s.from (s.actions ++ []) p = record { before = s.last.before; behind = s.behind; reached = s.last.reached; after = rest; arrives = arrives } in
+      record {
+        before = s.last.before ++ s.actions;
+        reached = leads_then (start_work body) (mark s.from ∷ s.behind) (mark p ∷ rest) s.last.before s.actions s.last.reached
+            (past s.from s.behind s.actions (mark p ∷ rest) (part_leads s.behind s.actions (mark p ∷ rest) s.part));
+        fits = post.closed (record { from = s.from; to = p; actions = s.actions ++ [] }) s.begin x
+            (record { listed = paths.complete s.from p (s.actions ++ []) path; starts = s.starts; fits = s.last.fits; trace = trace-append s.actions [] s.begin x x s.trace refl });
+      }
+
+  at_start : (p : ℕ) (rest : List Item) (x : RationalState) → mark p ∷ rest ≡ start_work body → AtMark p rest x
+  at_start p rest x e =
+      let zero_is : 0 ≡ p = cc in
+      record {
+        before = [];
+        reached = subst (λ w. Leads (start_work body) [] w) (sym e) (here (start_work body));
+        fits = subst (λ q. Fits system v q x) zero_is (fits_entry x);
+      }
+
+  marked : (p : ℕ) (rest : List Item) (x : RationalState) → (mark p ∷ rest ≡ start_work body) ⊎ Since (mark p ∷ rest) x → AtMark p rest x
+  marked p rest x h = ⊎_elim (λ e. at_start p rest x e) (λ s. arrived p rest x s) h
+
+  went_on : (item : Item) (rest : List Item) (x : State) (work : List Item) (y : State) → Recorded item rest x work y → Since (item ∷ rest) (rational x) → Since work (rational y)
+  went_on item rest x work y r s =
+      subst (λ w. Since w (rational y)) r.2
+      (record {
+        from = s.from;
+        behind = s.behind;
+        begin = s.begin;
+        last = s.last;
+        starts = s.starts;
+        actions = s.actions ++ r.0.actions;
+        part = more s.actions item rest r.0 s.part r.1;
+        trace = trace-append s.actions r.0.actions s.begin (rational x) (rational y) s.trace r.3;
+      })
+
+  rational_size : (x : State) → length x ≡ system.variables → length (rational x) ≡ system.variables
+  rational_size x e = length-map x whole ∙ e
+
+  starts_with_mark : (item : Item) (rest : List Item) → ¬ (IsMark item) → ¬ (item ∷ rest ≡ start_work body)
+  starts_with_mark (mark p) rest other e = other tt
+  starts_with_mark (node s n) rest other e = cc
+  starts_with_mark (turn k c b l n) rest other e = cc
+  starts_with_mark (end k c b l n) rest other e = cc
+
+  advanced_by : (item : Item) (rest : List Item) (x : State) (work : List Item) (y : State) → ¬ (IsMark item) → Does item rest x work y →
+      (item ∷ rest ≡ start_work body) ⊎ Since (item ∷ rest) (rational x) → Since work (rational y)
+  advanced_by item rest x work y other d h =
+      ⊎_elim (λ e. absurd (starts_with_mark item rest other e)) (λ s. went_on item rest x work y (recorded item rest x work y other d) s) h
+
+  advanced : (item : Item) (rest : List Item) (x : State) (work : List Item) (y : State) → Does item rest x work y → length x ≡ system.variables →
+      (item ∷ rest ≡ start_work body) ⊎ Since (item ∷ rest) (rational x) → Since work (rational y)
+  advanced (mark p) rest x work y d size h =
+      subst (λ w. Since w (rational y)) (sym d.0) (subst (λ z. Since rest (rational z)) (sym d.1)
+      (record { from = p; behind = rest; begin = rational x; last = marked p rest (rational x) h; starts = rational_size x size; actions = []; part = none; trace = refl }))
+  advanced (node s n) rest x work y d size h = advanced_by (node s n) rest x work y (λ m. m) d h
+  advanced (turn k c b l n) rest x work y d size h = advanced_by (turn k c b l n) rest x work y (λ m. m) d h
+  advanced (end k c b l n) rest x work y d size h = advanced_by (end k c b l n) rest x work y (λ m. m) d h
+
+  known_step : (a b : Configuration) → Step a b → Known a → Known b
+  known_step a b step k =
+      let past_first = subst (λ w. (w ≡ start_work body) ⊎ Since w (rational a.state)) step.first k.past_work in
+      record {
+        size = keeps_length step.item step.rest a.state b.work b.state step.does ∙ k.size;
+        past_work = inr (advanced step.item step.rest a.state b.work b.state step.does k.size past_first);
+      }
+
+  known_all : (a : Configuration) (cs : List Configuration) → Follows a cs → Known a → (c : Configuration) → In (a ∷ cs) c → Known c
+  known_all a [] f k c m = ⊎_elim (λ e. subst Known e k) (λ n. absurd n) m
+  known_all a (b ∷ cs) f k c m = ⊎_elim (λ e. subst Known e k) (λ n. known_all b cs f.1 (known_step a b f.0 k) c n) m
+
+  holds : Holds system body v
+  holds [] c p run m at_p = absurd run
+  holds (a ∷ cs) c p run m at_p =
+      let k = known_all a cs run.2 (record { size = run.1; past_work = inl run.0 }) c (contains_in (a ∷ cs) c m) in
+      (marked p at_p.0 (rational c.state) (subst (λ w. (w ≡ start_work body) ⊎ Since w (rational c.state)) at_p.1 k.past_work)).fits
+
+-- where the edges are the paths of a program, every post-solution holds in every run
+pub soundness : PostSolutionsHold
+soundness system body v paths post = holds system body v paths post
+
+-- every post-solution of a program's system holds in every run
+pub program_soundness : ProgramPostSolutionsHold
+program_soundness variables body template v post = holds (equations_of_program variables body template) body v (edges_law body) post

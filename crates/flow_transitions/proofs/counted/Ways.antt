@@ -1,0 +1,86 @@
+-- Choices and edges, counted no further than they matter.
+use Rattle.std.proofs.Common.{◌≡◌, ◌∙◌, ℕ, zero, suc, ◌+◌, ◌*◌, ◌<◌, ◌≤◌, min, Bool, true, false, List, [], ◌∷◌, length, refl, sym, ap, ⊎_elim, arith, cond}
+use Rattle.std.specs.Prelude.{◌||◌, Option, Some, None, option_map}
+use Rattle.std.specs.List.{find, sum_by}
+use Rattle.std.proofs.lemmas.Bool.{cases_lt}
+use Rattle.std.proofs.lemmas.List.Sums.{sum_by-cons}
+use Rattle.std.proofs.Math.Nat.{mul_comm, mul_assoc, suc-mul, mul-one}
+use Rattle.lang_tree.specs.Tree.{Statement, Statements, nil, cons}
+use Rattle.flow_transitions.specs.declared.auto_edge.AutoEdge.{AutoEdge}
+use Rattle.flow_transitions.specs.declared.fault.AutoFault.{AutoFault}
+use Rattle.flow_transitions.specs.declared.fault.AutoFault.TheVariants.{Cases}
+use Rattle.flow_transitions.specs.Choices.{choices_of, choices_in}
+use Rattle.flow_transitions.specs.Counted.{way_count}
+use Rattle.flow_transitions.specs.AutoFaults.{is_wide_act, has_wide, cases_fault}
+use Rattle.flow_transitions.proofs.choosing.Crossing.{length-crossing}
+
+-- ---- products and sums up to 257
+many : (a b : ℕ) → 257 ≤ a → min (257 * suc b) 257 ≡ min (a * suc b) 257
+many a b h = omega (arith, mul_comm a (suc b), suc-mul b a, mul_comm 257 (suc b), suc-mul b 257)
+
+capped : (a b : ℕ) → 257 ≤ a → min (257 * b) 257 ≡ min (a * b) 257
+capped a zero h = omega (arith, mul_comm a zero)
+capped a (suc b) h = many a b h
+
+-- the first factor may be cut at 257
+pub product_capped : (a b : ℕ) → min (min a 257 * b) 257 ≡ min (a * b) 257
+product_capped a b =
+    ⊎_elim
+    (λ (h : 257 < a). ap (λ k. min (k * b) 257) (let e : min a 257 ≡ 257 = omega arith in e) ∙ capped a b (omega arith))
+    (λ (h : a ≤ 257). ap (λ k. min (k * b) 257) (let e : min a 257 ≡ a = omega arith in e))
+    (cases_lt 257 a)
+
+-- ---- along acts
+-- choices that are counted so far, and what is left of the acts
+pub record AreCounted (all rest : Statements) (count : ℕ) : Type 0 where
+  pub few : count ≤ 257
+  pub product : min (count * length (choices_in rest)) 257 ≡ min (length (choices_in all)) 257
+  pub wide : has_wide all ≡ has_wide rest
+
+pub counted_none : (all : Statements) → AreCounted all all 1
+counted_none all = record { few = omega arith; product = ap (λ k. min k 257) (let e : 1 * length (choices_in all) ≡ length (choices_in all) = omega arith in e); wide = refl }
+
+pub counted_more : (all : Statements) (s : Statement) (rest : Statements) (count n after : ℕ) → n ≡ length (choices_of s) → is_wide_act s ≡ false → after ≡ min (count * n) 257 →
+    AreCounted all (cons s rest) count → AreCounted all rest after
+counted_more all s rest count n after e w f c =
+    let m = length (choices_in rest) in
+    let total : length (choices_in (cons s rest)) ≡ n * m = length-crossing (choices_of s) (choices_in rest) ∙ ap (λ k. k * m) (sym e) in
+    record {
+      few = omega arith;
+      product =
+          ap (λ k. min (k * m) 257) f ∙ product_capped (count * n) m ∙ ap (λ k. min k 257) (mul_assoc count n m)
+          ∙ ap (λ k. min (count * k) 257) (sym total) ∙ c.product;
+      wide = c.wide ∙ ap (λ b. b || has_wide rest) w;
+    }
+
+pub counted_all : (all : Statements) (count : ℕ) → AreCounted all nil count → (count ≡ min (length (choices_in all)) 257) × (has_wide all ≡ false)
+counted_all all count c = ((let p = c.product in let f = c.few in omega (arith, mul-one count)), c.wide)
+
+pub counted_wide : (all : Statements) (s : Statement) (rest : Statements) (count : ℕ) → is_wide_act s ≡ true → AreCounted all (cons s rest) count → has_wide all ≡ true
+counted_wide all s rest count w c = c.wide ∙ ap (λ b. b || has_wide rest) w
+
+-- ---- along all edges of the text
+pub record AreSummed (all rest : List AutoEdge) (count : ℕ) : Type 0 where
+  pub few : count ≤ 257
+  pub sum : min (count + sum_by way_count rest) 257 ≡ min (sum_by way_count all) 257
+  pub wide : cases_fault all ≡ cases_fault rest
+
+pub summed_none : (all : List AutoEdge) → AreSummed all all 0
+summed_none all = record { few = omega arith; sum = ap (λ k. min k 257) (let e : 0 + sum_by way_count all ≡ sum_by way_count all = omega arith in e); wide = refl }
+
+abbrev found : Bool → AutoEdge → List AutoEdge → Option AutoFault
+found b e rest = option_map (λ (x : AutoEdge). Cases x.at) (cond b (Some e) (find (λ x. has_wide x.acts) rest))
+
+pub summed_more : (all : List AutoEdge) (e : AutoEdge) (rest : List AutoEdge) (count n after : ℕ) → n ≡ min (way_count e) 257 → has_wide e.acts ≡ false → after ≡ min (count + n) 257 →
+    AreSummed all (e ∷ rest) count → AreSummed all rest after
+summed_more all e rest count n after f w g c = record {
+  few = omega arith;
+  sum = let s = c.sum in omega (arith, sum_by-cons way_count e rest);
+  wide = c.wide ∙ ap (λ b. found b e rest) w;
+}
+
+pub summed_all : (all : List AutoEdge) (count : ℕ) → AreSummed all [] count → (count ≡ min (sum_by way_count all) 257) × (cases_fault all ≡ None)
+summed_all all count c = ((let s = c.sum in let f = c.few in omega arith), c.wide)
+
+pub summed_wide : (all : List AutoEdge) (e : AutoEdge) (rest : List AutoEdge) (count : ℕ) → has_wide e.acts ≡ true → AreSummed all (e ∷ rest) count → cases_fault all ≡ Some (Cases e.at)
+summed_wide all e rest count w c = c.wide ∙ ap (λ b. found b e rest) w

@@ -1,0 +1,10 @@
+use Rattle.std.proofs.Common.{◌≡◌, length}
+use Rattle.lang_grammar.specs.Depth.{verdict}
+use Rattle.lang_grammar.specs.View.{symbol_kind, plain_kind, stack_of}
+use Rattle.lang_grammar.proofs.machine.advance.Given as goal
+
+abbrev pub invariant-loop-goal : goal.invariant-loop-goal
+invariant-loop-goal l = verdict (stack_of l.fn.stack.items) (plain_kind l.fn.kind) ≡ verdict (stack_of l.stack.items) (symbol_kind l.symbol)
+
+abbrev pub decreases-loop-goal : goal.decreases-loop-goal
+decreases-loop-goal l = length l.stack.items

@@ -1,0 +1,30 @@
+-- The faults of a text's grammar, told by trees alone.
+use Rattle.std.specs.Prelude.{◌≡◌, ◌≤◌, ◌<◌, ◌++◌, length, ℕ, List, [], ◌∷◌, Option, Some, None}
+use Rattle.lang_grammar.specs.Grammar.{Kind, Token, token, Program, Reads, Begins, IsUnexpected}
+use Rattle.lang_grammar.specs.Depth.{opens, Scan, whole, short, unexpected, nested}
+
+-- None of these opens one construct too many.
+abbrev pub AllShallow : List (Option ℕ) → Type 0
+AllShallow [] = Unit {0}
+AllShallow (None ∷ os) = AllShallow os
+AllShallow (Some d ∷ os) = (d < 64) × AllShallow os
+
+-- There is a number for each of these tokens, and each program that begins with them opens so many constructs at them.
+abbrev pub Opens : List Token → List (Option ℕ) → Type 0
+Opens front depths =
+    (length depths ≡ length front)
+    × ((p : Program) (rest : List Token) → Reads (front ++ rest) p → (more : List (Option ℕ)) × (opens p ≡ depths ++ more))
+
+-- The tokens begin a sentence, and none of them opens one construct too many.
+abbrev pub Fine : List Token → Type 0
+Fine front = Begins front × ((depths : List (Option ℕ)) × Opens front depths × AllShallow depths)
+
+-- What is found out about a text.
+abbrev pub Finds : Scan → List Token → Type 0
+Finds whole ts = ((p : Program) × Reads ts p) × Fine ts
+Finds short ts = Fine ts
+Finds (unexpected a) ts =
+    (front : List Token) × (k : Kind) × (rest : List Token) × (ts ≡ front ++ token k a ∷ rest) × IsUnexpected front (token k a) × Fine front
+Finds (nested a) ts =
+    (front : List Token) × (k : Kind) × (rest : List Token) × (ts ≡ front ++ token k a ∷ rest) × Fine front × Begins (front ++ token k a ∷ [])
+    × ((depths : List (Option ℕ)) × (d : ℕ) × Opens (front ++ token k a ∷ []) (depths ++ Some d ∷ []) × (64 ≤ d))

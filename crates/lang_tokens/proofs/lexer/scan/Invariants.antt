@@ -1,0 +1,12 @@
+use Rattle.std.proofs.Common.{◌-◌, ◌≤◌, length, drop}
+use Rattle.lang_tokens.specs.Reading.{ReadsUpTo}
+use Rattle.lang_tokens.proofs.lexer.scan.Given as goal
+
+abbrev pub invariant-loop-at : goal.invariant-loop-at
+invariant-loop-at l = record {
+  reads : ReadsUpTo l.text l.at l.tokens.items (drop l.at l.text);
+  within : l.at ≤ length l.text;
+}
+
+abbrev pub decreases-loop-at : goal.decreases-loop-at
+decreases-loop-at l = length l.text - l.at

@@ -1,0 +1,7 @@
+use Rattle.std.proofs.Common.{◌≡◌, ◌≤◌, take}
+use Rattle.std.specs.Str.Parse.{digits_value}
+use Rattle.lang_tokens.specs.Lexemes.{greatest_literal}
+use Rattle.lang_tokens.proofs.number.literal_value.Given as goal
+
+abbrev pub invariant-loop-byte : goal.invariant-loop-byte
+invariant-loop-byte l = (l.value ≡ digits_value 10 (take l.byte-index l.digits)) × (l.value ≤ greatest_literal)

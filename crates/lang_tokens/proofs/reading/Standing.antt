@@ -1,0 +1,90 @@
+-- What stands first in the rest of a text, from what the parts of the lexer measure.
+use Rattle.std.proofs.Common.{◌≡◌, ◌≤◌, ◌<◌, ℕ, Bool, true, false, List, [], ◌∷◌, length, take, drop, get_or, refl, arith, Some, None}
+use Rattle.std.proofs.lemmas.List.{take-append-drop, length-take-le}
+use Rattle.std.proofs.lemmas.List.Sums.{prefix_len-le-length}
+use Rattle.std.specs.List.{prefix_len}
+use Rattle.std.specs.Str.Parse.{digits_value}
+use Rattle.lang_tokens.specs.Bytes.{is_blank, is_letter, is_digit, is_word_byte}
+use Rattle.lang_tokens.specs.declared.token.Kind.{Kind}
+use Rattle.lang_tokens.specs.Lexemes.{IsToken, is_word, is_numeral, longest_word, greatest_literal}
+use Rattle.lang_tokens.specs.Reading.{blank, token, IsLongest, IsApart}
+use Rattle.lang_tokens.specs.Faults.{IsBadNumber, IsLongNumber, IsLongName, is_bad}
+use Rattle.lang_tokens.specs.Steps.{StandsFirst}
+use Rattle.lang_tokens.proofs.lexemes.Longest.{word_longest, word_run, numeral_longest, numeral_run}
+
+-- A front of this length is the longest lexeme, and passes the test of its class.
+pub record IsLongestFront (test : List ℕ → Bool) (rest : List ℕ) (len : ℕ) : Type 0 where
+  -- the front is the longest lexeme
+  pub longest : IsLongest (take len rest) (drop len rest)
+  -- the front passes the test of its class
+  pub passes : test (take len rest) ≡ true
+  -- the front has this length
+  pub length_is : length (take len rest) ≡ len
+
+-- where the rest starts with a letter, its front of word bytes is the longest lexeme, and a word
+pub word_front : (rest : List ℕ) (len : ℕ) → len ≡ prefix_len is_word_byte rest → 1 ≤ length rest → is_letter (get_or rest 0 0) ≡ true → IsLongestFront is_word rest len
+word_front [] len e some letter = absurd (omega arith)
+word_front (b ∷ bs) len e some letter = rw e record {
+  longest = word_longest b bs letter;
+  passes = word_run b bs letter;
+  length_is = length-take-le _ (b ∷ bs) (prefix_len-le-length is_word_byte (b ∷ bs));
+}
+
+-- where the rest starts with a digit, its front of digits is the longest lexeme, and a numeral
+pub numeral_front : (rest : List ℕ) (len : ℕ) → len ≡ prefix_len is_digit rest → 1 ≤ length rest → is_digit (get_or rest 0 0) ≡ true → IsLongestFront is_numeral rest len
+numeral_front [] len e some digit = absurd (omega arith)
+numeral_front (b ∷ bs) len e some digit = rw e record {
+  longest = numeral_longest b bs digit;
+  passes = numeral_run b bs digit;
+  length_is = length-take-le _ (b ∷ bs) (prefix_len-le-length is_digit (b ∷ bs));
+}
+
+-- a longest front that is a token stands first
+pub token_stands : {test : List ℕ → Bool} (rest : List ℕ) (len : ℕ) (kind : Kind) → IsLongestFront test rest len → IsToken kind (take len rest) → IsApart kind (drop len rest) → StandsFirst rest (record { kind = Some kind; len = len })
+token_stands rest len kind front is_token apart = record {
+  piece = token kind (take len rest);
+  after = drop len rest;
+  split = take-append-drop len rest;
+  fits = record { is_token = is_token; longest = front.longest; apart = apart };
+  length_is = front.length_is;
+  kind_is = refl;
+}
+
+-- a longest front that is a word of too many bytes is a long name
+pub long_name : (rest : List ℕ) (len : ℕ) → IsLongestFront is_word rest len → longest_word < len → IsLongName rest
+long_name rest len front long = record {
+  bytes = take len rest;
+  after = drop len rest;
+  split = take-append-drop len rest;
+  longest = front.longest;
+  word = front.passes;
+  long = rw front.length_is long;
+}
+
+-- a longest front that is a malformed numeral is a bad number
+pub bad_number : (rest : List ℕ) (len : ℕ) → IsLongestFront is_numeral rest len → is_bad (take len rest) (drop len rest) ≡ true → IsBadNumber rest
+bad_number rest len front bad = record {
+  bytes = take len rest;
+  after = drop len rest;
+  split = take-append-drop len rest;
+  longest = front.longest;
+  digits = front.passes;
+  bad = bad;
+}
+
+-- a longest front that is a numeral past the greatest literal is a long number
+pub long_number : (rest : List ℕ) (len : ℕ) → IsLongestFront is_numeral rest len → is_bad (take len rest) (drop len rest) ≡ false → greatest_literal < digits_value 10 (take len rest) → IsLongNumber rest
+long_number rest len front good great = record {
+  bytes = take len rest;
+  after = drop len rest;
+  split = take-append-drop len rest;
+  longest = front.longest;
+  digits = front.passes;
+  good = good;
+  great = great;
+}
+
+-- a blank byte stands first as a blank
+pub blank_stands : (rest : List ℕ) → 1 ≤ length rest → is_blank (get_or rest 0 0) ≡ true → StandsFirst rest (record { kind = None; len = 1 })
+blank_stands [] some is = absurd (omega arith)
+blank_stands (b ∷ bs) some is = record { piece = blank b; after = bs; split = refl; fits = is; length_is = refl; kind_is = refl }

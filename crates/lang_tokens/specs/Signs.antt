@@ -1,0 +1,33 @@
+-- How the signs are spelled.
+use Rattle.std.specs.Prelude.{ℕ, List, codes}
+use Rattle.lang_tokens.specs.declared.sign.Sign.{Sign}
+use Rattle.lang_tokens.specs.declared.sign.Sign.TheVariants.{LeftParen, RightParen, LeftBrace, RightBrace, Comma, Semicolon, Colon, Assign, PlusAssign}
+use Rattle.lang_tokens.specs.declared.sign.Sign.TheVariants.{MinusAssign, Increment, Decrement, Plus, Minus, Star, Bang, Less, LessEqual, Greater, GreaterEqual}
+use Rattle.lang_tokens.specs.declared.sign.Sign.TheVariants.{EqualEqual, BangEqual, AndAnd, OrOr}
+
+-- the bytes of a sign
+abbrev pub sign_bytes : Sign → List ℕ
+sign_bytes LeftParen = codes "("
+sign_bytes RightParen = codes ")"
+sign_bytes LeftBrace = codes "{"
+sign_bytes RightBrace = codes "}"
+sign_bytes Comma = codes ","
+sign_bytes Semicolon = codes ";"
+sign_bytes Colon = codes ":"
+sign_bytes Assign = codes "="
+sign_bytes PlusAssign = codes "+="
+sign_bytes MinusAssign = codes "-="
+sign_bytes Increment = codes "++"
+sign_bytes Decrement = codes "--"
+sign_bytes Plus = codes "+"
+sign_bytes Minus = codes "-"
+sign_bytes Star = codes "*"
+sign_bytes Bang = codes "!"
+sign_bytes Less = codes "<"
+sign_bytes LessEqual = codes "<="
+sign_bytes Greater = codes ">"
+sign_bytes GreaterEqual = codes ">="
+sign_bytes EqualEqual = codes "=="
+sign_bytes BangEqual = codes "!="
+sign_bytes AndAnd = codes "&&"
+sign_bytes OrOr = codes "||"

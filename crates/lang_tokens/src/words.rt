@@ -1,0 +1,42 @@
+//! Names and reserved words.
+
+ghost use Rattle.std.specs.Prelude.{◌≡◌, ◌≤◌, length, slice_index, IsTrue};
+ghost use Rattle.std.specs.List.{prefix_len};
+ghost use Rattle.lang_tokens.specs.Bytes.{is_letter, is_word_byte};
+ghost use Rattle.lang_tokens.specs.Steps.{Finds};
+
+use crate::byte::is_word_byte;
+use crate::fault::LexFault;
+use crate::found::Found;
+use crate::reserved::reserved;
+use crate::token::Kind;
+
+/// The most bytes that a word has.
+const LONGEST_WORD: usize = 32;
+
+// How many letters and digits stand first.
+fn word_len(rest: &[u8]) -> usize
+    ensures { result ≡ prefix_len is_word_byte rest.now }
+{
+    rest.iter().take_while(|byte| is_word_byte(**byte)).count()
+}
+
+/// The word that starts with the letter that stands first; `at` is its place.
+pub fn word(rest: &[u8], at: u32) -> Result<Found, LexFault>
+    requires some { 1 ≤ length rest.now }
+    requires letter { IsTrue (is_letter (slice_index rest.now 0)) }
+    ensures { Finds rest.now at result }
+{
+    let len = word_len(rest);
+    if len > LONGEST_WORD {
+        return Err(LexFault::LongName { at });
+    }
+    let kind = match reserved(&rest[..len]) {
+        Some(word) => Kind::Word(word),
+        None => Kind::Name,
+    };
+    Ok(Found {
+        kind: Some(kind),
+        len,
+    })
+}

@@ -1,0 +1,230 @@
+-- A code of the trees, by which a proof tells a block's values apart. It is no part of their meaning.
+use Rattle.std.specs.Prelude.{◌≡◌, ℕ, zero, suc, ℤ, pos, negsuc, List, [], ◌∷◌, refl}
+use Rattle.std.proofs.Common.{ap, ap₂, sym, ◌∙◌}
+use base.Stored.{Coded, Gv, gcons, gnil, gnum}
+use Rattle.lang_tree.specs.declared.form.Form.{Form}
+use Rattle.lang_tree.specs.declared.cond.Rel.{Rel}
+use Rattle.lang_tree.specs.declared.cond.Rel.TheVariants.{Eq, Ne, Lt, Le, Gt, Ge}
+use Rattle.lang_tree.specs.declared.change.Change.{Change}
+use Rattle.lang_tree.specs.declared.change.Change.TheVariants as change
+use Rattle.lang_tree.specs.Tree.{Condition, free, compare, negation, both, either, LoopKind, while_loop, for_loop, do_loop, Jump, breaks, continues}
+use Rattle.lang_tree.specs.Tree.{Statement, Statements, set, havoc, assume, branch, loop, jump, label, nil, cons}
+
+-- ---- numbers, names and forms
+-- the code of a number
+abbrev pub int_code : ℤ → Gv
+int_code (pos n) = gcons gnil (gnum n)
+int_code (negsuc n) = gnum n
+
+int_from : Gv → ℤ
+int_from (gnum n) = negsuc n
+int_from (gcons a (gnum n)) = pos n
+int_from g = pos 0
+
+int_back : (z : ℤ) → int_from (int_code z) ≡ z
+unfolding int_from
+int_back (pos n) = refl
+int_back (negsuc n) = refl
+
+-- the code of a list of numbers
+abbrev pub ints_code : List ℤ → Gv
+ints_code [] = gnil
+ints_code (z ∷ zs) = gcons (int_code z) (ints_code zs)
+
+ints_from : Gv → List ℤ
+ints_from (gcons z zs) = int_from z ∷ ints_from zs
+ints_from g = []
+
+ints_back : (zs : List ℤ) → ints_from (ints_code zs) ≡ zs
+unfolding ints_from
+ints_back [] = refl
+ints_back (z ∷ zs) = ap₂ ◌∷◌ (int_back z) (ints_back zs)
+
+-- the code of a name
+abbrev pub name_code : List ℕ → Gv
+name_code [] = gnil
+name_code (b ∷ bs) = gcons (gnum b) (name_code bs)
+
+name_from : Gv → List ℕ
+name_from (gcons (gnum b) bs) = b ∷ name_from bs
+name_from g = []
+
+name_back : (bs : List ℕ) → name_from (name_code bs) ≡ bs
+unfolding name_from
+name_back [] = refl
+name_back (b ∷ bs) = ap (λ r. b ∷ r) (name_back bs)
+
+-- the code of a form
+abbrev pub form_code : Form → Gv
+form_code f = gcons (int_code f.constant) (ints_code f.coeffs)
+
+form_from : Gv → Form
+form_from (gcons c cs) = record { coeffs = ints_from cs; constant = int_from c }
+form_from g = record { coeffs = []; constant = pos 0 }
+
+form_back : (f : Form) → form_from (form_code f) ≡ f
+unfolding form_from
+form_back f = ap₂ (λ cs c. let r : Form = record { coeffs = cs; constant = c } in r) (ints_back f.coeffs) (int_back f.constant)
+
+-- ---- conditions
+-- the code of a relation
+abbrev pub rel_code : Rel → Gv
+rel_code Eq = gnum 0
+rel_code Ne = gnum 1
+rel_code Lt = gnum 2
+rel_code Le = gnum 3
+rel_code Gt = gnum 4
+rel_code Ge = gnum 5
+
+rel_from : Gv → Rel
+rel_from (gnum zero) = Eq
+rel_from (gnum (suc zero)) = Ne
+rel_from (gnum (suc (suc zero))) = Lt
+rel_from (gnum (suc (suc (suc zero)))) = Le
+rel_from (gnum (suc (suc (suc (suc zero))))) = Gt
+rel_from g = Ge
+
+rel_back : (r : Rel) → rel_from (rel_code r) ≡ r
+unfolding rel_from
+rel_back Eq = refl
+rel_back Ne = refl
+rel_back Lt = refl
+rel_back Le = refl
+rel_back Gt = refl
+rel_back Ge = refl
+
+-- the code of a condition
+abbrev pub condition_code : Condition → Gv
+condition_code free = gnil
+condition_code (compare r f) = gcons (gnum 0) (gcons (rel_code r) (form_code f))
+condition_code (negation c) = gcons (gnum 1) (condition_code c)
+condition_code (both c d) = gcons (gnum 2) (gcons (condition_code c) (condition_code d))
+condition_code (either c d) = gcons (gnum 3) (gcons (condition_code c) (condition_code d))
+
+condition_from : Gv → Condition
+condition_from (gcons (gnum zero) (gcons r f)) = compare (rel_from r) (form_from f)
+condition_from (gcons (gnum (suc zero)) c) = negation (condition_from c)
+condition_from (gcons (gnum (suc (suc zero))) (gcons c d)) = both (condition_from c) (condition_from d)
+condition_from (gcons (gnum (suc (suc (suc k)))) (gcons c d)) = either (condition_from c) (condition_from d)
+condition_from g = free
+
+condition_back : (c : Condition) → condition_from (condition_code c) ≡ c
+unfolding condition_from
+condition_back free = refl
+condition_back (compare r f) = ap₂ compare (rel_back r) (form_back f)
+condition_back (negation c) = ap negation (condition_back c)
+condition_back (both c d) = ap₂ both (condition_back c) (condition_back d)
+condition_back (either c d) = ap₂ either (condition_back c) (condition_back d)
+
+-- ---- loops and jumps
+-- the code of a change
+abbrev pub change_code : Change → Gv
+change_code change.Unchanged = gnil
+change_code (change.Set var form line) = gcons (form_code form) (gcons (gnum var) (gnum line))
+change_code (change.Havoc var line) = gcons gnil (gcons (gnum var) (gnum line))
+
+change_from : Gv → Change
+change_from (gcons (gcons c cs) (gcons (gnum var) (gnum line))) = change.Set var (form_from (gcons c cs)) line
+change_from (gcons gnil (gcons (gnum var) (gnum line))) = change.Havoc var line
+change_from g = change.Unchanged
+
+change_back : (c : Change) → change_from (change_code c) ≡ c
+unfolding change_from
+change_back change.Unchanged = refl
+change_back (change.Set var form line) = ap (λ f. change.Set var f line) (form_back form)
+change_back (change.Havoc var line) = refl
+
+-- the code of a kind of loop
+abbrev pub kind_code : LoopKind → Gv
+kind_code while_loop = gnum 0
+kind_code (for_loop c) = gcons gnil (change_code c)
+kind_code do_loop = gnum 1
+
+kind_from : Gv → LoopKind
+kind_from (gnum zero) = while_loop
+kind_from (gcons g c) = for_loop (change_from c)
+kind_from g = do_loop
+
+kind_back : (k : LoopKind) → kind_from (kind_code k) ≡ k
+unfolding kind_from
+kind_back while_loop = refl
+kind_back (for_loop c) = ap for_loop (change_back c)
+kind_back do_loop = refl
+
+-- the code of a jump
+abbrev pub jump_code : Jump → Gv
+jump_code breaks = gnum 0
+jump_code continues = gnum 1
+
+jump_from : Gv → Jump
+jump_from (gnum zero) = breaks
+jump_from g = continues
+
+jump_back : (j : Jump) → jump_from (jump_code j) ≡ j
+unfolding jump_from
+jump_back breaks = refl
+jump_back continues = refl
+
+-- ---- statements
+abbrev mutual
+  -- the code of a statement
+  pub statement_code : Statement → Gv
+  statement_code (set var form line) = gcons (gnum 0) (gcons (gnum var) (gcons (form_code form) (gnum line)))
+  statement_code (havoc var line) = gcons (gnum 1) (gcons (gnum var) (gnum line))
+  statement_code (assume cond line) = gcons (gnum 2) (gcons (condition_code cond) (gnum line))
+  statement_code (branch cond first second line) =
+      gcons (gnum 3) (gcons (condition_code cond) (gcons (statements_code first) (gcons (statements_code second) (gnum line))))
+  statement_code (loop kind cond body line) =
+      gcons (gnum 4) (gcons (kind_code kind) (gcons (condition_code cond) (gcons (statements_code body) (gnum line))))
+  statement_code (jump kind line) = gcons (gnum 5) (gcons (jump_code kind) (gnum line))
+  statement_code (label name line) = gcons (gnum 6) (gcons (name_code name) (gnum line))
+
+  -- the code of a list of statements
+  pub statements_code : Statements → Gv
+  statements_code nil = gnil
+  statements_code (cons s rest) = gcons (statement_code s) (statements_code rest)
+
+mutual
+  statement_from : Gv → Statement
+  statement_from (gcons (gnum zero) (gcons (gnum var) (gcons form (gnum line)))) = set var (form_from form) line
+  statement_from (gcons (gnum (suc zero)) (gcons (gnum var) (gnum line))) = havoc var line
+  statement_from (gcons (gnum (suc (suc zero))) (gcons cond (gnum line))) = assume (condition_from cond) line
+  statement_from (gcons (gnum (suc (suc (suc zero)))) (gcons cond (gcons first (gcons second (gnum line))))) =
+      branch (condition_from cond) (statements_from first) (statements_from second) line
+  statement_from (gcons (gnum (suc (suc (suc (suc zero))))) (gcons kind (gcons cond (gcons body (gnum line))))) =
+      loop (kind_from kind) (condition_from cond) (statements_from body) line
+  statement_from (gcons (gnum (suc (suc (suc (suc (suc zero)))))) (gcons kind (gnum line))) = jump (jump_from kind) line
+  statement_from (gcons (gnum (suc (suc (suc (suc (suc (suc k))))))) (gcons name (gnum line))) = label (name_from name) line
+  statement_from g = havoc 0 0
+
+  statements_from : Gv → Statements
+  statements_from (gcons s rest) = cons (statement_from s) (statements_from rest)
+  statements_from g = nil
+
+mutual
+  unfolding statement_from statements_from
+
+  statement_back : (s : Statement) → statement_from (statement_code s) ≡ s
+  statement_back (set var form line) = ap (λ f. set var f line) (form_back form)
+  statement_back (havoc var line) = refl
+  statement_back (assume cond line) = ap (λ c. assume c line) (condition_back cond)
+  statement_back (branch cond first second line) =
+      ap₂ (λ c f. branch c f (statements_from (statements_code second)) line) (condition_back cond) (statements_back first)
+      ∙ ap (λ s. branch cond first s line) (statements_back second)
+  statement_back (loop kind cond body line) =
+      ap₂ (λ k c. loop k c (statements_from (statements_code body)) line) (kind_back kind) (condition_back cond)
+      ∙ ap (λ b. loop kind cond b line) (statements_back body)
+  statement_back (jump kind line) = ap (λ j. jump j line) (jump_back kind)
+  statement_back (label name line) = ap (λ n. label n line) (name_back name)
+
+  statements_back : (ss : Statements) → statements_from (statements_code ss) ≡ ss
+  statements_back nil = refl
+  statements_back (cons s rest) = ap₂ cons (statement_back s) (statements_back rest)
+
+-- two lists of statements with one code are the same
+pub statements_inj : (x y : Statements) → statements_code x ≡ statements_code y → x ≡ y
+statements_inj x y e = sym (statements_back x) ∙ ap statements_from e ∙ statements_back y
+
+-- statements are told apart by their codes
+abbrev pub coded_statements : Coded Statements
+coded_statements = record { code = statements_code; inj = statements_inj }

@@ -1,0 +1,111 @@
+-- Runs of a program over integer states, by the list of work that is left to do.
+use Rattle.std.specs.Prelude.{◌≡◌, ℕ, ℤ, ◌+◌, Bool, true, List, [], ◌∷◌, ◌++◌, length, slice_set, if◌then◌else◌}
+use Rattle.lang_tree.specs.declared.change.Change.{Change}
+use Rattle.lang_tree.specs.declared.change.Change.TheVariants as change
+use Rattle.lang_tree.specs.Tree.{Condition, LoopKind, while_loop, for_loop, do_loop, breaks, continues}
+use Rattle.lang_tree.specs.Tree.{Statement, Statements, set, havoc, assume, branch, loop, jump, label, nil, cons}
+use Rattle.lang_tree.specs.Meaning.{State, value, MayBe}
+use Rattle.lang_tree.specs.PointNumbers.{splits, points_of, points_in, join_of, exit_of}
+
+-- a node: a statement with the number of the first point that it makes; the mark of a point;
+-- the turn of a loop that tests its condition before its body; or the end of a loop's body
+pub data Item : Type 0 where
+  node : Statement → ℕ → Item
+  mark : ℕ → Item
+  turn : (kind : LoopKind) (cond : Condition) (body : Statements) (line head : ℕ) → Item
+  end : (kind : LoopKind) (cond : Condition) (body : Statements) (line head : ℕ) → Item
+
+-- the nodes of a list of statements, the first point that they make being n
+abbrev pub nodes : Statements → ℕ → List Item
+nodes nil n = []
+nodes (cons s rest) n = node s n ∷ nodes rest (n + points_of s)
+
+-- what a run starts with: the entry's mark, the program's nodes, the exit's mark
+abbrev pub start_work : Statements → List Item
+start_work body = mark 0 ∷ (nodes body 1 ++ mark (exit_of body) ∷ [])
+
+-- an `if` goes into the first branch where its condition may be true, into the second where it may be false, and on to its join
+abbrev pub branch_work : Bool → Statements → Statements → ℕ → List Item → List Item
+branch_work truth first second n rest = (if truth then nodes first n else nodes second (n + points_in first)) ++ (mark (join_of first second n) ∷ rest)
+
+-- the body of a loop whose head is n, and its end
+abbrev pub body_work : LoopKind → Condition → Statements → (line n : ℕ) → List Item → List Item
+body_work kind c body line n rest = nodes body (n + 1) ++ (end kind c body line n ∷ rest)
+
+-- behind its head a `while` and a `for` test their condition, a `do` goes into its body
+abbrev pub head_work : LoopKind → Condition → Statements → (line n : ℕ) → List Item → List Item
+head_work while_loop c body line n rest = turn while_loop c body line n ∷ rest
+head_work (for_loop g) c body line n rest = turn (for_loop g) c body line n ∷ rest
+head_work do_loop c body line n rest = body_work do_loop c body line n rest
+
+-- a turn goes into the body where the condition may be true, and past the loop where it may be false
+abbrev pub turn_work : Bool → LoopKind → Condition → Statements → (line n : ℕ) → List Item → List Item
+turn_work truth kind c body line n rest = if truth then body_work kind c body line n rest else rest
+
+-- the statement that a change is comes first; it makes no point
+abbrev pub change_work : Change → List Item → List Item
+change_work change.Unchanged rest = rest
+change_work (change.Set var form line) rest = node (set var form line) 0 ∷ rest
+change_work (change.Havoc var line) rest = node (havoc var line) 0 ∷ rest
+
+-- the end of a `do` goes to its head where the condition may be true, and past the loop where it may be false
+abbrev pub repeat_work : Bool → Condition → Statements → (line n : ℕ) → List Item → List Item
+repeat_work truth c body line n rest = if truth then node (loop do_loop c body line) n ∷ rest else rest
+
+-- the work past the innermost loop: all up to the first end of a loop is dropped, and this end
+abbrev pub past_loop : List Item → List Item
+past_loop [] = []
+past_loop (node s n ∷ rest) = past_loop rest
+past_loop (mark p ∷ rest) = past_loop rest
+past_loop (turn kind c body line n ∷ rest) = past_loop rest
+past_loop (end kind c body line n ∷ rest) = rest
+
+-- the work from the end of the innermost loop's body on: all before the first end of a loop is dropped
+abbrev pub end_of_body : List Item → List Item
+end_of_body [] = []
+end_of_body (node s n ∷ rest) = end_of_body rest
+end_of_body (mark p ∷ rest) = end_of_body rest
+end_of_body (turn kind c body line n ∷ rest) = end_of_body rest
+end_of_body (end kind c body line n ∷ rest) = end kind c body line n ∷ rest
+
+-- one step with the first item, behind which `rest` is left, in a state: the work and the state after it
+abbrev pub Does : Item → (rest : List Item) → State → List Item → State → Type 0
+Does (mark p) rest x work y = (work ≡ rest) × (y ≡ x)
+Does (node (set var form line) n) rest x work y = (work ≡ rest) × (y ≡ slice_set x var (value form x))
+Does (node (havoc var line) n) rest x work y = (z : ℤ) × (work ≡ rest) × (y ≡ slice_set x var z)
+Does (node (assume c line) n) rest x work y = MayBe true c x × (work ≡ (if splits c then mark n ∷ rest else rest)) × (y ≡ x)
+Does (node (branch c first second line) n) rest x work y = (truth : Bool) × MayBe truth c x × (work ≡ branch_work truth first second n rest) × (y ≡ x)
+Does (node (loop kind c body line) n) rest x work y = (work ≡ mark n ∷ head_work kind c body line n rest) × (y ≡ x)
+Does (node (jump breaks line) n) rest x work y = (work ≡ past_loop rest) × (y ≡ x)
+Does (node (jump continues line) n) rest x work y = (work ≡ end_of_body rest) × (y ≡ x)
+Does (node (label name line) n) rest x work y = (work ≡ mark n ∷ rest) × (y ≡ x)
+Does (turn kind c body line n) rest x work y = (truth : Bool) × MayBe truth c x × (work ≡ turn_work truth kind c body line n rest) × (y ≡ x)
+Does (end while_loop c body line n) rest x work y = (work ≡ node (loop while_loop c body line) n ∷ rest) × (y ≡ x)
+Does (end (for_loop g) c body line n) rest x work y = (work ≡ change_work g (node (loop (for_loop g) c body line) n ∷ rest)) × (y ≡ x)
+Does (end do_loop c body line n) rest x work y = (truth : Bool) × MayBe truth c x × (work ≡ repeat_work truth c body line n rest) × (y ≡ x)
+
+-- the work that is left, and a state
+pub record Configuration : Type 0 where
+  pub work : List Item
+  pub state : State
+
+-- a step does the first item
+pub record Step (before after : Configuration) : Type 0 where
+  pub item : Item
+  pub rest : List Item
+  pub first : before.work ≡ item ∷ rest
+  pub does : Does item rest before.state after.work after.state
+
+-- each configuration is a step from the one before it
+abbrev pub Follows : Configuration → List Configuration → Type 0
+Follows c [] = Unit {0}
+Follows c (d ∷ ds) = Step c d × Follows d ds
+
+-- a run of a program: a list of configurations, the first of which is the start work with any state of so many variables
+abbrev pub IsRun : ℕ → Statements → List Configuration → Type 0
+IsRun variables body [] = ⊥
+IsRun variables body (c ∷ cs) = (c.work ≡ start_work body) × (length c.state ≡ variables) × Follows c cs
+
+-- a configuration is at a point where the point's mark is the first item
+abbrev pub IsAt : Configuration → ℕ → Type 0
+IsAt c p = (rest : List Item) × (c.work ≡ mark p ∷ rest)

@@ -1,0 +1,38 @@
+-- The plain trees that the types of the code stand for.
+use Rattle.std.specs.Prelude.{List, [], ◌∷◌}
+use Rattle.lang_tree.specs.declared.cond.Cond.{Cond, fold-Cond}
+use Rattle.lang_tree.specs.declared.cond.Cond.TheOpen.{Cond-F}
+use Rattle.lang_tree.specs.declared.stmt.Stmt.{Stmt}
+use Rattle.lang_tree.specs.declared.stmt.Stmt.TheVariants.{Set, Havoc, Assume, If, While, Do, For, Break, Continue, Label}
+use Rattle.lang_tree.specs.Tree.{Condition, free, compare, negation, both, either, Statement, Statements, set, havoc, assume, branch, loop, jump, label, nil, cons}
+use Rattle.lang_tree.specs.Tree.{while_loop, for_loop, do_loop, breaks, continues}
+
+-- one level of a condition
+abbrev pub condition_step : Cond-F Condition → Condition
+condition_step Cond-F.Free = free
+condition_step (Cond-F.Cmp rel form) = compare rel form
+condition_step (Cond-F.Not c) = negation c.value
+condition_step (Cond-F.Both c d) = both c.value d.value
+condition_step (Cond-F.Either c d) = either c.value d.value
+
+-- the tree of a condition
+abbrev pub condition_of : Cond → Condition
+condition_of = fold-Cond Condition condition_step
+
+-- the tree of a statement, whose blocks are trees already
+abbrev pub statement_of : Stmt → Statement
+statement_of (Set var form line) = set var form line
+statement_of (Havoc var line) = havoc var line
+statement_of (Assume cond line) = assume (condition_of cond) line
+statement_of (If cond first second line) = branch (condition_of cond) first second line
+statement_of (While cond body line) = loop while_loop (condition_of cond) body line
+statement_of (Do cond body line) = loop do_loop (condition_of cond) body line
+statement_of (For cond change body line) = loop (for_loop change) (condition_of cond) body line
+statement_of (Break line) = jump breaks line
+statement_of (Continue line) = jump continues line
+statement_of (Label name line) = label name line
+
+-- the trees of a list of statements
+abbrev pub statements_of : List Stmt → Statements
+statements_of [] = nil
+statements_of (s ∷ ss) = cons (statement_of s) (statements_of ss)

@@ -1,0 +1,42 @@
+//! Conditions.
+
+ghost use Rattle.std.specs.Prelude.{◌≡◌, ◌<◌, ◌^◌};
+ghost use Rattle.lang_tree.specs.Tree.{leaf_count};
+ghost use Rattle.lang_tree.specs.View.{condition_of};
+
+use crate::form::Form;
+
+/// How a form is compared with 0.
+#[derive(Clone, Copy, Debug, PartialEq, Eq)]
+pub enum Rel {
+    Eq,
+    Ne,
+    Lt,
+    Le,
+    Gt,
+    Ge,
+}
+
+/// A condition: `nondet()`, a comparison of a form with 0, or made of conditions by `!`, `&&` and `||`.
+#[derive(Drop)]
+pub enum Cond {
+    Free,
+    Cmp(Rel, Form),
+    Not(Box<Cond>),
+    Both(Box<Cond>, Box<Cond>),
+    Either(Box<Cond>, Box<Cond>),
+}
+
+/// The number of `Free` and `Cmp` nodes.
+pub fn leaves(cond: &Cond) -> u32
+    requires { leaf_count (condition_of cond.now) < 2 ^ 32 }
+    ensures { result ≡ leaf_count (condition_of cond.now) }
+{
+    match cond {
+        Cond::Free => 1,
+        Cond::Cmp(_, _) => 1,
+        Cond::Not(inner) => leaves(inner),
+        Cond::Both(first, second) => leaves(first) + leaves(second),
+        Cond::Either(first, second) => leaves(first) + leaves(second),
+    }
+}

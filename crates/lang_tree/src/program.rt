@@ -1,0 +1,27 @@
+//! Programs.
+
+ghost use Rattle.std.specs.Prelude.{◌≡◌, IsTrue, length};
+ghost use Rattle.lang_tree.specs.Tree.{nodes_in};
+ghost use Rattle.lang_tree.specs.Limits.{is_program};
+
+use crate::name::Names;
+use crate::stmt::{Block, nodes_in};
+
+/// A program: its variables in order of declaration, and its statements.
+///
+/// It has 1 to `MOST_VARIABLES` variables and at most 512 statements; each condition has at most 64 leaves; each statement's variable
+/// is one of the program's; each form has one coefficient for each variable; each number is within `2^63 - 1` in
+/// absolute value, and the constant of a comparison within `2^63 - 2`; each `Break` and `Continue` stands in a loop's body.
+#[derive(Drop)]
+pub struct Program {
+    pub names: Names,
+    pub body: Block,
+    pub ghost within_limits: { IsTrue (is_program (length names) body) },
+}
+
+/// The number of the program's statements, those inside others and the changes of `for` included.
+pub fn statements(program: &Program) -> u32
+    ensures { result ≡ nodes_in program.now.body }
+{
+    nodes_in(&program.body)
+}

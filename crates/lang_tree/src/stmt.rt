@@ -1,0 +1,150 @@
+//! Statements.
+
+ghost use Rattle.std.specs.Prelude.{◌≡◌, ◌<◌, ◌^◌};
+ghost use Rattle.lang_tree.specs.Tree.{change_count, node_count, nodes_in};
+ghost use Rattle.lang_tree.specs.View.{statement_of, statements_of};
+
+use crate::change::Change;
+use crate::cond::Cond;
+use crate::form::Form;
+use crate::name::Name;
+use std::marker::Model;
+
+/// A statement. Variables are numbered from 0 in order of declaration, lines from 1.
+#[cycle(tree)]
+#[derive(Drop)]
+pub enum Stmt {
+    /// The variable takes the form's value.
+    Set {
+        var: u32,
+        form: Form,
+        line: u32,
+    },
+    /// The variable takes any value.
+    Havoc {
+        var: u32,
+        line: u32,
+    },
+    /// The run goes on only where the condition may be true.
+    Assume {
+        cond: Cond,
+        line: u32,
+    },
+    /// `first` where the condition may be true, `second` where it may be false.
+    If {
+        cond: Cond,
+        first: Block,
+        second: Block,
+        line: u32,
+    },
+    /// `body` again and again, as long as the condition may be true; past it where it may be false.
+    While {
+        cond: Cond,
+        body: Block,
+        line: u32,
+    },
+    /// `body`, and after it again and again, as long as the condition may be true; past it where it may be false.
+    Do {
+        cond: Cond,
+        body: Block,
+        line: u32,
+    },
+    /// As `While`, with the change after each turn of `body`, also after one that a `Continue` ends.
+    For {
+        cond: Cond,
+        change: Change,
+        body: Block,
+        line: u32,
+    },
+    /// Goes on past the innermost loop that holds it.
+    Break {
+        line: u32,
+    },
+    /// Goes on at the end of the body of the innermost loop that holds it.
+    Continue {
+        line: u32,
+    },
+    /// Names this place.
+    Label {
+        name: Name,
+        line: u32,
+    },
+}
+
+/// A list of statements.
+#[cycle(tree)]
+#[derive(Drop)]
+pub struct Block {
+    list: Vec<Stmt>,
+}
+
+impl Model for Block {
+    ghost use Rattle.lang_tree.specs.Tree.{Statements, nodes_in};
+    ghost use Rattle.lang_tree.specs.Codes.{coded_statements};
+
+    ghost Value = { Statements };
+
+    ghost coded = { coded_statements };
+
+    ghost use Rattle.lang_tree.specs.View.{statements_of};
+
+    ghost view = { λ b. statements_of b.list.items };
+
+    ghost size = { nodes_in };
+
+    ghost use Rattle.lang_tree.specs.Falls.{deep_all};
+    ghost use Rattle.std.proofs.Common.{arith};
+
+    ghost size_decreases = { λ a h. Prim.omega (arith, deep_all a.list.items) };
+}
+
+impl Block {
+    /// The list as a block.
+    pub fn new(list: Vec<Stmt>) -> Block
+        ensures { result ≡ statements_of list.items }
+    {
+        Block { list }
+    }
+
+    /// The list itself.
+    pub fn as_slice(&self) -> &[Stmt]
+        ensures { statements_of result.now ≡ self.now }
+    {
+        self.list.as_slice()
+    }
+}
+
+/// The number of statements in a block and in the blocks under it.
+#[cycle(counting)]
+pub(crate) fn nodes_in(block: &Block) -> u32
+    requires { nodes_in block.now < 2 ^ 32 }
+    ensures { result ≡ nodes_in block.now }
+{
+    let mut count = 0;
+    for stmt in block.as_slice() {
+        count += nodes(stmt);
+    }
+    count
+}
+
+#[cycle(counting)]
+fn nodes(stmt: &Stmt) -> u32
+    requires { node_count (statement_of stmt.now) < 2 ^ 32 }
+    ensures { result ≡ node_count (statement_of stmt.now) }
+{
+    match stmt {
+        Stmt::If { first, second, .. } => 1 + nodes_in(first) + nodes_in(second),
+        Stmt::While { body, .. } | Stmt::Do { body, .. } => 1 + nodes_in(body),
+        Stmt::For { change, body, .. } => 1 + change_count(change) + nodes_in(body),
+        _ => 1,
+    }
+}
+
+fn change_count(change: &Change) -> u32
+    ensures { result ≡ change_count change.now }
+{
+    match change {
+        Change::Unchanged => 0,
+        Change::Set { .. } | Change::Havoc { .. } => 1,
+    }
+}

@@ -1,0 +1,14 @@
+use Rattle.std.proofs.Common.{◌≡◌, ◌+◌, ◌*◌, ◌≤◌, suc, length, ap, ◌∙◌, arith}
+use Rattle.lp_dictionary.specs.Cells.{row_from}
+use Rattle.lp_dictionary.proofs.dict.DictReads.{placed_read}
+use Rattle.lp_dictionary.proofs.dict.DictTableau.constant.Goals as goal
+
+pub returns : goal.returns
+returns g c =
+    let d = c.args.self.now in
+    let k = d.others.ok.0 in
+    let s : c.len-width.result + 1 ≡ suc (length d.others.items) = omega arith in
+    let b : c.len-width.result ≤ length d.others.items = omega arith in
+    let e : c.len-width.result ≡ length d.others.items = omega arith in
+    placed_read g.F.OrderedField.meaning d.entries.items d.basics.items d.others.items d.goals c.args.row c.len-width.result (c.len-width.result + 1) c.index.result.now d.sized c.requires.row b s c.index.ensures
+    ∙ ap (row_from g.F.OrderedField.meaning d.entries.items (c.args.row * suc (length d.others.items))) e

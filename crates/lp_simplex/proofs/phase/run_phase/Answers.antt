@@ -1,0 +1,115 @@
+use Rattle.std.proofs.Common.{◌≡◌, ◌+◌, ℕ, true, false, Bool, length, refl, sym, ap, ap₂, ◌∙◌, subst, subst₂, arith}
+use mir.Val.{bool_byte}
+use Rattle.std.proofs.lemmas.List.{length-map}
+use Rattle.std.proofs.lemmas.Result.{err_from_is_err_and}
+use Rattle.base_numbers.specs.Rational.{ℚ}
+use Rattle.lp_theory.specs.Run.{phase_of}
+use Rattle.lp_dictionary.specs.declared.problem.Row.{Row}
+use Rattle.lp_dictionary.specs.Build.{width_of}
+use Rattle.lp_dictionary.specs.Exact.{exact}
+use Rattle.lp_simplex.specs.Choices.{StepIs, StepRefused}
+use Rattle.lp_simplex.proofs.phase.LoopSteps.{stands_first, ends_best, ends_ray, refuses, capped_next, stands_next, stands_less, ends_left}
+use Rattle.lp_simplex.proofs.phase.run_phase.Goals as goal
+
+wide_by : (b : Bool) (n : ℕ) → n + bool_byte b ≡ width_of b n
+wide_by true n = omega arith
+wide_by false n = omega arith
+
+pub loop-col-init : goal.loop-col-init
+loop-col-init g c =
+    let m = g.F.OrderedField.meaning in
+    let p = c.args.problem.now in
+    let kr = p.rows.ok.0 in
+    let kg = p.goal.ok.0 in
+    let n = length-map p.rows.items (λ (r : Row _). m r.side) in
+    let rows : c.len-rows.result ≡ (exact m p).rows = let f = c.len-rows.ensures in omega (arith, f, n, kr) in
+    let cols : c.len.result ≡ length p.goal.items = let f = c.len.ensures in omega (arith, f, kg) in
+    record {
+      stands = stands_first g.F.OrderedField.LIMIT (exact m p) c.args.auxiliary c.args.made (g.T.Tableau.table c.args.tableau.now) c.requires.begins;
+      fresh = c.requires.fresh;
+      rows = rows;
+      width = ap₂ (λ x y. x + y) cols c.from.ensures ∙ wide_by c.args.auxiliary (length p.goal.items);
+    }
+
+pub returns-in_err-make_step-clause-refused : goal.returns-in_err-make_step-clause-refused
+returns-in_err-make_step-clause-refused g c =
+    let m = g.F.OrderedField.meaning in
+    let L = g.F.OrderedField.LIMIT in
+    let P = exact m c.args.problem.now in
+    let i = c.loop-col.invariant in
+    let s = i.stands in
+    let T = g.T.Tableau.table c.loop-col.tableau in
+    let q = err_from_is_err_and c.from_residual.result c.from_residual.ensures.1 in
+    let number = capped_next ((phase_of P c.args.auxiliary).made + s.j) c.loop-col.pivots c.saturating_add-number.result s.count c.saturating_add-number.ensures in
+    let r = subst₂ (λ x y. StepRefused m L T x y c.saturating_add-number.result c.in_err-make_step.field-0.0) (i.rows ∙ sym s.rows) (i.width ∙ sym s.width) c.in_err-make_step.ensures.refused in
+    rw (q.1, q.2) (refuses L P c.args.auxiliary c.requires.begins.phase T c.loop-col.pivots s m c.saturating_add-number.result c.in_err-make_step.field-0.0 number r)
+
+pub returns-in-Optimal-clause-ends : goal.returns-in-Optimal-clause-ends
+returns-in-Optimal-clause-ends g c =
+    let m = g.F.OrderedField.meaning in
+    let L = g.F.OrderedField.LIMIT in
+    let P = exact m c.args.problem.now in
+    let i = c.loop-col.invariant in
+    let s = i.stands in
+    let T = g.T.Tableau.table c.loop-col.tableau in
+    let U = g.T.Tableau.table c.make_step.new.tableau in
+    let a = subst₂ (λ x y. StepIs L T U x y c.in_ok-make_step.field-0) (i.rows ∙ sym s.rows) (i.width ∙ sym s.width) c.in_ok-make_step.ensures.made in
+    let b = subst (StepIs L T U T.rows T.width) c.in-Optimal.is a in
+    ends_best L P c.args.auxiliary c.requires.begins.phase T c.loop-col.pivots s U b.0 b.1
+
+pub returns-in-Ray-clause-ends : goal.returns-in-Ray-clause-ends
+returns-in-Ray-clause-ends g c =
+    let m = g.F.OrderedField.meaning in
+    let L = g.F.OrderedField.LIMIT in
+    let P = exact m c.args.problem.now in
+    let i = c.loop-col.invariant in
+    let s = i.stands in
+    let T = g.T.Tableau.table c.loop-col.tableau in
+    let U = g.T.Tableau.table c.make_step.new.tableau in
+    let a = subst₂ (λ x y. StepIs L T U x y c.in_ok-make_step.field-0) (i.rows ∙ sym s.rows) (i.width ∙ sym s.width) c.in_ok-make_step.ensures.made in
+    let b = subst (StepIs L T U T.rows T.width) c.in-Ray.is a in
+    ends_ray L P c.args.auxiliary c.requires.begins.phase T c.loop-col.pivots s U c.in-Ray.col b.0 b.1 b.2
+
+pub returns-then-name-eq0-clause-ends : goal.returns-then-name-eq0-clause-ends
+returns-then-name-eq0-clause-ends g c =
+    let m = g.F.OrderedField.meaning in
+    let L = g.F.OrderedField.LIMIT in
+    let P = exact m c.args.problem.now in
+    let i = c.loop-col.invariant in
+    let s = i.stands in
+    let T = g.T.Tableau.table c.loop-col.tableau in
+    let U = g.T.Tableau.table c.make_step.new.tableau in
+    let a = subst₂ (λ x y. StepIs L T U x y c.in_ok-make_step.field-0) (i.rows ∙ sym s.rows) (i.width ∙ sym s.width) c.in_ok-make_step.ensures.made in
+    let b = subst (StepIs L T U T.rows T.width) c.in-Pivot.is a in
+    ends_left L P c.args.auxiliary c.requires.begins.phase T c.loop-col.pivots s U c.in-Pivot.name b c.saturating_add-number.result c.saturating_add-number.ensures c.if-name-eq0.true
+
+pub loop-col-smaller : goal.loop-col-smaller
+loop-col-smaller g c =
+    let m = g.F.OrderedField.meaning in
+    let L = g.F.OrderedField.LIMIT in
+    let P = exact m c.args.problem.now in
+    let i = c.loop-col.invariant in
+    let s = i.stands in
+    let T = g.T.Tableau.table c.loop-col.tableau in
+    let U = g.T.Tableau.table c.make_step.new.tableau in
+    let a = subst₂ (λ x y. StepIs L T U x y c.in_ok-make_step.field-0) (i.rows ∙ sym s.rows) (i.width ∙ sym s.width) c.in_ok-make_step.ensures.made in
+    let b = subst (StepIs L T U T.rows T.width) c.in-Pivot.is a in
+    stands_less L P c.args.auxiliary c.requires.begins.phase T c.loop-col.pivots s U c.in-Pivot.name b
+
+pub loop-col-preserved : goal.loop-col-preserved
+loop-col-preserved g c =
+    let m = g.F.OrderedField.meaning in
+    let L = g.F.OrderedField.LIMIT in
+    let P = exact m c.args.problem.now in
+    let i = c.loop-col.invariant in
+    let s = i.stands in
+    let T = g.T.Tableau.table c.loop-col.tableau in
+    let U = g.T.Tableau.table c.make_step.new.tableau in
+    let a = subst₂ (λ x y. StepIs L T U x y c.in_ok-make_step.field-0) (i.rows ∙ sym s.rows) (i.width ∙ sym s.width) c.in_ok-make_step.ensures.made in
+    let b = subst (StepIs L T U T.rows T.width) c.in-Pivot.is a in
+    record {
+      stands = stands_next L P c.args.auxiliary c.requires.begins.phase T c.loop-col.pivots s U c.in-Pivot.name b c.saturating_add-number.result c.saturating_add-number.ensures c.if-name-eq0.false;
+      fresh = c.in_ok-make_step.ensures.fresh;
+      rows = i.rows;
+      width = i.width;
+    }

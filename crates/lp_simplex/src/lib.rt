@@ -1,0 +1,13 @@
+//! The simplex method with Bland's rule in two phases, over any tableau.
+#![tactic(auto)]
+
+mod method;
+mod outcome;
+mod phase;
+mod read;
+mod scan;
+mod step;
+
+pub use method::solve;
+pub use outcome::{Outcome, SolveFault};
+pub use lp_dictionary::{Problem, Row, Tableau};

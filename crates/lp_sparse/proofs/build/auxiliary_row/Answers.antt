@@ -1,0 +1,16 @@
+use Rattle.std.proofs.Common.{true, [], ap, sym, ◌∙◌, subst}
+use Rattle.base_numbers.specs.Rational.{zero_ℚ, one_ℚ, neg_ℚ}
+use Rattle.lp_dictionary.specs.Build.{zeros, auxiliary_entries}
+use Rattle.lp_dictionary.proofs.listed.DictBuilds.{length-zeros}
+use Rattle.lp_sparse.specs.Build.{end_pushed}
+use Rattle.lp_sparse.specs.Keeps.{Lists}
+use Rattle.lp_sparse.proofs.build.Listing.{lists_zeros, lists_end}
+use Rattle.lp_sparse.proofs.build.auxiliary_row.Goals as goal
+
+pub returns : goal.returns
+returns g c =
+    let m = g.F.OrderedField.meaning in
+    let w = c.args.cols in
+    let pushed = c.in_ok-push_end.ensures ∙ ap (λ es. end_pushed m true es w c.negate.result c.zero.result) c.new-entries.ensures.items in
+    subst (Lists m (auxiliary_entries w)) (sym pushed)
+    (lists_end m true (zeros w) [] w c.negate.result c.zero.result (neg_ℚ one_ℚ) zero_ℚ (lists_zeros m w) (sym (length-zeros w)) (c.negate.ensures.value ∙ ap neg_ℚ c.one.ensures.value) c.zero.ensures.value)

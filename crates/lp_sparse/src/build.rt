@@ -1,0 +1,133 @@
+//! The rows of the first dictionary.
+ghost use Rattle.std.specs.Prelude.{◌≡◌, ℕ, ◌+◌, ◌<◌, ◌≤◌, List, length, map, ◌++◌, [], get_or, IfOk, OnOk};
+ghost use Rattle.base_numbers.specs.Rational.{ℚ, zero_ℚ};
+ghost use Rattle.lp_dictionary.specs.Build.{goals_of, slack_entries, auxiliary_entries, goal_entries};
+ghost use Rattle.lp_sparse.specs.Keeps.{Lists};
+ghost use Rattle.lp_sparse.specs.Rows.{row_at};
+ghost use Rattle.lp_sparse.specs.Build.{signed_by, end_pushed, IsFirst};
+
+use crate::entry::{Entry, SparseRow};
+use crate::push::push_value;
+use std::alloc::{AllocError, Global};
+use lp_dictionary::{Problem, Row};
+use base_fractions::OrderedField;
+
+fn signed<F: OrderedField>(value: F, negated: bool) -> F
+    ensures { F.meaning result ≡ signed_by negated (F.meaning value) }
+{
+    if negated { value.negate() } else { value }
+}
+
+/// Entries for numbers at the columns from 0 on, or for those with the other sign.
+fn entries_of<F: OrderedField>(
+    alloc: Global,
+    values: &[F],
+    negated: bool,
+) -> Result<Vec<Entry<F>>, AllocError>
+    requires { length values.now < 4294967295 }
+    ensures { IfOk result (λ v. Lists F.meaning (map (signed_by negated) (map F.meaning values.now)) v.items) }
+{
+    let mut entries = Vec::new(alloc);
+    for (k, value) in values.iter().enumerate() {
+        push_value(&mut entries, k as u32, signed(*value, negated))?;
+    }
+    Ok(entries)
+}
+
+/// Appends the entries after the problem's columns: the auxiliary variable's, if there is one, and the constant.
+fn push_end<F: OrderedField>(
+    entries: &mut Vec<Entry<F>>,
+    cols: u32,
+    auxiliary: bool,
+    coefficient: F,
+    constant: F,
+) -> Result<(), AllocError>
+    requires { cols < 4294967295 }
+    ensures { OnOk result (entries.new.items ≡ end_pushed F.meaning auxiliary entries.old.items cols coefficient constant) }
+{
+    if auxiliary {
+        push_value(entries, cols, coefficient)?;
+        push_value(entries, cols + 1, constant)
+    } else {
+        push_value(entries, cols, constant)
+    }
+}
+
+/// The row of a slack.
+fn slack_row<F: OrderedField>(
+    alloc: Global,
+    row: &Row<F>,
+    auxiliary: bool,
+) -> Result<SparseRow<F>, AllocError>
+    requires { length row.now.coeffs.items < 4294967295 }
+    ensures { IfOk result (λ r. Lists F.meaning (slack_entries auxiliary (map F.meaning row.now.coeffs.items) (F.meaning row.now.side)) r.entries.items) }
+{
+    let mut entries = entries_of(alloc, &row.coeffs, true)?;
+    let cols = row.coeffs.len() as u32;
+    push_end(&mut entries, cols, auxiliary, F::one(), row.side)?;
+    Ok(SparseRow { entries })
+}
+
+/// The row of the first goal, the negated auxiliary variable.
+fn auxiliary_row<F: OrderedField>(alloc: Global, cols: u32) -> Result<SparseRow<F>, AllocError>
+    requires { cols < 4294967295 }
+    ensures { IfOk result (λ r. Lists F.meaning (auxiliary_entries cols) r.entries.items) }
+{
+    let mut entries = Vec::new(alloc);
+    push_end(&mut entries, cols, true, F::one().negate(), F::zero())?;
+    Ok(SparseRow { entries })
+}
+
+/// The row of the problem's goal.
+fn goal_row<F: OrderedField>(
+    alloc: Global,
+    goal: &[F],
+    auxiliary: bool,
+) -> Result<SparseRow<F>, AllocError>
+    requires { length goal.now < 4294967295 }
+    ensures { IfOk result (λ r. Lists F.meaning (goal_entries auxiliary (map F.meaning goal.now)) r.entries.items) }
+{
+    let mut entries = entries_of(alloc, goal, false)?;
+    let cols = goal.len() as u32;
+    push_end(&mut entries, cols, auxiliary, F::zero(), F::zero())?;
+    Ok(SparseRow { entries })
+}
+
+/// The rows of the slacks.
+fn slack_rows<F: OrderedField>(
+    alloc: Global,
+    rows: &[Row<F>],
+    auxiliary: bool,
+) -> Result<Vec<SparseRow<F>>, AllocError>
+    requires { (i : ℕ) → length (get_or (map (λ r. r.coeffs.items) rows.now) i []) < 4294967295 }
+    ensures count { IfOk result (λ v. length v.items ≡ length rows.now) }
+    ensures rows { IfOk result (λ v. (i : ℕ) → i < length rows.now →
+        Lists F.meaning (slack_entries auxiliary (get_or (map (λ r. map F.meaning r.coeffs.items) rows.now) i [])
+        (get_or (map (λ r. F.meaning r.side) rows.now) i zero_ℚ)) (row_at v.items i)) }
+{
+    let mut slacks = Vec::with_capacity(alloc, rows.len().saturating_add(2))?;
+    for i in 0..rows.len() {
+        slacks.push(slack_row(alloc, &rows[i], auxiliary)?)?;
+    }
+    Ok(slacks)
+}
+
+/// The rows of the first dictionary, with the auxiliary variable's column and goal where it has one.
+pub fn first_rows<F: OrderedField>(
+    alloc: Global,
+    problem: &Problem<F>,
+    auxiliary: bool,
+) -> Result<Vec<SparseRow<F>>, AllocError>
+    requires rows { (i : ℕ) → length (get_or (map (λ r. r.coeffs.items) problem.now.rows.items) i []) < 4294967295 }
+    requires cols { length problem.now.goal.items < 4294967295 }
+    ensures count { IfOk result (λ v. length v.items ≡ length problem.now.rows.items + goals_of auxiliary) }
+    ensures rows { IfOk result (λ v. IsFirst F.meaning auxiliary (map (λ r. map F.meaning r.coeffs.items) problem.now.rows.items)
+        (map (λ r. F.meaning r.side) problem.now.rows.items) (map F.meaning problem.now.goal.items) v.items) }
+{
+    let mut rows = slack_rows(alloc, &problem.rows, auxiliary)?;
+    if auxiliary {
+        rows.push(auxiliary_row(alloc, problem.goal.len() as u32)?)?;
+    }
+    rows.push(goal_row(alloc, &problem.goal, auxiliary)?)?;
+    Ok(rows)
+}

@@ -1,0 +1,39 @@
+//! A column that is left out.
+ghost use Rattle.std.specs.Prelude.{◌≡◌, ℕ};
+ghost use Rattle.lp_sparse.specs.Entries.{left_out};
+ghost use Rattle.lp_sparse.specs.Rows.{row_at};
+
+use crate::entry::{Entry, SparseRow};
+use base_fractions::OrderedField;
+
+/// Leaves out a column of a row; later columns move one place down.
+fn leave_out<F: OrderedField>(row: &mut SparseRow<F>, col: u32)
+    ensures { row.new.entries.items ≡ left_out col row.old.entries.items }
+{
+    let mut kept = 0;
+    for i in 0..row.entries.len() {
+        let entry = row.entries[i];
+        if entry.col != col {
+            let place = if entry.col < col {
+                entry.col
+            } else {
+                entry.col - 1
+            };
+            row.entries[kept] = Entry {
+                col: place,
+                value: entry.value,
+            };
+            kept += 1;
+        }
+    }
+    row.entries.truncate(kept);
+}
+
+/// Leaves out a column of each row.
+pub fn leave_out_of_each<F: OrderedField>(rows: &mut [SparseRow<F>], col: u32)
+    ensures { (i : ℕ) → row_at rows.new i ≡ left_out col (row_at rows.old i) }
+{
+    for i in 0..rows.len() {
+        leave_out(&mut rows[i], col);
+    }
+}

@@ -1,0 +1,93 @@
+//! The heads of points, and the first and the last line.
+
+ghost use Rattle.std.specs.Prelude.{◌≡◌, ◌++◌, ◌∷◌, IfOk, codes, decimal};
+ghost use Rattle.std.specs.List.{flat_map};
+ghost use Rattle.flow_systems.specs.Report.{footer_line, head_line, line, place_text, variables_line};
+
+use crate::rows::push_number;
+use std::alloc::AllocError;
+use flow_systems::Footer;
+use flow_edges::{Place, Point};
+use lang_tree::Name;
+
+/// Appends what is told of a place.
+fn push_place(text: &mut Vec<u8>, place: &Place, line: u32) -> Result<(), AllocError>
+    ensures { IfOk result (λ _. text.new.items ≡ text.old.items ++ place_text place.now line) }
+{
+    match place {
+        Place::Entry => text.extend_from_slice(b"entry")?,
+        Place::Loop => push_counted(text, b"loop at line ", line)?,
+        Place::Label(name) => {
+            text.extend_from_slice(b"label ")?;
+            text.extend_from_slice(name.bytes())?;
+            push_counted(text, b" at line ", line)?;
+        }
+        Place::Join => push_counted(text, b"join at line ", line)?,
+        Place::Assume => push_counted(text, b"assume at line ", line)?,
+        Place::Exit => text.extend_from_slice(b"exit")?,
+    }
+    Ok(())
+}
+
+/// Appends words and a number.
+fn push_counted(text: &mut Vec<u8>, words: &[u8], number: u32) -> Result<(), AllocError>
+    ensures { IfOk result (λ _. text.new.items ≡ text.old.items ++ (words.now ++ decimal number)) }
+{
+    text.extend_from_slice(words)?;
+    push_number(text, number as u64)
+}
+
+/// Appends the head of a point.
+pub(crate) fn push_head(text: &mut Vec<u8>, number: usize, point: &Point) -> Result<(), AllocError>
+    ensures { IfOk result (λ _. text.new.items ≡ text.old.items ++ head_line number point.now) }
+{
+    text.extend_from_slice(b"point ")?;
+    push_number(text, number as u64)?;
+    text.extend_from_slice(b": ")?;
+    push_place(text, &point.place, point.line)?;
+    text.extend_from_slice(b"\n")?;
+    Ok(())
+}
+
+/// Appends the names of the variables, each after a space.
+fn push_names(text: &mut Vec<u8>, names: &[Name]) -> Result<(), AllocError>
+    ensures { IfOk result (λ _. text.new.items ≡ text.old.items ++ flat_map (λ name. 32 ∷ name) names.now) }
+{
+    for name in names {
+        text.extend_from_slice(b" ")?;
+        text.extend_from_slice(name.bytes())?;
+    }
+    Ok(())
+}
+
+/// Appends the first line.
+pub(crate) fn push_variables(text: &mut Vec<u8>, names: &[Name]) -> Result<(), AllocError>
+    ensures { IfOk result (λ _. text.new.items ≡ text.old.items ++ variables_line names.now) }
+{
+    text.extend_from_slice(b"variables")?;
+    push_names(text, names)?;
+    text.extend_from_slice(b"\n")?;
+    Ok(())
+}
+
+/// Appends how many improvements were made.
+fn push_improvements(text: &mut Vec<u8>, count: u32) -> Result<(), AllocError>
+    ensures { IfOk result (λ _. text.new.items ≡ text.old.items ++ line (codes "improvements: " ++ decimal count)) }
+{
+    push_counted(text, b"improvements: ", count)?;
+    text.extend_from_slice(b"\n")?;
+    Ok(())
+}
+
+/// Appends the last line.
+pub fn push_footer(text: &mut Vec<u8>, footer: Footer) -> Result<(), AllocError>
+    ensures { IfOk result (λ _. text.new.items ≡ text.old.items ++ footer_line footer) }
+{
+    match footer {
+        Footer::Improvements(count) => push_improvements(text, count),
+        Footer::Accepted => {
+            text.extend_from_slice(b"certificate: accepted\n")?;
+            Ok(())
+        }
+    }
+}

@@ -1,0 +1,6 @@
+use Rattle.std.proofs.Common.{◌≡◌}
+use Rattle.theory_transformers.specs.JointProblems.{ones}
+use Rattle.solve_joint.proofs.joint_problem.goal.Given as goal
+
+abbrev pub invariant-loop-unknown : goal.invariant-loop-unknown
+invariant-loop-unknown l = l.goal.items ≡ ones l._unknown

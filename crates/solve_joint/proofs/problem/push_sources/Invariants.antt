@@ -1,0 +1,11 @@
+use Rattle.std.proofs.Common.{◌+◌, ◌*◌, map, length}
+use Rattle.base_numbers.specs.Rational.{one_ℚ, neg_ℚ}
+use Rattle.flow_systems.specs.View.{vector_of}
+use Rattle.solve_joint.specs.Rows.{embedded}
+use Rattle.solve_joint.proofs.problem.Sources.{AreSources}
+use Rattle.solve_joint.proofs.problem.push_sources.Given as goal
+
+abbrev pub invariant-loop-i : goal.invariant-loop-i
+invariant-loop-i l =
+    AreSources l.cols (λ r. embedded (neg_ℚ one_ℚ) (l.point * length l.system.template + r) l.list l.offset) (length l.system.flow.names) (vector_of (length l.system.template) l.base l.point) l.system.template
+    (map (λ r. r.coeffs.items) l.initial.rows.items) (map (λ r. r.side) l.initial.rows.items) (map (λ r. r.coeffs.items) l.rows.items) (map (λ r. r.side) l.rows.items) l.i

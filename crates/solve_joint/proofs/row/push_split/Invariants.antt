@@ -1,0 +1,6 @@
+use Rattle.std.proofs.Common.{◌≡◌, ◌++◌, take}
+use Rattle.theory_transformers.specs.JointProblems.{split_list}
+use Rattle.solve_joint.proofs.row.push_split.Given as goal
+
+abbrev pub invariant-loop-coefficient : goal.invariant-loop-coefficient
+invariant-loop-coefficient l = l.row.items ≡ l.initial.row.items ++ split_list (take l.coefficient-index l.coeffs)

@@ -1,0 +1,146 @@
+-- The table of a list's points tells which of its unknowns reach which.
+use Rattle.std.proofs.Common.{◌≡◌, ◌∙◌, inl, inr, ⊎_elim, ℕ, ◌/◌, ◌<◌, ◌&&◌, ◌||◌, ◌==◌, cond, Bool, true, false, List, [], ◌∷◌, length, get_or, map, Option, refl, ap, ap₂, sym, arith, zero-add}
+use Rattle.std.specs.List.{range_with_len}
+use Rattle.std.proofs.lemmas.Bool.{eqb-true}
+use Rattle.std.proofs.lemmas.Bool.Decides.{eqb_tells}
+use Rattle.std.proofs.lemmas.List.{get_or-map}
+use Rattle.std.proofs.lemmas.List.FromFn.{length-range_with_len, get_or-range_with_len}
+use Rattle.base_facts.specs.Elements.{In}
+use Rattle.flow_systems.specs.declared.system.System.{System}
+use Rattle.flow_systems.specs.Equations.{Equations}
+use Rattle.flow_systems.specs.View.{equations_of}
+use Rattle.theory_transformers.specs.JointProblems.{Listed}
+use Rattle.theory_transformers.specs.Parts.{leans, same, reaches, together}
+use Rattle.theory_transformers.proofs.parts.Reaching.{same_itself, same_equal}
+use Rattle.solve_joint.specs.declared.node.Node.{Node}
+use Rattle.solve_joint.specs.Numbers.{listed_of, number_of, all_listed, source_of, nodes_of, ArePicked}
+use Rattle.solve_joint.specs.Tables.{row_by, table_by, added, joined, stepped, closed, cell, gets_to}
+use Rattle.solve_joint.specs.Cuts.{are_one_part}
+use Rattle.solve_joint.proofs.numbers.NodeFacts.{number_back, shown, node_in, shown_all}
+
+-- whether the unknowns of a list lead from a point to another
+abbrev pub leads : List Node → ℕ → ℕ → Bool
+leads [] p q = p == q
+leads (x ∷ xs) p q = leads xs p q || (leads xs p x.point && leads xs x.source q)
+
+map_equal : {X Z : Type 0} (f g : X → Z) (xs : List X) → ((x : X) → f x ≡ g x) → map f xs ≡ map g xs
+map_equal f g [] e = refl
+map_equal f g (x ∷ xs) e = ap₂ (λ y ys. y ∷ ys) (e x) (map_equal f g xs e)
+
+map_twice : {X Y Z : Type 0} (g : Y → Z) (f : X → Y) (xs : List X) → map g (map f xs) ≡ map (λ x. g (f x)) xs
+map_twice g f [] = refl
+map_twice g f (x ∷ xs) = ap (λ ys. g (f x) ∷ ys) (map_twice g f xs)
+
+added_map : (f g : ℕ → Bool) (ps : List ℕ) → added (map f ps) (map g ps) ≡ map (λ p. f p || g p) ps
+added_map f g [] = refl
+added_map f g (p ∷ ps) = ap (λ ys. (f p || g p) ∷ ys) (added_map f g ps)
+
+or_nothing : (a b : Bool) → a || (false && b) ≡ a
+or_nothing true b = refl
+or_nothing false b = refl
+
+-- ---- the table by which points lead where
+at_point : {X : Type 0} (f : ℕ → X) (points p : ℕ) (d : X) → p < points → get_or (map f (range_with_len 0 points)) p d ≡ f p
+at_point f points p d l =
+    get_or-map f (range_with_len 0 points) p p d (let e = length-range_with_len 0 points in omega (arith, l, e)) ∙ ap f (get_or-range_with_len 0 points p p l ∙ zero-add p)
+
+module _ (points : ℕ) (xs : List Node) (x : Node) (l : x.point < points) where
+  row_more : (p : ℕ) → joined x.point (row_by points (leads xs x.source)) (row_by points (leads xs p)) ≡ row_by points (leads (x ∷ xs) p)
+  row_more p =
+      ap (λ b. cond b (added (row_by points (leads xs p)) (row_by points (leads xs x.source))) (row_by points (leads xs p))) (at_point (leads xs p) points x.point false l) ∙ by (leads xs p x.point)
+    where
+      by : (b : Bool) → cond b (added (row_by points (leads xs p)) (row_by points (leads xs x.source))) (row_by points (leads xs p)) ≡ map (λ q. leads xs p q || (b && leads xs x.source q)) (range_with_len 0 points)
+      by true = added_map (leads xs p) (leads xs x.source) (range_with_len 0 points)
+      by false = map_equal (leads xs p) (λ q. leads xs p q || (false && leads xs x.source q)) (range_with_len 0 points) (λ q. sym (or_nothing (leads xs p q) (leads xs x.source q)))
+
+  table_more : x.source < points → stepped x.point (get_or (table_by points (leads xs)) x.source []) (table_by points (leads xs)) ≡ table_by points (leads (x ∷ xs))
+  table_more k =
+      ap (λ mid. stepped x.point mid (table_by points (leads xs))) (at_point (λ p. row_by points (leads xs p)) points x.source [] k)
+      ∙ map_twice (joined x.point (row_by points (leads xs x.source))) (λ p. row_by points (leads xs p)) (range_with_len 0 points)
+      ∙ map_equal (λ p. joined x.point (row_by points (leads xs x.source)) (row_by points (leads xs p))) (λ p. row_by points (leads (x ∷ xs) p)) (range_with_len 0 points) row_more
+
+closed_is : (points : ℕ) (xs : List Node) → ((a : Node) → In xs a → (a.point < points) × (a.source < points)) → closed points xs ≡ table_by points (leads xs)
+closed_is points [] h = refl
+closed_is points (x ∷ xs) h =
+    let here = h x (inl refl) in
+    ap (λ t. stepped x.point (get_or t x.source []) t) (closed_is points xs (λ a m. h a (inr m))) ∙ table_more points xs x here.0 here.1
+
+-- ---- leading from source to point is reaching
+-- where one unknown is the one in the middle, going through it adds nothing
+through : (same_ab leads_ab same_ax leads_ax same_xb leads_xb : Bool) → (same_ax ≡ true → (leads_xb ≡ leads_ab) × (same_xb ≡ same_ab)) → (same_xb ≡ true → leads_ax ≡ leads_ab) →
+    same_ab || (leads_ab || (leads_ax && leads_xb)) ≡ (same_ab || leads_ab) || ((same_ax || leads_ax) && (same_xb || leads_xb))
+through true b c d e f h k = refl
+through false true c d e f h k = refl
+through false false true d e f h k = by d e f (h refl).0 (h refl).1
+  where
+    by : (d e f : Bool) → f ≡ false → e ≡ false → d && f ≡ e || f
+    by d true f p q = absurd cc
+    by d false true p q = absurd cc
+    by true false false p q = refl
+    by false false false p q = refl
+through false false false true true f h k = absurd (let e = k refl in let n : true ≡ false = e in cc)
+through false false false false true f h k = refl
+through false false false true false f h k = refl
+through false false false false false f h k = refl
+
+module _ (system : System) (pick : List (Option ℕ)) (list : List ℕ) (picked : ArePicked system pick list) where
+  abbrev eqs : Equations
+  eqs = equations_of system
+
+  abbrev us : List Listed
+  us = all_listed system pick list
+
+  abbrev nodes : List Node
+  nodes = nodes_of system pick list
+
+  abbrev points : ℕ
+  points = length system.flow.points
+
+  same_numbers : (a b : Node) → a.unknown == b.unknown ≡ same (shown system pick a) (shown system pick b)
+  same_numbers a b = ⊎_elim
+      (λ h. h.0 ∙ sym (ap (λ n. same (shown system pick a) (listed_of (length system.template) pick n)) (sym h.1) ∙ same_itself (shown system pick a)))
+      (λ h. h.0 ∙ sym (not_same (same (shown system pick a) (shown system pick b)) refl h.1))
+      (eqb_tells a.unknown b.unknown)
+    where
+      not_same : (t : Bool) → same (shown system pick a) (shown system pick b) ≡ t → ¬ (a.unknown ≡ b.unknown) → t ≡ false
+      not_same false e n = refl
+      not_same true e n = absurd (n (sym (number_back (length system.template) pick a.unknown) ∙ ap (number_of (length system.template)) (same_equal (shown system pick a) (shown system pick b) e) ∙ number_back (length system.template) pick b.unknown))
+
+  -- a node leans on another exactly where its unknown does
+  pub leans_shown : (a b : Node) → In nodes a → In nodes b → a.source == b.point ≡ leans eqs (shown system pick a) (shown system pick b)
+  unfolding leans
+  leans_shown a b m n = ap₂ (λ x y. x == y) (node_in system pick list picked a m).source (node_in system pick list picked b n).point
+
+  -- nodes of one number have one point and one source
+  one_source : (a b : Node) → In nodes a → In nodes b → a.unknown == b.unknown ≡ true → a.source ≡ b.source
+  one_source a b m n e = (node_in system pick list picked a m).source ∙ ap (source_of system pick) (eqb-true a.unknown b.unknown e) ∙ sym (node_in system pick list picked b n).source
+
+  one_point : (a b : Node) → In nodes a → In nodes b → a.unknown == b.unknown ≡ true → a.point ≡ b.point
+  one_point a b m n e = (node_in system pick list picked a m).point ∙ ap (λ u. u / length system.template) (eqb-true a.unknown b.unknown e) ∙ sym (node_in system pick list picked b n).point
+
+  leads_reaches : (xs : List Node) → ((x : Node) → In xs x → In nodes x) → (a b : Node) → In nodes a → In nodes b → a.unknown == b.unknown || leads xs a.source b.point ≡ reaches eqs (map (shown system pick) xs) (shown system pick a) (shown system pick b)
+  unfolding reaches
+  leads_reaches [] sub a b m n = ap₂ (λ x y. x || y) (same_numbers a b) (leans_shown a b m n)
+  leads_reaches (x ∷ xs) sub a b m n =
+      let k = sub x (inl refl) in
+      let more = λ (y : Node) (i : In xs y). sub y (inr i) in
+      through (a.unknown == b.unknown) (leads xs a.source b.point) (a.unknown == x.unknown) (leads xs a.source x.point) (x.unknown == b.unknown) (leads xs x.source b.point)
+      (λ e. (ap (λ p. leads xs p b.point) (sym (one_source a x m k e)), ap (λ u. u == b.unknown) (sym (eqb-true a.unknown x.unknown e))))
+      (λ e. ap (leads xs a.source) (one_point x b k n e))
+      ∙ ap₂ (λ y z. y || z) (leads_reaches xs more a b m n) (ap₂ (λ y z. y && z) (leads_reaches xs more a x m k) (leads_reaches xs more x b k n))
+
+  -- ---- the whole table
+  gets_shown : (a b : Node) → In nodes a → In nodes b → gets_to (closed points nodes) a b ≡ reaches eqs us (shown system pick a) (shown system pick b)
+  gets_shown a b m n =
+      let p = node_in system pick list picked a m in
+      let q = node_in system pick list picked b n in
+      ap (λ t. a.unknown == b.unknown || cell t a.source b.point) (closed_is points nodes (λ x i. let y = node_in system pick list picked x i in (y.point_within, y.source_within)))
+      ∙ ap (λ (r : List Bool). a.unknown == b.unknown || get_or r b.point false) (at_point (λ s. row_by points (leads nodes s)) points a.source [] p.source_within)
+      ∙ ap (λ t. a.unknown == b.unknown || t) (at_point (leads nodes a.source) points b.point false q.point_within)
+      ∙ leads_reaches nodes (λ x i. i) a b m n
+      ∙ ap (λ vs. reaches eqs vs (shown system pick a) (shown system pick b)) (shown_all system pick list)
+
+  -- two nodes are in one part exactly where their unknowns are
+  pub one_part_shown : (a b : Node) → In nodes a → In nodes b → are_one_part (closed points nodes) a b ≡ together eqs us (shown system pick a) (shown system pick b)
+  unfolding together
+  one_part_shown a b m n = ap₂ (λ x y. x && y) (gets_shown a b m n) (gets_shown b a n m)

@@ -1,0 +1,72 @@
+//! The joint problem of a list of unknowns.
+
+ghost use Rattle.std.specs.Prelude.{◌≡◌, ◌+◌, ◌*◌, ◌<◌, ◌≤◌, ◌++◌, ℕ, [], None, IfOk, OnOk, IfErr, length, map, get_or};
+ghost use Rattle.base_numbers.specs.Vector.{zeros};
+ghost use Rattle.base_fractions.specs.Fits.{long_limit};
+ghost use Rattle.base_fractions.specs.Operation.{first_wide};
+ghost use Rattle.flow_systems.specs.View.{equations_of};
+ghost use Rattle.theory_transformers.specs.JointProblems.{ones};
+ghost use Rattle.solve_composition.specs.Composed.{AreComposed};
+ghost use Rattle.solve_joint.specs.Numbers.{ArePicked, Rises};
+ghost use Rattle.solve_joint.specs.Rows.{IsSideFault};
+ghost use Rattle.solve_joint.specs.Blocks.{side_operations, split_columns};
+ghost use Rattle.solve_joint.specs.Problems.{problem_of, MakeProblem};
+ghost use Rattle.flow_systems.specs.declared.limits.TheConstants.{MOST_UNKNOWNS};
+ghost use Rattle.lang_tree.specs.declared.limits.TheConstants.{MOST_VARIABLES};
+
+use crate::joint_rows::{all_rows, count_columns};
+use crate::row::push_zeros;
+use std::alloc::{AllocError, Global};
+use solve_composition::Paths;
+use flow_systems::{Bounds, PartFault, Pick, System};
+use base_fractions::{Frac, OrderedField};
+use lp_simplex::Problem;
+
+// The sum of the rises: 1 for each unknown, and 0 for the columns behind them.
+fn goal(alloc: Global, unknowns: usize, more: usize) -> Result<Vec<Frac>, AllocError>
+    ensures { IfOk result (λ v. v.items ≡ ones unknowns ++ zeros more) }
+{
+    let mut goal = Vec::with_capacity(alloc, unknowns.saturating_add(more))?;
+    for _unknown in 0..unknowns {
+        goal.push(Frac::one())?;
+    }
+    push_zeros(&mut goal, more)?;
+    Ok(goal)
+}
+
+/// The joint problem of a rising list of unknowns, each with a picked edge, at a base. The columns are first a rise for each
+/// listed unknown, and then, for each in order, the split columns of its picked edge. Each listed unknown in order gives the
+/// template rows of its edge's source whose bound is finite, then the guards, and last its own row: the rise minus the end
+/// value, at most the end value's constant minus the bound. The goal is the sum of the rises.
+///
+/// # Errors
+///
+/// `Wide` in the part `Side` exactly where such a difference is wide, with the first of them in the order of the list.
+/// `NoMemory`.
+pub fn joint_problem(
+    alloc: Global,
+    system: &System,
+    paths: &Paths,
+    base: &Bounds,
+    pick: &Pick,
+    list: &[u32],
+) -> Result<Problem<Frac>, PartFault>
+    requires composed { AreComposed (equations_of system.now) paths.now }
+    requires base { length base.now ≡ length system.now.flow.points * length system.now.template }
+    requires pick { length pick.now ≡ length system.now.flow.points * length system.now.template }
+    requires rises { Rises 0 list.now }
+    requires picked { ArePicked system.now pick.now list.now }
+    ensures problem { IfOk result (λ p. MakeProblem (problem_of system.now pick.now base.now list.now) (map (λ r. r.coeffs.items) p.rows.items)
+        (map (λ r. r.side) p.rows.items) p.goal.items) }
+    ensures shape { IfOk result (λ p. (r : ℕ) → r < length (map (λ r. r.coeffs.items) p.rows.items) →
+        length (get_or (map (λ r. r.coeffs.items) p.rows.items) r []) ≡ length p.goal.items) }
+    ensures few { IfOk result (λ p. length p.rows.items + length p.goal.items < 4294967295) }
+    ensures columns { OnOk result (length list.now + split_columns system.now pick.now list.now ≤ MOST_UNKNOWNS * (2 * MOST_VARIABLES + 513)) }
+    ensures sides { OnOk result (first_wide long_limit (side_operations system.now pick.now base.now list.now) ≡ None) }
+    ensures refused { IfErr result (λ f. IsSideFault (side_operations system.now pick.now base.now list.now) f) }
+{
+    let cols = count_columns(system, paths, pick, list);
+    let rows = all_rows(alloc, system, paths, base, pick, list, cols)?;
+    let goal = goal(alloc, list.len(), cols - list.len())?;
+    Ok(Problem { rows, goal })
+}

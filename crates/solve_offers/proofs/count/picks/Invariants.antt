@@ -1,0 +1,10 @@
+use Rattle.std.proofs.Common.{◌≡◌, ◌≤◌}
+use Rattle.flow_systems.specs.View.{equations_of}
+use Rattle.solve_offers.proofs.count.Products.{product_to}
+use Rattle.solve_offers.proofs.count.picks.Given as goal
+
+abbrev pub invariant-loop-point : goal.invariant-loop-point
+invariant-loop-point l = record {
+  product : l.product ≡ product_to (equations_of l.system) l.point;
+  small : l.product ≤ 1000000;
+}

@@ -1,0 +1,58 @@
+//! How many picks a system has.
+
+ghost use Rattle.std.specs.Prelude.{◌≡◌, ◌+◌, ◌*◌, ◌^◌, ◌<◌, ◌≤◌, IfSome, length};
+ghost use Rattle.std.specs.Option.{SomeIff};
+ghost use Rattle.flow_systems.specs.View.{equations_of};
+ghost use Rattle.theory_validity.specs.Certificates.{edges_into};
+ghost use Rattle.theory_strategy.specs.PickCount.{pick_count};
+ghost use Rattle.solve_offers.specs.PickLimit.{RoundsAreFewer};
+
+use flow_systems::System;
+use flow_edges::Edge;
+
+// The greatest number of picks that is told.
+const MOST_PICKS: u32 = 1_000_000;
+
+// How many edges end at the point.
+fn count_into(edges: &[Edge], point: u32) -> usize
+    ensures count { result ≡ length (edges_into point edges.now) }
+    ensures few { result ≤ length edges.now }
+{
+    edges.iter().filter(|edge| edge.to == point).count()
+}
+
+// The product with the factor, so many times, unless it passes a million.
+fn times(product: u32, factor: u32, count: usize) -> Option<u32>
+    requires product { product ≤ 1000000 }
+    requires positive { 0 < factor }
+    requires factor { factor ≤ 257 }
+    ensures { SomeIff result (product * factor ^ count ≤ 1000000) (product * factor ^ count) }
+{
+    let mut total = product;
+    'times: for _k in 0..count {
+        total *= factor;
+        if total > MOST_PICKS {
+            return None;
+        }
+    }
+    Some(total)
+}
+
+/// How many picks a system has: the product, over all unknowns, of one more than the number of edges into the unknown's point.
+/// It is `None` exactly where this is above 1,000,000. No chain of rounds is as long, whatever the policy. Takes no memory.
+pub fn picks(system: &System) -> Option<u32>
+    ensures count { SomeIff result (pick_count (equations_of system.now) ≤ 1000000) (pick_count (equations_of system.now)) }
+    ensures rounds { IfSome result (RoundsAreFewer (equations_of system.now)) }
+{
+    let edges = system.flow.edges.as_slice();
+    let rows = system.template.as_slice().len();
+    let mut product = 1;
+    for point in 0..system.flow.points.as_slice().len() as u32 {
+        let factor = count_into(edges, point) as u32 + 1;
+        match times(product, factor, rows) {
+            Some(more) => product = more,
+            None => return None,
+        }
+    }
+    Some(product)
+}

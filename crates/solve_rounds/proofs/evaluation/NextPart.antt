@@ -1,0 +1,65 @@
+-- The part that comes next, as the code reads it from the parts that it was given.
+use Rattle.std.proofs.Common.{◌≡◌, ◌∙◌, ℕ, ◌+◌, ◌<◌, ◌≤◌, List, [], length, get_or, ap, sym, subst}
+use Rattle.std.specs.Prelude.{Option}
+use Rattle.flow_systems.specs.declared.fault.Fault.{Fault}
+use Rattle.flow_systems.specs.declared.spot.Spot.{Spot}
+use Rattle.flow_systems.specs.declared.system.System.{System}
+use Rattle.cert_types.specs.declared.step.Step.{Step as CodeStep}
+use Rattle.solve_joint.specs.PartLists.{EachRises, part_numbers}
+use Rattle.solve_rounds.specs.declared.turning.Turning.{Turning}
+use Rattle.solve_rounds.specs.Round.{IsTurnStop}
+use Rattle.solve_rounds.specs.Turning.{IsPickAt, HaveConditions, IsPart, IsDone, turns_of_part, turns_of_parts}
+use Rattle.solve_rounds.proofs.growing.Kept.{system_size}
+use Rattle.solve_rounds.proofs.evaluation.EachPart.{each_part, part_few}
+use Rattle.solve_rounds.proofs.evaluation.Partings.{ArePartings, partings_more, next_like, conditions_like}
+use Rattle.solve_rounds.proofs.evaluation.TurnStops.{turn_stop_more}
+use Rattle.flow_systems.specs.declared.limits.TheConstants.{MOST_UNKNOWNS}
+
+-- a list is the part of this number
+pub record IsNumbered (system : System) (pick : List (Option ℕ)) (list : List ℕ) (number : ℕ) (p : List ℕ) : Type 0 where
+  -- the part's number is that of a part of the list
+  pub within : number < length (part_numbers system pick list)
+  -- the part that is read is the one with this number
+  pub is : p ≡ get_or (part_numbers system pick list) number []
+
+-- so is the one that the code reads
+pub numbered : (system : System) (pick : List (Option ℕ)) (list : List ℕ) {parts : List (List ℕ)} {number count : ℕ} {p : List ℕ} → parts ≡ part_numbers system pick list → count ≡ length parts → number < count → p ≡ get_or parts number [] →
+    IsNumbered system pick list number p
+numbered system pick list {parts} {number} {count} {p} same size l e = record {
+  within = subst (λ ps. number < length ps) same (subst (λ n. number < n) size l);
+  is = e ∙ ap (λ ps. get_or ps number []) same;
+}
+
+module _ (system : System) (pick : List (Option ℕ)) (raises : List CodeStep) (places list : List ℕ) {number : ℕ} {p : List ℕ} (n : IsNumbered system pick list number p) where
+  -- it is a list of the same kind, with at most as many unknowns as there are
+  module _ (whole : IsPart system pick raises places list) {parts : List (List ℕ)} (same : parts ≡ part_numbers system pick list) (rise : EachRises parts) where
+    -- a numbered part is a part of the list's kind
+    pub numbered_part : IsPart system pick raises places p
+    numbered_part = subst (IsPart system pick raises places) (sym n.is) (each_part system pick raises places list whole (subst EachRises same rise) number n.within)
+
+    -- a numbered part has at most the greatest number of unknowns
+    pub numbered_few : length p ≤ MOST_UNKNOWNS
+    numbered_few = subst (λ xs. length xs ≤ MOST_UNKNOWNS) (sym n.is) (part_few system pick raises places list whole (system_size system) (subst EachRises same rise) number n.within)
+
+    -- after its turns
+    pub numbered_more : (old now after : Turning) → ArePartings system pick raises places list old number now → IsDone system pick raises places p now after → ArePartings system pick raises places list old (number + 1) after
+    numbered_more old now after h done =
+        partings_more system pick raises places list old number now after n.within (each_part system pick raises places list whole (subst EachRises same rise))
+        (part_few system pick raises places list whole (system_size system) (subst EachRises same rise) number n.within) h
+        (subst (λ q. IsDone system pick raises places q now after) n.is done)
+
+  -- its turns have the list condition where those of all parts do
+  pub numbered_conditions : (old now : Turning) → IsPickAt system pick → HaveConditions system pick (turns_of_parts system pick raises places list old) → ArePartings system pick raises places list old number now →
+      HaveConditions system pick (turns_of_part system pick raises places p now)
+  numbered_conditions old now chosen conditions h =
+      subst (λ q. HaveConditions system pick (turns_of_part system pick raises places q now)) (sym n.is)
+      (conditions_like system pick (turns_of_part system pick raises places (get_or (part_numbers system pick list) number []) now) (turns_of_parts system pick raises places list old) chosen conditions
+      (next_like system pick raises places list old number now n.within h))
+
+  -- a stop of one of its turns is one of the turns of all parts
+  pub numbered_stop : (old now : Turning) (round : ℕ) (stop : Fault Spot) → ArePartings system pick raises places list old number now → IsTurnStop system pick (turns_of_part system pick raises places p now) round stop →
+      IsTurnStop system pick (turns_of_parts system pick raises places list old) round stop
+  numbered_stop old now round stop h s =
+      turn_stop_more system pick (turns_of_part system pick raises places (get_or (part_numbers system pick list) number []) now) (turns_of_parts system pick raises places list old) round
+      (next_like system pick raises places list old number now n.within h) stop
+      (subst (λ q. IsTurnStop system pick (turns_of_part system pick raises places q now) round stop) n.is s)

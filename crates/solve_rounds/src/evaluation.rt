@@ -1,0 +1,160 @@
+//! The round: growth, and then the joint problems of the parts of what was raised.
+
+ghost use Rattle.std.specs.Prelude.{◌≡◌, ◌*◌, ◌+◌, ◌<◌, ◌≤◌, length, map, get_or, IfOk, IfErr};
+ghost use Rattle.flow_systems.specs.View.{equations_of};
+ghost use Rattle.cert_types.specs.Certificates.{step_of};
+ghost use Rattle.solve_composition.specs.Composed.{AreComposed};
+ghost use Rattle.solve_offers.specs.AtBounds.{IsSupportedPick, IsTightPick};
+ghost use Rattle.solve_offers.specs.Known.{AreKnown};
+ghost use Rattle.solve_rounds.specs.Growth.{growth_at, named_at};
+ghost use Rattle.solve_rounds.specs.Round.{round_at, rounded_at, AreBoundsOf, AreAbove, AreValidFrom, IsRoundStop, IsTurnStop};
+ghost use Rattle.solve_rounds.specs.Turning.{HaveConditions, IsPickAt, IsPart, IsDone, AreAllDone, turns_of_part, turns_of_parts};
+
+use crate::growth::{Grown, grow_from};
+use crate::lows::places;
+use crate::turning::{Turning, finite, own, turn};
+use std::alloc::Global;
+use cert_types::{Step, Steps};
+use flow_systems::{Bounds, Pick, System};
+use solve_joint::parts;
+use solve_offers::{Known, Stop};
+use solve_transformer::Paths;
+
+// The turns of one part: of the whole list first, and then of what each ray leaves.
+fn part(
+    alloc: Global,
+    system: &System,
+    paths: &Paths,
+    pick: &Pick,
+    round: u32,
+    raises: &[Step],
+    places: &[u32],
+    list: &[u32],
+    turning: &mut Turning,
+) -> Result<(), Stop>
+    requires composed { AreComposed (equations_of system.now) paths.now }
+    requires bounds { length turning.old.bounds ≡ length system.now.flow.points * length system.now.template }
+    requires pick { length pick.now ≡ length system.now.flow.points * length system.now.template }
+    requires chosen { IsPickAt system.now pick.now }
+    requires few { length turning.old.steps.items + length list.now < 4294967296 }
+    requires part { IsPart system.now pick.now raises.now places.now list.now }
+    requires conditions { HaveConditions system.now pick.now (turns_of_part system.now pick.now raises.now places.now list.now turning.old) }
+    ensures done { IfOk result (λ done. IsDone system.now pick.now raises.now places.now list.now turning.old turning.new) }
+    ensures stop { IfErr result (IsTurnStop system.now pick.now (turns_of_part system.now pick.now raises.now places.now list.now turning.old) round) }
+{
+    let mut left = own(alloc, list)?;
+    while !left.is_empty() {
+        left = turn(
+            alloc,
+            system,
+            paths,
+            pick,
+            round,
+            raises,
+            places,
+            left.as_slice(),
+            turning,
+        )?;
+    }
+    Ok(())
+}
+
+// The turns of the parts of a list, in order.
+fn turns(
+    alloc: Global,
+    system: &System,
+    paths: &Paths,
+    pick: &Pick,
+    round: u32,
+    raises: &[Step],
+    places: &[u32],
+    list: &[u32],
+    turning: &mut Turning,
+) -> Result<(), Stop>
+    requires composed { AreComposed (equations_of system.now) paths.now }
+    requires bounds { length turning.old.bounds ≡ length system.now.flow.points * length system.now.template }
+    requires pick { length pick.now ≡ length system.now.flow.points * length system.now.template }
+    requires chosen { IsPickAt system.now pick.now }
+    requires none { length turning.old.steps.items ≡ 0 }
+    requires list { IsPart system.now pick.now raises.now places.now list.now }
+    requires conditions { HaveConditions system.now pick.now (turns_of_parts system.now pick.now raises.now places.now list.now turning.old) }
+    ensures done { IfOk result (λ done. AreAllDone system.now pick.now raises.now places.now list.now turning.old turning.new) }
+    ensures stop { IfErr result (IsTurnStop system.now pick.now (turns_of_parts system.now pick.now raises.now places.now list.now turning.old) round) }
+{
+    let parts = parts(alloc, system, pick, list)?;
+    for number in 0..parts.count() {
+        part(
+            alloc,
+            system,
+            paths,
+            pick,
+            round,
+            raises,
+            places,
+            parts.list(number),
+            turning,
+        )?;
+    }
+    Ok(())
+}
+
+/// The round by a pick from the bounds: the growth, and then, part by part of the unknowns that it raised to fractions, the
+/// turns of joint problems. A point sets the unknowns of its list to their numbers and ends the part; a ray sets those with a
+/// rate above 0 to `+inf`, and the others are solved again. The bounds are the least that are at least the old ones and closed
+/// under the pick, and the pick is tight at them. Some of the transformers at the old bounds may be known already.
+/// `docs/METHOD.md` has growth, parts and turns.
+///
+/// # Errors
+///
+/// `Wide` only where an operation of this round's growth or of one of its turns is too wide for a fraction: at the sites of the
+/// growth, or at that of the turn, which are numbered from 0 through the round, with the part of its joint problem. `NoMemory`.
+pub(crate) fn round_from(
+    alloc: Global,
+    system: &System,
+    paths: &Paths,
+    bounds: &Bounds,
+    pick: &Pick,
+    round: u32,
+    known: &Known,
+) -> Result<Grown, Stop>
+    requires composed { AreComposed (equations_of system.now) paths.now }
+    requires bounds { length bounds.now ≡ length system.now.flow.points * length system.now.template }
+    requires pick { length pick.now ≡ length system.now.flow.points * length system.now.template }
+    requires supported { IsSupportedPick system.now bounds.now pick.now }
+    requires known { AreKnown system.now bounds.now known.now }
+    ensures steps { IfOk result (λ grown. map (step_of (length system.now.template)) grown.steps ≡ round_at system.now bounds.now pick.now) }
+    ensures bounds { IfOk result (λ grown. AreBoundsOf system.now (rounded_at system.now bounds.now pick.now) grown.bounds) }
+    ensures size { IfOk result (λ grown. length grown.bounds ≡ length bounds.now) }
+    ensures above { IfOk result (λ grown. AreAbove system.now bounds.now pick.now grown.bounds) }
+    ensures tight { IfOk result (λ grown. IsTightPick system.now grown.bounds pick.now) }
+    ensures valid { IfOk result (λ grown. AreValidFrom system.now bounds.now (map (step_of (length system.now.template)) grown.steps)) }
+    ensures raised { IfOk result (λ grown. grown.raised ≡ named_at system.now (growth_at system.now bounds.now pick.now)) }
+    ensures stop { IfErr result (IsRoundStop system.now bounds.now pick.now round) }
+{
+    let grown = grow_from(alloc, system, paths, bounds, pick, round, known)?;
+    let mut steps = grown.steps.into_list();
+    let count = bounds.as_slice().len();
+    let places = places(alloc, count, steps.as_slice())?;
+    let list = finite(alloc, &grown.bounds, grown.raised.as_slice())?;
+    let mut turning = Turning {
+        bounds: grown.bounds,
+        steps: Vec::new(alloc),
+    };
+    turns(
+        alloc,
+        system,
+        paths,
+        pick,
+        round,
+        steps.as_slice(),
+        places.as_slice(),
+        list.as_slice(),
+        &mut turning,
+    )?;
+    steps.append(&mut turning.steps)?;
+    Ok(Grown {
+        bounds: turning.bounds,
+        raised: grown.raised,
+        steps: Steps::new(steps),
+    })
+}

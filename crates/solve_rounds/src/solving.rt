@@ -1,0 +1,170 @@
+//! The rounds, to their end.
+
+ghost use Rattle.std.specs.Prelude.{◌≡◌, ◌≤◌, ◌+◌, ◌*◌, length, map, IfOk, IfErr, IsTrue};
+ghost use Rattle.std.specs.List.{list_all};
+ghost use Rattle.lang_tree.specs.Numbers.{are_numbers};
+ghost use Rattle.flow_templates.specs.Rows.{is_template};
+ghost use Rattle.flow_systems.specs.Equations.{Least};
+ghost use Rattle.flow_systems.specs.Cells.{cells_of};
+ghost use Rattle.flow_systems.specs.View.{equations_of};
+ghost use Rattle.theory_validity.specs.Certificates.{ValidCertificate};
+ghost use Rattle.cert_types.specs.Shaped.{IsShaped};
+ghost use Rattle.theory_strategy.specs.PickCount.{pick_count};
+ghost use Rattle.solve_composition.specs.Composed.{AreComposed};
+ghost use Rattle.flow_systems.specs.declared.fault.Fault.TheVariants.{NoMemory};
+ghost use Rattle.solve_offers.specs.AtBounds.{vector_at, IsSupportedPick};
+ghost use Rattle.solve_offers.specs.Stops.{IsOfferStop};
+ghost use Rattle.solve_rounds.specs.Round.{IsRoundStop};
+ghost use Rattle.solve_rounds.specs.Halts.{IsHalt};
+ghost use Rattle.solve_offers.specs.Known.{AreKnown};
+ghost use Rattle.solve_rounds.specs.Solutions.{IsSolved, AreNumbered, cert_with, made_certificate};
+ghost use Rattle.solve_rounds.specs.Solving.{IsBegun, IsAdvanced, IsFinished};
+
+use crate::evaluation::round_from;
+use crate::halt::Halt;
+use crate::solution::Solved;
+use crate::uppers::uppers_at;
+use std::alloc::Global;
+use cert_types::{Step, Steps};
+use flow_systems::{Bounds, Pick, System};
+use solve_offers::{Chooser, Known, Policy, Stop, forget, improve_from};
+use solve_transformer::{Paths, compose_all};
+
+// The bounds, the pick and the steps so far, and the transformers that are known at the bounds.
+#[derive(Drop)]
+pub(crate) struct Progress {
+    pub bounds: Bounds,
+    pub pick: Pick,
+    pub steps: Vec<Step>,
+    pub known: Known,
+}
+
+// Before the first round.
+fn begin(alloc: Global, system: &System) -> Result<Progress, Stop>
+    ensures begun { IfOk result (IsBegun system.now) }
+    ensures known { IfOk result (λ progress. AreKnown system.now progress.bounds progress.known) }
+    ensures stop { IfErr result (λ stop. stop ≡ NoMemory) }
+{
+    Ok(Progress {
+        bounds: Bounds::start(alloc, system)?,
+        pick: Pick::none(alloc, system)?,
+        steps: Vec::new(alloc),
+        known: Known::none(alloc, system)?,
+    })
+}
+
+// Makes a round by a pick.
+fn advance(
+    alloc: Global,
+    system: &System,
+    paths: &Paths,
+    better: Pick,
+    number: u32,
+    progress: &mut Progress,
+) -> Result<(), Stop>
+    requires composed { AreComposed (equations_of system.now) paths.now }
+    requires bounds { length progress.old.bounds ≡ length system.now.flow.points * length system.now.template }
+    requires pick { length better ≡ length system.now.flow.points * length system.now.template }
+    requires supported { IsSupportedPick system.now progress.old.bounds better }
+    requires known { AreKnown system.now progress.old.bounds progress.old.known }
+    ensures advanced { IfOk result (λ done. IsAdvanced system.now better progress.old progress.new) }
+    ensures known { IfOk result (λ done. AreKnown system.now progress.new.bounds progress.new.known) }
+    ensures stop { IfErr result (IsRoundStop system.now progress.old.bounds better number) }
+{
+    let grown = round_from(
+        alloc,
+        system,
+        paths,
+        &progress.bounds,
+        &better,
+        number,
+        &progress.known,
+    )?;
+    let mut steps = grown.steps.into_list();
+    progress.steps.append(&mut steps)?;
+    forget(system, &progress.bounds, &grown.bounds, &mut progress.known);
+    progress.bounds = grown.bounds;
+    progress.pick = better;
+    Ok(())
+}
+
+// The solution that the rounds have come to.
+fn finish(
+    alloc: Global,
+    system: &System,
+    paths: &Paths,
+    progress: Progress,
+    made: u32,
+) -> Result<Solved, Stop>
+    requires composed { AreComposed (equations_of system.now) paths.now }
+    requires bounds { length progress.bounds ≡ length system.now.flow.points * length system.now.template }
+    requires made { made ≤ 1000000 }
+    requires known { AreKnown system.now progress.bounds progress.known }
+    ensures finished { IfOk result (IsFinished system.now progress made) }
+    ensures stop { IfErr result (IsOfferStop system.now progress.bounds (made + 1)) }
+{
+    let mut known = progress.known;
+    let uppers = uppers_at(alloc, system, paths, &progress.bounds, made + 1, &mut known)?;
+    Ok(Solved {
+        bounds: progress.bounds,
+        improvements: made,
+        steps: Steps::new(progress.steps),
+        uppers,
+    })
+}
+
+// The template has a row, and its coefficients are within 2^63 - 1: each row knows it of itself.
+fn look_at_rows(system: &System)
+    ensures template { IsTrue (is_template system.now.template) }
+    ensures numbers { IsTrue (list_all are_numbers system.now.template) }
+{
+    for row in system.template.as_slice() {
+        row.as_slice();
+    }
+}
+
+/// The least bounds of a system, by rounds of policy iteration: from `+inf` at the entry and `-inf` elsewhere, each round takes
+/// the next pick by the chooser's function and leads to the least bounds above that are closed under it. The rounds end where no
+/// transformer exceeds its bound, before there are as many rounds as picks; at most `limit` of them are made.
+/// `docs/METHOD.md` has rounds, picks and certificates.
+///
+/// # Errors
+///
+/// `Spent` with the bounds after `limit` rounds, only where these are no post-solution; the limit is then below the number of
+/// picks. `Wide` only where its operation is too wide for a fraction: one of the composition, in round 0, of an offer at the
+/// bounds after the rounds made, in the round that would be next, or of a round made. `NoMemory`.
+pub fn least(alloc: Global, system: &System, limit: u32, chooser: &Chooser) -> Result<Solved, Halt>
+    requires limit { limit ≤ 1000000 }
+    requires cells { cells_of (equations_of system.now) ≤ 134217728 }
+    ensures solved { IfOk result (IsSolved system.now (λ offer k. (shown : _) × Policy.post chooser.now.policy shown k × (shown.now ≡ offer)) limit) }
+    ensures least { IfOk result (λ solved. Least (equations_of system.now) (vector_at system.now solved.bounds)) }
+    ensures valid { IfOk result (λ solved. ValidCertificate (equations_of system.now) (made_certificate system.now solved)) }
+    ensures shaped { IfOk result (λ solved. IsShaped (cert_with system.now solved)) }
+    ensures numbered { IfOk result (λ solved. AreNumbered system.now solved.steps) }
+    ensures halt { IfErr result (IsHalt system.now (λ offer k. (shown : _) × Policy.post chooser.now.policy shown k × (shown.now ≡ offer)) limit) }
+{
+    look_at_rows(system);
+    let paths = compose_all(alloc, system)?;
+    let mut progress = begin(alloc, system)?;
+    for made in 0..limit + 1 {
+        match improve_from(
+            alloc,
+            system,
+            &paths,
+            &progress.bounds,
+            &progress.pick,
+            made + 1,
+            chooser,
+            &mut progress.known,
+        )? {
+            None => return Ok(finish(alloc, system, &paths, progress, made)?),
+            Some(better) => {
+                if made == limit {
+                    return Err(Halt::Spent(progress.bounds));
+                }
+                advance(alloc, system, &paths, better, made + 1, &mut progress)?;
+            }
+        }
+    }
+    unreachable!()
+}

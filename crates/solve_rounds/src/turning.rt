@@ -1,0 +1,289 @@
+//! One turn of a round.
+
+ghost use Rattle.std.specs.Prelude.{◌≡◌, ◌*◌, ◌+◌, ◌<◌, ◌≤◌, ℕ, ◌∷◌, [], length, map, get_or, IfOk, IfErr};
+ghost use Rattle.base_numbers.specs.Rational.{zero_ℚ};
+ghost use Rattle.base_numbers.specs.Extended.{fin, pos_inf};
+ghost use Rattle.base_fractions.specs.Extended.{extended};
+ghost use Rattle.lp_theory.specs.Simplex.{lp};
+ghost use Rattle.flow_systems.specs.View.{equations_of, vector_of};
+ghost use Rattle.theory_transformers.specs.JointProblems.{AllRising};
+ghost use Rattle.solve_composition.specs.Composed.{AreComposed};
+ghost use Rattle.solve_joint.specs.Numbers.{all_listed, ArePicked, Rises};
+ghost use Rattle.solve_joint.specs.Problems.{problem_of};
+ghost use Rattle.solve_joint.specs.Joints.{IsReadFrom};
+ghost use Rattle.flow_systems.specs.declared.fault.Fault.TheVariants.{NoMemory};
+ghost use Rattle.solve_rounds.specs.Lows.{AreRaised, IsRaised};
+ghost use Rattle.solve_rounds.specs.Putting.{AreNumberedIn, puts};
+ghost use Rattle.solve_rounds.specs.Turning.{
+  MeetsCondition,
+  IsPickAt,
+  IsJoinedStop,
+  IsPart,
+  IsTurned,
+  HasSizes,
+  IsTaken,
+  finite_in,
+  is_finite,
+  jump_item_at,
+  jump_items_at,
+  ray_item_of,
+};
+
+use crate::lows::{copied, edge_of, low_of};
+use std::alloc::Global;
+use cert_types::{JumpItem, JumpItems, RayItem, RayItems, Step};
+use flow_systems::{Bounds, PartFault, Pick, Site, Spot, System, Trace};
+use base_fractions::{Ext, Frac};
+use solve_joint::{Joined, joint};
+use solve_offers::Stop;
+use solve_transformer::Paths;
+use solve_ray::RateOf;
+
+// The bounds so far, and the steps of the turns in order.
+#[derive(Drop)]
+pub(crate) struct Turning {
+    pub bounds: Bounds,
+    pub steps: Vec<Step>,
+}
+
+// Whether a bound is a fraction.
+fn is_fraction(bound: Ext) -> bool
+    ensures { result ≡ is_finite (extended bound) }
+{
+    match bound {
+        Ext::NegInf => false,
+        Ext::Fin(_) => true,
+        Ext::PosInf => false,
+    }
+}
+
+/// The unknowns of a list whose bounds are fractions.
+pub(crate) fn finite(alloc: Global, bounds: &Bounds, list: &[u32]) -> Result<Vec<u32>, Stop>
+    requires { AreNumberedIn (length bounds.now) list.now }
+    ensures list { IfOk result (λ left. left.items ≡ finite_in bounds.now list.now) }
+    ensures stop { IfErr result (λ stop. stop ≡ NoMemory) }
+{
+    let mut left = Vec::new(alloc);
+    for unknown in list {
+        if is_fraction(bounds.at(*unknown)) {
+            left.push(*unknown)?;
+        }
+    }
+    Ok(left)
+}
+
+/// A list of its own with the same unknowns.
+pub(crate) fn own(alloc: Global, list: &[u32]) -> Result<Vec<u32>, Stop>
+    ensures list { IfOk result (λ own. own.items ≡ list.now) }
+    ensures stop { IfErr result (λ stop. stop ≡ NoMemory) }
+{
+    let own = list.to_vec(alloc)?;
+    Ok(own)
+}
+
+// Gives the unknowns of a list their numbers.
+fn put_numbers(bounds: &mut Bounds, list: &[u32], to: &[Frac])
+    requires within { AreNumberedIn (length bounds.old) list.now }
+    requires count { length to.now ≡ length list.now }
+    ensures { bounds.new ≡ puts (λ k. fin (get_or to.now k zero_ℚ)) list.now bounds.old (length list.now) }
+{
+    for k in 0..list.len() {
+        bounds.set(list[k], Ext::Fin(to[k]));
+    }
+}
+
+// Gives the unknowns with a rate `+inf`.
+fn put_tops(bounds: &mut Bounds, rates: &[RateOf])
+    requires { AreNumberedIn (length bounds.old) (map (λ rate. rate.unknown) rates.now) }
+    ensures { bounds.new ≡ puts (λ k. pos_inf) (map (λ rate. rate.unknown) rates.now) bounds.old (length rates.now) }
+{
+    for k in 0..rates.len() {
+        bounds.set(rates[k].unknown, Ext::PosInf);
+    }
+}
+
+// The item of a jump for an unknown that was raised.
+fn jump_item(
+    alloc: Global,
+    raises: &[Step],
+    places: &[u32],
+    unknown: u32,
+    to: Frac,
+    high: &Trace,
+) -> Result<JumpItem, Stop>
+    requires { IsRaised raises.now places.now unknown }
+    ensures item { IfOk result (λ item. item ≡ jump_item_at raises.now places.now (unknown ∷ []) (to ∷ []) (high.now ∷ []) 0) }
+    ensures stop { IfErr result (λ stop. stop ≡ NoMemory) }
+{
+    let raise = &raises[places[unknown as usize] as usize];
+    let low = low_of(alloc, raise)?;
+    let high = copied(alloc, high)?;
+    Ok(JumpItem {
+        unknown,
+        edge: edge_of(raise),
+        low,
+        high,
+        to,
+    })
+}
+
+// The items of a jump of a list.
+fn jump_items(
+    alloc: Global,
+    raises: &[Step],
+    places: &[u32],
+    list: &[u32],
+    to: &[Frac],
+    highs: &[Trace],
+) -> Result<Vec<JumpItem>, Stop>
+    requires raised { AreRaised raises.now places.now list.now }
+    requires numbers { length to.now ≡ length list.now }
+    requires traces { length highs.now ≡ length list.now }
+    ensures items { IfOk result (λ items. items.items ≡ jump_items_at raises.now places.now list.now to.now highs.now) }
+    ensures stop { IfErr result (λ stop. stop ≡ NoMemory) }
+{
+    let mut items = Vec::new(alloc);
+    for k in 0..list.len() {
+        let item = jump_item(alloc, raises, places, list[k], to[k], &highs[k])?;
+        items.push(item)?;
+    }
+    Ok(items)
+}
+
+// The item of a ray for a rate of an unknown that was raised.
+fn ray_item(alloc: Global, raises: &[Step], places: &[u32], rate: &RateOf) -> Result<RayItem, Stop>
+    requires { IsRaised raises.now places.now rate.now.unknown }
+    ensures item { IfOk result (λ item. item ≡ ray_item_of raises.now places.now rate.now) }
+    ensures stop { IfErr result (λ stop. stop ≡ NoMemory) }
+{
+    let raise = &raises[places[rate.unknown as usize] as usize];
+    let low = low_of(alloc, raise)?;
+    let direction = copied(alloc, &rate.direction)?;
+    Ok(RayItem {
+        unknown: rate.unknown,
+        edge: edge_of(raise),
+        low,
+        direction,
+        rate: rate.rate,
+    })
+}
+
+// The items of a ray with these rates.
+fn ray_items(
+    alloc: Global,
+    raises: &[Step],
+    places: &[u32],
+    rates: &[RateOf],
+) -> Result<Vec<RayItem>, Stop>
+    requires { AreRaised raises.now places.now (map (λ rate. rate.unknown) rates.now) }
+    ensures items { IfOk result (λ items. items.items ≡ map (ray_item_of raises.now places.now) rates.now) }
+    ensures stop { IfErr result (λ stop. stop ≡ NoMemory) }
+{
+    let mut items = Vec::new(alloc);
+    for rate in rates {
+        let item = ray_item(alloc, raises, places, rate)?;
+        items.push(item)?;
+    }
+    Ok(items)
+}
+
+// The outcome of the joint problem of a list at the bounds, after so many turns.
+fn joined(
+    alloc: Global,
+    system: &System,
+    paths: &Paths,
+    bounds: &Bounds,
+    pick: &Pick,
+    list: &[u32],
+    turn: u32,
+    round: u32,
+) -> Result<Joined, Stop>
+    requires composed { AreComposed (equations_of system.now) paths.now }
+    requires bounds { length bounds.now ≡ length system.now.flow.points * length system.now.template }
+    requires pick { length pick.now ≡ length system.now.flow.points * length system.now.template }
+    requires rises { Rises 0 list.now }
+    requires picked { ArePicked system.now pick.now list.now }
+    requires rising { AllRising (equations_of system.now) (vector_of (length system.now.template) bounds.now) (all_listed system.now pick.now list.now) }
+    ensures joined { IfOk result (IsReadFrom system.now pick.now bounds.now list.now (lp (problem_of system.now pick.now bounds.now list.now))) }
+    ensures stop { IfErr result (IsJoinedStop system.now pick.now bounds.now list.now turn round) }
+{
+    match joint(alloc, system, paths, bounds, pick, list) {
+        Ok(joined) => Ok(joined),
+        Err(PartFault::Wide { part, wide }) => Err(Stop::Wide(Spot {
+            round,
+            site: Site::Joint { turn, part },
+            wide,
+        })),
+        Err(PartFault::NoMemory) => Err(Stop::NoMemory),
+    }
+}
+
+// Takes the outcome of a list's joint problem: puts its step behind the others and the new bounds in place, and gives what is
+// left of the list.
+fn take(
+    alloc: Global,
+    raises: &[Step],
+    places: &[u32],
+    list: &[u32],
+    joined: Joined,
+    turning: &mut Turning,
+) -> Result<Vec<u32>, Stop>
+    requires within { AreNumberedIn (length turning.old.bounds) list.now }
+    requires raised { AreRaised raises.now places.now list.now }
+    requires sizes { HasSizes list.now joined }
+    ensures taken { IfOk result (λ left. IsTaken raises.now places.now list.now joined turning.old turning.new left.items) }
+    ensures stop { IfErr result (λ stop. stop ≡ NoMemory) }
+{
+    match joined {
+        Joined::Point { to, highs } => {
+            let items = jump_items(alloc, raises, places, list, to.as_slice(), highs.as_slice())?;
+            put_numbers(&mut turning.bounds, list, to.as_slice());
+            turning.steps.push(Step::Jump(JumpItems::new(items)))?;
+            Ok(Vec::new(alloc))
+        }
+        Joined::Ray(rates) => {
+            let items = ray_items(alloc, raises, places, rates.list.as_slice())?;
+            put_tops(&mut turning.bounds, rates.list.as_slice());
+            turning.steps.push(Step::Ray(RayItems::new(items)))?;
+            finite(alloc, &turning.bounds, list)
+        }
+    }
+}
+
+/// A turn of a list of unknowns that were raised: a point sets them to their numbers, and nothing is left; a ray sets those
+/// with a rate above 0 to `+inf`, and the others are left.
+pub(crate) fn turn(
+    alloc: Global,
+    system: &System,
+    paths: &Paths,
+    pick: &Pick,
+    round: u32,
+    raises: &[Step],
+    places: &[u32],
+    list: &[u32],
+    turning: &mut Turning,
+) -> Result<Vec<u32>, Stop>
+    requires composed { AreComposed (equations_of system.now) paths.now }
+    requires bounds { length turning.old.bounds ≡ length system.now.flow.points * length system.now.template }
+    requires pick { length pick.now ≡ length system.now.flow.points * length system.now.template }
+    requires chosen { IsPickAt system.now pick.now }
+    requires few { length turning.old.steps.items < 4294967296 }
+    requires part { IsPart system.now pick.now raises.now places.now list.now }
+    requires some { 0 < length list.now }
+    requires condition { MeetsCondition system.now pick.now raises.now places.now list.now turning.old.bounds }
+    ensures turned { IfOk result (λ left. IsTurned system.now pick.now raises.now places.now list.now turning.old turning.new left.items) }
+    ensures stop { IfErr result (IsJoinedStop system.now pick.now turning.old.bounds list.now (length turning.old.steps.items) round) }
+{
+    let number = turning.steps.len() as u32;
+    let outcome = joined(
+        alloc,
+        system,
+        paths,
+        &turning.bounds,
+        pick,
+        list,
+        number,
+        round,
+    )?;
+    take(alloc, raises, places, list, outcome, turning)
+}

@@ -1,0 +1,157 @@
+//! The evidence of upper bounds that the offers at the last bounds show.
+
+ghost use Rattle.std.specs.Prelude.{◌≡◌, ◌<◌, ◌≤◌, ◌*◌, ◌++◌, ℕ, length, map, IfOk, IfErr};
+ghost use Rattle.base_numbers.specs.Extended.{◌<ᴱ◌, pos_inf};
+ghost use Rattle.flow_systems.specs.View.{equations_of};
+ghost use Rattle.cert_types.specs.Certificates.{evidence_of};
+ghost use Rattle.solve_composition.specs.Composed.{AreComposed};
+ghost use Rattle.theory_rounds.specs.Made.{exact_upper, exact_uppers};
+ghost use Rattle.solve_offers.specs.AtBounds.{vector_at, edge_at, row_at};
+ghost use Rattle.solve_offers.specs.Known.{AreKnown};
+ghost use Rattle.solve_offers.specs.Stops.{IsSolvedStop, IsOfferStop};
+ghost use Rattle.solve_rounds.specs.Uppers.{uppers_into, uppers_of_rows};
+
+use std::alloc::Global;
+use cert_types::{Upper, Uppers};
+use flow_systems::{Bounds, System};
+use solve_offers::{Known, Stop, is_unlimited, solve_offer};
+use solve_transformer::Paths;
+
+// The evidence for an edge and a row at the bounds: that of the offer, which is handed out, or else solved.
+fn shown(
+    alloc: Global,
+    system: &System,
+    paths: &Paths,
+    bounds: &Bounds,
+    edge: u32,
+    row: u32,
+    round: u32,
+    known: &mut Known,
+) -> Result<Upper, Stop>
+    requires composed { AreComposed (equations_of system.now) paths.now }
+    requires bounds { length bounds.now ≡ length system.now.flow.points * length system.now.template }
+    requires edge { edge < length system.now.flow.edges }
+    requires row { row < length system.now.template }
+    requires known { AreKnown system.now bounds.now known.old }
+    ensures upper { IfOk result (λ upper. evidence_of upper ≡ exact_upper (equations_of system.now) (vector_at system.now bounds.now)
+        (edge_at system.now edge) (row_at system.now row)) }
+    ensures stop { IfErr result (IsSolvedStop system.now bounds.now edge row round) }
+    ensures known { AreKnown system.now bounds.now known.new }
+{
+    match known.take(system, edge, row) {
+        Some(found) => Ok(found.upper),
+        None => {
+            let found = solve_offer(alloc, system, paths, bounds, edge, row, round)?;
+            Ok(found.upper)
+        }
+    }
+}
+
+// Puts the evidence for each edge into a point, by edge number, behind the others, where the bound is below `+inf`.
+fn push_into(
+    alloc: Global,
+    system: &System,
+    paths: &Paths,
+    bounds: &Bounds,
+    point: u32,
+    row: u32,
+    round: u32,
+    known: &mut Known,
+    uppers: &mut Vec<Upper>,
+) -> Result<(), Stop>
+    requires composed { AreComposed (equations_of system.now) paths.now }
+    requires bounds { length bounds.now ≡ length system.now.flow.points * length system.now.template }
+    requires row { row < length system.now.template }
+    requires limited { vector_at system.now bounds.now point row <ᴱ pos_inf }
+    requires known { AreKnown system.now bounds.now known.old }
+    ensures uppers { IfOk result (λ done. map evidence_of uppers.new.items ≡ map evidence_of uppers.old.items
+        ++ uppers_into (equations_of system.now) (vector_at system.now bounds.now) point row) }
+    ensures stop { IfErr result (IsOfferStop system.now bounds.now round) }
+    ensures known { AreKnown system.now bounds.now known.new }
+{
+    for (number, edge) in system.flow.edges.as_slice().iter().enumerate() {
+        if edge.to == point {
+            let upper = shown(
+                alloc,
+                system,
+                paths,
+                bounds,
+                number as u32,
+                row,
+                round,
+                known,
+            )?;
+            uppers.push(upper)?;
+        }
+    }
+    Ok(())
+}
+
+// Puts the evidence for the unknowns of a point, by row, behind the others. An unknown at `+inf` needs none.
+fn push_point(
+    alloc: Global,
+    system: &System,
+    paths: &Paths,
+    bounds: &Bounds,
+    point: u32,
+    round: u32,
+    known: &mut Known,
+    uppers: &mut Vec<Upper>,
+) -> Result<(), Stop>
+    requires composed { AreComposed (equations_of system.now) paths.now }
+    requires bounds { length bounds.now ≡ length system.now.flow.points * length system.now.template }
+    requires point { point < length system.now.flow.points }
+    requires known { AreKnown system.now bounds.now known.old }
+    ensures uppers { IfOk result (λ done. map evidence_of uppers.new.items ≡ map evidence_of uppers.old.items
+        ++ uppers_of_rows (equations_of system.now) (vector_at system.now bounds.now) point (length system.now.template)) }
+    ensures stop { IfErr result (IsOfferStop system.now bounds.now round) }
+    ensures known { AreKnown system.now bounds.now known.new }
+{
+    let rows = system.template.as_slice().len() as u32;
+    for row in 0..rows {
+        if !is_unlimited(bounds.at(point * rows + row)) {
+            push_into(
+                alloc, system, paths, bounds, point, row, round, known, uppers,
+            )?;
+        }
+    }
+    Ok(())
+}
+
+/// The evidence that the offers at the bounds show: for each unknown outside the entry whose bound isn't `+inf`, in order of
+/// number, and each edge into its point, by edge number, the lowest row at `-inf`, the multipliers of an empty problem, or those
+/// of the best value. What is known from the last offers is handed out and not solved again.
+///
+/// # Errors
+///
+/// `Wide` only where an operation of an offer is too wide for a fraction at these bounds, at the site of the offer and in this
+/// round, and the bound that the edge leads to is below `+inf`. `NoMemory`.
+pub(crate) fn uppers_at(
+    alloc: Global,
+    system: &System,
+    paths: &Paths,
+    bounds: &Bounds,
+    round: u32,
+    known: &mut Known,
+) -> Result<Uppers, Stop>
+    requires composed { AreComposed (equations_of system.now) paths.now }
+    requires bounds { length bounds.now ≡ length system.now.flow.points * length system.now.template }
+    requires known { AreKnown system.now bounds.now known.old }
+    ensures uppers { IfOk result (λ uppers. map evidence_of uppers ≡ exact_uppers (equations_of system.now) (vector_at system.now bounds.now)) }
+    ensures stop { IfErr result (IsOfferStop system.now bounds.now round) }
+{
+    let mut uppers = Vec::new(alloc);
+    for point in 1..system.flow.points.as_slice().len() as u32 {
+        push_point(
+            alloc,
+            system,
+            paths,
+            bounds,
+            point,
+            round,
+            known,
+            &mut uppers,
+        )?;
+    }
+    Ok(Uppers::new(uppers))
+}

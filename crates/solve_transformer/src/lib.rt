@@ -1,0 +1,14 @@
+//! The transformers of a system's edges and rows.
+//!
+//! `docs/METHOD.md` reads the definitions of `specs/` in order.
+#![tactic(auto)]
+
+mod build;
+mod read;
+mod split;
+mod stay;
+mod transform;
+
+pub use stay::guarded_value;
+pub use solve_composition::{PathFault, Paths, Value, compose_all};
+pub use transform::operator;

@@ -1,0 +1,49 @@
+//! Columns of any sign as two columns each: the positive one and then the negative one.
+
+ghost use Rattle.std.specs.Prelude.{◌≡◌, IfOk, IsTrue, map, get_or};
+ghost use Rattle.base_numbers.specs.Rational.{whole, zero_ℚ};
+ghost use Rattle.lang_tree.specs.Numbers.{are_numbers};
+ghost use Rattle.solve_composition.specs.Composed.{first_entries};
+ghost use Rattle.solve_transformer.specs.Splits.{pairs};
+
+use std::alloc::{AllocError, Global};
+use flow_systems::fraction;
+use base_fractions::{Frac, OrderedField};
+
+// Each coefficient and its negation.
+pub fn split_coeffs(alloc: Global, coeffs: &[Frac]) -> Result<Vec<Frac>, AllocError>
+    ensures { IfOk result (λ list. list.items ≡ pairs coeffs.now) }
+{
+    let mut list = Vec::with_capacity(alloc, coeffs.len().saturating_mul(2))?;
+    for coeff in coeffs {
+        list.push(*coeff)?;
+        list.push(coeff.negate())?;
+    }
+    Ok(list)
+}
+
+// A coefficient of a template row as a fraction, and 0 behind them.
+fn row_entry(row: &[i64], column: usize) -> Frac
+    requires { IsTrue (are_numbers row.now) }
+    ensures { result ≡ get_or (map whole row.now) column zero_ℚ }
+{
+    if column < row.len() {
+        fraction(row[column])
+    } else {
+        Frac::zero()
+    }
+}
+
+// Each coefficient of a template row and its negation, over all columns of an edge.
+pub fn split_row(alloc: Global, row: &[i64], width: usize) -> Result<Vec<Frac>, AllocError>
+    requires { IsTrue (are_numbers row.now) }
+    ensures { IfOk result (λ list. list.items ≡ pairs (first_entries width (map whole row.now))) }
+{
+    let mut list = Vec::with_capacity(alloc, width.saturating_mul(2))?;
+    for column in 0..width {
+        let coeff = row_entry(row, column);
+        list.push(coeff)?;
+        list.push(coeff.negate())?;
+    }
+    Ok(list)
+}

@@ -1,0 +1,50 @@
+//! Texts, the programs that they read as, and tables of cases.
+
+use std::alloc::{AllocError, Global};
+use lang_tokens::lex;
+use lang_parser::{ParseFault, parse};
+use lang_tree::Program;
+
+/// A row of a table: what a call is given, and what it is to answer.
+pub(crate) trait Case {
+    /// Whether the call answers as it is to. Without memory it doesn't.
+    fn is_right(&self, alloc: Global) -> bool;
+}
+
+/// The number of the first row of a table that isn't right, counted from 0.
+pub(crate) fn first_wrong<C: Case>(alloc: Global, table: &[C]) -> Option<usize> {
+    for (number, case) in table.iter().enumerate() {
+        if !case.is_right(alloc) {
+            return Some(number);
+        }
+    }
+    None
+}
+
+/// The program that a text reads as, or its fault; nothing where it is too long or has a fault in its tokens.
+pub(crate) fn read(alloc: Global, text: &[u8]) -> Option<Result<Program, ParseFault>> {
+    if text.len() > 65_536 {
+        return None;
+    }
+    match lex(alloc, text) {
+        Ok(tokens) => Some(parse(alloc, tokens.as_slice(), text)),
+        Err(_) => None,
+    }
+}
+
+/// What stands before, so many times the piece, and what stands behind.
+pub(crate) fn repeated(
+    alloc: Global,
+    before: &[u8],
+    piece: &[u8],
+    count: usize,
+    after: &[u8],
+) -> Result<Vec<u8>, AllocError> {
+    let mut text = Vec::new(alloc);
+    text.extend_from_slice(before)?;
+    for _ in 0..count {
+        text.extend_from_slice(piece)?;
+    }
+    text.extend_from_slice(after)?;
+    Ok(text)
+}

@@ -1,0 +1,254 @@
+//! Words of the command line, and what they ask for.
+
+use crate::texts::{Case, first_wrong};
+use std::alloc::{AllocError, Global};
+use ask_words::{Analysis, Domain, Policy, Purpose, Request, WordsFault, read_words, usage_line};
+
+// The words of a line, one behind each blank; the empty line has none.
+fn words_of(alloc: Global, line: &str) -> Result<Vec<String>, AllocError> {
+    let mut words = Vec::new(alloc);
+    if line.is_empty() {
+        return Ok(words);
+    }
+    for word in line.split(' ') {
+        words.push(String::from_str(alloc, word)?)?;
+    }
+    Ok(words)
+}
+
+// Whether the words of a line ask for this, or for nothing.
+fn asks(alloc: Global, line: &str, wanted: Option<Request<&str>>) -> bool {
+    match words_of(alloc, line) {
+        Ok(words) => match read_words(alloc, words.as_slice()) {
+            Ok(request) => Some(request) == wanted,
+            Err(fault) => fault == WordsFault::Usage && wanted.is_none(),
+        },
+        Err(_) => false,
+    }
+}
+
+// A line of words, and the analysis whose report they ask for.
+impl Case for (&str, Analysis<&str>) {
+    fn is_right(&self, alloc: Global) -> bool {
+        let request = Request::Analyse {
+            purpose: Purpose::Report,
+            analysis: self.1,
+        };
+        asks(alloc, self.0, Some(request))
+    }
+}
+
+const PLAIN: Analysis<&str> = Analysis {
+    program: "p",
+    domain: Domain::Intervals,
+    improvements: 1000,
+    policy: Policy::Best,
+};
+
+const REPORTS: &[(&str, Analysis<&str>)] = &[
+    ("solve p", PLAIN),
+    (
+        "solve help",
+        Analysis {
+            program: "help",
+            ..PLAIN
+        },
+    ),
+    (
+        "solve ",
+        Analysis {
+            program: "",
+            ..PLAIN
+        },
+    ),
+    (
+        "solve --domain=zones p",
+        Analysis {
+            domain: Domain::Zones,
+            ..PLAIN
+        },
+    ),
+    (
+        "solve p --domain zones",
+        Analysis {
+            domain: Domain::Zones,
+            ..PLAIN
+        },
+    ),
+    (
+        "solve -- --domain",
+        Analysis {
+            program: "--domain",
+            ..PLAIN
+        },
+    ),
+    (
+        "solve p --domain rows --rows r",
+        Analysis {
+            domain: Domain::Rows("r"),
+            ..PLAIN
+        },
+    ),
+];
+
+#[test]
+fn words_ask_for_reports(rt: HostRuntime) {
+    assert_eq!(rt; first_wrong(rt.alloc(), REPORTS), None);
+}
+
+// A line of words, and what they ask for.
+impl Case for (&str, Request<&str>) {
+    fn is_right(&self, alloc: Global) -> bool {
+        asks(alloc, self.0, Some(self.1))
+    }
+}
+
+const OTHERS: &[(&str, Request<&str>)] = &[
+    (
+        "certify --policy first p --improvements=1000000 --domain octagons",
+        Request::Analyse {
+            purpose: Purpose::Certificate,
+            analysis: Analysis {
+                program: "p",
+                domain: Domain::Octagons,
+                improvements: 1_000_000,
+                policy: Policy::First,
+            },
+        },
+    ),
+    (
+        "check p c",
+        Request::Check {
+            program: "p",
+            certificate: "c",
+        },
+    ),
+    (
+        "bench --loops 46 --seed 2147483647",
+        Request::Bench {
+            seed: 2_147_483_647,
+            loops: 46,
+        },
+    ),
+    ("upgrade c", Request::Upgrade { certificate: "c" }),
+    ("upgrade -- -c", Request::Upgrade { certificate: "-c" }),
+    (
+        "prove p c --domain rows --rows r",
+        Request::Prove {
+            claims: "c",
+            analysis: Analysis {
+                program: "p",
+                domain: Domain::Rows("r"),
+                improvements: 1000,
+                policy: Policy::Best,
+            },
+        },
+    ),
+    (
+        "prove --policy=first p --improvements 0 c",
+        Request::Prove {
+            claims: "c",
+            analysis: Analysis {
+                program: "p",
+                domain: Domain::Intervals,
+                improvements: 0,
+                policy: Policy::First,
+            },
+        },
+    ),
+    (
+        "transitions s --domain octagons",
+        Request::Transitions {
+            analysis: Analysis {
+                program: "s",
+                domain: Domain::Octagons,
+                improvements: 1000,
+                policy: Policy::Best,
+            },
+        },
+    ),
+    (
+        "equations e",
+        Request::Equations {
+            file: "e",
+            improvements: 1000,
+            policy: Policy::Best,
+        },
+    ),
+    (
+        "equations --policy=first e --improvements 5",
+        Request::Equations {
+            file: "e",
+            improvements: 5,
+            policy: Policy::First,
+        },
+    ),
+];
+
+#[test]
+fn words_ask_for_other_commands(rt: HostRuntime) {
+    assert_eq!(rt; first_wrong(rt.alloc(), OTHERS), None);
+}
+
+// A line of words that ask for nothing.
+impl Case for &str {
+    fn is_right(&self, alloc: Global) -> bool {
+        asks(alloc, *self, None)
+    }
+}
+
+const REFUSED: &[&str] = &[
+    "",
+    "solve",
+    "solve p q",
+    "solv p",
+    "solve p --nothing 1",
+    "solve p --domain rows",
+    "solve p --rows r",
+    "solve p --domain zones --rows r",
+    "solve p --domain Zones",
+    "solve p --domain=",
+    "solve p --domain zones --domain zones",
+    "solve p --policy worst",
+    "solve p --improvements 1000001",
+    "solve p --improvements 00000000001",
+    "solve p --improvements +1",
+    "solve p --improvements -1",
+    "check p",
+    "check p c --domain zones",
+    "bench --seed 1",
+    "bench --seed 2147483648 --loops 1",
+    "bench --seed 1 --loops 0",
+    "bench --seed 1 --loops 47",
+    "upgrade",
+    "upgrade c d",
+    "c upgrade",
+    "upgrade c --domain zones",
+    "prove",
+    "prove p",
+    "prove p c d",
+    "prove p --claims c",
+    "transitions",
+    "transitions s t",
+    "transitions s --seed 1",
+    "equations",
+    "equations e f",
+    "equations e --domain zones",
+    "equations e --improvements 1000001",
+    "--help",
+    "help",
+    "solve p -h",
+    "--version",
+    "-V",
+];
+
+#[test]
+fn other_words_ask_for_nothing(rt: HostRuntime) {
+    assert_eq!(rt; first_wrong(rt.alloc(), REFUSED), None);
+}
+
+#[test]
+fn usage(rt: HostRuntime) {
+    assert!(rt; usage_line().starts_with(b"usage: tmpl solve PROGRAM [--domain D]"));
+    assert!(rt; usage_line().len() == 306);
+}

@@ -1,6 +1,0 @@
-use Rattle.tm_eqsys.specs.View.{equations_of, vector_at}
-use Rattle.tm_assert.proofs.judging.Lists.{AreJudged}
-use Rattle.tm_assert.proofs.list.verdicts.Given as goal
-
-abbrev pub invariant-loop-number : goal.invariant-loop-number
-invariant-loop-number l = AreJudged (equations_of l.system) (vector_at l.system l.bounds) l.claims l.number l.list.items

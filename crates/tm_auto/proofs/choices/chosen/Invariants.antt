@@ -1,8 +1,0 @@
-use Rattle.std.proofs.Common.{drop}
-use Rattle.tm_tree.specs.View.{statements_of}
-use Rattle.tm_auto.proofs.choosing.Chosen.{IsChosen}
-use Rattle.tm_auto.proofs.choices.chosen.Given as goal
-
-abbrev pub invariant-loop-act : goal.invariant-loop-act
-invariant-loop-act l =
-    IsChosen (statements_of l.acts) l.initial.number (statements_of (drop l.act-index l.acts)) l.actions.items l.left l.number

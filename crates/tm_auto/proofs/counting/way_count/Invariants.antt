@@ -1,7 +1,0 @@
-use Rattle.std.proofs.Common.{drop}
-use Rattle.tm_tree.specs.View.{statements_of}
-use Rattle.tm_auto.proofs.counted.Ways.{AreCounted}
-use Rattle.tm_auto.proofs.counting.way_count.Given as goal
-
-abbrev pub invariant-loop-act : goal.invariant-loop-act
-invariant-loop-act l = AreCounted (statements_of l.acts) (statements_of (drop l.act-index l.acts)) l.count

@@ -1,7 +1,0 @@
-use Rattle.std.proofs.Common.{◌≡◌, map}
-use Rattle.tm_flow.specs.Trails.{kept_edge}
-use Rattle.tm_auto.specs.Choices.{edges_of}
-use Rattle.tm_auto.proofs.edges.edges_of.Given as goal
-
-abbrev pub invariant-loop-point : goal.invariant-loop-point
-invariant-loop-point l = l.list.items ≡ map kept_edge (edges_of l.point l.edges)

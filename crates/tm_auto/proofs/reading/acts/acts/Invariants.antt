@@ -1,9 +1,0 @@
-use Rattle.std.proofs.Common.{◌-◌, length}
-use Rattle.tm_auto.proofs.progress.Loops.{ReadActs}
-use Rattle.tm_auto.proofs.reading.acts.acts.Given as goal
-
-abbrev pub invariant-acts : goal.invariant-acts
-invariant-acts l = ReadActs l.text l.tokens l.names l.initial.at l.acts.items l.at
-
-abbrev pub decreases-acts : goal.decreases-acts
-decreases-acts l = length l.tokens - l.at

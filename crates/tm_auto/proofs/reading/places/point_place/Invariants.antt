@@ -1,5 +1,0 @@
-use Rattle.tm_auto.proofs.progress.Positions.{IsPlaced}
-use Rattle.tm_auto.proofs.reading.places.point_place.Given as goal
-
-abbrev pub invariant-loop-place : goal.invariant-loop-place
-invariant-loop-place l = IsPlaced l.name l.points l.place

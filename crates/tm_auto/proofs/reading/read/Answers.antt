@@ -1,5 +1,0 @@
-use Rattle.tm_auto.proofs.progress.Once.{gives}
-use Rattle.tm_auto.proofs.reading.read.Goals as goal
-
-pub returns-clause-exact : goal.returns-clause-exact
-returns-clause-exact c = gives c.args.text.now c.answer.result c.answer.ensures.system c.answer.ensures.refused

@@ -1,8 +1,0 @@
-use Rattle.tm_chain.proofs.transformers.OneOffer.{transformer_one, offer_one}
-use Rattle.tm_chain.proofs.law.offers_are_one.Goals as goal
-
-pub returns-clause-transformer : goal.returns-clause-transformer
-returns-clause-transformer c = transformer_one
-
-pub returns-clause-offer : goal.returns-clause-offer
-returns-clause-offer c = offer_one

@@ -1,8 +1,0 @@
-use Rattle.std.proofs.Common.{◌∙◌, ap, sym, pos}
-use Rattle.std.proofs.lemmas.List.{get_or_past}
-use Rattle.tm_num.specs.Rational.{whole}
-use Rattle.tm_num.proofs.rational.Laws.{whole-zero}
-use Rattle.tm_check.proofs.combination.row_entry.Goals as goal
-
-pub returns-else-column-row : goal.returns-else-column-row
-returns-else-column-row c = c.zero.ensures.value ∙ sym (ap whole (get_or_past c.args.row.now c.args.column (pos 0) c.if-column-row.false) ∙ whole-zero)

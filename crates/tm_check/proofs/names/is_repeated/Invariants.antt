@@ -1,8 +1,0 @@
-use Rattle.std.proofs.Common.{ℕ, ◌<◌}
-use Rattle.tm_cert.specs.Certificates.{step_of}
-use Rattle.tm_validity.specs.Steps.{Unnamed}
-use Rattle.tm_check.specs.Items.{item_at, earlier_items}
-use Rattle.tm_check.proofs.names.is_repeated.Given as goal
-
-abbrev pub invariant-loop-j : goal.invariant-loop-j
-invariant-loop-j l = (rows : ℕ) → 0 < rows → Unnamed (earlier_items (step_of rows l.step).items l.j) (item_at rows l.step l.k).point (item_at rows l.step l.k).row

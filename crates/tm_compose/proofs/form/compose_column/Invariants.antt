@@ -1,8 +1,0 @@
-use Rattle.std.proofs.Common.{◌≡◌, map, get_or}
-use Rattle.std.specs.List.{range_with_len}
-use Rattle.tm_num.specs.Rational.{zero_ℚ}
-use Rattle.tm_validity.specs.Words.{column}
-use Rattle.tm_compose.proofs.form.compose_column.Given as goal
-
-abbrev pub invariant-loop-at : goal.invariant-loop-at
-invariant-loop-at l = l.list.items ≡ map (λ k. get_or (column l.place).coeffs k zero_ℚ) (range_with_len 0 l.at)

@@ -1,7 +1,0 @@
-use Rattle.std.proofs.Common.{◌≡◌}
-use Rattle.tm_dict.specs.Exact.{exact}
-use Rattle.tm_dict.specs.Sides.{IsLeastSoFar}
-use Rattle.tm_dict.proofs.sides.lowest_side.Given as goal
-
-abbrev pub invariant-loop-i : goal.invariant-loop-i
-invariant-loop-i g l = IsLeastSoFar (exact g.F.OrderedField.meaning l.problem).side l.i (g.F.OrderedField.meaning l.least) l.lowest

@@ -1,5 +1,0 @@
-use Rattle.tm_eqsys.proofs.equations.Leastness.{at_most_one}
-use Rattle.tm_eqsys.proofs.law.at_most_one_least.Goals as goal
-
-pub returns : goal.returns
-returns c = at_most_one

@@ -1,8 +1,0 @@
-use Rattle.tm_eqsys.proofs.equations.Leastness.{supported_law, decided_law}
-use Rattle.tm_eqsys.proofs.law.least_solutions_are_supported.Goals as goal
-
-pub returns-clause-supported : goal.returns-clause-supported
-returns-clause-supported c = supported_law
-
-pub returns-clause-decided : goal.returns-clause-decided
-returns-clause-decided c = decided_law

@@ -1,5 +1,0 @@
-use Rattle.tm_eqsys.proofs.equations.Leastness.{unreached_law}
-use Rattle.tm_eqsys.proofs.law.unreached_at_all_rows.Goals as goal
-
-pub returns : goal.returns
-returns c = unreached_law

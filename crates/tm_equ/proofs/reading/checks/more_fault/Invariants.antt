@@ -1,8 +1,0 @@
-use Rattle.std.proofs.Common.{◌≡◌, ◌+◌, drop}
-use Rattle.std.specs.List.{flat_map, enumerate_from}
-use Rattle.tm_equ.specs.EquFaults.{nth_sum_faults}
-use Rattle.tm_equ.proofs.reading.checks.more_fault.Given as goal
-
-abbrev pub invariant-loop-i : goal.invariant-loop-i
-invariant-loop-i l =
-    flat_map (nth_sum_faults l.equations) (enumerate_from 1 l.sums) ≡ flat_map (nth_sum_faults l.equations) (enumerate_from (1 + l.i) (drop l.i l.sums))

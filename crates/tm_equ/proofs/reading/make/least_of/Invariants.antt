@@ -1,6 +1,0 @@
-use Rattle.std.proofs.Common.{◌≡◌, ◌∷◌, take, map}
-use Rattle.tm_equ.specs.WrittenSums.{sum_of}
-use Rattle.tm_equ.proofs.reading.make.least_of.Given as goal
-
-abbrev pub invariant-loop-sum : goal.invariant-loop-sum
-invariant-loop-sum l = l.sums.items ≡ l.fn.first ∷ map (sum_of l.equations) (take l.sum-index l.more)

@@ -1,6 +1,0 @@
-use Rattle.std.proofs.Common.{◌≡◌, take}
-use Rattle.tm_equ.specs.Symbols.{symbols_of}
-use Rattle.tm_equ.proofs.reading.symbols.symbols_of.Given as goal
-
-abbrev pub invariant-loop-token : goal.invariant-loop-token
-invariant-loop-token l = l.symbols.items ≡ symbols_of l.text (take l.token-index l.tokens)

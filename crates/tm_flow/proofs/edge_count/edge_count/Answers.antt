@@ -1,6 +1,0 @@
-use Rattle.std.proofs.Common.{rules}
-use Rattle.tm_flow.proofs.edges.CountLaws.{counted_up_to}
-use Rattle.tm_flow.proofs.edge_count.edge_count.Goals as goal
-
-pub returns : goal.returns
-returns c = counted_up_to c.args.body.now _ _ (search rules)

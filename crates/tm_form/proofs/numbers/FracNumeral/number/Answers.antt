@@ -1,5 +1,0 @@
-use Rattle.tm_form.proofs.numbers.FracTexts.{frac_read}
-use Rattle.tm_form.proofs.numbers.FracNumeral.number.Goals as goal
-
-pub returns : goal.returns
-returns c = frac_read c.args.text.now c.read.result c.read.ensures.read

@@ -1,6 +1,0 @@
-use Rattle.serde_json.specs.View.{view}
-use Rattle.tm_form.proofs.reading.ReadShapes.{answer_writable}
-use Rattle.tm_form.proofs.reading.read.Goals as goal
-
-pub returns-in-Ok-clause-writable : goal.returns-in-Ok-clause-writable
-returns-in-Ok-clause-writable c = answer_writable (view c.in-Ok.value) c.read_cert.result _ c.read_cert.ensures

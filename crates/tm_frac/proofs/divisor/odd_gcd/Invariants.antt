@@ -1,9 +1,0 @@
-use Rattle.std.proofs.Common.{◌≡◌, ◌+◌, ◌%◌}
-use Rattle.tm_num.specs.Gcd.{gcd as gcd_of}
-use Rattle.tm_frac.proofs.divisor.odd_gcd.Given as goal
-
-abbrev pub invariant-loop-x : goal.invariant-loop-x
-invariant-loop-x l = record { same : gcd_of l.x l.y ≡ gcd_of l.a l.b; x_odd : l.x % 2 ≡ 1; y_odd : l.y % 2 ≡ 1 }
-
-abbrev pub decreases-loop-x : goal.decreases-loop-x
-decreases-loop-x l = l.x + l.y

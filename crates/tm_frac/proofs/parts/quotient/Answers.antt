@@ -1,5 +1,0 @@
-use native.Mathlib.Nat.{div-mul_cancel}
-use Rattle.tm_frac.proofs.parts.quotient.Goals as goal
-
-pub returns-else-g-eq1-clause-value : goal.returns-else-g-eq1-clause-value
-returns-else-g-eq1-clause-value c = div-mul_cancel c.args.g c.requires.divides

@@ -1,6 +1,0 @@
-use Rattle.std.proofs.Common.{◌≡◌}
-use Rattle.tm_transformers.specs.JointProblems.{ones}
-use Rattle.tm_joint.proofs.joint_problem.goal.Given as goal
-
-abbrev pub invariant-loop-unknown : goal.invariant-loop-unknown
-invariant-loop-unknown l = l.goal.items ≡ ones l._unknown

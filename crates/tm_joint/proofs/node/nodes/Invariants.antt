@@ -1,6 +1,0 @@
-use Rattle.std.proofs.Common.{◌≡◌, take}
-use Rattle.tm_joint.specs.Numbers.{nodes_of}
-use Rattle.tm_joint.proofs.node.nodes.Given as goal
-
-abbrev pub invariant-loop-unknown : goal.invariant-loop-unknown
-invariant-loop-unknown l = l.nodes.items ≡ nodes_of l.system l.pick (take l.unknown-index l.list)

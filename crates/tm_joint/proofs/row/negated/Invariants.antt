@@ -1,6 +1,0 @@
-use Rattle.std.proofs.Common.{◌≡◌, take, map}
-use Rattle.tm_num.specs.Rational.{neg_ℚ}
-use Rattle.tm_joint.proofs.row.negated.Given as goal
-
-abbrev pub invariant-loop-coefficient : goal.invariant-loop-coefficient
-invariant-loop-coefficient l = l.list.items ≡ map neg_ℚ (take l.coefficient-index l.coeffs)

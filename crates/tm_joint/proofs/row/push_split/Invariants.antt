@@ -1,6 +1,0 @@
-use Rattle.std.proofs.Common.{◌≡◌, ◌++◌, take}
-use Rattle.tm_transformers.specs.JointProblems.{split_list}
-use Rattle.tm_joint.proofs.row.push_split.Given as goal
-
-abbrev pub invariant-loop-coefficient : goal.invariant-loop-coefficient
-invariant-loop-coefficient l = l.row.items ≡ l.initial.row.items ++ split_list (take l.coefficient-index l.coeffs)

@@ -1,6 +1,0 @@
-use Rattle.std.proofs.Common.{sym, ◌∙◌}
-use Rattle.tm_lex.proofs.reading.Standing.{blank_stands}
-use Rattle.tm_lex.proofs.piece.piece.Goals as goal
-
-pub returns-then-is_blank : goal.returns-then-is_blank
-returns-then-is_blank c = blank_stands c.args.rest.now c.requires (sym c.is_blank.ensures ∙ c.if-is_blank.true)

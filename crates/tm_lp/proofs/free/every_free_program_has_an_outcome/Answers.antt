@@ -1,5 +1,0 @@
-use Rattle.tm_lp.proofs.FreePrograms.{free_lp_is}
-use Rattle.tm_lp.proofs.free.every_free_program_has_an_outcome.Goals as goal
-
-pub returns : goal.returns
-returns c = free_lp_is

@@ -1,5 +1,0 @@
-use Rattle.tm_lp.proofs.simplex.ReadOff.{first_means}
-use Rattle.tm_lp.proofs.simplex.first_dictionary_is_the_equations.Goals as goal
-
-pub returns : goal.returns
-returns c = first_means

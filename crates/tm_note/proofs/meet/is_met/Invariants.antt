@@ -1,9 +1,0 @@
-use Rattle.std.proofs.Common.{◌≡◌, drop}
-use Rattle.std.specs.List.{list_any}
-use Rattle.tm_note.specs.Clauses.{meets}
-use Rattle.tm_note.specs.View.{bounded}
-use Rattle.tm_note.proofs.meet.is_met.Given as goal
-
-abbrev pub invariant-loop-index : goal.invariant-loop-index
-invariant-loop-index l =
-    list_any (meets l.row l.bound) (bounded (drop l.index l.others) (drop l.index l.bounds)) ≡ list_any (meets l.row l.bound) (bounded l.others l.bounds)

@@ -1,6 +1,0 @@
-use Rattle.std.proofs.Common.{◌≡◌, drop}
-use Rattle.tm_note.specs.Clauses.{is_opposite}
-use Rattle.tm_note.proofs.meet.is_opposite.Given as goal
-
-abbrev pub invariant-loop-index : goal.invariant-loop-index
-invariant-loop-index l = is_opposite (drop l.index l.row) (drop l.index l.other) ≡ is_opposite l.row l.other

@@ -1,8 +1,0 @@
-use Rattle.std.proofs.Common.{◌≡◌, ◌≤◌, ◌*◌, ◌^◌}
-use Rattle.tm_offers.proofs.count.times.Given as goal
-
-abbrev pub invariant-times : goal.invariant-times
-invariant-times l = record {
-  power : l.total ≡ l.product * l.factor ^ l._k;
-  small : l.total ≤ 1000000;
-}

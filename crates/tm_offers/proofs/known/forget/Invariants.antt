@@ -1,5 +1,0 @@
-use Rattle.tm_offers.proofs.at_bounds.KnownValues.{StillKnown}
-use Rattle.tm_offers.proofs.known.forget.Given as goal
-
-abbrev pub invariant-loop-point : goal.invariant-loop-point
-invariant-loop-point l = StillKnown l.system l.before l.after l.initial.known l.known l.point

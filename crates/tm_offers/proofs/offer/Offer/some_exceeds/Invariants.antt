@@ -1,8 +1,0 @@
-use Rattle.std.proofs.Common.{ℕ, ◌<◌}
-use Rattle.tm_num.specs.Extended.{◌≤ᴱ◌}
-use Rattle.tm_frac.specs.Extended.{extended}
-use Rattle.tm_offers.proofs.offers.Offered.{value}
-use Rattle.tm_offers.proofs.offer.Offer.some_exceeds.Given as goal
-
-abbrev pub invariant-loop-value : goal.invariant-loop-value
-invariant-loop-value l = (j : ℕ) → j < l.value-index → value l.value-items j ≤ᴱ extended l.self.bound

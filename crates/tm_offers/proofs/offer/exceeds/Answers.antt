@@ -1,6 +1,0 @@
-use Rattle.tm_frac.specs.Extended.{extended}
-use Rattle.tm_offers.proofs.offers.Offered.{tested}
-use Rattle.tm_offers.proofs.offer.exceeds.Goals as goal
-
-pub returns : goal.returns
-returns c = tested (extended c.args.bound) (extended c.args.value) c.lt.result c.lt.ensures

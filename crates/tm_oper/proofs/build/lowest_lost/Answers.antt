@@ -1,9 +1,0 @@
-use Rattle.std.proofs.Common.{below_more, arith}
-use Rattle.tm_num.specs.Extended.{neg_inf, ◌<ᴱ◌}
-use Rattle.tm_oper.specs.Splits.{bounds_at}
-use Rattle.tm_oper.proofs.build.Sources.{above_read}
-use Rattle.tm_oper.proofs.build.lowest_lost.Goals as goal
-
-pub loop-row-preserved : goal.loop-row-preserved
-loop-row-preserved c =
-    below_more (λ k. neg_inf <ᴱ bounds_at c.args.source.now k) c.loop-row.row c.loop-row.invariant (above_read c.args.source.now c.loop-row.row _ (omega (arith, c.requires.room, c.loop-row-test.true)) c.in_default.not-NegInf)

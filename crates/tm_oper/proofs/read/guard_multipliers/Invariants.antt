@@ -1,7 +1,0 @@
-use Rattle.std.proofs.Common.{◌≡◌, ◌+◌, map}
-use Rattle.std.specs.List.{range_with_len}
-use Rattle.tm_lp.specs.Listed.{at}
-use Rattle.tm_oper.proofs.read.guard_multipliers.Given as goal
-
-abbrev pub invariant-loop-guard : goal.invariant-loop-guard
-invariant-loop-guard l = l.list.items ≡ map (λ k. at l.multipliers (l.first + k)) (range_with_len 0 l.guard)

@@ -1,8 +1,0 @@
-use Rattle.std.proofs.Common.{◌≡◌, map, get_or}
-use Rattle.std.specs.List.{range_with_len}
-use Rattle.tm_num.specs.Rational.{whole, zero_ℚ}
-use Rattle.tm_oper.specs.Splits.{pairs}
-use Rattle.tm_oper.proofs.split.split_row.Given as goal
-
-abbrev pub invariant-loop-column : goal.invariant-loop-column
-invariant-loop-column l = l.list.items ≡ pairs (map (λ k. get_or (map whole l.row) k zero_ℚ) (range_with_len 0 l.column))

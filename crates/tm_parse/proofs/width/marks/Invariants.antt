@@ -1,7 +1,0 @@
-use Rattle.std.proofs.Common.{◌≡◌, ◌+◌, ◌≤◌, drop, map}
-use Rattle.tm_gram.specs.View.{plain_token}
-use Rattle.lang_feed.specs.Width.{mark, total}
-use Rattle.tm_parse.proofs.width.marks.Given as goal
-
-abbrev pub invariant-loop-token : goal.invariant-loop-token
-invariant-loop-token l = record { counted : l.count + total mark (map plain_token (drop l.token-index l.tokens)) ≡ total mark (map plain_token l.tokens); small : l.count ≤ l.token-index }

@@ -1,5 +1,0 @@
-use Rattle.tm_raise.proofs.numbers.Agree.{agree}
-use Rattle.tm_raise.proofs.law.raises_agree.Goals as goal
-
-pub returns : goal.returns
-returns c = agree

@@ -1,7 +1,0 @@
-//! Why an unknown isn't raised.
-
-use tm_eqsys::Fault;
-use tm_frac::{Frac, Wide};
-
-/// Why a step that raises an unknown isn't made: an operation has a result with a part above the limit, or there was no memory.
-pub type RaiseFault = Fault<Wide<Frac>>;

@@ -1,6 +1,0 @@
-//! Columns of a linear problem.
-
-use tm_list::Sequence;
-
-/// The numbers of columns, counted from 0, in order.
-pub type Columns = Sequence<u32>;

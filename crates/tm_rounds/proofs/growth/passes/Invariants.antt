@@ -1,9 +1,0 @@
-use Rattle.std.proofs.Common.{◌-◌, ◌*◌, length}
-use Rattle.tm_rounds.proofs.growth.GrownTo.{GrowingTo}
-use Rattle.tm_rounds.proofs.growth.passes.Given as goal
-
-abbrev pub invariant-loop : goal.invariant-loop
-invariant-loop l = GrowingTo l.system l.pick l.fn.growing.bounds l.growing
-
-abbrev pub decreases-loop : goal.decreases-loop
-decreases-loop l = length l.system.flow.points * length l.system.template - length l.growing.steps.items

@@ -1,6 +1,0 @@
-use Rattle.std.proofs.Common.{◌≡◌, length}
-use Rattle.tm_rounds.specs.Lows.{ArePlaces}
-use Rattle.tm_rounds.proofs.lows.places.Given as goal
-
-abbrev pub invariant-loop-place : goal.invariant-loop-place
-invariant-loop-place l = record { size : length l.places.items ≡ l.count; places : ArePlaces l.raises l.places.items l.place }

@@ -1,7 +1,0 @@
-use Rattle.std.proofs.Common.{◌≡◌, ◌++◌}
-use Rattle.std.specs.List.{range_with_len, flat_map}
-use Rattle.tm_rows.specs.Domains.{signed_sums}
-use Rattle.tm_rows.proofs.domains.add_all_signed_sums.Given as goal
-
-abbrev pub invariant-loop-second : goal.invariant-loop-second
-invariant-loop-second l = l.rows.items ≡ l.fn.rows.items ++ flat_map (signed_sums l.fn.vars l.fn.first) (range_with_len 0 l.second)

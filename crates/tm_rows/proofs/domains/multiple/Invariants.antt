@@ -1,7 +1,0 @@
-use Rattle.std.proofs.Common.{◌≡◌, map}
-use Rattle.std.specs.List.{range_with_len}
-use Rattle.tm_rows.specs.Domains.{term}
-use Rattle.tm_rows.proofs.domains.multiple.Given as goal
-
-abbrev pub invariant-loop-k : goal.invariant-loop-k
-invariant-loop-k l = l.list.items ≡ map (term l.fn.c l.fn.var) (range_with_len 0 l.k)

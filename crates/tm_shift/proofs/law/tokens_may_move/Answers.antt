@@ -1,5 +1,0 @@
-use Rattle.tm_shift.proofs.moves.Stays.{tokens_may_move}
-use Rattle.tm_shift.proofs.law.tokens_may_move.Goals as goal
-
-pub returns : goal.returns
-returns c = tokens_may_move

@@ -1,8 +1,0 @@
-//! The law that the places of tokens carry no meaning but the lines.
-
-ghost use Rattle.tm_shift.specs.Law.{TokensMayMove};
-
-/// Tokens that mean a program mean it also where each stands at another place: the same program but for its lines.
-pub fn tokens_may_move()
-    ensures { TokensMayMove }
-{}

@@ -1,5 +1,0 @@
-use Rattle.tm_strategy.proofs.round.FewRounds.{rounds_fewer}
-use Rattle.tm_strategy.proofs.law.fewer_rounds_than_picks.Goals as goal
-
-pub returns : goal.returns
-returns c = rounds_fewer

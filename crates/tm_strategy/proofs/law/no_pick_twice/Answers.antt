@@ -1,5 +1,0 @@
-use Rattle.tm_strategy.proofs.round.NoTwice.{no_twice}
-use Rattle.tm_strategy.proofs.law.no_pick_twice.Goals as goal
-
-pub returns : goal.returns
-returns c = no_twice

@@ -1,5 +1,0 @@
-use Rattle.tm_top.proofs.laws.Lawful.{one_upgrade}
-use Rattle.tm_top.proofs.laws.upgrade_is_one.Goals as goal
-
-pub returns : goal.returns
-returns c = one_upgrade

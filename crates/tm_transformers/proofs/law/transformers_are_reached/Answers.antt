@@ -1,5 +1,0 @@
-use Rattle.tm_transformers.proofs.edge_problems.TransformerOf.{transformer_reaches}
-use Rattle.tm_transformers.proofs.law.transformers_are_reached.Goals as goal
-
-pub returns : goal.returns
-returns c = transformer_reaches

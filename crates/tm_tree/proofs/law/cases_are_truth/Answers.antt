@@ -1,5 +1,0 @@
-use Rattle.tm_tree.proofs.cases.CaseLaw.{cases_law}
-use Rattle.tm_tree.proofs.law.cases_are_truth.Goals as goal
-
-pub returns : goal.returns
-returns c = cases_law

@@ -1,5 +1,0 @@
-use Rattle.tm_validity.proofs.faults.CertificateFaults.{certificate_fault_none}
-use Rattle.tm_validity.proofs.law.faultless_is_valid.Goals as goal
-
-pub returns : goal.returns
-returns c = certificate_fault_none

@@ -1,0 +1,19 @@
+use Rattle.top_texts.specs.Exact.{exact}
+use Rattle.top_texts.specs.Parted.{domain_of}
+use Rattle.top_texts.specs.Questions.{transitions_question}
+use Rattle.top_texts.proofs.checks.Refused.{not_done}
+use Rattle.top_run.proofs.endings.Answered.{put_answered}
+use Rattle.top_texts.proofs.questions.Answered.{unanswered}
+use Rattle.top_texts.proofs.transition_texts.Systems.{report_end}
+use Rattle.top_run.proofs.transitions.put_along.Goals as goal
+
+pub returns-in-Ok-clause-answer : goal.returns-in-Ok-clause-answer
+returns-in-Ok-clause-answer g c =
+    put_answered (transitions_question exact c.args.text.now (domain_of c.args.rows.now) c.args.policy c.args.limit) _ _ _ _ _ _
+    (report_end c.args.text.now (domain_of c.args.rows.now) c.args.policy c.args.limit _ c.in-Ok.ensures.ok) c.put_report.ensures.puts
+
+pub returns-in-Err-clause-answer : goal.returns-in-Err-clause-answer
+returns-in-Err-clause-answer g c = unanswered (transitions_question exact c.args.text.now (domain_of c.args.rows.now) c.args.policy c.args.limit) _ _ c.refused.ensures c.in-Err.ensures.err
+
+pub returns-in-Err-clause-pieces : goal.returns-in-Err-clause-pieces
+returns-in-Err-clause-pieces g c = λ d. absurd (not_done _ _ c.refused.ensures d)
