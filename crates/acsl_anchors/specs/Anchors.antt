@@ -11,7 +11,8 @@ pub data What : Type 0 where
   a_label : (name : List ℕ) → What
   the_end : What
 
--- what it is, the place of its first token, the place at which something is said of it, and the numbers of the variables that are known there
+-- what it is, the place of its first token, the place at which something is said of it, and the numbers of the variables that are known
+-- there
 pub record Anchor : Type 0 where
   pub what : What
   pub first : ℕ

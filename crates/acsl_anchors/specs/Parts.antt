@@ -1,5 +1,6 @@
 -- What the search for anchors sees of a token.
-use Rattle.lang_grammar.specs.Grammar.{Kind, a_name, comma, semicolon, colon, left_paren, right_paren, left_brace, right_brace, int_word, if_word, else_word}
+use Rattle.lang_grammar.specs.Grammar.{Kind, a_name, comma, semicolon, colon, left_paren, right_paren, left_brace, right_brace, int_word}
+use Rattle.lang_grammar.specs.Grammar.{if_word, else_word}
 use Rattle.lang_grammar.specs.Grammar.{while_word, do_word, for_word, return_word}
 use Rattle.acsl_anchors.specs.declared.part.Part.{Part}
 use Rattle.acsl_anchors.specs.declared.part.Part.TheVariants as part

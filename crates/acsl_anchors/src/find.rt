@@ -10,8 +10,8 @@ ghost use Rattle.acsl_anchors.specs.View.{plain_anchors};
 use crate::anchor::Anchor;
 use crate::part::part_seen;
 use crate::search::Search;
-use std::alloc::{AllocError, Global};
 use lang_tokens::Token;
+use std::alloc::{AllocError, Global};
 
 /// The anchors of the program that these tokens of a text read as, in the order of the text: its loops, its labels and its
 /// end (docs/FORMATS.md, "Grammar").
@@ -20,7 +20,8 @@ use lang_tokens::Token;
 pub fn anchors(alloc: Global, tokens: &[Token], text: &[u8]) -> Result<Vec<Anchor>, AllocError>
     requires size { length text.now ≤ 65536 }
     requires tokens { AreTokensOf text.now tokens.now }
-    ensures { (p : Program) → Reads (tokens_of text.now tokens.now) p → IfOk result (λ anchors. anchors.items ≡ plain_anchors (anchors_of p)) }
+    ensures { (p : Program) → Reads (tokens_of text.now tokens.now) p →
+        IfOk result (λ anchors. anchors.items ≡ plain_anchors (anchors_of p)) }
 {
     let mut search = Search::new(alloc)?;
     for token in tokens {

@@ -1,7 +1,8 @@
 //! What has to come next, and what it makes of a token.
 
 ghost use Rattle.std.specs.Prelude.{◌≡◌, ◌<◌};
-ghost use Rattle.acsl_anchors.specs.Machine.{entry, close_entry, else_entry, first_entry, label_next, paren_entry, return_entry, statement_entry};
+ghost use Rattle.acsl_anchors.specs.Machine.{entry, close_entry, else_entry, first_entry, label_next, paren_entry, return_entry};
+ghost use Rattle.acsl_anchors.specs.Machine.{statement_entry};
 
 use crate::part::Part;
 

@@ -8,8 +8,8 @@ ghost use Rattle.acsl_anchors.specs.Search.{HasRoom, scope_in, stack_of, state_o
 use crate::anchor::{Anchor, What};
 use crate::goal::{Effect, Entry, Goal, Next, Place, enter};
 use crate::part::Part;
-use std::alloc::{AllocError, Global};
 use base_list::Sequence;
+use std::alloc::{AllocError, Global};
 
 /// How far a search has come.
 #[derive(Drop)]
@@ -70,7 +70,8 @@ impl Search {
     // An anchor at which what is known here is known.
     fn mark(&mut self, what: What, first: u32, place: u32) -> Result<(), AllocError>
         ensures same { OnOk result ((self.new.goals ≡ self.old.goals) × (scope_in self.new ≡ scope_in self.old)) }
-        ensures anchor { OnOk result (self.new.anchors.items ≡ self.old.anchors.items ++ record { what = what; first = first; place = place; known = self.old.known.items } ∷ []) }
+        ensures anchor { OnOk result (self.new.anchors.items ≡ self.old.anchors.items
+            ++ record { what = what; first = first; place = place; known = self.old.known.items } ∷ []) }
     {
         let known = Sequence::new(self.known.clone()?);
         self.anchors.push(Anchor {
@@ -113,7 +114,8 @@ impl Search {
     pub fn take(&mut self, part: Part, at: u32) -> Result<(), AllocError>
         requires declared { self.old.declared < 2 ^ 32 - 1 }
         requires place { at < 2 ^ 32 - 1 }
-        ensures state { OnOk result (state_of self.new ≡ step (stack_of self.old.goals.items) part at (scope_in self.old) self.old.anchors.items) }
+        ensures state { OnOk result (state_of self.new ≡ step (stack_of self.old.goals.items) part at (scope_in self.old)
+            self.old.anchors.items) }
         ensures declared { OnOk result (self.new.declared ≤ self.old.declared + 1) }
     {
         while let Some(goal) = self.goals.pop() {

@@ -37,9 +37,11 @@ pub record IsTreeOf (text : List ℕ) (names : List (List ℕ)) (body : Statemen
 abbrev pub notes : (text : List ℕ) → List (List ℕ) → Statements → List (List ℤ) → Vector → Program → List Comment
 notes text names body template v tree = comments_from text names template v 0 (points_of_program body) (anchors_of tree)
 
--- the bytes are the text of a program with the annotations of a vector: each loop, each label and the end has, in their order, the point that is said of it;
+-- the bytes are the text of a program with the annotations of a vector: each loop, each label and the end has, in their order, the point
+-- that is said of it;
 -- without them the bytes are the text, with them they mean the same program, and what they say is true in every run
-pub record IsTextWith (text : List ℕ) (names : List (List ℕ)) (body : Statements) (template : List (List ℤ)) (v : Vector) (bytes : List ℕ) : Type 0 where
+pub record IsTextWith (text : List ℕ) (names : List (List ℕ)) (body : Statements) (template : List (List ℤ)) (v : Vector) (bytes : List ℕ) :
+    Type 0 where
   pub tree : Program
   pub is_tree : IsTreeOf text names body tree
   pub points : map (point_of (line_at text)) (anchors_of tree) ≡ anchored (points_of_program body)
@@ -66,4 +68,5 @@ IsAnnotatedOn files analysis bytes =
 
 -- they are that of the program that words of `solve` ask for
 abbrev pub IsAnnotated : Option Contents → List (List ℕ) → List ℕ → Type 0
-IsAnnotated files words bytes = (analysis : Analysis (List ℕ)) × (request_of words ≡ Some (Analyse Report analysis)) × IsAnnotatedOn files analysis bytes
+IsAnnotated files words bytes = (analysis : Analysis (List ℕ)) × (request_of words ≡ Some (Analyse Report analysis))
+    × IsAnnotatedOn files analysis bytes

@@ -26,9 +26,9 @@ ghost use Rattle.acsl_annotate.specs.Ends.{IsPutEnd};
 use crate::usage::say;
 use crate::words::{read_analysis, solve_words};
 use crate::write::annotated_text;
-use std::alloc::Global;
 use ask_words::{Analysis, WordsFault};
 use base_files::{Shelf, Sink};
+use std::alloc::Global;
 use top_run::{
     Ending, Exact, Found, Meaning, ReadCause, Status, Which, find_least, plain_ending, put_report,
 };
@@ -36,7 +36,8 @@ use top_run::{
 // Puts the annotated text of a program whose least bounds were found, line by line.
 fn put_annotated<K: Sink>(alloc: Global, found: &Found, out: &mut K) -> Status
     requires short { length found.now.text.items ≤ 65536 }
-    requires found { (rows : Domain (List ℕ)) × (policy : Policy) × (limit : ℕ) × IsFoundIn found.now.text.items rows policy limit found.now.least }
+    requires found { (rows : Domain (List ℕ)) × (policy : Policy) × (limit : ℕ)
+        × IsFoundIn found.now.text.items rows policy limit found.now.least }
     ensures ends { IsPutEnd result }
     ensures held { (rows : Domain (List ℕ)) (policy : Policy) (limit : ℕ) → IsFoundIn found.now.text.items rows policy limit found.now.least
         → OutputHolds (IsAnnotatedOf found.now.text.items rows) result (K.held out.old) (K.held out.new) }
@@ -61,7 +62,8 @@ fn annotate_program<S: Shelf, K: Sink>(
     ensures answer { IsAnswerTo (S.files shelf.old) (Analyse Report (analysis_text analysis.entry)) result.status }
     ensures failed { FailsOnlyIn (S.files shelf.old) (S.faults shelf.old) (S.faults shelf.new) (S.last_failed shelf.new)
         (Analyse Report (analysis_text analysis.entry)) result.status }
-    ensures held { OutputHolds (IsAnnotatedOn (S.files shelf.old) (analysis_text analysis.entry)) result.status (K.held out.old) (K.held out.new) }
+    ensures held { OutputHolds (IsAnnotatedOn (S.files shelf.old) (analysis_text analysis.entry)) result.status (K.held out.old)
+        (K.held out.new) }
     ensures pieces { result.status ≡ Status.Done → IsTaken lines_of (K.held out.old) (K.held out.new) (K.taken out.old) (K.taken out.new) }
     ensures write { result.status ≡ Status.Write → Rose (K.faults out.old) (K.faults out.new) }
     ensures line { (text : List ℕ) → IsTold (S.files shelf.old) → HasContent (S.files shelf.old) analysis.entry.program.now text
@@ -87,8 +89,10 @@ fn annotate_by<S: Shelf, K: Sink>(
     ensures kept { S.files shelf.new ≡ S.files shelf.old }
     ensures answer { IsAnswerToWords (S.files shelf.old) (map string_bytes words.now) result.status }
     ensures read { (which : Which) → result.status ≡ Status.Read (ReadCause.Failed which)
-        → HasFailed (S.files shelf.old) (map string_bytes words.now) which (S.faults shelf.old) (S.faults shelf.new) (S.last_failed shelf.new) }
-    ensures held { OutputHolds (IsAnnotated (S.files shelf.old) (map string_bytes words.now)) result.status (K.held out.old) (K.held out.new) }
+        → HasFailed (S.files shelf.old) (map string_bytes words.now) which (S.faults shelf.old) (S.faults shelf.new)
+        (S.last_failed shelf.new) }
+    ensures held { OutputHolds (IsAnnotated (S.files shelf.old) (map string_bytes words.now)) result.status (K.held out.old)
+        (K.held out.new) }
     ensures pieces { result.status ≡ Status.Done → IsTaken lines_of (K.held out.old) (K.held out.new) (K.taken out.old) (K.taken out.new) }
     ensures write { result.status ≡ Status.Write → Rose (K.faults out.old) (K.faults out.new) }
     ensures line { IsLine (S.files shelf.old) (map string_bytes words.now) result.status result.line }
@@ -106,8 +110,10 @@ fn obey<S: Shelf, K: Sink>(alloc: Global, words: &[String], shelf: &mut S, out: 
     ensures kept { S.files shelf.new ≡ S.files shelf.old }
     ensures answer { IsAnswerToWords (S.files shelf.old) (as_solve (map string_bytes words.now)) result.status }
     ensures read { (which : Which) → result.status ≡ Status.Read (ReadCause.Failed which)
-        → HasFailed (S.files shelf.old) (as_solve (map string_bytes words.now)) which (S.faults shelf.old) (S.faults shelf.new) (S.last_failed shelf.new) }
-    ensures held { OutputHolds (IsAnnotated (S.files shelf.old) (as_solve (map string_bytes words.now))) result.status (K.held out.old) (K.held out.new) }
+        → HasFailed (S.files shelf.old) (as_solve (map string_bytes words.now)) which (S.faults shelf.old) (S.faults shelf.new)
+        (S.last_failed shelf.new) }
+    ensures held { OutputHolds (IsAnnotated (S.files shelf.old) (as_solve (map string_bytes words.now))) result.status (K.held out.old)
+        (K.held out.new) }
     ensures pieces { result.status ≡ Status.Done → IsTaken lines_of (K.held out.old) (K.held out.new) (K.taken out.old) (K.taken out.new) }
     ensures write { result.status ≡ Status.Write → Rose (K.faults out.old) (K.faults out.new) }
     ensures line { IsLine (S.files shelf.old) (as_solve (map string_bytes words.now)) result.status result.line }
@@ -130,20 +136,25 @@ pub fn annotate<S: Shelf, K: Sink, L: Sink>(
     out: &mut K,
     err: &mut L,
 ) -> Status
-    // Sound: what is answered is so, as an answer of `solve`. What is put is the program's text with the annotations of the least vector over the
+    // Sound: what is answered is so, as an answer of `solve`. What is put is the program's text with the annotations of the least vector
+    // over the
     // template; each is true in every run, and without them it is the text again.
     ensures answer { IsAnswer ⟦<Exact as Meaning>⟧.means (S.files shelf.old) (as_solve (map string_bytes words.now)) result }
-    ensures output { OutputGets (IsAnnotated (S.files shelf.old) (as_solve (map string_bytes words.now))) result (K.held out.old) (K.held out.new) }
+    ensures output { OutputGets (IsAnnotated (S.files shelf.old) (as_solve (map string_bytes words.now))) result (K.held out.old)
+        (K.held out.new) }
     ensures pieces { result ≡ Status.Done → IsTaken lines_of (K.held out.old) (K.held out.new) (K.taken out.old) (K.taken out.new) }
 
     // Complete: the ending that `solve` has is given, but for want of memory, a wide operation that stands, a file that failed or a put.
-    ensures complete { (ending : StatusValue) → WordsEnd ⟦<Exact as Meaning>⟧.means (S.files shelf.old) (as_solve (map string_bytes words.now)) ending
-        → Gives ⟦<Exact as Meaning>⟧.means (S.files shelf.old) (as_solve (map string_bytes words.now)) ending result (K.held out.old) (K.held out.new) }
+    ensures complete { (ending : StatusValue) → WordsEnd ⟦<Exact as Meaning>⟧.means (S.files shelf.old)
+        (as_solve (map string_bytes words.now)) ending
+        → Gives ⟦<Exact as Meaning>⟧.means (S.files shelf.old) (as_solve (map string_bytes words.now)) ending result (K.held out.old)
+        (K.held out.new) }
 
     // Outside: a fault of a file or of the output is one of this call, the files stay, and a message is put in one piece.
     ensures kept { S.files shelf.new ≡ S.files shelf.old }
     ensures read { (which : Which) → result ≡ Status.Read (ReadCause.Failed which)
-        → HasFailed (S.files shelf.old) (as_solve (map string_bytes words.now)) which (S.faults shelf.old) (S.faults shelf.new) (S.last_failed shelf.new) }
+        → HasFailed (S.files shelf.old) (as_solve (map string_bytes words.now)) which (S.faults shelf.old) (S.faults shelf.new)
+        (S.last_failed shelf.new) }
     ensures write { result ≡ Status.Write → Rose (K.faults out.old) (K.faults out.new) }
     ensures message { (message : List ℕ)
         × IsSaid ⟦<Exact as Meaning>⟧.means (S.files shelf.old) (as_solve (map string_bytes words.now)) result message

@@ -6,9 +6,9 @@ ghost use Rattle.ask_words.specs.declared.request.Purpose.TheVariants.{Report};
 ghost use Rattle.ask_words.specs.declared.request.Request.TheVariants.{Analyse};
 ghost use Rattle.acsl_annotate.specs.Words.{IsSolve, as_solve};
 
-use std::alloc::{AllocError, Global};
 use ask_words::laws::solve_reports;
 use ask_words::{Analysis, Purpose, Request, WordsFault, read_words};
+use std::alloc::{AllocError, Global};
 
 // The words with `solve` before them.
 pub(crate) fn solve_words(alloc: Global, words: &[String]) -> Result<Vec<String>, AllocError>

@@ -10,14 +10,14 @@ ghost use Rattle.ask_words.specs.declared.request.Policy.{Policy};
 ghost use Rattle.top_texts.specs.Analyses.{IsFoundIn};
 ghost use Rattle.acsl_annotate.specs.Annotated.{IsAnnotatedOf};
 
-use std::alloc::{AllocError, Global};
 use acsl_anchors::{anchors, anchors_are_points};
 use acsl_comments::{comments_come_out, programs_stay, with_comments};
+use acsl_notes::{clauses_hold, comments, comments_may_stand};
 use flow_systems::{System, post_solutions_hold};
 use lang_tokens::{Token, lex, one_reading};
-use acsl_notes::{clauses_hold, comments, comments_may_stand};
-use top_run::Found;
 use lang_tree::Name;
+use std::alloc::{AllocError, Global};
+use top_run::Found;
 
 // The names are words.
 fn are_words(names: &[Name])
@@ -50,7 +50,8 @@ fn text_tokens(alloc: Global, text: &[u8]) -> Result<Vec<Token>, AllocError>
 // The text with what its least bounds say.
 pub(crate) fn annotated_text(alloc: Global, found: &Found) -> Result<Vec<u8>, AllocError>
     requires short { length found.now.text.items ≤ 65536 }
-    requires found { (rows : Domain (List ℕ)) × (policy : Policy) × (limit : ℕ) × IsFoundIn found.now.text.items rows policy limit found.now.least }
+    requires found { (rows : Domain (List ℕ)) × (policy : Policy) × (limit : ℕ)
+        × IsFoundIn found.now.text.items rows policy limit found.now.least }
     ensures { (rows : Domain (List ℕ)) (policy : Policy) (limit : ℕ) → IsFoundIn found.now.text.items rows policy limit found.now.least
         → IfOk result (λ bytes. IsAnnotatedOf found.now.text.items rows bytes.items) }
 {

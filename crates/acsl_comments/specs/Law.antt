@@ -22,7 +22,8 @@ CommentsComeOut = (text : List ℕ) (comments : List Comment) → Ascend 0 (leng
 -- what a text with comments reads as: the same tokens at the places where they stand then
 pub record ReadsWith (text : List ℕ) (tokens : List Token) (comments : List Comment) : Type 0 where
   pub reads : Reads (with_comments 0 text comments) (map (token_moved_by comments) tokens)
-  pub same : tokens_of (with_comments 0 text comments) (map (token_moved_by comments) tokens) ≡ moved (moved_by comments) (tokens_of text tokens)
+  pub same : tokens_of (with_comments 0 text comments) (map (token_moved_by comments) tokens)
+      ≡ moved (moved_by comments) (tokens_of text tokens)
 
 -- A text with comments has the same tokens, where comments may stand.
 abbrev pub TokensStay : Type 0

@@ -1,5 +1,6 @@
 -- What bounds say of the states at a point, in conditions over whole numbers.
-use Rattle.std.specs.Prelude.{◌≡◌, ◌==◌, ◌&&◌, ◌||◌, ◌++◌, ℕ, suc, ℤ, pos, ◌+ℤ◌, ◌*ℤ◌, ◌≤ℤ◌, Bool, true, false, List, [], ◌∷◌, if◌then◌else◌, nat_abs, nat_eq}
+use Rattle.std.specs.Prelude.{◌≡◌, ◌==◌, ◌&&◌, ◌||◌, ◌++◌, ℕ, suc, ℤ, pos, ◌+ℤ◌, ◌*ℤ◌, ◌≤ℤ◌, Bool, true, false, List, [], ◌∷◌}
+use Rattle.std.specs.Prelude.{if◌then◌else◌, nat_abs, nat_eq}
 use Rattle.std.specs.List.{list_any}
 use Rattle.base_numbers.specs.Extended.{Ext, neg_inf, fin, pos_inf}
 use Rattle.base_numbers.specs.Rational.{ℚ}
@@ -62,7 +63,8 @@ clauses_of known before row pos_inf behind = []
 -- what rows say, one after another, behind those before them
 abbrev pub clauses_from : (known : List ℕ) (before rows : List Bounded) → List Clause
 clauses_from known before [] = []
-clauses_from known before ((row, bound) ∷ rows) = clauses_of known before row bound rows ++ clauses_from known (before ++ (row, bound) ∷ []) rows
+clauses_from known before ((row, bound) ∷ rows) = clauses_of known before row bound rows
+    ++ clauses_from known (before ++ (row, bound) ∷ []) rows
 
 -- a point whose first bound is -inf is unreachable
 abbrev pub clauses_unless : (known : List ℕ) → List (List ℤ) → (ℕ → Ext) → Ext → List Clause

@@ -18,14 +18,16 @@ use Rattle.acsl_notes.specs.Texts.{comments_from}
 
 -- The comments of a program may be put into its text.
 abbrev pub CommentsMayStand : Type 0
-CommentsMayStand = (text : List ℕ) (tokens : List lex_token.Token) (p : Program) (names : List (List ℕ)) (points : List Point) (template : List (List ℤ))
+CommentsMayStand = (text : List ℕ) (tokens : List lex_token.Token) (p : Program) (names : List (List ℕ)) (points : List Point)
+    (template : List (List ℤ))
     (v : Vector) → lex.Reads text tokens → Reads (tokens_of text tokens) p → All (λ name. IsTrue (is_word name)) names
     → MayStand text tokens (comments_from text names template v 0 points (anchors_of p))
 
 -- each condition that a vector gives at a point is true in every run, at every configuration that is there
 abbrev pub SaysTruth : (variables : ℕ) → Statements → List (List ℤ) → Vector → Type 0
 SaysTruth variables body template v = (p : ℕ) (known : List ℕ) (clause : Clause) → Contains (clauses known template (v p)) clause
-    → (run : List Configuration) (now : Configuration) → IsRun variables body run → Contains run now → IsAt now p → IsTrueAt clause now.state
+    → (run : List Configuration) (now : Configuration) → IsRun variables body run → Contains run now → IsAt now p
+    → IsTrueAt clause now.state
 
 -- What a vector that holds in a program's runs says is so.
 abbrev pub ClausesHold : Type 0

@@ -1,5 +1,6 @@
 -- The annotations of a program's text in ACSL (Baudin, Cuoq, Filliâtre, Marché, Monate, Moy and Prevosto), and the text with them.
-use Rattle.std.specs.Prelude.{◌==◌, ◌||◌, ◌++◌, ℕ, suc, ℤ, Bool, List, [], ◌∷◌, Option, Some, None, codes, decimal, flat_map, if◌then◌else◌, map, take}
+use Rattle.std.specs.Prelude.{◌==◌, ◌||◌, ◌++◌, ℕ, suc, ℤ, Bool, List, [], ◌∷◌, Option, Some, None, codes, decimal, flat_map, if◌then◌else◌}
+use Rattle.std.specs.Prelude.{map, take}
 use Rattle.std.specs.Fmt.{signed_decimal}
 use Rattle.std.specs.List.{list_all}
 use Rattle.flow_systems.specs.Equations.{Vector}
@@ -87,7 +88,8 @@ abbrev pub comment_at : (text : List ℕ) (names : List (List ℕ)) (template : 
 comment_at text names template v p anchor = comment_unless_silent text names anchor (clauses anchor.known template (v p))
 
 -- the comments of a program's text: the anchors belong, in order, to the points that have one, the first point having the number p
-abbrev pub comments_from : (text : List ℕ) (names : List (List ℕ)) (template : List (List ℤ)) → Vector → (p : ℕ) → List Point → List Anchor → List Comment
+abbrev pub comments_from : (text : List ℕ) (names : List (List ℕ)) (template : List (List ℤ)) → Vector → (p : ℕ) → List Point → List Anchor
+    → List Comment
 comments_from text names template v p [] anchors = []
 comments_from text names template v p (point ∷ points) [] = []
 comments_from text names template v p (point ∷ points) (anchor ∷ anchors) =

@@ -57,9 +57,14 @@ indentation_of line = if list_all is_space line then Some line else None
 
 -- the comment that says these conditions at an anchor
 abbrev pub comment_of : (text : List ℕ) (names : List (List ℕ)) → Anchor → List Clause → Comment
-comment_of text names anchor said = record { place = anchor.place; bytes = comment_text names anchor.what (indentation text anchor.place) said }
+comment_of text names anchor said = record {
+  place = anchor.place;
+  bytes =
+      comment_text names anchor.what (indentation text anchor.place) said;
+}
 
 -- the comments at these anchors, which belong to the points from one on
 abbrev pub comments_left : (text : List ℕ) → System → List Extended → (point : ℕ) → List code_anchor.Anchor → List Comment
 comments_left text system bounds point anchors =
-    comments_from text system.flow.names system.template (vector_at system bounds) point (drop point system.flow.points) (map anchor_of anchors)
+    comments_from text system.flow.names system.template (vector_at system bounds) point (drop point system.flow.points)
+    (map anchor_of anchors)

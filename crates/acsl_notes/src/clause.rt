@@ -7,9 +7,9 @@ ghost use Rattle.acsl_notes.specs.View.{bound_at, bounded, clause_of, clauses_in
 
 use crate::known::is_over;
 use crate::meet::is_met;
-use std::alloc::{AllocError, Global};
 use base_fractions::{Ext, Frac};
 use lang_tree::Coeffs;
+use std::alloc::{AllocError, Global};
 
 /// What a row's bound says. Rows are counted from 0.
 #[derive(Clone, Copy)]
@@ -26,7 +26,8 @@ pub(crate) enum Said {
 fn clause_at(rows: &[Coeffs], bounds: &[Ext], row: usize, bound: Frac) -> Said
     requires row { row < length rows.now }
     requires bounds { length rows.now ≡ length bounds.now }
-    ensures { clause_of rows.now result ≡ clause_at (get_or rows.now row []) bound (bounded (drop (row + 1) rows.now) (drop (row + 1) bounds.now)) }
+    ensures { clause_of rows.now result ≡ clause_at (get_or rows.now row []) bound
+        (bounded (drop (row + 1) rows.now) (drop (row + 1) bounds.now)) }
 {
     if is_met(
         rows[row].as_slice(),

@@ -13,13 +13,13 @@ ghost use Rattle.acsl_notes.specs.View.{anchor_of, clauses_of_said, comment_of, 
 use crate::clause::{Said, clauses};
 use crate::indent::line_before;
 use crate::note::note;
-use std::alloc::{AllocError, Global};
 use acsl_anchors::Anchor;
 use acsl_comments::{Bytes, Comment};
-use flow_systems::{Bounds, System};
-use flow_edges::Place;
 use base_fractions::Ext;
+use flow_edges::Place;
+use flow_systems::{Bounds, System};
 use lang_tree::Coeffs;
+use std::alloc::{AllocError, Global};
 
 /// Whether a point of this kind has an anchor.
 fn is_anchored(place: &Place) -> bool
@@ -63,7 +63,8 @@ fn push_unless_silent(
     system: &System,
     said: &[Said],
 ) -> Result<(), AllocError>
-    ensures { IfOk result (λ _. found.new.items ≡ found.old.items ++ comment_unless_silent text.now system.now.flow.names (anchor_of anchor.now)
+    ensures { IfOk result (λ _. found.new.items ≡ found.old.items ++ comment_unless_silent text.now system.now.flow.names
+        (anchor_of anchor.now)
         (clauses_of_said system.now.template said.now)) }
 {
     if said.is_empty() {
@@ -130,7 +131,8 @@ fn push_point(
     requires point { point < length system.now.flow.points }
     requires bounds { length bounds.now ≡ length system.now.flow.points * length system.now.template }
     ensures within { IfOk result (λ used. used ≤ length anchors.now) }
-    ensures comments { IfOk result (λ used. found.new.items ++ comments_left text.now system.now (map extended bounds.now) (point + 1) (drop used anchors.now)
+    ensures comments { IfOk result (λ used. found.new.items ++ comments_left text.now system.now (map extended bounds.now) (point + 1)
+        (drop used anchors.now)
         ≡ found.old.items ++ comments_left text.now system.now (map extended bounds.now) point anchors.now) }
 {
     if anchors.is_empty() {
@@ -154,7 +156,8 @@ pub fn comments(
 ) -> Result<Vec<Comment>, AllocError>
     requires { IsVectorOf system.now bounds.now }
     ensures { (list : List AnAnchor) → anchors.now ≡ plain_anchors list →
-        IfOk result (λ found. found.items ≡ comments_from text.now system.now.flow.names system.now.template (vector_at system.now bounds.now) 0 system.now.flow.points list) }
+        IfOk result (λ found. found.items ≡ comments_from text.now system.now.flow.names system.now.template
+        (vector_at system.now bounds.now) 0 system.now.flow.points list) }
 {
     let mut found = Vec::new(alloc);
     let mut used = 0;

@@ -1,15 +1,16 @@
 //! The text of comments.
 
 ghost use Rattle.std.specs.Prelude.{◌≡◌, ◌++◌, ◌∷◌, [], IfOk, None, Some, codes, map};
-ghost use Rattle.acsl_notes.specs.Texts.{assertion_text, comment_text, end_comment, invariant_text, joined, joined_on, label_comment, loop_comment};
+ghost use Rattle.acsl_notes.specs.Texts.{assertion_text, comment_text, end_comment, invariant_text, joined, joined_on, label_comment};
+ghost use Rattle.acsl_notes.specs.Texts.{loop_comment};
 ghost use Rattle.acsl_notes.specs.View.{clause_of, clauses_of_said, indentation_of, what_of};
 
 use crate::clause::Said;
 use crate::indent::is_indentation;
 use crate::relation::{push_assertion, push_invariant};
-use std::alloc::{AllocError, Global};
 use acsl_anchors::What;
 use lang_tree::{Coeffs, Name};
+use std::alloc::{AllocError, Global};
 
 /// Appends these bytes and an invariant.
 fn push_next_invariant(
@@ -83,7 +84,8 @@ fn push_loop_lines(
     blanks: &[u8],
     said: &[Said],
 ) -> Result<(), AllocError>
-    ensures { IfOk result (λ _. text.new.items ≡ text.old.items ++ loop_comment names.now (Some blanks.now) (clauses_of_said rows.now said.now)) }
+    ensures { IfOk result (λ _. text.new.items ≡ text.old.items ++ loop_comment names.now (Some blanks.now)
+        (clauses_of_said rows.now said.now)) }
 {
     let between = line_break(alloc, blanks)?;
     text.extend_from_slice(b"/*@ ")?;
@@ -132,7 +134,8 @@ fn push_assertion_line(
     blanks: &[u8],
     said: Said,
 ) -> Result<(), AllocError>
-    ensures { IfOk result (λ _. text.new.items ≡ text.old.items ++ (assertion_text names.now (clause_of rows.now said) ++ 10 ∷ blanks.now)) }
+    ensures { IfOk result (λ _. text.new.items ≡ text.old.items ++ (assertion_text names.now (clause_of rows.now said) ++ 10
+        ∷ blanks.now)) }
 {
     push_assertion(text, names, rows, said)?;
     text.extend_from_slice(b"\n")?;
@@ -162,7 +165,8 @@ fn push_end_lines(
     blanks: &[u8],
     said: &[Said],
 ) -> Result<(), AllocError>
-    ensures { IfOk result (λ _. text.new.items ≡ text.old.items ++ end_comment names.now (Some blanks.now) (clauses_of_said rows.now said.now)) }
+    ensures { IfOk result (λ _. text.new.items ≡ text.old.items ++ end_comment names.now (Some blanks.now)
+        (clauses_of_said rows.now said.now)) }
 {
     for clause in said {
         push_assertion_line(text, names, rows, blanks, *clause)?;
@@ -231,7 +235,8 @@ pub(crate) fn note(
     line: &[u8],
     said: &[Said],
 ) -> Result<Vec<u8>, AllocError>
-    ensures { IfOk result (λ text. text.items ≡ comment_text names.now (what_of what) (indentation_of line.now) (clauses_of_said rows.now said.now)) }
+    ensures { IfOk result (λ text. text.items ≡ comment_text names.now (what_of what) (indentation_of line.now)
+        (clauses_of_said rows.now said.now)) }
 {
     let mut text = Vec::new(alloc);
     match what {

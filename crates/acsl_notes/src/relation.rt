@@ -7,11 +7,11 @@ ghost use Rattle.acsl_notes.specs.View.{clause_of};
 ghost use Rattle.flow_systems.specs.Report.{row_text};
 
 use crate::clause::Said;
-use itoa::Buffer;
-use std::alloc::AllocError;
 use base_fractions::Frac;
-use out_report::{push_number, push_row};
+use itoa::Buffer;
 use lang_tree::{Coeffs, Name};
+use out_report::{push_number, push_row};
+use std::alloc::AllocError;
 
 /// Appends a number with its sign.
 fn push_integer(text: &mut Vec<u8>, number: i64) -> Result<(), AllocError>
@@ -29,7 +29,8 @@ fn push_product(
     factor: u64,
     row: &[i64],
 ) -> Result<(), AllocError>
-    ensures { IfOk result (λ _. text.new.items ≡ text.old.items ++ (decimal factor ++ codes " * (" ++ row_text names.now row.now ++ codes ")")) }
+    ensures { IfOk result (λ _. text.new.items ≡ text.old.items ++ (decimal factor ++ codes " * (" ++ row_text names.now row.now
+        ++ codes ")")) }
 {
     push_number(text, factor)?;
     text.extend_from_slice(b" * (")?;
@@ -57,7 +58,8 @@ fn push_relation(
     sign: &[u8],
     bound: Frac,
 ) -> Result<(), AllocError>
-    ensures { IfOk result (λ _. text.new.items ≡ text.old.items ++ (side_text names.now bound.den row.now ++ sign.now ++ signed_decimal bound.num)) }
+    ensures { IfOk result (λ _. text.new.items ≡ text.old.items ++ (side_text names.now bound.den row.now ++ sign.now
+        ++ signed_decimal bound.num)) }
 {
     push_side(text, names, bound.den() as u64, row)?;
     text.extend_from_slice(sign)?;

@@ -18,13 +18,15 @@ no_values : (before : List ℕ) (names : List (List ℕ)) → state_text before 
 no_values before [] = refl
 no_values before (name ∷ names) = refl
 
-pub state_rest : (before : List ℕ) (names : List (List ℕ)) (xs : List ℚ) (i : ℕ) → min (length names) (length xs) ≤ i → state_text before (drop i names) (drop i xs) ≡ []
+pub state_rest : (before : List ℕ) (names : List (List ℕ)) (xs : List ℚ) (i : ℕ) → min (length names) (length xs) ≤ i
+    → state_text before (drop i names) (drop i xs) ≡ []
 state_rest before = rest_end (state_text before) (λ xs. refl) (no_values before)
 
 no_verdicts : (names : List (List ℕ)) (k : ℕ) (claims : List Claim) → claim_lines names k claims [] ≡ []
 no_verdicts names k [] = refl
 no_verdicts names k (claim ∷ claims) = refl
 
-pub lines_rest : (names : List (List ℕ)) (k : ℕ) (claims : List Claim) (verdicts : List Verdict) (i : ℕ) → min (length claims) (length verdicts) ≤ i →
+pub lines_rest : (names : List (List ℕ)) (k : ℕ) (claims : List Claim) (verdicts : List Verdict) (i : ℕ)
+    → min (length claims) (length verdicts) ≤ i →
     claim_lines names k (drop i claims) (drop i verdicts) ≡ []
 lines_rest names k = rest_end (claim_lines names k) (λ verdicts. refl) (no_verdicts names k)

@@ -18,7 +18,8 @@ use Rattle.ask_claims.specs.Breaking.{BreaksSome, NoneOpen}
 use Rattle.ask_claims.specs.Claims.{AreAtPoints}
 use Rattle.ask_claims.specs.Truth.{IsTrueAt}
 
--- where no state that fits a post-solution of a program's system at a point passes a case against a condition, the condition is true at every
+-- where no state that fits a post-solution of a program's system at a point passes a case against a condition, the condition is true at
+-- every
 -- configuration at this point in every run
 abbrev pub ProvedClaimsHold : Type 0
 ProvedClaimsHold = (variables : ℕ) (body : Statements) (template : List (List ℤ)) (v : Vector) (p : ℕ) (c : Condition) →
@@ -28,21 +29,26 @@ ProvedClaimsHold = (variables : ℕ) (body : Statements) (template : List (List 
 
 -- the state of an open claim fits the vector at the claim's point, and passes all guards of one of the cases against it
 abbrev pub OpenStatesBreak : Type 0
-OpenStatesBreak = (system : Equations) (z : Vector) (claims : List Claim) (verdicts : List Verdict) (k : ℕ) (claim : Claim) (x : RationalState) →
+OpenStatesBreak = (system : Equations) (z : Vector) (claims : List Claim) (verdicts : List Verdict) (k : ℕ) (claim : Claim)
+    (x : RationalState) →
     AreVerdicts system z claims verdicts → slice_get claims k ≡ Some claim → slice_get verdicts k ≡ Some (Open x) →
     BreaksSome system z claim.point claim.against x
 
 -- vectors with the same bounds give claims at a system's points one list of verdicts
 abbrev pub VerdictsAreOne : Type 0
-VerdictsAreOne = (system : Equations) (z w : Vector) (claims : List Claim) (verdicts again : List Verdict) → IsSame system z w → AreAtPoints system claims →
+VerdictsAreOne = (system : Equations) (z w : Vector) (claims : List Claim) (verdicts again : List Verdict) → IsSame system z w
+    → AreAtPoints system claims →
     AreVerdicts system z claims verdicts → AreVerdicts system w claims again → verdicts ≡ again
 
--- where a verdict on a list of claims at a post-solution of a program's system is that a claim is proved, the claim's condition is true at every
+-- where a verdict on a list of claims at a post-solution of a program's system is that a claim is proved, the claim's condition is true at
+-- every
 -- configuration at its point in every run
 abbrev pub ProvedVerdictsHold : Type 0
-ProvedVerdictsHold = (variables : ℕ) (body : Statements) (template : List (List ℤ)) (v : Vector) (claims : List Claim) (verdicts : List Verdict)
+ProvedVerdictsHold = (variables : ℕ) (body : Statements) (template : List (List ℤ)) (v : Vector) (claims : List Claim)
+    (verdicts : List Verdict)
     (k : ℕ) (claim : Claim) →
-    PostSolution (equations_of_program variables body template) v → AreVerdicts (equations_of_program variables body template) v claims verdicts →
+    PostSolution (equations_of_program variables body template) v → AreVerdicts (equations_of_program variables body template) v claims
+    verdicts →
     slice_get claims k ≡ Some claim → slice_get verdicts k ≡ Some Proved → claim.against ≡ cases_of false (condition_of claim.cond) →
     (run : List Configuration) (now : Configuration) → IsRun variables body run → Contains run now → IsAt now claim.point →
     IsTrueAt (condition_of claim.cond) now.state
@@ -54,5 +60,6 @@ WideClaimsDontFit = (system : Equations) (z : Vector) (claims : List Claim) (fau
 
 -- and it is the only one that is named, by all vectors with the same bounds
 abbrev pub RefusalsAreOne : Type 0
-RefusalsAreOne = (system : Equations) (z w : Vector) (claims : List Claim) (fault again : ClaimsFault) → IsSame system z w → AreAtPoints system claims →
+RefusalsAreOne = (system : Equations) (z w : Vector) (claims : List Claim) (fault again : ClaimsFault) → IsSame system z w
+    → AreAtPoints system claims →
     fault ≢ NoMemory → again ≢ NoMemory → IsClaimsFault system z claims fault → IsClaimsFault system w claims again → fault ≡ again

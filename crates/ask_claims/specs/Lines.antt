@@ -25,7 +25,8 @@ verdict_text names (Open state) = codes "open" ++ state_text (codes " at ") name
 
 -- the line of a claim
 abbrev pub claim_line : List (List ℕ) → ℕ → Claim → Verdict → List ℕ
-claim_line names k claim verdict = line (codes "claim " ++ decimal k ++ codes " " ++ claim.label ++ codes ": " ++ verdict_text names verdict)
+claim_line names k claim verdict = line (codes "claim " ++ decimal k ++ codes " " ++ claim.label ++ codes ": "
+    ++ verdict_text names verdict)
 
 -- a line for each claim, the first of them having the number k
 abbrev pub claim_lines : List (List ℕ) → ℕ → List Claim → List Verdict → List ℕ
@@ -44,4 +45,5 @@ count_line claims verdicts = line (codes "proved " ++ decimal (count_by is_prove
 
 -- the claims with their verdicts, how many are proved, and how many improvements were made
 abbrev pub verdicts_text : List (List ℕ) → List Claim → List Verdict → ℕ → List ℕ
-verdicts_text names claims verdicts improvements = claim_lines names 0 claims verdicts ++ count_line claims verdicts ++ footer_line (Improvements improvements)
+verdicts_text names claims verdicts improvements = claim_lines names 0 claims verdicts ++ count_line claims verdicts
+    ++ footer_line (Improvements improvements)

@@ -1,8 +1,8 @@
 //! Why a text is no file of claims.
 
-use std::alloc::{AllocError, AllocFailed};
-use lang_tokens::LexFault;
 use lang_parser::ParseFault;
+use lang_tokens::LexFault;
+use std::alloc::{AllocError, AllocFailed};
 
 /// The first fault of a file of claims; `at` counts the bytes of the text before a token (docs/FORMATS.md, "Claims").
 #[derive(Clone, Copy, Debug, PartialEq, Eq)]

@@ -12,11 +12,11 @@ ghost use Rattle.ask_claims.specs.Verdicts.{FitsFor, AllFit, IsBreaking, SaysOpe
 
 use crate::claim::Claim;
 use crate::outcome::{Verdict, VerdictFault};
-use std::alloc::Global;
-use solve_composition::Value;
 use flow_systems::{Bounds, Fracs, PartFault, System};
-use solve_transformer::guarded_value;
 use lang_tree::Form;
+use solve_composition::Value;
+use solve_transformer::guarded_value;
+use std::alloc::Global;
 
 // The number of a claim or a case as faults give it.
 pub(crate) fn capped(number: usize) -> u32
@@ -41,7 +41,8 @@ fn breaking_state(
     requires point { point < length system.now.flow.points }
     requires few { length case.now ≤ 256 }
     requires forms { IsTrue (list_all (is_form (length system.now.flow.names)) case.now) }
-    ensures state { IfOk result (λ found. MatchOption found (NoneBreaks (equations_of system.now) (vector_at system.now bounds.now) point case.now)
+    ensures state { IfOk result (λ found. MatchOption found (NoneBreaks (equations_of system.now) (vector_at system.now bounds.now) point
+        case.now)
         (IsBreaking (equations_of system.now) (vector_at system.now bounds.now) point case.now)) }
     ensures fits { OnOk result (FitsFor (equations_of system.now) (vector_at system.now bounds.now) point case.now) }
     ensures refused { IfErr result (IsFaultFor (equations_of system.now) (vector_at system.now bounds.now) point case.now) }
@@ -78,7 +79,8 @@ pub fn verdict(
         NoneOpen (equations_of system.now) (vector_at system.now bounds.now) claim.now.point claim.now.against (length claim.now.against)) }
     ensures state { IfOk result (SaysOpen (equations_of system.now) (vector_at system.now bounds.now) claim.now.point claim.now.against) }
     ensures fits { OnOk result (AllFit (equations_of system.now) (vector_at system.now bounds.now) claim.now.point claim.now.against) }
-    ensures refused { IfErr result (IsFirstFault (equations_of system.now) (vector_at system.now bounds.now) claim.now.point claim.now.against) }
+    ensures refused { IfErr result (IsFirstFault (equations_of system.now) (vector_at system.now bounds.now) claim.now.point
+        claim.now.against) }
 {
     let cases = claim.against.as_slice();
     for (number, case) in cases.iter().enumerate() {

@@ -6,11 +6,11 @@ ghost use Rattle.ask_claims.specs.Lines.{claim_line, claim_lines, is_proved, sta
 
 use crate::claim::Claim;
 use crate::outcome::Verdict;
-use std::alloc::{AllocError, Global};
-use flow_systems::Footer;
 use base_fractions::Frac;
-use out_report::{push_footer, push_number};
+use flow_systems::Footer;
 use lang_tree::Name;
+use out_report::{push_footer, push_number};
+use std::alloc::{AllocError, Global};
 
 /// Appends a variable's name and its value.
 fn push_value(text: &mut Vec<u8>, name: &Name, value: Frac) -> Result<(), AllocError>
@@ -103,7 +103,8 @@ fn proved_count(verdicts: &[Verdict]) -> usize
 
 /// Appends the line that tells how many claims are proved, and of how many.
 fn push_counts(text: &mut Vec<u8>, proved: usize, all: usize) -> Result<(), AllocError>
-    ensures { IfOk result (λ _. text.new.items ≡ text.old.items ++ line (codes "proved " ++ decimal proved ++ codes " of " ++ decimal all)) }
+    ensures { IfOk result (λ _. text.new.items ≡ text.old.items ++ line
+        (codes "proved " ++ decimal proved ++ codes " of " ++ decimal all)) }
 {
     text.extend_from_slice(b"proved ")?;
     push_number(text, proved as u64)?;

@@ -8,8 +8,8 @@ ghost use Rattle.ask_claims.specs.Claims.{IsClaimOf};
 use crate::claim::Claim;
 use crate::judge::{capped, verdict};
 use crate::outcome::{ClaimsFault, Verdict, VerdictFault};
-use std::alloc::Global;
 use flow_systems::{Bounds, System};
+use std::alloc::Global;
 
 /// The verdicts of bounds on claims, one for each, in order.
 ///

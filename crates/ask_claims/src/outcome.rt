@@ -1,8 +1,8 @@
 //! Verdicts.
 
-use std::alloc::AllocFailed;
-use flow_systems::{Fracs, Part};
 use base_fractions::{Frac, Wide};
+use flow_systems::{Fracs, Part};
+use std::alloc::AllocFailed;
 
 /// What bounds say of a claim.
 #[derive(Drop)]

@@ -15,18 +15,19 @@ ghost use Rattle.lang_tree.specs.Limits.{is_tested};
 ghost use Rattle.lang_tree.specs.View.{condition_of};
 ghost use Rattle.ask_claims.specs.Claims.{is_place, point_of, decided, parsed, ClaimsMean, FileMeans, StatedClaims, Stands, Answers, Gives};
 ghost use Rattle.ask_claims.specs.Claims.{stated_of};
-ghost use Rattle.ask_claims.specs.Steps.{is_end, is_colon, is_semicolon, is_nondet, bytes_of, token_at, expected, surplus, labelled, headed};
+ghost use Rattle.ask_claims.specs.Steps.{is_end, is_colon, is_semicolon, is_nondet, bytes_of, token_at, expected, surplus, labelled};
+ghost use Rattle.ask_claims.specs.Steps.{headed};
 ghost use Rattle.ask_claims.specs.Steps.{first_choice};
 ghost use Rattle.ask_claims.specs.Steps.{few_cases, finished, IsEnded, BeginsClaim};
 ghost use Rattle.ask_claims.specs.Truth.{is_decided};
 
 use crate::claim::Claim;
 use crate::fault::ClaimFault;
-use std::alloc::Global;
 use flow_edges::{Cases, CasesFault, Flow, Place, Point, cases};
-use lang_tokens::{Kind, LexFault, Sign, Token, Word, lex};
 use lang_parser::{Expr, ParseFault, Read, condition, expression};
+use lang_tokens::{Kind, LexFault, Sign, Token, Word, lex};
 use lang_tree::{Cond, Name};
+use std::alloc::Global;
 
 /// The most claims of a file.
 const MOST_CLAIMS: usize = 64;

@@ -3,7 +3,8 @@
 ghost use Rattle.std.specs.Prelude.{◌≡◌, IfOk, false};
 ghost use Rattle.clap.specs.Words.{app_of, rule_of};
 ghost use Rattle.clap.specs.declared.Command.TheViews.{out-Command};
-ghost use Rattle.ask_words.specs.CommandLine.{analysis_app, bench_app, check_app, equations_app, option_rule, prove_app, tmpl_app, top_app, upgrade_app, word_rule};
+ghost use Rattle.ask_words.specs.CommandLine.{analysis_app, bench_app, check_app, equations_app, option_rule, prove_app, tmpl_app, top_app};
+ghost use Rattle.ask_words.specs.CommandLine.{upgrade_app, word_rule};
 
 use clap::{Arg, Command};
 use std::alloc::{AllocError, Global};

@@ -15,11 +15,14 @@ range_append a (suc m) n =
     ap (range_with_len a) e ∙ ap (λ r. a ∷ r) (range_append (a + 1) m n ∙ ap (λ k. range_with_len (a + 1) m ++ range_with_len k n) f)
 
 -- functions that agree below the end of a range have one list of values there
-pub range_map_same : {X : Type 0} (f g : ℕ → X) (a n : ℕ) → ((k : ℕ) → k < a + n → f k ≡ g k) → map f (range_with_len a n) ≡ map g (range_with_len a n)
+pub range_map_same : {X : Type 0} (f g : ℕ → X) (a n : ℕ) → ((k : ℕ) → k < a + n → f k ≡ g k)
+    → map f (range_with_len a n) ≡ map g (range_with_len a n)
 range_map_same f g a zero h = refl
 range_map_same f g a (suc n) h = ap₂ (λ x xs. x ∷ xs) (h a (omega arith)) (range_map_same f g (a + 1) n (λ k l. h k (omega (arith, l))))
 
 -- functions to lists that agree below the end of a range have one joined list there
-pub range_flat_map_same : {X : Type 0} (f g : ℕ → List X) (a n : ℕ) → ((k : ℕ) → k < a + n → f k ≡ g k) → flat_map f (range_with_len a n) ≡ flat_map g (range_with_len a n)
+pub range_flat_map_same : {X : Type 0} (f g : ℕ → List X) (a n : ℕ) → ((k : ℕ) → k < a + n → f k ≡ g k)
+    → flat_map f (range_with_len a n) ≡ flat_map g (range_with_len a n)
 range_flat_map_same f g a zero h = refl
-range_flat_map_same f g a (suc n) h = ap₂ (λ x xs. x ++ xs) (h a (omega arith)) (range_flat_map_same f g (a + 1) n (λ k l. h k (omega (arith, l))))
+range_flat_map_same f g a (suc n) h = ap₂ (λ x xs. x ++ xs) (h a (omega arith))
+    (range_flat_map_same f g (a + 1) n (λ k l. h k (omega (arith, l))))

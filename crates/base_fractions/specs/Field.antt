@@ -70,14 +70,17 @@ module _ {X : Type 0} (m : X → ℚ) (cmp : X → X → Ordering) where
     pub ordered_field : IsOrderedField
     ordered_field = record {
       sum_comm = λ a b r s e f. same r s (e ∙ +ℚ_comm (m a) (m b) ∙ sym f);
-      sum_assoc = λ a b c x y r s e f g h. same r s (f ∙ ap (λ t. t +ℚ m c) e ∙ +ℚ_assoc (m a) (m b) (m c) ∙ ap (λ t. m a +ℚ t) (sym g) ∙ sym h);
+      sum_assoc = λ a b c x y r s e f g h. same r s (f ∙ ap (λ t. t +ℚ m c) e ∙ +ℚ_assoc (m a) (m b) (m c) ∙ ap (λ t. m a +ℚ t) (sym g)
+          ∙ sym h);
       sum_zero = λ a z r e f. same r a (f ∙ ap (λ t. m a +ℚ t) e ∙ +ℚ_idr (m a));
       sum_negate = λ a n r z e f g. same r z (f ∙ ap (λ t. m a +ℚ t) e ∙ +ℚ_invr (m a) ∙ sym g);
       difference = λ a b r s e f. same s a (f ∙ ap (λ t. t +ℚ m b) e ∙ ring (m a ∷ m b ∷ []) (search reads depth 40) refl);
       product_comm = λ a b r s e f. same r s (e ∙ *ℚ_comm (m a) (m b) ∙ sym f);
-      product_assoc = λ a b c x y r s e f g h. same r s (f ∙ ap (λ t. t *ℚ m c) e ∙ *ℚ_assoc (m a) (m b) (m c) ∙ ap (λ t. m a *ℚ t) (sym g) ∙ sym h);
+      product_assoc = λ a b c x y r s e f g h. same r s (f ∙ ap (λ t. t *ℚ m c) e ∙ *ℚ_assoc (m a) (m b) (m c) ∙ ap (λ t. m a *ℚ t) (sym g)
+          ∙ sym h);
       product_one = λ a u r e f. same r a (f ∙ ap (λ t. m a *ℚ t) e ∙ *ℚ_idr (m a));
-      distributes = λ a b c x y z r s e f g h k. same r s (f ∙ ap (λ t. m a *ℚ t) e ∙ *ℚ-+ℚ (m a) (m b) (m c) ∙ ap₂ (λ t u. t +ℚ u) (sym g) (sym h) ∙ sym k);
+      distributes = λ a b c x y z r s e f g h k. same r s (f ∙ ap (λ t. m a *ℚ t) e ∙ *ℚ-+ℚ (m a) (m b) (m c)
+          ∙ ap₂ (λ t u. t +ℚ u) (sym g) (sym h) ∙ sym k);
       quotient = λ a b r s n e f. same s a (f ∙ ap (λ t. t *ℚ m b) e ∙ quotient_times (m a) (m b) n);
       zero_not_one = λ z u e f g. one_ne_zero (sym f ∙ ap m (sym g) ∙ e);
       total = total_order;

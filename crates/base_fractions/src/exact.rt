@@ -66,7 +66,8 @@ impl<L: Limit> Exact<L> {
 
     /// The number `num / den`: `None` exactly where `den` is 0 or the lowest terms do not fit.
     pub fn make(num: i64, den: i64) -> Option<Self>
-        ensures { MatchOption result ((den ≡ pos 0) ⊎ (¬ (Fits L.LIMIT (whole num /ℚ whole den)))) (λ r. (r ≡ whole num /ℚ whole den) × Fits L.LIMIT r
+        ensures { MatchOption result ((den ≡ pos 0) ⊎ (¬ (Fits L.LIMIT (whole num /ℚ whole den))))
+            (λ r. (r ≡ whole num /ℚ whole den) × Fits L.LIMIT r
             × (den ≢ pos 0)) }
     {
         if den == 0 {

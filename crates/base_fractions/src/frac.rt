@@ -74,7 +74,8 @@ impl Exact<LongLimit> {
 
     /// The number whose canonical text these bytes are; `None` exactly where they are the text of no number that fits.
     pub fn read(text: &[u8]) -> Option<Frac>
-        ensures read { MatchOption result ((q : ℚ) → Fits long_limit q → text.now ≢ frac_text q) (λ r. (text.now ≡ frac_text r) × Fits long_limit r) }
+        ensures read { MatchOption result ((q : ℚ) → Fits long_limit q → text.now ≢ frac_text q)
+            (λ r. (text.now ≡ frac_text r) × Fits long_limit r) }
         ensures back { (q : ℚ) → Fits long_limit q → text.now ≡ frac_text q → result ≡ Some q }
     {
         match Self::guess(text) {

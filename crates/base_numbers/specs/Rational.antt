@@ -5,7 +5,8 @@
 --     ◌≤ℚ◌ ◌<ℚ◌        the order, by the tests le_ℚ and lt_ℚ
 --     floor            the greatest integer that is not above
 -- A proof above works by the laws of `proofs/`, and opens none of these.
-use Rattle.std.specs.Prelude.{◌≡◌, ℕ, zero, suc, ◌*◌, ◌/◌, ◌<◌, ◌&&◌, Bool, true, false, T, eqb, ltb, ℤ, pos, negsuc, neg_ℤ, nat_abs, ◌+ℤ◌, ◌*ℤ◌}
+use Rattle.std.specs.Prelude.{◌≡◌, ℕ, zero, suc, ◌*◌, ◌/◌, ◌<◌, ◌&&◌, Bool, true, false, T, eqb, ltb, ℤ, pos, negsuc, neg_ℤ, nat_abs, ◌+ℤ◌}
+use Rattle.std.specs.Prelude.{◌*ℤ◌}
 use Rattle.std.proofs.Common.{refl, ap, sym, ◌∙◌, subst, arith, lt→ltb, zero-lt-suc}
 use lib.Dec.{eqb_refl}
 use lib.Signed.{le_z, lt_z, shr_z}

@@ -6,10 +6,10 @@
 
 ghost use Rattle.std.specs.Prelude.{◌<◌, ◌≤◌, ◌^◌};
 
+use base_fractions::{Frac, OrderedField, Wide};
 use std::alloc::{AllocError, Global};
 use std::cmp::Ordering;
 use std::env;
-use base_fractions::{Frac, OrderedField, Wide};
 
 // How many pairs of operands there are.
 const PAIRS: usize = 1024;

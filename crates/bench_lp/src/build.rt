@@ -4,9 +4,9 @@ ghost use Rattle.lp_dictionary.specs.Exact.{IsShaped};
 
 use crate::read::{Line, Term, Written};
 use anyhow::bail;
-use std::alloc::Global;
 use base_fractions::{Frac, OrderedField};
 use lp_simplex::{Problem, Row};
+use std::alloc::Global;
 
 // The greatest column among terms.
 fn greatest(terms: &[Term], mut most: u32) -> u32 {

@@ -16,14 +16,14 @@ mod read;
 mod tokens;
 
 use anyhow::{Context, bail};
+use base_fractions::{Frac, OrderedField};
 use build::problem_of;
+use lp_dictionary::Dict;
+use lp_simplex::{Outcome, Problem, SolveFault, Tableau, solve};
+use lp_sparse::Sparse;
 use read::read;
 use std::alloc::Global;
 use std::{env, fs};
-use lp_dictionary::Dict;
-use base_fractions::{Frac, OrderedField};
-use lp_simplex::{Outcome, Problem, SolveFault, Tableau, solve};
-use lp_sparse::Sparse;
 use tokens::tokens;
 
 // The outcome in words.

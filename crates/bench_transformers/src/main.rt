@@ -8,15 +8,15 @@ ghost use Rattle.flow_systems.specs.View.{equations_of};
 ghost use Rattle.solve_composition.specs.Composed.{AreComposed};
 
 use anyhow::{Context, bail};
-use std::alloc::Global;
-use std::env;
-use flow_systems::{Bounds, PartFault, System};
-use flow_edges::{Flow, flow};
 use base_fractions::{Ext, Frac};
+use flow_edges::{Flow, flow};
+use flow_systems::{Bounds, PartFault, System};
+use flow_templates::zones;
+use lang_parser::parse;
 use lang_tokens::lex;
 use solve_transformer::{Paths, Value, compose_all, operator};
-use lang_parser::parse;
-use flow_templates::zones;
+use std::alloc::Global;
+use std::env;
 
 /// It has three edges: one from the entry to the loop, the loop's body, where a variable takes a free value, and one to the exit.
 const PROGRAM: &[u8] = b"int main() {

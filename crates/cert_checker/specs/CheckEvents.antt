@@ -24,17 +24,21 @@ final_events system z bounds (u ∷ us) = Test (decided (ext_same (z u.0 u.1) (b
 -- each need takes the next evidence; an absent one fails
 unfoldable pub uppers_events : Equations → Vector → List Need → List Evidence → List Event
 uppers_events system z [] evidence = []
-uppers_events system z (need ∷ needs) [] = Test false (UpperFault (number_of system need.edge.to need.row) need.number) ∷ uppers_events system z needs []
+uppers_events system z (need ∷ needs) [] = Test false (UpperFault (number_of system need.edge.to need.row) need.number)
+    ∷ uppers_events system z needs []
 uppers_events system z (need ∷ needs) (e ∷ evidence) =
     evidence_events (Upper (number_of system need.edge.to need.row) need.number)
-    (UpperFault (number_of system need.edge.to need.row) need.number) system z need.edge (get_or system.template need.row []) (z need.edge.to need.row) e
+    (UpperFault (number_of system need.edge.to need.row) need.number) system z need.edge (get_or system.template need.row [])
+    (z need.edge.to need.row) e
     ++ uppers_events system z needs evidence
 
 -- sizes, steps from the start vector, the vector that they lead to, and evidence
 unfoldable pub check_events : Equations → Certificate → List Event
 check_events system certificate =
-    Test (decided (dec_and (ℕ_discrete (length certificate.bounds) (system.points * length system.template)) (dec_le (length certificate.uppers)
+    Test (decided (dec_and (ℕ_discrete (length certificate.bounds) (system.points * length system.template))
+    (dec_le (length certificate.uppers)
     (length (needs system (bounds_vector system certificate.bounds)))))) SizeFault
     ∷ (steps_events system start_vector 0 certificate.steps
     ++ (final_events system (after_steps certificate.steps start_vector) (bounds_vector system certificate.bounds) (unknowns system)
-    ++ uppers_events system (bounds_vector system certificate.bounds) (needs system (bounds_vector system certificate.bounds)) certificate.uppers))
+    ++ uppers_events system (bounds_vector system certificate.bounds) (needs system (bounds_vector system certificate.bounds))
+    certificate.uppers))

@@ -1,5 +1,6 @@
 -- What a check does, in order: sums and tests, of which the first that stops decides.
-use Rattle.std.specs.Prelude.{◌≡◌, Bool, true, false, List, [], ◌∷◌, ◌++◌, map, if◌then◌else◌, Option, Some, None, Result, MatchResult, MatchOption}
+use Rattle.std.specs.Prelude.{◌≡◌, Bool, true, false, List, [], ◌∷◌, ◌++◌, map, if◌then◌else◌, Option, Some, None, Result, MatchResult}
+use Rattle.std.specs.Prelude.{MatchOption}
 use Rattle.base_fractions.specs.Fits.{long_limit}
 use Rattle.base_fractions.specs.Operation.{Operation, is_wide, operation_of}
 use Rattle.base_fractions.specs.declared.wide.Wide.{Wide as WideOperation}
@@ -57,7 +58,8 @@ decided (no n) = false
 abbrev pub IsRun : {A : Type 0} → (A → Type 0) → List Event → Result A CheckFault → Type 0
 IsRun P events result = MatchResult result (λ r. P r × (first_stop events ≡ None)) (λ fault. first_stop events ≡ Some fault)
 
--- at whatever site and with whatever fault: no event stops and this is so of the answer, or a test fails, or the operation is the first that is wide
+-- at whatever site and with whatever fault: no event stops and this is so of the answer, or a test fails, or the operation is the first
+-- that is wide
 abbrev pub Answers : {A : Type 0} → (A → Type 0) → (Site → Fault → List Event) → Result (Option A) (WideOperation ℚ) → Type 0
 Answers P events result = (site : Site) (fault : Fault) → MatchResult result
     (λ o. MatchOption o (first_stop (events site fault) ≡ Some (fault_answer fault)) (λ r. P r × (first_stop (events site fault) ≡ None)))

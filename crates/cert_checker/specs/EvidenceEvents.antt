@@ -12,7 +12,8 @@ use Rattle.flow_systems.specs.declared.spot.Site.{Site}
 use Rattle.flow_systems.specs.Equations.{Equations, Vector}
 use Rattle.theory_validity.specs.Words.{width, guard_forms, end_form}
 use Rattle.theory_validity.specs.Certificates.{Evidence, Bound, Empty, Unreached, num, NotFinite, combination, side, Multipliers}
-use Rattle.theory_validity.specs.Decide.{dec_and, dec_imp, dec_by, dec_lt_ℚ, dec_leᴱ, dec_finite, dec_not_finite, dec_below, dec_nonneg, ext_same}
+use Rattle.theory_validity.specs.Decide.{dec_and, dec_imp, dec_by, dec_lt_ℚ, dec_leᴱ, dec_finite, dec_not_finite, dec_below, dec_nonneg}
+use Rattle.theory_validity.specs.Decide.{ext_same}
 use Rattle.theory_validity.specs.Faults.{Fault}
 use Rattle.cert_checker.specs.Events.{Event, Test, sums, decided}
 
@@ -27,7 +28,8 @@ total sum (x ∷ xs) (y ∷ ys) = total (sum +ℚ (x *ℚ y)) xs ys
 unfoldable pub products : ℚ → List ℚ → List ℚ → List Operation
 products sum [] ys = []
 products sum (x ∷ xs) [] = []
-products sum (x ∷ xs) (y ∷ ys) = record { op = Mul; left = x; right = y } ∷ record { op = Add; left = sum; right = x *ℚ y } ∷ products (sum +ℚ (x *ℚ y)) xs ys
+products sum (x ∷ xs) (y ∷ ys) = record { op = Mul; left = x; right = y } ∷ record { op = Add; left = sum; right = x *ℚ y }
+    ∷ products (sum +ℚ (x *ℚ y)) xs ys
 
 -- the multipliers of rows with what they take, and then those of guards
 abbrev pub both_products : List ℚ → List ℚ → List ℚ → List ℚ → List Operation
@@ -69,7 +71,8 @@ pub dec_multipliers : (system : Equations) (z : Vector) (edge : Edge) (rows guar
 dec_multipliers system z edge rows guards = dec_by
     (λ p. record { row_count = p.0; guard_count = p.1.0; rows_nonneg = p.1.1.0; guards_nonneg = p.1.1.1.0; zero_where = p.1.1.1.1 })
     (λ h. (h.row_count, (h.guard_count, (h.rows_nonneg, (h.guards_nonneg, h.zero_where)))))
-    (dec_and (ℕ_discrete (length rows) (length system.template)) (dec_and (ℕ_discrete (length guards) (length (guard_forms system.variables edge.actions)))
+    (dec_and (ℕ_discrete (length rows) (length system.template)) (dec_and
+    (ℕ_discrete (length guards) (length (guard_forms system.variables edge.actions)))
     (dec_and (dec_nonneg rows) (dec_and (dec_nonneg guards)
     (dec_below {P = λ r. NotFinite (z edge.from r) → get_or rows r zero_ℚ ≡ zero_ℚ} (λ r. dec_imp (dec_not_finite (z edge.from r))
     (ℚ_discrete (get_or rows r zero_ℚ) zero_ℚ)) (length system.template))))))
@@ -88,7 +91,8 @@ columns_of system edge = range_with_len 0 (width system.variables edge.actions)
 abbrev pub combination_events : Site → Fault → Equations → Vector → Edge → List ℚ → List ℚ → List ℚ → List Event
 combination_events site fault system z edge rows guards goal =
     Test (decided (dec_multipliers system z edge rows guards)) fault
-    ∷ (columns_events site fault system edge rows guards goal (columns_of system edge) ++ sums site (side_operations system z edge rows guards))
+    ∷ (columns_events site fault system edge rows guards goal (columns_of system edge)
+    ++ sums site (side_operations system z edge rows guards))
 
 -- multipliers first, for a bound that there is one, then the columns, then the side; a row that isn't reached is there and has the bound -∞
 unfoldable pub evidence_events : Site → Fault → Equations → Vector → Edge → List ℤ → Ext → Evidence → List Event
@@ -97,10 +101,12 @@ evidence_events site fault system z edge row number (Bound rows guards) =
     ∷ (columns_events site fault system edge rows guards (end_form system.variables edge.actions row).coeffs (columns_of system edge)
     ++ (sums site (side_operations system z edge rows guards ++
     record { op = Add; left = side system z edge rows guards; right = (end_form system.variables edge.actions row).constant } ∷ [])
-    ++ Test (decided (dec_leᴱ (fin (side system z edge rows guards +ℚ (end_form system.variables edge.actions row).constant)) number)) fault ∷ []))
+    ++ Test (decided (dec_leᴱ (fin (side system z edge rows guards +ℚ (end_form system.variables edge.actions row).constant)) number)) fault
+    ∷ []))
 evidence_events site fault system z edge row number (Empty rows guards) =
     Test (decided (dec_multipliers system z edge rows guards)) fault
     ∷ (columns_events site fault system edge rows guards [] (columns_of system edge)
-    ++ (sums site (side_operations system z edge rows guards) ++ Test (decided (dec_lt_ℚ (side system z edge rows guards) zero_ℚ)) fault ∷ []))
+    ++ (sums site (side_operations system z edge rows guards) ++ Test (decided (dec_lt_ℚ (side system z edge rows guards) zero_ℚ)) fault
+    ∷ []))
 evidence_events site fault system z edge row number (Unreached r) = Test (decided (dec_lt r (length system.template))) fault ∷
     Test (decided (ext_same (z edge.from r) neg_inf)) fault ∷ []

@@ -14,7 +14,8 @@ use Rattle.cert_checker.specs.CheckEvents.{check_events}
 
 -- the tests alone, in this order, fail first where the first failing test of the certificate is
 abbrev pub TestsAreFaults : Type 0
-TestsAreFaults = (system : Equations) (certificate : Certificate) → first_fault (check_events system certificate) ≡ certificate_fault system certificate
+TestsAreFaults = (system : Equations) (certificate : Certificate) → first_fault (check_events system certificate)
+    ≡ certificate_fault system certificate
 
 -- nothing stops exactly where the certificate is valid and none of the operations is too wide
 abbrev pub UnstoppedIsValid : Type 0
@@ -29,14 +30,17 @@ StopsAreFaults = (system : Equations) (certificate : Certificate) (fault : Fault
 
 -- where nothing stops, the bounds are the least vector
 abbrev pub UnstoppedIsLeast : Type 0
-UnstoppedIsLeast = (system : Equations) (certificate : Certificate) → PointsInRange system → first_stop (check_events system certificate) ≡ None →
+UnstoppedIsLeast = (system : Equations) (certificate : Certificate) → PointsInRange system
+    → first_stop (check_events system certificate) ≡ None →
     Least system (bounds_vector system certificate.bounds)
 
 -- the sums of evidence, formed from the left, are the entry of the combination at the column, and the side
 pub record SumsAreSides (system : Equations) (edge : Edge) (rows guards : List ℚ) : Type 0 where
-  pub column : (k : ℕ) → total (total zero_ℚ rows (row_column system k)) guards (guard_column system edge k) ≡ get_or (combination system edge rows guards)
+  pub column : (k : ℕ) → total (total zero_ℚ rows (row_column system k)) guards (guard_column system edge k)
+      ≡ get_or (combination system edge rows guards)
       k zero_ℚ
-  pub side : (z : Vector) → total (total zero_ℚ rows (row_numbers system z edge)) guards (guard_numbers system edge) ≡ side system z edge rows guards
+  pub side : (z : Vector) → total (total zero_ℚ rows (row_numbers system z edge)) guards (guard_numbers system edge)
+      ≡ side system z edge rows guards
 
 -- of every evidence with a multiplier for each row, where each row has a coefficient for each variable
 abbrev pub EvidenceIsSummed : Type 0

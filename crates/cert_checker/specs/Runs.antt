@@ -22,7 +22,8 @@ dec_fits system z p x = dec_rows {P = λ r row. fin (dotℚ row x) ≤ᴱ z p r}
 
 -- the rows are summed up to the first that fails, and then it is told whether all fit
 unfoldable pub fit_events : Site → Fault → Equations → Vector → ℕ → RationalState → List Event
-fit_events site fault system z p x = sums site (fit_operations system.template (z p) 0 x) ++ Test (decided (dec_fits system z p x)) fault ∷ []
+fit_events site fault system z p x = sums site (fit_operations system.template (z p) 0 x) ++ Test (decided (dec_fits system z p x)) fault
+    ∷ []
 
 -- what the test says of a state, at whatever site and with whatever fault: it fits and nothing stops, or the test fails
 abbrev pub Fitted : Equations → Vector → ℕ → RationalState → Bool → Type 0
@@ -34,9 +35,11 @@ abbrev pub FitAnswers : Equations → Vector → ℕ → RationalState → Resul
 FitAnswers system z p x result = MatchResult result (Fitted system z p x) (λ w. (site : Site) (fault : Fault) →
     first_stop (fit_events site fault system z p x) ≡ Some (wide_answer site (operation_of (λ q. q) w)))
 
--- the start has to fit at the edge's source; then the actions are followed up to the first guard that fails, with the row at the end; and then it is told
+-- the start has to fit at the edge's source; then the actions are followed up to the first guard that fails, with the row at the end; and
+-- then it is told
 -- whether the trace runs
 unfoldable pub run_events : Site → Fault → Equations → Vector → Edge → List ℤ → Pieces → List Event
 run_events site fault system z edge row t =
-    fit_events site fault system z edge.from (start_of system.variables (word t)) ++ (sums site (trace_operations edge.actions t.start t.free row) ++
+    fit_events site fault system z edge.from (start_of system.variables (word t))
+    ++ (sums site (trace_operations edge.actions t.start t.free row) ++
     Test (decided (dec_runs system z edge (word t))) fault ∷ [])

@@ -9,7 +9,8 @@ use Rattle.flow_systems.specs.Equations.{Equations, Vector}
 use Rattle.flow_systems.specs.TraceTests.{trace_operations}
 use Rattle.theory_validity.specs.Words.{lin, end_form, start_of}
 use Rattle.flow_systems.specs.Constants.{linear_action}
-use Rattle.theory_validity.specs.Steps.{Pieces, word, Item, Kind, Plain, Jump, Ray, Step, edge_of, row_of, put, new_value, after_step, item_value}
+use Rattle.theory_validity.specs.Steps.{Pieces, word, Item, Kind, Plain, Jump, Ray, Step, edge_of, row_of, put, new_value, after_step}
+use Rattle.theory_validity.specs.Steps.{item_value}
 use Rattle.theory_validity.specs.Decide.{dec_and, dec_le_ℚ, dec_lt_ℚ, dec_leᴱ, dec_ltᴱ, dec_finite, dec_falls}
 use Rattle.theory_validity.specs.Faults.{Fault, TraceFault, LowFault, HighFault, RayFault, dec_named, bound_at}
 use Rattle.cert_checker.specs.Events.{Event, Test, sums, decided}
@@ -84,14 +85,16 @@ allowances items z = put (λ item. fin item.number) items (λ p r. allowance (z 
 unfoldable pub carry_events : Site → Fault → Equations → Vector → Edge → List ℤ → Pieces → List Event
 carry_events site fault system rates edge row d =
     fit_events site fault system rates edge.from (start_of system.variables (word d))
-    ++ (sums site (trace_operations (map linear_action edge.actions) d.start d.free row) ++ Test (decided (dec_falls system edge (word d))) fault ∷ [])
+    ++ (sums site (trace_operations (map linear_action edge.actions) d.start d.free row)
+    ++ Test (decided (dec_falls system edge (word d))) fault ∷ [])
 
 -- a ray's item: its rate is above 0; its direction is carried; and the unknown's row rises by the rate
 unfoldable pub going_events : Equations → Vector → List Item → ℕ → ℕ → Item → List Event
 going_events system z items s k item =
     Test (decided (dec_lt_ℚ zero_ℚ item.number)) (RayFault s k)
     ∷ (carry_events (at_item s k) (RayFault s k) system (allowances items z) (edge_of system item) (row_of system item) item.second
-    ++ Test (decided (dec_le_ℚ item.number (lin (end_form system.variables (edge_of system item).actions (row_of system item)) (word item.second))))
+    ++ Test (decided (dec_le_ℚ item.number (lin (end_form system.variables (edge_of system item).actions (row_of system item))
+    (word item.second))))
     (RayFault s k) ∷ [])
 
 -- one item by the kind of its step
@@ -103,12 +106,14 @@ second_events Ray system z all s k item = going_events system z all s k item
 -- the items from number k on
 unfoldable pub second_pass_events : Kind → Equations → Vector → List Item → ℕ → ℕ → List Item → List Event
 second_pass_events kind system z all s k [] = []
-second_pass_events kind system z all s k (item ∷ items) = second_events kind system z all s k item ++ second_pass_events kind system z all s (suc k) items
+second_pass_events kind system z all s k (item ∷ items) = second_events kind system z all s k item
+    ++ second_pass_events kind system z all s (suc k) items
 
 -- ---- steps
 -- one step: its first pass, and then its second
 unfoldable pub step_events : Equations → Vector → ℕ → Step → List Event
-step_events system z s step = first_pass_events step.kind system z s 0 [] step.items ++ second_pass_events step.kind system z step.items s 0 step.items
+step_events system z s step = first_pass_events step.kind system z s 0 [] step.items
+    ++ second_pass_events step.kind system z step.items s 0 step.items
 
 -- the steps from number s on, each at the vector to which those before lead
 unfoldable pub steps_events : Equations → Vector → ℕ → List Step → List Event

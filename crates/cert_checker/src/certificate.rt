@@ -22,8 +22,8 @@ use crate::size::has_size;
 use crate::steps::check_steps;
 use crate::uppers::check_uppers;
 use cert_types::Cert;
-use solve_composition::Paths;
 use flow_systems::System;
+use solve_composition::Paths;
 
 /// Checks a certificate against the system whose template is the certificate's rows, with the composed forms of its edges.
 /// The order of the tests is written in `docs/FORMATS.md`; the bounds of a certificate that passes are the least vector.

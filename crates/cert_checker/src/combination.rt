@@ -18,9 +18,9 @@ ghost use Rattle.cert_checker.specs.Combined.{negated_constants};
 ghost use Rattle.cert_checker.specs.EvidenceEvents.{total, products, row_column, column_operations, side_operations};
 ghost use Rattle.cert_checker.specs.Stands.{Stands};
 
-use solve_composition::Paths;
-use flow_systems::{Bounds, System, fraction};
 use base_fractions::{Ext, Frac, OrderedField, Wide};
+use flow_systems::{Bounds, System, fraction};
+use solve_composition::Paths;
 
 // The sum with the multiple of a number added to it.
 fn add_multiple(sum: Frac, multiplier: Frac, number: Frac) -> Result<Frac, Wide<Frac>>
@@ -78,7 +78,8 @@ fn guard_sum(
     requires edge { edge < length paths.now }
     requires guards { (forms : EdgeForms) → slice_get paths.now edge ≡ Some forms → length guards.now ≡ length forms.guards }
     ensures { (forms : EdgeForms) → slice_get paths.now edge ≡ Some forms →
-        let entries = dense_column column forms.guards in SumAnswers (total start guards.now entries) (products start guards.now entries) result }
+        let entries = dense_column column forms.guards in SumAnswers (total start guards.now entries) (products start guards.now entries)
+        result }
 {
     let mut sum = start;
     for g in 0..paths.guards(edge) {
@@ -144,7 +145,8 @@ fn guard_side(start: Frac, paths: &Paths, edge: u32, guards: &[Frac]) -> Result<
     requires edge { edge < length paths.now }
     requires guards { (forms : EdgeForms) → slice_get paths.now edge ≡ Some forms → length guards.now ≡ length forms.guards }
     ensures { (forms : EdgeForms) → slice_get paths.now edge ≡ Some forms →
-        let numbers = negated_constants forms.guards in SumAnswers (total start guards.now numbers) (products start guards.now numbers) result }
+        let numbers = negated_constants forms.guards in SumAnswers (total start guards.now numbers) (products start guards.now numbers)
+        result }
 {
     let mut sum = start;
     for g in 0..paths.guards(edge) {
@@ -170,7 +172,8 @@ pub fn side_sum(
     requires guards { (e : Edge) → slice_get system.now.flow.edges edge ≡ Some e →
         length guards.now ≡ length (guard_forms (length system.now.flow.names) e.actions) }
     ensures { (z : Vector) (e : Edge) → Stands (equations_of system.now) bounds.now z → slice_get system.now.flow.edges edge ≡ Some e →
-        SumAnswers (side (equations_of system.now) z e rows.now guards.now) (side_operations (equations_of system.now) z e rows.now guards.now) result }
+        SumAnswers (side (equations_of system.now) z e rows.now guards.now)
+        (side_operations (equations_of system.now) z e rows.now guards.now) result }
 {
     let from = system.flow.edges.as_slice()[edge as usize].from;
     let sum = row_side(system, bounds, from, rows)?;

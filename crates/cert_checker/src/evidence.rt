@@ -17,10 +17,10 @@ ghost use Rattle.cert_checker.specs.Stands.{Stands};
 
 use crate::combination::{coefficient, column_sum, side_sum};
 use crate::multipliers::are_multipliers;
-use cert_types::Upper;
-use solve_composition::Paths;
-use flow_systems::{Bounds, System};
 use base_fractions::{Ext, Frac, OrderedField, Wide};
+use cert_types::Upper;
+use flow_systems::{Bounds, System};
+use solve_composition::Paths;
 
 // Whether the combination has the goal's entry at a column.
 fn column_passes(
@@ -66,7 +66,8 @@ fn columns_pass(
     requires guards { (e : Edge) → slice_get system.now.flow.edges edge ≡ Some e →
         length guards.now ≡ length (guard_forms (length system.now.flow.names) e.actions) }
     ensures { (e : Edge) → slice_get system.now.flow.edges edge ≡ Some e →
-        Answers (λ u. Unit {0}) (λ site fault. columns_events site fault (equations_of system.now) e rows.now guards.now goal.now (columns_of (equations_of
+        Answers (λ u. Unit {0}) (λ site fault. columns_events site fault (equations_of system.now) e rows.now guards.now goal.now
+        (columns_of (equations_of
         system.now) e)) result }
 {
     let width = system.flow.names.as_slice().len() + paths.frees(edge) as usize;
@@ -122,7 +123,8 @@ fn bound_passes(
     requires edge { edge < length system.now.flow.edges }
     ensures { (z : Vector) (e : Edge) → Stands (equations_of system.now) bounds.now z → slice_get system.now.flow.edges edge ≡ Some e →
         let p = unknown / length system.now.template in let r = unknown % length system.now.template in
-        Answers (λ u. Unit {0}) (λ site fault. evidence_events site fault (equations_of system.now) z e (get_or system.now.template r []) (z p r)
+        Answers (λ u. Unit {0}) (λ site fault. evidence_events site fault (equations_of system.now) z e (get_or system.now.template r [])
+        (z p r)
         (Evidence.Bound rows.now guards.now)) result }
 {
     let limit = match bounds.at(unknown) {
@@ -156,7 +158,8 @@ fn empty_passes(
     requires edge { edge < length system.now.flow.edges }
     ensures { (z : Vector) (e : Edge) (row : List ℤ) (number : Extended) → Stands (equations_of system.now) bounds.now z →
         slice_get system.now.flow.edges edge ≡ Some e →
-        Answers (λ u. Unit {0}) (λ site fault. evidence_events site fault (equations_of system.now) z e row number (Evidence.Empty rows.now guards.now))
+        Answers (λ u. Unit {0}) (λ site fault. evidence_events site fault (equations_of system.now) z e row number
+        (Evidence.Empty rows.now guards.now))
         result }
 {
     let Some(value) = combined_side(system, paths, bounds, edge, rows, guards, &[])? else {
@@ -208,7 +211,8 @@ pub fn passes(
     requires edge { edge < length system.now.flow.edges }
     ensures { (z : Vector) (e : Edge) → Stands (equations_of system.now) bounds.now z → slice_get system.now.flow.edges edge ≡ Some e →
         let p = unknown / length system.now.template in let r = unknown % length system.now.template in
-        Answers (λ u. Unit {0}) (λ site fault. evidence_events site fault (equations_of system.now) z e (get_or system.now.template r []) (z p r)
+        Answers (λ u. Unit {0}) (λ site fault. evidence_events site fault (equations_of system.now) z e (get_or system.now.template r [])
+        (z p r)
         (evidence_of upper.now)) result }
 {
     match upper {

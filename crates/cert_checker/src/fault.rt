@@ -9,8 +9,8 @@ ghost use Rattle.theory_validity.specs.Faults.{Fault};
 ghost use Rattle.cert_checker.specs.StepEvents.{at_item};
 ghost use Rattle.cert_checker.specs.Events.{Answers, Event, IsRun, Test, decided, fault_answer, wide_answer};
 
-use flow_systems::{Site, Spot};
 use base_fractions::{Frac, Wide};
+use flow_systems::{Site, Spot};
 
 /// The first test of a certificate that fails, or the first sum that is too wide. Steps, items, unknowns and edges are
 /// numbered from 0.
@@ -85,7 +85,8 @@ pub fn ensure_reached(
     site: Site,
     fault: CheckFault,
 ) -> Result<(), CheckFault>
-    ensures { (value : ℚ) (f : Fault) (events : Site → Fault → List Event) → Answers (λ v. v ≡ value) events followed → fault ≡ fault_answer f →
+    ensures { (value : ℚ) (f : Fault) (events : Site → Fault → List Event) → Answers (λ v. v ≡ value) events followed
+        → fault ≡ fault_answer f →
         IsRun (λ u. Unit {0}) (events site f ++ Test (decided (dec_le_ℚ least value)) f ∷ []) result }
 {
     match followed {

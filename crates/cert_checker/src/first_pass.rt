@@ -19,9 +19,9 @@ use crate::fault::{CheckFault, ensure, item_site, value_or};
 use crate::following::{Way, follow_item};
 use crate::item::{count, low_at, number_at, unknown_at};
 use crate::names::is_named;
+use base_fractions::{Ext, Frac, Wide};
 use cert_types::Step;
 use flow_systems::{Bounds, System};
-use base_fractions::{Ext, Frac, Wide};
 
 // Whether a bound is below a number.
 pub fn is_below(bound: Ext, number: Frac) -> bool
@@ -92,10 +92,12 @@ fn test_low(
 ) -> Result<(), CheckFault>
     requires item { k < item_count step.now }
     requires placed { Placed (equations_of system.now) (item_at (length system.now.template) step.now k) }
-    requires sized { Sized (equations_of system.now) (item_at (length system.now.template) step.now k) (item_at (length system.now.template) step.now k).low }
+    requires sized { Sized (equations_of system.now) (item_at (length system.now.template) step.now k)
+        (item_at (length system.now.template) step.now k).low }
     requires bounds { length bounds.now ≡ length system.now.flow.points * length system.now.template }
     ensures { (z : Vector) → Stands (equations_of system.now) bounds.now z → let rows = length system.now.template in
-        IsRun (λ u. Unit {0}) (low_events (step_of rows step.now).kind (equations_of system.now) z number k (item_at rows step.now k)) result }
+        IsRun (λ u. Unit {0}) (low_events (step_of rows step.now).kind (equations_of system.now) z number k (item_at rows step.now k))
+        result }
 {
     let place = k as usize;
     let unknown = unknown_at(step, place);

@@ -14,9 +14,9 @@ ghost use Rattle.cert_checker.specs.Runs.{FitAnswers};
 ghost use Rattle.cert_checker.specs.Stands.{Stands};
 
 use crate::item::{edge_at, unknown_at};
+use base_fractions::{Frac, Wide};
 use cert_types::Step;
 use flow_systems::{Bounds, System, Trace, direction_value, fits, trace_value};
-use base_fractions::{Frac, Wide};
 
 // Whether a state fits a vector at an edge's source.
 fn starts(system: &System, bounds: &Bounds, edge: u32, state: &[Frac]) -> Result<bool, Wide<Frac>>
@@ -52,7 +52,8 @@ fn follow(
     requires row { row < length system.now.template }
     requires start { length trace.now.start ≡ length system.now.flow.names }
     requires free { (e : Edge) → slice_get system.now.flow.edges edge ≡ Some e → length trace.now.free ≡ free_count e.actions }
-    ensures { (z : Vector) (e : Edge) (cs : List ℤ) → Stands (equations_of system.now) bounds.now z → slice_get system.now.flow.edges edge ≡ Some e →
+    ensures { (z : Vector) (e : Edge) (cs : List ℤ) → Stands (equations_of system.now) bounds.now z
+        → slice_get system.now.flow.edges edge ≡ Some e →
         slice_get system.now.template row ≡ Some cs → let t = pieces_of trace.now in
         Answers (λ v. v ≡ shown way (equations_of system.now) e cs (word t))
         (λ site fault. shown_events way site fault (equations_of system.now) z e cs t) result }

@@ -4,9 +4,9 @@ ghost use Rattle.std.specs.Prelude.{◌≡◌, ◌<◌, ◌/◌, ◌%◌, ℕ, B
 ghost use Rattle.cert_types.specs.Certificates.{pieces_of};
 ghost use Rattle.cert_checker.specs.Items.{item_count, has_second, item_at};
 
+use base_fractions::Frac;
 use cert_types::Step;
 use flow_systems::Trace;
-use base_fractions::Frac;
 
 // How many items a step has.
 pub fn count(step: &Step) -> usize

@@ -12,9 +12,9 @@ ghost use Rattle.theory_validity.specs.Words.{guard_forms};
 ghost use Rattle.solve_composition.specs.Composed.{AreComposed};
 ghost use Rattle.cert_checker.specs.Stands.{Stands};
 
-use solve_composition::Paths;
-use flow_systems::{Bounds, System};
 use base_fractions::{Ext, Frac, OrderedField};
+use flow_systems::{Bounds, System};
+use solve_composition::Paths;
 
 // Whether no multiplier is negative.
 fn none_negative(multipliers: &[Frac]) -> bool
@@ -68,7 +68,8 @@ pub fn are_multipliers(
     requires paths { AreComposed (equations_of system.now) paths.now }
     requires bounds { length bounds.now ≡ length system.now.flow.points * length system.now.template }
     requires edge { edge < length system.now.flow.edges }
-    ensures exactly { (z : Vector) (e : Edge) → Stands (equations_of system.now) bounds.now z → slice_get system.now.flow.edges edge ≡ Some e →
+    ensures exactly { (z : Vector) (e : Edge) → Stands (equations_of system.now) bounds.now z
+        → slice_get system.now.flow.edges edge ≡ Some e →
         IsTrue result ↔ Multipliers (equations_of system.now) z e rows.now guards.now }
     ensures rows { IsTrue result → length rows.now ≡ length system.now.template }
     ensures guards { IsTrue result → (e : Edge) → slice_get system.now.flow.edges edge ≡ Some e →

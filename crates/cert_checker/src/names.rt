@@ -11,8 +11,8 @@ ghost use Rattle.cert_checker.specs.Items.{item_count, item_at, earlier_items};
 
 use crate::item::{edge_at, low_at, second_at, unknown_at};
 use cert_types::Step;
-use flow_systems::{System, Trace};
 use flow_edges::Action;
+use flow_systems::{System, Trace};
 
 // How many free assignments there are.
 fn frees(actions: &[Action]) -> usize
@@ -26,7 +26,8 @@ fn frees(actions: &[Action]) -> usize
 
 // Whether the unknown is there and not at the entry, and the edge is there and ends at its point.
 pub fn is_placed(system: &System, unknown: u32, edge: u32) -> bool
-    ensures { (item : Item) → item.point ≡ unknown / length system.now.template → item.row ≡ unknown % length system.now.template → item.edge ≡ edge →
+    ensures { (item : Item) → item.point ≡ unknown / length system.now.template → item.row ≡ unknown % length system.now.template
+        → item.edge ≡ edge →
         IsTrue result ↔ Placed (equations_of system.now) item }
 {
     let rows = system.template.as_slice().len() as u32;
@@ -86,7 +87,8 @@ fn is_second_sized(system: &System, step: &Step, k: usize, edge: u32) -> bool
 pub fn is_named(system: &System, step: &Step, k: usize) -> bool
     requires { k < item_count step.now }
     ensures { let rows = length system.now.template in
-        IsTrue result ↔ Named (step_of rows step.now).kind (equations_of system.now) (earlier_items (step_of rows step.now).items k) (item_at rows step.now k) }
+        IsTrue result ↔ Named (step_of rows step.now).kind (equations_of system.now) (earlier_items (step_of rows step.now).items k)
+        (item_at rows step.now k) }
 {
     let edge = edge_at(step, k);
     if !is_placed(system, unknown_at(step, k), edge) {

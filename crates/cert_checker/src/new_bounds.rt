@@ -11,9 +11,9 @@ ghost use Rattle.cert_checker.specs.StepEvents.{allowance, allowances};
 ghost use Rattle.cert_checker.specs.Stands.{Stands};
 
 use crate::item::{count, number_at, unknown_at};
+use base_fractions::{Ext, Frac, OrderedField};
 use cert_types::Step;
 use flow_systems::Bounds;
-use base_fractions::{Ext, Frac, OrderedField};
 
 // The bound that an item's unknown takes.
 fn new_bound(step: &Step, k: usize) -> Ext

@@ -4,8 +4,8 @@ ghost use Rattle.std.specs.Prelude.{IfOk};
 ghost use Rattle.flow_systems.specs.View.{equations_of};
 ghost use Rattle.cert_checker.specs.Rooms.{HasRoom};
 
-use std::alloc::{AllocError, Global};
 use flow_systems::{Bounds, System};
+use std::alloc::{AllocError, Global};
 
 /// Room for three vectors of a system: the one that a step finds, the one that it leads to, and how fast each row may rise
 /// along a ray. A check leaves anything in them.

@@ -16,9 +16,9 @@ ghost use Rattle.cert_checker.specs.Usable.{IsUsable};
 use crate::fault::{CheckFault, ensure, ensure_reached, item_site};
 use crate::following::{Way, follow_item};
 use crate::item::{count, number_at, second_at, unknown_at};
+use base_fractions::{Ext, Frac, OrderedField};
 use cert_types::Step;
 use flow_systems::{Bounds, System};
-use base_fractions::{Ext, Frac, OrderedField};
 
 // Whether a bound is at most a number.
 fn is_at_most(bound: Ext, number: Frac) -> bool
@@ -46,7 +46,8 @@ fn test_jump_item(
     requires base { length base.now ≡ length system.now.flow.points * length system.now.template }
     requires next { length next.now ≡ length system.now.flow.points * length system.now.template }
     ensures { (z p : Vector) → Stands (equations_of system.now) base.now z → Stands (equations_of system.now) next.now p →
-        IsRun (λ u. Unit {0}) (landing_events (equations_of system.now) z p number k (item_at (length system.now.template) step.now k)) result }
+        IsRun (λ u. Unit {0}) (landing_events (equations_of system.now) z p number k (item_at (length system.now.template) step.now k))
+        result }
 {
     let place = k as usize;
     let to = number_at(step, place);
@@ -85,10 +86,12 @@ pub fn test_jump(
 ) -> Result<(), CheckFault>
     requires few { item_count step.now < 2 ^ 32 }
     requires jump { (step_of (length system.now.template) step.now).kind ≡ Kind.Jump }
-    requires usable { (k : ℕ) → k < item_count step.now → IsUsable Kind.Jump (equations_of system.now) (item_at (length system.now.template) step.now k) }
+    requires usable { (k : ℕ) → k < item_count step.now → IsUsable Kind.Jump (equations_of system.now)
+        (item_at (length system.now.template) step.now k) }
     requires base { length base.now ≡ length system.now.flow.points * length system.now.template }
     requires next { length next.now ≡ length system.now.flow.points * length system.now.template }
-    ensures { (z : Vector) → Stands (equations_of system.now) base.now z → let items = (step_of (length system.now.template) step.now).items in
+    ensures { (z : Vector) → Stands (equations_of system.now) base.now z
+        → let items = (step_of (length system.now.template) step.now).items in
         Stands (equations_of system.now) next.now (put (new_value Kind.Jump) items z) →
         IsRun (λ u. Unit {0}) (second_pass_events Kind.Jump (equations_of system.now) z items number 0 items) result }
 {
@@ -112,7 +115,8 @@ fn test_ray_item(
     requires rates { length rates.now ≡ length system.now.flow.points * length system.now.template }
     ensures { (z : Vector) → let items = (step_of (length system.now.template) step.now).items in
         Stands (equations_of system.now) rates.now (allowances items z) →
-        IsRun (λ u. Unit {0}) (going_events (equations_of system.now) z items number k (item_at (length system.now.template) step.now k)) result }
+        IsRun (λ u. Unit {0}) (going_events (equations_of system.now) z items number k (item_at (length system.now.template) step.now k))
+        result }
 {
     let place = k as usize;
     let rate = number_at(step, place);
@@ -145,7 +149,8 @@ fn test_ray_item(
 pub fn test_ray(system: &System, step: &Step, number: u32, rates: &Bounds) -> Result<(), CheckFault>
     requires few { item_count step.now < 2 ^ 32 }
     requires ray { (step_of (length system.now.template) step.now).kind ≡ Kind.Ray }
-    requires usable { (k : ℕ) → k < item_count step.now → IsUsable Kind.Ray (equations_of system.now) (item_at (length system.now.template) step.now k) }
+    requires usable { (k : ℕ) → k < item_count step.now → IsUsable Kind.Ray (equations_of system.now)
+        (item_at (length system.now.template) step.now k) }
     requires rates { length rates.now ≡ length system.now.flow.points * length system.now.template }
     ensures { (z : Vector) → let items = (step_of (length system.now.template) step.now).items in
         Stands (equations_of system.now) rates.now (allowances items z) →

@@ -7,10 +7,10 @@ ghost use Rattle.flow_systems.specs.View.{equations_of};
 ghost use Rattle.theory_validity.specs.Certificates.{into_needs, needs_at, needs, bounds_vector};
 ghost use Rattle.cert_checker.specs.Stands.{Stands};
 
-use cert_types::Cert;
-use flow_systems::{Bounds, System};
-use flow_edges::Edge;
 use base_fractions::Ext;
+use cert_types::Cert;
+use flow_edges::Edge;
+use flow_systems::{Bounds, System};
 
 // How many edges end at the point.
 fn count_into(edges: &[Edge], point: u32) -> usize

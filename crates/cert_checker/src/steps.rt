@@ -20,9 +20,9 @@ use crate::first_pass::first_pass;
 use crate::new_bounds::{set_new_bounds, set_rates};
 use crate::scratch::Scratch;
 use crate::second_pass::{test_jump, test_ray};
+use base_fractions::Ext;
 use cert_types::Step;
 use flow_systems::{Bounds, System};
-use base_fractions::Ext;
 
 // The tests of a step's items after all of them have passed at the vector that the step finds.
 fn second_pass(
@@ -34,13 +34,15 @@ fn second_pass(
     rates: &mut Bounds,
 ) -> Result<(), CheckFault>
     requires few { item_count step.now < 2 ^ 32 }
-    requires usable { (k : ℕ) → k < item_count step.now → IsUsable (step_of (length system.now.template) step.now).kind (equations_of system.now)
+    requires usable { (k : ℕ) → k < item_count step.now → IsUsable (step_of (length system.now.template) step.now).kind
+        (equations_of system.now)
         (item_at (length system.now.template) step.now k) }
     requires base { length base.now ≡ length system.now.flow.points * length system.now.template }
     requires next { length next.now ≡ length system.now.flow.points * length system.now.template }
     requires rates { length rates.old ≡ length system.now.flow.points * length system.now.template }
     ensures size { length rates.new ≡ length rates.old }
-    ensures answer { (z : Vector) → Stands (equations_of system.now) base.now z → let theirs = step_of (length system.now.template) step.now in
+    ensures answer { (z : Vector) → Stands (equations_of system.now) base.now z
+        → let theirs = step_of (length system.now.template) step.now in
         Stands (equations_of system.now) next.now (put (new_value theirs.kind) theirs.items z) →
         IsRun (λ u. Unit {0}) (second_pass_events theirs.kind (equations_of system.now) z theirs.items number 0 theirs.items) result }
 {
@@ -72,7 +74,8 @@ fn take(
     ensures rates { length rates.new ≡ length rates.old }
     ensures taken { (z : Vector) → Stands (equations_of system.now) base.old z → Stands (equations_of system.now) next.old z →
         let theirs = step_of (length system.now.template) step.now in
-        MatchResult result (λ u. Stands (equations_of system.now) base.new (after_step theirs z) × Stands (equations_of system.now) next.new (after_step theirs z) ×
+        MatchResult result (λ u. Stands (equations_of system.now) base.new (after_step theirs z)
+        × Stands (equations_of system.now) next.new (after_step theirs z) ×
         (first_stop (step_events (equations_of system.now) z number theirs) ≡ None))
         (λ fault. first_stop (step_events (equations_of system.now) z number theirs) ≡ Some fault) }
 {

@@ -13,10 +13,10 @@ ghost use Rattle.cert_checker.specs.Stands.{Stands};
 
 use crate::evidence::passes;
 use crate::fault::{CheckFault, wide_at};
-use cert_types::Upper;
-use solve_composition::Paths;
-use flow_systems::{Bounds, Site, System};
 use base_fractions::Ext;
+use cert_types::Upper;
+use flow_systems::{Bounds, Site, System};
+use solve_composition::Paths;
 
 // The tests of the evidence at this place for an unknown and an edge into its point; an absent one fails.
 fn check_upper(
@@ -33,9 +33,11 @@ fn check_upper(
     requires unknown { unknown < length bounds.now }
     requires edge { edge < length system.now.flow.edges }
     ensures within { IfOk result (λ u. place < length uppers.now) }
-    ensures answer { (z : Vector) (e : Edge) → Stands (equations_of system.now) bounds.now z → slice_get system.now.flow.edges edge ≡ Some e →
+    ensures answer { (z : Vector) (e : Edge) → Stands (equations_of system.now) bounds.now z → slice_get system.now.flow.edges edge ≡ Some e
+        →
         e.to ≡ unknown / length system.now.template →
-        IsRun (λ u. Unit {0}) (uppers_events (equations_of system.now) z (record { edge = e; number = edge; row = unknown % length system.now.template } ∷
+        IsRun (λ u. Unit {0}) (uppers_events (equations_of system.now) z
+        (record { edge = e; number = edge; row = unknown % length system.now.template } ∷
         []) (drop place (map evidence_of uppers.now))) result }
 {
     if place >= uppers.len() {
@@ -65,7 +67,8 @@ fn check_unknown(
     ensures answer { (z : Vector) → Stands (equations_of system.now) bounds.now z →
         let p = unknown / length system.now.template in let r = unknown % length system.now.template in
         let needed = needs_at (equations_of system.now) p r (z p r) in
-        IsRun (λ next. next ≡ place + length needed) (uppers_events (equations_of system.now) z needed (drop place (map evidence_of uppers.now))) result }
+        IsRun (λ next. next ≡ place + length needed) (uppers_events (equations_of system.now) z needed
+        (drop place (map evidence_of uppers.now))) result }
 {
     if let Ext::PosInf = bounds.at(unknown) {
         return Ok(place);
@@ -91,7 +94,8 @@ pub fn check_uppers(
     requires paths { AreComposed (equations_of system.now) paths.now }
     requires bounds { length bounds.now ≡ length system.now.flow.points * length system.now.template }
     ensures { (z : Vector) → Stands (equations_of system.now) bounds.now z →
-        IsRun (λ u. Unit {0}) (uppers_events (equations_of system.now) z (needs (equations_of system.now) z) (map evidence_of uppers.now)) result }
+        IsRun (λ u. Unit {0}) (uppers_events (equations_of system.now) z (needs (equations_of system.now) z) (map evidence_of uppers.now))
+        result }
 {
     let rows = system.template.as_slice().len() as u32;
     let mut place = 0;

@@ -90,7 +90,8 @@ bounds_in rows d = list_from Bounds (is_line rows) line_in (get (codes "bounds")
 
 -- the traces, if they stand in a list of their own
 abbrev pub traces_in : Data → Result (Option (List Trace)) FormFault
-traces_in d = if has_traces d then and_then (list_from Traces is_trace trace_in (get (codes "traces") d)) (λ traces. Ok (Some traces)) else Ok None
+traces_in d = if has_traces d then and_then (list_from Traces is_trace trace_in (get (codes "traces") d)) (λ traces. Ok (Some traces))
+    else Ok None
 
 -- the steps
 abbrev pub steps_in : Setting → Data → Result (List Step) FormFault
@@ -136,7 +137,8 @@ listed_traces c = with_traces [] (named_traces c.steps)
 -- the value of a certificate
 abbrev pub cert_data : Cert → Data
 cert_data c =
-    cert_object (bounds_data (length c.rows) c.bounds) (list_data row_data c.rows) (list_data (step_data (length c.rows) (listed_traces c)) c.steps)
+    cert_object (bounds_data (length c.rows) c.bounds) (list_data row_data c.rows)
+    (list_data (step_data (length c.rows) (listed_traces c)) c.steps)
     (list_data trace_data (listed_traces c)) (list_data upper_data c.uppers)
 
 -- a certificate of nothing but evidence

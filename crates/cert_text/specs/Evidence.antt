@@ -13,7 +13,8 @@ is_unreached d = (member_count d == 2) && is_kind (codes "unreached") d && passe
 
 -- exactly the keys `guards`, `kind`, which is this text, and `rows`
 abbrev pub is_weighted : List ℕ → Data → Bool
-is_weighted kind d = (member_count d == 3) && is_kind kind d && passes_at are_texts (codes "guards") d && passes_at are_texts (codes "rows") d
+is_weighted kind d = (member_count d == 3) && is_kind kind d && passes_at are_texts (codes "guards") d
+    && passes_at are_texts (codes "rows") d
 
 -- evidence of one of the three kinds
 abbrev pub is_upper : Data → Bool
@@ -31,7 +32,8 @@ upper_in d = if is_kind (codes "unreached") d then option_map (λ row. Unreached
 
 -- the value with these multipliers and this kind
 abbrev pub weights_object : Data → List ℕ → Data → Data
-weights_object guards kind rows = object (member (codes "guards") guards (member (codes "kind") (string kind) (member (codes "rows") rows no_members)))
+weights_object guards kind rows = object (member (codes "guards") guards
+    (member (codes "kind") (string kind) (member (codes "rows") rows no_members)))
 
 -- the same of multipliers as numbers
 abbrev pub weights_data : List ℕ → List ℚ → List ℚ → Data

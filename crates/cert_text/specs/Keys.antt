@@ -1,5 +1,6 @@
 -- Members of objects, and indexes.
-use Rattle.std.specs.Prelude.{◌+◌, ◌*◌, ◌^◌, ◌&&◌, ◌==◌, ℕ, Bool, false, List, Option, Some, None, nat_lt, is_some, if◌then◌else◌, option_and_then, codes}
+use Rattle.std.specs.Prelude.{◌+◌, ◌*◌, ◌^◌, ◌&&◌, ◌==◌, ℕ, Bool, false, List, Option, Some, None, nat_lt, is_some, if◌then◌else◌}
+use Rattle.std.specs.Prelude.{option_and_then, codes}
 use Rattle.std.specs.Str.{bytes_eq}
 use Rattle.serde_json.specs.Data.{Data, Items, Members, number, unsigned}
 use Rattle.serde_json.specs.Events.{items_len, members_len}
@@ -71,7 +72,8 @@ unknown_from rows point row = option_and_then (λ p. option_and_then (numbered r
 
 -- an unknown is a list of two indexes, that of its point and that of its row
 abbrev pub unknown_in : ℕ → Data → Option ℕ
-unknown_in rows d = if item_count d == 2 then unknown_from rows (option_and_then index_in (at 0 d)) (option_and_then index_in (at 1 d)) else None
+unknown_in rows d = if item_count d == 2 then unknown_from rows (option_and_then index_in (at 0 d)) (option_and_then index_in (at 1 d))
+    else None
 
 -- it is an unknown
 abbrev pub is_unknown : ℕ → Data → Bool

@@ -22,7 +22,8 @@ has_items kind test d = is_kind kind d && passes_at (is_filled test) (codes "ite
 -- exactly the keys `items` and `kind`
 abbrev pub is_step : Setting → Data → Bool
 is_step s d = (member_count d == 2)
-    && (has_items (codes "plain") (is_plain_item s) d || has_items (codes "jump") (is_jump_item s) d || has_items (codes "ray") (is_ray_item s) d)
+    && (has_items (codes "plain") (is_plain_item s) d || has_items (codes "jump") (is_jump_item s) d
+    || has_items (codes "ray") (is_ray_item s) d)
 
 -- the items that the member `items` is read as
 abbrev pub items_at : {A : Type 0} → (Data → Option A) → Data → Option (List A)

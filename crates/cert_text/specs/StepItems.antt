@@ -21,7 +21,8 @@ unknown_data rows u = array (item (index_data (u / rows)) (item (index_data (u %
 
 -- `edge`, `low` and `unknown`, which each kind of item has
 abbrev pub has_start : Setting → Data → Bool
-has_start s d = passes_at is_index (codes "edge") d && passes_at (is_trace_by s.traces) (codes "low") d && passes_at (is_unknown s.rows) (codes "unknown") d
+has_start s d = passes_at is_index (codes "edge") d && passes_at (is_trace_by s.traces) (codes "low") d
+    && passes_at (is_unknown s.rows) (codes "unknown") d
 
 -- `edge`, `low`, `to` and `unknown`
 abbrev pub is_plain_item : Setting → Data → Bool
@@ -29,7 +30,8 @@ is_plain_item s d = (member_count d == 4) && has_start s d && passes_at is_text 
 
 -- `edge`, `low`, `unknown`, and a second trace and a number at these keys
 abbrev pub has_two_traces : List ℕ → List ℕ → Setting → Data → Bool
-has_two_traces second number s d = (member_count d == 5) && has_start s d && passes_at (is_trace_by s.traces) second d && passes_at is_text number d
+has_two_traces second number s d = (member_count d == 5) && has_start s d && passes_at (is_trace_by s.traces) second d
+    && passes_at is_text number d
 
 -- `edge`, `high`, `low`, `to` and `unknown`
 abbrev pub is_jump_item : Setting → Data → Bool
@@ -64,7 +66,8 @@ two_traces_in second number s d =
       second = other;
       number = amount;
     })
-    (unknown_at s.rows (codes "unknown") d)) (option_and_then frac_in (get number d))) (trace_at s.traces second d)) (trace_at s.traces (codes "low") d))
+    (unknown_at s.rows (codes "unknown") d)) (option_and_then frac_in (get number d))) (trace_at s.traces second d))
+    (trace_at s.traces (codes "low") d))
     (index_at (codes "edge") d)
 
 -- the item of a jump that a value is
@@ -95,16 +98,19 @@ ray_item_in s d =
 
 -- the value of an item of a plain step
 abbrev pub plain_item_data : ℕ → List Trace → Item → Data
-plain_item_data rows traces i = object (member (codes "edge") (index_data i.edge) (member (codes "low") (name_data traces i.low) (member (codes "to")
+plain_item_data rows traces i = object (member (codes "edge") (index_data i.edge)
+    (member (codes "low") (name_data traces i.low) (member (codes "to")
     (frac_data i.to) (member (codes "unknown") (unknown_data rows i.unknown) no_members))))
 
 -- the value of an item of a jump
 abbrev pub jump_item_data : ℕ → List Trace → JumpItem → Data
-jump_item_data rows traces i = object (member (codes "edge") (index_data i.edge) (member (codes "high") (name_data traces i.high) (member (codes "low")
+jump_item_data rows traces i = object (member (codes "edge") (index_data i.edge)
+    (member (codes "high") (name_data traces i.high) (member (codes "low")
     (name_data traces i.low) (member (codes "to") (frac_data i.to) (member (codes "unknown") (unknown_data rows i.unknown) no_members)))))
 
 -- the value of an item of a ray
 abbrev pub ray_item_data : ℕ → List Trace → RayItem → Data
 ray_item_data rows traces i = object (member (codes "direction") (name_data traces i.direction) (member (codes "edge") (index_data i.edge)
-    (member (codes "low") (name_data traces i.low) (member (codes "rate") (frac_data i.rate) (member (codes "unknown") (unknown_data rows i.unknown)
+    (member (codes "low") (name_data traces i.low) (member (codes "rate") (frac_data i.rate)
+    (member (codes "unknown") (unknown_data rows i.unknown)
     no_members)))))

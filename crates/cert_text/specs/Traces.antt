@@ -31,7 +31,8 @@ is_trace d = (member_count d == 2) && passes_at are_texts (codes "free") d && pa
 
 -- the trace that a value is
 abbrev pub trace_in : Data → Option Trace
-trace_in d = option_and_then (λ free. option_map (λ start. record { start = start; free = free }) (fracs_at (codes "start") d)) (fracs_at (codes "free") d)
+trace_in d = option_and_then (λ free. option_map (λ start. record { start = start; free = free }) (fracs_at (codes "start") d))
+    (fracs_at (codes "free") d)
 
 -- the value of a trace
 abbrev pub trace_data : Trace → Data

@@ -11,11 +11,11 @@ use crate::entry::{Entry, is_list, read_list, write_list};
 use crate::keys::item_count;
 use crate::numbering::Numbering;
 use crate::setting::Setting;
+use base_fractions::Ext;
+use flow_systems::Bounds;
 use serde_json::Value;
 use std::alloc::{AllocError, Global};
 use std::marker::Model;
-use flow_systems::Bounds;
-use base_fractions::Ext;
 
 /// The bounds of one point, one for each row.
 #[derive(Drop)]

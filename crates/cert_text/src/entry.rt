@@ -110,8 +110,10 @@ pub(crate) fn write_list<T: Entry>(
 ) -> Result<Value, AllocError>
     requires { IsTrue (list_all (T.writable rows names.now) list.now) }
     ensures value { IfOk result (λ v. view v ≡ list_data (T.element_data rows names.now) list.now) }
-    ensures shape { IfOk result (λ _. is_list (T.shaped (listing rows names.now)) (list_data (T.element_data rows names.now) list.now) ≡ true) }
-    ensures back { IfOk result (λ _. list_in (T.element_in (listing rows names.now)) (list_data (T.element_data rows names.now) list.now) ≡ Some list.now) }
+    ensures shape { IfOk result (λ _. is_list (T.shaped (listing rows names.now)) (list_data (T.element_data rows names.now) list.now)
+        ≡ true) }
+    ensures back { IfOk result (λ _. list_in (T.element_in (listing rows names.now)) (list_data (T.element_data rows names.now) list.now)
+        ≡ Some list.now) }
 {
     let mut values = Vec::new(alloc);
     for element in list {

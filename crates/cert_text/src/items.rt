@@ -18,11 +18,11 @@ use crate::numbering::Numbering;
 use crate::numbers::{is_text, number_value, read_number};
 use crate::setting::Setting;
 use crate::trace::{is_trace_at, named_at, trace_at, trace_values};
-use serde_json::{Value, json};
-use std::alloc::{AllocError, Global};
+use base_fractions::Frac;
 use cert_types::{Item, JumpItem, RayItem};
 use flow_systems::Trace;
-use base_fractions::Frac;
+use serde_json::{Value, json};
+use std::alloc::{AllocError, Global};
 
 // Whether the member of this key is there and a text.
 fn is_text_at(value: &Value, key: &str) -> bool
@@ -115,7 +115,8 @@ fn plain_item_object(
     to: Value,
     unknown: Value,
 ) -> Result<Value, AllocError>
-    ensures { IfOk result (λ v. view v ≡ object (member (codes "edge") (index_data edge) (member (codes "low") (index_data low) (member (codes "to") (view to)
+    ensures { IfOk result (λ v. view v ≡ object (member (codes "edge") (index_data edge)
+        (member (codes "low") (index_data low) (member (codes "to") (view to)
         (member (codes "unknown") (view unknown) no_members))))) }
 {
     json!(in alloc; {"edge": edge, "low": low, "to": to, "unknown": unknown})
@@ -130,7 +131,8 @@ fn jump_item_object(
     to: Value,
     unknown: Value,
 ) -> Result<Value, AllocError>
-    ensures { IfOk result (λ v. view v ≡ object (member (codes "edge") (index_data edge) (member (codes "high") (index_data high) (member (codes "low")
+    ensures { IfOk result (λ v. view v ≡ object (member (codes "edge") (index_data edge)
+        (member (codes "high") (index_data high) (member (codes "low")
         (index_data low) (member (codes "to") (view to) (member (codes "unknown") (view unknown) no_members)))))) }
 {
     json!(in alloc; {"edge": edge, "high": high, "low": low, "to": to, "unknown": unknown})
@@ -146,7 +148,8 @@ fn ray_item_object(
     unknown: Value,
 ) -> Result<Value, AllocError>
     ensures { IfOk result (λ v. view v ≡ object (member (codes "direction") (index_data direction) (member (codes "edge") (index_data edge)
-        (member (codes "low") (index_data low) (member (codes "rate") (view rate) (member (codes "unknown") (view unknown) no_members)))))) }
+        (member (codes "low") (index_data low) (member (codes "rate") (view rate)
+        (member (codes "unknown") (view unknown) no_members)))))) }
 {
     json!(in alloc; {"direction": direction, "edge": edge, "low": low, "rate": rate, "unknown": unknown})
 }

@@ -3,7 +3,8 @@
 ghost use Rattle.std.specs.Prelude.{◌≡◌, ◌<◌, IfOk, Some, codes, option_and_then};
 ghost use Rattle.serde_json.specs.Find.{at};
 ghost use Rattle.serde_json.specs.View.{view};
-ghost use Rattle.cert_text.specs.Keys.{index_at, index_in, is_index, is_kind, is_unknown, item_count, member_count, numbered, passes_at, unknown_at, unknown_in};
+ghost use Rattle.cert_text.specs.Keys.{index_at, index_in, is_index, is_kind, is_unknown, item_count, member_count, numbered, passes_at};
+ghost use Rattle.cert_text.specs.Keys.{unknown_at, unknown_in};
 ghost use Rattle.cert_text.specs.StepItems.{unknown_data};
 
 use serde_json::{Value, json};

@@ -7,8 +7,8 @@ ghost use Rattle.cert_text.specs.FormLaws.{BoundsByText, FractionsByText, OneRea
 use crate::fault::FormFault;
 use crate::reading::read;
 use crate::writing::write;
-use std::alloc::Global;
 use cert_types::Cert;
+use std::alloc::Global;
 
 /// Bytes are one certificate at most.
 pub fn one_reading()

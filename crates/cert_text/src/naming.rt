@@ -10,9 +10,9 @@ ghost use Rattle.cert_text.specs.Traces.{listing};
 use crate::entry::Entry;
 use crate::limits::MOST_VALUES;
 use crate::numbering::Numbering;
+use flow_systems::Trace;
 use serde_json::Value;
 use std::alloc::AllocError;
-use flow_systems::Trace;
 
 /// An element that names traces, whose numbers are their places in a list.
 pub(crate) trait Naming: Entry {
@@ -25,7 +25,8 @@ pub(crate) trait Naming: Entry {
     /// How many values the traces hold that the element at this value names, counted up to `MOST_VALUES + 1`; `None` where
     /// it is not read. Nothing is copied.
     fn values(rows: usize, traces: &[Trace], value: &Value) -> Option<usize>
-        ensures count { result ≡ option_map (λ x. capped (values_of (traces_of x))) (Self.element_in (listing rows traces.now) (view value.now)) }
+        ensures count { result ≡ option_map (λ x. capped (values_of (traces_of x)))
+            (Self.element_in (listing rows traces.now) (view value.now)) }
         ensures few { IfSome result (λ n. n ≤ MOST_VALUES + 1) };
 
     /// Gives the traces that the element names their numbers.
@@ -35,7 +36,8 @@ pub(crate) trait Naming: Entry {
 
 // How many values the traces hold that the elements at these values name.
 fn values_in<T: Naming>(rows: usize, traces: &[Trace], values: &[Value]) -> Option<usize>
-    ensures count { result ≡ option_map (λ xs. capped (values_of (flat_map T.traces_of xs))) (items_in (T.element_in (listing rows traces.now)) (items_view values.now)) }
+    ensures count { result ≡ option_map (λ xs. capped (values_of (flat_map T.traces_of xs)))
+        (items_in (T.element_in (listing rows traces.now)) (items_view values.now)) }
     ensures few { IfSome result (λ n. n ≤ MOST_VALUES + 1) }
 {
     let mut total = 0;
@@ -51,7 +53,8 @@ fn values_in<T: Naming>(rows: usize, traces: &[Trace], values: &[Value]) -> Opti
 /// How many values the traces hold that the elements of the list at this value name, counted up to `MOST_VALUES + 1`;
 /// `None` where an element is not read.
 pub(crate) fn list_values<T: Naming>(rows: usize, traces: &[Trace], value: &Value) -> Option<usize>
-    ensures count { result ≡ option_map (λ xs. capped (values_of (flat_map T.traces_of xs))) (list_in (T.element_in (listing rows traces.now)) (view value.now)) }
+    ensures count { result ≡ option_map (λ xs. capped (values_of (flat_map T.traces_of xs)))
+        (list_in (T.element_in (listing rows traces.now)) (view value.now)) }
     ensures few { IfSome result (λ n. n ≤ MOST_VALUES + 1) }
 {
     match value.as_array() {

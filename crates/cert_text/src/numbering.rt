@@ -4,10 +4,10 @@ ghost use Rattle.std.specs.Prelude.{◌≡◌, [], IfOk, IsTrue, OnOk, Some, sli
 ghost use Rattle.cert_text.specs.Naming.{is_listed, number_in, spelt_trace, trace_text, with_trace};
 
 use crate::trace::{copied, trace_value};
+use flow_systems::Trace;
 use indexmap::IndexSet;
 use std::alloc::{AllocError, Global};
 use std::marker::Model;
-use flow_systems::Trace;
 
 /// Traces, each once, numbered from 0.
 #[derive(Drop)]

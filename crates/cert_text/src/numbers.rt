@@ -13,9 +13,9 @@ ghost use Rattle.cert_text.specs.Numbers.{is_text, whole_of};
 use crate::entry::Entry;
 use crate::numbering::Numbering;
 use crate::setting::Setting;
+use base_fractions::{Ext, Frac, Text};
 use serde_json::Value;
 use std::alloc::{AllocError, Global};
-use base_fractions::{Ext, Frac, Text};
 
 /// A number with a canonical text.
 pub(crate) trait Numeral: Copy + Drop {

@@ -29,12 +29,12 @@ use crate::keys::member_count;
 use crate::limits::MOST_VALUES;
 use crate::naming::list_values;
 use crate::setting::{Setting, Traces};
-use serde_json::Value;
-use serde_json::error::Category;
-use std::alloc::Global;
 use cert_types::{Cert, Rows, Step, Steps, Upper, Uppers};
 use flow_systems::{Bounds, Trace};
 use lang_tree::Coeffs;
+use serde_json::Value;
+use serde_json::error::Category;
+use std::alloc::Global;
 
 // Whether the value has a member of this key.
 fn has_key(value: &Value, key: &str) -> bool
@@ -114,8 +114,10 @@ fn read_field<T: Entry>(
     key: &str,
     field: Field,
 ) -> Result<Vec<T>, FormFault>
-    ensures { MatchResult result (λ list. list_from field (T.shaped setting.now) (T.element_in setting.now) (get key.now (view value.now)) ≡ Ok list.items)
-        (λ fault. fault ≢ FormFault.NoMemory → list_from field (T.shaped setting.now) (T.element_in setting.now) (get key.now (view value.now)) ≡ Err fault) }
+    ensures { MatchResult result (λ list. list_from field (T.shaped setting.now) (T.element_in setting.now) (get key.now (view value.now))
+        ≡ Ok list.items)
+        (λ fault. fault ≢ FormFault.NoMemory → list_from field (T.shaped setting.now) (T.element_in setting.now)
+        (get key.now (view value.now)) ≡ Err fault) }
 {
     match value.get(key) {
         Some(member) => {
@@ -133,7 +135,8 @@ fn read_field<T: Entry>(
 
 // The traces, if they stand in a list of their own.
 fn read_traces(alloc: Global, setting: &Setting, value: &Value) -> Result<Option<Traces>, FormFault>
-    ensures { MatchResult result (λ traces. traces_in (view value.now) ≡ Ok traces) (λ fault. fault ≢ FormFault.NoMemory → traces_in (view value.now) ≡ Err fault) }
+    ensures { MatchResult result (λ traces. traces_in (view value.now) ≡ Ok traces)
+        (λ fault. fault ≢ FormFault.NoMemory → traces_in (view value.now) ≡ Err fault) }
 {
     if !has_traces(value) {
         return Ok(None);
@@ -212,7 +215,8 @@ fn read_rest(alloc: Global, setting: &Setting, value: &Value) -> Result<Rest, Fo
 
 // The certificate that the value is.
 fn read_cert(alloc: Global, value: &Value) -> Result<Cert, FormFault>
-    ensures { MatchResult result (λ c. cert_in (view value.now) ≡ Ok c) (λ fault. fault ≢ FormFault.NoMemory → cert_in (view value.now) ≡ Err fault) }
+    ensures { MatchResult result (λ c. cert_in (view value.now) ≡ Ok c)
+        (λ fault. fault ≢ FormFault.NoMemory → cert_in (view value.now) ≡ Err fault) }
 {
     if !is_top(value) {
         return Err(FormFault::Shape(Field::Top));

@@ -11,9 +11,9 @@ ghost use Rattle.cert_text.specs.Traces.{are_texts};
 use crate::entry::{Entry, is_list, read_list, write_list};
 use crate::numbering::Numbering;
 use crate::setting::Setting;
+use lang_tree::Coeffs;
 use serde_json::Value;
 use std::alloc::{AllocError, Global};
-use lang_tree::Coeffs;
 
 // The coefficients that the value is.
 fn read_row(alloc: Global, setting: &Setting, value: &Value) -> Result<Option<Coeffs>, AllocError>

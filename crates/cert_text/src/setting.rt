@@ -1,7 +1,7 @@
 //! What the fields of a certificate are read under.
 
-use flow_systems::Trace;
 use base_list::Sequence;
+use flow_systems::Trace;
 
 /// Traces in order, numbered from 0.
 pub(crate) type Traces = Sequence<Trace>;

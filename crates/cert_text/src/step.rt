@@ -16,10 +16,10 @@ use crate::limits::MOST_VALUES;
 use crate::naming::{Naming, list_values, number_all};
 use crate::numbering::Numbering;
 use crate::setting::Setting;
-use serde_json::{Value, json};
-use std::alloc::{AllocError, Global};
 use cert_types::{Item, Items, JumpItem, JumpItems, RayItem, RayItems, Step};
 use flow_systems::Trace;
+use serde_json::{Value, json};
+use std::alloc::{AllocError, Global};
 
 // Whether the value has this kind, and the member `items` is a list of one item or more of the shape of such items.
 fn has_items<T: Entry>(setting: &Setting, value: &Value, kind: &str) -> bool
@@ -167,7 +167,8 @@ impl Entry for Step {
 
 // How many values the traces hold that the items name which the member `items` has.
 fn values_at<T: Naming>(rows: usize, traces: &[Trace], value: &Value) -> Option<usize>
-    ensures count { result ≡ option_map (λ xs. capped (values_of (flat_map T.traces_of xs))) (items_at (T.element_in (listing rows traces.now)) (view value.now)) }
+    ensures count { result ≡ option_map (λ xs. capped (values_of (flat_map T.traces_of xs)))
+        (items_at (T.element_in (listing rows traces.now)) (view value.now)) }
     ensures few { IfSome result (λ n. n ≤ MOST_VALUES + 1) }
 {
     match value.get("items") {
@@ -178,7 +179,8 @@ fn values_at<T: Naming>(rows: usize, traces: &[Trace], value: &Value) -> Option<
 
 // How many values the traces hold that the items of the step at this value name.
 fn step_values(rows: usize, traces: &[Trace], value: &Value) -> Option<usize>
-    ensures count { result ≡ option_map (λ step. capped (values_of (step_traces step))) (step_in (listing rows traces.now) (view value.now)) }
+    ensures count { result ≡ option_map (λ step. capped (values_of (step_traces step)))
+        (step_in (listing rows traces.now) (view value.now)) }
     ensures few { IfSome result (λ n. n ≤ MOST_VALUES + 1) }
 {
     if is_kind(value, "plain") {

@@ -24,10 +24,10 @@ use crate::keys::member_count;
 use crate::limits::MOST_VALUES;
 use crate::numbering::Numbering;
 use crate::setting::Setting;
+use base_fractions::Frac;
+use flow_systems::{Fracs, Trace};
 use serde_json::{Value, json};
 use std::alloc::{AllocError, Global};
-use flow_systems::{Fracs, Trace};
-use base_fractions::Frac;
 
 /// Whether the member of this key is there and a list of texts.
 pub(crate) fn are_texts_at(setting: &Setting, value: &Value, key: &str) -> bool

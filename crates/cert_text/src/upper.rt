@@ -2,7 +2,8 @@
 
 ghost use Rattle.std.specs.Prelude.{◌≡◌, IfOk, Some, codes, option_map, true};
 ghost use Rattle.serde_json.specs.View.{view};
-ghost use Rattle.cert_text.specs.Evidence.{is_unreached, is_upper, is_weighted, unreached_data, upper_data, upper_in, weights_data, weights_in, weights_object};
+ghost use Rattle.cert_text.specs.Evidence.{is_unreached, is_upper, is_weighted, unreached_data, upper_data, upper_in, weights_data};
+ghost use Rattle.cert_text.specs.Evidence.{weights_in, weights_object};
 ghost use Rattle.cert_text.specs.Traces.{are_texts, fracs_data, fracs_in};
 
 use crate::entry::Entry;
@@ -10,10 +11,10 @@ use crate::keys::{index_at, is_index_at, is_kind, member_count};
 use crate::numbering::Numbering;
 use crate::setting::Setting;
 use crate::trace::{are_texts_at, fracs_at, fracs_value};
-use serde_json::{Value, json};
-use std::alloc::{AllocError, Global};
 use cert_types::Upper;
 use flow_systems::Fracs;
+use serde_json::{Value, json};
+use std::alloc::{AllocError, Global};
 
 // Whether the value has the shape of evidence by a row at `-inf`.
 fn is_unreached(value: &Value) -> bool

@@ -20,9 +20,9 @@ use crate::bounds::bounds_value;
 use crate::entry::write_list;
 use crate::naming::number_all;
 use crate::numbering::Numbering;
+use cert_types::{Cert, Step};
 use serde_json::{Value, json};
 use std::alloc::{AllocError, Global};
-use cert_types::{Cert, Step};
 
 // The fields and the format as a value.
 fn cert_object(

@@ -22,11 +22,27 @@ no_pieces = record { start = []; free = [] }
 
 -- an item of a plain step; the unknown u is point u / rows and row u % rows
 abbrev pub plain_item : ℕ → Item → TheoryItem
-plain_item rows i = record { point = i.unknown / rows; row = i.unknown % rows; edge = i.edge; low = pieces_of i.low; second = no_pieces; number = i.to }
+plain_item rows i = record {
+  point = i.unknown / rows;
+  row = i.unknown % rows;
+  edge = i.edge;
+  low = pieces_of i.low;
+  second =
+      no_pieces;
+  number = i.to;
+}
 
 -- an item of a jump
 abbrev pub jump_item : ℕ → JumpItem → TheoryItem
-jump_item rows i = record { point = i.unknown / rows; row = i.unknown % rows; edge = i.edge; low = pieces_of i.low; second = pieces_of i.high; number = i.to }
+jump_item rows i = record {
+  point = i.unknown / rows;
+  row = i.unknown % rows;
+  edge = i.edge;
+  low = pieces_of i.low;
+  second =
+      pieces_of i.high;
+  number = i.to;
+}
 
 -- an item of a ray
 abbrev pub ray_item : ℕ → RayItem → TheoryItem

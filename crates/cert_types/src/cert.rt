@@ -2,8 +2,8 @@
 
 use crate::step::Steps;
 use crate::upper::Uppers;
-use flow_systems::Bounds;
 use base_list::Sequence;
+use flow_systems::Bounds;
 use lang_tree::Coeffs;
 
 /// Rows of a template in order, none or as many as there are.

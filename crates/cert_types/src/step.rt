@@ -2,9 +2,9 @@
 //!
 //! Steps, items and edges are numbered from 0. The unknown of point `p` and row `r` has the number `p * rows + r`.
 
-use flow_systems::Trace;
 use base_fractions::Frac;
 use base_list::Sequence;
+use flow_systems::Trace;
 
 /// An item of a plain step: the trace `low` along the edge shows the unknown at least at `to`.
 #[derive(Drop)]

@@ -1,7 +1,7 @@
 //! The evidence of upper bounds in a certificate.
 
-use flow_systems::Fracs;
 use base_list::Sequence;
+use flow_systems::Fracs;
 
 /// Evidence that an edge leads to at most the bound of an unknown at its end. Multipliers are one for each row of the
 /// template and one for each guard of the edge, in order; rows are numbered from 0.

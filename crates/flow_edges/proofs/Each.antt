@@ -49,6 +49,7 @@ module _ {A B : Type 0} where
   each-map P Q f g (x ∷ xs) h = (g x h.0, each-map P Q f g xs h.1)
 
   -- where each list that a function makes has a fact throughout, the joined list has it
-  pub each-flat_map : (P : A → Type 0) (Q : B → Type 0) (f : A → List B) → ((x : A) → P x → Each Q (f x)) → (xs : List A) → Each P xs → Each Q (flat_map f xs)
+  pub each-flat_map : (P : A → Type 0) (Q : B → Type 0) (f : A → List B) → ((x : A) → P x → Each Q (f x)) → (xs : List A) → Each P xs
+      → Each Q (flat_map f xs)
   each-flat_map P Q f g [] h = tt
   each-flat_map P Q f g (x ∷ xs) h = each-append Q (f x) (flat_map f xs) (g x h.0) (each-flat_map P Q f g xs h.1)

@@ -36,7 +36,8 @@ abbrev mutual
   way_count_of (set var form line) jumps next = next
   way_count_of (havoc var line) jumps next = next
   way_count_of (assume c line) jumps next = case_count true c * (if splits c then 1 else next)
-  way_count_of (branch c first second line) jumps next = case_count true c * way_count_in first jumps 1 + case_count false c * way_count_in second jumps 1
+  way_count_of (branch c first second line) jumps next = case_count true c * way_count_in first jumps 1 + case_count false c
+      * way_count_in second jumps 1
   way_count_of (loop kind c body line) jumps next = 1
   way_count_of (jump breaks line) jumps next = jumps.broken
   way_count_of (jump continues line) jumps next = jumps.continued
@@ -62,7 +63,8 @@ head_count (for_loop g) c body next = turn_count (for_loop g) c body next
 head_count do_loop c body next = body_count do_loop c body next
 
 abbrev mutual
-  -- the number of edges from the points that a node and the nodes in it make, given those of jumps and that of the ways from what comes after it
+  -- the number of edges from the points that a node and the nodes in it make, given those of jumps and that of the ways from what comes
+  -- after it
   pub edge_count_of : Statement → JumpCounts → ℕ → ℕ
   edge_count_of (set var form line) jumps next = 0
   edge_count_of (havoc var line) jumps next = 0

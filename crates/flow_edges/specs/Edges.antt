@@ -1,5 +1,6 @@
 -- The edges of a program in order: for each point, the ways from it to the next points, choice by choice.
-use Rattle.std.specs.Prelude.{ℕ, zero, suc, ◌+◌, ◌&&◌, ◌||◌, Bool, true, false, List, [], ◌∷◌, ◌++◌, Option, Some, None, map, flat_map, if◌then◌else◌}
+use Rattle.std.specs.Prelude.{ℕ, zero, suc, ◌+◌, ◌&&◌, ◌||◌, Bool, true, false, List, [], ◌∷◌, ◌++◌, Option, Some, None, map, flat_map}
+use Rattle.std.specs.Prelude.{if◌then◌else◌}
 use Rattle.lang_tree.specs.declared.change.Change.{Change}
 use Rattle.lang_tree.specs.declared.change.Change.TheVariants as change
 use Rattle.lang_tree.specs.Tree.{Condition, LoopKind, while_loop, for_loop, do_loop, breaks, continues}
@@ -137,8 +138,10 @@ abbrev mutual
   behind_of (assume c line) n rest = if splits c then Some rest ∷ [] else []
   behind_of (branch c first second line) n rest =
       behind_in first n (mark (join_of first second n) ∷ rest)
-      ++ (behind_in second (n + points_in first) (mark (join_of first second n) ∷ rest) ++ (if complete first || complete second then Some rest else None) ∷ [])
-  behind_of (loop kind c body line) n rest = Some (head_work kind c body line n rest) ∷ behind_in body (n + 1) (end kind c body line n ∷ rest)
+      ++ (behind_in second (n + points_in first) (mark (join_of first second n) ∷ rest)
+      ++ (if complete first || complete second then Some rest else None) ∷ [])
+  behind_of (loop kind c body line) n rest = Some (head_work kind c body line n rest)
+      ∷ behind_in body (n + 1) (end kind c body line n ∷ rest)
   behind_of (jump kind line) n rest = []
   behind_of (label name line) n rest = Some rest ∷ []
 
@@ -163,7 +166,8 @@ ways_behind (Some work) = ways_from work
 -- the edges from the points after which these works are left, the first point being p
 abbrev pub edges_from : ℕ → List Behind → List Edge
 edges_from p [] = []
-edges_from p (behind ∷ more) = map (λ w. record { from = p; to = w.to; actions = w.actions }) (ways_behind behind) ++ edges_from (suc p) more
+edges_from p (behind ∷ more) = map (λ w. record { from = p; to = w.to; actions = w.actions }) (ways_behind behind)
+    ++ edges_from (suc p) more
 
 -- the edges of a program
 abbrev pub edges_of_program : Statements → List Edge

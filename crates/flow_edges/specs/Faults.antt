@@ -1,5 +1,6 @@
 -- Why a program has no flow within the limits.
-use Rattle.std.specs.Prelude.{ℕ, ◌||◌, Bool, true, false, List, [], ◌∷◌, ◌++◌, Option, Some, None, length, nat_lt, option_map, position, if◌then◌else◌}
+use Rattle.std.specs.Prelude.{ℕ, ◌||◌, Bool, true, false, List, [], ◌∷◌, ◌++◌, Option, Some, None, length, nat_lt, option_map, position}
+use Rattle.std.specs.Prelude.{if◌then◌else◌}
 use Rattle.lang_tree.specs.Tree.{Condition, Statement, Statements, set, havoc, assume, branch, loop, jump, label, nil, cons}
 use Rattle.lang_tree.specs.Cases.{cases_of}
 use Rattle.lang_tree.specs.PointNumbers.{point_count}
@@ -24,7 +25,8 @@ abbrev mutual
   wide_lines_of (set var form line) = []
   wide_lines_of (havoc var line) = []
   wide_lines_of (assume c line) = line_if (is_wide true c) line
-  wide_lines_of (branch c first second line) = line_if (is_wide true c || is_wide false c) line ++ (wide_lines_in first ++ wide_lines_in second)
+  wide_lines_of (branch c first second line) = line_if (is_wide true c || is_wide false c) line
+      ++ (wide_lines_in first ++ wide_lines_in second)
   wide_lines_of (loop kind c body line) = line_if (is_wide true c || is_wide false c) line ++ wide_lines_in body
   wide_lines_of (jump kind line) = []
   wide_lines_of (label name line) = []

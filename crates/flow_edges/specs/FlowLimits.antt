@@ -46,7 +46,8 @@ is_action n (Havoc var) = nat_lt var n
 
 -- it goes from a point to another than the entry, with at most 256 actions
 abbrev pub is_edge : ℕ → ℕ → Edge → Bool
-is_edge n points e = nat_lt e.from points && (nat_lt 0 e.to && (nat_lt e.to points && (nat_le (length e.actions) 256 && list_all (is_action n) e.actions)))
+is_edge n points e = nat_lt e.from points && (nat_lt 0 e.to && (nat_lt e.to points
+    && (nat_le (length e.actions) 256 && list_all (is_action n) e.actions)))
 
 -- at least one name and two points, and no more of them and of edges than there may be
 abbrev pub is_flow : List (List ℕ) → List Point → List Edge → Bool

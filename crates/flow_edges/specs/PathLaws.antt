@@ -34,7 +34,8 @@ IsMark (node s n) = ⊥
 IsMark (turn kind c body line n) = ⊥
 IsMark (end kind c body line n) = ⊥
 
--- a step of a run with an item that is no mark does what one of its labelled steps records, and each labelled step that can be taken is such a step
+-- a step of a run with an item that is no mark does what one of its labelled steps records, and each labelled step that can be taken is
+-- such a step
 abbrev pub StepsAreRecorded : Type 0
 StepsAreRecorded =
     (item : Item) (rest : List Item) (x : State) (work : List Item) (y : State) → ¬ (IsMark item) →
@@ -48,7 +49,8 @@ WaysAreSteps =
 
 -- these edges are exactly the paths of a program
 pub record EdgesArePaths (edges : List Edge) (body : Statements) : Type 0 where
-  pub complete : (from to : ℕ) (actions : List Action) → Path body from actions to → Contains edges (record { from = from; to = to; actions = actions })
+  pub complete : (from to : ℕ) (actions : List Action) → Path body from actions to
+      → Contains edges (record { from = from; to = to; actions = actions })
   pub sound : (edge : Edge) → Contains edges edge → Path body edge.from edge.actions edge.to
 
 -- the edges of every program

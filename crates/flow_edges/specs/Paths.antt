@@ -9,14 +9,16 @@ use Rattle.flow_edges.specs.Steps.{Labelled, steps_of}
 -- labelled steps lead from one work list to another, recording these actions; marks are dropped on the way
 pub data Leads : List Item → List Action → List Item → Type 0 where
   here : (work : List Item) → Leads work [] work
-  past : (p : ℕ) (rest : List Item) (actions : List Action) (work : List Item) → Leads rest actions work → Leads (mark p ∷ rest) actions work
+  past : (p : ℕ) (rest : List Item) (actions : List Action) (work : List Item) → Leads rest actions work
+      → Leads (mark p ∷ rest) actions work
   done : (item : Item) (rest : List Item) (step : Labelled) (later : List Action) (work : List Item) → In (steps_of item rest) step →
       Leads step.work later work → Leads (item ∷ rest) (step.actions ++ later) work
 
 -- labelled steps lead to the next work list whose first item is a mark
 pub data Arrives : List Item → List Action → ℕ → List Item → Type 0 where
   at_mark : (p : ℕ) (rest : List Item) → Arrives (mark p ∷ rest) [] p rest
-  by_step : (item : Item) (rest : List Item) (step : Labelled) (later : List Action) (p : ℕ) (behind : List Item) → In (steps_of item rest) step →
+  by_step : (item : Item) (rest : List Item) (step : Labelled) (later : List Action) (p : ℕ) (behind : List Item)
+      → In (steps_of item rest) step →
       Arrives step.work later p behind → Arrives (item ∷ rest) (step.actions ++ later) p behind
 
 -- a path: from the start work to the mark of one point, and on from there to the next mark, recording the actions

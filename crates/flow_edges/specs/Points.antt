@@ -21,7 +21,8 @@ abbrev mutual
   made_by (set var form line) n = []
   made_by (havoc var line) n = []
   made_by (assume c line) n = if splits c then made n Assume line ∷ [] else []
-  made_by (branch c first second line) n = made_in first n ++ (made_in second (n + points_in first) ++ made (join_of first second n) Join line ∷ [])
+  made_by (branch c first second line) n = made_in first n ++ (made_in second (n + points_in first)
+      ++ made (join_of first second n) Join line ∷ [])
   made_by (loop kind c body line) n = made n Loop line ∷ made_in body (n + 1)
   made_by (jump kind line) n = []
   made_by (label name line) n = made n (Label name) line ∷ []

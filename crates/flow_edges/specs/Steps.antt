@@ -5,7 +5,8 @@ use Rattle.lang_tree.specs.Tree.{Condition, while_loop, for_loop, do_loop, break
 use Rattle.lang_tree.specs.Cases.{cases_of}
 use Rattle.lang_tree.specs.Meaning.{State, value}
 use Rattle.lang_tree.specs.PointNumbers.{splits}
-use Rattle.lang_tree.specs.Runs.{Item, node, mark, turn, end, branch_work, head_work, turn_work, change_work, repeat_work, past_loop, end_of_body}
+use Rattle.lang_tree.specs.Runs.{Item, node, mark, turn, end, branch_work, head_work, turn_work, change_work, repeat_work, past_loop}
+use Rattle.lang_tree.specs.Runs.{end_of_body}
 use Rattle.flow_edges.specs.declared.edge.Action.{Action}
 use Rattle.flow_edges.specs.declared.edge.Action.TheVariants.{Guard, Assign, Havoc}
 
@@ -38,12 +39,15 @@ steps_of (node (loop kind c body line) n) rest = labelled [] (mark n ∷ head_wo
 steps_of (node (jump breaks line) n) rest = labelled [] (past_loop rest) ∷ []
 steps_of (node (jump continues line) n) rest = labelled [] (end_of_body rest) ∷ []
 steps_of (node (label name line) n) rest = labelled [] (mark n ∷ rest) ∷ []
-steps_of (turn kind c body line n) rest = choices true c (turn_work true kind c body line n rest) ++ choices false c (turn_work false kind c body line n rest)
+steps_of (turn kind c body line n) rest = choices true c (turn_work true kind c body line n rest)
+    ++ choices false c (turn_work false kind c body line n rest)
 steps_of (end while_loop c body line n) rest = labelled [] (node (loop while_loop c body line) n ∷ rest) ∷ []
 steps_of (end (for_loop g) c body line n) rest = labelled [] (change_work g (node (loop (for_loop g) c body line) n ∷ rest)) ∷ []
-steps_of (end do_loop c body line n) rest = choices true c (repeat_work true c body line n rest) ++ choices false c (repeat_work false c body line n rest)
+steps_of (end do_loop c body line n) rest = choices true c (repeat_work true c body line n rest)
+    ++ choices false c (repeat_work false c body line n rest)
 
--- actions lead from one integer state to another: a guard is at most 0, an assignment sets one place to the form's value, a free one to any integer
+-- actions lead from one integer state to another: a guard is at most 0, an assignment sets one place to the form's value, a free one to any
+-- integer
 abbrev pub Acts : List Action → State → State → Type 0
 Acts [] x y = y ≡ x
 Acts (Guard form ∷ actions) x y = (value form x ≤ℤ pos 0) × Acts actions x y

@@ -80,7 +80,8 @@ edges_in_loop (label name line) n next = []
 
 -- the edges of a program, each with the first 257 of its actions
 abbrev pub kept_edges : Statements → List Edge
-kept_edges body = reached (begun_at 0) (ways_in body 1 no_jumps (arrived (exit_of body))) ++ edges_in_nodes body 1 no_jumps (arrived (exit_of body))
+kept_edges body = reached (begun_at 0) (ways_in body 1 no_jumps (arrived (exit_of body)))
+    ++ edges_in_nodes body 1 no_jumps (arrived (exit_of body))
 
 -- an edge with the first 257 of its actions
 abbrev pub kept_edge : Edge → Edge

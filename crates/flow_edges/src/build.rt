@@ -15,8 +15,8 @@ use crate::limits::MOST_POINTS;
 use crate::places::points_of_program;
 use crate::point_edges::edges_of;
 use crate::wide::wide_line;
-use std::alloc::Global;
 use lang_tree::{Block, Program};
+use std::alloc::Global;
 
 /// The greatest number of edges.
 const MOST_EDGES: u32 = 256;

@@ -2,9 +2,9 @@
 
 ghost use Rattle.std.specs.Prelude.{◌≡◌};
 
-use std::alloc::AllocError;
 use base_list::Sequence;
 use lang_tree::Form;
+use std::alloc::AllocError;
 
 /// Why the cases of a condition aren't listed.
 #[derive(Clone, Copy, Debug, PartialEq, Eq, Drop)]

@@ -14,8 +14,8 @@ use crate::edge::{Action, Edge};
 use crate::listing::list_cases;
 use crate::onward::{JumpEdges, arrival, go_on, go_on_by_case};
 use crate::trail::Trail;
-use std::alloc::{AllocError, Global};
 use lang_tree::{Cond, Stmt};
+use std::alloc::{AllocError, Global};
 
 /// Adds the edges that go on from the trail along the statements, up to the first point on each way.
 ///

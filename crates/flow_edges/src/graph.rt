@@ -9,7 +9,8 @@ use lang_tree::Names;
 
 /// The points and the edges of a program over these variables.
 ///
-/// There are 1 to `MOST_VARIABLES` variables, 2 to `MOST_POINTS` points, at most 256 edges and at most 256 actions on each. The first point alone is
+/// There are 1 to `MOST_VARIABLES` variables, 2 to `MOST_POINTS` points, at most 256 edges and at most 256 actions on each. The first point
+/// alone is
 /// the entry, and no edge ends there. Every point and every variable that an edge names is there; each form has one
 /// coefficient for each variable, and its numbers are within `2^63 - 1` in absolute value.
 #[derive(Drop)]

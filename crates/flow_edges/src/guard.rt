@@ -5,8 +5,8 @@ ghost use Rattle.lang_tree.specs.Numbers.{is_number};
 ghost use Rattle.lang_tree.specs.Cases.{negated, plus_one};
 ghost use Rattle.flow_edges.specs.Constants.{has_room};
 
-use std::alloc::{AllocError, Global};
 use lang_tree::{Coeffs, Form};
+use std::alloc::{AllocError, Global};
 
 /// `f + 1`
 pub(crate) fn plus_one(form: Form) -> Form

@@ -8,8 +8,8 @@ ghost use Rattle.flow_edges.specs.Constants.{has_room, have_room};
 use crate::case::{Case, Cases, CasesFault};
 use crate::guard::{negated, plus_one};
 use crate::saturated::{ENOUGH, product, sum};
-use std::alloc::{AllocError, Global};
 use lang_tree::{Cond, Form, Rel};
+use std::alloc::{AllocError, Global};
 
 /// The greatest number of cases that a condition may have.
 pub(crate) const MOST_CASES: u32 = 64;

@@ -13,8 +13,8 @@ use crate::edge_walk::walk_cases;
 use crate::listing::list_cases;
 use crate::onward::{JumpEdges, arrival, arrival_by, go_on_by_case};
 use crate::trail::Trail;
-use std::alloc::{AllocError, Global};
 use lang_tree::{Change, Cond, Stmt};
+use std::alloc::{AllocError, Global};
 
 /// The edges walked from the end of the body of a `for` whose head is this point.
 pub(crate) fn changed(alloc: Global, change: &Change, head: u32) -> Result<Edges, AllocError>

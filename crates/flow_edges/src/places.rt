@@ -7,8 +7,8 @@ ghost use Rattle.flow_edges.specs.Points.{points_of_program};
 
 use crate::count::splits;
 use crate::point::{Place, Point, Points};
-use std::alloc::{AllocError, Global};
 use lang_tree::{Block, Stmt};
+use std::alloc::{AllocError, Global};
 
 /// The points of the program in order: the entry, those that its statements make, the exit.
 pub(crate) fn points_of_program(alloc: Global, body: &Block) -> Result<Points, AllocError>

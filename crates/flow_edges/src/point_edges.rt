@@ -5,7 +5,8 @@ ghost use Rattle.lang_tree.specs.View.{condition_of, statement_of, statements_of
 ghost use Rattle.lang_tree.specs.PointNumbers.{exit_of, join_of, points_in, points_of};
 ghost use Rattle.flow_edges.specs.Constants.{has_rooms, have_room, have_rooms};
 ghost use Rattle.flow_edges.specs.Edges.{arrived, ways_in};
-ghost use Rattle.flow_edges.specs.Trails.{begun_at, edges_in_loop, edges_in_node, edges_in_nodes, jumps_of, kept_edges, reached, walked, ways_by_turn};
+ghost use Rattle.flow_edges.specs.Trails.{begun_at, edges_in_loop, edges_in_node, edges_in_nodes, jumps_of, kept_edges, reached, walked};
+ghost use Rattle.flow_edges.specs.Trails.{ways_by_turn};
 
 use crate::completion::{complete, completes};
 use crate::count::{points_in, points_of, splits};
@@ -14,8 +15,8 @@ use crate::edge_walk::walk;
 use crate::loop_walk::{changed, repeated, turn};
 use crate::onward::{JumpEdges, arrival, no_jumps};
 use crate::trail::Trail;
-use std::alloc::{AllocError, Global};
 use lang_tree::{Block, Cond, Stmt};
+use std::alloc::{AllocError, Global};
 
 /// The edges of the program in order, each with at most 257 of its actions. `exit` is the number of the last point.
 pub(crate) fn edges_of(alloc: Global, body: &Block, exit: u32) -> Result<Vec<Edge>, AllocError>

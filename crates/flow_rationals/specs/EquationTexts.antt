@@ -51,7 +51,8 @@ pub record HasUnexpected (text : List ℕ) (at : ℕ) : Type 0 where
 pub data Answers (text : List ℕ) (answer : Result (List Equation) EquFault) : Type 0 where
   a_lexical_fault : (fault : LexFault) → answer ≡ Err (Lex fault) → HasFault text fault → Answers text answer
   an_unexpected : (at : ℕ) → answer ≡ Err (Unexpected at) → HasUnexpected text at → Answers text answer
-  a_fault : (fault : EquFault) → answer ≡ Err fault → (es : List Written) → ReadsWritten text es → slice_get (faults_of es) 0 ≡ Some fault → Answers text answer
+  a_fault : (fault : EquFault) → answer ≡ Err fault → (es : List Written) → ReadsWritten text es → slice_get (faults_of es) 0 ≡ Some fault
+      → Answers text answer
   some_equations : (es : List Written) → answer ≡ Ok (equations_of es) → ReadsWritten text es → faults_of es ≡ [] → Answers text answer
 
 -- The result is this answer, unless memory is wanted.

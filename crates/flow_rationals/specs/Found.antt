@@ -2,7 +2,8 @@
 use Rattle.std.specs.Prelude.{◌≡◌, ℕ, List, ◌∷◌, Option, Some, None}
 use denote.Ref.{Bor}
 use Rattle.flow_rationals.specs.declared.reading.symbol.Symbol.{Symbol}
-use Rattle.flow_rationals.specs.declared.reading.symbol.Symbol.TheVariants.{Minus, Plus, Star, Colon, Comma, Semicolon, Equal, LeftParen, RightParen, Max, Min, End}
+use Rattle.flow_rationals.specs.declared.reading.symbol.Symbol.TheVariants.{Minus, Plus, Star, Colon, Comma, Semicolon, Equal, LeftParen}
+use Rattle.flow_rationals.specs.declared.reading.symbol.Symbol.TheVariants.{RightParen, Max, Min, End}
 use Rattle.flow_rationals.specs.declared.reading.heads.Mark.{Mark}
 use Rattle.flow_rationals.specs.declared.reading.heads.Mark.TheVariants as mark
 

@@ -1,7 +1,8 @@
 -- How equations are spelled. Each definition gives the symbols of a part of the text, and then these that follow it.
 use Rattle.std.specs.Prelude.{◌≡◌, ◌++◌, ℕ, List, [], ◌∷◌, Option, Some, None}
 use Rattle.flow_rationals.specs.declared.reading.symbol.Symbol.{Symbol}
-use Rattle.flow_rationals.specs.declared.reading.symbol.Symbol.TheVariants.{Named, Number, Minus, Plus, Star, Colon, Comma, Semicolon, Equal}
+use Rattle.flow_rationals.specs.declared.reading.symbol.Symbol.TheVariants.{Named, Number, Minus, Plus, Star, Colon, Comma, Semicolon}
+use Rattle.flow_rationals.specs.declared.reading.symbol.Symbol.TheVariants.{Equal}
 use Rattle.flow_rationals.specs.declared.reading.symbol.Symbol.TheVariants.{LeftParen, RightParen, Max, Min, End}
 use Rattle.flow_rationals.specs.declared.reading.written.Below.{Below}
 use Rattle.flow_rationals.specs.declared.reading.written.Ratio.{Ratio}

@@ -5,8 +5,10 @@ use Rattle.flow_rationals.specs.declared.reading.symbol.Symbol.TheVariants as sy
 use Rattle.flow_rationals.specs.declared.reading.place.Within.{Within}
 use Rattle.flow_rationals.specs.declared.reading.place.Within.TheVariants.{Alone, Minimum}
 use Rattle.flow_rationals.specs.declared.reading.place.Place.{Place}
-use Rattle.flow_rationals.specs.declared.reading.place.Place.TheVariants.{First, Name, Equal, Max, Opening, Start, StartNumber, StartBelow, StartDen, Alternatives}
-use Rattle.flow_rationals.specs.declared.reading.place.Place.TheVariants.{Alternative, MinOpening, Part, Factor, FactorDen, FactorEnd, Times, Constant}
+use Rattle.flow_rationals.specs.declared.reading.place.Place.TheVariants.{First, Name, Equal, Max, Opening, Start, StartNumber, StartBelow}
+use Rattle.flow_rationals.specs.declared.reading.place.Place.TheVariants.{StartDen, Alternatives}
+use Rattle.flow_rationals.specs.declared.reading.place.Place.TheVariants.{Alternative, MinOpening, Part, Factor, FactorDen, FactorEnd}
+use Rattle.flow_rationals.specs.declared.reading.place.Place.TheVariants.{Times, Constant}
 use Rattle.flow_rationals.specs.declared.reading.place.Place.TheVariants.{ConstantBelow, ConstantDen, AfterPart, Semicolon, Done}
 
 -- after the `,` that follows a sum

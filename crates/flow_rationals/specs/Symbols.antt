@@ -8,7 +8,8 @@ use Rattle.lang_tokens.specs.declared.sign.Sign.{Sign}
 use Rattle.lang_tokens.specs.declared.sign.Sign.TheVariants as sign
 use Rattle.lang_tree.specs.Word.{is_word}
 use Rattle.flow_rationals.specs.declared.reading.symbol.Symbol.{Symbol}
-use Rattle.flow_rationals.specs.declared.reading.symbol.Symbol.TheVariants.{Named, Number, Minus, Plus, Star, Colon, Comma, Semicolon, Equal}
+use Rattle.flow_rationals.specs.declared.reading.symbol.Symbol.TheVariants.{Named, Number, Minus, Plus, Star, Colon, Comma, Semicolon}
+use Rattle.flow_rationals.specs.declared.reading.symbol.Symbol.TheVariants.{Equal}
 use Rattle.flow_rationals.specs.declared.reading.symbol.Symbol.TheVariants.{LeftParen, RightParen, Max, Min, End, Other}
 
 -- the value of a literal, which is at least 0

@@ -10,11 +10,11 @@ use crate::edges::edges_of;
 use crate::equation::Equation;
 use crate::equations::Equations;
 use crate::limits::MOST_EQUATIONS;
-use std::alloc::{AllocError, Global};
-use flow_systems::System;
 use flow_edges::{Flow, Place, Point, Points};
+use flow_systems::System;
 use flow_templates::{Template, multiple};
 use lang_tree::{Name, Names};
+use std::alloc::{AllocError, Global};
 
 /// The system whose least vector has the least solution of the equations at its loop.
 ///

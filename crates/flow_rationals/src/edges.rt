@@ -8,11 +8,11 @@ ghost use Rattle.flow_rationals.specs.System.{alternative_edge, edges_of, last_f
 
 use crate::equation::{Alternative, Equation, Sum};
 use crate::limits::MOST_EQUATIONS;
-use std::alloc::{AllocError, Global};
-use flow_edges::{Action, Actions, Edge, Edges};
 use base_fractions::Frac;
+use flow_edges::{Action, Actions, Edge, Edges};
 use flow_templates::multiple;
 use lang_tree::{Coeffs, Form};
+use std::alloc::{AllocError, Global};
 
 // At most 0 where the name is at most the start.
 fn start_form(alloc: Global, names: u32, name: u32, start: Frac) -> Result<Form, AllocError>

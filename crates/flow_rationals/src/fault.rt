@@ -1,7 +1,7 @@
 //! Why a text is no equations.
 
-use std::alloc::{AllocError, AllocFailed};
 use lang_tokens::LexFault;
+use std::alloc::{AllocError, AllocFailed};
 
 /// The first fault of a text of equations; `at` counts the bytes before the token that is meant
 /// (docs/FORMATS.md, "Equations").

@@ -4,7 +4,8 @@ ghost use Rattle.std.specs.Prelude.{◌≡◌, ℕ, List, Result};
 ghost use Rattle.flow_rationals.specs.declared.equation.Equation.{Equation};
 ghost use Rattle.flow_rationals.specs.declared.fault.EquFault.{EquFault};
 ghost use Rattle.flow_rationals.specs.EquationTexts.{Answers};
-ghost use Rattle.flow_rationals.specs.Laws.{AtMostOneLeastAbove, LeastAboveEqualRightSides, LeastVectorsAreLeastAbove, PostSolutionsAreAbove};
+ghost use Rattle.flow_rationals.specs.Laws.{AtMostOneLeastAbove, LeastAboveEqualRightSides, LeastVectorsAreLeastAbove};
+ghost use Rattle.flow_rationals.specs.Laws.{PostSolutionsAreAbove};
 
 /// The values at the loop of the system's least vector are the least above the equations: a vector that is `+inf` at the entry
 /// is a post-solution exactly where its values at the loop are above the equations.

@@ -12,8 +12,8 @@ ghost use Rattle.flow_rationals.specs.EquationTexts.{ReadsWritten, Answers, Give
 
 use crate::equations::Equations;
 use crate::fault::EquFault;
-use std::alloc::Global;
 use lang_tokens::{LexFault, Token, lex};
+use std::alloc::Global;
 
 mod checks;
 mod heads;
@@ -41,7 +41,8 @@ fn tokens_of(alloc: Global, text: &[u8]) -> Result<Vec<Token>, EquFault>
     ensures within { IfOk result (λ tokens. AllWithin text.now tokens.items) }
     ensures few { IfOk result (λ tokens. length tokens.items ≤ 65537) }
     ensures refused { IfErr result (λ fault. fault ≢ NoMemory → Answers text.now (Err fault)) }
-    ensures alone { IfErr result (λ fault. fault ≢ NoMemory → (right : Result (List Equation) EquFault) → Answers text.now right → right ≡ Err fault) }
+    ensures alone { IfErr result (λ fault. fault ≢ NoMemory → (right : Result (List Equation) EquFault) → Answers text.now right
+        → right ≡ Err fault) }
 {
     match lex(alloc, text) {
         Ok(tokens) => Ok(tokens),
@@ -59,7 +60,8 @@ fn spelled(alloc: Global, text: &[u8]) -> Result<Vec<Written>, EquFault>
     ensures only { IfOk result (λ es. (other : List Written) → ReadsWritten text.now other → es.items ≡ other) }
     ensures few { IfOk result (λ es. length es.items + choice_count es.items ≤ 65537) }
     ensures refused { IfErr result (λ fault. fault ≢ NoMemory → Answers text.now (Err fault)) }
-    ensures alone { IfErr result (λ fault. fault ≢ NoMemory → (right : Result (List Equation) EquFault) → Answers text.now right → right ≡ Err fault) }
+    ensures alone { IfErr result (λ fault. fault ≢ NoMemory → (right : Result (List Equation) EquFault) → Answers text.now right
+        → right ≡ Err fault) }
 {
     let tokens = tokens_of(alloc, text)?;
     let symbols = symbols_of(alloc, text, &tokens)?;
@@ -78,9 +80,11 @@ fn spelled(alloc: Global, text: &[u8]) -> Result<Vec<Written>, EquFault>
 fn answer(alloc: Global, text: &[u8]) -> Result<Equations, EquFault>
     requires { length text.now ≤ 65536 }
     ensures equations { IfOk result (λ equations. Answers text.now (Ok equations)) }
-    ensures equations_alone { IfOk result (λ equations. (right : Result (List Equation) EquFault) → Answers text.now right → right ≡ Ok equations) }
+    ensures equations_alone { IfOk result (λ equations. (right : Result (List Equation) EquFault) → Answers text.now right
+        → right ≡ Ok equations) }
     ensures refused { IfErr result (λ fault. fault ≢ NoMemory → Answers text.now (Err fault)) }
-    ensures alone { IfErr result (λ fault. fault ≢ NoMemory → (right : Result (List Equation) EquFault) → Answers text.now right → right ≡ Err fault) }
+    ensures alone { IfErr result (λ fault. fault ≢ NoMemory → (right : Result (List Equation) EquFault) → Answers text.now right
+        → right ≡ Err fault) }
 {
     let list = spelled(alloc, text)?;
     match first_fault(&list) {

@@ -19,7 +19,8 @@ later os ps (Wide w) n h = first_wide_later long_limit os ps n ∙ h
 later os ps NoMemory n h = tt
 
 -- after a part in which no operation is wide, the answer by the later operations is the answer by all
-pub answers_later : {A : Type 0} (P : A → Type 0) (os ps : List Operation) (res : Result A OperationFault) → first_wide long_limit os ≡ None → AnswersBy P ps res → AnswersBy P (os ++ ps) res
+pub answers_later : {A : Type 0} (P : A → Type 0) (os ps : List Operation) (res : Result A OperationFault) → first_wide long_limit os ≡ None
+    → AnswersBy P ps res → AnswersBy P (os ++ ps) res
 answers_later P os ps (Ok r) n h = (h.0, first_wide_later long_limit os ps n ∙ h.1)
 answers_later P os ps (Err f) n h = later os ps f n h
 

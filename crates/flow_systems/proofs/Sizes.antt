@@ -36,7 +36,13 @@ flow_sizes flow =
     let n = both (nat_le 1 (length flow.names)) (nat_le (length flow.names) MOST_VARIABLES) a.0 in
     let p = both (nat_le 2 (length flow.points)) (nat_le (length flow.points) MOST_POINTS) b.0 in
     let e = both (nat_le (length flow.edges) 256) (list_all (is_edge (length flow.names) (length flow.points)) flow.edges) c.1 in
-    record { names = leb-true (length flow.names) MOST_VARIABLES n.1; two_points = leb-true 2 (length flow.points) p.0; points = leb-true (length flow.points) MOST_POINTS p.1; edges = e.1 }
+    record {
+      names = leb-true (length flow.names) MOST_VARIABLES n.1;
+      two_points = leb-true 2 (length flow.points) p.0;
+      points =
+          leb-true (length flow.points) MOST_POINTS p.1;
+      edges = e.1;
+    }
 
 -- a template within the limits has at most as many rows as allowed
 pub template_size : (template : List (List ℤ)) → IsTrue (is_template template) → length template ≤ MOST_ROWS

@@ -23,7 +23,8 @@ row_test row x pos_inf = []
 -- the tests of rows in order, the first having the number r, up to the first row that fails
 abbrev pub fit_operations : List (List ℤ) → (ℕ → Ext) → ℕ → RationalState → List Operation
 fit_operations [] bounds r x = []
-fit_operations (row ∷ rows) bounds r x = row_test row x (bounds r) ++ cond (is_at_most (dotℚ row x) (bounds r)) (fit_operations rows bounds (suc r) x) []
+fit_operations (row ∷ rows) bounds r x = row_test row x (bounds r) ++ cond (is_at_most (dotℚ row x) (bounds r))
+    (fit_operations rows bounds (suc r) x) []
 
 -- the test's answer says exactly whether P holds where none of the operations is wide, and carries the first that is where one is
 abbrev pub TestAnswers : Type 0 → List Operation → Result Bool (Wide ℚ) → Type 0

@@ -45,7 +45,8 @@ later_terms (name ∷ names) (c ∷ cs) = (if nat_abs c == 0 then [] else later_
 abbrev pub row_text : List (List ℕ) → List ℤ → List ℕ
 row_text [] cs = []
 row_text (name ∷ names) [] = []
-row_text (name ∷ names) (c ∷ cs) = if nat_abs c == 0 then row_text names cs else (first_sign c ++ term_text (nat_abs c) name) ++ later_terms names cs
+row_text (name ∷ names) (c ∷ cs) = if nat_abs c == 0 then row_text names cs else (first_sign c ++ term_text (nat_abs c) name)
+    ++ later_terms names cs
 
 -- what a point is, and where
 abbrev pub place_text : Place → ℕ → List ℕ

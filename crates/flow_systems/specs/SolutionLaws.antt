@@ -12,7 +12,8 @@ use Rattle.flow_systems.specs.Solutions.{equations_of_program, Holds}
 
 -- where the edges are the paths of a program, every post-solution holds
 abbrev pub PostSolutionsHold : Type 0
-PostSolutionsHold = (system : Equations) (body : Statements) (v : Vector) → EdgesArePaths system.edges body → PostSolution system v → Holds system body v
+PostSolutionsHold = (system : Equations) (body : Statements) (v : Vector) → EdgesArePaths system.edges body → PostSolution system v
+    → Holds system body v
 
 -- every post-solution of a program's system holds
 abbrev pub ProgramPostSolutionsHold : Type 0
@@ -40,13 +41,15 @@ AtMostOneLeast = (system : Equations) (v w : Vector) → Least system v → Solv
 
 -- a post-solution at most every post-solution: no number below a bound can do for it
 abbrev pub LeastSolutionsAreSupported : Type 0
-LeastSolutionsAreSupported = (system : Equations) (v : Vector) → PostSolution system v → ((w : Vector) → PostSolution system w → IsBelow system v w) →
+LeastSolutionsAreSupported = (system : Equations) (v : Vector) → PostSolution system v
+    → ((w : Vector) → PostSolution system w → IsBelow system v w) →
     (p r : ℕ) (row : List ℤ) (number : Ext) → 0 < p → p < system.points → slice_get system.template r ≡ Some row → number <ᴱ v p r →
     ¬ (¬ (Exceeds system v p row number))
 
 -- so it is least wherever it is decided whether a transition exceeds a number
 abbrev pub LeastWhereDecided : Type 0
-LeastWhereDecided = (system : Equations) (v : Vector) → PostSolution system v → ((w : Vector) → PostSolution system w → IsBelow system v w) →
+LeastWhereDecided = (system : Equations) (v : Vector) → PostSolution system v → ((w : Vector) → PostSolution system w → IsBelow system v w)
+    →
     ((p : ℕ) (row : List ℤ) (number : Ext) → Exceeds system v p row number ⊎ (¬ (Exceeds system v p row number))) → Least system v
 
 -- a bound of a solution at a point is -inf for all rows of the template or for none

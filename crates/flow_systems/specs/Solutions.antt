@@ -9,7 +9,13 @@ use Rattle.flow_systems.specs.Equations.{Equations, Vector, Fits}
 
 -- the system of a program over a number of variables, and a template
 abbrev pub equations_of_program : ℕ → Statements → List (List ℤ) → Equations
-equations_of_program variables body template = record { variables = variables; points = point_count body; edges = edges_of_program body; template = template }
+equations_of_program variables body template = record {
+  variables = variables;
+  points = point_count body;
+  edges =
+      edges_of_program body;
+  template = template;
+}
 
 -- a vector holds where in every run, at every configuration that is at a point, the state fits the vector at that point
 abbrev pub Holds : Equations → Statements → Vector → Type 0

@@ -24,7 +24,8 @@ valueℚ form x = dotℚ form.coeffs x +ℚ whole form.constant
 abbrev pub rational : State → RationalState
 rational x = map whole x
 
--- a trace along actions leads from one state to another: a guard is at most 0, an assignment sets one place to the form's value, a free one to any fraction
+-- a trace along actions leads from one state to another: a guard is at most 0, an assignment sets one place to the form's value, a free one
+-- to any fraction
 abbrev pub Traces : List Action → RationalState → RationalState → Type 0
 Traces [] x y = y ≡ x
 Traces (Guard form ∷ actions) x y = (valueℚ form x ≤ℚ zero_ℚ) × Traces actions x y

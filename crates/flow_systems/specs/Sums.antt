@@ -1,4 +1,5 @@
--- The operations by which rows and forms are summed: from the left, starting with 0, each product with the coefficient on its left and then added.
+-- The operations by which rows and forms are summed: from the left, starting with 0, each product with the coefficient on its left and then
+-- added.
 use Rattle.std.specs.Prelude.{ℤ, List, [], ◌∷◌, ◌++◌, Result}
 use Rattle.base_numbers.specs.Rational.{ℚ, whole, zero_ℚ, ◌+ℚ◌, ◌*ℚ◌}
 use Rattle.lang_tree.specs.declared.form.Form.{Form}

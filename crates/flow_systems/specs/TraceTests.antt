@@ -1,5 +1,6 @@
 -- The operations by which a trace is followed along actions, each guard tested where it stands, and a row is taken at its end.
-use Rattle.std.specs.Prelude.{◌≡◌, ◌↔◌, ℕ, ℤ, Bool, true, false, cond, List, [], ◌∷◌, ◌++◌, drop, slice_set, None, Some, Option, Result, MatchResult}
+use Rattle.std.specs.Prelude.{◌≡◌, ◌↔◌, ℕ, ℤ, Bool, true, false, cond, List, [], ◌∷◌, ◌++◌, drop, slice_set, None, Some, Option, Result}
+use Rattle.std.specs.Prelude.{MatchResult}
 use Rattle.base_numbers.specs.Rational.{ℚ, zero_ℚ, le_ℚ}
 use Rattle.flow_edges.specs.declared.edge.Action.{Action}
 use Rattle.flow_edges.specs.declared.edge.Action.TheVariants.{Guard, Assign, Havoc}
@@ -13,8 +14,10 @@ use Rattle.flow_systems.specs.Sums.{row_operations, form_operations}
 -- from a state on, with the values of the free assignments to come, up to the first guard that fails
 abbrev pub trace_operations : List Action → RationalState → List ℚ → List ℤ → List Operation
 trace_operations [] x free row = row_operations row x
-trace_operations (Guard form ∷ actions) x free row = form_operations form x ++ cond (le_ℚ (valueℚ form x) zero_ℚ) (trace_operations actions x free row) []
-trace_operations (Assign var form ∷ actions) x free row = form_operations form x ++ trace_operations actions (slice_set x var (valueℚ form x)) free row
+trace_operations (Guard form ∷ actions) x free row = form_operations form x
+    ++ cond (le_ℚ (valueℚ form x) zero_ℚ) (trace_operations actions x free row) []
+trace_operations (Assign var form ∷ actions) x free row = form_operations form x
+    ++ trace_operations actions (slice_set x var (valueℚ form x)) free row
 trace_operations (Havoc var ∷ actions) x [] row = []
 trace_operations (Havoc var ∷ actions) x (q ∷ free) row = trace_operations actions (slice_set x var q) free row
 
@@ -31,9 +34,11 @@ TraceAnswers actions x free row result =
 
 -- ---- on the way
 -- where a trace leads on from a later state: to the same ends, by operations with the same first that is wide
-pub record LeadsOn (actions : List Action) (x : RationalState) (free : List ℚ) (later : List Action) (z : RationalState) (left : List ℚ) : Type 0 where
+pub record LeadsOn (actions : List Action) (x : RationalState) (free : List ℚ) (later : List Action) (z : RationalState) (left : List ℚ) :
+    Type 0 where
   pub ends : (y : RationalState) → Follows actions x free y ↔ Follows later z left y
-  pub first : (row : List ℤ) → first_wide long_limit (trace_operations actions x free row) ≡ first_wide long_limit (trace_operations later z left row)
+  pub first : (row : List ℤ) → first_wide long_limit (trace_operations actions x free row)
+      ≡ first_wide long_limit (trace_operations later z left row)
 
 -- where a guard fails and no operation before it is wide
 pub record Fails (actions : List Action) (x : RationalState) (free : List ℚ) : Type 0 where
@@ -43,7 +48,8 @@ pub record Fails (actions : List Action) (x : RationalState) (free : List ℚ) :
 -- what one action is: its number of free values and where it leads on, or its guard fails
 abbrev pub StepIs : Action → RationalState → List ℚ → RationalState → Option ℕ → Type 0
 StepIs action x free z None = (rest : List Action) → Fails (action ∷ rest) x free
-StepIs action x free z (Some n) = (n ≡ free_count (action ∷ [])) × ((rest : List Action) → LeadsOn (action ∷ rest) x free rest z (drop n free))
+StepIs action x free z (Some n) = (n ≡ free_count (action ∷ [])) × ((rest : List Action)
+    → LeadsOn (action ∷ rest) x free rest z (drop n free))
 
 -- what one action answers: what it is, or its first operation that is wide
 abbrev pub StepAnswers : Action → RationalState → List ℚ → RationalState → Result (Option ℕ) (Wide ℚ) → Type 0

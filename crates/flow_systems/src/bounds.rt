@@ -7,9 +7,9 @@ ghost use Rattle.flow_systems.specs.Starts.{start_bounds, start_vector};
 ghost use Rattle.flow_systems.specs.View.{vector_of};
 
 use crate::system::System;
+use base_fractions::Ext;
 use std::alloc::{AllocError, Global};
 use std::marker::Model;
-use base_fractions::Ext;
 
 /// The bounds of a vector: one for each unknown, in order of its number.
 #[derive(Drop)]

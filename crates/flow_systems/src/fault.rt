@@ -1,7 +1,7 @@
 //! Why a value isn't made from fractions.
 
-use std::alloc::{AllocError, AllocFailed};
 use base_fractions::{Frac, Wide};
+use std::alloc::{AllocError, AllocFailed};
 
 /// Why a value isn't made: this was too wide, or there was no memory. What was too wide is an operation, or the spot of one.
 #[derive(Clone, Copy, Debug, PartialEq, Eq, Drop)]

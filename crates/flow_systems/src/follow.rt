@@ -11,8 +11,8 @@ ghost use Rattle.flow_systems.specs.TraceTests.{TraceAnswers, StepAnswers, Follo
 use crate::sums::{Constants, form_value, row_value};
 use crate::system::System;
 use crate::trace::Trace;
-use flow_edges::Action;
 use base_fractions::{Frac, OrderedField, Wide};
+use flow_edges::Action;
 use lang_tree::MOST_VARIABLES;
 
 // Takes one action: how many of the free values to come it took, or that its guard failed.

@@ -1,7 +1,7 @@
 //! Where an operation was too wide for a fraction.
 
-use std::alloc::{AllocError, AllocFailed};
 use base_fractions::{Frac, Wide};
+use std::alloc::{AllocError, AllocFailed};
 
 /// A part of solving a linear problem.
 #[derive(Clone, Copy, Debug, PartialEq, Eq, Drop)]

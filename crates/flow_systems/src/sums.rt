@@ -72,7 +72,8 @@ fn constant(form: &Form, constants: Constants) -> Frac
 /// The first operation whose exact result has a part above the limit, exactly where there is one. Takes no memory.
 pub fn form_value(form: &Form, constants: Constants, state: &[Frac]) -> Result<Frac, Wide<Frac>>
     requires { IsTrue (is_form (length state.now) form.now) }
-    ensures { SumAnswers (valueℚ (form_with constants form.now) state.now) (form_operations (form_with constants form.now) state.now) result }
+    ensures { SumAnswers (valueℚ (form_with constants form.now) state.now) (form_operations (form_with constants form.now) state.now)
+        result }
 {
     let sum = row_value(form.coeffs.as_slice(), state)?;
     sum.plus(constant(form, constants))

@@ -1,5 +1,6 @@
 -- How a line spells a row: tokens of the language, and what they amount to.
-use Rattle.std.specs.Prelude.{◌≡◌, ◌==◌, ◌+◌, ◌++◌, ◌⊎◌, ℕ, ℤ, pos, neg_ℤ, Bool, true, false, if◌then◌else◌, IsFalse, List, [], ◌∷◌, map, slice_range, Option}
+use Rattle.std.specs.Prelude.{◌≡◌, ◌==◌, ◌+◌, ◌++◌, ◌⊎◌, ℕ, ℤ, pos, neg_ℤ, Bool, true, false, if◌then◌else◌, IsFalse, List, [], ◌∷◌, map}
+use Rattle.std.specs.Prelude.{slice_range, Option}
 use Rattle.std.specs.Prelude.{Some, None, unwrap_or}
 use Rattle.std.specs.List.{list_any}
 use Rattle.lang_tokens.specs.declared.token.Token.{Token}

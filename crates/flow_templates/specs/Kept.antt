@@ -8,7 +8,8 @@ use Rattle.flow_templates.specs.declared.term.Term.{Term}
 use Rattle.lang_tokens.specs.declared.token.Token.{Token}
 use Rattle.lang_tokens.specs.declared.token.Kind.{Kind}
 use Rattle.lang_tokens.specs.declared.token.Kind.TheVariants as kind
-use Rattle.flow_templates.specs.Grammar.{Amount, Symbol, named, times, Written, amount, signed, sign_symbol, unsigned_symbols, symbols_of, Spells, ReadsTerms}
+use Rattle.flow_templates.specs.Grammar.{Amount, Symbol, named, times, Written, amount, signed, sign_symbol, unsigned_symbols, symbols_of}
+use Rattle.flow_templates.specs.Grammar.{Spells, ReadsTerms}
 use Rattle.flow_templates.specs.Sums.{total}
 
 -- what a kept term stands for

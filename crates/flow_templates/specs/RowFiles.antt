@@ -1,5 +1,6 @@
 -- The rows of a file, and its first fault.
-use Rattle.std.specs.Prelude.{◌≡◌, ◌==◌, ◌||◌, ◌+◌, ◌++◌, ◌⊎◌, ℕ, ℤ, Bool, true, not, IsTrue, IsFalse, List, [], ◌∷◌, length, find, Option, Some, None}
+use Rattle.std.specs.Prelude.{◌≡◌, ◌==◌, ◌||◌, ◌+◌, ◌++◌, ◌⊎◌, ℕ, ℤ, Bool, true, not, IsTrue, IsFalse, List, [], ◌∷◌, length, find, Option}
+use Rattle.std.specs.Prelude.{Some, None}
 use Rattle.std.specs.Prelude.{option_to_list, Result, Ok, Err}
 use Rattle.std.specs.List.{list_all, slice_split}
 use Rattle.flow_templates.specs.declared.fault.RowFault.{RowFault}

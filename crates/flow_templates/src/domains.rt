@@ -8,8 +8,8 @@ ghost use Rattle.flow_templates.specs.Domains.{multiple, combination, intervals_
 ghost use Rattle.lang_tree.specs.declared.limits.TheConstants.{MOST_VARIABLES};
 
 use crate::template::Template;
-use std::alloc::{AllocError, Global};
 use lang_tree::Coeffs;
+use std::alloc::{AllocError, Global};
 
 /// The row of `c` times one of so many variables.
 ///

@@ -1,6 +1,7 @@
 //! Row files.
 
-ghost use Rattle.std.specs.Prelude.{◌≡◌, ◌≢◌, ◌≤◌, ◌++◌, ℤ, List, Result, length, map, nat_le, option_to_list, OnOk, IfOk, IfErr, IsTrue, Ok, Err};
+ghost use Rattle.std.specs.Prelude.{◌≡◌, ◌≢◌, ◌≤◌, ◌++◌, ℤ, List, Result, length, map, nat_le, option_to_list, OnOk, IfOk, IfErr, IsTrue};
+ghost use Rattle.std.specs.Prelude.{Ok, Err};
 ghost use Rattle.std.specs.List.{list_all};
 ghost use Rattle.flow_templates.specs.declared.fault.RowFault.{RowFault};
 ghost use Rattle.flow_templates.specs.declared.fault.RowFault.TheVariants.{NoMemory};
@@ -11,8 +12,8 @@ use crate::fault::RowFault;
 use crate::given::count_fault;
 use crate::line::read_line;
 use crate::template::Template;
-use std::alloc::{AllocError, Global};
 use lang_tree::{Coeffs, Name};
+use std::alloc::{AllocError, Global};
 
 // The lines of a text: the pieces between its line feeds.
 fn lines_of<'a>(alloc: Global, text: &'a [u8]) -> Result<Vec<&'a [u8]>, AllocError>

@@ -8,8 +8,8 @@ ghost use Rattle.flow_templates.specs.declared.fault.RowFault.TheVariants.{NoMem
 use crate::fault::RowFault;
 use crate::limits::MOST_ROWS;
 use crate::template::Template;
-use std::alloc::{AllocError, Global};
 use lang_tree::Coeffs;
+use std::alloc::{AllocError, Global};
 
 /// Whether some coefficient isn't 0.
 pub(crate) fn is_row(coefficients: &[i64]) -> bool

@@ -13,9 +13,9 @@ use crate::given::is_row;
 use crate::row::{are_known, row_of};
 use crate::sums::sums;
 use crate::term::{Term, terms};
-use std::alloc::Global;
 use lang_tokens::{LexFault, Token, lex};
 use lang_tree::{Coeffs, Name};
+use std::alloc::Global;
 
 // Space, tab and carriage return.
 fn is_blank(byte: u8) -> bool

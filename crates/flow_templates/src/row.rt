@@ -7,9 +7,9 @@ ghost use Rattle.flow_templates.specs.Kept.{sum_at};
 
 use crate::sums::sum_of;
 use crate::term::Term;
+use lang_tree::Name;
 use std::alloc::{AllocError, Global};
 use std::collections::BTreeMap;
-use lang_tree::Name;
 
 // Whether the name is one of these.
 fn is_among(names: &[Name], name: &[u8]) -> bool

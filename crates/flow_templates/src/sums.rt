@@ -32,7 +32,8 @@ fn sum_within(left: i64, right: i64) -> Option<i64>
 // Adds a term to the coefficient of its name, and says whether that stays within `2^63 - 1`.
 fn add<'a>(sums: &mut BTreeMap<&'a [u8], i64>, term: Term<'a>) -> Result<bool, AllocError>
     ensures fits { IfOk result (λ fits. fits ≡ is_number (sum_at sums.old term.entry.name.now +ℤ term.entry.coefficient)) }
-    ensures sums { IfOk result (λ fits. IsTrue fits → (name : List ℕ) → sum_at sums.new name ≡ sum_at sums.old name +ℤ share name (kept_amount term.entry)) }
+    ensures sums { IfOk result (λ fits. IsTrue fits → (name : List ℕ) →
+        sum_at sums.new name ≡ sum_at sums.old name +ℤ share name (kept_amount term.entry)) }
 {
     match sum_within(sum_of(sums, term.name), term.coefficient) {
         Some(sum) => {

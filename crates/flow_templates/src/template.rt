@@ -3,8 +3,8 @@
 ghost use Rattle.std.specs.Prelude.{◌≡◌, IsTrue};
 ghost use Rattle.flow_templates.specs.Rows.{is_template};
 
-use std::marker::Model;
 use lang_tree::Coeffs;
+use std::marker::Model;
 
 /// A template: 1 to `MOST_ROWS` rows, numbered from 0. Each is a list of coefficients, one for each variable in order, not all 0.
 #[derive(Drop)]

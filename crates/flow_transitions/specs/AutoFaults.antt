@@ -43,4 +43,5 @@ fault_or (Some f) other = Some f
 
 -- the first fault of so many points and these edges
 abbrev pub fault_of : ℕ → List AutoEdge → Option AutoFault
-fault_of points edges = fault_or (cases_fault edges) (fault_or (edges_fault (edges_of points edges)) (actions_fault (edges_of points edges)))
+fault_of points edges = fault_or (cases_fault edges) (fault_or (edges_fault (edges_of points edges))
+    (actions_fault (edges_of points edges)))

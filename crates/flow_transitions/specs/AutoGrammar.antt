@@ -3,7 +3,8 @@ use Rattle.std.specs.Prelude.{◌≡◌, ◌+◌, ◌++◌, ℕ, List, [], ◌�
 use Rattle.lang_tokens.specs.declared.word.Word.TheVariants as word
 use Rattle.lang_tokens.specs.declared.token.Kind as lex_kind
 use Rattle.lang_tokens.specs.declared.token.Token as lex_token
-use Rattle.lang_grammar.specs.Grammar.{Kind, a_name, comma, semicolon, left_brace, right_brace, left_paren, right_paren, change_sign, replaces}
+use Rattle.lang_grammar.specs.Grammar.{Kind, a_name, comma, semicolon, left_brace, right_brace, left_paren, right_paren, change_sign}
+use Rattle.lang_grammar.specs.Grammar.{replaces}
 use Rattle.lang_grammar.specs.Grammar.{assume_word, other_word, the_end, Token, token, Expr, spell_expr, Groups}
 use Rattle.lang_grammar.specs.View.{kind_of}
 

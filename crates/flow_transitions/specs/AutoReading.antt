@@ -1,5 +1,6 @@
 -- How a transition system is read: token by token, and expression by expression, from place to place.
-use Rattle.std.specs.Prelude.{◌≡◌, ◌+◌, ◌++◌, ℕ, zero, suc, Bool, true, if◌then◌else◌, List, [], ◌∷◌, length, map, codes, nat_le, nat_lt, Option, Some, None, Result, Ok, Err}
+use Rattle.std.specs.Prelude.{◌≡◌, ◌+◌, ◌++◌, ℕ, zero, suc, Bool, true, if◌then◌else◌, List, [], ◌∷◌, length, map, codes, nat_le, nat_lt}
+use Rattle.std.specs.Prelude.{Option, Some, None, Result, Ok, Err}
 use Rattle.std.specs.Str.{bytes_eq}
 use Rattle.lang_tokens.specs.declared.token.Token.{Token}
 use Rattle.lang_grammar.specs.View.{tokens_of}
@@ -128,7 +129,8 @@ point_if None r s = Ok (record r { points = r.points ++ record { name = s.bytes;
 
 -- `,` between points, or `;` behind them, where they are counted
 abbrev pub counted_then : ℕ → Stepped → Stepped
-counted_then count next = if nat_le 2 count then (if nat_le count MOST_POINTS then next else Err (fault.Points count)) else Err (fault.Points count)
+counted_then count next = if nat_le 2 count then (if nat_le count MOST_POINTS then next else Err (fault.Points count)) else Err
+    (fault.Points count)
 
 abbrev pub behind_point : Symbol → Progress → Seen → Stepped
 behind_point symbol.Comma r s = going r at_point
@@ -258,10 +260,12 @@ pub data ReadsTo (text : List ℕ) (tokens : List Token) : Stepped → ℕ → A
       ReadsTo text tokens x i answer
   by_token : (x : Stepped) (i : ℕ) (answer : AutoAnswer) (r : Progress) → x ≡ Ok r → wanted_at r.stand ≡ a_token →
       ReadsTo text tokens (token_at r.stand r (seen_at text tokens i)) (i + 1) answer → ReadsTo text tokens x i answer
-  by_expression : (x : Stepped) (i : ℕ) (answer : AutoAnswer) (r : Progress) (m : Meaning) (next : ℕ) → x ≡ Ok r → wanted_at r.stand ≡ an_expression →
+  by_expression : (x : Stepped) (i : ℕ) (answer : AutoAnswer) (r : Progress) (m : Meaning) (next : ℕ) → x ≡ Ok r
+      → wanted_at r.stand ≡ an_expression →
       ExpressionMeans text (tokens_of text tokens) i r.variables (Ok (m, next)) →
       ReadsTo text tokens (expression_at r.stand (seen_at text tokens i).at m r) next answer → ReadsTo text tokens x i answer
-  no_expression : (x : Stepped) (i : ℕ) (answer : AutoAnswer) (r : Progress) (f : ParseFault) → x ≡ Ok r → wanted_at r.stand ≡ an_expression →
+  no_expression : (x : Stepped) (i : ℕ) (answer : AutoAnswer) (r : Progress) (f : ParseFault) → x ≡ Ok r → wanted_at r.stand ≡ an_expression
+      →
       ExpressionMeans text (tokens_of text tokens) i r.variables (Err f) → answer ≡ Err (fault.Parse f) → ReadsTo text tokens x i answer
 
 -- before the first token
@@ -280,5 +284,6 @@ parse_fault f = fault.Parse f
 
 -- What has been read of the text leads on to this step, or the fault is the answer.
 abbrev pub Advances : {X : Type 0} → List ℕ → List Token → Progress → ℕ → Result X AutoFault → (X → Progress) → (X → ℕ) → Type 0
-Advances text tokens r i (Ok x) after next = (answer : AutoAnswer) → ReadsTo text tokens (Ok (after x)) (next x) answer → ReadsTo text tokens (Ok r) i answer
+Advances text tokens r i (Ok x) after next = (answer : AutoAnswer) → ReadsTo text tokens (Ok (after x)) (next x) answer
+    → ReadsTo text tokens (Ok r) i answer
 Advances text tokens r i (Err f) after next = (f ≡ fault.NoMemory → ⊥) → ReadsTo text tokens (Ok r) i (Err f)

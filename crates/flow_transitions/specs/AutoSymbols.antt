@@ -10,7 +10,8 @@ use Rattle.lang_tokens.specs.declared.sign.Sign.TheVariants as sign
 use Rattle.lang_tokens.specs.Lines.{line_at}
 use Rattle.lang_tokens.specs.TokenLists.{AreTokensOf}
 use Rattle.flow_transitions.specs.declared.reading.symbol.Symbol.{Symbol}
-use Rattle.flow_transitions.specs.declared.reading.symbol.Symbol.TheVariants.{Name, Assume, Comma, Semicolon, Equal, LeftParen, RightParen, LeftBrace, RightBrace, End, Other}
+use Rattle.flow_transitions.specs.declared.reading.symbol.Symbol.TheVariants.{Name, Assume, Comma, Semicolon, Equal, LeftParen, RightParen}
+use Rattle.flow_transitions.specs.declared.reading.symbol.Symbol.TheVariants.{LeftBrace, RightBrace, End, Other}
 
 -- the signs that stand outside expressions
 abbrev pub sign_symbol : Sign → Symbol

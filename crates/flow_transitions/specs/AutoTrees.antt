@@ -23,10 +23,12 @@ use Rattle.flow_transitions.specs.declared.fault.AutoFault.{AutoFault}
 use Rattle.flow_transitions.specs.declared.fault.AutoFault.TheVariants as fault
 use Rattle.flow_transitions.specs.declared.reading.point_name.PointName.{PointName}
 use Rattle.flow_transitions.specs.AutoReading.{AutoAnswer, points_of, as_side}
-use Rattle.flow_transitions.specs.AutoGrammar.{tokens_here, Spot, Names, Act, sets, assumes, Head, Written, Heads, System, ReadsSystem, IsUnexpected}
+use Rattle.flow_transitions.specs.AutoGrammar.{tokens_here, Spot, Names, Act, sets, assumes, Head, Written, Heads, System, ReadsSystem}
+use Rattle.flow_transitions.specs.AutoGrammar.{IsUnexpected}
 use Rattle.flow_transitions.specs.AutoGrammar.{Frame, condition, side, Inside, Begun, begun_then, no_token, some_variables, a_variable}
 use Rattle.flow_transitions.specs.AutoGrammar.{all_variables}
-use Rattle.flow_transitions.specs.AutoGrammar.{some_points, a_point, some_edges, an_edge, a_source, a_target, some_acts, an_assume, an_assigned}
+use Rattle.flow_transitions.specs.AutoGrammar.{some_points, a_point, some_edges, an_edge, a_source, a_target, some_acts, an_assume}
+use Rattle.flow_transitions.specs.AutoGrammar.{an_assigned}
 use Rattle.flow_transitions.specs.AutoGrammar.{some_expression}
 use Rattle.flow_transitions.specs.AutoGrammar.{an_expression, an_assumption}
 

@@ -9,8 +9,10 @@ use lang_tree::Names;
 
 /// A transition system: its variables, its points, and its edges in order of the text.
 ///
-/// There are 1 to `MOST_VARIABLES` variables and 2 to `MOST_POINTS` points. The first point has the place `Entry` and line 0, each other one the
-/// place `Label`. Every edge goes from a point to another than the first. An act is a `Set`, a `Havoc` or an `Assume`, with variables, forms and
+/// There are 1 to `MOST_VARIABLES` variables and 2 to `MOST_POINTS` points. The first point has the place `Entry` and line 0, each other
+/// one the
+/// place `Label`. Every edge goes from a point to another than the first. An act is a `Set`, a `Havoc` or an `Assume`, with variables,
+/// forms and
 /// conditions as in a program: one coefficient for each variable, numbers within `2^63 - 1` in absolute value, the constant of a comparison
 /// within `2^63 - 2`, at most 64 leaves in a condition.
 #[derive(Drop)]

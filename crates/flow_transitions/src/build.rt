@@ -11,8 +11,8 @@ use crate::edges::edges_of;
 use crate::fault::AutoFault;
 use crate::limits::{MOST_ACTIONS, MOST_EDGES};
 use crate::points::points_again;
-use std::alloc::Global;
 use flow_edges::{Edge, Edges, Flow};
+use std::alloc::Global;
 
 /// The points and the edges of a transition system: for each edge of its text one for each choice of a case in which each assumption may be
 /// true, the first assumption outermost. Edges are in order of their points, then of the text, then of the choices.

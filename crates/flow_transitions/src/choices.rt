@@ -11,9 +11,9 @@ ghost use Rattle.flow_transitions.specs.Choices.{choices_in, choices_of};
 
 use crate::counting::choice_count;
 use crate::limits::MOST_ACTIONS;
-use std::alloc::{AllocError, Global};
 use flow_edges::{Action, Actions, Cases, cases};
 use lang_tree::{Cond, Form, Stmt};
+use std::alloc::{AllocError, Global};
 
 /// How many actions of an edge are kept: one with more than `MOST_ACTIONS` is refused, so what comes later doesn't matter.
 const KEPT: usize = MOST_ACTIONS + 1;

@@ -10,9 +10,9 @@ ghost use Rattle.flow_transitions.specs.Counted.{have_room_along, way_count};
 use crate::auto_edge::AutoEdge;
 use crate::fault::AutoFault;
 use crate::limits::MOST_EDGES;
-use std::alloc::Global;
 use flow_edges::{CasesFault, cases};
 use lang_tree::Stmt;
+use std::alloc::Global;
 
 /// Where counting stops.
 pub(crate) const ENOUGH: u32 = MOST_EDGES + 1;
@@ -23,7 +23,8 @@ pub(crate) fn choice_count(alloc: Global, act: &Stmt) -> Result<u32, CasesFault>
     ensures count { IfOk result (λ n. n ≡ length (choices_of (statement_of act.now))) }
     ensures few { IfOk result (λ n. n ≤ 64) }
     ensures narrow { IfOk result (λ _. is_wide_act (statement_of act.now) ≡ false) }
-    ensures wide { IfErr result (λ fault. (fault ≡ CasesFault.NoMemory) ⊎ ((fault ≡ CasesFault.TooMany) × (is_wide_act (statement_of act.now) ≡ true))) }
+    ensures wide { IfErr result (λ fault. (fault ≡ CasesFault.NoMemory)
+        ⊎ ((fault ≡ CasesFault.TooMany) × (is_wide_act (statement_of act.now) ≡ true))) }
 {
     match act {
         Stmt::Set { .. } | Stmt::Havoc { .. } => Ok(1),
@@ -40,7 +41,8 @@ pub(crate) fn way_count(alloc: Global, acts: &[Stmt]) -> Result<u32, CasesFault>
     requires { IsTrue (have_rooms (statements_of acts.now)) }
     ensures count { IfOk result (λ n. n ≡ min (length (choices_in (statements_of acts.now))) ENOUGH) }
     ensures narrow { IfOk result (λ _. has_wide (statements_of acts.now) ≡ false) }
-    ensures wide { IfErr result (λ fault. (fault ≡ CasesFault.NoMemory) ⊎ ((fault ≡ CasesFault.TooMany) × (has_wide (statements_of acts.now) ≡ true))) }
+    ensures wide { IfErr result (λ fault. (fault ≡ CasesFault.NoMemory)
+        ⊎ ((fault ≡ CasesFault.TooMany) × (has_wide (statements_of acts.now) ≡ true))) }
 {
     let mut count = 1;
     for act in acts {
@@ -54,7 +56,8 @@ fn ways_along(alloc: Global, edge: &AutoEdge) -> Result<u32, AutoFault>
     requires { IsTrue (have_rooms edge.now.acts) }
     ensures count { IfOk result (λ n. n ≡ min (way_count edge.now) ENOUGH) }
     ensures narrow { IfOk result (λ _. has_wide edge.now.acts ≡ false) }
-    ensures wide { IfErr result (λ fault. (fault ≡ AutoFault.NoMemory) ⊎ ((fault ≡ AutoFault.Cases edge.now.at) × (has_wide edge.now.acts ≡ true))) }
+    ensures wide { IfErr result (λ fault. (fault ≡ AutoFault.NoMemory)
+        ⊎ ((fault ≡ AutoFault.Cases edge.now.at) × (has_wide edge.now.acts ≡ true))) }
 {
     match way_count(alloc, edge.acts.as_slice()) {
         Ok(count) => Ok(count),

@@ -10,9 +10,9 @@ ghost use Rattle.flow_transitions.specs.Counted.{have_room_along, way_count};
 use crate::auto_edge::AutoEdge;
 use crate::choices::chosen;
 use crate::counting::way_count;
-use std::alloc::{AllocError, Global};
 use flow_edges::Edge;
 use lang_tree::Stmt;
+use std::alloc::{AllocError, Global};
 
 /// The edges from so many points, in order, each with at most 257 of its actions.
 pub(crate) fn edges_of(

@@ -2,20 +2,22 @@
 
 ghost use Rattle.std.specs.Prelude.{◌≡◌};
 
-use std::alloc::{AllocError, AllocFailed};
-use lang_tokens::LexFault;
 use lang_parser::ParseFault;
+use lang_tokens::LexFault;
+use std::alloc::{AllocError, AllocFailed};
 
 /// Why a text is no transition system, or why a transition system has no flow; `at` counts the bytes of the text before what is meant
 /// (docs/FORMATS.md, "Transition systems").
 ///
-/// Of a text `Lex` comes first, and then the first place decides. Of a transition system the first of `Cases`, `Edges` and `Actions` that stands is
+/// Of a text `Lex` comes first, and then the first place decides. Of a transition system the first of `Cases`, `Edges` and `Actions` that
+/// stands is
 /// answered. `NoMemory` comes at any time.
 #[derive(Clone, Copy, Debug, PartialEq, Eq)]
 pub enum AutoFault {
     /// The text has no tokens.
     Lex(LexFault),
-    /// A token can't stand in its place; a variable or a point stands twice; there is a variable too many; a variable is unknown; an expression is
+    /// A token can't stand in its place; a variable or a point stands twice; there is a variable too many; a variable is unknown; an
+    /// expression is
     /// refused, or isn't what an act asks for.
     Parse(ParseFault),
     /// This name of an edge is no point.

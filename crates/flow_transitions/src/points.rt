@@ -2,8 +2,8 @@
 
 ghost use Rattle.std.specs.Prelude.{◌≡◌, IfOk};
 
-use std::alloc::{AllocError, Global};
 use flow_edges::{Place, Point, Points};
+use std::alloc::{AllocError, Global};
 
 /// The same points once more.
 pub(crate) fn points_again(alloc: Global, points: &Points) -> Result<Points, AllocError>

@@ -10,10 +10,10 @@ ghost use Rattle.flow_transitions.specs.AutoTexts.{GivesAuto, IsAuto, content};
 use crate::auto::Auto;
 use crate::auto_edge::AutoEdges;
 use crate::fault::AutoFault;
-use std::alloc::{AllocError, Global};
 use flow_edges::{Place, Point, Points};
 use lang_tokens::{LexFault, Token, lex};
 use lang_tree::Names;
+use std::alloc::{AllocError, Global};
 
 mod acts;
 mod edges;

@@ -14,12 +14,12 @@ ghost use Rattle.lang_reader.specs.Values.{value_of};
 ghost use Rattle.lang_reader.specs.Views.{state_of};
 
 use crate::sides::{assigned, right_side};
+use lang_grammar::{Change, Symbol};
 use lang_meaning::ParseFault;
 use lang_reader::{
     Frame, Lexeme, Mode, Reader, Source, Test, Value, Within, assignment, level, one, regarded,
     tested,
 };
-use lang_grammar::{Change, Symbol};
 use lang_tokens::line_of;
 use lang_tree::{Cond, Stmt};
 

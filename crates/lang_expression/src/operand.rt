@@ -10,13 +10,13 @@ ghost use Rattle.lang_reader.specs.Frames.{frames_of};
 ghost use Rattle.lang_reader.specs.Modes.{unnamed, lexeme_kind, mode_of, machine_of};
 ghost use Rattle.lang_reader.specs.Views.{state_of};
 
+use lang_grammar::{Op, Symbol};
 use lang_meaning::ParseFault;
 use lang_reader::{
     Before, Frame, Frames, Lexeme, Mode, Reader, Source, Value, constant_form, literal,
     variable_form,
 };
 use std::alloc::AllocError;
-use lang_grammar::{Op, Symbol};
 
 // A sign, a parenthesis or `nondet` where an operand has to stand.
 fn signed(frames: &mut Frames, symbol: Symbol, place: u32) -> Result<Mode, AllocError>

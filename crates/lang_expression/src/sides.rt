@@ -7,9 +7,9 @@ ghost use Rattle.lang_meaning.specs.Walk.{right_side, assigned};
 ghost use Rattle.lang_meaning.specs.Gives.{Gives};
 ghost use Rattle.lang_reader.specs.Values.{value_of};
 
+use lang_grammar::Change;
 use lang_meaning::ParseFault;
 use lang_reader::{Source, Value, number_of, together, variable_form};
-use lang_grammar::Change;
 use lang_tree::Form;
 
 // The right side of the `=` at `sign`: a form, or any value.

@@ -1,12 +1,18 @@
 -- Which tokens open a construct, and how many are open there.
 use Rattle.std.specs.Prelude.{◌++◌, true, false, nat_lt, ℕ, suc, List, [], ◌∷◌, Option, Some, None}
-use Rattle.lang_grammar.specs.Grammar.{Kind, infix_sign, bang, left_paren, left_brace, if_word, while_word, do_word, for_word, Token, token, Expr, number, variable, free, grouped}
-use Rattle.lang_grammar.specs.Grammar.{prefixed, joined, Declarator, bare, given, Declarators, declares, declares_more, Core, empty, block, if_alone, if_else}
-use Rattle.lang_grammar.specs.Grammar.{Update, set, step_after, step_before, ForFirst, no_first, declared_first, updated_first, ForTest, no_test, given_test}
-use Rattle.lang_grammar.specs.Grammar.{ForLast, no_last, updated_last, repeat, repeat_after, repeat_for, jumps, assumed, updates, Sub, labelled, plain, Items, no_items, label, declaration, item, Parameters}
+use Rattle.lang_grammar.specs.Grammar.{Kind, infix_sign, bang, left_paren, left_brace, if_word, while_word, do_word, for_word, Token, token}
+use Rattle.lang_grammar.specs.Grammar.{Expr, number, variable, free, grouped}
+use Rattle.lang_grammar.specs.Grammar.{prefixed, joined, Declarator, bare, given, Declarators, declares, declares_more, Core, empty, block}
+use Rattle.lang_grammar.specs.Grammar.{if_alone, if_else}
+use Rattle.lang_grammar.specs.Grammar.{Update, set, step_after, step_before, ForFirst, no_first, declared_first, updated_first, ForTest}
+use Rattle.lang_grammar.specs.Grammar.{no_test, given_test}
+use Rattle.lang_grammar.specs.Grammar.{ForLast, no_last, updated_last, repeat, repeat_after, repeat_for, jumps, assumed, updates, Sub}
+use Rattle.lang_grammar.specs.Grammar.{labelled, plain, Items, no_items, label, declaration, item, Parameters}
 use Rattle.lang_grammar.specs.Grammar.{nothing, void_at, Return, no_return, returns, returns_minus, Program, program}
-use Rattle.lang_grammar.specs.Machine.{Goal, operand, more, statement, after_name, maybe_else, condition, do_end, header, declarator, declared, some_name, parameters, returned}
-use Rattle.lang_grammar.specs.Machine.{header_first, header_test, header_last, updating, some_number, only, step, entry, takes, skips, stops}
+use Rattle.lang_grammar.specs.Machine.{Goal, operand, more, statement, after_name, maybe_else, condition, do_end, header, declarator}
+use Rattle.lang_grammar.specs.Machine.{declared, some_name, parameters, returned}
+use Rattle.lang_grammar.specs.Machine.{header_first, header_test, header_last, updating, some_number, only, step, entry, takes, skips}
+use Rattle.lang_grammar.specs.Machine.{stops}
 
 -- For each token of the spelling: whether it opens a construct, and how many are open at it.
 abbrev pub opens_expr : ℕ → Expr → List (Option ℕ)
@@ -55,7 +61,8 @@ abbrev mutual
   opens_core d (empty a) = None ∷ []
   opens_core d (block a is b) = Some d ∷ (opens_items (suc d) is ++ None ∷ [])
   opens_core d (if_alone a b e c s) = Some d ∷ None ∷ (opens_expr (suc d) e ++ None ∷ opens_sub (suc d) s)
-  opens_core d (if_else a b e c s i t) = Some d ∷ None ∷ (opens_expr (suc d) e ++ None ∷ (opens_sub (suc d) s ++ None ∷ opens_sub (suc d) t))
+  opens_core d (if_else a b e c s i t) = Some d ∷ None ∷ (opens_expr (suc d) e ++ None
+      ∷ (opens_sub (suc d) s ++ None ∷ opens_sub (suc d) t))
   opens_core d (repeat a b e c s) = Some d ∷ None ∷ (opens_expr (suc d) e ++ None ∷ opens_sub (suc d) s)
   opens_core d (repeat_after a s b c e i j) = Some d ∷ (opens_sub (suc d) s ++ None ∷ None ∷ (opens_expr (suc d) e ++ None ∷ None ∷ []))
   opens_core d (repeat_for a b f t l s) =
@@ -89,7 +96,8 @@ opens_return (returns_minus a b n c d) = None ∷ None ∷ None ∷ None ∷ []
 
 -- what the tokens of a program open
 abbrev pub opens : Program → List (Option ℕ)
-opens (program a b c ps d e is r f g) = None ∷ None ∷ None ∷ (opens_parameters ps ++ None ∷ None ∷ (opens_items 0 is ++ (opens_return r ++ None ∷ None ∷ [])))
+opens (program a b c ps d e is r f g) = None ∷ None ∷ None ∷ (opens_parameters ps ++ None ∷ None
+    ∷ (opens_items 0 is ++ (opens_return r ++ None ∷ None ∷ [])))
 
 -- the same, told by the machine
 abbrev pub opened_operand : ℕ → Kind → Option ℕ

@@ -54,7 +54,8 @@ FindsExpr (stops_at a) ts =
     (front : List Token) × (k : Kind) × (rest : List Token) × (ts ≡ front ++ token k a ∷ rest) × FineExpr front
     × ((e : Expr) → ReadsExpr front e → ⊥) × (BeginsExpr (front ++ token k a ∷ []) → ⊥)
 FindsExpr (nests_at a) ts =
-    (front : List Token) × (k : Kind) × (rest : List Token) × (ts ≡ front ++ token k a ∷ rest) × FineExpr front × BeginsExpr (front ++ token k a ∷ [])
+    (front : List Token) × (k : Kind) × (rest : List Token) × (ts ≡ front ++ token k a ∷ rest) × FineExpr front
+    × BeginsExpr (front ++ token k a ∷ [])
     × ((depths : List (Option ℕ)) × (d : ℕ) × OpensExpr (front ++ token k a ∷ []) (depths ++ Some d ∷ []) × (64 ≤ d))
 
 -- ---- the machine of programs, at an expression

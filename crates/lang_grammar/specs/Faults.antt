@@ -26,5 +26,6 @@ Finds short ts = Fine ts
 Finds (unexpected a) ts =
     (front : List Token) × (k : Kind) × (rest : List Token) × (ts ≡ front ++ token k a ∷ rest) × IsUnexpected front (token k a) × Fine front
 Finds (nested a) ts =
-    (front : List Token) × (k : Kind) × (rest : List Token) × (ts ≡ front ++ token k a ∷ rest) × Fine front × Begins (front ++ token k a ∷ [])
+    (front : List Token) × (k : Kind) × (rest : List Token) × (ts ≡ front ++ token k a ∷ rest) × Fine front
+    × Begins (front ++ token k a ∷ [])
     × ((depths : List (Option ℕ)) × (d : ℕ) × Opens (front ++ token k a ∷ []) (depths ++ Some d ∷ []) × (64 ≤ d))

@@ -259,8 +259,10 @@ abbrev mutual
       token if_word a ∷ token left_paren b ∷ (spell_expr e ++ token right_paren c ∷ (spell_sub s ++ token else_word d ∷ spell_sub t))
   spell_core (repeat a b e c s) = token while_word a ∷ token left_paren b ∷ (spell_expr e ++ token right_paren c ∷ spell_sub s)
   spell_core (repeat_after a s b c e d i) =
-      token do_word a ∷ (spell_sub s ++ token while_word b ∷ token left_paren c ∷ (spell_expr e ++ token right_paren d ∷ token semicolon i ∷ []))
-  spell_core (repeat_for a b f t l s) = token for_word a ∷ token left_paren b ∷ (spell_first f ++ (spell_test t ++ (spell_last l ++ spell_sub s)))
+      token do_word a ∷ (spell_sub s ++ token while_word b ∷ token left_paren c
+      ∷ (spell_expr e ++ token right_paren d ∷ token semicolon i ∷ []))
+  spell_core (repeat_for a b f t l s) = token for_word a ∷ token left_paren b
+      ∷ (spell_first f ++ (spell_test t ++ (spell_last l ++ spell_sub s)))
   spell_core (jumps j a b) = token (jump_word j) a ∷ token semicolon b ∷ []
   spell_core (assumed a b e c d) = token assume_word a ∷ token left_paren b ∷ (spell_expr e ++ token right_paren c ∷ token semicolon d ∷ [])
   spell_core (updates u c) = spell_update u ++ token semicolon c ∷ []

@@ -1,7 +1,9 @@
 -- A machine that reads a text token by token: a stack of what has still to come.
 use Rattle.std.specs.Prelude.{◌++◌, ℕ, suc, List, [], ◌∷◌, Option, Some, None}
-use Rattle.lang_grammar.specs.Grammar.{Op, plus_op, minus_op, replaces, Kind, a_name, a_number, infix_sign, bang, left_paren, right_paren, left_brace, right_brace}
-use Rattle.lang_grammar.specs.Grammar.{comma, semicolon, colon, change_sign, step_sign, int_word, main_word, void_word, if_word, else_word, while_word}
+use Rattle.lang_grammar.specs.Grammar.{Op, plus_op, minus_op, replaces, Kind, a_name, a_number, infix_sign, bang, left_paren, right_paren}
+use Rattle.lang_grammar.specs.Grammar.{left_brace, right_brace}
+use Rattle.lang_grammar.specs.Grammar.{comma, semicolon, colon, change_sign, step_sign, int_word, main_word, void_word, if_word, else_word}
+use Rattle.lang_grammar.specs.Grammar.{while_word}
 use Rattle.lang_grammar.specs.Grammar.{do_word, for_word, jump_word, return_word, assume_word, nondet_word, the_end, Token, token}
 
 -- what has to stand behind an expression

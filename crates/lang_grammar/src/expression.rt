@@ -7,8 +7,8 @@ ghost use Rattle.lang_grammar.specs.View.{plain_kind, stack_of, plain_token, tok
 use crate::goal::{Ender, Goal};
 use crate::machine::{Outcome, advance};
 use crate::symbol::{Symbol, symbol_of};
-use std::alloc::{AllocError, Global};
 use lang_tokens::{Kind, Token};
+use std::alloc::{AllocError, Global};
 
 /// What becomes of tokens that begin with an expression; `at` counts the bytes of the text before a
 /// token.
@@ -71,7 +71,8 @@ pub fn examine_expression(alloc: Global, tokens: &[Token]) -> Result<Extent, All
     // What is answered is so.
     ensures found { IfOk result (λ s. (text : List ℕ) → FindsExpr (reach_of s) (tokens_of text tokens.now)) }
     // What is so is answered, unless the tokens end too early.
-    ensures exact { IfOk result (λ s. (text : List ℕ) (t : Reach) → (t ≡ runs_out → ⊥) → FindsExpr t (tokens_of text tokens.now) → reach_of s ≡ t) }
+    ensures exact { IfOk result (λ s. (text : List ℕ) (t : Reach) → (t ≡ runs_out → ⊥) → FindsExpr t (tokens_of text tokens.now)
+        → reach_of s ≡ t) }
 {
     reach(alloc, tokens)
 }

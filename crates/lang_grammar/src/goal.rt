@@ -2,8 +2,10 @@
 
 ghost use Rattle.std.specs.Prelude.{◌≡◌, ◌≢◌, None};
 ghost use Rattle.lang_grammar.specs.Machine.{ender_mark, return_entry};
-ghost use Rattle.lang_grammar.specs.declared.goal.Goal.TheVariants.{Operand, More, Statement, AfterName, MaybeElse, Condition, DoEnd, Header, HeaderFirst};
-ghost use Rattle.lang_grammar.specs.declared.goal.Goal.TheVariants.{HeaderTest, HeaderLast, Updating, Declarator, Declared, SomeName, Parameters, Returned, SomeNumber, Only};
+ghost use Rattle.lang_grammar.specs.declared.goal.Goal.TheVariants.{Operand, More, Statement, AfterName, MaybeElse, Condition, DoEnd};
+ghost use Rattle.lang_grammar.specs.declared.goal.Goal.TheVariants.{Header, HeaderFirst};
+ghost use Rattle.lang_grammar.specs.declared.goal.Goal.TheVariants.{HeaderTest, HeaderLast, Updating, Declarator, Declared, SomeName};
+ghost use Rattle.lang_grammar.specs.declared.goal.Goal.TheVariants.{Parameters, Returned, SomeNumber, Only};
 ghost use Rattle.lang_grammar.specs.View.{goal_of, place_of, mark_of, ender_of, symbol_kind, Enters, Entered};
 
 use crate::symbol::{Change, Op, Symbol};

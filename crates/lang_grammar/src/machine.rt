@@ -8,8 +8,8 @@ ghost use Rattle.lang_grammar.specs.View.{plain_kind, entry_of, stack_of, added,
 
 use crate::goal::{Entry, Goal, Mark, Place, enter};
 use crate::symbol::symbol_of;
-use std::alloc::{AllocError, Global};
 use lang_tokens::{Kind, Token};
+use std::alloc::{AllocError, Global};
 
 // Puts what has to come next onto the stack.
 fn add(stack: &mut Vec<Goal>, entry: Entry) -> Result<(), AllocError>

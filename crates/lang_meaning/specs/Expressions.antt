@@ -46,13 +46,15 @@ first_place (token k a ∷ ts) = a
 abbrev pub meant : List ℕ → List (List ℕ) → ℕ → Expr → Result Meaning ParseFault
 meant text names a e = walk_expr (line_at text) (length names) (knowing names) e >>= λ v. meaning_of a v
 
--- The tokens from this one on begin with an expression. The first that is unexpected or opens one construct too many is the fault; else the walk
+-- The tokens from this one on begin with an expression. The first that is unexpected or opens one construct too many is the fault; else the
+-- walk
 -- of the longest expression decides.
 abbrev pub ExpressionMeans : List ℕ → List Token → ℕ → List (List ℕ) → ExpressionAnswer → Type 0
 ExpressionMeans text tokens from names r =
     ((a : ℕ) × FindsExpr (stops_at a) (drop from tokens) × (r ≡ Err (fault.Unexpected a)))
     ⊎ (((a : ℕ) × FindsExpr (nests_at a) (drop from tokens) × (r ≡ Err (fault.Limit a Nesting)))
-    ⊎ ((e : Expr) × (n : ℕ) × IsLongest (drop from tokens) n e × (r ≡ meant text names (first_place (drop from tokens)) e >>= λ m. Ok (m, from + n))))
+    ⊎ ((e : Expr) × (n : ℕ) × IsLongest (drop from tokens) n e × (r ≡ meant text names (first_place (drop from tokens)) e
+    >>= λ m. Ok (m, from + n))))
 
 -- an expression over n variables: its numbers are within their ranges, and a condition has at most 64 leaves
 abbrev pub MeaningFits : ℕ → Meaning → Type 0

@@ -1,8 +1,11 @@
 -- The walk token by token, with a stack of what is pending.
 use Rattle.std.specs.Prelude.{if◌then◌else◌, nat_lt, Bool, true, false, ℕ, pos, List, [], ◌∷◌, length, Option, Some, None, Result, Ok}
-use Rattle.lang_grammar.specs.Grammar.{Op, or_op, and_op, compare_op, plus_op, minus_op, times_op, level, Prefix, negative, positive, negation, Change, Direction}
-use Rattle.lang_grammar.specs.Grammar.{Kind, a_name, a_number, infix_sign, bang, left_paren, right_paren, left_brace, right_brace, comma, semicolon, colon}
-use Rattle.lang_grammar.specs.Grammar.{change_sign, step_sign, int_word, if_word, else_word, while_word, do_word, for_word, jump_word, return_word, assume_word, nondet_word, Token, token}
+use Rattle.lang_grammar.specs.Grammar.{Op, or_op, and_op, compare_op, plus_op, minus_op, times_op, level, Prefix, negative, positive}
+use Rattle.lang_grammar.specs.Grammar.{negation, Change, Direction}
+use Rattle.lang_grammar.specs.Grammar.{Kind, a_name, a_number, infix_sign, bang, left_paren, right_paren, left_brace, right_brace, comma}
+use Rattle.lang_grammar.specs.Grammar.{semicolon, colon}
+use Rattle.lang_grammar.specs.Grammar.{change_sign, step_sign, int_word, if_word, else_word, while_word, do_word, for_word, jump_word}
+use Rattle.lang_grammar.specs.Grammar.{return_word, assume_word, nondet_word, Token, token}
 use Rattle.lang_tree.specs.declared.change.Change as tree_change
 use Rattle.lang_tree.specs.declared.change.Change.TheVariants as change
 use Rattle.lang_tree.specs.Tree as tree
@@ -10,8 +13,10 @@ use Rattle.lang_tree.specs.Tree.{Condition, Statement, Statements, nil, cons, le
 use Rattle.lang_meaning.specs.declared.fault.ParseFault.{ParseFault}
 use Rattle.lang_meaning.specs.Results.{◌>>=◌}
 use Rattle.lang_meaning.specs.Forms.{constant_form, variable_form}
-use Rattle.lang_meaning.specs.Walk.{Value, a_form, a_truth, a_nondet, two_conditions, State, start_state, followed_by, one, counted, labelled_by, known_number}
-use Rattle.lang_meaning.specs.Walk.{combined, prefix_value, ranged, regarded, tested, right_side, assignment, assigned, always, jump_kind, jumped, step_node}
+use Rattle.lang_meaning.specs.Walk.{Value, a_form, a_truth, a_nondet, two_conditions, State, start_state, followed_by, one, counted}
+use Rattle.lang_meaning.specs.Walk.{labelled_by, known_number}
+use Rattle.lang_meaning.specs.Walk.{combined, prefix_value, ranged, regarded, tested, right_side, assignment, assigned, always, jump_kind}
+use Rattle.lang_meaning.specs.Walk.{jumped, step_node}
 use Rattle.lang_meaning.specs.Walk.{declared_by, closed, program_of}
 
 -- what a condition in parentheses belongs to
@@ -131,7 +136,11 @@ complete (under w ns ∷ fs) v = Ok (under w ns ∷ fs, v)
 
 -- the left sides whose sign holds at least as tightly as the next one are joined
 abbrev pub join_tighter : ℕ → List Frame → Value → Result (List Frame × Value) ParseFault
-join_tighter l (side u o a ∷ fs) v = elim (nat_lt (level o) l) [ true ↦ Ok (side u o a ∷ fs, v) | false ↦ combined_small o a u v >>= λ x. join_tighter l fs x ]
+join_tighter l (side u o a ∷ fs) v = elim (nat_lt (level o) l) [
+  | true ↦ Ok (side u o a ∷ fs, v)
+  | false ↦ combined_small o a u v
+      >>= λ x. join_tighter l fs x
+]
 join_tighter l [] v = Ok ([], v)
 join_tighter l (before p a ∷ fs) v = Ok (before p a ∷ fs, v)
 join_tighter l (group a ∷ fs) v = Ok (group a ∷ fs, v)
@@ -286,7 +295,8 @@ module _ (line : ℕ → ℕ) (width : ℕ) where
 
   abbrev pub after_semicolon : State → List Frame × Value → Outcome
   after_semicolon st (assigns i g b a ∷ fs, v) = assigned width g i b v >>= λ o. Ok (settled st fs (one (assignment i o (line a))))
-  after_semicolon st (initial x a b ∷ fs, v) = right_side b v >>= λ o. declared_by line x a o st >>= λ r. Ok (at r.0 (pushed r.1 fs) (next_mode fs))
+  after_semicolon st (initial x a b ∷ fs, v) = right_side b v >>= λ o. declared_by line x a o st
+      >>= λ r. Ok (at r.0 (pushed r.1 fs) (next_mode fs))
   after_semicolon st (header k a ns ∷ fs, v) = tested a v >>= λ c. headed st (header k a ns ∷ fs) c
   after_semicolon st (fs, v) = Ok (at st fs (has v))
 
@@ -321,7 +331,8 @@ module _ (line : ℕ → ℕ) (width : ℕ) where
   abbrev pub behind_name : State → List Frame → List ℕ → ℕ → Kind → ℕ → Outcome
   behind_name st fs x b colon a = labelled_by x b st >>= λ now. Ok (at now (pushed (tree.label x (line b)) fs) stands)
   behind_name st fs x b (change_sign g) a = known_number x b st >>= λ i. counted b st >>= λ now. Ok (at now (assigns i g a b ∷ fs) wants)
-  behind_name st fs x b (step_sign g) a = known_number x b st >>= λ i. counted b st >>= λ now. Ok (at now fs (ends (step_node line width g i b)))
+  behind_name st fs x b (step_sign g) a = known_number x b st >>= λ i. counted b st
+      >>= λ now. Ok (at now fs (ends (step_node line width g i b)))
   behind_name st fs x b _ a = Ok (at st fs stands)
 
   abbrev pub behind_step : State → List Frame → Direction → ℕ → Kind → ℕ → Outcome

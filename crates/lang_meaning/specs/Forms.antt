@@ -25,7 +25,11 @@ pairwise subtracts (x ∷ xs) (y ∷ ys) = sum_or_difference subtracts x y ∷ p
 
 -- f + g, or f - g
 abbrev pub together : Bool → Form → Form → Form
-together subtracts f g = record { coeffs = pairwise subtracts f.coeffs g.coeffs; constant = sum_or_difference subtracts f.constant g.constant }
+together subtracts f g = record {
+  coeffs = pairwise subtracts f.coeffs g.coeffs;
+  constant =
+      sum_or_difference subtracts f.constant g.constant;
+}
 
 abbrev pub plus : Form → Form → Form
 plus f g = together false f g

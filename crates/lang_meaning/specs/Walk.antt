@@ -1,12 +1,18 @@
 -- What a program's tree means: names, kinds and limits, in the order of a text's faults.
-use Rattle.std.specs.Prelude.{if◌then◌else◌, ◌++◌, Bool, true, false, nat_lt, nat_eq, ℕ, suc, ℤ, pos, negsuc, List, [], ◌∷◌, length, take, Option, Some, None, Result, Ok, Err}
+use Rattle.std.specs.Prelude.{if◌then◌else◌, ◌++◌, Bool, true, false, nat_lt, nat_eq, ℕ, suc, ℤ, pos, negsuc, List, [], ◌∷◌, length, take}
+use Rattle.std.specs.Prelude.{Option, Some, None, Result, Ok, Err}
 use Rattle.std.specs.Prelude.{min, ◌+◌}
 use Rattle.std.specs.List.{list_any}
-use Rattle.lang_grammar.specs.Grammar.{Relation, equal, unequal, less, at_most, greater, at_least, Op, or_op, and_op, compare_op, plus_op, minus_op, times_op}
-use Rattle.lang_grammar.specs.Grammar.{Prefix, negative, positive, negation, Change, replaces, adds, subtracts, Direction, up, down, Expr, number, variable, free}
-use Rattle.lang_grammar.specs.Grammar.{grouped, prefixed, joined, Declarator, bare, given, Declarators, declares, declares_more, Core, empty, block, if_alone}
-use Rattle.lang_grammar.specs.Grammar.{if_else, repeat, repeat_after, repeat_for, jumps, assumed, updates, Update, set, step_after, step_before, ForFirst, no_first}
-use Rattle.lang_grammar.specs.Grammar.{declared_first, updated_first, ForTest, no_test, given_test, ForLast, no_last, updated_last, Jump, breaks, continues}
+use Rattle.lang_grammar.specs.Grammar.{Relation, equal, unequal, less, at_most, greater, at_least, Op, or_op, and_op, compare_op, plus_op}
+use Rattle.lang_grammar.specs.Grammar.{minus_op, times_op}
+use Rattle.lang_grammar.specs.Grammar.{Prefix, negative, positive, negation, Change, replaces, adds, subtracts, Direction, up, down, Expr}
+use Rattle.lang_grammar.specs.Grammar.{number, variable, free}
+use Rattle.lang_grammar.specs.Grammar.{grouped, prefixed, joined, Declarator, bare, given, Declarators, declares, declares_more, Core}
+use Rattle.lang_grammar.specs.Grammar.{empty, block, if_alone}
+use Rattle.lang_grammar.specs.Grammar.{if_else, repeat, repeat_after, repeat_for, jumps, assumed, updates, Update, set, step_after}
+use Rattle.lang_grammar.specs.Grammar.{step_before, ForFirst, no_first}
+use Rattle.lang_grammar.specs.Grammar.{declared_first, updated_first, ForTest, no_test, given_test, ForLast, no_last, updated_last, Jump}
+use Rattle.lang_grammar.specs.Grammar.{breaks, continues}
 use Rattle.lang_grammar.specs.Grammar.{Sub, labelled, plain, Items, no_items, label, declaration, item, Program, program}
 use Rattle.lang_tree.specs.declared.change.Change as tree_change
 use Rattle.lang_tree.specs.declared.change.Change.TheVariants as change
@@ -17,7 +23,8 @@ use Rattle.lang_tree.specs.Numbers.{is_number}
 use Rattle.lang_tree.specs.Tree as tree
 use Rattle.lang_tree.specs.Tree.{Condition, Statement, Statements, nil, cons, leaf_count}
 use Rattle.lang_meaning.specs.declared.fault.ParseFault.{ParseFault}
-use Rattle.lang_meaning.specs.declared.fault.ParseFault.TheVariants.{UnknownName, NameTwice, NotAffine, NondetHere, BigNumber, NoVariables, OutsideLoop}
+use Rattle.lang_meaning.specs.declared.fault.ParseFault.TheVariants.{UnknownName, NameTwice, NotAffine, NondetHere, BigNumber, NoVariables}
+use Rattle.lang_meaning.specs.declared.fault.ParseFault.TheVariants.{OutsideLoop}
 use Rattle.lang_meaning.specs.declared.fault.ParseFault.TheVariants as fault
 use Rattle.lang_meaning.specs.declared.fault.Limit.TheVariants.{Variables, Leaves}
 use Rattle.lang_meaning.specs.declared.fault.Limit.TheVariants as limit
@@ -56,7 +63,11 @@ counted a st = if nat_lt st.count 512 then Ok (record st { count = suc st.count 
 
 -- a label
 abbrev pub labelled_by : List ℕ → ℕ → State → Result State ParseFault
-labelled_by x a st = elim (place_of x st.labels) [ Some i ↦ Err (NameTwice a) | None ↦ counted a (record st { labels = st.labels ++ x ∷ [] }) ]
+labelled_by x a st = elim (place_of x st.labels) [
+  | Some i ↦ Err (NameTwice a)
+  | None ↦ counted a
+      (record st { labels = st.labels ++ x ∷ [] })
+]
 
 -- the number of a variable that is known
 abbrev pub number_if_known : ℕ → List ℕ → Option ℕ → Result ℕ ParseFault
@@ -116,7 +127,8 @@ compared r a f g = ranged a (minus f g) >>= λ h. if is_comparable h then Ok (a_
 
 -- a product of which one side is constant
 abbrev pub product : ℕ → Form → Form → Result Form ParseFault
-product a f g = if is_constant f then ranged a (scaled f.constant g) else (if is_constant g then ranged a (scaled g.constant f) else Err (NotAffine a))
+product a f g = if is_constant f then ranged a (scaled f.constant g) else (if is_constant g then ranged a (scaled g.constant f) else Err
+    (NotAffine a))
 
 -- what a sign makes of its sides
 abbrev pub combined : Op → ℕ → Value → Value → Result Value ParseFault
@@ -236,7 +248,8 @@ module _ (line : ℕ → ℕ) (width : ℕ) where
   -- what an assignment or a step does
   abbrev pub walk_update : Update → State → Result (State × tree_change.Change) ParseFault
   walk_update (set x a g b e) st =
-      known_number x a st >>= λ i. counted a st >>= λ now. walk_expr now e >>= λ v. assigned width g i b v >>= λ o. Ok (now, changed i o (line a))
+      known_number x a st >>= λ i. counted a st >>= λ now. walk_expr now e >>= λ v. assigned width g i b v
+      >>= λ o. Ok (now, changed i o (line a))
   walk_update (step_after x a g b) st = known_number x a st >>= λ i. counted a st >>= λ now. Ok (now, step_change g i a)
   walk_update (step_before g a x b) st = counted a st >>= λ now. known_number x b now >>= λ i. Ok (now, step_change g i a)
 
@@ -262,9 +275,11 @@ module _ (line : ℕ → ℕ) (width : ℕ) where
     walk_core inside (empty a) st = Ok (st, nil)
     walk_core inside (block a is b) st = walk_items inside is st >>= λ r. Ok (closed (length st.known) r.0, r.1)
     walk_core inside (if_alone a b e c s) st =
-        walk_expr st e >>= λ v. tested a v >>= λ x. counted a st >>= λ now. walk_sub inside s now >>= λ r. Ok (r.0, one (tree.branch x r.1 nil (line a)))
+        walk_expr st e >>= λ v. tested a v >>= λ x. counted a st >>= λ now. walk_sub inside s now
+        >>= λ r. Ok (r.0, one (tree.branch x r.1 nil (line a)))
     walk_core inside (if_else a b e c s d t) st =
-        walk_expr st e >>= λ v. tested a v >>= λ x. counted a st >>= λ now. walk_sub inside s now >>= λ r. walk_sub inside t r.0 >>= λ q. Ok (
+        walk_expr st e >>= λ v. tested a v >>= λ x. counted a st >>= λ now. walk_sub inside s now >>= λ r. walk_sub inside t r.0
+        >>= λ q. Ok (
           q.0,
           one (tree.branch x r.1 q.1 (line a)),
         )
@@ -279,22 +294,27 @@ module _ (line : ℕ → ℕ) (width : ℕ) where
           one (tree.loop tree.do_loop x r.1 (line a)),
         )
     walk_core inside (repeat_for a b f t l s) st =
-        walk_first f st >>= λ r. walk_test a t r.0 >>= λ x. counted a r.0 >>= λ now. walk_last l now >>= λ u. walk_sub true s u.0 >>= λ q. Ok (
+        walk_first f st >>= λ r. walk_test a t r.0 >>= λ x. counted a r.0 >>= λ now. walk_last l now >>= λ u. walk_sub true s u.0
+        >>= λ q. Ok (
           closed (length st.known) q.0,
           followed_by r.1 (one (tree.loop (tree.for_loop u.1) x q.1 (line a))),
         )
     walk_core inside (jumps j a b) st = jumped inside a st >>= λ now. Ok (now, one (tree.jump (jump_kind j) (line a)))
-    walk_core inside (assumed a b e c d) st = counted a st >>= λ now. walk_expr now e >>= λ v. tested a v >>= λ x. Ok (now, one (tree.assume x (line a)))
+    walk_core inside (assumed a b e c d) st = counted a st >>= λ now. walk_expr now e >>= λ v. tested a v
+        >>= λ x. Ok (now, one (tree.assume x (line a)))
     walk_core inside (updates u c) st = walk_update u st >>= λ r. Ok (r.0, change_nodes r.1)
 
     pub walk_sub : (inside : Bool) → Sub → State → Result (State × Statements) ParseFault
-    walk_sub inside (labelled x a b s) st = labelled_by x a st >>= λ now. walk_sub inside s now >>= λ r. Ok (r.0, cons (tree.label x (line a)) r.1)
+    walk_sub inside (labelled x a b s) st = labelled_by x a st >>= λ now. walk_sub inside s now
+        >>= λ r. Ok (r.0, cons (tree.label x (line a)) r.1)
     walk_sub inside (plain c) st = walk_core inside c st
 
     pub walk_items : (inside : Bool) → Items → State → Result (State × Statements) ParseFault
     walk_items inside no_items st = Ok (st, nil)
-    walk_items inside (label x a b is) st = labelled_by x a st >>= λ now. walk_items inside is now >>= λ r. Ok (r.0, cons (tree.label x (line a)) r.1)
-    walk_items inside (declaration a xs is) st = walk_declarators xs st >>= λ r. walk_items inside is r.0 >>= λ q. Ok (q.0, followed_by r.1 q.1)
+    walk_items inside (label x a b is) st = labelled_by x a st >>= λ now. walk_items inside is now
+        >>= λ r. Ok (r.0, cons (tree.label x (line a)) r.1)
+    walk_items inside (declaration a xs is) st = walk_declarators xs st >>= λ r. walk_items inside is r.0
+        >>= λ q. Ok (q.0, followed_by r.1 q.1)
     walk_items inside (item c is) st = walk_core inside c st >>= λ r. walk_items inside is r.0 >>= λ q. Ok (q.0, followed_by r.1 q.1)
 
 -- how many variables are declared
@@ -340,4 +360,5 @@ program_of (st, ns) = elim st.names [ [] ↦ Err NoVariables | x ∷ xs ↦ Ok (
 
 -- what a program means, or its first fault
 abbrev pub walk : (ℕ → ℕ) → Program → Result (List (List ℕ) × Statements) ParseFault
-walk line (program a b c ps d e is r f g) = walk_items line (min MOST_VARIABLES (declared_items is)) false is start_state >>= λ r. program_of r
+walk line (program a b c ps d e is r f g) = walk_items line (min MOST_VARIABLES (declared_items is)) false is start_state
+    >>= λ r. program_of r

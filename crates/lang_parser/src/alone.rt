@@ -19,12 +19,12 @@ ghost use Rattle.lang_reader.specs.Values.{value_of};
 
 use crate::pass::fed;
 use crate::turn::in_mode;
+use lang_grammar::{Extent, Symbol, examine_expression};
 use lang_meaning::{Limit, ParseFault};
 use lang_reader::{Lexeme, Mode, Reader, Source, Value, as_condition, tested};
-use std::alloc::Global;
-use lang_grammar::{Extent, Symbol, examine_expression};
 use lang_tokens::Token;
 use lang_tree::{Cond, Form, Name};
+use std::alloc::Global;
 
 /// What an expression is.
 #[derive(Drop)]

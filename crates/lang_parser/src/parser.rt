@@ -9,12 +9,12 @@ ghost use Rattle.lang_meaning.specs.Meaning.{Answer, IsRead, Means};
 
 use crate::pass::walked;
 use crate::width::width;
+use lang_grammar::{Syntax, examine};
 use lang_meaning::{Limit, ParseFault};
 use lang_reader::Source;
-use std::alloc::Global;
-use lang_grammar::{Syntax, examine};
 use lang_tokens::Token;
 use lang_tree::Program;
+use std::alloc::Global;
 
 // The first pass: nothing where the tokens read as a program and no construct is one too many.
 fn first_pass(alloc: Global, tokens: &[Token], text: &[u8]) -> Result<(), ParseFault>
@@ -40,9 +40,11 @@ pub fn parse(alloc: Global, tokens: &[Token], text: &[u8]) -> Result<Program, Pa
     requires size { length text.now ≤ 65536 }
     requires tokens { AreTokensOf text.now tokens.now }
     // What is answered is meant.
-    ensures found { (wanted : Answer) × Means text.now (tokens_of text.now tokens.now) wanted × Gives (λ p. (p.names, p.body)) result wanted }
+    ensures found { (wanted : Answer) × Means text.now (tokens_of text.now tokens.now) wanted
+        × Gives (λ p. (p.names, p.body)) result wanted }
     // What is meant is answered.
-    ensures exact { (wanted : Answer) → Means text.now (tokens_of text.now tokens.now) wanted → Gives (λ p. (p.names, p.body)) result wanted }
+    ensures exact { (wanted : Answer) → Means text.now (tokens_of text.now tokens.now) wanted
+        → Gives (λ p. (p.names, p.body)) result wanted }
 {
     first_pass(alloc, tokens, text)?;
     let source = Source {

@@ -13,9 +13,9 @@ ghost use Rattle.lang_reader.specs.Modes.{machine_of};
 use crate::turn::in_mode;
 use lang_meaning::ParseFault;
 use lang_reader::{Context, Frame, Frames, Mode, Reader, Source, Within, read_token};
-use std::alloc::Global;
 use lang_tokens::Token;
 use lang_tree::{Block, Names, Stmt};
+use std::alloc::Global;
 
 /// Takes all tokens.
 pub(crate) fn fed(

@@ -9,13 +9,13 @@ ghost use Rattle.lang_reader.specs.Modes.{lexeme_kind, mode_of, machine_of};
 ghost use Rattle.lang_reader.specs.Views.{state_of};
 
 use lang_expression::{behind_value, wanted};
+use lang_grammar::Symbol;
 use lang_meaning::ParseFault;
 use lang_reader::{Frame, Lexeme, Mode, Reader, Source, Value, always};
 use lang_statement::{
     a_declarator, begun, behind_declarator, behind_name, behind_statement, behind_step, in_first,
     in_heading, in_last, in_return,
 };
-use lang_grammar::Symbol;
 
 // The condition of a `for`.
 fn in_test(

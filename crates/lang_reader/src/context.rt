@@ -10,9 +10,9 @@ ghost use Rattle.lang_reader.specs.Views.{state_of};
 
 use crate::names::NameTable;
 use lang_meaning::{Limit, ParseFault};
-use std::alloc::{AllocError, Global};
 use lang_tokens::line_of;
 use lang_tree::{Form, MOST_VARIABLES, Name, Names, Stmt};
+use std::alloc::{AllocError, Global};
 
 /// The most statements.
 const STATEMENTS: u32 = 512;
@@ -120,7 +120,8 @@ impl Context {
         form: Option<Form>,
     ) -> Result<Stmt, ParseFault>
         requires { length text.now ≤ 65536 }
-        ensures { Gives (λ s. (state_of self.new, statement_of s)) result (declared_by (line_at text.now) name.now at form (state_of self.old)) }
+        ensures { Gives (λ s. (state_of self.new, statement_of s)) result
+            (declared_by (line_at text.now) name.now at form (state_of self.old)) }
     {
         if self.names.place(name).is_some() {
             return Err(ParseFault::NameTwice { at });

@@ -3,13 +3,14 @@
 
 ghost use Rattle.std.specs.Prelude.{◌≡◌, ◌*ℤ◌, pos, IfOk, IsTrue, replicate, slice_set};
 ghost use Rattle.lang_tree.specs.Numbers.{are_numbers};
-ghost use Rattle.lang_meaning.specs.Forms.{constant_form, variable_form, sum_or_difference, pairwise, together, products, scaled, is_constant, is_comparable};
+ghost use Rattle.lang_meaning.specs.Forms.{constant_form, variable_form, sum_or_difference, pairwise, together, products, scaled};
+ghost use Rattle.lang_meaning.specs.Forms.{is_constant, is_comparable};
 ghost use Rattle.lang_meaning.specs.Walk.{ranged_number, ranged_numbers, ranged};
 ghost use Rattle.lang_meaning.specs.Gives.{Gives};
 
 use lang_meaning::ParseFault;
-use std::alloc::{AllocError, Global};
 use lang_tree::{Coeffs, Form};
+use std::alloc::{AllocError, Global};
 
 /// The greatest absolute value of a number.
 const GREATEST: i128 = i64::MAX as i128;

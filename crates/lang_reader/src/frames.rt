@@ -17,11 +17,11 @@ use crate::frame::{Before, Frame, Within};
 use crate::mode::Mode;
 use crate::nodes::{followed, one};
 use crate::value::{Value, as_condition, combined, number_of};
+use lang_grammar::{Op, Relation};
 use lang_meaning::ParseFault;
+use lang_tree::{Cond, Stmt};
 use std::alloc::{AllocError, Global};
 use std::marker::Model;
-use lang_grammar::{Op, Relation};
-use lang_tree::{Cond, Stmt};
 
 /// What is pending. Contracts see the list of it, the top first.
 #[derive(Drop)]

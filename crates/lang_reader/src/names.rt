@@ -4,9 +4,9 @@ ghost use Rattle.std.specs.Prelude.{◌≡◌, ◌++◌, ◌∷◌, [], ◌<◌,
 ghost use Rattle.lang_meaning.specs.Names.{place_of};
 
 use indexmap::IndexMap;
+use lang_tree::{Name, Names};
 use std::alloc::{AllocError, Global};
 use std::marker::Model;
-use lang_tree::{Name, Names};
 
 /// Names, numbered from 0; where a name stands twice, its first place is its number.
 #[derive(Drop)]

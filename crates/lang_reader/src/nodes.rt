@@ -6,8 +6,8 @@ ghost use Rattle.lang_tree.specs.View.{statement_of, statements_of};
 ghost use Rattle.lang_meaning.specs.Walk.{followed_by, one};
 ghost use Rattle.lang_meaning.specs.Feed.{change_in};
 
-use std::alloc::{AllocError, Global};
 use lang_tree::{Change, Stmt};
+use std::alloc::{AllocError, Global};
 
 /// The nodes of one list and then those of another.
 pub fn followed(nodes: Vec<Stmt>, more: Vec<Stmt>) -> Result<Vec<Stmt>, AllocError>

@@ -21,8 +21,8 @@ use crate::mode::Mode;
 use crate::nodes::{change_in, followed};
 use crate::source::Source;
 use lang_meaning::ParseFault;
-use std::alloc::{AllocError, Global};
 use lang_tree::{Cond, Form, MOST_VARIABLES, Name, Rel, Stmt};
+use std::alloc::{AllocError, Global};
 
 /// What has been met of a text, and what is pending.
 #[derive(Drop)]

@@ -12,10 +12,10 @@ ghost use Rattle.lang_meaning.specs.Gives.{Gives};
 ghost use Rattle.lang_reader.specs.Values.{value_of};
 
 use crate::forms::{is_comparable, is_constant, scaled, together};
-use lang_meaning::{Limit, ParseFault};
-use std::alloc::Global;
 use lang_grammar::{Op, Relation};
+use lang_meaning::{Limit, ParseFault};
 use lang_tree::{Cond, Form, Rel};
+use std::alloc::Global;
 
 /// The most leaves of a condition.
 const LEAVES: u32 = 64;

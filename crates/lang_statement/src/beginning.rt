@@ -11,9 +11,9 @@ ghost use Rattle.lang_reader.specs.Views.{state_of};
 
 use crate::ending::items_end;
 use crate::jumps::jump_node;
+use lang_grammar::Symbol;
 use lang_meaning::ParseFault;
 use lang_reader::{Frame, Lexeme, Mode, Reader, Source, Test, Within, one};
-use lang_grammar::Symbol;
 use lang_tokens::line_of;
 
 /// The first token of a statement, or what follows items.

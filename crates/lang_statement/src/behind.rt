@@ -14,9 +14,9 @@ ghost use Rattle.lang_reader.specs.Views.{state_of};
 use crate::beginning::begun;
 use crate::ending::{attach, close, while_behind};
 use crate::jumps::step_node;
+use lang_grammar::{Direction, Symbol};
 use lang_meaning::ParseFault;
 use lang_reader::{Frame, Lexeme, Mode, Reader, Source};
-use lang_grammar::{Direction, Symbol};
 use lang_tokens::line_of;
 use lang_tree::{Name, Stmt};
 

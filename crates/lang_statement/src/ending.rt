@@ -11,9 +11,9 @@ ghost use Rattle.lang_reader.specs.Views.{state_of};
 ghost use Rattle.lang_statement.specs.Closing.{GoesOn};
 
 use lang_reader::{Frame, Mode, Reader, Source, Test, Within, followed, one};
-use std::alloc::AllocError;
 use lang_tokens::line_of;
 use lang_tree::{Block, Stmt};
+use std::alloc::AllocError;
 
 // The statement whose last part has these nodes.
 fn wrapped(source: &Source, within: Within, nodes: Vec<Stmt>) -> Result<Vec<Stmt>, AllocError>

@@ -11,10 +11,10 @@ ghost use Rattle.lang_reader.specs.Views.{state_of};
 
 use crate::beginning::begun;
 use crate::ending::items_end;
+use lang_grammar::Symbol;
 use lang_meaning::ParseFault;
 use lang_reader::{Frame, Frames, Lexeme, Mode, Reader, Source, Within};
 use std::alloc::{AllocError, Global};
-use lang_grammar::Symbol;
 
 /// The head of `main`, up to its `{`.
 pub fn in_heading(alloc: Global, frames: &mut Frames, lexeme: Lexeme) -> Result<Mode, AllocError>

@@ -8,11 +8,11 @@ ghost use Rattle.lang_tree.specs.Tree.{jump};
 ghost use Rattle.lang_tree.specs.View.{statement_of, statements_of};
 ghost use Rattle.lang_meaning.specs.Walk.{step_node, jump_kind};
 
-use lang_reader::{Source, one, variable_form};
-use std::alloc::AllocError;
 use lang_grammar::{Direction, Jump};
+use lang_reader::{Source, one, variable_form};
 use lang_tokens::line_of;
 use lang_tree::Stmt;
+use std::alloc::AllocError;
 
 // The node of `++` or `--`.
 pub(crate) fn step_node(

@@ -1,8 +1,10 @@
 -- How the signs are spelled.
 use Rattle.std.specs.Prelude.{ℕ, List, codes}
 use Rattle.lang_tokens.specs.declared.sign.Sign.{Sign}
-use Rattle.lang_tokens.specs.declared.sign.Sign.TheVariants.{LeftParen, RightParen, LeftBrace, RightBrace, Comma, Semicolon, Colon, Assign, PlusAssign}
-use Rattle.lang_tokens.specs.declared.sign.Sign.TheVariants.{MinusAssign, Increment, Decrement, Plus, Minus, Star, Bang, Less, LessEqual, Greater, GreaterEqual}
+use Rattle.lang_tokens.specs.declared.sign.Sign.TheVariants.{LeftParen, RightParen, LeftBrace, RightBrace, Comma, Semicolon, Colon, Assign}
+use Rattle.lang_tokens.specs.declared.sign.Sign.TheVariants.{PlusAssign}
+use Rattle.lang_tokens.specs.declared.sign.Sign.TheVariants.{MinusAssign, Increment, Decrement, Plus, Minus, Star, Bang, Less, LessEqual}
+use Rattle.lang_tokens.specs.declared.sign.Sign.TheVariants.{Greater, GreaterEqual}
 use Rattle.lang_tokens.specs.declared.sign.Sign.TheVariants.{EqualEqual, BangEqual, AndAnd, OrOr}
 
 -- the bytes of a sign

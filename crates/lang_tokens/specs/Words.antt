@@ -1,9 +1,12 @@
 -- How the reserved words are spelled.
 use Rattle.std.specs.Prelude.{◌≡◌, ℕ, List, [], ◌∷◌, codes}
 use Rattle.lang_tokens.specs.declared.word.Word.{Word}
-use Rattle.lang_tokens.specs.declared.word.Word.TheVariants.{Auto, Break, Case, Char, Const, Continue, Default, Do, Double, Else, Enum, Extern, Float, For, Goto}
-use Rattle.lang_tokens.specs.declared.word.Word.TheVariants.{If, Inline, Int, Long, Register, Return, Short, Signed, SizeOf, Static, Struct, Switch, TypeDef}
-use Rattle.lang_tokens.specs.declared.word.Word.TheVariants.{Union, Unsigned, Void, Volatile, While, Assume, Assert, Main, Nondet, VerifierAssume, VerifierAssert}
+use Rattle.lang_tokens.specs.declared.word.Word.TheVariants.{Auto, Break, Case, Char, Const, Continue, Default, Do, Double, Else, Enum}
+use Rattle.lang_tokens.specs.declared.word.Word.TheVariants.{Extern, Float, For, Goto}
+use Rattle.lang_tokens.specs.declared.word.Word.TheVariants.{If, Inline, Int, Long, Register, Return, Short, Signed, SizeOf, Static, Struct}
+use Rattle.lang_tokens.specs.declared.word.Word.TheVariants.{Switch, TypeDef}
+use Rattle.lang_tokens.specs.declared.word.Word.TheVariants.{Union, Unsigned, Void, Volatile, While, Assume, Assert, Main, Nondet}
+use Rattle.lang_tokens.specs.declared.word.Word.TheVariants.{VerifierAssume, VerifierAssert}
 use Rattle.lang_tokens.specs.declared.word.Word.TheVariants.{VerifierNondetInt}
 
 -- the bytes of a reserved word

@@ -3,9 +3,12 @@
 ghost use Rattle.std.specs.Prelude.{◌≡◌, ◌↔◌, [], ◌∷◌, IsTrue, MatchOption};
 ghost use Rattle.lang_tokens.specs.Words.{word_bytes, NoneSpelled};
 ghost use Rattle.lang_tokens.specs.Lexemes.{IsReserved};
-ghost use Rattle.lang_tokens.specs.declared.word.Word.TheVariants.{Auto, Break, Case, Char, Const, Continue, Default, Do, Double, Else, Enum, Extern, Float, For};
-ghost use Rattle.lang_tokens.specs.declared.word.Word.TheVariants.{Goto, If, Inline, Int, Long, Register, Return, Short, Signed, SizeOf, Static, Struct, Switch};
-ghost use Rattle.lang_tokens.specs.declared.word.Word.TheVariants.{TypeDef, Union, Unsigned, Void, Volatile, While, Assume, Assert, Main, Nondet, VerifierAssume};
+ghost use Rattle.lang_tokens.specs.declared.word.Word.TheVariants.{Auto, Break, Case, Char, Const, Continue, Default, Do, Double, Else};
+ghost use Rattle.lang_tokens.specs.declared.word.Word.TheVariants.{Enum, Extern, Float, For};
+ghost use Rattle.lang_tokens.specs.declared.word.Word.TheVariants.{Goto, If, Inline, Int, Long, Register, Return, Short, Signed, SizeOf};
+ghost use Rattle.lang_tokens.specs.declared.word.Word.TheVariants.{Static, Struct, Switch};
+ghost use Rattle.lang_tokens.specs.declared.word.Word.TheVariants.{TypeDef, Union, Unsigned, Void, Volatile, While, Assume, Assert, Main};
+ghost use Rattle.lang_tokens.specs.declared.word.Word.TheVariants.{Nondet, VerifierAssume};
 ghost use Rattle.lang_tokens.specs.declared.word.Word.TheVariants.{VerifierAssert, VerifierNondetInt};
 
 use crate::word::Word;
@@ -69,7 +72,8 @@ fn of_four_bytes(bytes: &[u8]) -> Option<Word>
 }
 
 fn of_five_bytes(bytes: &[u8]) -> Option<Word>
-    ensures { MatchOption result (NoneSpelled (Break ∷ Const ∷ Float ∷ Short ∷ Union ∷ While ∷ []) bytes.now) (λ word. word_bytes word ≡ bytes.now) }
+    ensures { MatchOption result (NoneSpelled (Break ∷ Const ∷ Float ∷ Short ∷ Union ∷ While ∷ []) bytes.now)
+        (λ word. word_bytes word ≡ bytes.now) }
 {
     if spells(bytes, "break") {
         Some(Word::Break)
@@ -90,7 +94,8 @@ fn of_five_bytes(bytes: &[u8]) -> Option<Word>
 
 fn of_six_bytes(bytes: &[u8]) -> Option<Word>
     ensures { MatchOption result
-        (NoneSpelled (Double ∷ Extern ∷ Inline ∷ Return ∷ Signed ∷ SizeOf ∷ Static ∷ Struct ∷ Switch ∷ Assume ∷ Assert ∷ Nondet ∷ []) bytes.now)
+        (NoneSpelled (Double ∷ Extern ∷ Inline ∷ Return ∷ Signed ∷ SizeOf ∷ Static ∷ Struct ∷ Switch ∷ Assume ∷ Assert ∷ Nondet ∷ [])
+        bytes.now)
         (λ word. word_bytes word ≡ bytes.now) }
 {
     if spells(bytes, "double") {
@@ -135,7 +140,8 @@ fn of_seven_bytes(bytes: &[u8]) -> Option<Word>
 }
 
 fn of_eight_bytes(bytes: &[u8]) -> Option<Word>
-    ensures { MatchOption result (NoneSpelled (Continue ∷ Register ∷ Unsigned ∷ Volatile ∷ []) bytes.now) (λ word. word_bytes word ≡ bytes.now) }
+    ensures { MatchOption result (NoneSpelled (Continue ∷ Register ∷ Unsigned ∷ Volatile ∷ []) bytes.now)
+        (λ word. word_bytes word ≡ bytes.now) }
 {
     if spells(bytes, "continue") {
         Some(Word::Continue)

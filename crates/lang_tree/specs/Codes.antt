@@ -7,7 +7,8 @@ use Rattle.lang_tree.specs.declared.cond.Rel.{Rel}
 use Rattle.lang_tree.specs.declared.cond.Rel.TheVariants.{Eq, Ne, Lt, Le, Gt, Ge}
 use Rattle.lang_tree.specs.declared.change.Change.{Change}
 use Rattle.lang_tree.specs.declared.change.Change.TheVariants as change
-use Rattle.lang_tree.specs.Tree.{Condition, free, compare, negation, both, either, LoopKind, while_loop, for_loop, do_loop, Jump, breaks, continues}
+use Rattle.lang_tree.specs.Tree.{Condition, free, compare, negation, both, either, LoopKind, while_loop, for_loop, do_loop, Jump, breaks}
+use Rattle.lang_tree.specs.Tree.{continues}
 use Rattle.lang_tree.specs.Tree.{Statement, Statements, set, havoc, assume, branch, loop, jump, label, nil, cons}
 
 -- ---- numbers, names and forms

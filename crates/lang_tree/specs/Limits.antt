@@ -47,7 +47,8 @@ abbrev mutual
   is_statement n inside (set var form line) = nat_lt var n && is_form n form
   is_statement n inside (havoc var line) = nat_lt var n
   is_statement n inside (assume cond line) = is_tested n cond
-  is_statement n inside (branch cond first second line) = is_tested n cond && (are_statements n inside first && are_statements n inside second)
+  is_statement n inside (branch cond first second line) = is_tested n cond
+      && (are_statements n inside first && are_statements n inside second)
   is_statement n inside (loop kind cond body line) = is_tested n cond && (is_kind n kind && are_statements n true body)
   is_statement n inside (jump kind line) = inside
   is_statement n inside (label name line) = true

@@ -26,7 +26,8 @@ start_work body = mark 0 ∷ (nodes body 1 ++ mark (exit_of body) ∷ [])
 
 -- an `if` goes into the first branch where its condition may be true, into the second where it may be false, and on to its join
 abbrev pub branch_work : Bool → Statements → Statements → ℕ → List Item → List Item
-branch_work truth first second n rest = (if truth then nodes first n else nodes second (n + points_in first)) ++ (mark (join_of first second n) ∷ rest)
+branch_work truth first second n rest = (if truth then nodes first n else nodes second (n + points_in first))
+    ++ (mark (join_of first second n) ∷ rest)
 
 -- the body of a loop whose head is n, and its end
 abbrev pub body_work : LoopKind → Condition → Statements → (line n : ℕ) → List Item → List Item
@@ -74,7 +75,8 @@ Does (mark p) rest x work y = (work ≡ rest) × (y ≡ x)
 Does (node (set var form line) n) rest x work y = (work ≡ rest) × (y ≡ slice_set x var (value form x))
 Does (node (havoc var line) n) rest x work y = (z : ℤ) × (work ≡ rest) × (y ≡ slice_set x var z)
 Does (node (assume c line) n) rest x work y = MayBe true c x × (work ≡ (if splits c then mark n ∷ rest else rest)) × (y ≡ x)
-Does (node (branch c first second line) n) rest x work y = (truth : Bool) × MayBe truth c x × (work ≡ branch_work truth first second n rest) × (y ≡ x)
+Does (node (branch c first second line) n) rest x work y = (truth : Bool) × MayBe truth c x × (work ≡ branch_work truth first second n rest)
+    × (y ≡ x)
 Does (node (loop kind c body line) n) rest x work y = (work ≡ mark n ∷ head_work kind c body line n rest) × (y ≡ x)
 Does (node (jump breaks line) n) rest x work y = (work ≡ past_loop rest) × (y ≡ x)
 Does (node (jump continues line) n) rest x work y = (work ≡ end_of_body rest) × (y ≡ x)

@@ -4,7 +4,8 @@ use Rattle.lang_tree.specs.declared.cond.Cond.{Cond, fold-Cond}
 use Rattle.lang_tree.specs.declared.cond.Cond.TheOpen.{Cond-F}
 use Rattle.lang_tree.specs.declared.stmt.Stmt.{Stmt}
 use Rattle.lang_tree.specs.declared.stmt.Stmt.TheVariants.{Set, Havoc, Assume, If, While, Do, For, Break, Continue, Label}
-use Rattle.lang_tree.specs.Tree.{Condition, free, compare, negation, both, either, Statement, Statements, set, havoc, assume, branch, loop, jump, label, nil, cons}
+use Rattle.lang_tree.specs.Tree.{Condition, free, compare, negation, both, either, Statement, Statements, set, havoc, assume, branch, loop}
+use Rattle.lang_tree.specs.Tree.{jump, label, nil, cons}
 use Rattle.lang_tree.specs.Tree.{while_loop, for_loop, do_loop, breaks, continues}
 
 -- one level of a condition

@@ -12,7 +12,8 @@ use Rattle.lp_dictionary.specs.declared.problem.Problem.{Problem}
 
 -- the linear program, where m gives the number that a value stands for
 abbrev pub exact : {F : Type 0} → (F → ℚ) → Problem F → lp.Problem
-exact m p = list_problem (length p.goal.items) (map (λ r. map m r.coeffs.items) p.rows.items) (map (λ r. m r.side) p.rows.items) (map m p.goal.items)
+exact m p = list_problem (length p.goal.items) (map (λ r. map m r.coeffs.items) p.rows.items) (map (λ r. m r.side) p.rows.items)
+    (map m p.goal.items)
 
 -- each row has one coefficient per entry of the goal, and rows and columns together are few enough for names of 32 bits
 pub record IsShaped {F : Type 0} (p : Problem F) : Type 0 where

@@ -51,7 +51,8 @@ added a f b false = a +ℚ f *ℚ b
 -- the operations of formula 4
 abbrev pub added_operations : ℚ → ℚ → ℚ → Bool → List Operation
 added_operations a f b true = []
-added_operations a f b false = unless_zero f b (record { op = Mul; left = f; right = b } ∷ record { op = Add; left = a; right = f *ℚ b } ∷ [])
+added_operations a f b false = unless_zero f b (record { op = Mul; left = f; right = b } ∷ record { op = Add; left = a; right = f *ℚ b }
+    ∷ [])
 
 -- the pivot's row after the pivot
 abbrev pub divided_row : (ℕ → ℚ) → ℕ → ℕ → ℚ

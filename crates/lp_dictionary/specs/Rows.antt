@@ -40,4 +40,5 @@ pub record Exchanges {F : Type 0} (m : F → ℚ) (n r stride c : ℕ) (old new 
 unfoldable pub exchange_operations : {F : Type 0} → (F → ℚ) → List F → ℕ → ℕ → ℕ → ℕ → List Operation
 exchange_operations m xs n r stride c =
     division_row_operations stride (row_from m xs (r * stride)) c
-    ++ joined n (λ i. cond (eqb i r) [] (combination_row_operations stride (row_from m xs (i * stride)) (divided_row (row_from m xs (r * stride)) c) c))
+    ++ joined n (λ i. cond (eqb i r) [] (combination_row_operations stride (row_from m xs (i * stride))
+    (divided_row (row_from m xs (r * stride)) c) c))

@@ -2,11 +2,12 @@
 ghost use Rattle.std.specs.Prelude.{◌≡◌, ℕ, ◌+◌, ◌<◌, ◌≤◌, length, map, ◌++◌, ◌∷◌, [], get_or, vec_len, IfOk, OnOk};
 ghost use Rattle.base_numbers.specs.Rational.{one_ℚ, neg_ℚ};
 ghost use Rattle.lp_dictionary.specs.Exact.{exact, IsShaped};
-ghost use Rattle.lp_dictionary.specs.Build.{goals_of, width_of, other_name, zeros, slack_entries, auxiliary_entries, goal_entries, goals_entries, slacks_entries};
+ghost use Rattle.lp_dictionary.specs.Build.{goals_of, width_of, other_name, zeros, slack_entries, auxiliary_entries, goal_entries};
+ghost use Rattle.lp_dictionary.specs.Build.{goals_entries, slacks_entries};
 
 use crate::problem::{Problem, Row};
-use std::alloc::{AllocError, Global};
 use base_fractions::OrderedField;
+use std::alloc::{AllocError, Global};
 
 /// `count` numbers from `first` on.
 pub fn names_from(alloc: Global, first: u32, count: u32) -> Result<Vec<u32>, AllocError>
@@ -23,7 +24,8 @@ pub fn names_from(alloc: Global, first: u32, count: u32) -> Result<Vec<u32>, All
 /// The names of the columns of the first dictionary: 1 to `cols`, and after them 0, the auxiliary variable, if there is one.
 pub fn other_names(alloc: Global, cols: u32, auxiliary: bool) -> Result<Vec<u32>, AllocError>
     requires { 1 + cols < 4294967296 }
-    ensures { IfOk result (λ v. (length v.items ≡ width_of auxiliary cols) × ((k : ℕ) → k < width_of auxiliary cols → get_or v.items k 0 ≡ other_name cols k)) }
+    ensures { IfOk result (λ v. (length v.items ≡ width_of auxiliary cols)
+        × ((k : ℕ) → k < width_of auxiliary cols → get_or v.items k 0 ≡ other_name cols k)) }
 {
     let mut names = names_from(alloc, 1, cols)?;
     if auxiliary {
@@ -100,7 +102,8 @@ fn push_goal<F: OrderedField>(
     goal: &[F],
     auxiliary: bool,
 ) -> Result<(), AllocError>
-    ensures { OnOk result (map F.meaning entries.new.items ≡ map F.meaning entries.old.items ++ goal_entries auxiliary (map F.meaning goal.now)) }
+    ensures { OnOk result (map F.meaning entries.new.items ≡ map F.meaning entries.old.items
+        ++ goal_entries auxiliary (map F.meaning goal.now)) }
 {
     entries.extend_from_slice(goal)?;
     if auxiliary {
@@ -116,7 +119,8 @@ fn push_goals<F: OrderedField>(
     goal: &[F],
     auxiliary: bool,
 ) -> Result<(), AllocError>
-    ensures { OnOk result (map F.meaning entries.new.items ≡ map F.meaning entries.old.items ++ goals_entries auxiliary (map F.meaning goal.now)) }
+    ensures { OnOk result (map F.meaning entries.new.items ≡ map F.meaning entries.old.items
+        ++ goals_entries auxiliary (map F.meaning goal.now)) }
 {
     if auxiliary {
         push_auxiliary(entries, goal.len())?;
@@ -130,7 +134,8 @@ pub fn first_entries<F: OrderedField>(
     problem: &Problem<F>,
     auxiliary: bool,
 ) -> Result<Vec<F>, AllocError>
-    ensures { IfOk result (λ v. map F.meaning v.items ≡ slacks_entries auxiliary (map (λ r. map F.meaning r.coeffs.items) problem.now.rows.items)
+    ensures { IfOk result (λ v. map F.meaning v.items ≡ slacks_entries auxiliary
+        (map (λ r. map F.meaning r.coeffs.items) problem.now.rows.items)
         (map (λ r. F.meaning r.side) problem.now.rows.items) (length problem.now.rows.items)
         ++ goals_entries auxiliary (map F.meaning problem.now.goal.items)) }
 {

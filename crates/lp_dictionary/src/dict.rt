@@ -8,8 +8,8 @@ use crate::rows::exchange;
 use crate::shift::{shift_rows, zero_place};
 use crate::sides::lowest_side;
 use crate::tableau::{PivotFault, Tableau};
-use std::alloc::{AllocError, Global};
 use base_fractions::OrderedField;
+use std::alloc::{AllocError, Global};
 
 /// A dictionary in one list of entries, row after row: the basic variables' rows, then the goals', the constant last in each.
 /// A pivot changes each entry at most once, passes over rows and columns with a zero factor, and takes no memory.

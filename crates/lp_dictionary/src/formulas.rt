@@ -26,7 +26,8 @@ pub fn divided_by<F: OrderedField>(entry: F, pivot: F, at_pivot: bool) -> Result
 /// Formula 3, the entry of another row in the pivot's column: `factor` times the new entry of the pivot's row.
 pub fn product_of<F: OrderedField>(factor: F, above: F) -> Result<F, Wide<F>>
     requires { F.meaning factor ≢ zero_ℚ }
-    ensures { Answers F.meaning F.LIMIT (F.meaning factor *ℚ F.meaning above) (product_operations (F.meaning factor) (F.meaning above)) result }
+    ensures { Answers F.meaning F.LIMIT (F.meaning factor *ℚ F.meaning above) (product_operations (F.meaning factor) (F.meaning above))
+        result }
 {
     if above.is_zero() {
         return Ok(above);

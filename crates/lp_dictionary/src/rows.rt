@@ -20,7 +20,8 @@ pub fn divide_row<F: OrderedField>(
     requires within { start + stride ≤ length entries.old }
     requires col { col < stride }
     requires pivot { cell F.meaning entries.old (start + col) ≢ zero_ℚ }
-    ensures divided { OnOk result (SetsRow F.meaning start stride (divided_row (row_from F.meaning entries.old start) col) entries.old entries.new) }
+    ensures divided { OnOk result (SetsRow F.meaning start stride (divided_row (row_from F.meaning entries.old start) col) entries.old
+        entries.new) }
     ensures fits { OnOk result (first_wide F.LIMIT (division_row_operations stride (row_from F.meaning entries.old start) col) ≡ None) }
     ensures wide { IfErr result (λ w. first_wide F.LIMIT (division_row_operations stride (row_from F.meaning entries.old start) col) ≡ Some
         (operation_of F.meaning w)) }
@@ -47,11 +48,14 @@ fn add_row<F: OrderedField>(
     requires apart { (start + stride ≤ above) ⊎ (above + stride ≤ start) }
     requires factor { F.meaning factor ≢ zero_ℚ }
     ensures added { OnOk result (SetsRow F.meaning start stride
-        (added_row (row_from F.meaning entries.old start) (F.meaning factor) (row_from F.meaning entries.old above) col) entries.old entries.new) }
+        (added_row (row_from F.meaning entries.old start) (F.meaning factor) (row_from F.meaning entries.old above) col) entries.old
+        entries.new) }
     ensures fits { OnOk result (first_wide F.LIMIT
-        (added_row_operations stride (row_from F.meaning entries.old start) (F.meaning factor) (row_from F.meaning entries.old above) col) ≡ None) }
+        (added_row_operations stride (row_from F.meaning entries.old start) (F.meaning factor) (row_from F.meaning entries.old above) col)
+        ≡ None) }
     ensures wide { IfErr result (λ w. first_wide F.LIMIT
-        (added_row_operations stride (row_from F.meaning entries.old start) (F.meaning factor) (row_from F.meaning entries.old above) col) ≡ Some
+        (added_row_operations stride (row_from F.meaning entries.old start) (F.meaning factor) (row_from F.meaning entries.old above) col)
+        ≡ Some
         (operation_of F.meaning w)) }
 {
     for k in 0..stride {
@@ -104,7 +108,8 @@ pub fn combine_rows<F: OrderedField>(
     requires col { col < stride }
     ensures combined { OnOk result (CombinesRows F.meaning rows row stride col entries.old entries.new) }
     ensures fits { OnOk result (first_wide F.LIMIT (rows_operations F.meaning entries.old rows row stride col) ≡ None) }
-    ensures wide { IfErr result (λ w. first_wide F.LIMIT (rows_operations F.meaning entries.old rows row stride col) ≡ Some (operation_of F.meaning w)) }
+    ensures wide { IfErr result (λ w. first_wide F.LIMIT (rows_operations F.meaning entries.old rows row stride col)
+        ≡ Some (operation_of F.meaning w)) }
 {
     for i in 0..rows {
         if i != row {
@@ -128,7 +133,8 @@ pub fn exchange<F: OrderedField>(
     requires pivot { cell F.meaning entries.old (row * stride + col) ≢ zero_ℚ }
     ensures exchanged { OnOk result (Exchanges F.meaning rows row stride col entries.old entries.new) }
     ensures fits { OnOk result (first_wide F.LIMIT (exchange_operations F.meaning entries.old rows row stride col) ≡ None) }
-    ensures wide { IfErr result (λ w. first_wide F.LIMIT (exchange_operations F.meaning entries.old rows row stride col) ≡ Some (operation_of F.meaning w)) }
+    ensures wide { IfErr result (λ w. first_wide F.LIMIT (exchange_operations F.meaning entries.old rows row stride col)
+        ≡ Some (operation_of F.meaning w)) }
 {
     divide_row(entries, row * stride, stride, col)?;
     combine_rows(entries, rows, row, stride, col)

@@ -1,7 +1,7 @@
 //! What any tableau of the simplex method does.
 use crate::problem::Problem;
-use std::alloc::{AllocError, Global};
 use base_fractions::{OrderedField, Wide};
+use std::alloc::{AllocError, Global};
 
 /// Why a pivot was refused: its first operation that is wide, or want of memory.
 #[derive(Drop)]

@@ -20,7 +20,8 @@ use Rattle.lp_simplex.specs.Placed.{IsPlaced, Places}
 
 -- the fault carries the first wide operation of the list with the number of its pivot, if it is not want of memory
 abbrev pub RefusesRun : {F : Type 0} → (F → ℚ) → ℤ → List Numbered → SolveFault F → Type 0
-RefusesRun m limit os (Wide pivot wide) = (j : ℕ) × (pivot ≡ capped j) × (first_refused limit os ≡ Some (record { pivot = j; operation = operation_of m wide }))
+RefusesRun m limit os (Wide pivot wide) = (j : ℕ) × (pivot ≡ capped j)
+    × (first_refused limit os ≡ Some (record { pivot = j; operation = operation_of m wide }))
 RefusesRun m limit os NoMemory = Unit {0}
 
 -- the table stands at the beginning of a phase
@@ -38,7 +39,8 @@ pub record BeginsPhase (P : lp.Problem) (auxiliary : Bool) (made : ℕ) (T : Tab
 -- why a phase ended: the rule stops with no entering column, or with no leaving row, or the auxiliary variable has left
 abbrev pub EndOf : ℕ → Phase → Table → End → Type 0
 EndOf n ph T AtBest = (choose ph.goal n (phase_dict n ph ph.last) ≡ optimal) × ((phase_dict n ph ph.last).basic 0 ≡ true)
-EndOf n ph T (AtRay c) = (c < T.width) × (choose ph.goal n (phase_dict n ph ph.last) ≡ ray (T.col_name c)) × ((phase_dict n ph ph.last).basic 0 ≡ true)
+EndOf n ph T (AtRay c) = (c < T.width) × (choose ph.goal n (phase_dict n ph ph.last) ≡ ray (T.col_name c))
+    × ((phase_dict n ph ph.last).basic 0 ≡ true)
 EndOf n ph T Left = (phase_dict n ph ph.last).basic 0 ≡ false
 
 -- the table stands at the end of a phase

@@ -28,7 +28,8 @@ first_refused limit os = find (λ o. is_wide limit o.operation) os
 
 -- the ratio of row i in the column c, if its entry there is negative
 abbrev pub ratio_operation : Table → ℕ → ℕ → List Operation
-ratio_operation T c i = cond (lt_ℚ (T.entry i c) zero_ℚ) (record { op = Div; left = T.entry i T.width; right = neg_ℚ (T.entry i c) } ∷ []) []
+ratio_operation T c i = cond (lt_ℚ (T.entry i c) zero_ℚ) (record { op = Div; left = T.entry i T.width; right = neg_ℚ (T.entry i c) } ∷ [])
+    []
 
 -- the ratios, row by row
 unfoldable pub ratio_operations : Table → ℕ → List Operation

@@ -13,7 +13,8 @@ pub record IsListed {F : Type 0} (m : F → ℚ) (n : ℕ) (f : ℕ → ℚ) (xs
 
 -- the outcome is that of the theory: of the same kind and with the same numbers
 abbrev pub IsOutcomeOf : {F : Type 0} → (F → ℚ) → lp.Problem → lp.Outcome → Outcome F → Type 0
-IsOutcomeOf m P (lp.best x v y) (Best point value multipliers) = IsListed m P.cols x point.items × (m value ≡ v) × IsListed m P.rows y multipliers.items
+IsOutcomeOf m P (lp.best x v y) (Best point value multipliers) = IsListed m P.cols x point.items × (m value ≡ v)
+    × IsListed m P.rows y multipliers.items
 IsOutcomeOf m P (lp.best x v y) (Unbounded point ray) = ⊥
 IsOutcomeOf m P (lp.best x v y) (Empty multipliers) = ⊥
 IsOutcomeOf m P (lp.unbounded x d) (Best point value multipliers) = ⊥
@@ -32,6 +33,7 @@ HasEvidence m P (Empty multipliers) = lp.IsEmpty P (at (map m multipliers.items)
 -- what the outcome says of the values of points: the value is reached and none is greater; each number is exceeded; there is no point
 abbrev pub SaysSupremum : {F : Type 0} → (F → ℚ) → lp.Problem → Outcome F → Type 0
 SaysSupremum m P (Best point value multipliers) =
-    lp.IsPoint P (at (map m point.items)) × (lp.value_at P (at (map m point.items)) ≡ m value) × ((x : ℕ → ℚ) → lp.IsPoint P x → lp.value_at P x ≤ℚ m value)
+    lp.IsPoint P (at (map m point.items)) × (lp.value_at P (at (map m point.items)) ≡ m value)
+    × ((x : ℕ → ℚ) → lp.IsPoint P x → lp.value_at P x ≤ℚ m value)
 SaysSupremum m P (Unbounded point ray) = (b : ℚ) → (x : ℕ → ℚ) × lp.IsPoint P x × (b <ℚ lp.value_at P x)
 SaysSupremum m P (Empty multipliers) = (x : ℕ → ℚ) → lp.IsPoint P x → ⊥

@@ -8,6 +8,6 @@ mod read;
 mod scan;
 mod step;
 
+pub use lp_dictionary::{Problem, Row, Tableau};
 pub use method::solve;
 pub use outcome::{Outcome, SolveFault};
-pub use lp_dictionary::{Problem, Row, Tableau};

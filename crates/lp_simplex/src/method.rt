@@ -16,9 +16,9 @@ ghost use Rattle.lp_simplex.specs.Answers.{BeginsPhase, EntersRefused, RefusesRu
 use crate::outcome::{Outcome, SolveFault};
 use crate::phase::{End, run_phase};
 use crate::read::{basic_values, entering_values, goal_multipliers};
-use std::alloc::{AllocError, Global};
-use lp_dictionary::{PivotFault, Problem, Tableau, lowest_side};
 use base_fractions::OrderedField;
+use lp_dictionary::{PivotFault, Problem, Tableau, lowest_side};
+use std::alloc::{AllocError, Global};
 
 /// The special first pivot of the first phase: the auxiliary variable, in the last column, enters in the row of the least side.
 fn enter_auxiliary<F: OrderedField, T: Tableau<F>>(
@@ -96,8 +96,10 @@ fn second_phase<F: OrderedField, T: Tableau<F>>(
     requires shaped { IsShaped problem.now }
     requires begins { BeginsPhase (exact F.meaning problem.now) false made (T.table tableau.old) }
     requires fresh { T.spent tableau.old ≡ false }
-    ensures outcome { IfOk result (λ o. IsOutcomeOf F.meaning (exact F.meaning problem.now) (main_outcome (exact F.meaning problem.now)) o) }
-    ensures fits { OnOk result (first_refused F.LIMIT (whole_phase (exact F.meaning problem.now) (main_phase (exact F.meaning problem.now))) ≡ None) }
+    ensures outcome { IfOk result (λ o. IsOutcomeOf F.meaning (exact F.meaning problem.now) (main_outcome (exact F.meaning problem.now))
+        o) }
+    ensures fits { OnOk result (first_refused F.LIMIT (whole_phase (exact F.meaning problem.now) (main_phase (exact F.meaning problem.now)))
+        ≡ None) }
     ensures refused { IfErr result (λ e. RefusesRun F.meaning F.LIMIT
         (whole_phase (exact F.meaning problem.now) (main_phase (exact F.meaning problem.now))) e) }
 {

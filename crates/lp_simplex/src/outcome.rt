@@ -1,6 +1,6 @@
 //! What the method answers.
-use std::alloc::AllocError;
 use base_fractions::Wide;
+use std::alloc::AllocError;
 
 /// The outcome of a problem, with its evidence (docs/FORMATS.md, "Linear programs", has the rules by which it is read).
 #[derive(Drop)]

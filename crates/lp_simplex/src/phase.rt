@@ -7,8 +7,8 @@ ghost use Rattle.lp_simplex.specs.Answers.{BeginsPhase, EndsPhase, RefusesRun};
 
 use crate::outcome::SolveFault;
 use crate::step::{Step, make_step};
-use lp_dictionary::{Problem, Tableau};
 use base_fractions::OrderedField;
+use lp_dictionary::{Problem, Tableau};
 
 /// Why a phase ended: no column enters, no row leaves for a column, or the auxiliary variable has left.
 #[derive(Clone, Copy, Drop)]

@@ -5,9 +5,9 @@ ghost use Rattle.lp_dictionary.specs.Cells.{cell};
 ghost use Rattle.lp_simplex.specs.Placed.{IsPlaced, Places};
 ghost use Rattle.lp_simplex.specs.Answers.{IsDirection};
 
-use std::alloc::{AllocError, Global};
-use lp_dictionary::Tableau;
 use base_fractions::OrderedField;
+use lp_dictionary::Tableau;
+use std::alloc::{AllocError, Global};
 
 /// Puts the value at the place of the name past the base, if it has one.
 fn put_at<F: OrderedField>(values: &mut Vec<F>, name: u32, base: u32, value: F)
@@ -62,7 +62,8 @@ pub fn basic_values<F: OrderedField, T: Tableau<F>>(
     requires width { width ≡ (T.table tableau.now).width }
     requires apart { (i j : ℕ) → i < rows → j < rows → (T.table tableau.now).row_name i ≡ (T.table tableau.now).row_name j → i ≡ j }
     requires fresh { T.spent tableau.now ≡ false }
-    ensures { IfOk result (λ v. IsPlaced F.meaning (T.table tableau.now).row_name (λ i. (T.table tableau.now).entry i col) rows 0 cols v.items) }
+    ensures { IfOk result (λ v. IsPlaced F.meaning (T.table tableau.now).row_name (λ i. (T.table tableau.now).entry i col) rows 0 cols
+        v.items) }
 {
     let mut values = zeros(alloc, cols)?;
     for row in 0..rows {
@@ -109,7 +110,8 @@ pub fn goal_multipliers<F: OrderedField, T: Tableau<F>>(
     requires width { width ≡ (T.table tableau.now).width }
     requires apart { (i j : ℕ) → i < width → j < width → (T.table tableau.now).col_name i ≡ (T.table tableau.now).col_name j → i ≡ j }
     requires fresh { T.spent tableau.now ≡ false }
-    ensures { IfOk result (λ v. IsPlaced F.meaning (T.table tableau.now).col_name (λ k. neg_ℚ ((T.table tableau.now).entry rows k)) width cols rows v.items) }
+    ensures { IfOk result (λ v. IsPlaced F.meaning (T.table tableau.now).col_name (λ k. neg_ℚ ((T.table tableau.now).entry rows k)) width
+        cols rows v.items) }
 {
     let mut values = zeros(alloc, rows)?;
     for col in 0..width {

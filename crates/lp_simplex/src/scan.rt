@@ -4,9 +4,9 @@ ghost use Rattle.base_fractions.specs.Operation.{first_wide, operation_of};
 ghost use Rattle.lp_simplex.specs.Operations.{ratio_operation, ratio_operations};
 ghost use Rattle.lp_simplex.specs.Choices.{EntersAt, RatioAt, IsBefore, LeavesOf, CandidateOf};
 
-use std::cmp::Ordering;
-use lp_dictionary::Tableau;
 use base_fractions::{OrderedField, Wide};
+use lp_dictionary::Tableau;
+use std::cmp::Ordering;
 
 /// A row that may leave, and its ratio.
 #[derive(Clone, Copy, Drop)]
@@ -90,7 +90,8 @@ fn is_before<F: OrderedField, T: Tableau<F>>(
     requires fresh { T.spent tableau.now ≡ false }
     ensures { MatchBool result (IsBefore (F.meaning ratio) ((T.table tableau.now).row_name row) (F.meaning best.ratio)
         ((T.table tableau.now).row_name best.row))
-        (¬ (IsBefore (F.meaning ratio) ((T.table tableau.now).row_name row) (F.meaning best.ratio) ((T.table tableau.now).row_name best.row))) }
+        (¬ (IsBefore (F.meaning ratio) ((T.table tableau.now).row_name row) (F.meaning best.ratio)
+        ((T.table tableau.now).row_name best.row))) }
 {
     match ratio.cmp(&best.ratio) {
         Ordering::Less => true,

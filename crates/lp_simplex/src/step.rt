@@ -4,8 +4,8 @@ ghost use Rattle.lp_simplex.specs.Choices.{StepIs, StepRefused};
 
 use crate::outcome::SolveFault;
 use crate::scan::{entering_column, leaving_row};
-use lp_dictionary::{PivotFault, Tableau};
 use base_fractions::OrderedField;
+use lp_dictionary::{PivotFault, Tableau};
 
 /// What a step of the rule did: nothing, since no column enters or since no row leaves, or a pivot in which the name left.
 #[derive(Clone, Copy, Drop)]

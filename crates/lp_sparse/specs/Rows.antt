@@ -32,7 +32,8 @@ merged a f b p at_pivot = cond at_pivot p (a +ℚ f *ℚ b)
 
 -- the first n rows but r are combined with the row b
 abbrev pub CombinesRows : {F : Type 0} → (F → ℚ) → ℕ → ℕ → ℕ → ℕ → List (Entry F) → List (SparseRow F) → List (SparseRow F) → Type 0
-CombinesRows m n r width c b old new = (i : ℕ) → i < n → i ≢ r → Keeps m (combined_row (numbers m old i) (value_at m b) c) width (row_at new i)
+CombinesRows m n r width c b old new = (i : ℕ) → i < n → i ≢ r → Keeps m (combined_row (numbers m old i) (value_at m b) c) width
+    (row_at new i)
 
 -- the operations of combining the first n rows but r with the row b
 unfoldable pub rows_operations : (ℕ → ℕ → ℚ) → (ℕ → ℚ) → ℕ → ℕ → ℕ → ℕ → List Operation

@@ -9,7 +9,8 @@ use Rattle.lp_sparse.specs.Rows.{row_at, EachRises}
 -- that a row rises below n has one proof at most
 pub Rises-prop : {F : Type 0} (lo n : ℕ) (es : List (Entry F)) → IsProp (Rises lo n es)
 Rises-prop lo n [] = Unit-prop
-Rises-prop lo n (e ∷ es) = let h = Rises-prop (suc e.col) n es in let a : IsProp (lo ≤ e.col) = le_prop in let b : IsProp (e.col < n) = le_prop in hlevel (h, a, b)
+Rises-prop lo n (e ∷ es) = let h = Rises-prop (suc e.col) n es in let a : IsProp (lo ≤ e.col) = le_prop in
+    let b : IsProp (e.col < n) = le_prop in hlevel (h, a, b)
 
 -- that all rows rise below n has one proof at most
 pub EachRises-prop : {F : Type 0} (n : ℕ) (rows : List (SparseRow F)) → IsProp (EachRises n rows)

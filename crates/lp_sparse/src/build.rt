@@ -8,9 +8,9 @@ ghost use Rattle.lp_sparse.specs.Build.{signed_by, end_pushed, IsFirst};
 
 use crate::entry::{Entry, SparseRow};
 use crate::push::push_value;
-use std::alloc::{AllocError, Global};
-use lp_dictionary::{Problem, Row};
 use base_fractions::OrderedField;
+use lp_dictionary::{Problem, Row};
+use std::alloc::{AllocError, Global};
 
 fn signed<F: OrderedField>(value: F, negated: bool) -> F
     ensures { F.meaning result ≡ signed_by negated (F.meaning value) }
@@ -60,7 +60,8 @@ fn slack_row<F: OrderedField>(
     auxiliary: bool,
 ) -> Result<SparseRow<F>, AllocError>
     requires { length row.now.coeffs.items < 4294967295 }
-    ensures { IfOk result (λ r. Lists F.meaning (slack_entries auxiliary (map F.meaning row.now.coeffs.items) (F.meaning row.now.side)) r.entries.items) }
+    ensures { IfOk result (λ r. Lists F.meaning (slack_entries auxiliary (map F.meaning row.now.coeffs.items) (F.meaning row.now.side))
+        r.entries.items) }
 {
     let mut entries = entries_of(alloc, &row.coeffs, true)?;
     let cols = row.coeffs.len() as u32;

@@ -15,7 +15,8 @@ use base_fractions::{OrderedField, Wide};
 pub fn product_of<F: OrderedField>(factor: F, above: F, unit: Option<bool>) -> Result<F, Wide<F>>
     requires factor { F.meaning factor ≢ zero_ℚ }
     requires unit { IsUnit (F.meaning factor) unit }
-    ensures { Answers F.meaning F.LIMIT (F.meaning factor *ℚ F.meaning above) (product_operations (F.meaning factor) (F.meaning above)) result }
+    ensures { Answers F.meaning F.LIMIT (F.meaning factor *ℚ F.meaning above) (product_operations (F.meaning factor) (F.meaning above))
+        result }
 {
     if above.is_zero() {
         return Ok(above);

@@ -14,8 +14,8 @@ use crate::entry::Entry;
 use crate::formulas::{kept_of, merged_of, term_of};
 use crate::push::push_answer;
 use crate::unit::unit_of;
-use lp_dictionary::PivotFault;
 use base_fractions::OrderedField;
+use lp_dictionary::PivotFault;
 
 /// Appends the entries of a row from the place `i` on whose column is below `until`, with `product` in the pivot's column, and answers
 /// the place after them.
@@ -68,7 +68,8 @@ fn merge_entry<F: OrderedField>(
         (drop i entries.now) (drop r entries.now) merged.old.items merged.new.items) }
     ensures place { IfOk result (λ r. r ≤ length entries.now) }
     ensures refused { IfErr result (Refuses F.meaning F.LIMIT
-        (added_operations (head_value F.meaning (drop i entries.now) entry.col) (F.meaning factor) (F.meaning entry.value) (eqb entry.col col))) }
+        (added_operations (head_value F.meaning (drop i entries.now) entry.col) (F.meaning factor) (F.meaning entry.value)
+        (eqb entry.col col))) }
 {
     let at = entry.col;
     if i < entries.len() && entries[i].col == at {
@@ -104,9 +105,11 @@ pub fn merge<F: OrderedField>(
         Keeps F.meaning (combined_row (value_at F.meaning entries.now) (value_at F.meaning above.now) col) n merged.new.items) }
     ensures no_zero { OnOk result (HasNoZero F.meaning merged.new.items) }
     ensures fits { OnOk result ((n : ℕ) → Rises 0 n entries.now → Rises 0 n above.now →
-        first_wide F.LIMIT (added_row_operations n (value_at F.meaning entries.now) (F.meaning factor) (value_at F.meaning above.now) col) ≡ None) }
+        first_wide F.LIMIT (added_row_operations n (value_at F.meaning entries.now) (F.meaning factor) (value_at F.meaning above.now) col)
+        ≡ None) }
     ensures refused { IfErr result (λ e. (n : ℕ) → Rises 0 n entries.now → Rises 0 n above.now →
-        Refuses F.meaning F.LIMIT (added_row_operations n (value_at F.meaning entries.now) (F.meaning factor) (value_at F.meaning above.now) col) e) }
+        Refuses F.meaning F.LIMIT (added_row_operations n (value_at F.meaning entries.now) (F.meaning factor) (value_at F.meaning above.now)
+        col) e) }
 {
     merged.clear();
     let unit = unit_of(factor);

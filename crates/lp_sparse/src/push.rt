@@ -4,9 +4,9 @@ ghost use Rattle.lp_sparse.specs.Entries.{pushed};
 ghost use Rattle.lp_sparse.specs.Faults.{Pushes, PassesOn};
 
 use crate::entry::{Entry, SparseRow};
-use std::alloc::AllocError;
-use lp_dictionary::PivotFault;
 use base_fractions::{OrderedField, Wide};
+use lp_dictionary::PivotFault;
+use std::alloc::AllocError;
 
 /// Appends an entry, unless its value is 0.
 pub fn push_value<F: OrderedField>(

@@ -14,8 +14,8 @@ use crate::formulas::product_of;
 use crate::merge::merge;
 use crate::place::value_in;
 use crate::push::{push_answer, replace};
-use lp_dictionary::{PivotFault, divided_by};
 use base_fractions::OrderedField;
+use lp_dictionary::{PivotFault, divided_by};
 
 /// Formulas 1 and 2 on the pivot's row, whose entry at `col` is the pivot.
 pub fn divide_row<F: OrderedField>(
@@ -25,9 +25,11 @@ pub fn divide_row<F: OrderedField>(
 ) -> Result<(), PivotFault<F>>
     requires rising { IsRising entries.now }
     requires pivot { value_at F.meaning entries.now col ≢ zero_ℚ }
-    ensures divided { OnOk result ((n : ℕ) → Rises 0 n entries.now → Keeps F.meaning (divided_row (value_at F.meaning entries.now) col) n divided.new.items) }
+    ensures divided { OnOk result ((n : ℕ) → Rises 0 n entries.now → Keeps F.meaning (divided_row (value_at F.meaning entries.now) col) n
+        divided.new.items) }
     ensures no_zero { OnOk result (HasNoZero F.meaning divided.new.items) }
-    ensures fits { OnOk result ((n : ℕ) → Rises 0 n entries.now → first_wide F.LIMIT (division_row_operations n (value_at F.meaning entries.now) col) ≡ None) }
+    ensures fits { OnOk result ((n : ℕ) → Rises 0 n entries.now → first_wide F.LIMIT
+        (division_row_operations n (value_at F.meaning entries.now) col) ≡ None) }
     ensures refused { IfErr result (λ e. (n : ℕ) → Rises 0 n entries.now →
         Refuses F.meaning F.LIMIT (division_row_operations n (value_at F.meaning entries.now) col) e) }
 {
@@ -53,12 +55,15 @@ pub fn combine_row<F: OrderedField>(
     requires above { IsRising above.now }
     requires inverse { F.meaning inverse ≡ value_at F.meaning above.now col }
     ensures combined { OnOk result ((n : ℕ) → Rises 0 n row.old.entries.items → Rises 0 n above.now →
-        Keeps F.meaning (combined_row (value_at F.meaning row.old.entries.items) (value_at F.meaning above.now) col) n row.new.entries.items) }
+        Keeps F.meaning (combined_row (value_at F.meaning row.old.entries.items) (value_at F.meaning above.now) col) n
+        row.new.entries.items) }
     ensures no_zero { OnOk result (HasNoZero F.meaning row.old.entries.items → HasNoZero F.meaning row.new.entries.items) }
     ensures fits { OnOk result ((n : ℕ) → Rises 0 n row.old.entries.items → Rises 0 n above.now →
-        first_wide F.LIMIT (combination_row_operations n (value_at F.meaning row.old.entries.items) (value_at F.meaning above.now) col) ≡ None) }
+        first_wide F.LIMIT (combination_row_operations n (value_at F.meaning row.old.entries.items) (value_at F.meaning above.now) col)
+        ≡ None) }
     ensures refused { IfErr result (λ e. (n : ℕ) → Rises 0 n row.old.entries.items → Rises 0 n above.now →
-        Refuses F.meaning F.LIMIT (combination_row_operations n (value_at F.meaning row.old.entries.items) (value_at F.meaning above.now) col) e) }
+        Refuses F.meaning F.LIMIT (combination_row_operations n (value_at F.meaning row.old.entries.items) (value_at F.meaning above.now)
+        col) e) }
 {
     let factor = value_in(&row.entries, col);
     if factor.is_zero() {
@@ -88,9 +93,11 @@ pub fn combine_rows<F: OrderedField>(
         CombinesRows F.meaning (length rows.old) row n col above.now rows.old rows.new) }
     ensures no_zero { OnOk result (NoZeros F.meaning rows.old → NoZeros F.meaning rows.new) }
     ensures fits { OnOk result ((n : ℕ) → EachRises n rows.old → Rises 0 n above.now →
-        first_wide F.LIMIT (rows_operations (numbers F.meaning rows.old) (value_at F.meaning above.now) (length rows.old) row n col) ≡ None) }
+        first_wide F.LIMIT (rows_operations (numbers F.meaning rows.old) (value_at F.meaning above.now) (length rows.old) row n col)
+        ≡ None) }
     ensures refused { IfErr result (λ e. (n : ℕ) → EachRises n rows.old → Rises 0 n above.now →
-        Refuses F.meaning F.LIMIT (rows_operations (numbers F.meaning rows.old) (value_at F.meaning above.now) (length rows.old) row n col) e) }
+        Refuses F.meaning F.LIMIT (rows_operations (numbers F.meaning rows.old) (value_at F.meaning above.now) (length rows.old) row n col)
+        e) }
 {
     let inverse = value_in(above, col);
     for i in 0..rows.len() {

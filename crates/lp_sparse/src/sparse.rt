@@ -8,11 +8,11 @@ use crate::entry::{Entry, SparseRow};
 use crate::leave::leave_out_of_each;
 use crate::place::value_in;
 use crate::rows::exchange;
-use std::alloc::{AllocError, Global};
+use base_fractions::OrderedField;
 use lp_dictionary::{
     PivotFault, Problem, Tableau, goal_count, lowest_side, names_from, other_names, zero_place,
 };
-use base_fractions::OrderedField;
+use std::alloc::{AllocError, Global};
 
 /// A dictionary that keeps for each row, those of the basic variables and then those of the goals, the entries that are not
 /// zero, by rising column, the constant last. With fractions an entry takes 24 bytes.

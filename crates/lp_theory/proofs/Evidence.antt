@@ -2,12 +2,14 @@
 use Rattle.std.proofs.Common.{refl, ◌≡◌, ℕ, ◌<◌, ⊎_elim, [], ◌∷◌, ap, sym, ◌∙◌, subst}
 use Rattle.base_numbers.specs.Rational.{ℚ, zero_ℚ, one_ℚ, ◌+ℚ◌, ◌*ℚ◌, ◌-ℚ◌, inv_ℚ, ◌≤ℚ◌, ◌<ℚ◌}
 use Rattle.base_numbers.specs.Vector.{sum_to}
-use Rattle.base_numbers.proofs.rational.Laws.{≤ℚ_trans, ≤ℚ_antisymm, le_or_lt, ne_of_lt_ℚ, not_le_of_lt, inv_pos, zero_lt_one, le_of_lt_ℚ, *ℚ_invr}
+use Rattle.base_numbers.proofs.rational.Laws.{≤ℚ_trans, ≤ℚ_antisymm, le_or_lt, ne_of_lt_ℚ, not_le_of_lt, inv_pos, zero_lt_one, le_of_lt_ℚ}
+use Rattle.base_numbers.proofs.rational.Laws.{*ℚ_invr}
 use Rattle.base_numbers.proofs.tactics.Ring.{ring, reads}
 use Rattle.base_numbers.proofs.tactics.Linear.{gap, ◌⊗◌}
 use Rattle.base_numbers.proofs.tactics.Linarith.{lin_le, lin_lt, lin_false, le, lt, eq_times, ge0, reads_all}
 use Rattle.base_numbers.proofs.vector.Vectors.{sum_to_same, sum_to-add, sum_to-scale, sum_to_mono, sum_to_swap}
-use Rattle.lp_theory.specs.Problem.{Problem, IsPoint, IsBest, IsUnbounded, IsEmpty, Outcome, best, unbounded, empty, IsOutcome, left, value_at, mixed, mixed_side, SameKind, moved}
+use Rattle.lp_theory.specs.Problem.{Problem, IsPoint, IsBest, IsUnbounded, IsEmpty, Outcome, best, unbounded, empty, IsOutcome, left}
+use Rattle.lp_theory.specs.Problem.{value_at, mixed, mixed_side, SameKind, moved}
 
 -- the order of a double sum of products
 pub exchanged : (P : Problem) (x y : ℕ → ℚ) → sum_to P.cols (λ j. mixed P y j *ℚ x j) ≡ sum_to P.rows (λ r. y r *ℚ left P r x)
@@ -16,10 +18,12 @@ exchanged P x y =
     (λ j l. ring (mixed P y j ∷ x j ∷ []) (search reads depth 40) refl ∙ sym (sum_to-scale P.rows (x j) (λ r. y r *ℚ P.coef r j)))
     ∙ sum_to_swap P.cols P.rows (λ j r. x j *ℚ (y r *ℚ P.coef r j))
     ∙ sum_to_same P.rows (λ r. sum_to P.cols (λ j. x j *ℚ (y r *ℚ P.coef r j))) (λ r. y r *ℚ left P r x)
-    (λ r l. sum_to_same P.cols (λ j. x j *ℚ (y r *ℚ P.coef r j)) (λ j. y r *ℚ (P.coef r j *ℚ x j)) (λ j m. ring (x j ∷ y r ∷ P.coef r j ∷ []) (search reads depth 40) refl) ∙ sum_to-scale P.cols (y r) (λ j. P.coef r j *ℚ x j))
+    (λ r l. sum_to_same P.cols (λ j. x j *ℚ (y r *ℚ P.coef r j)) (λ j. y r *ℚ (P.coef r j *ℚ x j))
+    (λ j m. ring (x j ∷ y r ∷ P.coef r j ∷ []) (search reads depth 40) refl) ∙ sum_to-scale P.cols (y r) (λ j. P.coef r j *ℚ x j))
 
 -- a form that a combination of the rows covers is at most the combination of the sides
-covered : (P : Problem) (x y c : ℕ → ℚ) → IsPoint P x → ((r : ℕ) → r < P.rows → zero_ℚ ≤ℚ y r) → ((j : ℕ) → j < P.cols → c j ≤ℚ mixed P y j) → sum_to P.cols (λ j. c j *ℚ x j) ≤ℚ mixed_side P y
+covered : (P : Problem) (x y c : ℕ → ℚ) → IsPoint P x → ((r : ℕ) → r < P.rows → zero_ℚ ≤ℚ y r) → ((j : ℕ) → j < P.cols → c j ≤ℚ mixed P y j)
+    → sum_to P.cols (λ j. c j *ℚ x j) ≤ℚ mixed_side P y
 covered P x y c p h i =
     ≤ℚ_trans
     (sum_to_mono P.cols (λ j. c j *ℚ x j) (λ j. mixed P y j *ℚ x j)
@@ -42,21 +46,27 @@ weak_empty P y e x p =
     lin_false (sum_to P.cols x ∷ mixed_side P y ∷ []) (le l' ∷ lt s ∷ []) (search reads_all depth 40) tt
 
 -- a sum at the moved point
-sum-moved : (n : ℕ) (c x d : ℕ → ℚ) (t : ℚ) → sum_to n (λ j. c j *ℚ moved x t d j) ≡ sum_to n (λ j. c j *ℚ x j) +ℚ t *ℚ sum_to n (λ j. c j *ℚ d j)
+sum-moved : (n : ℕ) (c x d : ℕ → ℚ) (t : ℚ) → sum_to n (λ j. c j *ℚ moved x t d j)
+    ≡ sum_to n (λ j. c j *ℚ x j) +ℚ t *ℚ sum_to n (λ j. c j *ℚ d j)
 sum-moved n c x d t =
-    sum_to_same n (λ j. c j *ℚ moved x t d j) (λ j. c j *ℚ x j +ℚ t *ℚ (c j *ℚ d j)) (λ j l. ring (c j ∷ x j ∷ d j ∷ t ∷ []) (search reads depth 40) refl)
-    ∙ sum_to-add n (λ j. c j *ℚ x j) (λ j. t *ℚ (c j *ℚ d j)) ∙ ap (λ s. sum_to n (λ j. c j *ℚ x j) +ℚ s) (sum_to-scale n t (λ j. c j *ℚ d j))
+    sum_to_same n (λ j. c j *ℚ moved x t d j) (λ j. c j *ℚ x j +ℚ t *ℚ (c j *ℚ d j))
+    (λ j l. ring (c j ∷ x j ∷ d j ∷ t ∷ []) (search reads depth 40) refl)
+    ∙ sum_to-add n (λ j. c j *ℚ x j) (λ j. t *ℚ (c j *ℚ d j)) ∙ ap (λ s. sum_to n (λ j. c j *ℚ x j) +ℚ s)
+    (sum_to-scale n t (λ j. c j *ℚ d j))
 
 -- evidence of unbounded: along the ray all are points
 pub ray_points : (P : Problem) (x d : ℕ → ℚ) → IsUnbounded P x d → (t : ℚ) → zero_ℚ ≤ℚ t → IsPoint P (moved x t d)
 ray_points P x d u t h = record {
-  nonneg = λ j l. let a = u.point.nonneg j l in lin_le (x j ∷ d j ∷ t ∷ []) (ge0 a ∷ ge0 (h ⊗ u.nonneg j l) ∷ []) (search reads_all depth 40) tt;
+  nonneg = λ j l. let a = u.point.nonneg j l in lin_le (x j ∷ d j ∷ t ∷ []) (ge0 a ∷ ge0 (h ⊗ u.nonneg j l) ∷ [])
+      (search reads_all depth 40) tt;
   meets = λ r l. subst (λ s. s ≤ℚ P.side r) (sym (sum-moved P.cols (P.coef r) x d t))
-      (let a = u.point.meets r l in lin_le (left P r x ∷ left P r d ∷ t ∷ P.side r ∷ []) (le a ∷ ge0 (h ⊗ gap (u.keeps r l)) ∷ []) (search reads_all depth 40) tt);
+      (let a = u.point.meets r l in lin_le (left P r x ∷ left P r d ∷ t ∷ P.side r ∷ []) (le a ∷ ge0 (h ⊗ gap (u.keeps r l)) ∷ [])
+      (search reads_all depth 40) tt);
 }
 
 -- evidence of unbounded: some point exceeds any number
-pub ray_exceeds : (P : Problem) (x d : ℕ → ℚ) → IsUnbounded P x d → (b : ℚ) → (t : ℚ) × (zero_ℚ ≤ℚ t) × IsPoint P (moved x t d) × (b <ℚ value_at P (moved x t d))
+pub ray_exceeds : (P : Problem) (x d : ℕ → ℚ) → IsUnbounded P x d → (b : ℚ)
+    → (t : ℚ) × (zero_ℚ ≤ℚ t) × IsPoint P (moved x t d) × (b <ℚ value_at P (moved x t d))
 ray_exceeds P x d u b =
     let v = value_at P x in
     let w = value_at P d in
@@ -68,11 +78,13 @@ ray_exceeds P x d u b =
       one_ℚ,
       le_of_lt_ℚ zero_lt_one,
       ray_points P x d u one_ℚ (le_of_lt_ℚ zero_lt_one),
-      subst (λ s. b <ℚ s) (sym (sum-moved P.cols P.goal x d one_ℚ)) (lin_lt (b ∷ value_at P x ∷ value_at P d ∷ []) (le h ∷ lt g ∷ []) (search reads_all depth 40) tt),
+      subst (λ s. b <ℚ s) (sym (sum-moved P.cols P.goal x d one_ℚ)) (lin_lt (b ∷ value_at P x ∷ value_at P d ∷ []) (le h ∷ lt g ∷ [])
+          (search reads_all depth 40) tt),
     ))
     (λ h.
     let t = (b -ℚ v) *ℚ inv_ℚ w +ℚ one_ℚ in
-    let n : zero_ℚ ≤ℚ t = let m : zero_ℚ ≤ℚ (b -ℚ v) *ℚ inv_ℚ w = gap (le_of_lt_ℚ h) ⊗ q in lin_le (((b -ℚ v) *ℚ inv_ℚ w) ∷ []) (ge0 m ∷ []) (search reads_all depth 40) tt in (
+    let n : zero_ℚ ≤ℚ t = let m : zero_ℚ ≤ℚ (b -ℚ v) *ℚ inv_ℚ w = gap (le_of_lt_ℚ h) ⊗ q in
+    lin_le (((b -ℚ v) *ℚ inv_ℚ w) ∷ []) (ge0 m ∷ []) (search reads_all depth 40) tt in (
       t,
       n,
       ray_points P x d u t n,
@@ -98,7 +110,8 @@ not_empty_best P x y z v e b = weak_empty P z e x b.point
 -- the best value is one
 best_value_only : (P : Problem) (x y x' y' : ℕ → ℚ) (v v' : ℚ) → IsBest P x v y → IsBest P x' v' y' → v ≡ v'
 best_value_only P x y x' y' v v' b b' =
-    ≤ℚ_antisymm (subst (λ s. s ≤ℚ v') b.value (weak_best P x' y' v' b' x b.point)) (subst (λ s. s ≤ℚ v) b'.value (weak_best P x y v b x' b'.point))
+    ≤ℚ_antisymm (subst (λ s. s ≤ℚ v') b.value (weak_best P x' y' v' b' x b.point))
+    (subst (λ s. s ≤ℚ v) b'.value (weak_best P x y v b x' b'.point))
 
 -- a problem has outcomes of one kind alone
 pub one_kind : (P : Problem) (o p : Outcome) → IsOutcome P o → IsOutcome P p → SameKind o p

@@ -8,9 +8,11 @@ use Rattle.base_numbers.proofs.tactics.Ring.{ring, reads}
 use Rattle.base_numbers.proofs.tactics.Linear.{◌⊗◌}
 use Rattle.base_numbers.proofs.tactics.Linarith.{lin_le, lin_false, le, lt, eq, ge0, reads_all}
 use Rattle.base_numbers.proofs.vector.Vectors.{sum_to_same, sum_to_mono, sum_to-scale}
-use Rattle.lp_theory.specs.Problem.{Problem, left, value_at, mixed, mixed_side, IsPoint, IsBest, IsUnbounded, IsEmpty, Outcome, best, unbounded, empty, IsOutcome}
+use Rattle.lp_theory.specs.Problem.{Problem, left, value_at, mixed, mixed_side, IsPoint, IsBest, IsUnbounded, IsEmpty, Outcome, best}
+use Rattle.lp_theory.specs.Problem.{unbounded, empty, IsOutcome}
 use Rattle.lp_theory.specs.Simplex.{lp}
-use Rattle.lp_theory.specs.Free.{split, split_problem, unsplit, IsFreePoint, IsFreeBest, IsFreeUnbounded, IsFreeEmpty, IsFreeOutcome, unsplit_outcome, free_lp}
+use Rattle.lp_theory.specs.Free.{split, split_problem, unsplit, IsFreePoint, IsFreeBest, IsFreeUnbounded, IsFreeEmpty, IsFreeOutcome}
+use Rattle.lp_theory.specs.Free.{unsplit_outcome, free_lp}
 use Rattle.lp_theory.proofs.Evidence.{exchanged}
 use Rattle.lp_theory.proofs.search.Programs.{lp_is}
 
@@ -37,16 +39,19 @@ sum-split (suc W) f x =
     ap (λ n. sum_to n (λ k. split f k *ℚ x k)) e
     ∙ sum_first (suc (W + W)) (λ k. split f k *ℚ x k)
     ∙ ap (λ s. split f 0 *ℚ x 0 +ℚ s) (sum_first (W + W) (λ k. split f (suc k) *ℚ x (suc k)))
-    ∙ ap (λ s. split f 0 *ℚ x 0 +ℚ (split f 1 *ℚ x 1 +ℚ s)) (ih ∙ sum_to_same W (λ j. f (suc j) *ℚ unsplit (λ k. x (suc (suc k))) j) (λ j. f (suc j) *ℚ unsplit x (suc j)) (λ j l. ap (λ s. f (suc j) *ℚ s) (unsplit-suc x j)))
+    ∙ ap (λ s. split f 0 *ℚ x 0 +ℚ (split f 1 *ℚ x 1 +ℚ s)) (ih ∙ sum_to_same W (λ j. f (suc j) *ℚ unsplit (λ k. x (suc (suc k))) j)
+    (λ j. f (suc j) *ℚ unsplit x (suc j)) (λ j l. ap (λ s. f (suc j) *ℚ s) (unsplit-suc x j)))
     ∙ ring (f 0 ∷ x 0 ∷ x 1 ∷ sum_to W (λ j. f (suc j) *ℚ unsplit x (suc j)) ∷ []) (search reads depth 40) refl
     ∙ sym (sum_first W (λ j. f j *ℚ unsplit x j))
 
 mixed_even : (P : Problem) (y : ℕ → ℚ) (j : ℕ) → sum_to P.rows (λ r. y r *ℚ split (P.coef r) (j + j)) ≡ mixed P y j
-mixed_even P y j = sum_to_same P.rows (λ r. y r *ℚ split (P.coef r) (j + j)) (λ r. y r *ℚ P.coef r j) (λ r l. ap (λ s. y r *ℚ s) (split_even (P.coef r) j))
+mixed_even P y j = sum_to_same P.rows (λ r. y r *ℚ split (P.coef r) (j + j)) (λ r. y r *ℚ P.coef r j)
+    (λ r l. ap (λ s. y r *ℚ s) (split_even (P.coef r) j))
 
 mixed_odd : (P : Problem) (y : ℕ → ℚ) (j : ℕ) → sum_to P.rows (λ r. y r *ℚ split (P.coef r) (suc (j + j))) ≡ neg_ℚ (mixed P y j)
 mixed_odd P y j =
-    sum_to_same P.rows (λ r. y r *ℚ split (P.coef r) (suc (j + j))) (λ r. neg_ℚ one_ℚ *ℚ (y r *ℚ P.coef r j)) (λ r l. ap (λ s. y r *ℚ s) (split_odd (P.coef r) j) ∙ ring (y r ∷ P.coef r j ∷ []) (search reads depth 40) refl)
+    sum_to_same P.rows (λ r. y r *ℚ split (P.coef r) (suc (j + j))) (λ r. neg_ℚ one_ℚ *ℚ (y r *ℚ P.coef r j))
+    (λ r l. ap (λ s. y r *ℚ s) (split_odd (P.coef r) j) ∙ ring (y r ∷ P.coef r j ∷ []) (search reads depth 40) refl)
     ∙ sum_to-scale P.rows (neg_ℚ one_ℚ) (λ r. y r *ℚ P.coef r j) ∙ ring (mixed P y j ∷ []) (search reads depth 40) refl
 
 -- two columns that are covered say that one number is another
@@ -99,22 +104,29 @@ unfolding free_lp
 free_lp_is P = free_outcome P (lp (split_problem P)) (lp_is (split_problem P))
 
 -- a combination of the rows that is the form bounds it at each point
-free_bound : (P : Problem) (w y : ℕ → ℚ) → IsFreePoint P w → ((r : ℕ) → r < P.rows → zero_ℚ ≤ℚ y r) → sum_to P.cols (λ j. mixed P y j *ℚ w j) ≤ℚ mixed_side P y
+free_bound : (P : Problem) (w y : ℕ → ℚ) → IsFreePoint P w → ((r : ℕ) → r < P.rows → zero_ℚ ≤ℚ y r)
+    → sum_to P.cols (λ j. mixed P y j *ℚ w j) ≤ℚ mixed_side P y
 free_bound P w y p h = subst (λ s. s ≤ℚ mixed_side P y) (sym (exchanged P w y))
-    (sum_to_mono P.rows (λ r. y r *ℚ left P r w) (λ r. y r *ℚ P.side r) (λ r l. let a = h r l in let b = p.meets r l in times (y r) (left P r w) (P.side r) a b))
+    (sum_to_mono P.rows (λ r. y r *ℚ left P r w) (λ r. y r *ℚ P.side r)
+    (λ r l. let a = h r l in let b = p.meets r l in times (y r) (left P r w) (P.side r) a b))
   where
     times : (a b c : ℚ) → zero_ℚ ≤ℚ a → b ≤ℚ c → a *ℚ b ≤ℚ a *ℚ c
-    times a b c h i = let k : zero_ℚ ≤ℚ c -ℚ b = lin_le (b ∷ c ∷ []) (le i ∷ []) (search reads_all depth 40) tt in lin_le (a ∷ b ∷ c ∷ []) (ge0 (h ⊗ k) ∷ []) (search reads_all depth 40) tt
+    times a b c h i = let k : zero_ℚ ≤ℚ c -ℚ b = lin_le (b ∷ c ∷ []) (le i ∷ []) (search reads_all depth 40) tt in
+        lin_le (a ∷ b ∷ c ∷ []) (ge0 (h ⊗ k) ∷ []) (search reads_all depth 40) tt
 
 -- evidence of best: no point has more
 pub free_weak_best : (P : Problem) (w y : ℕ → ℚ) (v : ℚ) → IsFreeBest P w v y → (w' : ℕ → ℚ) → IsFreePoint P w' → value_at P w' ≤ℚ v
 free_weak_best P w y v b w' p =
-    subst₂ (λ s t. s ≤ℚ t) (sum_to_same P.cols (λ j. mixed P y j *ℚ w' j) (λ j. P.goal j *ℚ w' j) (λ j l. ap (λ s. s *ℚ w' j) (b.covers j l))) b.bound (free_bound P w' y p b.multiplier)
+    subst₂ (λ s t. s ≤ℚ t) (sum_to_same P.cols (λ j. mixed P y j *ℚ w' j) (λ j. P.goal j *ℚ w' j)
+    (λ j l. ap (λ s. s *ℚ w' j) (b.covers j l))) b.bound (free_bound P w' y p b.multiplier)
 
 -- evidence of empty: there is no point
 pub free_weak_empty : (P : Problem) (y : ℕ → ℚ) → IsFreeEmpty P y → (w : ℕ → ℚ) → IsFreePoint P w → ⊥
 free_weak_empty P y e w p =
     let a = free_bound P w y p e.multiplier in
-    let z : sum_to P.cols (λ j. mixed P y j *ℚ w j) ≡ zero_ℚ *ℚ sum_to P.cols w = sum_to_same P.cols (λ j. mixed P y j *ℚ w j) (λ j. zero_ℚ *ℚ w j) (λ j l. ap (λ s. s *ℚ w j) (e.covers j l)) ∙ sum_to-scale P.cols zero_ℚ w in
+    let z : sum_to P.cols (λ j. mixed P y j *ℚ w j) ≡ zero_ℚ *ℚ sum_to P.cols w =
+    sum_to_same P.cols (λ j. mixed P y j *ℚ w j) (λ j. zero_ℚ *ℚ w j) (λ j l. ap (λ s. s *ℚ w j) (e.covers j l))
+    ∙ sum_to-scale P.cols zero_ℚ w in
     let b = e.below in
-    lin_false (sum_to P.cols (λ j. mixed P y j *ℚ w j) ∷ sum_to P.cols w ∷ mixed_side P y ∷ []) (le a ∷ eq z ∷ lt b ∷ []) (search reads_all depth 40) tt
+    lin_false (sum_to P.cols (λ j. mixed P y j *ℚ w j) ∷ sum_to P.cols w ∷ mixed_side P y ∷ []) (le a ∷ eq z ∷ lt b ∷ [])
+    (search reads_all depth 40) tt

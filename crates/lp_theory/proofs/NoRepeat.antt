@@ -1,5 +1,6 @@
 -- No basis set repeats in a chain of pivots by Bland's rule.
-use Rattle.std.proofs.Common.{◌≡◌, ◌≢◌, ℕ, zero, suc, ◌<◌, ◌≤◌, ◌⊎◌, inl, inr, ⊎_elim, Bool, true, false, not, refl, ap, sym, ◌∙◌, subst, arith, true≢false}
+use Rattle.std.proofs.Common.{◌≡◌, ◌≢◌, ℕ, zero, suc, ◌<◌, ◌≤◌, ◌⊎◌, inl, inr, ⊎_elim, Bool, true, false, not, refl, ap, sym, ◌∙◌, subst}
+use Rattle.std.proofs.Common.{arith, true≢false}
 use Rattle.std.proofs.lemmas.Bool.{cases_lt, cases_eq, cases_Bool, not-false, not-true}
 use Rattle.base_numbers.specs.Rational.{ℚ, zero_ℚ, ◌+ℚ◌, ◌*ℚ◌, ◌≤ℚ◌}
 use Rattle.base_numbers.proofs.rational.Laws.{≤ℚ_trans, ≤ℚ_antisymm, le_of_eq_ℚ, *ℚ-zero, +ℚ_idr, ne_of_lt_ℚ}
@@ -37,7 +38,8 @@ rises s i (suc m) h f t = ⊎_elim
     at_most i m = ⊎_elim inr inl (cases_lt m i)
 
 -- a sequence that ends as it began turns true somewhere, where it is both
-turns_true : (s : ℕ → Bool) (k i j : ℕ) → i ≤ k → j ≤ k → s 0 ≡ s k → s i ≡ false → s j ≡ true → (l : ℕ) × (l < k) × (s l ≡ false) × (s (suc l) ≡ true)
+turns_true : (s : ℕ → Bool) (k i j : ℕ) → i ≤ k → j ≤ k → s 0 ≡ s k → s i ≡ false → s j ≡ true
+    → (l : ℕ) × (l < k) × (s l ≡ false) × (s (suc l) ≡ true)
 turns_true s k i j a b e f t = ⊎_elim
     (λ h. ⊎_elim
     (λ u. rises s i k a f u)
@@ -47,7 +49,8 @@ turns_true s k i j a b e f t = ⊎_elim
     (cases_lt j i)
 
 -- a sequence that ends as it began turns false somewhere, where it is both
-turns_false : (s : ℕ → Bool) (k i j : ℕ) → i ≤ k → j ≤ k → s 0 ≡ s k → s i ≡ false → s j ≡ true → (l : ℕ) × (l < k) × (s l ≡ true) × (s (suc l) ≡ false)
+turns_false : (s : ℕ → Bool) (k i j : ℕ) → i ≤ k → j ≤ k → s 0 ≡ s k → s i ≡ false → s j ≡ true
+    → (l : ℕ) × (l < k) × (s l ≡ true) × (s (suc l) ≡ false)
 turns_false s k i j a b e f t =
     let r = turns_true (λ l. not (s l)) k j i b a (ap not e) (ap not t) (ap not f) in
     (r.0, r.1, not-false (s r.0) r.2, not-true (s (suc r.0)) r.3)
@@ -69,8 +72,18 @@ largest f zero = (0, omega arith, λ l h. let e : l ≡ 0 = omega (arith, h) in 
 largest f (suc k) =
     let r = largest f k in
     ⊎_elim
-    (λ h. (suc k, omega arith, λ l m. ⊎_elim (λ e. subst (λ x. f x ≤ f (suc k)) (sym e) (omega arith)) (λ e. omega (arith, h, r.2 l (omega (arith, m, e)))) (cases_eq l (suc k))))
-    (λ h. (r.0, omega (arith, r.1), λ l m. ⊎_elim (λ e. subst (λ x. f x ≤ f r.0) (sym e) h) (λ e. r.2 l (omega (arith, m, e))) (cases_eq l (suc k))))
+    (λ h. (
+      suc k,
+      omega arith,
+      λ l m. ⊎_elim (λ e. subst (λ x. f x ≤ f (suc k)) (sym e) (omega arith))
+          (λ e. omega (arith, h, r.2 l (omega (arith, m, e)))) (cases_eq l (suc k)),
+    ))
+    (λ h. (
+      r.0,
+      omega (arith, r.1),
+      λ l m. ⊎_elim (λ e. subst (λ x. f x ≤ f r.0) (sym e) h) (λ e. r.2 l (omega (arith, m, e)))
+          (cases_eq l (suc k)),
+    ))
     (cases_lt (f r.0) (f (suc k)))
 
 module _ (g n : ℕ) (D : ℕ → Dict) (c r : ℕ → ℕ) (k : ℕ) (h : IsChain g n D c r k) where
@@ -78,7 +91,8 @@ module _ (g n : ℕ) (D : ℕ → Dict) (c r : ℕ → ℕ) (k : ℕ) (h : IsCha
   chain_means : (V : ℕ → ℚ) (j : ℕ) → j ≤ k → Models n (D 0) V → Models n (D j) V
   chain_means V zero l m = m
   chain_means V (suc j) l m =
-      subst (λ E. Models n E V) (sym (h.next j (omega (arith, l)))) (pivot_means n (D j) (r j) (c j) (h.leaves j (omega (arith, l))).name V (chain_means V j (omega (arith, l)) m))
+      subst (λ E. Models n E V) (sym (h.next j (omega (arith, l)))) (pivot_means n (D j) (r j) (c j) (h.leaves j (omega (arith, l))).name V
+      (chain_means V j (omega (arith, l)) m))
 
   -- the last dictionary means no more than the first
   chain_means_back : (V : ℕ → ℚ) (j : ℕ) → j ≤ k → Models n (D j) V → Models n (D 0) V
@@ -95,13 +109,16 @@ module _ (g n : ℕ) (D : ℕ → Dict) (c r : ℕ → ℕ) (k : ℕ) (h : IsCha
   apart : (j : ℕ) → j < k → r j ≢ c j
   apart j l e =
       let d = h.form j (omega (arith, l)) in
-      true≢false (sym (leaves_basic n (D j) d (c j) (r j) (h.leaves j l).falls) ∙ ap (D j).basic e ∙ enters_free g n (D j) d (c j) (h.enters j l).gains)
+      true≢false (sym (leaves_basic n (D j) d (c j) (r j) (h.leaves j l).falls) ∙ ap (D j).basic e
+      ∙ enters_free g n (D j) d (c j) (h.enters j l).gains)
 
   module _ (same : SameBasis n (D 0) (D k)) where
     goal_flat : (j : ℕ) → j ≤ k → (D j).const g ≡ (D 0).const g
     goal_flat = flat (λ j. (D j).const g) k
-        (λ j l. subst (λ E. (D j).const g ≤ℚ E.const g) (sym (h.next j l)) (step_goal g n (D j) (h.feasible j (omega (arith, l))) (c j) (r j) (h.enters j l) (h.leaves j l)))
-        (le_of_eq_ℚ (sym (same_const n (D 0) (D k) (h.form 0 (omega arith)) (h.form k (omega arith)) same (λ V m. chain_means V k (omega arith) m) g)))
+        (λ j l. subst (λ E. (D j).const g ≤ℚ E.const g) (sym (h.next j l))
+        (step_goal g n (D j) (h.feasible j (omega (arith, l))) (c j) (r j) (h.enters j l) (h.leaves j l)))
+        (le_of_eq_ℚ (sym (same_const n (D 0) (D k) (h.form 0 (omega arith)) (h.form k (omega arith)) same
+        (λ V m. chain_means V k (omega arith) m) g)))
 
     -- nothing moves
     no_rise : (j : ℕ) → j < k → ratio_of (D j) (c j) (r j) ≡ zero_ℚ
@@ -113,7 +130,8 @@ module _ (g n : ℕ) (D : ℕ → Dict) (c r : ℕ → ℕ) (k : ℕ) (h : IsCha
     const_flat (suc j) l i =
         let b : j < k = omega (arith, l) in
         ap (λ E. E.const i) (h.next j b) ∙ const_moves (D j) (c j) (r j) i (h.leaves j b).falls
-        ∙ ap (λ x. (D j).const i +ℚ (D j).coef i (c j) *ℚ x) (no_rise j b) ∙ ap (λ x. (D j).const i +ℚ x) (*ℚ-zero ((D j).coef i (c j))) ∙ +ℚ_idr ((D j).const i)
+        ∙ ap (λ x. (D j).const i +ℚ (D j).coef i (c j) *ℚ x) (no_rise j b) ∙ ap (λ x. (D j).const i +ℚ x) (*ℚ-zero ((D j).coef i (c j)))
+        ∙ +ℚ_idr ((D j).const i)
         ∙ const_flat j (omega (arith, l)) i
 
     -- what is free somewhere and basic somewhere enters, and leaves
@@ -154,6 +172,7 @@ module _ (g n : ℕ) (D : ℕ → Dict) (c r : ℕ → ℕ) (k : ℕ) (h : IsCha
           let a : w.0 < k = omega (arith, w.1, e) in
           let d = h.form w.0 (omega (arith, a)) in
           let free = enters_free g n (D w.0) d (c w.0) (h.enters w.0 a).gains in
-          let basic : (D (suc w.0)).basic (c w.0) ≡ true = ap (λ E. E.basic (c w.0)) (h.next w.0 a) ∙ pivot_enters (D w.0) (r w.0) (c w.0) in
+          let basic : (D (suc w.0)).basic (c w.0) ≡ true = ap (λ E. E.basic (c w.0)) (h.next w.0 a)
+          ∙ pivot_enters (D w.0) (r w.0) (c w.0) in
           let v = some_leave same (c w.0) w.0 (suc w.0) (h.enters w.0 a).name (omega (arith, a)) (omega (arith, a)) free basic in
           out same w.0 v.0 (c w.0) a v.1 refl v.2 (λ l b. w.2 l (omega (arith, b, e)))

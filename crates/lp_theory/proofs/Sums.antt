@@ -25,8 +25,10 @@ delta_other (suc i) (suc k) h = delta_other i k (λ e. h (ap suc e))
 -- a sum with a unit row takes one term
 pub sum-delta : (n i : ℕ) (f : ℕ → ℚ) → i < n → sum_to n (λ k. delta i k *ℚ f k) ≡ f i
 sum-delta n i f h =
-    sum_one n i (λ k. delta i k *ℚ f k) h (λ k l d. ap (λ s. s *ℚ f k) (delta_other i k (λ e. d (sym e))) ∙ zero-*ℚ (f k)) ∙ ap (λ s. s *ℚ f i) (delta_same i) ∙ *ℚ_idl (f i)
+    sum_one n i (λ k. delta i k *ℚ f k) h (λ k l d. ap (λ s. s *ℚ f k) (delta_other i k (λ e. d (sym e))) ∙ zero-*ℚ (f k))
+    ∙ ap (λ s. s *ℚ f i) (delta_same i) ∙ *ℚ_idl (f i)
 
 -- the same with the unit row on the right
 pub sum_delta_right : (n i : ℕ) (f : ℕ → ℚ) → i < n → sum_to n (λ k. f k *ℚ delta i k) ≡ f i
-sum_delta_right n i f h = sum_to_same n (λ k. f k *ℚ delta i k) (λ k. delta i k *ℚ f k) (λ k l. ring (f k ∷ delta i k ∷ []) (search reads depth 40) refl) ∙ sum-delta n i f h
+sum_delta_right n i f h = sum_to_same n (λ k. f k *ℚ delta i k) (λ k. delta i k *ℚ f k)
+    (λ k l. ring (f k ∷ delta i k ∷ []) (search reads depth 40) refl) ∙ sum-delta n i f h

@@ -1,5 +1,6 @@
 -- A table with the auxiliary variable's column and the first goal left out shows the dictionary with that variable dropped.
-use Rattle.std.proofs.Common.{◌≡◌, ◌≢◌, ℕ, zero, suc, ◌+◌, ◌-◌, ◌<◌, ◌≤◌, ◌⊎◌, inl, inr, ⊎_elim, true, false, cond, refl, ap, sym, ◌∙◌, subst, arith, true≢false, lt-ltb, le-ltb}
+use Rattle.std.proofs.Common.{◌≡◌, ◌≢◌, ℕ, zero, suc, ◌+◌, ◌-◌, ◌<◌, ◌≤◌, ◌⊎◌, inl, inr, ⊎_elim, true, false, cond, refl, ap, sym, ◌∙◌}
+use Rattle.std.proofs.Common.{subst, arith, true≢false, lt-ltb, le-ltb}
 use Rattle.std.proofs.lemmas.Bool.{cases_lt, cases_eq}
 use Rattle.base_numbers.specs.Rational.{zero_ℚ}
 use Rattle.lp_theory.specs.Dictionary.{delta, Dict, IsDict, drop_zero}
@@ -24,8 +25,10 @@ skip_not z k e = ⊎_elim (λ h. omega (arith, e, h, skip_below z k h)) (λ h. o
 -- two positions stay apart
 skip_apart : (z j k : ℕ) → skip z j ≡ skip z k → j ≡ k
 skip_apart z j k e = ⊎_elim
-    (λ h. ⊎_elim (λ i. omega (arith, e, skip_below z j h, skip_below z k i)) (λ i. omega (arith, e, h, i, skip_below z j h, skip_above z k i)) (cases_lt k z))
-    (λ h. ⊎_elim (λ i. omega (arith, e, h, i, skip_above z j h, skip_below z k i)) (λ i. omega (arith, e, skip_above z j h, skip_above z k i)) (cases_lt k z))
+    (λ h. ⊎_elim (λ i. omega (arith, e, skip_below z j h, skip_below z k i))
+    (λ i. omega (arith, e, h, i, skip_below z j h, skip_above z k i)) (cases_lt k z))
+    (λ h. ⊎_elim (λ i. omega (arith, e, h, i, skip_above z j h, skip_below z k i))
+    (λ i. omega (arith, e, skip_above z j h, skip_above z k i)) (cases_lt k z))
     (cases_lt j z)
 
 -- each other position is met
@@ -66,7 +69,8 @@ drop_row_keeps D q z zero = refl
 drop_row_keeps D q z (suc k) = z (suc k)
 
 -- T has the goals' rows goals + 1 and the columns width + 1, the name 0 at the column z
-module _ (n : ℕ) (T : Table) (D : Dict) (h : Shows n T D) (d : IsDict n D) (goals width z : ℕ) (g : T.goals ≡ suc goals) (w : T.width ≡ suc width) (l : z < T.width) (zero_col : T.col_name z ≡ 0) where
+module _ (n : ℕ) (T : Table) (D : Dict) (h : Shows n T D) (d : IsDict n D) (goals width z : ℕ) (g : T.goals ≡ suc goals)
+    (w : T.width ≡ suc width) (l : z < T.width) (zero_col : T.col_name z ≡ 0) where
   row_in : (i : ℕ) → i < T.rows + goals → skip T.rows i < T.rows + T.goals
   row_in i a = let b = skip_bound T.rows i (T.rows + goals) a in omega (arith, b, g)
 
@@ -88,7 +92,8 @@ module _ (n : ℕ) (T : Table) (D : Dict) (h : Shows n T D) (d : IsDict n D) (go
       let s = skip_meets z v.0 width (omega (arith, v.1, w)) off (omega (arith, l, w)) in
       (s.0, s.1, ap T.col_name s.2 ∙ v.2)
 
-  rows : (q : ℕ) → q < n → (drop_zero D).basic q ≡ true → ((i : ℕ) × (i < T.rows) × (T.row_name (skip T.rows i) ≡ q)) ⊎ ((k : ℕ) → (drop_zero D).coef q k ≡ zero_ℚ)
+  rows : (q : ℕ) → q < n → (drop_zero D).basic q ≡ true → ((i : ℕ) × (i < T.rows) × (T.row_name (skip T.rows i) ≡ q))
+      ⊎ ((k : ℕ) → (drop_zero D).coef q k ≡ zero_ℚ)
   rows q a b = ⊎_elim
       (λ e. inr (λ k. ap (λ x. (drop_zero D).coef x k) e ∙ drop_row_zero n D d zero_free k))
       (λ e. ⊎_elim
@@ -106,8 +111,10 @@ module _ (n : ℕ) (T : Table) (D : Dict) (h : Shows n T D) (d : IsDict n D) (go
     rows_apart = λ i j a b e. skip_apart T.rows i j (h.rows_apart (skip T.rows i) (skip T.rows j) (row_in i a) (row_in j b) e);
     col_free = λ k a. drop_basic D (T.col_name (skip z k)) (col_off k a) ∙ h.col_free (skip z k) (col_in k a);
     cols_apart = λ j k a b e. skip_apart z j k (h.cols_apart (skip z j) (skip z k) (col_in j a) (col_in k b) e);
-    entries = λ i k a b. h.entries (skip T.rows i) (skip z k) (row_in i a) (col_in k b) ∙ sym (drop_coef_off D (T.row_name (skip T.rows i)) (T.col_name (skip z k)) (col_off k b));
-    constants = λ i a. ap (T.entry (skip T.rows i)) (skip_above z width (omega (arith, l, w)) ∙ sym w) ∙ h.constants (skip T.rows i) (row_in i a) ∙ sym (drop_const_is D (T.row_name (skip T.rows i)));
+    entries = λ i k a b. h.entries (skip T.rows i) (skip z k) (row_in i a) (col_in k b)
+        ∙ sym (drop_coef_off D (T.row_name (skip T.rows i)) (T.col_name (skip z k)) (col_off k b));
+    constants = λ i a. ap (T.entry (skip T.rows i)) (skip_above z width (omega (arith, l, w)) ∙ sym w)
+        ∙ h.constants (skip T.rows i) (row_in i a) ∙ sym (drop_const_is D (T.row_name (skip T.rows i)));
     all_cols = cols;
     all_rows = rows;
   }

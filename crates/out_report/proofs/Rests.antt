@@ -15,7 +15,8 @@ no_row false [] = refl
 no_row false (name ∷ names) = refl
 
 -- nothing is left where one of the lists is at its end
-pub rest-end : (b : Bool) (names : List (List ℕ)) (cs : List ℤ) (i : ℕ) → min (length names) (length cs) ≤ i → rest_text b (drop i names) (drop i cs) ≡ []
+pub rest-end : (b : Bool) (names : List (List ℕ)) (cs : List ℤ) (i : ℕ) → min (length names) (length cs) ≤ i
+    → rest_text b (drop i names) (drop i cs) ≡ []
 rest-end b names cs i h =
     ⊎_elim (λ e. ap (λ ns. rest_text b ns (drop i cs)) (drop_all i names e.1) ∙ no_names b (drop i cs))
     (λ e. let k : length cs ≤ i = omega arith in ap (λ ks. rest_text b (drop i names) ks) (drop_all i cs k) ∙ no_row b (drop i names))

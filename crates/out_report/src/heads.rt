@@ -5,10 +5,10 @@ ghost use Rattle.std.specs.List.{flat_map};
 ghost use Rattle.flow_systems.specs.Report.{footer_line, head_line, line, place_text, variables_line};
 
 use crate::rows::push_number;
-use std::alloc::AllocError;
-use flow_systems::Footer;
 use flow_edges::{Place, Point};
+use flow_systems::Footer;
 use lang_tree::Name;
+use std::alloc::AllocError;
 
 /// Appends what is told of a place.
 fn push_place(text: &mut Vec<u8>, place: &Place, line: u32) -> Result<(), AllocError>

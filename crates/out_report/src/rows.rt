@@ -5,10 +5,10 @@ ghost use Rattle.base_fractions.specs.Extended.{extended};
 ghost use Rattle.flow_systems.specs.Report.{bound_text, row_line, row_text, term_text};
 ghost use Rattle.out_report.specs.Terms.{signed_text, some_text, still_first};
 
-use itoa::Buffer;
-use std::alloc::AllocError;
 use base_fractions::Ext;
+use itoa::Buffer;
 use lang_tree::{Coeffs, Name};
+use std::alloc::AllocError;
 
 /// Appends the text of a bound.
 pub(crate) fn push_bound(text: &mut Vec<u8>, bound: Ext) -> Result<(), AllocError>

@@ -9,10 +9,10 @@ ghost use Rattle.lang_tree.specs.declared.limits.TheConstants.{MOST_VARIABLES};
 
 use crate::heads::push_footer;
 use crate::rows::push_bound;
-use std::alloc::{AllocError, Global};
-use flow_systems::{Bounds, Footer};
 use base_fractions::Ext;
+use flow_systems::{Bounds, Footer};
 use lang_tree::Name;
+use std::alloc::{AllocError, Global};
 
 /// Appends the line of a name and its value.
 fn push_value(text: &mut Vec<u8>, name: &Name, value: Ext) -> Result<(), AllocError>

@@ -8,11 +8,11 @@ ghost use Rattle.out_report.specs.Points.{bounds_from, point_of};
 
 use crate::heads::{push_footer, push_head, push_variables};
 use crate::rows::push_row_line;
-use std::alloc::{AllocError, Global};
-use flow_systems::{Bounds, Footer, System};
-use flow_edges::Point;
 use base_fractions::Ext;
+use flow_edges::Point;
+use flow_systems::{Bounds, Footer, System};
 use lang_tree::{Coeffs, Name};
+use std::alloc::{AllocError, Global};
 
 /// The bound of a row at the point whose bounds begin at `first`.
 fn bound_of(bounds: &[Ext], first: usize, row: usize) -> Ext

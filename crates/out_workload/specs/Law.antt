@@ -29,7 +29,8 @@ pub record IsSolvable (seed loops : ℕ) : Type 0 where
   pub tokens : List Token
   pub short : length (generated_text seed loops) ≤ 65536
   pub reads : Reads (generated_text seed loops) tokens
-  pub means : Means (generated_text seed loops) (tokens_of (generated_text seed loops) tokens) (Ok (generated_names, generated_body seed loops))
+  pub means : Means (generated_text seed loops) (tokens_of (generated_text seed loops) tokens)
+      (Ok (generated_names, generated_body seed loops))
   pub within : fault_of_program (generated_body seed loops) ≡ None
   pub points : length (points_of_program (generated_body seed loops)) ≡ loops + 2
   pub unknowns : length (points_of_program (generated_body seed loops)) * length (intervals_of 3) ≤ 288

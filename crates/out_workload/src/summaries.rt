@@ -5,9 +5,9 @@ ghost use Rattle.flow_systems.specs.View.{vector_of};
 ghost use Rattle.out_workload.specs.Summaries.{bench_line, counted_line, exit_lines, program_line, summary_of};
 
 use crate::texts::push_number;
-use std::alloc::{AllocError, Global};
 use flow_systems::{Bounds, System};
 use out_report::point_text;
+use std::alloc::{AllocError, Global};
 
 /// Appends a line with a number after these words.
 fn push_counted(text: &mut Vec<u8>, words: &[u8], number: u64) -> Result<(), AllocError>
@@ -67,7 +67,8 @@ fn push_exit(
     bounds: &Bounds,
 ) -> Result<(), AllocError>
     requires { length bounds.now ≡ length system.now.flow.points * length system.now.template }
-    ensures { IfOk result (λ _. text.new.items ≡ text.old.items ++ exit_lines system.now (vector_of (length system.now.template) bounds.now)) }
+    ensures { IfOk result (λ _. text.new.items ≡ text.old.items ++ exit_lines system.now
+        (vector_of (length system.now.template) bounds.now)) }
 {
     let exit = system.flow.points.as_slice().len() - 1;
     let lines = point_text(alloc, system, bounds, exit as u32)?;
@@ -87,7 +88,8 @@ pub fn summary(
     improvements: u32,
 ) -> Result<Vec<u8>, AllocError>
     requires { length bounds.now ≡ length system.now.flow.points * length system.now.template }
-    ensures { IfOk result (λ text. text.items ≡ summary_of seed loops bytes system.now (vector_of (length system.now.template) bounds.now) improvements) }
+    ensures { IfOk result (λ text. text.items ≡ summary_of seed loops bytes system.now (vector_of (length system.now.template) bounds.now)
+        improvements) }
 {
     let mut text = Vec::new(alloc);
     push_bench(&mut text, seed, loops)?;

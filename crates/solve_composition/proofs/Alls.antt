@@ -18,10 +18,12 @@ pub record EdgeFits (n : ℕ) (actions : List Action) : Type 0 where
   pub actions_fit : IsTrue (list_all (is_action n) actions)
 
 -- an edge read from a flow that fits has few actions, each over the flow's variables
-pub edge_fits : (flow : Flow) (edges : List Edge) (i : ℕ) (edge : Edge) → edges ≡ flow.edges → i < length edges → edge ≡ get_or edges i edge → EdgeFits (length flow.names) edge.actions
+pub edge_fits : (flow : Flow) (edges : List Edge) (i : ℕ) (edge : Edge) → edges ≡ flow.edges → i < length edges → edge ≡ get_or edges i edge
+    → EdgeFits (length flow.names) edge.actions
 edge_fits flow edges i edge same l e =
     let all = subst (λ es. IsTrue (list_all (is_edge (length flow.names) (length flow.points)) es)) (sym same) (flow_sizes flow).edges in
-    let this = subst (λ x. IsTrue (is_edge (length flow.names) (length flow.points) x)) (sym e) (all_at (is_edge (length flow.names) (length flow.points)) edges i edge all l) in
+    let this = subst (λ x. IsTrue (is_edge (length flow.names) (length flow.points) x)) (sym e)
+    (all_at (is_edge (length flow.names) (length flow.points)) edges i edge all l) in
     let a = both (nat_lt edge.from (length flow.points)) _ this in
     let b = both (nat_lt 0 edge.to) _ a.1 in
     let c = both (nat_lt edge.to (length flow.points)) _ b.1 in

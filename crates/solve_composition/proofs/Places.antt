@@ -14,11 +14,13 @@ module _ {X : Type 0} (xs items : List X) (k : ℕ) (x : X) (same : items ≡ xs
   read_at l = slice_get-get_or xs k x l ∙ ap Some (sym (read ∙ ap (λ ys. get_or ys k x) same))
 
 -- what is read of one of an item's lists at a place
-module _ {X Y : Type 0} (part : X → List Y) (xs items : List X) (k : ℕ) (x : X) (same : items ≡ xs) (read : x ≡ get_or items k x) (ys : List Y) (is : ys ≡ part x) (i : ℕ) where
+module _ {X Y : Type 0} (part : X → List Y) (xs items : List X) (k : ℕ) (x : X) (same : items ≡ xs) (read : x ≡ get_or items k x)
+    (ys : List Y) (is : ys ≡ part x) (i : ℕ) where
   -- a place within the part of the element is within the part that is taken
   pub part_within : k < length xs → ((z : X) → slice_get xs k ≡ Some z → i < length (part z)) → i < length ys
   part_within l h = subst (λ zs. i < length zs) (sym is) (h x (read_at xs items k x same read l))
 
   -- an element of the part that is taken is read from the part of the list's element
-  pub part_read : ((z : X) → slice_get xs k ≡ Some z → i < length (part z)) → (y : Y) → y ≡ get_or ys i y → (z : X) → slice_get xs k ≡ Some z → slice_get (part z) i ≡ Some y
+  pub part_read : ((z : X) → slice_get xs k ≡ Some z → i < length (part z)) → (y : Y) → y ≡ get_or ys i y → (z : X)
+      → slice_get xs k ≡ Some z → slice_get (part z) i ≡ Some y
   part_read h y at z e = read_at (part z) ys i y (is ∙ ap part (read_is xs items k x same read z e)) at (h z e)

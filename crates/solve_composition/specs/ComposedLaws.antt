@@ -12,15 +12,18 @@ use Rattle.solve_composition.specs.Composed.{EdgeForms, AreComposed}
 
 -- two lists of composed forms of one system are the same
 abbrev pub OneComposition : Type 0
-OneComposition = (system : Equations) (paths others : List EdgeForms) → AreComposed system paths → AreComposed system others → paths ≡ others
+OneComposition = (system : Equations) (paths others : List EdgeForms) → AreComposed system paths → AreComposed system others
+    → paths ≡ others
 
 -- the form of the theory with the same numbers
 abbrev pub form_of : Affine → Form
 form_of f = record { coeffs = f.coeffs; constant = f.constant }
 
--- what the composed forms of an edge say of a start state and free values: all guards are at most 0 exactly where a trace goes that way, and
+-- what the composed forms of an edge say of a start state and free values: all guards are at most 0 exactly where a trace goes that way,
+-- and
 -- the row forms have the values at its end
-pub record MeanTraces (template : List (List ℤ)) (actions : List Action) (forms : EdgeForms) (x : RationalState) (free : List ℚ) : Type 0 where
+pub record MeanTraces (template : List (List ℤ)) (actions : List Action) (forms : EdgeForms) (x : RationalState) (free : List ℚ) :
+    Type 0 where
   pub passes : AllAtMost (map form_of forms.guards) (x ++ free) ↔ ((y : RationalState) × Follows actions x free y)
   pub ends : (y : RationalState) → Follows actions x free y → (r : ℕ) (row : List ℤ) (form : Affine) →
       slice_get template r ≡ Some row → slice_get forms.rows r ≡ Some form → val (form_of form) (x ++ free) ≡ dotℚ row y

@@ -69,7 +69,8 @@ named_edge i None later = later
 -- the first operation of edges that is wide, with the number of its edge, where the first edge has number i
 abbrev pub wide_from : ℕ → List (List ℤ) → ℕ → List Edge → Option (ℕ × Operation)
 wide_from n template i [] = None
-wide_from n template i (edge ∷ edges) = named_edge i (first_wide long_limit (edge_composition n template edge.actions)) (wide_from n template (suc i) edges)
+wide_from n template i (edge ∷ edges) = named_edge i (first_wide long_limit (edge_composition n template edge.actions))
+    (wide_from n template (suc i) edges)
 
 -- the first operation of the composition of a system's edges that is wide, with the number of its edge
 abbrev pub wide_composition : Equations → Option (ℕ × Operation)

@@ -1,8 +1,8 @@
 //! Affine forms over the columns of an edge.
 
-use flow_systems::Fracs;
 use base_fractions::Frac;
 use base_list::Sequence;
+use flow_systems::Fracs;
 
 /// A form over the columns of an edge, which are numbered from 0: one coefficient for each start variable, in order of
 /// declaration, then one for each free value, in the order of the free assignments; and a constant.

@@ -10,8 +10,8 @@ ghost use Rattle.solve_composition.specs.Walks.{IsFaultAt};
 use crate::edge::compose_edge;
 use crate::fault::{FormFault, PathFault};
 use crate::paths::Paths;
-use std::alloc::Global;
 use flow_systems::{Site, Spot, System};
+use std::alloc::Global;
 
 // Why the edge of this number isn't composed.
 fn at_edge(edge: usize, fault: FormFault) -> PathFault

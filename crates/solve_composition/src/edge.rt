@@ -16,9 +16,9 @@ use crate::fault::FormFault;
 use crate::form::compose_row;
 use crate::paths::Path;
 use crate::walk::{count_frees, start_state, walk};
-use std::alloc::Global;
 use flow_edges::Action;
 use lang_tree::Coeffs;
+use std::alloc::Global;
 
 // The rows of a template over a state of forms.
 fn compose_rows(

@@ -13,10 +13,10 @@ ghost use Rattle.solve_composition.specs.Walks.{IsState};
 use crate::affine::Affine;
 use crate::fault::FormFault;
 use crate::sums::{column_sum, constant_sum};
-use std::alloc::{AllocError, Global};
-use flow_systems::{Fracs, fraction};
 use base_fractions::{Frac, OrderedField};
+use flow_systems::{Fracs, fraction};
 use lang_tree::Form;
+use std::alloc::{AllocError, Global};
 
 // The coefficient at a column of the form whose value is the column of this place.
 fn unit_entry(at: usize, place: usize) -> Frac

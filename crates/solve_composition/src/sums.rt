@@ -10,8 +10,8 @@ ghost use Rattle.flow_systems.specs.Sums.{product_operations, row_operations};
 ghost use Rattle.solve_composition.specs.Sums.{FittingSum, dense_column, dense_constants};
 
 use crate::affine::Affine;
-use flow_systems::fraction;
 use base_fractions::{Frac, OrderedField, Wide};
+use flow_systems::fraction;
 
 // The sum with the product added to it. A factor 0 makes no operation.
 fn add_product(sum: Frac, coeff: i64, value: Frac) -> Result<Frac, Wide<Frac>>
@@ -34,7 +34,8 @@ pub fn column_sum(coeffs: &[i64], state: &[Affine], column: usize) -> Result<Fra
     requires numbers { IsTrue (are_numbers coeffs.now) }
     requires size { length coeffs.now ≡ length state.now }
     requires column { IsTrue (list_all (λ f. nat_lt column (length f.coeffs)) state.now) }
-    ensures { FittingSum (dotℚ coeffs.now (dense_column column state.now)) (row_operations coeffs.now (dense_column column state.now)) result }
+    ensures { FittingSum (dotℚ coeffs.now (dense_column column state.now)) (row_operations coeffs.now (dense_column column state.now))
+        result }
 {
     let mut sum = Frac::zero();
     for (i, coeff) in coeffs.iter().enumerate() {

@@ -4,13 +4,13 @@ ghost use Rattle.lang_tree.specs.Limits.{is_form};
 ghost use Rattle.flow_edges.specs.FlowLimits.{is_action};
 
 use crate::{Affine, PathFault, Paths, compose_all};
-use std::alloc::{AllocError, Global};
-use std::test::Fail;
-use flow_systems::{Site, Spot, System};
-use flow_edges::{Action, Actions, Edge, Edges, Flow, Place, Point, Points};
 use base_fractions::{Frac, Op, Wide};
+use flow_edges::{Action, Actions, Edge, Edges, Flow, Place, Point, Points};
+use flow_systems::{Site, Spot, System};
 use flow_templates::intervals;
 use lang_tree::{Coeffs, Form, Name, Names};
+use std::alloc::{AllocError, Global};
+use std::test::Fail;
 
 /// An action over the one variable x; a form is a coefficient of x and a constant.
 #[derive(Clone, Copy, Drop)]

@@ -1,7 +1,7 @@
 //! What the transformer of an edge and a row is at a vector.
 
-use flow_systems::{Fracs, Trace};
 use base_fractions::Frac;
+use flow_systems::{Fracs, Trace};
 
 /// The transformer of an edge and a row at a vector, with what shows it. Rows of the template and guards of the edge are
 /// counted from 0, and have one multiplier each, at least 0; a row whose bound isn't finite has the multiplier 0.

@@ -10,8 +10,8 @@ ghost use Rattle.solve_composition.specs.Walks.{IsState, StepComposes, WalkCompo
 use crate::affine::{Affine, Affines};
 use crate::fault::FormFault;
 use crate::form::{compose_column, compose_form};
-use std::alloc::{AllocError, Global};
 use flow_edges::Action;
+use std::alloc::{AllocError, Global};
 
 // How many free assignments there are.
 pub fn count_frees(actions: &[Action]) -> u32
@@ -81,7 +81,8 @@ pub fn walk(
     requires actions { IsTrue (list_all (is_action (length state.old)) actions.now) }
     requires width { width ≡ length state.old + free_count actions.now }
     requires state { IsState width state.old }
-    ensures { (forms : List Formal) → state.old ≡ map (dense width) forms → WalkComposes width (length state.old) forms actions.now state.new result }
+    ensures { (forms : List Formal) → state.old ≡ map (dense width) forms
+        → WalkComposes width (length state.old) forms actions.now state.new result }
 {
     let mut guards = Vec::new(alloc);
     let mut next = state.len();

@@ -21,7 +21,8 @@ sources_of system base list offset point =
 
 -- the guards of an edge
 abbrev pub guards_of : System → List ℕ → ℕ → ℕ → List Limit
-guards_of system list offset edge = guard_limits (embedded zero_ℚ 0 list offset) (guard_forms (length system.flow.names) (edge_at system edge).actions)
+guards_of system list offset edge = guard_limits (embedded zero_ℚ 0 list offset)
+    (guard_forms (length system.flow.names) (edge_at system edge).actions)
 
 -- the value of a row at the end of an edge
 abbrev pub end_at : System → ℕ → ℕ → Affine
@@ -48,13 +49,15 @@ edge_for pick u = edge_of (get_or pick u None)
 
 -- how many columns the words of an edge take: two for each start value and each free value
 abbrev pub split_width : System → ℕ → ℕ
-split_width system edge = width (length system.flow.names) (edge_at system edge).actions + width (length system.flow.names) (edge_at system edge).actions
+split_width system edge = width (length system.flow.names) (edge_at system edge).actions
+    + width (length system.flow.names) (edge_at system edge).actions
 
 -- the rows of unknowns of a list in order, the columns of the first from an offset on
 abbrev pub blocks_from : System → List (Option ℕ) → List Ext → List ℕ → ℕ → List ℕ → List Limit
 blocks_from system pick base list offset [] = []
 blocks_from system pick base list offset (u ∷ rest) =
-    block_of system base list offset (edge_for pick u) u ++ blocks_from system pick base list (offset + split_width system (edge_for pick u)) rest
+    block_of system base list offset (edge_for pick u) u ++ blocks_from system pick base list
+    (offset + split_width system (edge_for pick u)) rest
 
 -- how many columns their words take
 abbrev pub split_columns : System → List (Option ℕ) → List ℕ → ℕ

@@ -21,7 +21,8 @@ may_come rows left part = list_all (λ member. not (are_one_part rows part membe
 
 abbrev pub cut_next : List (List Bool) → List Node → (List Node → List (List ℕ)) → Option Node → List (List ℕ)
 cut_next rows left more None = []
-cut_next rows left more (Some part) = map (λ (a : Node). a.unknown) (filter (are_one_part rows part) left) ∷ more (filter (are_apart rows part) left)
+cut_next rows left more (Some part) = map (λ (a : Node). a.unknown) (filter (are_one_part rows part) left)
+    ∷ more (filter (are_apart rows part) left)
 
 -- the parts of the unknowns left, at most so many
 abbrev pub cut_from : List (List Bool) → ℕ → List Node → List (List ℕ)

@@ -42,10 +42,12 @@ IsReadFrom system pick base list (best x v y) (Point to highs) =
     × (highs ≡ map (trace_at (entries_of system pick list x)) (layout_of system pick list))
 IsReadFrom system pick base list (best x v y) (Ray rates) = ⊥
 IsReadFrom system pick base list (unbounded x d) (Point to highs) = ⊥
-IsReadFrom system pick base list (unbounded x d) (Ray rates) = rates.list ≡ named_rates (entries_of system pick list d) (layout_of system pick list)
+IsReadFrom system pick base list (unbounded x d) (Ray rates) = rates.list
+    ≡ named_rates (entries_of system pick list d) (layout_of system pick list)
 IsReadFrom system pick base list (empty y) joined = ⊥
 
--- the operations by which it is read: the numbers of the list first, then the traces in the order of the list; of a ray the directions of unknowns
+-- the operations by which it is read: the numbers of the list first, then the traces in the order of the list; of a ray the directions of
+-- unknowns
 -- with a rate above 0
 abbrev pub reading_operations : System → List (Option ℕ) → List Ext → List ℕ → Outcome → List Operation
 reading_operations system pick base list (best x v y) =
@@ -80,7 +82,8 @@ IsJointFault system pick base list fault =
 -- the answer is read from the exact outcome and no operation is wide, or the first that is wide is named
 abbrev pub JointAnswers : System → List (Option ℕ) → List Ext → List ℕ → Result Joined PartFault → Type 0
 JointAnswers system pick base list result =
-    MatchResult result (λ joined. IsReadFrom system pick base list (lp (problem_of system pick base list)) joined × JointFits system pick base list)
+    MatchResult result (λ joined. IsReadFrom system pick base list (lp (problem_of system pick base list)) joined
+    × JointFits system pick base list)
     (λ fault. IsJointFault system pick base list fault)
 
 -- a trace as one word: its start values and then its free values
@@ -88,15 +91,18 @@ abbrev pub word_of : Trace → Word
 word_of trace = trace.start ++ trace.free
 
 -- the numbers of a greatest vector that the picks support on the list, with traces that run there and reach them
-pub record IsReached (system : System) (pick : List (Option ℕ)) (base : List Ext) (list : List ℕ) (to : List ℚ) (highs : List Trace) : Type 0 where
+pub record IsReached (system : System) (pick : List (Option ℕ)) (base : List Ext) (list : List ℕ) (to : List ℚ) (highs : List Trace) :
+    Type 0 where
   pub reached : Vector
   pub greatest : GreatestSupported (equations_of system) (vector_of (length system.template) base) (all_listed system pick list) reached
   pub numbers : to ≡ map (λ u. num (reached u.point u.row)) (all_listed system pick list)
   pub supports : AllSupport (equations_of system) reached (all_listed system pick list) (map word_of highs)
 
--- there is no greatest one; the rates are those of a ray along which each unknown's trace follows its rate, and some unknown's rate is above 0
+-- there is no greatest one; the rates are those of a ray along which each unknown's trace follows its rate, and some unknown's rate is
+-- above 0
 pub record HasRates (system : System) (pick : List (Option ℕ)) (base : List Ext) (list : List ℕ) (rates : List RateOf) : Type 0 where
-  pub none : (reached : Vector) → GreatestSupported (equations_of system) (vector_of (length system.template) base) (all_listed system pick list) reached → ⊥
+  pub none : (reached : Vector) → GreatestSupported (equations_of system) (vector_of (length system.template) base)
+      (all_listed system pick list) reached → ⊥
   pub ray : ℕ → ℚ
   pub named : rates ≡ named_rates (entries_of system pick list ray) (layout_of system pick list)
   pub follow : AllFollow (equations_of system) (vector_of (length system.template) base) (all_listed system pick list) ray

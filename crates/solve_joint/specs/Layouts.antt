@@ -23,7 +23,8 @@ rise_of system pick n place offset u = record {
   unknown = u;
   col = place;
   starts = columns_from (n + offset) (length system.flow.names);
-  frees = columns_from (n + offset + (length system.flow.names + length system.flow.names)) (free_count (edge_at system (edge_for pick u)).actions);
+  frees = columns_from (n + offset + (length system.flow.names + length system.flow.names))
+      (free_count (edge_at system (edge_for pick u)).actions);
 }
 
 abbrev pub rises_from : System → List (Option ℕ) → ℕ → ℕ → ℕ → List ℕ → List Rise

@@ -23,7 +23,8 @@ abbrev pub EachRises : List (List ℕ) → Type 0
 EachRises [] = Unit {0}
 EachRises (part ∷ ps) = Rises 0 part × EachRises ps
 
--- the parts are the classes of the list: each two members of one part lean on each other, directly or through others of the list, and no members of
+-- the parts are the classes of the list: each two members of one part lean on each other, directly or through others of the list, and no
+-- members of
 -- two parts do
 abbrev pub NumberClasses : System → List (Option ℕ) → List ℕ → List (List ℕ) → Type 0
 NumberClasses system pick list ps = AreClasses (equations_of system) (all_listed system pick list) (each_listed system pick ps)
@@ -34,4 +35,5 @@ NumbersAdmissible system pick list ps = Admissible (equations_of system) (all_li
 
 -- each part is that of the first unknown, of those not yet placed, whose part may come next
 abbrev pub NumbersInOrder : System → List (Option ℕ) → List ℕ → List (List ℕ) → Type 0
-NumbersInOrder system pick list ps = InOrder (equations_of system) (all_listed system pick list) (all_listed system pick list) (each_listed system pick ps)
+NumbersInOrder system pick list ps = InOrder (equations_of system) (all_listed system pick list) (all_listed system pick list)
+    (each_listed system pick ps)

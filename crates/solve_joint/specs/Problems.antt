@@ -11,7 +11,8 @@ use Rattle.solve_joint.specs.Numbers.{all_listed}
 
 -- the joint problem of a list of unknowns, given by their numbers, at a base
 abbrev pub problem_of : System → List (Option ℕ) → List Ext → List ℕ → Problem
-problem_of system pick base list = joint_problem (equations_of system) (vector_of (length system.template) base) (all_listed system pick list)
+problem_of system pick base list = joint_problem (equations_of system) (vector_of (length system.template) base)
+    (all_listed system pick list)
 
 -- lists of coefficients, sides and a goal that make this problem, with one coefficient in each row for each entry of the goal
 pub record MakeProblem (problem : Problem) (rows : List (List ℚ)) (sides goal : List ℚ) : Type 0 where

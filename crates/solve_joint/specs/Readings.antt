@@ -35,6 +35,7 @@ IsReadable rises (Unbounded point ray) = AreWithin (length ray.items) rises
 IsReadable rises (Empty multipliers) = ⊥
 
 abbrev pub ReadsOutcome : List Ext → List Rise → Outcome ℚ → Result Joined PartFault → Type 0
-ReadsOutcome base rises (Best point value multipliers) result = PartAnswers (point_read base point.items rises) (point_operations base point.items rises) result
+ReadsOutcome base rises (Best point value multipliers) result = PartAnswers (point_read base point.items rises)
+    (point_operations base point.items rises) result
 ReadsOutcome base rises (Unbounded point ray) result = PartAnswers (ray_read ray.items rises) (ray_operations ray.items rises) result
 ReadsOutcome base rises (Empty multipliers) result = Unit {0}

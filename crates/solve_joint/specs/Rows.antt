@@ -22,7 +22,8 @@ on_numbers c target list = map (on_number c target) list
 
 -- the rises, the split columns from an offset behind them, and zeros up to the last column
 abbrev pub dense_row : ℕ → List ℚ → ℕ → List ℚ → List ℚ
-dense_row cols rises offset coeffs = ((rises ++ zeros offset) ++ split_list coeffs) ++ zeros (cols - length rises - offset - length coeffs - length coeffs)
+dense_row cols rises offset coeffs = ((rises ++ zeros offset) ++ split_list coeffs)
+    ++ zeros (cols - length rises - offset - length coeffs - length coeffs)
 
 -- a row of the code stands for a limit of the theory: the same entries, with zeros up to the last column, and the same side
 pub record StandsFor (cols : ℕ) (coeffs : List ℚ) (side : ℚ) (limit : Limit) : Type 0 where

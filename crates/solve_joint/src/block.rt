@@ -12,14 +12,15 @@ ghost use Rattle.theory_transformers.specs.EdgeProblems.{source_limit, guard_lim
 ghost use Rattle.solve_joint.specs.Rows.{AllStand, SameForm, embedded, own_limit_of, side_operation, IsSideFault};
 
 use crate::row::{negated, row_over, template_coeffs};
-use std::alloc::{AllocError, Global};
-use flow_systems::{Part, PartFault};
 use base_fractions::{Ext, Frac, OrderedField};
+use flow_systems::{Part, PartFault};
 use lp_simplex::Row;
+use std::alloc::{AllocError, Global};
 
 // Puts a row behind the others.
 fn push_row(rows: &mut Vec<Row<Frac>>, coeffs: Vec<Frac>, side: Frac) -> Result<(), AllocError>
-    ensures coeffs { OnOk result (map (λ r. r.coeffs.items) rows.new.items ≡ map (λ r. r.coeffs.items) rows.old.items ++ coeffs.items ∷ []) }
+    ensures coeffs { OnOk result (map (λ r. r.coeffs.items) rows.new.items
+        ≡ map (λ r. r.coeffs.items) rows.old.items ++ coeffs.items ∷ []) }
     ensures sides { OnOk result (map (λ r. r.side) rows.new.items ≡ map (λ r. r.side) rows.old.items ++ side ∷ []) }
 {
     rows.push(Row { coeffs, side })?;
@@ -75,7 +76,10 @@ pub fn push_guard(
     cols: usize,
 ) -> Result<(), AllocError>
     requires { length list.now + (offset + (length coeffs.now + length coeffs.now)) ≤ cols }
-    ensures { OnOk result ((form : Affine) (ls : List Limit) → SameForm coeffs.now constant form → AllStand cols (map (λ r. r.coeffs.items) rows.old.items) (map (λ r. r.side) rows.old.items) ls → AllStand cols (map (λ r. r.coeffs.items) rows.new.items) (map (λ r. r.side) rows.new.items) (ls ++ guard_limits (embedded zero_ℚ 0 list.now offset) (form ∷ []))) }
+    ensures { OnOk result ((form : Affine) (ls : List Limit) → SameForm coeffs.now constant form
+        → AllStand cols (map (λ r. r.coeffs.items) rows.old.items) (map (λ r. r.side) rows.old.items) ls
+        → AllStand cols (map (λ r. r.coeffs.items) rows.new.items) (map (λ r. r.side) rows.new.items)
+        (ls ++ guard_limits (embedded zero_ℚ 0 list.now offset) (form ∷ []))) }
 {
     let entries = row_over(alloc, cols, list, 0, Frac::zero(), offset, coeffs)?;
     push_row(rows, entries, constant.negate())

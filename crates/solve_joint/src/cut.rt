@@ -19,8 +19,8 @@ use crate::closure::reaching;
 use crate::node::{Node, nodes};
 use crate::part_lists::{Members, Parts};
 use crate::table::{Row, gets_to};
-use std::alloc::{AllocError, Global};
 use flow_systems::{Pick, System};
+use std::alloc::{AllocError, Global};
 
 // Whether two unknowns are in one part.
 fn are_together(rows: &[Row], a: &Node, b: &Node) -> bool

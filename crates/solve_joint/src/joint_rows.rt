@@ -9,16 +9,17 @@ ghost use Rattle.theory_transformers.specs.Limits.{Limit};
 ghost use Rattle.solve_composition.specs.Composed.{AreComposed};
 ghost use Rattle.solve_joint.specs.Numbers.{ArePicked, Rises};
 ghost use Rattle.solve_joint.specs.Rows.{AllStand, IsSideFault};
-ghost use Rattle.solve_joint.specs.Blocks.{edge_at, sources_of, guards_of, side_of, block_of, split_width, blocks_from, split_columns, side_operations};
+ghost use Rattle.solve_joint.specs.Blocks.{edge_at, sources_of, guards_of, side_of, block_of, split_width, blocks_from, split_columns};
+ghost use Rattle.solve_joint.specs.Blocks.{side_operations};
 ghost use Rattle.flow_systems.specs.declared.limits.TheConstants.{MOST_UNKNOWNS};
 ghost use Rattle.lang_tree.specs.declared.limits.TheConstants.{MOST_VARIABLES};
 
 use crate::problem::{picked_edge, push_guards, push_own, push_sources, word_width};
-use std::alloc::{AllocError, Global};
-use solve_composition::Paths;
-use flow_systems::{Bounds, PartFault, Pick, System};
 use base_fractions::Frac;
+use flow_systems::{Bounds, PartFault, Pick, System};
 use lp_simplex::Row;
+use solve_composition::Paths;
+use std::alloc::{AllocError, Global};
 
 // The rows of the source and of the guards of an edge.
 fn push_limits(
@@ -36,7 +37,10 @@ fn push_limits(
     requires base { length base.now ≡ length system.now.flow.points * length system.now.template }
     requires edge { edge < length system.now.flow.edges }
     requires fits { length list.now + (offset + split_width system.now edge) ≤ cols }
-    ensures { OnOk result ((ls : List Limit) → AllStand cols (map (λ r. r.coeffs.items) rows.old.items) (map (λ r. r.side) rows.old.items) ls → AllStand cols (map (λ r. r.coeffs.items) rows.new.items) (map (λ r. r.side) rows.new.items) ((ls ++ sources_of system.now base.now list.now offset (edge_at system.now edge).from) ++ guards_of system.now list.now offset edge)) }
+    ensures { OnOk result ((ls : List Limit) → AllStand cols (map (λ r. r.coeffs.items) rows.old.items) (map (λ r. r.side) rows.old.items)
+        ls → AllStand cols (map (λ r. r.coeffs.items) rows.new.items) (map (λ r. r.side) rows.new.items)
+        ((ls ++ sources_of system.now base.now list.now offset (edge_at system.now edge).from)
+        ++ guards_of system.now list.now offset edge)) }
 {
     let edges = system.flow.edges.as_slice();
     let point = edges[edge as usize].from;
@@ -62,11 +66,14 @@ fn push_block(
     requires edge { edge < length system.now.flow.edges }
     requires unknown { unknown < length system.now.flow.points * length system.now.template }
     requires fits { length list.now + (offset + split_width system.now edge) ≤ cols }
-    ensures stands { OnOk result ((ls : List Limit) → AllStand cols (map (λ r. r.coeffs.items) rows.old.items) (map (λ r. r.side) rows.old.items) ls →
+    ensures stands { OnOk result ((ls : List Limit) → AllStand cols (map (λ r. r.coeffs.items) rows.old.items)
+        (map (λ r. r.side) rows.old.items) ls →
         AllStand cols (map (λ r. r.coeffs.items) rows.new.items) (map (λ r. r.side) rows.new.items) (ls
         ++ block_of system.now base.now list.now offset edge unknown)) }
-    ensures side { OnOk result (first_wide long_limit (side_of system.now base.now edge (unknown % length system.now.template) unknown ∷ []) ≡ None) }
-    ensures refused { IfErr result (λ f. IsSideFault (side_of system.now base.now edge (unknown % length system.now.template) unknown ∷ []) f) }
+    ensures side { OnOk result (first_wide long_limit (side_of system.now base.now edge (unknown % length system.now.template) unknown ∷ [])
+        ≡ None) }
+    ensures refused { IfErr result (λ f. IsSideFault (side_of system.now base.now edge (unknown % length system.now.template) unknown ∷ [])
+        f) }
 {
     let row = unknown % system.template.as_slice().len() as u32;
     push_limits(alloc, rows, system, paths, base, edge, list, offset, cols)?;

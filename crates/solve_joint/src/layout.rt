@@ -10,10 +10,10 @@ ghost use Rattle.flow_systems.specs.declared.limits.TheConstants.{MOST_UNKNOWNS}
 ghost use Rattle.lang_tree.specs.declared.limits.TheConstants.{MOST_VARIABLES};
 
 use crate::problem::{picked_edge, word_width};
-use std::alloc::{AllocError, Global};
-use solve_composition::Paths;
 use flow_systems::{Pick, System};
+use solve_composition::Paths;
 use solve_ray::{Columns, Rise};
+use std::alloc::{AllocError, Global};
 
 // So many columns from a first one on, two apart.
 fn columns(alloc: Global, first: usize, count: usize) -> Result<Columns, AllocError>

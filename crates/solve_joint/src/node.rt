@@ -3,8 +3,8 @@
 ghost use Rattle.std.specs.Prelude.{◌≡◌, ◌*◌, ◌<◌, IfOk, length};
 ghost use Rattle.solve_joint.specs.Numbers.{IsPicked, ArePicked, source_of, nodes_of};
 
-use std::alloc::{AllocError, Global};
 use flow_systems::{Pick, System};
+use std::alloc::{AllocError, Global};
 
 /// An unknown of a list: its number, its point, and the source of its picked edge.
 #[derive(Clone, Copy)]

@@ -3,8 +3,8 @@
 ghost use Rattle.std.specs.Prelude.{◌≡◌, ◌<◌, ◌≤◌, [], length, get_or};
 ghost use Rattle.flow_systems.specs.declared.limits.TheConstants.{MOST_UNKNOWNS};
 
-use std::marker::Model;
 use base_list::Sequence;
+use std::marker::Model;
 
 /// The unknowns of one part, rising by their numbers.
 pub type Members = Sequence<u32>;

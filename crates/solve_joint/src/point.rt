@@ -10,11 +10,11 @@ ghost use Rattle.solve_ray.specs.Reading.{direction_operations};
 ghost use Rattle.solve_joint.specs.Layouts.{AreBounded, number_at, number_operation, number_operations, trace_at, trace_operations};
 
 use crate::problem::finite;
-use std::alloc::Global;
-use flow_systems::{Bounds, Fracs, Part, PartFault, Trace};
 use base_fractions::{Frac, OrderedField};
 use base_list::Sequence;
+use flow_systems::{Bounds, Fracs, Part, PartFault, Trace};
 use solve_ray::{Rise, entries};
+use std::alloc::Global;
 
 /// Traces in order.
 pub type Traces = Sequence<Trace>;

@@ -1,6 +1,7 @@
 //! The joint problem of a list of unknowns.
 
-ghost use Rattle.std.specs.Prelude.{◌≡◌, ◌+◌, ◌*◌, ◌<◌, ◌≤◌, ◌++◌, ◌∷◌, [], ℕ, List, OnOk, IfErr, None, MatchResult, Ok, length, map, get_or};
+ghost use Rattle.std.specs.Prelude.{◌≡◌, ◌+◌, ◌*◌, ◌<◌, ◌≤◌, ◌++◌, ◌∷◌, [], ℕ, List, OnOk, IfErr, None, MatchResult, Ok, length, map};
+ghost use Rattle.std.specs.Prelude.{get_or};
 ghost use Rattle.base_numbers.specs.Extended.{neg_inf};
 ghost use Rattle.base_fractions.specs.Extended.{extended};
 ghost use Rattle.base_fractions.specs.Fits.{long_limit};
@@ -17,11 +18,11 @@ ghost use Rattle.solve_joint.specs.Blocks.{edge_at, sources_of, guards_of, own_o
 ghost use Rattle.lang_tree.specs.declared.limits.TheConstants.{MOST_VARIABLES};
 
 use crate::block::{own_side, push_guard, push_own_row, push_source};
-use std::alloc::{AllocError, Global};
-use solve_composition::Paths;
-use flow_systems::{Bounds, PartFault, Pick, System};
 use base_fractions::{Ext, Frac, OrderedField};
+use flow_systems::{Bounds, PartFault, Pick, System};
 use lp_simplex::Row;
+use solve_composition::Paths;
+use std::alloc::{AllocError, Global};
 
 /// The number of the picked edge.
 pub fn picked_edge(pick: &Pick, unknown: u32) -> u32
@@ -69,7 +70,8 @@ pub fn push_sources(
     requires base { length base.now ≡ length system.now.flow.points * length system.now.template }
     requires point { point < length system.now.flow.points }
     requires fits { length list.now + (offset + (length system.now.flow.names + length system.now.flow.names)) ≤ cols }
-    ensures { OnOk result ((ls : List Limit) → AllStand cols (map (λ r. r.coeffs.items) rows.old.items) (map (λ r. r.side) rows.old.items) ls →
+    ensures { OnOk result ((ls : List Limit) → AllStand cols (map (λ r. r.coeffs.items) rows.old.items) (map (λ r. r.side) rows.old.items)
+        ls →
         AllStand cols (map (λ r. r.coeffs.items) rows.new.items) (map (λ r. r.side) rows.new.items) (ls
         ++ sources_of system.now base.now list.now offset point)) }
 {
@@ -107,8 +109,10 @@ pub fn push_guards(
     requires edge { edge < length system.now.flow.edges }
     requires fits { length list.now + (offset + (width (length system.now.flow.names) (edge_at system.now edge).actions + width
         (length system.now.flow.names) (edge_at system.now edge).actions)) ≤ cols }
-    ensures { OnOk result ((ls : List Limit) → AllStand cols (map (λ r. r.coeffs.items) rows.old.items) (map (λ r. r.side) rows.old.items) ls →
-        AllStand cols (map (λ r. r.coeffs.items) rows.new.items) (map (λ r. r.side) rows.new.items) (ls ++ guards_of system.now list.now offset edge)) }
+    ensures { OnOk result ((ls : List Limit) → AllStand cols (map (λ r. r.coeffs.items) rows.old.items) (map (λ r. r.side) rows.old.items)
+        ls →
+        AllStand cols (map (λ r. r.coeffs.items) rows.new.items) (map (λ r. r.side) rows.new.items)
+        (ls ++ guards_of system.now list.now offset edge)) }
 {
     for g in 0..paths.guards(edge) {
         let guard = paths.guard(edge, g);
@@ -145,7 +149,8 @@ pub fn push_own(
     requires row { row < length system.now.template }
     requires fits { length list.now + (offset + (width (length system.now.flow.names) (edge_at system.now edge).actions + width
         (length system.now.flow.names) (edge_at system.now edge).actions)) ≤ cols }
-    ensures stands { OnOk result ((ls : List Limit) → AllStand cols (map (λ r. r.coeffs.items) rows.old.items) (map (λ r. r.side) rows.old.items) ls →
+    ensures stands { OnOk result ((ls : List Limit) → AllStand cols (map (λ r. r.coeffs.items) rows.old.items)
+        (map (λ r. r.side) rows.old.items) ls →
         AllStand cols (map (λ r. r.coeffs.items) rows.new.items) (map (λ r. r.side) rows.new.items) (ls
         ++ own_of system.now base.now list.now offset edge row unknown ∷ [])) }
     ensures side { OnOk result (first_wide long_limit (side_of system.now base.now edge row unknown ∷ []) ≡ None) }

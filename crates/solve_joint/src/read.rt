@@ -8,11 +8,11 @@ ghost use Rattle.solve_joint.specs.Readings.{point_read, point_operations, ray_r
 
 use crate::joined::Joined;
 use crate::point::{high_traces, numbers};
-use std::alloc::Global;
-use flow_systems::{Bounds, PartFault};
 use base_fractions::Frac;
-use solve_ray::{Layout, Rise, Rises, rates};
+use flow_systems::{Bounds, PartFault};
 use lp_simplex::Outcome;
+use solve_ray::{Layout, Rise, Rises, rates};
+use std::alloc::Global;
 
 // The numbers and the traces at a point.
 fn read_point(

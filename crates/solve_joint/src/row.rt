@@ -7,9 +7,9 @@ ghost use Rattle.lang_tree.specs.Numbers.{are_numbers};
 ghost use Rattle.theory_transformers.specs.JointProblems.{split_list};
 ghost use Rattle.solve_joint.specs.Rows.{on_number, on_numbers, dense_row};
 
-use std::alloc::{AllocError, Global};
-use flow_systems::fraction;
 use base_fractions::{Frac, OrderedField};
+use flow_systems::fraction;
+use std::alloc::{AllocError, Global};
 
 // A coefficient at one unknown, and 0 at the others.
 fn at_unknown(unknown: u32, target: u32, coefficient: Frac) -> Frac

@@ -18,12 +18,12 @@ use crate::joined::Joined;
 use crate::joint_problem::joint_problem;
 use crate::layout::layout;
 use crate::read::read;
-use std::alloc::Global;
-use solve_composition::Paths;
-use flow_systems::{Bounds, Part, PartFault, Pick, System};
 use base_fractions::Frac;
+use flow_systems::{Bounds, Part, PartFault, Pick, System};
 use lp_simplex::{Outcome, Problem, SolveFault, solve};
 use lp_sparse::Sparse;
+use solve_composition::Paths;
+use std::alloc::Global;
 
 // The fault of a run as a part of solving.
 fn run_fault(fault: SolveFault<Frac>) -> PartFault
@@ -83,7 +83,8 @@ pub fn joint(
     requires pick { length pick.now ≡ length system.now.flow.points * length system.now.template }
     requires rises { Rises 0 list.now }
     requires picked { ArePicked system.now pick.now list.now }
-    requires rising { AllRising (equations_of system.now) (vector_of (length system.now.template) base.now) (all_listed system.now pick.now list.now) }
+    requires rising { AllRising (equations_of system.now) (vector_of (length system.now.template) base.now)
+        (all_listed system.now pick.now list.now) }
     ensures answer { JointAnswers system.now pick.now base.now list.now result }
     ensures means { IfOk result (λ j. JoinedMeans system.now pick.now base.now list.now j) }
 {

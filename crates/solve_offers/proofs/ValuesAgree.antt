@@ -20,7 +20,8 @@ use Rattle.theory_rounds.specs.Agreement.{Agree}
 use Rattle.theory_rounds.proofs.raises.ProblemsAgree.{lost_agrees, problem_agrees}
 use Rattle.solve_composition.specs.declared.value.Value.{Value}
 use Rattle.solve_composition.specs.declared.value.Value.TheVariants.{Unreached, Empty, Best, Unbounded}
-use Rattle.solve_transformer.specs.Values.{AreMultipliers, ReadsOutcome, ReadsProblem, IsValue, reading_operations, IsWideIn, IsOperatorFault}
+use Rattle.solve_transformer.specs.Values.{AreMultipliers, ReadsOutcome, ReadsProblem, IsValue, reading_operations, IsWideIn}
+use Rattle.solve_transformer.specs.Values.{IsOperatorFault}
 
 -- the same bounds at each row
 abbrev SameAt : ℕ → (ℕ → Ext) → (ℕ → Ext) → Type 0
@@ -37,7 +38,8 @@ unfolding spread
 spread_same b d [] y same = refl
 spread_same b d (row ∷ rows) y same =
     ap (λ v. spread_one v y (spread (λ r. b (suc r)) rows)) (same 0 (omega arith))
-    ∙ spread_by (d 0) y (spread (λ r. b (suc r)) rows) (spread (λ r. d (suc r)) rows) (λ x. spread_same (λ r. b (suc r)) (λ r. d (suc r)) rows x (λ r l. same (suc r) (omega arith)))
+    ∙ spread_by (d 0) y (spread (λ r. b (suc r)) rows) (spread (λ r. d (suc r)) rows)
+    (λ x. spread_same (λ r. b (suc r)) (λ r. d (suc r)) rows x (λ r l. same (suc r) (omega arith)))
 
 skip_by : (v : Ext) (y : ℕ → ℚ) (f g : (ℕ → ℚ) → (ℕ → ℚ)) → ((x : ℕ → ℚ) → f x ≡ g x) → skip_one v y f ≡ skip_one v y g
 unfolding skip_one
@@ -50,20 +52,24 @@ unfolding skip
 skip_same b d [] y same = refl
 skip_same b d (row ∷ rows) y same =
     ap (λ v. skip_one v y (skip (λ r. b (suc r)) rows)) (same 0 (omega arith))
-    ∙ skip_by (d 0) y (skip (λ r. b (suc r)) rows) (skip (λ r. d (suc r)) rows) (λ x. skip_same (λ r. b (suc r)) (λ r. d (suc r)) rows x (λ r l. same (suc r) (omega arith)))
+    ∙ skip_by (d 0) y (skip (λ r. b (suc r)) rows) (skip (λ r. d (suc r)) rows)
+    (λ x. skip_same (λ r. b (suc r)) (λ r. d (suc r)) rows x (λ r l. same (suc r) (omega arith)))
 
-multipliers_same : (b d : ℕ → Ext) (template : List (List ℤ)) (count : ℕ) (y : ℕ → ℚ) (rows guards : List ℚ) → SameAt (length template) b d →
+multipliers_same : (b d : ℕ → Ext) (template : List (List ℤ)) (count : ℕ) (y : ℕ → ℚ) (rows guards : List ℚ) → SameAt (length template) b d
+    →
     AreMultipliers b template count y rows guards → AreMultipliers d template count y rows guards
 multipliers_same b d template count y rows guards same h = record {
   of_rows = h.of_rows ∙ spread_same b d template y same;
   of_guards = h.of_guards ∙ ap (tabulate count) (skip_same b d template y same);
 }
 
-outcome_same : (n w : ℕ) (c : ℚ) (b d : ℕ → Ext) (template : List (List ℤ)) (count : ℕ) → SameAt (length template) b d → (o : Outcome) (value : Value) →
+outcome_same : (n w : ℕ) (c : ℚ) (b d : ℕ → Ext) (template : List (List ℤ)) (count : ℕ) → SameAt (length template) b d
+    → (o : Outcome) (value : Value) →
     ReadsOutcome n w c b template count o value → ReadsOutcome n w c d template count o value
 outcome_same n w c b d template count same (best x v y) (Unreached r) h = h
 outcome_same n w c b d template count same (best x v y) (Empty rows guards) h = h
-outcome_same n w c b d template count same (best x v y) (Best value trace rows guards) h = (h.0, h.1, multipliers_same b d template count y rows guards same h.2)
+outcome_same n w c b d template count same (best x v y) (Best value trace rows guards) h =
+    (h.0, h.1, multipliers_same b d template count y rows guards same h.2)
 outcome_same n w c b d template count same (best x v y) (Unbounded trace direction) h = h
 outcome_same n w c b d template count same (unbounded x e) (Unreached r) h = h
 outcome_same n w c b d template count same (unbounded x e) (Empty rows guards) h = h
@@ -78,10 +84,13 @@ module _ (system : Equations) (z q : Vector) (edge : Edge) (row : List ℤ) (agr
   problem_read : (value : Value) → ReadsProblem system z edge row value → ReadsProblem system q edge row value
   problem_read value h = (
     sym (lost_agrees system z q agree edge.from) ∙ h.0,
-    subst (λ P. ReadsOutcome system.variables (width system.variables edge.actions) (end_form system.variables edge.actions row).constant (q edge.from) system.template
+    subst (λ P. ReadsOutcome system.variables (width system.variables edge.actions) (end_form system.variables edge.actions row).constant
+        (q edge.from) system.template
         (length (guard_forms system.variables edge.actions)) (lp (split_problem P)) value) (problem_agrees system z q agree edge row)
-        (outcome_same system.variables (width system.variables edge.actions) (end_form system.variables edge.actions row).constant (z edge.from) (q edge.from) system.template
-        (length (guard_forms system.variables edge.actions)) (agree edge.from) (lp (split_problem (edge_problem system z edge row))) value h.1),
+        (outcome_same system.variables (width system.variables edge.actions) (end_form system.variables edge.actions row).constant
+        (z edge.from) (q edge.from) system.template
+        (length (guard_forms system.variables edge.actions)) (agree edge.from) (lp (split_problem (edge_problem system z edge row))) value
+        h.1),
   )
 
   -- what a value is
@@ -96,9 +105,11 @@ module _ (system : Equations) (z q : Vector) (edge : Edge) (row : List ℤ) (agr
   value_agrees (Unbounded trace direction) h = problem_read (Unbounded trace direction) h
 
   -- which operation is wide
-  pub fault_agrees : (part : Part) (wide : Wide ℚ) → IsOperatorFault system z edge row (WideIn part wide) → IsOperatorFault system q edge row (WideIn part wide)
+  pub fault_agrees : (part : Part) (wide : Wide ℚ) → IsOperatorFault system z edge row (WideIn part wide)
+      → IsOperatorFault system q edge row (WideIn part wide)
   fault_agrees part wide h = (
     sym (lost_agrees system z q agree edge.from) ∙ h.0,
-    subst (λ P. IsWideIn (split_problem P) (reading_operations (width system.variables edge.actions) (end_form system.variables edge.actions row).constant (lp (split_problem P))) part
+    subst (λ P. IsWideIn (split_problem P) (reading_operations (width system.variables edge.actions)
+        (end_form system.variables edge.actions row).constant (lp (split_problem P))) part
         (operation_of (λ q. q) wide)) (problem_agrees system z q agree edge row) h.1,
   )

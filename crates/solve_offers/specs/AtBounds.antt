@@ -27,7 +27,8 @@ IsOfferAt system bounds p r offer = IsOffer (equations_of system) (transformers 
 
 -- the transformer of an edge and a row
 abbrev pub IsTransformerAt : System → List Extended → ℕ → ℕ → Ext → Type 0
-IsTransformerAt system bounds edge row value = extended value ≡ transformers system (vector_at system bounds) (edge_at system edge) (row_at system row)
+IsTransformerAt system bounds edge row value = extended value ≡ transformers system (vector_at system bounds) (edge_at system edge)
+    (row_at system row)
 
 -- the first wide operation of a part of the problem of an edge and a row
 abbrev pub IsWidePart : System → List Extended → ℕ → ℕ → Part → Wide ℚ → Type 0
@@ -46,10 +47,12 @@ IsNextPick system bounds policy old next =
 
 -- a pick is tight, or supported
 abbrev pub IsTightPick : System → List Extended → List (Option ℕ) → Type 0
-IsTightPick system bounds pick = Tight (equations_of system) (transformers system) (vector_at system bounds) (pick_of (length system.template) pick)
+IsTightPick system bounds pick = Tight (equations_of system) (transformers system) (vector_at system bounds)
+    (pick_of (length system.template) pick)
 
 abbrev pub IsSupportedPick : System → List Extended → List (Option ℕ) → Type 0
-IsSupportedPick system bounds pick = Supported (equations_of system) (transformers system) (vector_at system bounds) (pick_of (length system.template) pick)
+IsSupportedPick system bounds pick = Supported (equations_of system) (transformers system) (vector_at system bounds)
+    (pick_of (length system.template) pick)
 
 -- each picked edge is one of the system
 abbrev pub EdgesAreThere : System → List (Option ℕ) → Type 0

@@ -21,4 +21,5 @@ upper_read (Unbounded trace direction) = Evidence.Unreached 0
 -- the transformer of an edge and a row, and the evidence that the outcome of its problem gives
 pub record IsFound (system : System) (bounds : List Extended) (edge row : ℕ) (found : Found) : Type 0 where
   pub value : IsTransformerAt system bounds edge row found.value
-  pub upper : evidence_of found.upper ≡ exact_upper (equations_of system) (vector_at system bounds) (edge_at system edge) (row_at system row)
+  pub upper : evidence_of found.upper ≡ exact_upper (equations_of system) (vector_at system bounds) (edge_at system edge)
+      (row_at system row)

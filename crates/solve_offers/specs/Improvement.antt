@@ -36,12 +36,14 @@ pub record Chosen (system : Equations) (T : Transformer) (z : Vector) (policy : 
   pub is_edge : edge ≡ get_or offer.edges position 0
 
 -- a choice function takes one of the listed edges, and of each unknown that some edge's transformer exceeds one that a policy may answer
-pub record IsChoice (system : Equations) (T : Transformer) (z : Vector) (policy : Offer → ℕ → Type 0) (choose : ℕ → ℕ → ℕ → List ℕ → ℕ) : Type 0 where
+pub record IsChoice (system : Equations) (T : Transformer) (z : Vector) (policy : Offer → ℕ → Type 0) (choose : ℕ → ℕ → ℕ → List ℕ → ℕ) :
+    Type 0 where
   pub among : (p r k : ℕ) (ks : List ℕ) → In (k ∷ ks) (choose p r k ks)
   pub chosen : (p r k : ℕ) (ks : List ℕ) → offers system T z p r ≡ k ∷ ks → Chosen system T z policy p r (choose p r k ks)
 
 -- the next pick by a choice function of a policy; none where no transformer exceeds its bound
-pub record IsNext (system : Equations) (T : Transformer) (z : Vector) (policy : Offer → ℕ → Type 0) (old : Pick) (next : Option Pick) : Type 0 where
+pub record IsNext (system : Equations) (T : Transformer) (z : Vector) (policy : Offer → ℕ → Type 0) (old : Pick) (next : Option Pick) :
+    Type 0 where
   pub choose : ℕ → ℕ → ℕ → List ℕ → ℕ
   pub is_choice : IsChoice system T z policy choose
   pub same : policy_pick system T z choose old ≡ next
@@ -64,7 +66,8 @@ IsListed [] offered = offered ≡ false
 IsListed (k ∷ ks) offered = offered ≡ true
 
 -- what becomes of the edge of the unknown of a number, and whether an edge is offered there
-pub record UnknownBecomes (system : Equations) (z : Vector) (policy : Offer → ℕ → Type 0) (u : ℕ) (before after : Option ℕ) (offered : Bool) : Type 0 where
+pub record UnknownBecomes (system : Equations) (z : Vector) (policy : Offer → ℕ → Type 0) (u : ℕ) (before after : Option ℕ)
+    (offered : Bool) : Type 0 where
   pub becomes : Becomes system (transformer system) z policy (u / length system.template) (u % length system.template)
       (offers system (transformer system) z (u / length system.template) (u % length system.template)) before after
   pub told : IsListed (offers system (transformer system) z (u / length system.template) (u % length system.template)) offered

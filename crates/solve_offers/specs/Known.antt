@@ -24,7 +24,8 @@ known_value system known edge row = option_map (λ (found : Found). found.value)
 -- there is an entry for each edge and row, and what is there was found at the bounds
 pub record AreKnown (system : System) (bounds : List Extended) (known : Known) : Type 0 where
   pub entries : HasEntries system known
-  pub stand : (edge row : ℕ) (found : Found) → edge < length system.flow.edges → row < length system.template → known_at system known edge row ≡ Some found →
+  pub stand : (edge row : ℕ) (found : Found) → edge < length system.flow.edges → row < length system.template
+      → known_at system known edge row ≡ Some found →
       IsFound system bounds edge row found
 
 -- what a part knows the whole knows
@@ -38,4 +39,5 @@ NothingFrom system point n known = (edge row : ℕ) → edge < n → row < lengt
 
 -- two vectors have the same bounds at a point
 abbrev pub IsSameAt : System → List Extended → List Extended → ℕ → Type 0
-IsSameAt system before after point = (row : ℕ) → row < length system.template → vector_at system before point row ≡ vector_at system after point row
+IsSameAt system before after point = (row : ℕ) → row < length system.template
+    → vector_at system before point row ≡ vector_at system after point row

@@ -7,8 +7,8 @@ ghost use Rattle.theory_validity.specs.Certificates.{edges_into};
 ghost use Rattle.theory_strategy.specs.PickCount.{pick_count};
 ghost use Rattle.solve_offers.specs.PickLimit.{RoundsAreFewer};
 
-use flow_systems::System;
 use flow_edges::Edge;
+use flow_systems::System;
 
 // The greatest number of picks that is told.
 const MOST_PICKS: u32 = 1_000_000;

@@ -10,11 +10,11 @@ ghost use Rattle.solve_offers.specs.Found.{IsFound, upper_read};
 ghost use Rattle.solve_offers.specs.Stops.{IsSolvedStop};
 
 use crate::stop::Stop;
-use std::alloc::Global;
+use base_fractions::Ext;
 use cert_types::Upper;
 use flow_systems::{Bounds, PartFault, Site, Spot, System};
-use base_fractions::Ext;
 use solve_transformer::{Paths, Value, operator};
+use std::alloc::Global;
 
 /// The transformer of an edge and a row, and the evidence of an upper bound that it shows.
 #[derive(Drop)]

@@ -4,7 +4,8 @@ ghost use Rattle.std.specs.Prelude.{◌≡◌, ◌↔◌, ◌*◌, ◌/◌, ◌%
 ghost use Rattle.base_numbers.specs.Extended.{◌<ᴱ◌, neg_inf, pos_inf};
 ghost use Rattle.flow_systems.specs.View.{equations_of};
 ghost use Rattle.solve_composition.specs.Composed.{AreComposed};
-ghost use Rattle.solve_offers.specs.AtBounds.{vector_at, IsTransformerAt, IsOfferAt, IsNextPick, NothingExceeds, IsTightPick, IsSupportedPick};
+ghost use Rattle.solve_offers.specs.AtBounds.{vector_at, IsTransformerAt, IsOfferAt, IsNextPick, NothingExceeds, IsTightPick};
+ghost use Rattle.solve_offers.specs.AtBounds.{IsSupportedPick};
 ghost use Rattle.solve_offers.specs.Improvement.{UnknownBecomes};
 ghost use Rattle.solve_offers.specs.Known.{AreKnown};
 ghost use Rattle.solve_offers.specs.Offers.{is_top};
@@ -16,10 +17,10 @@ use crate::known::Known;
 use crate::offer::{EdgeNumbers, Offer, Values};
 use crate::stop::Stop;
 use crate::unlimited::is_unlimited;
-use std::alloc::Global;
-use flow_systems::{Bounds, Pick, System};
 use base_fractions::Ext;
+use flow_systems::{Bounds, Pick, System};
 use solve_transformer::Paths;
+use std::alloc::Global;
 
 // The transformer of an edge and a row at the bounds: the known one, or else solved, and known from then on.
 fn offered_value(

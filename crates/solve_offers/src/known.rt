@@ -4,9 +4,9 @@ ghost use Rattle.std.specs.Prelude.{◌≡◌, ◌↔◌, ◌+◌, ◌*◌, ◌<
 ghost use Rattle.solve_offers.specs.Known.{AreKnown, HasEntries, IsPartOf, IsSameAt, NothingFrom, known_at, known_value};
 
 use crate::found::Found;
-use std::alloc::{AllocError, Global};
-use flow_systems::{Bounds, System};
 use base_fractions::Ext;
+use flow_systems::{Bounds, System};
+use std::alloc::{AllocError, Global};
 
 /// For each edge and row, in the order edge * rows + row, the transformer that was found and still stands, if there is one, with
 /// the evidence beside it. Both depend on the bounds at the edge's source alone, so they stand as long as these stay.

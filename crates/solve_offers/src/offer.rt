@@ -4,9 +4,9 @@ ghost use Rattle.std.specs.Prelude.{◌≡◌, ◌↔◌, length, IsTrue};
 ghost use Rattle.base_numbers.specs.Extended.{◌<ᴱ◌};
 ghost use Rattle.base_fractions.specs.Extended.{extended};
 
-use flow_systems::Bounds;
 use base_fractions::Ext;
 use base_list::Sequence;
+use flow_systems::Bounds;
 
 /// Numbers of edges in order.
 pub type EdgeNumbers = Sequence<u32>;

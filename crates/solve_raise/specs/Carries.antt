@@ -19,7 +19,8 @@ IsFirst constants actions x free wide =
 -- what one action answers: how many free values it takes, and that the moves lead on from the state z
 abbrev pub StepIs : Constants → Action → RationalState → List ℚ → RationalState → ℕ → Type 0
 StepIs constants action x free z n =
-    (n ≡ free_count (action ∷ [])) × ((rest : List Action) → LeadsOn (moves constants (action ∷ rest)) x free (moves constants rest) z (drop n free))
+    (n ≡ free_count (action ∷ [])) × ((rest : List Action) → LeadsOn (moves constants (action ∷ rest)) x free (moves constants rest) z
+    (drop n free))
 
 abbrev pub StepAnswers : Constants → Action → RationalState → List ℚ → RationalState → Result ℕ (Wide ℚ) → Type 0
 StepAnswers constants action x free z result =
@@ -27,4 +28,5 @@ StepAnswers constants action x free z result =
 
 -- what all actions answer: that the moves end in the state z
 abbrev pub FollowAnswers : Constants → List Action → RationalState → List ℚ → RationalState → Result (Unit {0}) (Wide ℚ) → Type 0
-FollowAnswers constants actions x free z result = MatchResult result (λ u. LeadsOn (moves constants actions) x free [] z []) (IsFirst constants actions x free)
+FollowAnswers constants actions x free z result = MatchResult result (λ u. LeadsOn (moves constants actions) x free [] z [])
+    (IsFirst constants actions x free)

@@ -21,7 +21,8 @@ module _ (system : Equations) (edge : Edge) (row : List ℤ) where
   unfoldable pub low_of : Ext → Trace → Trace → Pieces
   low_of neg_inf trace direction = pieces_of trace
   low_of (fin b) trace direction =
-      if lt_ℚ b (carried Kept system edge row trace) then pieces_of trace else moved_pieces (multiple_along b trace direction) trace direction
+      if lt_ℚ b (carried Kept system edge row trace) then pieces_of trace else moved_pieces (multiple_along b trace direction) trace
+      direction
   low_of pos_inf trace direction = pieces_of trace
 
   -- the operations of moving a trace whose value isn't above the bound
@@ -34,5 +35,6 @@ module _ (system : Equations) (edge : Edge) (row : List ℤ) where
   unfoldable pub low_operations : Ext → Trace → Trace → List Operation
   low_operations neg_inf trace direction = []
   low_operations (fin b) trace direction =
-      carried_operations Kept edge row trace ++ (if lt_ℚ b (carried Kept system edge row trace) then [] else move_operations b trace direction)
+      carried_operations Kept edge row trace ++ (if lt_ℚ b (carried Kept system edge row trace) then [] else move_operations b trace
+      direction)
   low_operations pos_inf trace direction = []

@@ -39,7 +39,8 @@ raise_operations system u bound (Unreached r) = []
 raise_operations system u bound (Empty rows guards) = []
 raise_operations system u bound (Best value trace rows guards) = number_operations bound value
 raise_operations system u bound (Unbounded trace direction) =
-    carried_operations Zero (edge_of system u) (row_of system u) direction ++ low_operations system (edge_of system u) (row_of system u) bound trace direction
+    carried_operations Zero (edge_of system u) (row_of system u) direction
+    ++ low_operations system (edge_of system u) (row_of system u) bound trace direction
 
 -- ---- what is asked of the value
 -- its traces have a start value for each variable and a value for each free assignment of the edge

@@ -10,9 +10,9 @@ ghost use Rattle.flow_systems.specs.View.{equations_of};
 ghost use Rattle.solve_raise.specs.Moves.{carried as value_of, carried_operations, trace_of};
 ghost use Rattle.solve_raise.specs.Carries.{StepAnswers, FollowAnswers};
 
-use flow_systems::{Constants, System, Trace, form_value, row_value};
-use flow_edges::Action;
 use base_fractions::{Frac, OrderedField, Wide};
+use flow_edges::Action;
+use flow_systems::{Constants, System, Trace, form_value, row_value};
 use lang_tree::MOST_VARIABLES;
 
 // Takes one action: how many of the free values to come it took.

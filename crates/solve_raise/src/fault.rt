@@ -1,7 +1,7 @@
 //! Why an unknown isn't raised.
 
-use flow_systems::Fault;
 use base_fractions::{Frac, Wide};
+use flow_systems::Fault;
 
 /// Why a step that raises an unknown isn't made: an operation has a result with a part above the limit, or there was no memory.
 pub type RaiseFault = Fault<Wide<Frac>>;

@@ -12,15 +12,16 @@ ghost use Rattle.theory_validity.specs.Words.{moved as moved_by};
 ghost use Rattle.cert_types.specs.Certificates.{pieces_of};
 ghost use Rattle.flow_systems.specs.declared.sums.Constants.TheVariants.{Zero};
 ghost use Rattle.solve_raise.specs.Moves.{carried as value_of};
-ghost use Rattle.solve_raise.specs.Numbers.{multiple as multiple_of, multiple_operations, moved_pieces, moved_operations, entry_operations, entries_operations};
+ghost use Rattle.solve_raise.specs.Numbers.{multiple as multiple_of, multiple_operations, moved_pieces, moved_operations, entry_operations};
+ghost use Rattle.solve_raise.specs.Numbers.{entries_operations};
 ghost use Rattle.solve_raise.specs.Lows.{low_of, low_operations};
 
 use crate::carry::carried;
 use crate::fault::RaiseFault;
 use crate::number::next_whole;
-use std::alloc::Global;
-use flow_systems::{Constants, Fracs, System, Trace};
 use base_fractions::{Ext, Frac, Wide};
+use flow_systems::{Constants, Fracs, System, Trace};
+use std::alloc::Global;
 
 // How often a row has to rise by the rate, so that from the value it comes above the bound.
 fn multiple(bound: Frac, value: Frac, rate: Frac) -> Result<Frac, Wide<Frac>>
@@ -62,7 +63,8 @@ fn moved_entries(
 fn moved(alloc: Global, times: Frac, trace: &Trace, direction: &Trace) -> Result<Trace, RaiseFault>
     requires start { length trace.now.start ≡ length direction.now.start }
     requires free { length trace.now.free ≡ length direction.now.free }
-    ensures { AnswersBy (λ low. pieces_of low ≡ moved_pieces times trace.now direction.now) (moved_operations times trace.now direction.now) result }
+    ensures { AnswersBy (λ low. pieces_of low ≡ moved_pieces times trace.now direction.now) (moved_operations times trace.now direction.now)
+        result }
 {
     let start = moved_entries(
         alloc,

@@ -19,11 +19,11 @@ use crate::carry::carried;
 use crate::fault::RaiseFault;
 use crate::low::low;
 use crate::number::raised_number;
-use std::alloc::Global;
-use cert_types::{Item, Items, RayItem, RayItems, Step};
-use solve_composition::Value;
-use flow_systems::{Constants, System, Trace};
 use base_fractions::{Ext, Frac};
+use cert_types::{Item, Items, RayItem, RayItems, Step};
+use flow_systems::{Constants, System, Trace};
+use solve_composition::Value;
+use std::alloc::Global;
 
 // The step of one item that gives the unknown this bound.
 fn plain(alloc: Global, unknown: u32, edge: u32, low: Trace, to: Frac) -> Result<Step, RaiseFault>
@@ -47,7 +47,8 @@ fn ray(
     direction: Trace,
     rate: Frac,
 ) -> Result<Step, RaiseFault>
-    ensures { AnswersBy (λ step. step ≡ RayStep (record { unknown = unknown; edge = edge; low = low; direction = direction; rate = rate } ∷ [])) [] result }
+    ensures { AnswersBy (λ step. step ≡ RayStep (record { unknown = unknown; edge = edge; low = low; direction = direction; rate = rate }
+        ∷ [])) [] result }
 {
     let item = RayItem {
         unknown,

@@ -1,8 +1,8 @@
 //! Rates of unknowns, with the directions in which they grow.
 
-use flow_systems::Trace;
 use base_fractions::Frac;
 use base_list::Sequence;
+use flow_systems::Trace;
 
 /// An unknown that grows without end: how much for each unit along the ray, and the direction of its trace.
 #[derive(Drop)]

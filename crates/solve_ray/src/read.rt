@@ -10,9 +10,9 @@ ghost use Rattle.solve_ray.specs.Answers.{IsReadingFault, PartAnswers};
 
 use crate::layout::{Layout, Rise};
 use crate::rate::{RateList, RateOf, Rates};
-use std::alloc::Global;
-use flow_systems::{Fracs, Part, PartFault, Trace};
 use base_fractions::{Frac, OrderedField};
+use flow_systems::{Fracs, Part, PartFault, Trace};
+use std::alloc::Global;
 
 // Puts a value behind the others.
 fn append<T: Drop>(list: &mut Vec<T>, value: T) -> Result<(), PartFault>

@@ -70,12 +70,14 @@ pub record IsKept (system : System) (growing : Growing) : Type 0 where
 abbrev pub IsWithin : System → List Extended → List (Option ℕ) → ℕ → Type 0
 IsWithin system bounds pick u =
     (edge : ℕ) → get_or pick u None ≡ Some edge →
-    value_at (equations_of system) (transformers system) (vector_at system bounds) (choice_of (length system.template) u edge) ≤ᴱ get_or bounds u neg_inf
+    value_at (equations_of system) (transformers system) (vector_at system bounds) (choice_of (length system.template) u edge)
+    ≤ᴱ get_or bounds u neg_inf
 
 -- there is a mark for each unknown, and those that are marked are within their bounds
 pub record AreWithin (system : System) (bounds : List Extended) (pick : List (Option ℕ)) (marks : List Bool) : Type 0 where
   pub size : length marks ≡ length system.flow.points * length system.template
-  pub within : (u : ℕ) → u < length system.flow.points * length system.template → get_or marks u false ≡ true → IsWithin system bounds pick u
+  pub within : (u : ℕ) → u < length system.flow.points * length system.template → get_or marks u false ≡ true
+      → IsWithin system bounds pick u
 
 -- a value that is known is at most a bound
 abbrev pub IsKnownWithin : Option CodeExtended → CodeExtended → Type 0
@@ -99,7 +101,8 @@ IsTold (step ∷ steps) told = told ≡ true
 pub record IsPassed (system : System) (pick : List (Option ℕ)) (first n : ℕ) (z : Vector) (old new : Growing) (told : Bool) : Type 0 where
   pub made : List Step
   pub steps : steps_so_far system new ≡ steps_so_far system old ++ made
-  pub log : exact_pass fitting (equations_of system) z (unraised system pick old first n) ≡ record { steps = made; left = unraised system pick new first n }
+  pub log : exact_pass fitting (equations_of system) z (unraised system pick old first n)
+      ≡ record { steps = made; left = unraised system pick new first n }
   pub agrees : Agrees system (after_steps made z) new.bounds
   pub is_told : IsTold made told
 

@@ -26,7 +26,8 @@ pub record IsOfferHalt (system : System) (policy : Offer → ℕ → Type 0) (li
   pub within : made ≤ limit
   pub stop : IsOfferStop system (bounds_after system choose made) (suc made) (WideStop spot)
 
--- a wide operation of the last round of a chain of at most so many: of its growth or of one of its turns, from the bounds before it by its pick
+-- a wide operation of the last round of a chain of at most so many: of its growth or of one of its turns, from the bounds before it by its
+-- pick
 pub record IsRoundHalt (system : System) (policy : Offer → ℕ → Type 0) (limit : ℕ) (spot : Spot) : Type 0 where
   pub choose : ℕ → Choice
   pub before : ℕ

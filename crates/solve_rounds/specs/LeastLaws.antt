@@ -10,12 +10,14 @@ use Rattle.solve_rounds.specs.Solutions.{IsSolved}
 
 -- a policy answers one position of all offers with the same bound, edges and values
 abbrev pub AnswersOne : (Offer → ℕ → Type 0) → Type 0
-AnswersOne policy = (offer other : Offer) (j k : ℕ) → extended offer.bound ≡ extended other.bound → offer.edges ≡ other.edges → offer.values ≡ other.values →
+AnswersOne policy = (offer other : Offer) (j k : ℕ) → extended offer.bound ≡ extended other.bound → offer.edges ≡ other.edges
+    → offer.values ≡ other.values →
     policy offer j → policy other k → j ≡ k
 
 -- all solutions of a system by a policy have the same number of rounds
 abbrev pub HasOneNumber : (Offer → ℕ → Type 0) → Type 0
-HasOneNumber policy = (system : System) (limit more : ℕ) (solved again : Solved) → IsSolved system policy limit solved → IsSolved system policy more again →
+HasOneNumber policy = (system : System) (limit more : ℕ) (solved again : Solved) → IsSolved system policy limit solved
+    → IsSolved system policy more again →
     solved.improvements ≡ again.improvements
 
 -- and a limit that was spent is below it

@@ -61,7 +61,8 @@ item_in rows (Ray (item ∷ items)) = ray_item rows item
 pub record AreRaises (count : ℕ) (raises : List CodeStep) : Type 0 where
   pub filled : (k : ℕ) → k < length raises → IsFilled (get_or raises k no_step)
   pub within : (k : ℕ) → k < length raises → unknown_in (get_or raises k no_step) < count
-  pub apart : (j k : ℕ) → j < length raises → k < length raises → unknown_in (get_or raises j no_step) ≡ unknown_in (get_or raises k no_step) → j ≡ k
+  pub apart : (j k : ℕ) → j < length raises → k < length raises → unknown_in (get_or raises j no_step)
+      ≡ unknown_in (get_or raises k no_step) → j ≡ k
 
 -- at each unknown of a step stands the step's number
 abbrev pub ArePlaces : List CodeStep → List ℕ → ℕ → Type 0

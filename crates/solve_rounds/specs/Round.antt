@@ -24,7 +24,8 @@ use Rattle.solve_rounds.specs.Growth.{IsGrowthStop}
 
 -- the steps of the round by a pick from bounds: those of the growth, and then one for each turn
 abbrev pub round_at : System → List Extended → List (Option ℕ) → List Step
-round_at system bounds pick = exact_round_steps fitting (equations_of system) (vector_at system bounds) (pick_of (length system.template) pick)
+round_at system bounds pick = exact_round_steps fitting (equations_of system) (vector_at system bounds)
+    (pick_of (length system.template) pick)
 
 -- the vector to which it leads
 abbrev pub rounded_at : System → List Extended → List (Option ℕ) → Vector
@@ -40,7 +41,8 @@ AreBoundsOf system z bounds = (p r : ℕ) → p < length system.flow.points → 
 
 -- the bounds are the least that are at least the old ones and closed under the pick
 abbrev pub AreAbove : System → List Extended → List (Option ℕ) → List Extended → Type 0
-AreAbove system old pick new = Above (equations_of system) (transformers system) (vector_at system old) (pick_of (length system.template) pick)
+AreAbove system old pick new = Above (equations_of system) (transformers system) (vector_at system old)
+    (pick_of (length system.template) pick)
     (vector_at system new)
 
 -- the steps are valid one after the other from the bounds on
@@ -68,4 +70,5 @@ IsTurnStop system pick turns round NoMemory = Unit {0}
 
 -- a wide operation of the round's growth or of one of its turns, or want of memory
 abbrev pub IsRoundStop : System → List Extended → List (Option ℕ) → ℕ → Fault Spot → Type 0
-IsRoundStop system bounds pick round stop = IsGrowthStop system bounds pick round stop ⊎ IsTurnStop system pick (turns_at system bounds pick) round stop
+IsRoundStop system bounds pick round stop = IsGrowthStop system bounds pick round stop
+    ⊎ IsTurnStop system pick (turns_at system bounds pick) round stop

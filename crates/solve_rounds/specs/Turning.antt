@@ -93,10 +93,12 @@ MeetsCondition system pick raises places list bounds =
 -- the list condition at every turn of these
 abbrev pub HaveConditions : System → List (Option ℕ) → List Turn → Type 0
 HaveConditions system pick turns =
-    (t : Turn) → In turns t → ListCondition (equations_of system) (transformers system) (pick_of (length system.template) pick) t.vector t.list
+    (t : Turn) → In turns t → ListCondition (equations_of system) (transformers system) (pick_of (length system.template) pick) t.vector
+    t.list
 
 -- the first wide operation of the joint problem of a list at bounds, after so many turns
-pub record IsJoinedSpot (system : System) (pick : List (Option ℕ)) (bounds : List Extended) (list : List ℕ) (turn number : ℕ) (spot : Spot) : Type 0 where
+pub record IsJoinedSpot (system : System) (pick : List (Option ℕ)) (bounds : List Extended) (list : List ℕ) (turn number : ℕ)
+    (spot : Spot) : Type 0 where
   pub round : spot.round ≡ number
   pub part : Part
   pub site : spot.site ≡ Joint turn part
@@ -126,7 +128,8 @@ module _ (system : System) (raises : List CodeStep) (places : List ℕ) where
       × Agrees system (after_step (record { kind = RayKind; items = items }) (vector_at system old.bounds)) new.bounds
 
 -- one turn of a list
-pub record IsTurned (system : System) (pick : List (Option ℕ)) (raises : List CodeStep) (places : List ℕ) (list : List ℕ) (old new : Turning)
+pub record IsTurned (system : System) (pick : List (Option ℕ)) (raises : List CodeStep) (places : List ℕ) (list : List ℕ)
+    (old new : Turning)
     (left : List ℕ) : Type 0 where
   pub size : length new.bounds ≡ length old.bounds
   pub turned : IsTurnedBy system raises places
@@ -136,7 +139,8 @@ pub record IsTurned (system : System) (pick : List (Option ℕ)) (raises : List 
   pub one : length new.steps.items ≡ length old.steps.items + 1
 
 -- the turns of a part
-pub record IsDone (system : System) (pick : List (Option ℕ)) (raises : List CodeStep) (places : List ℕ) (list : List ℕ) (old new : Turning) : Type 0 where
+pub record IsDone (system : System) (pick : List (Option ℕ)) (raises : List CodeStep) (places : List ℕ) (list : List ℕ)
+    (old new : Turning) : Type 0 where
   pub size : length new.bounds ≡ length old.bounds
   pub steps : turns_so_far system new ≡ turns_so_far system old
       ++ part (joint_of system pick) (length list) (vector_at system old.bounds) (items_at (length system.template) raises places list)
@@ -158,12 +162,15 @@ turns_of_parts system pick raises places list old =
     (map (items_at (length system.template) raises places) (part_numbers system pick list))
 
 -- all turns of the parts of a list
-pub record AreAllDone (system : System) (pick : List (Option ℕ)) (raises : List CodeStep) (places : List ℕ) (list : List ℕ) (old new : Turning) : Type 0 where
+pub record AreAllDone (system : System) (pick : List (Option ℕ)) (raises : List CodeStep) (places : List ℕ) (list : List ℕ)
+    (old new : Turning) : Type 0 where
   pub size : length new.bounds ≡ length old.bounds
   pub steps : turns_so_far system new ≡ turns_so_far system old
-      ++ turns (joint_of system pick) (vector_at system old.bounds) (map (items_at (length system.template) raises places) (part_numbers system pick list))
+      ++ turns (joint_of system pick) (vector_at system old.bounds) (map (items_at (length system.template) raises places)
+      (part_numbers system pick list))
   pub agrees : Agrees system (after_steps
-      (turns (joint_of system pick) (vector_at system old.bounds) (map (items_at (length system.template) raises places) (part_numbers system pick list)))
+      (turns (joint_of system pick) (vector_at system old.bounds) (map (items_at (length system.template) raises places)
+      (part_numbers system pick list)))
       (vector_at system old.bounds)) new.bounds
 
 -- a point has a number and a trace for each unknown of the list, and a ray's rates are of unknowns of the list
@@ -178,4 +185,5 @@ IsTaken raises places list (Point to highs) old new left =
     × (new.bounds ≡ puts (λ k. fin (get_or to k zero_ℚ)) list old.bounds (length list)) × (left ≡ [])
 IsTaken raises places list (Ray rates) old new left =
     (new.steps.items ≡ old.steps.items ++ RayStep (map (ray_item_of raises places) rates.list) ∷ [])
-    × (new.bounds ≡ puts (λ k. pos_inf) (map (λ rate. rate.unknown) rates.list) old.bounds (length rates.list)) × (left ≡ finite_in new.bounds list)
+    × (new.bounds ≡ puts (λ k. pos_inf) (map (λ rate. rate.unknown) rates.list) old.bounds (length rates.list))
+    × (left ≡ finite_in new.bounds list)

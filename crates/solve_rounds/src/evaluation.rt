@@ -13,12 +13,12 @@ ghost use Rattle.solve_rounds.specs.Turning.{HaveConditions, IsPickAt, IsPart, I
 use crate::growth::{Grown, grow_from};
 use crate::lows::places;
 use crate::turning::{Turning, finite, own, turn};
-use std::alloc::Global;
 use cert_types::{Step, Steps};
 use flow_systems::{Bounds, Pick, System};
 use solve_joint::parts;
 use solve_offers::{Known, Stop};
 use solve_transformer::Paths;
+use std::alloc::Global;
 
 // The turns of one part: of the whole list first, and then of what each ray leaves.
 fn part(
@@ -38,9 +38,11 @@ fn part(
     requires chosen { IsPickAt system.now pick.now }
     requires few { length turning.old.steps.items + length list.now < 4294967296 }
     requires part { IsPart system.now pick.now raises.now places.now list.now }
-    requires conditions { HaveConditions system.now pick.now (turns_of_part system.now pick.now raises.now places.now list.now turning.old) }
+    requires conditions { HaveConditions system.now pick.now (turns_of_part system.now pick.now raises.now places.now list.now
+        turning.old) }
     ensures done { IfOk result (λ done. IsDone system.now pick.now raises.now places.now list.now turning.old turning.new) }
-    ensures stop { IfErr result (IsTurnStop system.now pick.now (turns_of_part system.now pick.now raises.now places.now list.now turning.old) round) }
+    ensures stop { IfErr result (IsTurnStop system.now pick.now (turns_of_part system.now pick.now raises.now places.now list.now
+        turning.old) round) }
 {
     let mut left = own(alloc, list)?;
     while !left.is_empty() {
@@ -77,9 +79,11 @@ fn turns(
     requires chosen { IsPickAt system.now pick.now }
     requires none { length turning.old.steps.items ≡ 0 }
     requires list { IsPart system.now pick.now raises.now places.now list.now }
-    requires conditions { HaveConditions system.now pick.now (turns_of_parts system.now pick.now raises.now places.now list.now turning.old) }
+    requires conditions { HaveConditions system.now pick.now (turns_of_parts system.now pick.now raises.now places.now list.now
+        turning.old) }
     ensures done { IfOk result (λ done. AreAllDone system.now pick.now raises.now places.now list.now turning.old turning.new) }
-    ensures stop { IfErr result (IsTurnStop system.now pick.now (turns_of_parts system.now pick.now raises.now places.now list.now turning.old) round) }
+    ensures stop { IfErr result (IsTurnStop system.now pick.now (turns_of_parts system.now pick.now raises.now places.now list.now
+        turning.old) round) }
 {
     let parts = parts(alloc, system, pick, list)?;
     for number in 0..parts.count() {
@@ -122,7 +126,8 @@ pub(crate) fn round_from(
     requires pick { length pick.now ≡ length system.now.flow.points * length system.now.template }
     requires supported { IsSupportedPick system.now bounds.now pick.now }
     requires known { AreKnown system.now bounds.now known.now }
-    ensures steps { IfOk result (λ grown. map (step_of (length system.now.template)) grown.steps ≡ round_at system.now bounds.now pick.now) }
+    ensures steps { IfOk result (λ grown. map (step_of (length system.now.template)) grown.steps
+        ≡ round_at system.now bounds.now pick.now) }
     ensures bounds { IfOk result (λ grown. AreBoundsOf system.now (rounded_at system.now bounds.now pick.now) grown.bounds) }
     ensures size { IfOk result (λ grown. length grown.bounds ≡ length bounds.now) }
     ensures above { IfOk result (λ grown. AreAbove system.now bounds.now pick.now grown.bounds) }

@@ -25,13 +25,13 @@ ghost use Rattle.solve_rounds.specs.Growing.{
   HasItem,
 };
 
-use std::alloc::Global;
+use base_fractions::Ext;
 use cert_types::Step;
 use flow_systems::{Bounds, PartFault, Pick, Site, Spot, System};
-use base_fractions::Ext;
 use solve_offers::{Stop, exceeds, is_unlimited, supremum};
-use solve_transformer::{Paths, Value, operator};
 use solve_raise::{RaiseFault, raise};
+use solve_transformer::{Paths, Value, operator};
+use std::alloc::Global;
 
 // The bounds so far, whether each unknown was raised, whether it is quiet, and the steps of the raises in order. A quiet unknown
 // was tested without a raise, and no bound at its picked edge's source has changed since: its next test would answer the same.
@@ -102,7 +102,8 @@ fn raising_step(
     ensures step { IfOk result (λ step. step_of (length system.now.template) step ≡ raised (equations_of system.now)
         (choice_of (length system.now.template) unknown edge) (extended bound) value) }
     ensures stop { IfErr result (IsStepStop
-        (raise_operations (equations_of system.now) (choice_of (length system.now.template) unknown edge) (extended bound) value) raises round) }
+        (raise_operations (equations_of system.now) (choice_of (length system.now.template) unknown edge) (extended bound) value) raises
+        round) }
 {
     match raise(alloc, system, unknown, edge, bound, value) {
         Ok(step) => Ok(step),
@@ -239,8 +240,10 @@ pub(crate) fn pass(
     requires quiet { AreQuiet system.now pick.now growing.old }
     ensures kept { IfOk result (λ told. IsKept system.now growing.new) }
     ensures quiet { IfOk result (λ told. AreQuiet system.now pick.now growing.new) }
-    ensures passed { IfOk result (ArePassed system.now pick.now 0 (length system.now.flow.points * length system.now.template) growing.old growing.new) }
-    ensures stop { IfErr result (IsPassStop system.now pick.now 0 (length system.now.flow.points * length system.now.template) growing.old round) }
+    ensures passed { IfOk result (ArePassed system.now pick.now 0 (length system.now.flow.points * length system.now.template) growing.old
+        growing.new) }
+    ensures stop { IfErr result (IsPassStop system.now pick.now 0 (length system.now.flow.points * length system.now.template) growing.old
+        round) }
 {
     let count = system.flow.points.as_slice().len() * system.template.as_slice().len();
     let mut told = false;

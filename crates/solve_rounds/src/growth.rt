@@ -13,12 +13,12 @@ ghost use Rattle.flow_systems.specs.declared.limits.TheConstants.{MOST_UNKNOWNS}
 
 use crate::growing::{Growing, pass};
 use crate::quiet_marks::quiet_unknowns;
-use std::alloc::Global;
+use base_list::Sequence;
 use cert_types::Steps;
 use flow_systems::{Bounds, Pick, System};
-use base_list::Sequence;
 use solve_offers::{Known, Stop};
 use solve_transformer::Paths;
+use std::alloc::Global;
 
 /// Numbers of unknowns in order.
 pub(crate) type UnknownNumbers = Sequence<u32>;
@@ -93,8 +93,10 @@ pub(crate) fn grow_from(
     requires pick { length pick.now ≡ length system.now.flow.points * length system.now.template }
     requires edges { EdgesAreThere system.now pick.now }
     requires known { AreKnown system.now bounds.now known.now }
-    ensures steps { IfOk result (λ grown. map (step_of (length system.now.template)) grown.steps ≡ growth_at system.now bounds.now pick.now) }
-    ensures bounds { IfOk result (λ grown. AreLed system.now bounds.now (map (step_of (length system.now.template)) grown.steps) grown.bounds) }
+    ensures steps { IfOk result (λ grown. map (step_of (length system.now.template)) grown.steps
+        ≡ growth_at system.now bounds.now pick.now) }
+    ensures bounds { IfOk result (λ grown. AreLed system.now bounds.now (map (step_of (length system.now.template)) grown.steps)
+        grown.bounds) }
     ensures size { IfOk result (λ grown. length grown.bounds ≡ length bounds.now) }
     ensures raised { IfOk result (λ grown. grown.raised ≡ named_at system.now (map (step_of (length system.now.template)) grown.steps)) }
     ensures stop { IfErr result (IsGrowthStop system.now bounds.now pick.now round) }

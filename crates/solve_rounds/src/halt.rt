@@ -1,8 +1,8 @@
 //! Why the rounds halt.
 
-use std::alloc::AllocError;
 use flow_systems::{Bounds, Spot};
 use solve_offers::Stop;
+use std::alloc::AllocError;
 
 /// Why there is no solution.
 #[derive(Drop)]

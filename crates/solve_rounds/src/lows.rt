@@ -5,10 +5,10 @@ ghost use Rattle.solve_rounds.specs.Lows.{IsFilled, unknown_in, edge_in, low_in,
 ghost use Rattle.flow_systems.specs.declared.fault.Fault.TheVariants.{NoMemory};
 ghost use Rattle.flow_systems.specs.declared.limits.TheConstants.{MOST_UNKNOWNS};
 
-use std::alloc::Global;
 use cert_types::Step;
 use flow_systems::{Fracs, Trace};
 use solve_offers::Stop;
+use std::alloc::Global;
 
 /// A trace of its own with the same values.
 pub(crate) fn copied(alloc: Global, trace: &Trace) -> Result<Trace, Stop>

@@ -5,10 +5,10 @@ ghost use Rattle.solve_offers.specs.AtBounds.{EdgesAreThere};
 ghost use Rattle.solve_offers.specs.Known.{AreKnown};
 ghost use Rattle.solve_rounds.specs.Growing.{IsWithin, AreWithin, IsKnownWithin};
 
-use std::alloc::{AllocError, Global};
-use flow_systems::{Bounds, Pick, System};
 use base_fractions::Ext;
+use flow_systems::{Bounds, Pick, System};
 use solve_offers::{Known, exceeds};
+use std::alloc::{AllocError, Global};
 
 // Whether a transformer is known and doesn't exceed the bound.
 fn is_known_within(value: Option<Ext>, bound: Ext) -> bool

@@ -24,11 +24,11 @@ use crate::evaluation::round_from;
 use crate::halt::Halt;
 use crate::solution::Solved;
 use crate::uppers::uppers_at;
-use std::alloc::Global;
 use cert_types::{Step, Steps};
 use flow_systems::{Bounds, Pick, System};
 use solve_offers::{Chooser, Known, Policy, Stop, forget, improve_from};
 use solve_transformer::{Paths, compose_all};
+use std::alloc::Global;
 
 // The bounds, the pick and the steps so far, and the transformers that are known at the bounds.
 #[derive(Drop)]
@@ -136,12 +136,14 @@ fn look_at_rows(system: &System)
 pub fn least(alloc: Global, system: &System, limit: u32, chooser: &Chooser) -> Result<Solved, Halt>
     requires limit { limit ≤ 1000000 }
     requires cells { cells_of (equations_of system.now) ≤ 134217728 }
-    ensures solved { IfOk result (IsSolved system.now (λ offer k. (shown : _) × Policy.post chooser.now.policy shown k × (shown.now ≡ offer)) limit) }
+    ensures solved { IfOk result (IsSolved system.now (λ offer k. (shown : _) × Policy.post chooser.now.policy shown k
+        × (shown.now ≡ offer)) limit) }
     ensures least { IfOk result (λ solved. Least (equations_of system.now) (vector_at system.now solved.bounds)) }
     ensures valid { IfOk result (λ solved. ValidCertificate (equations_of system.now) (made_certificate system.now solved)) }
     ensures shaped { IfOk result (λ solved. IsShaped (cert_with system.now solved)) }
     ensures numbered { IfOk result (λ solved. AreNumbered system.now solved.steps) }
-    ensures halt { IfErr result (IsHalt system.now (λ offer k. (shown : _) × Policy.post chooser.now.policy shown k × (shown.now ≡ offer)) limit) }
+    ensures halt { IfErr result (IsHalt system.now (λ offer k. (shown : _) × Policy.post chooser.now.policy shown k × (shown.now ≡ offer))
+        limit) }
 {
     look_at_rows(system);
     let paths = compose_all(alloc, system)?;

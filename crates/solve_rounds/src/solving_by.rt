@@ -14,9 +14,9 @@ ghost use Rattle.solve_rounds.specs.Solutions.{IsSolved, AreNumbered, cert_with,
 use crate::halt::Halt;
 use crate::solution::Solved;
 use crate::solving::least;
-use std::alloc::Global;
 use flow_systems::System;
 use solve_offers::{Chooser, best, first};
+use std::alloc::Global;
 
 /// The least bounds of a system as `least` finds them, each unknown taking the first edge whose transformer is greatest.
 ///

@@ -30,14 +30,14 @@ ghost use Rattle.solve_rounds.specs.Turning.{
 };
 
 use crate::lows::{copied, edge_of, low_of};
-use std::alloc::Global;
+use base_fractions::{Ext, Frac};
 use cert_types::{JumpItem, JumpItems, RayItem, RayItems, Step};
 use flow_systems::{Bounds, PartFault, Pick, Site, Spot, System, Trace};
-use base_fractions::{Ext, Frac};
 use solve_joint::{Joined, joint};
 use solve_offers::Stop;
-use solve_transformer::Paths;
 use solve_ray::RateOf;
+use solve_transformer::Paths;
+use std::alloc::Global;
 
 // The bounds so far, and the steps of the turns in order.
 #[derive(Drop)]
@@ -203,8 +203,10 @@ fn joined(
     requires pick { length pick.now ≡ length system.now.flow.points * length system.now.template }
     requires rises { Rises 0 list.now }
     requires picked { ArePicked system.now pick.now list.now }
-    requires rising { AllRising (equations_of system.now) (vector_of (length system.now.template) bounds.now) (all_listed system.now pick.now list.now) }
-    ensures joined { IfOk result (IsReadFrom system.now pick.now bounds.now list.now (lp (problem_of system.now pick.now bounds.now list.now))) }
+    requires rising { AllRising (equations_of system.now) (vector_of (length system.now.template) bounds.now)
+        (all_listed system.now pick.now list.now) }
+    ensures joined { IfOk result (IsReadFrom system.now pick.now bounds.now list.now
+        (lp (problem_of system.now pick.now bounds.now list.now))) }
     ensures stop { IfErr result (IsJoinedStop system.now pick.now bounds.now list.now turn round) }
 {
     match joint(alloc, system, paths, bounds, pick, list) {

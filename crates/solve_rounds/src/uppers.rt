@@ -11,11 +11,11 @@ ghost use Rattle.solve_offers.specs.Known.{AreKnown};
 ghost use Rattle.solve_offers.specs.Stops.{IsSolvedStop, IsOfferStop};
 ghost use Rattle.solve_rounds.specs.Uppers.{uppers_into, uppers_of_rows};
 
-use std::alloc::Global;
 use cert_types::{Upper, Uppers};
 use flow_systems::{Bounds, System};
 use solve_offers::{Known, Stop, is_unlimited, solve_offer};
 use solve_transformer::Paths;
+use std::alloc::Global;
 
 // The evidence for an edge and a row at the bounds: that of the offer, which is handed out, or else solved.
 fn shown(
@@ -137,7 +137,8 @@ pub(crate) fn uppers_at(
     requires composed { AreComposed (equations_of system.now) paths.now }
     requires bounds { length bounds.now ≡ length system.now.flow.points * length system.now.template }
     requires known { AreKnown system.now bounds.now known.old }
-    ensures uppers { IfOk result (λ uppers. map evidence_of uppers ≡ exact_uppers (equations_of system.now) (vector_at system.now bounds.now)) }
+    ensures uppers { IfOk result (λ uppers. map evidence_of uppers ≡ exact_uppers (equations_of system.now)
+        (vector_at system.now bounds.now)) }
     ensures stop { IfErr result (IsOfferStop system.now bounds.now round) }
 {
     let mut uppers = Vec::new(alloc);

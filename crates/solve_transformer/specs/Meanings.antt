@@ -16,7 +16,8 @@ use Rattle.solve_composition.specs.declared.value.Value.TheVariants.{Unreached, 
 use Rattle.solve_transformer.specs.Values.{IsValue, NoneWide, IsOperatorFault}
 
 -- the trace runs at the vector and ends with the value, and the multipliers bound it
-pub record IsBestEvidence (system : Equations) (z : Vector) (edge : Edge) (row : List ℤ) (value : ℚ) (trace : Trace) (rows guards : List ℚ) : Type 0 where
+pub record IsBestEvidence (system : Equations) (z : Vector) (edge : Edge) (row : List ℤ) (value : ℚ) (trace : Trace)
+    (rows guards : List ℚ) : Type 0 where
   pub runs : Runs system z edge (word_of trace)
   pub reaches : end_value system edge row (word_of trace) ≡ value
   pub bounds : BoundPasses system z edge row (fin value) rows guards

@@ -42,7 +42,8 @@ pub record IsSource (system : Equations) (z : Vector) (edge : Edge) (row : List 
   pub goal : form ≡ dense w (end_form system.variables edge.actions row)
 
 -- they are those of some edge and row, at some vector that has these bounds
-pub record HasSource (system : Equations) (w : ℕ) (template : List (List ℤ)) (source : List Ext) (guards : List Affine) (form : Affine) : Type 0 where
+pub record HasSource (system : Equations) (w : ℕ) (template : List (List ℤ)) (source : List Ext) (guards : List Affine) (form : Affine) :
+    Type 0 where
   pub vector : Vector
   pub edge : Edge
   pub row : List ℤ

@@ -40,7 +40,8 @@ pub record AreMultipliers (bounds : ℕ → Ext) (template : List (List ℤ)) (c
   pub of_rows : rows ≡ spread bounds template y
   pub of_guards : guards ≡ tabulate count (skip bounds template y)
 
--- what an outcome over split columns says: the value with the end value's constant c, and the trace whose entries are each positive column minus the
+-- what an outcome over split columns says: the value with the end value's constant c, and the trace whose entries are each positive column
+-- minus the
 -- negative one
 abbrev pub ReadsOutcome : ℕ → ℕ → ℚ → (ℕ → Ext) → List (List ℤ) → ℕ → Outcome → Value → Type 0
 ReadsOutcome n w c bounds template count (best x v y) (Unreached r) = ⊥
@@ -51,7 +52,8 @@ ReadsOutcome n w c bounds template count (best x v y) (Unbounded trace direction
 ReadsOutcome n w c bounds template count (unbounded x d) (Unreached r) = ⊥
 ReadsOutcome n w c bounds template count (unbounded x d) (Empty rows guards) = ⊥
 ReadsOutcome n w c bounds template count (unbounded x d) (Best value trace rows guards) = ⊥
-ReadsOutcome n w c bounds template count (unbounded x d) (Unbounded trace direction) = IsTraceOf n w (unsplit x) trace × IsTraceOf n w (unsplit d) direction
+ReadsOutcome n w c bounds template count (unbounded x d) (Unbounded trace direction) =
+    IsTraceOf n w (unsplit x) trace × IsTraceOf n w (unsplit d) direction
 ReadsOutcome n w c bounds template count (empty y) (Unreached r) = ⊥
 ReadsOutcome n w c bounds template count (empty y) (Empty rows guards) = AreMultipliers bounds template count y rows guards
 ReadsOutcome n w c bounds template count (empty y) (Best value trace rows guards) = ⊥
@@ -87,7 +89,8 @@ IsValue system z edge row (Unbounded trace direction) = ReadsProblem system z ed
 
 -- the operations of reading the problem's outcome
 abbrev pub problem_reading : Equations → Vector → Edge → List ℤ → List Operation
-problem_reading system z edge row = reading_operations (width system.variables edge.actions) (end_form system.variables edge.actions row).constant
+problem_reading system z edge row = reading_operations (width system.variables edge.actions)
+    (end_form system.variables edge.actions row).constant
     (lp (whole_problem system z edge row))
 
 -- no pivot and no reading is wide; without a problem there is none
@@ -99,7 +102,8 @@ NoneWide system z edge row =
 -- the first wide operation of some numbered pivots, and of reading where no pivot is wide; the sides have no operation
 abbrev pub IsWideIn : Problem → List Operation → Part → Operation → Type 0
 IsWideIn P reading Side o = ⊥
-IsWideIn P reading (Pivot number) o = (j : ℕ) × (number ≡ capped j) × (first_refused long_limit (run_operations P) ≡ Some (record { pivot = j; operation = o }))
+IsWideIn P reading (Pivot number) o = (j : ℕ) × (number ≡ capped j) × (first_refused long_limit (run_operations P)
+    ≡ Some (record { pivot = j; operation = o }))
 IsWideIn P reading Reading o = (first_refused long_limit (run_operations P) ≡ None) × (first_wide long_limit reading ≡ Some o)
 
 -- the first wide operation of the problem, which there is

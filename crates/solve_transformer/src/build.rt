@@ -17,17 +17,18 @@ ghost use Rattle.flow_templates.specs.declared.limits.TheConstants.{MOST_ROWS};
 ghost use Rattle.lang_tree.specs.declared.limits.TheConstants.{MOST_VARIABLES};
 
 use crate::split::{split_coeffs, split_row};
-use std::alloc::{AllocError, Global};
-use solve_composition::Affine;
-use lp_dictionary::{Problem, Row};
 use base_fractions::{Ext, Frac, OrderedField};
 use lang_tree::Coeffs;
+use lp_dictionary::{Problem, Row};
+use solve_composition::Affine;
+use std::alloc::{AllocError, Global};
 
 // The lowest row whose bound is `-inf`.
 pub fn lowest_lost(source: &[Ext], rows: usize) -> Option<u32>
     requires few { rows ≤ MOST_ROWS }
     requires room { rows ≤ length source.now }
-    ensures { MatchOption result ((k : ℕ) → k < rows → neg_inf <ᴱ bounds_at source.now k) (λ r. IsLowestLost (bounds_at source.now) rows r) }
+    ensures { MatchOption result ((k : ℕ) → k < rows → neg_inf <ᴱ bounds_at source.now k)
+        (λ r. IsLowestLost (bounds_at source.now) rows r) }
 {
     for row in 0..rows {
         if let Ext::NegInf = source[row] {

@@ -9,6 +9,6 @@ mod split;
 mod stay;
 mod transform;
 
-pub use stay::guarded_value;
 pub use solve_composition::{PathFault, Paths, Value, compose_all};
+pub use stay::guarded_value;
 pub use transform::operator;

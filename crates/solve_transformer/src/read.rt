@@ -17,11 +17,11 @@ ghost use Rattle.solve_transformer.specs.Readings.{listed_outcome, finite_one, m
 ghost use Rattle.flow_templates.specs.declared.limits.TheConstants.{MOST_ROWS};
 ghost use Rattle.lang_tree.specs.declared.limits.TheConstants.{MOST_VARIABLES};
 
-use std::alloc::{AllocError, Global};
-use solve_composition::{FormFault, Value};
-use flow_systems::{Fracs, Trace};
 use base_fractions::{Ext, Frac, OrderedField};
+use flow_systems::{Fracs, Trace};
 use lp_simplex::Outcome;
+use solve_composition::{FormFault, Value};
+use std::alloc::{AllocError, Global};
 
 // The sizes of an edge's problem: its start variables, its free values, the template's rows, and its guards.
 #[derive(Clone, Copy, Drop)]
@@ -55,7 +55,8 @@ fn read_entries(
     requires first { first ≤ MOST_VARIABLES + 256 }
     requires count { count ≤ MOST_VARIABLES + 256 }
     ensures { AnswersBy (λ list. list ≡ map (unsplit (at point.now)) (range_with_len first count))
-        (map (λ j. record { op = Sub; left = at point.now (j + j); right = at point.now (suc (j + j)) }) (range_with_len first count)) result }
+        (map (λ j. record { op = Sub; left = at point.now (j + j); right = at point.now (suc (j + j)) }) (range_with_len first count))
+        result }
 {
     let mut list = Vec::with_capacity(alloc, count)?;
     for i in 0..count {
@@ -75,7 +76,8 @@ fn read_trace(
 ) -> Result<Trace, FormFault>
     requires variables { variables ≤ MOST_VARIABLES }
     requires frees { frees ≤ 256 }
-    ensures { AnswersBy (IsTraceOf variables (variables + frees) (unsplit (at point.now))) (entry_operations (variables + frees) (at point.now)) result }
+    ensures { AnswersBy (IsTraceOf variables (variables + frees) (unsplit (at point.now)))
+        (entry_operations (variables + frees) (at point.now)) result }
 {
     let start = read_entries(alloc, point, 0, variables)?;
     let free = read_entries(alloc, point, variables, frees)?;
@@ -112,7 +114,8 @@ fn row_multipliers(
 ) -> Result<Fracs, AllocError>
     requires room { rows ≤ length source.now }
     requires few { rows ≤ MOST_ROWS }
-    ensures { (template : List (List ℤ)) → rows ≡ length template → IfOk result (λ list. list ≡ spread (bounds_at source.now) template (at multipliers.now)) }
+    ensures { (template : List (List ℤ)) → rows ≡ length template → IfOk result
+        (λ list. list ≡ spread (bounds_at source.now) template (at multipliers.now)) }
 {
     let mut list = Vec::with_capacity(alloc, rows)?;
     let mut next = 0;
@@ -128,7 +131,8 @@ fn row_multipliers(
 fn count_finite(source: &[Ext], rows: usize) -> usize
     requires room { rows ≤ length source.now }
     requires few { rows ≤ MOST_ROWS }
-    ensures count { (template : List (List ℤ)) → rows ≡ length template → (y : ℕ → ℚ) → skip (bounds_at source.now) template y ≡ (λ k. y (result + k)) }
+    ensures count { (template : List (List ℤ)) → rows ≡ length template → (y : ℕ → ℚ)
+        → skip (bounds_at source.now) template y ≡ (λ k. y (result + k)) }
     ensures few { result ≤ rows }
 {
     let mut count = 0;

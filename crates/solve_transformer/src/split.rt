@@ -6,9 +6,9 @@ ghost use Rattle.lang_tree.specs.Numbers.{are_numbers};
 ghost use Rattle.solve_composition.specs.Composed.{first_entries};
 ghost use Rattle.solve_transformer.specs.Splits.{pairs};
 
-use std::alloc::{AllocError, Global};
-use flow_systems::fraction;
 use base_fractions::{Frac, OrderedField};
+use flow_systems::fraction;
+use std::alloc::{AllocError, Global};
 
 // Each coefficient and its negation.
 pub fn split_coeffs(alloc: Global, coeffs: &[Frac]) -> Result<Vec<Frac>, AllocError>

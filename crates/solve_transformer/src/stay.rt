@@ -15,11 +15,11 @@ ghost use Rattle.solve_transformer.specs.Values.{IsValue, NoneWide, IsOperatorFa
 
 use crate::build::lowest_lost;
 use crate::transform::solve_forms;
-use std::alloc::{AllocError, Global};
-use solve_composition::{Affine, Value};
-use flow_systems::{Bounds, Fracs, PartFault, System, fraction};
 use base_fractions::{Ext, Frac, OrderedField};
+use flow_systems::{Bounds, Fracs, PartFault, System, fraction};
 use lang_tree::Form;
+use solve_composition::{Affine, Value};
+use std::alloc::{AllocError, Global};
 
 // A guard as a form over the variables.
 fn guard_form(alloc: Global, guard: &Form) -> Result<Affine, AllocError>
@@ -101,9 +101,11 @@ pub fn guarded_value(
     requires few { length guards.now ≤ 256 }
     requires forms { IsTrue (list_all (is_form (length system.now.flow.names)) guards.now) }
     ensures value { IfOk result (IsValue (equations_of system.now) (vector_at system.now bounds.now) (guarded_edge point guards.now) []) }
-    ensures evidence { IfOk result (HasEvidence (equations_of system.now) (vector_at system.now bounds.now) (guarded_edge point guards.now) []) }
+    ensures evidence { IfOk result (HasEvidence (equations_of system.now) (vector_at system.now bounds.now) (guarded_edge point guards.now)
+        []) }
     ensures fits { OnOk result (NoneWide (equations_of system.now) (vector_at system.now bounds.now) (guarded_edge point guards.now) []) }
-    ensures refused { IfErr result (IsOperatorFault (equations_of system.now) (vector_at system.now bounds.now) (guarded_edge point guards.now) []) }
+    ensures refused { IfErr result (IsOperatorFault (equations_of system.now) (vector_at system.now bounds.now)
+        (guarded_edge point guards.now) []) }
 {
     let rows = system.template.as_slice().len();
     let source = &bounds.as_slice()[point as usize * rows..];

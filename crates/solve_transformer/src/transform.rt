@@ -21,12 +21,12 @@ ghost use Rattle.flow_templates.specs.declared.limits.TheConstants.{MOST_ROWS};
 
 use crate::build::{edge_problem, lowest_lost};
 use crate::read::{Sizes, read_outcome};
-use std::alloc::Global;
-use solve_composition::{Affine, FormFault, Paths, Value};
-use lp_dictionary::{Dict, Problem};
-use flow_systems::{Bounds, Part, PartFault, System};
 use base_fractions::{Ext, Frac};
+use flow_systems::{Bounds, Part, PartFault, System};
+use lp_dictionary::{Dict, Problem};
 use lp_simplex::{SolveFault, solve};
+use solve_composition::{Affine, FormFault, Paths, Value};
+use std::alloc::Global;
 
 // The value of a problem over split columns.
 fn solve_problem(
@@ -46,7 +46,8 @@ fn solve_problem(
     ensures pivots { OnOk result (first_refused long_limit (run_operations (exact (λ q. q) problem.now)) ≡ None) }
     ensures reading { (template : List (List ℤ)) → sizes.rows ≡ length template →
         HasSizes (exact (λ q. q) problem.now) (sizes.variables + sizes.frees) (bounds_at source.now) template sizes.guards →
-        OnOk result (first_wide long_limit (reading_operations (sizes.variables + sizes.frees) constant (lp (exact (λ q. q) problem.now))) ≡ None) }
+        OnOk result (first_wide long_limit (reading_operations (sizes.variables + sizes.frees) constant (lp (exact (λ q. q) problem.now)))
+        ≡ None) }
     ensures refused { (template : List (List ℤ)) → sizes.rows ≡ length template →
         HasSizes (exact (λ q. q) problem.now) (sizes.variables + sizes.frees) (bounds_at source.now) template sizes.guards →
         IfErr result (IsProblemFault (exact (λ q. q) problem.now)
@@ -82,9 +83,11 @@ pub(crate) fn solve_forms(
     requires room { length system.now.template ≤ length source.now }
     requires few_frees { frees ≤ 256 }
     requires few_guards { length guards.now ≤ 256 }
-    requires forms { HasSource (equations_of system.now) (length system.now.flow.names + frees) system.now.template source.now guards.now form.now }
+    requires forms { HasSource (equations_of system.now) (length system.now.flow.names + frees) system.now.template source.now guards.now
+        form.now }
     ensures { (z : Vector) (edge : Edge) (row : List ℤ) →
-        IsSource (equations_of system.now) z edge row (length system.now.flow.names + frees) system.now.template source.now guards.now form.now →
+        IsSource (equations_of system.now) z edge row (length system.now.flow.names + frees) system.now.template source.now guards.now
+        form.now →
         lost (z edge.from) system.now.template ≡ false → Operates (equations_of system.now) z edge row result }
 {
     let template = system.template.as_slice();
@@ -146,11 +149,14 @@ pub fn operator(
     requires bounds { IsVectorOf system.now bounds.now }
     requires edge { edge < length system.now.flow.edges }
     requires row { row < length system.now.template }
-    ensures value { IfOk result (IsValue (equations_of system.now) (vector_at system.now bounds.now) (edge_at system.now edge) (row_at system.now row)) }
+    ensures value { IfOk result (IsValue (equations_of system.now) (vector_at system.now bounds.now) (edge_at system.now edge)
+        (row_at system.now row)) }
     ensures supremum { IfOk result (λ v. transformer (equations_of system.now) (vector_at system.now bounds.now) (edge_at system.now edge)
         (row_at system.now row) ≡ number_of v) }
-    ensures evidence { IfOk result (HasEvidence (equations_of system.now) (vector_at system.now bounds.now) (edge_at system.now edge) (row_at system.now row)) }
-    ensures fits { OnOk result (NoneWide (equations_of system.now) (vector_at system.now bounds.now) (edge_at system.now edge) (row_at system.now row)) }
+    ensures evidence { IfOk result (HasEvidence (equations_of system.now) (vector_at system.now bounds.now) (edge_at system.now edge)
+        (row_at system.now row)) }
+    ensures fits { OnOk result (NoneWide (equations_of system.now) (vector_at system.now bounds.now) (edge_at system.now edge)
+        (row_at system.now row)) }
     ensures refused { IfErr result (IsOperatorFault (equations_of system.now) (vector_at system.now bounds.now) (edge_at system.now edge)
         (row_at system.now row)) }
 {

@@ -1,8 +1,8 @@
 //! Runs of the call over files and streams in memory, and what is wanted of them.
 
-use std::alloc::{AllocError, Global};
 use acsl_annotate::annotate;
 use base_files::{MemShelf, MemSink};
+use std::alloc::{AllocError, Global};
 use top_run::Status;
 
 /// A row of a table: a run, and how it is to end.

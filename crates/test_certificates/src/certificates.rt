@@ -1,8 +1,8 @@
 //! Texts of certificates in both formats: what is read is written again in format 2, byte for byte.
 
+use cert_text::{read, write};
 use std::alloc::Global;
 use std::test::Fail;
-use cert_text::{read, write};
 
 // A plain step, a jump and another plain step.
 const JUMP: [&str; 2] = [

@@ -1,9 +1,9 @@
 //! Changes of the text of a certificate in either format, and what they read as.
 
 use crate::certificates::RAY;
+use cert_text::read;
 use std::alloc::{AllocError, Global};
 use std::test::Fail;
-use cert_text::read;
 
 // What stands in the certificate with a ray in both formats, what is put in its place, and what that reads as: a certificate,
 // or the fault. Read are the greatest index, an escape, and a bound that is `-inf`.

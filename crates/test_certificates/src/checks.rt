@@ -5,16 +5,16 @@ ghost use Rattle.flow_edges.specs.declared.edge.Action.TheVariants.{Assign as Se
 ghost use Rattle.flow_templates.specs.Domains.{intervals_of};
 ghost use Rattle.cert_checker.specs.Items.{is_short};
 
-use std::alloc::{AllocError, Global};
-use std::test::Fail;
-use cert_types::{Cert, Item, Items, Rows, Step, Steps, Upper, Uppers};
-use cert_checker::{CheckFault, Scratch, check};
-use solve_composition::compose_all;
-use flow_systems::{Bounds, Fracs, System, Trace};
-use flow_edges::{Action, Actions, Edge, Edges, Flow, Place, Point, Points};
 use base_fractions::{Ext, Frac, OrderedField};
+use cert_checker::{CheckFault, Scratch, check};
+use cert_types::{Cert, Item, Items, Rows, Step, Steps, Upper, Uppers};
+use flow_edges::{Action, Actions, Edge, Edges, Flow, Place, Point, Points};
+use flow_systems::{Bounds, Fracs, System, Trace};
 use flow_templates::intervals;
 use lang_tree::{Coeffs, Form, Name, Names};
+use solve_composition::compose_all;
+use std::alloc::{AllocError, Global};
+use std::test::Fail;
 
 // The name x.
 fn names(alloc: Global) -> Result<Names, Fail>
@@ -43,7 +43,12 @@ fn points(alloc: Global) -> Result<Points, AllocError>
 
 // An edge from the one to the other with x = 1.
 fn edges(alloc: Global) -> Result<Edges, AllocError>
-    ensures { IfOk result (λ edges. edges ≡ record { from = 0; to = 1; actions = Sets 0 (record { coeffs = pos 0 ∷ []; constant = pos 1 }) ∷ [] } ∷ []) }
+    ensures { IfOk result (λ edges. edges ≡ record {
+      from = 0;
+      to = 1;
+      actions =
+          Sets 0 (record { coeffs = pos 0 ∷ []; constant = pos 1 }) ∷ [];
+    } ∷ []) }
 {
     let form = Form {
         coeffs: Coeffs::new(vec![in alloc; 0]?),

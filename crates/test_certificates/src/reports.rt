@@ -2,15 +2,15 @@
 
 ghost use Rattle.std.specs.Prelude.{◌≡◌, IfOk, length};
 
-use std::alloc::Global;
-use std::test::Fail;
-use flow_systems::{Bounds, Footer, System};
-use flow_edges::{Edges, Flow, Place, Point, Points};
 use base_fractions::Ext;
-use out_report::{point_text, report};
+use flow_edges::{Edges, Flow, Place, Point, Points};
+use flow_systems::{Bounds, Footer, System};
 use flow_templates::{Template, intervals};
 use lang_tree::{Coeffs, Name, Names};
+use out_report::{point_text, report};
 use out_workload::{generate, summary};
+use std::alloc::Global;
+use std::test::Fail;
 
 const WHOLE: &[u8] = b"variables x yy
 point 0: entry

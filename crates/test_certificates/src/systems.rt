@@ -1,11 +1,11 @@
 //! Systems, and the bounds from which they start.
 
-use std::test::Fail;
-use flow_systems::{Bounds, Pick, System};
-use flow_edges::{Action, Actions, Edge, Edges, Flow, Place, Point, Points};
 use base_fractions::{Ext, Frac};
+use flow_edges::{Action, Actions, Edge, Edges, Flow, Place, Point, Points};
+use flow_systems::{Bounds, Pick, System};
 use flow_templates::Template;
 use lang_tree::{Coeffs, Form, Name, Names};
+use std::test::Fail;
 
 // int x; x = 2 * x + 1; assume(x <= 5); x = nondet(); over x and -x.
 #[test]

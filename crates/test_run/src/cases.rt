@@ -1,7 +1,7 @@
 //! Runs of the top call over files and streams in memory, and what is wanted of them.
 
-use std::alloc::{AllocError, Global};
 use base_files::{MemShelf, MemSink};
+use std::alloc::{AllocError, Global};
 use top_run::{Status, run};
 
 /// A row of a table: a run, and how it is to end.

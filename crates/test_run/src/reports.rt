@@ -1,8 +1,8 @@
 //! Reports of small programs, whole or by their ends.
 
 use crate::cases::{Case, Ending, ends, first_wrong, run_line, strings};
-use std::alloc::{AllocError, Global};
 use base_files::{PlainShelf, PlainSink};
+use std::alloc::{AllocError, Global};
 use top_run::{Status, run_in_memory};
 
 pub(crate) const ROWS: &str = "solve p --domain rows --rows f";

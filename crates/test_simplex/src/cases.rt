@@ -1,8 +1,8 @@
 //! Problems whose answers were found by hand: the goal's numbers, and then each row's coefficients and side.
 use crate::problems::{Expected, Number, answers};
+use base_fractions::{Frac, Op, OrderedField, Short};
 use std::alloc::Global;
 use std::test::Fail;
-use base_fractions::{Frac, Op, OrderedField, Short};
 
 // The number of columns, the numbers and the answer.
 type Case<'a> = (usize, &'a [Number], Expected<'a>);

@@ -1,9 +1,9 @@
 //! Pseudo-random problems, on which both tableaux agree.
 use crate::problems::{Answer, Number, both};
-use std::alloc::Global;
-use std::test::Fail;
 use base_fractions::{Frac, OrderedField};
 use lp_simplex::Outcome;
+use std::alloc::Global;
+use std::test::Fail;
 
 // The next of a series of numbers without order (Knuth, MMIX).
 fn next(seed: u64) -> u64 {

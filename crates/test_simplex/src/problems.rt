@@ -2,12 +2,12 @@
 ghost use Rattle.std.specs.Prelude.{◌≡◌, length, IfOk, OnOk};
 ghost use Rattle.lp_dictionary.specs.Exact.{IsShaped};
 
-use std::alloc::Global;
-use std::test::Fail;
-use lp_dictionary::Dict;
 use base_fractions::{Op, OrderedField};
+use lp_dictionary::Dict;
 use lp_simplex::{Outcome, Problem, Row, SolveFault, solve};
 use lp_sparse::Sparse;
+use std::alloc::Global;
+use std::test::Fail;
 
 /// A numerator and a denominator.
 pub type Number = (i64, i64);

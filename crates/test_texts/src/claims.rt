@@ -1,11 +1,11 @@
 //! Claims of texts.
 
 use crate::texts::{Case, first_wrong, read, repeated};
-use std::alloc::Global;
 use ask_claims::{Claim, ClaimFault, read_claims};
 use flow_edges::flow;
-use lang_tokens::{LexFault, line_of};
 use lang_parser::{Limit, ParseFault};
+use lang_tokens::{LexFault, line_of};
+use std::alloc::Global;
 
 /// Its points are the entry, `here`, the loop, `there` and the exit.
 const PROGRAM: &[u8] =

@@ -1,9 +1,9 @@
 //! Equations of texts.
 
 use crate::texts::{Case, first_wrong};
-use std::alloc::Global;
 use flow_rationals::{EquFault, Equations, Sum, read};
 use lang_tokens::LexFault;
+use std::alloc::Global;
 
 // What a text is; nothing where it is too long.
 fn equations_of(alloc: Global, text: &[u8]) -> Option<Result<Equations, EquFault>> {

@@ -5,10 +5,10 @@ ghost use Rattle.lang_tree.specs.View.{condition_of};
 ghost use Rattle.flow_edges.specs.Constants.{have_room};
 
 use crate::texts::{Case, first_wrong, read, repeated};
-use std::alloc::{AllocError, Global};
-use std::fmt::Write;
 use flow_edges::{Action, CasesFault, Edge, Flow, FlowFault, Place, cases, flow};
 use lang_tree::{Coeffs, Cond, Form, Rel};
+use std::alloc::{AllocError, Global};
+use std::fmt::Write;
 
 // A place in one word.
 fn place_word(place: &Place) -> &'static str {

@@ -1,9 +1,9 @@
 //! What the grammar says of texts.
 
 use crate::texts::{Case, first_wrong, repeated};
-use std::alloc::Global;
 use lang_grammar::{Syntax, examine};
 use lang_tokens::lex;
+use std::alloc::Global;
 
 // Whether the grammar says this of the text.
 fn is_told(alloc: Global, text: &[u8], wanted: Syntax) -> bool {

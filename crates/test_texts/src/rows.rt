@@ -1,9 +1,9 @@
 //! Templates, and the rows that files read as.
 
 use crate::texts::{Case, first_wrong, repeated};
-use std::alloc::{AllocError, Global};
 use flow_templates::{RowFault, Template, from_rows, intervals, octagons, read_rows, zones};
 use lang_tree::{Coeffs, Name};
+use std::alloc::{AllocError, Global};
 
 // Whether these are the template's rows.
 fn has_rows(template: &Template, rows: &[&[i64]]) -> bool {

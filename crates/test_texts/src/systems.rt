@@ -2,12 +2,12 @@
 
 use crate::flows::{made, shown, write_edge};
 use crate::texts::{Case, first_wrong, repeated};
+use flow_edges::Flow;
+use flow_transitions::{Auto, AutoFault, flow, read};
+use lang_parser::{Limit, ParseFault};
+use lang_tokens::LexFault;
 use std::alloc::{AllocError, Global};
 use std::fmt::Write;
-use flow_transitions::{Auto, AutoFault, flow, read};
-use flow_edges::Flow;
-use lang_tokens::LexFault;
-use lang_parser::{Limit, ParseFault};
 
 // What a text is; nothing where it is too long.
 fn system_of(alloc: Global, text: &[u8]) -> Option<Result<Auto, AutoFault>> {

@@ -1,9 +1,9 @@
 //! Texts, the programs that they read as, and tables of cases.
 
-use std::alloc::{AllocError, Global};
-use lang_tokens::lex;
 use lang_parser::{ParseFault, parse};
+use lang_tokens::lex;
 use lang_tree::Program;
+use std::alloc::{AllocError, Global};
 
 /// A row of a table: what a call is given, and what it is to answer.
 pub(crate) trait Case {

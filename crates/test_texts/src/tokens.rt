@@ -1,8 +1,8 @@
 //! Tokens: what texts are cut into, and their faults.
 
 use crate::texts::{Case, first_wrong};
-use std::alloc::Global;
 use lang_tokens::{Kind, LexFault, Sign, Token, Word, lex, line_of};
+use std::alloc::Global;
 
 // Whether the text reads as these tokens and the end.
 fn reads_as(alloc: Global, text: &[u8], wanted: &[Token]) -> bool {

@@ -1,8 +1,8 @@
 //! Words of the command line, and what they ask for.
 
 use crate::texts::{Case, first_wrong};
-use std::alloc::{AllocError, Global};
 use ask_words::{Analysis, Domain, Policy, Purpose, Request, WordsFault, read_words, usage_line};
+use std::alloc::{AllocError, Global};
 
 // The words of a line, one behind each blank; the empty line has none.
 fn words_of(alloc: Global, line: &str) -> Result<Vec<String>, AllocError> {

@@ -20,7 +20,8 @@ IsClosed system pick v = (p r k : ℕ) (edge : Edge) (row : List ℤ) →
     pick p r ≡ Some k → slice_get system.edges k ≡ Some edge → slice_get system.template r ≡ Some row → IsUpper system v edge row (v p r)
 
 -- ---- one improvement
--- the next edge of an unknown: where a transformer exceeds the bound one that the policy may choose and that exceeds it, elsewhere the old one
+-- the next edge of an unknown: where a transformer exceeds the bound one that the policy may choose and that exceeds it, elsewhere the old
+-- one
 pub record IsNextEdge (system : Equations) (policy : Offer → ℕ → Type 0) (v : Vector) (p r : ℕ) (old new : Option ℕ) : Type 0 where
   pub offer : Offer
   pub is_offer : IsOffer system v p r offer

@@ -39,7 +39,8 @@ HasOneNumber policy = (system : Equations) (n m : ℕ) (v w : Vector) → EndsAf
 
 -- which is above each number of improvements after which it goes on
 abbrev pub GoesOnBelow : (Offer → ℕ → Type 0) → Type 0
-GoesOnBelow policy = (system : Equations) (limit n : ℕ) (v : Vector) → GoesOnAfter system policy limit → EndsAfter system policy n v → limit < n
+GoesOnBelow policy = (system : Equations) (limit n : ℕ) (v : Vector) → GoesOnAfter system policy limit → EndsAfter system policy n v
+    → limit < n
 
 -- all of these
 pub record IsDetermined (policy : Offer → ℕ → Type 0) : Type 0 where

@@ -13,7 +13,8 @@ use Rattle.theory_validity.proofs.steps.LeastOfBelow.{least_of_below}
 use Rattle.theory_transformers.specs.EdgeProblems.{transformer}
 use Rattle.theory_transformers.proofs.edge_problems.TransformerOf.{transformer_reaches}
 
-module _ (system : Equations) (range : PointsInRange system) (v : Vector) (post : PostSolution system v) (below : (w : Vector) → PostSolution system w → IsBelow system v w) where
+module _ (system : Equations) (range : PointsInRange system) (v : Vector) (post : PostSolution system v)
+    (below : (w : Vector) → PostSolution system w → IsBelow system v w) where
   -- the vector at the system's points, and -inf beyond them
   lowered : Vector
   lowered p r = if ltb p system.points then v p r else neg_inf
@@ -31,11 +32,14 @@ module _ (system : Equations) (range : PointsInRange system) (v : Vector) (post 
       by false e = refl
 
   -- a transition starts at the system's points, where the template has a row
-  starts : (edge : Edge) (x y : RationalState) (r : ℕ) (row : List ℤ) → slice_get system.template r ≡ Some row → Transition system lowered edge x y → edge.from < system.points
+  starts : (edge : Edge) (x y : RationalState) (r : ℕ) (row : List ℤ) → slice_get system.template r ≡ Some row
+      → Transition system lowered edge x y → edge.from < system.points
   starts edge x y r row e t =
-      ⊎_elim (λ l. l) (λ l. absurd (subst (λ b. fin (dotℚ row x) ≤ᴱ b) (beyond edge.from r l) (t.fits r row e))) (cases_lt edge.from system.points)
+      ⊎_elim (λ l. l) (λ l. absurd (subst (λ b. fin (dotℚ row x) ≤ᴱ b) (beyond edge.from r l) (t.fits r row e)))
+      (cases_lt edge.from system.points)
 
-  of_lowered : (edge : Edge) (x y : RationalState) → edge.from < system.points → Transition system lowered edge x y → Transition system v edge x y
+  of_lowered : (edge : Edge) (x y : RationalState) → edge.from < system.points → Transition system lowered edge x y
+      → Transition system v edge x y
   of_lowered edge x y l t = record {
     listed = t.listed;
     starts = t.starts;
@@ -52,7 +56,8 @@ module _ (system : Equations) (range : PointsInRange system) (v : Vector) (post 
 
   lowered_below : (w : Vector) → PostSolution system w → Below system lowered w
   lowered_below w other p r l =
-      ⊎_elim (λ h. subst (λ b. b ≤ᴱ w p r) (sym (inside p r h)) (below w other p r h l)) (λ h. subst (λ b. b ≤ᴱ w p r) (sym (beyond p r h)) tt) (cases_lt p system.points)
+      ⊎_elim (λ h. subst (λ b. b ≤ᴱ w p r) (sym (inside p r h)) (below w other p r h l))
+      (λ h. subst (λ b. b ≤ᴱ w p r) (sym (beyond p r h)) tt) (cases_lt p system.points)
 
   lowered_least : Least system lowered
   lowered_least = least_of_below system (transformer system) (transformer_reaches system) lowered lowered_post lowered_below

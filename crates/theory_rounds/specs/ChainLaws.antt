@@ -16,11 +16,14 @@ OffersAreThere = (system : Equations) (z : Vector) (p r : ℕ) → r < length sy
 
 -- a choice follows a policy: of each unknown that the transformers of these edges exceed it takes an edge that the policy may choose
 abbrev pub Follows : (Offer → ℕ → Type 0) → Equations → Vector → Choice → Type 0
-Follows policy system z choose = (p r k : ℕ) (ks : List ℕ) → r < length system.template → offers system (transformer system) z p r ≡ k ∷ ks →
-    (offer : Offer) × IsOffer system z p r offer × ((j : ℕ) × policy offer j × Exceeds offer j × (slice_get offer.edges j ≡ Some (choose p r k ks)))
+Follows policy system z choose = (p r k : ℕ) (ks : List ℕ) → r < length system.template → offers system (transformer system) z p r ≡ k ∷ ks
+    →
+    (offer : Offer) × IsOffer system z p r offer × ((j : ℕ) × policy offer j × Exceeds offer j
+    × (slice_get offer.edges j ≡ Some (choose p r k ks)))
 
 -- a chain of exact rounds by choices that follow a policy is a chain of improvements by it, and ends where no choice goes
-pub record IsImprovement (policy : Offer → ℕ → Type 0) (fitting : ℚ → Bool) (system : Equations) (choose : ℕ → Choice) (n : ℕ) : Type 0 where
+pub record IsImprovement (policy : Offer → ℕ → Type 0) (fitting : ℚ → Bool) (system : Equations) (choose : ℕ → Choice) (n : ℕ) :
+    Type 0 where
   pub chain : IsChain system policy n (λ k. (exact_state fitting system choose k).vector) (λ k. (exact_state fitting system choose k).pick)
   pub ends : exact_next system (choose n) (exact_state fitting system choose n).vector (exact_state fitting system choose n).pick ≡ None →
       EndsAfter system policy n (exact_state fitting system choose n).vector
@@ -28,10 +31,12 @@ pub record IsImprovement (policy : Offer → ℕ → Type 0) (fitting : ℚ → 
 
 -- chains of exact rounds are chains of improvements by a policy
 abbrev pub RoundsAreImprovements : (Offer → ℕ → Type 0) → Type 0
-RoundsAreImprovements policy = (fitting : ℚ → Bool) (system : Equations) → PointsInRange system → (choose : ℕ → Choice) → ((k : ℕ) → TakesOne (choose k)) →
+RoundsAreImprovements policy = (fitting : ℚ → Bool) (system : Equations) → PointsInRange system → (choose : ℕ → Choice)
+    → ((k : ℕ) → TakesOne (choose k)) →
     (n : ℕ) →
     ((k : ℕ) → k < n → Goes system (choose k) (exact_state fitting system choose k)) →
-    ((k : ℕ) → k < n → Follows policy system (exact_state fitting system choose k).vector (choose k)) → IsImprovement policy fitting system choose n
+    ((k : ℕ) → k < n → Follows policy system (exact_state fitting system choose k).vector (choose k))
+    → IsImprovement policy fitting system choose n
 
 -- ---- of any chain of improvements
 -- a policy that answers the positions at which a test is true
@@ -46,12 +51,14 @@ pub record IsShort (policy : Offer → ℕ → Type 0) (system : Equations) (n :
 -- chains of improvements by a policy are short
 abbrev pub ChainsAreShort : (Offer → ℕ → Type 0) → Type 0
 ChainsAreShort policy =
-    (system : Equations) → PointsInRange system → (n : ℕ) (vectors : ℕ → Vector) (picks : ℕ → Pick) → IsChain system policy n vectors picks →
+    (system : Equations) → PointsInRange system → (n : ℕ) (vectors : ℕ → Vector) (picks : ℕ → Pick) → IsChain system policy n vectors picks
+    →
     IsShort policy system n vectors picks
 
 -- chains of improvements by a policy end at the least vector
 abbrev pub EndsAreLeast : (Offer → ℕ → Type 0) → Type 0
-EndsAreLeast policy = (system : Equations) → PointsInRange system → (n : ℕ) (v : Vector) → (e : EndsAfter system policy n v) → Least system (e.vectors n)
+EndsAreLeast policy = (system : Equations) → PointsInRange system → (n : ℕ) (v : Vector) → (e : EndsAfter system policy n v)
+    → Least system (e.vectors n)
 
 -- ---- of a policy that always chooses
 -- so many improvements at most end it

@@ -44,11 +44,13 @@ unfolding end_value val
 value_of_point system z edge row x =
     let f = end_form system.variables edge.actions row in
     sym (val-end_form system.variables edge.actions row (tabulate (width system.variables edge.actions) x))
-    ∙ ap (λ s. s +ℚ f.constant) (product-tabulate f.coeffs (width system.variables edge.actions) x (end_form_width system.variables edge.actions row)
+    ∙ ap (λ s. s +ℚ f.constant) (product-tabulate f.coeffs (width system.variables edge.actions) x
+    (end_form_width system.variables edge.actions row)
     ∙ sym (goal_at system z edge row x))
 
 -- the end value rises along the word of a direction in which the goal does
-pub direction_gains : (system : Equations) (z : Vector) (edge : Edge) (row : List ℤ) (d : ℕ → ℚ) → zero_ℚ <ℚ value_at (edge_problem system z edge row) d →
+pub direction_gains : (system : Equations) (z : Vector) (edge : Edge) (row : List ℤ) (d : ℕ → ℚ)
+    → zero_ℚ <ℚ value_at (edge_problem system z edge row) d →
     zero_ℚ <ℚ lin (end_form system.variables edge.actions row) (tabulate (width system.variables edge.actions) d)
 unfolding lin
 direction_gains system z edge row d h =
@@ -63,7 +65,8 @@ unfolding free_lp
 outcome_is system z edge row = free_lp_is (edge_problem system z edge row)
 
 -- the evidence of an unbounded outcome
-unfoldable pub unlimited_evidence : (system : Equations) (z : Vector) (edge : Edge) (row : List ℤ) (x d : ℕ → ℚ) → NoneLost (z edge.from) system.template →
+unfoldable pub unlimited_evidence : (system : Equations) (z : Vector) (edge : Edge) (row : List ℤ) (x d : ℕ → ℚ)
+    → NoneLost (z edge.from) system.template →
     IsFreeUnbounded (edge_problem system z edge row) (unsplit x) (unsplit d) → Unlimited system z edge row
 unlimited_evidence system z edge row x d none h = record {
   word = word_at system edge x;
@@ -75,7 +78,8 @@ unlimited_evidence system z edge row x d none h = record {
 }
 
 -- the evidence of an outcome
-unfoldable pub outcome_evidence : (system : Equations) (z : Vector) (edge : Edge) (row : List ℤ) → NoneLost (z edge.from) system.template → (o : Outcome) →
+unfoldable pub outcome_evidence : (system : Equations) (z : Vector) (edge : Edge) (row : List ℤ) → NoneLost (z edge.from) system.template
+    → (o : Outcome) →
     IsFreeOutcome (edge_problem system z edge row) (unsplit_outcome o) →
     Upper system z edge row (value_of (end_form system.variables edge.actions row).constant (unsplit_outcome o)) →
     Reaches system z edge row (value_of (end_form system.variables edge.actions row).constant (unsplit_outcome o))
@@ -92,16 +96,19 @@ outcome_evidence system z edge row none (unbounded x d) h upper = unlimited_evid
 outcome_evidence system z edge row none (empty y) h upper = upper
 
 -- by whether some bound at the source is −∞
-unfoldable pub evidence_by : (system : Equations) (z : Vector) (edge : Edge) (row : List ℤ) (b : Bool) → lost (z edge.from) system.template ≡ b →
+unfoldable pub evidence_by : (system : Equations) (z : Vector) (edge : Edge) (row : List ℤ) (b : Bool)
+    → lost (z edge.from) system.template ≡ b →
     Upper system z edge row (if b then neg_inf else value_of (end_form system.variables edge.actions row).constant
     (unsplit_outcome (lp (whole_problem system z edge row)))) →
     Reaches system z edge row (if b then neg_inf else value_of (end_form system.variables edge.actions row).constant
     (unsplit_outcome (lp (whole_problem system z edge row))))
 evidence_by system z edge row true e upper = upper
 evidence_by system z edge row false e upper =
-    outcome_evidence system z edge row (none_lost (z edge.from) system.template e) (lp (whole_problem system z edge row)) (outcome_is system z edge row) upper
+    outcome_evidence system z edge row (none_lost (z edge.from) system.template e) (lp (whole_problem system z edge row))
+    (outcome_is system z edge row) upper
 
 -- the evidence of each exact transformer
 unfoldable pub exact_evidence : (system : Equations) → Evident system (transformer system)
 unfolding transformer free_lp
-exact_evidence system z edge row = evidence_by system z edge row (lost (z edge.from) system.template) refl (transformer_upper system z edge row)
+exact_evidence system z edge row = evidence_by system z edge row (lost (z edge.from) system.template) refl
+    (transformer_upper system z edge row)

@@ -23,5 +23,6 @@ EvidenceIsSized = (system : Equations) (z : Vector) (edge : Edge) (row : List �
 
 -- where no bound at the source of an unknown's edge is −∞, the raise of the unknown is read from the outcome of its problem
 abbrev pub RaisesAreRead : Type 0
-RaisesAreRead = (fitting : ℚ → Bool) (system : Equations) (z : Vector) (u : Item) → lost (z (edge_of system u).from) system.template ≡ false →
+RaisesAreRead = (fitting : ℚ → Bool) (system : Equations) (z : Vector) (u : Item) → lost (z (edge_of system u).from) system.template ≡ false
+    →
     exact_raise fitting system z u ≡ raise_read fitting system z u (outcome_at system z u)

@@ -38,8 +38,10 @@ rate_items n rate (u ∷ us) (direction ∷ directions) =
 
 -- the turn that an outcome of the joint problem gives; an empty outcome doesn't come where the list condition holds
 unfoldable pub outcome_items : Equations → Vector → List Item → ProblemOutcome → Outcome
-outcome_items system b list (best x v y) = Point (point_items system.variables (raised (listed_items list) x b) list (joint_words system (listed_items list) x))
-outcome_items system b list (unbounded x d) = Rays (rate_items system.variables (rise_at (listed_items list) d) list (joint_words system (listed_items list) d))
+outcome_items system b list (best x v y) = Point (point_items system.variables (raised (listed_items list) x b) list
+    (joint_words system (listed_items list) x))
+outcome_items system b list (unbounded x d) = Rays (rate_items system.variables (rise_at (listed_items list) d) list
+    (joint_words system (listed_items list) d))
 outcome_items system b list (empty y) = Point []
 
 -- the turn of a list at a base vector; the items have the numbers of the picked edges

@@ -13,7 +13,8 @@ use Rattle.theory_strategy.specs.Growth.{split, with_words, raised_to}
 use Rattle.theory_rounds.specs.Evidence.{whole_problem, word_at}
 
 -- the words of evidence are those of an outcome: of a best one its word, of an unbounded one its word and its direction
-abbrev pub HasWords : (system : Equations) (z : Vector) (edge : Edge) (row : List ℤ) (v : Ext) → Reaches system z edge row v → Outcome → Type 0
+abbrev pub HasWords : (system : Equations) (z : Vector) (edge : Edge) (row : List ℤ) (v : Ext) → Reaches system z edge row v → Outcome
+    → Type 0
 HasWords system z edge row neg_inf h (best x v y) = ⊥
 HasWords system z edge row neg_inf h (unbounded x d) = ⊥
 HasWords system z edge row neg_inf h (empty y) = Unit {0}
@@ -44,7 +45,8 @@ raise_read fitting system z u (unbounded x d) =
     let row = row_of system u in
     record {
       kind = Ray;
-      items = with_words u (split system.variables (low_word system edge row (word_at system edge x) (word_at system edge d) (z u.point u.row)))
+      items = with_words u (split system.variables (low_word system edge row (word_at system edge x) (word_at system edge d)
+          (z u.point u.row)))
           (split system.variables (word_at system edge d))
           (lin (end_form system.variables edge.actions row) (word_at system edge d)) ∷ [];
     }

@@ -14,7 +14,8 @@ use Rattle.theory_strategy.proofs.round.RoundLaw.{RoundDone}
 use Rattle.theory_rounds.specs.JointItems.{exact_joint}
 use Rattle.theory_rounds.specs.Cut.{exact_cut}
 use Rattle.theory_rounds.specs.Agreement.{Agree}
-use Rattle.theory_rounds.specs.Rounds.{Choice, TakesOne, Goes, exact_next, exact_grow, exact_grown, exact_rising, exact_round, exact_round_steps}
+use Rattle.theory_rounds.specs.Rounds.{Choice, TakesOne, Goes, exact_next, exact_grow, exact_grown, exact_rising, exact_round}
+use Rattle.theory_rounds.specs.Rounds.{exact_round_steps}
 use Rattle.theory_rounds.specs.Rounds.{exact_state, exact_steps}
 use Rattle.theory_rounds.specs.Made.{exact_certificate}
 
@@ -54,12 +55,14 @@ pub record AfterRounds (fitting : ℚ → Bool) (system : Equations) (choose : �
   pub below : (q : Vector) → PostSolution system q → Below system (exact_state fitting system choose n).vector q
   pub least : exact_next system (choose n) (exact_state fitting system choose n).vector (exact_state fitting system choose n).pick ≡ None →
       Least system (exact_state fitting system choose n).vector
-  pub certified : exact_next system (choose n) (exact_state fitting system choose n).vector (exact_state fitting system choose n).pick ≡ None →
+  pub certified : exact_next system (choose n) (exact_state fitting system choose n).vector (exact_state fitting system choose n).pick
+      ≡ None →
       ValidCertificate system (exact_certificate fitting system choose n)
 
 -- with any choices among the edges whose transformers exceed the bound
 abbrev pub ChainsAreExact : Type 0
-ChainsAreExact = (fitting : ℚ → Bool) (system : Equations) → PointsInRange system → (choose : ℕ → Choice) → ((k : ℕ) → TakesOne (choose k)) → (n : ℕ) →
+ChainsAreExact = (fitting : ℚ → Bool) (system : Equations) → PointsInRange system → (choose : ℕ → Choice) → ((k : ℕ) → TakesOne (choose k))
+    → (n : ℕ) →
     ((k : ℕ) → k < n → Goes system (choose k) (exact_state fitting system choose k)) → AfterRounds fitting system choose n
 
 -- a number of rounds that are all made, and after which no transformer exceeds its bound
@@ -67,7 +70,8 @@ pub record AllRounds (fitting : ℚ → Bool) (system : Equations) (choose : ℕ
   pub rounds : ℕ
   pub few : rounds < pick_count system
   pub made : (k : ℕ) → k < rounds → Goes system (choose k) (exact_state fitting system choose k)
-  pub ended : exact_next system (choose rounds) (exact_state fitting system choose rounds).vector (exact_state fitting system choose rounds).pick ≡ None
+  pub ended : exact_next system (choose rounds) (exact_state fitting system choose rounds).vector
+      (exact_state fitting system choose rounds).pick ≡ None
 
 -- the rounds end with any choices
 abbrev pub RoundsEnd : Type 0
@@ -84,4 +88,5 @@ pub record SameFrom (fitting : ℚ → Bool) (system : Equations) (d e : Vector)
 
 -- the same steps are made, to vectors that agree, and the next pick is the same
 abbrev pub RowsDecide : Type 0
-RowsDecide = (fitting : ℚ → Bool) (system : Equations) (pick : Pick) → IsPick system pick → (d e : Vector) → Agree system d e → SameFrom fitting system d e pick
+RowsDecide = (fitting : ℚ → Bool) (system : Equations) (pick : Pick) → IsPick system pick → (d e : Vector) → Agree system d e
+    → SameFrom fitting system d e pick

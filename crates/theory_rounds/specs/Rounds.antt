@@ -62,11 +62,13 @@ module _ (fitting : ℚ → Bool) (system : Equations) where
 
   -- the steps of a round by a pick
   abbrev pub exact_round_steps : Vector → Pick → List Step
-  exact_round_steps d pick = round_steps fitting system (transformer system) (exact_evidence system) (exact_joint system) (exact_cut fitting system) d pick
+  exact_round_steps d pick = round_steps fitting system (transformer system) (exact_evidence system) (exact_joint system)
+      (exact_cut fitting system) d pick
 
   -- the vector after a round by a pick
   abbrev pub exact_round : Vector → Pick → Vector
-  exact_round d pick = round fitting system (transformer system) (exact_evidence system) (exact_joint system) (exact_cut fitting system) d pick
+  exact_round d pick = round fitting system (transformer system) (exact_evidence system) (exact_joint system) (exact_cut fitting system) d
+      pick
 
   -- the vector and the pick after so many rounds by the choices of rounds
   abbrev pub exact_state : (ℕ → Choice) → ℕ → State

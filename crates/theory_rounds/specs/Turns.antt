@@ -32,8 +32,10 @@ module _ (joint : Vector → List Item → Outcome) where
   -- the turns of the parts in order, after k others
   unfoldable pub parts_turns : ℕ → Vector → List (List Item) → List Turn
   parts_turns k b [] = []
-  parts_turns k b (list ∷ lists) = let steps = part joint (length list) b list in part_turns (length list) k b list ++ parts_turns (k + length steps) (after_steps steps b) lists
+  parts_turns k b (list ∷ lists) = let steps = part joint (length list) b list in
+      part_turns (length list) k b list ++ parts_turns (k + length steps) (after_steps steps b) lists
 
 -- the turns of the round by a pick
 unfoldable pub exact_turns : (ℚ → Bool) → Equations → Vector → Pick → List Turn
-exact_turns fitting system d pick = parts_turns (exact_joint system pick) 0 (exact_grown fitting system d pick) (exact_cut fitting system d pick)
+exact_turns fitting system d pick = parts_turns (exact_joint system pick) 0 (exact_grown fitting system d pick)
+    (exact_cut fitting system d pick)

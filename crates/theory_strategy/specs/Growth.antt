@@ -25,7 +25,8 @@ Evident system T = (z : Vector) (edge : Edge) (row : List ℤ) → Reaches syste
 abbrev pub Sizes : (system : Equations) (z : Vector) (edge : Edge) (row : List ℤ) (v : Ext) → Reaches system z edge row v → Type 0
 Sizes system z edge row neg_inf h = Unit {0}
 Sizes system z edge row (fin c) h = length h.1.0 ≡ width system.variables edge.actions
-Sizes system z edge row pos_inf h = (length h.word ≡ width system.variables edge.actions) × (length h.direction ≡ width system.variables edge.actions)
+Sizes system z edge row pos_inf h = (length h.word ≡ width system.variables edge.actions)
+    × (length h.direction ≡ width system.variables edge.actions)
 
 -- the least integer above a bound where it fits and is below the transformer, else the midpoint
 unfoldable pub between : (ℚ → Bool) → ℚ → ℚ → ℚ
@@ -42,7 +43,8 @@ unfoldable pub ray_low : (system : Equations) (z : Vector) (edge : Edge) (row : 
 ray_low system z edge row u neg_inf = u.word
 ray_low system z edge row u (fin b) =
     let e = end_value system edge row u.word in
-    if lt_ℚ b e then u.word else moved u.word (whole (floor ((b -ℚ e) /ℚ lin (end_form system.variables edge.actions row) u.direction) +ℤ pos 1)) u.direction
+    if lt_ℚ b e then u.word else moved u.word (whole (floor ((b -ℚ e) /ℚ lin (end_form system.variables edge.actions row) u.direction)
+    +ℤ pos 1)) u.direction
 ray_low system z edge row u pos_inf = u.word
 
 -- a word's start values and free values
@@ -54,7 +56,8 @@ unfoldable pub with_words : Item → Pieces → Pieces → ℚ → Item
 with_words u low second number = record { point = u.point; row = u.row; edge = u.edge; low = low; second = second; number = number }
 
 -- the step that raises an unknown towards its transformer
-unfoldable pub raise : (ℚ → Bool) → (system : Equations) (z : Vector) (u : Item) (v : Ext) → Reaches system z (edge_of system u) (row_of system u) v → Step
+unfoldable pub raise : (ℚ → Bool) → (system : Equations) (z : Vector) (u : Item) (v : Ext)
+    → Reaches system z (edge_of system u) (row_of system u) v → Step
 raise fitting system z u neg_inf h = record { kind = Plain; items = [] }
 raise fitting system z u (fin c) h = record {
   kind = Plain;
@@ -85,7 +88,8 @@ go step log = record { steps = step ∷ log.steps; left = log.left }
 -- a log that goes on where something was raised
 unfoldable pub continue : List Step → Log → Vector → (Vector → List Item → Log) → Log
 continue [] log z next = log
-continue (step ∷ steps) log z next = let rest = next (after_steps log.steps z) log.left in record { steps = log.steps ++ rest.steps; left = rest.left }
+continue (step ∷ steps) log z next = let rest = next (after_steps log.steps z) log.left in
+    record { steps = log.steps ++ rest.steps; left = rest.left }
 
 module _ (fitting : ℚ → Bool) (system : Equations) (T : Transformer) (reaches : Evident system T) where
   -- the raise of an unknown towards its transformer

@@ -16,7 +16,8 @@ pub record Unknown : Type 0 where
 
 -- points and then rows in order
 unfoldable pub unknowns : Equations → List Unknown
-unknowns system = flat_map (λ p. map (λ r. record { point = p; row = r }) (range_with_len 0 (length system.template))) (range_with_len 0 system.points)
+unknowns system = flat_map (λ p. map (λ r. record { point = p; row = r }) (range_with_len 0 (length system.template)))
+    (range_with_len 0 system.points)
 
 -- the product over all unknowns of 1 + the number of edges into its point
 unfoldable pub pick_count : Equations → ℕ

@@ -57,7 +57,15 @@ Improves system T d pick better =
 
 -- an item that stands for an unknown and an edge
 unfoldable pub choice : ℕ → ℕ → ℕ → Item
-choice p r k = record { point = p; row = r; edge = k; low = record { start = []; free = [] }; second = record { start = []; free = [] }; number = zero_ℚ }
+choice p r k = record {
+  point = p;
+  row = r;
+  edge = k;
+  low = record { start = []; free = [] };
+  second =
+      record { start = []; free = [] };
+  number = zero_ℚ;
+}
 
 -- the choice at an unknown, if any
 unfoldable pub choice_at : ℕ → ℕ → Option ℕ → List Item
@@ -66,4 +74,5 @@ choice_at p r None = []
 
 -- a pick's choices, in order of unknowns
 unfoldable pub choices : Equations → Pick → List Item
-choices system pick = flat_map (λ p. flat_map (λ r. choice_at p r (pick p r)) (range_with_len 0 (length system.template))) (range_with_len 0 system.points)
+choices system pick = flat_map (λ p. flat_map (λ r. choice_at p r (pick p r)) (range_with_len 0 (length system.template)))
+    (range_with_len 0 system.points)

@@ -13,7 +13,8 @@ module _ (system : Equations) (T : Transformer) (d : Vector) where
   exceeding p r k [] = []
   exceeding p r k (edge ∷ edges) =
       if eqb edge.to p
-      then ⊎_elim (λ h. exceeding p r (suc k) edges) (λ h. k ∷ exceeding p r (suc k) edges) (ext_le_or_lt (T d edge (get_or system.template r [])) (d p r))
+      then ⊎_elim (λ h. exceeding p r (suc k) edges) (λ h. k ∷ exceeding p r (suc k) edges)
+      (ext_le_or_lt (T d edge (get_or system.template r [])) (d p r))
       else exceeding p r (suc k) edges
 
   -- the offers at an unknown

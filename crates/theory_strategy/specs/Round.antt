@@ -6,7 +6,8 @@ use Rattle.base_numbers.specs.Rational.{ℚ, zero_ℚ, ◌≤ℚ◌, ◌<ℚ◌}
 use Rattle.base_numbers.specs.Extended.{fin, ◌<ᴱ◌, Ext, neg_inf, pos_inf}
 use Rattle.flow_systems.specs.Equations.{Equations, Vector}
 use Rattle.theory_validity.specs.Words.{lin, start_form, end_form, Falls}
-use Rattle.theory_validity.specs.Steps.{Runs, Item, Step, Jump, Ray, edge_of, row_of, put, new_value, after_step, Unnamed, Distinct, Sized, item_value, word}
+use Rattle.theory_validity.specs.Steps.{Runs, Item, Step, Jump, Ray, edge_of, row_of, put, new_value, after_step, Unnamed, Distinct, Sized}
+use Rattle.theory_validity.specs.Steps.{item_value, word}
 use Rattle.theory_validity.specs.Certificates.{after_steps}
 use Rattle.theory_validity.proofs.steps.Puts.{named_or_not}
 use Rattle.theory_strategy.specs.Picks.{Pick, Transformer, value_at, Picks}
@@ -52,10 +53,12 @@ pub record RayFacts (system : Equations) (b : Vector) (list items : List Item) :
   pub rate : (v : Item) → In items v → zero_ℚ <ℚ v.number
   pub named : (v : Item) → In items v → (other : Item) → In items other → other.point ≡ (edge_of system v).from →
       lin (start_form system.variables (row_of system other)) (word v.second) ≤ℚ other.number
-  pub others : (v : Item) → In items v → (r : ℕ) (row : List ℤ) (bound : ℚ) → slice_get system.template r ≡ Some row → Unnamed items (edge_of system v).from r →
+  pub others : (v : Item) → In items v → (r : ℕ) (row : List ℤ) (bound : ℚ) → slice_get system.template r ≡ Some row
+      → Unnamed items (edge_of system v).from r →
       b (edge_of system v).from r ≡ fin bound → lin (start_form system.variables row) (word v.second) ≤ℚ zero_ℚ
   pub falls : (v : Item) → In items v → Falls system.variables (edge_of system v).actions (word v.second)
-  pub gains : (v : Item) → In items v → v.number ≤ℚ lin (end_form system.variables (edge_of system v).actions (row_of system v)) (word v.second)
+  pub gains : (v : Item) → In items v → v.number ≤ℚ lin (end_form system.variables (edge_of system v).actions (row_of system v))
+      (word v.second)
 
 -- the facts of an outcome
 abbrev pub OutcomeFacts : Equations → Transformer → Vector → List Item → Outcome → Type 0
@@ -70,7 +73,8 @@ without items (u ∷ us) = ⊎_elim (λ h. without items us) (λ h. u ∷ withou
 -- the step of a turn, and the steps of the turns after it
 unfoldable pub turn : Outcome → Vector → List Item → (Vector → List Item → List Step) → List Step
 turn (Point items) b list next = record { kind = Jump; items = items } ∷ []
-turn (Rays items) b list next = record { kind = Ray; items = items } ∷ next (after_step (record { kind = Ray; items = items }) b) (without items list)
+turn (Rays items) b list next = record { kind = Ray; items = items } ∷ next (after_step (record { kind = Ray; items = items }) b)
+    (without items list)
 
 module _ (joint : Vector → List Item → Outcome) where
   -- the turns of a part, at most n
@@ -94,7 +98,8 @@ abbrev pub Admissible : Equations → List (List Item) → Type 0
 Admissible system [] = Unit {0}
 Admissible system (list ∷ lists) =
     Distinct list × ((u : Item) → In list u → Unnamed (members lists) u.point u.row)
-    × ((u : Item) → In list u → (r : ℕ) → r < length system.template → Unnamed (members lists) (edge_of system u).from r) × Admissible system lists
+    × ((u : Item) → In list u → (r : ℕ) → r < length system.template → Unnamed (members lists) (edge_of system u).from r)
+    × Admissible system lists
 
 -- an item in front where its number is finite
 unfoldable pub keep : Ext → Item → List Item → List Item
@@ -119,4 +124,5 @@ module _ (fitting : ℚ → Bool) (system : Equations) (T : Transformer) (reache
 
     -- the vector at its end
     unfoldable pub round : Vector → Pick → Vector
-    round d pick = let steps = grow fitting system T reaches d pick in after_steps (turns (joint pick) (after_steps steps d) (cut d pick)) (after_steps steps d)
+    round d pick = let steps = grow fitting system T reaches d pick in
+        after_steps (turns (joint pick) (after_steps steps d) (cut d pick)) (after_steps steps d)

@@ -12,7 +12,8 @@ pub record State : Type 0 where
   pub vector : Vector
   pub pick : Pick
 
-module _ (fitting : ℚ → Bool) (system : Equations) (T : Transformer) (reaches : Evident system T) (joint : Pick → Vector → List Item → Outcome) (cut : Vector → Pick → List (List Item)) where
+module _ (fitting : ℚ → Bool) (system : Equations) (T : Transformer) (reaches : Evident system T)
+    (joint : Pick → Vector → List Item → Outcome) (cut : Vector → Pick → List (List Item)) where
   -- the state after a round by a pick, or the same state where there is none
   unfoldable pub next : Option Pick → State → State
   next None s = s

@@ -18,7 +18,8 @@ source_limit embed n pos_inf row rest = rest
 -- the template rows whose bound is finite, with that bound as side
 unfoldable pub source_limits : (ℕ → List ℚ → List ℚ) → ℕ → (ℕ → Ext) → List (List ℤ) → List Limit
 source_limits embed n bounds [] = []
-source_limits embed n bounds (row ∷ rows) = source_limit (embed 0) n (bounds 0) row (source_limits (λ r. embed (suc r)) n (λ r. bounds (suc r)) rows)
+source_limits embed n bounds (row ∷ rows) = source_limit (embed 0) n (bounds 0) row
+    (source_limits (λ r. embed (suc r)) n (λ r. bounds (suc r)) rows)
 
 -- the guards, with the negated constant as side
 unfoldable pub guard_limits : (List ℚ → List ℚ) → List Affine → List Limit
@@ -28,7 +29,8 @@ guard_limits embed (g ∷ gs) = record { coeffs = embed g.coeffs; side = neg_ℚ
 -- the rows of an edge's problem: those of its source, and then its guards
 unfoldable pub edge_limits : Equations → Vector → Edge → List Limit
 edge_limits system z edge =
-    source_limits (λ r u. u) system.variables (z edge.from) system.template ++ guard_limits (λ u. u) (guard_forms system.variables edge.actions)
+    source_limits (λ r u. u) system.variables (z edge.from) system.template
+    ++ guard_limits (λ u. u) (guard_forms system.variables edge.actions)
 
 -- the problem over a word's columns, of any sign: `split_problem` of it is the one over split columns
 unfoldable pub edge_problem : Equations → Vector → Edge → List ℤ → Problem

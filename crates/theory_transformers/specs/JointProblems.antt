@@ -1,5 +1,6 @@
 -- The joint problem of a list of unknowns with picked edges at a base vector.
-use Rattle.std.specs.Prelude.{◌≡◌, ℕ, zero, suc, ◌+◌, ◌&&◌, eqb, Bool, ℤ, List, [], ◌∷◌, ◌++◌, length, get_or, slice_get, Some, if◌then◌else◌}
+use Rattle.std.specs.Prelude.{◌≡◌, ℕ, zero, suc, ◌+◌, ◌&&◌, eqb, Bool, ℤ, List, [], ◌∷◌, ◌++◌, length, get_or, slice_get, Some}
+use Rattle.std.specs.Prelude.{if◌then◌else◌}
 use Rattle.base_numbers.specs.Rational.{ℚ, zero_ℚ, one_ℚ, ◌+ℚ◌, ◌-ℚ◌, neg_ℚ, ◌≤ℚ◌}
 use Rattle.base_numbers.specs.Vector.{scale_vec, zeros}
 use Rattle.base_numbers.specs.Extended.{Ext, neg_inf, fin, pos_inf, ◌≤ᴱ◌, ◌<ᴱ◌}
@@ -94,12 +95,14 @@ word_columns system (u ∷ rest) = (columns_of system u + columns_of system u) +
 
 -- the rises and then the split columns of each picked edge; the goal is the sum of the rises
 unfoldable pub joint_problem : Equations → Vector → List Listed → Problem
-joint_problem system b list = limits_problem (length list + word_columns system list) (joint_limits system b list 0 list) (ones (length list))
+joint_problem system b list = limits_problem (length list + word_columns system list) (joint_limits system b list 0 list)
+    (ones (length list))
 
 -- the words that stand in a point behind the rises
 unfoldable pub words_of : Equations → List Listed → (ℕ → ℚ) → List Word
 words_of system [] x = []
-words_of system (u ∷ rest) x = tabulate (columns_of system u) (unsplit x) ∷ words_of system rest (shift (columns_of system u + columns_of system u) x)
+words_of system (u ∷ rest) x = tabulate (columns_of system u) (unsplit x)
+    ∷ words_of system rest (shift (columns_of system u + columns_of system u) x)
 
 -- the words of a joint problem's point
 unfoldable pub joint_words : Equations → List Listed → (ℕ → ℚ) → List Word
@@ -127,7 +130,8 @@ abbrev pub AllRising : Equations → Vector → List Listed → Type 0
 AllRising system b [] = Unit {0}
 AllRising system b (u ∷ rest) = Rising system b u × AllRising system b rest
 
--- along a direction, with a rate for each listed unknown: a finite source row rises at most by its own rate, no guard rises, and the end value rises
+-- along a direction, with a rate for each listed unknown: a finite source row rises at most by its own rate, no guard rises, and the end
+-- value rises
 -- at least by the unknown's rate
 pub record Follows (system : Equations) (b : Vector) (all : List Listed) (rates : ℕ → ℚ) (u : Listed) (d : Word) : Type 0 where
   pub still : (r : ℕ) (row : List ℤ) (bound : ℚ) → slice_get system.template r ≡ Some row → b (picked system u).from r ≡ fin bound →

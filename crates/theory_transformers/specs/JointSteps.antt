@@ -41,7 +41,15 @@ pieces n w = record { start = take n w; free = drop n w }
 
 -- the item of a step that an unknown's words and number make
 unfoldable pub item_of : ℕ → Listed → Word → Word → ℚ → Item
-item_of n u low second number = record { point = u.point; row = u.row; edge = u.edge; low = pieces n low; second = pieces n second; number = number }
+item_of n u low second number = record {
+  point = u.point;
+  row = u.row;
+  edge = u.edge;
+  low = pieces n low;
+  second = pieces n second;
+  number =
+      number;
+}
 
 -- the items of a jump: each listed unknown with its low and high word and its number at the vector reached
 unfoldable pub jump_items : ℕ → Vector → List Listed → List Word → List Word → List Item

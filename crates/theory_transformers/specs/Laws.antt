@@ -19,7 +19,8 @@ TransformersAreSuprema = (system : Equations) (z : Vector) (edge : Edge) (row : 
 
 -- it has its evidence: a word that reaches it, a word and a direction without end, or multipliers
 abbrev pub TransformersAreReached : Type 0
-TransformersAreReached = (system : Equations) (z : Vector) (edge : Edge) (row : List ℤ) → Reaches system z edge row (transformer system z edge row)
+TransformersAreReached = (system : Equations) (z : Vector) (edge : Edge) (row : List ℤ)
+    → Reaches system z edge row (transformer system z edge row)
 
 -- it depends on the bounds at the edge's source alone
 abbrev pub TransformersAreLocal : Type 0

@@ -1,5 +1,6 @@
 -- The cut of a list of picked unknowns into parts by dependence, in order.
-use Rattle.std.specs.Prelude.{◌≡◌, ℕ, zero, suc, ◌<◌, ◌&&◌, ◌||◌, not, eqb, Bool, true, false, List, [], ◌∷◌, ◌++◌, length, Option, Some, None, if◌then◌else◌}
+use Rattle.std.specs.Prelude.{◌≡◌, ℕ, zero, suc, ◌<◌, ◌&&◌, ◌||◌, not, eqb, Bool, true, false, List, [], ◌∷◌, ◌++◌, length, Option, Some}
+use Rattle.std.specs.Prelude.{None, if◌then◌else◌}
 use Rattle.std.proofs.Common.{◌⊎◌}
 use Rattle.base_facts.specs.Elements.{In}
 use Rattle.flow_systems.specs.Equations.{Equations}
@@ -44,7 +45,8 @@ first_of f (u ∷ list) = if f u then Some u else first_of f list
 
 -- whether, among the unknowns not yet placed, all members of an unknown's part lean only on the part itself
 unfoldable pub ready : Equations → List Listed → List Listed → Listed → Bool
-ready system list rest u = all_in (λ v. not (together system list u v) || all_in (λ w. not (leans system v w) || together system list u w) rest) rest
+ready system list rest u = all_in (λ v. not (together system list u v)
+    || all_in (λ w. not (leans system v w) || together system list u w) rest) rest
 
 -- the part of an unknown, and then those of the unknowns left
 unfoldable pub part_before : Equations → List Listed → List Listed → (List Listed → List (List Listed)) → Option Listed → List (List Listed)
@@ -69,7 +71,8 @@ InSome (part ∷ more) u = In part u ⊎ InSome more u
 abbrev pub Admissible : Equations → List Listed → List Listed → List (List Listed) → Type 0
 Admissible system list placed [] = Unit {0}
 Admissible system list placed (part ∷ more) =
-    ((u v : Listed) → In part u → In list v → leans system u v ≡ true → In part v ⊎ In placed v) × Admissible system list (placed ++ part) more
+    ((u v : Listed) → In part u → In list v → leans system u v ≡ true → In part v ⊎ In placed v)
+    × Admissible system list (placed ++ part) more
 
 -- the members of one part reach each other, and no member of a later part
 abbrev pub AreClasses : Equations → List Listed → List (List Listed) → Type 0

@@ -1,5 +1,6 @@
 -- Evidence of upper bounds, and what makes a certificate valid.
-use Rattle.std.specs.Prelude.{◌≡◌, ℕ, suc, ◌+◌, ◌-◌, ◌*◌, ◌<◌, eqb, ℤ, List, [], ◌∷◌, length, map, get_or, if◌then◌else◌, Contains, flat_map}
+use Rattle.std.specs.Prelude.{◌≡◌, ℕ, suc, ◌+◌, ◌-◌, ◌*◌, ◌<◌, eqb, ℤ, List, [], ◌∷◌, length, map, get_or, if◌then◌else◌, Contains}
+use Rattle.std.specs.Prelude.{flat_map}
 use Rattle.std.specs.List.{range_with_len}
 use Rattle.base_numbers.specs.Rational.{ℚ, zero_ℚ, ◌+ℚ◌, ◌*ℚ◌, neg_ℚ, ◌≤ℚ◌, ◌<ℚ◌}
 use Rattle.base_numbers.specs.Extended.{Ext, neg_inf, fin, pos_inf}
@@ -69,7 +70,8 @@ pub record BoundPasses (system : Equations) (z : Vector) (edge : Edge) (row : Li
   pub multipliers : Multipliers system z edge rows guards
   pub limit : ℚ
   pub finite : number ≡ fin limit
-  pub same : SameColumns (width system.variables edge.actions) (combination system edge rows guards) (end_form system.variables edge.actions row).coeffs
+  pub same : SameColumns (width system.variables edge.actions) (combination system edge rows guards)
+      (end_form system.variables edge.actions row).coeffs
   pub small : side system z edge rows guards +ℚ (end_form system.variables edge.actions row).constant ≤ℚ limit
 
 -- the combination is 0 on every column and the side is negative: nothing runs
@@ -107,9 +109,11 @@ needs_at system p r neg_inf = into_needs p r 0 system.edges
 needs_at system p r (fin c) = into_needs p r 0 system.edges
 needs_at system p r pos_inf = []
 
--- for each unknown that isn't at the entry and whose bound isn't +∞, in order of number, each edge that ends at its point, in order of number
+-- for each unknown that isn't at the entry and whose bound isn't +∞, in order of number, each edge that ends at its point, in order of
+-- number
 unfoldable pub needs : Equations → Vector → List Need
-needs system z = flat_map (λ p. flat_map (λ r. needs_at system p r (z p r)) (range_with_len 0 (length system.template))) (range_with_len 1 (system.points - 1))
+needs system z = flat_map (λ p. flat_map (λ r. needs_at system p r (z p r)) (range_with_len 0 (length system.template)))
+    (range_with_len 1 (system.points - 1))
 
 -- there is one piece of evidence for each need, in order, and it passes
 abbrev pub AllPass : Equations → Vector → List Need → List Evidence → Type 0
@@ -145,7 +149,8 @@ pub record ValidCertificate (system : Equations) (certificate : Certificate) : T
   pub steps : ValidSteps system start_vector certificate.steps
   pub final : (p r : ℕ) → p < system.points → r < length system.template →
       after_steps certificate.steps start_vector p r ≡ bounds_vector system certificate.bounds p r
-  pub uppers : AllPass system (bounds_vector system certificate.bounds) (needs system (bounds_vector system certificate.bounds)) certificate.uppers
+  pub uppers : AllPass system (bounds_vector system certificate.bounds) (needs system (bounds_vector system certificate.bounds))
+      certificate.uppers
 
 -- an entry is there, and each edge ends at a point
 pub record PointsInRange (system : Equations) : Type 0 where

@@ -10,11 +10,14 @@ use Rattle.base_numbers.proofs.rational.Laws.{ℚ_discrete}
 use Rattle.flow_edges.specs.declared.edge.Edge.{Edge}
 use Rattle.flow_systems.specs.Equations.{Equations, Vector}
 use Rattle.theory_validity.specs.Words.{lin, width, free_count, guard_forms, start_form, end_form, Falls}
-use Rattle.theory_validity.specs.Steps.{Pieces, word, Runs, Item, Kind, Plain, Jump, Ray, Step, edge_of, row_of, put, new_value, after_step, Placed}
+use Rattle.theory_validity.specs.Steps.{Pieces, word, Runs, Item, Kind, Plain, Jump, Ray, Step, edge_of, row_of, put, new_value, after_step}
+use Rattle.theory_validity.specs.Steps.{Placed}
 use Rattle.theory_validity.specs.Steps.{Unnamed, Sized, item_value, start_vector}
-use Rattle.theory_validity.specs.Certificates.{Evidence, Bound, Empty, Unreached, NotFinite, combination, side, SameColumns, Multipliers, EvidencePasses}
+use Rattle.theory_validity.specs.Certificates.{Evidence, Bound, Empty, Unreached, NotFinite, combination, side, SameColumns, Multipliers}
+use Rattle.theory_validity.specs.Certificates.{EvidencePasses}
 use Rattle.theory_validity.specs.Certificates.{Need, needs, after_steps, Certificate, bounds_vector}
-use Rattle.theory_validity.specs.Decide.{dec_and, dec_imp, dec_by, dec_le_ℚ, dec_lt_ℚ, dec_leᴱ, dec_ltᴱ, dec_finite, dec_not_finite, ext_same, dec_all_in}
+use Rattle.theory_validity.specs.Decide.{dec_and, dec_imp, dec_by, dec_le_ℚ, dec_lt_ℚ, dec_leᴱ, dec_ltᴱ, dec_finite, dec_not_finite}
+use Rattle.theory_validity.specs.Decide.{ext_same, dec_all_in}
 use Rattle.theory_validity.specs.Decide.{dec_rows, dec_below, dec_nonneg, dec_unnamed, dec_falls, dec_runs}
 
 -- which test fails first: by step and item, or by unknown and edge
@@ -41,16 +44,19 @@ SecondSized Jump system item = Sized system item item.second
 SecondSized Ray system item = Sized system item item.second
 
 dec_sized : (system : Equations) (item : Item) (t : Pieces) → Dec (Sized system item t)
-dec_sized system item t = dec_and (ℕ_discrete (length t.start) system.variables) (ℕ_discrete (length t.free) (free_count (edge_of system item).actions))
+dec_sized system item t = dec_and (ℕ_discrete (length t.start) system.variables)
+    (ℕ_discrete (length t.free) (free_count (edge_of system item).actions))
 
 dec_second_sized : (kind : Kind) (system : Equations) (item : Item) → Dec (SecondSized kind system item)
 dec_second_sized Plain system item = yes tt
 dec_second_sized Jump system item = dec_sized system item item.second
 dec_second_sized Ray system item = dec_sized system item item.second
 
--- the unknown is in range, not at the entry and named by no earlier item, the edge is there and ends at its point, and the words have the edge's lengths
+-- the unknown is in range, not at the entry and named by no earlier item, the edge is there and ends at its point, and the words have the
+-- edge's lengths
 abbrev pub Named : Kind → Equations → List Item → Item → Type 0
-Named kind system earlier item = Placed system item × (Unnamed earlier item.point item.row × (Sized system item item.low × SecondSized kind system item))
+Named kind system earlier item = Placed system item × (Unnamed earlier item.point item.row
+    × (Sized system item item.low × SecondSized kind system item))
 
 dec_placed : (system : Equations) (item : Item) → Dec (Placed system item)
 dec_placed system item = dec_by
@@ -72,7 +78,8 @@ bound_at z item = z item.point item.row
 -- an item's tests at the vector
 unfoldable pub first_tests : Kind → Equations → Vector → List Item → ℕ → ℕ → Item → Option Fault → Option Fault
 first_tests Plain system z earlier s k item next =
-    unless (dec_named Plain system earlier item) (TraceFault s k) (unless (dec_runs system z (edge_of system item) (word item.low)) (TraceFault s k)
+    unless (dec_named Plain system earlier item) (TraceFault s k) (unless (dec_runs system z (edge_of system item) (word item.low))
+    (TraceFault s k)
     (unless (dec_ltᴱ (bound_at z item) (fin item.number)) (LowFault s k)
     (unless (dec_le_ℚ item.number (item_value system item (word item.low))) (LowFault s k) next)))
 first_tests Jump system z earlier s k item next =
@@ -87,7 +94,8 @@ first_tests Ray system z earlier s k item next =
 -- the tests of the items in order; those before are kept
 unfoldable pub first_pass : Kind → Equations → Vector → ℕ → ℕ → List Item → List Item → Option Fault
 first_pass kind system z s k earlier [] = None
-first_pass kind system z s k earlier (item ∷ items) = first_tests kind system z earlier s k item (first_pass kind system z s (suc k) (item ∷ earlier) items)
+first_pass kind system z s k earlier (item ∷ items) = first_tests kind system z earlier s k item
+    (first_pass kind system z s (suc k) (item ∷ earlier) items)
 
 -- along a ray's direction
 abbrev pub RiseNamed : Equations → List Item → Item → Item → Type 0
@@ -115,7 +123,8 @@ dec_goes system z items item =
     (dec_le_ℚ (lin (start_form system.variables (row_of system other)) (word item.second)) other.number)) items)
     (dec_and (dec_rows {P = RiseOther system z items item}
     (λ r row. dec_imp (dec_unnamed items (edge_of system item).from r)
-    (dec_imp (dec_finite (z (edge_of system item).from r)) (dec_le_ℚ (lin (start_form system.variables row) (word item.second)) zero_ℚ))) system.template)
+    (dec_imp (dec_finite (z (edge_of system item).from r)) (dec_le_ℚ (lin (start_form system.variables row) (word item.second)) zero_ℚ)))
+    system.template)
     (dec_and (dec_falls system (edge_of system item) (word item.second))
     (dec_le_ℚ item.number (lin (end_form system.variables (edge_of system item).actions (row_of system item)) (word item.second))))))
 
@@ -127,7 +136,8 @@ Lands system z p item = (bound_at z item ≤ᴱ fin item.number)
 -- whether they pass
 pub dec_lands : (system : Equations) (z p : Vector) (item : Item) → Dec (Lands system z p item)
 dec_lands system z p item = dec_and (dec_leᴱ (bound_at z item) (fin item.number))
-    (dec_and (dec_runs system p (edge_of system item) (word item.second)) (dec_le_ℚ item.number (item_value system item (word item.second))))
+    (dec_and (dec_runs system p (edge_of system item) (word item.second))
+    (dec_le_ℚ item.number (item_value system item (word item.second))))
 
 -- the tests after all items have passed
 unfoldable pub second_pass : Kind → Equations → Vector → List Item → ℕ → ℕ → List Item → Option Fault
@@ -135,11 +145,13 @@ second_pass kind system z all s k [] = None
 second_pass Plain system z all s k (item ∷ items) = None
 second_pass Jump system z all s k (item ∷ items) =
     unless (dec_lands system z (put (new_value Jump) all z) item) (HighFault s k) (second_pass Jump system z all s (suc k) items)
-second_pass Ray system z all s k (item ∷ items) = unless (dec_goes system z all item) (RayFault s k) (second_pass Ray system z all s (suc k) items)
+second_pass Ray system z all s k (item ∷ items) = unless (dec_goes system z all item) (RayFault s k)
+    (second_pass Ray system z all s (suc k) items)
 
 -- the first failing test of a step, with the step's number
 unfoldable pub step_fault : Equations → Vector → ℕ → Step → Option Fault
-step_fault system z s step = and_then (first_pass step.kind system z s 0 [] step.items) (second_pass step.kind system z step.items s 0 step.items)
+step_fault system z s step = and_then (first_pass step.kind system z s 0 [] step.items)
+    (second_pass step.kind system z step.items s 0 step.items)
 
 -- the first failing test of steps that follow each other
 unfoldable pub steps_fault : Equations → Vector → ℕ → List Step → Option Fault
@@ -161,13 +173,15 @@ dec_multipliers : (system : Equations) (z : Vector) (edge : Edge) (rows guards :
 dec_multipliers system z edge rows guards = dec_by
     (λ p. record { row_count = p.0; guard_count = p.1.0; rows_nonneg = p.1.1.0; guards_nonneg = p.1.1.1.0; zero_where = p.1.1.1.1 })
     (λ h. (h.row_count, (h.guard_count, (h.rows_nonneg, (h.guards_nonneg, h.zero_where)))))
-    (dec_and (ℕ_discrete (length rows) (length system.template)) (dec_and (ℕ_discrete (length guards) (length (guard_forms system.variables edge.actions)))
+    (dec_and (ℕ_discrete (length rows) (length system.template)) (dec_and
+    (ℕ_discrete (length guards) (length (guard_forms system.variables edge.actions)))
     (dec_and (dec_nonneg rows) (dec_and (dec_nonneg guards)
     (dec_below {P = λ r. NotFinite (z edge.from r) → get_or rows r zero_ℚ ≡ zero_ℚ}
     (λ r. dec_imp (dec_not_finite (z edge.from r)) (ℚ_discrete (get_or rows r zero_ℚ) zero_ℚ)) (length system.template))))))
 
 dec_same_columns : (n : ℕ) (u v : List ℚ) → Dec (SameColumns n u v)
-dec_same_columns n u v = dec_below {P = λ k. get_or u k zero_ℚ ≡ get_or v k zero_ℚ} (λ k. ℚ_discrete (get_or u k zero_ℚ) (get_or v k zero_ℚ)) n
+dec_same_columns n u v = dec_below {P = λ k. get_or u k zero_ℚ ≡ get_or v k zero_ℚ}
+    (λ k. ℚ_discrete (get_or u k zero_ℚ) (get_or v k zero_ℚ)) n
 
 dec_limited : (v : Ext) (x : ℚ) → Dec ((limit : ℚ) × (v ≡ fin limit) × (x ≤ℚ limit))
 dec_limited v x = by (dec_finite v)
@@ -186,7 +200,8 @@ dec_evidence system z edge row number (Bound rows guards) = dec_by
     (λ p. record { multipliers = p.0; limit = p.1.1.0; finite = p.1.1.1; same = p.1.0; small = p.1.1.2 })
     (λ h. (h.multipliers, (h.same, (h.limit, h.finite, h.small))))
     (dec_and (dec_multipliers system z edge rows guards) (dec_and
-    (dec_same_columns (width system.variables edge.actions) (combination system edge rows guards) (end_form system.variables edge.actions row).coeffs)
+    (dec_same_columns (width system.variables edge.actions) (combination system edge rows guards)
+    (end_form system.variables edge.actions row).coeffs)
     (dec_limited number (side system z edge rows guards +ℚ (end_form system.variables edge.actions row).constant))))
 dec_evidence system z edge row number (Empty rows guards) = dec_by
     (λ p. record { multipliers = p.0; same = p.1.0; negative = p.1.1 })

@@ -27,7 +27,8 @@ TracesHaveWords = (n : ℕ) (actions : List Action) (x y : RationalState) → le
 
 -- a valid step from a vector at most another one, which bounds the edges of the step's items, ends at most at that one
 abbrev pub StepsStayBelow : Type 0
-StepsStayBelow = (system : Equations) (z q : Vector) (step : Step) → ValidStep system z step → Below system z q → BoundsItems system q step.items →
+StepsStayBelow = (system : Equations) (z q : Vector) (step : Step) → ValidStep system z step → Below system z q
+    → BoundsItems system q step.items →
     Below system (after_step step z) q
 
 -- the bounds of a valid certificate are the least vector
@@ -37,4 +38,5 @@ CertificatesAreLeast = (system : Equations) (certificate : Certificate) → Poin
 
 -- the tests in order find no fault exactly where the certificate is valid
 abbrev pub FaultlessIsValid : Type 0
-FaultlessIsValid = (system : Equations) (certificate : Certificate) → (certificate_fault system certificate ≡ None) ↔ ValidCertificate system certificate
+FaultlessIsValid = (system : Equations) (certificate : Certificate) → (certificate_fault system certificate ≡ None)
+    ↔ ValidCertificate system certificate

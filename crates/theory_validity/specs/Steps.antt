@@ -1,5 +1,6 @@
 -- A certificate's steps as data, and when a step is valid at a vector.
-use Rattle.std.specs.Prelude.{◌≡◌, ℕ, zero, suc, ◌<◌, ◌&&◌, eqb, Bool, ℤ, List, [], ◌∷◌, ◌++◌, length, get_or, slice_get, if◌then◌else◌, Some}
+use Rattle.std.specs.Prelude.{◌≡◌, ℕ, zero, suc, ◌<◌, ◌&&◌, eqb, Bool, ℤ, List, [], ◌∷◌, ◌++◌, length, get_or, slice_get, if◌then◌else◌}
+use Rattle.std.specs.Prelude.{Some}
 use Rattle.base_facts.specs.Elements.{In}
 use Rattle.base_numbers.specs.Rational.{ℚ, zero_ℚ, ◌≤ℚ◌, ◌<ℚ◌}
 use Rattle.base_numbers.specs.Extended.{Ext, neg_inf, fin, pos_inf, ◌≤ᴱ◌, ◌<ᴱ◌}
@@ -34,7 +35,8 @@ pub record Pieces : Type 0 where
 abbrev pub word : Pieces → Word
 word t = t.start ++ t.free
 
--- an item of a step: an unknown, the number of an edge into its point, a trace along the edge, and a second trace and a number that the kinds read differently
+-- an item of a step: an unknown, the number of an edge into its point, a trace along the edge, and a second trace and a number that the
+-- kinds read differently
 pub record Item : Type 0 where
   pub point : ℕ
   pub row : ℕ
@@ -126,7 +128,8 @@ pub record JumpItem (system : Equations) (z p : Vector) (item : Item) : Type 0 w
   pub high_runs : Runs system p (edge_of system item) (word item.second)
   pub high_reaches : item.number ≤ℚ item_value system item (word item.second)
 
--- a ray's item: along the direction a row of the source that the step names rises at most by its rate, another with a finite bound not at all
+-- a ray's item: along the direction a row of the source that the step names rises at most by its rate, another with a finite bound not at
+-- all
 pub record RayItem (system : Equations) (z : Vector) (items : List Item) (item : Item) : Type 0 where
   pub low_size : Sized system item item.low
   pub direction_size : Sized system item item.second
@@ -155,7 +158,8 @@ pub record ValidStep (system : Equations) (z : Vector) (step : Step) : Type 0 wh
 
 -- a vector bounds the items of a step where each item's edge leads to at most the vector's number at its unknown
 abbrev pub BoundsItems : Equations → Vector → List Item → Type 0
-BoundsItems system q items = (item : Item) → In items item → Upper system q (edge_of system item) (row_of system item) (q item.point item.row)
+BoundsItems system q items = (item : Item) → In items item → Upper system q (edge_of system item) (row_of system item)
+    (q item.point item.row)
 
 -- +∞ at the entry, −∞ elsewhere
 unfoldable pub start_vector : Vector

@@ -20,7 +20,8 @@ pub record Unlimited (system : Equations) (z : Vector) (edge : Edge) (row : List
 -- evidence that a number is the transformer: nothing runs; or it is an upper bound that a word attains; or values are unlimited
 abbrev pub Reaches : Equations → Vector → Edge → List ℤ → Ext → Type 0
 Reaches system z edge row neg_inf = (w : Word) → Runs system z edge w → ⊥
-Reaches system z edge row (fin c) = Upper system z edge row (fin c) × ((w : Word) × Runs system z edge w × (end_value system edge row w ≡ c))
+Reaches system z edge row (fin c) = Upper system z edge row (fin c) × ((w : Word) × Runs system z edge w
+    × (end_value system edge row w ≡ c))
 Reaches system z edge row pos_inf = Unlimited system z edge row
 
 -- an upper bound that is at most every other

@@ -8,11 +8,11 @@ ghost use Rattle.top_run.specs.Outputs.{IsOutput, OutputGets};
 ghost use Rattle.top_status.specs.Status.{code_of};
 ghost use Rattle.top_status.specs.declared.status.Status.{Status};
 
+use base_files::{FileShelf, Shelf, Sink, StreamSink};
 use std::alloc::Global;
 use std::process::ExitCode;
 use std::rt::Env;
 use std::{env, io};
-use base_files::{FileShelf, Shelf, Sink, StreamSink};
 use top_run::{Exact, Meaning, run};
 
 /// The code of a system that doesn't give the program its words, for another cause than memory.
@@ -35,7 +35,8 @@ fn exit_of<S: Shelf, K: Sink, L: Sink>(
     err: &mut L,
 ) -> ExitCode
     ensures { (status : Status) × IsAnswer ⟦<Exact as Meaning>⟧.means (S.files shelf.old) (map string_bytes words.now) status
-        × OutputGets (IsOutput ⟦<Exact as Meaning>⟧.means (S.files shelf.old) (map string_bytes words.now)) status (K.held out.old) (K.held out.new)
+        × OutputGets (IsOutput ⟦<Exact as Meaning>⟧.means (S.files shelf.old) (map string_bytes words.now)) status (K.held out.old)
+        (K.held out.new)
         × (exit_status result ≡ code_of status) }
 {
     let status = run(alloc, words, shelf, out, err);

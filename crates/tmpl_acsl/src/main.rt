@@ -10,12 +10,12 @@ ghost use Rattle.top_run.specs.Outputs.{OutputGets};
 ghost use Rattle.top_status.specs.Status.{code_of};
 ghost use Rattle.top_status.specs.declared.status.Status.{Status};
 
+use acsl_annotate::annotate;
+use base_files::{FileShelf, Shelf, Sink, StreamSink};
 use std::alloc::Global;
 use std::process::ExitCode;
 use std::rt::Env;
 use std::{env, io};
-use acsl_annotate::annotate;
-use base_files::{FileShelf, Shelf, Sink, StreamSink};
 use top_run::{Exact, Meaning};
 
 /// The code of a system that doesn't give the program its words, for another cause than memory.

@@ -17,7 +17,8 @@ use Rattle.top_status.specs.declared.status.Status.TheVariants.{Done, Read, Wide
 use Rattle.top_status.specs.declared.status.Which.{Which}
 
 -- the words ask for the report of an analysis, and the shelf tells its files: this text, and this domain with the text of its rows
-pub record Asks (files : Option Contents) (words : List (List ℕ)) (analysis : Analysis (List ℕ)) (text : List ℕ) (rows : Domain (List ℕ)) : Type 0 where
+pub record Asks (files : Option Contents) (words : List (List ℕ)) (analysis : Analysis (List ℕ)) (text : List ℕ) (rows : Domain (List ℕ)) :
+    Type 0 where
   pub told : IsTold files
   pub request : request_of words ≡ Some (Analyse Report analysis)
   pub inputs : AreInputs files analysis text rows
@@ -33,5 +34,6 @@ pub data IsGiven (status : Status) (files_before files_now output_before output_
   done : status ≡ Done → IsGiven status files_before files_now output_before output_now
   no_memory : status ≡ Memory → IsGiven status files_before files_now output_before output_now
   too_wide : (spot : Spot) → status ≡ Wide spot → IsGiven status files_before files_now output_before output_now
-  unread : (which : Which) → status ≡ Read (Failed which) → Rose files_before files_now → IsGiven status files_before files_now output_before output_now
+  unread : (which : Which) → status ≡ Read (Failed which) → Rose files_before files_now
+      → IsGiven status files_before files_now output_before output_now
   unwritten : status ≡ Write → Rose output_before output_now → IsGiven status files_before files_now output_before output_now

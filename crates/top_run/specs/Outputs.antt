@@ -34,9 +34,11 @@ use Rattle.top_status.specs.declared.status.Status.TheVariants.{Done, Memory, Wr
 
 -- ---- the outside
 
--- a file of the request that the words ask for failed: the count of the shelf rose, and its last failed name is that of this file, before which none is
+-- a file of the request that the words ask for failed: the count of the shelf rose, and its last failed name is that of this file, before
+-- which none is
 -- too long
-pub record HasFailed (files : Option Contents) (words : List (List ℕ)) (which : Which) (faults faults_now : ℕ) (last : List ℕ) : Type 0 where
+pub record HasFailed (files : Option Contents) (words : List (List ℕ)) (which : Which) (faults faults_now : ℕ) (last : List ℕ) :
+    Type 0 where
   pub rose : Rose faults faults_now
   pub request : Request
   pub asked : request_of words ≡ Some request
@@ -44,9 +46,11 @@ pub record HasFailed (files : Option Contents) (words : List (List ℕ)) (which 
 
 -- ---- the output
 
--- the bytes are the certificate that the rounds make of these texts; it is accepted for the text, unless its traces hold too many values; and its bounds are
+-- the bytes are the certificate that the rounds make of these texts; it is accepted for the text, unless its traces hold too many values;
+-- and its bounds are
 -- the least vector
-pub record IsCertificate (m : Meanings) (text : List ℕ) (rows : Domain (List ℕ)) (policy : Policy) (limit : ℕ) (bytes : List ℕ) : Type 0 where
+pub record IsCertificate (m : Meanings) (text : List ℕ) (rows : Domain (List ℕ)) (policy : Policy) (limit : ℕ) (bytes : List ℕ) :
+    Type 0 where
   pub made : m.certifies text rows policy limit bytes
   pub names : List (List ℕ)
   pub body : Statements
@@ -80,8 +84,10 @@ pub record IsSummary (m : Meanings) (seed loops : ℕ) (bytes : List ℕ) : Type
 pub data IsOutput (m : Meanings) (files : Option Contents) (words : List (List ℕ)) (bytes : List ℕ) : Type 0 where
   is_report : (analysis : Analysis (List ℕ)) (text : List ℕ) (rows : Domain (List ℕ)) → request_of words ≡ Some (Analyse Report analysis)
       → AreInputs files analysis text rows → IsReportOf text rows analysis.policy analysis.improvements bytes → IsOutput m files words bytes
-  is_certificate : (analysis : Analysis (List ℕ)) (text : List ℕ) (rows : Domain (List ℕ)) → request_of words ≡ Some (Analyse AsCertificate analysis)
-      → AreInputs files analysis text rows → IsCertificate m text rows analysis.policy analysis.improvements bytes → IsOutput m files words bytes
+  is_certificate : (analysis : Analysis (List ℕ)) (text : List ℕ) (rows : Domain (List ℕ))
+      → request_of words ≡ Some (Analyse AsCertificate analysis)
+      → AreInputs files analysis text rows → IsCertificate m text rows analysis.policy analysis.improvements bytes
+      → IsOutput m files words bytes
   is_checked : (program given text certificate : List ℕ) → request_of words ≡ Some (Check program given)
       → AreChecked files program given text certificate → IsChecked m text certificate bytes → IsOutput m files words bytes
   is_summary : (seed loops : ℕ) → request_of words ≡ Some (Bench seed loops) → IsSummary m seed loops bytes → IsOutput m files words bytes
@@ -91,14 +97,17 @@ pub data IsOutput (m : Meanings) (files : Option Contents) (words : List (List �
       → request_of words ≡ Some (Prove claims analysis) → AreInputs files analysis text rows → HasShortText files claims given
       → AreVerdictsOf m text rows given analysis.policy analysis.improvements bytes → IsOutput m files words bytes
   is_report_along : (analysis : Analysis (List ℕ)) (text : List ℕ) (rows : Domain (List ℕ)) → request_of words ≡ Some (Transitions analysis)
-      → AreInputs files analysis text rows → IsAutoReport text rows analysis.policy analysis.improvements bytes → IsOutput m files words bytes
-  are_values : (file text : List ℕ) (limit : ℕ) (policy : Policy) → request_of words ≡ Some (Equations file limit policy) → HasShortText files file text
+      → AreInputs files analysis text rows → IsAutoReport text rows analysis.policy analysis.improvements bytes
+      → IsOutput m files words bytes
+  are_values : (file text : List ℕ) (limit : ℕ) (policy : Policy) → request_of words ≡ Some (Equations file limit policy)
+      → HasShortText files file text
       → AreValuesOf text policy limit bytes → IsOutput m files words bytes
 
 -- the output gets all of it where the run is done, a part where the output failed or wants memory, and nothing where the run is refused
 pub data OutputGets (IsIt : List ℕ → Type 0) (status : Status) (held now : Option (List ℕ)) : Type 0 where
   gets_whole : status ≡ Done → (bytes : List ℕ) → IsIt bytes → Appends held now bytes → OutputGets IsIt status held now
-  gets_part : (status ≡ Write) ⊎ (status ≡ Memory) → (bytes : List ℕ) (n : ℕ) → IsIt bytes → Appends held now (take n bytes) → OutputGets IsIt status held now
+  gets_part : (status ≡ Write) ⊎ (status ≡ Memory) → (bytes : List ℕ) (n : ℕ) → IsIt bytes → Appends held now (take n bytes)
+      → OutputGets IsIt status held now
   gets_nothing : (status ≡ Done → ⊥) → (status ≡ Write → ⊥) → now ≡ held → OutputGets IsIt status held now
 
 -- ---- its pieces
@@ -152,7 +161,8 @@ pub record IsMessage (m : Meanings) (files : Option Contents) (words : List (Lis
   pub rows_are : (request : Request) (count : ℕ) → request_of words ≡ Some request → IsTold files → HasRows m files request count
       → rows ≡ m.rows_named count status
 
--- the stream of messages gets some first bytes of a message, all of it where there is room for 512 bytes and no put failed, and none where the run is done
+-- the stream of messages gets some first bytes of a message, all of it where there is room for 512 bytes and no put failed, and none where
+-- the run is done
 pub record GetsMessage (status : Status) (message : List ℕ) (held now : Option (List ℕ)) (faults faults_now spare : ℕ) : Type 0 where
   pub silent : status ≡ Done → now ≡ held
   pub part : (status ≡ Done → ⊥) → (n : ℕ) × Appends held now (take n message)

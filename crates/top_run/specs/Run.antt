@@ -60,11 +60,13 @@ IsNamedText files words status text = (request : Request) × (request_of words �
 abbrev pub IsLine : Option Contents → List (List ℕ) → Status → ℕ → Type 0
 IsLine files words status line = (text : List ℕ) → IsTold files → IsNamedText files words status text → line ≡ line_in text status
 
--- so many rows each point has by which the message of a request numbers an unknown, where the shelf tells its files: those of the template of an analysis,
+-- so many rows each point has by which the message of a request numbers an unknown, where the shelf tells its files: those of the template
+-- of an analysis,
 -- or of the certificate that is checked
 abbrev pub IsRowCountIn : Option Contents → Request → Status → ℕ → Type 0
 IsRowCountIn files (Analyse purpose analysis) status rows =
-    (text : List ℕ) (domain : Domain (List ℕ)) (system : System) → IsTold files → AreInputs files analysis text domain → IsSolvedSystem text domain system
+    (text : List ℕ) (domain : Domain (List ℕ)) (system : System) → IsTold files → AreInputs files analysis text domain
+    → IsSolvedSystem text domain system
     → rows ≡ rows_of (length system.template) status
 IsRowCountIn files (Check program certificate) status rows =
     (bytes : List ℕ) (cert : Cert) → IsTold files → HasContent files certificate bytes → SpellsCert bytes cert → rows ≡ rows_in cert status

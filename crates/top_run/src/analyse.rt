@@ -26,11 +26,11 @@ pub(crate) mod inputs;
 pub(crate) mod least;
 
 use crate::output::{put_certificate, put_report};
+use ask_words::{Analysis, Policy, Purpose};
+use base_files::{Shelf, Sink};
+use flow_systems::System;
 use inputs::{Inputs, load};
 use std::alloc::Global;
-use ask_words::{Analysis, Policy, Purpose};
-use flow_systems::System;
-use base_files::{Shelf, Sink};
 use top_status::{Ending, Status, Which, answer_line, answer_rows, plain_ending};
 use top_texts::{certificate_of, refused, report_of, system_on};
 
@@ -47,7 +47,8 @@ fn answer_system<K: Sink>(
     requires cells { cells_of (equations_of system.now) ≤ 134217728 }
     ensures answer { IsAnswerToSystem purpose system.now policy limit result }
     ensures held { OutputHolds (IsOutputOf purpose system.now policy limit) result (K.held out.old) (K.held out.new) }
-    ensures pieces { result ≡ Status.Done → IsTaken (pieces_by purpose) (K.held out.old) (K.held out.new) (K.taken out.old) (K.taken out.new) }
+    ensures pieces { result ≡ Status.Done → IsTaken (pieces_by purpose) (K.held out.old) (K.held out.new) (K.taken out.old)
+        (K.taken out.new) }
     ensures write { result ≡ Status.Write → Rose (K.faults out.old) (K.faults out.new) }
 {
     match purpose {
@@ -74,10 +75,12 @@ fn answer<K: Sink>(
     requires short { length inputs.now.text.items ≤ 65536 }
     requires short_rows { HasShortRows (domain_of inputs.now.rows) }
     requires limit { limit ≤ 1000000 }
-    ensures answer { QuestionAnswer (analysis_question exact purpose inputs.now.text.items (domain_of inputs.now.rows) policy limit) result.status }
+    ensures answer { QuestionAnswer (analysis_question exact purpose inputs.now.text.items (domain_of inputs.now.rows) policy limit)
+        result.status }
     ensures held { OutputHolds (IsPutOf purpose inputs.now.text.items (domain_of inputs.now.rows) policy limit) result.status
         (K.held out.old) (K.held out.new) }
-    ensures pieces { result.status ≡ Status.Done → IsTaken (pieces_by purpose) (K.held out.old) (K.held out.new) (K.taken out.old) (K.taken out.new) }
+    ensures pieces { result.status ≡ Status.Done → IsTaken (pieces_by purpose) (K.held out.old) (K.held out.new) (K.taken out.old)
+        (K.taken out.new) }
     ensures write { result.status ≡ Status.Write → Rose (K.faults out.old) (K.faults out.new) }
     ensures line { result.line ≡ line_in inputs.now.text.items result.status }
     ensures rows { (system : SystemValue) → IsSolvedSystem inputs.now.text.items (domain_of inputs.now.rows) system
@@ -120,7 +123,8 @@ pub(crate) fn analyse<S: Shelf, K: Sink>(
         (Analyse purpose (analysis_text analysis.entry)) result.status }
     ensures held { OutputHolds (IsReportOn (S.files shelf.old) (Analyse purpose (analysis_text analysis.entry))) result.status
         (K.held out.old) (K.held out.new) }
-    ensures pieces { result.status ≡ Status.Done → IsTaken (pieces_by purpose) (K.held out.old) (K.held out.new) (K.taken out.old) (K.taken out.new) }
+    ensures pieces { result.status ≡ Status.Done → IsTaken (pieces_by purpose) (K.held out.old) (K.held out.new) (K.taken out.old)
+        (K.taken out.new) }
     ensures write { result.status ≡ Status.Write → Rose (K.faults out.old) (K.faults out.new) }
     ensures line { (text : List ℕ) → IsTold (S.files shelf.old) → HasContent (S.files shelf.old) analysis.entry.program.now text
         → result.line ≡ line_in text result.status }

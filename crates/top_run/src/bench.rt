@@ -10,8 +10,8 @@ ghost use Rattle.top_texts.specs.Reports.{IsSummaryOf};
 ghost use Rattle.top_run.specs.Run.{OutputHolds};
 
 use crate::output::put_report;
-use std::alloc::Global;
 use base_files::Sink;
+use std::alloc::Global;
 use top_status::Status;
 use top_texts::{bench_text, refused};
 

@@ -21,12 +21,12 @@ ghost use Rattle.top_run.specs.Run.{FailsOnlyIn, OutputHolds};
 mod inputs;
 
 use crate::output::put_report;
-use inputs::{Inputs, load};
-use std::alloc::Global;
+use base_files::{Shelf, Sink};
 use cert_types::Cert;
 use flow_edges::Flow;
-use base_files::{Shelf, Sink};
+use inputs::{Inputs, load};
 use lang_tree::Program;
+use std::alloc::Global;
 use top_status::{Ending, Status, answer_line, answer_rows, plain_ending};
 use top_texts::{Given, read_given, refused, report_by};
 
@@ -41,7 +41,8 @@ fn answer_report<K: Sink>(
     requires names { flow.names ≡ program.now.names }
     requires points { flow.points ≡ points_of_program program.now.body }
     requires edges { flow.edges ≡ edges_of_program program.now.body }
-    ensures answer { (text bytes : List ℕ) → IsSpelt text bytes program.now.names program.now.body cert.now → IsAnswerToCheck text bytes result }
+    ensures answer { (text bytes : List ℕ) → IsSpelt text bytes program.now.names program.now.body cert.now
+        → IsAnswerToCheck text bytes result }
     ensures held { (text bytes : List ℕ) → IsSpelt text bytes program.now.names program.now.body cert.now
         → OutputHolds (IsReportBy text bytes) result (K.held out.old) (K.held out.new) }
     ensures pieces { result ≡ Status.Done → IsTaken lines_of (K.held out.old) (K.held out.new) (K.taken out.old) (K.taken out.new) }
@@ -59,7 +60,8 @@ fn answer_given<K: Sink>(alloc: Global, given: Given, out: &mut K) -> Ending
     requires names { given.flow.names ≡ given.program.names }
     requires points { given.flow.points ≡ points_of_program given.program.body }
     requires edges { given.flow.edges ≡ edges_of_program given.program.body }
-    ensures answer { (text bytes : List ℕ) → IsSpelt text bytes given.program.names given.program.body given.cert → IsAnswerToCheck text bytes result.status }
+    ensures answer { (text bytes : List ℕ) → IsSpelt text bytes given.program.names given.program.body given.cert
+        → IsAnswerToCheck text bytes result.status }
     ensures held { (text bytes : List ℕ) → IsSpelt text bytes given.program.names given.program.body given.cert
         → OutputHolds (IsReportBy text bytes) result.status (K.held out.old) (K.held out.new) }
     ensures pieces { result.status ≡ Status.Done → IsTaken lines_of (K.held out.old) (K.held out.new) (K.taken out.old) (K.taken out.new) }
@@ -115,11 +117,14 @@ pub(crate) fn check<S: Shelf, K: Sink>(
 ) -> Ending
     ensures kept { S.files shelf.new ≡ S.files shelf.old }
     ensures answer { IsAnswerTo (S.files shelf.old) (Check program.now certificate.now) result.status }
-    ensures failed { FailsOnlyIn (S.files shelf.old) (S.faults shelf.old) (S.faults shelf.new) (S.last_failed shelf.new) (Check program.now certificate.now) result.status }
-    ensures held { OutputHolds (IsReportOn (S.files shelf.old) (Check program.now certificate.now)) result.status (K.held out.old) (K.held out.new) }
+    ensures failed { FailsOnlyIn (S.files shelf.old) (S.faults shelf.old) (S.faults shelf.new) (S.last_failed shelf.new)
+        (Check program.now certificate.now) result.status }
+    ensures held { OutputHolds (IsReportOn (S.files shelf.old) (Check program.now certificate.now)) result.status (K.held out.old)
+        (K.held out.new) }
     ensures pieces { result.status ≡ Status.Done → IsTaken lines_of (K.held out.old) (K.held out.new) (K.taken out.old) (K.taken out.new) }
     ensures write { result.status ≡ Status.Write → Rose (K.faults out.old) (K.faults out.new) }
-    ensures line { (text : List ℕ) → IsTold (S.files shelf.old) → HasContent (S.files shelf.old) program.now text → result.line ≡ line_in text result.status }
+    ensures line { (text : List ℕ) → IsTold (S.files shelf.old) → HasContent (S.files shelf.old) program.now text
+        → result.line ≡ line_in text result.status }
     ensures rows { (bytes : List ℕ) (cert : CertValue) → IsTold (S.files shelf.old) → HasContent (S.files shelf.old) certificate.now bytes
         → SpellsCert bytes cert → result.rows ≡ rows_in cert result.status }
 {

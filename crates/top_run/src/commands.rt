@@ -20,9 +20,9 @@ use crate::meaning::{Exact, Meaning};
 use crate::prove::prove;
 use crate::transitions::transitions;
 use crate::upgrade::upgrade;
-use std::alloc::Global;
 use ask_words::{Request, WordsFault, read_words};
 use base_files::{Shelf, Sink};
+use std::alloc::Global;
 use top_status::{Ending, ReadCause, Status, Which, make_message, plain_ending};
 
 // Does what the words ask for.
@@ -30,8 +30,10 @@ fn obey<S: Shelf, K: Sink>(alloc: Global, words: &[String], shelf: &mut S, out: 
     ensures kept { S.files shelf.new ≡ S.files shelf.old }
     ensures answer { IsAnswerToWords (S.files shelf.old) (map string_bytes words.now) result.status }
     ensures read { (which : Which) → result.status ≡ Status.Read (ReadCause.Failed which)
-        → HasFailed (S.files shelf.old) (map string_bytes words.now) which (S.faults shelf.old) (S.faults shelf.new) (S.last_failed shelf.new) }
-    ensures held { OutputHolds (IsReportFor (S.files shelf.old) (map string_bytes words.now)) result.status (K.held out.old) (K.held out.new) }
+        → HasFailed (S.files shelf.old) (map string_bytes words.now) which (S.faults shelf.old) (S.faults shelf.new)
+        (S.last_failed shelf.new) }
+    ensures held { OutputHolds (IsReportFor (S.files shelf.old) (map string_bytes words.now)) result.status (K.held out.old)
+        (K.held out.new) }
     ensures pieces { (request : NamedRequest) → request_of (map string_bytes words.now) ≡ Some request → result.status ≡ Status.Done
         → IsTaken (pieces_of request) (K.held out.old) (K.held out.new) (K.taken out.old) (K.taken out.new) }
     ensures write { result.status ≡ Status.Write → Rose (K.faults out.old) (K.faults out.new) }
@@ -69,7 +71,8 @@ fn obey<S: Shelf, K: Sink>(alloc: Global, words: &[String], shelf: &mut S, out: 
 
 /// Puts the message of an ending, where it isn't done. What the stream of messages answers changes nothing.
 pub fn tell<L: Sink>(ending: &Ending, err: &mut L)
-    ensures gets { GetsMessage ending.now.status (message_of ending.now.line ending.now.rows ending.now.status) (L.held err.old) (L.held err.new)
+    ensures gets { GetsMessage ending.now.status (message_of ending.now.line ending.now.rows ending.now.status) (L.held err.old)
+        (L.held err.new)
         (L.faults err.old) (L.faults err.new) (L.spare err.old) }
     ensures piece { IsInOnePiece (message_of ending.now.line ending.now.rows ending.now.status) (L.taken err.old) (L.taken err.new) }
 {
@@ -90,7 +93,8 @@ pub fn tell<L: Sink>(ending: &Ending, err: &mut L)
 /// claims goes on from the cells with the faults of the claims, and from the rounds with the problems of the claims; a transition
 /// system has the faults of its text and of its edges, and goes on as an analysis does; equations have the faults of their text, the
 /// composition of the edges, and the rounds. `Memory` may come at any time,
-/// and takes the place of any other answer. A wide operation of an analysis or of a proof may take the place of a report and of improvements
+/// and takes the place of any other answer. A wide operation of an analysis or of a proof may take the place of a report and of
+/// improvements
 /// that are spent.
 pub fn run<S: Shelf, K: Sink, L: Sink>(
     alloc: Global,
@@ -111,14 +115,17 @@ pub fn run<S: Shelf, K: Sink, L: Sink>(
 
     // Complete: the ending that stands is given, but for want of memory, a wide operation that stands, a file that failed or a put.
     ensures complete { (ending : StatusValue) → WordsEnd ⟦<Exact as Meaning>⟧.means (S.files shelf.old) (map string_bytes words.now) ending
-        → Gives ⟦<Exact as Meaning>⟧.means (S.files shelf.old) (map string_bytes words.now) ending result (K.held out.old) (K.held out.new) }
+        → Gives ⟦<Exact as Meaning>⟧.means (S.files shelf.old) (map string_bytes words.now) ending result (K.held out.old)
+        (K.held out.new) }
 
     // Outside: a fault of a file or of the output is one of this call, the files stay, and a message is put in one piece.
     ensures kept { S.files shelf.new ≡ S.files shelf.old }
     ensures read { (which : Which) → result ≡ Status.Read (ReadCause.Failed which)
-        → HasFailed (S.files shelf.old) (map string_bytes words.now) which (S.faults shelf.old) (S.faults shelf.new) (S.last_failed shelf.new) }
+        → HasFailed (S.files shelf.old) (map string_bytes words.now) which (S.faults shelf.old) (S.faults shelf.new)
+        (S.last_failed shelf.new) }
     ensures write { result ≡ Status.Write → Rose (K.faults out.old) (K.faults out.new) }
-    ensures message { (message : List ℕ) × IsMessage ⟦<Exact as Meaning>⟧.means (S.files shelf.old) (map string_bytes words.now) result message
+    ensures message { (message : List ℕ) × IsMessage ⟦<Exact as Meaning>⟧.means (S.files shelf.old) (map string_bytes words.now) result
+        message
         × GetsMessage result message (L.held err.old) (L.held err.new) (L.faults err.old) (L.faults err.new) (L.spare err.old)
         × IsInOnePiece message (L.taken err.old) (L.taken err.new) }
 {

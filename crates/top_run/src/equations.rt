@@ -16,9 +16,9 @@ ghost use Rattle.top_run.specs.Run.{FailsOnlyIn, OutputHolds};
 
 use crate::files::{MOST_BYTES, load_file, unloaded};
 use crate::output::put_report;
-use std::alloc::Global;
 use ask_words::Policy;
 use base_files::{Shelf, Sink};
+use std::alloc::Global;
 use top_status::{Ending, Status, Which, answer_line, plain_ending};
 use top_texts::{equations_text, refused};
 
@@ -74,11 +74,14 @@ pub(crate) fn equations<S: Shelf, K: Sink>(
     requires limit { limit ≤ 1000000 }
     ensures kept { S.files shelf.new ≡ S.files shelf.old }
     ensures answer { IsAnswerTo (S.files shelf.old) (Equations file.now limit policy) result.status }
-    ensures failed { FailsOnlyIn (S.files shelf.old) (S.faults shelf.old) (S.faults shelf.new) (S.last_failed shelf.new) (Equations file.now limit policy) result.status }
-    ensures held { OutputHolds (IsReportOn (S.files shelf.old) (Equations file.now limit policy)) result.status (K.held out.old) (K.held out.new) }
+    ensures failed { FailsOnlyIn (S.files shelf.old) (S.faults shelf.old) (S.faults shelf.new) (S.last_failed shelf.new)
+        (Equations file.now limit policy) result.status }
+    ensures held { OutputHolds (IsReportOn (S.files shelf.old) (Equations file.now limit policy)) result.status (K.held out.old)
+        (K.held out.new) }
     ensures pieces { result.status ≡ Status.Done → IsTaken lines_of (K.held out.old) (K.held out.new) (K.taken out.old) (K.taken out.new) }
     ensures write { result.status ≡ Status.Write → Rose (K.faults out.old) (K.faults out.new) }
-    ensures line { (text : List ℕ) → IsTold (S.files shelf.old) → HasContent (S.files shelf.old) file.now text → result.line ≡ line_in text result.status }
+    ensures line { (text : List ℕ) → IsTold (S.files shelf.old) → HasContent (S.files shelf.old) file.now text
+        → result.line ≡ line_in text result.status }
 {
     match load_file(shelf, file, MOST_BYTES) {
         Ok(text) => answer(alloc, &text, policy, limit, out),

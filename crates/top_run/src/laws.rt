@@ -22,7 +22,8 @@ use crate::meaning::{Exact, Meaning};
 /// The bounds of a certificate that is accepted are the least vector, whoever made it.
 pub fn accepted_is_least()
     ensures { (text bytes : List ℕ) (names : List (List ℕ)) (body : Statements) (rows : List (List ℤ)) (vector : Vector)
-        → (⟦<Exact as Meaning>⟧.means).accepts text bytes names body rows vector → Least (equations_of_program (length names) body rows) vector }
+        → (⟦<Exact as Meaning>⟧.means).accepts text bytes names body rows vector
+        → Least (equations_of_program (length names) body rows) vector }
 {}
 
 /// A request over files that are told has one ending: so each cause of a refusal excludes the others, and acceptance.
@@ -33,7 +34,8 @@ pub fn ending_is_one()
 
 /// Bytes have one text as the certificate that they spell.
 pub fn upgrade_is_one()
-    ensures { (bytes one other : List ℕ) → (⟦<Exact as Meaning>⟧.means).upgrades bytes one → (⟦<Exact as Meaning>⟧.means).upgrades bytes other → one ≡ other }
+    ensures { (bytes one other : List ℕ) → (⟦<Exact as Meaning>⟧.means).upgrades bytes one
+        → (⟦<Exact as Meaning>⟧.means).upgrades bytes other → one ≡ other }
 {}
 
 /// A text of equations has one list of values.

@@ -24,8 +24,8 @@ pub use laws::{
 };
 pub use meaning::{Exact, Meaning};
 pub use memory::run_in_memory;
+pub use out_workload::generate;
 pub use output::put_report;
 pub use promise::headline;
-pub use out_workload::generate;
 pub use top_status::{CertCause, Ending, ReadCause, Status, TextCause, Which, plain_ending};
 pub use top_texts::LeastBounds;

@@ -7,8 +7,8 @@ ghost use Rattle.top_status.specs.declared.status.Status.{Status as StatusValue}
 
 use crate::commands::run;
 use crate::meaning::{Exact, Meaning};
-use std::alloc::Global;
 use base_files::{PlainShelf, PlainSink, Shelf, Sink};
+use std::alloc::Global;
 use top_status::Status;
 
 /// What `run` does over files and bytes in memory. There no file fails that the shelf has, and no put fails: each ending that
@@ -23,7 +23,8 @@ pub fn run_in_memory<L: Sink>(
     ensures complete { (ending : StatusValue)
         → WordsEnd ⟦<Exact as Meaning>⟧.means (⟦<PlainShelf as Shelf>⟧.files shelf.old) (map string_bytes words.now) ending
         → AnswersInMemory ⟦<Exact as Meaning>⟧.means (⟦<PlainShelf as Shelf>⟧.files shelf.old) (map string_bytes words.now) ending result }
-    ensures output { OutputGets (IsOutput ⟦<Exact as Meaning>⟧.means (⟦<PlainShelf as Shelf>⟧.files shelf.old) (map string_bytes words.now)) result
+    ensures output { OutputGets (IsOutput ⟦<Exact as Meaning>⟧.means (⟦<PlainShelf as Shelf>⟧.files shelf.old) (map string_bytes words.now))
+        result
         (⟦<PlainSink as Sink>⟧.held out.old) (⟦<PlainSink as Sink>⟧.held out.new) }
 {
     run(alloc, words, shelf, out, err)

@@ -7,8 +7,8 @@ ghost use Rattle.top_run.specs.Headline.{Asks, IsGiven, Prints};
 ghost use Rattle.top_texts.specs.Texts.{IsSolvable};
 
 use crate::commands::run;
-use std::alloc::Global;
 use base_files::{Shelf, Sink};
+use std::alloc::Global;
 use top_status::Status;
 
 /// The headline: `run` where the words ask for the report of a program. It does nothing else than `run`, whose contract says this

@@ -20,9 +20,9 @@ ghost use Rattle.top_run.specs.Run.{FailsOnlyIn, OutputHolds};
 use crate::analyse::inputs::{Inputs, load};
 use crate::files::{MOST_BYTES, load_file, unloaded};
 use crate::output::put_report;
-use std::alloc::Global;
 use ask_words::{Analysis, Policy};
 use base_files::{Shelf, Sink};
+use std::alloc::Global;
 use top_status::{Ending, Status, TextCause, Which, answer_line, plain_ending};
 use top_texts::{prove_text, refused};
 
@@ -40,7 +40,8 @@ fn load_all<S: Shelf>(
     analysis: Analysis<&str>,
 ) -> Result<Given, Status>
     ensures kept { S.files shelf.new ≡ S.files shelf.old }
-    ensures inputs { IfOk result (λ given. AreInputs (S.files shelf.old) (analysis_text analysis.entry) given.inputs.text.items (domain_of given.inputs.rows)) }
+    ensures inputs { IfOk result (λ given. AreInputs (S.files shelf.old) (analysis_text analysis.entry) given.inputs.text.items
+        (domain_of given.inputs.rows)) }
     ensures claims { IfOk result (λ given. HasShortText (S.files shelf.old) claims.now given.claims.items) }
     ensures refused { IfErr result (λ status. IsUnloaded (S.files shelf.old) (files_of (Prove claims.now (analysis_text analysis.entry)))
         (S.faults shelf.old) (S.faults shelf.new) (S.last_failed shelf.new) status) }
@@ -79,9 +80,11 @@ fn put_verdicts<K: Sink>(
     requires short_rows { HasShortRows (domain_of given.now.inputs.rows) }
     requires short_claims { length given.now.claims.items ≤ 65536 }
     requires limit { limit ≤ 1000000 }
-    ensures answer { QuestionAnswer (claims_question exact given.now.inputs.text.items (domain_of given.now.inputs.rows) given.now.claims.items policy limit)
+    ensures answer { QuestionAnswer (claims_question exact given.now.inputs.text.items (domain_of given.now.inputs.rows)
+        given.now.claims.items policy limit)
         result }
-    ensures held { OutputHolds (AreVerdictsOf exact given.now.inputs.text.items (domain_of given.now.inputs.rows) given.now.claims.items policy limit) result
+    ensures held { OutputHolds (AreVerdictsOf exact given.now.inputs.text.items (domain_of given.now.inputs.rows) given.now.claims.items
+        policy limit) result
         (K.held out.old) (K.held out.new) }
     ensures pieces { result ≡ Status.Done → IsTaken lines_of (K.held out.old) (K.held out.new) (K.taken out.old) (K.taken out.new) }
     ensures write { result ≡ Status.Write → Rose (K.faults out.old) (K.faults out.new) }
@@ -105,9 +108,11 @@ fn answer<K: Sink>(alloc: Global, given: &Given, policy: Policy, limit: u32, out
     requires short_rows { HasShortRows (domain_of given.now.inputs.rows) }
     requires short_claims { length given.now.claims.items ≤ 65536 }
     requires limit { limit ≤ 1000000 }
-    ensures answer { QuestionAnswer (claims_question exact given.now.inputs.text.items (domain_of given.now.inputs.rows) given.now.claims.items policy limit)
+    ensures answer { QuestionAnswer (claims_question exact given.now.inputs.text.items (domain_of given.now.inputs.rows)
+        given.now.claims.items policy limit)
         result.status }
-    ensures held { OutputHolds (AreVerdictsOf exact given.now.inputs.text.items (domain_of given.now.inputs.rows) given.now.claims.items policy limit) result.status
+    ensures held { OutputHolds (AreVerdictsOf exact given.now.inputs.text.items (domain_of given.now.inputs.rows) given.now.claims.items
+        policy limit) result.status
         (K.held out.old) (K.held out.new) }
     ensures pieces { result.status ≡ Status.Done → IsTaken lines_of (K.held out.old) (K.held out.new) (K.taken out.old) (K.taken out.new) }
     ensures write { result.status ≡ Status.Write → Rose (K.faults out.old) (K.faults out.new) }
@@ -140,7 +145,8 @@ pub(crate) fn prove<S: Shelf, K: Sink>(
     ensures pieces { result.status ≡ Status.Done → IsTaken lines_of (K.held out.old) (K.held out.new) (K.taken out.old) (K.taken out.new) }
     ensures write { result.status ≡ Status.Write → Rose (K.faults out.old) (K.faults out.new) }
     ensures line { (text : List ℕ) → IsTold (S.files shelf.old)
-        → HasText (S.files shelf.old) (Prove claims.now (analysis_text analysis.entry)) result.status text → result.line ≡ line_in text result.status }
+        → HasText (S.files shelf.old) (Prove claims.now (analysis_text analysis.entry)) result.status text
+        → result.line ≡ line_in text result.status }
 {
     match load_all(shelf, claims, analysis) {
         Ok(given) => answer(alloc, &given, analysis.policy, analysis.improvements, out),

@@ -18,9 +18,9 @@ ghost use Rattle.top_texts.specs.TransitionTexts.{IsAutoReport};
 
 use crate::analyse::inputs::load;
 use crate::output::put_report;
-use std::alloc::Global;
 use ask_words::{Analysis, Domain, Policy};
 use base_files::{Shelf, Sink};
+use std::alloc::Global;
 use top_status::{Ending, Status, Which, answer_line, plain_ending};
 use top_texts::{refused, transitions_text};
 

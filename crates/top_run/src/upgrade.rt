@@ -13,8 +13,8 @@ ghost use Rattle.top_texts.specs.Upgrades.{IsUpgradeOf};
 
 use crate::files::{MOST_CERTIFICATE_BYTES, load_file, unloaded};
 use crate::output::put_certificate;
-use std::alloc::Global;
 use base_files::{Shelf, Sink};
+use std::alloc::Global;
 use top_status::{Status, Which};
 use top_texts::{refused, upgrade_text};
 
@@ -40,7 +40,8 @@ pub(crate) fn upgrade<S: Shelf, K: Sink>(
 ) -> Status
     ensures kept { S.files shelf.new ≡ S.files shelf.old }
     ensures answer { IsAnswerTo (S.files shelf.old) (Upgrade certificate.now) result }
-    ensures failed { FailsOnlyIn (S.files shelf.old) (S.faults shelf.old) (S.faults shelf.new) (S.last_failed shelf.new) (Upgrade certificate.now) result }
+    ensures failed { FailsOnlyIn (S.files shelf.old) (S.faults shelf.old) (S.faults shelf.new) (S.last_failed shelf.new)
+        (Upgrade certificate.now) result }
     ensures held { OutputHolds (IsReportOn (S.files shelf.old) (Upgrade certificate.now)) result (K.held out.old) (K.held out.new) }
     ensures pieces { result ≡ Status.Done → IsTaken as_pieces (K.held out.old) (K.held out.new) (K.taken out.old) (K.taken out.new) }
     ensures write { result ≡ Status.Write → Rose (K.faults out.old) (K.faults out.new) }

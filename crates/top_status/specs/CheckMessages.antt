@@ -118,13 +118,15 @@ site_text rows round (site.Growth edge row part) =
 site_text rows round (site.Joint turn part) = numbered (codes "joint ") turn ++ part_text part ++ numbered (codes " in round ") round
 site_text rows round (site.Raise raise) = numbered (codes "raise ") raise ++ numbered (codes " in round ") round
 site_text rows round (site.Step step item) = numbered (codes "step ") step ++ numbered (codes " item ") item
-site_text rows round (site.Upper unknown edge) = unknown_text (codes "upper point ") (codes " row ") rows unknown ++ numbered (codes " edge ") edge
+site_text rows round (site.Upper unknown edge) = unknown_text (codes "upper point ") (codes " row ") rows unknown
+    ++ numbered (codes " edge ") edge
 site_text rows round (site.Claim claim case part) = numbered (codes "claim ") claim ++ numbered (codes " case ") case ++ part_text part
 
 -- an operation, its two operands, and the site
 abbrev pub spot_text : ℕ → Spot → List ℕ
 spot_text rows spot =
-    op_text spot.wide.op ++ frac_text spot.wide.left ++ codes " " ++ frac_text spot.wide.right ++ codes " at " ++ site_text rows spot.round spot.site
+    op_text spot.wide.op ++ frac_text spot.wide.left ++ codes " " ++ frac_text spot.wide.right ++ codes " at "
+    ++ site_text rows spot.round spot.site
 
 abbrev pub check_text : ℕ → CheckFault → List ℕ
 check_text rows check.Size = codes "size"
@@ -132,7 +134,8 @@ check_text rows (check.Trace step item) = item_text (codes "trace") step item
 check_text rows (check.Low step item) = item_text (codes "low") step item
 check_text rows (check.High step item) = item_text (codes "high") step item
 check_text rows (check.Ray step item) = item_text (codes "ray") step item
-check_text rows (check.Upper unknown edge) = unknown_text (codes "upper, point ") (codes ", row ") rows unknown ++ numbered (codes ", edge ") edge
+check_text rows (check.Upper unknown edge) = unknown_text (codes "upper, point ") (codes ", row ") rows unknown
+    ++ numbered (codes ", edge ") edge
 check_text rows (check.Final unknown) = unknown_text (codes "final, point ") (codes ", row ") rows unknown
 check_text rows (check.Wide spot) = spot_text rows spot
 

@@ -1,7 +1,8 @@
 //! The line that tells how a run ended, where it isn't done.
 
 ghost use Rattle.std.specs.Prelude.{◌≡◌, ◌≤◌, ◌+◌, ◌++◌, [], None, Some, codes, length};
-ghost use Rattle.top_status.specs.Messages.{auto_words, claim_words, counted, counted_in, equation_words, flow_words, lex_words, limit_words};
+ghost use Rattle.top_status.specs.Messages.{auto_words, claim_words, counted, counted_in, equation_words, flow_words, lex_words};
+ghost use Rattle.top_status.specs.Messages.{limit_words};
 ghost use Rattle.top_status.specs.Messages.{line_text, message_of, parse_words, plain, read_words, row_words, text_words, words, words_of};
 ghost use Rattle.top_status.specs.Parts.{told};
 
@@ -9,17 +10,17 @@ mod check;
 pub(crate) mod place;
 
 use crate::status::{ReadCause, Status, TextCause, Which};
+use ask_claims::ClaimFault;
+use ask_words::usage_line;
 use check::{certificate_message, wide_message};
+use flow_edges::FlowFault;
+use flow_rationals::EquFault;
+use flow_templates::RowFault;
+use flow_transitions::AutoFault;
 use itoa::Buffer;
 use lang_meaning::{Limit, ParseFault};
-use std::marker::Model;
-use ask_claims::ClaimFault;
-use flow_transitions::AutoFault;
-use ask_words::usage_line;
-use flow_rationals::EquFault;
-use flow_edges::FlowFault;
 use lang_tokens::LexFault;
-use flow_templates::RowFault;
+use std::marker::Model;
 
 // What is refused, words, a number and words, with a line feed at the end.
 #[derive(Clone, Copy, Drop)]

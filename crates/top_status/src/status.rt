@@ -3,16 +3,16 @@
 ghost use Rattle.std.specs.Prelude.{◌≡◌};
 ghost use Rattle.top_status.specs.Status.{code_of};
 
-use lang_meaning::ParseFault;
 use ask_claims::ClaimFault;
-use flow_transitions::AutoFault;
 use cert_checker::CheckFault;
-use flow_systems::Spot;
-use flow_rationals::EquFault;
-use flow_edges::FlowFault;
 use cert_text::FormFault;
-use lang_tokens::LexFault;
+use flow_edges::FlowFault;
+use flow_rationals::EquFault;
+use flow_systems::Spot;
 use flow_templates::RowFault;
+use flow_transitions::AutoFault;
+use lang_meaning::ParseFault;
+use lang_tokens::LexFault;
 
 /// A file that the words name.
 #[derive(Clone, Copy, Debug, PartialEq, Eq)]
@@ -38,7 +38,8 @@ pub enum ReadCause {
     TooLong(Which),
 }
 
-/// Why the texts of a program, of its rows and of claims about it, that of a transition system, or that of equations, are refused (docs/FORMATS.md,
+/// Why the texts of a program, of its rows and of claims about it, that of a transition system, or that of equations, are refused
+/// (docs/FORMATS.md,
 /// "Messages"). The first that stands in this order is answered.
 #[derive(Clone, Copy, Debug, PartialEq, Eq)]
 pub enum TextCause {

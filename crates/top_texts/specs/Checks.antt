@@ -1,4 +1,5 @@
--- What the text of a program and the bytes of a certificate are: a valid certificate of the program, or refused by a cause, or a number is wide on the way.
+-- What the text of a program and the bytes of a certificate are: a valid certificate of the program, or refused by a cause, or a number is
+-- wide on the way.
 -- The program comes first, then the certificate, its rows, the unknowns, the composition of the edges, and the tests.
 use Rattle.std.specs.Prelude.{◌≡◌, ◌≤◌, ◌<◌, ◌⊎◌, ℕ, ℤ, List, [], Err, Some, None, length, slice_get}
 use Rattle.base_fractions.specs.Fits.{long_limit}
@@ -83,12 +84,14 @@ IsStopped system certificate answer = (fault : Fault) × (answer ≡ fault_answe
 
 -- the bytes are refused by this cause
 abbrev pub IsRefusedCertificate : List ℕ → List ℕ → CertCause → Type 0
-IsRefusedCertificate text bytes (Form fault) = (names : List (List ℕ)) × (body : Statements) × IsAnalysed text names body × IsFormFault bytes fault
+IsRefusedCertificate text bytes (Form fault) = (names : List (List ℕ)) × (body : Statements) × IsAnalysed text names body
+    × IsFormFault bytes fault
 IsRefusedCertificate text bytes (Rows fault) =
     (names : List (List ℕ)) × (body : Statements) × (cert : Cert) × IsSpelt text bytes names body cert
     × (slice_get (faults_of (length names) cert.rows) 0 ≡ Some fault)
 IsRefusedCertificate text bytes (Unknowns count) =
-    (names : List (List ℕ)) × (body : Statements) × (cert : Cert) × IsSpelt text bytes names body cert × (faults_of (length names) cert.rows ≡ [])
+    (names : List (List ℕ)) × (body : Statements) × (cert : Cert) × IsSpelt text bytes names body cert
+    × (faults_of (length names) cert.rows ≡ [])
     × (MOST_UNKNOWNS < unknowns body cert.rows) × (count ≡ unknowns body cert.rows)
 IsRefusedCertificate text bytes (Check fault) =
     (names : List (List ℕ)) × (body : Statements) × (cert : Cert) × IsSystemWith text bytes names body cert
@@ -113,7 +116,8 @@ IsWideAt text bytes spot =
     × (IsCompositionSpot (system_with names body cert) spot ⊎ IsCheckSpot (system_with names body cert) (theirs cert) spot)
 
 -- the bytes are accepted for the text, by this program, with these rows and this vector of bounds
-pub record IsAcceptedWith (text bytes : List ℕ) (names : List (List ℕ)) (body : Statements) (rows : List (List ℤ)) (vector : Vector) : Type 0 where
+pub record IsAcceptedWith (text bytes : List ℕ) (names : List (List ℕ)) (body : Statements) (rows : List (List ℤ)) (vector : Vector) :
+    Type 0 where
   pub cert : Cert
   pub rows_are : cert.rows ≡ rows
   pub vector_is : bounds_vector (system_with names body cert) cert.bounds ≡ vector

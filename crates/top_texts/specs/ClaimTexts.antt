@@ -33,7 +33,8 @@ pub record IsClaimedSystem (text : List ℕ) (rows : Domain (List ℕ)) (given :
   pub stated : List Stated
   pub reading : FileMeans given solved.names (points_of_program solved.body) (Ok stated)
 
--- the texts are refused by this cause: those of a program and its rows as for their analysis, and where these have a system, the text given with them
+-- the texts are refused by this cause: those of a program and its rows as for their analysis, and where these have a system, the text given
+-- with them
 abbrev pub AreNoClaims : List ℕ → Domain (List ℕ) → List ℕ → TextCause → Type 0
 AreNoClaims text rows given (Lex fault) = IsRefused text rows (Lex fault)
 AreNoClaims text rows given (Parse fault) = IsRefused text rows (Parse fault)
@@ -47,7 +48,8 @@ AreNoClaims text rows given (Claims fault) =
 AreNoClaims text rows given (Equ fault) = ⊥
 AreNoClaims text rows given (Auto fault) = ⊥
 
--- a text states these claims over a program's variables and points: each condition is decided, and comes with the cases in which it may be false
+-- a text states these claims over a program's variables and points: each condition is decided, and comes with the cases in which it may be
+-- false
 pub record AreClaimsOf (given : List ℕ) (names : List (List ℕ)) (points : List Point) (claims : List Claim) : Type 0 where
   pub reading : FileMeans given names points (Ok (map stated_of claims))
   pub stand : All (Stands names points) claims
@@ -60,18 +62,24 @@ IsTrueInRuns variables body claim =
     (run : List Configuration) (now : Configuration) → IsRun variables body run → Contains run now → IsAt now claim.point
     → IsTrueAt (condition_of claim.cond) now.state
 
--- what verdicts on claims at a vector say of a program: there is one for each claim; a claim is proved exactly where no rational state that fits the vector
--- at the claim's point passes all guards of a case in which the claim may be false; a proved claim is true in every run; an open one comes with such a state
-pub record SpeakOfRuns (variables : ℕ) (body : Statements) (system : Equations) (vector : Vector) (claims : List Claim) (verdicts : List Verdict) : Type 0 where
+-- what verdicts on claims at a vector say of a program: there is one for each claim; a claim is proved exactly where no rational state that
+-- fits the vector
+-- at the claim's point passes all guards of a case in which the claim may be false; a proved claim is true in every run; an open one comes
+-- with such a state
+pub record SpeakOfRuns (variables : ℕ) (body : Statements) (system : Equations) (vector : Vector) (claims : List Claim)
+    (verdicts : List Verdict) : Type 0 where
   pub one_each : length verdicts ≡ length claims
   pub proved_where : (k : ℕ) (claim : Claim) (verdict : Verdict) → slice_get claims k ≡ Some claim → slice_get verdicts k ≡ Some verdict
       → (verdict ≡ Proved) ↔ NoneAgainst system vector claim
-  pub proved : (k : ℕ) (claim : Claim) → slice_get claims k ≡ Some claim → slice_get verdicts k ≡ Some Proved → IsTrueInRuns variables body claim
-  pub open_ones : (k : ℕ) (claim : Claim) (state : RationalState) → slice_get claims k ≡ Some claim → slice_get verdicts k ≡ Some (Open state)
+  pub proved : (k : ℕ) (claim : Claim) → slice_get claims k ≡ Some claim → slice_get verdicts k ≡ Some Proved
+      → IsTrueInRuns variables body claim
+  pub open_ones : (k : ℕ) (claim : Claim) (state : RationalState) → slice_get claims k ≡ Some claim
+      → slice_get verdicts k ≡ Some (Open state)
       → BreaksSome system vector claim.point claim.against state
 
 -- the bytes are the verdicts on claims about a program: those of the least vector over a template
-pub record AreLeastVerdicts (m : Meanings) (names : List (List ℕ)) (body : Statements) (template : List (List ℤ)) (vector : Vector) (claims : List Claim)
+pub record AreLeastVerdicts (m : Meanings) (names : List (List ℕ)) (body : Statements) (template : List (List ℤ)) (vector : Vector)
+    (claims : List Claim)
     (rounds : ℕ) (bytes : List ℕ) : Type 0 where
   pub least : Least (equations_of_program (length names) body template) vector
   pub verdicts : List Verdict
@@ -80,7 +88,8 @@ pub record AreLeastVerdicts (m : Meanings) (names : List (List ℕ)) (body : Sta
   pub written : bytes ≡ verdicts_text names claims verdicts rounds
 
 -- they are those on the claims that a text states about the program of these texts, with the number of improvements by the policy
-pub record AreVerdictsOf (m : Meanings) (text : List ℕ) (rows : Domain (List ℕ)) (given : List ℕ) (policy : Policy) (limit : ℕ) (bytes : List ℕ)
+pub record AreVerdictsOf (m : Meanings) (text : List ℕ) (rows : Domain (List ℕ)) (given : List ℕ) (policy : Policy) (limit : ℕ)
+    (bytes : List ℕ)
     : Type 0 where
   pub system : System
   pub solved : IsSolvedSystem text rows system

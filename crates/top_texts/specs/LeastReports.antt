@@ -14,7 +14,8 @@ use Rattle.top_texts.specs.Rounds.{HasRounds, IsSystemFor}
 use Rattle.top_texts.specs.Texts.{IsReady}
 
 -- the bytes are the report of a vector of a program over a template; this vector is the least one, and holds in every run of the program
-pub record IsLeastReport (names : List (List ℕ)) (body : Statements) (template : List (List ℤ)) (vector : Vector) (footer : Footer) (bytes : List ℕ)
+pub record IsLeastReport (names : List (List ℕ)) (body : Statements) (template : List (List ℤ)) (vector : Vector) (footer : Footer)
+    (bytes : List ℕ)
     : Type 0 where
   pub least : Least (equations_of_program (length names) body template) vector
   pub holds : Holds (equations_of_program (length names) body template) body vector

@@ -18,7 +18,8 @@ use Rattle.top_status.specs.declared.status.Status.{Status}
 use Rattle.top_status.specs.declared.status.Status.TheVariants.{Done, Text, Spent}
 use Rattle.top_status.specs.declared.status.TextCause.{TextCause}
 
--- which texts are refused, by which cause; which system they mean otherwise; where an operation on the way is too wide; by which policy improvements over the
+-- which texts are refused, by which cause; which system they mean otherwise; where an operation on the way is too wide; by which policy
+-- improvements over the
 -- system are made, and at most how many
 pub record Question : Type 1 where
   pub is_refused : TextCause → Type 0
@@ -27,11 +28,13 @@ pub record Question : Type 1 where
   pub policy : Policy
   pub limit : ℕ
 
--- texts are refused by a cause, or mean a system over which the improvements end within the limit, or are spent; this is the ending where nothing fails
+-- texts are refused by a cause, or mean a system over which the improvements end within the limit, or are spent; this is the ending where
+-- nothing fails
 -- outside, there is memory, and no operation is too wide
 pub data QuestionEnds (question : Question) (ending : Status) : Type 0 where
   is_refused : (cause : TextCause) → ending ≡ Text cause → question.is_refused cause → QuestionEnds question ending
-  rounds_end : (system : System) → ending ≡ Done → question.means system → EndsWithin system question.policy question.limit → QuestionEnds question ending
+  rounds_end : (system : System) → ending ≡ Done → question.means system → EndsWithin system question.policy question.limit
+      → QuestionEnds question ending
   rounds_spent : (system : System) → ending ≡ Spent question.limit → question.means system → RunsOut system question.policy question.limit
       → QuestionEnds question ending
 

@@ -1,4 +1,5 @@
--- What texts are: a system to be solved, or refused by a cause. Tokens come first, then the program, its points and edges, the template, and the unknowns.
+-- What texts are: a system to be solved, or refused by a cause. Tokens come first, then the program, its points and edges, the template,
+-- and the unknowns.
 use Rattle.std.specs.Prelude.{◌≡◌, ◌*◌, ◌≤◌, ◌<◌, ℕ, ℤ, List, Result, Ok, Err, Some, None, length}
 use Rattle.lang_tokens.specs.declared.token.Token.{Token}
 use Rattle.lang_tokens.specs.Reading.{Reads}
@@ -39,7 +40,8 @@ HasTemplate domain.Octagons names answer = answer ≡ Ok (octagons_of (length na
 HasTemplate (domain.Rows text) names answer = Answers names text answer
 
 -- a program and a template of these texts
-pub record IsSystemOf (text : List ℕ) (rows : Domain (List ℕ)) (names : List (List ℕ)) (body : Statements) (template : List (List ℤ)) : Type 0 where
+pub record IsSystemOf (text : List ℕ) (rows : Domain (List ℕ)) (names : List (List ℕ)) (body : Statements) (template : List (List ℤ)) :
+    Type 0 where
   pub analysed : IsAnalysed text names body
   pub template_is : HasTemplate rows names (Ok template)
 
@@ -52,7 +54,8 @@ abbrev pub cells : List (List ℕ) → Statements → List (List ℤ) → ℕ
 cells names body template = cells_of (equations_of_program (length names) body template)
 
 -- a program and a template of these texts that are solved
-pub record IsReady (text : List ℕ) (rows : Domain (List ℕ)) (names : List (List ℕ)) (body : Statements) (template : List (List ℤ)) : Type 0 where
+pub record IsReady (text : List ℕ) (rows : Domain (List ℕ)) (names : List (List ℕ)) (body : Statements) (template : List (List ℤ)) :
+    Type 0 where
   pub system : IsSystemOf text rows names body template
   pub within : unknowns body template ≤ MOST_UNKNOWNS
   pub cells_within : cells names body template ≤ 134217728

@@ -58,7 +58,8 @@ AreNoTransitions text rows (Cells count) =
 AreNoTransitions text rows (Claims fault) = ⊥
 AreNoTransitions text rows (Equ fault) = ⊥
 
--- the bytes are the report of the least vector of the system of these texts, which holds at every configuration of every run along the edges of the text,
+-- the bytes are the report of the least vector of the system of these texts, which holds at every configuration of every run along the
+-- edges of the text,
 -- with the number of improvements by the policy
 pub record IsAutoReport (text : List ℕ) (rows : Domain (List ℕ)) (policy : Policy) (limit : ℕ) (bytes : List ℕ) : Type 0 where
   pub system : System

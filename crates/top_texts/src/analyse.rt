@@ -15,11 +15,11 @@ pub(crate) mod system;
 pub(crate) mod template;
 
 use crate::refusal::Refusal;
+use ask_words::{Domain, Policy};
 use certify::certificate_of;
 use rounds::report_of;
 use std::alloc::Global;
 use system::system_on;
-use ask_words::{Domain, Policy};
 
 /// The whole report of the least bounds of the program of `text`, over these rows, with the number of improvements by the
 /// policy, of which there may be `limit` (docs/FORMATS.md, "The report").
@@ -39,7 +39,8 @@ pub fn solve_text(
     requires short_rows { HasShortRows (domain_of rows.now) }
     requires limit { limit ≤ 1000000 }
     ensures ok { IfOk result (λ bytes. IsReportOf text.now (domain_of rows.now) policy limit bytes.items) }
-    ensures err { IfErr result (λ refusal. IsUnanswered (analysis_question exact Report text.now (domain_of rows.now) policy limit) refusal) }
+    ensures err { IfErr result (λ refusal. IsUnanswered (analysis_question exact Report text.now (domain_of rows.now) policy limit)
+        refusal) }
 {
     let system = system_on(alloc, text, rows)?;
     let bytes = report_of(alloc, &system, policy, limit)?;

@@ -9,9 +9,9 @@ ghost use Rattle.top_texts.specs.Reports.{IsSummaryOf};
 use crate::analyse::rounds::solve;
 use crate::analyse::system::system_on;
 use crate::refusal::Refusal;
-use std::alloc::Global;
 use ask_words::{Domain, Policy};
 use out_workload::{generate, generated_texts_read, summary};
+use std::alloc::Global;
 
 // How many improvements are made at most.
 const MOST_IMPROVEMENTS: u32 = 1000;

@@ -14,13 +14,13 @@ ghost use Rattle.top_texts.specs.Questions.{equations_question};
 
 use crate::analyse::rounds::solve;
 use crate::refusal::Refusal;
-use std::alloc::{AllocError, Global};
 use ask_words::Policy;
-use flow_systems::{Bounds, Footer, System};
 use flow_rationals::{
     EquFault, Equations, least_above_equal_right_sides, least_vectors_are_least_above, read, system,
 };
+use flow_systems::{Bounds, Footer, System};
 use out_report::values;
+use std::alloc::{AllocError, Global};
 use top_status::TextCause;
 
 // The refusal of a text that has this fault.
@@ -39,7 +39,8 @@ fn equations_of(alloc: Global, text: &[u8]) -> Result<Equations, Refusal>
     requires { length text.now ≤ 65536 }
     ensures ok { IfOk result (λ equations. Answers text.now (Ok equations)) }
     ensures within { IfOk result (λ equations. IsTrue (are_equations equations)) }
-    ensures err { IfErr result (λ refusal. (policy : PolicyValue) (limit : ℕ) → IsUnanswered (equations_question exact text.now policy limit) refusal) }
+    ensures err { IfErr result (λ refusal. (policy : PolicyValue) (limit : ℕ)
+        → IsUnanswered (equations_question exact text.now policy limit) refusal) }
 {
     match read(alloc, text) {
         Ok(equations) => Ok(equations),

@@ -6,9 +6,9 @@ ghost use Rattle.top_texts.specs.Checks.{IsFormFault};
 ghost use Rattle.top_texts.specs.Parted.{IsMisspelt};
 
 use crate::refusal::Refusal;
-use std::alloc::Global;
-use cert_types::Cert;
 use cert_text::{FormFault, read};
+use cert_types::Cert;
+use std::alloc::Global;
 use top_status::CertCause;
 
 // The refusal of bytes that have this fault.

@@ -11,11 +11,11 @@ ghost use Rattle.top_texts.specs.Parted.{IsUnread};
 ghost use Rattle.top_texts.specs.Texts.{Reading};
 
 use crate::refusal::Refusal;
-use std::alloc::Global;
 use flow_edges::{Flow, FlowFault, flow};
-use lang_tokens::{LexFault, lex};
 use lang_parser::{ParseFault, parse};
+use lang_tokens::{LexFault, lex};
 use lang_tree::Program;
+use std::alloc::Global;
 use top_status::TextCause;
 
 // The refusal of a text that has this fault instead of tokens.
@@ -72,7 +72,8 @@ pub(crate) fn flow_of(alloc: Global, program: &Program) -> Result<Flow, Refusal>
     ensures points { IfOk result (λ flow. flow.points ≡ points_of_program program.now.body) }
     ensures edges { IfOk result (λ flow. flow.edges ≡ edges_of_program program.now.body) }
     ensures within { IfOk result (λ _. fault_of_program program.now.body ≡ None) }
-    ensures err { IfErr result (λ refusal. (text : List ℕ) → Reading text (Ok (program.now.names, program.now.body)) → IsUnread text refusal) }
+    ensures err { IfErr result (λ refusal. (text : List ℕ) → Reading text (Ok (program.now.names, program.now.body))
+        → IsUnread text refusal) }
 {
     match flow(alloc, program) {
         Ok(flow) => Ok(flow),

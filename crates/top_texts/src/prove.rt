@@ -20,13 +20,13 @@ ghost use Rattle.top_texts.specs.Texts.{IsSolvedSystem};
 use crate::analyse::rounds::solve;
 use crate::analyse::system::system_on;
 use crate::refusal::Refusal;
-use std::alloc::Global;
 use ask_claims::{
     Claim, ClaimFault, ClaimsFault, Verdict, open_states_break, proved_verdicts_hold, read_claims,
     verdicts, verdicts_text,
 };
 use ask_words::{Domain, Policy};
 use flow_systems::{Bounds, Site, Spot, System};
+use std::alloc::Global;
 use top_status::TextCause;
 
 // The refusal of a text of claims that has this fault over a system's names and points.
@@ -113,7 +113,8 @@ pub fn prove_text(
     requires short_claims { length given.now ≤ 65536 }
     requires limit { limit ≤ 1000000 }
     ensures ok { IfOk result (λ bytes. AreVerdictsOf exact text.now (domain_of rows.now) given.now policy limit bytes.items) }
-    ensures err { IfErr result (λ refusal. IsUnanswered (claims_question exact text.now (domain_of rows.now) given.now policy limit) refusal) }
+    ensures err { IfErr result (λ refusal. IsUnanswered (claims_question exact text.now (domain_of rows.now) given.now policy limit)
+        refusal) }
 {
     proved_verdicts_hold();
     open_states_break();

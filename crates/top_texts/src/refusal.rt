@@ -3,8 +3,8 @@
 ghost use Rattle.std.specs.Prelude.{◌≡◌};
 ghost use Rattle.top_texts.specs.Parted.{refused};
 
-use std::alloc::AllocError;
 use flow_systems::Spot;
+use std::alloc::AllocError;
 use top_status::{CertCause, Status, TextCause};
 
 /// Why texts have no answer.

@@ -20,12 +20,12 @@ use crate::analyse::rounds::report_of;
 use crate::analyse::system::{count_cells, system_of};
 use crate::analyse::template::template_of;
 use crate::refusal::Refusal;
-use std::alloc::Global;
-use flow_transitions::{Auto, AutoFault, flow, post_solutions_hold_along, read};
 use ask_words::{Domain, Policy};
-use flow_systems::System;
 use flow_edges::Flow;
+use flow_systems::System;
 use flow_templates::{RowFault, Template};
+use flow_transitions::{Auto, AutoFault, flow, post_solutions_hold_along, read};
+use std::alloc::Global;
 use top_status::TextCause;
 
 // The refusal of a text that has this fault.

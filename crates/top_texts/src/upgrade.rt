@@ -6,8 +6,8 @@ ghost use Rattle.top_texts.specs.Upgrades.{IsUpgradeOf};
 
 use crate::form::cert_of;
 use crate::refusal::Refusal;
-use std::alloc::Global;
 use cert_text::write;
+use std::alloc::Global;
 
 /// The text of the certificate that the bytes spell (docs/FORMATS.md, "The certificate"). Whether it is valid doesn't matter.
 ///

@@ -5,24 +5,30 @@ use Rattle.lang_tokens.specs.Reading.{end_at}
 use Rattle.lang_tokens.specs.TokenLists.{AreTokensAfter, AreTokensOf}
 
 -- tokens behind a place, the end included
-few_after : (text : List ℕ) (place : ℕ) (ts : List Token) → place ≤ length text → AreTokensAfter text place ts → length (ts ++ end_at (length text) ∷ []) + place ≤ length text + 1
+few_after : (text : List ℕ) (place : ℕ) (ts : List Token) → place ≤ length text → AreTokensAfter text place ts
+    → length (ts ++ end_at (length text) ∷ []) + place ≤ length text + 1
 few_after text place [] h i = omega arith
-few_after text place (t ∷ ts) h i = let more : length (ts ++ end_at (length text) ∷ []) + (t.at + t.len) ≤ length text + 1 = few_after text (t.at + t.len) ts i.0.within i.1 in omega (arith, more, i.0.some, i.0.after)
+few_after text place (t ∷ ts) h i = let more : length (ts ++ end_at (length text) ∷ []) + (t.at + t.len) ≤ length text + 1 =
+    few_after text (t.at + t.len) ts i.0.within i.1 in omega (arith, more, i.0.some, i.0.after)
 
 -- A text has at most one token more than bytes.
 pub few_tokens : (text : List ℕ) (ts : List Token) → AreTokensOf text ts → length ts ≤ length text + 1
-few_tokens text ts tokens = let P : List Token → Type 0 = λ l. length l ≤ length text + 1 in subst P tokens.ended (omega (arith, few_after text 0 tokens.front (omega arith) tokens.placed))
+few_tokens text ts tokens = let P : List Token → Type 0 = λ l. length l ≤ length text + 1 in
+    subst P tokens.ended (omega (arith, few_after text 0 tokens.front (omega arith) tokens.placed))
 
 -- where tokens behind a place begin
-within_after : (text : List ℕ) (place : ℕ) (ts : List Token) → AreTokensAfter text place ts → (k : ℕ) (d : Token) → k < length (ts ++ end_at (length text) ∷ []) → (get_or (ts ++ end_at (length text) ∷ []) k d).at ≤ length text
+within_after : (text : List ℕ) (place : ℕ) (ts : List Token) → AreTokensAfter text place ts → (k : ℕ) (d : Token)
+    → k < length (ts ++ end_at (length text) ∷ []) → (get_or (ts ++ end_at (length text) ∷ []) k d).at ≤ length text
 within_after text place [] i zero d h = omega arith
 within_after text place [] i (suc k) d h = absurd (omega arith)
 within_after text place (t ∷ ts) i zero d h = omega (arith, i.0.within)
 within_after text place (t ∷ ts) i (suc k) d h = within_after text (t.at + t.len) ts i.1 k d (omega arith)
 
 -- A token begins in the text or at its end.
-pub within_text : (text : List ℕ) (ts : List Token) → AreTokensOf text ts → (k : ℕ) (d : Token) → k < length ts → (get_or ts k d).at ≤ length text
-within_text text ts tokens = let P : List Token → Type 0 = λ l. (k : ℕ) (d : Token) → k < length l → (get_or l k d).at ≤ length text in subst P tokens.ended (within_after text 0 tokens.front tokens.placed)
+pub within_text : (text : List ℕ) (ts : List Token) → AreTokensOf text ts → (k : ℕ) (d : Token) → k < length ts
+    → (get_or ts k d).at ≤ length text
+within_text text ts tokens = let P : List Token → Type 0 = λ l. (k : ℕ) (d : Token) → k < length l → (get_or l k d).at ≤ length text in
+    subst P tokens.ended (within_after text 0 tokens.front tokens.placed)
 
 -- a place of a text is a number of the code, and so is the next one
 pub fits_code : (n m : ℕ) → n ≤ m → m ≤ 65536 → n < 2 ^ 32 - 1

@@ -4,7 +4,8 @@ use Rattle.std.proofs.lemmas.List.{map-append}
 use Rattle.std.specs.Prelude.{slice_range}
 use Rattle.lang_tokens.specs.declared.token.Kind as lex_kind
 use Rattle.lang_tokens.specs.declared.token.Token as lex_token
-use Rattle.lang_grammar.specs.Grammar.{waiting, Items, GoodItems, right_brace, the_end, Token, token, spell_items, spell_return, Return, no_return, returns, returns_minus, nothing, void_at}
+use Rattle.lang_grammar.specs.Grammar.{waiting, Items, GoodItems, right_brace, the_end, Token, token, spell_items, spell_return, Return}
+use Rattle.lang_grammar.specs.Grammar.{no_return, returns, returns_minus, nothing, void_at}
 use Rattle.lang_grammar.specs.Grammar.{Program, program, spell, Good, Reads}
 use Rattle.lang_grammar.specs.View.{kind_of, plain_kind, tokens_of, plain_token}
 use Rattle.acsl_anchors.specs.Anchors as spec
@@ -25,15 +26,20 @@ return_head (returns a n b c) f w = refl
 return_head (returns_minus a b n c d) f w = refl
 
 -- the end is found, and nothing more
-return_run : (r : Return) (f g : ℕ) (s : Scope) (found : List Anchor) → (run (state (goal.Statement place.Main ∷ []) s found) (spell_return r ++ token right_brace f ∷ token the_end g ∷ [])).found ≡ found ++ plain_anchor (spec.end_at (spec.end_place r f) s) ∷ []
+return_run : (r : Return) (f g : ℕ) (s : Scope) (found : List Anchor) →
+    (run (state (goal.Statement place.Main ∷ []) s found) (spell_return r ++ token right_brace f ∷ token the_end g ∷ [])).found
+    ≡ found ++ plain_anchor (spec.end_at (spec.end_place r f) s) ∷ []
 return_run no_return f g s found = refl
 return_run (returns a n b c) f g s found = refl
 return_run (returns_minus a b n c d) f g s found = refl
 
 -- The statements of `main` and its end.
-main_found : (is : Items) (r : Return) (f g : ℕ) → GoodItems is → (run (state (goal.Statement place.Main ∷ []) no_scope []) (spell_items is ++ (spell_return r ++ token right_brace f ∷ token the_end g ∷ []))).found ≡ plain_anchors (anchors_items is no_scope ++ spec.end_at (spec.end_place r f) (scope_items is no_scope) ∷ [])
+main_found : (is : Items) (r : Return) (f g : ℕ) → GoodItems is → (run (state (goal.Statement place.Main ∷ []) no_scope [])
+    (spell_items is ++ (spell_return r ++ token right_brace f ∷ token the_end g ∷ []))).found
+    ≡ plain_anchors (anchors_items is no_scope ++ spec.end_at (spec.end_place r f) (scope_items is no_scope) ∷ [])
 main_found is r f g h =
-    ap (λ (st : State). st.found) (items_run is place.Main tt [] no_scope [] (spell_return r ++ token right_brace f ∷ token the_end g ∷ []) h (return_head r f (token the_end g ∷ [])))
+    ap (λ (st : State). st.found) (items_run is place.Main tt [] no_scope [] (spell_return r ++ token right_brace f ∷ token the_end g ∷ [])
+    h (return_head r f (token the_end g ∷ [])))
     ∙ return_run r f g (scope_items is no_scope) (plain_anchors (anchors_items is no_scope))
     ∙ sym (map-append plain_anchor (anchors_items is no_scope) (spec.end_at (spec.end_place r f) (scope_items is no_scope) ∷ []))
 
@@ -55,9 +61,12 @@ plain_part bytes lex_kind.TheVariants.End = refl
 pub plain_run : (text : List ℕ) (st : State) (ts : List lex_token.Token) → run st (map plain_token ts) ≡ run st (tokens_of text ts)
 plain_run text st [] = refl
 plain_run text st (t ∷ ts) =
-    ap (λ (k : Part). run (step st.goals k t.at st.scope st.found) (map plain_token ts)) (plain_part (slice_range text t.at (t.at + t.len)) t.kind)
+    ap (λ (k : Part). run (step st.goals k t.at st.scope st.found) (map plain_token ts))
+    (plain_part (slice_range text t.at (t.at + t.len)) t.kind)
     ∙ plain_run text (step st.goals (part_of (kind_of (slice_range text t.at (t.at + t.len)) t.kind)) t.at st.scope st.found) ts
 
 -- What the machine finds at the tokens of a program are its anchors.
-pub read_found : (text : List ℕ) (ts : List lex_token.Token) (p : Program) → Reads (tokens_of text ts) p → (run start (map plain_token ts)).found ≡ plain_anchors (anchors_of p)
-read_found text ts p reads = ap (λ (st : State). st.found) (plain_run text start ts) ∙ ap (λ (w : List Token). (run start w).found) (sym reads.spelled) ∙ program_found p reads.good
+pub read_found : (text : List ℕ) (ts : List lex_token.Token) (p : Program) → Reads (tokens_of text ts) p
+    → (run start (map plain_token ts)).found ≡ plain_anchors (anchors_of p)
+read_found text ts p reads = ap (λ (st : State). st.found) (plain_run text start ts)
+    ∙ ap (λ (w : List Token). (run start w).found) (sym reads.spelled) ∙ program_found p reads.good

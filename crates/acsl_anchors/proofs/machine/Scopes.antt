@@ -23,7 +23,8 @@ none_more xs = ([], rw append-nil refl)
 -- Declarations make more names known,
 declarators_extend : (xs : Declarators) (s : Scope) → Extends s.known (scope_declarators xs s).known
 declarators_extend (declares x a) s = (s.declared ∷ [], refl)
-declarators_extend (declares_more x a xs) s = extends_once s.known (declared_one s).known (scope_declarators xs (declared_one s)).known (s.declared ∷ [], refl) (declarators_extend xs (declared_one s))
+declarators_extend (declares_more x a xs) s = extends_once s.known (declared_one s).known (scope_declarators xs (declared_one s)).known
+    (s.declared ∷ [], refl) (declarators_extend xs (declared_one s))
 
 -- also those in the head of a `for`,
 first_extends : (f : ForFirst) (s : Scope) → Extends s.known (scope_first f s).known
@@ -54,7 +55,8 @@ mutual
 items_extend : (is : Items) (s : Scope) → Extends s.known (scope_items is s).known
 items_extend no_items s = none_more s.known
 items_extend (label x a b is) s = items_extend is s
-items_extend (declaration a xs is) s = extends_once s.known (scope_declarators xs s).known (scope_items is (scope_declarators xs s)).known (declarators_extend xs s) (items_extend is (scope_declarators xs s))
+items_extend (declaration a xs is) s = extends_once s.known (scope_declarators xs s).known (scope_items is (scope_declarators xs s)).known
+    (declarators_extend xs s) (items_extend is (scope_declarators xs s))
 items_extend (item c is) s = let (more, h) = items_extend is (scope_core c s) in (more, h ∙ ap (λ l. l ++ more) (core_known c s))
 
 -- the first names are those of before
@@ -63,12 +65,15 @@ taken_back xs ys (more, h) = rw h (take-append_seam xs more)
 
 -- So what is known behind a block is told by their number,
 pub block_closed : (is : Items) (s : Scope) → kept (length s.known) (scope_items is s) ≡ closing s (scope_items is s)
-block_closed is s = ap (λ (l : List ℕ). let t : Scope = record { declared = (scope_items is s).declared; known = l } in t) (taken_back s.known (scope_items is s).known (items_extend is s))
+block_closed is s = ap (λ (l : List ℕ). let t : Scope = record { declared = (scope_items is s).declared; known = l } in t)
+    (taken_back s.known (scope_items is s).known (items_extend is s))
 
 -- what is known at the end of the body of a `for`
 for_extends : (f : ForFirst) (body : Sub) (s : Scope) → Extends s.known (scope_sub body (scope_first f s)).known
 for_extends f body s = let (more, h) = first_extends f s in (more, sub_known body (scope_first f s) ∙ h)
 
 -- and likewise behind a `for`.
-pub for_closed : (f : ForFirst) (body : Sub) (s : Scope) → kept (length s.known) (scope_sub body (scope_first f s)) ≡ closing s (scope_sub body (scope_first f s))
-for_closed f body s = ap (λ (l : List ℕ). let t : Scope = record { declared = (scope_sub body (scope_first f s)).declared; known = l } in t) (taken_back s.known (scope_sub body (scope_first f s)).known (for_extends f body s))
+pub for_closed : (f : ForFirst) (body : Sub) (s : Scope) → kept (length s.known) (scope_sub body (scope_first f s))
+    ≡ closing s (scope_sub body (scope_first f s))
+for_closed f body s = ap (λ (l : List ℕ). let t : Scope = record { declared = (scope_sub body (scope_first f s)).declared; known = l } in t)
+    (taken_back s.known (scope_sub body (scope_first f s)).known (for_extends f body s))

@@ -48,7 +48,8 @@ module _ (P : ℕ → Type 0) where
   -- Tokens in a row stand one behind the other.
   pub split : (xs ys : List Token) (from to : ℕ) → Standing from (xs ++ ys) to → Split from xs ys to
   split [] ys from to h = record { between = from; left = omega arith; right = h }
-  split (token k a ∷ xs) ys from to h = let s = split xs ys (a + 1) to h.2 in record { between = s.between; left = (h.0, h.1, s.left); right = s.right }
+  split (token k a ∷ xs) ys from to h = let s = split xs ys (a + 1) to h.2 in
+      record { between = s.between; left = (h.0, h.1, s.left); right = s.right }
 
   -- Anchors between two places are between any further apart,
   pub wider : (xs : List Anchor) (low from to high : ℕ) → low ≤ from → to ≤ high → Placed from xs to → Placed low xs high
@@ -56,7 +57,8 @@ module _ (P : ℕ → Type 0) where
   wider (x ∷ xs) low from to high h i p = (omega (arith, p.0), p.1, wider xs x.place x.place to high (omega arith) i p.2)
 
   -- and those in a row between the first place and the last.
-  pub one_after_another : (xs ys : List Anchor) (from between to : ℕ) → Placed from xs between → Placed between ys to → Placed from (xs ++ ys) to
+  pub one_after_another : (xs ys : List Anchor) (from between to : ℕ) → Placed from xs between → Placed between ys to
+      → Placed from (xs ++ ys) to
   one_after_another [] ys from between to h i = wider ys from between to to h (omega arith) i
   one_after_another (x ∷ xs) ys from between to h i = (h.0, h.1, one_after_another xs ys x.place between to h.2 i)
 
@@ -72,7 +74,14 @@ module _ (P : ℕ → Type 0) where
     pub rest : Standing (c + 1) ts to
 
   -- A condition has its places before those of what follows.
-  pub headed : (k : Kind) (a b : ℕ) (e : Expr) (c : ℕ) (ts : List Token) (from to : ℕ) → Standing from (token k a ∷ token left_paren b ∷ (spell_expr e ++ token right_paren c ∷ ts)) to → Headed from k a c ts to
+  pub headed : (k : Kind) (a b : ℕ) (e : Expr) (c : ℕ) (ts : List Token) (from to : ℕ)
+      → Standing from (token k a ∷ token left_paren b ∷ (spell_expr e ++ token right_paren c ∷ ts)) to → Headed from k a c ts to
   headed k a b e c ts from to h =
       let s = split (spell_expr e) (token right_paren c ∷ ts) (b + 1) to h.2.2 in
-      record { after = h.0; held = h.1; before = omega (arith, h.2.0, in_order (spell_expr e) (b + 1) s.between s.left, s.right.0); rest = s.right.2 }
+      record {
+        after = h.0;
+        held = h.1;
+        before = omega (arith, h.2.0, in_order (spell_expr e) (b + 1) s.between s.left, s.right.0);
+        rest =
+            s.right.2;
+      }

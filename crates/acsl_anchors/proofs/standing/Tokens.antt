@@ -1,5 +1,6 @@
 -- The tokens of a text stand in order, and a colon has one byte.
-use Rattle.std.proofs.Common.{◌≡◌, ◌∙◌, ◌≤◌, ◌<◌, ◌+◌, ◌-◌, ◌++◌, ◌∷◌, ℕ, zero, suc, true, false, List, [], length, map, get_or, drop, inl, inr, refl, sym, ap, subst, append_assoc, arith, Contains}
+use Rattle.std.proofs.Common.{◌≡◌, ◌∙◌, ◌≤◌, ◌<◌, ◌+◌, ◌-◌, ◌++◌, ◌∷◌, ℕ, zero, suc, true, false, List, [], length, map, get_or, drop, inl}
+use Rattle.std.proofs.Common.{inr, refl, sym, ap, subst, append_assoc, arith, Contains}
 use Rattle.std.specs.List.{slice_range}
 use Rattle.std.proofs.lemmas.List.{length-take-le, length-drop}
 use Rattle.std.proofs.lemmas.List.Elements.{Contains-append_right}
@@ -26,7 +27,8 @@ word_is_none lex_word.TheVariants.Int = refl
 word_is_none _ = refl
 
 -- and a sign that is one has a byte,
-sign_is_one : (s : lex_sign.Sign) (bytes : List ℕ) → is_colon (kind_of bytes (lex_kind.TheVariants.Sign s)) ≡ true → IsToken (lex_kind.TheVariants.Sign s) bytes → length bytes ≡ 1
+sign_is_one : (s : lex_sign.Sign) (bytes : List ℕ) → is_colon (kind_of bytes (lex_kind.TheVariants.Sign s)) ≡ true
+    → IsToken (lex_kind.TheVariants.Sign s) bytes → length bytes ≡ 1
 sign_is_one lex_sign.TheVariants.Colon bytes h i = ap length (sym i)
 sign_is_one _ bytes h i = cc
 
@@ -44,7 +46,8 @@ range_length text at len h = length-take-le ((at + len) - at) (drop at text) (om
 
 -- what stands among tokens is one of them
 listed : (tokens before rest : List lex_token.Token) (t : lex_token.Token) → before ++ t ∷ rest ≡ tokens → Contains tokens t
-listed tokens before rest t e = let P : List lex_token.Token → Type 0 = λ l. Contains l t in subst P e (Contains-append_right before (t ∷ rest) t (0, omega arith, refl))
+listed tokens before rest t e = let P : List lex_token.Token → Type 0 = λ l. Contains l t in
+    subst P e (Contains-append_right before (t ∷ rest) t (0, omega arith, refl))
 
 module _ (text : List ℕ) (tokens : List lex_token.Token) where
   -- an edge of these tokens
@@ -52,10 +55,12 @@ module _ (text : List ℕ) (tokens : List lex_token.Token) where
   Edge place = IsEdge tokens place
 
   -- A token begins at an edge, and what follows a colon begins at one.
-  edges : (t : lex_token.Token) (place : ℕ) → Contains tokens t → IsTokenAfter text place t → HoldsAt Edge (kind_of (slice_range text t.at (t.at + t.len)) t.kind) t.at
+  edges : (t : lex_token.Token) (place : ℕ) → Contains tokens t → IsTokenAfter text place t
+      → HoldsAt Edge (kind_of (slice_range text t.at (t.at + t.len)) t.kind) t.at
   edges t place h i = record {
     begin = λ e. record { token = t; listed = h; some = i.some; edge = inl refl };
-    behind = λ e. let one : length (slice_range text t.at (t.at + t.len)) ≡ 1 = colon_is_one t.kind (slice_range text t.at (t.at + t.len)) e i.is_token in
+    behind = λ e. let one : length (slice_range text t.at (t.at + t.len)) ≡ 1 =
+        colon_is_one t.kind (slice_range text t.at (t.at + t.len)) e i.is_token in
         record { token = t; listed = h; some = i.some; edge = inr (omega (arith, one, range_length text t.at t.len i.within)) };
   }
 
@@ -65,18 +70,21 @@ module _ (text : List ℕ) (tokens : List lex_token.Token) where
   from_before (token k a ∷ ts) low from to h s = (omega (arith, s.0), s.1, s.2)
 
   -- tokens behind others, with the end
-  stand_after : (before ts : List lex_token.Token) (place : ℕ) → before ++ (ts ++ end_at (length text) ∷ []) ≡ tokens → place ≤ length text → AreTokensAfter text place ts → Standing Edge place (tokens_of text (ts ++ end_at (length text) ∷ [])) (length text + 1)
+  stand_after : (before ts : List lex_token.Token) (place : ℕ) → before ++ (ts ++ end_at (length text) ∷ []) ≡ tokens → place ≤ length text
+      → AreTokensAfter text place ts → Standing Edge place (tokens_of text (ts ++ end_at (length text) ∷ [])) (length text + 1)
   stand_after before [] place e h i = (h, record { begin = λ f. cc; behind = λ f. cc }, omega arith)
   stand_after before (t ∷ ts) place e h i = (
     i.0.after,
     edges t place (listed tokens before (ts ++ end_at (length text) ∷ []) t e) i.0,
     from_before (tokens_of text (ts ++ end_at (length text) ∷ [])) (t.at + 1) (t.at + t.len) (length text + 1) (omega (arith, i.0.some))
-        (stand_after (before ++ t ∷ []) ts (t.at + t.len) (append_assoc before (t ∷ []) (ts ++ end_at (length text) ∷ []) ∙ e) i.0.within i.1),
+        (stand_after (before ++ t ∷ []) ts (t.at + t.len) (append_assoc before (t ∷ []) (ts ++ end_at (length text) ∷ []) ∙ e) i.0.within
+        i.1),
   )
 
   -- All tokens of the text stand so.
   all_stand : AreTokensOf text tokens → Standing Edge 0 (tokens_of text tokens) (length text + 1)
-  all_stand h = let P : List lex_token.Token → Type 0 = λ l. Standing Edge 0 (tokens_of text l) (length text + 1) in subst P h.ended (stand_after [] h.front 0 h.ended (omega arith) h.placed)
+  all_stand h = let P : List lex_token.Token → Type 0 = λ l. Standing Edge 0 (tokens_of text l) (length text + 1) in
+      subst P h.ended (stand_after [] h.front 0 h.ended (omega arith) h.placed)
 
   -- Anchors in order are in order,
   ascending : (xs : List Anchor) (from to : ℕ) → Placed Edge from xs to → Ascend from to (map (λ a. a.place) xs)
@@ -92,5 +100,7 @@ module _ (text : List ℕ) (tokens : List lex_token.Token) where
   -- So do those of the program that the tokens read as.
   pub anchors_stand_in : (p : Program) → lex.Reads text tokens → Reads (tokens_of text tokens) p → AnchorsStandIn text tokens (anchors_of p)
   anchors_stand_in p h reads =
-      let placed : Placed Edge 0 (anchors_of p) (length text) = program_placed Edge p (length text) (let P : List Token → Type 0 = λ l. Standing Edge 0 l (length text + 1) in subst P (sym reads.spelled) (all_stand (placed_tokens text tokens h))) in
+      let placed : Placed Edge 0 (anchors_of p) (length text) = program_placed Edge p (length text)
+      (let P : List Token → Type 0 = λ l. Standing Edge 0 l (length text + 1) in
+      subst P (sym reads.spelled) (all_stand (placed_tokens text tokens h))) in
       record { order = ascending (anchors_of p) 0 (length text) placed; edges = all_edges (anchors_of p) 0 (length text) placed }

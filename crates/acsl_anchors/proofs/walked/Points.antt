@@ -25,7 +25,8 @@ if_append false x xs ys = refl
 -- Points in a row,
 pub anchored_append : (xs ys : List Point) → anchored (xs ++ ys) ≡ anchored xs ++ anchored ys
 anchored_append [] ys = refl
-anchored_append (x ∷ xs) ys = ap (λ (l : List Point). if is_anchored x.place then x ∷ l else l) (anchored_append xs ys) ∙ if_append (is_anchored x.place) x (anchored xs) (anchored ys)
+anchored_append (x ∷ xs) ys = ap (λ (l : List Point). if is_anchored x.place then x ∷ l else l) (anchored_append xs ys)
+    ∙ if_append (is_anchored x.place) x (anchored xs) (anchored ys)
 
 -- and what nodes in a row make.
 made_append : (xs ys : List Made) → anchored_made (xs ++ ys) ≡ anchored_made xs ++ anchored_made ys
@@ -44,14 +45,17 @@ followed (cons x ns) ms n =
     )
 
 -- The join of an `if` has none.
-pub branch_anchored : (c : Condition) (first second : Statements) (line n : ℕ) → anchored_in (one (branch c first second line)) n ≡ anchored_in first n ++ anchored_in second (n + points_in first)
+pub branch_anchored : (c : Condition) (first second : Statements) (line n : ℕ)
+    → anchored_in (one (branch c first second line)) n ≡ anchored_in first n ++ anchored_in second (n + points_in first)
 branch_anchored c first second line n =
     ap anchored_made (append-nil (made_by (branch c first second line) n))
     ∙ made_append (made_in first n) (made_in second (n + points_in first) ++ made (join_of first second n) Join line ∷ [])
-    ∙ ap (λ l. anchored_in first n ++ l) (made_append (made_in second (n + points_in first)) (made (join_of first second n) Join line ∷ []) ∙ append-nil (anchored_in second (n + points_in first)))
+    ∙ ap (λ l. anchored_in first n ++ l) (made_append (made_in second (n + points_in first)) (made (join_of first second n) Join line ∷ [])
+    ∙ append-nil (anchored_in second (n + points_in first)))
 
 -- The head of a loop has one, before those in its body.
-pub loop_anchored : (kind : LoopKind) (c : Condition) (body : Statements) (line n : ℕ) → anchored_in (one (loop kind c body line)) n ≡ record { place = Loop; line = line } ∷ anchored_in body (n + 1)
+pub loop_anchored : (kind : LoopKind) (c : Condition) (body : Statements) (line n : ℕ)
+    → anchored_in (one (loop kind c body line)) n ≡ record { place = Loop; line = line } ∷ anchored_in body (n + 1)
 loop_anchored kind c body line n = ap anchored_made (append-nil (made_by (loop kind c body line) n))
 
 -- A point behind an assumption has none.

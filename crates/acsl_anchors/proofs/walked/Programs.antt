@@ -19,16 +19,19 @@ use Rattle.acsl_anchors.proofs.walked.Matches.{items_matches}
 -- A program's nodes are those of its statements.
 nodes_are : (st : State) (ns body : Statements) (names : List (List ℕ)) → IsOk (program_of (st, ns)) (names, body) → ns ≡ body
 nodes_are st ns body names h = by_names st.names h where
-  by_names : (xs : List (List ℕ)) → IsOk (elim xs as (λ z. Result (List (List ℕ) × Statements) ParseFault) [ [] ↦ Err NoVariables | y ∷ ys ↦ Ok (y ∷ ys, ns) ]) (names, body) → ns ≡ body
+  by_names : (xs : List (List ℕ)) → IsOk (elim xs as (λ z. Result (List (List ℕ) × Statements) ParseFault)
+      [ [] ↦ Err NoVariables | y ∷ ys ↦ Ok (y ∷ ys, ns) ]) (names, body) → ns ≡ body
   by_names [] g = cc
   by_names (y ∷ ys) g = ap (λ (z : List (List ℕ) × Statements). z.1) (ok_is (y ∷ ys, ns) (names, body) g)
 
 -- The anchors of a program and the points of its nodes.
-pub points_are : (line : ℕ → ℕ) (p : Program) (names : List (List ℕ)) (body : Statements) → walk line p ≡ Ok (names, body) → map (point_of line) (anchors_of p) ≡ anchored (points_of_program body)
+pub points_are : (line : ℕ → ℕ) (p : Program) (names : List (List ℕ)) (body : Statements) → walk line p ≡ Ok (names, body)
+    → map (point_of line) (anchors_of p) ≡ anchored (points_of_program body)
 points_are line (program a b c ps d e is r f g) names body h =
     let q = met (walk_items line (min MOST_VARIABLES (declared_items is)) false is start_state) _ (names, body) h in
     let m = items_matches line (min MOST_VARIABLES (declared_items is)) false is start_state q.value q.was in
     let same = nodes_are q.value.0 q.value.1 body names q.gave in
     map-append (point_of line) (anchors_items is no_scope) (end_at (end_place r f) (scope_items is no_scope) ∷ [])
-    ∙ ap (λ (l : List Point). l ++ record { place = Exit; line = 0 } ∷ []) (m.points no_scope 1 ∙ ap (λ (ns : Statements). anchored_in ns 1) same)
+    ∙ ap (λ (l : List Point). l ++ record { place = Exit; line = 0 } ∷ [])
+    (m.points no_scope 1 ∙ ap (λ (ns : Statements). anchored_in ns 1) same)
     ∙ sym (anchored_append (map (λ (x : Made). x.point) (made_in body 1)) (record { place = Exit; line = 0 } ∷ []))

@@ -26,13 +26,15 @@ use Rattle.acsl_annotate.specs.Annotated.{IsAnnotatedOf, IsAnnotatedOn}
 use Rattle.acsl_annotate.specs.Ends.{IsPutEnd, is_done, is_unwritten, wants_memory}
 
 -- a report that is put ends so
-pub put_ends : (bytes : List ℕ) (result : Status) (held now : Option (List ℕ)) (f f' : ℕ) → PutsReport bytes result held now f f' → IsPutEnd result
+pub put_ends : (bytes : List ℕ) (result : Status) (held now : Option (List ℕ)) (f f' : ℕ) → PutsReport bytes result held now f f'
+    → IsPutEnd result
 put_ends bytes result held now f f' (whole e a) = is_done e
 put_ends bytes result held now f f' (failed e n a r) = is_unwritten e
 put_ends bytes result held now f f' (wanting e n a) = wants_memory e
 
 -- where bounds were found, the improvements end
-solvable : (text : List ℕ) (rows : Domain (List ℕ)) (policy : Policy) (limit : ℕ) (bounds : LeastBounds) → IsFoundIn text rows policy limit bounds → IsSolvable text rows policy limit
+solvable : (text : List ℕ) (rows : Domain (List ℕ)) (policy : Policy) (limit : ℕ) (bounds : LeastBounds)
+    → IsFoundIn text rows policy limit bounds → IsSolvable text rows policy limit
 solvable text rows policy limit bounds h =
     (bounds.system, h.solved, (bounds.solved.improvements, h.within, vector_at bounds.system bounds.solved.bounds, h.has_rounds))
 
@@ -58,7 +60,8 @@ module _ (files : Option Contents) (a : Analysis (List ℕ)) where
   put_read f f' l s (wants_memory e) = subst (λ x. FailsOnlyIn files f f' l (Analyse Report a) x) (sym e) tt
 
   -- what is put of a text is put of what the analysis read
-  pub put_held : (found : Found) (s : Status) (held now : Option (List ℕ)) → (h : IsFound files a found) → OutputHolds (IsAnnotatedOf found.text.items h.rows) s held now
+  pub put_held : (found : Found) (s : Status) (held now : Option (List ℕ)) → (h : IsFound files a found)
+      → OutputHolds (IsAnnotatedOf found.text.items h.rows) s held now
       → OutputHolds (IsAnnotatedOn files a) s held now
   put_held found s held now h o =
       output_map (IsAnnotatedOf found.text.items h.rows) (IsAnnotatedOn files a) s held now

@@ -14,7 +14,8 @@ short : length usage_text ≤ 512
 short = omega arith
 
 -- the usage line was put
-pub usage_put : (line rows : ℕ) (status : Status) (bytes : List ℕ) (held now : Option (List ℕ)) (f f' s : ℕ) (r : Result (Unit {0}) PutFault) → bytes ≡ usage_text → status ≡ Usage
+pub usage_put : (line rows : ℕ) (status : Status) (bytes : List ℕ) (held now : Option (List ℕ)) (f f' s : ℕ)
+    (r : Result (Unit {0}) PutFault) → bytes ≡ usage_text → status ≡ Usage
     → Puts held now bytes r → HasPutCause f f' s bytes r → GetsMessage status (said line rows status) held now f f' s
 usage_put line rows status bytes held now f f' s r e i puts cause =
     subst (λ x. GetsMessage x (said line rows x) held now f f' s) (sym i)
@@ -33,6 +34,7 @@ same line rows Memory n = refl
 same line rows Write n = refl
 
 -- another message was put
-pub other_put : (line rows : ℕ) (status : Status) (held now : Option (List ℕ)) (f f' s : ℕ) → status ≢ Usage → GetsMessage status (message_of line rows status) held now f f' s
+pub other_put : (line rows : ℕ) (status : Status) (held now : Option (List ℕ)) (f f' s : ℕ) → status ≢ Usage
+    → GetsMessage status (message_of line rows status) held now f f' s
     → GetsMessage status (said line rows status) held now f f' s
 other_put line rows status held now f f' s n h = subst (λ m. GetsMessage status m held now f f' s) (same line rows status n) h

@@ -39,17 +39,20 @@ use Rattle.acsl_annotate.specs.Annotated.{IsAnnotatedOf, IsTreeOf, notes}
 
 -- tokens that mean a program have a tree that does
 tree_in : (text : List ℕ) (tokens : List lex_token.Token) (names : List (List ℕ)) (body : Statements) → lex.Reads text tokens
-    → Means text (tokens_of text tokens) (Ok (names, body)) → (tree : Program) × IsTreeOf text names body tree × Reads (tokens_of text tokens) tree
+    → Means text (tokens_of text tokens) (Ok (names, body)) → (tree : Program) × IsTreeOf text names body tree
+    × Reads (tokens_of text tokens) tree
 tree_in text tokens names body reads (inl (at, finds, e)) = cc
 tree_in text tokens names body reads (inr (inl (at, finds, e))) = cc
-tree_in text tokens names body reads (inr (inr (tree, is, fine, e))) = (tree, record { tokens = tokens; reads = reads; tree_is = is; means = sym e }, is)
+tree_in text tokens names body reads (inr (inr (tree, is, fine, e))) =
+    (tree, record { tokens = tokens; reads = reads; tree_is = is; means = sym e }, is)
 
 -- a text has one list of tokens
 abbrev pub OneReading : Type 0
 OneReading = (text : List ℕ) (tokens others : List lex_token.Token) → lex.Reads text tokens → lex.Reads text others → tokens ≡ others
 
 -- what the code found of a program: its tokens, its anchors by their tree, and its comments by its anchors
-pub record IsNoted (text : List ℕ) (bounds : LeastBounds) (tokens : List lex_token.Token) (places : List code_anchor.Anchor) (list : List Comment) : Type 0 where
+pub record IsNoted (text : List ℕ) (bounds : LeastBounds) (tokens : List lex_token.Token) (places : List code_anchor.Anchor)
+    (list : List Comment) : Type 0 where
   -- the text reads as the tokens
   pub reads : lex.Reads text tokens
   -- the names of the variables are words
@@ -58,14 +61,18 @@ pub record IsNoted (text : List ℕ) (bounds : LeastBounds) (tokens : List lex_t
   pub anchors : (p : Program) → Reads (tokens_of text tokens) p → places ≡ plain_anchors (anchors_of p)
   -- the comments are those of the anchors with the bounds found
   pub comments : (l : List Anchor) → places ≡ plain_anchors l
-      → list ≡ comments_from text bounds.system.flow.names bounds.system.template (vector_at bounds.system bounds.solved.bounds) 0 bounds.system.flow.points l
+      → list ≡ comments_from text bounds.system.flow.names bounds.system.template (vector_at bounds.system bounds.solved.bounds) 0
+      bounds.system.flow.points l
 
 -- the same of texts, tokens, names and anchors that are borrowed
-pub noted_by : (text : List ℕ) (bounds : LeastBounds) (tokens tokens2 : List lex_token.Token) (places places2 : List code_anchor.Anchor) (list : List Comment) (t1 t2 t3 : List ℕ)
+pub noted_by : (text : List ℕ) (bounds : LeastBounds) (tokens tokens2 : List lex_token.Token) (places places2 : List code_anchor.Anchor)
+    (list : List Comment) (t1 t2 t3 : List ℕ)
     (names : List (List ℕ)) → t1 ≡ text → t2 ≡ text → t3 ≡ text → tokens2 ≡ tokens → places2 ≡ places → names ≡ bounds.system.flow.names
-    → lex.Reads t1 tokens → All (λ name. IsTrue (is_word name)) names → ((p : Program) → Reads (tokens_of t2 tokens2) p → places ≡ plain_anchors (anchors_of p))
+    → lex.Reads t1 tokens → All (λ name. IsTrue (is_word name)) names →
+    ((p : Program) → Reads (tokens_of t2 tokens2) p → places ≡ plain_anchors (anchors_of p))
     → ((l : List Anchor) → places2 ≡ plain_anchors l
-    → list ≡ comments_from t3 bounds.system.flow.names bounds.system.template (vector_at bounds.system bounds.solved.bounds) 0 bounds.system.flow.points l)
+    → list ≡ comments_from t3 bounds.system.flow.names bounds.system.template (vector_at bounds.system bounds.solved.bounds) 0
+    bounds.system.flow.points l)
     → IsNoted text bounds tokens places list
 noted_by text bounds tokens tokens2 places places2 list t1 t2 t3 names e1 e2 e3 f g h reads words anchors comments = record {
   reads = subst (λ t. lex.Reads t tokens) e1 reads;
@@ -73,7 +80,8 @@ noted_by text bounds tokens tokens2 places places2 list t1 t2 t3 names e1 e2 e3 
   anchors = λ p is. anchors p
       (subst (λ t. Reads (tokens_of t tokens2) p) (sym e2) (subst (λ (ts : List lex_token.Token). Reads (tokens_of text ts) p) (sym f) is));
   comments = λ l e.
-      subst (λ t. list ≡ comments_from t bounds.system.flow.names bounds.system.template (vector_at bounds.system bounds.solved.bounds) 0 bounds.system.flow.points l) e3
+      subst (λ t. list ≡ comments_from t bounds.system.flow.names bounds.system.template (vector_at bounds.system bounds.solved.bounds) 0
+      bounds.system.flow.points l) e3
       (comments l (g ∙ e));
 }
 
@@ -83,7 +91,8 @@ for_ok P Q (Ok a) f h = f a h
 for_ok P Q (Err e) f h = tt
 
 module _ (text : List ℕ) (rows : Domain (List ℕ)) (policy : Policy) (limit : ℕ) (bounds : LeastBounds) (tokens : List lex_token.Token)
-    (places : List code_anchor.Anchor) (list : List Comment) (found : IsFoundIn text rows policy limit bounds) (noted : IsNoted text bounds tokens places list)
+    (places : List code_anchor.Anchor) (list : List Comment) (found : IsFoundIn text rows policy limit bounds)
+    (noted : IsNoted text bounds tokens places list)
     (one : OneReading) (stand : CommentsMayStand) where
   -- what they are by the definitions
   pub record Stands : Type 0 where
@@ -94,9 +103,11 @@ module _ (text : List ℕ) (rows : Domain (List ℕ)) (policy : Policy) (limit :
     -- the tokens mean the program found
     pub means : Means text (tokens_of text tokens) (Ok (found.solved.names, found.solved.body))
     -- the comments are those of the definition
-    pub list_is : list ≡ notes text found.solved.names found.solved.body found.solved.template (vector_at bounds.system bounds.solved.bounds) tree
+    pub list_is : list ≡ notes text found.solved.names found.solved.body found.solved.template
+        (vector_at bounds.system bounds.solved.bounds) tree
     -- the comments may stand where they do
-    pub may_stand : MayStand text tokens (notes text found.solved.names found.solved.body found.solved.template (vector_at bounds.system bounds.solved.bounds) tree)
+    pub may_stand : MayStand text tokens (notes text found.solved.names found.solved.body found.solved.template
+        (vector_at bounds.system bounds.solved.bounds) tree)
 
   -- what was found of the program is what the definitions say
   pub stands : Stands
@@ -105,7 +116,8 @@ module _ (text : List ℕ) (rows : Domain (List ℕ)) (policy : Policy) (limit :
       let v : Vector = vector_at bounds.system bounds.solved.bounds in
       let reading = s.ready.system.analysed.reading in
       let means : Means text (tokens_of text tokens) (Ok (s.names, s.body)) =
-      subst (λ (ts : List lex_token.Token). Means text (tokens_of text ts) (Ok (s.names, s.body))) (one text reading.0 tokens reading.1 noted.reads) reading.2 in
+      subst (λ (ts : List lex_token.Token). Means text (tokens_of text ts) (Ok (s.names, s.body)))
+      (one text reading.0 tokens reading.1 noted.reads) reading.2 in
       let found_tree = tree_in text tokens s.names s.body noted.reads means in
       let tree = found_tree.0 in
       let by_system = noted.comments (anchors_of tree) (noted.anchors tree found_tree.2) in
@@ -114,9 +126,12 @@ module _ (text : List ℕ) (rows : Domain (List ℕ)) (policy : Policy) (limit :
         is_tree = found_tree.1;
         means = means;
         list_is =
-            subst (λ (t : List (List ℤ)). list ≡ comments_from text s.names t v 0 (points_of_program s.body) (anchors_of tree)) s.system_for.template_is
-            (subst (λ (points : List Point). list ≡ comments_from text s.names bounds.system.template v 0 points (anchors_of tree)) s.system_for.points_are
-            (subst (λ (names : List (List ℕ)). list ≡ comments_from text names bounds.system.template v 0 bounds.system.flow.points (anchors_of tree)) s.system_for.names_are by_system));
+            subst (λ (t : List (List ℤ)). list ≡ comments_from text s.names t v 0 (points_of_program s.body) (anchors_of tree))
+            s.system_for.template_is
+            (subst (λ (points : List Point). list ≡ comments_from text s.names bounds.system.template v 0 points (anchors_of tree))
+            s.system_for.points_are
+            (subst (λ (names : List (List ℕ)). list ≡ comments_from text names bounds.system.template v 0 bounds.system.flow.points
+            (anchors_of tree)) s.system_for.names_are by_system));
         may_stand = stand text tokens tree s.names (points_of_program s.body) s.template v noted.reads found_tree.2
             (subst (λ (names : List (List ℕ)). All (λ name. IsTrue (is_word name)) names) s.system_for.names_are noted.words);
       }
@@ -126,7 +141,8 @@ module _ (text : List ℕ) (rows : Domain (List ℕ)) (policy : Policy) (limit :
   in_order = subst (λ (cs : List Comment). Ascend 0 (length text) (map (λ c. c.place) cs)) (sym stands.list_is) stands.may_stand.order
 
   -- and the text with them is that of the definition
-  pub annotated_of : (bytes : List ℕ) → bytes ≡ with_comments 0 text list → 0 < length bounds.system.template → AnchorsArePoints → CommentsComeOut → ProgramsStay → ClausesHold
+  pub annotated_of : (bytes : List ℕ) → bytes ≡ with_comments 0 text list → 0 < length bounds.system.template → AnchorsArePoints
+      → CommentsComeOut → ProgramsStay → ClausesHold
       → ProgramPostSolutionsHold → IsAnnotatedOf text rows bytes
   annotated_of bytes written some points come stay hold post =
       let s = found.solved in

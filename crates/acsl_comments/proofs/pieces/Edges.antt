@@ -1,10 +1,12 @@
 -- Where tokens begin and end among the pieces of a text.
-use Rattle.std.proofs.Common.{◌≡◌, ◌≤◌, ◌<◌, ◌+◌, ◌⊎◌, inl, inr, ⊎_elim, ℕ, Bool, true, false, List, [], ◌∷◌, ◌++◌, length, refl, ap, sym, subst, arith, Contains}
+use Rattle.std.proofs.Common.{◌≡◌, ◌≤◌, ◌<◌, ◌+◌, ◌⊎◌, inl, inr, ⊎_elim, ℕ, Bool, true, false, List, [], ◌∷◌, ◌++◌, length, refl, ap, sym}
+use Rattle.std.proofs.Common.{subst, arith, Contains}
 use Rattle.std.proofs.lemmas.Bool.{eqb-true}
 use Rattle.std.proofs.lemmas.List.Elements.{Contains-append_cases, Contains-push_cases}
 use Rattle.lang_tokens.specs.declared.token.Token.{Token}
 use Rattle.lang_tokens.specs.Lexemes.{IsLexeme}
-use Rattle.lang_tokens.specs.Reading.{Piece, blank, line_comment, block_comment, token, piece_bytes, spelling, AllFit, ends_line, piece_tokens, tokens_from, end_at}
+use Rattle.lang_tokens.specs.Reading.{Piece, blank, line_comment, block_comment, token, piece_bytes, spelling, AllFit, ends_line}
+use Rattle.lang_tokens.specs.Reading.{piece_tokens, tokens_from, end_at}
 use Rattle.lang_tokens.proofs.reading.Growth.{piece_some, lexeme_some}
 use Rattle.acsl_comments.specs.Places.{IsEdge}
 use Rattle.acsl_comments.proofs.pieces.Plain.{lexeme_plain, no_gap_in_plain}
@@ -52,7 +54,8 @@ held_behind ended at pieces place (inl h) = omega (arith, h.1)
 held_behind ended at pieces place (inr e) = edge_behind at pieces place e
 
 -- a place behind the start of a piece, where it begins or ends, is its end
-piece_edge_later : (at : ℕ) (piece : Piece) (pieces : List Piece) (place : ℕ) → IsPieceEdge at piece place → at < place → MayHold (is_token piece) (at + length (piece_bytes piece)) pieces place
+piece_edge_later : (at : ℕ) (piece : Piece) (pieces : List Piece) (place : ℕ) → IsPieceEdge at piece place → at < place
+    → MayHold (is_token piece) (at + length (piece_bytes piece)) pieces place
 piece_edge_later at (token kind bytes) pieces place (inl e) h = absurd (omega arith)
 piece_edge_later at (token kind bytes) pieces place (inr e) h = inl (refl, e)
 piece_edge_later at (blank b) pieces place e h = absurd e
@@ -60,7 +63,8 @@ piece_edge_later at (line_comment body) pieces place e h = absurd e
 piece_edge_later at (block_comment body) pieces place e h = absurd e
 
 -- a place behind the start of a piece is none inside it
-pub held_later : (ended : Bool) (at : ℕ) (piece : Piece) (pieces : List Piece) (place : ℕ) → MayHold ended at (piece ∷ pieces) place → at < place → MayHold (is_token piece) (at + length (piece_bytes piece)) pieces place
+pub held_later : (ended : Bool) (at : ℕ) (piece : Piece) (pieces : List Piece) (place : ℕ) → MayHold ended at (piece ∷ pieces) place
+    → at < place → MayHold (is_token piece) (at + length (piece_bytes piece)) pieces place
 held_later ended at piece pieces place (inl h) later = absurd (omega (arith, h.1))
 held_later ended at piece pieces place (inr (inl e)) later = piece_edge_later at piece pieces place e later
 held_later ended at piece pieces place (inr (inr e)) later = inr e
@@ -73,14 +77,16 @@ token_no_end (b ∷ bytes) more lexeme h =
     no_gap_in_plain [] bytes b (lexeme_plain (b ∷ bytes) lexeme) (rw feed refl)
 
 -- so no first piece is a token where a line ends
-piece_no_edge : (at : ℕ) (piece : Piece) (pieces : List Piece) → AllFit (piece ∷ pieces) [] → ends_line (spelling (piece ∷ pieces) ++ []) ≡ true → IsPieceEdge at piece at → ⊥
+piece_no_edge : (at : ℕ) (piece : Piece) (pieces : List Piece) → AllFit (piece ∷ pieces) []
+    → ends_line (spelling (piece ∷ pieces) ++ []) ≡ true → IsPieceEdge at piece at → ⊥
 piece_no_edge at (token kind bytes) pieces fit h e = token_no_end bytes (spelling pieces) fit.0.longest.lexeme h
 piece_no_edge at (blank b) pieces fit h e = e
 piece_no_edge at (line_comment body) pieces fit h e = e
 piece_no_edge at (block_comment body) pieces fit h e = e
 
 -- no token begins where a line ends
-pub no_edge_at_line_end : (at : ℕ) (pieces : List Piece) → AllFit pieces [] → ends_line (spelling pieces ++ []) ≡ true → MayHold false at pieces at → ⊥
+pub no_edge_at_line_end : (at : ℕ) (pieces : List Piece) → AllFit pieces [] → ends_line (spelling pieces ++ []) ≡ true
+    → MayHold false at pieces at → ⊥
 no_edge_at_line_end at pieces fit h (inl held) = let no : false ≡ true = held.0 in cc
 no_edge_at_line_end at [] fit h (inr e) = e
 no_edge_at_line_end at (piece ∷ pieces) fit h (inr (inl e)) = piece_no_edge at piece pieces fit h e
@@ -94,7 +100,8 @@ contained_one x t h = ⊎_elim (λ none. absurd (omega (arith, none.1))) (λ sam
 module _ (t : Token) (place : ℕ) (edge : (place ≡ t.at) ⊎ (place ≡ t.at + t.len)) where
   -- a place where the token of a piece begins or ends
   piece_edge : (at : ℕ) (piece : Piece) → Contains (piece_tokens at piece) t → IsPieceEdge at piece place
-  piece_edge at (token kind bytes) h = subst (λ (x : Token). (place ≡ x.at) ⊎ (place ≡ x.at + x.len)) (sym (contained_one (record { kind = kind; at = at; len = length bytes }) t h)) edge
+  piece_edge at (token kind bytes) h = subst (λ (x : Token). (place ≡ x.at) ⊎ (place ≡ x.at + x.len))
+      (sym (contained_one (record { kind = kind; at = at; len = length bytes }) t h)) edge
   piece_edge at (blank b) h = absurd (omega (arith, h.1))
   piece_edge at (line_comment body) h = absurd (omega (arith, h.1))
   piece_edge at (block_comment body) h = absurd (omega (arith, h.1))

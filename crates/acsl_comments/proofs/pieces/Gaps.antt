@@ -18,7 +18,8 @@ heads_more [] ys h = cc
 heads_more (x ∷ xs) ys h = h
 
 -- the same of its pieces
-gap_pieces_start : (pieces : List Piece) → tokens_from 0 pieces ≡ [] → AllFit pieces [] → (spelling pieces ≡ []) ⊎ (heads starts_gap (spelling pieces) ≡ true)
+gap_pieces_start : (pieces : List Piece) → tokens_from 0 pieces ≡ [] → AllFit pieces []
+    → (spelling pieces ≡ []) ⊎ (heads starts_gap (spelling pieces) ≡ true)
 gap_pieces_start [] e fit = inl refl
 gap_pieces_start (blank b ∷ pieces) e fit = inr (or_left (is_blank b) _ fit.0)
 gap_pieces_start (line_comment body ∷ pieces) e fit = inr refl
@@ -27,7 +28,8 @@ gap_pieces_start (token kind bytes ∷ pieces) e fit = cc
 
 -- a gap is empty, or starts as blanks and comments do
 gap_starts : (bytes : List ℕ) → IsGap bytes → (bytes ≡ []) ⊎ (heads starts_gap bytes ≡ true)
-gap_starts bytes gap = subst (λ (bs : List ℕ). (bs ≡ []) ⊎ (heads starts_gap bs ≡ true)) gap.spelled (gap_pieces_start gap.pieces (gap.tokenless 0) (gap.fit []))
+gap_starts bytes gap = subst (λ (bs : List ℕ). (bs ≡ []) ⊎ (heads starts_gap bs ≡ true)) gap.spelled
+    (gap_pieces_start gap.pieces (gap.tokenless 0) (gap.fit []))
 
 -- what stands before both rests
 meets_behind : (n : ℕ) (rest now : List ℕ) → Meets (drop n rest) now → Meets rest (take n rest ++ now)
@@ -43,9 +45,20 @@ meets_behind n rest now meets = record {
 -- a gap before the second rest
 meets_gap : (rest bytes now : List ℕ) → (bytes ≡ []) ⊎ (heads starts_gap bytes ≡ true) → Meets rest now → Meets rest (bytes ++ now)
 meets_gap rest bytes now (inl e) meets = rw e meets
-meets_gap rest bytes now (inr h) meets = record { front = []; before = rest; after = bytes ++ now; was = refl; is = refl; on = inr (heads_more bytes now h) }
+meets_gap rest bytes now (inr h) meets = record {
+  front = [];
+  before = rest;
+  after = bytes ++ now;
+  was = refl;
+  is = refl;
+  on =
+      inr (heads_more bytes now h);
+}
 
 -- what is written begins as the text does, and goes on alike or with a gap
-pub meets_comments : (at : ℕ) (rest : List ℕ) (comments : List Comment) → AllByRecursion (λ c. IsGap c.bytes) comments → Meets rest (with_comments at rest comments)
+pub meets_comments : (at : ℕ) (rest : List ℕ) (comments : List Comment) → AllByRecursion (λ c. IsGap c.bytes) comments
+    → Meets rest (with_comments at rest comments)
 meets_comments at rest [] gaps = record { front = []; before = rest; after = rest; was = refl; is = refl; on = inl refl }
-meets_comments at rest (c ∷ cs) gaps = meets_behind (c.place - at) rest _ (meets_gap (drop (c.place - at) rest) c.bytes _ (gap_starts c.bytes gaps.0) (meets_comments c.place (drop (c.place - at) rest) cs gaps.1))
+meets_comments at rest (c ∷ cs) gaps = meets_behind (c.place - at) rest _
+    (meets_gap (drop (c.place - at) rest) c.bytes _ (gap_starts c.bytes gaps.0)
+    (meets_comments c.place (drop (c.place - at) rest) cs gaps.1))

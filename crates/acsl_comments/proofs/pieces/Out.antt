@@ -8,7 +8,8 @@ use Rattle.acsl_comments.specs.declared.comment.Comment.{Comment}
 use Rattle.acsl_comments.proofs.pieces.Places.{places, ascend_within}
 
 -- from any place on
-out_from : (at to : ℕ) (rest : List ℕ) (comments : List Comment) → Ascend at to (places comments) → at + length rest ≡ to → without_comments at (with_comments at rest comments) comments ≡ rest
+out_from : (at to : ℕ) (rest : List ℕ) (comments : List Comment) → Ascend at to (places comments) → at + length rest ≡ to
+    → without_comments at (with_comments at rest comments) comments ≡ rest
 out_from at to rest [] order e = refl
 out_from at to rest (c ∷ cs) order e =
     let n = c.place - at in
@@ -17,7 +18,12 @@ out_from at to rest (c ∷ cs) order e =
     let len : length (take n rest) ≡ n = length-take-le n rest (omega arith) in
     let more = with_comments c.place (drop n rest) cs in
     let back = out_from c.place to (drop n rest) cs order.1 (omega (arith, length-drop n rest)) in
-    rw (take_at (take n rest) (c.bytes ++ more) n len, drop_at (take n rest) (c.bytes ++ more) n len, drop_at c.bytes more (length c.bytes) refl, back) (take-append-drop n rest)
+    rw (
+      take_at (take n rest) (c.bytes ++ more) n len,
+      drop_at (take n rest) (c.bytes ++ more) n len,
+      drop_at c.bytes more (length c.bytes) refl,
+      back,
+    ) (take-append-drop n rest)
 
 -- Taking out what was put in gives the text back.
 pub come_out : CommentsComeOut

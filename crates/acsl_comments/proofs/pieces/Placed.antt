@@ -4,7 +4,8 @@ use Rattle.std.proofs.Common.{◌≡◌, ◌+◌, ◌-◌, ℕ, List, [], ◌∷
 use Rattle.std.proofs.lemmas.List.{append_assoc, length-append, map-append, take_at, drop_at}
 use Rattle.lang_tokens.specs.declared.token.Kind.{Kind}
 use Rattle.lang_tokens.specs.declared.token.Token.{Token}
-use Rattle.lang_tokens.specs.Reading.{Piece, blank, line_comment, block_comment, token, piece_bytes, spelling, AllFit, piece_tokens, tokens_from}
+use Rattle.lang_tokens.specs.Reading.{Piece, blank, line_comment, block_comment, token, piece_bytes, spelling, AllFit, piece_tokens}
+use Rattle.lang_tokens.specs.Reading.{tokens_from}
 use Rattle.lang_grammar.specs.Grammar as g
 use Rattle.lang_grammar.specs.View.{kind_of, token_of, tokens_of}
 
@@ -53,16 +54,19 @@ pub tokens_lexed : (at : ℕ) (pieces : List Piece) → tokens_from at pieces �
 tokens_lexed at [] = refl
 tokens_lexed at (piece ∷ pieces) =
     let next = at + length (piece_bytes piece) in
-    ap₂ (λ (xs ys : List Token). xs ++ ys) (piece_lexed at piece) (tokens_lexed next pieces) ∙ sym (map-append lexed (piece_placed at piece) (placed_from next pieces))
+    ap₂ (λ (xs ys : List Token). xs ++ ys) (piece_lexed at piece) (tokens_lexed next pieces)
+    ∙ sym (map-append lexed (piece_placed at piece) (placed_from next pieces))
 
 -- the bytes between what stands before and what stands after
-range_is : (front bytes after : List ℕ) (at end : ℕ) → length front ≡ at → at + length bytes ≡ end → slice_range (front ++ (bytes ++ after)) at end ≡ bytes
+range_is : (front bytes after : List ℕ) (at end : ℕ) → length front ≡ at → at + length bytes ≡ end
+    → slice_range (front ++ (bytes ++ after)) at end ≡ bytes
 range_is front bytes after at end e f =
     let len : end - at ≡ length bytes = omega arith in
     rw (drop_at front (bytes ++ after) at e, len) (take_at bytes after (length bytes) refl)
 
 -- the bytes of one piece
-piece_parsed : (text front after : List ℕ) (at : ℕ) (piece : Piece) → front ++ (piece_bytes piece ++ after) ≡ text → length front ≡ at → tokens_of text (map lexed (piece_placed at piece)) ≡ map parsed (piece_placed at piece)
+piece_parsed : (text front after : List ℕ) (at : ℕ) (piece : Piece) → front ++ (piece_bytes piece ++ after) ≡ text → length front ≡ at
+    → tokens_of text (map lexed (piece_placed at piece)) ≡ map parsed (piece_placed at piece)
 piece_parsed text front after at (token kind bytes) e f =
     rw (← e) (ap (λ (bs : List ℕ). g.token (kind_of bs kind) at ∷ []) (range_is front bytes after at (at + length bytes) f refl))
 piece_parsed text front after at (blank b) e f = refl
@@ -70,16 +74,19 @@ piece_parsed text front after at (line_comment body) e f = refl
 piece_parsed text front after at (block_comment body) e f = refl
 
 -- and their bytes are those that stand there
-pub tokens_parsed : (text front : List ℕ) (at : ℕ) (pieces : List Piece) → front ++ spelling pieces ≡ text → length front ≡ at → tokens_of text (map lexed (placed_from at pieces)) ≡ map parsed (placed_from at pieces)
+pub tokens_parsed : (text front : List ℕ) (at : ℕ) (pieces : List Piece) → front ++ spelling pieces ≡ text → length front ≡ at
+    → tokens_of text (map lexed (placed_from at pieces)) ≡ map parsed (placed_from at pieces)
 tokens_parsed text front at [] e f = refl
 tokens_parsed text front at (piece ∷ pieces) e f =
     let bytes = piece_bytes piece in
     let next = at + length bytes in
     let here = piece_placed at piece in
     let there = placed_from next pieces in
-    let more = tokens_parsed text (front ++ bytes) next pieces (append_assoc front bytes (spelling pieces) ∙ e) (omega (arith, length-append front bytes)) in
+    let more = tokens_parsed text (front ++ bytes) next pieces (append_assoc front bytes (spelling pieces) ∙ e)
+    (omega (arith, length-append front bytes)) in
     ap (tokens_of text) (map-append lexed here there) ∙ (map-append (token_of text) (map lexed here) (map lexed there)
-    ∙ (ap₂ (λ (xs ys : List g.Token). xs ++ ys) (piece_parsed text front (spelling pieces) at piece e f) more ∙ sym (map-append parsed here there)))
+    ∙ (ap₂ (λ (xs ys : List g.Token). xs ++ ys) (piece_parsed text front (spelling pieces) at piece e f) more
+    ∙ sym (map-append parsed here there)))
 
 -- no tokens of a piece and of what follows
 piece_told : (at : ℕ) (piece : Piece) (more : List Token) → piece_tokens at piece ++ more ≡ [] → (piece_placed at piece ≡ []) × (more ≡ [])
@@ -97,22 +104,29 @@ none_placed at (piece ∷ pieces) e =
     ap₂ (λ (xs ys : List Placed). xs ++ ys) parts.0 (none_placed next pieces parts.1)
 
 -- the tokens of pieces and of those behind them
-pub placed-append : (at : ℕ) (pieces more : List Piece) → placed_from at (pieces ++ more) ≡ placed_from at pieces ++ placed_from (at + length (spelling pieces)) more
+pub placed-append : (at : ℕ) (pieces more : List Piece) → placed_from at (pieces ++ more)
+    ≡ placed_from at pieces ++ placed_from (at + length (spelling pieces)) more
 placed-append at [] more = let none : at + 0 ≡ at = omega arith in rw none refl
 placed-append at (piece ∷ pieces) more =
     let bytes = piece_bytes piece in
-    let next : at + length bytes + length (spelling pieces) ≡ at + length (bytes ++ spelling pieces) = omega (arith, length-append bytes (spelling pieces)) in
+    let next : at + length bytes + length (spelling pieces) ≡ at + length (bytes ++ spelling pieces) =
+    omega (arith, length-append bytes (spelling pieces)) in
     let rest = placed-append (at + length bytes) pieces more in
-    ap (λ (ps : List Placed). piece_placed at piece ++ ps) (rw next at rest) ∙ sym (append_assoc (piece_placed at piece) (placed_from (at + length bytes) pieces) (placed_from (at + length (bytes ++ spelling pieces)) more))
+    ap (λ (ps : List Placed). piece_placed at piece ++ ps) (rw next at rest)
+    ∙ sym (append_assoc (piece_placed at piece) (placed_from (at + length bytes) pieces)
+    (placed_from (at + length (bytes ++ spelling pieces)) more))
 
 -- the bytes of pieces and of those behind them
 pub spelling-append : (pieces more : List Piece) → spelling (pieces ++ more) ≡ spelling pieces ++ spelling more
 spelling-append [] more = refl
-spelling-append (piece ∷ pieces) more = ap (λ (bs : List ℕ). piece_bytes piece ++ bs) (spelling-append pieces more) ∙ sym (append_assoc (piece_bytes piece) (spelling pieces) (spelling more))
+spelling-append (piece ∷ pieces) more = ap (λ (bs : List ℕ). piece_bytes piece ++ bs) (spelling-append pieces more)
+    ∙ sym (append_assoc (piece_bytes piece) (spelling pieces) (spelling more))
 
 -- pieces fit before others that fit
-pub fit-append : (pieces more : List Piece) (rest : List ℕ) → AllFit pieces (spelling more ++ rest) → AllFit more rest → AllFit (pieces ++ more) rest
+pub fit-append : (pieces more : List Piece) (rest : List ℕ) → AllFit pieces (spelling more ++ rest) → AllFit more rest
+    → AllFit (pieces ++ more) rest
 fit-append [] more rest fit then = then
 fit-append (piece ∷ pieces) more rest fit then =
-    let same : spelling (pieces ++ more) ++ rest ≡ spelling pieces ++ (spelling more ++ rest) = ap (λ (bs : List ℕ). bs ++ rest) (spelling-append pieces more) ∙ append_assoc (spelling pieces) (spelling more) rest in
+    let same : spelling (pieces ++ more) ++ rest ≡ spelling pieces ++ (spelling more ++ rest) =
+    ap (λ (bs : List ℕ). bs ++ rest) (spelling-append pieces more) ∙ append_assoc (spelling pieces) (spelling more) rest in
     (rw same fit.0, fit-append pieces more rest fit.1 then)

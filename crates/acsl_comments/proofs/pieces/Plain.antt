@@ -62,7 +62,8 @@ lexeme_plain bytes (a_sign sign e) = subst (λ (bs : List ℕ). list_all is_plai
 
 -- so none has such a byte in it
 pub no_gap_in_plain : (front back : List ℕ) (b : ℕ) → list_all is_plain (front ++ b ∷ back) ≡ true → starts_gap b ≡ true → ⊥
-no_gap_in_plain [] back b h g = let plain : starts_gap b ≡ false = not-true (starts_gap b) (and_parts (is_plain b) (list_all is_plain back) h).0 in cc
+no_gap_in_plain [] back b h g = let plain : starts_gap b ≡ false = not-true (starts_gap b)
+    (and_parts (is_plain b) (list_all is_plain back) h).0 in cc
 no_gap_in_plain (a ∷ front) back b h g = no_gap_in_plain front back b (and_parts (is_plain a) (list_all is_plain (front ++ b ∷ back)) h).1 g
 
 -- what starts a blank or a comment is no letter

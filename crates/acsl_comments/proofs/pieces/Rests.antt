@@ -1,5 +1,6 @@
 -- A piece fits also before a rest that begins alike and then goes on with a blank or a comment.
-use Rattle.std.proofs.Common.{◌≡◌, ◌≤◌, ◌<◌, ◌⊎◌, inl, inr, ⊎_elim, ℕ, true, false, List, [], ◌∷◌, ◌++◌, length, refl, ap, ap₂, sym, ◌∙◌, subst, arith}
+use Rattle.std.proofs.Common.{◌≡◌, ◌≤◌, ◌<◌, ◌⊎◌, inl, inr, ⊎_elim, ℕ, true, false, List, [], ◌∷◌, ◌++◌, length, refl, ap, ap₂, sym, ◌∙◌}
+use Rattle.std.proofs.Common.{subst, arith}
 use Rattle.std.proofs.lemmas.Bool.{cases_lt, false_from_ne_true}
 use Rattle.std.proofs.lemmas.List.{append_assoc, length-append}
 use Rattle.lang_tokens.specs.Bytes.{is_letter}
@@ -11,7 +12,8 @@ use Rattle.lang_tokens.proofs.lexemes.Heads.{heads}
 use Rattle.acsl_comments.proofs.pieces.Plain.{starts_gap, lexeme_plain, no_gap_in_plain, gap_no_letter}
 
 -- the shorter of two fronts of a list is a front of the other one
-shorter_front : (xs ys zs vs : List ℕ) → xs ++ ys ≡ zs ++ vs → length xs ≤ length zs → (between : List ℕ) × (xs ++ between ≡ zs) × (between ++ vs ≡ ys)
+shorter_front : (xs ys zs vs : List ℕ) → xs ++ ys ≡ zs ++ vs → length xs ≤ length zs
+    → (between : List ℕ) × (xs ++ between ≡ zs) × (between ++ vs ≡ ys)
 shorter_front [] ys zs vs e h = (zs, refl, sym e)
 shorter_front (x ∷ xs) ys [] vs e h = absurd (omega arith)
 shorter_front (x ∷ xs) ys (z ∷ zs) vs e h =
@@ -37,14 +39,16 @@ pub record Meets (rest now : List ℕ) : Type 0 where
 
 module _ (bytes front before after : List ℕ) (longest : IsLongest bytes (front ++ before)) where
   -- what goes past the fronts that are alike has a byte that no token has
-  past : (other more between : List ℕ) → between ++ more ≡ after → (bytes ++ front) ++ between ≡ other → heads starts_gap after ≡ true → IsLexeme other → length (bytes ++ front) < length other → ⊥
+  past : (other more between : List ℕ) → between ++ more ≡ after → (bytes ++ front) ++ between ≡ other → heads starts_gap after ≡ true
+      → IsLexeme other → length (bytes ++ front) < length other → ⊥
   past other more [] e f gap lexeme long = omega (arith, ap length f, length-append (bytes ++ front) [])
   past other more (b ∷ between) e f gap lexeme long =
       let starts : starts_gap b ≡ true = rw (← e) at gap in
       no_gap_in_plain (bytes ++ front) between b (rw (← f) at (lexeme_plain other lexeme)) starts
 
   -- the longest lexeme stays the longest
-  still_longest : (before ≡ after) ⊎ (heads starts_gap after ≡ true) → (other more : List ℕ) → other ++ more ≡ bytes ++ (front ++ after) → IsLexeme other → length other ≤ length bytes
+  still_longest : (before ≡ after) ⊎ (heads starts_gap after ≡ true) → (other more : List ℕ) → other ++ more ≡ bytes ++ (front ++ after)
+      → IsLexeme other → length other ≤ length bytes
   still_longest (inl same) other more e lexeme = longest.longest other more (rw (← same) at e) lexeme
   still_longest (inr gap) other more e lexeme = ⊎_elim
       (λ (long : length (bytes ++ front) < length other).
@@ -58,14 +62,16 @@ module _ (bytes front before after : List ℕ) (longest : IsLongest bytes (front
       (cases_lt (length (bytes ++ front)) (length other))
 
 -- no letter follows, if none did
-apart_after : (front before after : List ℕ) → (before ≡ after) ⊎ (heads starts_gap after ≡ true) → starts_with_letter (front ++ before) ≡ false → starts_with_letter (front ++ after) ≡ false
+apart_after : (front before after : List ℕ) → (before ≡ after) ⊎ (heads starts_gap after ≡ true)
+    → starts_with_letter (front ++ before) ≡ false → starts_with_letter (front ++ after) ≡ false
 apart_after (b ∷ front) before after on h = h
 apart_after [] before after (inl same) h = rw (← same) h
 apart_after [] before [] (inr gap) h = refl
 apart_after [] before (b ∷ after) (inr gap) h = false_from_ne_true (is_letter b) (gap_no_letter b gap)
 
 -- nothing that belongs to a number follows, if nothing did
-still_apart : (kind : Kind) (front before after : List ℕ) → (before ≡ after) ⊎ (heads starts_gap after ≡ true) → IsApart kind (front ++ before) → IsApart kind (front ++ after)
+still_apart : (kind : Kind) (front before after : List ℕ) → (before ≡ after) ⊎ (heads starts_gap after ≡ true)
+    → IsApart kind (front ++ before) → IsApart kind (front ++ after)
 still_apart (kind.Number value) front before after on h = apart_after front before after on h
 still_apart (kind.Word word) front before after on h = tt
 still_apart kind.Name front before after on h = tt
@@ -80,7 +86,8 @@ still_token kind bytes rest now meets token =
       is_token = token.is_token;
       longest = record {
         lexeme = token.longest.lexeme;
-        longest = λ other more e lexeme. still_longest bytes meets.front meets.before meets.after longest meets.on other more (rw meets.is e) lexeme;
+        longest = λ other more e lexeme. still_longest bytes meets.front meets.before meets.after longest meets.on other more
+            (rw meets.is e) lexeme;
       };
       apart = subst (IsApart kind) meets.is (still_apart kind meets.front meets.before meets.after meets.on (rw meets.was token.apart));
     }
@@ -89,11 +96,14 @@ still_token kind bytes rest now meets token =
 pub still_closed : (body rest now : List ℕ) → IsClosed body rest → IsClosed body now
 still_closed body rest now closed other after e = ⊎_elim
     (λ (short : length other < length body).
-    let whole : (other ++ 42 ∷ 47 ∷ []) ++ after ≡ (body ++ 42 ∷ []) ++ 47 ∷ now = append_assoc other (42 ∷ 47 ∷ []) after ∙ (e ∙ sym (append_assoc body (42 ∷ []) (47 ∷ now))) in
-    let within : length (other ++ 42 ∷ 47 ∷ []) ≤ length (body ++ 42 ∷ []) = omega (arith, length-append other (42 ∷ 47 ∷ []), length-append body (42 ∷ [])) in
+    let whole : (other ++ 42 ∷ 47 ∷ []) ++ after ≡ (body ++ 42 ∷ []) ++ 47 ∷ now =
+    append_assoc other (42 ∷ 47 ∷ []) after ∙ (e ∙ sym (append_assoc body (42 ∷ []) (47 ∷ now))) in
+    let within : length (other ++ 42 ∷ 47 ∷ []) ≤ length (body ++ 42 ∷ []) =
+    omega (arith, length-append other (42 ∷ 47 ∷ []), length-append body (42 ∷ [])) in
     let found = shorter_front (other ++ 42 ∷ 47 ∷ []) after (body ++ 42 ∷ []) (47 ∷ now) whole within in
     let same : other ++ 42 ∷ 47 ∷ (found.0 ++ 47 ∷ rest) ≡ body ++ 42 ∷ 47 ∷ rest =
-    sym (append_assoc other (42 ∷ 47 ∷ []) (found.0 ++ 47 ∷ rest)) ∙ (sym (append_assoc (other ++ 42 ∷ 47 ∷ []) found.0 (47 ∷ rest)) ∙ (ap (λ (bs : List ℕ). bs ++ 47 ∷ rest) found.1 ∙ append_assoc body (42 ∷ []) (47 ∷ rest))) in
+    sym (append_assoc other (42 ∷ 47 ∷ []) (found.0 ++ 47 ∷ rest)) ∙ (sym (append_assoc (other ++ 42 ∷ 47 ∷ []) found.0 (47 ∷ rest))
+    ∙ (ap (λ (bs : List ℕ). bs ++ 47 ∷ rest) found.1 ∙ append_assoc body (42 ∷ []) (47 ∷ rest))) in
     closed other (found.0 ++ 47 ∷ rest) same)
     (λ (long : length body ≤ length other). long)
     (cases_lt (length other) (length body))

@@ -27,12 +27,14 @@ abbrev all_parsed : List Piece → List g.Token
 all_parsed pieces = map parsed (placed_from 0 pieces) ++ g.token g.the_end (length (spelling pieces)) ∷ []
 
 -- tokens at other places, as the lexer sees them
-lexed_moved : (comments : List Comment) (ps : List Placed) → map lexed (map (place_at (moved_by comments)) ps) ≡ map (token_moved_by comments) (map lexed ps)
+lexed_moved : (comments : List Comment) (ps : List Placed) → map lexed (map (place_at (moved_by comments)) ps)
+    ≡ map (token_moved_by comments) (map lexed ps)
 lexed_moved comments [] = refl
 lexed_moved comments (p ∷ ps) = ap (λ (ts : List Token). token_moved_by comments (lexed p) ∷ ts) (lexed_moved comments ps)
 
 -- tokens at other places, as the grammar sees them
-parsed_moved : (comments : List Comment) (ps : List Placed) → map parsed (map (place_at (moved_by comments)) ps) ≡ moved (moved_by comments) (map parsed ps)
+parsed_moved : (comments : List Comment) (ps : List Placed) → map parsed (map (place_at (moved_by comments)) ps)
+    ≡ moved (moved_by comments) (map parsed ps)
 parsed_moved comments [] = refl
 parsed_moved comments (p ∷ ps) = ap (λ (ts : List g.Token). move (moved_by comments) (parsed p) ∷ ts) (parsed_moved comments ps)
 
@@ -40,14 +42,18 @@ parsed_moved comments (p ∷ ps) = ap (λ (ts : List g.Token). move (moved_by co
 all_tokens_parsed : (pieces : List Piece) → tokens_of (spelling pieces) (all_tokens pieces) ≡ all_parsed pieces
 all_tokens_parsed pieces =
     let text = spelling pieces in
-    let first : tokens_of text (tokens_from 0 pieces) ≡ map parsed (placed_from 0 pieces) = ap (tokens_of text) (tokens_lexed 0 pieces) ∙ tokens_parsed text [] 0 pieces refl refl in
-    map-append (token_of text) (tokens_from 0 pieces) (end_at (length text) ∷ []) ∙ ap (λ (ts : List g.Token). ts ++ g.token g.the_end (length text) ∷ []) first
+    let first : tokens_of text (tokens_from 0 pieces) ≡ map parsed (placed_from 0 pieces) =
+    ap (tokens_of text) (tokens_lexed 0 pieces) ∙ tokens_parsed text [] 0 pieces refl refl in
+    map-append (token_of text) (tokens_from 0 pieces) (end_at (length text) ∷ [])
+    ∙ ap (λ (ts : List g.Token). ts ++ g.token g.the_end (length text) ∷ []) first
 
-module _ (pieces : List Piece) (comments : List Comment) (fit : AllFit pieces []) (stand : MayStand (spelling pieces) (all_tokens pieces) comments) where
+module _ (pieces : List Piece) (comments : List Comment) (fit : AllFit pieces [])
+    (stand : MayStand (spelling pieces) (all_tokens pieces) comments) where
   -- each comment may stand among the pieces
   held : AllByRecursion (λ c. MayHold false 0 pieces c.place) comments
   held = recursion_from_All (λ c. MayHold false 0 pieces c.place) comments
-      (All-weaker (λ c. IsEdge (all_tokens pieces) c.place) (λ c. MayHold false 0 pieces c.place) (λ c edge. inr (edge_in pieces (length (spelling pieces)) c.place edge)) comments stand.edges)
+      (All-weaker (λ c. IsEdge (all_tokens pieces) c.place) (λ c. MayHold false 0 pieces c.place)
+      (λ c edge. inr (edge_in pieces (length (spelling pieces)) c.place edge)) comments stand.edges)
 
   -- the pieces with the comments put in
   mixed : Mixed 0 pieces comments
@@ -63,20 +69,30 @@ module _ (pieces : List Piece) (comments : List Comment) (fit : AllFit pieces []
 
   -- where they end
   end_moved : length (spelling mixed.now) ≡ moved_by comments (length (spelling pieces))
-  end_moved = omega (arith, ap length mixed.spelled, length-with_comments 0 (length (spelling pieces)) (spelling pieces) comments stand.order (omega arith))
+  end_moved = omega (
+    arith,
+    ap length mixed.spelled,
+    length-with_comments 0 (length (spelling pieces)) (spelling pieces) comments
+        stand.order (omega arith),
+  )
 
   -- the lexer's tokens are those of the text, moved
   tokens_moved : all_tokens mixed.now ≡ map (token_moved_by comments) (all_tokens pieces)
   tokens_moved =
       let front : tokens_from 0 mixed.now ≡ map (token_moved_by comments) (tokens_from 0 pieces) =
-      tokens_lexed 0 mixed.now ∙ (ap (map lexed) told ∙ (lexed_moved comments (placed_from 0 pieces) ∙ ap (map (token_moved_by comments)) (sym (tokens_lexed 0 pieces)))) in
-      ap₂ (λ (ts : List Token) (n : ℕ). ts ++ end_at n ∷ []) front end_moved ∙ sym (map-append (token_moved_by comments) (tokens_from 0 pieces) (end_at (length (spelling pieces)) ∷ []))
+      tokens_lexed 0 mixed.now ∙ (ap (map lexed) told ∙ (lexed_moved comments (placed_from 0 pieces)
+      ∙ ap (map (token_moved_by comments)) (sym (tokens_lexed 0 pieces)))) in
+      ap₂ (λ (ts : List Token) (n : ℕ). ts ++ end_at n ∷ []) front end_moved
+      ∙ sym (map-append (token_moved_by comments) (tokens_from 0 pieces) (end_at (length (spelling pieces)) ∷ []))
 
   -- and so are the grammar's
   parsed_too : all_parsed mixed.now ≡ moved (moved_by comments) (all_parsed pieces)
   parsed_too =
-      let front : map parsed (placed_from 0 mixed.now) ≡ moved (moved_by comments) (map parsed (placed_from 0 pieces)) = ap (map parsed) told ∙ parsed_moved comments (placed_from 0 pieces) in
-      ap₂ (λ (ts : List g.Token) (n : ℕ). ts ++ g.token g.the_end n ∷ []) front end_moved ∙ sym (map-append (move (moved_by comments)) (map parsed (placed_from 0 pieces)) (g.token g.the_end (length (spelling pieces)) ∷ []))
+      let front : map parsed (placed_from 0 mixed.now) ≡ moved (moved_by comments) (map parsed (placed_from 0 pieces)) =
+      ap (map parsed) told ∙ parsed_moved comments (placed_from 0 pieces) in
+      ap₂ (λ (ts : List g.Token) (n : ℕ). ts ++ g.token g.the_end n ∷ []) front end_moved
+      ∙ sym (map-append (move (moved_by comments)) (map parsed (placed_from 0 pieces))
+      (g.token g.the_end (length (spelling pieces)) ∷ []))
 
   -- they read as their tokens
   reads_now : Reads (spelling mixed.now) (all_tokens mixed.now)
@@ -87,14 +103,16 @@ module _ (pieces : List Piece) (comments : List Comment) (fit : AllFit pieces []
   }
 
   -- the text of the pieces has the tokens that were there before, moved
-  same_now : tokens_of (spelling mixed.now) (all_tokens mixed.now) ≡ moved (moved_by comments) (tokens_of (spelling pieces) (all_tokens pieces))
+  same_now : tokens_of (spelling mixed.now) (all_tokens mixed.now) ≡ moved (moved_by comments)
+      (tokens_of (spelling pieces) (all_tokens pieces))
   same_now = all_tokens_parsed mixed.now ∙ (parsed_too ∙ ap (moved (moved_by comments)) (sym (all_tokens_parsed pieces)))
 
   -- the tokens of a text that is given by its pieces stay
   stay_spelled : ReadsWith (spelling pieces) (all_tokens pieces) comments
   stay_spelled = record {
     reads = subst₂ Reads mixed.spelled tokens_moved reads_now;
-    same = subst₂ (λ (text : List ℕ) (tokens : List Token). tokens_of text tokens ≡ moved (moved_by comments) (tokens_of (spelling pieces) (all_tokens pieces))) mixed.spelled tokens_moved same_now;
+    same = subst₂ (λ (text : List ℕ) (tokens : List Token). tokens_of text tokens
+        ≡ moved (moved_by comments) (tokens_of (spelling pieces) (all_tokens pieces))) mixed.spelled tokens_moved same_now;
   }
 
 -- The tokens of a text stay.
@@ -102,5 +120,7 @@ pub stay : TokensStay
 stay text tokens comments reads stand =
     let pieces = reads.whole.pieces in
     let spelled : spelling pieces ≡ text = sym (append-nil (spelling pieces)) ∙ reads.whole.spelled in
-    let all : all_tokens pieces ≡ tokens = ap₂ (λ (ts : List Token) (n : ℕ). ts ++ end_at n ∷ []) reads.whole.told (ap length spelled) ∙ reads.told in
-    subst₂ (λ (text : List ℕ) (tokens : List Token). MayStand text tokens comments → ReadsWith text tokens comments) spelled all (stay_spelled pieces comments reads.whole.fit) stand
+    let all : all_tokens pieces ≡ tokens = ap₂ (λ (ts : List Token) (n : ℕ). ts ++ end_at n ∷ []) reads.whole.told (ap length spelled)
+    ∙ reads.told in
+    subst₂ (λ (text : List ℕ) (tokens : List Token). MayStand text tokens comments → ReadsWith text tokens comments) spelled all
+    (stay_spelled pieces comments reads.whole.fit) stand

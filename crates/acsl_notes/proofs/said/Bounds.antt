@@ -1,5 +1,6 @@
 -- The bounds of a point among those of all points.
-use Rattle.std.proofs.Common.{◌≡◌, ◌<◌, ◌≤◌, ◌+◌, ◌*◌, ℕ, suc, ℤ, List, [], ◌∷◌, drop, get_or, length, map, take, refl, ap, sym, ◌∙◌, arith, add-zero}
+use Rattle.std.proofs.Common.{◌≡◌, ◌<◌, ◌≤◌, ◌+◌, ◌*◌, ℕ, suc, ℤ, List, [], ◌∷◌, drop, get_or, length, map, take, refl, ap, sym, ◌∙◌, arith}
+use Rattle.std.proofs.Common.{add-zero}
 use Rattle.std.proofs.lemmas.List.{take-map, drop-map, get_or-take, get_or-drop, length-take-le, length-drop}
 use Rattle.base_fractions.specs.declared.ext.Ext.{Ext}
 use Rattle.base_fractions.specs.Extended.{extended}
@@ -9,9 +10,11 @@ use Rattle.acsl_notes.specs.Clauses.{Bounded, clauses, clauses_unless, bounded_f
 use Rattle.acsl_notes.specs.View.{bound_at, bounded, clauses_in}
 
 -- the bound of a row, among those of its point
-bound_at_slice : (bounds : List Ext) (first rows k : ℕ) → k < rows → bound_at (take rows (drop first bounds)) k ≡ get_or (map extended bounds) (first + k) neg_inf
+bound_at_slice : (bounds : List Ext) (first rows k : ℕ) → k < rows → bound_at (take rows (drop first bounds)) k
+    ≡ get_or (map extended bounds) (first + k) neg_inf
 bound_at_slice bounds first rows k lt =
-    ap (λ list. get_or list k neg_inf) (sym (take-map extended rows (drop first bounds)) ∙ ap (take rows) (sym (drop-map extended first bounds)))
+    ap (λ list. get_or list k neg_inf) (sym (take-map extended rows (drop first bounds))
+    ∙ ap (take rows) (sym (drop-map extended first bounds)))
     ∙ get_or-take rows (drop first (map extended bounds)) k neg_inf lt
     ∙ get_or-drop first (map extended bounds) k neg_inf
 
@@ -23,11 +26,13 @@ bounded_is r (row ∷ rows) bounds [] e h = absurd (omega (arith, e))
 bounded_is r (row ∷ rows) bounds (bound ∷ list) e h =
     let here : bounds r ≡ extended bound = ap bounds (sym (add-zero r)) ∙ h 0 (omega arith) in
     let more : bounded_from (suc r) rows bounds ≡ bounded rows list =
-    bounded_is (suc r) rows bounds list (omega (arith, e)) (λ k lt. let place : suc r + k ≡ r + suc k = omega arith in ap bounds place ∙ h (suc k) (omega arith)) in
+    bounded_is (suc r) rows bounds list (omega (arith, e)) (λ k lt. let place : suc r + k ≡ r + suc k = omega arith in
+    ap bounds place ∙ h (suc k) (omega arith)) in
     ap (λ b. (row, b) ∷ bounded_from (suc r) rows bounds) here ∙ ap (λ list. (row, extended bound) ∷ list) more
 
 -- what rows say, by the list of them with their bounds
-clauses_by : (known : List ℕ) (template : List (List ℤ)) (bounds : ℕ → Extended) (rows : List Bounded) → bounded_from 0 template bounds ≡ rows
+clauses_by : (known : List ℕ) (template : List (List ℤ)) (bounds : ℕ → Extended) (rows : List Bounded)
+    → bounded_from 0 template bounds ≡ rows
     → clauses known template bounds ≡ clauses_in known rows (bounds 0)
 clauses_by known template bounds rows e = by (bounds 0)
   where
@@ -39,9 +44,11 @@ clauses_by known template bounds rows e = by (bounds 0)
 -- what the bounds of a point say
 pub point_says : (known : List ℕ) (template : List (List ℤ)) (bounds list : List Ext) (p : ℕ) → 0 < length template
     → p * length template + length template ≤ length bounds → list ≡ take (length template) (drop (p * length template) bounds)
-    → clauses_in known (bounded template list) (bound_at list 0) ≡ clauses known template (vector_of (length template) (map extended bounds) p)
+    → clauses_in known (bounded template list) (bound_at list 0) ≡ clauses known template
+    (vector_of (length template) (map extended bounds) p)
 point_says known template bounds list p some within e =
-    let size : length list ≡ length template = ap length e ∙ length-take-le (length template) (drop (p * length template) bounds) (omega (arith, length-drop (p * length template) bounds)) in
+    let size : length list ≡ length template = ap length e ∙ length-take-le (length template) (drop (p * length template) bounds)
+    (omega (arith, length-drop (p * length template) bounds)) in
     let at : (k : ℕ) → k < length template → vector_of (length template) (map extended bounds) p k ≡ bound_at list k =
     λ k lt. sym (ap (λ l. bound_at l k) e ∙ bound_at_slice bounds (p * length template) (length template) k lt) in
     let first = at 0 some in

@@ -18,7 +18,8 @@ module _ (text : List ℕ) (names : List (List ℕ)) (template : List (List ℤ)
   none_left p (point ∷ points) = refl
 
   -- behind the last point there are none
-  pub none_behind : (p k : ℕ) (points : List Point) (anchors : List Anchor) → length points ≤ k → comments_from text names template v p (drop k points) anchors ≡ []
+  pub none_behind : (p k : ℕ) (points : List Point) (anchors : List Anchor) → length points ≤ k
+      → comments_from text names template v p (drop k points) anchors ≡ []
   none_behind p k points anchors h = ap (λ ps. comments_from text names template v p ps anchors) (drop_all k points h)
 
   -- what the code keeps of an anchor gives the same text
@@ -28,23 +29,30 @@ module _ (text : List ℕ) (names : List (List ℕ)) (template : List (List ℤ)
   what_plain the_end = refl
 
   -- and the same comment
-  unless_plain : (anchor : Anchor) (said : List Clause) → comment_unless_silent text names (anchor_of (plain_anchor anchor)) said ≡ comment_unless_silent text names anchor said
+  unless_plain : (anchor : Anchor) (said : List Clause) → comment_unless_silent text names (anchor_of (plain_anchor anchor)) said
+      ≡ comment_unless_silent text names anchor said
   unless_plain anchor [] = refl
   unless_plain anchor (clause ∷ said) =
-      ap (λ (written : _). (record { place = anchor.place; bytes = written (indentation text anchor.place) (clause ∷ said) }) ∷ []) (what_plain anchor.what)
+      ap (λ (written : _). (record { place = anchor.place; bytes = written (indentation text anchor.place) (clause ∷ said) }) ∷ [])
+      (what_plain anchor.what)
 
   -- a label's name makes no difference
   pub plain_comments : (p : ℕ) (points : List Point) (anchors : List Anchor)
-      → comments_from text names template v p points (map anchor_of (plain_anchors anchors)) ≡ comments_from text names template v p points anchors
+      → comments_from text names template v p points (map anchor_of (plain_anchors anchors))
+      ≡ comments_from text names template v p points anchors
   plain_comments p [] anchors = refl
   plain_comments p (point ∷ points) [] = refl
   plain_comments p (point ∷ points) (anchor ∷ anchors) =
-      by (unless_plain anchor (clauses anchor.known template (v p))) (plain_comments (suc p) points anchors) (plain_comments (suc p) points (anchor ∷ anchors)) (is_anchored point.place)
+      by (unless_plain anchor (clauses anchor.known template (v p))) (plain_comments (suc p) points anchors)
+      (plain_comments (suc p) points (anchor ∷ anchors)) (is_anchored point.place)
     where
       by : comment_at text names template v p (anchor_of (plain_anchor anchor)) ≡ comment_at text names template v p anchor
-          → comments_from text names template v (suc p) points (map anchor_of (plain_anchors anchors)) ≡ comments_from text names template v (suc p) points anchors
-          → comments_from text names template v (suc p) points (map anchor_of (plain_anchors (anchor ∷ anchors))) ≡ comments_from text names template v (suc p) points (anchor ∷ anchors)
-          → (b : Bool) → (if b then comment_at text names template v p (anchor_of (plain_anchor anchor)) ++ comments_from text names template v (suc p) points (map anchor_of (plain_anchors anchors))
+          → comments_from text names template v (suc p) points (map anchor_of (plain_anchors anchors))
+          ≡ comments_from text names template v (suc p) points anchors
+          → comments_from text names template v (suc p) points (map anchor_of (plain_anchors (anchor ∷ anchors)))
+          ≡ comments_from text names template v (suc p) points (anchor ∷ anchors)
+          → (b : Bool) → (if b then comment_at text names template v p (anchor_of (plain_anchor anchor))
+          ++ comments_from text names template v (suc p) points (map anchor_of (plain_anchors anchors))
           else comments_from text names template v (suc p) points (map anchor_of (plain_anchors (anchor ∷ anchors))))
           ≡ (if b then comment_at text names template v p anchor ++ comments_from text names template v (suc p) points anchors
           else comments_from text names template v (suc p) points (anchor ∷ anchors))

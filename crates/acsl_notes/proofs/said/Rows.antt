@@ -7,7 +7,8 @@ use Rattle.acsl_notes.specs.View.{bound_at, bounded}
 
 -- one row more
 pub bounded_more : (rows : List (List ℤ)) (bounds : List Ext) (k : ℕ) → k < length rows → length rows ≡ length bounds
-    → bounded (take (suc k) rows) (take (suc k) bounds) ≡ bounded (take k rows) (take k bounds) ++ (get_or rows k [], bound_at bounds k) ∷ []
+    → bounded (take (suc k) rows) (take (suc k) bounds) ≡ bounded (take k rows) (take k bounds) ++ (get_or rows k [], bound_at bounds k)
+    ∷ []
 bounded_more [] bounds k h e = absurd (omega (arith, h))
 bounded_more (row ∷ rows) [] k h e = absurd (omega (arith, e))
 bounded_more (row ∷ rows) (bound ∷ bounds) zero h e = refl
@@ -29,10 +30,12 @@ rest_says known rows bounds k = clauses_from known (bounded (take k rows) (take 
 -- the first of them, and then the others
 pub rest_step : (known : List ℕ) (rows : List (List ℤ)) (bounds : List Ext) (k : ℕ) → k < length rows → length rows ≡ length bounds
     → rest_says known rows bounds k
-    ≡ clauses_of known (bounded (take k rows) (take k bounds)) (get_or rows k []) (bound_at bounds k) (bounded (drop (k + 1) rows) (drop (k + 1) bounds))
+    ≡ clauses_of known (bounded (take k rows) (take k bounds)) (get_or rows k []) (bound_at bounds k)
+    (bounded (drop (k + 1) rows) (drop (k + 1) bounds))
     ++ rest_says known rows bounds (k + 1)
 rest_step known rows bounds k h e =
     let next : k + 1 ≡ suc k = omega arith in
     rw next (ap (clauses_from known (bounded (take k rows) (take k bounds))) (bounded_next rows bounds k h e)
-    ∙ ap (λ before. clauses_of known (bounded (take k rows) (take k bounds)) (get_or rows k []) (bound_at bounds k) (bounded (drop (suc k) rows) (drop (suc k) bounds))
+    ∙ ap (λ before. clauses_of known (bounded (take k rows) (take k bounds)) (get_or rows k []) (bound_at bounds k)
+    (bounded (drop (suc k) rows) (drop (suc k) bounds))
     ++ clauses_from known before (bounded (drop (suc k) rows) (drop (suc k) bounds))) (sym (bounded_more rows bounds k h e)))

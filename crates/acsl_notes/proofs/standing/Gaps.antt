@@ -12,15 +12,19 @@ use Rattle.acsl_notes.proofs.standing.Plain.{IsPlain, is_plain, plain_not}
 -- the bytes of pieces behind pieces
 spelling-append : (ps qs : List Piece) → spelling (ps ++ qs) ≡ spelling ps ++ spelling qs
 spelling-append [] qs = refl
-spelling-append (p ∷ ps) qs = ap (λ bytes. piece_bytes p ++ bytes) (spelling-append ps qs) ∙ sym (append_assoc (piece_bytes p) (spelling ps) (spelling qs))
+spelling-append (p ∷ ps) qs = ap (λ bytes. piece_bytes p ++ bytes) (spelling-append ps qs)
+    ∙ sym (append_assoc (piece_bytes p) (spelling ps) (spelling qs))
 
 -- the tokens of pieces behind pieces
 tokens-append : (at : ℕ) (ps qs : List Piece) → tokens_from at (ps ++ qs) ≡ tokens_from at ps ++ tokens_from (at + length (spelling ps)) qs
 tokens-append at [] qs = ap (λ n. tokens_from n qs) (omega arith)
 tokens-append at (p ∷ ps) qs =
-    let place : (at + length (piece_bytes p)) + length (spelling ps) ≡ at + length (piece_bytes p ++ spelling ps) = omega (arith, length-append (piece_bytes p) (spelling ps)) in
-    ap (λ ts. piece_tokens at p ++ ts) (tokens-append (at + length (piece_bytes p)) ps qs ∙ ap (λ n. tokens_from (at + length (piece_bytes p)) ps ++ tokens_from n qs) place)
-    ∙ sym (append_assoc (piece_tokens at p) (tokens_from (at + length (piece_bytes p)) ps) (tokens_from (at + length (piece_bytes p ++ spelling ps)) qs))
+    let place : (at + length (piece_bytes p)) + length (spelling ps) ≡ at + length (piece_bytes p ++ spelling ps) =
+    omega (arith, length-append (piece_bytes p) (spelling ps)) in
+    ap (λ ts. piece_tokens at p ++ ts) (tokens-append (at + length (piece_bytes p)) ps qs
+    ∙ ap (λ n. tokens_from (at + length (piece_bytes p)) ps ++ tokens_from n qs) place)
+    ∙ sym (append_assoc (piece_tokens at p) (tokens_from (at + length (piece_bytes p)) ps)
+    (tokens_from (at + length (piece_bytes p ++ spelling ps)) qs))
 
 -- pieces that fit before pieces that fit
 fit-append : (ps qs : List Piece) (rest : List ℕ) → AllFit ps (spelling qs ++ rest) → AllFit qs rest → AllFit (ps ++ qs) rest
@@ -35,7 +39,8 @@ pub gap_append : (a b : List ℕ) → IsGap a → IsGap b → IsGap (a ++ b)
 gap_append a b g h = record {
   pieces = g.pieces ++ h.pieces;
   spelled = spelling-append g.pieces h.pieces ∙ ap (λ bytes. bytes ++ spelling h.pieces) g.spelled ∙ ap (λ bytes. a ++ bytes) h.spelled;
-  tokenless = λ at. tokens-append at g.pieces h.pieces ∙ ap (λ ts. ts ++ tokens_from (at + length (spelling g.pieces)) h.pieces) (g.tokenless at)
+  tokenless = λ at. tokens-append at g.pieces h.pieces ∙ ap (λ ts. ts ++ tokens_from (at + length (spelling g.pieces)) h.pieces)
+      (g.tokenless at)
       ∙ h.tokenless (at + length (spelling g.pieces));
   fit = λ rest. fit-append g.pieces h.pieces rest (g.fit (spelling h.pieces ++ rest)) (h.fit rest);
 }
@@ -74,7 +79,8 @@ no_slash (c ∷ body) behind after h e =
 closed : (body rest : List ℕ) → IsPlain body → IsClosed body rest
 closed [] rest h other after e = zero-le
 closed (b ∷ body) rest h [] after e =
-    absurd (no_slash body (47 ∷ rest) after (and_parts (is_plain b) (list_all is_plain body) h).1 (tails 42 b (47 ∷ after) (body ++ 42 ∷ 47 ∷ rest) e))
+    absurd (no_slash body (47 ∷ rest) after (and_parts (is_plain b) (list_all is_plain body) h).1
+    (tails 42 b (47 ∷ after) (body ++ 42 ∷ 47 ∷ rest) e))
 closed (b ∷ body) rest h (o ∷ other) after e =
     suc-le-suc (closed body rest (and_parts (is_plain b) (list_all is_plain body) h).1 other after
     (tails o b (other ++ 42 ∷ 47 ∷ after) (body ++ 42 ∷ 47 ∷ rest) e))

@@ -49,35 +49,43 @@ module _ (text : List ℕ) (names : List (List ℕ)) (template : List (List ℤ)
   comments_order p [] anchors from to h = ascend_ends from to (anchor_places anchors) h
   comments_order p (point ∷ points) [] from to h = h
   comments_order p (point ∷ points) (anchor ∷ anchors) from to h =
-      by (comments_order (suc p) points anchors anchor.place to h.1) (comments_order (suc p) points (anchor ∷ anchors) from to h) (is_anchored point.place)
+      by (comments_order (suc p) points anchors anchor.place to h.1) (comments_order (suc p) points (anchor ∷ anchors) from to h)
+      (is_anchored point.place)
     where
       by : Ascend anchor.place to (places (comments_from text names template v (suc p) points anchors))
           → Ascend from to (places (comments_from text names template v (suc p) points (anchor ∷ anchors)))
           → (b : Bool) → Ascend from to (places (if b
           then comment_at text names template v p anchor ++ comments_from text names template v (suc p) points anchors
           else comments_from text names template v (suc p) points (anchor ∷ anchors)))
-      by here on true = unless_order anchor (clauses anchor.known template (v p)) (comments_from text names template v (suc p) points anchors) from to h.0 here
+      by here on true = unless_order anchor (clauses anchor.known template (v p))
+          (comments_from text names template v (suc p) points anchors) from to h.0 here
       by here on false = on
 
   -- ---- what is so of the comment of each anchor is so of all comments
   module _ (Q : Anchor → Type 0) (P : Comment → Type 0)
-      (each : (anchor : Anchor) (said : List Clause) (comments : List Comment) → Q anchor → All P comments → All P (comment_unless_silent text names anchor said ++ comments)) where
+      (each : (anchor : Anchor) (said : List Clause) (comments : List Comment) → Q anchor → All P comments
+      → All P (comment_unless_silent text names anchor said ++ comments)) where
     -- over all points
-    comments_all : (p : ℕ) (points : List Point) (anchors : List Anchor) → All Q anchors → All P (comments_from text names template v p points anchors)
+    comments_all : (p : ℕ) (points : List Point) (anchors : List Anchor) → All Q anchors
+        → All P (comments_from text names template v p points anchors)
     comments_all p [] anchors h = All-nil P
     comments_all p (point ∷ points) [] h = All-nil P
     comments_all p (point ∷ points) (anchor ∷ anchors) h =
-        by (comments_all (suc p) points anchors (All-tail Q anchor anchors h)) (comments_all (suc p) points (anchor ∷ anchors) h) (is_anchored point.place)
+        by (comments_all (suc p) points anchors (All-tail Q anchor anchors h)) (comments_all (suc p) points (anchor ∷ anchors) h)
+        (is_anchored point.place)
       where
-        by : All P (comments_from text names template v (suc p) points anchors) → All P (comments_from text names template v (suc p) points (anchor ∷ anchors)) → (b : Bool) → All P (if b
+        by : All P (comments_from text names template v (suc p) points anchors)
+            → All P (comments_from text names template v (suc p) points (anchor ∷ anchors)) → (b : Bool) → All P (if b
             then comment_at text names template v p anchor ++ comments_from text names template v (suc p) points anchors
             else comments_from text names template v (suc p) points (anchor ∷ anchors))
-        by here on true = each anchor (clauses anchor.known template (v p)) (comments_from text names template v (suc p) points anchors) (All-head Q anchor anchors h) here
+        by here on true = each anchor (clauses anchor.known template (v p)) (comments_from text names template v (suc p) points anchors)
+            (All-head Q anchor anchors h) here
         by here on false = on
 
   -- it stands where a token begins or ends, as the anchor does
   unless_edges : (tokens : List Token) (anchor : Anchor) (said : List Clause) (comments : List Comment) → IsEdge tokens anchor.place
-      → All (λ c. IsEdge tokens c.place) comments → All (λ c. IsEdge tokens c.place) (comment_unless_silent text names anchor said ++ comments)
+      → All (λ c. IsEdge tokens c.place) comments → All (λ c. IsEdge tokens c.place)
+      (comment_unless_silent text names anchor said ++ comments)
   unless_edges tokens anchor [] comments e h = h
   unless_edges tokens anchor (clause ∷ said) comments e h = All-cons (λ c. IsEdge tokens c.place) _ comments e h
 
@@ -101,6 +109,8 @@ comments_stand stand text tokens p names points template v reads means words =
     let s = stand text tokens p reads means in
     record {
       order = comments_order text names template v 0 points (anchors_of p) 0 (length text) s.order;
-      edges = comments_all text names template v (λ a. IsEdge tokens a.place) (λ c. IsEdge tokens c.place) (unless_edges text names template v tokens) 0 points (anchors_of p) s.edges;
-      gaps = comments_all text names template v (λ a. Unit {0}) (λ c. IsGap c.bytes) (unless_gaps text names template v (words_plain names words)) 0 points (anchors_of p) (λ k d lt. tt);
+      edges = comments_all text names template v (λ a. IsEdge tokens a.place) (λ c. IsEdge tokens c.place)
+          (unless_edges text names template v tokens) 0 points (anchors_of p) s.edges;
+      gaps = comments_all text names template v (λ a. Unit {0}) (λ c. IsGap c.bytes)
+          (unless_gaps text names template v (words_plain names words)) 0 points (anchors_of p) (λ k d lt. tt);
     }

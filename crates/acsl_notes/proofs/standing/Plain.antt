@@ -1,5 +1,6 @@
 -- Texts without the byte `/`, which is 47.
-use Rattle.std.proofs.Common.{◌≡◌, ◌==◌, ◌+◌, ◌/◌, ◌%◌, ℕ, suc, zero, ℤ, pos, negsuc, nat_abs, Bool, true, false, not, ◌&&◌, List, [], ◌∷◌, ◌++◌, length, refl, ap, sym, ◌∙◌, arith, ne_eqb, subst, decimal}
+use Rattle.std.proofs.Common.{◌≡◌, ◌==◌, ◌+◌, ◌/◌, ◌%◌, ℕ, suc, zero, ℤ, pos, negsuc, nat_abs, Bool, true, false, not, ◌&&◌, List, [], ◌∷◌}
+use Rattle.std.proofs.Common.{◌++◌, length, refl, ap, sym, ◌∙◌, arith, ne_eqb, subst, decimal}
 use Rattle.std.specs.Prelude.{if◌then◌else◌, nat_le}
 use Rattle.std.specs.Fmt.{digits, digits_onto, digit_glyph, signed_decimal}
 use Rattle.std.specs.Bool.{nat_lt}
@@ -58,7 +59,8 @@ glyph_plain d = by (nat_lt d 10)
 digits_plain : (k n : ℕ) (behind : List ℕ) → IsPlain behind → IsPlain (digits_onto k 10 false n behind)
 digits_plain zero n behind h = h
 digits_plain (suc k) n behind h =
-    plain_if (n / 10 == 0) (digit_glyph false (n % 10) ∷ behind) (digits_onto k 10 false (n / 10) (digit_glyph false (n % 10) ∷ behind)) more
+    plain_if (n / 10 == 0) (digit_glyph false (n % 10) ∷ behind) (digits_onto k 10 false (n / 10) (digit_glyph false (n % 10) ∷ behind))
+    more
     (digits_plain k (n / 10) (digit_glyph false (n % 10) ∷ behind) more)
   where
     more : IsPlain (digit_glyph false (n % 10) ∷ behind)
@@ -93,12 +95,14 @@ bytes_plain (b ∷ bs) h =
 -- a word is plain
 pub word_plain : (bs : List ℕ) → is_word bs ≡ true → IsPlain bs
 word_plain bs h =
-    bytes_plain bs (and_parts (begins_word bs) (list_all is_word_byte bs) (and_parts (nat_le (length bs) 32) (begins_word bs && list_all is_word_byte bs) h).1).1
+    bytes_plain bs (and_parts (begins_word bs) (list_all is_word_byte bs)
+    (and_parts (nat_le (length bs) 32) (begins_word bs && list_all is_word_byte bs) h).1).1
 
 -- ---- rows
 -- a term is plain where its name is
 term_plain : (size : ℕ) (name : List ℕ) → IsPlain name → IsPlain (term_text size name)
-term_plain size name h = plain_if (size == 1) name (decimal size ++ 42 ∷ name) h (plain_append (decimal size) (42 ∷ name) (decimal_plain size) (plain_cons 42 name refl h))
+term_plain size name h = plain_if (size == 1) name (decimal size ++ 42 ∷ name) h
+    (plain_append (decimal size) (42 ∷ name) (decimal_plain size) (plain_cons 42 name refl h))
 
 -- the sign of a first term is plain
 first_plain : (c : ℤ) → IsPlain (first_sign c)
@@ -125,6 +129,8 @@ pub row_plain : (names : List (List ℕ)) (cs : List ℤ) → ArePlain names →
 row_plain [] cs h = refl
 row_plain (name ∷ names) [] h = refl
 row_plain (name ∷ names) (c ∷ cs) h =
-    plain_if (nat_abs c == 0) (row_text names cs) ((first_sign c ++ term_text (nat_abs c) name) ++ later_terms names cs) (row_plain names cs h.1)
+    plain_if (nat_abs c == 0) (row_text names cs) ((first_sign c ++ term_text (nat_abs c) name) ++ later_terms names cs)
+    (row_plain names cs h.1)
     (plain_append (first_sign c ++ term_text (nat_abs c) name) (later_terms names cs)
-    (plain_append (first_sign c) (term_text (nat_abs c) name) (first_plain c) (term_plain (nat_abs c) name h.0)) (laters_plain names cs h.1))
+    (plain_append (first_sign c) (term_text (nat_abs c) name) (first_plain c) (term_plain (nat_abs c) name h.0))
+    (laters_plain names cs h.1))

@@ -1,5 +1,6 @@
 -- What is put in at an anchor is a gap.
-use Rattle.std.proofs.Common.{◌≡◌, ◌==◌, ◌||◌, ℕ, ℤ, Bool, true, false, Option, Some, None, List, [], ◌∷◌, ◌++◌, refl, sym, subst, append_assoc, codes, decimal, map, take}
+use Rattle.std.proofs.Common.{◌≡◌, ◌==◌, ◌||◌, ℕ, ℤ, Bool, true, false, Option, Some, None, List, [], ◌∷◌, ◌++◌, refl, sym, subst}
+use Rattle.std.proofs.Common.{append_assoc, codes, decimal, map, take}
 use Rattle.std.specs.Prelude.{if◌then◌else◌}
 use Rattle.std.specs.Fmt.{signed_decimal}
 use Rattle.std.specs.List.{list_all}
@@ -9,9 +10,11 @@ use Rattle.acsl_comments.specs.Places.{IsGap}
 use Rattle.flow_systems.specs.Report.{row_text}
 use Rattle.acsl_anchors.specs.Anchors.{What, a_loop, a_label, the_end}
 use Rattle.acsl_notes.specs.Clauses.{Clause, never, at_most, equals}
-use Rattle.acsl_notes.specs.Texts.{side_text, clause_text, invariant_text, assertion_text, is_space, last_line, indentation, joined_on, joined, loop_comment, label_comment, end_comment, comment_text}
+use Rattle.acsl_notes.specs.Texts.{side_text, clause_text, invariant_text, assertion_text, is_space, last_line, indentation, joined_on}
+use Rattle.acsl_notes.specs.Texts.{joined, loop_comment, label_comment, end_comment, comment_text}
 use Rattle.acsl_notes.proofs.standing.Gaps.{gap_append, gap_nil, gap_blank, gap_blanks, gap_comment}
-use Rattle.acsl_notes.proofs.standing.Plain.{is_plain, IsPlain, ArePlain, plain_append, plain_cons, plain_if, decimal_plain, signed_plain, row_plain}
+use Rattle.acsl_notes.proofs.standing.Plain.{is_plain, IsPlain, ArePlain, plain_append, plain_cons, plain_if, decimal_plain, signed_plain}
+use Rattle.acsl_notes.proofs.standing.Plain.{row_plain}
 
 -- ---- conditions
 -- three plain texts
@@ -35,14 +38,16 @@ clause_plain names (equals factor row bound) h =
 
 -- an invariant is plain
 invariant_plain : (names : List (List ℕ)) (clause : Clause) → ArePlain names → IsPlain (invariant_text names clause)
-invariant_plain names clause h = plain_three (codes "loop invariant ") (clause_text names clause) (codes ";") refl (clause_plain names clause h) refl
+invariant_plain names clause h = plain_three (codes "loop invariant ") (clause_text names clause) (codes ";") refl
+    (clause_plain names clause h) refl
 
 -- invariants behind others are plain where what stands between them is
 joined_on_plain : (names : List (List ℕ)) (between : List ℕ) (said : List Clause) → ArePlain names → IsPlain between
     → IsPlain (joined_on between (map (invariant_text names) said))
 joined_on_plain names between [] h b = refl
 joined_on_plain names between (clause ∷ said) h b =
-    plain_three between (invariant_text names clause) (joined_on between (map (invariant_text names) said)) b (invariant_plain names clause h)
+    plain_three between (invariant_text names clause) (joined_on between (map (invariant_text names) said)) b
+    (invariant_plain names clause h)
     (joined_on_plain names between said h b)
 
 -- invariants are plain where what stands between them is
@@ -119,16 +124,19 @@ assertion_gap names clause h =
     (plain_three (codes "assert ") (clause_text names clause) (codes ";") refl (clause_plain names clause h) refl))
 
 -- the comment of a loop is a gap
-loop_gap : (names : List (List ℕ)) (blanks : Option (List ℕ)) (said : List Clause) → ArePlain names → AreSpaces blanks → IsGap (loop_comment names blanks said)
+loop_gap : (names : List (List ℕ)) (blanks : Option (List ℕ)) (said : List Clause) → ArePlain names → AreSpaces blanks
+    → IsGap (loop_comment names blanks said)
 loop_gap names (Some blanks) said h s =
     let between : List ℕ = 10 ∷ (blanks ++ codes "    ") in
     let lines : List ℕ = joined between (map (invariant_text names) said) in
     let plain : IsPlain between = plain_append (10 ∷ blanks) (codes "    ") (plain_cons 10 blanks refl (spaces_plain blanks s)) refl in
-    gap_append (codes "/*@ " ++ lines ++ codes " */") (10 ∷ blanks) (note_gap lines (joined_plain names between said h plain)) (line_gap blanks s)
+    gap_append (codes "/*@ " ++ lines ++ codes " */") (10 ∷ blanks) (note_gap lines (joined_plain names between said h plain))
+    (line_gap blanks s)
 loop_gap names None said h s =
     let line : List ℕ = joined (codes " ") (map (invariant_text names) said) in
     subst (λ (bytes : List ℕ). IsGap (codes "/*@ " ++ bytes)) (append_assoc line (codes " */") (codes " "))
-    (gap_append (codes "/*@ " ++ line ++ codes " */") (32 ∷ []) (note_gap line (joined_plain names (codes " ") said h refl)) (gap_blank 32 refl))
+    (gap_append (codes "/*@ " ++ line ++ codes " */") (32 ∷ []) (note_gap line (joined_plain names (codes " ") said h refl))
+    (gap_blank 32 refl))
 
 -- the comment of a label is a gap
 label_gap : (names : List (List ℕ)) (said : List Clause) → ArePlain names → IsGap (label_comment names said)
@@ -138,11 +146,13 @@ label_gap names (clause ∷ said) h =
     (gap_append (32 ∷ []) (assertion_text names clause) (gap_blank 32 refl) (assertion_gap names clause h)) (label_gap names said h)
 
 -- the comment of the end is a gap
-end_gap : (names : List (List ℕ)) (blanks : Option (List ℕ)) (said : List Clause) → ArePlain names → AreSpaces blanks → IsGap (end_comment names blanks said)
+end_gap : (names : List (List ℕ)) (blanks : Option (List ℕ)) (said : List Clause) → ArePlain names → AreSpaces blanks
+    → IsGap (end_comment names blanks said)
 end_gap names (Some blanks) [] h s = gap_nil
 end_gap names (Some blanks) (clause ∷ said) h s =
     gap_append (assertion_text names clause ++ 10 ∷ blanks) (end_comment names (Some blanks) said)
-    (gap_append (assertion_text names clause) (10 ∷ blanks) (assertion_gap names clause h) (line_gap blanks s)) (end_gap names (Some blanks) said h s)
+    (gap_append (assertion_text names clause) (10 ∷ blanks) (assertion_gap names clause h) (line_gap blanks s))
+    (end_gap names (Some blanks) said h s)
 end_gap names None [] h s = gap_nil
 end_gap names None (clause ∷ said) h s =
     gap_append (assertion_text names clause ++ 32 ∷ []) (end_comment names None said)

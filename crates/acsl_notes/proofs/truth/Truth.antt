@@ -1,5 +1,6 @@
 -- What bounds say is true of a state that fits them.
-use Rattle.std.proofs.Common.{◌≡◌, ◌==◌, ◌<◌, ◌+◌, ◌++◌, ℕ, suc, ℤ, pos, neg_ℤ, nat_abs, ◌+ℤ◌, ◌*ℤ◌, ◌≤ℤ◌, Bool, true, false, List, [], ◌∷◌, Some, length, refl, sym, subst, subst₂, ⊎_elim, add-zero, zero-add, arith}
+use Rattle.std.proofs.Common.{◌≡◌, ◌==◌, ◌<◌, ◌+◌, ◌++◌, ℕ, suc, ℤ, pos, neg_ℤ, nat_abs, ◌+ℤ◌, ◌*ℤ◌, ◌≤ℤ◌, Bool, true, false, List, [], ◌∷◌}
+use Rattle.std.proofs.Common.{Some, length, refl, sym, subst, subst₂, ⊎_elim, add-zero, zero-add, arith}
 use Rattle.std.specs.Prelude.{if◌then◌else◌, slice_get}
 use Rattle.std.specs.List.{All, list_any}
 use Rattle.std.proofs.lemmas.Bool.{and_parts, or_cases, eqb-true}
@@ -9,7 +10,8 @@ use Rattle.base_numbers.specs.Rational.{ℚ, whole, ◌≤ℚ◌}
 use Rattle.lang_tree.specs.Meaning.{State, dot}
 use Rattle.flow_systems.specs.States.{dotℚ, rational}
 use Rattle.flow_systems.proofs.states.RationalStates.{dot_rational}
-use Rattle.acsl_notes.specs.Clauses.{Clause, at_most, equals, IsTrueAt, Bounded, bounded_from, is_over, is_opposite, is_negative_of, meets, clause_at, clauses_of, clauses_from, clauses_unless, clauses}
+use Rattle.acsl_notes.specs.Clauses.{Clause, at_most, equals, IsTrueAt, Bounded, bounded_from, is_over, is_opposite, is_negative_of, meets}
+use Rattle.acsl_notes.specs.Clauses.{clause_at, clauses_of, clauses_from, clauses_unless, clauses}
 use Rattle.acsl_notes.specs.Laws.{ClausesHold}
 use Rattle.acsl_notes.proofs.truth.Values.{at_most_num, between_opposites, opposite_dot, opposite_of_sum}
 
@@ -23,10 +25,12 @@ met_is : (x : State) (row : List ℤ) (q : ℚ) (others : List Bounded) → whol
     → list_any (meets row q) others ≡ true → (pos q.den *ℤ dot row x) ≡ q.num
 met_is x row q [] l h m = cc
 met_is x row q ((other, bound) ∷ others) l h m =
-    ⊎_elim (λ here. met_here bound h.0 (and_parts (is_opposite row other) (is_negative_of q bound) here)) (λ later. met_is x row q others l h.1 later)
+    ⊎_elim (λ here. met_here bound h.0 (and_parts (is_opposite row other) (is_negative_of q bound) here))
+    (λ later. met_is x row q others l h.1 later)
     (or_cases (meets row q (other, bound)) (list_any (meets row q) others) m)
   where
-    met_here : (b : Ext) → fin (whole (dot other x)) ≤ᴱ b → (is_opposite row other ≡ true) × (is_negative_of q b ≡ true) → (pos q.den *ℤ dot row x) ≡ q.num
+    met_here : (b : Ext) → fin (whole (dot other x)) ≤ᴱ b → (is_opposite row other ≡ true) × (is_negative_of q b ≡ true)
+        → (pos q.den *ℤ dot row x) ≡ q.num
     met_here neg_inf w (o, n) = absurd w
     met_here pos_inf w (o, n) = cc
     met_here (fin p) w (o, n) =
@@ -39,7 +43,8 @@ met_is x row q ((other, bound) ∷ others) l h m =
         (subst₂ (λ (d : ℕ) (z : ℤ). (pos d *ℤ z) ≤ℤ neg_ℤ q.num) (sym den) value (subst (λ n. (pos p.den *ℤ dot other x) ≤ℤ n) num under))
 
 -- what a row's bound says is true
-clause_true : (x : State) (row : List ℤ) (q : ℚ) (others : List Bounded) → whole (dot row x) ≤ℚ q → AllWithin x others → IsTrueAt (clause_at row q others) x
+clause_true : (x : State) (row : List ℤ) (q : ℚ) (others : List Bounded) → whole (dot row x) ≤ℚ q → AllWithin x others
+    → IsTrueAt (clause_at row q others) x
 clause_true x row q others l h = by (list_any (meets row q) others) refl
   where
     by : (b : Bool) → list_any (meets row q) others ≡ b → IsTrueAt (if b then equals q.den row q.num else at_most q.den row q.num) x
@@ -59,32 +64,38 @@ row_true x known before row (fin q) behind l h = by (is_over 0 known row) (list_
   where
     by : (over met : Bool) → AreTrue x (if over then (if met then [] else clause_at row q behind ∷ []) else [])
     by true true = All-nil (λ clause. IsTrueAt clause x)
-    by true false = All-cons (λ clause. IsTrueAt clause x) (clause_at row q behind) [] (clause_true x row q behind l h) (All-nil (λ clause. IsTrueAt clause x))
+    by true false = All-cons (λ clause. IsTrueAt clause x) (clause_at row q behind) [] (clause_true x row q behind l h)
+        (All-nil (λ clause. IsTrueAt clause x))
     by false met = All-nil (λ clause. IsTrueAt clause x)
 
 -- what rows say is true
 rows_true : (x : State) (known : List ℕ) (before rows : List Bounded) → AllWithin x rows → AreTrue x (clauses_from known before rows)
 rows_true x known before [] h = All-nil (λ clause. IsTrueAt clause x)
 rows_true x known before ((row, bound) ∷ rows) h =
-    All-append (λ clause. IsTrueAt clause x) (clauses_of known before row bound rows) (clauses_from known (before ++ (row, bound) ∷ []) rows)
+    All-append (λ clause. IsTrueAt clause x) (clauses_of known before row bound rows)
+    (clauses_from known (before ++ (row, bound) ∷ []) rows)
     (row_true x known before row bound rows h.0 h.1) (rows_true x known (before ++ (row, bound) ∷ []) rows h.1)
 
 -- ---- a state that fits
 within_from : (x : State) (r : ℕ) (rows : List (List ℤ)) (bounds : ℕ → Ext)
-    → ((k : ℕ) (row : List ℤ) → slice_get rows k ≡ Some row → fin (dotℚ row (rational x)) ≤ᴱ bounds (r + k)) → AllWithin x (bounded_from r rows bounds)
+    → ((k : ℕ) (row : List ℤ) → slice_get rows k ≡ Some row → fin (dotℚ row (rational x)) ≤ᴱ bounds (r + k))
+    → AllWithin x (bounded_from r rows bounds)
 within_from x r [] bounds h = tt
 within_from x r (row ∷ rows) bounds h = (
   subst₂ (λ (q : ℚ) (n : ℕ). fin q ≤ᴱ bounds n) (dot_rational row x) (add-zero r) (h 0 row refl),
-  within_from x (suc r) rows bounds (λ k other listed. let place : r + suc k ≡ suc r + k = omega arith in subst (λ n. fin (dotℚ other (rational x)) ≤ᴱ bounds n) place (h (suc k) other listed)),
+  within_from x (suc r) rows bounds (λ k other listed. let place : r + suc k ≡ suc r + k = omega arith in
+      subst (λ n. fin (dotℚ other (rational x)) ≤ᴱ bounds n) place (h (suc k) other listed)),
 )
 
 -- no state fits where the first bound is -inf
-none_under : (x : State) (template : List (List ℤ)) (bounds : ℕ → Ext) → 0 < length template → AllWithin x (bounded_from 0 template bounds) → bounds 0 ≡ neg_inf → ⊥
+none_under : (x : State) (template : List (List ℤ)) (bounds : ℕ → Ext) → 0 < length template → AllWithin x (bounded_from 0 template bounds)
+    → bounds 0 ≡ neg_inf → ⊥
 none_under x [] bounds some h e = absurd (omega (arith, some))
 none_under x (row ∷ rows) bounds some h e = subst (λ b. fin (whole (dot row x)) ≤ᴱ b) e h.0
 
 -- what the bounds of a point say is true of a state that is within them
-said_true : (x : State) (known : List ℕ) (template : List (List ℤ)) (bounds : ℕ → Ext) → 0 < length template → AllWithin x (bounded_from 0 template bounds)
+said_true : (x : State) (known : List ℕ) (template : List (List ℤ)) (bounds : ℕ → Ext) → 0 < length template
+    → AllWithin x (bounded_from 0 template bounds)
     → AreTrue x (clauses known template bounds)
 said_true x known template bounds some h = by (bounds 0) refl
   where
@@ -99,4 +110,5 @@ clauses_hold variables body template v some holds p known clause said run now ru
     let fits = holds run now p runs listed at in
     All-contains (λ c. IsTrueAt c now.state) (clauses known template (v p)) clause
     (said_true now.state known template (v p) some
-    (within_from now.state 0 template (v p) (λ k row found. subst (λ n. fin (dotℚ row (rational now.state)) ≤ᴱ v p n) (sym (zero-add k)) (fits k row found)))) said
+    (within_from now.state 0 template (v p) (λ k row found. subst (λ n. fin (dotℚ row (rational now.state)) ≤ᴱ v p n) (sym (zero-add k))
+    (fits k row found)))) said

@@ -1,7 +1,9 @@
 -- A tree declares as many variables at other places.
 use Rattle.std.proofs.Common.{◌≡◌, ℕ, suc, refl, ap, arith}
-use Rattle.lang_grammar.specs.Grammar.{Declarators, declares, declares_more, ForFirst, no_first, declared_first, updated_first, Core, empty, block, if_alone}
-use Rattle.lang_grammar.specs.Grammar.{if_else, repeat, repeat_after, repeat_for, jumps, assumed, updates, Sub, labelled, plain, Items, no_items, label}
+use Rattle.lang_grammar.specs.Grammar.{Declarators, declares, declares_more, ForFirst, no_first, declared_first, updated_first, Core, empty}
+use Rattle.lang_grammar.specs.Grammar.{block, if_alone}
+use Rattle.lang_grammar.specs.Grammar.{if_else, repeat, repeat_after, repeat_for, jumps, assumed, updates, Sub, labelled, plain, Items}
+use Rattle.lang_grammar.specs.Grammar.{no_items, label}
 use Rattle.lang_grammar.specs.Grammar.{declaration, item}
 use Rattle.lang_meaning.specs.Walk.{declared_in, declared_before, declared_core, declared_sub, declared_items}
 use Rattle.acsl_shift.proofs.moves.Trees.{move_declarators, move_first, move_core, move_sub, move_items}

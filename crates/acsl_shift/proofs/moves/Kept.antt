@@ -35,27 +35,32 @@ pub kept_err : {A B : Type 0} (R : A → B → Type 0) (e : ParseFault) (now : R
 kept_err R e now = record { kept = tt }
 
 -- the same state, with parts that are alike
-pub alike_ok : {A : Type 0} (without : A → A) (st : State) (x y : A) → without y ≡ without x → Kept (Alike without) (Ok (st, x)) (Ok (st, y))
+pub alike_ok : {A : Type 0} (without : A → A) (st : State) (x y : A) → without y ≡ without x
+    → Kept (Alike without) (Ok (st, x)) (Ok (st, y))
 alike_ok without st x y h = kept_ok (Alike without) (st, x) (st, y) (refl, h)
 
 -- both go on from answers that are related
 kept_then : {A B C D : Type 0} (R : A → B → Type 0) (S : C → D → Type 0) (r : Result A ParseFault) (s : Result B ParseFault)
-    (f : A → Result C ParseFault) (g : B → Result D ParseFault) → Kept R r s → ((x : A) (y : B) → R x y → Kept S (f x) (g y)) → Kept S (r >>= f) (s >>= g)
+    (f : A → Result C ParseFault) (g : B → Result D ParseFault) → Kept R r s → ((x : A) (y : B) → R x y → Kept S (f x) (g y))
+    → Kept S (r >>= f) (s >>= g)
 kept_then R S (Ok x) s f g h k = subst (λ z. Kept S (f x) (z >>= g)) (sym h.kept.1) (k x h.kept.0 h.kept.2)
 kept_then R S (Err e) s f g h k = record { kept = tt }
 
 -- both go on from the same answer, seen by a view
 pub viewed_then : {A B C D : Type 0} (view : A → B) (S : C → D → Type 0) (r : Result A ParseFault) (s : Result B ParseFault)
-    (f : A → Result C ParseFault) (g : B → Result D ParseFault) → Kept (Viewed view) r s → ((x : A) → Kept S (f x) (g (view x))) → Kept S (r >>= f) (s >>= g)
+    (f : A → Result C ParseFault) (g : B → Result D ParseFault) → Kept (Viewed view) r s → ((x : A) → Kept S (f x) (g (view x)))
+    → Kept S (r >>= f) (s >>= g)
 viewed_then view S r s f g h k = kept_then (Viewed view) S r s f g h (λ x y e. subst (λ z. Kept S (f x) (g z)) (sym e) (k x))
 
 -- both go on from the same answer
-pub same_then : {A C D : Type 0} (S : C → D → Type 0) (r s : Result A ParseFault) (f : A → Result C ParseFault) (g : A → Result D ParseFault)
+pub same_then : {A C D : Type 0} (S : C → D → Type 0) (r s : Result A ParseFault) (f : A → Result C ParseFault)
+    (g : A → Result D ParseFault)
     → Kept Same r s → ((x : A) → Kept S (f x) (g x)) → Kept S (r >>= f) (s >>= g)
 same_then S r s f g h k = kept_then Same S r s f g h (λ x y e. subst (λ z. Kept S (f x) (g z)) (sym e) (k x))
 
 -- both go on from the same state, with parts that are alike
-pub alike_then : {A C D : Type 0} (without : A → A) (S : C → D → Type 0) (r s : Result (State × A) ParseFault) (f : State × A → Result C ParseFault)
+pub alike_then : {A C D : Type 0} (without : A → A) (S : C → D → Type 0) (r s : Result (State × A) ParseFault)
+    (f : State × A → Result C ParseFault)
     (g : State × A → Result D ParseFault) → Kept (Alike without) r s
     → ((st : State) (x y : A) → without y ≡ without x → Kept S (f (st, x)) (g (st, y))) → Kept S (r >>= f) (s >>= g)
 alike_then without S r s f g h k =

@@ -1,18 +1,27 @@
 -- A tree at other places is spelled by the tokens at those places, and is good where it was.
 use Rattle.std.proofs.Common.{◌≡◌, ◌∙◌, ◌++◌, ℕ, suc, List, [], ◌∷◌, refl, ap, ap₂, sym}
 use Rattle.std.proofs.lemmas.List.{map-append}
-use Rattle.lang_grammar.specs.Grammar.{level, a_name, a_number, infix_sign, change_sign, replaces, left_paren, right_paren, left_brace, right_brace, comma, semicolon, colon}
-use Rattle.lang_grammar.specs.Grammar.{int_word, main_word, if_word, else_word, while_word, do_word, for_word, assume_word, the_end, Token, token}
+use Rattle.lang_grammar.specs.Grammar.{level, a_name, a_number, infix_sign, change_sign, replaces, left_paren, right_paren, left_brace}
+use Rattle.lang_grammar.specs.Grammar.{right_brace, comma, semicolon, colon}
+use Rattle.lang_grammar.specs.Grammar.{int_word, main_word, if_word, else_word, while_word, do_word, for_word, assume_word, the_end, Token}
+use Rattle.lang_grammar.specs.Grammar.{token}
 use Rattle.lang_grammar.specs.Grammar.{Expr, number, variable, free, grouped, prefixed, joined, spell_expr, Groups, sign_of}
-use Rattle.lang_grammar.specs.Grammar.{Declarator, bare, given, Declarators, declares, declares_more, spell_declarator, spell_declarators, GoodDeclarator}
-use Rattle.lang_grammar.specs.Grammar.{GoodDeclarators, Update, set, step_after, step_before, ForFirst, no_first, declared_first, updated_first, ForTest}
-use Rattle.lang_grammar.specs.Grammar.{no_test, given_test, ForLast, no_last, updated_last, spell_update, spell_first, spell_test, spell_last, GoodUpdate}
-use Rattle.lang_grammar.specs.Grammar.{GoodFirst, GoodTest, GoodLast, Core, empty, block, if_alone, if_else, repeat, repeat_after, repeat_for, jumps}
-use Rattle.lang_grammar.specs.Grammar.{assumed, updates, Sub, labelled, plain, Items, no_items, label, declaration, item, spell_core, spell_sub, spell_items}
-use Rattle.lang_grammar.specs.Grammar.{ending_core, ending_sub, GoodCore, GoodSub, GoodItems, Parameters, nothing, void_at, Return, no_return, returns}
+use Rattle.lang_grammar.specs.Grammar.{Declarator, bare, given, Declarators, declares, declares_more, spell_declarator, spell_declarators}
+use Rattle.lang_grammar.specs.Grammar.{GoodDeclarator}
+use Rattle.lang_grammar.specs.Grammar.{GoodDeclarators, Update, set, step_after, step_before, ForFirst, no_first, declared_first}
+use Rattle.lang_grammar.specs.Grammar.{updated_first, ForTest}
+use Rattle.lang_grammar.specs.Grammar.{no_test, given_test, ForLast, no_last, updated_last, spell_update, spell_first, spell_test}
+use Rattle.lang_grammar.specs.Grammar.{spell_last, GoodUpdate}
+use Rattle.lang_grammar.specs.Grammar.{GoodFirst, GoodTest, GoodLast, Core, empty, block, if_alone, if_else, repeat, repeat_after}
+use Rattle.lang_grammar.specs.Grammar.{repeat_for, jumps}
+use Rattle.lang_grammar.specs.Grammar.{assumed, updates, Sub, labelled, plain, Items, no_items, label, declaration, item, spell_core}
+use Rattle.lang_grammar.specs.Grammar.{spell_sub, spell_items}
+use Rattle.lang_grammar.specs.Grammar.{ending_core, ending_sub, GoodCore, GoodSub, GoodItems, Parameters, nothing, void_at, Return}
+use Rattle.lang_grammar.specs.Grammar.{no_return, returns}
 use Rattle.lang_grammar.specs.Grammar.{returns_minus, spell_parameters, spell_return, Program, program, spell, Good, Reads}
 use Rattle.acsl_shift.specs.Moves.{move, moved}
-use Rattle.acsl_shift.proofs.moves.Trees.{move_expr, move_declarator, move_declarators, move_update, move_first, move_test, move_last, move_core}
+use Rattle.acsl_shift.proofs.moves.Trees.{move_expr, move_declarator, move_declarators, move_update, move_first, move_test, move_last}
+use Rattle.acsl_shift.proofs.moves.Trees.{move_core}
 use Rattle.acsl_shift.proofs.moves.Trees.{move_sub, move_items, move_parameters, move_return, move_program}
 
 -- tokens, and the same at other places
@@ -94,7 +103,8 @@ module _ (to : ℕ → ℕ) where
         (after (spelled_first f) (after (spelled_test t) (after (spelled_last l) (spelled_sub s)))))
     spelled_core (jumps j a b) = record { same = refl }
     spelled_core (assumed a b e c d) =
-        behind (token assume_word a) (behind (token left_paren b) (after (spelled_expr e) (behind (token right_paren c) (behind (token semicolon d) none))))
+        behind (token assume_word a) (behind (token left_paren b) (after (spelled_expr e)
+        (behind (token right_paren c) (behind (token semicolon d) none))))
     spelled_core (updates u c) = after (spelled_update u) (behind (token semicolon c) none)
 
     -- a statement with its labels

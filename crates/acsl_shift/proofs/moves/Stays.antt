@@ -22,7 +22,8 @@ abbrev AlikeNamed : List (List ℕ) × Statements → List (List ℕ) × Stateme
 AlikeNamed x y = (y.0 ≡ x.0) × (without_lines y.1 ≡ without_lines x.1)
 
 -- there has to be a variable
-kept_program : (st : State) (ns ms : Statements) → without_lines ms ≡ without_lines ns → Kept AlikeNamed (program_of (st, ns)) (program_of (st, ms))
+kept_program : (st : State) (ns ms : Statements) → without_lines ms ≡ without_lines ns
+    → Kept AlikeNamed (program_of (st, ns)) (program_of (st, ms))
 kept_program st ns ms h = by_names st.names where
   by_names : (names : List (List ℕ)) → Kept AlikeNamed
       (elim names as (λ z. Result (List (List ℕ) × Statements) ParseFault) [ [] ↦ Err fault.NoVariables | x ∷ xs ↦ Ok (x ∷ xs, ns) ])
@@ -35,10 +36,12 @@ walk_moved : (line other to : ℕ → ℕ) (p : Program) (x : List (List ℕ) ×
     → (y : List (List ℕ) × Statements) × (walk other (move_program to p) ≡ Ok y) × AlikeNamed x y
 walk_moved line other to (program a b c ps d e is r f g) x h =
     let width = min MOST_VARIABLES (declared_items is) in
-    let at : ℕ → Result (List (List ℕ) × Statements) ParseFault = λ n. walk_items other n false (move_items to is) start_state >>= λ q. program_of q in
+    let at : ℕ → Result (List (List ℕ) × Statements) ParseFault = λ n. walk_items other n false (move_items to is) start_state
+    >>= λ q. program_of q in
     let met =
     kept_answer AlikeNamed (walk_items line width false is start_state >>= λ q. program_of q) (at width) x
-    (alike_then without_lines AlikeNamed (walk_items line width false is start_state) (walk_items other width false (move_items to is) start_state) _ _
+    (alike_then without_lines AlikeNamed (walk_items line width false is start_state)
+    (walk_items other width false (move_items to is) start_state) _ _
     (kept_items to line other width false is start_state) (λ st ns ms i. kept_program st ns ms i)) h in
     (met.0, ap (λ n. at (min MOST_VARIABLES n)) (same_items to is) ∙ met.1, met.2)
 

@@ -1,9 +1,13 @@
 -- A program's tree whose tokens stand at other places.
 use Rattle.std.proofs.Common.{ℕ}
-use Rattle.lang_grammar.specs.Grammar.{Expr, number, variable, free, grouped, prefixed, joined, Declarator, bare, given, Declarators, declares}
-use Rattle.lang_grammar.specs.Grammar.{declares_more, Update, set, step_after, step_before, ForFirst, no_first, declared_first, updated_first, ForTest}
-use Rattle.lang_grammar.specs.Grammar.{no_test, given_test, ForLast, no_last, updated_last, Core, empty, block, if_alone, if_else, repeat, repeat_after}
-use Rattle.lang_grammar.specs.Grammar.{repeat_for, jumps, assumed, updates, Sub, labelled, plain, Items, no_items, label, declaration, item, Parameters}
+use Rattle.lang_grammar.specs.Grammar.{Expr, number, variable, free, grouped, prefixed, joined, Declarator, bare, given, Declarators}
+use Rattle.lang_grammar.specs.Grammar.{declares}
+use Rattle.lang_grammar.specs.Grammar.{declares_more, Update, set, step_after, step_before, ForFirst, no_first, declared_first}
+use Rattle.lang_grammar.specs.Grammar.{updated_first, ForTest}
+use Rattle.lang_grammar.specs.Grammar.{no_test, given_test, ForLast, no_last, updated_last, Core, empty, block, if_alone, if_else, repeat}
+use Rattle.lang_grammar.specs.Grammar.{repeat_after}
+use Rattle.lang_grammar.specs.Grammar.{repeat_for, jumps, assumed, updates, Sub, labelled, plain, Items, no_items, label, declaration, item}
+use Rattle.lang_grammar.specs.Grammar.{Parameters}
 use Rattle.lang_grammar.specs.Grammar.{nothing, void_at, Return, no_return, returns, returns_minus, Program, program}
 use Rattle.lang_meaning.specs.Walk.{Value, a_form, a_truth, a_nondet}
 

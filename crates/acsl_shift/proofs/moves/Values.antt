@@ -1,7 +1,8 @@
 -- The walk of an expression at other places answers the same value, but for its places.
 use Rattle.std.proofs.Common.{◌∷◌, Bool, true, false, cond, ℕ, ℤ, pos, negsuc, List, [], Option, Some, None, Ok, Err, nat_lt, nat_eq, refl}
 use Rattle.std.specs.List.{list_any}
-use Rattle.lang_grammar.specs.Grammar.{Relation, Op, or_op, and_op, compare_op, plus_op, minus_op, times_op, Prefix, negative, positive, negation, Change}
+use Rattle.lang_grammar.specs.Grammar.{Relation, Op, or_op, and_op, compare_op, plus_op, minus_op, times_op, Prefix, negative, positive}
+use Rattle.lang_grammar.specs.Grammar.{negation, Change}
 use Rattle.lang_grammar.specs.Grammar.{replaces, adds, subtracts, Expr, number, variable, free, grouped, prefixed, joined}
 use Rattle.lang_tree.specs.declared.form.Form.{Form}
 use Rattle.lang_tree.specs.declared.cond.Rel.TheVariants as rel
@@ -14,8 +15,10 @@ use Rattle.lang_meaning.specs.declared.fault.Limit.TheVariants.{Leaves}
 use Rattle.lang_meaning.specs.declared.fault.Limit.TheVariants as limit
 use Rattle.lang_meaning.specs.Names.{place_of}
 use Rattle.lang_meaning.specs.Forms.{constant_form, variable_form, plus, minus, scaled, is_constant, is_comparable}
-use Rattle.lang_meaning.specs.Walk.{Value, a_form, a_truth, a_nondet, State, counted, number_if_known, known_number, number_of, as_condition, ranged_number}
-use Rattle.lang_meaning.specs.Walk.{ranged_numbers, ranged, first_of, two_numbers, two_conditions, rel_of, compared, product, combined, prefix_value}
+use Rattle.lang_meaning.specs.Walk.{Value, a_form, a_truth, a_nondet, State, counted, number_if_known, known_number, number_of}
+use Rattle.lang_meaning.specs.Walk.{as_condition, ranged_number}
+use Rattle.lang_meaning.specs.Walk.{ranged_numbers, ranged, first_of, two_numbers, two_conditions, rel_of, compared, product, combined}
+use Rattle.lang_meaning.specs.Walk.{prefix_value}
 use Rattle.lang_meaning.specs.Walk.{regarded, few_leaves, tested, right_side, assigned, walk_expr}
 use Rattle.acsl_shift.proofs.moves.Trees.{move_expr, move_value}
 use Rattle.acsl_shift.proofs.moves.Kept.{Kept, Viewed, Same, kept_ok, kept_err, viewed_then, same_then, kept_if}
@@ -88,7 +91,8 @@ module _ (to : ℕ → ℕ) where
 
   -- a condition
   kept_condition : (v : Value) → Kept Same (as_condition v) (as_condition (move_value to v))
-  kept_condition (a_form f first) = kept_if Same (is_comparable f) _ _ (BigNumber first) (BigNumber (to first)) (same_ok (tree.compare rel.Ne f))
+  kept_condition (a_form f first) = kept_if Same (is_comparable f) _ _ (BigNumber first) (BigNumber (to first))
+      (same_ok (tree.compare rel.Ne f))
   kept_condition (a_truth c) = same_ok c
   kept_condition (a_nondet c) = same_ok tree.free
 
@@ -103,7 +107,8 @@ module _ (to : ℕ → ℕ) where
   kept_right a b (a_nondet c) = same_ok None
 
   -- what a variable takes
-  pub kept_assigned : (width : ℕ) (g : Change) (i a b : ℕ) (v : Value) → Kept Same (assigned width g i a v) (assigned width g i b (move_value to v))
+  pub kept_assigned : (width : ℕ) (g : Change) (i a b : ℕ) (v : Value)
+      → Kept Same (assigned width g i a v) (assigned width g i b (move_value to v))
   kept_assigned width replaces i a b v = kept_right a b v
   kept_assigned width adds i a b v =
       same_then Same (number_of a v) (number_of b (move_value to v)) _ _ (kept_number_of a b v) (λ f.
@@ -134,13 +139,15 @@ module _ (to : ℕ → ℕ) where
       kept_if ValueMoved (is_comparable h) _ _ (BigNumber a) (BigNumber b) (moved_ok (a_truth (tree.compare (rel_of r) h))))
 
   -- the first token of a number is that of its left side
-  kept_form : (a : ℕ) (v : Value) (f : Form) → Kept ValueMoved (Ok (a_form f (first_of a v))) (Ok (a_form f (first_of (to a) (move_value to v))))
+  kept_form : (a : ℕ) (v : Value) (f : Form) → Kept ValueMoved (Ok (a_form f (first_of a v)))
+      (Ok (a_form f (first_of (to a) (move_value to v))))
   kept_form a (a_form g first) f = moved_ok (a_form f first)
   kept_form a (a_truth c) f = moved_ok (a_form f a)
   kept_form a (a_nondet b) f = moved_ok (a_form f b)
 
   -- what a sign makes of its sides
-  kept_combined : (o : Op) (a : ℕ) (v w : Value) → Kept ValueMoved (combined o a v w) (combined o (to a) (move_value to v) (move_value to w))
+  kept_combined : (o : Op) (a : ℕ) (v w : Value) → Kept ValueMoved (combined o a v w)
+      (combined o (to a) (move_value to v) (move_value to w))
   kept_combined or_op a v w =
       same_then ValueMoved (two_conditions v w) (two_conditions (move_value to v) (move_value to w)) _ _ (kept_both v w) (λ p. moved_ok _)
   kept_combined and_op a v w =
@@ -164,7 +171,8 @@ module _ (to : ℕ → ℕ) where
   kept_prefix : (p : Prefix) (a : ℕ) (v : Value) → Kept ValueMoved (prefix_value p a v) (prefix_value p (to a) (move_value to v))
   kept_prefix negative a v =
       same_then ValueMoved (number_of a v) (number_of (to a) (move_value to v)) _ _ (kept_number_of a (to a) v) (λ f.
-      same_then ValueMoved (ranged a (scaled (negsuc 0) f)) (ranged (to a) (scaled (negsuc 0) f)) _ _ (kept_ranged a (to a) (scaled (negsuc 0) f))
+      same_then ValueMoved (ranged a (scaled (negsuc 0) f)) (ranged (to a) (scaled (negsuc 0) f)) _ _
+      (kept_ranged a (to a) (scaled (negsuc 0) f))
       (λ g. moved_ok (a_form g a)))
   kept_prefix positive a v =
       same_then ValueMoved (number_of a v) (number_of (to a) (move_value to v)) _ _ (kept_number_of a (to a) v) (λ f. moved_ok (a_form f a))
@@ -194,5 +202,6 @@ module _ (to : ℕ → ℕ) where
         (λ v. kept_prefix p a v)
     kept_expr st (joined e o a f) =
         viewed_then (move_value to) ValueMoved (walk_expr line width st e) (walk_expr other width st (move_expr to e)) _ _ (kept_expr st e)
-        (λ v. viewed_then (move_value to) ValueMoved (walk_expr line width st f) (walk_expr other width st (move_expr to f)) _ _ (kept_expr st f)
+        (λ v. viewed_then (move_value to) ValueMoved (walk_expr line width st f) (walk_expr other width st (move_expr to f)) _ _
+        (kept_expr st f)
         (λ w. kept_combined o a v w))

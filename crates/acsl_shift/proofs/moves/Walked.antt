@@ -1,8 +1,12 @@
 -- The walk of a tree at other places answers the same statements, but for their lines.
-use Rattle.std.proofs.Common.{◌≡◌, ◌∙◌, ◌++◌, ◌∷◌, Bool, true, false, cond, ℕ, List, [], length, Option, Some, None, Result, Ok, Err, nat_lt, refl, sym, ap, ap₂}
-use Rattle.lang_grammar.specs.Grammar.{Expr, Declarator, bare, given, Declarators, declares, declares_more, Update, set, step_after, step_before, ForFirst}
-use Rattle.lang_grammar.specs.Grammar.{no_first, declared_first, updated_first, ForTest, no_test, given_test, ForLast, no_last, updated_last, Core, empty}
-use Rattle.lang_grammar.specs.Grammar.{block, if_alone, if_else, repeat, repeat_after, repeat_for, jumps, assumed, updates, Sub, labelled, plain, Items}
+use Rattle.std.proofs.Common.{◌≡◌, ◌∙◌, ◌++◌, ◌∷◌, Bool, true, false, cond, ℕ, List, [], length, Option, Some, None, Result, Ok, Err}
+use Rattle.std.proofs.Common.{nat_lt, refl, sym, ap, ap₂}
+use Rattle.lang_grammar.specs.Grammar.{Expr, Declarator, bare, given, Declarators, declares, declares_more, Update, set, step_after}
+use Rattle.lang_grammar.specs.Grammar.{step_before, ForFirst}
+use Rattle.lang_grammar.specs.Grammar.{no_first, declared_first, updated_first, ForTest, no_test, given_test, ForLast, no_last}
+use Rattle.lang_grammar.specs.Grammar.{updated_last, Core, empty}
+use Rattle.lang_grammar.specs.Grammar.{block, if_alone, if_else, repeat, repeat_after, repeat_for, jumps, assumed, updates, Sub, labelled}
+use Rattle.lang_grammar.specs.Grammar.{plain, Items}
 use Rattle.lang_grammar.specs.Grammar.{no_items, label, declaration, item}
 use Rattle.lang_tree.specs.declared.change.Change as tree_change
 use Rattle.lang_tree.specs.declared.change.Change.TheVariants as change
@@ -16,11 +20,14 @@ use Rattle.lang_meaning.specs.declared.fault.ParseFault.TheVariants as fault
 use Rattle.lang_meaning.specs.declared.fault.Limit.TheVariants as limit
 use Rattle.lang_meaning.specs.Results.{◌>>=◌}
 use Rattle.lang_meaning.specs.Names.{place_of}
-use Rattle.lang_meaning.specs.Walk.{State, followed_by, one, counted, labelled_by, known_number, tested, right_side, assignment, assigned, changed}
-use Rattle.lang_meaning.specs.Walk.{change_nodes, always, jumped, declared_by, closed, walk_expr, walk_declarator, walk_declarators, walk_update, walk_first}
+use Rattle.lang_meaning.specs.Walk.{State, followed_by, one, counted, labelled_by, known_number, tested, right_side, assignment, assigned}
+use Rattle.lang_meaning.specs.Walk.{changed}
+use Rattle.lang_meaning.specs.Walk.{change_nodes, always, jumped, declared_by, closed, walk_expr, walk_declarator, walk_declarators}
+use Rattle.lang_meaning.specs.Walk.{walk_update, walk_first}
 use Rattle.lang_meaning.specs.Walk.{walk_test, walk_last, walk_core, walk_sub, walk_items}
 use Rattle.acsl_shift.specs.Moves.{change_without_line, without_line, without_lines}
-use Rattle.acsl_shift.proofs.moves.Trees.{move_value, move_expr, move_declarator, move_declarators, move_update, move_first, move_test, move_last}
+use Rattle.acsl_shift.proofs.moves.Trees.{move_value, move_expr, move_declarator, move_declarators, move_update, move_first, move_test}
+use Rattle.acsl_shift.proofs.moves.Trees.{move_last}
 use Rattle.acsl_shift.proofs.moves.Trees.{move_core, move_sub, move_items}
 use Rattle.acsl_shift.proofs.moves.Kept.{Kept, Same, Alike, kept_ok, kept_err, alike_ok, viewed_then, same_then, alike_then, kept_if}
 use Rattle.acsl_shift.proofs.moves.Values.{kept_counted, kept_known, kept_tested, kept_right, kept_assigned, kept_expr}
@@ -43,7 +50,8 @@ change_without (change.Set i f line) = refl
 change_without (change.Havoc i line) = refl
 
 -- changes that are alike, as statements
-change_alike : (c d : tree_change.Change) → change_without_line d ≡ change_without_line c → without_lines (change_nodes d) ≡ without_lines (change_nodes c)
+change_alike : (c d : tree_change.Change) → change_without_line d ≡ change_without_line c
+    → without_lines (change_nodes d) ≡ without_lines (change_nodes c)
 change_alike c d e = change_without d ∙ ap change_nodes e ∙ sym (change_without c)
 
 -- an assignment on another line
@@ -61,8 +69,14 @@ changed_alike i None l m = refl
 kept_label : (x : List ℕ) (a b : ℕ) (st : State) → Kept Same (labelled_by x a st) (labelled_by x b st)
 kept_label x a b st = by_place (place_of x st.labels) where
   by_place : (p : Option ℕ) → Kept Same
-      (elim p as (λ z. Result State ParseFault) [ Some i ↦ Err (NameTwice a) | None ↦ counted a (record st { labels = st.labels ++ x ∷ [] }) ])
-      (elim p as (λ z. Result State ParseFault) [ Some i ↦ Err (NameTwice b) | None ↦ counted b (record st { labels = st.labels ++ x ∷ [] }) ])
+      (elim p as (λ z. Result State ParseFault) [
+        | Some i ↦ Err (NameTwice a)
+        | None ↦ counted a (record st { labels = st.labels ++ x ∷ [] })
+      ])
+      (elim p as (λ z. Result State ParseFault) [
+        | Some i ↦ Err (NameTwice b)
+        | None ↦ counted b (record st { labels = st.labels ++ x ∷ [] })
+      ])
   by_place (Some i) = kept_err Same (NameTwice a) (Err (NameTwice b))
   by_place None = kept_counted a b (record st { labels = st.labels ++ x ∷ [] })
 
@@ -93,7 +107,8 @@ module _ (to line other : ℕ → ℕ) (width : ℕ) where
     by_place (Some i) = kept_err (Alike without_line) (NameTwice a) (Err (NameTwice (to a)))
     by_place None =
         let now = record st { names = st.names ++ x ∷ []; known = st.known ++ length st.names ∷ [] } in
-        kept_if (Alike without_line) (nat_lt (length st.names) MOST_VARIABLES) _ _ (fault.Limit a limit.Variables) (fault.Limit (to a) limit.Variables)
+        kept_if (Alike without_line) (nat_lt (length st.names) MOST_VARIABLES) _ _ (fault.Limit a limit.Variables)
+        (fault.Limit (to a) limit.Variables)
         (same_then (Alike without_line) (counted a now) (counted (to a) now) _ _ (kept_counted a (to a) now)
         (λ counted_state. alike_ok without_line counted_state _ _ (assignment_alike (length st.names) o (line a) (other (to a)))))
 
@@ -110,22 +125,26 @@ module _ (to line other : ℕ → ℕ) (width : ℕ) where
   kept_declarators : (xs : Declarators) (st : State)
       → Kept (Alike without_lines) (walk_declarators line width xs st) (walk_declarators other width (move_declarators to xs) st)
   kept_declarators (declares x c) st =
-      alike_then without_line (Alike without_lines) (walk_declarator line width x st) (walk_declarator other width (move_declarator to x) st) _ _
+      alike_then without_line (Alike without_lines) (walk_declarator line width x st)
+      (walk_declarator other width (move_declarator to x) st) _ _
       (kept_declarator x st) (λ now s t e. alike_ok without_lines now (one s) (one t) (ap one e))
   kept_declarators (declares_more x c xs) st =
-      alike_then without_line (Alike without_lines) (walk_declarator line width x st) (walk_declarator other width (move_declarator to x) st) _ _
+      alike_then without_line (Alike without_lines) (walk_declarator line width x st)
+      (walk_declarator other width (move_declarator to x) st) _ _
       (kept_declarator x st) (λ now s t e. alike_then without_lines (Alike without_lines) (walk_declarators line width xs now)
       (walk_declarators other width (move_declarators to xs) now) _ _ (kept_declarators xs now)
       (λ last ns ms f. alike_ok without_lines last (cons s ns) (cons t ms) (ap₂ cons e f)))
 
   -- ---- assignments and the parts of a `for`
   -- an assignment or a step
-  kept_update : (u : Update) (st : State) → Kept (Alike change_without_line) (walk_update line width u st) (walk_update other width (move_update to u) st)
+  kept_update : (u : Update) (st : State) → Kept (Alike change_without_line) (walk_update line width u st)
+      (walk_update other width (move_update to u) st)
   kept_update (set x a g b e) st =
       let R = Alike change_without_line in
       same_then R (known_number x a st) (known_number x (to a) st) _ _ (kept_known x a (to a) st) (λ i.
       same_then R (counted a st) (counted (to a) st) _ _ (kept_counted a (to a) st) (λ now.
-      viewed_then (move_value to) R (walk_expr line width now e) (walk_expr other width now (move_expr to e)) _ _ (kept_expr to line other width now e) (λ v.
+      viewed_then (move_value to) R (walk_expr line width now e) (walk_expr other width now (move_expr to e)) _ _
+      (kept_expr to line other width now e) (λ v.
       same_then R (assigned width g i b v) (assigned width g i (to b) (move_value to v)) _ _ (kept_assigned to width g i b (to b) v) (λ o.
       alike_ok change_without_line now _ _ (changed_alike i o (line a) (other (to a)))))))
   kept_update (step_after x a g b) st =
@@ -146,7 +165,8 @@ module _ (to line other : ℕ → ℕ) (width : ℕ) where
       (kept_update u st) (λ now c d e. alike_ok without_lines now (change_nodes c) (change_nodes d) (change_alike c d e))
 
   -- the first part of a `for`
-  kept_first : (f : ForFirst) (st : State) → Kept (Alike without_lines) (walk_first line width f st) (walk_first other width (move_first to f) st)
+  kept_first : (f : ForFirst) (st : State) → Kept (Alike without_lines) (walk_first line width f st)
+      (walk_first other width (move_first to f) st)
   kept_first (no_first a) st = alike_ok without_lines st nil nil refl
   kept_first (declared_first a xs) st = kept_declarators xs st
   kept_first (updated_first u a) st = kept_nodes u st
@@ -155,16 +175,19 @@ module _ (to line other : ℕ → ℕ) (width : ℕ) where
   kept_condition : (a : ℕ) (e : Expr) (st : State)
       → Kept Same (walk_expr line width st e >>= λ v. tested a v) (walk_expr other width st (move_expr to e) >>= λ v. tested (to a) v)
   kept_condition a e st =
-      viewed_then (move_value to) Same (walk_expr line width st e) (walk_expr other width st (move_expr to e)) _ _ (kept_expr to line other width st e)
+      viewed_then (move_value to) Same (walk_expr line width st e) (walk_expr other width st (move_expr to e)) _ _
+      (kept_expr to line other width st e)
       (λ v. kept_tested to a (to a) v)
 
   -- the condition of a `for`
-  kept_test : (a : ℕ) (t : ForTest) (st : State) → Kept Same (walk_test line width a t st) (walk_test other width (to a) (move_test to t) st)
+  kept_test : (a : ℕ) (t : ForTest) (st : State) → Kept Same (walk_test line width a t st)
+      (walk_test other width (to a) (move_test to t) st)
   kept_test a (no_test b) st = kept_ok Same (always width) (always width) refl
   kept_test a (given_test e b) st = kept_condition a e st
 
   -- the change of a `for`
-  kept_last : (l : ForLast) (st : State) → Kept (Alike change_without_line) (walk_last line width l st) (walk_last other width (move_last to l) st)
+  kept_last : (l : ForLast) (st : State) → Kept (Alike change_without_line) (walk_last line width l st)
+      (walk_last other width (move_last to l) st)
   kept_last (no_last a) st = alike_ok change_without_line st change.Unchanged change.Unchanged refl
   kept_last (updated_last u a) st = kept_update u st
 
@@ -175,7 +198,8 @@ module _ (to line other : ℕ → ℕ) (width : ℕ) where
       → Kept S (walk_expr line width st e >>= λ v. tested a v >>= λ x. counted a st >>= λ now. f x now)
       (walk_expr other width st (move_expr to e) >>= λ v. tested (to a) v >>= λ x. counted (to a) st >>= λ now. g x now)
   counted_then S a e st f g h =
-      viewed_then (move_value to) S (walk_expr line width st e) (walk_expr other width st (move_expr to e)) _ _ (kept_expr to line other width st e) (λ v.
+      viewed_then (move_value to) S (walk_expr line width st e) (walk_expr other width st (move_expr to e)) _ _
+      (kept_expr to line other width st e) (λ v.
       same_then S (tested a v) (tested (to a) (move_value to v)) _ _ (kept_tested to a (to a) v) (λ x.
       same_then S (counted a st) (counted (to a) st) _ _ (kept_counted a (to a) st) (λ now. h x now)))
 
@@ -185,7 +209,8 @@ module _ (to line other : ℕ → ℕ) (width : ℕ) where
       → Kept S (walk_expr line width st e >>= λ v. tested a v >>= λ x. f x)
       (walk_expr other width st (move_expr to e) >>= λ v. tested (to a) v >>= λ x. g x)
   tested_then S a e st f g h =
-      viewed_then (move_value to) S (walk_expr line width st e) (walk_expr other width st (move_expr to e)) _ _ (kept_expr to line other width st e) (λ v.
+      viewed_then (move_value to) S (walk_expr line width st e) (walk_expr other width st (move_expr to e)) _ _
+      (kept_expr to line other width st e) (λ v.
       same_then S (tested a v) (tested (to a) (move_value to v)) _ _ (kept_tested to a (to a) v) h)
 
   -- statements of which more is made
@@ -223,10 +248,13 @@ module _ (to line other : ℕ → ℕ) (width : ℕ) where
         (λ x. alike_ok without_lines last _ _ (ap (λ z. one (tree.loop tree.do_loop x z 0)) h))))
     kept_core inside (repeat_for a b f t l s) st =
         lines_then (walk_first line width f st) (walk_first other width (move_first to f) st) _ _ (kept_first f st) (λ begun us vs h.
-        same_then (Alike without_lines) (walk_test line width a t begun) (walk_test other width (to a) (move_test to t) begun) _ _ (kept_test a t begun) (λ x.
+        same_then (Alike without_lines) (walk_test line width a t begun) (walk_test other width (to a) (move_test to t) begun) _ _
+        (kept_test a t begun) (λ x.
         same_then (Alike without_lines) (counted a begun) (counted (to a) begun) _ _ (kept_counted a (to a) begun) (λ now.
-        alike_then change_without_line (Alike without_lines) (walk_last line width l now) (walk_last other width (move_last to l) now) _ _ (kept_last l now)
-        (λ then c d i. lines_then (walk_sub line width true s then) (walk_sub other width true (move_sub to s) then) _ _ (kept_sub true s then)
+        alike_then change_without_line (Alike without_lines) (walk_last line width l now) (walk_last other width (move_last to l) now) _ _
+        (kept_last l now)
+        (λ then c d i. lines_then (walk_sub line width true s then) (walk_sub other width true (move_sub to s) then) _ _
+        (kept_sub true s then)
         (λ last ns ms j. alike_ok without_lines (closed (length st.known) last) _ _
         (followed_alike us (one (tree.loop (tree.for_loop c) x ns (line a))) vs (one (tree.loop (tree.for_loop d) x ms (other (to a)))) h
         (ap₂ (λ z w. one (tree.loop (tree.for_loop z) x w 0)) i j)))))))
@@ -253,10 +281,12 @@ module _ (to line other : ℕ → ℕ) (width : ℕ) where
     kept_items inside no_items st = alike_ok without_lines st nil nil refl
     kept_items inside (label x a b is) st =
         same_then (Alike without_lines) (labelled_by x a st) (labelled_by x (to a) st) _ _ (kept_label x a (to a) st) (λ now.
-        lines_then (walk_items line width inside is now) (walk_items other width inside (move_items to is) now) _ _ (kept_items inside is now)
+        lines_then (walk_items line width inside is now) (walk_items other width inside (move_items to is) now) _ _
+        (kept_items inside is now)
         (λ last ns ms h. alike_ok without_lines last _ _ (ap (cons (tree.label x 0)) h)))
     kept_items inside (declaration a xs is) st =
-        lines_then (walk_declarators line width xs st) (walk_declarators other width (move_declarators to xs) st) _ _ (kept_declarators xs st)
+        lines_then (walk_declarators line width xs st) (walk_declarators other width (move_declarators to xs) st) _ _
+        (kept_declarators xs st)
         (λ now us vs h. lines_then (walk_items line width inside is now) (walk_items other width inside (move_items to is) now) _ _
         (kept_items inside is now) (λ last ns ms i. alike_ok without_lines last _ _ (followed_alike us ns vs ms h i)))
     kept_items inside (item c is) st =

@@ -4,7 +4,8 @@ use Rattle.std.proofs.Common.{nat_lt, Option, Some, None, Result, Ok, Err, refl,
 use Rattle.std.proofs.Math.Seq.{take-append_seam, drop-append_seam}
 use Rattle.std.proofs.lemmas.Bool.{ltb-true, ltb-false}
 use Rattle.lang_grammar.specs.Expressions.{IsLongest, BeginsExpr, FineExpr}
-use Rattle.lang_grammar.specs.Grammar.{Kind, a_name, colon, semicolon, the_end, Token, token, Expr, number, variable, free, grouped, prefixed}
+use Rattle.lang_grammar.specs.Grammar.{Kind, a_name, colon, semicolon, the_end, Token, token, Expr, number, variable, free, grouped}
+use Rattle.lang_grammar.specs.Grammar.{prefixed}
 use Rattle.lang_grammar.specs.Grammar.{joined, spell_expr, Groups}
 use Rattle.flow_edges.specs.declared.point.Point.{Point}
 use Rattle.lang_meaning.specs.declared.fault.Limit.TheVariants.{Nesting}

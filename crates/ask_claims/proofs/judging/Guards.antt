@@ -1,5 +1,6 @@
 -- The cases of a condition have few guards, each a form over the variables.
-use Rattle.std.proofs.Common.{ℕ, zero, suc, ◌+◌, ◌<◌, ◌≤◌, Bool, true, false, List, [], ◌∷◌, ◌++◌, length, length-append, map, get_or, subst, sym, lit≤, ◌≡◌, arith}
+use Rattle.std.proofs.Common.{ℕ, zero, suc, ◌+◌, ◌<◌, ◌≤◌, Bool, true, false, List, [], ◌∷◌, ◌++◌, length, length-append, map, get_or}
+use Rattle.std.proofs.Common.{subst, sym, lit≤, ◌≡◌, arith}
 use Rattle.std.specs.Prelude.{not, IsTrue, nat_le}
 use Rattle.std.specs.List.{list_all}
 use Rattle.std.proofs.lemmas.Bool.{and_parts, leb-true}
@@ -38,14 +39,17 @@ comparison_short false Ne f = (lit≤ tt, tt)
 weaker : (a b : ℕ) → a ≤ b → (cases : List (List Form)) → Each (IsShort a) cases → Each (IsShort b) cases
 weaker a b l = each_weaker (IsShort a) (IsShort b) (λ case h. omega (arith, l, h))
 
-crossed_short : (a b m : ℕ) → a + b ≤ m → (us vs : List (List Form)) → Each (IsShort a) us → Each (IsShort b) vs → Each (IsShort m) (crossed us vs)
+crossed_short : (a b m : ℕ) → a + b ≤ m → (us vs : List (List Form)) → Each (IsShort a) us → Each (IsShort b) vs
+    → Each (IsShort m) (crossed us vs)
 crossed_short a b m l [] vs h k = tt
 crossed_short a b m l (u ∷ us) vs h k =
     let first = h.0 in
     each-append (IsShort m) (map (λ v. u ++ v) vs) (crossed us vs)
-    (each-map (IsShort b) (IsShort m) (λ v. u ++ v) (λ v s. let both = length-append u v in omega (arith, l, first, s, both)) vs k) (crossed_short a b m l us vs h.1 k)
+    (each-map (IsShort b) (IsShort m) (λ v. u ++ v) (λ v s. let both = length-append u v in omega (arith, l, first, s, both)) vs k)
+    (crossed_short a b m l us vs h.1 k)
 
-joined_short : (a b m : ℕ) → a ≤ m → b ≤ m → (us vs : List (List Form)) → Each (IsShort a) us → Each (IsShort b) vs → Each (IsShort m) (us ++ vs)
+joined_short : (a b m : ℕ) → a ≤ m → b ≤ m → (us vs : List (List Form)) → Each (IsShort a) us → Each (IsShort b) vs
+    → Each (IsShort m) (us ++ vs)
 joined_short a b m l r us vs h k = each-append (IsShort m) us vs (weaker a m l us h) (weaker b m r vs k)
 
 cases_short : (truth : Bool) (c : Condition) → Each (IsShort (leaf_count c + leaf_count c)) (cases_of truth c)
@@ -55,22 +59,27 @@ cases_short truth (negation c) = cases_short (not truth) c
 cases_short true (both c d) =
     let a = leaf_count c in
     let b = leaf_count d in
-    crossed_short (a + a) (b + b) (a + b + (a + b)) (omega arith) (cases_of true c) (cases_of true d) (cases_short true c) (cases_short true d)
+    crossed_short (a + a) (b + b) (a + b + (a + b)) (omega arith) (cases_of true c) (cases_of true d) (cases_short true c)
+    (cases_short true d)
 cases_short false (both c d) =
     let a = leaf_count c in
     let b = leaf_count d in
-    joined_short (a + a) (b + b) (a + b + (a + b)) (omega arith) (omega arith) (cases_of false c) (cases_of false d) (cases_short false c) (cases_short false d)
+    joined_short (a + a) (b + b) (a + b + (a + b)) (omega arith) (omega arith) (cases_of false c) (cases_of false d) (cases_short false c)
+    (cases_short false d)
 cases_short true (either c d) =
     let a = leaf_count c in
     let b = leaf_count d in
-    joined_short (a + a) (b + b) (a + b + (a + b)) (omega arith) (omega arith) (cases_of true c) (cases_of true d) (cases_short true c) (cases_short true d)
+    joined_short (a + a) (b + b) (a + b + (a + b)) (omega arith) (omega arith) (cases_of true c) (cases_of true d) (cases_short true c)
+    (cases_short true d)
 cases_short false (either c d) =
     let a = leaf_count c in
     let b = leaf_count d in
-    crossed_short (a + a) (b + b) (a + b + (a + b)) (omega arith) (cases_of false c) (cases_of false d) (cases_short false c) (cases_short false d)
+    crossed_short (a + a) (b + b) (a + b + (a + b)) (omega arith) (cases_of false c) (cases_of false d) (cases_short false c)
+    (cases_short false d)
 
 -- ---- the case of a number
-module _ (n : ℕ) (c : Condition) (tested : IsTrue (is_tested n c)) (cases : List (List Form)) (e : cases ≡ cases_of false c) (k : ℕ) (l : k < length cases) where
+module _ (n : ℕ) (c : Condition) (tested : IsTrue (is_tested n c)) (cases : List (List Form)) (e : cases ≡ cases_of false c) (k : ℕ)
+    (l : k < length cases) where
   pub case_forms : IsTrue (list_all (is_form n) (get_or cases k []))
   case_forms =
       let p = and_parts (nat_le (leaf_count c) 64) (is_condition n c) tested in

@@ -9,7 +9,8 @@ use Rattle.ask_claims.specs.declared.outcome.Verdict.{Verdict}
 use Rattle.ask_claims.specs.AllVerdicts.{IsVerdict, AreVerdicts, ClaimFits, ClaimsFit}
 
 -- one related element more at the end of each list
-zip_push : {A B : Type 0} (R : A → B → Type 0) (xs : List A) (ys : List B) (x : A) (y : B) → AllZip R xs ys → R x y → AllZip R (xs ++ x ∷ []) (ys ++ y ∷ [])
+zip_push : {A B : Type 0} (R : A → B → Type 0) (xs : List A) (ys : List B) (x : A) (y : B) → AllZip R xs ys → R x y
+    → AllZip R (xs ++ x ∷ []) (ys ++ y ∷ [])
 zip_push R [] [] x y a h = (h, tt)
 zip_push R [] (w ∷ ys) x y a h = absurd a
 zip_push R (v ∷ xs) [] x y a h = absurd a
@@ -20,9 +21,11 @@ pub record AreJudged (system : Equations) (z : Vector) (claims : List Claim) (i 
   pub listed : AreVerdicts system z (take i claims) verdicts
   pub fit : ClaimsFit system z (take i claims)
 
-module _ (system : Equations) (z : Vector) (claims : List Claim) (i : ℕ) (claim : Claim) (l : i < length claims) (is : claim ≡ get_or claims i claim) where
+module _ (system : Equations) (z : Vector) (claims : List Claim) (i : ℕ) (claim : Claim) (l : i < length claims)
+    (is : claim ≡ get_or claims i claim) where
   -- one claim more
-  pub judged_push : (verdicts list : List Verdict) (verdict : Verdict) → AreJudged system z claims i verdicts → IsVerdict system z claim verdict → ClaimFits system z claim →
+  pub judged_push : (verdicts list : List Verdict) (verdict : Verdict) → AreJudged system z claims i verdicts
+      → IsVerdict system z claim verdict → ClaimFits system z claim →
       list ≡ verdicts ++ verdict ∷ [] → AreJudged system z claims (i + 1) list
   judged_push verdicts list verdict judged new fits pushed =
       let fronts = take_more claims i claim l ∙ ap (λ (c : Claim). take i claims ++ c ∷ []) (sym is) in

@@ -15,10 +15,12 @@ pub record IsJudged (system : Equations) (z : Vector) (p : ℕ) (cases : List (L
   pub fit : (k : ℕ) → k < i → FitsFor system z p (get_or cases k [])
 
 -- the case that an element of the list is
-pub case_at : (cases : List (List Form)) (i : ℕ) (item case : List Form) → i < length cases → item ≡ get_or cases i item → case ≡ item → case ≡ get_or cases i []
+pub case_at : (cases : List (List Form)) (i : ℕ) (item case : List Form) → i < length cases → item ≡ get_or cases i item → case ≡ item
+    → case ≡ get_or cases i []
 case_at cases i item case l e f = f ∙ e ∙ get_or_default cases i item [] l
 
-module _ (system : Equations) (z : Vector) (p : ℕ) (cases : List (List Form)) (i : ℕ) (judged : IsJudged system z p cases i) (case : List Form) (e : case ≡ get_or cases i []) (fit : FitsFor system z p case) where
+module _ (system : Equations) (z : Vector) (p : ℕ) (cases : List (List Form)) (i : ℕ) (judged : IsJudged system z p cases i)
+    (case : List Form) (e : case ≡ get_or cases i []) (fit : FitsFor system z p case) where
   fit_here : FitsFor system z p (get_or cases i [])
   fit_here = subst (FitsFor system z p) e fit
 
@@ -30,7 +32,8 @@ module _ (system : Equations) (z : Vector) (p : ℕ) (cases : List (List Form)) 
   }
 
   -- a case that a state breaks
-  module _ (against : List (List Form)) (same : cases ≡ against) (within : i < length cases) (x : RationalState) (breaks : Breaks system z p case x) where
+  module _ (against : List (List Form)) (same : cases ≡ against) (within : i < length cases) (x : RationalState)
+      (breaks : Breaks system z p case x) where
     breaks_here : Breaks system z p (get_or against i []) x
     breaks_here = subst (λ g. Breaks system z p g x) (e ∙ ap (λ (cs : List (List Form)). get_or cs i []) same) breaks
 
@@ -40,7 +43,8 @@ module _ (system : Equations) (z : Vector) (p : ℕ) (cases : List (List Form)) 
     pub open_fits : AllFit system z p against
     open_fits k l none =
         let all = below_more (λ j. FitsFor system z p (get_or cases j [])) i judged.fit fit_here in
-        ⊎_elim (λ past. absurd (none i past x breaks_here)) (λ before. subst (λ (cs : List (List Form)). FitsFor system z p (get_or cs k [])) same (all k (omega (arith, before)))) (cases_lt i k)
+        ⊎_elim (λ past. absurd (none i past x breaks_here)) (λ before. subst
+        (λ (cs : List (List Form)). FitsFor system z p (get_or cs k [])) same (all k (omega (arith, before)))) (cases_lt i k)
 
 -- an open verdict isn't proved
 pub open_apart : (x : RationalState) → Open x ≡ Proved → ⊥

@@ -43,7 +43,8 @@ passes_follows (g ∷ gs) x h = (h.0, passes_follows gs x h.1)
 
 module _ (system : Equations) (z : Vector) (p : ℕ) (case : List Form) where
   -- a word that runs begins with such a state
-  runs_breaks : (start free : List ℚ) → length start ≡ system.variables → free ≡ [] → Runs system z (guarded_edge p case) (start ++ free) → Breaks system z p case start
+  runs_breaks : (start free : List ℚ) → length start ≡ system.variables → free ≡ [] → Runs system z (guarded_edge p case) (start ++ free)
+      → Breaks system z p case start
   runs_breaks start free e f runs =
       let same = subst (λ ys. Runs system z (guarded_edge p case) (start ++ ys)) f runs in
       let h = (runs_iff system z (guarded_edge p case) start [] e (sym (no_frees case))).0 same in
@@ -51,7 +52,8 @@ module _ (system : Equations) (z : Vector) (p : ℕ) (case : List Form) where
 
   -- and such a state is a word that runs
   breaks_runs : (x : RationalState) → Breaks system z p case x → Runs system z (guarded_edge p case) (x ++ [])
-  breaks_runs x b = (runs_iff system z (guarded_edge p case) x [] b.size (sym (no_frees case))).1 (b.fits, (x, passes_follows case x b.passes))
+  breaks_runs x b = (runs_iff system z (guarded_edge p case) x [] b.size (sym (no_frees case))).1
+      (b.fits, (x, passes_follows case x b.passes))
 
   reached : (number : Ext) → transformer system z (guarded_edge p case) [] ≡ number → Reaches system z (guarded_edge p case) [] number
   reached number e = subst (Reaches system z (guarded_edge p case) []) e (transformer_reaches system z (guarded_edge p case) [])
@@ -61,27 +63,33 @@ module _ (system : Equations) (z : Vector) (p : ℕ) (case : List Form) where
 
   -- where a bound at the point is -inf
   pub unreached_breaks : (v : Value) (r : ℕ) → v ≡ Unreached r → IsValue system z (guarded_edge p case) [] v → NoneBreaks system z p case
-  unreached_breaks v r e h = none_breaks (is_transformer system z (guarded_edge p case) [] (Unreached r) (subst (IsValue system z (guarded_edge p case) []) e h))
+  unreached_breaks v r e h = none_breaks (is_transformer system z (guarded_edge p case) [] (Unreached r)
+      (subst (IsValue system z (guarded_edge p case) []) e h))
 
   -- where the problem is empty
-  pub empty_breaks : (v : Value) (rows multipliers : List ℚ) → v ≡ Empty rows multipliers → IsValue system z (guarded_edge p case) [] v → NoneBreaks system z p case
-  empty_breaks v rows multipliers e h = none_breaks (is_transformer system z (guarded_edge p case) [] (Empty rows multipliers) (subst (IsValue system z (guarded_edge p case) []) e h))
+  pub empty_breaks : (v : Value) (rows multipliers : List ℚ) → v ≡ Empty rows multipliers → IsValue system z (guarded_edge p case) [] v
+      → NoneBreaks system z p case
+  empty_breaks v rows multipliers e h = none_breaks (is_transformer system z (guarded_edge p case) [] (Empty rows multipliers)
+      (subst (IsValue system z (guarded_edge p case) []) e h))
 
   -- 0 never rises
   no_gain : Unlimited system z (guarded_edge p case) [] → ⊥
   unfolding lin end_form combined dot
   no_gain u = <ℚ_irrefl u.gains
 
-  pub never_unbounded : (v : Value) (trace direction : Trace) → v ≡ Unbounded trace direction → IsValue system z (guarded_edge p case) [] v → ⊥
+  pub never_unbounded : (v : Value) (trace direction : Trace) → v ≡ Unbounded trace direction → IsValue system z (guarded_edge p case) [] v
+      → ⊥
   never_unbounded v trace direction e h =
-      no_gain (reached pos_inf (is_transformer system z (guarded_edge p case) [] (Unbounded trace direction) (subst (IsValue system z (guarded_edge p case) []) e h)))
+      no_gain (reached pos_inf (is_transformer system z (guarded_edge p case) [] (Unbounded trace direction)
+      (subst (IsValue system z (guarded_edge p case) []) e h)))
 
 -- ---- the state that is read
 record IsRead (n w : ℕ) (o : Outcome) (trace : Trace) : Type 0 where
   size : length trace.start ≡ n
   word : trace.start ++ trace.free ≡ tabulate w (unsplit (last_point o))
 
-is_read : (n w : ℕ) (q : ℚ) (B : ℕ → Ext) (t : List (List ℤ)) (k : ℕ) (o : Outcome) (value : ℚ) (trace : Trace) (rows multipliers : List ℚ) →
+is_read : (n w : ℕ) (q : ℚ) (B : ℕ → Ext) (t : List (List ℤ)) (k : ℕ) (o : Outcome) (value : ℚ) (trace : Trace) (rows multipliers : List ℚ)
+    →
     ReadsOutcome n w q B t k o (Best value trace rows multipliers) → IsRead n w o trace
 is_read n w q B t k (best x v y) value trace rows multipliers h = record { size = h.1.size; word = h.1.word }
 is_read n w q B t k (unbounded x d) value trace rows multipliers h = absurd h
@@ -98,21 +106,25 @@ start_is n w x start free e f h =
     sym (append-nil start) ∙ ap (λ ys. start ++ ys) (sym f) ∙ h ∙ ap (λ m. tabulate m x) same
 
 module _ (system : Equations) (z : Vector) (p : ℕ) (case : List Form) where
-  best_is : (value : ℚ) (trace : Trace) (rows multipliers : List ℚ) → IsValue system z (guarded_edge p case) [] (Best value trace rows multipliers) →
+  best_is : (value : ℚ) (trace : Trace) (rows multipliers : List ℚ) → IsValue system z (guarded_edge p case) []
+      (Best value trace rows multipliers) →
       HasEvidence system z (guarded_edge p case) [] (Best value trace rows multipliers) → IsBreaking system z p case trace.start
   best_is value trace rows multipliers h evidence =
       let n = system.variables in
       let w = width n (guards case) in
       let columns = stay_width n case in
       let o = lp (case_problem system z p case) in
-      let read = is_read n w (end_form n (guards case) []).constant (z p) system.template (length (guard_forms n (guards case))) o value trace rows multipliers h.1 in
+      let read = is_read n w (end_form n (guards case) []).constant (z p) system.template (length (guard_forms n (guards case))) o value
+      trace rows multipliers h.1 in
       let none = no_rest n w (unsplit (last_point o)) trace.start trace.free columns read.size read.word in
       record {
         breaks = runs_breaks system z p case trace.start trace.free read.size none evidence.runs;
         reads = start_is n w (unsplit (last_point o)) trace.start trace.free columns none read.word;
       }
 
-  pub best_breaks : (v : Value) (value : ℚ) (trace : Trace) (rows multipliers : List ℚ) → v ≡ Best value trace rows multipliers → IsValue system z (guarded_edge p case) [] v →
+  pub best_breaks : (v : Value) (value : ℚ) (trace : Trace) (rows multipliers : List ℚ) → v ≡ Best value trace rows multipliers
+      → IsValue system z (guarded_edge p case) [] v →
       HasEvidence system z (guarded_edge p case) [] v → IsBreaking system z p case trace.start
   best_breaks v value trace rows multipliers e h evidence =
-      best_is value trace rows multipliers (subst (IsValue system z (guarded_edge p case) []) e h) (subst (HasEvidence system z (guarded_edge p case) []) e evidence)
+      best_is value trace rows multipliers (subst (IsValue system z (guarded_edge p case) []) e h)
+      (subst (HasEvidence system z (guarded_edge p case) []) e evidence)

@@ -1,5 +1,6 @@
 -- A proved claim is true in every run.
-use Rattle.std.proofs.Common.{◌≡◌, ◌∙◌, ◌⊎◌, inl, inr, ⊎_elim, ℕ, zero, suc, ◌<◌, true, false, List, [], ◌∷◌, length, get_or, refl, sym, subst, true≢false, arith}
+use Rattle.std.proofs.Common.{◌≡◌, ◌∙◌, ◌⊎◌, inl, inr, ⊎_elim, ℕ, zero, suc, ◌<◌, true, false, List, [], ◌∷◌, length, get_or, refl, sym}
+use Rattle.std.proofs.Common.{subst, true≢false, arith}
 use Rattle.std.specs.Prelude.{ℤ, pos, negsuc, ◌<ℤ◌, IsTrue}
 use Rattle.std.proofs.lemmas.Bool.{and_parts}
 use Rattle.std.proofs.lemmas.Int.{ints}
@@ -31,12 +32,18 @@ by_sign : (P : Type 0) (z : ℤ) → (z <ℤ pos 0 → P) → (z ≡ pos 0 → P
 by_sign P z below at above = ⊎_elim below (λ h. ⊎_elim at above h) (sign z)
 
 relates : (rel : Rel) (z : ℤ) → Relates rel z ⊎ (¬ (Relates rel z))
-relates Eq z = by_sign (Relates Eq z ⊎ (¬ (Relates Eq z))) z (λ b. inr (λ e. omega (arith, ints, b, e))) (λ e. inl e) (λ a. inr (λ e. omega (arith, ints, a, e)))
-relates Ne z = by_sign (Relates Ne z ⊎ (¬ (Relates Ne z))) z (λ b. inl (λ e. omega (arith, ints, b, e))) (λ e. inr (λ n. n e)) (λ a. inl (λ e. omega (arith, ints, a, e)))
-relates Lt z = by_sign (Relates Lt z ⊎ (¬ (Relates Lt z))) z (λ b. inl b) (λ e. inr (λ h. omega (arith, ints, e, h))) (λ a. inr (λ h. omega (arith, ints, a, h)))
-relates Le z = by_sign (Relates Le z ⊎ (¬ (Relates Le z))) z (λ b. inl (omega (arith, ints, b))) (λ e. inl (omega (arith, ints, e))) (λ a. inr (λ h. omega (arith, ints, a, h)))
-relates Gt z = by_sign (Relates Gt z ⊎ (¬ (Relates Gt z))) z (λ b. inr (λ h. omega (arith, ints, b, h))) (λ e. inr (λ h. omega (arith, ints, e, h))) (λ a. inl a)
-relates Ge z = by_sign (Relates Ge z ⊎ (¬ (Relates Ge z))) z (λ b. inr (λ h. omega (arith, ints, b, h))) (λ e. inl (omega (arith, ints, e))) (λ a. inl (omega (arith, ints, a)))
+relates Eq z = by_sign (Relates Eq z ⊎ (¬ (Relates Eq z))) z (λ b. inr (λ e. omega (arith, ints, b, e))) (λ e. inl e)
+    (λ a. inr (λ e. omega (arith, ints, a, e)))
+relates Ne z = by_sign (Relates Ne z ⊎ (¬ (Relates Ne z))) z (λ b. inl (λ e. omega (arith, ints, b, e))) (λ e. inr (λ n. n e))
+    (λ a. inl (λ e. omega (arith, ints, a, e)))
+relates Lt z = by_sign (Relates Lt z ⊎ (¬ (Relates Lt z))) z (λ b. inl b) (λ e. inr (λ h. omega (arith, ints, e, h)))
+    (λ a. inr (λ h. omega (arith, ints, a, h)))
+relates Le z = by_sign (Relates Le z ⊎ (¬ (Relates Le z))) z (λ b. inl (omega (arith, ints, b))) (λ e. inl (omega (arith, ints, e)))
+    (λ a. inr (λ h. omega (arith, ints, a, h)))
+relates Gt z = by_sign (Relates Gt z ⊎ (¬ (Relates Gt z))) z (λ b. inr (λ h. omega (arith, ints, b, h)))
+    (λ e. inr (λ h. omega (arith, ints, e, h))) (λ a. inl a)
+relates Ge z = by_sign (Relates Ge z ⊎ (¬ (Relates Ge z))) z (λ b. inr (λ h. omega (arith, ints, b, h))) (λ e. inl (omega (arith, ints, e)))
+    (λ a. inl (omega (arith, ints, a)))
 
 decided : (c : Condition) (x : State) → IsTrue (is_decided c) → MayBe true c x ⊎ MayBe false c x
 decided free x d = absurd (true≢false (sym d))
@@ -75,5 +82,10 @@ claims_hold variables body template v p c post none run now is_run is_in is_at =
     let fits = program_soundness variables body template v post run now p is_run is_in is_at in
     let never : ¬ (MayBe false c x) = λ f.
     let h = held x (cases_of false c) ((cases_law false c x).0 f) in
-    none h.number h.within (rational x) (record { size = length-map x whole ∙ size; fits = fits; passes = passes_rational (get_or (cases_of false c) h.number []) x h.holds }) in
+    none h.number h.within (rational x) (record {
+      size = length-map x whole ∙ size;
+      fits = fits;
+      passes =
+          passes_rational (get_or (cases_of false c) h.number []) x h.holds;
+    }) in
     record { never_false = never; is_true = λ d. ⊎_elim (λ t. t) (λ f. absurd (never f)) (decided c x d) }

@@ -35,7 +35,8 @@ module _ (system : Equations) (z : Vector) (p : ℕ) (case : List Form) where
   wide_apart (Pivot n) wide h fit = let none = (fit h.0).0 in let some = h.1.2 in cc
   wide_apart Reading wide h fit = let none = (fit h.0).1 in let some = h.1.1 in cc
 
-  same_wide : (part more : Part) (wide again : Wide ℚ) → IsFaultFor system z p case (WidePart part wide) → IsFaultFor system z p case (WidePart more again) →
+  same_wide : (part more : Part) (wide again : Wide ℚ) → IsFaultFor system z p case (WidePart part wide)
+      → IsFaultFor system z p case (WidePart more again) →
       (part ≡ more) × (wide ≡ again)
   same_wide Side more wide again h k = absurd h.1
   same_wide (Pivot m) Side wide again h k = absurd k.1
@@ -50,7 +51,8 @@ module _ (system : Equations) (z : Vector) (p : ℕ) (case : List Form) where
 
 -- ---- the cases of a claim
 module _ (system : Equations) (z : Vector) (p : ℕ) (cases : List (List Form)) where
-  case_apart : (case : ℕ) (part : Part) (wide : Wide ℚ) → IsFirstWide system z p cases case (WidePart part wide) → AllFit system z p cases → ⊥
+  case_apart : (case : ℕ) (part : Part) (wide : Wide ℚ) → IsFirstWide system z p cases case (WidePart part wide) → AllFit system z p cases
+      → ⊥
   case_apart case part wide a fit = wide_apart system z p (get_or cases a.number []) part wide a.wide (fit a.number a.within a.before)
 
   module _ (case other : ℕ) (part more : Part) (wide again : Wide ℚ) (a : IsFirstWide system z p cases case (WidePart part wide))
@@ -58,7 +60,8 @@ module _ (system : Equations) (z : Vector) (p : ℕ) (cases : List (List Form)) 
     same_case : a.number ≡ b.number
     same_case =
         ⊎_elim (λ l. absurd (wide_apart system z p (get_or cases a.number []) part wide a.wide (b.fit a.number l)))
-        (λ le. ⊎_elim (λ l. absurd (wide_apart system z p (get_or cases b.number []) more again b.wide (a.fit b.number l))) (λ ge. omega (arith, le, ge)) (cases_lt b.number a.number))
+        (λ le. ⊎_elim (λ l. absurd (wide_apart system z p (get_or cases b.number []) more again b.wide (a.fit b.number l)))
+        (λ ge. omega (arith, le, ge)) (cases_lt b.number a.number))
         (cases_lt a.number b.number)
 
     same_refusal : (case ≡ other) × (part ≡ more) × (wide ≡ again)
@@ -70,20 +73,26 @@ module _ (system : Equations) (z : Vector) (p : ℕ) (cases : List (List Form)) 
 -- ---- a list of claims
 module _ (system : Equations) (z : Vector) (claims : List Claim) where
   fits_there : (k : ℕ) (claim : Claim) → slice_get claims k ≡ Some claim → ClaimsFit system z claims → ClaimFits system z claim
-  fits_there k claim e h = subst (ClaimFits system z) (get_or_from_slice_get claims k claim claim e) (h k claim (slice_get_within claims k claim e))
+  fits_there k claim e h = subst (ClaimFits system z) (get_or_from_slice_get claims k claim claim e)
+      (h k claim (slice_get_within claims k claim e))
 
-  fits_before : (n k : ℕ) (claim : Claim) → k < n → slice_get claims k ≡ Some claim → ClaimsFit system z (take n claims) → ClaimFits system z claim
+  fits_before : (n k : ℕ) (claim : Claim) → k < n → slice_get claims k ≡ Some claim → ClaimsFit system z (take n claims)
+      → ClaimFits system z claim
   fits_before n k claim l e h =
       let within = slice_get_within claims k claim e in
       let size = length-take n claims in
-      subst (ClaimFits system z) (get_or-take n claims k claim l ∙ get_or_from_slice_get claims k claim claim e) (h k claim (omega (arith, l, within, size)))
+      subst (ClaimFits system z) (get_or-take n claims k claim l ∙ get_or_from_slice_get claims k claim claim e)
+      (h k claim (omega (arith, l, within, size)))
 
-  module _ (named case other_named other : ℕ) (part more : Part) (wide again : Wide ℚ) (a : IsFirstWideClaim system z claims named (WideVerdict case part wide))
+  module _ (named case other_named other : ℕ) (part more : Part) (wide again : Wide ℚ)
+      (a : IsFirstWideClaim system z claims named (WideVerdict case part wide))
       (b : IsFirstWideClaim system z claims other_named (WideVerdict other more again)) where
     same_place : a.number ≡ b.number
     same_place =
-        ⊎_elim (λ l. absurd (case_apart system z a.claim.point a.claim.against case part wide a.wide (fits_before b.number a.number a.claim l a.listed b.before)))
-        (λ le. ⊎_elim (λ l. absurd (case_apart system z b.claim.point b.claim.against other more again b.wide (fits_before a.number b.number b.claim l b.listed a.before)))
+        ⊎_elim (λ l. absurd (case_apart system z a.claim.point a.claim.against case part wide a.wide
+        (fits_before b.number a.number a.claim l a.listed b.before)))
+        (λ le. ⊎_elim (λ l. absurd (case_apart system z b.claim.point b.claim.against other more again b.wide
+        (fits_before a.number b.number b.claim l b.listed a.before)))
         (λ ge. omega (arith, le, ge)) (cases_lt b.number a.number))
         (cases_lt a.number b.number)
 
@@ -109,4 +118,5 @@ pub refusals_are_one : RefusalsAreOne
 refusals_are_one system z w claims NoMemory again same points n m h k = absurd (n refl)
 refusals_are_one system z w claims (WideClaim named case part wide) NoMemory same points n m h k = absurd (m refl)
 refusals_are_one system z w claims (WideClaim named case part wide) (WideClaim other_named other more again) same points n m h k =
-    same_wide_claim system w claims named case other_named other part more wide again (refusal_stays system z w claims named case part wide same points h) k
+    same_wide_claim system w claims named case other_named other part more wide again
+    (refusal_stays system z w claims named case part wide same points h) k

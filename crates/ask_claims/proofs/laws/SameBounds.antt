@@ -53,7 +53,8 @@ module _ (system : Equations) (z w : Vector) (p : ℕ) (same : SameAt system z w
   problem_stays : edge_problem system z (guarded_edge p case) [] ≡ edge_problem system w (guarded_edge p case) []
   unfolding edge_problem edge_limits
   problem_stays =
-      ap (λ s. limits_problem (width system.variables (guards case)) (s ++ guard_limits (λ u. u) (guard_forms system.variables (guards case)))
+      ap (λ s. limits_problem (width system.variables (guards case)) (s
+      ++ guard_limits (λ u. u) (guard_forms system.variables (guards case)))
       (end_form system.variables (guards case) []).coeffs) (same_sources (λ r u. u) system.variables (z p) (w p) system.template same)
 
   whole_stays : case_problem system z p case ≡ case_problem system w p case
@@ -65,12 +66,15 @@ module _ (system : Equations) (z w : Vector) (p : ℕ) (same : SameAt system z w
   fits_stay : FitsFor system z p case → FitsFor system w p case
   fits_stay fit e =
       subst (λ (P : Problem). (first_refused long_limit (run_operations P) ≡ None)
-      × (first_wide long_limit (reading_operations (width system.variables (guards case)) (end_form system.variables (guards case) []).constant (lp P)) ≡ None)) whole_stays (fit (lost_stays ∙ e))
+      × (first_wide long_limit (reading_operations (width system.variables (guards case))
+      (end_form system.variables (guards case) []).constant (lp P)) ≡ None)) whole_stays (fit (lost_stays ∙ e))
 
-  fault_stays : (part : Part) (wide : Wide ℚ) → IsFaultFor system z p case (WidePart part wide) → IsFaultFor system w p case (WidePart part wide)
+  fault_stays : (part : Part) (wide : Wide ℚ) → IsFaultFor system z p case (WidePart part wide)
+      → IsFaultFor system w p case (WidePart part wide)
   fault_stays part wide h = (
     sym lost_stays ∙ h.0,
-    subst (λ (P : Problem). IsWideIn P (reading_operations (width system.variables (guards case)) (end_form system.variables (guards case) []).constant (lp P)) part (operation_of (λ q. q) wide))
+    subst (λ (P : Problem). IsWideIn P (reading_operations (width system.variables (guards case))
+        (end_form system.variables (guards case) []).constant (lp P)) part (operation_of (λ q. q) wide))
         whole_stays h.1,
   )
 
@@ -91,7 +95,8 @@ module _ (system : Equations) (z w : Vector) (p : ℕ) (same : SameAt system z w
     };
   }
 
-  first_wide_stays : (case : ℕ) (part : Part) (wide : Wide ℚ) → IsFirstWide system z p cases case (WidePart part wide) → IsFirstWide system w p cases case (WidePart part wide)
+  first_wide_stays : (case : ℕ) (part : Part) (wide : Wide ℚ) → IsFirstWide system z p cases case (WidePart part wide)
+      → IsFirstWide system w p cases case (WidePart part wide)
   first_wide_stays case part wide h = record {
     number = h.number;
     within = h.within;
@@ -101,13 +106,15 @@ module _ (system : Equations) (z w : Vector) (p : ℕ) (same : SameAt system z w
     wide = fault_stays system z w p same (get_or cases h.number []) part wide h.wide;
   }
 
-all_fit_stays : (system : Equations) (z w : Vector) (p : ℕ) → SameAt system z w p → (cases : List (List Form)) → AllFit system z p cases → AllFit system w p cases
+all_fit_stays : (system : Equations) (z w : Vector) (p : ℕ) → SameAt system z w p → (cases : List (List Form)) → AllFit system z p cases
+    → AllFit system w p cases
 all_fit_stays system z w p same cases fit k l none =
     fits_stay system z w p same (get_or cases k []) (fit k l (none_stays system w z p (back system z w p same) cases k none))
 
 -- ---- lists of claims
 module _ (system : Equations) (z w : Vector) where
-  verdict_stays : (claim : Claim) (verdict : Verdict) → SameAt system z w claim.point → IsVerdict system z claim verdict → IsVerdict system w claim verdict
+  verdict_stays : (claim : Claim) (verdict : Verdict) → SameAt system z w claim.point → IsVerdict system z claim verdict
+      → IsVerdict system w claim verdict
   verdict_stays claim verdict same h = record {
     proved = (
       (λ e. none_stays system z w claim.point same claim.against (length claim.against) (h.proved.0 e)),
@@ -116,7 +123,8 @@ module _ (system : Equations) (z w : Vector) where
     state = says_stays system z w claim.point same claim.against verdict h.state;
   }
 
-  pub verdicts_stay : (claims : List Claim) (verdicts : List Verdict) → IsSame system z w → AreAtPoints system claims → AreVerdicts system z claims verdicts →
+  pub verdicts_stay : (claims : List Claim) (verdicts : List Verdict) → IsSame system z w → AreAtPoints system claims
+      → AreVerdicts system z claims verdicts →
       AreVerdicts system w claims verdicts
   verdicts_stay [] [] same points a = tt
   verdicts_stay [] (v ∷ vs) same points a = absurd a
@@ -126,13 +134,15 @@ module _ (system : Equations) (z w : Vector) where
     verdicts_stay cs vs same (All-tail (λ (d : Claim). d.point < system.points) c cs points) a.1,
   )
 
-  claims_fit_stay : (claims : List Claim) → IsSame system z w → AreAtPoints system claims → ClaimsFit system z claims → ClaimsFit system w claims
+  claims_fit_stay : (claims : List Claim) → IsSame system z w → AreAtPoints system claims → ClaimsFit system z claims
+      → ClaimsFit system w claims
   claims_fit_stay claims same points fit k d l =
       let claim = get_or claims k d in
       all_fit_stays system z w claim.point (λ r m. same claim.point r (points k d l) m) claim.against (fit k d l)
 
   pub refusal_stays : (claims : List Claim) (named case : ℕ) (part : Part) (wide : Wide ℚ) → IsSame system z w → AreAtPoints system claims →
-      IsFirstWideClaim system z claims named (WideVerdict case part wide) → IsFirstWideClaim system w claims named (WideVerdict case part wide)
+      IsFirstWideClaim system z claims named (WideVerdict case part wide)
+      → IsFirstWideClaim system w claims named (WideVerdict case part wide)
   refusal_stays claims named case part wide same points h =
       let there = subst (λ (c : Claim). c.point < system.points) (get_or_from_slice_get claims h.number h.claim h.claim h.listed)
       (points h.number h.claim (slice_get_within claims h.number h.claim h.listed)) in
@@ -141,6 +151,7 @@ module _ (system : Equations) (z w : Vector) where
         claim = h.claim;
         listed = h.listed;
         named_so = h.named_so;
-        before = claims_fit_stay (take h.number claims) same (All-take (λ (d : Claim). d.point < system.points) h.number claims points) h.before;
+        before = claims_fit_stay (take h.number claims) same (All-take (λ (d : Claim). d.point < system.points) h.number claims points)
+            h.before;
         wide = first_wide_stays system z w h.claim.point (λ r m. same h.claim.point r there m) h.claim.against case part wide h.wide;
       }

@@ -3,7 +3,8 @@ use Rattle.std.proofs.Common.{◌≡◌, ◌∙◌, ⊎_elim, ℕ, List, [], ◌
 use Rattle.std.specs.Prelude.{Contains}
 use Rattle.std.proofs.lemmas.List.{length-set}
 use Rattle.base_facts.specs.Elements.{In}
-use Rattle.lang_tree.specs.Tree.{Statements, while_loop, for_loop, do_loop, breaks, continues, set, havoc, assume, branch, loop, jump, label}
+use Rattle.lang_tree.specs.Tree.{Statements, while_loop, for_loop, do_loop, breaks, continues, set, havoc, assume, branch, loop, jump}
+use Rattle.lang_tree.specs.Tree.{label}
 use Rattle.lang_tree.specs.Meaning.{State, value}
 use Rattle.lang_tree.specs.Runs.{Item, node, mark, turn, end, Does, Configuration, Follows, IsRun}
 use Rattle.flow_edges.proofs.steps.ElementLemmas.{contains_in}
@@ -24,13 +25,15 @@ keeps_size (end while_loop c body line n) rest x work y d = ap length d.1
 keeps_size (end (for_loop g) c body line n) rest x work y d = ap length d.1
 keeps_size (end do_loop c body line n) rest x work y d = ap length d.3
 
-sizes : (n : ℕ) (a : Configuration) (cs : List Configuration) → length a.state ≡ n → Follows a cs → (c : Configuration) → In (a ∷ cs) c → length c.state ≡ n
+sizes : (n : ℕ) (a : Configuration) (cs : List Configuration) → length a.state ≡ n → Follows a cs → (c : Configuration) → In (a ∷ cs) c
+    → length c.state ≡ n
 sizes n a [] e f c m = ⊎_elim (λ s. subst (λ (d : Configuration). length d.state ≡ n) s e) (λ h. absurd h) m
 sizes n a (b ∷ cs) e f c m =
     let step = f.0 in
     let next = keeps_size step.item step.rest a.state b.work b.state step.does ∙ e in
     ⊎_elim (λ s. subst (λ (d : Configuration). length d.state ≡ n) s e) (λ h. sizes n b cs next f.1 c h) m
 
-pub run_size : (n : ℕ) (body : Statements) (run : List Configuration) (c : Configuration) → IsRun n body run → Contains run c → length c.state ≡ n
+pub run_size : (n : ℕ) (body : Statements) (run : List Configuration) (c : Configuration) → IsRun n body run → Contains run c
+    → length c.state ≡ n
 run_size n body [] c h m = absurd h
 run_size n body (a ∷ cs) c h m = sizes n a cs h.1 h.2 c (contains_in (a ∷ cs) c m)

@@ -18,7 +18,8 @@ unfolding clap_on_literals
 no_fault x rest e = rw (e, no_short x rest e) refl
 
 named : (x : ℕ) (rest : Text) → eqb x 45 ≡ false
-    → option_and_then command_in (subcommand_of tmpl_app (codes "solve" ∷ (x ∷ rest) ∷ [])) ≡ Some (Analyse Report (plain_analysis (x ∷ rest) Intervals))
+    → option_and_then command_in (subcommand_of tmpl_app (codes "solve" ∷ (x ∷ rest) ∷ []))
+    ≡ Some (Analyse Report (plain_analysis (x ∷ rest) Intervals))
 unfolding clap_on_literals
 named x rest e = rw (e, no_short x rest e) refl
 

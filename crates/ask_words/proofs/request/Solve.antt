@@ -26,7 +26,8 @@ stays c names (word ∷ words) w p e = stays c names words (walked c names w wor
 
 -- behind `solve` it is there
 met : (rest : List Text) → (q : List Text)
-    × (stop_after (built tmpl_app).top.rules (names_of (built tmpl_app)) (argument_words tmpl_app (codes "solve" ∷ rest)) ≡ Some (codes "solve", q))
+    × (stop_after (built tmpl_app).top.rules (names_of (built tmpl_app)) (argument_words tmpl_app (codes "solve" ∷ rest))
+    ≡ Some (codes "solve", q))
 unfolding clap_on_literals
 met rest = stays (built tmpl_app).top.rules (names_of (built tmpl_app)) rest _ (codes "solve", []) refl
 
@@ -35,21 +36,25 @@ unfolding clap_on_literals
 found q = (_, refl)
 
 -- and what is asked is an analysis
-asked : (rest : List Text) → (rows : List Row) × (option_and_then command_in (subcommand_of tmpl_app (codes "solve" ∷ rest)) ≡ analyse_in Report rows)
+asked : (rest : List Text) → (rows : List Row) × (option_and_then command_in (subcommand_of tmpl_app (codes "solve" ∷ rest))
+    ≡ analyse_in Report rows)
 asked rest =
     let (q, e) = met rest in
     let (rows, f) = found q in
     (rows, ap (option_and_then command_in) (ap (entered (built tmpl_app)) e ∙ f))
 
-analysed : (kinds : Kinds) (o : Option (Analysis Text)) (request : Request Text) → unless_fault kinds (option_map (λ a. Analyse Report a) o) ≡ Some request
+analysed : (kinds : Kinds) (o : Option (Analysis Text)) (request : Request Text)
+    → unless_fault kinds (option_map (λ a. Analyse Report a) o) ≡ Some request
     → (a : Analysis Text) × (request ≡ Analyse Report a)
 analysed [] None request e = cc
 analysed [] (Some a) request e = (a, cc)
 analysed (kind ∷ kinds) o request e = cc
 
 -- words that begin with `solve` ask for the report of an analysis, if for anything
-pub reports : (rest : List Text) (request : Request Text) → request_of (codes "solve" ∷ rest) ≡ Some request → (a : Analysis Text) × (request ≡ Analyse Report a)
+pub reports : (rest : List Text) (request : Request Text) → request_of (codes "solve" ∷ rest) ≡ Some request
+    → (a : Analysis Text) × (request ≡ Analyse Report a)
 unfolding request_of
 reports rest request e =
     let (rows, f) = asked rest in
-    analysed (fault_of tmpl_app (codes "solve" ∷ rest)) (analysis_in rows) request (sym (ap (unless_fault (fault_of tmpl_app (codes "solve" ∷ rest))) f) ∙ e)
+    analysed (fault_of tmpl_app (codes "solve" ∷ rest)) (analysis_in rows) request
+    (sym (ap (unless_fault (fault_of tmpl_app (codes "solve" ∷ rest))) f) ∙ e)

@@ -22,22 +22,26 @@ unfolding clap_on_literals
 free = refl
 
 -- where no step fails, the request is that of the subcommand
-pub taken : (words : List Text) → fault_of tmpl_app words ≡ [] → request_of words ≡ option_and_then command_in (subcommand_of tmpl_app words)
+pub taken : (words : List Text) → fault_of tmpl_app words ≡ [] → request_of words
+    ≡ option_and_then command_in (subcommand_of tmpl_app words)
 unfolding request_of
 taken words e = ap (λ kinds. unless_fault kinds (option_and_then command_in (subcommand_of tmpl_app words))) e
 
 -- where some step fails, there is none
-pub refused : (words : List Text) (kind : ErrorKind) (kinds : List ErrorKind) → fault_of tmpl_app words ≡ kinds → IsAmong kind kinds → request_of words ≡ None
+pub refused : (words : List Text) (kind : ErrorKind) (kinds : List ErrorKind) → fault_of tmpl_app words ≡ kinds → IsAmong kind kinds
+    → request_of words ≡ None
 unfolding request_of
 refused words kind [] e among = absurd among
 refused words kind (k ∷ ks) e among = ap (λ kinds. unless_fault kinds (option_and_then command_in (subcommand_of tmpl_app words))) e
 
 -- the answer, from what the matches name
-pub given : (o : Option (Request (Bor Text))) (r : Result (Request (Bor Text)) WordsFault) (asked : Option (Request Text)) → r ≡ ok_or o Usage → option_map request_text o ≡ asked → IfOk r (λ x. asked ≡ Some (request_text x))
+pub given : (o : Option (Request (Bor Text))) (r : Result (Request (Bor Text)) WordsFault) (asked : Option (Request Text))
+    → r ≡ ok_or o Usage → option_map request_text o ≡ asked → IfOk r (λ x. asked ≡ Some (request_text x))
 given None r asked e s = rw e tt
 given (Some x) r asked e s = rw e (sym s)
 
 -- where the matches name no request, the words ask for nothing
-pub absent : (o : Option (Request (Bor Text))) (r : Result (Request (Bor Text)) WordsFault) (asked : Option (Request Text)) → r ≡ ok_or o Usage → option_map request_text o ≡ asked → IsErrOf r Usage → asked ≡ None
+pub absent : (o : Option (Request (Bor Text))) (r : Result (Request (Bor Text)) WordsFault) (asked : Option (Request Text))
+    → r ≡ ok_or o Usage → option_map request_text o ≡ asked → IsErrOf r Usage → asked ≡ None
 absent None r asked e s is = sym s
 absent (Some x) r asked e s is = let bad : IsErrOf (ok_or (Some x) Usage) Usage = rw e at is in cc

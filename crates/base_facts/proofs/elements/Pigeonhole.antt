@@ -23,9 +23,11 @@ in_removed (z ∷ xs) x y (inr m) (inl f) differ = inl f
 in_removed (z ∷ xs) x y (inr m) (inr k) differ = inr (in_removed xs x y m k differ)
 
 -- n distinct elements of a list are at most as many as the list has
-pub pigeonhole : {A : Type 0} (n : ℕ) (f : ℕ → A) (xs : List A) → ((k : ℕ) → k < n → In xs (f k)) → ((i j : ℕ) → i < j → j < n → f i ≡ f j → ⊥) → n ≤ length xs
+pub pigeonhole : {A : Type 0} (n : ℕ) (f : ℕ → A) (xs : List A) → ((k : ℕ) → k < n → In xs (f k))
+    → ((i j : ℕ) → i < j → j < n → f i ≡ f j → ⊥) → n ≤ length xs
 pigeonhole zero f xs members distinct = omega arith
 pigeonhole (suc n) f xs members distinct =
     let m = members n (omega arith) in
-    let rest = pigeonhole n f (removed xs (f n) m) (λ k h. in_removed xs (f n) (f k) m (members k (omega arith)) (λ e. distinct k n h (omega arith) e)) (λ i j h k e. distinct i j h (omega arith) e) in
+    let rest = pigeonhole n f (removed xs (f n) m) (λ k h. in_removed xs (f n) (f k) m (members k (omega arith))
+    (λ e. distinct k n h (omega arith) e)) (λ i j h k e. distinct i j h (omega arith) e) in
     omega (arith, length-removed xs (f n) m)

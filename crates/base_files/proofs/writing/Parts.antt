@@ -18,8 +18,11 @@ pub record HasWritten (before now : Option (List ℕ)) (piece rest : List ℕ) :
 -- what was appended is a prefix
 pub as_prefix : {before now : Option (List ℕ)} {piece rest : List ℕ} → HasWritten before now piece rest
     → (n : ℕ) × Appends before now (take n piece)
-as_prefix {before} {now} {piece} {rest} done =
-    (length done.front, subst (Appends before now) (sym (ap (take (length done.front)) done.split ∙ take-append_seam done.front rest)) done.appended)
+as_prefix {before} {now} {piece} {rest} done = (
+  length done.front,
+  subst (Appends before now) (sym (ap (take (length done.front)) done.split ∙ take-append_seam done.front rest))
+      done.appended,
+)
 
 -- a write took n bytes of the rest
 pub after_write : {before now next : Option (List ℕ)} {piece rest : List ℕ} (n : ℕ) → HasWritten before now piece rest

@@ -1,5 +1,7 @@
 -- What the parts that a fraction keeps say as the code reads them: n and d are the parts of q, at most the limit L.
-use Rattle.std.proofs.Common.{◌≡◌, ◌≢◌, ◌↔◌, ℕ, zero, suc, negsuc, ◌<◌, ◌≤◌, ◌^◌, ◌⊎◌, ⊎_elim, T, Bool, true, false, IsTrue, nat_eq, eqb, eqb→eq, ℤ, pos, neg_ℤ, nat_abs, ◌-ℤ◌, ◌*ℤ◌, ◌≤ℤ◌, FitsSigned, Ordering, to_z, of_z, Result, MatchResult, refl, sym, ap, ap₂, ◌∙◌, subst, subst₂, arith}
+use Rattle.std.proofs.Common.{◌≡◌, ◌≢◌, ◌↔◌, ℕ, zero, suc, negsuc, ◌<◌, ◌≤◌, ◌^◌, ◌⊎◌, ⊎_elim, T, Bool, true, false, IsTrue, nat_eq, eqb}
+use Rattle.std.proofs.Common.{eqb→eq, ℤ, pos, neg_ℤ, nat_abs, ◌-ℤ◌, ◌*ℤ◌, ◌≤ℤ◌, FitsSigned, Ordering, to_z, of_z, Result, MatchResult, refl}
+use Rattle.std.proofs.Common.{sym, ap, ap₂, ◌∙◌, subst, subst₂, arith}
 use mir.Syntax.{w64, w128}
 use Rattle.std.proofs.lemmas.Int.{ints, to_z-of_z, to_z_pos}
 use Rattle.std.specs.Ordering.{int_cmp}
@@ -16,8 +18,10 @@ kept_parts q f = record { lowest = q.reduced; num_high = f.num_fits; den_high = 
 
 -- a test for 0 reads the numerator's bits
 pub zero_test : {n : ℤ} {q : ℚ} → n ≡ q.num → FitsSigned w64 n → IsTrue (nat_eq (of_z w64 n) 0) ↔ (q ≡ zero_ℚ)
-zero_test {n} {q} e f =
-    (λ t. (zero_by_num q).0 (sym e ∙ sym (to_z-of_z w64 n f) ∙ ap (to_z w64) (eqb→eq (of_z w64 n) 0 (true-T t))), λ z. T-true (eq_test (ap (of_z w64) (e ∙ (zero_by_num q).1 z))))
+zero_test {n} {q} e f = (
+  λ t. (zero_by_num q).0 (sym e ∙ sym (to_z-of_z w64 n f) ∙ ap (to_z w64) (eqb→eq (of_z w64 n) 0 (true-T t))),
+  λ z. T-true (eq_test (ap (of_z w64) (e ∙ (zero_by_num q).1 z))),
+)
   where
     eq_test : {m : ℕ} → m ≡ 0 → T (eqb m 0)
     eq_test p = subst (λ m. T (eqb m 0)) (sym p) tt
@@ -41,7 +45,11 @@ module _ {L n : ℤ} {d : ℕ} {q : ℚ} (h : IsKept L n d) (e : ratio n d ≡ q
   -- a number whose parts are kept fits
   pub kept_fits : Fits L q
   kept_fits =
-      record { num_fits = subst (λ (z : ℤ). pos (nat_abs z) ≤ℤ L) (sym part_num) h.num_high; den_fits = subst (λ (k : ℕ). pos k ≤ℤ L) (sym part_den) h.den_high }
+      record {
+        num_fits = subst (λ (z : ℤ). pos (nat_abs z) ≤ℤ L) (sym part_num) h.num_high;
+        den_fits =
+            subst (λ (k : ℕ). pos k ≤ℤ L) (sym part_den) h.den_high;
+      }
 
   module _ (f : FitsSigned w64 n) where
     -- the kept numerator, as code reads it, is the number's
@@ -71,7 +79,8 @@ module _ {L n : ℤ} {d : ℕ} {q : ℚ} (h : IsKept L n d) (e : ratio n d ≡ q
     read_den = to_z_pos w64 d small_den ∙ ap (λ (k : ℕ). pos k) (sym part_den)
 
 -- a pair in lowest terms whose parts are at most the limit, as the code stores it
-module _ (L M n : ℤ) (d u : ℕ) (fn : FitsSigned w128 n) (fM : FitsSigned w64 M) (eM : M ≡ L) (high : L ≤ℤ pos 9223372036854775807) (low : pos 2 ≤ℤ L)
+module _ (L M n : ℤ) (d u : ℕ) (fn : FitsSigned w128 n) (fM : FitsSigned w64 M) (eM : M ≡ L) (high : L ≤ℤ pos 9223372036854775807)
+    (low : pos 2 ≤ℤ L)
     (lowest : T (is_reduced n d)) (eu : u ≡ nat_abs (to_z w128 (of_z w128 n))) where
   limit_read : pos (nat_abs (to_z w64 (of_z w64 M))) ≡ L
   limit_read = let e = ap nat_abs (to_z-of_z w64 M fM) in omega (arith, ints)
@@ -88,17 +97,24 @@ module _ (L M n : ℤ) (d u : ℕ) (fn : FitsSigned w128 n) (fM : FitsSigned w64
         ap (λ z. to_z w64 (of_z w64 z)) (to_z-of_z w128 n fn) ∙ to_z-of_z w64 n f
 
     kept_here : IsKept L n d
-    kept_here = let e = limit_read in let s = size_read in record { lowest = lowest; num_high = omega (arith, ints); den_high = omega (arith, ints) }
+    kept_here = let e = limit_read in let s = size_read in record {
+      lowest = lowest;
+      num_high = omega (arith, ints);
+      den_high =
+          omega (arith, ints);
+    }
 
     stored_kept : IsKept L (to_z w64 (of_z w64 (to_z w128 (of_z w128 n)))) d
     stored_kept = subst (λ z. IsKept L z d) (sym num_stored) kept_here
 
     -- where neither part is above the limit, the stored parts have the ratio n / d, and it fits
-    pub stored : (ratio (to_z w64 (of_z w64 (to_z w128 (of_z w128 n)))) d ≡ ratio n d) × Fits L (ratio (to_z w64 (of_z w64 (to_z w128 (of_z w128 n)))) d)
+    pub stored : (ratio (to_z w64 (of_z w64 (to_z w128 (of_z w128 n)))) d ≡ ratio n d)
+        × Fits L (ratio (to_z w64 (of_z w64 (to_z w128 (of_z w128 n)))) d)
     stored = let e = ap (λ z. ratio z d) num_stored in (e, kept_fits stored_kept refl)
 
   -- where the denominator or the numerator's size is above the limit, n / d doesn't fit
-  pub not_stored : ((u ≤ nat_abs (to_z w64 (of_z w64 M))) × (nat_abs (to_z w64 (of_z w64 M)) < d)) ⊎ (nat_abs (to_z w64 (of_z w64 M)) < u) → ¬ (Fits L (ratio n d))
+  pub not_stored : ((u ≤ nat_abs (to_z w64 (of_z w64 M))) × (nat_abs (to_z w64 (of_z w64 M)) < d)) ⊎ (nat_abs (to_z w64 (of_z w64 M)) < u)
+      → ¬ (Fits L (ratio n d))
   not_stored o f =
       let e = limit_read in
       let s = size_read in
@@ -115,7 +131,9 @@ pub result_read : (n : ℤ) (d : ℕ) (s q : ℚ) → FitsSigned w128 n → rati
 result_read n d s q f e g = ap (λ z. ratio z d) (to_z-of_z w128 n f) ∙ e ∙ g
 
 -- what is answered of one number is so of an equal one
-pub answered : (L : ℤ) {q s : ℚ} {E : Type 0} (w : E) (r : Result ℚ E) → s ≡ q → MatchResult r (λ x. (x ≡ s) × Fits L x) (λ e. (¬ (Fits L s)) × (e ≡ w)) → MatchResult r (λ x. (x ≡ q) × Fits L x) (λ e. (¬ (Fits L q)) × (e ≡ w))
+pub answered : (L : ℤ) {q s : ℚ} {E : Type 0} (w : E) (r : Result ℚ E) → s ≡ q
+    → MatchResult r (λ x. (x ≡ s) × Fits L x) (λ e. (¬ (Fits L s)) × (e ≡ w))
+    → MatchResult r (λ x. (x ≡ q) × Fits L x) (λ e. (¬ (Fits L q)) × (e ≡ w))
 answered L {q} {s} {E} w r g m = subst (λ p. MatchResult r (λ x. (x ≡ p) × Fits L x) (λ e. (¬ (Fits L p)) × (e ≡ w))) g m
 
 -- the negation and the inverse
@@ -124,7 +142,8 @@ module _ {L n : ℤ} {d : ℕ} {q : ℚ} (high : L ≤ℤ pos 922337203685477580
   num_neg =
       let k = h.num_high in
       let g : FitsSigned w64 (pos 0 -ℤ n) = omega (arith, ints) in
-      ap (λ z. to_z w64 (of_z w64 (pos 0 -ℤ z))) (to_z-of_z w64 n f) ∙ to_z-of_z w64 (pos 0 -ℤ n) g ∙ zero_minus n ∙ ap neg_ℤ (sym (part_num h e)) ∙ sym (num-neg q)
+      ap (λ z. to_z w64 (of_z w64 (pos 0 -ℤ z))) (to_z-of_z w64 n f) ∙ to_z-of_z w64 (pos 0 -ℤ n) g ∙ zero_minus n
+      ∙ ap neg_ℤ (sym (part_num h e)) ∙ sym (num-neg q)
     where
       zero_minus : (z : ℤ) → pos 0 -ℤ z ≡ neg_ℤ z
       zero_minus z = omega (arith, ints)
@@ -136,7 +155,11 @@ module _ {L n : ℤ} {d : ℕ} {q : ℚ} (high : L ≤ℤ pos 922337203685477580
   pub neg_fits : Fits L (neg_ℚ q)
   neg_fits =
       let k = kept_fits h e in
-      record { num_fits = subst (λ (k : ℕ). pos k ≤ℤ L) (sym (abs-num-neg q)) k.num_fits; den_fits = subst (λ (k : ℕ). pos k ≤ℤ L) (sym (den-neg q)) k.den_fits }
+      record {
+        num_fits = subst (λ (k : ℕ). pos k ≤ℤ L) (sym (abs-num-neg q)) k.num_fits;
+        den_fits =
+            subst (λ (k : ℕ). pos k ≤ℤ L) (sym (den-neg q)) k.den_fits;
+      }
 
   -- the negated numerator and the denominator, as code stores them, are kept
   pub neg_kept : IsKept L (to_z w64 (of_z w64 (pos 0 -ℤ to_z w64 (of_z w64 n)))) d
@@ -146,7 +169,8 @@ module _ {L n : ℤ} {d : ℕ} {q : ℚ} (high : L ≤ℤ pos 922337203685477580
   pub neg_made : ratio (to_z w64 (of_z w64 (pos 0 -ℤ to_z w64 (of_z w64 n)))) d ≡ neg_ℚ q
   neg_made = ap₂ ratio num_neg den_neg ∙ ratio-parts (neg_ℚ q)
 
-module _ {L n : ℤ} {d : ℕ} {q : ℚ} (high : L ≤ℤ pos 9223372036854775807) (h : IsKept L n d) (e : ratio n d ≡ q) (f : FitsSigned w64 n) (z : q ≢ zero_ℚ) where
+module _ {L n : ℤ} {d : ℕ} {q : ℚ} (high : L ≤ℤ pos 9223372036854775807) (h : IsKept L n d) (e : ratio n d ≡ q) (f : FitsSigned w64 n)
+    (z : q ≢ zero_ℚ) where
   -- the size of the numerator as the denominator of the inverse
   inv_den : {u : ℕ} → u ≡ nat_abs (to_z w64 (of_z w64 n)) → u ≡ (inv_ℚ q).den
   inv_den s = s ∙ ap nat_abs (read_num h e f) ∙ sym (den-inv q z)
@@ -179,8 +203,11 @@ module _ {L n : ℤ} {d : ℕ} {q : ℚ} (high : L ≤ℤ pos 922337203685477580
     inv_made = ap₂ ratio eN (inv_den eu) ∙ ratio-parts (inv_ℚ q)
 
 -- two cross products, compared
-pub cmp_is : {L n m : ℤ} {d e : ℕ} {a b : ℚ} {x y : ℤ} {r : Ordering} → IsKept L n d → ratio n d ≡ a → IsKept L m e → ratio m e ≡ b → FitsSigned w64 n → FitsSigned w64 m → FitsSigned w128 x → FitsSigned w128 y →
-    x ≡ to_z w64 (of_z w64 n) *ℤ pos e → y ≡ to_z w64 (of_z w64 m) *ℤ pos d → r ≡ int_cmp (to_z w128 (of_z w128 x)) (to_z w128 (of_z w128 y)) → r ≡ cmp_ℚ a b
+pub cmp_is : {L n m : ℤ} {d e : ℕ} {a b : ℚ} {x y : ℤ} {r : Ordering} → IsKept L n d → ratio n d ≡ a → IsKept L m e → ratio m e ≡ b
+    → FitsSigned w64 n → FitsSigned w64 m → FitsSigned w128 x → FitsSigned w128 y →
+    x ≡ to_z w64 (of_z w64 n) *ℤ pos e → y ≡ to_z w64 (of_z w64 m) *ℤ pos d
+    → r ≡ int_cmp (to_z w128 (of_z w128 x)) (to_z w128 (of_z w128 y)) → r ≡ cmp_ℚ a b
 unfolding cmp_ℚ
 cmp_is h ea k eb f g fx fy p q s =
-    s ∙ ap₂ int_cmp (to_z-of_z w128 _ fx ∙ p ∙ ap₂ (λ u (v : ℕ). u *ℤ pos v) (read_num h ea f) (sym (part_den k eb))) (to_z-of_z w128 _ fy ∙ q ∙ ap₂ (λ u (v : ℕ). u *ℤ pos v) (read_num k eb g) (sym (part_den h ea)))
+    s ∙ ap₂ int_cmp (to_z-of_z w128 _ fx ∙ p ∙ ap₂ (λ u (v : ℕ). u *ℤ pos v) (read_num h ea f) (sym (part_den k eb)))
+    (to_z-of_z w128 _ fy ∙ q ∙ ap₂ (λ u (v : ℕ). u *ℤ pos v) (read_num k eb g) (sym (part_den h ea)))

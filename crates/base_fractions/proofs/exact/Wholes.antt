@@ -1,5 +1,6 @@
 -- Sums and products of whole numbers, whose denominators are 1, as the code computes them.
-use Rattle.std.proofs.Common.{◌≡◌, ◌≢◌, ℕ, zero, suc, ◌*◌, ◌^◌, ◌/◌, ◌<◌, T, ℤ, pos, negsuc, nat_abs, neg_ℤ, ◌+ℤ◌, ◌-ℤ◌, ◌*ℤ◌, FitsSigned, to_z, of_z, refl, ap, ap₂, sym, ◌∙◌, lit<, arith}
+use Rattle.std.proofs.Common.{◌≡◌, ◌≢◌, ℕ, zero, suc, ◌*◌, ◌^◌, ◌/◌, ◌<◌, T, ℤ, pos, negsuc, nat_abs, neg_ℤ, ◌+ℤ◌, ◌-ℤ◌, ◌*ℤ◌, FitsSigned}
+use Rattle.std.proofs.Common.{to_z, of_z, refl, ap, ap₂, sym, ◌∙◌, lit<, arith}
 use Prim.Native.Nat.{◌∣◌}
 use native.Mathlib.Nat.{div-mul_cancel}
 use mir.Syntax.{w64, w128}
@@ -43,7 +44,8 @@ whole_sum_read a b fa fb =
 negative_times : (s g : ℕ) (t : ℤ) → s * g ≡ nat_abs t → t ≢ pos (nat_abs t) → (pos 0 -ℤ pos s) *ℤ pos g ≡ t
 negative_times s g (pos k) e h = absurd (h refl)
 negative_times zero g (negsuc k) e h = absurd (omega arith)
-negative_times (suc j) g (negsuc k) e h = let n : pos 0 -ℤ pos (suc j) ≡ negsuc j = omega (arith, ints) in ap (λ x. x *ℤ pos g) n ∙ ap (λ x. neg_ℤ (pos x)) e
+negative_times (suc j) g (negsuc k) e h = let n : pos 0 -ℤ pos (suc j) ≡ negsuc j = omega (arith, ints) in
+    ap (λ x. x *ℤ pos g) n ∙ ap (λ x. neg_ℤ (pos x)) e
 
 -- t / g as the code makes it of the quotient s of the size of t
 module _ (t : ℤ) (g u s : ℕ) (eu : u ≡ nat_abs t) (es : s ≡ u / g) (d : g ∣ nat_abs t) (hs : s < 2 ^ 127) where
@@ -58,4 +60,5 @@ module _ (t : ℤ) (g u s : ℕ) (eu : u ≡ nat_abs t) (es : s ≡ u / g) (d : 
   pub quotient_below : t ≢ pos (nat_abs t) → to_z w128 (of_z w128 (pos 0 -ℤ to_z w128 s)) *ℤ pos g ≡ t
   quotient_below h =
       let f : FitsSigned w128 (pos 0 -ℤ pos s) = omega (arith, ints) in
-      ap (λ x. to_z w128 (of_z w128 (pos 0 -ℤ x)) *ℤ pos g) (to_z_pos w128 s hs) ∙ ap (λ x. x *ℤ pos g) (to_z-of_z w128 (pos 0 -ℤ pos s) f) ∙ negative_times s g t sized h
+      ap (λ x. to_z w128 (of_z w128 (pos 0 -ℤ x)) *ℤ pos g) (to_z_pos w128 s hs) ∙ ap (λ x. x *ℤ pos g) (to_z-of_z w128 (pos 0 -ℤ pos s) f)
+      ∙ negative_times s g t sized h

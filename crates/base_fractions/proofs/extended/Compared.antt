@@ -11,7 +11,8 @@ use Rattle.base_fractions.specs.HashedParts.{is_eq-equal}
 
 -- two extended fractions that `==` tells apart don't stand for one extended number
 pub differs : (x y : Ext) → true ≡ not (eq_by_cmp ext_cmp x y) → extended x ≡ extended y → ⊥
-differs x y t e = by (eq_by_cmp ext_cmp x y) (subst (λ b. IsTrue (eq_by_cmp cmp_ᴱ (extended x) b)) e ((eq_by_cmp_equiv cmp_ᴱ_total).refl (extended x))) t
+differs x y t e = by (eq_by_cmp ext_cmp x y) (subst (λ b. IsTrue (eq_by_cmp cmp_ᴱ (extended x) b)) e
+    ((eq_by_cmp_equiv cmp_ᴱ_total).refl (extended x))) t
   where
     by : (b : Bool) → IsTrue b → true ≡ not b → ⊥
     by true h k = cc

@@ -26,7 +26,8 @@ tail (x ∷ xs) = xs
 
 no_neg_word : (n : ℤ) (rest : List ℕ) → nat_abs n < 2 ^ 63 → signed_decimal n ++ rest ≡ 45 ∷ 105 ∷ 110 ∷ 102 ∷ [] → ⊥
 no_neg_word (pos n) rest h e = let k : 36 < 10 = digit_first n rest (105 ∷ 110 ∷ 102 ∷ []) 45 (omega (arith, h)) e in omega (arith, k)
-no_neg_word (negsuc n) rest h e = let k : 18 < 10 = digit_first (suc n) rest (110 ∷ 102 ∷ []) 105 (omega (arith, h)) (ap tail e) in omega (arith, k)
+no_neg_word (negsuc n) rest h e = let k : 18 < 10 = digit_first (suc n) rest (110 ∷ 102 ∷ []) 105 (omega (arith, h)) (ap tail e) in
+    omega (arith, k)
 
 no_pos_word : (n : ℤ) (rest : List ℕ) → nat_abs n < 2 ^ 63 → signed_decimal n ++ rest ≡ 43 ∷ 105 ∷ 110 ∷ 102 ∷ [] → ⊥
 no_pos_word (pos n) rest h e = let k : 36 < 10 = digit_first n rest (105 ∷ 110 ∷ 102 ∷ []) 43 (omega (arith, h)) e in omega (arith, k)

@@ -1,5 +1,6 @@
 -- A division that comes out even, as the code computes it.
-use Rattle.std.proofs.Common.{◌≡◌, ◌≢◌, ℕ, ◌<◌, ◌^◌, ℤ, pos, nat_abs, ◌+ℤ◌, ◌*ℤ◌, FitsSigned, to_z, of_z, int_div, sym, ap, ap₂, ◌∙◌, subst, arith}
+use Rattle.std.proofs.Common.{◌≡◌, ◌≢◌, ℕ, ◌<◌, ◌^◌, ℤ, pos, nat_abs, ◌+ℤ◌, ◌*ℤ◌, FitsSigned, to_z, of_z, int_div, sym, ap, ap₂, ◌∙◌, subst}
+use Rattle.std.proofs.Common.{arith}
 use Prim.Native.Nat.{◌∣◌}
 use mir.Syntax.{Width, w64, w128}
 use Rattle.std.proofs.lemmas.Int.{ints, quot_is, quot_fits, to_z-of_z}
@@ -7,10 +8,12 @@ use Rattle.base_numbers.specs.Gcd.{gcd, gcd_is, gcd_pos}
 use Rattle.base_numbers.proofs.gcd.Gcds.{exact_quotient, gcd_le}
 
 -- a division by a divisor, as code computes it, comes out even: the quotient times the divisor is the number
-pub divided : (w : Width) (n : ℤ) (g : ℕ) → FitsSigned w n → FitsSigned w (pos g) → to_z w g ≡ pos g → 0 < g → g ∣ nat_abs n → to_z w (of_z w (int_div (to_z w (of_z w n)) (to_z w g))) *ℤ pos g ≡ n
+pub divided : (w : Width) (n : ℤ) (g : ℕ) → FitsSigned w n → FitsSigned w (pos g) → to_z w g ≡ pos g → 0 < g → g ∣ nat_abs n
+    → to_z w (of_z w (int_div (to_z w (of_z w n)) (to_z w g))) *ℤ pos g ≡ n
 divided w n g fn fg eg h d =
     let q = quot_is w n (pos g) fn fg (quot_fits w n (pos g) fn (omega (arith, ints, h))) in
-    ap (λ x. to_z w (of_z w (int_div (to_z w (of_z w n)) x)) *ℤ pos g) (eg ∙ sym (to_z-of_z w (pos g) fg)) ∙ ap (λ x. x *ℤ pos g) q ∙ exact_quotient n g d
+    ap (λ x. to_z w (of_z w (int_div (to_z w (of_z w n)) x)) *ℤ pos g) (eg ∙ sym (to_z-of_z w (pos g) fg)) ∙ ap (λ x. x *ℤ pos g) q
+    ∙ exact_quotient n g d
 
 -- the greatest common divisor with a number above 0 is above 0
 pub gcd_positive : {g : ℕ} (a b : ℕ) → g ≡ gcd a b → 0 < b → 0 < g
@@ -29,7 +32,8 @@ pub gcd_small : {g : ℕ} (a b : ℕ) → g ≡ gcd a b → 0 < b → b < 2 ^ 63
 gcd_small {g} a b e h l = let k = gcd_le a b h in omega (arith, e, l)
 
 -- the sum of two products that code computes in 128 bits is exact
-pub sum_read : (x y a b : ℤ) (f e : ℕ) → FitsSigned w64 a → FitsSigned w64 b → nat_abs x < 2 ^ 126 → nat_abs y < 2 ^ 126 → x ≡ to_z w64 (of_z w64 a) *ℤ pos f → y ≡ to_z w64 (of_z w64 b) *ℤ pos e →
+pub sum_read : (x y a b : ℤ) (f e : ℕ) → FitsSigned w64 a → FitsSigned w64 b → nat_abs x < 2 ^ 126 → nat_abs y < 2 ^ 126
+    → x ≡ to_z w64 (of_z w64 a) *ℤ pos f → y ≡ to_z w64 (of_z w64 b) *ℤ pos e →
     to_z w128 (of_z w128 (to_z w128 (of_z w128 x) +ℤ to_z w128 (of_z w128 y))) ≡ a *ℤ pos f +ℤ b *ℤ pos e
 sum_read x y a b f e fa fb p q s t =
     let fx : FitsSigned w128 x = omega (arith, ints) in

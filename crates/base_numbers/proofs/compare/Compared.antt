@@ -1,5 +1,6 @@
 -- `cmp_ℚ` is a total order, and answers as ≤ℚ and <ℚ do.
-use Rattle.std.proofs.Common.{◌≡◌, Bool, true, false, cond, pos, ◌*ℤ◌, Ordering, Less, Equal, Greater, Option, Some, refl, ap, sym, ◌∙◌, subst, true≢false}
+use Rattle.std.proofs.Common.{◌≡◌, Bool, true, false, cond, pos, ◌*ℤ◌, Ordering, Less, Equal, Greater, Option, Some, refl, ap, sym, ◌∙◌}
+use Rattle.std.proofs.Common.{subst, true≢false}
 use Rattle.std.specs.Ordering.{partial_lt, is_some_and, is_lt, is_eq, ordering_reverse, eq_by_cmp}
 use Rattle.std.specs.Cmp.{IsTotalOrder, IsEquivalence}
 use Rattle.std.proofs.lemmas.Cmp.{int_cmp_total, eq_by_cmp_equiv, tied_itself}
@@ -33,7 +34,8 @@ pub cmp-equal : (a b : ℚ) → cmp_ℚ a b ≡ Equal → a ≡ b
 unfolding cmp_ℚ lt_ℚ
 cmp-equal a b e =
     let h = answer_equal (lt_ℚ a b) (lt_ℚ b a) e in
-    ≤ℚ_antisymm (le_of_not_lt_ℚ (λ g. true≢false (sym (true_from_T (lt_ℚ b a) g.lt) ∙ h.1))) (le_of_not_lt_ℚ (λ l. true≢false (sym (true_from_T (lt_ℚ a b) l.lt) ∙ h.0)))
+    ≤ℚ_antisymm (le_of_not_lt_ℚ (λ g. true≢false (sym (true_from_T (lt_ℚ b a) g.lt) ∙ h.1)))
+    (le_of_not_lt_ℚ (λ l. true≢false (sym (true_from_T (lt_ℚ a b) l.lt) ∙ h.0)))
 
 -- the comparison of rational numbers is a total order
 pub cmp_ℚ_total : IsTotalOrder cmp_ℚ

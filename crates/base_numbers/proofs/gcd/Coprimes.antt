@@ -1,5 +1,6 @@
 -- Numbers with no common divisor, and the greatest common divisor by halves and differences.
-use Rattle.std.proofs.Common.{◌≡◌, ◌≢◌, ℕ, zero, suc, ◌-◌, ◌*◌, ◌/◌, ◌%◌, ◌^◌, ◌<◌, ◌≤◌, min, ⊎_elim, refl, ap, ap₂, sym, ◌∙◌, subst, arith, mul_comm, one-mul}
+use Rattle.std.proofs.Common.{◌≡◌, ◌≢◌, ℕ, zero, suc, ◌-◌, ◌*◌, ◌/◌, ◌%◌, ◌^◌, ◌<◌, ◌≤◌, min, ⊎_elim, refl, ap, ap₂, sym, ◌∙◌, subst, arith}
+use Rattle.std.proofs.Common.{mul_comm, one-mul}
 use Prim.Native.Nat.{◌∣◌}
 use native.Mathlib.Nat.{dvd_refl, dvd_trans, dvd-mul_right_of_dvd, mul-dvd-mul_right, eq-one_of_dvd-one, pow-suc, mul-div_cancel}
 use Rattle.std.specs.Int.{abs_diff}
@@ -70,14 +71,19 @@ coprime_quotients a b x y g h e p q =
 -- an odd number has no common divisor with a power of 2
 odd_coprime-pow : (a k : ℕ) → a % 2 ≡ 1 → Coprime a (2 ^ k)
 odd_coprime-pow a zero h = coprime-one a
-odd_coprime-pow a (suc k) h = subst (λ x. Coprime a x) (sym (pow-suc 2 k)) (coprime_mul_right (odd_coprime-pow a k h) record { one = sym (gcd-step a 2) ∙ ap (gcd 2) h ∙ (coprime-one 2).one })
+odd_coprime-pow a (suc k) h = subst (λ x. Coprime a x) (sym (pow-suc 2 k))
+    (coprime_mul_right (odd_coprime-pow a k h) record { one = sym (gcd-step a 2) ∙ ap (gcd 2) h ∙ (coprime-one 2).one })
 
 -- a power of 2 may be dropped beside an odd number
 gcd_odd : (a b k : ℕ) → a % 2 ≡ 1 → gcd a (b * 2 ^ k) ≡ gcd a b
 gcd_odd a b k h =
     same_from_IsGcd a b (gcd a (b * 2 ^ k)) (gcd a b)
-    (let g = gcd_is a (b * 2 ^ k) in
-    (g.0, coprime_divides b (coprime_sym (coprime_of_dvd (gcd a (b * 2 ^ k)) (2 ^ k) (odd_coprime-pow a k h) g.0 (dvd_refl (2 ^ k)))) (subst (λ x. gcd a (b * 2 ^ k) ∣ x) (mul_comm b (2 ^ k)) g.1), λ d p q. g.2 d p (dvd-mul_right_of_dvd d q (2 ^ k))))
+    (let g = gcd_is a (b * 2 ^ k) in (
+      g.0,
+      coprime_divides b (coprime_sym (coprime_of_dvd (gcd a (b * 2 ^ k)) (2 ^ k) (odd_coprime-pow a k h) g.0 (dvd_refl (2 ^ k))))
+          (subst (λ x. gcd a (b * 2 ^ k) ∣ x) (mul_comm b (2 ^ k)) g.1),
+      λ d p q. g.2 d p (dvd-mul_right_of_dvd d q (2 ^ k)),
+    ))
     (gcd_is a b)
 
 -- the common powers of 2 apart
@@ -86,16 +92,22 @@ gcd_twos a b i j h k = ⊎_elim (λ l. left l) (λ l. right l) (cases_lt i j)
   where
     left : i < j → gcd (a * 2 ^ i) (b * 2 ^ j) ≡ gcd a b * 2 ^ min i j
     left l =
-        let e : b * 2 ^ j ≡ b * 2 ^ (j - i) * 2 ^ i = ap (λ n. b * 2 ^ n) (omega (arith, l)) ∙ ap (λ x. b * x) (pow-add 2 (j - i) i) ∙ omega arith in
+        let e : b * 2 ^ j ≡ b * 2 ^ (j - i) * 2 ^ i = ap (λ n. b * 2 ^ n) (omega (arith, l)) ∙ ap (λ x. b * x) (pow-add 2 (j - i) i)
+        ∙ omega arith in
         ap (gcd (a * 2 ^ i)) e ∙ gcd-scale a (b * 2 ^ (j - i)) (2 ^ i) ∙ ap₂ (λ x n. x * 2 ^ n) (gcd_odd a b (j - i) h) (omega (arith, l))
 
     right : j ≤ i → gcd (a * 2 ^ i) (b * 2 ^ j) ≡ gcd a b * 2 ^ min i j
     right l =
-        let e : a * 2 ^ i ≡ a * 2 ^ (i - j) * 2 ^ j = ap (λ n. a * 2 ^ n) (omega (arith, l)) ∙ ap (λ x. a * x) (pow-add 2 (i - j) j) ∙ omega arith in
-        ap (λ x. gcd x (b * 2 ^ j)) e ∙ gcd-scale (a * 2 ^ (i - j)) b (2 ^ j) ∙ ap₂ (λ x n. x * 2 ^ n) (gcd_comm (a * 2 ^ (i - j)) b ∙ gcd_odd b a (i - j) k ∙ gcd_comm b a) (omega (arith, l))
+        let e : a * 2 ^ i ≡ a * 2 ^ (i - j) * 2 ^ j = ap (λ n. a * 2 ^ n) (omega (arith, l)) ∙ ap (λ x. a * x) (pow-add 2 (i - j) j)
+        ∙ omega arith in
+        ap (λ x. gcd x (b * 2 ^ j)) e ∙ gcd-scale (a * 2 ^ (i - j)) b (2 ^ j)
+        ∙ ap₂ (λ x n. x * 2 ^ n) (gcd_comm (a * 2 ^ (i - j)) b ∙ gcd_odd b a (i - j) k ∙ gcd_comm b a) (omega (arith, l))
 
 -- a number above 0 without its factors 2
-odd_part_by : (k n d : ℕ) → n % 2 ≡ d → 0 < n → (0 < n / 2 → (n / 2 / 2 ^ count_trailing_zeros k (n / 2) * 2 ^ count_trailing_zeros k (n / 2) ≡ n / 2) × (n / 2 / 2 ^ count_trailing_zeros k (n / 2) % 2 ≡ 1)) → (n / 2 ^ under d (count_trailing_zeros k (n / 2)) * 2 ^ under d (count_trailing_zeros k (n / 2)) ≡ n) × (n / 2 ^ under d (count_trailing_zeros k (n / 2)) % 2 ≡ 1)
+odd_part_by : (k n d : ℕ) → n % 2 ≡ d → 0 < n → (0 < n / 2 → (n / 2 / 2 ^ count_trailing_zeros k (n / 2)
+    * 2 ^ count_trailing_zeros k (n / 2) ≡ n / 2) × (n / 2 / 2 ^ count_trailing_zeros k (n / 2) % 2 ≡ 1))
+    → (n / 2 ^ under d (count_trailing_zeros k (n / 2)) * 2 ^ under d (count_trailing_zeros k (n / 2)) ≡ n)
+    × (n / 2 ^ under d (count_trailing_zeros k (n / 2)) % 2 ≡ 1)
 odd_part_by k n (suc d) e h f = (omega (arith, e), omega (arith, e))
 odd_part_by k n zero e h f =
     let t = count_trailing_zeros k (n / 2) in
@@ -104,7 +116,8 @@ odd_part_by k n zero e h f =
     (ap (λ x. x * 2 ^ suc t) half ∙ ap (λ x. n / 2 / 2 ^ t * x) (pow-suc 2 t) ∙ omega (arith, p.0, e), ap (λ x. x % 2) half ∙ p.1)
 
 -- a number above 0 without its factors 2 is odd, and times that power of 2 it is the number
-pub odd_part : (k n : ℕ) → 0 < n → n < 2 ^ k → (n / 2 ^ count_trailing_zeros k n * 2 ^ count_trailing_zeros k n ≡ n) × (n / 2 ^ count_trailing_zeros k n % 2 ≡ 1)
+pub odd_part : (k n : ℕ) → 0 < n → n < 2 ^ k → (n / 2 ^ count_trailing_zeros k n * 2 ^ count_trailing_zeros k n ≡ n)
+    × (n / 2 ^ count_trailing_zeros k n % 2 ≡ 1)
 unfolding count_trailing_zeros
 odd_part zero n h l = absurd (omega arith)
 odd_part (suc k) n h l = odd_part_by k n (n % 2) refl h (λ p. odd_part k (n / 2) p (omega (arith, pow-suc 2 k, l)))
@@ -136,13 +149,15 @@ pub gcd_one_left : (b : ℕ) → gcd 1 b ≡ 1
 gcd_one_left b = gcd_comm 1 b ∙ (coprime-one b).one
 
 -- the greatest common divisor of two numbers of 64 bits is that of their odd parts, times the lesser of their powers of 2
-pub gcd_shifted : (a b o m : ℕ) → 0 < a → 0 < b → a < 2 ^ 64 → b < 2 ^ 64 → o ≡ gcd (a / 2 ^ count_trailing_zeros 64 a) (b / 2 ^ count_trailing_zeros 64 b) →
+pub gcd_shifted : (a b o m : ℕ) → 0 < a → 0 < b → a < 2 ^ 64 → b < 2 ^ 64
+    → o ≡ gcd (a / 2 ^ count_trailing_zeros 64 a) (b / 2 ^ count_trailing_zeros 64 b) →
     m ≡ min (count_trailing_zeros 64 a) (count_trailing_zeros 64 b) → o * 2 ^ m % 2 ^ 64 ≡ gcd a b
 gcd_shifted a b o m ha hb la lb eo em =
     let p = odd_part 64 a ha la in
     let q = odd_part 64 b hb lb in
     let whole : o * 2 ^ m ≡ gcd a b =
-    ap₂ (λ x k. x * 2 ^ k) eo em ∙ sym (gcd_twos (a / 2 ^ count_trailing_zeros 64 a) (b / 2 ^ count_trailing_zeros 64 b) (count_trailing_zeros 64 a) (count_trailing_zeros 64 b) p.1 q.1) ∙ ap₂ gcd p.0 q.0 in
+    ap₂ (λ x k. x * 2 ^ k) eo em ∙ sym (gcd_twos (a / 2 ^ count_trailing_zeros 64 a) (b / 2 ^ count_trailing_zeros 64 b)
+    (count_trailing_zeros 64 a) (count_trailing_zeros 64 b) p.1 q.1) ∙ ap₂ gcd p.0 q.0 in
     let small : gcd a b < 2 ^ 64 = let l = gcd_le a b hb in omega (arith, l, lb) in
     ap (λ x. x % 2 ^ 64) whole ∙ kept (gcd a b) small
   where

@@ -1,13 +1,17 @@
 -- The rational numbers are an ordered field. All that proofs above know of them.
-use Rattle.std.proofs.Common.{◌≡◌, ◌≢◌, ℕ, zero, suc, ◌+◌, ◌-◌, ◌*◌, ◌<◌, ◌≤◌, ◌⊎◌, inl, inr, ⊎_elim, T, ℤ, pos, negsuc, neg_ℤ, ◌+ℤ◌, ◌*ℤ◌, ◌≤ℤ◌, ◌<ℤ◌, refl, ap, sym, ◌∙◌, subst, subst₂, arith, zero-lt-suc, mul-le-mul_right, le_of_mul-le-mul_right, div-add-mod', mod-lt}
+use Rattle.std.proofs.Common.{◌≡◌, ◌≢◌, ℕ, zero, suc, ◌+◌, ◌-◌, ◌*◌, ◌<◌, ◌≤◌, ◌⊎◌, inl, inr, ⊎_elim, T, ℤ, pos, negsuc, neg_ℤ, ◌+ℤ◌, ◌*ℤ◌}
+use Rattle.std.proofs.Common.{◌≤ℤ◌, ◌<ℤ◌, refl, ap, sym, ◌∙◌, subst, subst₂, arith, zero-lt-suc, mul-le-mul_right, le_of_mul-le-mul_right}
+use Rattle.std.proofs.Common.{div-add-mod', mod-lt}
 use Rattle.std.specs.Int.{int_div_euclid}
 use Rattle.std.proofs.lemmas.Bool.{cases_lt}
 use lib.Dec.{T_prop}
 use mathlib.Core.HLevel.{Discrete}
 use borrow.Author.Differences.{up, down, ints, sum_is_lem, neg_is}
 use lib.Signed.{shr_z}
-use Rattle.base_numbers.specs.Rational.{ℚ, turned, ratio, whole, zero_ℚ, one_ℚ, ◌+ℚ◌, ◌*ℚ◌, neg_ℚ, ◌-ℚ◌, inv_ℚ, ◌/ℚ◌, lt_ℚ, ◌≤ℚ◌, ◌<ℚ◌, floor}
-use Rattle.base_numbers.proofs.rational.Reps.{IsRep, rep, rep_change, rep_eq, rep_le, le_rep, rep_lt, lt_rep, rep_ratio, rep_whole, rep_zero, rep_one, rep_add, rep_mul, rep_neg, den_pos}
+use Rattle.base_numbers.specs.Rational.{ℚ, turned, ratio, whole, zero_ℚ, one_ℚ, ◌+ℚ◌, ◌*ℚ◌, neg_ℚ, ◌-ℚ◌, inv_ℚ, ◌/ℚ◌, lt_ℚ, ◌≤ℚ◌, ◌<ℚ◌}
+use Rattle.base_numbers.specs.Rational.{floor}
+use Rattle.base_numbers.proofs.rational.Reps.{IsRep, rep, rep_change, rep_eq, rep_le, le_rep, rep_lt, lt_rep, rep_ratio, rep_whole}
+use Rattle.base_numbers.proofs.rational.Reps.{rep_zero, rep_one, rep_add, rep_mul, rep_neg, den_pos}
 
 -- ---- a commutative ring
 -- addition doesn't depend on the order
@@ -127,7 +131,8 @@ pub ≤ℚ_refl : (a : ℚ) → a ≤ℚ a
 ≤ℚ_refl a = rep_le (rep a) (rep a) (omega arith)
 
 -- (p - m) / d is at most (p' - m') / d', and that at most (p'' - m'') / d''
-le_along : (p m d p' m' d' p'' m'' d'' : ℕ) → 0 < d' → p * d' + m' * d ≤ m * d' + p' * d → p' * d'' + m'' * d' ≤ m' * d'' + p'' * d' → p * d'' + m'' * d ≤ m * d'' + p'' * d
+le_along : (p m d p' m' d' p'' m'' d'' : ℕ) → 0 < d' → p * d' + m' * d ≤ m * d' + p' * d → p' * d'' + m'' * d' ≤ m' * d'' + p'' * d'
+    → p * d'' + m'' * d ≤ m * d'' + p'' * d
 le_along p m d p' m' d' p'' m'' d'' k h i =
     let h1 = mul-le-mul_right d'' h in
     let i1 = mul-le-mul_right d i in
@@ -137,7 +142,8 @@ le_along p m d p' m' d' p'' m'' d'' k h i =
 -- the order is transitive
 pub ≤ℚ_trans : {a b c : ℚ} → a ≤ℚ b → b ≤ℚ c → a ≤ℚ c
 ≤ℚ_trans {a} {b} {c} h i =
-    rep_le (rep a) (rep c) (le_along (up a.num) (down a.num) a.den (up b.num) (down b.num) b.den (up c.num) (down c.num) c.den (den_pos b) (le_rep (rep a) (rep b) h) (le_rep (rep b) (rep c) i))
+    rep_le (rep a) (rep c) (le_along (up a.num) (down a.num) a.den (up b.num) (down b.num) b.den (up c.num) (down c.num) c.den (den_pos b)
+    (le_rep (rep a) (rep b) h) (le_rep (rep b) (rep c) i))
 
 -- two numbers, each at most the other, are equal
 pub ≤ℚ_antisymm : {a b : ℚ} → a ≤ℚ b → b ≤ℚ a → a ≡ b
@@ -270,7 +276,8 @@ invr_at a (pos (suc k)) e n =
     rep_eq (rep_mul r (rep_ratio (pos a.den) (suc k) (zero-lt-suc k))) rep_one (omega arith)
 invr_at a (negsuc k) e n =
     let r : IsRep a 0 (suc k) a.den = subst (λ z. IsRep a (up z) (down z) a.den) e (rep a) in
-    let s : IsRep (ratio (neg_ℤ (pos a.den)) (suc k)) 0 a.den (suc k) = rep_change 0 a.den (suc k) (rep_ratio (neg_ℤ (pos a.den)) (suc k) (zero-lt-suc k)) (zero-lt-suc k)
+    let s : IsRep (ratio (neg_ℤ (pos a.den)) (suc k)) 0 a.den (suc k) =
+    rep_change 0 a.den (suc k) (rep_ratio (neg_ℤ (pos a.den)) (suc k) (zero-lt-suc k)) (zero-lt-suc k)
     (let f = neg_is (pos a.den) in let goal : 0 * suc k + a.den * suc k ≡ a.den * suc k + 0 * suc k = omega arith in
     subst₂ (λ x y. x * suc k + a.den * suc k ≡ y * suc k + 0 * suc k) (sym f.0) (sym f.1) goal) in
     rep_eq (rep_mul r s) rep_one (omega arith)
@@ -289,7 +296,8 @@ no_zero_divisors a b e = by (ℚ_discrete a zero_ℚ)
   where
     by : Dec (a ≡ zero_ℚ) → (a ≡ zero_ℚ) ⊎ (b ≡ zero_ℚ)
     by (yes f) = inl f
-    by (no n) = inr (sym (*ℚ_idl b) ∙ ap (λ x. x *ℚ b) (sym (*ℚ_invl a n)) ∙ *ℚ_assoc (inv_ℚ a) a b ∙ ap (λ x. inv_ℚ a *ℚ x) e ∙ *ℚ-zero (inv_ℚ a))
+    by (no n) = inr (sym (*ℚ_idl b) ∙ ap (λ x. x *ℚ b) (sym (*ℚ_invl a n)) ∙ *ℚ_assoc (inv_ℚ a) a b ∙ ap (λ x. inv_ℚ a *ℚ x) e
+        ∙ *ℚ-zero (inv_ℚ a))
 
 -- a product of two numbers other than 0 isn't 0
 pub mul_ne_zero : (a b : ℚ) → a ≢ zero_ℚ → b ≢ zero_ℚ → a *ℚ b ≢ zero_ℚ
@@ -311,7 +319,8 @@ inv_pos {a} h =
         let y = le_rep (rep (inv_ℚ a)) rep_zero i in
         let u : down a.num ≤ up a.num = omega arith in
         let v : up (inv_ℚ a).num ≤ down (inv_ℚ a).num = omega arith in
-        rep_le (rep_mul (rep a) (rep (inv_ℚ a))) rep_zero (order (up a.num) (down a.num) (up (inv_ℚ a).num) (down (inv_ℚ a).num) (a.den * (inv_ℚ a).den) u v)
+        rep_le (rep_mul (rep a) (rep (inv_ℚ a))) rep_zero (order (up a.num) (down a.num) (up (inv_ℚ a).num) (down (inv_ℚ a).num)
+        (a.den * (inv_ℚ a).den) u v)
       where
         order : (p m p' m' d : ℕ) → m ≤ p → p' ≤ m' → (p * p' + m * m') * 1 + 0 * d ≤ (p * m' + m * p') * 1 + 0 * d
         order p m p' m' d u v =
@@ -320,7 +329,8 @@ inv_pos {a} h =
             subst₂ (λ x y. (x * p' + m * y) * 1 + 0 * d ≤ (x * y + m * p') * 1 + 0 * d) e f (omega arith)
 
 -- ---- floor
-floor_at : (z : ℤ) (d : ℕ) → 0 < d → (up (shr_z z d) * d + down z * 1 ≤ down (shr_z z d) * d + up z * 1) × (up z * 1 + down (shr_z z d) * d < down z * 1 + (up (shr_z z d) + 1) * d)
+floor_at : (z : ℤ) (d : ℕ) → 0 < d → (up (shr_z z d) * d + down z * 1 ≤ down (shr_z z d) * d + up z * 1)
+    × (up z * 1 + down (shr_z z d) * d < down z * 1 + (up (shr_z z d) + 1) * d)
 floor_at (pos n) d h = let e = div-add-mod' n d in let k = mod-lt n h in (omega arith, omega arith)
 floor_at (negsuc n) d h = let e = div-add-mod' n d in let k = mod-lt n h in (omega arith, omega arith)
 
@@ -334,7 +344,9 @@ pub lt_floor : (a : ℚ) → a <ℚ whole (floor a +ℤ pos 1)
 unfolding floor
 lt_floor a =
     let f = floor_at a.num a.den (den_pos a) in
-    let r : IsRep (whole (shr_z a.num a.den +ℤ pos 1)) (up (shr_z a.num a.den) + 1) (down (shr_z a.num a.den)) 1 = rep_change (up (shr_z a.num a.den) + 1) (down (shr_z a.num a.den)) 1 (rep_whole (shr_z a.num a.den +ℤ pos 1)) (zero-lt-suc 0) (omega (arith, sum_is_lem (shr_z a.num a.den) (pos 1))) in
+    let r : IsRep (whole (shr_z a.num a.den +ℤ pos 1)) (up (shr_z a.num a.den) + 1) (down (shr_z a.num a.den)) 1 =
+    rep_change (up (shr_z a.num a.den) + 1) (down (shr_z a.num a.den)) 1 (rep_whole (shr_z a.num a.den +ℤ pos 1)) (zero-lt-suc 0)
+    (omega (arith, sum_is_lem (shr_z a.num a.den) (pos 1))) in
     rep_lt (rep a) r (omega arith)
 
 -- an integer that is at most a number, and above it when 1 is added, is the number's floor

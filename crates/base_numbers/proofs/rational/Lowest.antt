@@ -1,5 +1,6 @@
 -- Sums and products of fractions in lowest terms, as code forms them: by greatest common divisors taken before the products.
-use Rattle.std.proofs.Common.{◌≡◌, ◌≢◌, ℕ, zero, suc, ◌+◌, ◌*◌, ◌/◌, ◌<◌, ◌⊎◌, inl, inr, ⊎_elim, T, [], ◌∷◌, ℤ, pos, negsuc, nat_abs, ◌+ℤ◌, ◌*ℤ◌, refl, ap, ap₂, sym, ◌∙◌, subst, arith, mul-pos, mul_comm, zero-lt-suc, lit<}
+use Rattle.std.proofs.Common.{◌≡◌, ◌≢◌, ℕ, zero, suc, ◌+◌, ◌*◌, ◌/◌, ◌<◌, ◌⊎◌, inl, inr, ⊎_elim, T, [], ◌∷◌, ℤ, pos, negsuc, nat_abs, ◌+ℤ◌}
+use Rattle.std.proofs.Common.{◌*ℤ◌, refl, ap, ap₂, sym, ◌∙◌, subst, arith, mul-pos, mul_comm, zero-lt-suc, lit<}
 use Prim.Native.Nat.{◌∣◌}
 use native.Mathlib.Nat.{dvd_refl, dvd_trans, dvd-mul_right, dvd-mul_left_of_dvd, dvd-add, dvd-add_iff_left, div-mul_cancel, mul-div_cancel}
 use Rattle.std.proofs.lemmas.Bool.{cases_lt}
@@ -10,7 +11,8 @@ use Rattle.base_numbers.proofs.rational.Reps.{is_reduced_out, rep_eq, rep_mul, r
 use Rattle.base_numbers.proofs.rational.Laws.{whole-add, whole-mul, whole-zero, mul_ne_zero, zero-*ℚ, *ℚ-zero}
 use Rattle.base_numbers.proofs.rational.Quotients.{whole_ne_zero, cancel_right}
 use Rattle.base_numbers.proofs.tactics.Linarith.{lin_eq, eq_times, reads_all}
-use Rattle.base_numbers.proofs.gcd.Coprimes.{Coprime, coprime_by, coprime_divisor, coprime_sym, coprime_of_dvd, coprime_divides, coprime_mul, coprime_mul_right, coprime_quotients}
+use Rattle.base_numbers.proofs.gcd.Coprimes.{Coprime, coprime_by, coprime_divisor, coprime_sym, coprime_of_dvd, coprime_divides}
+use Rattle.base_numbers.proofs.gcd.Coprimes.{coprime_mul, coprime_mul_right, coprime_quotients}
 
 -- the number n as a rational number
 abbrev pub nat : ℕ → ℚ
@@ -34,16 +36,23 @@ ratio_is : (n : ℤ) (d : ℕ) (x : ℚ) → 0 < d → x *ℚ nat d ≡ whole n 
 ratio_is n d x h e = cancel_right (nat d) (nat_ne_zero h) (ratio-times n d h ∙ sym e)
 
 -- a product, with g out of a and d, and h out of c and b
-product_value : (a c : ℤ) (b d g h : ℕ) → 0 < b → 0 < d → 0 < g → 0 < h → ratio (a *ℤ c) (b * d) ≡ ratio (a *ℤ pos g) (b * h) *ℚ ratio (c *ℤ pos h) (d * g)
+product_value : (a c : ℤ) (b d g h : ℕ) → 0 < b → 0 < d → 0 < g → 0 < h
+    → ratio (a *ℤ c) (b * d) ≡ ratio (a *ℤ pos g) (b * h) *ℚ ratio (c *ℤ pos h) (d * g)
 product_value a c b d g h hb hd hg hh =
     let x = ratio (a *ℤ c) (b * d) in
     let p = ratio (a *ℤ pos g) (b * h) in
     let q = ratio (c *ℤ pos h) (d * g) in
-    let ex : x *ℚ (nat b *ℚ nat d) ≡ whole a *ℚ whole c = ap (λ t. x *ℚ t) (sym (nat-mul b d)) ∙ ratio-times (a *ℤ c) (b * d) (mul-pos hb hd) ∙ whole-mul a c in
-    let ep : p *ℚ (nat b *ℚ nat h) ≡ whole a *ℚ nat g = ap (λ t. p *ℚ t) (sym (nat-mul b h)) ∙ ratio-times (a *ℤ pos g) (b * h) (mul-pos hb hh) ∙ whole-mul a (pos g) in
-    let eq' : q *ℚ (nat d *ℚ nat g) ≡ whole c *ℚ nat h = ap (λ t. q *ℚ t) (sym (nat-mul d g)) ∙ ratio-times (c *ℤ pos h) (d * g) (mul-pos hd hg) ∙ whole-mul c (pos h) in
-    cancel_right (nat b *ℚ nat h *ℚ (nat d *ℚ nat g)) (mul_ne_zero (nat b *ℚ nat h) (nat d *ℚ nat g) (mul_ne_zero (nat b) (nat h) (nat_ne_zero hb) (nat_ne_zero hh)) (mul_ne_zero (nat d) (nat g) (nat_ne_zero hd) (nat_ne_zero hg)))
-    (lin_eq (x ∷ p ∷ q ∷ whole a ∷ whole c ∷ nat b ∷ nat d ∷ nat g ∷ nat h ∷ []) (eq_times (nat g *ℚ nat h) ex ∷ eq_times (q *ℚ nat d *ℚ nat g) ep ∷ eq_times (whole a *ℚ nat g) eq' ∷ []) (search reads_all depth 60 fits 9000) tt)
+    let ex : x *ℚ (nat b *ℚ nat d) ≡ whole a *ℚ whole c = ap (λ t. x *ℚ t) (sym (nat-mul b d))
+    ∙ ratio-times (a *ℤ c) (b * d) (mul-pos hb hd) ∙ whole-mul a c in
+    let ep : p *ℚ (nat b *ℚ nat h) ≡ whole a *ℚ nat g = ap (λ t. p *ℚ t) (sym (nat-mul b h))
+    ∙ ratio-times (a *ℤ pos g) (b * h) (mul-pos hb hh) ∙ whole-mul a (pos g) in
+    let eq' : q *ℚ (nat d *ℚ nat g) ≡ whole c *ℚ nat h = ap (λ t. q *ℚ t) (sym (nat-mul d g))
+    ∙ ratio-times (c *ℤ pos h) (d * g) (mul-pos hd hg) ∙ whole-mul c (pos h) in
+    cancel_right (nat b *ℚ nat h *ℚ (nat d *ℚ nat g)) (mul_ne_zero (nat b *ℚ nat h) (nat d *ℚ nat g)
+    (mul_ne_zero (nat b) (nat h) (nat_ne_zero hb) (nat_ne_zero hh)) (mul_ne_zero (nat d) (nat g) (nat_ne_zero hd) (nat_ne_zero hg)))
+    (lin_eq (x ∷ p ∷ q ∷ whole a ∷ whole c ∷ nat b ∷ nat d ∷ nat g ∷ nat h ∷ [])
+    (eq_times (nat g *ℚ nat h) ex ∷ eq_times (q *ℚ nat d *ℚ nat g) ep ∷ eq_times (whole a *ℚ nat g) eq' ∷ [])
+    (search reads_all depth 60 fits 9000) tt)
 
 -- the numerator and the denominator of a pair in lowest terms have no common divisor
 reduced_coprime : (n : ℤ) (d : ℕ) → T (is_reduced n d) → Coprime (nat_abs n) d
@@ -74,7 +83,8 @@ divides_by : (x g w : ℕ) → x * g ≡ w → x ∣ w
 divides_by x g w e = subst (λ y. x ∣ y) e (dvd-mul_right x g)
 
 -- the product of A / B and C / D, where g divides A and D, and h divides C and B
-module _ (A C a c : ℤ) (B D b d g h : ℕ) (ea : a *ℤ pos g ≡ A) (ec : c *ℤ pos h ≡ C) (eb : b * h ≡ B) (ed : d * g ≡ D) (ra : T (is_reduced A B)) (rc : T (is_reduced C D)) where
+module _ (A C a c : ℤ) (B D b d g h : ℕ) (ea : a *ℤ pos g ≡ A) (ec : c *ℤ pos h ≡ C) (eb : b * h ≡ B) (ed : d * g ≡ D)
+    (ra : T (is_reduced A B)) (rc : T (is_reduced C D)) where
   product_dens : (0 < b) × (0 < h) × (0 < d) × (0 < g)
   product_dens =
       let hB = reduced_den A B ra in
@@ -95,13 +105,17 @@ module _ (A C a c : ℤ) (B D b d g h : ℕ) (ea : a *ℤ pos g ≡ A) (ec : c *
       let cb = coprime_quotients (nat_abs C) B (nat_abs c) b h hB eh (abs_times c h C ec) eb in
       let ab = coprime_of_dvd (nat_abs a) b (reduced_coprime A B ra) (abs_divides a g A ea) (divides_by b h B eb) in
       let cd = coprime_of_dvd (nat_abs c) d (reduced_coprime C D rc) (abs_divides c h C ec) (divides_by d g D ed) in
-      reduced_from (a *ℤ c) (b * d) (mul-pos p.0 p.2) (subst (λ x. Coprime x (b * d)) (sym (unsigned_abs-mul a c)) (coprime_mul (coprime_mul_right ab ad) (coprime_mul_right cb cd)))
+      reduced_from (a *ℤ c) (b * d) (mul-pos p.0 p.2) (subst (λ x. Coprime x (b * d)) (sym (unsigned_abs-mul a c))
+      (coprime_mul (coprime_mul_right ab ad) (coprime_mul_right cb cd)))
 
 -- how the sizes of two integers and of their sum go together
-abs_cases : (x y : ℤ) → (nat_abs (x +ℤ y) ≡ nat_abs x + nat_abs y) ⊎ ((nat_abs x ≡ nat_abs y + nat_abs (x +ℤ y)) ⊎ (nat_abs y ≡ nat_abs x + nat_abs (x +ℤ y)))
+abs_cases : (x y : ℤ) → (nat_abs (x +ℤ y) ≡ nat_abs x + nat_abs y) ⊎ ((nat_abs x ≡ nat_abs y + nat_abs (x +ℤ y))
+    ⊎ (nat_abs y ≡ nat_abs x + nat_abs (x +ℤ y)))
 abs_cases (pos m) (pos n) = inl refl
-abs_cases (pos m) (negsuc n) = ⊎_elim (λ l. inr (inr (omega (arith, ints, l)))) (λ l. inr (inl (omega (arith, ints, l)))) (cases_lt m (suc n))
-abs_cases (negsuc m) (pos n) = ⊎_elim (λ l. inr (inr (omega (arith, ints, l)))) (λ l. inr (inl (omega (arith, ints, l)))) (cases_lt (suc m) n)
+abs_cases (pos m) (negsuc n) = ⊎_elim (λ l. inr (inr (omega (arith, ints, l)))) (λ l. inr (inl (omega (arith, ints, l))))
+    (cases_lt m (suc n))
+abs_cases (negsuc m) (pos n) = ⊎_elim (λ l. inr (inr (omega (arith, ints, l)))) (λ l. inr (inl (omega (arith, ints, l))))
+    (cases_lt (suc m) n)
 abs_cases (negsuc m) (negsuc n) = inl (omega (arith, ints))
 
 -- what divides a sum and one part divides the other
@@ -121,12 +135,20 @@ sum_coprime a c B e f h i k =
     coprime_divisor k p t w)
 
 -- the sum of a / B and c / D, where g is the greatest common divisor of B and D, and h that of the sum over the common denominator and g
-module _ (a c n t : ℤ) (B D e f k g h : ℕ) (ra : T (is_reduced a B)) (rc : T (is_reduced c D)) (eg : g ≡ gcd B D) (ee : e * g ≡ B) (ef : f * g ≡ D) (et : t ≡ a *ℤ pos f +ℤ c *ℤ pos e) (eh : h ≡ gcd (nat_abs t) g) (en : n *ℤ pos h ≡ t) (ek : k * h ≡ D) where
+module _ (a c n t : ℤ) (B D e f k g h : ℕ) (ra : T (is_reduced a B)) (rc : T (is_reduced c D)) (eg : g ≡ gcd B D) (ee : e * g ≡ B)
+    (ef : f * g ≡ D) (et : t ≡ a *ℤ pos f +ℤ c *ℤ pos e) (eh : h ≡ gcd (nat_abs t) g) (en : n *ℤ pos h ≡ t) (ek : k * h ≡ D) where
   sum_dens : (0 < B) × (0 < D) × (0 < e) × (0 < g) × (0 < f) × (0 < k) × (0 < h)
   sum_dens =
       let hB = reduced_den a B ra in
-      let hD = reduced_den c D rc in
-      (hB, hD, factor_left e g B hB ee, factor_right e g B hB ee, factor_left f g D hD ef, factor_left k h D hD ek, factor_right k h D hD ek)
+      let hD = reduced_den c D rc in (
+        hB,
+        hD,
+        factor_left e g B hB ee,
+        factor_right e g B hB ee,
+        factor_left f g D hD ef,
+        factor_left k h D hD ek,
+        factor_right k h D hD ek,
+      )
 
   -- the numerator n over the denominator e k is the sum of the two fractions
   pub sum_is : ratio n (e * k) ≡ ratio a B +ℚ ratio c D
@@ -138,13 +160,16 @@ module _ (a c n t : ℤ) (B D e f k g h : ℕ) (ra : T (is_reduced a B)) (rc : T
       let ex : x *ℚ (nat e *ℚ nat k) ≡ whole n = ap (λ t. x *ℚ t) (sym (nat-mul e k)) ∙ ratio-times n (e * k) (mul-pos m.2 m.5) in
       let ep : p *ℚ nat B ≡ whole a = ratio-times a B m.0 in
       let eq' : q *ℚ nat D ≡ whole c = ratio-times c D m.1 in
-      let es : whole n *ℚ nat h ≡ whole a *ℚ nat f +ℚ whole c *ℚ nat e = sym (whole-mul n (pos h)) ∙ ap whole (en ∙ et) ∙ whole-add (a *ℤ pos f) (c *ℤ pos e) ∙ ap₂ (λ s t. s +ℚ t) (whole-mul a (pos f)) (whole-mul c (pos e)) in
+      let es : whole n *ℚ nat h ≡ whole a *ℚ nat f +ℚ whole c *ℚ nat e =
+      sym (whole-mul n (pos h)) ∙ ap whole (en ∙ et) ∙ whole-add (a *ℤ pos f) (c *ℤ pos e)
+      ∙ ap₂ (λ s t. s +ℚ t) (whole-mul a (pos f)) (whole-mul c (pos e)) in
       let eB : nat e *ℚ nat g ≡ nat B = sym (nat-mul e g) ∙ ap nat ee in
       let eD : nat f *ℚ nat g ≡ nat D = sym (nat-mul f g) ∙ ap nat ef in
       let eK : nat k *ℚ nat h ≡ nat D = sym (nat-mul k h) ∙ ap nat ek in
       cancel_right (nat B *ℚ nat D) (mul_ne_zero (nat B) (nat D) (nat_ne_zero m.0) (nat_ne_zero m.1))
       (lin_eq (x ∷ p ∷ q ∷ whole a ∷ whole c ∷ whole n ∷ nat B ∷ nat D ∷ nat e ∷ nat f ∷ nat g ∷ nat h ∷ nat k ∷ [])
-      (eq_times (nat g *ℚ nat h) ex ∷ eq_times (nat g) es ∷ eq_times (whole a) eD ∷ eq_times (whole c) eB ∷ eq_times (nat D) ep ∷ eq_times (nat B) eq' ∷ eq_times (x *ℚ nat D) eB ∷ eq_times (x *ℚ nat e *ℚ nat g) eK ∷ [])
+      (eq_times (nat g *ℚ nat h) ex ∷ eq_times (nat g) es ∷ eq_times (whole a) eD ∷ eq_times (whole c) eB ∷ eq_times (nat D) ep
+      ∷ eq_times (nat B) eq' ∷ eq_times (x *ℚ nat D) eB ∷ eq_times (x *ℚ nat e *ℚ nat g) eK ∷ [])
       (search reads_all depth 60 fits 20000)
       tt)
 
@@ -156,7 +181,8 @@ module _ (a c n t : ℤ) (B D e f k g h : ℕ) (ra : T (is_reduced a B)) (rc : T
       let cc = reduced_coprime c D rc in
       let ef' : Coprime e f = coprime_quotients B D e f g m.1 eg ee ef in
       let te : Coprime (nat_abs t) e = subst (λ z. Coprime (nat_abs z) e) (sym et) (sum_coprime a c B e f ca (divides_by e g B ee) ef') in
-      let tf : Coprime (nat_abs t) f = subst (λ z. Coprime (nat_abs z) f) (sym (et ∙ swap (a *ℤ pos f) (c *ℤ pos e))) (sum_coprime c a D f e cc (divides_by f g D ef) (coprime_sym ef')) in
+      let tf : Coprime (nat_abs t) f = subst (λ z. Coprime (nat_abs z) f) (sym (et ∙ swap (a *ℤ pos f) (c *ℤ pos e)))
+      (sum_coprime c a D f e cc (divides_by f g D ef) (coprime_sym ef')) in
       let j = g / h in
       let ej : j * h ≡ g = div-mul_cancel h (subst (λ z. z ∣ g) (sym eh) (gcd_is (nat_abs t) g).1) in
       let nt = abs_divides n h t en in
@@ -164,7 +190,8 @@ module _ (a c n t : ℤ) (B D e f k g h : ℕ) (ra : T (is_reduced a B)) (rc : T
       let nf = coprime_of_dvd (nat_abs n) f tf nt (dvd_refl f) in
       let nj = coprime_quotients (nat_abs t) g (nat_abs n) j h m.3 eh (abs_times n h t en) ej in
       let kj : k ≡ f * j = cancel k (f * j) h m.6 (ek ∙ sym ef ∙ ap (λ z. f * z) (sym ej) ∙ omega arith) in
-      reduced_from n (e * k) (mul-pos m.2 m.5) (coprime_mul_right ne (subst (λ z. Coprime (nat_abs n) z) (sym kj) (coprime_mul_right nf nj)))
+      reduced_from n (e * k) (mul-pos m.2 m.5) (coprime_mul_right ne (subst (λ z. Coprime (nat_abs n) z) (sym kj)
+      (coprime_mul_right nf nj)))
     where
       swap : (x y : ℤ) → x +ℤ y ≡ y +ℤ x
       swap x y = omega (arith, ints)
@@ -187,13 +214,15 @@ module _ (n m : ℤ) (d e g : ℕ) (hd : 0 < d) (eg : g ≡ gcd (nat_abs n) d) (
 
   -- the quotients of n and d by g are in lowest terms
   pub fraction_reduced : T (is_reduced m e)
-  fraction_reduced = reduced_from m e (factor_left e g d hd ee) (coprime_quotients (nat_abs n) d (nat_abs m) e g hd eg (abs_times m g n em) ee)
+  fraction_reduced = reduced_from m e (factor_left e g d hd ee) (coprime_quotients (nat_abs n) d (nat_abs m) e g hd eg (abs_times m g n em)
+      ee)
 
 ratio-zero : (d : ℕ) → 0 < d → ratio (pos 0) d ≡ zero_ℚ
 ratio-zero d h = ratio_is (pos 0) d zero_ℚ h (zero-*ℚ (nat d) ∙ sym whole-zero)
 
 -- a product of two fractions one of which has the numerator 0 is 0 / 1
-pub product_zero : (a c : ℤ) (B D : ℕ) → T (is_reduced a B) → T (is_reduced c D) → (a ≡ pos 0) ⊎ (c ≡ pos 0) → ratio (pos 0) 1 ≡ ratio a B *ℚ ratio c D
+pub product_zero : (a c : ℤ) (B D : ℕ) → T (is_reduced a B) → T (is_reduced c D) → (a ≡ pos 0) ⊎ (c ≡ pos 0)
+    → ratio (pos 0) 1 ≡ ratio a B *ℚ ratio c D
 product_zero a c B D ra rc o =
     ratio-zero 1 (lit< tt)
     ∙ ⊎_elim

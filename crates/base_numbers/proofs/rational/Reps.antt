@@ -1,5 +1,8 @@
--- A rational number as (p - m) / d, with naturals p, m and d: `IsRep q p m d`. Equations and orders of rational numbers become those of naturals, which `omega` proves.
-use Rattle.std.proofs.Common.{◌≡◌, ℕ, zero, suc, ◌+◌, ◌*◌, ◌/◌, ◌<◌, ◌≤◌, T, eqb, ltb, ℤ, pos, negsuc, neg_ℤ, nat_abs, ◌+ℤ◌, ◌*ℤ◌, refl, ap, sym, ◌∙◌, subst, subst₂, arith, ltb→lt, eqb→eq, mul-le-mul_right, le_of_mul-le-mul_right, le_antisymm, le_of_eq, mul-pos}
+-- A rational number as (p - m) / d, with naturals p, m and d: `IsRep q p m d`. Equations and orders of rational numbers become those of
+-- naturals, which `omega` proves.
+use Rattle.std.proofs.Common.{◌≡◌, ℕ, zero, suc, ◌+◌, ◌*◌, ◌/◌, ◌<◌, ◌≤◌, T, eqb, ltb, ℤ, pos, negsuc, neg_ℤ, nat_abs, ◌+ℤ◌, ◌*ℤ◌, refl, ap}
+use Rattle.std.proofs.Common.{sym, ◌∙◌, subst, subst₂, arith, ltb→lt, eqb→eq, mul-le-mul_right, le_of_mul-le-mul_right, le_antisymm}
+use Rattle.std.proofs.Common.{le_of_eq, mul-pos}
 use Prim.Native.Nat.{◌∣◌}
 use lib.Dec.{T_prop}
 use borrow.Author.Differences.{up, down, ints, same_in, le_in, lt_in, le_T, lt_T, product_is, neg_is}
@@ -27,7 +30,8 @@ den_coprime q = (is_reduced_out q.num q.den q.reduced).1
 same_parts : (q r : ℚ) → q.num ≡ r.num → q.den ≡ r.den → q ≡ r
 same_parts q r e f =
     let P : ℤ → ℕ → Type 0 = λ n d. (o : T (is_reduced n d)) → let x : ℚ = record { num = n; den = d; reduced = o } in x ≡ r in
-    let h : P r.num r.den = λ o. ap (λ (t : T (is_reduced r.num r.den)). let x : ℚ = record { num = r.num; den = r.den; reduced = t } in x) (T_prop (is_reduced r.num r.den) o r.reduced) in
+    let h : P r.num r.den = λ o. ap (λ (t : T (is_reduced r.num r.den)). let x : ℚ = record { num = r.num; den = r.den; reduced = t } in x)
+    (T_prop (is_reduced r.num r.den) o r.reduced) in
     subst₂ P (sym e) (sym f) h q.reduced
 
 abs-out : (z : ℤ) (k : ℕ) → nat_abs (z *ℤ pos k) ≡ nat_abs z * k
@@ -94,14 +98,16 @@ module _ (A B D p m d A' B' D' p' m' d' : ℕ) (h : A * d + m * D ≡ B * d + p 
       let r : (p * d' + m' * d) * (D * D') ≤ (m * d' + p' * d) * (D * D') = omega arith in
       le_of_mul-le-mul_right r k
 
-  sum_in : (u v : ℕ) → u + (B * D' + B' * D) ≡ v + (A * D' + A' * D) → u * (d * d') + (m * d' + m' * d) * (D * D') ≡ v * (d * d') + (p * d' + p' * d) * (D * D')
+  sum_in : (u v : ℕ) → u + (B * D' + B' * D) ≡ v + (A * D' + A' * D) →
+      u * (d * d') + (m * d' + m' * d) * (D * D') ≡ v * (d * d') + (p * d' + p' * d) * (D * D')
   sum_in u v s =
       let h1 = ap (λ x. x * (D' * d')) h in
       let h2 = ap (λ x. x * (D * d)) h' in
       let h3 = ap (λ x. x * (d * d')) s in
       omega arith
 
-  product_in : (u v : ℕ) → u ≡ A * A' + B * B' → v ≡ A * B' + B * A' → u * (d * d') + (p * m' + m * p') * (D * D') ≡ v * (d * d') + (p * p' + m * m') * (D * D')
+  product_in : (u v : ℕ) → u ≡ A * A' + B * B' → v ≡ A * B' + B * A' →
+      u * (d * d') + (p * m' + m * p') * (D * D') ≡ v * (d * d') + (p * p' + m * m') * (D * D')
   product_in u v s t =
       let h1 = ap (λ x. x * (A' * d')) h in
       let h2 = ap (λ x. x * (B' * d')) h in
@@ -111,7 +117,8 @@ module _ (A B D p m d A' B' D' p' m' d' : ℕ) (h : A * d + m * D ≡ B * d + p 
       let t1 = ap (λ x. x * (d * d')) t in
       omega arith
 
-change_in : (A B D p m d p' m' d' : ℕ) → 0 < d → A * d + m * D ≡ B * d + p * D → p * d' + m' * d ≡ m * d' + p' * d → A * d' + m' * D ≡ B * d' + p' * D
+change_in : (A B D p m d p' m' d' : ℕ) → 0 < d → A * d + m * D ≡ B * d + p * D → p * d' + m' * d ≡ m * d' + p' * d
+    → A * d' + m' * D ≡ B * d' + p' * D
 change_in A B D p m d p' m' d' k h e =
     let h1 = ap (λ x. x * d') h in
     let h2 = ap (λ x. x * D) e in
@@ -154,7 +161,9 @@ module _ {a b : ℚ} {p m d p' m' d' : ℕ} (r : IsRep a p m d) (r' : IsRep b p'
   pub rep_lt : p * d' + m' * d < m * d' + p' * d → a <ℚ b
   unfolding lt_ℚ
   rep_lt e =
-      let c : up b.num * a.den + down a.num * b.den ≤ down b.num * a.den + up a.num * b.den → ⊥ = λ h. let o = le_out' (up b.num) (down b.num) b.den p' m' d' (up a.num) (down a.num) a.den p m d r'.same r.same (mul-pos (den_pos b) (den_pos a)) h in omega arith in
+      let c : up b.num * a.den + down a.num * b.den ≤ down b.num * a.den + up a.num * b.den → ⊥ =
+      λ h. let o = le_out' (up b.num) (down b.num) b.den p' m' d' (up a.num) (down a.num) a.den p m d r'.same r.same
+      (mul-pos (den_pos b) (den_pos a)) h in omega arith in
       record { lt = lt_in (a.num *ℤ pos b.den) (b.num *ℤ pos a.den) (omega (arith, product_is)) }
 
   -- where a number is below another, its representative is below the other's across
@@ -162,11 +171,13 @@ module _ {a b : ℚ} {p m d p' m' d' : ℕ} (r : IsRep a p m d) (r' : IsRep b p'
   unfolding lt_ℚ
   lt_rep h =
       let c = lt_T (a.num *ℤ pos b.den) (b.num *ℤ pos a.den) h.lt in
-      let n : p' * d + m * d' ≤ m' * d + p * d' → ⊥ = λ i. let o = le_in' (up b.num) (down b.num) b.den p' m' d' (up a.num) (down a.num) a.den p m d r'.same r.same (mul-pos r'.pos_den r.pos_den) i in omega (arith, product_is) in
+      let n : p' * d + m * d' ≤ m' * d + p * d' → ⊥ = λ i. let o = le_in' (up b.num) (down b.num) b.den p' m' d' (up a.num) (down a.num)
+      a.den p m d r'.same r.same (mul-pos r'.pos_den r.pos_den) i in omega (arith, product_is) in
       omega arith
 
 -- ---- the representatives of what the operations give
-ratio_in : (n : ℤ) (g d : ℕ) → nat_abs n / g * g ≡ nat_abs n → d / g * g ≡ d → up (divide n g) * d + down n * (d / g) ≡ down (divide n g) * d + up n * (d / g)
+ratio_in : (n : ℤ) (g d : ℕ) → nat_abs n / g * g ≡ nat_abs n → d / g * g ≡ d
+    → up (divide n g) * d + down n * (d / g) ≡ down (divide n g) * d + up n * (d / g)
 ratio_in (pos a) g d e f = let e1 = ap (λ x. x * (d / g)) e in let f1 = ap (λ x. (a / g) * x) f in omega arith
 ratio_in (negsuc a) g d e f =
     let e0 : suc a / g * g ≡ suc a = e in
@@ -206,8 +217,10 @@ module _ {a b : ℚ} {p m d p' m' d' : ℕ} (r : IsRep a p m d) (r' : IsRep b p'
   unfolding ◌+ℚ◌
   rep_add =
       let n = a.num *ℤ pos b.den +ℤ b.num *ℤ pos a.den in
-      let s = sum_in (up a.num) (down a.num) a.den p m d (up b.num) (down b.num) b.den p' m' d' r.same r'.same (up n) (down n) (omega (arith, ints)) in
-      rep_change (p * d' + p' * d) (m * d' + m' * d) (d * d') (rep_ratio n (a.den * b.den) (mul-pos (den_pos a) (den_pos b))) (mul-pos r.pos_den r'.pos_den) s
+      let s = sum_in (up a.num) (down a.num) a.den p m d (up b.num) (down b.num) b.den p' m' d' r.same r'.same (up n) (down n)
+      (omega (arith, ints)) in
+      rep_change (p * d' + p' * d) (m * d' + m' * d) (d * d') (rep_ratio n (a.den * b.den) (mul-pos (den_pos a) (den_pos b)))
+      (mul-pos r.pos_den r'.pos_den) s
 
   -- a product is represented by the products of the parts over the product of the denominators
   pub rep_mul : IsRep (a *ℚ b) (p * p' + m * m') (p * m' + m * p') (d * d')
@@ -215,8 +228,10 @@ module _ {a b : ℚ} {p m d p' m' d' : ℕ} (r : IsRep a p m d) (r' : IsRep b p'
   rep_mul =
       let n = a.num *ℤ b.num in
       let is = product_is a.num b.num in
-      let s = product_in (up a.num) (down a.num) a.den p m d (up b.num) (down b.num) b.den p' m' d' r.same r'.same (up n) (down n) is.0 is.1 in
-      rep_change (p * p' + m * m') (p * m' + m * p') (d * d') (rep_ratio n (a.den * b.den) (mul-pos (den_pos a) (den_pos b))) (mul-pos r.pos_den r'.pos_den) s
+      let s = product_in (up a.num) (down a.num) a.den p m d (up b.num) (down b.num) b.den p' m' d' r.same r'.same (up n) (down n) is.0
+      is.1 in
+      rep_change (p * p' + m * m') (p * m' + m * p') (d * d') (rep_ratio n (a.den * b.den) (mul-pos (den_pos a) (den_pos b)))
+      (mul-pos r.pos_den r'.pos_den) s
 
 -- a negation is represented with the two parts of the numerator exchanged
 pub rep_neg : {a : ℚ} {p m d : ℕ} → IsRep a p m d → IsRep (neg_ℚ a) m p d

@@ -1,12 +1,20 @@
--- Linear inequalities of rational numbers with no certificate: antt computes the multipliers by the simplex method, and a theorem checks them.
+-- Linear inequalities of rational numbers with no certificate: antt computes the multipliers by the simplex method, and a theorem checks
+-- them.
 --     lin_le ρ facts (search reads_all depth 40) tt        a ≤ b from the list of facts
 --     lin_lt, lin_eq, lin_false                            a < b, a ≡ b, ⊥
--- A fact is `le h`, `lt h`, `eq e` of a hypothesis, or `ge0 h`, `gt0 h` of a proof that something is at least or above 0, such as a product of two gaps. Products of atoms count as unknowns of their own.
-use Rattle.std.proofs.Common.{◌≡◌, ℕ, zero, suc, ◌&&◌, Bool, true, false, T, List, [], ◌∷◌, ℤ, pos, negsuc, neg_ℤ, refl, ap, sym, ◌∙◌, subst, arith}
+-- A fact is `le h`, `lt h`, `eq e` of a hypothesis, or `ge0 h`, `gt0 h` of a proof that something is at least or above 0, such as a product
+-- of two gaps. Products of atoms count as unknowns of their own.
+use Rattle.std.proofs.Common.{◌≡◌, ℕ, zero, suc, ◌&&◌, Bool, true, false, T, List, [], ◌∷◌, ℤ, pos, negsuc, neg_ℤ, refl, ap, sym, ◌∙◌}
+use Rattle.std.proofs.Common.{subst, arith}
 use borrow.Author.Differences.{ints}
 use Rattle.base_numbers.specs.Rational.{ℚ, whole, zero_ℚ, one_ℚ, ◌+ℚ◌, ◌*ℚ◌, neg_ℚ, ◌-ℚ◌, ◌≤ℚ◌, ◌<ℚ◌}
-use Rattle.base_numbers.proofs.rational.Laws.{+ℚ_comm, +ℚ_idr, +ℚ_idl, *ℚ_idr, *ℚ-zero, sub_ℚ_is, whole-zero, whole-neg, ≤ℚ_antisymm, le_of_lt_ℚ, lt_of_not_le_ℚ, le_of_not_lt_ℚ, not_le_of_lt, whole_lt, <ℚ_irrefl, lt_of_lt_of_le_ℚ, *ℚ_pos, *ℚ_nonneg}
-use Rattle.base_numbers.proofs.tactics.Ring.{Reads, read_add, read_sub, read_mul, read_neg, read_div, read_zero, read_one, read_var, read_whole, numeral, here, there, expr, Term, term, order, put, plus, scale, poly, all_zero, is_zero, clean, same_from_zero, value, mono, eval, value-put, value-plus, value-scale, value-all_zero, value-poly, eval-expr}
+use Rattle.base_numbers.proofs.rational.Laws.{+ℚ_comm, +ℚ_idr, +ℚ_idl, *ℚ_idr, *ℚ-zero, sub_ℚ_is, whole-zero, whole-neg, ≤ℚ_antisymm}
+use Rattle.base_numbers.proofs.rational.Laws.{le_of_lt_ℚ, lt_of_not_le_ℚ, le_of_not_lt_ℚ, not_le_of_lt, whole_lt, <ℚ_irrefl}
+use Rattle.base_numbers.proofs.rational.Laws.{lt_of_lt_of_le_ℚ, *ℚ_pos, *ℚ_nonneg}
+use Rattle.base_numbers.proofs.tactics.Ring.{Reads, read_add, read_sub, read_mul, read_neg, read_div, read_zero, read_one, read_var}
+use Rattle.base_numbers.proofs.tactics.Ring.{read_whole, numeral, here, there, expr, Term, term, order, put, plus, scale, poly, all_zero}
+use Rattle.base_numbers.proofs.tactics.Ring.{is_zero, clean, same_from_zero, value, mono, eval, value-put, value-plus, value-scale}
+use Rattle.base_numbers.proofs.tactics.Ring.{value-all_zero, value-poly, eval-expr}
 use Rattle.base_numbers.proofs.tactics.Rows.{Kind, is_eq, is_ge, is_gt, Row, row, constant}
 use Rattle.base_numbers.proofs.tactics.Simplex.{multipliers}
 use Rattle.base_numbers.proofs.tactics.Linear.{gap, gap_lt, gap_zero, times_zero, ◌⊕◌, lt_plus, number}
@@ -47,7 +55,22 @@ pub data ReadsAll (ρ : List ℚ) : List ℚ → Type 0 where
   read_none : ReadsAll ρ []
   read_more : {s : ℚ} {ss : List ℚ} → Reads ρ s → ReadsAll ρ ss → ReadsAll ρ (s ∷ ss)
 
-pub ruleset reads_all = (read_none, read_more, read_add, read_sub, read_mul, read_neg, read_div, read_zero, read_one, read_var, read_whole, numeral, here, there)
+pub ruleset reads_all = (
+  read_none,
+  read_more,
+  read_add,
+  read_sub,
+  read_mul,
+  read_neg,
+  read_div,
+  read_zero,
+  read_one,
+  read_var,
+  read_whole,
+  numeral,
+  here,
+  there,
+)
 
 abbrev pub rows : {ρ ss : List ℚ} → ReadsAll ρ ss → List Kind → List Row
 rows read_none ks = []
@@ -96,9 +119,12 @@ module _ (ρ : List ℚ) where
   AllHold (r ∷ rs) = RowHolds r × AllHold rs
 
   scaled : (n : ℕ) (k : Kind) (p : List Term) → Holds k (value ρ p) → Holds k (value ρ (scale (pos (suc n)) [] p))
-  scaled n is_eq p h = value-scale ρ (pos (suc n)) [] p ∙ ap (λ x. (whole (pos (suc n)) *ℚ one_ℚ) *ℚ x) h ∙ *ℚ-zero (whole (pos (suc n)) *ℚ one_ℚ)
-  scaled n is_ge p h = subst (λ x. zero_ℚ ≤ℚ x) (sym (value-scale ρ (pos (suc n)) [] p ∙ ap (λ x. x *ℚ value ρ p) (*ℚ_idr (whole (pos (suc n)))))) (*ℚ_nonneg (number (suc n)) h)
-  scaled n is_gt p h = subst (λ x. zero_ℚ <ℚ x) (sym (value-scale ρ (pos (suc n)) [] p ∙ ap (λ x. x *ℚ value ρ p) (*ℚ_idr (whole (pos (suc n)))))) (*ℚ_pos positive h)
+  scaled n is_eq p h = value-scale ρ (pos (suc n)) [] p ∙ ap (λ x. (whole (pos (suc n)) *ℚ one_ℚ) *ℚ x) h
+      ∙ *ℚ-zero (whole (pos (suc n)) *ℚ one_ℚ)
+  scaled n is_ge p h = subst (λ x. zero_ℚ ≤ℚ x) (sym (value-scale ρ (pos (suc n)) [] p
+      ∙ ap (λ x. x *ℚ value ρ p) (*ℚ_idr (whole (pos (suc n)))))) (*ℚ_nonneg (number (suc n)) h)
+  scaled n is_gt p h = subst (λ x. zero_ℚ <ℚ x) (sym (value-scale ρ (pos (suc n)) [] p
+      ∙ ap (λ x. x *ℚ value ρ p) (*ℚ_idr (whole (pos (suc n)))))) (*ℚ_pos positive h)
     where
       positive : zero_ℚ <ℚ whole (pos (suc n))
       positive = subst (λ x. x <ℚ whole (pos (suc n))) whole-zero (whole_lt (pos 0) (pos (suc n)) (omega (arith, ints)))
@@ -118,10 +144,12 @@ module _ (ρ : List ℚ) where
   add_row-holds : (l : ℤ) (k : Kind) (p : List Term) (r : Row) → Holds k (value ρ p) → RowHolds r → RowHolds (add_row l k p r)
   add_row-holds (pos zero) k p r h i = i
   add_row-holds (pos (suc n)) k p (row k' p') h i =
-      subst (λ x. Holds (join k k') x) (sym (value-plus ρ (scale (pos (suc n)) [] p) p')) (joined k k' (value ρ (scale (pos (suc n)) [] p)) (value ρ p') (scaled n k p h) i)
+      subst (λ x. Holds (join k k') x) (sym (value-plus ρ (scale (pos (suc n)) [] p) p'))
+      (joined k k' (value ρ (scale (pos (suc n)) [] p)) (value ρ p') (scaled n k p h) i)
   add_row-holds (negsuc n) is_eq p (row k' p') h i =
       subst (λ x. Holds k' x) (sym (value-plus ρ (scale (negsuc n) [] p) p'))
-      (joined is_eq k' (value ρ (scale (negsuc n) [] p)) (value ρ p') (value-scale ρ (negsuc n) [] p ∙ ap (λ x. (whole (negsuc n) *ℚ one_ℚ) *ℚ x) h ∙ *ℚ-zero (whole (negsuc n) *ℚ one_ℚ)) i)
+      (joined is_eq k' (value ρ (scale (negsuc n) [] p)) (value ρ p') (value-scale ρ (negsuc n) [] p
+      ∙ ap (λ x. (whole (negsuc n) *ℚ one_ℚ) *ℚ x) h ∙ *ℚ-zero (whole (negsuc n) *ℚ one_ℚ)) i)
   add_row-holds (negsuc n) is_ge p r h i = i
   add_row-holds (negsuc n) is_gt p r h i = i
 
@@ -184,14 +212,17 @@ closes rs = refutes (sum_rows (multipliers rs) rs)
 -- ---- the theorems
 -- facts a combination of which can't hold are contradictory
 pub lin_false : (ρ : List ℚ) (fs : List Fact) (rs : ReadsAll ρ (values fs)) → T (closes (rows rs (kinds fs))) → ⊥
-lin_false ρ fs rs t = refutes-out ρ (sum_rows (multipliers (rows rs (kinds fs))) (rows rs (kinds fs))) (sum_rows-holds ρ (multipliers (rows rs (kinds fs))) (rows rs (kinds fs)) (rows-hold ρ rs (kinds fs) (facts-hold ρ fs))) t
+lin_false ρ fs rs t = refutes-out ρ (sum_rows (multipliers (rows rs (kinds fs))) (rows rs (kinds fs)))
+    (sum_rows-holds ρ (multipliers (rows rs (kinds fs))) (rows rs (kinds fs)) (rows-hold ρ rs (kinds fs) (facts-hold ρ fs))) t
 
 -- facts that refute a > b show a ≤ b
-pub lin_le : (ρ : List ℚ) (fs : List Fact) {a b : ℚ} (rs : ReadsAll ρ ((a -ℚ b) ∷ values fs)) → T (closes (rows rs (is_gt ∷ kinds fs))) → a ≤ℚ b
+pub lin_le : (ρ : List ℚ) (fs : List Fact) {a b : ℚ} (rs : ReadsAll ρ ((a -ℚ b) ∷ values fs)) → T (closes (rows rs (is_gt ∷ kinds fs)))
+    → a ≤ℚ b
 lin_le ρ fs rs t = le_of_not_lt_ℚ (λ h. lin_false ρ (lt h ∷ fs) rs t)
 
 -- facts that refute a ≥ b show a < b
-pub lin_lt : (ρ : List ℚ) (fs : List Fact) {a b : ℚ} (rs : ReadsAll ρ ((a -ℚ b) ∷ values fs)) → T (closes (rows rs (is_ge ∷ kinds fs))) → a <ℚ b
+pub lin_lt : (ρ : List ℚ) (fs : List Fact) {a b : ℚ} (rs : ReadsAll ρ ((a -ℚ b) ∷ values fs)) → T (closes (rows rs (is_ge ∷ kinds fs)))
+    → a <ℚ b
 lin_lt ρ fs rs t = lt_of_not_le_ℚ (λ h. lin_false ρ (le h ∷ fs) rs t)
 
 abbrev pub first : {ρ : List ℚ} {s : ℚ} {ss : List ℚ} → ReadsAll ρ (s ∷ ss) → Reads ρ s
@@ -201,9 +232,11 @@ abbrev pub rest : {ρ : List ℚ} {s : ℚ} {ss : List ℚ} → ReadsAll ρ (s �
 rest (read_more r rs) = rs
 
 -- facts that refute a > b and b > a show a ≡ b
-pub lin_eq : (ρ : List ℚ) (fs : List Fact) {a b : ℚ} (rs : ReadsAll ρ ((a -ℚ b) ∷ (b -ℚ a) ∷ values fs)) → T (closes (rows (read_more (first rs) (rest (rest rs))) (is_gt ∷ kinds fs)) && closes (rows (rest rs) (is_gt ∷ kinds fs))) → a ≡ b
+pub lin_eq : (ρ : List ℚ) (fs : List Fact) {a b : ℚ} (rs : ReadsAll ρ ((a -ℚ b) ∷ (b -ℚ a) ∷ values fs))
+    → T (closes (rows (read_more (first rs) (rest (rest rs))) (is_gt ∷ kinds fs)) && closes (rows (rest rs) (is_gt ∷ kinds fs))) → a ≡ b
 lin_eq ρ fs rs t =
-    let c = and_out ρ (closes (rows (read_more (first rs) (rest (rest rs))) (is_gt ∷ kinds fs))) (closes (rows (rest rs) (is_gt ∷ kinds fs))) t in
+    let c = and_out ρ (closes (rows (read_more (first rs) (rest (rest rs))) (is_gt ∷ kinds fs)))
+    (closes (rows (rest rs) (is_gt ∷ kinds fs))) t in
     ≤ℚ_antisymm (lin_le ρ fs (read_more (first rs) (rest (rest rs))) c.0) (lin_le ρ fs (rest rs) c.1)
 
 -- an equation, times any number

@@ -6,7 +6,8 @@
 use Rattle.std.proofs.Common.{◌≡◌, ℕ, List, [], ◌∷◌, pos, refl, ap, sym, ◌∙◌, subst, subst₂, arith}
 use borrow.Author.Differences.{ints}
 use Rattle.base_numbers.specs.Rational.{ℚ, whole, zero_ℚ, ◌+ℚ◌, ◌*ℚ◌, neg_ℚ, ◌-ℚ◌, ◌≤ℚ◌, ◌<ℚ◌}
-use Rattle.base_numbers.proofs.rational.Laws.{+ℚ_idr, +ℚ_idl, +ℚ_invr, *ℚ-zero, sub_ℚ_is, whole-zero, le_of_lt_ℚ, +ℚ_le_right, +ℚ_le, *ℚ_nonneg, lt_of_lt_of_le_ℚ, lt_of_not_le_ℚ, not_le_of_lt, whole_le, +ℚ_le_left}
+use Rattle.base_numbers.proofs.rational.Laws.{+ℚ_idr, +ℚ_idl, +ℚ_invr, *ℚ-zero, sub_ℚ_is, whole-zero, le_of_lt_ℚ, +ℚ_le_right, +ℚ_le}
+use Rattle.base_numbers.proofs.rational.Laws.{*ℚ_nonneg, lt_of_lt_of_le_ℚ, lt_of_not_le_ℚ, not_le_of_lt, whole_le, +ℚ_le_left}
 use Rattle.base_numbers.proofs.tactics.Ring.{ring, reads, Reads, expr, leftover, same_from_zero}
 
 -- ---- what a hypothesis says of a difference
@@ -18,14 +19,16 @@ le_from_gap : {a b : ℚ} → zero_ℚ ≤ℚ b -ℚ a → a ≤ℚ b
 le_from_gap {a} {b} h = subst₂ (λ x y. x ≤ℚ y) (+ℚ_idl a) (ring (a ∷ b ∷ []) (search reads depth 40) refl) (+ℚ_le_right a h)
 
 lt_from_gap : {a b : ℚ} → zero_ℚ <ℚ b -ℚ a → a <ℚ b
-lt_from_gap {a} {b} h = lt_of_not_le_ℚ (λ i. not_le_of_lt h (subst (λ x. x ≤ℚ zero_ℚ) (ring (a ∷ b ∷ []) (search reads depth 40) refl) (neg_le' (gap i))))
+lt_from_gap {a} {b} h = lt_of_not_le_ℚ (λ i. not_le_of_lt h (subst (λ x. x ≤ℚ zero_ℚ) (ring (a ∷ b ∷ []) (search reads depth 40) refl)
+    (neg_le' (gap i))))
   where
     neg_le' : zero_ℚ ≤ℚ a -ℚ b → neg_ℚ (a -ℚ b) ≤ℚ zero_ℚ
     neg_le' h = subst₂ (λ x y. x ≤ℚ y) (+ℚ_idl (neg_ℚ (a -ℚ b))) (+ℚ_invr (a -ℚ b)) (+ℚ_le_right (neg_ℚ (a -ℚ b)) h)
 
 -- where a < b, b - a is above 0
 pub gap_lt : {a b : ℚ} → a <ℚ b → zero_ℚ <ℚ b -ℚ a
-gap_lt {a} {b} h = lt_of_not_le_ℚ (λ i. not_le_of_lt h (le_from_gap (subst (λ x. zero_ℚ ≤ℚ x) (ring (a ∷ b ∷ []) (search reads depth 40) refl) (turn i))))
+gap_lt {a} {b} h = lt_of_not_le_ℚ (λ i. not_le_of_lt h (le_from_gap (subst (λ x. zero_ℚ ≤ℚ x)
+    (ring (a ∷ b ∷ []) (search reads depth 40) refl) (turn i))))
   where
     turn : b -ℚ a ≤ℚ zero_ℚ → zero_ℚ ≤ℚ zero_ℚ -ℚ (b -ℚ a)
     turn i = gap i

@@ -12,4 +12,5 @@ convex : (a b c t : ℚ) → zero_ℚ ≤ℚ t → t ≤ℚ one_ℚ → a ≤ℚ
 convex a b c t h i j k = linear (a ∷ b ∷ c ∷ t ∷ []) (gap i ⊗ gap j ⊕ h ⊗ gap k) (search reads depth 40) refl
 
 quotient : (a b : ℚ) → a ≢ zero_ℚ → a *ℚ (b /ℚ a) ≡ b
-quotient a b n = ap (λ x. a *ℚ x) (div_ℚ_is b a) ∙ linear_eq (a ∷ b ∷ inv_ℚ a ∷ []) (times_zero b (gap_zero (*ℚ_invr a n))) (search reads depth 40) refl
+quotient a b n = ap (λ x. a *ℚ x) (div_ℚ_is b a) ∙ linear_eq (a ∷ b ∷ inv_ℚ a ∷ []) (times_zero b (gap_zero (*ℚ_invr a n)))
+    (search reads depth 40) refl

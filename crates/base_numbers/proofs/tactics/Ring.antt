@@ -1,11 +1,15 @@
 -- Ring identities of rational numbers, decided by computing.
---     ring ρ (search reads depth 40) refl     proves an equation between +ℚ, -ℚ, *ℚ, neg_ℚ, zero_ℚ, one_ℚ, `whole` at a written-out number, ◌/ℚ◌ where ρ has the divisor's inverse, and the terms of the list ρ
--- `search reads` reads the two sides as an expression over ρ, whose polynomial is computed; `refl` is accepted where nothing is left of it; where something is, the refusal shows what.
+--  ring ρ (search reads depth 40) refl     proves an equation between +ℚ, -ℚ, *ℚ, neg_ℚ, zero_ℚ, one_ℚ, `whole` at a written-out number,
+--  ◌/ℚ◌ where ρ has the divisor's inverse, and the terms of the list ρ
+-- `search reads` reads the two sides as an expression over ρ, whose polynomial is computed; `refl` is accepted where nothing is left of it;
+-- where something is, the refusal shows what.
 use Rattle.std.proofs.Common.{◌≡◌, ℕ, zero, suc, Bool, true, false, T, List, [], ◌∷◌, ℤ, pos, negsuc, ◌+ℤ◌, ◌*ℤ◌, refl, ap, sym, ◌∙◌, subst}
 use Prim.Native.Nat.{compare, Ordering}
 use lib.Dec.{compare_is_eq, eqb, eqb→eq}
 use Rattle.base_numbers.specs.Rational.{ℚ, whole, zero_ℚ, one_ℚ, ◌+ℚ◌, ◌*ℚ◌, neg_ℚ, ◌-ℚ◌, inv_ℚ, ◌/ℚ◌}
-use Rattle.base_numbers.proofs.rational.Laws.{+ℚ_comm, +ℚ_assoc, +ℚ_idr, +ℚ_idl, +ℚ_invr, *ℚ_comm, *ℚ_assoc, *ℚ_idr, *ℚ_idl, *ℚ-+ℚ, +ℚ-*ℚ, *ℚ-zero, zero-*ℚ, neg_ℚ-*ℚ, sub_ℚ_is, div_ℚ_is, whole-add, whole-mul, whole-neg, whole-zero, whole-one}
+use Rattle.base_numbers.proofs.rational.Laws.{+ℚ_comm, +ℚ_assoc, +ℚ_idr, +ℚ_idl, +ℚ_invr, *ℚ_comm, *ℚ_assoc, *ℚ_idr, *ℚ_idl, *ℚ-+ℚ, +ℚ-*ℚ}
+use Rattle.base_numbers.proofs.rational.Laws.{*ℚ-zero, zero-*ℚ, neg_ℚ-*ℚ, sub_ℚ_is, div_ℚ_is, whole-add, whole-mul, whole-neg, whole-zero}
+use Rattle.base_numbers.proofs.rational.Laws.{whole-one}
 
 -- ---- expressions, and how a number is read as one
 pub data Expr : Type 0 where
@@ -165,7 +169,8 @@ module _ (ρ : List ℚ) where
   order-eq (i ∷ m) [] e = cc
   order-eq (i ∷ m) (j ∷ n) e = by (compare i j) refl e (order-eq m n)
     where
-      by : (o : Ordering) → compare i j ≡ o → elim o [ Ordering.lt ↦ Ordering.lt | Ordering.eq ↦ order m n | Ordering.gt ↦ Ordering.gt ] ≡ Ordering.eq → (order m n ≡ Ordering.eq → m ≡ n) → i ∷ m ≡ j ∷ n
+      by : (o : Ordering) → compare i j ≡ o → elim o [ Ordering.lt ↦ Ordering.lt | Ordering.eq ↦ order m n | Ordering.gt ↦ Ordering.gt ]
+          ≡ Ordering.eq → (order m n ≡ Ordering.eq → m ≡ n) → i ∷ m ≡ j ∷ n
       by Ordering.lt f e h = cc
       by Ordering.eq f e h = let x = same_compare i j f in let y = h e in cc
       by Ordering.gt f e h = cc
@@ -180,7 +185,8 @@ module _ (ρ : List ℚ) where
   mono-insert i [] = refl
   mono-insert i (j ∷ n) = by (compare i j) (mono-insert i n)
     where
-      by : (o : Ordering) → mono (insert i n) ≡ look ρ i *ℚ mono n → mono (elim o [ Ordering.lt ↦ i ∷ j ∷ n | Ordering.eq ↦ i ∷ j ∷ n | Ordering.gt ↦ j ∷ insert i n ]) ≡ look ρ i *ℚ (look ρ j *ℚ mono n)
+      by : (o : Ordering) → mono (insert i n) ≡ look ρ i *ℚ mono n → mono
+          (elim o [ Ordering.lt ↦ i ∷ j ∷ n | Ordering.eq ↦ i ∷ j ∷ n | Ordering.gt ↦ j ∷ insert i n ]) ≡ look ρ i *ℚ (look ρ j *ℚ mono n)
       by Ordering.lt h = refl
       by Ordering.eq h = refl
       by Ordering.gt h = ap (λ x. look ρ j *ℚ x) h ∙ left_comm (look ρ j) (look ρ i) (mono n)
@@ -194,16 +200,25 @@ module _ (ρ : List ℚ) where
   value-put c m [] = refl
   value-put c m (term d n ∷ q) = by (order m n) refl (value-put c m q)
     where
-      by : (o : Ordering) → order m n ≡ o → value (put c m q) ≡ whole c *ℚ mono m +ℚ value q → value (elim o [ Ordering.lt ↦ term c m ∷ term d n ∷ q | Ordering.eq ↦ term (c +ℤ d) n ∷ q | Ordering.gt ↦ term d n ∷ put c m q ]) ≡ whole c *ℚ mono m +ℚ (whole d *ℚ mono n +ℚ value q)
+      by : (o : Ordering) → order m n ≡ o → value (put c m q) ≡ whole c *ℚ mono m +ℚ value q
+          → value (elim o [
+            | Ordering.lt ↦ term c m ∷ term d n ∷ q
+            | Ordering.eq ↦ term (c +ℤ d) n ∷ q
+            | Ordering.gt ↦ term d n
+                ∷ put c m q
+          ]) ≡ whole c *ℚ mono m +ℚ (whole d *ℚ mono n +ℚ value q)
       by Ordering.lt e h = refl
       by Ordering.eq e h =
-          ap (λ x. x *ℚ mono n +ℚ value q) (whole-add c d) ∙ ap (λ x. x +ℚ value q) (+ℚ-*ℚ (whole c) (whole d) (mono n)) ∙ +ℚ_assoc (whole c *ℚ mono n) (whole d *ℚ mono n) (value q) ∙ ap (λ x. whole c *ℚ mono x +ℚ (whole d *ℚ mono n +ℚ value q)) (sym (order-eq m n e))
+          ap (λ x. x *ℚ mono n +ℚ value q) (whole-add c d) ∙ ap (λ x. x +ℚ value q) (+ℚ-*ℚ (whole c) (whole d) (mono n))
+          ∙ +ℚ_assoc (whole c *ℚ mono n) (whole d *ℚ mono n) (value q)
+          ∙ ap (λ x. whole c *ℚ mono x +ℚ (whole d *ℚ mono n +ℚ value q)) (sym (order-eq m n e))
       by Ordering.gt e h = ap (λ x. whole d *ℚ mono n +ℚ x) h ∙ add_left_comm (whole d *ℚ mono n) (whole c *ℚ mono m) (value q)
 
   -- the value of a sum of polynomials is the sum of their values
   pub value-plus : (p q : List Term) → value (plus p q) ≡ value p +ℚ value q
   value-plus [] q = sym (+ℚ_idl (value q))
-  value-plus (term c m ∷ p) q = value-put c m (plus p q) ∙ ap (λ x. whole c *ℚ mono m +ℚ x) (value-plus p q) ∙ sym (+ℚ_assoc (whole c *ℚ mono m) (value p) (value q))
+  value-plus (term c m ∷ p) q = value-put c m (plus p q) ∙ ap (λ x. whole c *ℚ mono m +ℚ x) (value-plus p q)
+      ∙ sym (+ℚ_assoc (whole c *ℚ mono m) (value p) (value q))
 
   regroup : (a b c d : ℚ) → (a *ℚ b) *ℚ (c *ℚ d) ≡ (a *ℚ c) *ℚ (b *ℚ d)
   regroup a b c d = *ℚ_assoc a b (c *ℚ d) ∙ ap (λ x. a *ℚ x) (left_comm b c d) ∙ sym (*ℚ_assoc a c (b *ℚ d))
@@ -212,29 +227,37 @@ module _ (ρ : List ℚ) where
   pub value-scale : (c : ℤ) (m : List ℕ) (q : List Term) → value (scale c m q) ≡ (whole c *ℚ mono m) *ℚ value q
   value-scale c m [] = sym (*ℚ-zero (whole c *ℚ mono m))
   value-scale c m (term d n ∷ q) =
-      ap (λ x. x *ℚ mono (times m n) +ℚ value (scale c m q)) (whole-mul c d) ∙ ap (λ x. (whole c *ℚ whole d) *ℚ x +ℚ value (scale c m q)) (mono-times m n)
-      ∙ ap (λ x. x +ℚ value (scale c m q)) (regroup (whole c) (whole d) (mono m) (mono n)) ∙ ap (λ x. (whole c *ℚ mono m) *ℚ (whole d *ℚ mono n) +ℚ x) (value-scale c m q)
+      ap (λ x. x *ℚ mono (times m n) +ℚ value (scale c m q)) (whole-mul c d)
+      ∙ ap (λ x. (whole c *ℚ whole d) *ℚ x +ℚ value (scale c m q)) (mono-times m n)
+      ∙ ap (λ x. x +ℚ value (scale c m q)) (regroup (whole c) (whole d) (mono m) (mono n))
+      ∙ ap (λ x. (whole c *ℚ mono m) *ℚ (whole d *ℚ mono n) +ℚ x) (value-scale c m q)
       ∙ sym (*ℚ-+ℚ (whole c *ℚ mono m) (whole d *ℚ mono n) (value q))
 
   value-product : (p q : List Term) → value (product p q) ≡ value p *ℚ value q
   value-product [] q = sym (zero-*ℚ (value q))
   value-product (term c m ∷ p) q =
-      value-plus (scale c m q) (product p q) ∙ ap (λ x. x +ℚ value (product p q)) (value-scale c m q) ∙ ap (λ x. (whole c *ℚ mono m) *ℚ value q +ℚ x) (value-product p q)
+      value-plus (scale c m q) (product p q) ∙ ap (λ x. x +ℚ value (product p q)) (value-scale c m q)
+      ∙ ap (λ x. (whole c *ℚ mono m) *ℚ value q +ℚ x) (value-product p q)
       ∙ sym (+ℚ-*ℚ (whole c *ℚ mono m) (value p) (value q))
 
   value-minus : (q : List Term) → value (scale (negsuc 0) [] q) ≡ neg_ℚ (value q)
   value-minus q =
-      value-scale (negsuc 0) [] q ∙ ap (λ x. x *ℚ value q) (*ℚ_idr (whole (negsuc 0)) ∙ whole-neg (pos 1) ∙ ap neg_ℚ whole-one) ∙ neg_ℚ-*ℚ one_ℚ (value q) ∙ ap neg_ℚ (*ℚ_idl (value q))
+      value-scale (negsuc 0) [] q ∙ ap (λ x. x *ℚ value q) (*ℚ_idr (whole (negsuc 0)) ∙ whole-neg (pos 1) ∙ ap neg_ℚ whole-one)
+      ∙ neg_ℚ-*ℚ one_ℚ (value q) ∙ ap neg_ℚ (*ℚ_idl (value q))
 
   -- the polynomial of an expression has its value
   pub value-poly : (e : Expr) → value (poly e) ≡ eval ρ e
-  value-poly (var i) = +ℚ_idr (whole (pos 1) *ℚ (look ρ i *ℚ one_ℚ)) ∙ ap (λ x. x *ℚ (look ρ i *ℚ one_ℚ)) whole-one ∙ *ℚ_idl (look ρ i *ℚ one_ℚ) ∙ *ℚ_idr (look ρ i)
+  value-poly (var i) = +ℚ_idr (whole (pos 1) *ℚ (look ρ i *ℚ one_ℚ)) ∙ ap (λ x. x *ℚ (look ρ i *ℚ one_ℚ)) whole-one
+      ∙ *ℚ_idl (look ρ i *ℚ one_ℚ) ∙ *ℚ_idr (look ρ i)
   value-poly (int z) = +ℚ_idr (whole z *ℚ one_ℚ) ∙ *ℚ_idr (whole z)
-  value-poly (add a b) = value-plus (poly a) (poly b) ∙ ap (λ x. x +ℚ value (poly b)) (value-poly a) ∙ ap (λ x. eval ρ a +ℚ x) (value-poly b)
+  value-poly (add a b) = value-plus (poly a) (poly b) ∙ ap (λ x. x +ℚ value (poly b)) (value-poly a)
+      ∙ ap (λ x. eval ρ a +ℚ x) (value-poly b)
   value-poly (sub a b) =
-      value-plus (scale (negsuc 0) [] (poly b)) (poly a) ∙ ap (λ x. x +ℚ value (poly a)) (value-minus (poly b)) ∙ ap (λ x. neg_ℚ x +ℚ value (poly a)) (value-poly b) ∙ ap (λ x. neg_ℚ (eval ρ b) +ℚ x) (value-poly a)
+      value-plus (scale (negsuc 0) [] (poly b)) (poly a) ∙ ap (λ x. x +ℚ value (poly a)) (value-minus (poly b))
+      ∙ ap (λ x. neg_ℚ x +ℚ value (poly a)) (value-poly b) ∙ ap (λ x. neg_ℚ (eval ρ b) +ℚ x) (value-poly a)
       ∙ +ℚ_comm (neg_ℚ (eval ρ b)) (eval ρ a) ∙ sym (sub_ℚ_is (eval ρ a) (eval ρ b))
-  value-poly (mul a b) = value-product (poly a) (poly b) ∙ ap (λ x. x *ℚ value (poly b)) (value-poly a) ∙ ap (λ x. eval ρ a *ℚ x) (value-poly b)
+  value-poly (mul a b) = value-product (poly a) (poly b) ∙ ap (λ x. x *ℚ value (poly b)) (value-poly a)
+      ∙ ap (λ x. eval ρ a *ℚ x) (value-poly b)
   value-poly (neg a) = value-minus (poly a) ∙ ap neg_ℚ (value-poly a)
 
   -- a polynomial all of whose coefficients are 0 has the value 0
@@ -259,7 +282,8 @@ is_zero_by ρ r e = sym (eval-expr r) ∙ sym (value-poly ρ (expr r)) ∙ sym (
 -- numbers with the difference 0 are equal
 pub same_from_zero : {a b : ℚ} → a -ℚ b ≡ zero_ℚ → a ≡ b
 same_from_zero {a} {b} e =
-    sym (+ℚ_idr a) ∙ ap (λ x. a +ℚ x) (sym (+ℚ_comm (neg_ℚ b) b ∙ +ℚ_invr b)) ∙ sym (+ℚ_assoc a (neg_ℚ b) b) ∙ ap (λ x. x +ℚ b) (sym (sub_ℚ_is a b) ∙ e) ∙ +ℚ_idl b
+    sym (+ℚ_idr a) ∙ ap (λ x. a +ℚ x) (sym (+ℚ_comm (neg_ℚ b) b ∙ +ℚ_invr b)) ∙ sym (+ℚ_assoc a (neg_ℚ b) b)
+    ∙ ap (λ x. x +ℚ b) (sym (sub_ℚ_is a b) ∙ e) ∙ +ℚ_idl b
 
 -- two numbers whose difference is, as a polynomial, 0 are equal
 pub ring : (ρ : List ℚ) {a b : ℚ} (r : Reads ρ (a -ℚ b)) → leftover (expr r) ≡ [] → a ≡ b

@@ -15,7 +15,8 @@ regrouped a b c d e = ring (a ∷ b ∷ c ∷ d ∷ e ∷ []) (search reads dept
 negated_difference : (a b : ℚ) → neg_ℚ (a -ℚ b) ≡ b -ℚ a
 negated_difference a b = ring (a ∷ b ∷ []) (search reads depth 40) refl
 
-cube_of_sum : (a b : ℚ) → (a +ℚ b) *ℚ (a +ℚ b) *ℚ (a +ℚ b) ≡ a *ℚ a *ℚ a +ℚ whole (pos 3) *ℚ a *ℚ a *ℚ b +ℚ whole (pos 3) *ℚ a *ℚ b *ℚ b +ℚ b *ℚ b *ℚ b
+cube_of_sum : (a b : ℚ) → (a +ℚ b) *ℚ (a +ℚ b) *ℚ (a +ℚ b) ≡ a *ℚ a *ℚ a +ℚ whole (pos 3) *ℚ a *ℚ a *ℚ b +ℚ whole (pos 3) *ℚ a *ℚ b *ℚ b +ℚ
+    b *ℚ b *ℚ b
 cube_of_sum a b = ring (a ∷ b ∷ []) (search reads depth 40) refl
 
 doubled : (a b : ℚ) → whole (pos 2) *ℚ (a +ℚ b) -ℚ a ≡ a +ℚ whole (pos 2) *ℚ b

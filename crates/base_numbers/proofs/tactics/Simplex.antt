@@ -1,6 +1,9 @@
--- The multipliers that refute a list of rows, by the simplex method. Nothing is proved of it: `refutes` of `Linarith.antt` checks what it finds.
--- Unknown are a multiplier of each row, at least 0 (an equation counts twice, once negated), and s: the multiples add up to the constant -s, and s and the multipliers of the strict rows add up to 1.
--- The tableau holds integers, which are all the true entries times the last pivot. The first column that lowers the sum of the artificial unknowns enters.
+-- The multipliers that refute a list of rows, by the simplex method. Nothing is proved of it: `refutes` of `Linarith.antt` checks what it
+-- finds.
+-- Unknown are a multiplier of each row, at least 0 (an equation counts twice, once negated), and s: the multiples add up to the constant
+-- -s, and s and the multipliers of the strict rows add up to 1.
+-- The tableau holds integers, which are all the true entries times the last pivot. The first column that lowers the sum of the artificial
+-- unknowns enters.
 use Rattle.std.proofs.Common.{ℕ, zero, suc, true, false, List, [], ◌∷◌, ℤ, pos, negsuc, neg_ℤ, ◌+ℤ◌, ◌-ℤ◌, ◌*ℤ◌, ltb, eqb}
 use Prim.Native.Nat.{Ordering}
 use lib.Signed.{quot_z, lt_z}
@@ -43,7 +46,8 @@ monomial_lines (term c m ∷ ts) rs = line 0 (pos 0) (pos 0 ∷ each (coefficien
 
 abbrev lines : List Row → List Line
 lines rs =
-    line 0 (pos 1) (pos 1 ∷ each (λ p. pos 0) strictness rs) ∷ line 0 (pos 0) (pos 1 ∷ each constant (λ k. pos 0) rs) ∷ monomial_lines (monomials rs) rs
+    line 0 (pos 1) (pos 1 ∷ each (λ p. pos 0) strictness rs) ∷ line 0 (pos 0) (pos 1 ∷ each constant (λ k. pos 0) rs)
+    ∷ monomial_lines (monomials rs) rs
 
 abbrev add_list : List ℤ → List ℤ → List ℤ
 add_list [] ys = ys
@@ -78,13 +82,21 @@ better at b r e es nothing = chosen at b r e es
 better at b r e es (chosen at' b' r' e' es') =
     elim (lt_z (r *ℤ pos e') (r' *ℤ pos e)) [
       | true ↦ chosen at b r e es
-      | false ↦ elim (lt_z (r' *ℤ pos e) (r *ℤ pos e')) [ true ↦ chosen at' b' r' e' es' | false ↦ elim (ltb b b') [ true ↦ chosen at b r e es | false ↦ chosen at' b' r' e' es' ] ]
+      | false ↦ elim (lt_z (r' *ℤ pos e) (r *ℤ pos e')) [
+        | true ↦ chosen at' b' r' e' es'
+        | false ↦ elim (ltb b b')
+            [ true ↦ chosen at b r e es | false ↦ chosen at' b' r' e' es' ]
+      ]
     ]
 
 abbrev choose : ℕ → ℕ → List Line → Choice
 choose c at [] = nothing
 choose c at (line b r es ∷ ls) =
-    elim (entry c es) [ pos e ↦ elim (eqb e 0) [ true ↦ choose c (suc at) ls | false ↦ better at b r e es (choose c (suc at) ls) ] | negsuc e ↦ choose c (suc at) ls ]
+    elim (entry c es) [
+      | pos e ↦ elim (eqb e 0) [ true ↦ choose c (suc at) ls | false ↦ better at b r e es (choose c (suc at) ls) ]
+      | negsuc
+          e ↦ choose c (suc at) ls
+    ]
 
 -- (e * x - f * y) / d, entry by entry
 abbrev change : ℕ → ℤ → ℕ → List ℤ → List ℤ → List ℤ
@@ -113,7 +125,11 @@ solve (suc fuel) d (line b (negsuc w) es) ls = []
 solve (suc fuel) d (line b (pos (suc w)) es) ls =
     elim (first_positive 1 es) [
       | zero ↦ []
-      | suc c ↦ elim (choose (suc c) 0 ls) [ nothing ↦ [] | chosen at b' r e es' ↦ solve fuel e (change_line (suc c) e r es' d (line b (pos (suc w)) es)) (pivot (suc c) at e r es' d ls) ]
+      | suc c ↦ elim (choose (suc c) 0 ls) [
+        | nothing ↦ []
+        | chosen at b' r e es' ↦ solve fuel e
+            (change_line (suc c) e r es' d (line b (pos (suc w)) es)) (pivot (suc c) at e r es' d ls)
+      ]
     ]
 
 -- an unknown's value, times the last pivot

@@ -47,7 +47,8 @@ pub exchange : (y : List ℚ) (A : List (List ℚ)) (x : List ℚ) → dot (vec_
 unfolding dot vec_mat mat_vec
 exchange [] A x = refl
 exchange (y ∷ ys) [] x = refl
-exchange (y ∷ ys) (r ∷ A) x = dot-add (scale_vec y r) (vec_mat ys A) x ∙ ap (λ s. s +ℚ dot (vec_mat ys A) x) (dot-scale y r x) ∙ ap (λ s. y *ℚ dot r x +ℚ s) (exchange ys A x)
+exchange (y ∷ ys) (r ∷ A) x = dot-add (scale_vec y r) (vec_mat ys A) x ∙ ap (λ s. s +ℚ dot (vec_mat ys A) x) (dot-scale y r x)
+    ∙ ap (λ s. y *ℚ dot r x +ℚ s) (exchange ys A x)
 
 dot_mono : (y u v : List ℚ) → AllNonneg y → AllLe u v → dot y u ≤ℚ dot y v
 unfolding dot
@@ -63,12 +64,14 @@ combined : (y : List ℚ) (A : List (List ℚ)) (x b : List ℚ) → AllNonneg y
 combined y A x b p h = subst (λ s. s ≤ℚ dot y b) (sym (exchange y A x)) (dot_mono y (mat_vec A x) b p h)
 
 -- the greatest c x under A x ≤ b and x ≥ 0 is at most the least y b under y A ≥ c and y ≥ 0
-pub weak_duality : (c x y b : List ℚ) (A : List (List ℚ)) → AllNonneg x → AllNonneg y → AllLe (mat_vec A x) b → AllLe c (vec_mat y A) → dot c x ≤ℚ dot y b
+pub weak_duality : (c x y b : List ℚ) (A : List (List ℚ)) → AllNonneg x → AllNonneg y → AllLe (mat_vec A x) b → AllLe c (vec_mat y A)
+    → dot c x ≤ℚ dot y b
 weak_duality c x y b A p q h i =
     ≤ℚ_trans (subst₂ (λ s t. s ≤ℚ t) (dot_comm x c) (dot_comm x (vec_mat y A)) (dot_mono x c (vec_mat y A) p i)) (combined y A x b q h)
 
 -- a value that both a point and a dual point reach is the greatest
-optimal : (c x y b : List ℚ) (A : List (List ℚ)) → AllNonneg y → AllLe c (vec_mat y A) → dot c x ≡ dot y b → (z : List ℚ) → AllNonneg z → AllLe (mat_vec A z) b → dot c z ≤ℚ dot c x
+optimal : (c x y b : List ℚ) (A : List (List ℚ)) → AllNonneg y → AllLe c (vec_mat y A) → dot c x ≡ dot y b → (z : List ℚ) → AllNonneg z
+    → AllLe (mat_vec A z) b → dot c z ≤ℚ dot c x
 optimal c x y b A q i e z p h = subst (λ s. dot c z ≤ℚ s) (sym e) (weak_duality c z y b A p q h i)
 
 -- ---- sums over an index
@@ -76,13 +79,15 @@ optimal c x y b A q i e z p h = subst (λ s. dot c z ≤ℚ s) (sym e) (weak_dua
 pub sum_to_same : (n : ℕ) (f g : ℕ → ℚ) → ((k : ℕ) → k < n → f k ≡ g k) → sum_to n f ≡ sum_to n g
 unfolding sum_to
 sum_to_same zero f g h = refl
-sum_to_same (suc n) f g h = ap (λ s. s +ℚ f n) (sum_to_same n f g (λ k l. h k (omega arith))) ∙ ap (λ s. sum_to n g +ℚ s) (h n (omega arith))
+sum_to_same (suc n) f g h = ap (λ s. s +ℚ f n) (sum_to_same n f g (λ k l. h k (omega arith)))
+    ∙ ap (λ s. sum_to n g +ℚ s) (h n (omega arith))
 
 -- a sum of sums of two terms is the sum of the two sums
 pub sum_to-add : (n : ℕ) (f g : ℕ → ℚ) → sum_to n (λ k. f k +ℚ g k) ≡ sum_to n f +ℚ sum_to n g
 unfolding sum_to
 sum_to-add zero f g = sym (+ℚ_idr zero_ℚ)
-sum_to-add (suc n) f g = ap (λ s. s +ℚ (f n +ℚ g n)) (sum_to-add n f g) ∙ ring (sum_to n f ∷ sum_to n g ∷ f n ∷ g n ∷ []) (search reads depth 40) refl
+sum_to-add (suc n) f g = ap (λ s. s +ℚ (f n +ℚ g n)) (sum_to-add n f g)
+    ∙ ring (sum_to n f ∷ sum_to n g ∷ f n ∷ g n ∷ []) (search reads depth 40) refl
 
 -- a sum of multiples is the multiple of the sum
 pub sum_to-scale : (n : ℕ) (c : ℚ) (f : ℕ → ℚ) → sum_to n (λ k. c *ℚ f k) ≡ c *ℚ sum_to n f

@@ -15,7 +15,8 @@ use Rattle.theory_validity.proofs.certificates.Needs.{in_of_contains}
 use Rattle.flow_edges.specs.declared.limits.TheConstants.{MOST_POINTS}
 use Rattle.lang_tree.specs.declared.limits.TheConstants.{MOST_VARIABLES}
 
-edge_passes : (n points : ℕ) (edges : List Edge) → IsTrue (list_all (is_edge n points) edges) → (edge : Edge) → In edges edge → IsTrue (is_edge n points edge)
+edge_passes : (n points : ℕ) (edges : List Edge) → IsTrue (list_all (is_edge n points) edges) → (edge : Edge) → In edges edge
+    → IsTrue (is_edge n points edge)
 edge_passes n points [] h edge m = absurd m
 edge_passes n points (first ∷ edges) h edge m =
     let b = both (is_edge n points first) (list_all (is_edge n points) edges) h in
@@ -30,9 +31,11 @@ points_in_range system =
       ends = λ edge c.
           let n = length system.flow.names in
           let points = length system.flow.points in
-          let a = both (nat_lt edge.from points) (nat_lt 0 edge.to && (nat_lt edge.to points && (nat_le (length edge.actions) 256 && list_all (is_action n) edge.actions)))
+          let a = both (nat_lt edge.from points) (nat_lt 0 edge.to && (nat_lt edge.to points
+          && (nat_le (length edge.actions) 256 && list_all (is_action n) edge.actions)))
           (edge_passes n points system.flow.edges sizes.edges edge (in_of_contains system.flow.edges edge c)) in
-          let b = both (nat_lt 0 edge.to) (nat_lt edge.to points && (nat_le (length edge.actions) 256 && list_all (is_action n) edge.actions)) a.1 in
+          let b = both (nat_lt 0 edge.to) (nat_lt edge.to points && (nat_le (length edge.actions) 256
+          && list_all (is_action n) edge.actions)) a.1 in
           let d = both (nat_lt edge.to points) (nat_le (length edge.actions) 256 && list_all (is_action n) edge.actions) b.1 in
           ltb-true edge.to points d.0;
     }

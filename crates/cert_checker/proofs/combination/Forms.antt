@@ -31,7 +31,8 @@ forms_there : (paths : List EdgeForms) (k : ℕ) → k < length paths → slice_
 forms_there paths k l = slice_get-get_or paths k no_forms l
 
 -- the number of a guard is that of a multiplier, where there is one for each
-pub guard_within : (paths : List EdgeForms) (k n count g : ℕ) → k < length paths → ((forms : EdgeForms) → slice_get paths k ≡ Some forms → n ≡ length forms.guards) →
+pub guard_within : (paths : List EdgeForms) (k n count g : ℕ) → k < length paths
+    → ((forms : EdgeForms) → slice_get paths k ≡ Some forms → n ≡ length forms.guards) →
     ((forms : EdgeForms) → slice_get paths k ≡ Some forms → count ≡ length forms.guards) → g < count → g < n
 guard_within paths k n count g l each counted below =
     let forms = get_or paths k no_forms in
@@ -48,7 +49,8 @@ constants_dense : (w : ℕ) (forms : List Form) → negated_constants (map (dens
 constants_dense w [] = refl
 constants_dense w (f ∷ forms) = ap (λ xs. neg_ℚ f.constant ∷ xs) (constants_dense w forms)
 
-module _ (system : Equations) (paths : List EdgeForms) (h : AreComposed system paths) (k : ℕ) (e : Edge) (found : slice_get system.edges k ≡ Some e) where
+module _ (system : Equations) (paths : List EdgeForms) (h : AreComposed system paths) (k : ℕ) (e : Edge)
+    (found : slice_get system.edges k ≡ Some e) where
   -- how many columns its words have
   abbrev Width : ℕ
   Width = width system.variables e.actions
@@ -70,15 +72,18 @@ module _ (system : Equations) (paths : List EdgeForms) (h : AreComposed system p
 
     -- there is an end value for each row of the template
     pub row_count : length forms.rows ≡ length system.template
-    row_count = ap (λ (x : EdgeForms). length x.rows) forms_are ∙ length-map system.template (λ row. dense Width (end_form system.variables e.actions row))
+    row_count = ap (λ (x : EdgeForms). length x.rows) forms_are ∙ length-map system.template
+        (λ row. dense Width (end_form system.variables e.actions row))
 
     -- the guards at a column, and their negated constants
     pub column_is : (j : ℕ) → j < Width → dense_column j forms.guards ≡ guard_column system e j
-    column_is j l = ap (λ (x : EdgeForms). dense_column j x.guards) forms_are ∙ column-dense Width j (guard_forms system.variables e.actions) l
+    column_is j l = ap (λ (x : EdgeForms). dense_column j x.guards) forms_are
+        ∙ column-dense Width j (guard_forms system.variables e.actions) l
 
     -- the negated constants of the guards are those of the edge
     pub constants_are : negated_constants forms.guards ≡ guard_numbers system e
-    constants_are = ap (λ (x : EdgeForms). negated_constants x.guards) forms_are ∙ constants_dense Width (guard_forms system.variables e.actions)
+    constants_are = ap (λ (x : EdgeForms). negated_constants x.guards) forms_are
+        ∙ constants_dense Width (guard_forms system.variables e.actions)
 
     -- the end value of a row of the template, at each column and without one
     module _ (r : ℕ) (end : Affine) (l : r < length system.template) (taken : slice_get forms.rows r ≡ Some end) where
@@ -88,7 +93,8 @@ module _ (system : Equations) (paths : List EdgeForms) (h : AreComposed system p
       end_is : end ≡ dense Width Ending
       end_is =
           same_affine end (dense Width Ending)
-          (sym taken ∙ ap (λ (x : EdgeForms). slice_get x.rows r) forms_are ∙ slice_get-map (λ row. dense Width (end_form system.variables e.actions row)) system.template r
+          (sym taken ∙ ap (λ (x : EdgeForms). slice_get x.rows r) forms_are
+          ∙ slice_get-map (λ row. dense Width (end_form system.variables e.actions row)) system.template r
           ∙ ap (option_map (λ row. dense Width (end_form system.variables e.actions row))) (slice_get-get_or system.template r [] l))
 
       -- the coefficients of a composed end value are those of the row's end form

@@ -1,5 +1,6 @@
 -- Sums of multiples from the left, product by product.
-use Rattle.std.proofs.Common.{◌≡◌, ◌∙◌, ℕ, ◌+◌, ◌<◌, ◌≤◌, List, [], ◌∷◌, ◌++◌, length, get_or, drop, Some, None, Result, MatchResult, ap, ap₂, sym, subst}
+use Rattle.std.proofs.Common.{◌≡◌, ◌∙◌, ℕ, ◌+◌, ◌<◌, ◌≤◌, List, [], ◌∷◌, ◌++◌, length, get_or, drop, Some, None, Result, MatchResult, ap}
+use Rattle.std.proofs.Common.{ap₂, sym, subst}
 use Rattle.std.proofs.lemmas.List.{drop_more, drop_all}
 use Rattle.base_numbers.specs.Rational.{ℚ, ◌+ℚ◌, ◌*ℚ◌}
 use Rattle.base_fractions.specs.Fits.{Fits, long_limit}
@@ -21,7 +22,8 @@ multiple_refused sum m x w n k =
 
 -- a product that is not wide is added, or the sum is wide
 pub multiple_added : (sum m x p : ℚ) (res : Result ℚ (Wide ℚ)) → p ≡ m *ℚ x → Fits long_limit p →
-    MatchResult res (λ r. (r ≡ sum +ℚ p) × Fits long_limit r) (λ e. (¬ (Fits long_limit (sum +ℚ p))) × (e ≡ record { op = Add; left = sum; right = p })) →
+    MatchResult res (λ r. (r ≡ sum +ℚ p) × Fits long_limit r) (λ e. (¬ (Fits long_limit (sum +ℚ p)))
+    × (e ≡ record { op = Add; left = sum; right = p })) →
     SumAnswers (total sum (m ∷ []) (x ∷ [])) (products sum (m ∷ []) (x ∷ [])) res
 unfolding total products
 multiple_added sum m x p res e h a =
@@ -39,9 +41,14 @@ pub record IsAdded (start : ℚ) (xs ys : List ℚ) (i : ℕ) (sum : ℚ) : Type
 
 -- at the start no multiple is added
 pub added_none : (start : ℚ) (xs ys : List ℚ) (sum : ℚ) → sum ≡ start → IsAdded start xs ys 0 sum
-added_none start xs ys sum e = record { value = ap (λ s. total s xs ys) (sym e); first = ap (λ s. first_wide long_limit (products s xs ys)) (sym e) }
+added_none start xs ys sum e = record {
+  value = ap (λ s. total s xs ys) (sym e);
+  first =
+      ap (λ s. first_wide long_limit (products s xs ys)) (sym e);
+}
 
-module _ (start : ℚ) (xs ys : List ℚ) (i : ℕ) (sum : ℚ) (h : IsAdded start xs ys i sum) (l : i < length xs) (k : i < length ys) (x y : ℚ) (d : x ≡ get_or xs i x) (f : y ≡ get_or ys i y) where
+module _ (start : ℚ) (xs ys : List ℚ) (i : ℕ) (sum : ℚ) (h : IsAdded start xs ys i sum) (l : i < length xs) (k : i < length ys) (x y : ℚ)
+    (d : x ≡ get_or xs i x) (f : y ≡ get_or ys i y) where
   xs_left : drop i xs ≡ x ∷ drop (i + 1) xs
   xs_left = drop_more xs i x l ∙ ap (λ z. z ∷ drop (i + 1) xs) (sym d)
 
@@ -52,24 +59,30 @@ module _ (start : ℚ) (xs ys : List ℚ) (i : ℕ) (sum : ℚ) (h : IsAdded sta
   unfolding total
   value_left = h.value ∙ ap₂ (total sum) xs_left ys_left
 
-  first_left : first_wide long_limit (products start xs ys) ≡ first_wide long_limit (products sum (x ∷ []) (y ∷ []) ++ products (total sum (x ∷ []) (y ∷ [])) (drop (i + 1) xs) (drop (i + 1) ys))
+  first_left : first_wide long_limit (products start xs ys) ≡ first_wide long_limit
+      (products sum (x ∷ []) (y ∷ []) ++ products (total sum (x ∷ []) (y ∷ [])) (drop (i + 1) xs) (drop (i + 1) ys))
   unfolding total products
   first_left = h.first ∙ ap₂ (λ us vs. first_wide long_limit (products sum us vs)) xs_left ys_left
 
   -- one more multiple that is not wide
-  pub added_more : (next : ℚ) → next ≡ total sum (x ∷ []) (y ∷ []) → first_wide long_limit (products sum (x ∷ []) (y ∷ [])) ≡ None → IsAdded start xs ys (i + 1) next
+  pub added_more : (next : ℚ) → next ≡ total sum (x ∷ []) (y ∷ []) → first_wide long_limit (products sum (x ∷ []) (y ∷ [])) ≡ None
+      → IsAdded start xs ys (i + 1) next
   added_more next e n = record {
     value = value_left ∙ ap (λ s. total s (drop (i + 1) xs) (drop (i + 1) ys)) (sym e);
-    first = first_left ∙ first_wide_later long_limit (products sum (x ∷ []) (y ∷ [])) (products (total sum (x ∷ []) (y ∷ [])) (drop (i + 1) xs) (drop (i + 1) ys)) n
+    first = first_left ∙ first_wide_later long_limit (products sum (x ∷ []) (y ∷ []))
+        (products (total sum (x ∷ []) (y ∷ [])) (drop (i + 1) xs) (drop (i + 1) ys)) n
         ∙ ap (λ s. first_wide long_limit (products s (drop (i + 1) xs) (drop (i + 1) ys))) (sym e);
   }
 
   -- one that is
-  pub added_wide : (o : Operation) → first_wide long_limit (products sum (x ∷ []) (y ∷ [])) ≡ Some o → first_wide long_limit (products start xs ys) ≡ Some o
-  added_wide o w = first_left ∙ first_wide_sooner long_limit (products sum (x ∷ []) (y ∷ [])) (products (total sum (x ∷ []) (y ∷ [])) (drop (i + 1) xs) (drop (i + 1) ys)) o w
+  pub added_wide : (o : Operation) → first_wide long_limit (products sum (x ∷ []) (y ∷ [])) ≡ Some o
+      → first_wide long_limit (products start xs ys) ≡ Some o
+  added_wide o w = first_left ∙ first_wide_sooner long_limit (products sum (x ∷ []) (y ∷ []))
+      (products (total sum (x ∷ []) (y ∷ [])) (drop (i + 1) xs) (drop (i + 1) ys)) o w
 
 -- all multiples
-pub added_all : (start : ℚ) (xs ys : List ℚ) (i : ℕ) (sum : ℚ) → length xs ≤ i → IsAdded start xs ys i sum → (sum ≡ total start xs ys) × (first_wide long_limit (products start xs ys) ≡ None)
+pub added_all : (start : ℚ) (xs ys : List ℚ) (i : ℕ) (sum : ℚ) → length xs ≤ i → IsAdded start xs ys i sum
+    → (sum ≡ total start xs ys) × (first_wide long_limit (products start xs ys) ≡ None)
 unfolding total products
 added_all start xs ys i sum l h = (
   sym (h.value ∙ ap (λ us. total sum us (drop i ys)) (drop_all i xs l)),

@@ -1,5 +1,6 @@
 -- What is told of evidence by its multipliers, its columns and its side.
-use Rattle.std.proofs.Common.{◌≡◌, ◌∙◌, ℕ, zero, suc, ◌*◌, ◌/◌, ◌%◌, ◌<◌, ℤ, List, [], ◌∷◌, ◌++◌, length, get_or, append_assoc, Some, None, Result, MatchResult, refl, sym, ap, subst, subst₂, arith}
+use Rattle.std.proofs.Common.{◌≡◌, ◌∙◌, ℕ, zero, suc, ◌*◌, ◌/◌, ◌%◌, ◌<◌, ℤ, List, [], ◌∷◌, ◌++◌, length, get_or, append_assoc, Some, None}
+use Rattle.std.proofs.Common.{Result, MatchResult, refl, sym, ap, subst, subst₂, arith}
 use Rattle.std.specs.Prelude.{slice_get}
 use Rattle.base_numbers.specs.Rational.{ℚ, zero_ℚ, ◌+ℚ◌, ◌≤ℚ◌}
 use Rattle.base_numbers.specs.Extended.{Ext, neg_inf, fin, ◌≤ᴱ◌}
@@ -22,7 +23,8 @@ use Rattle.solve_composition.specs.declared.affine.Affine.{Affine}
 use Rattle.solve_composition.specs.Composed.{EdgeForms, edge_forms, AreComposed}
 use Rattle.cert_checker.specs.declared.fault.CheckFault.{CheckFault}
 use Rattle.cert_checker.specs.Events.{Event, Sum, Test, fault_answer, wide_answer, first_stop, sums, decided}
-use Rattle.cert_checker.specs.EvidenceEvents.{side_operations, columns_events, columns_of, dec_multipliers, combination_events, evidence_events}
+use Rattle.cert_checker.specs.EvidenceEvents.{side_operations, columns_events, columns_of, dec_multipliers, combination_events}
+use Rattle.cert_checker.specs.EvidenceEvents.{evidence_events}
 use Rattle.cert_checker.specs.Stands.{Stands}
 use Rattle.cert_checker.proofs.following.Traces.{stop_sooner, stop_later, test_yes, test_no, alone_yes, sums_none, sums_some}
 use Rattle.cert_checker.proofs.combination.Forms.{forms_at, end_constant}
@@ -32,7 +34,8 @@ use Rattle.cert_checker.proofs.evidence.Sums.{tested_wide, tested_yes, tested_no
 
 -- ---- bounds and vectors
 -- a list of bounds stands for its own vector
-pub stands_itself : (system : Equations) (bounds : List Ext) → length bounds ≡ system.points * length system.template → Stands system bounds (vector_of (length system.template) bounds)
+pub stands_itself : (system : Equations) (bounds : List Ext) → length bounds ≡ system.points * length system.template
+    → Stands system bounds (vector_of (length system.template) bounds)
 stands_itself system bounds e = record { size = e; at = λ p r l k. refl }
 
 -- where there is an unknown there is a row
@@ -112,12 +115,15 @@ module _ (site : Site) (fault : Fault) (system : Equations) (z : Vector) (e : Ed
     unfolding evidence_events
     bound_infinite n = by Allowed
       where
-        by : (d : Dec (Multipliers system z e rows guards)) → first_stop (Test (decided d) fault ∷ (Test (decided (dec_finite number)) fault ∷ BoundTail)) ≡ Some (fault_answer fault)
-        by (yes m) = test_yes (yes m) fault (Test (decided (dec_finite number)) fault ∷ BoundTail) m ∙ test_no (dec_finite number) fault BoundTail n
+        by : (d : Dec (Multipliers system z e rows guards)) → first_stop
+            (Test (decided d) fault ∷ (Test (decided (dec_finite number)) fault ∷ BoundTail)) ≡ Some (fault_answer fault)
+        by (yes m) = test_yes (yes m) fault (Test (decided (dec_finite number)) fault ∷ BoundTail) m
+            ∙ test_no (dec_finite number) fault BoundTail n
         by (no k) = test_no (no k) fault (Test (decided (dec_finite number)) fault ∷ BoundTail) k
 
     -- a finite bound: the combination, and then what is compared with the bound
-    bound_as : (limit : ℚ) → number ≡ fin limit → (goal : List ℚ) → Columns goal ≡ Columns Ending.coeffs → first_stop BoundEvents ≡ first_stop (Combined goal ++ (sums site Added ++ BoundTest))
+    bound_as : (limit : ℚ) → number ≡ fin limit → (goal : List ℚ) → Columns goal ≡ Columns Ending.coeffs
+        → first_stop BoundEvents ≡ first_stop (Combined goal ++ (sums site Added ++ BoundTest))
     unfolding evidence_events
     bound_as limit is goal same = by Allowed
       where
@@ -128,7 +134,8 @@ module _ (site : Site) (fault : Fault) (system : Equations) (z : Vector) (e : Ed
             ∙ ap (λ es. Columns goal ++ es) (append_assoc (sums site Sides) (sums site Added) BoundTest)
             ∙ sym (append_assoc (Columns goal) (sums site Sides) (sums site Added ++ BoundTest))
 
-        by : (d : Dec (Multipliers system z e rows guards)) → first_stop (Test (decided d) fault ∷ (Test (decided (dec_finite number)) fault ∷ BoundTail))
+        by : (d : Dec (Multipliers system z e rows guards)) → first_stop
+            (Test (decided d) fault ∷ (Test (decided (dec_finite number)) fault ∷ BoundTail))
             ≡ first_stop (Test (decided d) fault ∷ ((Columns goal ++ sums site Sides) ++ (sums site Added ++ BoundTest)))
         by (yes m) =
             test_yes (yes m) fault (Test (decided (dec_finite number)) fault ∷ BoundTail) m
@@ -153,18 +160,24 @@ module _ (site : Site) (fault : Fault) (system : Equations) (z : Vector) (e : Ed
         bound_wide w s = bound_last ∙ tested_wide (dec_leᴱ (fin (Value +ℚ Ending.constant)) number) site fault Added w s
 
         -- the value at the end
-        pub bound_yes : first_wide long_limit Added ≡ None → (v : ℚ) → v ≡ Value +ℚ Ending.constant → v ≤ℚ limit → first_stop BoundEvents ≡ None
-        bound_yes s v q l = bound_last ∙ tested_yes (dec_leᴱ (fin (Value +ℚ Ending.constant)) number) site fault Added s (subst₂ (λ x y. fin x ≤ᴱ y) q (sym is) l)
+        pub bound_yes : first_wide long_limit Added ≡ None → (v : ℚ) → v ≡ Value +ℚ Ending.constant → v ≤ℚ limit
+            → first_stop BoundEvents ≡ None
+        bound_yes s v q l = bound_last ∙ tested_yes (dec_leᴱ (fin (Value +ℚ Ending.constant)) number) site fault Added s
+            (subst₂ (λ x y. fin x ≤ᴱ y) q (sym is) l)
 
         -- a value at the end that is more than the bound is a fault
-        pub bound_no : first_wide long_limit Added ≡ None → (v : ℚ) → v ≡ Value +ℚ Ending.constant → ¬ (v ≤ℚ limit) → first_stop BoundEvents ≡ Some (fault_answer fault)
-        bound_no s v q n = bound_last ∙ tested_no (dec_leᴱ (fin (Value +ℚ Ending.constant)) number) site fault Added s (λ l. n (subst₂ (λ x y. fin x ≤ᴱ y) (sym q) is l))
+        pub bound_no : first_wide long_limit Added ≡ None → (v : ℚ) → v ≡ Value +ℚ Ending.constant → ¬ (v ≤ℚ limit)
+            → first_stop BoundEvents ≡ Some (fault_answer fault)
+        bound_no s v q n = bound_last ∙ tested_no (dec_leᴱ (fin (Value +ℚ Ending.constant)) number) site fault Added s
+            (λ l. n (subst₂ (λ x y. fin x ≤ᴱ y) (sym q) is l))
 
     -- the constant is added last
     pub constant_added : (sum constant : ℚ) (res : Result ℚ (Wide ℚ)) → sum ≡ Value → constant ≡ Ending.constant →
-        MatchResult res (λ r. (r ≡ sum +ℚ constant) × Fits long_limit r) (λ w. (¬ (Fits long_limit (sum +ℚ constant))) × (w ≡ record { op = Add; left = sum; right = constant })) →
+        MatchResult res (λ r. (r ≡ sum +ℚ constant) × Fits long_limit r)
+        (λ w. (¬ (Fits long_limit (sum +ℚ constant))) × (w ≡ record { op = Add; left = sum; right = constant })) →
         SumAnswers (Value +ℚ Ending.constant) Added res
-    constant_added sum constant res q k a = subst₂ (λ x y. SumAnswers (x +ℚ y) (record { op = Add; left = x; right = y } ∷ []) res) q k (one_answer Add sum constant res a)
+    constant_added sum constant res q k a = subst₂ (λ x y. SumAnswers (x +ℚ y) (record { op = Add; left = x; right = y } ∷ []) res) q k
+        (one_answer Add sum constant res a)
 
     -- ---- nothing runs
     abbrev EmptyEvents : List Event
@@ -173,22 +186,30 @@ module _ (site : Site) (fault : Fault) (system : Equations) (z : Vector) (e : Ed
     -- the combination of nothing, and then the sign of its side
     pub empty_as : first_stop EmptyEvents ≡ first_stop (Combined [] ++ Test (decided (dec_lt_ℚ Value zero_ℚ)) fault ∷ [])
     unfolding evidence_events
-    empty_as = ap (λ es. first_stop (Test (decided Allowed) fault ∷ es)) (sym (append_assoc (Columns []) (sums site Sides) (Test (decided (dec_lt_ℚ Value zero_ℚ)) fault ∷ [])))
+    empty_as = ap (λ es. first_stop (Test (decided Allowed) fault ∷ es))
+        (sym (append_assoc (Columns []) (sums site Sides) (Test (decided (dec_lt_ℚ Value zero_ℚ)) fault ∷ [])))
 
 -- ---- what a bound is compared with
 -- the bound is finite, and the composed end value that is read has the coefficients and the constant of the row's end form
-pub record IsRead (site : Site) (fault : Fault) (system : Equations) (z : Vector) (e : Edge) (row : List ℤ) (number : Ext) (rows guards : List ℚ) (limit : ℚ) (end : Affine) (goal : List ℚ) : Type 0 where
+pub record IsRead (site : Site) (fault : Fault) (system : Equations) (z : Vector) (e : Edge) (row : List ℤ) (number : Ext)
+    (rows guards : List ℚ) (limit : ℚ) (end : Affine) (goal : List ℚ) : Type 0 where
   -- the number is finite
   pub finite : number ≡ fin limit
   -- the columns are compared with the coefficients of the row's end form
-  pub columns : columns_events site fault system e rows guards goal (columns_of system e) ≡ columns_events site fault system e rows guards (end_form system.variables e.actions row).coeffs (columns_of system e)
+  pub columns : columns_events site fault system e rows guards goal (columns_of system e)
+      ≡ columns_events site fault system e rows guards (end_form system.variables e.actions row).coeffs (columns_of system e)
   -- the constant is that of the row's end form
   pub constant : end.constant ≡ (end_form system.variables e.actions row).constant
 
-module _ (site : Site) (fault : Fault) (system : Equations) (paths : List EdgeForms) (composed : AreComposed system paths) (bounds : List Ext) (z : Vector) (h : Stands system bounds z) (k : ℕ) (e : Edge) (found : slice_get system.edges k ≡ Some e) (rows guards : List ℚ) where
+module _ (site : Site) (fault : Fault) (system : Equations) (paths : List EdgeForms) (composed : AreComposed system paths)
+    (bounds : List Ext) (z : Vector) (h : Stands system bounds z) (k : ℕ) (e : Edge) (found : slice_get system.edges k ≡ Some e)
+    (rows guards : List ℚ) where
   -- what is read of an unknown and its edge is its bound and its end form
-  pub is_read : (u : ℕ) → u < length bounds → (b : Ext) → b ≡ get_or bounds u neg_inf → (limit : ℚ) → b ≡ fin limit → (n : ℕ) → n ≡ length system.template → (end : Affine) → ((forms : EdgeForms) → slice_get paths k ≡ Some forms → slice_get forms.rows (u % n) ≡ Some end) →
-      (goal : List ℚ) → goal ≡ end.coeffs → IsRead site fault system z e (get_or system.template (u % length system.template) []) (z (u / length system.template) (u % length system.template)) rows guards limit end goal
+  pub is_read : (u : ℕ) → u < length bounds → (b : Ext) → b ≡ get_or bounds u neg_inf → (limit : ℚ) → b ≡ fin limit → (n : ℕ)
+      → n ≡ length system.template → (end : Affine) → ((forms : EdgeForms) → slice_get paths k ≡ Some forms
+      → slice_get forms.rows (u % n) ≡ Some end) →
+      (goal : List ℚ) → goal ≡ end.coeffs → IsRead site fault system z e (get_or system.template (u % length system.template) [])
+      (z (u / length system.template) (u % length system.template)) rows guards limit end goal
   is_read u within b at limit finite n count end taken goal same =
       let r = u % length system.template in
       let forms = edge_forms system.variables system.template e.actions in
@@ -210,13 +231,16 @@ module _ (site : Site) (fault : Fault) (system : Equations) (z : Vector) (e : Ed
   -- a row of the source that is at −∞ passes
   pub unreached_yes : (r < length system.template) × (z e.from r ≡ neg_inf) → first_stop UnreachedEvents ≡ None
   unfolding evidence_events
-  unreached_yes h = test_yes (dec_lt r (length system.template)) fault (Test (decided (ext_same (z e.from r) neg_inf)) fault ∷ []) h.0 ∙ alone_yes (ext_same (z e.from r) neg_inf) fault h.1
+  unreached_yes h = test_yes (dec_lt r (length system.template)) fault (Test (decided (ext_same (z e.from r) neg_inf)) fault ∷ []) h.0
+      ∙ alone_yes (ext_same (z e.from r) neg_inf) fault h.1
 
   -- a row that is not there or not at −∞ is a fault
   pub unreached_no : ¬ ((r < length system.template) × (z e.from r ≡ neg_inf)) → first_stop UnreachedEvents ≡ Some (fault_answer fault)
   unfolding evidence_events
   unreached_no n = by (dec_lt r (length system.template))
     where
-      by : Dec (r < length system.template) → first_stop (Test (decided (dec_lt r (length system.template))) fault ∷ (Test (decided (ext_same (z e.from r) neg_inf)) fault ∷ [])) ≡ Some (fault_answer fault)
-      by (yes l) = test_yes (dec_lt r (length system.template)) fault (Test (decided (ext_same (z e.from r) neg_inf)) fault ∷ []) l ∙ test_no (ext_same (z e.from r) neg_inf) fault [] (λ q. n (l, q))
+      by : Dec (r < length system.template) → first_stop (Test (decided (dec_lt r (length system.template))) fault
+          ∷ (Test (decided (ext_same (z e.from r) neg_inf)) fault ∷ [])) ≡ Some (fault_answer fault)
+      by (yes l) = test_yes (dec_lt r (length system.template)) fault (Test (decided (ext_same (z e.from r) neg_inf)) fault ∷ []) l
+          ∙ test_no (ext_same (z e.from r) neg_inf) fault [] (λ q. n (l, q))
       by (no k) = test_no (dec_lt r (length system.template)) fault (Test (decided (ext_same (z e.from r) neg_inf)) fault ∷ []) k

@@ -1,5 +1,6 @@
 -- Sums with a test behind them, and lists of such.
-use Rattle.std.proofs.Common.{◌≡◌, ◌∙◌, ◌↔◌, ℕ, ◌+◌, ◌<◌, ◌≤◌, Bool, true, false, not, true≢false, List, [], ◌∷◌, ◌++◌, length, get_or, drop, refl, sym, ap, subst}
+use Rattle.std.proofs.Common.{◌≡◌, ◌∙◌, ◌↔◌, ℕ, ◌+◌, ◌<◌, ◌≤◌, Bool, true, false, not, true≢false, List, [], ◌∷◌, ◌++◌, length, get_or}
+use Rattle.std.proofs.Common.{drop, refl, sym, ap, subst}
 use Rattle.std.specs.Prelude.{Option, Some, None, IsTrue, MatchOption, flat_map, is_some}
 use Rattle.std.specs.Ordering.{eq_by_cmp, is_eq}
 use Rattle.std.specs.declared.cmp.Ordering.{Ordering}
@@ -47,7 +48,8 @@ module _ {P : Type 0} (d : Dec P) (site : Site) (fault : Fault) (os : List Opera
 module _ (f : ℕ → List Event) (ks : List ℕ) (i : ℕ) (h : first_stop (flat_map f ks) ≡ first_stop (flat_map f (drop i ks))) where
   module _ (k : ℕ) (l : i < length ks) (e : k ≡ get_or ks i k) where
     left : first_stop (flat_map f ks) ≡ first_stop (f k ++ flat_map f (drop (i + 1) ks))
-    left = h ∙ ap (λ js. first_stop (flat_map f js)) (drop_more ks i k l) ∙ ap (λ j. first_stop (f j ++ flat_map f (drop (i + 1) ks))) (sym e)
+    left = h ∙ ap (λ js. first_stop (flat_map f js)) (drop_more ks i k l)
+        ∙ ap (λ j. first_stop (f j ++ flat_map f (drop (i + 1) ks))) (sym e)
 
     -- where a number's events don't stop, the next numbers are left
     pub all_more : first_stop (f k) ≡ None → first_stop (flat_map f ks) ≡ first_stop (flat_map f (drop (i + 1) ks))

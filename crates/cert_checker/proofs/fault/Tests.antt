@@ -29,19 +29,23 @@ abbrev pub loses : CheckFault → Result ℚ CheckFault
 loses e = Err e
 
 -- what `value_or` makes of it
-pub found_by : (x : ℚ) (events : Site → Fault → List Event) (followed : Result (Option ℚ) (Wide ℚ)) (site : Site) (fault : Fault) (r : Result ℚ CheckFault) → Answers (λ v. v ≡ x) events followed →
-    MatchResult followed (λ o. MatchOption o (r ≡ Err (fault_answer fault)) (λ v. r ≡ Ok v)) (λ w. r ≡ Err (wide_answer site (operation_of (λ q. q) w))) → Found x (events site fault) r
+pub found_by : (x : ℚ) (events : Site → Fault → List Event) (followed : Result (Option ℚ) (Wide ℚ)) (site : Site) (fault : Fault)
+    (r : Result ℚ CheckFault) → Answers (λ v. v ≡ x) events followed →
+    MatchResult followed (λ o. MatchOption o (r ≡ Err (fault_answer fault)) (λ v. r ≡ Ok v))
+    (λ w. r ≡ Err (wide_answer site (operation_of (λ q. q) w))) → Found x (events site fault) r
 found_by x events (Ok (Some v)) site fault r ans e = subst (Found x (events site fault)) (sym e) (ans site fault)
 found_by x events (Ok None) site fault r ans e = subst (Found x (events site fault)) (sym e) (ans site fault)
 found_by x events (Err w) site fault r ans e = subst (Found x (events site fault)) (sym e) (ans site fault)
 
 -- what `ensure` answers where its test is told by a definition
-pub ensured : {Q : Type 0} (d : Dec Q) (passes : Bool) (fault : Fault) (r : Result (Unit {0}) CheckFault) → (IsTrue passes ↔ Q) → (IsOk r ↔ IsTrue passes) → IfErr r (λ f. f ≡ fault_answer fault) → IsRun (λ u. Unit {0}) (Test (decided d) fault ∷ []) r
+pub ensured : {Q : Type 0} (d : Dec Q) (passes : Bool) (fault : Fault) (r : Result (Unit {0}) CheckFault) → (IsTrue passes ↔ Q)
+    → (IsOk r ↔ IsTrue passes) → IfErr r (λ f. f ≡ fault_answer fault) → IsRun (λ u. Unit {0}) (Test (decided d) fault ∷ []) r
 ensured d passes fault (Ok u) told ok err = (tt, alone_yes d fault (told.0 (ok.0 refl)))
 ensured d passes fault (Err f) told ok err = test_no d fault [] (λ q. let t = ok.1 (told.1 q) in cc) ∙ ap (λ x. Some x) (sym err)
 
 -- events none of which stops leave the answer to what comes after them
-pub run_after : {A : Type 0} (P : A → Type 0) (before rest : List Event) (r : Result A CheckFault) → first_stop before ≡ None → IsRun P rest r → IsRun P (before ++ rest) r
+pub run_after : {A : Type 0} (P : A → Type 0) (before rest : List Event) (r : Result A CheckFault) → first_stop before ≡ None
+    → IsRun P rest r → IsRun P (before ++ rest) r
 run_after P before rest (Ok x) none h = (h.0, stop_later before rest none ∙ h.1)
 run_after P before rest (Err f) none h = stop_later before rest none ∙ h
 
@@ -54,9 +58,12 @@ abbrev pub ends_with : CheckFault → Result (Unit {0}) CheckFault
 ends_with e = Err e
 
 -- the bound of an item's unknown
-pub bound_is : (system : Equations) (b : List Ext) (z : Vector) → Stands system b z → (item : Item) (u : ℕ) → item.point ≡ u / length system.template → item.row ≡ u % length system.template → Placed system item → get_or b u neg_inf ≡ bound_at z item
+pub bound_is : (system : Equations) (b : List Ext) (z : Vector) → Stands system b z → (item : Item) (u : ℕ)
+    → item.point ≡ u / length system.template → item.row ≡ u % length system.template → Placed system item
+    → get_or b u neg_inf ≡ bound_at z item
 bound_is system b z h item u point row placed =
     let a = div-add-mod u (length system.template) in
-    let m : length system.template * (u / length system.template) ≡ length system.template * item.point = ap (λ n. length system.template * n) (sym point) in
+    let m : length system.template * (u / length system.template) ≡ length system.template * item.point =
+    ap (λ n. length system.template * n) (sym point) in
     let e : u ≡ item.point * length system.template + item.row = omega (arith, a, m, row) in
     ap (λ n. get_or b n neg_inf) e ∙ h.at item.point item.row placed.point_within placed.row_within

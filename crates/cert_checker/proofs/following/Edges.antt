@@ -16,7 +16,8 @@ pub edge_from : (flow : Flow) (i : ℕ) (e : Edge) → slice_get flow.edges i �
 edge_from flow i e f =
     let l = slice_get_within flow.edges i e f in
     let a = all_at (is_edge (length flow.names) (length flow.points)) flow.edges i e (flow_sizes flow).edges l in
-    let k : IsTrue (is_edge (length flow.names) (length flow.points) e) = subst (λ x. IsTrue (is_edge (length flow.names) (length flow.points) x)) (get_or_from_slice_get flow.edges i e e f) a in
+    let k : IsTrue (is_edge (length flow.names) (length flow.points) e) =
+    subst (λ x. IsTrue (is_edge (length flow.names) (length flow.points) x)) (get_or_from_slice_get flow.edges i e e f) a in
     ltb-true e.from (length flow.points) (both (nat_lt e.from (length flow.points)) _ k).0
 
 -- a template has a row

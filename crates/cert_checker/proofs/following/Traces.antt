@@ -1,5 +1,6 @@
 -- The first event that stops, and what a trace does.
-use Rattle.std.proofs.Common.{◌≡◌, ◌∙◌, ℕ, suc, ◌+◌, ◌<◌, Bool, true, false, List, [], ◌∷◌, ◌++◌, length, map, refl, sym, ap, ap₂, subst, true≢false, arith}
+use Rattle.std.proofs.Common.{◌≡◌, ◌∙◌, ℕ, suc, ◌+◌, ◌<◌, Bool, true, false, List, [], ◌∷◌, ◌++◌, length, map, refl, sym, ap, ap₂, subst}
+use Rattle.std.proofs.Common.{true≢false, arith}
 use Rattle.std.specs.Prelude.{ℤ, Option, Some, None, if◌then◌else◌, cond, Result, Ok, Err, MatchResult, MatchOption}
 use Rattle.std.proofs.lemmas.Option.{slice_get_within}
 use Rattle.base_numbers.specs.Rational.{ℚ}
@@ -65,11 +66,13 @@ pub alone_yes : {P : Type 0} (d : Dec P) (f : Fault) → P → first_stop (Test 
 unfolding first_stop
 alone_yes d f h = test_yes d f [] h
 
-none_by : (b : Bool) (site : Site) (o : Operation) (n : Option Operation) (s : Option CheckFault) → (n ≡ None → s ≡ None) → cond b (Some o) n ≡ None → or_else (if b then Some (wide_answer site o) else None) s ≡ None
+none_by : (b : Bool) (site : Site) (o : Operation) (n : Option Operation) (s : Option CheckFault) → (n ≡ None → s ≡ None)
+    → cond b (Some o) n ≡ None → or_else (if b then Some (wide_answer site o) else None) s ≡ None
 none_by true site o n s h k = cc
 none_by false site o n s h k = h k
 
-some_by : (b : Bool) (site : Site) (o w : Operation) (n : Option Operation) (s : Option CheckFault) → (n ≡ Some w → s ≡ Some (wide_answer site w)) → cond b (Some o) n ≡ Some w →
+some_by : (b : Bool) (site : Site) (o w : Operation) (n : Option Operation) (s : Option CheckFault)
+    → (n ≡ Some w → s ≡ Some (wide_answer site w)) → cond b (Some o) n ≡ Some w →
     or_else (if b then Some (wide_answer site o) else None) s ≡ Some (wide_answer site w)
 some_by true site o w n s h k = let j : o ≡ w = cc in ap (λ x. Some (wide_answer site x)) j
 some_by false site o w n s h k = h k
@@ -78,13 +81,16 @@ some_by false site o w n s h k = h k
 pub sums_none : (site : Site) (os : List Operation) → first_wide long_limit os ≡ None → first_stop (sums site os) ≡ None
 unfolding first_stop sums
 sums_none site [] e = refl
-sums_none site (o ∷ os) e = none_by (is_wide long_limit o) site o (first_wide long_limit os) (first_stop (sums site os)) (λ k. sums_none site os k) e
+sums_none site (o ∷ os) e = none_by (is_wide long_limit o) site o (first_wide long_limit os) (first_stop (sums site os))
+    (λ k. sums_none site os k) e
 
 -- and some with one that is
-pub sums_some : (site : Site) (os : List Operation) (w : Operation) → first_wide long_limit os ≡ Some w → first_stop (sums site os) ≡ Some (wide_answer site w)
+pub sums_some : (site : Site) (os : List Operation) (w : Operation) → first_wide long_limit os ≡ Some w
+    → first_stop (sums site os) ≡ Some (wide_answer site w)
 unfolding first_stop sums
 sums_some site [] w e = cc
-sums_some site (o ∷ os) w e = some_by (is_wide long_limit o) site o w (first_wide long_limit os) (first_stop (sums site os)) (λ k. sums_some site os w k) e
+sums_some site (o ∷ os) w e = some_by (is_wide long_limit o) site o w (first_wide long_limit os) (first_stop (sums site os))
+    (λ k. sums_some site os w k) e
 
 -- ---- fits
 module _ (system : Equations) (b : List Ext) (z : Vector) (h : Stands system b z) (p : ℕ) (l : p < system.points) where
@@ -92,7 +98,8 @@ module _ (system : Equations) (b : List Ext) (z : Vector) (h : Stands system b z
       fit_operations rows (vector_of (length system.template) b p) k x ≡ fit_operations rows (z p) k x
   fit_same [] k x e = refl
   fit_same (row ∷ rows) k x e =
-      ap₂ (λ v rest. row_test row x v ++ cond (is_at_most (dotℚ row x) v) rest []) (h.at p k l (omega (arith, e))) (fit_same rows (suc k) x (omega (arith, e)))
+      ap₂ (λ v rest. row_test row x v ++ cond (is_at_most (dotℚ row x) v) rest []) (h.at p k l (omega (arith, e)))
+      (fit_same rows (suc k) x (omega (arith, e)))
 
   fits_to : (x : RationalState) → Fits system (vector_of (length system.template) b) p x → Fits system z p x
   fits_to x f r row e = subst (λ v. fin (dotℚ row x) ≤ᴱ v) (h.at p r l (slice_get_within system.template r row e)) (f r row e)
@@ -106,26 +113,36 @@ module _ (system : Equations) (b : List Ext) (z : Vector) (h : Stands system b z
     same = fit_same system.template 0 x (omega arith)
 
     -- a state that fits, one that doesn't, and one whose sums are too wide
-    fit_yes : Fits system (vector_of (length system.template) b) p x → first_wide long_limit (fit_operations system.template (vector_of (length system.template) b p) 0 x) ≡ None → first_stop (fit_events site f system z p x) ≡ None
+    fit_yes : Fits system (vector_of (length system.template) b) p x →
+        first_wide long_limit (fit_operations system.template (vector_of (length system.template) b p) 0 x) ≡ None
+        → first_stop (fit_events site f system z p x) ≡ None
     unfolding fit_events
     fit_yes k n =
-        stop_later (sums site (fit_operations system.template (z p) 0 x)) (Test (decided (dec_fits system z p x)) f ∷ []) (sums_none site (fit_operations system.template (z p) 0 x) (ap (first_wide long_limit) (sym same) ∙ n))
+        stop_later (sums site (fit_operations system.template (z p) 0 x)) (Test (decided (dec_fits system z p x)) f ∷ [])
+        (sums_none site (fit_operations system.template (z p) 0 x) (ap (first_wide long_limit) (sym same) ∙ n))
         ∙ alone_yes (dec_fits system z p x) f (fits_to x k)
 
-    fit_no : ¬ (Fits system (vector_of (length system.template) b) p x) → first_wide long_limit (fit_operations system.template (vector_of (length system.template) b p) 0 x) ≡ None → first_stop (fit_events site f system z p x) ≡ Some (fault_answer f)
+    fit_no : ¬ (Fits system (vector_of (length system.template) b) p x)
+        → first_wide long_limit (fit_operations system.template (vector_of (length system.template) b p) 0 x) ≡ None
+        → first_stop (fit_events site f system z p x) ≡ Some (fault_answer f)
     unfolding fit_events
     fit_no k n =
-        stop_later (sums site (fit_operations system.template (z p) 0 x)) (Test (decided (dec_fits system z p x)) f ∷ []) (sums_none site (fit_operations system.template (z p) 0 x) (ap (first_wide long_limit) (sym same) ∙ n))
+        stop_later (sums site (fit_operations system.template (z p) 0 x)) (Test (decided (dec_fits system z p x)) f ∷ [])
+        (sums_none site (fit_operations system.template (z p) 0 x) (ap (first_wide long_limit) (sym same) ∙ n))
         ∙ test_no (dec_fits system z p x) f [] (λ j. k (fits_from x j))
 
-    fit_wide : (w : Operation) → first_wide long_limit (fit_operations system.template (vector_of (length system.template) b p) 0 x) ≡ Some w → first_stop (fit_events site f system z p x) ≡ Some (wide_answer site w)
+    fit_wide : (w : Operation) → first_wide long_limit (fit_operations system.template (vector_of (length system.template) b p) 0 x)
+        ≡ Some w → first_stop (fit_events site f system z p x) ≡ Some (wide_answer site w)
     unfolding fit_events
     fit_wide w e =
-        stop_sooner (sums site (fit_operations system.template (z p) 0 x)) (Test (decided (dec_fits system z p x)) f ∷ []) (wide_answer site w)
+        stop_sooner (sums site (fit_operations system.template (z p) 0 x)) (Test (decided (dec_fits system z p x)) f ∷ [])
+        (wide_answer site w)
         (sums_some site (fit_operations system.template (z p) 0 x) w (ap (first_wide long_limit) (sym same) ∙ e))
 
   -- what the test of a state answers at the list of bounds, it answers at the vector
-  pub fit_answers : (x : RationalState) (res : Result Bool (Wide ℚ)) → TestAnswers (Fits system (vector_of (length system.template) b) p x) (fit_operations system.template (vector_of (length system.template) b p) 0 x) res →
+  pub fit_answers : (x : RationalState) (res : Result Bool (Wide ℚ)) →
+      TestAnswers (Fits system (vector_of (length system.template) b) p x)
+      (fit_operations system.template (vector_of (length system.template) b p) 0 x) res →
       FitAnswers system z p x res
   fit_answers x (Ok true) t = let f = t.0.0 refl in (fits_to x f, λ site fault. fit_yes site fault x f t.1)
   fit_answers x (Ok false) t = λ site fault. fit_no site fault x (λ f. true≢false (sym (t.0.1 f))) t.1
@@ -140,53 +157,70 @@ count_same (Guard form ∷ actions) = count_same actions
 count_same (Assign var form ∷ actions) = count_same actions
 count_same (Havoc var ∷ actions) = ap suc (count_same actions)
 
-module _ (site : Site) (f : Fault) (system : Equations) (z : Vector) (edge : Edge) (row : List ℤ) (t : Pieces) (start : length t.start ≡ system.variables) (free : length t.free ≡ free_count edge.actions) where
+module _ (site : Site) (f : Fault) (system : Equations) (z : Vector) (edge : Edge) (row : List ℤ) (t : Pieces)
+    (start : length t.start ≡ system.variables) (free : length t.free ≡ free_count edge.actions) where
   starts : start_of system.variables (word t) ≡ t.start
   starts = start_is system.variables t.start t.free start
 
   frees : length t.free ≡ word_count edge.actions
   frees = free ∙ count_same edge.actions
 
-  fitting : first_stop (fit_events site f system z edge.from (start_of system.variables (word t))) ≡ first_stop (fit_events site f system z edge.from t.start)
+  fitting : first_stop (fit_events site f system z edge.from (start_of system.variables (word t)))
+      ≡ first_stop (fit_events site f system z edge.from t.start)
   fitting = ap (λ x. first_stop (fit_events site f system z edge.from x)) starts
 
   -- a start that stops
-  pub run_sooner : (a : CheckFault) → first_stop (fit_events site f system z edge.from t.start) ≡ Some a → first_stop (run_events site f system z edge row t) ≡ Some a
+  pub run_sooner : (a : CheckFault) → first_stop (fit_events site f system z edge.from t.start) ≡ Some a
+      → first_stop (run_events site f system z edge row t) ≡ Some a
   unfolding run_events
   run_sooner a e =
       stop_sooner (fit_events site f system z edge.from (start_of system.variables (word t)))
-      (sums site (trace_operations edge.actions t.start t.free row) ++ Test (decided (dec_runs system z edge (word t))) f ∷ []) a (fitting ∙ e)
+      (sums site (trace_operations edge.actions t.start t.free row) ++ Test (decided (dec_runs system z edge (word t))) f ∷ []) a
+      (fitting ∙ e)
 
   module _ (e : first_stop (fit_events site f system z edge.from t.start) ≡ None) where
-    run_later : first_stop (run_events site f system z edge row t) ≡ first_stop (sums site (trace_operations edge.actions t.start t.free row) ++ Test (decided (dec_runs system z edge (word t))) f ∷ [])
+    run_later : first_stop (run_events site f system z edge row t) ≡ first_stop
+        (sums site (trace_operations edge.actions t.start t.free row) ++ Test (decided (dec_runs system z edge (word t))) f ∷ [])
     unfolding run_events
     run_later =
         stop_later (fit_events site f system z edge.from (start_of system.variables (word t)))
-        (sums site (trace_operations edge.actions t.start t.free row) ++ Test (decided (dec_runs system z edge (word t))) f ∷ []) (fitting ∙ e)
+        (sums site (trace_operations edge.actions t.start t.free row) ++ Test (decided (dec_runs system z edge (word t))) f ∷ [])
+        (fitting ∙ e)
 
     -- a trace that runs, with its value; one that doesn't; and one whose sums are too wide
-    run_yes : Fits system z edge.from t.start → (v : ℚ) → TraceValue edge.actions t.start t.free row (Some v) → first_wide long_limit (trace_operations edge.actions t.start t.free row) ≡ None →
+    run_yes : Fits system z edge.from t.start → (v : ℚ) → TraceValue edge.actions t.start t.free row (Some v)
+        → first_wide long_limit (trace_operations edge.actions t.start t.free row) ≡ None →
         (v ≡ end_value system edge row (word t)) × (first_stop (run_events site f system z edge row t) ≡ None)
     run_yes k v h n =
         let y = h.0 in
         let g = h.1 in (
           h.2 ∙ sym (end_value_is system edge row t.start t.free y start g),
-          run_later ∙ stop_later (sums site (trace_operations edge.actions t.start t.free row)) (Test (decided (dec_runs system z edge (word t))) f ∷ []) (sums_none site (trace_operations edge.actions t.start t.free row) n)
+          run_later ∙ stop_later (sums site (trace_operations edge.actions t.start t.free row))
+              (Test (decided (dec_runs system z edge (word t))) f ∷ [])
+              (sums_none site (trace_operations edge.actions t.start t.free row) n)
               ∙ alone_yes (dec_runs system z edge (word t)) f ((runs_iff system z edge t.start t.free start frees).1 (k, (y, g))),
         )
 
-    run_no : TraceValue edge.actions t.start t.free row None → first_wide long_limit (trace_operations edge.actions t.start t.free row) ≡ None → first_stop (run_events site f system z edge row t) ≡ Some (fault_answer f)
+    run_no : TraceValue edge.actions t.start t.free row None → first_wide long_limit (trace_operations edge.actions t.start t.free row)
+        ≡ None → first_stop (run_events site f system z edge row t) ≡ Some (fault_answer f)
     run_no h n =
-        run_later ∙ stop_later (sums site (trace_operations edge.actions t.start t.free row)) (Test (decided (dec_runs system z edge (word t))) f ∷ []) (sums_none site (trace_operations edge.actions t.start t.free row) n)
-        ∙ test_no (dec_runs system z edge (word t)) f [] (λ r. let j = ((runs_iff system z edge t.start t.free start frees).0 r).1 in h j.0 j.1)
+        run_later ∙ stop_later (sums site (trace_operations edge.actions t.start t.free row))
+        (Test (decided (dec_runs system z edge (word t))) f ∷ []) (sums_none site (trace_operations edge.actions t.start t.free row) n)
+        ∙ test_no (dec_runs system z edge (word t)) f [] (λ r. let j = ((runs_iff system z edge t.start t.free start frees).0 r).1 in
+        h j.0 j.1)
 
-    run_wide : (w : Operation) → first_wide long_limit (trace_operations edge.actions t.start t.free row) ≡ Some w → first_stop (run_events site f system z edge row t) ≡ Some (wide_answer site w)
+    run_wide : (w : Operation) → first_wide long_limit (trace_operations edge.actions t.start t.free row) ≡ Some w
+        → first_stop (run_events site f system z edge row t) ≡ Some (wide_answer site w)
     run_wide w n =
-        run_later ∙ stop_sooner (sums site (trace_operations edge.actions t.start t.free row)) (Test (decided (dec_runs system z edge (word t))) f ∷ []) (wide_answer site w) (sums_some site (trace_operations edge.actions t.start t.free row) w n)
+        run_later ∙ stop_sooner (sums site (trace_operations edge.actions t.start t.free row))
+        (Test (decided (dec_runs system z edge (word t))) f ∷ []) (wide_answer site w)
+        (sums_some site (trace_operations edge.actions t.start t.free row) w n)
 
     -- what following answers
-    pub run_answers : Fits system z edge.from t.start → (res : Result (Option ℚ) (Wide ℚ)) → TraceAnswers edge.actions t.start t.free row res →
-        MatchResult res (λ o. MatchOption o (first_stop (run_events site f system z edge row t) ≡ Some (fault_answer f)) (λ v. (v ≡ end_value system edge row (word t)) × (first_stop (run_events site f system z edge row t) ≡ None)))
+    pub run_answers : Fits system z edge.from t.start → (res : Result (Option ℚ) (Wide ℚ))
+        → TraceAnswers edge.actions t.start t.free row res →
+        MatchResult res (λ o. MatchOption o (first_stop (run_events site f system z edge row t) ≡ Some (fault_answer f))
+        (λ v. (v ≡ end_value system edge row (word t)) × (first_stop (run_events site f system z edge row t) ≡ None)))
         (λ w. first_stop (run_events site f system z edge row t) ≡ Some (wide_answer site (operation_of (λ q. q) w)))
     run_answers k (Ok (Some v)) h = run_yes k v h.0 h.1
     run_answers k (Ok None) h = run_no h.0 h.1
@@ -194,41 +228,60 @@ module _ (site : Site) (f : Fault) (system : Equations) (z : Vector) (edge : Edg
 
   -- ---- directions
   -- a direction whose start stops stops there
-  pub carry_sooner : (a : CheckFault) → first_stop (fit_events site f system z edge.from t.start) ≡ Some a → first_stop (carry_events site f system z edge row t) ≡ Some a
+  pub carry_sooner : (a : CheckFault) → first_stop (fit_events site f system z edge.from t.start) ≡ Some a
+      → first_stop (carry_events site f system z edge row t) ≡ Some a
   unfolding carry_events
   carry_sooner a e =
       stop_sooner (fit_events site f system z edge.from (start_of system.variables (word t)))
-      (sums site (trace_operations (map linear_action edge.actions) t.start t.free row) ++ Test (decided (dec_falls system edge (word t))) f ∷ []) a (fitting ∙ e)
+      (sums site (trace_operations (map linear_action edge.actions) t.start t.free row) ++ Test (decided (dec_falls system edge (word t))) f
+      ∷ []) a (fitting ∙ e)
 
   module _ (e : first_stop (fit_events site f system z edge.from t.start) ≡ None) where
-    carry_later : first_stop (carry_events site f system z edge row t) ≡ first_stop (sums site (trace_operations (map linear_action edge.actions) t.start t.free row) ++ Test (decided (dec_falls system edge (word t))) f ∷ [])
+    carry_later : first_stop (carry_events site f system z edge row t)
+        ≡ first_stop (sums site (trace_operations (map linear_action edge.actions) t.start t.free row)
+        ++ Test (decided (dec_falls system edge (word t))) f ∷ [])
     unfolding carry_events
     carry_later =
         stop_later (fit_events site f system z edge.from (start_of system.variables (word t)))
-        (sums site (trace_operations (map linear_action edge.actions) t.start t.free row) ++ Test (decided (dec_falls system edge (word t))) f ∷ []) (fitting ∙ e)
+        (sums site (trace_operations (map linear_action edge.actions) t.start t.free row)
+        ++ Test (decided (dec_falls system edge (word t))) f ∷ []) (fitting ∙ e)
 
-    carry_yes : (v : ℚ) → TraceValue (map linear_action edge.actions) t.start t.free row (Some v) → first_wide long_limit (trace_operations (map linear_action edge.actions) t.start t.free row) ≡ None →
+    carry_yes : (v : ℚ) → TraceValue (map linear_action edge.actions) t.start t.free row (Some v)
+        → first_wide long_limit (trace_operations (map linear_action edge.actions) t.start t.free row) ≡ None →
         (v ≡ lin (end_form system.variables edge.actions row) (word t)) × (first_stop (carry_events site f system z edge row t) ≡ None)
     carry_yes v h n =
         let y = h.0 in
         let g = h.1 in (
           h.2 ∙ sym (end_slope_is system.variables edge.actions row t.start t.free y start g),
-          carry_later ∙ stop_later (sums site (trace_operations (map linear_action edge.actions) t.start t.free row)) (Test (decided (dec_falls system edge (word t))) f ∷ []) (sums_none site (trace_operations (map linear_action edge.actions) t.start t.free row) n)
-              ∙ alone_yes (dec_falls system edge (word t)) f ((falls_followed system.variables edge.actions t.start t.free start frees).1 (y, g)),
+          carry_later ∙ stop_later (sums site (trace_operations (map linear_action edge.actions) t.start t.free row))
+              (Test (decided (dec_falls system edge (word t))) f ∷ [])
+              (sums_none site (trace_operations (map linear_action edge.actions) t.start t.free row) n)
+              ∙ alone_yes (dec_falls system edge (word t)) f ((falls_followed system.variables edge.actions t.start t.free start frees).1
+              (y, g)),
         )
 
-    carry_no : TraceValue (map linear_action edge.actions) t.start t.free row None → first_wide long_limit (trace_operations (map linear_action edge.actions) t.start t.free row) ≡ None → first_stop (carry_events site f system z edge row t) ≡ Some (fault_answer f)
+    carry_no : TraceValue (map linear_action edge.actions) t.start t.free row None
+        → first_wide long_limit (trace_operations (map linear_action edge.actions) t.start t.free row) ≡ None
+        → first_stop (carry_events site f system z edge row t) ≡ Some (fault_answer f)
     carry_no h n =
-        carry_later ∙ stop_later (sums site (trace_operations (map linear_action edge.actions) t.start t.free row)) (Test (decided (dec_falls system edge (word t))) f ∷ []) (sums_none site (trace_operations (map linear_action edge.actions) t.start t.free row) n)
-        ∙ test_no (dec_falls system edge (word t)) f [] (λ r. let j = (falls_followed system.variables edge.actions t.start t.free start frees).0 r in h j.0 j.1)
+        carry_later ∙ stop_later (sums site (trace_operations (map linear_action edge.actions) t.start t.free row))
+        (Test (decided (dec_falls system edge (word t))) f ∷ []) (sums_none site
+        (trace_operations (map linear_action edge.actions) t.start t.free row) n)
+        ∙ test_no (dec_falls system edge (word t)) f [] (λ r. let j = (falls_followed system.variables edge.actions t.start t.free start
+        frees).0 r in h j.0 j.1)
 
-    carry_wide : (w : Operation) → first_wide long_limit (trace_operations (map linear_action edge.actions) t.start t.free row) ≡ Some w → first_stop (carry_events site f system z edge row t) ≡ Some (wide_answer site w)
+    carry_wide : (w : Operation) → first_wide long_limit (trace_operations (map linear_action edge.actions) t.start t.free row) ≡ Some w
+        → first_stop (carry_events site f system z edge row t) ≡ Some (wide_answer site w)
     carry_wide w n =
-        carry_later ∙ stop_sooner (sums site (trace_operations (map linear_action edge.actions) t.start t.free row)) (Test (decided (dec_falls system edge (word t))) f ∷ []) (wide_answer site w) (sums_some site (trace_operations (map linear_action edge.actions) t.start t.free row) w n)
+        carry_later ∙ stop_sooner (sums site (trace_operations (map linear_action edge.actions) t.start t.free row))
+        (Test (decided (dec_falls system edge (word t))) f ∷ []) (wide_answer site w)
+        (sums_some site (trace_operations (map linear_action edge.actions) t.start t.free row) w n)
 
     -- what following answers
     pub carry_answers : (res : Result (Option ℚ) (Wide ℚ)) → TraceAnswers (map linear_action edge.actions) t.start t.free row res →
-        MatchResult res (λ o. MatchOption o (first_stop (carry_events site f system z edge row t) ≡ Some (fault_answer f)) (λ v. (v ≡ lin (end_form system.variables edge.actions row) (word t)) × (first_stop (carry_events site f system z edge row t) ≡ None)))
+        MatchResult res (λ o. MatchOption o (first_stop (carry_events site f system z edge row t) ≡ Some (fault_answer f))
+        (λ v. (v ≡ lin (end_form system.variables edge.actions row) (word t))
+        × (first_stop (carry_events site f system z edge row t) ≡ None)))
         (λ w. first_stop (carry_events site f system z edge row t) ≡ Some (wide_answer site (operation_of (λ q. q) w)))
     carry_answers (Ok (Some v)) h = carry_yes v h.0 h.1
     carry_answers (Ok None) h = carry_no h.0 h.1

@@ -31,12 +31,15 @@ module _ (system : Equations) (item : Item) (placed : Placed system item) (edge 
   edge_at_place = subst (λ n. slice_get system.edges n ≡ Some (edge_of system item)) same (edge_found system item placed.edge_within)
 
   -- the free values of a trace that has the edge's lengths
-  pub free_of : (t : Pieces) → Sized system item t → (e : Edge) → slice_get system.edges edge ≡ Some e → length t.free ≡ free_count e.actions
+  pub free_of : (t : Pieces) → Sized system item t → (e : Edge) → slice_get system.edges edge ≡ Some e
+      → length t.free ≡ free_count e.actions
   free_of t h e f =
       let g = edge_at_place in
       let q : edge_of system item ≡ e = cc in
       h.1 ∙ ap (λ x. word_count x.actions) q ∙ sym (count_same e.actions)
 
 -- its row
-pub row_at_place : (system : Equations) (item : Item) → Placed system item → (u n : ℕ) → item.row ≡ u % length system.template → n ≡ length system.template → slice_get system.template (u % n) ≡ Some (row_of system item)
-row_at_place system item placed u n row e = subst (λ k. slice_get system.template k ≡ Some (row_of system item)) (row ∙ ap (λ m. u % m) (sym e)) (row_found system item placed.row_within)
+pub row_at_place : (system : Equations) (item : Item) → Placed system item → (u n : ℕ) → item.row ≡ u % length system.template
+    → n ≡ length system.template → slice_get system.template (u % n) ≡ Some (row_of system item)
+row_at_place system item placed u n row e = subst (λ k. slice_get system.template k ≡ Some (row_of system item))
+    (row ∙ ap (λ m. u % m) (sym e)) (row_found system item placed.row_within)

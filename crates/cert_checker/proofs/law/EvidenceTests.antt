@@ -42,7 +42,8 @@ test_then (no n) f es = refl
 
 -- ---- tests with one fault
 -- a test in two parts
-pub unless_pair : {A P Q : Type 0} (all : Dec A) (p : Dec P) (q : Dec Q) (f : Fault) (next : Option Fault) → (A → P) → (A → Q) → (P → Q → A) → unless p f (unless q f next) ≡ unless all f next
+pub unless_pair : {A P Q : Type 0} (all : Dec A) (p : Dec P) (q : Dec Q) (f : Fault) (next : Option Fault) → (A → P) → (A → Q) → (P → Q → A)
+    → unless p f (unless q f next) ≡ unless all f next
 unless_pair (yes a) (yes x) (yes y) f next left right join = refl
 unless_pair (yes a) (yes x) (no m) f next left right join = absurd (m (right a))
 unless_pair (yes a) (no m) q f next left right join = absurd (m (left a))
@@ -51,7 +52,8 @@ unless_pair (no n) (yes x) (no m) f next left right join = refl
 unless_pair (no n) (no m) q f next left right join = refl
 
 -- a first part that the second one needs
-fits_first : {P Q : Type 0} (p : Dec P) (q : Dec Q) (f : Fault) (next : Option Fault) → (Q → P) → and_then (and_then (unless p f None) (unless q f None)) next ≡ unless q f next
+fits_first : {P Q : Type 0} (p : Dec P) (q : Dec Q) (f : Fault) (next : Option Fault) → (Q → P)
+    → and_then (and_then (unless p f None) (unless q f None)) next ≡ unless q f next
 fits_first (yes x) (yes y) f next need = refl
 fits_first (yes x) (no m) f next need = refl
 fits_first (no n) (yes y) f next need = absurd (n (need y))
@@ -69,13 +71,15 @@ unfolding run_events fit_events
 run_then site f system z edge row t es =
     let fitted = dec_fits system z edge.from (start_of system.variables (word t)) in
     let runs = dec_runs system z edge (word t) in
-    let first = sums site (fit_operations system.template (z edge.from) 0 (start_of system.variables (word t))) ++ Test (decided fitted) f ∷ [] in
+    let first = sums site (fit_operations system.template (z edge.from) 0 (start_of system.variables (word t))) ++ Test (decided fitted) f
+    ∷ [] in
     let second = sums site (trace_operations edge.actions t.start t.free row) ++ Test (decided runs) f ∷ [] in
     first_fault-append (first ++ second) es
     ∙ ap (λ a. and_then a (first_fault es))
     (first_fault-append first second
     ∙ ap₂ and_then
-    (sums_then site (fit_operations system.template (z edge.from) 0 (start_of system.variables (word t))) (Test (decided fitted) f ∷ []) ∙ none_then fitted f)
+    (sums_then site (fit_operations system.template (z edge.from) 0 (start_of system.variables (word t))) (Test (decided fitted) f ∷ [])
+    ∙ none_then fitted f)
     (sums_then site (trace_operations edge.actions t.start t.free row) (Test (decided runs) f ∷ []) ∙ none_then runs f))
     ∙ fits_first fitted runs f (first_fault es) (λ h. h.fits)
 
@@ -108,12 +112,14 @@ module _ {P : ℕ → Type 0} (d : (k : ℕ) → Dec (P k)) where
 
   -- each is tested after a sum
   pub each_then : (site : Site) (f : Fault) (os : ℕ → List Operation) (es : List Event) (a n : ℕ) (all : Dec (From a n)) →
-      first_fault (flat_map (λ k. sums site (os k) ++ Test (decided (d k)) f ∷ []) (range_with_len a n) ++ es) ≡ unless all f (first_fault es)
+      first_fault (flat_map (λ k. sums site (os k) ++ Test (decided (d k)) f ∷ []) (range_with_len a n) ++ es)
+      ≡ unless all f (first_fault es)
   each_then site f os es a zero (yes h) = refl
   each_then site f os es a zero (no m) = absurd (m (all_none a))
   each_then site f os es a (suc n) all =
       let rest = flat_map (λ k. sums site (os k) ++ Test (decided (d k)) f ∷ []) (range_with_len (a + 1) n) in
-      ap first_fault (append_assoc (sums site (os a) ++ Test (decided (d a)) f ∷ []) rest es ∙ append_assoc (sums site (os a)) (Test (decided (d a)) f ∷ []) (rest ++ es))
+      ap first_fault (append_assoc (sums site (os a) ++ Test (decided (d a)) f ∷ []) rest es
+      ∙ append_assoc (sums site (os a)) (Test (decided (d a)) f ∷ []) (rest ++ es))
       ∙ sums_then site (os a) (Test (decided (d a)) f ∷ (rest ++ es))
       ∙ test_then (d a) f (rest ++ es)
       ∙ ap (unless (d a) f) (each_then site f os es (a + 1) n (dec_from (a + 1) n))

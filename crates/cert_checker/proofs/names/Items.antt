@@ -1,5 +1,7 @@
 -- Items by their places, and the unknowns that they name.
-use Rattle.std.proofs.Common.{◌≡◌, ◌≢◌, ◌∙◌, ◌↔◌, ⊎_elim, ℕ, zero, suc, ◌+◌, ◌-◌, ◌*◌, ◌/◌, ◌%◌, ◌<◌, ◌≤◌, ◌&&◌, eqb, Bool, true, false, true≢false, List, [], ◌∷◌, ◌++◌, length, get_or, drop, refl, sym, ap, ap₂, subst, add-one, arith, if◌then◌else◌}
+use Rattle.std.proofs.Common.{◌≡◌, ◌≢◌, ◌∙◌, ◌↔◌, ⊎_elim, ℕ, zero, suc, ◌+◌, ◌-◌, ◌*◌, ◌/◌, ◌%◌, ◌<◌, ◌≤◌, ◌&&◌, eqb, Bool, true, false}
+use Rattle.std.proofs.Common.{true≢false, List, [], ◌∷◌, ◌++◌, length, get_or, drop, refl, sym, ap, ap₂, subst, add-one, arith}
+use Rattle.std.proofs.Common.{if◌then◌else◌}
 use Rattle.std.specs.Prelude.{Some, None, slice_set, slice_get}
 use Rattle.std.proofs.lemmas.Nat.{div-mul-add, mod-mul-add}
 use Rattle.std.proofs.Math.Nat.{div-add-mod, mul-le-mul_right}
@@ -41,24 +43,29 @@ kind_same m n (Ray items) = refl
 module _ (kind : Kind) (system : Equations) (z : Vector) (s : ℕ) (items : List Item) where
   -- what is left from item i on
   abbrev pub FirstLeft : ℕ → Type 0
-  FirstLeft i = first_stop (first_pass_events kind system z s 0 [] items) ≡ first_stop (first_pass_events kind system z s i (earlier_items items i) (drop i items))
+  FirstLeft i = first_stop (first_pass_events kind system z s 0 [] items)
+      ≡ first_stop (first_pass_events kind system z s i (earlier_items items i) (drop i items))
 
   module _ (i : ℕ) (l : i < length items) (h : FirstLeft i) where
     first_left : FirstLeft i → first_stop (first_pass_events kind system z s 0 [] items)
-        ≡ first_stop (first_events kind system z s i (earlier_items items i) (get_or items i no_item) ++ first_pass_events kind system z s (suc i) (earlier_items items (suc i)) (drop (suc i) items))
+        ≡ first_stop (first_events kind system z s i (earlier_items items i) (get_or items i no_item)
+        ++ first_pass_events kind system z s (suc i) (earlier_items items (suc i)) (drop (suc i) items))
     unfolding first_pass_events earlier_items
     first_left k = k ∙ ap (λ is. first_stop (first_pass_events kind system z s i (earlier_items items i) is)) (drop-cons items i no_item l)
 
     -- where the first pass doesn't stop at an item, the next items are left
     pub first_more : first_stop (first_events kind system z s i (earlier_items items i) (get_or items i no_item)) ≡ None → FirstLeft (i + 1)
     first_more e =
-        first_left h ∙ stop_later (first_events kind system z s i (earlier_items items i) (get_or items i no_item)) (first_pass_events kind system z s (suc i) (earlier_items items (suc i)) (drop (suc i) items)) e
+        first_left h ∙ stop_later (first_events kind system z s i (earlier_items items i) (get_or items i no_item))
+        (first_pass_events kind system z s (suc i) (earlier_items items (suc i)) (drop (suc i) items)) e
         ∙ ap (λ j. first_stop (first_pass_events kind system z s j (earlier_items items j) (drop j items))) (sym (add-one i))
 
     -- where the first pass stops at an item, the whole pass stops there
-    pub first_stops : (f : CheckFault) → first_stop (first_events kind system z s i (earlier_items items i) (get_or items i no_item)) ≡ Some f → first_stop (first_pass_events kind system z s 0 [] items) ≡ Some f
+    pub first_stops : (f : CheckFault) → first_stop (first_events kind system z s i (earlier_items items i) (get_or items i no_item))
+        ≡ Some f → first_stop (first_pass_events kind system z s 0 [] items) ≡ Some f
     first_stops f e =
-        first_left h ∙ stop_sooner (first_events kind system z s i (earlier_items items i) (get_or items i no_item)) (first_pass_events kind system z s (suc i) (earlier_items items (suc i)) (drop (suc i) items)) f e
+        first_left h ∙ stop_sooner (first_events kind system z s i (earlier_items items i) (get_or items i no_item))
+        (first_pass_events kind system z s (suc i) (earlier_items items (suc i)) (drop (suc i) items)) f e
 
   -- at first all items are left to the first pass
   pub first_none : FirstLeft 0
@@ -73,22 +80,28 @@ module _ (kind : Kind) (system : Equations) (z : Vector) (s : ℕ) (items : List
   -- ---- the second pass
   -- what the second pass leaves from item i on
   abbrev pub SecondLeft : ℕ → Type 0
-  SecondLeft i = first_stop (second_pass_events kind system z items s 0 items) ≡ first_stop (second_pass_events kind system z items s i (drop i items))
+  SecondLeft i = first_stop (second_pass_events kind system z items s 0 items)
+      ≡ first_stop (second_pass_events kind system z items s i (drop i items))
 
   module _ (i : ℕ) (l : i < length items) (h : SecondLeft i) where
-    second_left : first_stop (second_pass_events kind system z items s 0 items) ≡ first_stop (second_events kind system z items s i (get_or items i no_item) ++ second_pass_events kind system z items s (suc i) (drop (suc i) items))
+    second_left : first_stop (second_pass_events kind system z items s 0 items)
+        ≡ first_stop (second_events kind system z items s i (get_or items i no_item)
+        ++ second_pass_events kind system z items s (suc i) (drop (suc i) items))
     unfolding second_pass_events
     second_left = h ∙ ap (λ is. first_stop (second_pass_events kind system z items s i is)) (drop-cons items i no_item l)
 
     -- where the second pass doesn't stop at an item, the next items are left
     pub second_more : first_stop (second_events kind system z items s i (get_or items i no_item)) ≡ None → SecondLeft (i + 1)
     second_more e =
-        second_left ∙ stop_later (second_events kind system z items s i (get_or items i no_item)) (second_pass_events kind system z items s (suc i) (drop (suc i) items)) e
+        second_left ∙ stop_later (second_events kind system z items s i (get_or items i no_item))
+        (second_pass_events kind system z items s (suc i) (drop (suc i) items)) e
         ∙ ap (λ j. first_stop (second_pass_events kind system z items s j (drop j items))) (sym (add-one i))
 
     -- where the second pass stops at an item, the whole pass stops there
-    pub second_stops : (f : CheckFault) → first_stop (second_events kind system z items s i (get_or items i no_item)) ≡ Some f → first_stop (second_pass_events kind system z items s 0 items) ≡ Some f
-    second_stops f e = second_left ∙ stop_sooner (second_events kind system z items s i (get_or items i no_item)) (second_pass_events kind system z items s (suc i) (drop (suc i) items)) f e
+    pub second_stops : (f : CheckFault) → first_stop (second_events kind system z items s i (get_or items i no_item)) ≡ Some f
+        → first_stop (second_pass_events kind system z items s 0 items) ≡ Some f
+    second_stops f e = second_left ∙ stop_sooner (second_events kind system z items s i (get_or items i no_item))
+        (second_pass_events kind system z items s (suc i) (drop (suc i) items)) f e
 
   -- at first all items are left to the second pass
   pub second_none : SecondLeft 0
@@ -112,7 +125,8 @@ module _ (rows : ℕ) (item : Item) (u : ℕ) (point : item.point ≡ u / rows) 
   names_yes : u ≡ p * rows + r → names item p r ≡ true
   unfolding names
   names_yes e =
-      ap₂ (λ a b. a && b) (eqb_yes item.point p (point ∙ ap (λ v. v / rows) e ∙ div-mul-add p rows r l)) (eqb_yes item.row r (row ∙ ap (λ v. v % rows) e ∙ mod-mul-add p rows r l))
+      ap₂ (λ a b. a && b) (eqb_yes item.point p (point ∙ ap (λ v. v / rows) e ∙ div-mul-add p rows r l))
+      (eqb_yes item.row r (row ∙ ap (λ v. v % rows) e ∙ mod-mul-add p rows r l))
 
   -- an item with another unknown doesn't name this one
   pub names_no : u ≢ p * rows + r → names item p r ≡ false
@@ -136,7 +150,8 @@ number_below a c w r i j =
     omega (arith, m, n, j)
 
 -- one more item in place
-pub placed_more : (system : Equations) (b : List Ext) (z : Vector) (value : Item → Ext) (item : Item) (items : List Item) (u : ℕ) (v : Ext) → item.point ≡ u / length system.template → item.row ≡ u % length system.template → v ≡ value item →
+pub placed_more : (system : Equations) (b : List Ext) (z : Vector) (value : Item → Ext) (item : Item) (items : List Item) (u : ℕ) (v : Ext)
+    → item.point ≡ u / length system.template → item.row ≡ u % length system.template → v ≡ value item →
     Stands system b (put value items z) → Stands system (slice_set b u v) (put value (item ∷ items) z)
 unfolding put
 placed_more system b z value item items u v point row e h = record {
@@ -148,16 +163,19 @@ placed_more system b z value item items u v point row e h = record {
         get_or (slice_set b u v) (p * length system.template + r) neg_inf ≡ (if names item p r then value item else put value items z p r)
     by p r k l (yes q) =
         let n = p * length system.template + r in
-        subst (λ j. get_or (slice_set b j v) n neg_inf ≡ v) (sym q) (get_or-set_same b n v neg_inf (let s = h.size in let m = number_below p system.points (length system.template) r k l in omega (arith, s, m)))
+        subst (λ j. get_or (slice_set b j v) n neg_inf ≡ v) (sym q) (get_or-set_same b n v neg_inf
+        (let s = h.size in let m = number_below p system.points (length system.template) r k l in omega (arith, s, m)))
         ∙ e ∙ sym (ap (λ t. if t then value item else put value items z p r) (names_yes (length system.template) item u point row p r l q))
     by p r k l (no q) =
         let n = p * length system.template + r in
         let d : n ≢ u = λ t. q (sym t) in
-        get_or-set_other b u n v neg_inf d ∙ h.at p r k l ∙ sym (ap (λ t. if t then value item else put value items z p r) (names_no (length system.template) item u point row p r l q))
+        get_or-set_other b u n v neg_inf d ∙ h.at p r k l ∙ sym (ap (λ t. if t then value item else put value items z p r)
+        (names_no (length system.template) item u point row p r l q))
 
 -- ---- placed items
 -- what an item's edge and row are
-pub edge_is : (system : Equations) (item : Item) (edge : ℕ) (e : Edge) → item.edge ≡ edge → edge < length system.edges → e ≡ get_or system.edges edge e → edge_of system item ≡ e
+pub edge_is : (system : Equations) (item : Item) (edge : ℕ) (e : Edge) → item.edge ≡ edge → edge < length system.edges
+    → e ≡ get_or system.edges edge e → edge_of system item ≡ e
 unfolding edge_of
 edge_is system item edge e q l is =
     let d = get_or system.edges edge (record { from = 0; to = 0; actions = [] }) in
@@ -167,12 +185,14 @@ edge_is system item edge e q l is =
     ap (λ i. get_or system.edges i (record { from = 0; to = 0; actions = [] })) q ∙ c ∙ sym is
 
 -- an edge that is found
-pub edge_found : (system : Equations) (item : Item) → item.edge < length system.edges → slice_get system.edges item.edge ≡ Some (edge_of system item)
+pub edge_found : (system : Equations) (item : Item) → item.edge < length system.edges
+    → slice_get system.edges item.edge ≡ Some (edge_of system item)
 unfolding edge_of
 edge_found system item l = slice_get-get_or system.edges item.edge (record { from = 0; to = 0; actions = [] }) l
 
 -- a row that is found
-pub row_found : (system : Equations) (item : Item) → item.row < length system.template → slice_get system.template item.row ≡ Some (row_of system item)
+pub row_found : (system : Equations) (item : Item) → item.row < length system.template
+    → slice_get system.template item.row ≡ Some (row_of system item)
 unfolding row_of
 row_found system item l = slice_get-get_or system.template item.row [] l
 
@@ -198,14 +218,17 @@ point_below u points rows high = by (dec_lt (u / rows) points)
         let m : points * rows ≤ u / rows * rows = mul-le-mul_right rows (let j : points ≤ u / rows = omega (arith, n) in j) in
         absurd (omega (arith, a, m, high))
 
-module _ (system : Equations) (item : Item) (u edge : ℕ) (point : item.point ≡ u / length system.template) (row : item.row ≡ u % length system.template) (same : item.edge ≡ edge) (some : 0 < length system.template) where
+module _ (system : Equations) (item : Item) (u edge : ℕ) (point : item.point ≡ u / length system.template)
+    (row : item.row ≡ u % length system.template) (same : item.edge ≡ edge) (some : 0 < length system.template) where
   -- where they are, the edge decides
-  pub placed_iff : length system.template ≤ u → u < system.points * length system.template → edge < length system.edges → (e : Edge) → e ≡ get_or system.edges edge e → (e.to ≡ u / length system.template) ↔ Placed system item
+  pub placed_iff : length system.template ≤ u → u < system.points * length system.template → edge < length system.edges → (e : Edge)
+      → e ≡ get_or system.edges edge e → (e.to ≡ u / length system.template) ↔ Placed system item
   placed_iff low high there e is = (
     (λ t. record {
       later = subst (λ n. 0 < n) (sym point) (after_entry u (length system.template) low some);
       point_within = subst (λ n. n < system.points) (sym point) below;
-      row_within = let k : u % length system.template < length system.template = omega (arith, some) in subst (λ n. n < length system.template) (sym row) k;
+      row_within = let k : u % length system.template < length system.template = omega (arith, some) in
+          subst (λ n. n < length system.template) (sym row) k;
       edge_within = subst (λ n. n < length system.edges) (sym same) there;
       into = ap (λ x. x.to) (edge_is system item edge e same there is) ∙ t ∙ sym point;
     }),
@@ -217,45 +240,55 @@ module _ (system : Equations) (item : Item) (u edge : ℕ) (point : item.point �
 
 -- ---- earlier items
 -- an earlier item that names an unknown
-pub not_earlier : (items : List Item) (k j : ℕ) (p r : ℕ) → j < k → names (get_or items j no_item) p r ≡ true → ¬ (Unnamed (earlier_items items k) p r)
+pub not_earlier : (items : List Item) (k j : ℕ) (p r : ℕ) → j < k → names (get_or items j no_item) p r ≡ true
+    → ¬ (Unnamed (earlier_items items k) p r)
 unfolding earlier_items
 not_earlier items zero j p r l e u = absurd (omega arith)
-not_earlier items (suc k) j p r l e u = ⊎_elim (λ h. not_earlier items k j p r h e u.1) (λ h. true≢false (sym e ∙ ap (λ i. names (get_or items i no_item) p r) (let q : j ≡ k = omega (arith, h, l) in q) ∙ u.0)) (cases_lt j k)
+not_earlier items (suc k) j p r l e u = ⊎_elim (λ h. not_earlier items k j p r h e u.1)
+    (λ h. true≢false (sym e ∙ ap (λ i. names (get_or items i no_item) p r) (let q : j ≡ k = omega (arith, h, l) in q) ∙ u.0)) (cases_lt j k)
 
 -- one more that doesn't
-pub earlier_more : (items : List Item) (j p r : ℕ) → names (get_or items j no_item) p r ≡ false → Unnamed (earlier_items items j) p r → Unnamed (earlier_items items (j + 1)) p r
+pub earlier_more : (items : List Item) (j p r : ℕ) → names (get_or items j no_item) p r ≡ false → Unnamed (earlier_items items j) p r
+    → Unnamed (earlier_items items (j + 1)) p r
 unfolding earlier_items
 earlier_more items j p r e u = subst (λ n. Unnamed (earlier_items items n) p r) (sym (add-one j)) (e, u)
 
 -- ---- bounds that are set from the last item on
 -- before any new bound is set, the bounds stand for the vector that the step finds
-pub settled_none : (system : Equations) (b : List Ext) (z : Vector) (value : Item → Ext) (items : List Item) (n : ℕ) → length items ≤ n → Stands system b z → Stands system b (put value (drop n items) z)
+pub settled_none : (system : Equations) (b : List Ext) (z : Vector) (value : Item → Ext) (items : List Item) (n : ℕ) → length items ≤ n
+    → Stands system b z → Stands system b (put value (drop n items) z)
 unfolding put
 settled_none system b z value items n l h = subst (λ is. Stands system b (put value is z)) (sym (drop_all n items l)) h
 
 -- one more
-pub settled_more : (system : Equations) (b : List Ext) (z : Vector) (value : Item → Ext) (items : List Item) (k u : ℕ) (v : Ext) → 0 < k → k ≤ length items → (get_or items (k - 1) no_item).point ≡ u / length system.template →
-    (get_or items (k - 1) no_item).row ≡ u % length system.template → v ≡ value (get_or items (k - 1) no_item) → Stands system b (put value (drop k items) z) → Stands system (slice_set b u v) (put value (drop (k - 1) items) z)
+pub settled_more : (system : Equations) (b : List Ext) (z : Vector) (value : Item → Ext) (items : List Item) (k u : ℕ) (v : Ext) → 0 < k
+    → k ≤ length items → (get_or items (k - 1) no_item).point ≡ u / length system.template →
+    (get_or items (k - 1) no_item).row ≡ u % length system.template → v ≡ value (get_or items (k - 1) no_item)
+    → Stands system b (put value (drop k items) z) → Stands system (slice_set b u v) (put value (drop (k - 1) items) z)
 settled_more system b z value items zero u v a l point row e h = absurd (omega arith)
 settled_more system b z value items (suc m) u v a l point row e h =
     let q : suc m - 1 ≡ m = omega arith in
     let i : m < length items = omega (arith, l) in
     subst (λ n. Stands system (slice_set b u v) (put value (drop n items) z)) (sym q)
     (subst (λ is. Stands system (slice_set b u v) (put value is z)) (sym (drop-cons items m no_item i))
-    (placed_more system b z value (get_or items m no_item) (drop (suc m) items) u v (subst (λ n. (get_or items n no_item).point ≡ u / length system.template) q point)
+    (placed_more system b z value (get_or items m no_item) (drop (suc m) items) u v
+    (subst (λ n. (get_or items n no_item).point ≡ u / length system.template) q point)
     (subst (λ n. (get_or items n no_item).row ≡ u % length system.template) q row) (subst (λ n. v ≡ value (get_or items n no_item)) q e) h))
 
 -- the number of an item of a step that is no ray
-pub number_is : (step : Step) (rows : ℕ) (item : Item) → ((x : List RayItem) → step ≡ Ray x → ⊥) → new_value (step_of rows step).kind item ≡ fin item.number
+pub number_is : (step : Step) (rows : ℕ) (item : Item) → ((x : List RayItem) → step ≡ Ray x → ⊥)
+    → new_value (step_of rows step).kind item ≡ fin item.number
 unfolding new_value
 number_is (Plain items) rows item n = refl
 number_is (Jump items) rows item n = refl
 number_is (Ray items) rows item n = absurd (n items refl)
 
 -- the rates that a vector leaves free
-pub rates_start : (system : Equations) (base rates : List Ext) (z : Vector) → Stands system base z → length rates ≡ length base → ((u : ℕ) → u < length base → get_or rates u neg_inf ≡ allowance (get_or base u neg_inf)) →
+pub rates_start : (system : Equations) (base rates : List Ext) (z : Vector) → Stands system base z → length rates ≡ length base
+    → ((u : ℕ) → u < length base → get_or rates u neg_inf ≡ allowance (get_or base u neg_inf)) →
     Stands system rates (λ p r. allowance (z p r))
 rates_start system base rates z h e f = record {
   size = e ∙ h.size;
-  at = λ p r k l. f (p * length system.template + r) (let s = h.size in let m = number_below p system.points (length system.template) r k l in omega (arith, s, m)) ∙ ap allowance (h.at p r k l);
+  at = λ p r k l. f (p * length system.template + r) (let s = h.size in
+      let m = number_below p system.points (length system.template) r k l in omega (arith, s, m)) ∙ ap allowance (h.at p r k l);
 }

@@ -39,33 +39,44 @@ first_named Ray system z earlier s k item next e =
     let d = unless_none (dec_ltᴱ (bound_at z item) (fin (item_value system item (word item.low)))) _ _ c.1 in
     (a.0, d.1)
 
-usable_from : (kind : Kind) (system : Equations) (z : Vector) (s k : ℕ) (earlier items : List Item) → first_pass kind system z s k earlier items ≡ None → (i : ℕ) → i < length items → IsUsable kind system (get_or items i no_item)
+usable_from : (kind : Kind) (system : Equations) (z : Vector) (s k : ℕ) (earlier items : List Item)
+    → first_pass kind system z s k earlier items ≡ None → (i : ℕ) → i < length items → IsUsable kind system (get_or items i no_item)
 unfolding first_pass
 usable_from kind system z s k earlier [] e i l = absurd (omega arith)
 usable_from kind system z s k earlier (item ∷ items) e zero l =
-    let n = (first_named kind system z earlier s k item (first_pass kind system z s (suc k) (item ∷ earlier) items) e).0 in record { placed = n.0; sized = n.1.1.1 }
+    let n = (first_named kind system z earlier s k item (first_pass kind system z s (suc k) (item ∷ earlier) items) e).0 in
+    record { placed = n.0; sized = n.1.1.1 }
 usable_from kind system z s k earlier (item ∷ items) e (suc i) l =
-    usable_from kind system z s (suc k) (item ∷ earlier) items (first_named kind system z earlier s k item (first_pass kind system z s (suc k) (item ∷ earlier) items) e).1 i (omega (arith, l))
+    usable_from kind system z s (suc k) (item ∷ earlier) items (first_named kind system z earlier s k item
+    (first_pass kind system z s (suc k) (item ∷ earlier) items) e).1 i (omega (arith, l))
 
 -- items at which nothing stops can be followed later
-pub usable : (kind : Kind) (system : Equations) (z : Vector) (s : ℕ) (items : List Item) → first_stop (first_pass_events kind system z s 0 [] items) ≡ None → (i : ℕ) → i < length items → IsUsable kind system (get_or items i no_item)
+pub usable : (kind : Kind) (system : Equations) (z : Vector) (s : ℕ) (items : List Item)
+    → first_stop (first_pass_events kind system z s 0 [] items) ≡ None → (i : ℕ) → i < length items
+    → IsUsable kind system (get_or items i no_item)
 usable kind system z s items e =
-    usable_from kind system z s 0 [] items (sym (first_pass_then kind system z s 0 [] items) ∙ ((stop_none (first_pass_events kind system z s 0 [] items)).0 e).0)
+    usable_from kind system z s 0 [] items (sym (first_pass_then kind system z s 0 [] items)
+    ∙ ((stop_none (first_pass_events kind system z s 0 [] items)).0 e).0)
 
 -- ---- a step's two passes
 module _ (system : Equations) (z : Vector) (s : ℕ) (step : Step) where
   -- where the first pass of a step stops, the step stops there
-  pub step_first : (f : CheckFault) → first_stop (first_pass_events step.kind system z s 0 [] step.items) ≡ Some f → first_stop (step_events system z s step) ≡ Some f
+  pub step_first : (f : CheckFault) → first_stop (first_pass_events step.kind system z s 0 [] step.items) ≡ Some f
+      → first_stop (step_events system z s step) ≡ Some f
   unfolding step_events
-  step_first f e = stop_sooner (first_pass_events step.kind system z s 0 [] step.items) (second_pass_events step.kind system z step.items s 0 step.items) f e
+  step_first f e = stop_sooner (first_pass_events step.kind system z s 0 [] step.items)
+      (second_pass_events step.kind system z step.items s 0 step.items) f e
 
   -- where the first pass of a step passes, the step stops where the second does
-  pub step_second : (o : Option CheckFault) → first_stop (first_pass_events step.kind system z s 0 [] step.items) ≡ None → first_stop (second_pass_events step.kind system z step.items s 0 step.items) ≡ o → first_stop (step_events system z s step) ≡ o
+  pub step_second : (o : Option CheckFault) → first_stop (first_pass_events step.kind system z s 0 [] step.items) ≡ None
+      → first_stop (second_pass_events step.kind system z step.items s 0 step.items) ≡ o → first_stop (step_events system z s step) ≡ o
   unfolding step_events
-  step_second o e f = stop_later (first_pass_events step.kind system z s 0 [] step.items) (second_pass_events step.kind system z step.items s 0 step.items) e ∙ f
+  step_second o e f = stop_later (first_pass_events step.kind system z s 0 [] step.items)
+      (second_pass_events step.kind system z step.items s 0 step.items) e ∙ f
 
 -- a plain step has one pass
-pub plain_second : (system : Equations) (z : Vector) (all : List Item) (s k : ℕ) (items : List Item) → first_stop (second_pass_events Plain system z all s k items) ≡ None
+pub plain_second : (system : Equations) (z : Vector) (all : List Item) (s k : ℕ) (items : List Item)
+    → first_stop (second_pass_events Plain system z all s k items) ≡ None
 unfolding first_stop second_pass_events
 plain_second system z all s k [] = refl
 plain_second system z all s k (item ∷ items) = plain_second system z all s (suc k) items

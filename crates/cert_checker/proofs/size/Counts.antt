@@ -1,5 +1,6 @@
 -- How much evidence is needed.
-use Rattle.std.proofs.Common.{◌≡◌, ◌∙◌, ℕ, suc, ◌+◌, ◌*◌, ◌<◌, eqb, Bool, true, false, cond, List, [], ◌∷◌, length, refl, ap, arith, if◌then◌else◌}
+use Rattle.std.proofs.Common.{◌≡◌, ◌∙◌, ℕ, suc, ◌+◌, ◌*◌, ◌<◌, eqb, Bool, true, false, cond, List, [], ◌∷◌, length, refl, ap, arith}
+use Rattle.std.proofs.Common.{if◌then◌else◌}
 use Rattle.std.specs.Prelude.{◌==◌}
 use Rattle.std.specs.List.{filter, count_by}
 use Rattle.std.proofs.lemmas.List.Sums.{length-filter}
@@ -19,7 +20,8 @@ into_needs-filter p r k [] = refl
 into_needs-filter p r k (edge ∷ edges) = by (eqb edge.to p) (into_needs-filter p r (suc k) edges)
   where
     by : (b : Bool) → length (into_needs p r (suc k) edges) ≡ length (filter (λ other. other.to == p) edges) →
-        length (if b then record { edge = edge; number = k; row = r } ∷ into_needs p r (suc k) edges else into_needs p r (suc k) edges) ≡ length (cond b (edge ∷ filter (λ other. other.to == p) edges) (filter (λ other. other.to == p) edges))
+        length (if b then record { edge = edge; number = k; row = r } ∷ into_needs p r (suc k) edges else into_needs p r (suc k) edges)
+        ≡ length (cond b (edge ∷ filter (λ other. other.to == p) edges) (filter (λ other. other.to == p) edges))
     by true e = ap suc e
     by false e = e
 
@@ -28,7 +30,8 @@ pub length-into_needs : (p r k : ℕ) (edges : List Edge) → length (into_needs
 length-into_needs p r k edges = into_needs-filter p r k edges ∙ length-filter (λ edge. edge.to == p) edges
 
 -- a bound that isn't +∞ needs evidence for each edge
-pub needs_finite : (system : Equations) (p r : ℕ) (b : Ext) → (b ≡ PosInf → ⊥) → needs_at system p r (extended b) ≡ into_needs p r 0 system.edges
+pub needs_finite : (system : Equations) (p r : ℕ) (b : Ext) → (b ≡ PosInf → ⊥)
+    → needs_at system p r (extended b) ≡ into_needs p r 0 system.edges
 unfolding needs_at
 needs_finite system p r NegInf n = refl
 needs_finite system p r (Fin q) n = refl
@@ -50,7 +53,8 @@ module _ (system : Equations) (z : Vector) where
   count_first = let e = ap (λ ns. length ns) (needs_all system z) in omega (arith, e)
 
   -- with one more unknown its own needs are counted too
-  pub count_more : (u count more : ℕ) → u < system.points * length system.template → more ≡ length (needs_of system z u) → CountLeft u count → CountLeft (u + 1) (count + more)
+  pub count_more : (u count more : ℕ) → u < system.points * length system.template → more ≡ length (needs_of system z u) → CountLeft u count
+      → CountLeft (u + 1) (count + more)
   count_more u count more l q h =
       let e = ap (λ ns. length ns) (needs_next system z u l) in
       let a = length-append (needs_of system z u) (needs_from system z (u + 1)) in

@@ -1,5 +1,6 @@
 -- Steps that follow each other, as far as the first of them are taken.
-use Rattle.std.proofs.Common.{◌≡◌, ◌∙◌, ℕ, zero, suc, ◌+◌, ◌*◌, ◌<◌, ◌≤◌, Bool, true, false, List, ◌∷◌, length, get_or, drop, refl, sym, ap, add-one, arith, if◌then◌else◌}
+use Rattle.std.proofs.Common.{◌≡◌, ◌∙◌, ℕ, zero, suc, ◌+◌, ◌*◌, ◌<◌, ◌≤◌, Bool, true, false, List, ◌∷◌, length, get_or, drop, refl, sym, ap}
+use Rattle.std.proofs.Common.{add-one, arith, if◌then◌else◌}
 use Rattle.std.specs.Prelude.{Some, None, nat_lt}
 use Rattle.std.proofs.Math.Seq.{drop-cons}
 use Rattle.std.proofs.lemmas.List.{drop_all}
@@ -15,13 +16,17 @@ use Rattle.cert_checker.specs.Stands.{Stands, start_at}
 use Rattle.cert_checker.proofs.following.Traces.{stop_sooner, stop_later}
 use Rattle.cert_checker.proofs.names.Items.{number_below}
 
-module _ (system : Equations) (steps : List Step) (i : ℕ) (z : Vector) (left : first_stop (steps_events system start_vector 0 steps) ≡ first_stop (steps_events system z i (drop i steps))) (leads : after_steps steps start_vector ≡ after_steps (drop i steps) z) where
+module _ (system : Equations) (steps : List Step) (i : ℕ) (z : Vector)
+    (left : first_stop (steps_events system start_vector 0 steps) ≡ first_stop (steps_events system z i (drop i steps)))
+    (leads : after_steps steps start_vector ≡ after_steps (drop i steps) z) where
   module _ (step : Step) (l : i < length steps) (e : step ≡ get_or steps i step) where
     next_left : drop i steps ≡ step ∷ drop (suc i) steps
     next_left = drop-cons steps i step l ∙ ap (λ s. s ∷ drop (suc i) steps) (sym e)
 
     -- where nothing stops at a step, the next steps are left
-    pub steps_more : first_stop (step_events system z i step) ≡ None → first_stop (steps_events system start_vector 0 steps) ≡ first_stop (steps_events system (after_step step z) (i + 1) (drop (i + 1) steps))
+    pub steps_more : first_stop (step_events system z i step) ≡ None →
+        first_stop (steps_events system start_vector 0 steps) ≡ first_stop
+        (steps_events system (after_step step z) (i + 1) (drop (i + 1) steps))
     unfolding steps_events
     steps_more n =
         left ∙ ap (λ s. first_stop (steps_events system z i s)) next_left
@@ -34,9 +39,11 @@ module _ (system : Equations) (steps : List Step) (i : ℕ) (z : Vector) (left :
     leads_more = leads ∙ ap (λ s. after_steps s z) next_left ∙ ap (λ j. after_steps (drop j steps) (after_step step z)) (sym (add-one i))
 
     -- where something stops at a step, the steps stop there
-    pub steps_stop : (f : CheckFault) → first_stop (step_events system z i step) ≡ Some f → first_stop (steps_events system start_vector 0 steps) ≡ Some f
+    pub steps_stop : (f : CheckFault) → first_stop (step_events system z i step) ≡ Some f
+        → first_stop (steps_events system start_vector 0 steps) ≡ Some f
     unfolding steps_events
-    steps_stop f n = left ∙ ap (λ s. first_stop (steps_events system z i s)) next_left ∙ stop_sooner (step_events system z i step) (steps_events system (after_step step z) (suc i) (drop (suc i) steps)) f n
+    steps_stop f n = left ∙ ap (λ s. first_stop (steps_events system z i s)) next_left
+        ∙ stop_sooner (step_events system z i step) (steps_events system (after_step step z) (suc i) (drop (suc i) steps)) f n
 
   -- where all steps are taken, nothing stops
   pub steps_all : length steps ≤ i → first_stop (steps_events system start_vector 0 steps) ≡ None
@@ -64,15 +71,20 @@ start_no rows u l = by (nat_lt u rows) refl
     by false e = refl
 
 -- bounds that are those of the start stand for the start vector
-pub starts : (system : Equations) (bounds : List Ext) (n : ℕ) → length bounds ≤ n → ((j : ℕ) → j < n → get_or bounds j neg_inf ≡ start_at (length system.template) j) → length bounds ≡ system.points * length system.template → Stands system bounds start_vector
+pub starts : (system : Equations) (bounds : List Ext) (n : ℕ) → length bounds ≤ n
+    → ((j : ℕ) → j < n → get_or bounds j neg_inf ≡ start_at (length system.template) j)
+    → length bounds ≡ system.points * length system.template → Stands system bounds start_vector
 unfolding start_vector
 starts system bounds n l h size = record { size = size; at = λ p r i k. at p r i k }
   where
-    at : (p r : ℕ) → p < system.points → r < length system.template → get_or bounds (p * length system.template + r) neg_inf ≡ start_vector p r
+    at : (p r : ℕ) → p < system.points → r < length system.template → get_or bounds (p * length system.template + r) neg_inf
+        ≡ start_vector p r
     at zero r i k =
         let b = number_below zero system.points (length system.template) r i k in
         let e : 0 * length system.template + r ≡ r = omega arith in
-        h (0 * length system.template + r) (omega (arith, b, size, l)) ∙ ap (start_at (length system.template)) e ∙ start_yes (length system.template) r k
+        h (0 * length system.template + r) (omega (arith, b, size, l)) ∙ ap (start_at (length system.template)) e
+        ∙ start_yes (length system.template) r k
     at (suc p) r i k =
         let b = number_below (suc p) system.points (length system.template) r i k in
-        h (suc p * length system.template + r) (omega (arith, b, size, l)) ∙ start_no (length system.template) (suc p * length system.template + r) (omega arith)
+        h (suc p * length system.template + r) (omega (arith, b, size, l))
+        ∙ start_no (length system.template) (suc p * length system.template + r) (omega arith)

@@ -15,9 +15,11 @@ use Rattle.cert_checker.proofs.names.Items.{items_count}
 
 -- all items of a step at which nothing stops
 pub usable_all : (system : Equations) (b : List Ext) → length b ≡ system.points * length system.template → (step : Step) (s : ℕ) →
-    ((z : Vector) → Stands system b z → first_stop (first_pass_events (step_of (length system.template) step).kind system z s 0 [] (step_of (length system.template) step).items) ≡ None) →
+    ((z : Vector) → Stands system b z → first_stop (first_pass_events (step_of (length system.template) step).kind system z s 0 []
+    (step_of (length system.template) step).items) ≡ None) →
     (k : ℕ) → k < item_count step → IsUsable (step_of (length system.template) step).kind system (item_at (length system.template) step k)
 usable_all system b size step s h k l =
     let z : Vector = λ p r. get_or b (p * length system.template + r) neg_inf in
-    usable (step_of (length system.template) step).kind system z s (step_of (length system.template) step).items (h z (record { size = size; at = λ p r i j. refl })) k
+    usable (step_of (length system.template) step).kind system z s (step_of (length system.template) step).items
+    (h z (record { size = size; at = λ p r i j. refl })) k
     (let e = items_count (length system.template) step in omega (arith, e, l))

@@ -1,5 +1,6 @@
 -- Unknowns in order of number are those of point after point and row after row.
-use Rattle.std.proofs.Common.{◌≡◌, ◌∙◌, ℕ, zero, suc, ◌+◌, ◌-◌, ◌*◌, ◌/◌, ◌%◌, ◌<◌, ◌≤◌, List, [], ◌∷◌, ◌++◌, length, get_or, map, mul-zero, refl, sym, ap, ap₂, arith}
+use Rattle.std.proofs.Common.{◌≡◌, ◌∙◌, ℕ, zero, suc, ◌+◌, ◌-◌, ◌*◌, ◌/◌, ◌%◌, ◌<◌, ◌≤◌, List, [], ◌∷◌, ◌++◌, length, get_or, map, mul-zero}
+use Rattle.std.proofs.Common.{refl, sym, ap, ap₂, arith}
 use Rattle.std.specs.Prelude.{flat_map}
 use Rattle.std.specs.List.{range_with_len}
 use Rattle.std.proofs.lemmas.Nat.{div-mul-add, mod-mul-add}
@@ -42,13 +43,15 @@ module _ {A : Type 0} (w : ℕ) (f : ℕ → ℕ → List A) where
       (row_numbered a (r + 1) n (omega (arith, h)) ∙ ap (λ s. flat_map at_number (range_with_len s n)) e)
 
   -- rows within points are numbers in order
-  pub numbered : (a n : ℕ) → flat_map (λ p. flat_map (f p) (range_with_len 0 w)) (range_with_len a n) ≡ flat_map at_number (range_with_len (a * w) (n * w))
+  pub numbered : (a n : ℕ) → flat_map (λ p. flat_map (f p) (range_with_len 0 w)) (range_with_len a n)
+      ≡ flat_map at_number (range_with_len (a * w) (n * w))
   numbered a zero = let e : 0 ≡ 0 * w = omega arith in ap (λ k. flat_map at_number (range_with_len (a * w) k)) e
   numbered a (suc n) =
       let e : a * w + 0 ≡ a * w = omega arith in
       let g : (a + 1) * w ≡ a * w + w = omega arith in
       let k : w + n * w ≡ suc n * w = omega arith in
-      ap₂ (λ xs rest. xs ++ rest) (row_numbered a 0 w (omega arith) ∙ ap (λ s. flat_map at_number (range_with_len s w)) e) (numbered (a + 1) n ∙ ap (λ s. flat_map at_number (range_with_len s (n * w))) g)
+      ap₂ (λ xs rest. xs ++ rest) (row_numbered a 0 w (omega arith) ∙ ap (λ s. flat_map at_number (range_with_len s w)) e)
+      (numbered (a + 1) n ∙ ap (λ s. flat_map at_number (range_with_len s (n * w))) g)
       ∙ sym (flat_map-append at_number (range_with_len (a * w) w) (range_with_len (a * w + w) (n * w)))
       ∙ ap (flat_map at_number) (sym (range_split (a * w) w (n * w)) ∙ ap (range_with_len (a * w)) k)
 
@@ -67,7 +70,8 @@ alone_points rs (p ∷ ps) = ap₂ (λ xs rest. xs ++ rest) (alone_row p rs) (al
 
 -- the unknowns from number u on
 abbrev pub unknowns_from : Equations → ℕ → List (ℕ × ℕ)
-unknowns_from system u = flat_map (λ v. (v / length system.template, v % length system.template) ∷ []) (range_with_len u (system.points * length system.template - u))
+unknowns_from system u = flat_map (λ v. (v / length system.template, v % length system.template) ∷ [])
+    (range_with_len u (system.points * length system.template - u))
 
 -- all unknowns are those from number 0 on
 pub unknowns_all : (system : Equations) → unknowns system ≡ unknowns_from system 0
@@ -76,12 +80,14 @@ unknowns_all system =
     let w = length system.template in
     let e : 0 * w ≡ 0 = omega arith in
     let k : system.points * w ≡ system.points * w - 0 = omega arith in
-    alone_points (range_with_len 0 w) (range_with_len 0 system.points) ∙ numbered w alone 0 system.points ∙ ap₂ (λ a n. flat_map (λ v. (v / w, v % w) ∷ []) (range_with_len a n)) e k
+    alone_points (range_with_len 0 w) (range_with_len 0 system.points) ∙ numbered w alone 0 system.points
+    ∙ ap₂ (λ a n. flat_map (λ v. (v / w, v % w) ∷ []) (range_with_len a n)) e k
 
 -- ---- needs
 -- what the unknown of a number needs
 abbrev pub needs_of : Equations → Vector → ℕ → List Need
-needs_of system z u = needs_at system (u / length system.template) (u % length system.template) (z (u / length system.template) (u % length system.template))
+needs_of system z u = needs_at system (u / length system.template) (u % length system.template)
+    (z (u / length system.template) (u % length system.template))
 
 -- what the unknowns from number u on need
 abbrev pub needs_from : Equations → Vector → ℕ → List Need
@@ -93,14 +99,16 @@ unfolding needs
 needs_all system z =
     let w = length system.template in
     let e : 1 * w ≡ w = omega arith in
-    numbered w (λ p r. needs_at system p r (z p r)) 1 (system.points - 1) ∙ ap₂ (λ a n. flat_map (needs_of system z) (range_with_len a n)) e (rest system.points w)
+    numbered w (λ p r. needs_at system p r (z p r)) 1 (system.points - 1)
+    ∙ ap₂ (λ a n. flat_map (needs_of system z) (range_with_len a n)) e (rest system.points w)
   where
     rest : (points w : ℕ) → (points - 1) * w ≡ points * w - w
     rest zero w = let a : zero - 1 ≡ 0 = omega arith in ap (λ n. n * w) a ∙ (let b : 0 * w ≡ zero * w - w = omega arith in b)
     rest (suc p) w = let a : suc p - 1 ≡ p = omega arith in ap (λ n. n * w) a ∙ (let b : p * w ≡ suc p * w - w = omega arith in b)
 
 -- the needs from an unknown on are its own and those from the next on
-pub needs_next : (system : Equations) (z : Vector) (u : ℕ) → u < system.points * length system.template → needs_from system z u ≡ needs_of system z u ++ needs_from system z (u + 1)
+pub needs_next : (system : Equations) (z : Vector) (u : ℕ) → u < system.points * length system.template
+    → needs_from system z u ≡ needs_of system z u ++ needs_from system z (u + 1)
 needs_next system z u l = ap (flat_map (needs_of system z)) (range_next u (system.points * length system.template) l)
 
 -- past the last unknown nothing is needed
@@ -118,7 +126,8 @@ some_row points zero u l = (let none : points * zero ≡ zero = mul-zero points 
 some_row points (suc w) u l = omega arith
 
 -- the bound of a number
-pub bound_of : (system : Equations) (b : List Ext) (z : Vector) → Stands system b z → (u : ℕ) → u < length b → get_or b u neg_inf ≡ z (u / length system.template) (u % length system.template)
+pub bound_of : (system : Equations) (b : List Ext) (z : Vector) → Stands system b z → (u : ℕ) → u < length b
+    → get_or b u neg_inf ≡ z (u / length system.template) (u % length system.template)
 bound_of system b z h u l =
     let w = length system.template in
     let s = h.size in
@@ -127,6 +136,7 @@ bound_of system b z h u l =
     ap (λ n. get_or b n neg_inf) (sym (number_is u w)) ∙ h.at (u / w) (u % w) (point_below u system.points w k) q
 
 -- bounds stand for their vector
-pub stands_itself : (system : Equations) (b : List Ext) → length b ≡ system.points * length system.template → Stands system b (bounds_vector system b)
+pub stands_itself : (system : Equations) (b : List Ext) → length b ≡ system.points * length system.template
+    → Stands system b (bounds_vector system b)
 unfolding bounds_vector
 stands_itself system b e = record { size = e; at = λ p r k l. refl }

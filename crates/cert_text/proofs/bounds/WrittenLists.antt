@@ -1,5 +1,6 @@
 -- Lists of elements that are written one after another.
-use Rattle.std.proofs.Common.{◌≡◌, ◌+◌, ◌<◌, ◌++◌, ◌&&◌, ℕ, Bool, true, false, List, [], ◌∷◌, length, get_or, take, Option, Some, None, option_map, option_and_then, refl, sym, ap, ap₂, ◌∙◌}
+use Rattle.std.proofs.Common.{◌≡◌, ◌+◌, ◌<◌, ◌++◌, ◌&&◌, ℕ, Bool, true, false, List, [], ◌∷◌, length, get_or, take, Option, Some, None}
+use Rattle.std.proofs.Common.{option_map, option_and_then, refl, sym, ap, ap₂, ◌∙◌}
 use Rattle.std.specs.Prelude.{nat_lt}
 use Rattle.std.specs.List.{list_all}
 use Rattle.std.proofs.lemmas.Bool.{lt-ltb}
@@ -27,7 +28,8 @@ module _ {A : Type 0} (write : A → Data) where
   items_data-push (y ∷ xs) x = ap (item (write y)) (items_data-push xs x)
 
   -- the values stand for one more element
-  pub data_more : (vs now : List Value) (v : Value) (xs : List A) (x : A) → now ≡ vs ++ v ∷ [] → items_view vs ≡ items_data write xs → view v ≡ write x → items_view now ≡ items_data write (xs ++ x ∷ [])
+  pub data_more : (vs now : List Value) (v : Value) (xs : List A) (x : A) → now ≡ vs ++ v ∷ [] → items_view vs ≡ items_data write xs
+      → view v ≡ write x → items_view now ≡ items_data write (xs ++ x ∷ [])
   data_more vs now v xs x is e f = ap items_view is ∙ items_view-push vs v ∙ ap₂ snoc e f ∙ sym (items_data-push xs x)
 
   module _ (test : Data → Bool) where
@@ -40,7 +42,8 @@ module _ {A : Type 0} (write : A → Data) where
         by false r e k = e
 
     -- a list of written elements that each pass a test does so with one more that passes
-    pub shape_more : (xs : List A) (x : A) → all_items test (items_data write xs) ≡ true → test (write x) ≡ true → all_items test (items_data write (xs ++ x ∷ [])) ≡ true
+    pub shape_more : (xs : List A) (x : A) → all_items test (items_data write xs) ≡ true → test (write x) ≡ true
+        → all_items test (items_data write (xs ++ x ∷ [])) ≡ true
     shape_more xs x e f = ap (all_items test) (items_data-push xs x) ∙ all_items-snoc (items_data write xs) (write x) e f
 
   module _ (read : Data → Option A) where
@@ -65,7 +68,8 @@ module _ {A : Type 0} (write : A → Data) where
     items_in-snoc (item e ds) d = ap (front (read e)) (items_in-snoc ds d) ∙ regroup (read e) (items_in read ds) (read d)
 
     -- a list of written elements that are read back is so with one more that is read back
-    pub back_more : (xs : List A) (x : A) → items_in read (items_data write xs) ≡ Some xs → read (write x) ≡ Some x → items_in read (items_data write (xs ++ x ∷ [])) ≡ Some (xs ++ x ∷ [])
+    pub back_more : (xs : List A) (x : A) → items_in read (items_data write xs) ≡ Some xs → read (write x) ≡ Some x
+        → items_in read (items_data write (xs ++ x ∷ [])) ≡ Some (xs ++ x ∷ [])
     back_more xs x e f = ap (items_in read) (items_data-push xs x) ∙ items_in-snoc (items_data write xs) (write x) ∙ ap₂ more e f
 
 -- every element of a list can be written, where every element of its kind can

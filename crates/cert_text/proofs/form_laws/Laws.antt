@@ -1,5 +1,6 @@
 -- The laws of the format, and the round trip.
-use Rattle.std.proofs.Common.{◌≡◌, ◌≢◌, ◌⊎◌, inl, inr, ◌==◌, ◌<◌, ◌≤◌, nat_lt, ℕ, ℤ, Bool, true, false, List, Option, Some, None, Result, Ok, Err, IfOk, IfErr, refl, sym, ap, ◌∙◌, subst, codes, arith}
+use Rattle.std.proofs.Common.{◌≡◌, ◌≢◌, ◌⊎◌, inl, inr, ◌==◌, ◌<◌, ◌≤◌, nat_lt, ℕ, ℤ, Bool, true, false, List, Option, Some, None, Result}
+use Rattle.std.proofs.Common.{Ok, Err, IfOk, IfErr, refl, sym, ap, ◌∙◌, subst, codes, arith}
 use Rattle.std.specs.Prelude.{IsErrOf, if◌then◌else◌, option_and_then, option_map}
 use Rattle.std.specs.Fmt.{signed_decimal}
 use Rattle.std.specs.Str.{bytes_eq}
@@ -31,7 +32,8 @@ same_data bytes d f s t = some_same (sym s.value ∙ t.value)
 
 -- bytes are one certificate at most
 pub one_reading : OneReading
-one_reading bytes c e s t = ok_same c e (cert_in s.data_is) s.reads (ap cert_in (same_data bytes s.data_is t.data_is s.spells t.spells) ∙ t.reads)
+one_reading bytes c e s t = ok_same c e (cert_in s.data_is) s.reads (ap cert_in (same_data bytes s.data_is t.data_is s.spells t.spells)
+    ∙ t.reads)
 
 -- a text is read as a fraction exactly where it is the canonical text of one that fits
 pub fractions : FractionsByText
@@ -45,7 +47,8 @@ whole_decimal z = whole_text (whole z).num (whole z).den (den-whole z) ∙ ap si
 eqb_one : (n : ℕ) → (n == 1) ≡ true → n ≡ 1
 eqb_one n e = grind (arith, e)
 
-whole_parts : (text : List ℕ) (q : ℚ) (z : ℤ) → text ≡ frac_text q → (b : Bool) → (q.den == 1) ≡ b → (if b then Some q.num else None) ≡ Some z → text ≡ signed_decimal z
+whole_parts : (text : List ℕ) (q : ℚ) (z : ℤ) → text ≡ frac_text q → (b : Bool) → (q.den == 1) ≡ b
+    → (if b then Some q.num else None) ≡ Some z → text ≡ signed_decimal z
 whole_parts text q z t true d e = t ∙ whole_text q.num q.den (eqb_one q.den d) ∙ ap signed_decimal (some_same e)
 whole_parts text q z t false d e = absurd cc
 
@@ -62,14 +65,18 @@ wholes text z = (
 
 -- ---- bounds
 
-fin_from : (text : List ℕ) (o : Option ℚ) (e : Ext) → frac_of text ≡ o → option_map (λ (q : ℚ). Fin q) o ≡ Some e → (text ≡ ext_text e) × ExtFits e
+fin_from : (text : List ℕ) (o : Option ℚ) (e : Ext) → frac_of text ≡ o → option_map (λ (q : ℚ). Fin q) o ≡ Some e
+    → (text ≡ ext_text e) × ExtFits e
 fin_from text None e f h = absurd cc
 fin_from text (Some q) e f h = subst (λ (x : Ext). (text ≡ ext_text x) × ExtFits x) (some_same h) (frac_text_of text q f)
 
 ext_from : (text : List ℕ) (e : Ext) (a b : Bool) → bytes_eq text (codes "-inf") ≡ a → bytes_eq text (codes "+inf") ≡ b
-    → (if a then Some NegInf else (if b then Some PosInf else option_map (λ (q : ℚ). Fin q) (frac_of text))) ≡ Some e → (text ≡ ext_text e) × ExtFits e
-ext_from text e true b p q h = subst (λ (x : Ext). (text ≡ ext_text x) × ExtFits x) (some_same h) ((bytes_eq-Decides text (codes "-inf")).0 p, tt)
-ext_from text e false true p q h = subst (λ (x : Ext). (text ≡ ext_text x) × ExtFits x) (some_same h) ((bytes_eq-Decides text (codes "+inf")).0 q, tt)
+    → (if a then Some NegInf else (if b then Some PosInf else option_map (λ (q : ℚ). Fin q) (frac_of text))) ≡ Some e
+    → (text ≡ ext_text e) × ExtFits e
+ext_from text e true b p q h = subst (λ (x : Ext). (text ≡ ext_text x) × ExtFits x) (some_same h)
+    ((bytes_eq-Decides text (codes "-inf")).0 p, tt)
+ext_from text e false true p q h = subst (λ (x : Ext). (text ≡ ext_text x) × ExtFits x) (some_same h)
+    ((bytes_eq-Decides text (codes "+inf")).0 q, tt)
 ext_from text e false false p q h = fin_from text (frac_of text) e refl h
 
 ext_back : (e : Ext) → ExtFits e → ext_of (ext_text e) ≡ Some e
@@ -116,7 +123,8 @@ module _ (c : Cert) where
   over = nat_lt MOST_VALUES (values_of (named_traces c.steps))
 
   -- bytes that a certificate is written as spell a value that is read as the certificate, or as one that expands too far
-  pub read_as : (bytes : List ℕ) → (IsWithin c → SpellsCert bytes c) → (IsBeyond c → SpellsTooMany bytes) → (d : Data) × Spells bytes d × (cert_in d ≡ read_again c)
+  pub read_as : (bytes : List ℕ) → (IsWithin c → SpellsCert bytes c) → (IsBeyond c → SpellsTooMany bytes)
+      → (d : Data) × Spells bytes d × (cert_in d ≡ read_again c)
   read_as bytes w b = by over refl
     where
       by : (o : Bool) → over ≡ o → (d : Data) × Spells bytes d × (cert_in d ≡ (if o then Err Expanded else Ok c))
@@ -144,7 +152,8 @@ module _ (c : Cert) where
   again_within (Ok e) (inr h) = absurd cc
 
   -- a certificate is refused when it is read again only for want of memory, or where it expands too far
-  pub again_refused : (r : Result Cert FormFault) → (r ≡ read_again c) ⊎ (r ≡ Err NoMemory) → IfErr r (λ f. (f ≡ NoMemory) ⊎ ((f ≡ Expanded) × IsBeyond c))
+  pub again_refused : (r : Result Cert FormFault) → (r ≡ read_again c) ⊎ (r ≡ Err NoMemory)
+      → IfErr r (λ f. (f ≡ NoMemory) ⊎ ((f ≡ Expanded) × IsBeyond c))
   again_refused (Ok e) h = tt
   again_refused (Err f) (inl h) = by over refl h
     where

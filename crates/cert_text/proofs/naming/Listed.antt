@@ -1,5 +1,6 @@
 -- Every trace that is named gets a number.
-use Rattle.std.proofs.Common.{◌≡◌, ◌+◌, ◌<◌, ◌++◌, ◌&&◌, ◌||◌, ℕ, Bool, true, false, cond, List, [], ◌∷◌, length, get_or, take, fold, refl, sym, ap, ap₂, ◌∙◌, subst}
+use Rattle.std.proofs.Common.{◌≡◌, ◌+◌, ◌<◌, ◌++◌, ◌&&◌, ◌||◌, ℕ, Bool, true, false, cond, List, [], ◌∷◌, length, get_or, take, fold, refl}
+use Rattle.std.proofs.Common.{sym, ap, ap₂, ◌∙◌, subst}
 use Rattle.std.specs.Prelude.{nat_lt}
 use Rattle.std.specs.List.{flat_map, list_all, list_any}
 use Rattle.std.specs.Str.{bytes_eq}
@@ -18,7 +19,8 @@ use Rattle.cert_text.proofs.bounds.WrittenLists.{one_more}
 
 module _ {A : Type 0} (traces_of : A → List Trace) where
   -- one element more
-  traces_more : (start now next : List Trace) (xs : List A) (i : ℕ) (x : A) → i < length xs → x ≡ get_or xs i x → now ≡ with_traces start (flat_map traces_of (take i xs))
+  traces_more : (start now next : List Trace) (xs : List A) (i : ℕ) (x : A) → i < length xs → x ≡ get_or xs i x
+      → now ≡ with_traces start (flat_map traces_of (take i xs))
       → next ≡ with_traces now (traces_of x) → next ≡ with_traces start (flat_map traces_of (take (i + 1) xs))
   traces_more start now next xs i x lt is e f =
       f ∙ ap (λ ts. with_traces ts (traces_of x)) e ∙ sym (fold-append with_trace start (flat_map traces_of (take i xs)) (traces_of x))
@@ -48,7 +50,8 @@ listed_here ts t = by (is_listed ts t) refl
   where
     by : (b : Bool) → is_listed ts t ≡ b → is_listed (cond b ts (ts ++ t ∷ [])) t ≡ true
     by true h = h
-    by false h = list_any-append (same_text t) ts (t ∷ []) ∙ ap (λ b. list_any (same_text t) ts || (b || false)) (same_self t) ∙ or_true (list_any (same_text t) ts)
+    by false h = list_any-append (same_text t) ts (t ∷ []) ∙ ap (λ b. list_any (same_text t) ts || (b || false)) (same_self t)
+        ∙ or_true (list_any (same_text t) ts)
 
 listed_after : (ts us : List Trace) (t : Trace) → is_listed ts t ≡ true → is_listed (with_traces ts us) t ≡ true
 listed_after ts [] t h = h
@@ -65,7 +68,8 @@ and_split true b e = (refl, e)
 and_split false b e = absurd cc
 
 -- where there are rows and all traces of elements are listed, those of each element are
-pub each_listed : {A : Type 0} (rows : ℕ) (names : List Trace) (traces_of : A → List Trace) (xs : List A) → 0 < rows → list_all (is_listed names) (flat_map traces_of xs) ≡ true
+pub each_listed : {A : Type 0} (rows : ℕ) (names : List Trace) (traces_of : A → List Trace) (xs : List A) → 0 < rows
+    → list_all (is_listed names) (flat_map traces_of xs) ≡ true
     → list_all (λ (x : A). nat_lt 0 rows && list_all (is_listed names) (traces_of x)) xs ≡ true
 each_listed rows names traces_of [] l h = refl
 each_listed rows names traces_of (x ∷ xs) l h =
@@ -74,7 +78,8 @@ each_listed rows names traces_of (x ∷ xs) l h =
     ap₂ (λ a b. a && b) (ap₂ (λ a b. a && b) (lt-ltb 0 rows l) k.0) (each_listed rows names traces_of xs l k.1)
 
 -- steps that have items, whose traces are listed, can be written
-steps_written : (rows : ℕ) (names : List Trace) (steps : List Step) → list_all (λ (s : Step). nat_lt 0 rows && has_item s) steps ≡ true → list_all (is_listed names) (named_traces steps) ≡ true
+steps_written : (rows : ℕ) (names : List Trace) (steps : List Step) → list_all (λ (s : Step). nat_lt 0 rows && has_item s) steps ≡ true
+    → list_all (is_listed names) (named_traces steps) ≡ true
     → list_all (λ (s : Step). nat_lt 0 rows && has_item s && list_all (is_listed names) (step_traces s)) steps ≡ true
 steps_written rows names [] e h = refl
 steps_written rows names (s ∷ steps) e h =
@@ -85,5 +90,6 @@ steps_written rows names (s ∷ steps) e h =
 
 -- steps that have items can be written with the traces that they name
 pub steps_listed : (rows : ℕ) (steps : List Step) → list_all (λ (s : Step). nat_lt 0 rows && has_item s) steps ≡ true
-    → list_all (λ (s : Step). nat_lt 0 rows && has_item s && list_all (is_listed (with_traces [] (named_traces steps))) (step_traces s)) steps ≡ true
+    → list_all (λ (s : Step). nat_lt 0 rows && has_item s && list_all (is_listed (with_traces [] (named_traces steps))) (step_traces s))
+    steps ≡ true
 steps_listed rows steps e = steps_written rows (with_traces [] (named_traces steps)) steps e (all_listed [] (named_traces steps))

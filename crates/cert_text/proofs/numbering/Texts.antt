@@ -1,5 +1,6 @@
 -- The numbers of traces, by the texts that a set holds.
-use Rattle.std.proofs.Common.{◌≡◌, ◌+◌, ◌++◌, ◌||◌, ◌<◌, ℕ, suc, Bool, true, false, not, cond, List, [], ◌∷◌, length, map, Option, Some, None, nat_lt, refl, sym, ap, ap₂, ◌∙◌, arith, subst}
+use Rattle.std.proofs.Common.{◌≡◌, ◌+◌, ◌++◌, ◌||◌, ◌<◌, ℕ, suc, Bool, true, false, not, cond, List, [], ◌∷◌, length, map, Option, Some}
+use Rattle.std.proofs.Common.{None, nat_lt, refl, sym, ap, ap₂, ◌∙◌, arith, subst}
 use Rattle.std.specs.Prelude.{slice_get}
 use Rattle.std.specs.List.{list_any, position, position_or_len}
 use Rattle.std.specs.Str.{bytes_eq}
@@ -29,16 +30,19 @@ position_place p xs n e = by (nat_lt (position_or_len p xs) (length xs)) e
     by false h = absurd cc
 
 -- the keys of a set and the traces whose texts they are
-module _ (text : List ℕ) (t : Trace) (keys : List (Vec ℕ Global)) (ts : List Trace) (is : text ≡ trace_text t) (same : texts_of keys ≡ map trace_text ts) where
+module _ (text : List ℕ) (t : Trace) (keys : List (Vec ℕ Global)) (ts : List Trace) (is : text ≡ trace_text t)
+    (same : texts_of keys ≡ map trace_text ts) where
   -- a text is among the keys where its trace is listed
   pub any_listed : list_any (λ (k : Vec ℕ Global). bytes_eq text k.items) keys ≡ is_listed ts t
   any_listed =
-      sym (any-mapped (λ (k : Vec ℕ Global). k.items) (bytes_eq text) keys) ∙ ap₂ (λ x ys. list_any (bytes_eq x) ys) is same ∙ any-mapped trace_text (bytes_eq (trace_text t)) ts
+      sym (any-mapped (λ (k : Vec ℕ Global). k.items) (bytes_eq text) keys) ∙ ap₂ (λ x ys. list_any (bytes_eq x) ys) is same
+      ∙ any-mapped trace_text (bytes_eq (trace_text t)) ts
 
   -- and at the same place
   pub place_number : (n : ℕ) → Some n ≡ position (λ (k : Vec ℕ Global). bytes_eq text k.items) keys → n ≡ number_in ts t
   place_number n e =
-      position_place (λ (k : Vec ℕ Global). bytes_eq text k.items) keys n e ∙ sym (place-mapped (λ (k : Vec ℕ Global). k.items) (bytes_eq text) keys)
+      position_place (λ (k : Vec ℕ Global). bytes_eq text k.items) keys n e
+      ∙ sym (place-mapped (λ (k : Vec ℕ Global). k.items) (bytes_eq text) keys)
       ∙ ap₂ (λ x ys. position_or_len (bytes_eq x) ys) is same ∙ place-mapped trace_text (bytes_eq (trace_text t)) ts
 
 -- ---- a trace is found at its number
@@ -47,7 +51,8 @@ spelt_same : (t u : Trace) → spelt_trace (trace_text t) ≡ Some t → spelt_t
 spelt_same t u e f s = some_same (sym f ∙ ap spelt_trace (sym ((bytes_eq-Decides (trace_text t) (trace_text u)).0 s)) ∙ e)
 
 -- a listed trace is found at its number
-pub found_back : (ts : List Trace) (t : Trace) → spelt_trace (trace_text t) ≡ Some t → AreSpelt ts → is_listed ts t ≡ true → slice_get ts (number_in ts t) ≡ Some t
+pub found_back : (ts : List Trace) (t : Trace) → spelt_trace (trace_text t) ≡ Some t → AreSpelt ts → is_listed ts t ≡ true
+    → slice_get ts (number_in ts t) ≡ Some t
 found_back [] t e k h = absurd cc
 found_back (u ∷ ts) t e k h = by (same_text t u) refl h (λ g. found_back ts t e k.1 g)
   where
@@ -72,9 +77,11 @@ pub with_new : (ts : List Trace) (t : Trace) → is_listed ts t ≡ false → ts
 with_new ts t h = ap (λ b. cond b ts (ts ++ t ∷ [])) (sym h)
 
 -- with the key of a new trace put in, the keys are the texts of the traces with it
-pub texts_more : (keys now : List (Vec ℕ Global)) (key : Vec ℕ Global) (ts : List Trace) (t : Trace) → key.items ≡ trace_text t → texts_of keys ≡ map trace_text ts → is_listed ts t ≡ false
+pub texts_more : (keys now : List (Vec ℕ Global)) (key : Vec ℕ Global) (ts : List Trace) (t : Trace) → key.items ≡ trace_text t
+    → texts_of keys ≡ map trace_text ts → is_listed ts t ≡ false
     → now ≡ insert_key (λ x y. bytes_eq x.items y.items) keys key → texts_of now ≡ map trace_text (ts ++ t ∷ [])
 texts_more keys now key ts t k same n h =
     let new : list_any (λ (y : Vec ℕ Global). bytes_eq key.items y.items) keys ≡ false = any_listed key.items t keys ts k same ∙ n in
-    ap texts_of (h ∙ ap (λ b. cond b keys (keys ++ key ∷ [])) new) ∙ map-append (λ (x : Vec ℕ Global). x.items) keys (key ∷ []) ∙ ap₂ (λ xs x. xs ++ x ∷ []) same k
+    ap texts_of (h ∙ ap (λ b. cond b keys (keys ++ key ∷ [])) new) ∙ map-append (λ (x : Vec ℕ Global). x.items) keys (key ∷ [])
+    ∙ ap₂ (λ xs x. xs ++ x ∷ []) same k
     ∙ sym (map-append trace_text ts (t ∷ []))

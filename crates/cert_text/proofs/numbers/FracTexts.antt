@@ -1,5 +1,7 @@
 -- A number is read from its canonical text, and from no other.
-use Rattle.std.proofs.Common.{◌≡◌, ◌≢◌, ◌⊎◌, ⊎_elim, ◌==◌, ◌&&◌, ℕ, zero, suc, ◌+◌, ◌-◌, ◌<◌, ◌≤◌, ◌^◌, Bool, true, false, cond, eqb, List, [], ◌∷◌, length, drop, ℤ, pos, negsuc, neg_ℤ, nat_abs, Option, None, Some, MatchOption, decimal, refl, ap, ap₂, sym, ◌∙◌, subst, arith, ne_eqb, Decides}
+use Rattle.std.proofs.Common.{◌≡◌, ◌≢◌, ◌⊎◌, ⊎_elim, ◌==◌, ◌&&◌, ℕ, zero, suc, ◌+◌, ◌-◌, ◌<◌, ◌≤◌, ◌^◌, Bool, true, false, cond, eqb, List}
+use Rattle.std.proofs.Common.{[], ◌∷◌, length, drop, ℤ, pos, negsuc, neg_ℤ, nat_abs, Option, None, Some, MatchOption, decimal, refl, ap}
+use Rattle.std.proofs.Common.{ap₂, sym, ◌∙◌, subst, arith, ne_eqb, Decides}
 use Rattle.std.specs.Prelude.{nat_le, if◌then◌else◌, option_map, option_and_then, codes, IsTrue}
 use Rattle.std.proofs.lemmas.Int.{ints}
 use Rattle.std.proofs.lemmas.List.{take_all, length-drop}
@@ -33,7 +35,8 @@ unsigned [] l h = absurd (omega (arith, l))
 unsigned (x ∷ xs) l h =
     let minus : eqb x 45 ≡ false = digit_is_not x 45 h.0 (omega arith) in
     let plus : eqb x 43 ≡ false = digit_is_not x 43 h.0 (omega arith) in
-    ap (λ b. cond b (neg_ℤ (pos (digits_value 10 (cond b xs (drop (cond (eqb x 43) 1 0) (x ∷ xs)))))) (pos (digits_value 10 (cond b xs (drop (cond (eqb x 43) 1 0) (x ∷ xs)))))) minus
+    ap (λ b. cond b (neg_ℤ (pos (digits_value 10 (cond b xs (drop (cond (eqb x 43) 1 0) (x ∷ xs))))))
+    (pos (digits_value 10 (cond b xs (drop (cond (eqb x 43) 1 0) (x ∷ xs)))))) minus
     ∙ ap (λ b. pos (digits_value 10 (drop (cond b 1 0) (x ∷ xs)))) plus
 
 -- a whole number is what its decimal text writes
@@ -59,15 +62,18 @@ module _ (q : ℚ) (f : Fits long_limit q) where
   at_slash (Some at) e =
       let k = cut (frac_text q) q.num q.den (small_num q f) refl at e in
       let rest : drop (at + 1) (frac_text q) ≡ decimal q.den =
-      sym (take_all (length (frac_text q) - (at + 1)) (drop (at + 1) (frac_text q)) (omega (arith, length-drop (at + 1) (frac_text q)))) ∙ k.1 in
-      ap₂ ratio (ap (signed_digits_value 10) k.0 ∙ signed_back q.num (small_num q f)) (ap (digits_value 10) rest ∙ (decimal_is_IsNumeral q.den (omega (arith, small_den q f))).1) ∙ ratio-parts q
+      sym (take_all (length (frac_text q) - (at + 1)) (drop (at + 1) (frac_text q)) (omega (arith, length-drop (at + 1) (frac_text q))))
+      ∙ k.1 in
+      ap₂ ratio (ap (signed_digits_value 10) k.0 ∙ signed_back q.num (small_num q f))
+      (ap (digits_value 10) rest ∙ (decimal_is_IsNumeral q.den (omega (arith, small_den q f))).1) ∙ ratio-parts q
 
   named_back : named (frac_text q) ≡ q
   unfolding named
   named_back = at_slash (position (λ b. b == 47) (frac_text q)) refl
 
 kept : (q : ℚ) → Fits long_limit q → is_kept q ≡ true
-kept q f = ap₂ (λ a b. a && b) (le-leb (nat_abs q.num) 9223372036854775807 (omega (arith, small_num q f))) (le-leb q.den 9223372036854775807 (omega (arith, small_den q f)))
+kept q f = ap₂ (λ a b. a && b) (le-leb (nat_abs q.num) 9223372036854775807 (omega (arith, small_num q f)))
+    (le-leb q.den 9223372036854775807 (omega (arith, small_den q f)))
 
 -- the text of a number is read as the number
 pub frac_back : (q : ℚ) → Fits long_limit q → frac_of (frac_text q) ≡ Some q
@@ -99,15 +105,18 @@ pub frac_text_of : (text : List ℕ) (q : ℚ) → frac_of text ≡ Some q → (
 unfolding frac_of
 frac_text_of text q e =
     let k = if_is (bytes_eq text (frac_text (named text)) && is_kept (named text)) (named text) q e in
-    let b = and_both _ _ k.0 in
-    ((bytes_eq-Decides text (frac_text (named text))).0 b.0 ∙ ap frac_text k.1, subst (λ r. Fits long_limit r) k.1 (fits_kept (named text) b.1))
+    let b = and_both _ _ k.0 in (
+      (bytes_eq-Decides text (frac_text (named text))).0 b.0 ∙ ap frac_text k.1,
+      subst (λ r. Fits long_limit r) k.1 (fits_kept (named text) b.1),
+    )
 
 none_or : {A : Type 0} (o : Option A) → ((x : A) → o ≡ Some x → ⊥) → None ≡ o
 none_or None h = refl
 none_or (Some x) h = absurd (h x refl)
 
 -- what the reader of fractions answers
-pub frac_read : (text : List ℕ) (o : Option ℚ) → MatchOption o ((q : ℚ) → Fits long_limit q → text ≢ frac_text q) (λ r. (text ≡ frac_text r) × Fits long_limit r) → o ≡ frac_of text
+pub frac_read : (text : List ℕ) (o : Option ℚ) → MatchOption o ((q : ℚ) → Fits long_limit q → text ≢ frac_text q)
+    (λ r. (text ≡ frac_text r) × Fits long_limit r) → o ≡ frac_of text
 frac_read text None h = none_or (frac_of text) (λ q e. let k = frac_text_of text q e in h q k.1 k.0)
 frac_read text (Some q) h = sym (ap frac_of h.0 ∙ frac_back q h.1)
 
@@ -123,7 +132,8 @@ one_or_more d h false = slashed
 
 -- the text of a fraction that fits is ASCII
 pub frac_ascii : (q : ℚ) → Fits long_limit q → IsAscii (frac_text q)
-frac_ascii q f = IsAscii-append (signed_decimal q.num) _ (IsAscii-signed q.num (mag_small q.num (small_num q f))) (one_or_more q.den (omega (arith, small_den q f)) (q.den == 1))
+frac_ascii q f = IsAscii-append (signed_decimal q.num) _ (IsAscii-signed q.num (mag_small q.num (small_num q f)))
+    (one_or_more q.den (omega (arith, small_den q f)) (q.den == 1))
 
 -- ---- whole numbers
 
@@ -135,9 +145,12 @@ whole_fits z t =
     record { num_fits = omega (arith, ints, n, h); den_fits = omega (arith, ints, d) }
 
 -- x is z as the code passes it
-pub whole_made : (z x : ℤ) (o : Option ℚ) → x ≡ z → IsTrue (is_number z) → MatchOption o ((pos 1 ≡ pos 0) ⊎ (¬ (Fits long_limit (whole x /ℚ whole (pos 1))))) (λ r. (r ≡ whole x /ℚ whole (pos 1)) × Fits long_limit r × (pos 1 ≢ pos 0)) → o ≡ Some (whole z)
+pub whole_made : (z x : ℤ) (o : Option ℚ) → x ≡ z → IsTrue (is_number z)
+    → MatchOption o ((pos 1 ≡ pos 0) ⊎ (¬ (Fits long_limit (whole x /ℚ whole (pos 1)))))
+    (λ r. (r ≡ whole x /ℚ whole (pos 1)) × Fits long_limit r × (pos 1 ≢ pos 0)) → o ≡ Some (whole z)
 whole_made z x None e t h =
-    absurd (⊎_elim (λ e. let k = ap nat_abs e in omega (arith, k)) (λ n. n (subst (λ q. Fits long_limit q) (sym (ap (λ y. whole y /ℚ whole (pos 1)) e ∙ whole_over_one z)) (whole_fits z t))) h)
+    absurd (⊎_elim (λ e. let k = ap nat_abs e in omega (arith, k)) (λ n. n
+    (subst (λ q. Fits long_limit q) (sym (ap (λ y. whole y /ℚ whole (pos 1)) e ∙ whole_over_one z)) (whole_fits z t))) h)
 whole_made z x (Some q) e t h = ap Some (h.0 ∙ ap (λ y. whole y /ℚ whole (pos 1)) e ∙ whole_over_one z)
 
 -- a whole number's text is read as it
@@ -155,7 +168,9 @@ false_of false d n = refl
 -- a fraction's text is no infinity's, and is read as the fraction
 pub fin_back : (q : ℚ) → Fits long_limit q → ext_of (frac_text q) ≡ Some (Fin q)
 fin_back q f =
-    let low : bytes_eq (frac_text q) (codes "-inf") ≡ false = false_of _ (bytes_eq-Decides (frac_text q) (codes "-inf")) (λ e. absurd (let k = only_neg (Fin q) f e in cc)) in
-    let high : bytes_eq (frac_text q) (codes "+inf") ≡ false = false_of _ (bytes_eq-Decides (frac_text q) (codes "+inf")) (λ e. absurd (let k = only_pos (Fin q) f e in cc)) in
+    let low : bytes_eq (frac_text q) (codes "-inf") ≡ false = false_of _ (bytes_eq-Decides (frac_text q) (codes "-inf"))
+    (λ e. absurd (let k = only_neg (Fin q) f e in cc)) in
+    let high : bytes_eq (frac_text q) (codes "+inf") ≡ false = false_of _ (bytes_eq-Decides (frac_text q) (codes "+inf"))
+    (λ e. absurd (let k = only_pos (Fin q) f e in cc)) in
     ap₂ (λ a b. if a then Some NegInf else (if b then Some PosInf else option_map (λ (r : ℚ). Fin r) (frac_of (frac_text q)))) low high
     ∙ ap (λ o. option_map (λ (r : ℚ). Fin r) o) (frac_back q f)

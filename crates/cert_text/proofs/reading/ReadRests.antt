@@ -1,5 +1,6 @@
 -- The steps and the evidence where traces are listed: the steps are counted before they are read.
-use Rattle.std.proofs.Common.{◌≡◌, ◌<◌, ◌≤◌, ℕ, Bool, true, false, List, Option, Some, None, nat_lt, codes, Result, Ok, Err, refl, sym, ap, ◌∙◌, arith, subst}
+use Rattle.std.proofs.Common.{◌≡◌, ◌<◌, ◌≤◌, ℕ, Bool, true, false, List, Option, Some, None, nat_lt, codes, Result, Ok, Err, refl, sym, ap}
+use Rattle.std.proofs.Common.{◌∙◌, arith, subst}
 use Rattle.std.specs.Prelude.{ℤ, length, map, option_map, if◌then◌else◌, ⊤}
 use Rattle.std.proofs.lemmas.Bool.{lt-ltb}
 use Rattle.serde_json.specs.Data.{Data}
@@ -22,10 +23,12 @@ use Rattle.cert_text.specs.Lists.{is_list, list_in}
 use Rattle.cert_text.specs.StepForms.{is_step, step_in}
 use Rattle.cert_text.specs.Traces.{listing}
 use Rattle.cert_text.specs.BoundLines.{joined}
-use Rattle.cert_text.specs.Certificates.{and_then, bounds_in, cert_in, format_in, is_over, is_top, list_from, or_number, rest_in, rows_in, steps_in, top_in, traces_in, uppers_in}
+use Rattle.cert_text.specs.Certificates.{and_then, bounds_in, cert_in, format_in, is_over, is_top, list_from, or_number, rest_in, rows_in}
+use Rattle.cert_text.specs.Certificates.{steps_in, top_in, traces_in, uppers_in}
 
 -- what follows a first part that is read
-pub then_ok : {A B : Type 0} (r : Result A FormFault) (x : A) (next : A → Result B FormFault) (y : Result B FormFault) → r ≡ Ok x → next x ≡ y → and_then r next ≡ y
+pub then_ok : {A B : Type 0} (r : Result A FormFault) (x : A) (next : A → Result B FormFault) (y : Result B FormFault) → r ≡ Ok x
+    → next x ≡ y → and_then r next ≡ y
 then_ok r x next y e f = ap (λ r. and_then r next) e ∙ f
 
 -- and one that is refused
@@ -36,12 +39,14 @@ then_err r f next e = ap (λ r. and_then r next) e
 abbrev counted : Result (List Step) FormFault → Result ℕ FormFault
 counted r = and_then r (λ (steps : List Step). Ok (capped (values_of (named_traces steps))))
 
-number_counted : (field : Field) (o : Option (List Step)) (n : Option ℕ) → n ≡ option_map (λ (steps : List Step). capped (values_of (named_traces steps))) o
+number_counted : (field : Field) (o : Option (List Step)) (n : Option ℕ)
+    → n ≡ option_map (λ (steps : List Step). capped (values_of (named_traces steps))) o
     → (k : ℕ) → n ≡ Some k → Ok k ≡ counted (or_number field o)
 number_counted field None n e k h = absurd cc
 number_counted field (Some steps) n e k h = let is : Some k ≡ Some (capped (values_of (named_traces steps))) = sym h ∙ e in cc
 
-number_missed : (field : Field) (o : Option (List Step)) (n : Option ℕ) → n ≡ option_map (λ (steps : List Step). capped (values_of (named_traces steps))) o
+number_missed : (field : Field) (o : Option (List Step)) (n : Option ℕ)
+    → n ≡ option_map (λ (steps : List Step). capped (values_of (named_traces steps))) o
     → n ≡ None → Err (Number field) ≡ counted (or_number field o)
 number_missed field None n e h = refl
 number_missed field (Some steps) n e h = let is : None ≡ Some (capped (values_of (named_traces steps))) = sym h ∙ e in absurd cc
@@ -50,7 +55,8 @@ counted_err : (r : Result (List Step) FormFault) (f : FormFault) → Err f ≡ c
 counted_err (Ok steps) f e = absurd cc
 counted_err (Err g) f e = cc
 
-counted_ok : (r : Result (List Step) FormFault) (n : ℕ) → Ok n ≡ counted r → (steps : List Step) × (r ≡ Ok steps) × (n ≡ capped (values_of (named_traces steps)))
+counted_ok : (r : Result (List Step) FormFault) (n : ℕ) → Ok n ≡ counted r
+    → (steps : List Step) × (r ≡ Ok steps) × (n ≡ capped (values_of (named_traces steps)))
 counted_ok (Ok steps) n e = (steps, refl, cc)
 counted_ok (Err g) n e = absurd cc
 
@@ -71,10 +77,13 @@ same_steps r xs ys e f = cc
 listed_setting : (s : Setting) (traces : List Trace) → s.traces ≡ Some traces → listing s.rows traces ≡ s
 listed_setting s traces h = ap (λ (o : Option (List Trace)). let r : Setting = record { rows = s.rows; traces = o } in r) (sym h)
 
-module _ (s : Setting) (traces : List Trace) (d m : Data) (listed : s.traces ≡ Some traces) (there : Some m ≡ get (codes "steps") d) (shape : is_list (is_step s) m ≡ true)
-    (n : Option ℕ) (count : n ≡ option_map (λ (steps : List Step). capped (values_of (named_traces steps))) (list_in (step_in (listing s.rows traces)) m)) where
+module _ (s : Setting) (traces : List Trace) (d m : Data) (listed : s.traces ≡ Some traces) (there : Some m ≡ get (codes "steps") d)
+    (shape : is_list (is_step s) m ≡ true)
+    (n : Option ℕ) (count : n ≡ option_map (λ (steps : List Step). capped (values_of (named_traces steps)))
+    (list_in (step_in (listing s.rows traces)) m)) where
   count_here : n ≡ option_map (λ (steps : List Step). capped (values_of (named_traces steps))) (list_in (step_in s) m)
-  count_here = count ∙ ap (λ (r : Setting). option_map (λ (steps : List Step). capped (values_of (named_traces steps))) (list_in (step_in r) m)) (listed_setting s traces listed)
+  count_here = count ∙ ap (λ (r : Setting). option_map (λ (steps : List Step). capped (values_of (named_traces steps)))
+      (list_in (step_in r) m)) (listed_setting s traces listed)
 
   steps_here : or_number Steps (list_in (step_in s) m) ≡ steps_in s d
   steps_here =
@@ -97,11 +106,13 @@ rest_no_steps s d f e =
 
 -- steps that are read, with what is read after them
 rest_after : (s : Setting) (d : Data) (steps : List Step) (r : Result (List Upper) FormFault) → steps_in s d ≡ Ok steps → uppers_in d ≡ r
-    → rest_in s d ≡ and_then r (λ (uppers : List Upper). if is_over s.traces (values_of (named_traces steps)) then Err Expanded else Ok (steps, uppers))
+    → rest_in s d ≡ and_then r (λ (uppers : List Upper). if is_over s.traces (values_of (named_traces steps)) then Err Expanded else Ok
+    (steps, uppers))
 rest_after s d steps r e f =
     ap (λ (r : Result (List Step) FormFault). and_then r (λ (steps : List Step). and_then (uppers_in d) (λ (uppers : List Upper).
     if is_over s.traces (values_of (named_traces steps)) then Err Expanded else Ok (steps, uppers)))) e
-    ∙ ap (λ (r : Result (List Upper) FormFault). and_then r (λ (uppers : List Upper). if is_over s.traces (values_of (named_traces steps)) then Err Expanded else Ok (steps, uppers))) f
+    ∙ ap (λ (r : Result (List Upper) FormFault). and_then r (λ (uppers : List Upper). if is_over s.traces (values_of (named_traces steps))
+    then Err Expanded else Ok (steps, uppers))) f
 
 module _ (s : Setting) (traces : List Trace) (d : Data) (listed : s.traces ≡ Some traces) where
   listed_no_steps : (f : FormFault) → Err f ≡ counted (steps_in s d) → rest_in s d ≡ Err f
@@ -115,25 +126,32 @@ module _ (s : Setting) (traces : List Trace) (d : Data) (listed : s.traces ≡ S
     listed_expanded uppers e h =
         let k = counted_ok (steps_in s d) n count in
         rest_after s d k.0 (Ok uppers) k.1 e
-        ∙ ap (λ b. if b then Err Expanded else Ok (k.0, uppers)) (ap (λ o. is_over o (values_of (named_traces k.0))) listed ∙ over_capped n (values_of (named_traces k.0)) k.2 h)
+        ∙ ap (λ b. if b then Err Expanded else Ok (k.0, uppers)) (ap (λ o. is_over o (values_of (named_traces k.0))) listed
+        ∙ over_capped n (values_of (named_traces k.0)) k.2 h)
 
-    listed_read : (steps : List Step) (uppers : List Upper) → steps_in s d ≡ Ok steps → uppers_in d ≡ Ok uppers → n ≤ MOST_VALUES → rest_in s d ≡ Ok (steps, uppers)
+    listed_read : (steps : List Step) (uppers : List Upper) → steps_in s d ≡ Ok steps → uppers_in d ≡ Ok uppers → n ≤ MOST_VALUES
+        → rest_in s d ≡ Ok (steps, uppers)
     listed_read steps uppers f e h =
         let k = counted_ok (steps_in s d) n count in
         rest_after s d k.0 (Ok uppers) k.1 e
-        ∙ ap (λ b. if b then Err Expanded else Ok (k.0, uppers)) (ap (λ o. is_over o (values_of (named_traces k.0))) listed ∙ within_capped n (values_of (named_traces k.0)) k.2 h)
-        ∙ ap (λ (xs : List Step). let r : Result (List Step × List Upper) FormFault = Ok (xs, uppers) in r) (same_steps (steps_in s d) k.0 steps k.1 f)
+        ∙ ap (λ b. if b then Err Expanded else Ok (k.0, uppers)) (ap (λ o. is_over o (values_of (named_traces k.0))) listed
+        ∙ within_capped n (values_of (named_traces k.0)) k.2 h)
+        ∙ ap (λ (xs : List Step). let r : Result (List Step × List Upper) FormFault = Ok (xs, uppers) in r)
+        (same_steps (steps_in s d) k.0 steps k.1 f)
 
 -- ---- the whole
 
 -- a certificate is read field by field, where the first fields are read
-module _ (d : Data) (u : ⊤) (rows : List (List ℤ)) (n : ℕ) (top : is_top d ≡ true) (format : format_in d ≡ Ok u) (rows_read : rows_in d ≡ Ok rows) (long : length rows ≡ n) where
+module _ (d : Data) (u : ⊤) (rows : List (List ℤ)) (n : ℕ) (top : is_top d ≡ true) (format : format_in d ≡ Ok u)
+    (rows_read : rows_in d ≡ Ok rows) (long : length rows ≡ n) where
   top_read : top_in d ≡ Ok tt
   top_read = ap (λ b. if b then Ok tt else Err (Shape Top)) top
 
-  from_rows : (y : Result Cert FormFault) → and_then (bounds_in (length rows) d) (λ (lines : List (List Ext)). and_then (traces_in d) (λ (traces : Option (List Trace)).
+  from_rows : (y : Result Cert FormFault) → and_then (bounds_in (length rows) d)
+      (λ (lines : List (List Ext)). and_then (traces_in d) (λ (traces : Option (List Trace)).
       and_then (rest_in (record { rows = length rows; traces = traces }) d) (λ (rest : List Step × List Upper).
-      let c : Cert = record { rows = rows; bounds = map extended (joined lines); steps = rest.0; uppers = rest.1 } in Ok c))) ≡ y → cert_in d ≡ y
+      let c : Cert = record { rows = rows; bounds = map extended (joined lines); steps = rest.0; uppers = rest.1 } in Ok c))) ≡ y
+      → cert_in d ≡ y
   from_rows y e = then_ok (top_in d) tt _ y top_read (then_ok (format_in d) u _ y format (then_ok (rows_in d) rows _ y rows_read e))
 
   -- where the bounds are refused, the certificate is refused so
@@ -149,23 +167,29 @@ module _ (d : Data) (u : ⊤) (rows : List (List ℤ)) (n : ℕ) (top : is_top d
     cert_no_traces f e = from_rows (Err f) (then_ok (bounds_in (length rows) d) lines _ (Err f) lines_here (then_err (traces_in d) f _ e))
 
     module _ (traces : Option (List Trace)) (traces_read : traces_in d ≡ Ok traces) where
-      rest_here : (r : Result (List Step × List Upper) FormFault) → rest_in (record { rows = n; traces = traces }) d ≡ r → rest_in (record { rows = length rows; traces = traces }) d ≡ r
+      rest_here : (r : Result (List Step × List Upper) FormFault) → rest_in (record { rows = n; traces = traces }) d ≡ r
+          → rest_in (record { rows = length rows; traces = traces }) d ≡ r
       rest_here r e = ap (λ k. rest_in (record { rows = k; traces = traces }) d) long ∙ e
 
       -- where the steps or the evidence are refused, the certificate is refused so
       pub cert_no_rest : (f : FormFault) → rest_in (record { rows = n; traces = traces }) d ≡ Err f → cert_in d ≡ Err f
       cert_no_rest f e =
-          from_rows (Err f) (then_ok (bounds_in (length rows) d) lines _ (Err f) lines_here (then_ok (traces_in d) traces _ (Err f) traces_read
+          from_rows (Err f) (then_ok (bounds_in (length rows) d) lines _ (Err f) lines_here
+          (then_ok (traces_in d) traces _ (Err f) traces_read
           (then_err (rest_in (record { rows = length rows; traces = traces }) d) f _ (rest_here (Err f) e))))
 
       -- where all fields are read, the certificate is that of these fields
       pub cert_read : (steps : List Step) (uppers : List Upper) (r : List (List ℤ)) (b : List Extended) (s : List Step) (p : List Upper)
           → rest_in (record { rows = n; traces = traces }) d ≡ Ok (steps, uppers)
-          → r ≡ rows → b ≡ map extended (joined lines) → s ≡ steps → p ≡ uppers → cert_in d ≡ Ok (record { rows = r; bounds = b; steps = s; uppers = p })
+          → r ≡ rows → b ≡ map extended (joined lines) → s ≡ steps → p ≡ uppers
+          → cert_in d ≡ Ok (record { rows = r; bounds = b; steps = s; uppers = p })
       cert_read steps uppers r b s p e er eb es ep =
-          from_rows (Ok (record { rows = r; bounds = b; steps = s; uppers = p })) (then_ok (bounds_in (length rows) d) lines _ _ lines_here (then_ok (traces_in d) traces _ _ traces_read
-          (then_ok (rest_in (record { rows = length rows; traces = traces }) d) (steps, uppers) _ _ (rest_here (Ok (steps, uppers)) e) made)))
+          from_rows (Ok (record { rows = r; bounds = b; steps = s; uppers = p }))
+          (then_ok (bounds_in (length rows) d) lines _ _ lines_here (then_ok (traces_in d) traces _ _ traces_read
+          (then_ok (rest_in (record { rows = length rows; traces = traces }) d) (steps, uppers) _ _ (rest_here (Ok (steps, uppers)) e)
+          made)))
         where
-          made : (let c : Cert = record { rows = rows; bounds = map extended (joined lines); steps = steps; uppers = uppers } in let o : Result Cert FormFault = Ok c in o)
+          made : (let c : Cert = record { rows = rows; bounds = map extended (joined lines); steps = steps; uppers = uppers } in
+              let o : Result Cert FormFault = Ok c in o)
               ≡ Ok (record { rows = r; bounds = b; steps = s; uppers = p })
           made = cc

@@ -1,5 +1,7 @@
 -- A certificate that is read can be written again.
-use Rattle.std.proofs.Common.{◌≡◌, ◌⊎◌, inl, inr, ⊎_elim, ◌*◌, ◌%◌, ◌<◌, ◌&&◌, ◌||◌, ◌==◌, ℕ, suc, Bool, true, false, List, [], ◌∷◌, length, map, Option, Some, None, ℤ, refl, sym, ap, ap₂, ◌∙◌, arith, codes, Result, Ok, Err, IfOk, MatchResult, subst, length-append}
+use Rattle.std.proofs.Common.{◌≡◌, ◌⊎◌, inl, inr, ⊎_elim, ◌*◌, ◌%◌, ◌<◌, ◌&&◌, ◌||◌, ◌==◌, ℕ, suc, Bool, true, false, List, [], ◌∷◌, length}
+use Rattle.std.proofs.Common.{map, Option, Some, None, ℤ, refl, sym, ap, ap₂, ◌∙◌, arith, codes, Result, Ok, Err, IfOk, MatchResult, subst}
+use Rattle.std.proofs.Common.{length-append}
 use Rattle.std.specs.Prelude.{nat_lt, is_some, if◌then◌else◌, option_map, option_and_then}
 use Rattle.std.specs.List.{list_all}
 use Rattle.std.proofs.lemmas.Bool.{ltb-true}
@@ -23,13 +25,15 @@ use Rattle.cert_text.specs.declared.fault.FormFault.TheVariants.{Expanded, Shape
 use Rattle.cert_text.specs.declared.setting.Setting.{Setting}
 use Rattle.cert_text.specs.Lists.{all_items, is_list, items_in, items_pass, list_in}
 use Rattle.cert_text.specs.Numbers.{ext_in, is_text, whole_in}
-use Rattle.cert_text.specs.Keys.{count_items, index_in, is_index, is_kind, is_unknown, item_count, member_count, numbered, passes, passes_at, unknown_from}
+use Rattle.cert_text.specs.Keys.{count_items, index_in, is_index, is_kind, is_unknown, item_count, member_count, numbered, passes}
+use Rattle.cert_text.specs.Keys.{passes_at, unknown_from}
 use Rattle.cert_text.specs.Traces.{are_texts, is_trace_by}
 use Rattle.cert_text.specs.Naming.{named_traces, values_of}
 use Rattle.cert_text.specs.StepItems.{has_start, is_jump_item, is_plain_item, is_ray_item, jump_item_in, plain_item_in, ray_item_in}
 use Rattle.cert_text.specs.StepForms.{has_items, is_filled, is_step, items_at, step_in}
 use Rattle.cert_text.specs.BoundLines.{is_line, joined, line_in}
-use Rattle.cert_text.specs.Certificates.{IsWritable, and_then, bounds_in, cert_in, format_in, is_over, list_from, or_number, rest_in, rows_in, steps_in, top_in, traces_in, uppers_in}
+use Rattle.cert_text.specs.Certificates.{IsWritable, and_then, bounds_in, cert_in, format_in, is_over, list_from, or_number, rest_in}
+use Rattle.cert_text.specs.Certificates.{rows_in, steps_in, top_in, traces_in, uppers_in}
 use Rattle.cert_text.proofs.bounds.LinesOf.{length_map}
 use Rattle.cert_text.proofs.rows.RowNumbers.{row_small}
 
@@ -39,7 +43,8 @@ and_both false b e = absurd cc
 
 -- ---- what was read before
 
-then_from : {A B : Type 0} (r : Result A FormFault) (next : A → Result B FormFault) (y : B) → and_then r next ≡ Ok y → (x : A) × (r ≡ Ok x) × (next x ≡ Ok y)
+then_from : {A B : Type 0} (r : Result A FormFault) (next : A → Result B FormFault) (y : B) → and_then r next ≡ Ok y
+    → (x : A) × (r ≡ Ok x) × (next x ≡ Ok y)
 then_from (Ok x) next y e = (x, refl, e)
 then_from (Err f) next y e = absurd cc
 
@@ -55,7 +60,8 @@ number_from : {A : Type 0} (field : Field) (o : Option (List A)) (xs : List A) �
 number_from field None xs e = absurd cc
 number_from field (Some ys) xs e = cc
 
-field_from : {A : Type 0} (field : Field) (test : Data → Bool) (read : Data → Option A) (o : Option Data) (xs : List A) → list_from field test read o ≡ Ok xs → IsRead test read xs
+field_from : {A : Type 0} (field : Field) (test : Data → Bool) (read : Data → Option A) (o : Option Data) (xs : List A)
+    → list_from field test read o ≡ Ok xs → IsRead test read xs
 field_from field test read None xs e = absurd cc
 field_from field test read (Some d) xs e = by (is_list test d) refl e
   where
@@ -67,17 +73,21 @@ field_from field test read (Some d) xs e = by (is_list test d) refl e
 
 module _ {A : Type 0} (test : Data → Bool) (read : Data → Option A) where
   module _ (holds : A → Bool) (one : (d : Data) (x : A) → test d ≡ true → read d ≡ Some x → holds x ≡ true) where
-    both_hold : (o : Option A) (rest : Option (List A)) (xs : List A) → ((x : A) → o ≡ Some x → holds x ≡ true) → ((ys : List A) → rest ≡ Some ys → list_all holds ys ≡ true)
+    both_hold : (o : Option A) (rest : Option (List A)) (xs : List A) → ((x : A) → o ≡ Some x → holds x ≡ true)
+        → ((ys : List A) → rest ≡ Some ys → list_all holds ys ≡ true)
         → option_and_then (λ x. option_map (λ ys. x ∷ ys) rest) o ≡ Some xs → list_all holds xs ≡ true
     both_hold None rest xs f g e = absurd cc
     both_hold (Some x) None xs f g e = absurd cc
-    both_hold (Some x) (Some ys) xs f g e = subst (λ (zs : List A). list_all holds zs ≡ true) (let k : x ∷ ys ≡ xs = cc in k) (ap₂ (λ a b. a && b) (f x refl) (g ys refl))
+    both_hold (Some x) (Some ys) xs f g e = subst (λ (zs : List A). list_all holds zs ≡ true) (let k : x ∷ ys ≡ xs = cc in k)
+        (ap₂ (λ a b. a && b) (f x refl) (g ys refl))
 
     items_hold : (ds : Items) (xs : List A) → all_items test ds ≡ true → items_in read ds ≡ Some xs → list_all holds xs ≡ true
     items_hold no_items xs p e = subst (λ (zs : List A). list_all holds zs ≡ true) (let k : [] ≡ xs = cc in k) refl
-    items_hold (item d ds) xs p e = let k = and_both (test d) (all_items test ds) p in both_hold (read d) (items_in read ds) xs (λ x f. one d x k.0 f) (λ ys f. items_hold ds ys k.1 f) e
+    items_hold (item d ds) xs p e = let k = and_both (test d) (all_items test ds) p in
+        both_hold (read d) (items_in read ds) xs (λ x f. one d x k.0 f) (λ ys f. items_hold ds ys k.1 f) e
 
-    some_hold : (o : Option Items) (xs : List A) → items_pass test o ≡ true → option_and_then (items_in read) o ≡ Some xs → list_all holds xs ≡ true
+    some_hold : (o : Option Items) (xs : List A) → items_pass test o ≡ true → option_and_then (items_in read) o ≡ Some xs
+        → list_all holds xs ≡ true
     some_hold None xs p e = absurd cc
     some_hold (Some ds) xs p e = items_hold ds xs p e
 
@@ -85,7 +95,8 @@ module _ {A : Type 0} (test : Data → Bool) (read : Data → Option A) where
     each_holds xs h = some_hold (as_array h.value) xs h.passes h.reads
 
 module _ {A : Type 0} (read : Data → Option A) where
-  both_long : (o : Option A) (rest : Option (List A)) (n : ℕ) (xs : List A) → ((ys : List A) → rest ≡ Some ys → length ys ≡ n) → option_and_then (λ x. option_map (λ ys. x ∷ ys) rest) o ≡ Some xs → length xs ≡ suc n
+  both_long : (o : Option A) (rest : Option (List A)) (n : ℕ) (xs : List A) → ((ys : List A) → rest ≡ Some ys → length ys ≡ n)
+      → option_and_then (λ x. option_map (λ ys. x ∷ ys) rest) o ≡ Some xs → length xs ≡ suc n
   both_long None rest n xs g e = absurd cc
   both_long (Some x) None n xs g e = absurd cc
   both_long (Some x) (Some ys) n xs g e = ap length (let k : xs ≡ x ∷ ys = cc in k) ∙ ap suc (g ys refl)
@@ -111,9 +122,11 @@ same_eqb : (m n : ℕ) → m ≡ n → (m == n) ≡ true
 same_eqb m n e = grind (arith, e)
 
 line_long : (rows : ℕ) (d : Data) (line : List Ext) → is_line rows d ≡ true → line_in d ≡ Some line → (length line == rows) ≡ true
-line_long rows d line p e = same_eqb (length line) rows (list_long ext_in d line e ∙ eqb_same (item_count d) rows (and_both (is_list is_text d) (item_count d == rows) p).1)
+line_long rows d line p e = same_eqb (length line) rows (list_long ext_in d line e
+    ∙ eqb_same (item_count d) rows (and_both (is_list is_text d) (item_count d == rows) p).1)
 
-joined_long : {A : Type 0} (rows : ℕ) (lines : List (List A)) → list_all (λ (line : List A). length line == rows) lines ≡ true → length (joined lines) ≡ length lines * rows
+joined_long : {A : Type 0} (rows : ℕ) (lines : List (List A)) → list_all (λ (line : List A). length line == rows) lines ≡ true
+    → length (joined lines) ≡ length lines * rows
 joined_long rows [] e = omega arith
 joined_long rows (line ∷ lines) e =
     let k = and_both (length line == rows) (list_all (λ l. length l == rows) lines) e in
@@ -139,7 +152,8 @@ filled_from kind test d e =
     (k.0, k.1, ltb-true 0 (item_count k.0) (and_both (nat_lt 0 (item_count k.0)) (is_list test k.0) k.2).0)
 
 -- a step has one of three kinds of items
-step_cases : (s : Setting) (d : Data) (P : Type 0) → (has_items (codes "plain") (is_plain_item s) d ≡ true → P) → (has_items (codes "jump") (is_jump_item s) d ≡ true → P) → (has_items (codes "ray") (is_ray_item s) d ≡ true → P)
+step_cases : (s : Setting) (d : Data) (P : Type 0) → (has_items (codes "plain") (is_plain_item s) d ≡ true → P)
+    → (has_items (codes "jump") (is_jump_item s) d ≡ true → P) → (has_items (codes "ray") (is_ray_item s) d ≡ true → P)
     → is_step s d ≡ true → P
 step_cases s d P f g h e =
     let a = has_items (codes "plain") (is_plain_item s) d in
@@ -149,7 +163,8 @@ step_cases s d P f g h e =
 
 step_filled : (s : Setting) (d : Data) → is_step s d ≡ true → some_items d
 step_filled s d e =
-    step_cases s d (some_items d) (filled_from (codes "plain") (is_plain_item s) d) (filled_from (codes "jump") (is_jump_item s) d) (filled_from (codes "ray") (is_ray_item s) d) e
+    step_cases s d (some_items d) (filled_from (codes "plain") (is_plain_item s) d) (filled_from (codes "jump") (is_jump_item s) d)
+    (filled_from (codes "ray") (is_ray_item s) d) e
 
 has_some_long : {A : Type 0} (xs : List A) → 0 < length xs → has_some xs ≡ true
 has_some_long [] h = absurd (omega (arith, h))
@@ -166,11 +181,15 @@ map_from f (Some x) y e = (x, refl, cc)
 step_has_item : (s : Setting) (d : Data) (step : Step) → is_step s d ≡ true → step_in s d ≡ Some step → has_item step ≡ true
 step_has_item s d step p e = by (is_kind (codes "plain") d) (is_kind (codes "jump") d) (is_kind (codes "ray") d) e
   where
-    by : (a b c : Bool) → (if a then option_map (λ items. Plain items) (items_at (plain_item_in s) d) else (if b then option_map (λ items. Jump items) (items_at (jump_item_in s) d)
+    by : (a b c : Bool) → (if a then option_map (λ items. Plain items) (items_at (plain_item_in s) d)
+        else (if b then option_map (λ items. Jump items) (items_at (jump_item_in s) d)
         else (if c then option_map (λ items. Ray items) (items_at (ray_item_in s) d) else None))) ≡ Some step → has_item step ≡ true
-    by true b c e = let k = map_from (λ items. Plain items) _ step e in subst (λ (t : Step). has_item t ≡ true) k.2 (items_some (plain_item_in s) d k.0 (step_filled s d p) k.1)
-    by false true c e = let k = map_from (λ items. Jump items) _ step e in subst (λ (t : Step). has_item t ≡ true) k.2 (items_some (jump_item_in s) d k.0 (step_filled s d p) k.1)
-    by false false true e = let k = map_from (λ items. Ray items) _ step e in subst (λ (t : Step). has_item t ≡ true) k.2 (items_some (ray_item_in s) d k.0 (step_filled s d p) k.1)
+    by true b c e = let k = map_from (λ items. Plain items) _ step e in
+        subst (λ (t : Step). has_item t ≡ true) k.2 (items_some (plain_item_in s) d k.0 (step_filled s d p) k.1)
+    by false true c e = let k = map_from (λ items. Jump items) _ step e in
+        subst (λ (t : Step). has_item t ≡ true) k.2 (items_some (jump_item_in s) d k.0 (step_filled s d p) k.1)
+    by false false true e = let k = map_from (λ items. Ray items) _ step e in
+        subst (λ (t : Step). has_item t ≡ true) k.2 (items_some (ray_item_in s) d k.0 (step_filled s d p) k.1)
     by false false false e = absurd cc
 
 -- ---- without rows there is no unknown, so no item and no step
@@ -186,7 +205,8 @@ no_unknown_from (Some p) (Some r) = no_number p r
 no_unknown : (d : Data) → is_unknown 0 d ≡ false
 no_unknown d = by (item_count d == 2)
   where
-    by : (b : Bool) → is_some (if b then unknown_from 0 (option_and_then index_in (at 0 d)) (option_and_then index_in (at 1 d)) else None) ≡ false
+    by : (b : Bool) → is_some (if b then unknown_from 0 (option_and_then index_in (at 0 d)) (option_and_then index_in (at 1 d)) else None)
+        ≡ false
     by true = ap is_some (no_unknown_from (option_and_then index_in (at 0 d)) (option_and_then index_in (at 1 d)))
     by false = refl
 
@@ -211,7 +231,8 @@ module _ (traces : Option (List Trace)) where
   start_of n d e = no_start d (and_both n (has_start none d) e).1
 
   no_plain : (d : Data) → is_plain_item none d ≡ true → ⊥
-  no_plain d e = start_of (member_count d == 4) d (and_both (member_count d == 4 && has_start none d) (passes_at is_text (codes "to") d) e).0
+  no_plain d e = start_of (member_count d == 4) d (and_both (member_count d == 4 && has_start none d) (passes_at is_text (codes "to") d)
+      e).0
 
   no_jump : (d : Data) → is_jump_item none d ≡ true → ⊥
   no_jump d e =
@@ -237,10 +258,12 @@ no_items_without kind test d none e =
     let x = first_passes test (as_array k.0) f.1 (ltb-true 0 (item_count k.0) f.0) in
     none x.0 x.1
 
-no_step : (traces : Option (List Trace)) (d : Data) (step : Step) → is_step (record { rows = 0; traces = traces }) d ≡ true → step_in (record { rows = 0; traces = traces }) d ≡ Some step → false ≡ true
+no_step : (traces : Option (List Trace)) (d : Data) (step : Step) → is_step (record { rows = 0; traces = traces }) d ≡ true
+    → step_in (record { rows = 0; traces = traces }) d ≡ Some step → false ≡ true
 no_step traces d step e f =
     let s = none traces in
-    step_cases s d (false ≡ true) (λ p. absurd (no_items_without (codes "plain") (is_plain_item s) d (no_plain traces) p)) (λ p. absurd (no_items_without (codes "jump") (is_jump_item s) d (no_jump traces) p))
+    step_cases s d (false ≡ true) (λ p. absurd (no_items_without (codes "plain") (is_plain_item s) d (no_plain traces) p))
+    (λ p. absurd (no_items_without (codes "jump") (is_jump_item s) d (no_jump traces) p))
     (λ p. absurd (no_items_without (codes "ray") (is_ray_item s) d (no_ray traces) p)) e
 
 -- ---- the whole
@@ -257,7 +280,8 @@ nothing_long (x ∷ xs) e = absurd (omega (arith, e))
 abbrev under : ℕ → Option (List Trace) → Setting
 under n traces = record { rows = n; traces = traces }
 
-parts_writable : (traces : Option (List Trace)) (rows : List (List ℤ)) (lines : List (List Ext)) (steps : List Step) (uppers : List Upper) → IsRead are_texts (list_in whole_in) rows → IsRead (is_line (length rows)) line_in lines
+parts_writable : (traces : Option (List Trace)) (rows : List (List ℤ)) (lines : List (List Ext)) (steps : List Step) (uppers : List Upper)
+    → IsRead are_texts (list_in whole_in) rows → IsRead (is_line (length rows)) line_in lines
     → IsRead (is_step (under (length rows) traces)) (step_in (under (length rows) traces)) steps
     → IsWritable (record { rows = rows; bounds = map extended (joined lines); steps = steps; uppers = uppers })
 parts_writable traces [] lines steps uppers r b s =
@@ -299,11 +323,14 @@ read_writable d c e =
     let l = then_from (traces_in d) _ c b.2 in
     let s = then_from (rest_in (under (length r.0) l.0) d) _ c l.2 in
     let made : (record { rows = r.0; bounds = map extended (joined b.0); steps = s.0.0; uppers = s.0.1 }) ≡ c = cc in
-    subst IsWritable made (parts_writable l.0 r.0 b.0 s.0.0 s.0.1 (field_from Rows are_texts (list_in whole_in) (get (codes "rows") d) r.0 r.1)
+    subst IsWritable made (parts_writable l.0 r.0 b.0 s.0.0 s.0.1 (field_from Rows are_texts (list_in whole_in) (get (codes "rows") d) r.0
+    r.1)
     (field_from Bounds (is_line (length r.0)) line_in (get (codes "bounds") d) b.0 b.1)
-    (field_from Steps (is_step (under (length r.0) l.0)) (step_in (under (length r.0) l.0)) (get (codes "steps") d) s.0.0 (rest_steps (under (length r.0) l.0) d s.0 s.1)))
+    (field_from Steps (is_step (under (length r.0) l.0)) (step_in (under (length r.0) l.0)) (get (codes "steps") d) s.0.0
+    (rest_steps (under (length r.0) l.0) d s.0 s.1)))
 
 -- a certificate that was read can be written
-pub answer_writable : (d : Data) (r : Result Cert FormFault) (Q : FormFault → Type 0) → MatchResult r (λ c. cert_in d ≡ Ok c) Q → IfOk r IsWritable
+pub answer_writable : (d : Data) (r : Result Cert FormFault) (Q : FormFault → Type 0) → MatchResult r (λ c. cert_in d ≡ Ok c) Q
+    → IfOk r IsWritable
 answer_writable d (Ok c) Q e = read_writable d c e
 answer_writable d (Err f) Q e = tt

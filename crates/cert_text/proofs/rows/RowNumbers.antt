@@ -28,11 +28,13 @@ read_small : (o : Option (List ℕ)) (z : ℤ) → option_and_then whole_of o �
 read_small None z e = absurd cc
 read_small (Some text) z e = whole_small text (frac_of text) z refl e
 
-both_small : (o : Option ℤ) (rest : Option (List ℤ)) (zs : List ℤ) → ((z : ℤ) → o ≡ Some z → is_number z ≡ true) → ((ys : List ℤ) → rest ≡ Some ys → are_numbers ys ≡ true)
+both_small : (o : Option ℤ) (rest : Option (List ℤ)) (zs : List ℤ) → ((z : ℤ) → o ≡ Some z → is_number z ≡ true)
+    → ((ys : List ℤ) → rest ≡ Some ys → are_numbers ys ≡ true)
     → option_and_then (λ x. option_map (λ xs. x ∷ xs) rest) o ≡ Some zs → are_numbers zs ≡ true
 both_small None rest zs f g e = absurd cc
 both_small (Some z) None zs f g e = absurd cc
-both_small (Some z) (Some ys) zs f g e = subst (λ (xs : List ℤ). are_numbers xs ≡ true) (let k : z ∷ ys ≡ zs = cc in k) (head (is_number z) (f z refl))
+both_small (Some z) (Some ys) zs f g e = subst (λ (xs : List ℤ). are_numbers xs ≡ true) (let k : z ∷ ys ≡ zs = cc in k)
+    (head (is_number z) (f z refl))
   where
     head : (b : Bool) → b ≡ true → (b && are_numbers ys) ≡ true
     head true h = g ys refl
@@ -40,7 +42,8 @@ both_small (Some z) (Some ys) zs f g e = subst (λ (xs : List ℤ). are_numbers 
 
 items_small : (ds : Items) (zs : List ℤ) → items_in whole_in ds ≡ Some zs → are_numbers zs ≡ true
 items_small no_items zs e = subst (λ (xs : List ℤ). are_numbers xs ≡ true) (let k : [] ≡ zs = cc in k) refl
-items_small (item d ds) zs e = both_small (whole_in d) (items_in whole_in ds) zs (λ z f. read_small (as_str d) z f) (λ ys f. items_small ds ys f) e
+items_small (item d ds) zs e = both_small (whole_in d) (items_in whole_in ds) zs (λ z f. read_small (as_str d) z f)
+    (λ ys f. items_small ds ys f) e
 
 some_items : (o : Option Items) (zs : List ℤ) → option_and_then (items_in whole_in) o ≡ Some zs → are_numbers zs ≡ true
 some_items None zs e = absurd cc

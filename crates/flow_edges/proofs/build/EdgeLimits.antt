@@ -48,7 +48,8 @@ mutual
   pub room_in : (n : ℕ) (i : Bool) (ss : Statements) → IsTrue (are_statements n i ss) → IsTrue (have_rooms ss)
   room_in n i nil h = refl
   room_in n i (cons s rest) h =
-      let p = and_parts (is_statement n i s) (are_statements n i rest) h in and_from (has_rooms s) (have_rooms rest) (room_of n i s p.0) (room_in n i rest p.1)
+      let p = and_parts (is_statement n i s) (are_statements n i rest) h in
+      and_from (has_rooms s) (have_rooms rest) (room_of n i s p.0) (room_in n i rest p.1)
 
 -- ---- at most one point for each statement
 few_if : (b : Bool) → (if b then 1 else 0) ≤ 1
@@ -83,22 +84,27 @@ module _ (n : ℕ) where
 
   prefixed_fit : (actions : List Action) (ways : List Way) → AreActions actions → Each WayFits ways → Each WayFits (prefixed actions ways)
   prefixed_fit actions ways h k =
-      each-map WayFits WayFits (λ w. record { actions = actions ++ w.actions; to = w.to }) (λ w a. each-append (λ b. IsTrue (is_action n b)) actions w.actions h a) ways k
+      each-map WayFits WayFits (λ w. record { actions = actions ++ w.actions; to = w.to })
+      (λ w a. each-append (λ b. IsTrue (is_action n b)) actions w.actions h a) ways k
 
   guards_fit : (forms : List Form) → Each (IsForm n) forms → AreActions (guards forms)
   guards_fit forms h = each-map (IsForm n) (λ a. IsTrue (is_action n a)) Guard (λ f k. k) forms h
 
-  by_case_fit : (truth : Bool) (c : Condition) (ways : List Way) → IsTrue (is_tested n c) → Each WayFits ways → Each WayFits (by_case truth c ways)
+  by_case_fit : (truth : Bool) (c : Condition) (ways : List Way) → IsTrue (is_tested n c) → Each WayFits ways
+      → Each WayFits (by_case truth c ways)
   by_case_fit truth c ways h k =
-      each-flat_map (Each (IsForm n)) WayFits (λ forms. prefixed (guards forms) ways) (λ forms a. prefixed_fit (guards forms) ways (guards_fit forms a) k)
+      each-flat_map (Each (IsForm n)) WayFits (λ forms. prefixed (guards forms) ways)
+      (λ forms a. prefixed_fit (guards forms) ways (guards_fit forms a) k)
       (cases_of truth c) (cases_forms n truth c (tested n c h))
 
   if_fit : (b : Bool) (p : ℕ) (next : List Way) → Each WayFits next → Each WayFits (if b then arrived p else next)
   if_fit true p next a = (tt, tt)
   if_fit false p next a = a
 
-  both_fit : (c : Condition) (us vs : List Way) → IsTrue (is_tested n c) → Each WayFits us → Each WayFits vs → Each WayFits (by_case true c us ++ by_case false c vs)
-  both_fit c us vs h k l = each-append WayFits (by_case true c us) (by_case false c vs) (by_case_fit true c us h k) (by_case_fit false c vs h l)
+  both_fit : (c : Condition) (us vs : List Way) → IsTrue (is_tested n c) → Each WayFits us → Each WayFits vs
+      → Each WayFits (by_case true c us ++ by_case false c vs)
+  both_fit c us vs h k l = each-append WayFits (by_case true c us) (by_case false c vs) (by_case_fit true c us h k)
+      (by_case_fit false c vs h l)
 
   -- the ways of jumps
   record JumpsFit (jumps : Jumps) : Type 0 where
@@ -108,7 +114,8 @@ module _ (n : ℕ) where
     pub continued : Each WayFits jumps.continued
 
   mutual
-    ways_fit_of : (i : Bool) (s : Statement) (p : ℕ) (j : Jumps) (next : List Way) → IsTrue (is_statement n i s) → JumpsFit j → Each WayFits next →
+    ways_fit_of : (i : Bool) (s : Statement) (p : ℕ) (j : Jumps) (next : List Way) → IsTrue (is_statement n i s) → JumpsFit j
+        → Each WayFits next →
         Each WayFits (ways_of s p j next)
     ways_fit_of i (set var form line) p j next h k a = prefixed_fit (Assign var form ∷ []) next (h, tt) a
     ways_fit_of i (havoc var line) p j next h k a = prefixed_fit (Havoc var ∷ []) next (h, tt) a
@@ -124,7 +131,8 @@ module _ (n : ℕ) where
     ways_fit_of i (jump continues line) p j next h k a = k.continued
     ways_fit_of i (label name line) p j next h k a = (tt, tt)
 
-    ways_fit_in : (i : Bool) (ss : Statements) (p : ℕ) (j : Jumps) (next : List Way) → IsTrue (are_statements n i ss) → JumpsFit j → Each WayFits next →
+    ways_fit_in : (i : Bool) (ss : Statements) (p : ℕ) (j : Jumps) (next : List Way) → IsTrue (are_statements n i ss) → JumpsFit j
+        → Each WayFits next →
         Each WayFits (ways_in ss p j next)
     ways_fit_in i nil p j next h k a = a
     ways_fit_in i (cons s rest) p j next h k a =
@@ -136,34 +144,41 @@ module _ (n : ℕ) where
   changed_fit (change.Set var form line) p h = ((h, tt), tt)
   changed_fit (change.Havoc var line) p h = ((h, tt), tt)
 
-  end_fit : (kind : LoopKind) (c : Condition) (p : ℕ) (next : List Way) → IsTrue (is_tested n c) → IsTrue (is_kind n kind) → Each WayFits next →
+  end_fit : (kind : LoopKind) (c : Condition) (p : ℕ) (next : List Way) → IsTrue (is_tested n c) → IsTrue (is_kind n kind)
+      → Each WayFits next →
       Each WayFits (end_ways kind c p next)
   end_fit while_loop c p next h g a = (tt, tt)
   end_fit (for_loop change) c p next h g a = changed_fit change p g
   end_fit do_loop c p next h g a = both_fit c (arrived p) next h (tt, tt) a
 
-  body_fit : (kind : LoopKind) (c : Condition) (body : Statements) (p : ℕ) (next : List Way) → IsTrue (is_tested n c) → IsTrue (is_kind n kind) →
+  body_fit : (kind : LoopKind) (c : Condition) (body : Statements) (p : ℕ) (next : List Way) → IsTrue (is_tested n c)
+      → IsTrue (is_kind n kind) →
       IsTrue (are_statements n true body) → Each WayFits next → Each WayFits (body_ways kind c body p next)
   body_fit kind c body p next h g b a =
       let end = end_fit kind c p next h g a in
       ways_fit_in true body (p + 1) (loop_jumps kind c p next) (end_ways kind c p next) b (record { broken = a; continued = end }) end
 
-  head_fit : (kind : LoopKind) (c : Condition) (body : Statements) (p : ℕ) (next : List Way) → IsTrue (is_tested n c) → IsTrue (is_kind n kind) →
+  head_fit : (kind : LoopKind) (c : Condition) (body : Statements) (p : ℕ) (next : List Way) → IsTrue (is_tested n c)
+      → IsTrue (is_kind n kind) →
       IsTrue (are_statements n true body) → Each WayFits next → Each WayFits (head_ways kind c body p next)
-  head_fit while_loop c body p next h g b a = both_fit c (body_ways while_loop c body p next) next h (body_fit while_loop c body p next h g b a) a
-  head_fit (for_loop change) c body p next h g b a = both_fit c (body_ways (for_loop change) c body p next) next h (body_fit (for_loop change) c body p next h g b a) a
+  head_fit while_loop c body p next h g b a = both_fit c (body_ways while_loop c body p next) next h
+      (body_fit while_loop c body p next h g b a) a
+  head_fit (for_loop change) c body p next h g b a = both_fit c (body_ways (for_loop change) c body p next) next h
+      (body_fit (for_loop change) c body p next h g b a) a
   head_fit do_loop c body p next h g b a = body_fit do_loop c body p next h g b a
 
   reached_fit : (p : ℕ) (ways : List Way) → Each WayFits ways → Each EdgeFits (reached (begun_at p) ways)
   reached_fit p ways k =
-      each-map WayFits EdgeFits (λ w. record { from = p; to = w.to; actions = kept w.actions }) (λ w a. each-take (λ b. IsTrue (is_action n b)) 257 w.actions a) ways k
+      each-map WayFits EdgeFits (λ w. record { from = p; to = w.to; actions = kept w.actions })
+      (λ w a. each-take (λ b. IsTrue (is_action n b)) 257 w.actions a) ways k
 
   if_edges_fit : (b : Bool) (edges : List Edge) → Each EdgeFits edges → Each EdgeFits (if b then edges else [])
   if_edges_fit true edges a = a
   if_edges_fit false edges a = tt
 
   mutual
-    edges_fit_of : (i : Bool) (s : Statement) (p : ℕ) (j : Jumps) (next : List Way) → IsTrue (is_statement n i s) → JumpsFit j → Each WayFits next →
+    edges_fit_of : (i : Bool) (s : Statement) (p : ℕ) (j : Jumps) (next : List Way) → IsTrue (is_statement n i s) → JumpsFit j
+        → Each WayFits next →
         Each EdgeFits (edges_in_node s p j next)
     edges_fit_of i (set var form line) p j next h k a = tt
     edges_fit_of i (havoc var line) p j next h k a = tt
@@ -180,13 +195,16 @@ module _ (n : ℕ) where
         let t = and_parts (is_tested n c) (is_kind n kind && are_statements n true body) h in
         let u = and_parts (is_kind n kind) (are_statements n true body) t.1 in
         let end = end_fit kind c p next t.0 u.0 a in
-        each-append EdgeFits (reached (begun_at p) (head_ways kind c body p next)) (edges_in_nodes body (p + 1) (loop_jumps kind c p next) (end_ways kind c p next))
+        each-append EdgeFits (reached (begun_at p) (head_ways kind c body p next))
+        (edges_in_nodes body (p + 1) (loop_jumps kind c p next) (end_ways kind c p next))
         (reached_fit p (head_ways kind c body p next) (head_fit kind c body p next t.0 u.0 u.1 a))
-        (edges_fit_in true body (p + 1) (loop_jumps kind c p next) (end_ways kind c p next) u.1 (record { broken = a; continued = end }) end)
+        (edges_fit_in true body (p + 1) (loop_jumps kind c p next) (end_ways kind c p next) u.1 (record { broken = a; continued = end })
+        end)
     edges_fit_of i (jump kind line) p j next h k a = tt
     edges_fit_of i (label name line) p j next h k a = reached_fit p next a
 
-    edges_fit_in : (i : Bool) (ss : Statements) (p : ℕ) (j : Jumps) (next : List Way) → IsTrue (are_statements n i ss) → JumpsFit j → Each WayFits next →
+    edges_fit_in : (i : Bool) (ss : Statements) (p : ℕ) (j : Jumps) (next : List Way) → IsTrue (are_statements n i ss) → JumpsFit j
+        → Each WayFits next →
         Each EdgeFits (edges_in_nodes ss p j next)
     edges_fit_in i nil p j next h k a = tt
     edges_fit_in i (cons s rest) p j next h k a =
@@ -202,4 +220,5 @@ module _ (n : ℕ) where
       let exit = arrived (exit_of body) in
       let none : JumpsFit no_jumps = record { broken = tt; continued = tt } in
       each-append EdgeFits (reached (begun_at 0) (ways_in body 1 no_jumps exit)) (edges_in_nodes body 1 no_jumps exit)
-      (reached_fit 0 (ways_in body 1 no_jumps exit) (ways_fit_in false body 1 no_jumps exit h none (tt, tt))) (edges_fit_in false body 1 no_jumps exit h none (tt, tt))
+      (reached_fit 0 (ways_in body 1 no_jumps exit) (ways_fit_in false body 1 no_jumps exit h none (tt, tt)))
+      (edges_fit_in false body 1 no_jumps exit h none (tt, tt))

@@ -33,8 +33,10 @@ negated_form : (n : ℕ) (f : Form) → IsForm n f → IsForm n (negated f)
 negated_form n f h =
     let p = and_parts (length f.coeffs == n) (are_numbers f.coeffs && is_number f.constant) h in
     let q = and_parts (are_numbers f.coeffs) (is_number f.constant) p.1 in
-    and_from (length (map neg_ℤ f.coeffs) == n) (are_numbers (map neg_ℤ f.coeffs) && is_number (neg_ℤ f.constant)) (rw (length-map f.coeffs neg_ℤ) p.0)
-    (and_from (are_numbers (map neg_ℤ f.coeffs)) (is_number (neg_ℤ f.constant)) (are_numbers-negated f.coeffs q.0) (rw (nat_abs-neg f.constant) q.1))
+    and_from (length (map neg_ℤ f.coeffs) == n) (are_numbers (map neg_ℤ f.coeffs) && is_number (neg_ℤ f.constant))
+    (rw (length-map f.coeffs neg_ℤ) p.0)
+    (and_from (are_numbers (map neg_ℤ f.coeffs)) (is_number (neg_ℤ f.constant)) (are_numbers-negated f.coeffs q.0)
+    (rw (nat_abs-neg f.constant) q.1))
 
 negated_compared : (n : ℕ) (f : Form) → Compared n f → Compared n (negated f)
 negated_compared n f h = record { form = negated_form n f h.form; room = rw (nat_abs-neg f.constant) h.room }
@@ -75,7 +77,8 @@ crossed_forms : (n : ℕ) (us vs : List (List Form)) → AreForms n us → AreFo
 crossed_forms n [] vs h k = tt
 crossed_forms n (u ∷ us) vs h k =
     each-append (Each (IsForm n)) (map (λ v. u ++ v) vs) (crossed us vs)
-    (each-map (Each (IsForm n)) (Each (IsForm n)) (λ v. u ++ v) (λ v m. each-append (IsForm n) u v h.0 m) vs k) (crossed_forms n us vs h.1 k)
+    (each-map (Each (IsForm n)) (Each (IsForm n)) (λ v. u ++ v) (λ v m. each-append (IsForm n) u v h.0 m) vs k)
+    (crossed_forms n us vs h.1 k)
 
 -- the cases of a condition over n variables are lists of forms over these
 pub cases_forms : (n : ℕ) (truth : Bool) (c : Condition) → IsTrue (is_condition n c) → AreForms n (cases_of truth c)
@@ -83,13 +86,17 @@ cases_forms n truth free h = (tt, tt)
 cases_forms n truth (compare rel f) h = comparison_forms n truth rel f (compared n f h)
 cases_forms n truth (negation c) h = cases_forms n (not truth) c h
 cases_forms n true (both c d) h =
-    let p = and_parts (is_condition n c) (is_condition n d) h in crossed_forms n (cases_of true c) (cases_of true d) (cases_forms n true c p.0) (cases_forms n true d p.1)
+    let p = and_parts (is_condition n c) (is_condition n d) h in crossed_forms n (cases_of true c) (cases_of true d)
+    (cases_forms n true c p.0) (cases_forms n true d p.1)
 cases_forms n false (both c d) h =
-    let p = and_parts (is_condition n c) (is_condition n d) h in each-append (Each (IsForm n)) (cases_of false c) (cases_of false d) (cases_forms n false c p.0) (cases_forms n false d p.1)
+    let p = and_parts (is_condition n c) (is_condition n d) h in each-append (Each (IsForm n)) (cases_of false c) (cases_of false d)
+    (cases_forms n false c p.0) (cases_forms n false d p.1)
 cases_forms n true (either c d) h =
-    let p = and_parts (is_condition n c) (is_condition n d) h in each-append (Each (IsForm n)) (cases_of true c) (cases_of true d) (cases_forms n true c p.0) (cases_forms n true d p.1)
+    let p = and_parts (is_condition n c) (is_condition n d) h in each-append (Each (IsForm n)) (cases_of true c) (cases_of true d)
+    (cases_forms n true c p.0) (cases_forms n true d p.1)
 cases_forms n false (either c d) h =
-    let p = and_parts (is_condition n c) (is_condition n d) h in crossed_forms n (cases_of false c) (cases_of false d) (cases_forms n false c p.0) (cases_forms n false d p.1)
+    let p = and_parts (is_condition n c) (is_condition n d) h in crossed_forms n (cases_of false c) (cases_of false d)
+    (cases_forms n false c p.0) (cases_forms n false d p.1)
 
 -- room for the guards
 pub condition_room : (n : ℕ) (c : Condition) → IsTrue (is_condition n c) → IsTrue (have_room c)
@@ -97,6 +104,8 @@ condition_room n free h = refl
 condition_room n (compare rel f) h = (compared n f h).room
 condition_room n (negation c) h = condition_room n c h
 condition_room n (both c d) h =
-    let p = and_parts (is_condition n c) (is_condition n d) h in and_from (have_room c) (have_room d) (condition_room n c p.0) (condition_room n d p.1)
+    let p = and_parts (is_condition n c) (is_condition n d) h in and_from (have_room c) (have_room d) (condition_room n c p.0)
+    (condition_room n d p.1)
 condition_room n (either c d) h =
-    let p = and_parts (is_condition n c) (is_condition n d) h in and_from (have_room c) (have_room d) (condition_room n c p.0) (condition_room n d p.1)
+    let p = and_parts (is_condition n c) (is_condition n d) h in and_from (have_room c) (have_room d) (condition_room n c p.0)
+    (condition_room n d p.1)

@@ -1,5 +1,6 @@
 -- Numbers that are counted no further than a limit.
-use Rattle.std.proofs.Common.{◌≡◌, ◌∙◌, ◌⊎◌, inl, inr, ⊎_elim, ℕ, zero, suc, ◌+◌, ◌*◌, ◌≤◌, ◌<◌, true, false, List, [], ◌∷◌, ◌++◌, length, map, min, refl}
+use Rattle.std.proofs.Common.{◌≡◌, ◌∙◌, ◌⊎◌, inl, inr, ⊎_elim, ℕ, zero, suc, ◌+◌, ◌*◌, ◌≤◌, ◌<◌, true, false, List, [], ◌∷◌, ◌++◌, length}
+use Rattle.std.proofs.Common.{map, min, refl}
 use Rattle.std.proofs.Common.{sym, ap, arith, length-append}
 use Rattle.std.proofs.lemmas.Bool.{cases_order}
 use Rattle.std.proofs.lemmas.List.{length-map}
@@ -55,12 +56,14 @@ length-crossed (u ∷ us) vs =
 -- where the cases of two conditions are counted, the capped product counts the cases of both being true
 pub both_true : (a b : Condition) (x y r : ℕ) → x ≡ min (length (cases_of true a)) ENOUGH → y ≡ min (length (cases_of true b)) ENOUGH →
     r ≡ min (x * y) ENOUGH → r ≡ min (length (cases_of true (both a b))) ENOUGH
-both_true a b x y r p q e = product_counted x y _ _ r p q e ∙ ap (λ k. min k ENOUGH) (sym (length-crossed (cases_of true a) (cases_of true b)))
+both_true a b x y r p q e = product_counted x y _ _ r p q e ∙ ap (λ k. min k ENOUGH)
+    (sym (length-crossed (cases_of true a) (cases_of true b)))
 
 -- the capped sum of the counts for false counts the cases of both together being false
 pub both_false : (a b : Condition) (x y r : ℕ) → x ≡ min (length (cases_of false a)) ENOUGH → y ≡ min (length (cases_of false b)) ENOUGH →
     r ≡ min (x + y) ENOUGH → r ≡ min (length (cases_of false (both a b))) ENOUGH
-both_false a b x y r p q e = sum_counted x y _ _ r p q e ∙ ap (λ k. min k ENOUGH) (sym (length-append (cases_of false a) (cases_of false b)))
+both_false a b x y r p q e = sum_counted x y _ _ r p q e ∙ ap (λ k. min k ENOUGH)
+    (sym (length-append (cases_of false a) (cases_of false b)))
 
 -- the capped sum of the counts for true counts the cases of either being true
 pub either_true : (a b : Condition) (x y r : ℕ) → x ≡ min (length (cases_of true a)) ENOUGH → y ≡ min (length (cases_of true b)) ENOUGH →
@@ -70,4 +73,5 @@ either_true a b x y r p q e = sum_counted x y _ _ r p q e ∙ ap (λ k. min k EN
 -- the capped product of the counts for false counts the cases of neither being true
 pub either_false : (a b : Condition) (x y r : ℕ) → x ≡ min (length (cases_of false a)) ENOUGH → y ≡ min (length (cases_of false b)) ENOUGH →
     r ≡ min (x * y) ENOUGH → r ≡ min (length (cases_of false (either a b))) ENOUGH
-either_false a b x y r p q e = product_counted x y _ _ r p q e ∙ ap (λ k. min k ENOUGH) (sym (length-crossed (cases_of false a) (cases_of false b)))
+either_false a b x y r p q e = product_counted x y _ _ r p q e ∙ ap (λ k. min k ENOUGH)
+    (sym (length-crossed (cases_of false a) (cases_of false b)))

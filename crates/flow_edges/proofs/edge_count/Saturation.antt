@@ -7,7 +7,8 @@ use Rattle.lang_tree.specs.PointNumbers.{splits}
 use Rattle.flow_edges.specs.declared.edge_count.JumpCounts.{JumpCounts}
 use Rattle.flow_edges.specs.declared.saturated.TheConstants.{ENOUGH}
 use Rattle.flow_edges.specs.Edges.{complete, completes}
-use Rattle.flow_edges.specs.Counts.{case_count, end_count, loop_jump_counts, way_count_of, way_count_in, body_count, turn_count, head_count, edge_count_of, edge_count_in}
+use Rattle.flow_edges.specs.Counts.{case_count, end_count, loop_jump_counts, way_count_of, way_count_in, body_count, turn_count, head_count}
+use Rattle.flow_edges.specs.Counts.{edge_count_of, edge_count_in}
 use Rattle.flow_edges.proofs.count.Counting.{sum_counted, product_counted}
 
 -- two numbers are the same up to the limit
@@ -34,9 +35,11 @@ same_if : (b : Bool) (x y u v : ℕ) → Same x y → Same u v → Same (if b th
 same_if true x y u v h k = h
 same_if false x y u v h k = k
 
-same_choice : (c : Condition) (a b m n : ℕ) → Same a b → Same m n → Same (case_count true c * a + case_count false c * m) (case_count true c * b + case_count false c * n)
+same_choice : (c : Condition) (a b m n : ℕ) → Same a b → Same m n → Same (case_count true c * a + case_count false c * m)
+    (case_count true c * b + case_count false c * n)
 same_choice c a b m n h k =
-    same_sum (case_count true c * a) (case_count true c * b) (case_count false c * m) (case_count false c * n) (same_product (case_count true c) a b h)
+    same_sum (case_count true c * a) (case_count true c * b) (case_count false c * m) (case_count false c * n)
+    (same_product (case_count true c) a b h)
     (same_product (case_count false c) m n k)
 
 -- the counts of jumps are the same up to the limit
@@ -54,32 +57,40 @@ mutual
   same_ways_of (set var form line) j k m n a h = h
   same_ways_of (havoc var line) j k m n a h = h
   same_ways_of (assume c line) j k m n a h = same_product (case_count true c) _ _ (same_if (splits c) 1 1 m n (same 1) h)
-  same_ways_of (branch c first second line) j k m n a h = same_choice c _ _ _ _ (same_ways_in first j k 1 1 a (same 1)) (same_ways_in second j k 1 1 a (same 1))
+  same_ways_of (branch c first second line) j k m n a h = same_choice c _ _ _ _ (same_ways_in first j k 1 1 a (same 1))
+      (same_ways_in second j k 1 1 a (same 1))
   same_ways_of (loop kind c body line) j k m n a h = same 1
   same_ways_of (jump breaks line) j k m n a h = a.broken
   same_ways_of (jump continues line) j k m n a h = a.continued
   same_ways_of (label name line) j k m n a h = same 1
 
-  same_ways_in : (ss : Statements) (j k : JumpCounts) (m n : ℕ) → SameJumps j k → Same m n → Same (way_count_in ss j m) (way_count_in ss k n)
+  same_ways_in : (ss : Statements) (j k : JumpCounts) (m n : ℕ) → SameJumps j k → Same m n
+      → Same (way_count_in ss j m) (way_count_in ss k n)
   same_ways_in nil j k m n a h = h
-  same_ways_in (cons s rest) j k m n a h = same_ways_of s j k (way_count_in rest j m) (way_count_in rest k n) a (same_ways_in rest j k m n a h)
+  same_ways_in (cons s rest) j k m n a h = same_ways_of s j k (way_count_in rest j m) (way_count_in rest k n) a
+      (same_ways_in rest j k m n a h)
 
 same_end : (kind : LoopKind) (c : Condition) (m n : ℕ) → Same m n → Same (end_count kind c m) (end_count kind c n)
 same_end while_loop c m n h = same 1
 same_end (for_loop g) c m n h = same 1
-same_end do_loop c m n h = same_sum (case_count true c) (case_count true c) _ _ (same (case_count true c)) (same_product (case_count false c) m n h)
+same_end do_loop c m n h = same_sum (case_count true c) (case_count true c) _ _ (same (case_count true c))
+    (same_product (case_count false c) m n h)
 
 same_inner : (kind : LoopKind) (c : Condition) (m n : ℕ) → Same m n → SameJumps (loop_jump_counts kind c m) (loop_jump_counts kind c n)
 same_inner kind c m n h = record { broken = h; continued = same_end kind c m n h }
 
-same_body : (kind : LoopKind) (c : Condition) (body : Statements) (m n : ℕ) → Same m n → Same (body_count kind c body m) (body_count kind c body n)
+same_body : (kind : LoopKind) (c : Condition) (body : Statements) (m n : ℕ) → Same m n
+    → Same (body_count kind c body m) (body_count kind c body n)
 same_body kind c body m n h =
-    same_ways_in body (loop_jump_counts kind c m) (loop_jump_counts kind c n) (end_count kind c m) (end_count kind c n) (same_inner kind c m n h) (same_end kind c m n h)
+    same_ways_in body (loop_jump_counts kind c m) (loop_jump_counts kind c n) (end_count kind c m) (end_count kind c n)
+    (same_inner kind c m n h) (same_end kind c m n h)
 
-same_turn : (kind : LoopKind) (c : Condition) (body : Statements) (m n : ℕ) → Same m n → Same (turn_count kind c body m) (turn_count kind c body n)
+same_turn : (kind : LoopKind) (c : Condition) (body : Statements) (m n : ℕ) → Same m n
+    → Same (turn_count kind c body m) (turn_count kind c body n)
 same_turn kind c body m n h = same_choice c (body_count kind c body m) (body_count kind c body n) m n (same_body kind c body m n h) h
 
-same_head : (kind : LoopKind) (c : Condition) (body : Statements) (m n : ℕ) → Same m n → Same (head_count kind c body m) (head_count kind c body n)
+same_head : (kind : LoopKind) (c : Condition) (body : Statements) (m n : ℕ) → Same m n
+    → Same (head_count kind c body m) (head_count kind c body n)
 same_head while_loop c body m n h = same_turn while_loop c body m n h
 same_head (for_loop g) c body m n h = same_turn (for_loop g) c body m n h
 same_head do_loop c body m n h = same_body do_loop c body m n h
@@ -95,11 +106,13 @@ mutual
       (same_if (complete first || complete second) m n 0 0 h (same 0)))
   same_edges_of (loop kind c body line) j k m n a h =
       same_sum (head_count kind c body m) (head_count kind c body n) _ _ (same_head kind c body m n h)
-      (same_edges_in body (loop_jump_counts kind c m) (loop_jump_counts kind c n) (end_count kind c m) (end_count kind c n) (same_inner kind c m n h) (same_end kind c m n h))
+      (same_edges_in body (loop_jump_counts kind c m) (loop_jump_counts kind c n) (end_count kind c m) (end_count kind c n)
+      (same_inner kind c m n h) (same_end kind c m n h))
   same_edges_of (jump kind line) j k m n a h = same 0
   same_edges_of (label name line) j k m n a h = h
 
-  same_edges_in : (ss : Statements) (j k : JumpCounts) (m n : ℕ) → SameJumps j k → Same m n → Same (edge_count_in ss j m) (edge_count_in ss k n)
+  same_edges_in : (ss : Statements) (j k : JumpCounts) (m n : ℕ) → SameJumps j k → Same m n
+      → Same (edge_count_in ss j m) (edge_count_in ss k n)
   same_edges_in nil j k m n a h = same 0
   same_edges_in (cons s rest) j k m n a h =
       same_sum (edge_count_of s j (way_count_in rest j m)) (edge_count_of s k (way_count_in rest k n)) _ _
@@ -108,7 +121,8 @@ mutual
 
 -- ---- counts along the code
 pub counted_on : (ss rest : Statements) (s : Statement) (jumps : JumpCounts) (next w x y r : ℕ) → ss ≡ cons s rest → completes s ≡ true →
-    w ≡ min (way_count_in rest jumps next) ENOUGH → x ≡ min (edge_count_of s jumps w) ENOUGH → y ≡ min (edge_count_in rest jumps next) ENOUGH →
+    w ≡ min (way_count_in rest jumps next) ENOUGH → x ≡ min (edge_count_of s jumps w) ENOUGH
+    → y ≡ min (edge_count_in rest jumps next) ENOUGH →
     r ≡ min (x + y) ENOUGH → r ≡ min (edge_count_in ss jumps next) ENOUGH
 counted_on ss rest s jumps next w x y r e f g h k l =
     let all = way_count_in rest jumps next in
@@ -121,17 +135,21 @@ counted_on ss rest s jumps next w x y r e f g h k l =
 -- where a loop tests its condition at its head
 pub counted_turn : (c : Condition) (body b : Statements) (next head inside r : ℕ) → b ≡ body →
     let inner : JumpCounts = record { broken = next; continued = 1 } in
-    head ≡ min (case_count true c * way_count_in b inner 1 + case_count false c * next) ENOUGH → inside ≡ min (edge_count_in b inner 1) ENOUGH →
-    r ≡ min (head + inside) ENOUGH → r ≡ min ((case_count true c * way_count_in body inner 1 + case_count false c * next) + edge_count_in body inner 1) ENOUGH
+    head ≡ min (case_count true c * way_count_in b inner 1 + case_count false c * next) ENOUGH
+    → inside ≡ min (edge_count_in b inner 1) ENOUGH →
+    r ≡ min (head + inside) ENOUGH → r ≡ min ((case_count true c * way_count_in body inner 1 + case_count false c * next)
+    + edge_count_in body inner 1) ENOUGH
 counted_turn c body b next head inside r e h i j =
     let inner : JumpCounts = record { broken = next; continued = 1 } in
     sum_counted head inside _ _ r h i j
     ∙ ap (λ z. min ((case_count true c * way_count_in z inner 1 + case_count false c * next) + edge_count_in z inner 1) ENOUGH) e
 
 -- and where it tests it at the end of its body
-pub counted_do : (c : Condition) (body b : Statements) (line : ℕ) (jumps : JumpCounts) (next end head inside r : ℕ) → b ≡ body → end ≤ ENOUGH →
+pub counted_do : (c : Condition) (body b : Statements) (line : ℕ) (jumps : JumpCounts) (next end head inside r : ℕ) → b ≡ body
+    → end ≤ ENOUGH →
     end ≡ min (case_count true c * 1 + case_count false c * next) ENOUGH →
-    head ≡ min (way_count_in b (record { broken = next; continued = end }) end) ENOUGH → inside ≡ min (edge_count_in b (record { broken = next; continued = end }) end) ENOUGH →
+    head ≡ min (way_count_in b (record { broken = next; continued = end }) end) ENOUGH
+    → inside ≡ min (edge_count_in b (record { broken = next; continued = end }) end) ENOUGH →
     r ≡ min (head + inside) ENOUGH → r ≡ min (edge_count_of (loop do_loop c body line) jumps next) ENOUGH
 counted_do c body b line jumps next end head inside r e f g h i j =
     let inner : JumpCounts = record { broken = next; continued = end } in

@@ -21,7 +21,8 @@ Onward work = (w : Way) → In (ways_from work) w → 0 < w.to
 mark_onward : (p : ℕ) (rest : List Item) → 0 < p → Onward (mark p ∷ rest)
 mark_onward p rest h w m = ⊎_elim (λ e. subst (λ v. 0 < v.to) e h) (λ k. absurd k) m
 
-steps_onward : (item : Item) (rest : List Item) → ¬ (IsMark item) → ((s : Labelled) → In (steps_of item rest) s → Onward s.work) → Onward (item ∷ rest)
+steps_onward : (item : Item) (rest : List Item) → ¬ (IsMark item) → ((s : Labelled) → In (steps_of item rest) s → Onward s.work)
+    → Onward (item ∷ rest)
 steps_onward item rest other all w m =
     let on : Labelled → List Way = λ s. prefixed s.actions (ways_from s.work) in
     let r = from_flat_map on (steps_of item rest) w (subst (λ ways. In ways w) (ways_law item rest other) m) in

@@ -1,5 +1,6 @@
 -- The edges of a program as they are walked are its edges, with the first 257 actions of each.
-use Rattle.std.proofs.Common.{◌≡◌, ◌∙◌, ℕ, zero, suc, ◌+◌, Bool, true, false, List, [], ◌∷◌, ◌++◌, length, map, refl, sym, ap, ap₂, arith, append_assoc}
+use Rattle.std.proofs.Common.{◌≡◌, ◌∙◌, ℕ, zero, suc, ◌+◌, Bool, true, false, List, [], ◌∷◌, ◌++◌, length, map, refl, sym, ap, ap₂, arith}
+use Rattle.std.proofs.Common.{append_assoc}
 use Rattle.std.specs.Prelude.{◌||◌, Some, None, if◌then◌else◌}
 use Rattle.std.proofs.lemmas.List.{map-append, append-nil}
 use Rattle.lang_tree.specs.Tree.{Statement, Statements, set, havoc, assume, branch, loop, jump, label, nil, cons}
@@ -31,7 +32,8 @@ edges-append p (u ∷ us) ws =
     ∙ sym (append_assoc (at p (ways_behind u)) (edges_from (suc p) us) (edges_from (p + suc (length us)) ws))
 
 -- two parts, where the second begins with the point q
-joined : (p q : ℕ) (us ws : List Behind) (a b : List Edge) → p + length us ≡ q → cut (edges_from p us) ≡ a → cut (edges_from q ws) ≡ b → cut (edges_from p (us ++ ws)) ≡ a ++ b
+joined : (p q : ℕ) (us ws : List Behind) (a b : List Edge) → p + length us ≡ q → cut (edges_from p us) ≡ a → cut (edges_from q ws) ≡ b
+    → cut (edges_from p (us ++ ws)) ≡ a ++ b
 joined p q us ws a b e f g =
     ap cut (edges-append p us ws ∙ ap (λ k. edges_from p us ++ edges_from k ws) e)
     ∙ map-append kept_edge (edges_from p us) (edges_from q ws) ∙ ap₂ (λ u v. u ++ v) f g
@@ -44,7 +46,8 @@ first-point : (p : ℕ) (work : List Item) (more : List Behind) (b : List Edge) 
 first-point p work more b h =
     map-append kept_edge (at p (ways_from work)) (edges_from (suc p) more) ∙ ap₂ (λ u v. u ++ v) (reached-at p (ways_from work)) h
 
-if-point : (b : Bool) (p : ℕ) (work : List Item) → cut (edges_from p (if b then Some work ∷ [] else [])) ≡ (if b then reached (begun_at p) (ways_from work) else [])
+if-point : (b : Bool) (p : ℕ) (work : List Item) → cut (edges_from p (if b then Some work ∷ [] else []))
+    ≡ (if b then reached (begun_at p) (ways_from work) else [])
 if-point true p work = one-point p work
 if-point false p work = refl
 
@@ -68,7 +71,8 @@ later-points true p k ws edges e = e
 later-points false p k ws edges e = unreached-points p k
 
 mutual
-  walked_of : (s : Statement) (n : ℕ) (rest : List Item) → cut (edges_from n (behind_of s n rest)) ≡ edges_in_node s n (jumps_from rest) (ways_from rest)
+  walked_of : (s : Statement) (n : ℕ) (rest : List Item) → cut (edges_from n (behind_of s n rest))
+      ≡ edges_in_node s n (jumps_from rest) (ways_from rest)
   walked_of (set var form line) n rest = refl
   walked_of (havoc var line) n rest = refl
   walked_of (assume c line) n rest = if-point (splits c) n rest
@@ -78,20 +82,25 @@ mutual
       let b = complete first || complete second in
       let one : List Behind = (if b then Some rest else None) ∷ [] in
       let p : n + length (behind_in first n work) ≡ n + points_in first = omega (arith, behind_count_in first n work) in
-      let q : n + points_in first + length (behind_in second (n + points_in first) work) ≡ join = omega (arith, behind_count_in second (n + points_in first) work) in
-      joined n (n + points_in first) (behind_in first n work) (behind_in second (n + points_in first) work ++ one) _ _ p (walked_in first n work)
-      (joined (n + points_in first) join (behind_in second (n + points_in first) work) one _ _ q (walked_in second (n + points_in first) work) (join-point b join rest))
+      let q : n + points_in first + length (behind_in second (n + points_in first) work) ≡ join =
+      omega (arith, behind_count_in second (n + points_in first) work) in
+      joined n (n + points_in first) (behind_in first n work) (behind_in second (n + points_in first) work ++ one) _ _ p
+      (walked_in first n work)
+      (joined (n + points_in first) join (behind_in second (n + points_in first) work) one _ _ q
+      (walked_in second (n + points_in first) work) (join-point b join rest))
   walked_of (loop kind c body line) n rest =
       let work = head_work kind c body line n rest in
       let turned = end kind c body line n ∷ rest in
       let inner = edges_in_nodes body (n + 1) (jumps_from turned) (ways_from turned) in
       let e : suc n ≡ n + 1 = omega arith in
-      first-point n work (behind_in body (n + 1) turned) inner (ap (λ k. cut (edges_from k (behind_in body (n + 1) turned))) e ∙ walked_in body (n + 1) turned)
+      first-point n work (behind_in body (n + 1) turned) inner (ap (λ k. cut (edges_from k (behind_in body (n + 1) turned))) e
+      ∙ walked_in body (n + 1) turned)
       ∙ ap (λ ways. reached (begun_at n) ways ++ inner) (ways-head kind c body line n rest)
   walked_of (jump kind line) n rest = refl
   walked_of (label name line) n rest = one-point n rest
 
-  walked_in : (ss : Statements) (n : ℕ) (rest : List Item) → cut (edges_from n (behind_in ss n rest)) ≡ edges_in_nodes ss n (jumps_from rest) (ways_from rest)
+  walked_in : (ss : Statements) (n : ℕ) (rest : List Item) → cut (edges_from n (behind_in ss n rest))
+      ≡ edges_in_nodes ss n (jumps_from rest) (ways_from rest)
   walked_in nil n rest = refl
   walked_in (cons s more) n rest =
       let m = n + points_of s in

@@ -10,7 +10,8 @@ use Rattle.lang_tree.specs.Tree.{Condition, LoopKind, while_loop, for_loop, do_l
 use Rattle.lang_tree.specs.Tree.{Statement, Statements, set, havoc, assume, branch, loop, jump, label, nil, cons}
 use Rattle.lang_tree.specs.Cases.{cases_of}
 use Rattle.lang_tree.specs.PointNumbers.{splits, points_of, points_in, join_of}
-use Rattle.lang_tree.specs.Runs.{Item, node, mark, turn, end, nodes, branch_work, body_work, head_work, turn_work, change_work, repeat_work, past_loop, end_of_body}
+use Rattle.lang_tree.specs.Runs.{Item, node, mark, turn, end, nodes, branch_work, body_work, head_work, turn_work, change_work, repeat_work}
+use Rattle.lang_tree.specs.Runs.{past_loop, end_of_body}
 use Rattle.flow_edges.specs.Steps.{Labelled, labelled, guards, choices}
 use Rattle.flow_edges.specs.Edges.{Way, arrived, prefixed, by_case, changed, ways_of, ways_in, body_ways, head_ways, ways_from, jumps_from}
 use Rattle.flow_edges.specs.PathLaws.{WaysAreSteps}
@@ -35,7 +36,8 @@ ways-end_of_body (turn kind c body line n ∷ rest) = ways-end_of_body rest
 ways-end_of_body (end kind c body line n ∷ rest) = refl
 
 -- ---- nodes and loops
-pub ways-nodes : (ss : Statements) (n : ℕ) (rest : List Item) → ways_from (nodes ss n ++ rest) ≡ ways_in ss n (jumps_from rest) (ways_from rest)
+pub ways-nodes : (ss : Statements) (n : ℕ) (rest : List Item) → ways_from (nodes ss n ++ rest)
+    ≡ ways_in ss n (jumps_from rest) (ways_from rest)
 ways-nodes nil n rest = refl
 ways-nodes (cons s more) n rest = ap₂ (ways_of s n) (jumps-nodes more (n + points_of s) rest) (ways-nodes more (n + points_of s) rest)
 
@@ -77,7 +79,8 @@ ways-if true n rest = refl
 ways-if false n rest = refl
 
 -- a choice between two
-ways-both : (c : Condition) (yes_work no_work : List Item) (yes_ways no_ways : List Way) → ways_from yes_work ≡ yes_ways → ways_from no_work ≡ no_ways →
+ways-both : (c : Condition) (yes_work no_work : List Item) (yes_ways no_ways : List Way) → ways_from yes_work ≡ yes_ways
+    → ways_from no_work ≡ no_ways →
     by_case true c yes_ways ++ by_case false c no_ways ≡ flat_map on (choices true c yes_work ++ choices false c no_work)
 ways-both c yes_work no_work yes_ways no_ways p q =
     sym (flat_map-append on (choices true c yes_work) (choices false c no_work)
@@ -99,7 +102,8 @@ ways_law (node (jump breaks line) n) rest other = ways-one (past_loop rest) _ (w
 ways_law (node (jump continues line) n) rest other = ways-one (end_of_body rest) _ (ways-end_of_body rest)
 ways_law (node (label name line) n) rest other = refl
 ways_law (turn kind c body line n) rest other =
-    ways-both c (turn_work true kind c body line n rest) (turn_work false kind c body line n rest) _ _ (ways-body kind c body line n rest) refl
+    ways-both c (turn_work true kind c body line n rest) (turn_work false kind c body line n rest) _ _ (ways-body kind c body line n rest)
+    refl
 ways_law (end while_loop c body line n) rest other = refl
 ways_law (end (for_loop g) c body line n) rest other =
     let again = loop (for_loop g) c body line in

@@ -1,5 +1,6 @@
 -- What the faults rule out, and that what is left is a flow within the limits.
-use Rattle.std.proofs.Common.{◌≡◌, ◌∙◌, ⊎_elim, ℕ, ◌+◌, ◌<◌, ◌≤◌, ◌^◌, Bool, true, false, List, [], ◌∷◌, ◌++◌, length, map, min, refl, sym, ap, ap₂, arith}
+use Rattle.std.proofs.Common.{◌≡◌, ◌∙◌, ⊎_elim, ℕ, ◌+◌, ◌<◌, ◌≤◌, ◌^◌, Bool, true, false, List, [], ◌∷◌, ◌++◌, length, map, min, refl, sym}
+use Rattle.std.proofs.Common.{ap, ap₂, arith}
 use Rattle.std.specs.Prelude.{◌&&◌, IsTrue, Option, Some, None, nat_lt, nat_le, cond, not, position, option_map, if◌then◌else◌}
 use Rattle.std.specs.List.{list_all, position_from}
 use Rattle.std.proofs.lemmas.Bool.{and_from, and_parts, leb-true, le-leb, lt-ltb, ltb-false}
@@ -49,7 +50,13 @@ limits n body h =
     let p = and_parts (nat_le 1 n) (nat_le n MOST_VARIABLES && (nat_le (nodes_in body) 512 && are_statements n false body)) h in
     let q = and_parts (nat_le n MOST_VARIABLES) (nat_le (nodes_in body) 512 && are_statements n false body) p.1 in
     let r = and_parts (nat_le (nodes_in body) 512) (are_statements n false body) q.1 in
-    record { some_name = leb-true 1 n p.0; names = leb-true n MOST_VARIABLES q.0; nodes = leb-true (nodes_in body) 512 r.0; statements = r.1 }
+    record {
+      some_name = leb-true 1 n p.0;
+      names = leb-true n MOST_VARIABLES q.0;
+      nodes = leb-true (nodes_in body) 512 r.0;
+      statements =
+          r.1;
+    }
 
 -- a program within the limits has at most 514 points
 pub few_points : (n : ℕ) (body : Statements) → IsTrue (is_program n body) → point_count body ≤ 514
@@ -61,9 +68,11 @@ no_choice true b x y h = cc
 no_choice false true x y h = cc
 no_choice false false x y h = (refl, refl)
 
-none_after : (lines : List ℕ) (body : Statements) → counted_after lines body ≡ None → (point_count body ≤ MOST_POINTS) × (length (edges_of_program body) ≤ 256)
+none_after : (lines : List ℕ) (body : Statements) → counted_after lines body ≡ None
+    → (point_count body ≤ MOST_POINTS) × (length (edges_of_program body) ≤ 256)
 none_after [] body h =
-    let p = no_choice (nat_lt MOST_POINTS (point_count body)) (nat_lt 256 (length (edges_of_program body))) (fault.Points (point_count body)) fault.Edges h in
+    let p = no_choice (nat_lt MOST_POINTS (point_count body)) (nat_lt 256 (length (edges_of_program body)))
+    (fault.Points (point_count body)) fault.Edges h in
     (ltb-false MOST_POINTS (point_count body) p.0, ltb-false 256 (length (edges_of_program body)) p.1)
 none_after (line ∷ lines) body h = cc
 
@@ -115,7 +124,8 @@ whole (e ∷ es) h =
 pub nothing_cut : (body : Statements) → position is_long (kept_edges body) ≡ None → kept_edges body ≡ edges_of_program body
 nothing_cut body h =
     walked_program body
-    ∙ whole (edges_of_program body) (short (edges_of_program body) (sym (long_place-kept (edges_of_program body)) ∙ ap (position is_long) (sym (walked_program body)) ∙ h))
+    ∙ whole (edges_of_program body) (short (edges_of_program body) (sym (long_place-kept (edges_of_program body))
+    ∙ ap (position is_long) (sym (walked_program body)) ∙ h))
 
 place_of_long : (body : Statements) → position is_long (kept_edges body) ≡ position is_long (edges_of_program body)
 place_of_long body = ap (position is_long) (walked_program body) ∙ long_place-kept (edges_of_program body)
@@ -126,7 +136,8 @@ no_fault body h k =
     ap (λ o. fault_or o (long_fault (edges_of_program body))) h ∙ ap (option_map (λ e. fault.Actions e)) (sym (place_of_long body) ∙ k)
 
 -- where counting finds no fault, the first kept edge that is too long is the program's fault
-pub long_faulted : (body : Statements) (k : ℕ) → counted_fault body ≡ None → position is_long (kept_edges body) ≡ Some k → fault_of_program body ≡ Some (fault.Actions k)
+pub long_faulted : (body : Statements) (k : ℕ) → counted_fault body ≡ None → position is_long (kept_edges body) ≡ Some k
+    → fault_of_program body ≡ Some (fault.Actions k)
 long_faulted body k h l =
     ap (λ o. fault_or o (long_fault (edges_of_program body))) h ∙ ap (option_map (λ e. fault.Actions e)) (sym (place_of_long body) ∙ l)
 
@@ -168,14 +179,16 @@ inner_later p h = (h.0, rw (h.0, h.1) refl)
 later : (body : Statements) → Each IsLater (plain (made_in body 1) ++ one_point Exit 0)
 later body =
     rw (plain_in body 1)
-    (each-append IsLater (places_in body) (one_point Exit 0) (each_weaker IsInner IsLater inner_later (places_in body) (inner_in body)) ((refl, refl), tt))
+    (each-append IsLater (places_in body) (one_point Exit 0) (each_weaker IsInner IsLater inner_later (places_in body) (inner_in body))
+    ((refl, refl), tt))
 
 points_within : (body : Statements) → IsTrue (begins_with_entry (points_of_program body) && list_all has_line (points_of_program body))
 points_within body =
     let rest = plain (made_in body 1) ++ one_point Exit 0 in
     let l = later body in
     and_from (list_all (λ q. not (is_entry q.place)) rest) (list_all has_line rest)
-    (each_passes (λ q. not (is_entry q.place)) rest (each_weaker IsLater (λ q. IsTrue (not (is_entry q.place))) (λ q h. rw h.0 refl) rest l))
+    (each_passes (λ q. not (is_entry q.place)) rest (each_weaker IsLater (λ q. IsTrue (not (is_entry q.place))) (λ q h. rw h.0 refl) rest
+    l))
     (each_passes has_line rest (each_weaker IsLater (λ q. IsTrue (has_line q)) (λ q h. h.1) rest l))
 
 -- ---- the edges
@@ -202,7 +215,8 @@ edges_within n body h k =
 few_edges : (body : Statements) → counted_fault body ≡ None → length (kept_edges body) ≤ 256
 few_edges body h = omega (arith, (none_counted body h).1, ap length (walked_program body), length-map (edges_of_program body) kept_edge)
 
-program_within : (names : List (List ℕ)) (body : Statements) → IsTrue (is_program (length names) body) → counted_fault body ≡ None → position is_long (kept_edges body) ≡ None →
+program_within : (names : List (List ℕ)) (body : Statements) → IsTrue (is_program (length names) body) → counted_fault body ≡ None
+    → position is_long (kept_edges body) ≡ None →
     IsTrue (is_flow names (points_of_program body) (kept_edges body))
 program_within names body h k l =
     let n = length names in
@@ -213,12 +227,16 @@ program_within names body h k l =
     let few : length points ≤ MOST_POINTS = omega (arith, (none_counted body k).0) in
     let two : 2 ≤ length points = omega arith in
     let all : IsTrue (list_all (is_edge n (length points)) edges) = rw count (edges_within n body o.statements l) in
-    and_from (nat_le 1 n && nat_le n MOST_VARIABLES) _ (and_from (nat_le 1 n) (nat_le n MOST_VARIABLES) (le-leb 1 n o.some_name) (le-leb n MOST_VARIABLES o.names))
-    (and_from (nat_le 2 (length points) && nat_le (length points) MOST_POINTS) _ (and_from (nat_le 2 (length points)) (nat_le (length points) MOST_POINTS) (le-leb 2 (length points) two) (le-leb (length points) MOST_POINTS few))
+    and_from (nat_le 1 n && nat_le n MOST_VARIABLES) _ (and_from (nat_le 1 n) (nat_le n MOST_VARIABLES) (le-leb 1 n o.some_name)
+    (le-leb n MOST_VARIABLES o.names))
+    (and_from (nat_le 2 (length points) && nat_le (length points) MOST_POINTS) _
+    (and_from (nat_le 2 (length points)) (nat_le (length points) MOST_POINTS) (le-leb 2 (length points) two)
+    (le-leb (length points) MOST_POINTS few))
     (and_from (begins_with_entry points && list_all has_line points) _ (points_within body)
     (and_from (nat_le (length edges) 256) (list_all (is_edge n (length points)) edges) (le-leb (length edges) 256 (few_edges body k)) all)))
 
 -- where there is no fault, names, points and edges are a flow within the limits
-pub flow_within : (names : List (List ℕ)) (points : List Point) (edges : List Edge) (body : Statements) → IsTrue (is_program (length names) body) → points ≡ points_of_program body →
+pub flow_within : (names : List (List ℕ)) (points : List Point) (edges : List Edge) (body : Statements)
+    → IsTrue (is_program (length names) body) → points ≡ points_of_program body →
     edges ≡ kept_edges body → counted_fault body ≡ None → position is_long (kept_edges body) ≡ None → IsTrue (is_flow names points edges)
 flow_within names points edges body h e f k l = rw (e, f) (program_within names body h k l)

@@ -10,7 +10,8 @@ use Rattle.flow_edges.specs.declared.edge.Action.{Action}
 use Rattle.flow_edges.specs.declared.edge.Action.TheVariants.{Assign, Havoc}
 use Rattle.flow_edges.specs.declared.edge.Edge.{Edge}
 use Rattle.flow_edges.specs.Steps.{guards}
-use Rattle.flow_edges.specs.Edges.{Way, arrived, prefixed, by_case, changed, Jumps, end_ways, loop_jumps, ways_of, ways_in, body_ways, turn_ways, head_ways, complete, completes}
+use Rattle.flow_edges.specs.Edges.{Way, arrived, prefixed, by_case, changed, Jumps, end_ways, loop_jumps, ways_of, ways_in, body_ways}
+use Rattle.flow_edges.specs.Edges.{turn_ways, head_ways, complete, completes}
 use Rattle.flow_edges.specs.Trails.{Begun, begun_at, followed, reached, split, walked, edges_in_node, edges_in_nodes}
 use Rattle.flow_edges.proofs.trail.TrailLemmas.{append-kept, reached-append, reached-prefixed, reached-by_case}
 
@@ -27,14 +28,18 @@ alike_same ways = record { at = λ b. refl }
 rewalked : (p : ℕ) (b : Begun) (ways : List Way) → reached b (walked (reached (begun_at p) ways)) ≡ reached b ways
 rewalked p b [] = refl
 rewalked p b (w ∷ ways) =
-    ap₂ (λ a r. let e : Edge = record { from = b.from; to = w.to; actions = a } in e ∷ r) (append-kept b.actions w.actions) (rewalked p b ways)
+    ap₂ (λ a r. let e : Edge = record { from = b.from; to = w.to; actions = a } in e ∷ r) (append-kept b.actions w.actions)
+    (rewalked p b ways)
 
 -- the ways that walked edges are lead to the same edges as the ways that they were walked by
 pub alike_walked : (p : ℕ) (ways : List Way) → Alike (walked (reached (begun_at p) ways)) ways
 alike_walked p ways = record { at = λ b. rewalked p b ways }
 
 alike_prefixed : (actions : List Action) (us vs : List Way) → Alike us vs → Alike (prefixed actions us) (prefixed actions vs)
-alike_prefixed actions us vs h = record { at = λ b. reached-prefixed b actions us ∙ h.at (followed b actions) ∙ sym (reached-prefixed b actions vs) }
+alike_prefixed actions us vs h = record {
+  at = λ b. reached-prefixed b actions us ∙ h.at (followed b actions)
+      ∙ sym (reached-prefixed b actions vs);
+}
 
 split_alike : (b : Begun) (cases : List (List Form)) (us vs : List Way) → Alike us vs → split b cases us ≡ split b cases vs
 split_alike b [] us vs h = refl
@@ -45,11 +50,16 @@ alike_by_case truth c us vs h =
     record { at = λ b. reached-by_case b truth c us ∙ split_alike b (cases_of truth c) us vs h ∙ sym (reached-by_case b truth c vs) }
 
 alike_append : (us vs xs ys : List Way) → Alike us vs → Alike xs ys → Alike (us ++ xs) (vs ++ ys)
-alike_append us vs xs ys h k = record { at = λ b. reached-append b us xs ∙ ap₂ (λ x y. x ++ y) (h.at b) (k.at b) ∙ sym (reached-append b vs ys) }
+alike_append us vs xs ys h k = record {
+  at = λ b. reached-append b us xs ∙ ap₂ (λ x y. x ++ y) (h.at b) (k.at b)
+      ∙ sym (reached-append b vs ys);
+}
 
-alike_both : (c : Condition) (us vs xs ys : List Way) → Alike us vs → Alike xs ys → Alike (by_case true c us ++ by_case false c xs) (by_case true c vs ++ by_case false c ys)
+alike_both : (c : Condition) (us vs xs ys : List Way) → Alike us vs → Alike xs ys
+    → Alike (by_case true c us ++ by_case false c xs) (by_case true c vs ++ by_case false c ys)
 alike_both c us vs xs ys h k =
-    alike_append (by_case true c us) (by_case true c vs) (by_case false c xs) (by_case false c ys) (alike_by_case true c us vs h) (alike_by_case false c xs ys k)
+    alike_append (by_case true c us) (by_case true c vs) (by_case false c xs) (by_case false c ys) (alike_by_case true c us vs h)
+    (alike_by_case false c xs ys k)
 
 alike_if : (b : Bool) (p : ℕ) (us vs : List Way) → Alike us vs → Alike (if b then arrived p else us) (if b then arrived p else vs)
 alike_if true p us vs h = alike_same (arrived p)
@@ -64,41 +74,51 @@ pub record AlikeJumps (j k : Jumps) : Type 0 where
   pub continued : Alike j.continued k.continued
 
 mutual
-  alike_of : (s : Statement) (n : ℕ) (j k : Jumps) (us vs : List Way) → AlikeJumps j k → Alike us vs → Alike (ways_of s n j us) (ways_of s n k vs)
+  alike_of : (s : Statement) (n : ℕ) (j k : Jumps) (us vs : List Way) → AlikeJumps j k → Alike us vs
+      → Alike (ways_of s n j us) (ways_of s n k vs)
   alike_of (set var form line) n j k us vs a h = alike_prefixed (Assign var form ∷ []) us vs h
   alike_of (havoc var line) n j k us vs a h = alike_prefixed (Havoc var ∷ []) us vs h
   alike_of (assume c line) n j k us vs a h = alike_by_case true c _ _ (alike_if (splits c) n us vs h)
   alike_of (branch c first second line) n j k us vs a h =
       let join = arrived (join_of first second n) in
-      alike_both c _ _ _ _ (alike_in first n j k join join a (alike_same join)) (alike_in second (n + points_in first) j k join join a (alike_same join))
+      alike_both c _ _ _ _ (alike_in first n j k join join a (alike_same join))
+      (alike_in second (n + points_in first) j k join join a (alike_same join))
   alike_of (loop kind c body line) n j k us vs a h = alike_same (arrived n)
   alike_of (jump breaks line) n j k us vs a h = a.broken
   alike_of (jump continues line) n j k us vs a h = a.continued
   alike_of (label name line) n j k us vs a h = alike_same (arrived n)
 
   -- with alike ways of jumps and alike ways onward, the ways along statements are alike
-  pub alike_in : (ss : Statements) (n : ℕ) (j k : Jumps) (us vs : List Way) → AlikeJumps j k → Alike us vs → Alike (ways_in ss n j us) (ways_in ss n k vs)
+  pub alike_in : (ss : Statements) (n : ℕ) (j k : Jumps) (us vs : List Way) → AlikeJumps j k → Alike us vs
+      → Alike (ways_in ss n j us) (ways_in ss n k vs)
   alike_in nil n j k us vs a h = h
   alike_in (cons s rest) n j k us vs a h =
-      alike_of s n j k (ways_in rest (n + points_of s) j us) (ways_in rest (n + points_of s) k vs) a (alike_in rest (n + points_of s) j k us vs a h)
+      alike_of s n j k (ways_in rest (n + points_of s) j us) (ways_in rest (n + points_of s) k vs) a
+      (alike_in rest (n + points_of s) j k us vs a h)
 
 alike_end : (kind : LoopKind) (c : Condition) (n : ℕ) (us vs : List Way) → Alike us vs → Alike (end_ways kind c n us) (end_ways kind c n vs)
 alike_end while_loop c n us vs h = alike_same (arrived n)
 alike_end (for_loop g) c n us vs h = alike_same (changed g (arrived n))
 alike_end do_loop c n us vs h = alike_both c (arrived n) (arrived n) us vs (alike_same (arrived n)) h
 
-alike_jumps : (kind : LoopKind) (c : Condition) (n : ℕ) (us vs : List Way) → Alike us vs → AlikeJumps (loop_jumps kind c n us) (loop_jumps kind c n vs)
+alike_jumps : (kind : LoopKind) (c : Condition) (n : ℕ) (us vs : List Way) → Alike us vs
+    → AlikeJumps (loop_jumps kind c n us) (loop_jumps kind c n vs)
 alike_jumps kind c n us vs h = record { broken = h; continued = alike_end kind c n us vs h }
 
-alike_body : (kind : LoopKind) (c : Condition) (body : Statements) (n : ℕ) (us vs : List Way) → Alike us vs → Alike (body_ways kind c body n us) (body_ways kind c body n vs)
+alike_body : (kind : LoopKind) (c : Condition) (body : Statements) (n : ℕ) (us vs : List Way) → Alike us vs
+    → Alike (body_ways kind c body n us) (body_ways kind c body n vs)
 alike_body kind c body n us vs h =
-    alike_in body (n + 1) (loop_jumps kind c n us) (loop_jumps kind c n vs) (end_ways kind c n us) (end_ways kind c n vs) (alike_jumps kind c n us vs h)
+    alike_in body (n + 1) (loop_jumps kind c n us) (loop_jumps kind c n vs) (end_ways kind c n us) (end_ways kind c n vs)
+    (alike_jumps kind c n us vs h)
     (alike_end kind c n us vs h)
 
-alike_turn : (kind : LoopKind) (c : Condition) (body : Statements) (n : ℕ) (us vs : List Way) → Alike us vs → Alike (turn_ways kind c body n us) (turn_ways kind c body n vs)
-alike_turn kind c body n us vs h = alike_both c (body_ways kind c body n us) (body_ways kind c body n vs) us vs (alike_body kind c body n us vs h) h
+alike_turn : (kind : LoopKind) (c : Condition) (body : Statements) (n : ℕ) (us vs : List Way) → Alike us vs
+    → Alike (turn_ways kind c body n us) (turn_ways kind c body n vs)
+alike_turn kind c body n us vs h = alike_both c (body_ways kind c body n us) (body_ways kind c body n vs) us vs
+    (alike_body kind c body n us vs h) h
 
-alike_head : (kind : LoopKind) (c : Condition) (body : Statements) (n : ℕ) (us vs : List Way) → Alike us vs → Alike (head_ways kind c body n us) (head_ways kind c body n vs)
+alike_head : (kind : LoopKind) (c : Condition) (body : Statements) (n : ℕ) (us vs : List Way) → Alike us vs
+    → Alike (head_ways kind c body n us) (head_ways kind c body n vs)
 alike_head while_loop c body n us vs h = alike_turn while_loop c body n us vs h
 alike_head (for_loop g) c body n us vs h = alike_turn (for_loop g) c body n us vs h
 alike_head do_loop c body n us vs h = alike_body do_loop c body n us vs h
@@ -110,10 +130,12 @@ edges_if false xs ys e = refl
 
 mutual
   -- with alike ways of jumps and alike ways onward, a statement makes the same edges
-  pub edges_alike_of : (s : Statement) (n : ℕ) (j k : Jumps) (us vs : List Way) → AlikeJumps j k → Alike us vs → edges_in_node s n j us ≡ edges_in_node s n k vs
+  pub edges_alike_of : (s : Statement) (n : ℕ) (j k : Jumps) (us vs : List Way) → AlikeJumps j k → Alike us vs
+      → edges_in_node s n j us ≡ edges_in_node s n k vs
   edges_alike_of (set var form line) n j k us vs a h = refl
   edges_alike_of (havoc var line) n j k us vs a h = refl
-  edges_alike_of (assume c line) n j k us vs a h = edges_if (splits c) (reached (begun_at n) us) (reached (begun_at n) vs) (h.at (begun_at n))
+  edges_alike_of (assume c line) n j k us vs a h = edges_if (splits c) (reached (begun_at n) us) (reached (begun_at n) vs)
+      (h.at (begun_at n))
   edges_alike_of (branch c first second line) n j k us vs a h =
       let join = join_of first second n in
       let same = alike_same (arrived join) in
@@ -122,13 +144,15 @@ mutual
       (edges_if (complete first || complete second) (reached (begun_at join) us) (reached (begun_at join) vs) (h.at (begun_at join))))
   edges_alike_of (loop kind c body line) n j k us vs a h =
       ap₂ (λ x y. x ++ y) ((alike_head kind c body n us vs h).at (begun_at n))
-      (edges_alike_in body (n + 1) (loop_jumps kind c n us) (loop_jumps kind c n vs) (end_ways kind c n us) (end_ways kind c n vs) (alike_jumps kind c n us vs h)
+      (edges_alike_in body (n + 1) (loop_jumps kind c n us) (loop_jumps kind c n vs) (end_ways kind c n us) (end_ways kind c n vs)
+      (alike_jumps kind c n us vs h)
       (alike_end kind c n us vs h))
   edges_alike_of (jump kind line) n j k us vs a h = refl
   edges_alike_of (label name line) n j k us vs a h = h.at (begun_at n)
 
   -- with alike ways of jumps and alike ways onward, statements make the same edges
-  pub edges_alike_in : (ss : Statements) (n : ℕ) (j k : Jumps) (us vs : List Way) → AlikeJumps j k → Alike us vs → edges_in_nodes ss n j us ≡ edges_in_nodes ss n k vs
+  pub edges_alike_in : (ss : Statements) (n : ℕ) (j k : Jumps) (us vs : List Way) → AlikeJumps j k → Alike us vs
+      → edges_in_nodes ss n j us ≡ edges_in_nodes ss n k vs
   edges_alike_in nil n j k us vs a h = refl
   edges_alike_in (cons s rest) n j k us vs a h =
       let m = n + points_of s in

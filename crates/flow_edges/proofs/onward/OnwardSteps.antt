@@ -8,7 +8,8 @@ abbrev ended : Begun → ℕ → Edge
 ended b p = record { from = b.from; to = p; actions = kept b.actions }
 
 -- an edge that is begun and goes on by a walked edge is reached by that edge's way
-pub went_on : (before after : List Edge) (b t : Begun) (e f : Edge) → t ≡ followed b e.actions → f ≡ record { from = t.from; to = e.to; actions = kept t.actions } →
+pub went_on : (before after : List Edge) (b t : Begun) (e f : Edge) → t ≡ followed b e.actions
+    → f ≡ record { from = t.from; to = e.to; actions = kept t.actions } →
     after ≡ before ++ f ∷ [] → after ≡ before ++ reached b (walked (e ∷ []))
 went_on before after b t e f p q h =
     h

@@ -11,7 +11,8 @@ use Rattle.flow_edges.specs.Steps.{Labelled, steps_of}
 use Rattle.flow_edges.specs.Paths.{Leads, here, past, done, Arrives, at_mark, by_step, Path}
 use Rattle.flow_edges.specs.Edges.{Way, prefixed, ways_from, Behind, behind_points, ways_behind, edges_from, edges_of_program}
 use Rattle.flow_edges.specs.PathLaws.{IsMark, BehindPoints, EdgesOfPrograms}
-use Rattle.flow_edges.proofs.steps.ElementLemmas.{in-append, in-append_left, in-append_right, in-map, from_map, in-flat_map, from_flat_map, in_contains, contains_in}
+use Rattle.flow_edges.proofs.steps.ElementLemmas.{in-append, in-append_left, in-append_right, in-map, from_map, in-flat_map, from_flat_map}
+use Rattle.flow_edges.proofs.steps.ElementLemmas.{in_contains, contains_in}
 use Rattle.flow_edges.proofs.edges.WaysLaw.{ways_law}
 use Rattle.flow_edges.proofs.steps.Walk.{OfSome, AllNumbered, program_holds}
 use Rattle.flow_edges.proofs.steps.Reach.{AtPoint, points_reached}
@@ -20,15 +21,18 @@ abbrev pub way : List Action → ℕ → Way
 way actions to = record { actions = actions; to = to }
 
 -- ---- a way exactly where labelled steps arrive
-step_way : (item : Item) (rest : List Item) (step : Labelled) (w : Way) → ¬ (IsMark item) → In (steps_of item rest) step → In (ways_from step.work) w →
+step_way : (item : Item) (rest : List Item) (step : Labelled) (w : Way) → ¬ (IsMark item) → In (steps_of item rest) step
+    → In (ways_from step.work) w →
     In (ways_from (item ∷ rest)) (way (step.actions ++ w.actions) w.to)
 step_way item rest step w other m h =
     let on : Labelled → List Way = λ s. prefixed s.actions (ways_from s.work) in
     let put : Way → Way = λ v. way (step.actions ++ v.actions) v.to in
-    subst (λ ways. In ways (put w)) (sym (ways_law item rest other)) (in-flat_map on (steps_of item rest) step (put w) m (in-map put (ways_from step.work) w h))
+    subst (λ ways. In ways (put w)) (sym (ways_law item rest other)) (in-flat_map on (steps_of item rest) step (put w) m
+    (in-map put (ways_from step.work) w h))
 
 -- each arrival of labelled steps at a mark is a way
-way_of_arrival : (work : List Item) (actions : List Action) (p : ℕ) (behind : List Item) → Arrives work actions p behind → In (ways_from work) (way actions p)
+way_of_arrival : (work : List Item) (actions : List Action) (p : ℕ) (behind : List Item) → Arrives work actions p behind
+    → In (ways_from work) (way actions p)
 way_of_arrival work actions p behind (at_mark q rest) = inl refl
 way_of_arrival work actions p behind (by_step (mark q) rest step later p' behind' m h) = absurd m
 way_of_arrival work actions p behind (by_step (node s n) rest step later p' behind' m h) =
@@ -43,9 +47,11 @@ abbrev pub Arriving : List Item → Type 0
 Arriving work = (w : Way) → In (ways_from work) w → (behind : List Item) × Arrives work w.actions w.to behind
 
 mark_arrives : (p : ℕ) (rest : List Item) → Unit {0} → Arriving (mark p ∷ rest)
-mark_arrives p rest u w m = ⊎_elim (λ e. (rest, subst (λ v. Arrives (mark p ∷ rest) v.actions v.to rest) e (at_mark p rest))) (λ k. absurd k) m
+mark_arrives p rest u w m = ⊎_elim (λ e. (rest, subst (λ v. Arrives (mark p ∷ rest) v.actions v.to rest) e (at_mark p rest)))
+    (λ k. absurd k) m
 
-steps_arrive : (item : Item) (rest : List Item) → ¬ (IsMark item) → ((s : Labelled) → In (steps_of item rest) s → Arriving s.work) → Arriving (item ∷ rest)
+steps_arrive : (item : Item) (rest : List Item) → ¬ (IsMark item) → ((s : Labelled) → In (steps_of item rest) s → Arriving s.work)
+    → Arriving (item ∷ rest)
 steps_arrive item rest other all w m =
     let on : Labelled → List Way = λ s. prefixed s.actions (ways_from s.work) in
     let r = from_flat_map on (steps_of item rest) w (subst (λ ways. In ways w) (ways_law item rest other) m) in
@@ -56,13 +62,15 @@ steps_arrive item rest other all w m =
 
 -- ---- what is numbered, by number
 -- what holds of every work and number from n on
-pub numbered_all : (F : ℕ → List Item → Type 0) (n : ℕ) (ws : List Behind) → ((k : ℕ) → n ≤ k → (w : List Item) → F k w) → AllNumbered F n ws
+pub numbered_all : (F : ℕ → List Item → Type 0) (n : ℕ) (ws : List Behind) → ((k : ℕ) → n ≤ k → (w : List Item) → F k w)
+    → AllNumbered F n ws
 numbered_all F n [] f = tt
 numbered_all F n (None ∷ ws) f = (tt, numbered_all F (n + 1) ws (λ k h w. f k (omega (arith, h)) w))
 numbered_all F n (Some v ∷ ws) f = (f n (omega arith) v, numbered_all F (n + 1) ws (λ k h w. f k (omega (arith, h)) w))
 
 -- what holds of each work with its number holds of the work at each place
-pub numbered_at : (F : ℕ → List Item → Type 0) (n : ℕ) (ws : List Behind) (i : ℕ) (w : List Item) → AllNumbered F n ws → slice_get ws i ≡ Some (Some w) → F (n + i) w
+pub numbered_at : (F : ℕ → List Item → Type 0) (n : ℕ) (ws : List Behind) (i : ℕ) (w : List Item) → AllNumbered F n ws
+    → slice_get ws i ≡ Some (Some w) → F (n + i) w
 numbered_at F n [] i w a e = cc
 numbered_at F n (v ∷ ws) zero w a e =
     let same : v ≡ Some w = cc in
@@ -73,7 +81,8 @@ numbered_at F n (v ∷ ws) (suc i) w a e =
     subst (λ m. F m w) k (numbered_at F (n + 1) ws i w a.1 e)
 
 -- what holds of each of a list's works at its number
-numbered_itself : (F : ℕ → List Item → Type 0) (n : ℕ) (ws : List Behind) → ((i : ℕ) (w : List Item) → slice_get ws i ≡ Some (Some w) → F (n + i) w) → AllNumbered F n ws
+numbered_itself : (F : ℕ → List Item → Type 0) (n : ℕ) (ws : List Behind)
+    → ((i : ℕ) (w : List Item) → slice_get ws i ≡ Some (Some w) → F (n + i) w) → AllNumbered F n ws
 numbered_itself F n [] f = tt
 numbered_itself F n (v ∷ ws) f = (
   itself v (λ w e. let k : n + 0 ≡ n = omega arith in subst (λ m. F m w) k (f 0 w (ap Some e))),
@@ -97,27 +106,34 @@ module _ (body : Statements) where
   mark_known p rest e actions q behind (at_mark p' rest') = e
   mark_known p rest e actions q behind (by_step item rest' step later q' behind' m h) = absurd m
 
-  steps_known : (item : Item) (rest : List Item) → ¬ (IsMark item) → ((s : Labelled) → In (steps_of item rest) s → Known s.work) → Known (item ∷ rest)
+  steps_known : (item : Item) (rest : List Item) → ¬ (IsMark item) → ((s : Labelled) → In (steps_of item rest) s → Known s.work)
+      → Known (item ∷ rest)
   steps_known item rest other all actions q behind (at_mark p rest') = absurd (other tt)
   steps_known item rest other all actions q behind (by_step item' rest' step later q' behind' m h) = all step m later q behind h
 
   nothing_known : Known []
   nothing_known actions q behind h = none [] actions q behind h refl
     where
-      none : (work : List Item) (actions : List Action) (q : ℕ) (behind : List Item) → Arrives work actions q behind → work ≡ [] → IsBehind q behind
+      none : (work : List Item) (actions : List Action) (q : ℕ) (behind : List Item) → Arrives work actions q behind → work ≡ []
+          → IsBehind q behind
       none work actions q behind (at_mark p rest) e = cc
       none work actions q behind (by_step item rest step later q' behind' m h) e = cc
 
   -- labelled steps from the work after any point arrive at a mark with the work that the list has after it
   pub behind_known : AllNumbered (λ k w. Known w) 0 (behind_points body)
-  behind_known = program_holds Known IsBehind mark_known steps_known body (numbered_itself IsBehind 0 (behind_points body) (λ i w e. let z : i ≡ 0 + i = omega arith in subst (λ j. IsBehind j w) z e)) nothing_known
+  behind_known = program_holds Known IsBehind mark_known steps_known body
+      (numbered_itself IsBehind 0 (behind_points body) (λ i w e. let z : i ≡ 0 + i = omega arith in subst (λ j. IsBehind j w) z e))
+      nothing_known
 
   known_at : (p : ℕ) (rest : List Item) → IsBehind p rest → Known rest
   known_at p rest e = numbered_at (λ k w. Known w) 0 (behind_points body) p rest behind_known e
 
-  leads_known : (work : List Item) (actions : List Action) (goal : List Item) → Leads work actions goal → Known work → (p : ℕ) (behind : List Item) → goal ≡ mark p ∷ behind → IsBehind p behind
-  leads_known work actions goal (here work') known p behind e = known [] p behind (subst (λ w. Arrives w [] p behind) (sym e) (at_mark p behind))
-  leads_known work actions goal (past q rest a' goal' h) known p behind e = leads_known rest a' goal h (known_at q rest (known [] q rest (at_mark q rest))) p behind e
+  leads_known : (work : List Item) (actions : List Action) (goal : List Item) → Leads work actions goal → Known work
+      → (p : ℕ) (behind : List Item) → goal ≡ mark p ∷ behind → IsBehind p behind
+  leads_known work actions goal (here work') known p behind e = known [] p behind
+      (subst (λ w. Arrives w [] p behind) (sym e) (at_mark p behind))
+  leads_known work actions goal (past q rest a' goal' h) known p behind e =
+      leads_known rest a' goal h (known_at q rest (known [] q rest (at_mark q rest))) p behind e
   leads_known work actions goal (done item rest step later goal' m h) known p behind e =
       leads_known step.work later goal h (λ a q b k. known (step.actions ++ a) q b (by_step item rest step a q b m k)) p behind e
 
@@ -129,7 +145,8 @@ module _ (body : Statements) where
 
   -- each way from the work after any point is an arrival of labelled steps
   pub behind_arrives : AllNumbered (λ k w. Arriving w) 0 (behind_points body)
-  behind_arrives = program_holds Arriving (λ k w. Unit {0}) mark_arrives steps_arrive body (numbered_all (λ k w. Unit {0}) 0 (behind_points body) (λ k h w. tt)) (λ w m. absurd m)
+  behind_arrives = program_holds Arriving (λ k w. Unit {0}) mark_arrives steps_arrive body
+      (numbered_all (λ k w. Unit {0}) 0 (behind_points body) (λ k h w. tt)) (λ w m. absurd m)
 
 -- labelled steps come to a point's mark exactly where the list has work after it, and leave that work
 pub behind_law : BehindPoints
@@ -154,7 +171,8 @@ in_edges k (v ∷ ws) zero work w e m =
 in_edges k (v ∷ ws) (suc p) work w e m =
     let z : suc k + p ≡ k + suc p = omega arith in
     let from : ℕ → Edge = λ i. record { from = i; to = w.to; actions = w.actions } in
-    in-append_right (map (λ x. record { from = k; to = x.to; actions = x.actions }) (ways_behind v)) (edges_from (suc k) ws) (from (k + suc p))
+    in-append_right (map (λ x. record { from = k; to = x.to; actions = x.actions }) (ways_behind v)) (edges_from (suc k) ws)
+    (from (k + suc p))
     (subst (λ i. In (edges_from (suc k) ws) (from i)) z (in_edges (suc k) ws p work w e m))
 
 -- only a point that is reached has ways
@@ -182,13 +200,15 @@ from_edges k (v ∷ ws) e m =
 pub edges_law : EdgesOfPrograms
 edges_law body = record { complete = complete; sound = sound }
   where
-    complete : (from to : ℕ) (actions : List Action) → Path body from actions to → Contains (edges_of_program body) (record { from = from; to = to; actions = actions })
+    complete : (from to : ℕ) (actions : List Action) → Path body from actions to
+        → Contains (edges_of_program body) (record { from = from; to = to; actions = actions })
     complete from to actions path =
         let z : 0 + from ≡ from = omega arith in
         let edge_at : ℕ → Edge = λ p. record { from = p; to = to; actions = actions } in
         in_contains (edges_of_program body) (edge_at from)
         (subst (λ p. In (edges_of_program body) (edge_at p)) z
-        (in_edges 0 (behind_points body) from path.behind (way actions to) (behind_mark body path.before from path.behind path.reached) (way_of_arrival path.behind actions to path.after path.arrives)))
+        (in_edges 0 (behind_points body) from path.behind (way actions to) (behind_mark body path.before from path.behind path.reached)
+        (way_of_arrival path.behind actions to path.after path.arrives)))
 
     sound : (e : Edge) → Contains (edges_of_program body) e → Path body e.from e.actions e.to
     sound e m =
@@ -196,4 +216,11 @@ edges_law body = record { complete = complete; sound = sound }
         let a = numbered_at (λ k w. Arriving w) 0 (behind_points body) r.0 r.1 (behind_arrives body) r.2 (way e.actions e.to) r.4 in
         let b = numbered_at (AtPoint (start_work body)) 0 (behind_points body) r.0 r.1 (points_reached body) r.2 in
         let f = sym r.3 in
-        record { before = b.0; behind = r.1; reached = subst (λ p. Leads (start_work body) b.0 (mark p ∷ r.1)) f b.1; after = a.0; arrives = a.1 }
+        record {
+          before = b.0;
+          behind = r.1;
+          reached = subst (λ p. Leads (start_work body) b.0 (mark p ∷ r.1)) f b.1;
+          after = a.0;
+          arrives =
+              a.1;
+        }

@@ -35,10 +35,12 @@ mutual
   -- the points that statements make, without their numbers, are those that are counted without them
   pub plain_in : (ss : Statements) (n : ℕ) → plain (made_in ss n) ≡ places_in ss
   plain_in nil n = refl
-  plain_in (cons s rest) n = plain-append (made_by s n) (made_in rest (n + points_of s)) _ _ (plain_by s n) (plain_in rest (n + points_of s))
+  plain_in (cons s rest) n = plain-append (made_by s n) (made_in rest (n + points_of s)) _ _ (plain_by s n)
+      (plain_in rest (n + points_of s))
 
 -- the entry, the points of the statements and the exit are the points of the program
-pub placed : (entry inner points : List Point) (body : Statements) → entry ≡ one_point Entry 0 → inner ≡ entry ++ places_in body → points ≡ inner ++ one_point Exit 0 →
+pub placed : (entry inner points : List Point) (body : Statements) → entry ≡ one_point Entry 0 → inner ≡ entry ++ places_in body
+    → points ≡ inner ++ one_point Exit 0 →
     points ≡ points_of_program body
 placed entry inner points body e f g =
     g ∙ ap (λ z. z ++ one_point Exit 0) (f ∙ ap (λ z. z ++ places_in body) e)

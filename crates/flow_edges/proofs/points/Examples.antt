@@ -32,7 +32,8 @@ edge from to actions = record { from = from; to = to; actions = actions }
 
 -- ---- int x = 0; while (x < 100) { x = x + 1; }
 abbrev pub counting : Statements
-counting = cons (set 0 (form (pos 0) (pos 0)) 1) (cons (loop while_loop (compare Lt (form (pos 1) (negsuc 99))) (cons (set 0 (form (pos 1) (pos 1)) 1) nil) 1) nil)
+counting = cons (set 0 (form (pos 0) (pos 0)) 1) (cons (loop while_loop (compare Lt (form (pos 1) (negsuc 99)))
+    (cons (set 0 (form (pos 1) (pos 1)) 1) nil) 1) nil)
 
 counting_points : points_of_program counting ≡ point Entry 0 ∷ (point Loop 1 ∷ (point Exit 0 ∷ []))
 counting_points = refl
@@ -51,7 +52,8 @@ counting_followed = refl
 
 -- ---- int x = 5; while (x != 0) { x = x - 1; }
 abbrev falling : Statements
-falling = cons (set 0 (form (pos 0) (pos 5)) 1) (cons (loop while_loop (compare Ne (form (pos 1) (pos 0))) (cons (set 0 (form (pos 1) minus_one) 1) nil) 1) nil)
+falling = cons (set 0 (form (pos 0) (pos 5)) 1) (cons (loop while_loop (compare Ne (form (pos 1) (pos 0)))
+    (cons (set 0 (form (pos 1) minus_one) 1) nil) 1) nil)
 
 -- two edges lead through the body, one for each side of 0
 abbrev falling_list : List Edge
@@ -72,7 +74,8 @@ abbrev choosing : Statements
 choosing =
     cons (set 0 (form (pos 0) (pos 0)) 1)
     (cons (loop while_loop (compare Lt (form (pos 1) (negsuc 99)))
-    (cons (branch (compare Lt (form (pos 1) (negsuc 49))) (cons (set 0 (form (pos 1) (pos 1)) 1) nil) (cons (set 0 (form (pos 1) (pos 2)) 1) nil) 1) nil) 1) nil)
+    (cons (branch (compare Lt (form (pos 1) (negsuc 49))) (cons (set 0 (form (pos 1) (pos 1)) 1) nil)
+    (cons (set 0 (form (pos 1) (pos 2)) 1) nil) 1) nil) 1) nil)
 
 -- the loop's head comes before the join in its body
 choosing_points : points_of_program choosing ≡ point Entry 0 ∷ (point Loop 1 ∷ (point Join 1 ∷ (point Exit 0 ∷ [])))
@@ -100,7 +103,8 @@ placing =
     (cons (label (109 ∷ (105 ∷ (100 ∷ []))) 3)
     (cons (branch free nil (cons (assume (compare Eq (form (pos 1) (pos 0))) 5) nil) 4) nil)))
 
-placing_points : points_of_program placing ≡ point Entry 0 ∷ (point Assume 2 ∷ (point (Label (109 ∷ (105 ∷ (100 ∷ [])))) 3 ∷ (point Join 4 ∷ (point Exit 0 ∷ []))))
+placing_points : points_of_program placing ≡ point Entry 0 ∷ (point Assume 2
+    ∷ (point (Label (109 ∷ (105 ∷ (100 ∷ [])))) 3 ∷ (point Join 4 ∷ (point Exit 0 ∷ []))))
 placing_points = refl
 
 abbrev placing_list : List Edge
@@ -120,7 +124,8 @@ placing_followed = refl
 
 -- ---- int x = 0; do { x = x + 2; } while (x < 5);
 abbrev doing : Statements
-doing = cons (set 0 (form (pos 0) (pos 0)) 1) (cons (loop do_loop (compare Lt (form (pos 1) (negsuc 4))) (cons (set 0 (form (pos 1) (pos 2)) 1) nil) 1) nil)
+doing = cons (set 0 (form (pos 0) (pos 0)) 1) (cons (loop do_loop (compare Lt (form (pos 1) (negsuc 4)))
+    (cons (set 0 (form (pos 1) (pos 2)) 1) nil) 1) nil)
 
 doing_points : points_of_program doing ≡ point Entry 0 ∷ (point Loop 1 ∷ (point Exit 0 ∷ []))
 doing_points = refl
@@ -213,7 +218,8 @@ leaving =
     (cons (branch free (cons (set 0 (form (pos 0) (pos 1)) 1) nil) nil 1)
     (cons (set 0 (form (pos 0) (pos 2)) 1) nil)))) 1) nil)
 
-leaving_points : points_of_program leaving ≡ point Entry 0 ∷ (point Loop 1 ∷ (point (Label (109 ∷ (105 ∷ (100 ∷ [])))) 1 ∷ (point Join 1 ∷ (point Exit 0 ∷ []))))
+leaving_points : points_of_program leaving ≡ point Entry 0 ∷ (point Loop 1
+    ∷ (point (Label (109 ∷ (105 ∷ (100 ∷ [])))) 1 ∷ (point Join 1 ∷ (point Exit 0 ∷ []))))
 leaving_points = refl
 
 -- the points 2 and 3 stand after the `break`: no run comes to them, and they have no edges
@@ -233,7 +239,8 @@ leaving_followed = refl
 abbrev jumping : Statements
 jumping =
     cons (set 0 (form (pos 0) (pos 0)) 1)
-    (cons (loop do_loop (compare Lt (form (pos 1) (negsuc 4))) (cons (branch free (cons (jump continues 1) nil) (cons (jump breaks 1) nil) 1) nil) 1) nil)
+    (cons (loop do_loop (compare Lt (form (pos 1) (negsuc 4))) (cons (branch free (cons (jump continues 1) nil) (cons (jump breaks 1) nil)
+    1) nil) 1) nil)
 
 jumping_points : points_of_program jumping ≡ point Entry 0 ∷ (point Loop 1 ∷ (point Join 1 ∷ (point Exit 0 ∷ [])))
 jumping_points = refl
@@ -256,9 +263,11 @@ jumping_followed = refl
 abbrev other_than : ℕ → Condition
 other_than k = compare Ne (record { coeffs = pos 1 ∷ []; constant = negsuc k })
 
-six_cases : length (cases_of true (both (both (both (both (both (other_than 0) (other_than 1)) (other_than 2)) (other_than 3)) (other_than 4)) (other_than 5))) ≡ 64
+six_cases : length (cases_of true (both (both (both (both (both (other_than 0) (other_than 1)) (other_than 2)) (other_than 3))
+    (other_than 4)) (other_than 5))) ≡ 64
 six_cases = refl
 
 -- its negation has one case for each
-six_cases_of_negation : length (cases_of false (both (both (both (both (both (other_than 0) (other_than 1)) (other_than 2)) (other_than 3)) (other_than 4)) (other_than 5))) ≡ 6
+six_cases_of_negation : length (cases_of false (both (both (both (both (both (other_than 0) (other_than 1)) (other_than 2)) (other_than 3))
+    (other_than 4)) (other_than 5))) ≡ 6
 six_cases_of_negation = refl

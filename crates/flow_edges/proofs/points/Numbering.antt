@@ -1,5 +1,6 @@
 -- The nodes of a program make its points in order.
-use Rattle.std.proofs.Common.{◌≡◌, ◌∙◌, ℕ, zero, suc, ◌+◌, Bool, true, false, List, [], ◌∷◌, ◌++◌, length, map, refl, sym, ap, ap₂, arith, length-append}
+use Rattle.std.proofs.Common.{◌≡◌, ◌∙◌, ℕ, zero, suc, ◌+◌, Bool, true, false, List, [], ◌∷◌, ◌++◌, length, map, refl, sym, ap, ap₂, arith}
+use Rattle.std.proofs.Common.{length-append}
 use Rattle.std.specs.Prelude.{if◌then◌else◌}
 use Rattle.std.specs.List.{range_with_len}
 use Rattle.std.proofs.lemmas.List.{map-append, length-map}
@@ -29,7 +30,8 @@ numbers_if true n line = refl
 numbers_if false n line = refl
 
 -- two parts of a list one after another
-joined : (xs ys : List Made) (a m n : ℕ) → numbers xs ≡ range_with_len a m → numbers ys ≡ range_with_len (a + m) n → numbers (xs ++ ys) ≡ range_with_len a (m + n)
+joined : (xs ys : List Made) (a m n : ℕ) → numbers xs ≡ range_with_len a m → numbers ys ≡ range_with_len (a + m) n
+    → numbers (xs ++ ys) ≡ range_with_len a (m + n)
 joined xs ys a m n p q = map-append (λ k. k.number) xs ys ∙ ap₂ (λ u v. u ++ v) p q ∙ sym (range-append a m n)
 
 mutual
@@ -41,7 +43,8 @@ mutual
       let p = points_in first in
       let q = points_in second in
       let e : p + (q + 1) ≡ p + q + 1 = omega arith in
-      joined (made_in first n) _ n p (q + 1) (numbers_in first n) (joined (made_in second (n + p)) _ (n + p) q 1 (numbers_in second (n + p)) refl) ∙ ap (range_with_len n) e
+      joined (made_in first n) _ n p (q + 1) (numbers_in first n) (joined (made_in second (n + p)) _ (n + p) q 1 (numbers_in second (n + p))
+      refl) ∙ ap (range_with_len n) e
   numbers_by (loop kind c body line) n =
       let e : suc (points_in body) ≡ 1 + points_in body = omega arith in
       ap (λ r. n ∷ r) (numbers_in body (n + 1)) ∙ ap (range_with_len n) e
@@ -50,11 +53,13 @@ mutual
 
   numbers_in : (ss : Statements) (n : ℕ) → numbers (made_in ss n) ≡ range_with_len n (points_in ss)
   numbers_in nil n = refl
-  numbers_in (cons s rest) n = joined (made_by s n) (made_in rest (n + points_of s)) n (points_of s) (points_in rest) (numbers_by s n) (numbers_in rest (n + points_of s))
+  numbers_in (cons s rest) n = joined (made_by s n) (made_in rest (n + points_of s)) n (points_of s) (points_in rest) (numbers_by s n)
+      (numbers_in rest (n + points_of s))
 
 -- as many as the range has
 made_count : (body : Statements) → length (made_in body 1) ≡ points_in body
-made_count body = sym (length-map (made_in body 1) (λ m. m.number)) ∙ ap length (numbers_in body 1) ∙ length-range_with_len 1 (points_in body)
+made_count body = sym (length-map (made_in body 1) (λ m. m.number)) ∙ ap length (numbers_in body 1)
+    ∙ length-range_with_len 1 (points_in body)
 
 -- the nodes of every program make the points 1, 2, 3 and so on, each once, in order
 pub numbering : PointsAreNumbered

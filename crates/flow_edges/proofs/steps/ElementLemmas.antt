@@ -48,7 +48,8 @@ module _ {A B : Type 0} where
   pub in-flat_map : (f : A → List B) (xs : List A) (x : A) (y : B) → In xs x → In (f x) y → In (flat_map f xs) y
   in-flat_map f [] x y h i = absurd h
   in-flat_map f (z ∷ xs) x y h i =
-      ⊎_elim (λ e. in-append_left (f z) (flat_map f xs) y (rw e i)) (λ k. in-append_right (f z) (flat_map f xs) y (in-flat_map f xs x y k i)) h
+      ⊎_elim (λ e. in-append_left (f z) (flat_map f xs) y (rw e i)) (λ k. in-append_right (f z) (flat_map f xs) y
+      (in-flat_map f xs x y k i)) h
 
   -- each element of a joined list is in a list made of an element
   pub from_flat_map : (f : A → List B) (xs : List A) (y : B) → In (flat_map f xs) y → (x : A) × In xs x × In (f x) y

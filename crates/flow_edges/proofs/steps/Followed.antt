@@ -26,8 +26,10 @@ arrivals zero work = []
 arrivals (suc steps) [] = []
 arrivals (suc steps) (mark p ∷ rest) = record { actions = []; to = p; behind = rest } ∷ []
 arrivals (suc steps) (node s n ∷ rest) = flat_map (λ l. map (done_before l.actions) (arrivals steps l.work)) (steps_of (node s n) rest)
-arrivals (suc steps) (turn k c body line n ∷ rest) = flat_map (λ l. map (done_before l.actions) (arrivals steps l.work)) (steps_of (turn k c body line n) rest)
-arrivals (suc steps) (end k c body line n ∷ rest) = flat_map (λ l. map (done_before l.actions) (arrivals steps l.work)) (steps_of (end k c body line n) rest)
+arrivals (suc steps) (turn k c body line n ∷ rest) = flat_map (λ l. map (done_before l.actions) (arrivals steps l.work))
+    (steps_of (turn k c body line n) rest)
+arrivals (suc steps) (end k c body line n ∷ rest) = flat_map (λ l. map (done_before l.actions) (arrivals steps l.work))
+    (steps_of (end k c body line n) rest)
 
 -- the arrivals at points, each point explored once, as they are found
 abbrev pub explored : ℕ → List Arrival → List ℕ → List Edge

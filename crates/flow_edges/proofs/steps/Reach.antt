@@ -1,22 +1,26 @@
 -- Labelled steps reach the mark of each point.
-use Rattle.std.proofs.Common.{◌≡◌, ◌⊎◌, inl, inr, ⊎_elim, ℕ, ◌+◌, Bool, true, false, List, [], ◌∷◌, ◌++◌, length, map, refl, sym, subst, arith, append_assoc}
+use Rattle.std.proofs.Common.{◌≡◌, ◌⊎◌, inl, inr, ⊎_elim, ℕ, ◌+◌, Bool, true, false, List, [], ◌∷◌, ◌++◌, length, map, refl, sym, subst}
+use Rattle.std.proofs.Common.{arith, append_assoc}
 use Rattle.std.specs.Prelude.{◌&&◌, ◌||◌, Some, None, if◌then◌else◌}
 use Rattle.base_facts.specs.Elements.{In}
 use Rattle.lang_tree.specs.declared.form.Form.{Form}
 use Rattle.lang_tree.specs.declared.cond.Rel.{Rel}
 use Rattle.lang_tree.specs.declared.cond.Rel.TheVariants.{Eq, Ne, Lt, Le, Gt, Ge}
-use Rattle.lang_tree.specs.Tree.{Condition, free, compare, negation, both, either, LoopKind, while_loop, for_loop, do_loop, breaks, continues}
+use Rattle.lang_tree.specs.Tree.{Condition, free, compare, negation, both, either, LoopKind, while_loop, for_loop, do_loop, breaks}
+use Rattle.lang_tree.specs.Tree.{continues}
 use Rattle.lang_tree.specs.Tree.{Statement, Statements, set, havoc, assume, branch, loop, jump, label, nil, cons}
 use Rattle.lang_tree.specs.Cases.{comparison_cases, crossed, cases_of}
 use Rattle.lang_tree.specs.PointNumbers.{splits, points_of, points_in, join_of, exit_of}
-use Rattle.lang_tree.specs.Runs.{Item, node, mark, turn, end, nodes, start_work, branch_work, body_work, head_work, turn_work, repeat_work, past_loop, end_of_body}
+use Rattle.lang_tree.specs.Runs.{Item, node, mark, turn, end, nodes, start_work, branch_work, body_work, head_work, turn_work, repeat_work}
+use Rattle.lang_tree.specs.Runs.{past_loop, end_of_body}
 use Rattle.flow_edges.specs.declared.edge.Action.{Action}
 use Rattle.flow_edges.specs.declared.edge.Action.TheVariants.{Assign, Havoc}
 use Rattle.flow_edges.specs.Steps.{Labelled, labelled, guards, choices, steps_of}
 use Rattle.flow_edges.specs.Paths.{Leads, here, past, done}
 use Rattle.flow_edges.specs.Edges.{Behind, complete, completes, unreached, behind_of, behind_in, behind_points}
 use Rattle.flow_edges.proofs.steps.ElementLemmas.{in-append_left, in-append_right, in-map}
-use Rattle.flow_edges.proofs.steps.Walk.{OfSome, AllNumbered, numbered-append, numbered_if, past-nodes, end-nodes, behind_count_of, behind_count_in}
+use Rattle.flow_edges.proofs.steps.Walk.{OfSome, AllNumbered, numbered-append, numbered_if, past-nodes, end-nodes, behind_count_of}
+use Rattle.flow_edges.proofs.steps.Walk.{behind_count_in}
 
 -- ---- every condition has a case of each truth
 abbrev HasCase : List (List Form) → Type 0
@@ -41,7 +45,11 @@ some_left as' bs h = (h.0, in-append_left as' bs h.0 h.1)
 
 some_crossed : (as' bs : List (List Form)) → HasCase as' → HasCase bs → HasCase (crossed as' bs)
 some_crossed [] bs h k = absurd h.1
-some_crossed (a ∷ rest) bs h k = (a ++ k.0, in-append_left (map (λ b. a ++ b) bs) (crossed rest bs) (a ++ k.0) (in-map (λ b. a ++ b) bs k.0 k.1))
+some_crossed (a ∷ rest) bs h k = (
+  a ++ k.0,
+  in-append_left (map (λ b. a ++ b) bs) (crossed rest bs) (a ++ k.0)
+      (in-map (λ b. a ++ b) bs k.0 k.1),
+)
 
 some_case : (truth : Bool) (c : Condition) → HasCase (cases_of truth c)
 some_case true free = ([], inl refl)
@@ -65,7 +73,8 @@ pub leads_then : (u v w : List Item) (a b : List Action) → Leads u a v → Lea
 leads_then u v w a b (here u') k = k
 leads_then u v w a b (past p rest a' v' h) k = past p rest (a' ++ b) w (leads_then rest v w a' b h k)
 leads_then u v w a b (done item rest step later v' m h) k =
-    subst (λ x. Leads (item ∷ rest) x w) (sym (append_assoc step.actions later b)) (done item rest step (later ++ b) w m (leads_then step.work v w later b h k))
+    subst (λ x. Leads (item ∷ rest) x w) (sym (append_assoc step.actions later b))
+    (done item rest step (later ++ b) w m (leads_then step.work v w later b h k))
 
 module _ (start : List Item) where
   -- labelled steps lead to this work
@@ -75,24 +84,33 @@ module _ (start : List Item) where
   reached_past : (p : ℕ) (rest : List Item) → Reached (mark p ∷ rest) → Reached rest
   reached_past p rest h = (h.0 ++ [], leads_then start (mark p ∷ rest) rest h.0 [] h.1 (past p rest [] rest (here rest)))
 
-  reached_by : (item : Item) (rest : List Item) (s : Labelled) (work : List Item) → In (steps_of item rest) s → s.work ≡ work → Reached (item ∷ rest) → Reached work
+  reached_by : (item : Item) (rest : List Item) (s : Labelled) (work : List Item) → In (steps_of item rest) s → s.work ≡ work
+      → Reached (item ∷ rest) → Reached work
   reached_by item rest s work m e h =
-      subst Reached e (h.0 ++ (s.actions ++ []), leads_then start (item ∷ rest) s.work h.0 (s.actions ++ []) h.1 (done item rest s [] s.work m (here s.work)))
+      subst Reached e (
+        h.0 ++ (s.actions ++ []),
+        leads_then start (item ∷ rest) s.work h.0 (s.actions ++ []) h.1
+            (done item rest s [] s.work m (here s.work)),
+      )
 
   -- the point's mark, and this work after it
   abbrev pub AtPoint : ℕ → List Item → Type 0
   AtPoint p work = Reached (mark p ∷ work)
 
-  reached_choice : (c : Condition) (item : Item) (rest yes_work no_work : List Item) → steps_of item rest ≡ choices true c yes_work ++ choices false c no_work →
+  reached_choice : (c : Condition) (item : Item) (rest yes_work no_work : List Item)
+      → steps_of item rest ≡ choices true c yes_work ++ choices false c no_work →
       Reached (item ∷ rest) → Reached yes_work × Reached no_work
   reached_choice c item rest yes_work no_work e h =
       let y = some_choice true c yes_work in
       let n = some_choice false c no_work in
-      let at_yes : In (steps_of item rest) y.0 = subst (λ t. In t y.0) (sym e) (in-append_left (choices true c yes_work) (choices false c no_work) y.0 y.1) in
-      let at_no : In (steps_of item rest) n.0 = subst (λ t. In t n.0) (sym e) (in-append_right (choices true c yes_work) (choices false c no_work) n.0 n.1) in
+      let at_yes : In (steps_of item rest) y.0 = subst (λ t. In t y.0) (sym e)
+      (in-append_left (choices true c yes_work) (choices false c no_work) y.0 y.1) in
+      let at_no : In (steps_of item rest) n.0 = subst (λ t. In t n.0) (sym e)
+      (in-append_right (choices true c yes_work) (choices false c no_work) n.0 n.1) in
       (reached_by item rest y.0 yes_work at_yes y.2 h, reached_by item rest n.0 no_work at_no n.2 h)
 
-  reached_if : (b : Bool) (n : ℕ) (rest : List Item) → Reached (if b then mark n ∷ rest else rest) → Reached rest × AllNumbered AtPoint n (if b then Some rest ∷ [] else [])
+  reached_if : (b : Bool) (n : ℕ) (rest : List Item) → Reached (if b then mark n ∷ rest else rest)
+      → Reached rest × AllNumbered AtPoint n (if b then Some rest ∷ [] else [])
   reached_if true n rest h = (reached_past n rest h, (h, tt))
   reached_if false n rest h = (h, tt)
 
@@ -115,45 +133,64 @@ module _ (start : List Item) where
   goes_either false b rest g k = k
 
   -- a list of statements, the first of which goes on so
-  goes_both : (a b : Bool) (more : Statements) (m : ℕ) (rest : List Item) → GoesOn a (nodes more m ++ rest) → (Reached (nodes more m ++ rest) → GoesOn b rest) → GoesOn (a && b) rest
+  goes_both : (a b : Bool) (more : Statements) (m : ℕ) (rest : List Item) → GoesOn a (nodes more m ++ rest)
+      → (Reached (nodes more m ++ rest) → GoesOn b rest) → GoesOn (a && b) rest
   goes_both true b more m rest g f = f g
-  goes_both false b more m rest g f = ⊎_elim (λ k. inl (subst Reached (past-nodes more m rest) k)) (λ k. inr (subst Reached (end-nodes more m rest) k)) g
+  goes_both false b more m rest g f = ⊎_elim (λ k. inl (subst Reached (past-nodes more m rest) k))
+      (λ k. inr (subst Reached (end-nodes more m rest) k)) g
 
   reached_where : (b : Bool) (rest : List Item) → GoesOn b rest → (b ≡ true) → Reached rest
   reached_where true rest g t = g
   reached_where false rest g t = cc
 
   -- ---- loops
-  body_reached : (kind : LoopKind) (c : Condition) (body : Statements) (line n : ℕ) (rest : List Item) → Reached (head_work kind c body line n rest) →
+  body_reached : (kind : LoopKind) (c : Condition) (body : Statements) (line n : ℕ) (rest : List Item)
+      → Reached (head_work kind c body line n rest) →
       Reached (body_work kind c body line n rest)
   body_reached while_loop c body line n rest h =
-      (reached_choice c (turn while_loop c body line n) rest (turn_work true while_loop c body line n rest) (turn_work false while_loop c body line n rest) refl h).0
+      (reached_choice c (turn while_loop c body line n) rest (turn_work true while_loop c body line n rest)
+      (turn_work false while_loop c body line n rest) refl h).0
   body_reached (for_loop g) c body line n rest h =
-      (reached_choice c (turn (for_loop g) c body line n) rest (turn_work true (for_loop g) c body line n rest) (turn_work false (for_loop g) c body line n rest) refl h).0
+      (reached_choice c (turn (for_loop g) c body line n) rest (turn_work true (for_loop g) c body line n rest)
+      (turn_work false (for_loop g) c body line n rest) refl h).0
   body_reached do_loop c body line n rest h = h
 
   end_left : (c : Condition) (body : Statements) (line n : ℕ) (rest : List Item) → Reached (end do_loop c body line n ∷ rest) → Reached rest
   end_left c body line n rest h =
-      (reached_choice c (end do_loop c body line n) rest (repeat_work true c body line n rest) (repeat_work false c body line n rest) refl h).1
+      (reached_choice c (end do_loop c body line n) rest (repeat_work true c body line n rest) (repeat_work false c body line n rest) refl
+      h).1
 
-  do_left : (b : Bool) (c : Condition) (body : Statements) (line n : ℕ) (rest : List Item) → GoesOn b (end do_loop c body line n ∷ rest) → Reached rest
+  do_left : (b : Bool) (c : Condition) (body : Statements) (line n : ℕ) (rest : List Item) → GoesOn b (end do_loop c body line n ∷ rest)
+      → Reached rest
   do_left true c body line n rest g = end_left c body line n rest g
   do_left false c body line n rest g = ⊎_elim (λ k. k) (λ k. end_left c body line n rest k) g
 
   -- a loop is always left: a `while` and a `for` at a turn, a `do` at its end or by a `break`
-  loop_left : (kind : LoopKind) (c : Condition) (body : Statements) (line n : ℕ) (rest : List Item) → Reached (head_work kind c body line n rest) →
+  loop_left : (kind : LoopKind) (c : Condition) (body : Statements) (line n : ℕ) (rest : List Item)
+      → Reached (head_work kind c body line n rest) →
       GoesOn (complete body) (end kind c body line n ∷ rest) → Reached rest
   loop_left while_loop c body line n rest h g =
-      (reached_choice c (turn while_loop c body line n) rest (turn_work true while_loop c body line n rest) (turn_work false while_loop c body line n rest) refl h).1
+      (reached_choice c (turn while_loop c body line n) rest (turn_work true while_loop c body line n rest)
+      (turn_work false while_loop c body line n rest) refl h).1
   loop_left (for_loop k) c body line n rest h g =
-      (reached_choice c (turn (for_loop k) c body line n) rest (turn_work true (for_loop k) c body line n rest) (turn_work false (for_loop k) c body line n rest) refl h).1
+      (reached_choice c (turn (for_loop k) c body line n) rest (turn_work true (for_loop k) c body line n rest)
+      (turn_work false (for_loop k) c body line n rest) refl h).1
   loop_left do_loop c body line n rest h g = do_left (complete body) c body line n rest g
 
   -- ---- nodes: where they go on to, and the marks of their points
   mutual
-    reach_node : (s : Statement) (n : ℕ) (rest : List Item) → Reached (node s n ∷ rest) → GoesOn (completes s) rest × AllNumbered AtPoint n (behind_of s n rest)
-    reach_node (set var form line) n rest h = (reached_by (node (set var form line) n) rest (labelled (Assign var form ∷ []) rest) rest (inl refl) refl h, tt)
-    reach_node (havoc var line) n rest h = (reached_by (node (havoc var line) n) rest (labelled (Havoc var ∷ []) rest) rest (inl refl) refl h, tt)
+    reach_node : (s : Statement) (n : ℕ) (rest : List Item) → Reached (node s n ∷ rest)
+        → GoesOn (completes s) rest × AllNumbered AtPoint n (behind_of s n rest)
+    reach_node (set var form line) n rest h = (
+      reached_by (node (set var form line) n) rest (labelled (Assign var form ∷ []) rest) rest
+          (inl refl) refl h,
+      tt,
+    )
+    reach_node (havoc var line) n rest h = (
+      reached_by (node (havoc var line) n) rest (labelled (Havoc var ∷ []) rest) rest (inl refl) refl
+          h,
+      tt,
+    )
     reach_node (assume c line) n rest h =
         let work = if splits c then mark n ∷ rest else rest in
         let y = some_choice true c work in
@@ -163,17 +200,23 @@ module _ (start : List Item) where
         let one_completes = complete first || complete second in
         let us = behind_in first n join in
         let vs = behind_in second (n + points_in first) join in
-        let r = reached_choice c (node (branch c first second line) n) rest (branch_work true first second n rest) (branch_work false first second n rest) refl h in
+        let r = reached_choice c (node (branch c first second line) n) rest (branch_work true first second n rest)
+        (branch_work false first second n rest) refl h in
         let a = reach_nodes first n join r.0 in
         let b = reach_nodes second (n + points_in first) join r.1 in
         let g : GoesOn one_completes join = goes_either (complete first) (complete second) join a.0 b.0 in
         let joined : Behind = if one_completes then Some rest else None in
         let one : List Behind = joined ∷ [] in
-        let at_join : AllNumbered AtPoint (n + points_in first + length vs) one =
-        (subst (λ k. OfSome (AtPoint (n + points_in first + k)) joined) (sym (behind_count_in second (n + points_in first) join)) (goes_at one_completes (join_of first second n) rest g), tt) in
-        let both_parts : AllNumbered AtPoint (n + points_in first) (vs ++ one) = numbered-append AtPoint (n + points_in first) vs one b.1 at_join in (
+        let at_join : AllNumbered AtPoint (n + points_in first + length vs) one = (
+          subst (λ k. OfSome (AtPoint (n + points_in first + k)) joined) (sym (behind_count_in second (n + points_in first) join))
+              (goes_at one_completes (join_of first second n) rest g),
+          tt,
+        ) in
+        let both_parts : AllNumbered AtPoint (n + points_in first) (vs ++ one) =
+        numbered-append AtPoint (n + points_in first) vs one b.1 at_join in (
           goes_past one_completes (join_of first second n) rest g,
-          numbered-append AtPoint n us (vs ++ one) a.1 (subst (λ k. AllNumbered AtPoint (n + k) (vs ++ one)) (sym (behind_count_in first n join)) both_parts),
+          numbered-append AtPoint n us (vs ++ one) a.1 (subst (λ k. AllNumbered AtPoint (n + k) (vs ++ one))
+              (sym (behind_count_in first n join)) both_parts),
         )
     reach_node (loop kind c body line) n rest h =
         let work = head_work kind c body line n rest in
@@ -181,13 +224,22 @@ module _ (start : List Item) where
         let turned = reached_past n work head in
         let a = reach_nodes body (n + 1) (end kind c body line n ∷ rest) (body_reached kind c body line n rest turned) in
         (loop_left kind c body line n rest turned a.0, (head, a.1))
-    reach_node (jump breaks line) n rest h = (inl (reached_by (node (jump breaks line) n) rest (labelled [] (past_loop rest)) (past_loop rest) (inl refl) refl h), tt)
-    reach_node (jump continues line) n rest h = (inr (reached_by (node (jump continues line) n) rest (labelled [] (end_of_body rest)) (end_of_body rest) (inl refl) refl h), tt)
+    reach_node (jump breaks line) n rest h = (
+      inl (reached_by (node (jump breaks line) n) rest (labelled [] (past_loop rest))
+          (past_loop rest) (inl refl) refl h),
+      tt,
+    )
+    reach_node (jump continues line) n rest h = (
+      inr (reached_by (node (jump continues line) n) rest (labelled [] (end_of_body rest))
+          (end_of_body rest) (inl refl) refl h),
+      tt,
+    )
     reach_node (label name line) n rest h =
         let m = reached_by (node (label name line) n) rest (labelled [] (mark n ∷ rest)) (mark n ∷ rest) (inl refl) refl h in
         (reached_past n rest m, (m, tt))
 
-    reach_nodes : (ss : Statements) (n : ℕ) (rest : List Item) → Reached (nodes ss n ++ rest) → GoesOn (complete ss) rest × AllNumbered AtPoint n (behind_in ss n rest)
+    reach_nodes : (ss : Statements) (n : ℕ) (rest : List Item) → Reached (nodes ss n ++ rest)
+        → GoesOn (complete ss) rest × AllNumbered AtPoint n (behind_in ss n rest)
     reach_nodes nil n rest h = (h, tt)
     reach_nodes (cons s more) n rest h =
         let m = n + points_of s in
@@ -196,7 +248,8 @@ module _ (start : List Item) where
         let us = behind_of s n after in
         let ws = behind_in more m rest in
         let vs : List Behind = if completes s then ws else unreached (points_in more) in
-        let all : AllNumbered AtPoint m vs = numbered_if AtPoint (completes s) m (points_in more) ws (λ t. (reach_nodes more m rest (reached_where (completes s) after a.0 t)).1) in (
+        let all : AllNumbered AtPoint m vs = numbered_if AtPoint (completes s) m (points_in more) ws
+        (λ t. (reach_nodes more m rest (reached_where (completes s) after a.0 t)).1) in (
           goes_both (completes s) (complete more) more m rest a.0 (λ k. (reach_nodes more m rest k).0),
           numbered-append AtPoint n us vs a.1 (subst (λ k. AllNumbered AtPoint (n + k) vs) (sym (behind_count_of s n after)) all),
         )

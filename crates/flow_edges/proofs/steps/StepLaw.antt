@@ -7,7 +7,8 @@ use Rattle.lang_tree.specs.Tree.{Condition, while_loop, for_loop, do_loop, break
 use Rattle.lang_tree.specs.Meaning.{State, MayBe}
 use Rattle.lang_tree.specs.Cases.{HoldAll, HoldSome, cases_of}
 use Rattle.lang_tree.specs.PointNumbers.{splits}
-use Rattle.lang_tree.specs.Runs.{Item, node, mark, turn, end, branch_work, head_work, turn_work, change_work, repeat_work, past_loop, end_of_body, Does}
+use Rattle.lang_tree.specs.Runs.{Item, node, mark, turn, end, branch_work, head_work, turn_work, change_work, repeat_work, past_loop}
+use Rattle.lang_tree.specs.Runs.{end_of_body, Does}
 use Rattle.lang_tree.proofs.cases.CaseLaw.{cases_law}
 use Rattle.flow_edges.specs.declared.edge.Action.TheVariants.{Assign, Havoc}
 use Rattle.flow_edges.specs.Steps.{Labelled, labelled, guards, choices, steps_of, Acts}
@@ -36,13 +37,15 @@ some_holds x [] forms m h = absurd m
 some_holds x (c ∷ cs) forms m h = ⊎_elim (λ e. inl (subst (HoldAll x) (sym e) h)) (λ k. inr (some_holds x cs forms k h)) m
 
 -- ---- choices
-chosen : (truth : Bool) (c : Condition) (work : List Item) (x : State) → MayBe truth c x → (s : Labelled) × In (choices truth c work) s × (s.work ≡ work) × Acts s.actions x x
+chosen : (truth : Bool) (c : Condition) (work : List Item) (x : State) → MayBe truth c x
+    → (s : Labelled) × In (choices truth c work) s × (s.work ≡ work) × Acts s.actions x x
 chosen truth c work x h =
     let r = holding_case x (cases_of truth c) ((cases_law truth c x).0 h) in
     (labelled (guards r.0) work, in-map (λ forms. labelled (guards forms) work) (cases_of truth c) r.0 r.1.0, refl, guards_act r.0 x r.1.1)
 
 -- a choice that can be taken
-taken : (truth : Bool) (c : Condition) (work : List Item) (s : Labelled) (x y : State) → In (choices truth c work) s → Acts s.actions x y → MayBe truth c x × (work ≡ s.work) × (y ≡ x)
+taken : (truth : Bool) (c : Condition) (work : List Item) (s : Labelled) (x y : State) → In (choices truth c work) s → Acts s.actions x y
+    → MayBe truth c x × (work ≡ s.work) × (y ≡ x)
 taken truth c work s x y m h =
     let r = from_map (λ forms. labelled (guards forms) work) (cases_of truth c) s m in
     let g = acts_guard r.0 x y (subst (λ (t : Labelled). Acts t.actions x y) (sym r.2) h) in
@@ -52,11 +55,22 @@ taken truth c work s x y m h =
 chosen_of_two : (truth : Bool) (c : Condition) (left : Bool → List Item) (x : State) → MayBe truth c x →
     (s : Labelled) × In (choices true c (left true) ++ choices false c (left false)) s × (s.work ≡ left truth) × Acts s.actions x x
 chosen_of_two true c left x h =
-    let k = chosen true c (left true) x h in (k.0, in-append_left (choices true c (left true)) (choices false c (left false)) k.0 k.1, k.2, k.3)
+    let k = chosen true c (left true) x h in (
+      k.0,
+      in-append_left (choices true c (left true)) (choices false c (left false)) k.0 k.1,
+      k.2,
+      k.3,
+    )
 chosen_of_two false c left x h =
-    let k = chosen false c (left false) x h in (k.0, in-append_right (choices true c (left true)) (choices false c (left false)) k.0 k.1, k.2, k.3)
+    let k = chosen false c (left false) x h in (
+      k.0,
+      in-append_right (choices true c (left true)) (choices false c (left false)) k.0 k.1,
+      k.2,
+      k.3,
+    )
 
-taken_of_two : (c : Condition) (left : Bool → List Item) (s : Labelled) (x y : State) → In (choices true c (left true) ++ choices false c (left false)) s →
+taken_of_two : (c : Condition) (left : Bool → List Item) (s : Labelled) (x y : State)
+    → In (choices true c (left true) ++ choices false c (left false)) s →
     Acts s.actions x y → (truth : Bool) × MayBe truth c x × (s.work ≡ left truth) × (y ≡ x)
 taken_of_two c left s x y m h =
     ⊎_elim (λ k. let t = taken true c (left true) s x y k h in (true, t.0, sym t.1, t.2))
@@ -78,7 +92,8 @@ taken_step item rest c left x work y e r =
     let t = taken_of_two c left r.0 x y (subst (λ u. In u r.0) e r.1) r.3 in (t.0, t.1, sym r.2 ∙ t.2, t.3)
 
 -- ---- both ways
-recorded : (item : Item) (rest : List Item) (x : State) (work : List Item) (y : State) → ¬ (IsMark item) → Does item rest x work y → Recorded item rest x work y
+recorded : (item : Item) (rest : List Item) (x : State) (work : List Item) (y : State) → ¬ (IsMark item) → Does item rest x work y
+    → Recorded item rest x work y
 recorded (mark p) rest x work y other d = absurd (other tt)
 recorded (node (set var form line) n) rest x work y other d = (labelled (Assign var form ∷ []) rest, inl refl, sym d.0, d.1)
 recorded (node (havoc var line) n) rest x work y other d = (labelled (Havoc var ∷ []) rest, inl refl, sym d.1, (d.0, d.2))
@@ -87,13 +102,23 @@ recorded (node (assume c line) n) rest x work y other d =
     (k.0, k.1, k.2 ∙ sym d.1, subst (λ z. Acts k.0.actions x z) (sym d.2) k.3)
 recorded (node (branch c first second line) n) rest x work y other d =
     chosen_step (node (branch c first second line) n) rest c (λ t. branch_work t first second n rest) x work y refl d
-recorded (node (loop kind c body line) n) rest x work y other d = (labelled [] (mark n ∷ head_work kind c body line n rest), inl refl, sym d.0, d.1)
+recorded (node (loop kind c body line) n) rest x work y other d = (
+  labelled [] (mark n ∷ head_work kind c body line n rest),
+  inl refl,
+  sym d.0,
+  d.1,
+)
 recorded (node (jump breaks line) n) rest x work y other d = (labelled [] (past_loop rest), inl refl, sym d.0, d.1)
 recorded (node (jump continues line) n) rest x work y other d = (labelled [] (end_of_body rest), inl refl, sym d.0, d.1)
 recorded (node (label name line) n) rest x work y other d = (labelled [] (mark n ∷ rest), inl refl, sym d.0, d.1)
 recorded (turn kind c body line n) rest x work y other d =
     chosen_step (turn kind c body line n) rest c (λ t. turn_work t kind c body line n rest) x work y refl d
-recorded (end while_loop c body line n) rest x work y other d = (labelled [] (node (loop while_loop c body line) n ∷ rest), inl refl, sym d.0, d.1)
+recorded (end while_loop c body line n) rest x work y other d = (
+  labelled [] (node (loop while_loop c body line) n ∷ rest),
+  inl refl,
+  sym d.0,
+  d.1,
+)
 recorded (end (for_loop g) c body line n) rest x work y other d =
     (labelled [] (change_work g (node (loop (for_loop g) c body line) n ∷ rest)), inl refl, sym d.0, d.1)
 recorded (end do_loop c body line n) rest x work y other d =
@@ -101,16 +126,20 @@ recorded (end do_loop c body line n) rest x work y other d =
 
 -- the only labelled step
 only : (l s : Labelled) (x y : State) → In (l ∷ []) s → Acts s.actions x y → (s.work ≡ l.work) × Acts l.actions x y
-only l s x y m h = ⊎_elim (λ e. (ap (λ (t : Labelled). t.work) (sym e), subst (λ (t : Labelled). Acts t.actions x y) (sym e) h)) (λ k. absurd k) m
+only l s x y m h = ⊎_elim (λ e. (ap (λ (t : Labelled). t.work) (sym e), subst (λ (t : Labelled). Acts t.actions x y) (sym e) h))
+    (λ k. absurd k) m
 
 -- what it leaves and does
-alone : (item : Item) (rest : List Item) (l : Labelled) (x : State) (work : List Item) (y : State) → steps_of item rest ≡ l ∷ [] → Recorded item rest x work y →
+alone : (item : Item) (rest : List Item) (l : Labelled) (x : State) (work : List Item) (y : State) → steps_of item rest ≡ l ∷ []
+    → Recorded item rest x work y →
     (work ≡ l.work) × Acts l.actions x y
 alone item rest l x work y e r = let o = only l r.0 x y (subst (λ t. In t r.0) e r.1) r.3 in (sym r.2 ∙ o.0, o.1)
 
-stepped : (item : Item) (rest : List Item) (x : State) (work : List Item) (y : State) → ¬ (IsMark item) → Recorded item rest x work y → Does item rest x work y
+stepped : (item : Item) (rest : List Item) (x : State) (work : List Item) (y : State) → ¬ (IsMark item) → Recorded item rest x work y
+    → Does item rest x work y
 stepped (mark p) rest x work y other r = absurd (other tt)
-stepped (node (set var form line) n) rest x work y other r = alone (node (set var form line) n) rest (labelled (Assign var form ∷ []) rest) x work y refl r
+stepped (node (set var form line) n) rest x work y other r = alone (node (set var form line) n) rest (labelled (Assign var form ∷ []) rest)
+    x work y refl r
 stepped (node (havoc var line) n) rest x work y other r =
     let o = alone (node (havoc var line) n) rest (labelled (Havoc var ∷ []) rest) x work y refl r in (o.1.0, o.0, o.1.1)
 stepped (node (assume c line) n) rest x work y other r =
@@ -119,15 +148,19 @@ stepped (node (branch c first second line) n) rest x work y other r =
     taken_step (node (branch c first second line) n) rest c (λ t. branch_work t first second n rest) x work y refl r
 stepped (node (loop kind c body line) n) rest x work y other r =
     alone (node (loop kind c body line) n) rest (labelled [] (mark n ∷ head_work kind c body line n rest)) x work y refl r
-stepped (node (jump breaks line) n) rest x work y other r = alone (node (jump breaks line) n) rest (labelled [] (past_loop rest)) x work y refl r
-stepped (node (jump continues line) n) rest x work y other r = alone (node (jump continues line) n) rest (labelled [] (end_of_body rest)) x work y refl r
-stepped (node (label name line) n) rest x work y other r = alone (node (label name line) n) rest (labelled [] (mark n ∷ rest)) x work y refl r
+stepped (node (jump breaks line) n) rest x work y other r = alone (node (jump breaks line) n) rest (labelled [] (past_loop rest)) x work y
+    refl r
+stepped (node (jump continues line) n) rest x work y other r = alone (node (jump continues line) n) rest (labelled [] (end_of_body rest)) x
+    work y refl r
+stepped (node (label name line) n) rest x work y other r = alone (node (label name line) n) rest (labelled [] (mark n ∷ rest)) x work y refl
+    r
 stepped (turn kind c body line n) rest x work y other r =
     taken_step (turn kind c body line n) rest c (λ t. turn_work t kind c body line n rest) x work y refl r
 stepped (end while_loop c body line n) rest x work y other r =
     alone (end while_loop c body line n) rest (labelled [] (node (loop while_loop c body line) n ∷ rest)) x work y refl r
 stepped (end (for_loop g) c body line n) rest x work y other r =
-    alone (end (for_loop g) c body line n) rest (labelled [] (change_work g (node (loop (for_loop g) c body line) n ∷ rest))) x work y refl r
+    alone (end (for_loop g) c body line n) rest (labelled [] (change_work g (node (loop (for_loop g) c body line) n ∷ rest))) x work y refl
+    r
 stepped (end do_loop c body line n) rest x work y other r =
     taken_step (end do_loop c body line n) rest c (λ t. repeat_work t c body line n rest) x work y refl r
 

@@ -10,7 +10,8 @@ use Rattle.lang_tree.specs.Tree.{Condition, LoopKind, while_loop, for_loop, do_l
 use Rattle.lang_tree.specs.Tree.{Statement, Statements, set, havoc, assume, branch, loop, jump, label, nil, cons}
 use Rattle.lang_tree.specs.Cases.{cases_of}
 use Rattle.lang_tree.specs.PointNumbers.{splits, points_of, points_in, join_of, exit_of, point_count}
-use Rattle.lang_tree.specs.Runs.{Item, node, mark, turn, end, nodes, branch_work, body_work, head_work, turn_work, change_work, repeat_work, past_loop, end_of_body}
+use Rattle.lang_tree.specs.Runs.{Item, node, mark, turn, end, nodes, branch_work, body_work, head_work, turn_work, change_work, repeat_work}
+use Rattle.lang_tree.specs.Runs.{past_loop, end_of_body}
 use Rattle.flow_edges.specs.declared.edge.Action.TheVariants.{Assign, Havoc}
 use Rattle.flow_edges.specs.Steps.{Labelled, labelled, guards, choices, steps_of}
 use Rattle.flow_edges.specs.Edges.{Behind, complete, completes, unreached, behind_of, behind_in, behind_points}
@@ -75,7 +76,8 @@ AllNumbered F n [] = Unit {0}
 AllNumbered F n (w ∷ ws) = OfSome (F n) w × AllNumbered F (n + 1) ws
 
 -- what holds of two lists of works with their numbers holds of the joined list
-pub numbered-append : (F : ℕ → List Item → Type 0) (n : ℕ) (us ws : List Behind) → AllNumbered F n us → AllNumbered F (n + length us) ws → AllNumbered F n (us ++ ws)
+pub numbered-append : (F : ℕ → List Item → Type 0) (n : ℕ) (us ws : List Behind) → AllNumbered F n us → AllNumbered F (n + length us) ws
+    → AllNumbered F n (us ++ ws)
 numbered-append F n [] ws a b = let e : n + 0 ≡ n = omega arith in subst (λ k. AllNumbered F k ws) e b
 numbered-append F n (u ∷ us) ws a b =
     let e : n + suc (length us) ≡ n + 1 + length us = omega arith in
@@ -96,11 +98,13 @@ numbered_unreached F n zero = tt
 numbered_unreached F n (suc k) = (tt, numbered_unreached F (n + 1) k)
 
 -- the points after a statement, which are reached where it completes
-pub numbered_if : (F : ℕ → List Item → Type 0) (b : Bool) (n k : ℕ) (ws : List Behind) → (IsTrue b → AllNumbered F n ws) → AllNumbered F n (if b then ws else unreached k)
+pub numbered_if : (F : ℕ → List Item → Type 0) (b : Bool) (n k : ℕ) (ws : List Behind) → (IsTrue b → AllNumbered F n ws)
+    → AllNumbered F n (if b then ws else unreached k)
 numbered_if F true n k ws f = f refl
 numbered_if F false n k ws f = numbered_unreached F n k
 
-numbered_reached : (F : ℕ → List Item → Type 0) (b : Bool) (n k : ℕ) (ws : List Behind) → IsTrue b → AllNumbered F n (if b then ws else unreached k) → AllNumbered F n ws
+numbered_reached : (F : ℕ → List Item → Type 0) (b : Bool) (n k : ℕ) (ws : List Behind) → IsTrue b
+    → AllNumbered F n (if b then ws else unreached k) → AllNumbered F n ws
 numbered_reached F true n k ws t a = a
 numbered_reached F false n k ws t a = cc
 
@@ -129,7 +133,8 @@ choice_work truth c work s h = let r = from_map (λ forms. labelled (guards form
 
 module _ (P : List Item → Type 0) (Allowed : ℕ → List Item → Type 0)
     (at_mark : (p : ℕ) (rest : List Item) → Allowed p rest → P (mark p ∷ rest))
-    (by_steps : (item : Item) (rest : List Item) → ¬ (IsMark item) → ((s : Labelled) → In (steps_of item rest) s → P s.work) → P (item ∷ rest)) where
+    (by_steps : (item : Item) (rest : List Item) → ¬ (IsMark item) → ((s : Labelled) → In (steps_of item rest) s → P s.work)
+    → P (item ∷ rest)) where
   -- what a `break` and a `continue` that come before this work need
   abbrev JumpsHold : List Item → Type 0
   JumpsHold rest = P (past_loop rest) × P (end_of_body rest)
@@ -138,25 +143,30 @@ module _ (P : List Item → Type 0) (Allowed : ℕ → List Item → Type 0)
   jumps_before ss n rest j = (subst P (sym (past-nodes ss n rest)) j.0, subst P (sym (end-nodes ss n rest)) j.1)
 
   -- where the one step leaves this work
-  by_work : (item : Item) (rest work : List Item) → ¬ (IsMark item) → ((s : Labelled) → In (steps_of item rest) s → s.work ≡ work) → P work → P (item ∷ rest)
+  by_work : (item : Item) (rest work : List Item) → ¬ (IsMark item) → ((s : Labelled) → In (steps_of item rest) s → s.work ≡ work) → P work
+      → P (item ∷ rest)
   by_work item rest work other only h = by_steps item rest other (λ s m. subst P (sym (only s m)) h)
 
   by_one : (item : Item) (rest : List Item) (l : Labelled) → ¬ (IsMark item) → steps_of item rest ≡ l ∷ [] → P l.work → P (item ∷ rest)
   by_one item rest l other e h =
-      by_work item rest l.work other (λ s m. ⊎_elim (λ (k : l ≡ s). ap (λ (t : Labelled). t.work) (sym k)) (λ k. absurd k) (subst (λ t. In t s) e m)) h
+      by_work item rest l.work other (λ s m. ⊎_elim (λ (k : l ≡ s). ap (λ (t : Labelled). t.work) (sym k)) (λ k. absurd k)
+      (subst (λ t. In t s) e m)) h
 
-  by_two : (c : Condition) (item : Item) (rest yes_work no_work : List Item) → ¬ (IsMark item) → steps_of item rest ≡ choices true c yes_work ++ choices false c no_work →
+  by_two : (c : Condition) (item : Item) (rest yes_work no_work : List Item) → ¬ (IsMark item)
+      → steps_of item rest ≡ choices true c yes_work ++ choices false c no_work →
       P yes_work → P no_work → P (item ∷ rest)
   by_two c item rest yes_work no_work other e h k = by_steps item rest other (λ s m.
       ⊎_elim (λ l. subst P (sym (choice_work true c yes_work s l)) h) (λ r. subst P (sym (choice_work false c no_work s r)) k)
       (in-append (choices true c yes_work) (choices false c no_work) s (subst (λ t. In t s) e m)))
 
-  mark_if : (b : Bool) (n : ℕ) (rest : List Item) → AllNumbered Allowed n (if b then Some rest ∷ [] else []) → P rest → P (if b then mark n ∷ rest else rest)
+  mark_if : (b : Bool) (n : ℕ) (rest : List Item) → AllNumbered Allowed n (if b then Some rest ∷ [] else []) → P rest
+      → P (if b then mark n ∷ rest else rest)
   mark_if true n rest a h = at_mark n rest a.0
   mark_if false n rest a h = h
 
   -- ---- a loop whose head is allowed
-  again_holds : (kind : LoopKind) (c : Condition) (body : Statements) (line n : ℕ) (rest : List Item) → Allowed n (head_work kind c body line n rest) →
+  again_holds : (kind : LoopKind) (c : Condition) (body : Statements) (line n : ℕ) (rest : List Item)
+      → Allowed n (head_work kind c body line n rest) →
       P (node (loop kind c body line) n ∷ rest)
   again_holds kind c body line n rest a =
       let head = head_work kind c body line n rest in
@@ -164,10 +174,12 @@ module _ (P : List Item → Type 0) (Allowed : ℕ → List Item → Type 0)
 
   changed_holds : (g : Change) (work : List Item) → P work → P (change_work g work)
   changed_holds change.Unchanged work h = h
-  changed_holds (change.Set var form line) work h = by_one (node (set var form line) 0) work (labelled (Assign var form ∷ []) work) (λ m. m) refl h
+  changed_holds (change.Set var form line) work h = by_one (node (set var form line) 0) work (labelled (Assign var form ∷ []) work) (λ m. m)
+      refl h
   changed_holds (change.Havoc var line) work h = by_one (node (havoc var line) 0) work (labelled (Havoc var ∷ []) work) (λ m. m) refl h
 
-  end_holds : (kind : LoopKind) (c : Condition) (body : Statements) (line n : ℕ) (rest : List Item) → Allowed n (head_work kind c body line n rest) → P rest →
+  end_holds : (kind : LoopKind) (c : Condition) (body : Statements) (line n : ℕ) (rest : List Item)
+      → Allowed n (head_work kind c body line n rest) → P rest →
       P (end kind c body line n ∷ rest)
   end_holds while_loop c body line n rest a h =
       let again = node (loop while_loop c body line) n ∷ rest in
@@ -182,7 +194,8 @@ module _ (P : List Item → Type 0) (Allowed : ℕ → List Item → Type 0)
 
   -- ---- what is allowed of the parts of an `if` and of a list
   split_branch : (first second : Statements) (n : ℕ) (rest : List Item) (joined : Behind) →
-      AllNumbered Allowed n (behind_in first n (mark (join_of first second n) ∷ rest) ++ (behind_in second (n + points_in first) (mark (join_of first second n) ∷ rest) ++ joined ∷ [])) →
+      AllNumbered Allowed n (behind_in first n (mark (join_of first second n) ∷ rest)
+      ++ (behind_in second (n + points_in first) (mark (join_of first second n) ∷ rest) ++ joined ∷ [])) →
       AllNumbered Allowed n (behind_in first n (mark (join_of first second n) ∷ rest))
       × AllNumbered Allowed (n + points_in first) (behind_in second (n + points_in first) (mark (join_of first second n) ∷ rest))
       × OfSome (Allowed (join_of first second n)) joined
@@ -190,7 +203,8 @@ module _ (P : List Item → Type 0) (Allowed : ℕ → List Item → Type 0)
       let join = mark (join_of first second n) ∷ rest in
       let us = behind_in first n join in
       let vs = behind_in second (n + points_in first) join in
-      let b = subst (λ k. AllNumbered Allowed (n + k) (vs ++ joined ∷ [])) (behind_count_in first n join) (numbered_right Allowed n us (vs ++ joined ∷ []) a) in
+      let b = subst (λ k. AllNumbered Allowed (n + k) (vs ++ joined ∷ [])) (behind_count_in first n join)
+      (numbered_right Allowed n us (vs ++ joined ∷ []) a) in
       let d = subst (λ k. AllNumbered Allowed (n + points_in first + k) (joined ∷ [])) (behind_count_in second (n + points_in first) join)
       (numbered_right Allowed (n + points_in first) vs (joined ∷ []) b) in
       (numbered_left Allowed n us (vs ++ joined ∷ []) a, numbered_left Allowed (n + points_in first) vs (joined ∷ []) b, d.0)
@@ -212,24 +226,33 @@ module _ (P : List Item → Type 0) (Allowed : ℕ → List Item → Type 0)
 
   -- ---- the nodes, where what they go on to has the property
   mutual
-    node_holds : (s : Statement) (n : ℕ) (rest : List Item) → AllNumbered Allowed n (behind_of s n rest) → (IsTrue (completes s) → P rest) → JumpsHold rest → P (node s n ∷ rest)
-    node_holds (set var form line) n rest a h j = by_one (node (set var form line) n) rest (labelled (Assign var form ∷ []) rest) (λ m. m) refl (h refl)
+    node_holds : (s : Statement) (n : ℕ) (rest : List Item) → AllNumbered Allowed n (behind_of s n rest) → (IsTrue (completes s) → P rest)
+        → JumpsHold rest → P (node s n ∷ rest)
+    node_holds (set var form line) n rest a h j = by_one (node (set var form line) n) rest (labelled (Assign var form ∷ []) rest) (λ m. m)
+        refl (h refl)
     node_holds (havoc var line) n rest a h j = by_one (node (havoc var line) n) rest (labelled (Havoc var ∷ []) rest) (λ m. m) refl (h refl)
     node_holds (assume c line) n rest a h j =
-        by_work (node (assume c line) n) rest (if splits c then mark n ∷ rest else rest) (λ m. m) (λ s m. choice_work true c _ s m) (mark_if (splits c) n rest a (h refl))
+        by_work (node (assume c line) n) rest (if splits c then mark n ∷ rest else rest) (λ m. m) (λ s m. choice_work true c _ s m)
+        (mark_if (splits c) n rest a (h refl))
     node_holds (branch c first second line) n rest a h j =
         let join = mark (join_of first second n) ∷ rest in
         let b = complete first || complete second in
         let parts = split_branch first second n rest (if b then Some rest else None) a in
-        by_two c (node (branch c first second line) n) rest (branch_work true first second n rest) (branch_work false first second n rest) (λ m. m) refl
-        (nodes_hold first n join parts.0 (λ t. join_holds (join_of first second n) rest b parts.2 (or_left (complete first) (complete second) t)) j)
-        (nodes_hold second (n + points_in first) join parts.1 (λ t. join_holds (join_of first second n) rest b parts.2 (or_right (complete first) (complete second) t)) j)
+        by_two c (node (branch c first second line) n) rest (branch_work true first second n rest) (branch_work false first second n rest)
+        (λ m. m) refl
+        (nodes_hold first n join parts.0 (λ t. join_holds (join_of first second n) rest b parts.2
+        (or_left (complete first) (complete second) t)) j)
+        (nodes_hold second (n + points_in first) join parts.1 (λ t. join_holds (join_of first second n) rest b parts.2
+        (or_right (complete first) (complete second) t)) j)
     node_holds (loop kind c body line) n rest a h j = again_holds kind c body line n rest a.0
     node_holds (jump breaks line) n rest a h j = by_one (node (jump breaks line) n) rest (labelled [] (past_loop rest)) (λ m. m) refl j.0
-    node_holds (jump continues line) n rest a h j = by_one (node (jump continues line) n) rest (labelled [] (end_of_body rest)) (λ m. m) refl j.1
-    node_holds (label name line) n rest a h j = by_one (node (label name line) n) rest (labelled [] (mark n ∷ rest)) (λ m. m) refl (at_mark n rest a.0)
+    node_holds (jump continues line) n rest a h j = by_one (node (jump continues line) n) rest (labelled [] (end_of_body rest)) (λ m. m)
+        refl j.1
+    node_holds (label name line) n rest a h j = by_one (node (label name line) n) rest (labelled [] (mark n ∷ rest)) (λ m. m) refl
+        (at_mark n rest a.0)
 
-    nodes_hold : (ss : Statements) (n : ℕ) (rest : List Item) → AllNumbered Allowed n (behind_in ss n rest) → (IsTrue (complete ss) → P rest) → JumpsHold rest → P (nodes ss n ++ rest)
+    nodes_hold : (ss : Statements) (n : ℕ) (rest : List Item) → AllNumbered Allowed n (behind_in ss n rest)
+        → (IsTrue (complete ss) → P rest) → JumpsHold rest → P (nodes ss n ++ rest)
     nodes_hold nil n rest a h j = h refl
     nodes_hold (cons s more) n rest a h j =
         let parts = split_cons s more n rest a in
@@ -242,25 +265,30 @@ module _ (P : List Item → Type 0) (Allowed : ℕ → List Item → Type 0)
   if_holds true n rest h = (h, tt)
   if_holds false n rest h = tt
 
-  body_holds : (kind : LoopKind) (c : Condition) (body : Statements) (line n : ℕ) (rest : List Item) → AllNumbered Allowed n (behind_of (loop kind c body line) n rest) → P rest →
+  body_holds : (kind : LoopKind) (c : Condition) (body : Statements) (line n : ℕ) (rest : List Item)
+      → AllNumbered Allowed n (behind_of (loop kind c body line) n rest) → P rest →
       P (body_work kind c body line n rest)
   body_holds kind c body line n rest a h =
       let e = end_holds kind c body line n rest a.0 h in
       nodes_hold body (n + 1) (end kind c body line n ∷ rest) a.1 (λ t. e) (h, e)
 
-  turn_holds : (kind : LoopKind) (c : Condition) (body : Statements) (line n : ℕ) (rest : List Item) → P (body_work kind c body line n rest) → P rest →
+  turn_holds : (kind : LoopKind) (c : Condition) (body : Statements) (line n : ℕ) (rest : List Item) → P (body_work kind c body line n rest)
+      → P rest →
       P (turn kind c body line n ∷ rest)
   turn_holds kind c body line n rest b h =
-      by_two c (turn kind c body line n) rest (turn_work true kind c body line n rest) (turn_work false kind c body line n rest) (λ m. m) refl b h
+      by_two c (turn kind c body line n) rest (turn_work true kind c body line n rest) (turn_work false kind c body line n rest) (λ m. m)
+      refl b h
 
-  head_holds : (kind : LoopKind) (c : Condition) (body : Statements) (line n : ℕ) (rest : List Item) → P (body_work kind c body line n rest) → P rest →
+  head_holds : (kind : LoopKind) (c : Condition) (body : Statements) (line n : ℕ) (rest : List Item) → P (body_work kind c body line n rest)
+      → P rest →
       P (head_work kind c body line n rest)
   head_holds while_loop c body line n rest b h = turn_holds while_loop c body line n rest b h
   head_holds (for_loop g) c body line n rest b h = turn_holds (for_loop g) c body line n rest b h
   head_holds do_loop c body line n rest b h = b
 
   mutual
-    behind_node : (s : Statement) (n : ℕ) (rest : List Item) → AllNumbered Allowed n (behind_of s n rest) → (IsTrue (completes s) → P rest) → JumpsHold rest →
+    behind_node : (s : Statement) (n : ℕ) (rest : List Item) → AllNumbered Allowed n (behind_of s n rest) → (IsTrue (completes s) → P rest)
+        → JumpsHold rest →
         AllNumbered (λ k w. P w) n (behind_of s n rest)
     behind_node (set var form line) n rest a h j = tt
     behind_node (havoc var line) n rest a h j = tt
@@ -274,12 +302,15 @@ module _ (P : List Item → Type 0) (Allowed : ℕ → List Item → Type 0)
         let vs = behind_in second (n + points_in first) join in
         let F : ℕ → List Item → Type 0 = λ k w. P w in
         let p : AllNumbered F n us =
-        behind_nodes first n join parts.0 (λ t. join_holds (join_of first second n) rest b parts.2 (or_left (complete first) (complete second) t)) j in
+        behind_nodes first n join parts.0 (λ t. join_holds (join_of first second n) rest b parts.2
+        (or_left (complete first) (complete second) t)) j in
         let q : AllNumbered F (n + points_in first) vs =
-        behind_nodes second (n + points_in first) join parts.1 (λ t. join_holds (join_of first second n) rest b parts.2 (or_right (complete first) (complete second) t)) j in
+        behind_nodes second (n + points_in first) join parts.1 (λ t. join_holds (join_of first second n) rest b parts.2
+        (or_right (complete first) (complete second) t)) j in
         let last : AllNumbered F (n + points_in first + length vs) (joined ∷ []) = (some_if P b rest h, tt) in
         numbered-append F n us (vs ++ joined ∷ []) p
-        (subst (λ k. AllNumbered F (n + k) (vs ++ joined ∷ [])) (sym (behind_count_in first n join)) (numbered-append F (n + points_in first) vs (joined ∷ []) q last))
+        (subst (λ k. AllNumbered F (n + k) (vs ++ joined ∷ [])) (sym (behind_count_in first n join))
+        (numbered-append F (n + points_in first) vs (joined ∷ []) q last))
     behind_node (loop kind c body line) n rest a h j =
         let e = end_holds kind c body line n rest a.0 (h refl) in (
           head_holds kind c body line n rest (body_holds kind c body line n rest a (h refl)) (h refl),
@@ -288,7 +319,8 @@ module _ (P : List Item → Type 0) (Allowed : ℕ → List Item → Type 0)
     behind_node (jump kind line) n rest a h j = tt
     behind_node (label name line) n rest a h j = (h refl, tt)
 
-    behind_nodes : (ss : Statements) (n : ℕ) (rest : List Item) → AllNumbered Allowed n (behind_in ss n rest) → (IsTrue (complete ss) → P rest) → JumpsHold rest →
+    behind_nodes : (ss : Statements) (n : ℕ) (rest : List Item) → AllNumbered Allowed n (behind_in ss n rest)
+        → (IsTrue (complete ss) → P rest) → JumpsHold rest →
         AllNumbered (λ k w. P w) n (behind_in ss n rest)
     behind_nodes nil n rest a h j = tt
     behind_nodes (cons s more) n rest a h j =
@@ -298,14 +330,16 @@ module _ (P : List Item → Type 0) (Allowed : ℕ → List Item → Type 0)
         let after = nodes more m ++ rest in
         let ws = behind_in more m rest in
         let vs : List Behind = if completes s then ws else unreached (points_in more) in
-        let later : (t : IsTrue (completes s)) (u : IsTrue (complete more)) → P rest = λ t u. h (and_from (completes s) (complete more) t u) in
+        let later : (t : IsTrue (completes s)) (u : IsTrue (complete more)) → P rest =
+        λ t u. h (and_from (completes s) (complete more) t u) in
         numbered-append F n (behind_of s n after) vs
         (behind_node s n after parts.0 (λ t. nodes_hold more m rest (parts.1 t) (later t) j) (jumps_before more m rest j))
         (subst (λ k. AllNumbered F (n + k) vs) (sym (behind_count_of s n after))
         (numbered_if F (completes s) m (points_in more) ws (λ t. behind_nodes more m rest (parts.1 t) (later t) j)))
 
   -- where all that a body's points go on with is allowed, the property holds of the work after each point
-  pub points_hold : (body : Statements) → AllNumbered Allowed 1 (behind_in body 1 (mark (exit_of body) ∷ []) ++ (if complete body then Some [] else None) ∷ []) → P [] →
+  pub points_hold : (body : Statements) → AllNumbered Allowed 1 (behind_in body 1 (mark (exit_of body) ∷ [])
+      ++ (if complete body then Some [] else None) ∷ []) → P [] →
       AllNumbered (λ k w. P w) 0 (behind_points body)
   points_hold body a none =
       let exit = mark (exit_of body) ∷ [] in
@@ -317,11 +351,15 @@ module _ (P : List Item → Type 0) (Allowed : ℕ → List Item → Type 0)
       let e : 1 + length ws ≡ exit_of body = omega (arith, behind_count_in body 1 exit) in
       let allowed : OfSome (Allowed (exit_of body)) finish = subst (λ k. OfSome (Allowed k) finish) e right.0 in
       let at_exit : IsTrue (complete body) → P exit = join_holds (exit_of body) [] (complete body) allowed in
-      let last : AllNumbered F (1 + length ws) (finish ∷ []) = (some_if P (complete body) [] (λ t. none), tt) in
-      (nodes_hold body 1 exit left at_exit (none, none), numbered-append F 1 ws (finish ∷ []) (behind_nodes body 1 exit left at_exit (none, none)) last)
+      let last : AllNumbered F (1 + length ws) (finish ∷ []) = (some_if P (complete body) [] (λ t. none), tt) in (
+        nodes_hold body 1 exit left at_exit (none, none),
+        numbered-append F 1 ws (finish ∷ [])
+            (behind_nodes body 1 exit left at_exit (none, none)) last,
+      )
 
   -- where the work after each point is allowed, and the property holds of no work, it holds of the work after each point
-  pub program_holds : (body : Statements) → AllNumbered Allowed 0 (behind_points body) → P [] → AllNumbered (λ k w. P w) 0 (behind_points body)
+  pub program_holds : (body : Statements) → AllNumbered Allowed 0 (behind_points body) → P []
+      → AllNumbered (λ k w. P w) 0 (behind_points body)
   program_holds body a none = points_hold body a.1 none
 
 -- a program has as many works after points as points

@@ -1,5 +1,6 @@
 -- Edges that are begun, and more actions after them.
-use Rattle.std.proofs.Common.{◌≡◌, ◌∙◌, ⊎_elim, ℕ, zero, suc, ◌+◌, ◌≤◌, ◌<◌, Bool, true, false, List, [], ◌∷◌, ◌++◌, length, get_or, take, refl, sym, ap, ap₂, arith}
+use Rattle.std.proofs.Common.{◌≡◌, ◌∙◌, ⊎_elim, ℕ, zero, suc, ◌+◌, ◌≤◌, ◌<◌, Bool, true, false, List, [], ◌∷◌, ◌++◌, length, get_or, take}
+use Rattle.std.proofs.Common.{refl, sym, ap, ap₂, arith}
 use Rattle.std.proofs.Common.{append_assoc, length-append}
 use Rattle.std.specs.Prelude.{flat_map}
 use Rattle.std.proofs.lemmas.List.{map-append, append-nil, take_more, take_all, take-append-le, take-take, length-take}
@@ -54,7 +55,8 @@ followed_on : (b : Begun) (xs ys : List Action) → followed (followed b xs) ys 
 followed_on b xs ys = ap (begun b.from) (kept-append (b.actions ++ xs) ys ∙ ap kept (append_assoc b.actions xs ys))
 
 -- one more action, where there is room for it
-pub followed_by_one : (b : Begun) (a : Action) (items : List Action) → items ≡ b.actions ++ a ∷ [] → length b.actions < 257 → begun b.from items ≡ followed b (a ∷ [])
+pub followed_by_one : (b : Begun) (a : Action) (items : List Action) → items ≡ b.actions ++ a ∷ [] → length b.actions < 257
+    → begun b.from items ≡ followed b (a ∷ [])
 followed_by_one b a items e h =
     let one : List Action = a ∷ [] in
     ap (begun b.from) (e ∙ sym (kept_all (b.actions ++ one) (omega (arith, length-append b.actions one))))
@@ -71,39 +73,48 @@ pub reached-append : (b : Begun) (us vs : List Way) → reached b (us ++ vs) ≡
 reached-append b us vs = map-append (arrow b) us vs
 
 -- edges that go on by ways with actions before them are edges followed by the actions that go on by the ways
-pub reached-prefixed : (b : Begun) (actions : List Action) (ways : List Way) → reached b (prefixed actions ways) ≡ reached (followed b actions) ways
+pub reached-prefixed : (b : Begun) (actions : List Action) (ways : List Way)
+    → reached b (prefixed actions ways) ≡ reached (followed b actions) ways
 reached-prefixed b actions [] = refl
 reached-prefixed b actions (w ∷ ways) =
     ap₂ (λ a r. let e : Edge = record { from = b.from; to = w.to; actions = a } in e ∷ r)
-    (ap kept (sym (append_assoc b.actions actions w.actions)) ∙ sym (kept-append (b.actions ++ actions) w.actions)) (reached-prefixed b actions ways)
+    (ap kept (sym (append_assoc b.actions actions w.actions)) ∙ sym (kept-append (b.actions ++ actions) w.actions))
+    (reached-prefixed b actions ways)
 
-reached-cases : (b : Begun) (cases : List (List Form)) (ways : List Way) → reached b (flat_map (λ forms. prefixed (guards forms) ways) cases) ≡ split b cases ways
+reached-cases : (b : Begun) (cases : List (List Form)) (ways : List Way)
+    → reached b (flat_map (λ forms. prefixed (guards forms) ways) cases) ≡ split b cases ways
 reached-cases b [] ways = refl
 reached-cases b (forms ∷ cases) ways =
     reached-append b (prefixed (guards forms) ways) (flat_map (λ f. prefixed (guards f) ways) cases)
     ∙ ap₂ (λ u v. u ++ v) (reached-prefixed b (guards forms) ways) (reached-cases b cases ways)
 
 -- edges that go on by the ways of a condition's cases are the edges that go on by each case
-pub reached-by_case : (b : Begun) (truth : Bool) (c : Condition) (ways : List Way) → reached b (by_case truth c ways) ≡ split b (cases_of truth c) ways
+pub reached-by_case : (b : Begun) (truth : Bool) (c : Condition) (ways : List Way)
+    → reached b (by_case truth c ways) ≡ split b (cases_of truth c) ways
 reached-by_case b truth c ways = reached-cases b (cases_of truth c) ways
 
 reached-both : (b : Begun) (c : Condition) (us vs : List Way) →
     reached b (by_case true c us ++ by_case false c vs) ≡ split b (cases_of true c) us ++ split b (cases_of false c) vs
 reached-both b c us vs =
-    reached-append b (by_case true c us) (by_case false c vs) ∙ ap₂ (λ u v. u ++ v) (reached-by_case b true c us) (reached-by_case b false c vs)
+    reached-append b (by_case true c us) (by_case false c vs) ∙ ap₂ (λ u v. u ++ v) (reached-by_case b true c us)
+    (reached-by_case b false c vs)
 
 -- the edges of a choice: those by the cases for true, and then those by the cases for false
-pub chosen : (before middle after : List Edge) (b t : Begun) (c : Condition) (held failed : List (List Form)) (us vs xs ys : List Way) → t ≡ b →
-    held ≡ cases_of true c → failed ≡ cases_of false c → xs ≡ us → ys ≡ vs → middle ≡ before ++ split t held xs → after ≡ middle ++ split t failed ys →
+pub chosen : (before middle after : List Edge) (b t : Begun) (c : Condition) (held failed : List (List Form)) (us vs xs ys : List Way)
+    → t ≡ b →
+    held ≡ cases_of true c → failed ≡ cases_of false c → xs ≡ us → ys ≡ vs → middle ≡ before ++ split t held xs
+    → after ≡ middle ++ split t failed ys →
     after ≡ before ++ reached b (by_case true c us ++ by_case false c vs)
 chosen before middle after b t c held failed us vs xs ys p f g u v h i =
     let one : split t held xs ≡ split b (cases_of true c) us = rw (p, f, u) refl in
     let other : split t failed ys ≡ split b (cases_of false c) vs = rw (p, g, v) refl in
-    i ∙ ap₂ (λ z w. z ++ w) (h ∙ ap (λ z. before ++ z) one) other ∙ append_assoc before (split b (cases_of true c) us) (split b (cases_of false c) vs)
+    i ∙ ap₂ (λ z w. z ++ w) (h ∙ ap (λ z. before ++ z) one) other ∙ append_assoc before (split b (cases_of true c) us)
+    (split b (cases_of false c) vs)
     ∙ ap (λ z. before ++ z) (sym (reached-both b c us vs))
 
 -- one guard more
-guards_more : (forms : List Form) (i : ℕ) (x : Form) → i < length forms → x ≡ get_or forms i x → guards (take i forms) ++ Guard x ∷ [] ≡ guards (take (i + 1) forms)
+guards_more : (forms : List Form) (i : ℕ) (x : Form) → i < length forms → x ≡ get_or forms i x
+    → guards (take i forms) ++ Guard x ∷ [] ≡ guards (take (i + 1) forms)
 guards_more forms i x l e =
     let one : List Form = x ∷ [] in
     sym (ap guards (take_more forms i x l ∙ ap (λ y. take i forms ++ y ∷ []) (sym e)) ∙ map-append Guard (take i forms) one)
@@ -118,7 +129,8 @@ followed_more b before after forms i x y l e f g h =
     ∙ ap (λ z. same (guards (take i forms) ++ Guard z ∷ [])) f ∙ ap same (guards_more forms i x l e)
 
 -- one action more
-pub followed_further : (b before after : Begun) (actions : List Action) (i : ℕ) (x y : Action) → i < length actions → x ≡ get_or actions i x → y ≡ x →
+pub followed_further : (b before after : Begun) (actions : List Action) (i : ℕ) (x y : Action) → i < length actions → x ≡ get_or actions i x
+    → y ≡ x →
     after ≡ followed before (y ∷ []) → before ≡ followed b (take i actions) → after ≡ followed b (take (i + 1) actions)
 followed_further b before after actions i x y l e f g h =
     let one : List Action = y ∷ [] in

@@ -27,7 +27,8 @@ use Rattle.flow_rationals.proofs.traces.Starts.{at_most_start}
 use Rattle.flow_rationals.proofs.traces.Alternatives.{values_of, passes_guard, passes_alternative}
 use Rattle.flow_rationals.proofs.above.Places.{of_enumerated, at_place}
 
-module _ (equations : List Equation) (v : Vector) (sound : AreSound equations) (entry : (r : ℕ) → r < length equations → v 0 r ≡ pos_inf) (above : IsAbove equations (v 1)) where
+module _ (equations : List Equation) (v : Vector) (sound : AreSound equations) (entry : (r : ℕ) → r < length equations → v 0 r ≡ pos_inf)
+    (above : IsAbove equations (v 1)) where
   abbrev n : ℕ
   n = length equations
 
@@ -40,16 +41,19 @@ module _ (equations : List Equation) (v : Vector) (sound : AreSound equations) (
 
   -- ---- the edge of an alternative
   -- a value that passes the guard of a sum is at most the sum
-  below_sum : (s : Sum) (z : RationalState) → IsSound n s → length z ≡ n + 1 → ((i : ℕ) → i < n → fin (get_or z i zero_ℚ) ≤ᴱ v 1 i) → valueℚ (sum_form s) z ≤ℚ zero_ℚ →
+  below_sum : (s : Sum) (z : RationalState) → IsSound n s → length z ≡ n + 1 → ((i : ℕ) → i < n → fin (get_or z i zero_ℚ) ≤ᴱ v 1 i)
+      → valueℚ (sum_form s) z ≤ℚ zero_ℚ →
       fin (get_or z n zero_ℚ) ≤ᴱ sum_value s (v 1)
   below_sum s z good size fits guard =
       let q = get_or z n zero_ℚ in
       let at_z = below_scaled s q (parts_sum s.coeffs (values_of z)) good.positive (passes_guard n s z good size guard) in
-      let value : sum_value s (values_of z) ≡ scaled s (fin (parts_sum s.coeffs (values_of z))) = sum_value_is s (values_of z) ∙ ap (scaled s) (folded_fin s.coeffs (λ i. get_or z i zero_ℚ)) in
+      let value : sum_value s (values_of z) ≡ scaled s (fin (parts_sum s.coeffs (values_of z))) =
+      sum_value_is s (values_of z) ∙ ap (scaled s) (folded_fin s.coeffs (λ i. get_or z i zero_ℚ)) in
       ≤ᴱ_trans (fin q) (sum_value s (values_of z)) (sum_value s (v 1)) (subst (λ y. fin q ≤ᴱ y) (sym value) at_z)
       (sum_mono s (values_of z) (v 1) good.coeffs good.positive (λ i l. fits i (subst (λ m. i < m) good.size l)))
 
-  module _ (k : ℕ) (e : Equation) (sums : List Sum) (x y : RationalState) (s : slice_get equations k ≡ Some e) (m : In e.alternatives sums) (size : length x ≡ n + 1)
+  module _ (k : ℕ) (e : Equation) (sums : List Sum) (x y : RationalState) (s : slice_get equations k ≡ Some e) (m : In e.alternatives sums)
+      (size : length x ≡ n + 1)
       (fits : Fits (system_of equations) v 1 x) (t : Traces (alternative_actions n k sums) x y) where
     before : (i : ℕ) → i < n → fin (get_or x i zero_ℚ) ≤ᴱ v 1 i
     before = fits_out equations v 1 x fits
@@ -57,7 +61,8 @@ module _ (equations : List Equation) (v : Vector) (sound : AreSound equations) (
     within : k < n
     within = slice_get_within equations k e s
 
-    abbrev passed : (q : ℚ) × ((u : Sum) → In sums u → valueℚ (sum_form u) (slice_set x n q) ≤ℚ zero_ℚ) × (y ≡ slice_set (slice_set x n q) k q)
+    abbrev passed : (q : ℚ) × ((u : Sum) → In sums u → valueℚ (sum_form u) (slice_set x n q) ≤ℚ zero_ℚ)
+        × (y ≡ slice_set (slice_set x n q) k q)
     passed = passes_alternative n k sums x y (omega arith) t
 
     -- the value of the last variable, and the state before it is assigned to the name
@@ -87,7 +92,8 @@ module _ (equations : List Equation) (v : Vector) (sound : AreSound equations) (
     below : fin q ≤ᴱ v 1 k
     below =
         ≤ᴱ_trans (fin q) (least_value sums (v 1)) (v 1 k) (le_least (fin q) sums (v 1) each)
-        (≤ᴱ_trans (least_value sums (v 1)) (right_side e (v 1)) (v 1 k) (alternative_le (fin e.start) e.alternatives (v 1) sums m) (above k e s))
+        (≤ᴱ_trans (least_value sums (v 1)) (right_side e (v 1)) (v 1 k) (alternative_le (fin e.start) e.alternatives (v 1) sums m)
+        (above k e s))
 
     at_k : (r : ℕ) → r ≡ k → fin (get_or y r zero_ℚ) ≤ᴱ v 1 r
     at_k r d =
@@ -97,7 +103,8 @@ module _ (equations : List Equation) (v : Vector) (sound : AreSound equations) (
 
     other : (r : ℕ) → r < n → (r ≡ k → ⊥) → fin (get_or y r zero_ℚ) ≤ᴱ v 1 r
     other r h d =
-        let value : get_or y r zero_ℚ ≡ get_or x r zero_ℚ = ap (λ w. get_or w r zero_ℚ) passed.2 ∙ get_or-set_other z k r q zero_ℚ d ∙ kept r h in
+        let value : get_or y r zero_ℚ ≡ get_or x r zero_ℚ = ap (λ w. get_or w r zero_ℚ) passed.2 ∙ get_or-set_other z k r q zero_ℚ d
+        ∙ kept r h in
         subst (λ w. fin w ≤ᴱ v 1 r) (sym value) (before r h)
 
     alternative_fits : Fits (system_of equations) v 1 y
@@ -109,9 +116,11 @@ module _ (equations : List Equation) (v : Vector) (sound : AreSound equations) (
     where
       from_entry : start_edge equations ≡ edge → Fits (system_of equations) v edge.to y
       from_entry e =
-          subst (λ (g : Edge). Fits (system_of equations) v g.to y) e (start_fits x y (subst (λ (g : Edge). Traces g.actions x y) (sym e) t.trace))
+          subst (λ (g : Edge). Fits (system_of equations) v g.to y) e (start_fits x y
+          (subst (λ (g : Edge). Traces g.actions x y) (sym e) t.trace))
 
-      from_loop : In (flat_map (alternative_edges (length equations)) (enumerate_from 0 equations)) edge → Fits (system_of equations) v edge.to y
+      from_loop : In (flat_map (alternative_edges (length equations)) (enumerate_from 0 equations)) edge
+          → Fits (system_of equations) v edge.to y
       from_loop m =
           let a = of_flat_map (alternative_edges (length equations)) (enumerate_from 0 equations) edge m in
           let place = of_enumerated equations 0 a.0 a.1 in

@@ -39,7 +39,8 @@ two_positive = subst (λ z. z <ℚ whole (pos 2)) whole-zero (whole_lt (pos 0) (
 
 -- the sum is at most the name exactly from 2 on
 half_below : (q : ℚ) → whole (pos 2) ≤ℚ q → sum_value half (λ k. fin q) ≤ᴱ fin q
-half_below q h = quotient_le (whole (pos 2)) two_positive (((whole (pos 1) *ℚ q) +ℚ zero_ℚ) +ℚ whole (pos 2)) q (lin_le (q ∷ []) (le h ∷ []) (search reads_all depth 40) tt)
+half_below q h = quotient_le (whole (pos 2)) two_positive (((whole (pos 1) *ℚ q) +ℚ zero_ℚ) +ℚ whole (pos 2)) q
+    (lin_le (q ∷ []) (le h ∷ []) (search reads_all depth 40) tt)
 
 two_below : (x : Ext) → fin zero_ℚ ≤ᴱ x → sum_value half (λ k. x) ≤ᴱ x → fin (whole (pos 2)) ≤ᴱ x
 two_below neg_inf h i = h
@@ -55,7 +56,8 @@ two_above zero e s =
     (greatest_le (fin (whole (pos 2))) (fin zero_ℚ) halved.alternatives (λ k. fin (whole (pos 2))) (le_of_lt_ℚ two_positive) (λ sums m.
     ⊎_elim (λ d. subst (λ (us : List Sum). least_value us (λ k. fin (whole (pos 2))) ≤ᴱ fin (whole (pos 2))) d
     (≤ᴱ_trans (least_value (half ∷ []) (λ k. fin (whole (pos 2)))) (sum_value half (λ k. fin (whole (pos 2)))) (fin (whole (pos 2)))
-    (least_le (half ∷ []) (λ k. fin (whole (pos 2))) half (inl refl)) (half_below (whole (pos 2)) (≤ℚ_refl (whole (pos 2)))))) (λ none. absurd none) m))
+    (least_le (half ∷ []) (λ k. fin (whole (pos 2))) half (inl refl)) (half_below (whole (pos 2)) (≤ℚ_refl (whole (pos 2))))))
+    (λ none. absurd none) m))
 two_above (suc k) e s = absurd cc
 
 two_least : IsLeastAbove (halved ∷ []) (λ k. fin (whole (pos 2)))
@@ -66,7 +68,9 @@ two_least = record {
       let right = right_side halved others in
       subst (λ j. fin (whole (pos 2)) ≤ᴱ others j) (sym here) (two_below (others 0)
       (≤ᴱ_trans (fin zero_ℚ) right (others 0) (start_le (fin zero_ℚ) halved.alternatives others) (above 0 halved refl))
-      (≤ᴱ_trans (sum_value half others) (least_value (half ∷ []) others) (others 0) (le_least (sum_value half others) (half ∷ []) others (λ u m.
+      (≤ᴱ_trans (sum_value half others) (least_value (half ∷ []) others) (others 0)
+      (le_least (sum_value half others) (half ∷ []) others (λ u m.
       ⊎_elim (λ d. subst (λ w. sum_value half others ≤ᴱ sum_value w others) d (≤ᴱ_refl (sum_value half others))) (λ none. absurd none) m))
-      (≤ᴱ_trans (least_value (half ∷ []) others) right (others 0) (alternative_le (fin zero_ℚ) halved.alternatives others (half ∷ []) (inl refl)) (above 0 halved refl))));
+      (≤ᴱ_trans (least_value (half ∷ []) others) right (others 0) (alternative_le (fin zero_ℚ) halved.alternatives others (half ∷ [])
+      (inl refl)) (above 0 halved refl))));
 }

@@ -22,7 +22,8 @@ use Rattle.flow_rationals.proofs.above.PostIsAbove.{post_is_above}
 
 -- a vector that is +inf at the entry is a post-solution exactly where its values at the loop are above the equations
 pub post_above : PostSolutionsAreAbove
-post_above equations v h entry = let sound = sound_equations equations h in (post_is_above equations v sound entry, above_is_post equations v sound entry)
+post_above equations v h entry = let sound = sound_equations equations h in
+    (post_is_above equations v sound entry, above_is_post equations v sound entry)
 
 -- ---- the least vector
 -- +inf at the entry, and these values at the loop
@@ -34,10 +35,12 @@ at_loop values (suc p) r = values r
 pub least_above : LeastVectorsAreLeastAbove
 least_above equations v h least =
     let sound = sound_equations equations h in
-    let within : (r : ℕ) → r < length equations → r < length (rows_of (length equations)) = λ r l. subst (λ k. r < k) (sym (length-rows (length equations))) l in
+    let within : (r : ℕ) → r < length equations → r < length (rows_of (length equations)) =
+    λ r l. subst (λ k. r < k) (sym (length-rows (length equations))) l in
     record {
       above = post_is_above equations v sound (λ r l. least.solves.post.entry r (within r l)) least.solves.post;
-      least = λ others above k l. least.below (at_loop others) (above_is_post equations (at_loop others) sound (λ r j. refl) above) 1 k (omega arith) (within k l);
+      least = λ others above k l. least.below (at_loop others) (above_is_post equations (at_loop others) sound (λ r j. refl) above) 1 k
+          (omega arith) (within k l);
     }
 
 -- ---- right sides are monotone
@@ -48,12 +51,14 @@ module _ (n : ℕ) (values others : Values) (below : (k : ℕ) → k < n → val
       (sum_mono s values others (sound s m).coeffs (sound s m).positive (λ k l. below k (subst (λ j. k < j) (sound s m).size l))))
 
   right_mono : (e : Equation) → IsSoundEquation n e → right_side e values ≤ᴱ right_side e others
-  right_mono e sound = greatest_le (right_side e others) (fin e.start) e.alternatives values (start_le (fin e.start) e.alternatives others) (λ sums m.
+  right_mono e sound = greatest_le (right_side e others) (fin e.start) e.alternatives values (start_le (fin e.start) e.alternatives others)
+      (λ sums m.
       ≤ᴱ_trans (least_value sums values) (least_value sums others) (right_side e others) (least_mono sums (sound.alternatives sums m).each)
       (alternative_le (fin e.start) e.alternatives others sums m))
 
 -- ---- no value above its right side is least
-module _ (equations : List Equation) (values : Values) (sound : AreSound equations) (least : IsLeastAbove equations values) (k : ℕ) (e : Equation) (s : slice_get equations k ≡ Some e)
+module _ (equations : List Equation) (values : Values) (sound : AreSound equations) (least : IsLeastAbove equations values) (k : ℕ)
+    (e : Equation) (s : slice_get equations k ≡ Some e)
     (smaller : right_side e values <ᴱ values k) where
   -- the right side in place of the value
   lowered : Values
@@ -69,7 +74,8 @@ module _ (equations : List Equation) (values : Values) (sound : AreSound equatio
 
   lowered_below : (i : ℕ) → lowered i ≤ᴱ values i
   lowered_below i =
-      ⊎_elim (λ d. subst (λ j. lowered j ≤ᴱ values j) (sym d) (subst (λ x. x ≤ᴱ values k) (sym lowered_here) (ext_le_of_lt (right_side e values) (values k) smaller)))
+      ⊎_elim (λ d. subst (λ j. lowered j ≤ᴱ values j) (sym d) (subst (λ x. x ≤ᴱ values k) (sym lowered_here)
+      (ext_le_of_lt (right_side e values) (values k) smaller)))
       (λ d. subst (λ x. x ≤ᴱ values i) (sym (lowered_there i d)) (≤ᴱ_refl (values i))) (cases_eq i k)
 
   right_lowered : (i : ℕ) (f : Equation) → slice_get equations i ≡ Some f → right_side f lowered ≤ᴱ right_side f values
@@ -81,8 +87,10 @@ module _ (equations : List Equation) (values : Values) (sound : AreSound equatio
   lowered_above : IsAbove equations lowered
   lowered_above i f t =
       ⊎_elim
-      (λ d. subst (λ x. right_side f lowered ≤ᴱ x) (sym (ap lowered d ∙ lowered_here ∙ ap (λ g. right_side g values) (sym (same_equation i f t d)))) (right_lowered i f t))
-      (λ d. subst (λ x. right_side f lowered ≤ᴱ x) (sym (lowered_there i d)) (≤ᴱ_trans (right_side f lowered) (right_side f values) (values i) (right_lowered i f t) (least.above i f t)))
+      (λ d. subst (λ x. right_side f lowered ≤ᴱ x) (sym (ap lowered d ∙ lowered_here
+      ∙ ap (λ g. right_side g values) (sym (same_equation i f t d)))) (right_lowered i f t))
+      (λ d. subst (λ x. right_side f lowered ≤ᴱ x) (sym (lowered_there i d))
+      (≤ᴱ_trans (right_side f lowered) (right_side f values) (values i) (right_lowered i f t) (least.above i f t)))
       (cases_eq i k)
 
   not_least : ⊥
@@ -93,7 +101,8 @@ module _ (equations : List Equation) (values : Values) (sound : AreSound equatio
 -- the least values above the equations equal their right sides
 pub equal_right_sides : LeastAboveEqualRightSides
 equal_right_sides equations values h least k e s =
-    ⊎_elim (λ l. ≤ᴱ_antisymm (values k) (right_side e values) l (least.above k e s)) (λ l. absurd (not_least equations values (sound_equations equations h) least k e s l))
+    ⊎_elim (λ l. ≤ᴱ_antisymm (values k) (right_side e values) l (least.above k e s))
+    (λ l. absurd (not_least equations values (sound_equations equations h) least k e s l))
     (ext_le_or_lt (values k) (right_side e values))
 
 -- two least values above the equations are the same at each name

@@ -14,7 +14,8 @@ in_enumerated {A} (y ∷ xs) k zero j x e p =
 in_enumerated (y ∷ xs) k (suc i) j x e p = inr (in_enumerated xs (k + 1) i j x e (omega arith))
 
 -- an element with a place is the list's element at that place
-pub of_enumerated : {A : Type 0} (xs : List A) (k : ℕ) (p : ℕ × A) → In (enumerate_from k xs) p → (i : ℕ) × (slice_get xs i ≡ Some p.1) × (k + i ≡ p.0)
+pub of_enumerated : {A : Type 0} (xs : List A) (k : ℕ) (p : ℕ × A) → In (enumerate_from k xs) p
+    → (i : ℕ) × (slice_get xs i ≡ Some p.1) × (k + i ≡ p.0)
 of_enumerated [] k p m = absurd m
 of_enumerated {A} (y ∷ xs) k p m =
     ⊎_elim (λ e. (0, ap (λ (q : ℕ × A). Some q.1) e, (let f = ap (λ (q : ℕ × A). q.0) e in omega arith)))

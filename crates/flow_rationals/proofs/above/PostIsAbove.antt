@@ -1,5 +1,6 @@
 -- Where a vector is a post-solution, its values at the loop are above the equations.
-use Rattle.std.proofs.Common.{◌≡◌, ◌∙◌, inl, inr, ℕ, ◌+◌, ◌<◌, List, [], ◌∷◌, ◌++◌, length, get_or, map, refl, ap, sym, subst, subst₂, arith, zero-add}
+use Rattle.std.proofs.Common.{◌≡◌, ◌∙◌, inl, inr, ℕ, ◌+◌, ◌<◌, List, [], ◌∷◌, ◌++◌, length, get_or, map, refl, ap, sym, subst, subst₂}
+use Rattle.std.proofs.Common.{arith, zero-add}
 use Rattle.std.specs.Prelude.{slice_get, slice_set, Some}
 use Rattle.std.specs.List.{enumerate_from, range_with_len}
 use Rattle.std.proofs.lemmas.List.{get_or-set_same, get_or_append_left, get_or_push, get_or-map, length_push, length-map}
@@ -47,7 +48,8 @@ picked_fits top neg_inf n = absurd (n refl)
 picked_fits top (fin q) n = ≤ℚ_refl q
 picked_fits top pos_inf n = tt
 
-module _ (equations : List Equation) (v : Vector) (sound : AreSound equations) (entry : (r : ℕ) → r < length equations → v 0 r ≡ pos_inf) (post : PostSolution (system_of equations) v) where
+module _ (equations : List Equation) (v : Vector) (sound : AreSound equations) (entry : (r : ℕ) → r < length equations → v 0 r ≡ pos_inf)
+    (post : PostSolution (system_of equations) v) where
   -- ---- the starts
   module _ where
     -- the names at their starts
@@ -59,7 +61,8 @@ module _ (equations : List Equation) (v : Vector) (sound : AreSound equations) (
 
     size : length state ≡ length equations + 1
     unfolding state starts
-    size = length_push (map (λ (e : Equation). e.start) equations) zero_ℚ ∙ ap (λ m. m + 1) (length-map equations (λ (e : Equation). e.start))
+    size = length_push (map (λ (e : Equation). e.start) equations) zero_ℚ
+        ∙ ap (λ m. m + 1) (length-map equations (λ (e : Equation). e.start))
 
     read : (i : ℕ) (e : Equation) → slice_get equations i ≡ Some e → get_or state i zero_ℚ ≡ e.start
     unfolding state starts
@@ -67,14 +70,16 @@ module _ (equations : List Equation) (v : Vector) (sound : AreSound equations) (
         let l = slice_get_within equations i e s in
         let all = map (λ (f : Equation). f.start) equations in
         get_or_append_left all (zero_ℚ ∷ []) zero_ℚ i (subst (λ m. i < m) (sym (length-map equations (λ (f : Equation). f.start))) l)
-        ∙ get_or-map (λ (f : Equation). f.start) equations i e zero_ℚ l ∙ ap (λ (f : Equation). f.start) (get_or_from_slice_get equations i e e s)
+        ∙ get_or-map (λ (f : Equation). f.start) equations i e zero_ℚ l
+        ∙ ap (λ (f : Equation). f.start) (get_or_from_slice_get equations i e e s)
 
     transition : Transition (system_of equations) v (start_edge equations) state state
     transition = record {
       listed = contains_from_in (edges_of equations) (start_edge equations) (inl refl);
       starts = size;
       fits = fits_from equations v 0 state (λ r h. subst (λ b. fin (get_or state r zero_ℚ) ≤ᴱ b) (sym (entry r h)) tt);
-      trace = starts_pass (length equations) equations 0 state (omega arith) (λ i j e s p. subst (λ m. get_or state m zero_ℚ ≡ e.start) (sym (zero-add i) ∙ p) (read i e s));
+      trace = starts_pass (length equations) equations 0 state (omega arith)
+          (λ i j e s p. subst (λ m. get_or state m zero_ℚ ≡ e.start) (sym (zero-add i) ∙ p) (read i e s));
     }
 
     start_below : (k : ℕ) (e : Equation) → slice_get equations k ≡ Some e → fin e.start ≤ᴱ v 1 k
@@ -122,8 +127,10 @@ module _ (equations : List Equation) (v : Vector) (sound : AreSound equations) (
       guard : (u : Sum) → In sums u → valueℚ (sum_form u) all ≤ℚ zero_ℚ
       guard u j =
           let n = length equations in
-          let same = parts_sum_same u.coeffs (at_top top (v 1)) (values_of all) (λ i l. ap fin (sym (name_read i (subst (λ b. i < b) (good u j).size l)))) in
-          guard_passes n u all (good u j) all_size (subst₂ (λ a b. a *ℚ whole u.den ≤ℚ b +ℚ whole u.constant) (sym last_read) same (asked u j))
+          let same = parts_sum_same u.coeffs (at_top top (v 1)) (values_of all)
+          (λ i l. ap fin (sym (name_read i (subst (λ b. i < b) (good u j).size l)))) in
+          guard_passes n u all (good u j) all_size (subst₂ (λ a b. a *ℚ whole u.den ≤ℚ b +ℚ whole u.constant) (sym last_read) same
+          (asked u j))
 
       end : RationalState
       end = slice_set all k (get_or all (length equations) zero_ℚ)
@@ -132,10 +139,12 @@ module _ (equations : List Equation) (v : Vector) (sound : AreSound equations) (
       unfolding end
       step = record {
         listed = contains_from_in (edges_of equations) (alternative_edge (length equations) k sums)
-            (inr (in_flat_map (alternative_edges (length equations)) (enumerate_from 0 equations) (k, e) (alternative_edge (length equations) k sums)
+            (inr (in_flat_map (alternative_edges (length equations)) (enumerate_from 0 equations) (k, e)
+            (alternative_edge (length equations) k sums)
             (in_enumerated equations 0 k k e s (zero-add k)) (in_map (alternative_edge (length equations) k) e.alternatives sums m)));
         starts = all_size;
-        fits = fits_from equations v 1 all (λ r h. subst (λ w. fin w ≤ᴱ v 1 r) (sym (name_read r h)) (picked_fits top (v 1 r) (finite r h)));
+        fits = fits_from equations v 1 all (λ r h. subst (λ w. fin w ≤ᴱ v 1 r) (sym (name_read r h))
+            (picked_fits top (v 1 r) (finite r h)));
         trace = alternative_passes (length equations) k sums all guard;
       }
 
@@ -143,12 +152,15 @@ module _ (equations : List Equation) (v : Vector) (sound : AreSound equations) (
       unfolding end
       q_below =
           let l = slice_get_within equations k e s in
-          let value = get_or-set_same all k (get_or all (length equations) zero_ℚ) zero_ℚ (let size = all_size in omega arith) ∙ last_read in
-          subst (λ w. fin w ≤ᴱ v 1 k) value (fits_out equations v 1 end (post.closed (alternative_edge (length equations) k sums) all end step) k l)
+          let value = get_or-set_same all k (get_or all (length equations) zero_ℚ) zero_ℚ (let size = all_size in omega arith)
+          ∙ last_read in
+          subst (λ w. fin w ≤ᴱ v 1 k) value (fits_out equations v 1 end
+          (post.closed (alternative_edge (length equations) k sums) all end step) k l)
 
     alternative_below : least_value sums (v 1) ≤ᴱ v 1 k
     alternative_below = le_by_fractions (least_value sums (v 1)) (v 1 k) (λ q h.
-        let r = reach_sums (length equations) sums (v 1) q good finite (λ u j. ≤ᴱ_trans (fin q) (least_value sums (v 1)) (sum_value u (v 1)) h (least_le sums (v 1) u j)) in
+        let r = reach_sums (length equations) sums (v 1) q good finite
+        (λ u j. ≤ᴱ_trans (fin q) (least_value sums (v 1)) (sum_value u (v 1)) h (least_le sums (v 1) u j)) in
         q_below q r.0 (r.2 r.0 (≤ℚ_refl r.0)))
 
   -- where the entry has +inf, the values at the loop of a post-solution are above the equations

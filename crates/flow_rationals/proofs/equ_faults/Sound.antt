@@ -18,6 +18,7 @@ sound_parts es (p ∷ ps) h = (
 )
 
 -- a sum for whose parts no fault was found has no second number that is 0
-pub sound_sum : (es : List Written) (first : Part) (more told : List Part) (o : Option EquFault) → is_some o ≡ false → told ≡ more → FirstOf o (part_faults es first ++ flat_map (part_faults es) told) → NoZeros (first ∷ more)
+pub sound_sum : (es : List Written) (first : Part) (more told : List Part) (o : Option EquFault) → is_some o ≡ false → told ≡ more
+    → FirstOf o (part_faults es first ++ flat_map (part_faults es) told) → NoZeros (first ∷ more)
 sound_sum es first more told o h e f =
     sound_parts es (first ∷ more) (ap (λ x. part_faults es first ++ flat_map (part_faults es) x) (sym e) ∙ none_found o _ h f)

@@ -22,5 +22,7 @@ written_once text es fs h k =
 pub answers_once : (text : List ℕ) (one other : Result (List Equation) EquFault) → Answers text one → Answers text other → one ≡ other
 answers_once text one other (a_lexical_fault fault e h) k = e ∙ sym (lexical_alone text fault h other k)
 answers_once text one other (an_unexpected at e h) k = e ∙ sym (unexpected_alone text at h other k)
-answers_once text one other (a_fault fault e es w h) k = e ∙ sym (fault_alone text es fault w (λ fs v. written_once text es fs w v) h other k)
-answers_once text one other (some_equations es e w h) k = e ∙ sym (equations_alone text es w (λ fs v. written_once text es fs w v) h other k)
+answers_once text one other (a_fault fault e es w h) k = e ∙ sym (fault_alone text es fault w (λ fs v. written_once text es fs w v) h other
+    k)
+answers_once text one other (some_equations es e w h) k = e ∙ sym (equations_alone text es w (λ fs v. written_once text es fs w v) h other
+    k)

@@ -33,7 +33,8 @@ abbrev pub NoPart : List Symbol → Type 0
 NoPart ss = (p : Part) (m : List Symbol) → EndsPart m → ss ≡ part_then p m → ⊥
 
 -- a sum whose first part was found goes on with the symbols after it
-pub sum_starts : (ss after : List Symbol) (first : Part) → PartFound ss first after → (s : Addends) (m : List Symbol) → EndsSum m → ss ≡ sum_then s m → GoesOn first [] after s m
+pub sum_starts : (ss after : List Symbol) (first : Part) → PartFound ss first after → (s : Addends) (m : List Symbol) → EndsSum m
+    → ss ≡ sum_then s m → GoesOn first [] after s m
 sum_starts ss after first found s m h e =
     let f = found s.first (parts_then s.more m) (parts_end s.more m h) e in
     record { tail = s.more; first_is = f.0; more_is = refl; rest_is = f.1 }
@@ -45,7 +46,9 @@ sum_none ss none s m h e = none s.first (parts_then s.more m) (parts_end s.more 
 sum_no_plus : (m others : List Symbol) → EndsSum m → m ≡ symbol.Plus ∷ others → ⊥
 sum_no_plus m others h e = subst EndsSum e h
 
-goes_by : (first : Part) (more tail : List Part) (rest others after : List Symbol) (next : Part) (s : Addends) (m : List Symbol) → first ≡ s.first → more ++ tail ≡ s.more → rest ≡ parts_then tail m → EndsSum m → rest ≡ symbol.Plus ∷ others → PartFound others next after → GoesOn first (more ++ next ∷ []) after s m
+goes_by : (first : Part) (more tail : List Part) (rest others after : List Symbol) (next : Part) (s : Addends) (m : List Symbol)
+    → first ≡ s.first → more ++ tail ≡ s.more → rest ≡ parts_then tail m → EndsSum m → rest ≡ symbol.Plus ∷ others
+    → PartFound others next after → GoesOn first (more ++ next ∷ []) after s m
 goes_by first more [] rest others after next s m f l r h plus found = absurd (sum_no_plus m others h (sym r ∙ plus))
 goes_by first more (p ∷ ps) rest others after next s m f l r h plus found =
     let t : others ≡ part_then p (parts_then ps m) = cc in
@@ -58,19 +61,24 @@ goes_by first more (p ∷ ps) rest others after next s m f l r h plus found =
     }
 
 -- a sum goes on after `+` with the part that was found there
-pub sum_goes : (first : Part) (more : List Part) (rest others after : List Symbol) (next : Part) (s : Addends) (m : List Symbol) → GoesOn first more rest s m → EndsSum m → rest ≡ symbol.Plus ∷ others → PartFound others next after → GoesOn first (more ++ next ∷ []) after s m
+pub sum_goes : (first : Part) (more : List Part) (rest others after : List Symbol) (next : Part) (s : Addends) (m : List Symbol)
+    → GoesOn first more rest s m → EndsSum m → rest ≡ symbol.Plus ∷ others → PartFound others next after
+    → GoesOn first (more ++ next ∷ []) after s m
 sum_goes first more rest others after next s m g h plus found =
     goes_by first more g.tail rest others after next s m g.first_is g.more_is g.rest_is h plus found
 
-stuck_by : (tail : List Part) (rest others : List Symbol) (m : List Symbol) → rest ≡ parts_then tail m → EndsSum m → rest ≡ symbol.Plus ∷ others → NoPart others → ⊥
+stuck_by : (tail : List Part) (rest others : List Symbol) (m : List Symbol) → rest ≡ parts_then tail m → EndsSum m
+    → rest ≡ symbol.Plus ∷ others → NoPart others → ⊥
 stuck_by [] rest others m r h plus none = sum_no_plus m others h (sym r ∙ plus)
 stuck_by (p ∷ ps) rest others m r h plus none = none p (parts_then ps m) (parts_end ps m h) cc
 
 -- where no part stands after `+`, no sum goes on there
-pub sum_stuck : (first : Part) (more : List Part) (rest others : List Symbol) (s : Addends) (m : List Symbol) → GoesOn first more rest s m → EndsSum m → rest ≡ symbol.Plus ∷ others → NoPart others → ⊥
+pub sum_stuck : (first : Part) (more : List Part) (rest others : List Symbol) (s : Addends) (m : List Symbol) → GoesOn first more rest s m
+    → EndsSum m → rest ≡ symbol.Plus ∷ others → NoPart others → ⊥
 sum_stuck first more rest others s m g h plus none = stuck_by g.tail rest others m g.rest_is h plus none
 
-no_more : (tail : List Part) (rest m : List Symbol) → rest ≡ parts_then tail m → ((others : List Symbol) → rest ≡ symbol.Plus ∷ others → ⊥) → (tail ≡ []) × (rest ≡ m)
+no_more : (tail : List Part) (rest m : List Symbol) → rest ≡ parts_then tail m → ((others : List Symbol) → rest ≡ symbol.Plus ∷ others → ⊥)
+    → (tail ≡ []) × (rest ≡ m)
 no_more [] rest m r none = (refl, r)
 no_more (p ∷ ps) rest m r none = absurd (none (part_then p (parts_then ps m)) r)
 
@@ -78,7 +86,9 @@ same_sum : (first : Part) (more : List Part) (s : Addends) → first ≡ s.first
 same_sum first more s f l = ap (λ x. record { first = x; more = more }) f ∙ ap (λ x. record { first = s.first; more = x }) l
 
 -- where no `+` stands next, the sum ends, and is that of the parts found
-pub sum_ends : (first : Part) (more made : List Part) (rest : List Symbol) (s : Addends) (m : List Symbol) → made ≡ more → GoesOn first more rest s m → ((others : List Symbol) → rest ≡ symbol.Plus ∷ others → ⊥) → Same (record { first = first; more = made }) s rest m
+pub sum_ends : (first : Part) (more made : List Part) (rest : List Symbol) (s : Addends) (m : List Symbol) → made ≡ more
+    → GoesOn first more rest s m → ((others : List Symbol) → rest ≡ symbol.Plus ∷ others → ⊥)
+    → Same (record { first = first; more = made }) s rest m
 sum_ends first more made rest s m l g none =
     let e = no_more g.tail rest m g.rest_is none in
     (same_sum first made s g.first_is (l ∙ (sym (append-nil more) ∙ (ap (λ x. more ++ x) (sym e.0) ∙ g.more_is))), e.1)

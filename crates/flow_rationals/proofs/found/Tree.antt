@@ -8,7 +8,8 @@ use Rattle.flow_rationals.specs.declared.reading.written.Addends.{Addends}
 use Rattle.flow_rationals.specs.declared.reading.written.Choice.{Choice}
 use Rattle.flow_rationals.specs.declared.reading.written.Choice.TheVariants.{Least}
 use Rattle.flow_rationals.specs.declared.reading.written.Written.{Written}
-use Rattle.flow_rationals.specs.Grammar.{minus_then, ratio_then, sum_then, sums_then, choice_then, choices_then, equation_then, equations_symbols, Spells}
+use Rattle.flow_rationals.specs.Grammar.{minus_then, ratio_then, sum_then, sums_then, choice_then, choices_then, equation_then}
+use Rattle.flow_rationals.specs.Grammar.{equations_symbols, Spells}
 use Rattle.flow_rationals.specs.Found.{NoColon, NoMinus, EndsSum}
 use Rattle.flow_rationals.proofs.grammar.Complete.{sums_end, choices_end}
 use Rattle.flow_rationals.proofs.found.Parts.{Same}
@@ -28,7 +29,9 @@ pub record SumsGoOn (done : List Addends) (rest : List Symbol) (sums : List Adde
   -- the symbols are those of the sums to come, and what follows the minimum
   pub rest_is : rest ≡ sums_then tail m
 
-sums_by : (done tail : List Addends) (rest others after : List Symbol) (next : Addends) (sums : List Addends) (m : List Symbol) → done ++ tail ≡ sums → rest ≡ sums_then tail m → rest ≡ symbol.Comma ∷ others → SumFound others next after → SumsGoOn (done ++ next ∷ []) after sums m
+sums_by : (done tail : List Addends) (rest others after : List Symbol) (next : Addends) (sums : List Addends) (m : List Symbol)
+    → done ++ tail ≡ sums → rest ≡ sums_then tail m → rest ≡ symbol.Comma ∷ others → SumFound others next after
+    → SumsGoOn (done ++ next ∷ []) after sums m
 sums_by done [] rest others after next sums m l r c found = absurd cc
 sums_by done (s ∷ ss) rest others after next sums m l r c found =
     let t : others ≡ sum_then s (sums_then ss m) = cc in
@@ -36,50 +39,62 @@ sums_by done (s ∷ ss) rest others after next sums m l r c found =
     record { tail = ss; all = append_assoc done (next ∷ []) ss ∙ (ap (λ x. done ++ x ∷ ss) g.0 ∙ l); rest_is = g.1 }
 
 -- the sums of a minimum go on after `,` with the sum that was found there
-pub sums_go : (done : List Addends) (rest others after : List Symbol) (next : Addends) (sums : List Addends) (m : List Symbol) → SumsGoOn done rest sums m → rest ≡ symbol.Comma ∷ others → SumFound others next after → SumsGoOn (done ++ next ∷ []) after sums m
+pub sums_go : (done : List Addends) (rest others after : List Symbol) (next : Addends) (sums : List Addends) (m : List Symbol)
+    → SumsGoOn done rest sums m → rest ≡ symbol.Comma ∷ others → SumFound others next after → SumsGoOn (done ++ next ∷ []) after sums m
 sums_go done rest others after next sums m g c found = sums_by done g.tail rest others after next sums m g.all g.rest_is c found
 
-sums_stuck_by : (tail : List Addends) (rest others m : List Symbol) → rest ≡ sums_then tail m → rest ≡ symbol.Comma ∷ others → NoSum others → ⊥
+sums_stuck_by : (tail : List Addends) (rest others m : List Symbol) → rest ≡ sums_then tail m → rest ≡ symbol.Comma ∷ others → NoSum others
+    → ⊥
 sums_stuck_by [] rest others m r c none = cc
 sums_stuck_by (s ∷ ss) rest others m r c none = none s (sums_then ss m) (sums_end ss m) cc
 
 -- where no sum stands after `,`, no sums of a minimum go on there
-pub sums_stuck : (done : List Addends) (rest others : List Symbol) (sums : List Addends) (m : List Symbol) → SumsGoOn done rest sums m → rest ≡ symbol.Comma ∷ others → NoSum others → ⊥
+pub sums_stuck : (done : List Addends) (rest others : List Symbol) (sums : List Addends) (m : List Symbol) → SumsGoOn done rest sums m
+    → rest ≡ symbol.Comma ∷ others → NoSum others → ⊥
 sums_stuck done rest others sums m g c none = sums_stuck_by g.tail rest others m g.rest_is c none
 
-sums_close_by : (done tail : List Addends) (rest after : List Symbol) (sums : List Addends) (m : List Symbol) → done ++ tail ≡ sums → rest ≡ sums_then tail m → rest ≡ symbol.RightParen ∷ after → Same done sums after m
+sums_close_by : (done tail : List Addends) (rest after : List Symbol) (sums : List Addends) (m : List Symbol) → done ++ tail ≡ sums
+    → rest ≡ sums_then tail m → rest ≡ symbol.RightParen ∷ after → Same done sums after m
 sums_close_by done [] rest after sums m l r c = let e : after ≡ m = cc in (sym (append-nil done) ∙ l, e)
 sums_close_by done (s ∷ ss) rest after sums m l r c = absurd cc
 
 -- at `)` the sums of a minimum end, and are those found
-pub sums_close : (done made : List Addends) (rest after : List Symbol) (sums : List Addends) (m : List Symbol) → made ≡ done → SumsGoOn done rest sums m → rest ≡ symbol.RightParen ∷ after → Same made sums after m
+pub sums_close : (done made : List Addends) (rest after : List Symbol) (sums : List Addends) (m : List Symbol) → made ≡ done
+    → SumsGoOn done rest sums m → rest ≡ symbol.RightParen ∷ after → Same made sums after m
 sums_close done made rest after sums m e g c = let x = sums_close_by done g.tail rest after sums m g.all g.rest_is c in (e ∙ x.0, x.1)
 
-sums_open_by : (tail : List Addends) (rest m : List Symbol) → rest ≡ sums_then tail m → ((x : List Symbol) → rest ≡ symbol.Comma ∷ x → ⊥) → ((x : List Symbol) → rest ≡ symbol.RightParen ∷ x → ⊥) → ⊥
+sums_open_by : (tail : List Addends) (rest m : List Symbol) → rest ≡ sums_then tail m → ((x : List Symbol) → rest ≡ symbol.Comma ∷ x → ⊥)
+    → ((x : List Symbol) → rest ≡ symbol.RightParen ∷ x → ⊥) → ⊥
 sums_open_by [] rest m r comma paren = paren m r
 sums_open_by (s ∷ ss) rest m r comma paren = comma (sum_then s (sums_then ss m)) r
 
 -- where neither `,` nor `)` stands next, no sums of a minimum go on
-pub sums_open : (done : List Addends) (rest : List Symbol) (sums : List Addends) (m : List Symbol) → SumsGoOn done rest sums m → ((x : List Symbol) → rest ≡ symbol.Comma ∷ x → ⊥) → ((x : List Symbol) → rest ≡ symbol.RightParen ∷ x → ⊥) → ⊥
+pub sums_open : (done : List Addends) (rest : List Symbol) (sums : List Addends) (m : List Symbol) → SumsGoOn done rest sums m
+    → ((x : List Symbol) → rest ≡ symbol.Comma ∷ x → ⊥) → ((x : List Symbol) → rest ≡ symbol.RightParen ∷ x → ⊥) → ⊥
 sums_open done rest sums m g comma paren = sums_open_by g.tail rest m g.rest_is comma paren
 
 abbrev pub SumsFound : List Symbol → List Addends → List Symbol → Type 0
 SumsFound ss sums after = (us : List Addends) (m : List Symbol) → ss ≡ sums_then us m → Same sums us after m
 
 -- a minimum
-pub least_some : (ss after rest : List Symbol) (first : Addends) (more : List Addends) → SumFound ss first after → SumsFound after more rest → (s : Addends) (sums : List Addends) (m : List Symbol) → ss ≡ sum_then s (sums_then sums m) → Same (Least first more) (Least s sums) rest m
+pub least_some : (ss after rest : List Symbol) (first : Addends) (more : List Addends) → SumFound ss first after → SumsFound after more rest
+    → (s : Addends) (sums : List Addends) (m : List Symbol) → ss ≡ sum_then s (sums_then sums m)
+    → Same (Least first more) (Least s sums) rest m
 least_some ss after rest first more found others s sums m e =
     let f = found s (sums_then sums m) (sums_end sums m) e in
     let g = others sums m f.1 in
     (ap (λ x. Least x more) f.0 ∙ ap (Least s) g.0, g.1)
 
 -- where no further sums follow the first, no minimum stands there
-pub least_no_sums : (ss after : List Symbol) (first : Addends) → SumFound ss first after → ((us : List Addends) (m : List Symbol) → after ≡ sums_then us m → ⊥) → (s : Addends) (sums : List Addends) (m : List Symbol) → ss ≡ sum_then s (sums_then sums m) → ⊥
+pub least_no_sums : (ss after : List Symbol) (first : Addends) → SumFound ss first after
+    → ((us : List Addends) (m : List Symbol) → after ≡ sums_then us m → ⊥) → (s : Addends) (sums : List Addends) (m : List Symbol)
+    → ss ≡ sum_then s (sums_then sums m) → ⊥
 least_no_sums ss after first found none s sums m e =
     let f = found s (sums_then sums m) (sums_end sums m) e in none sums m f.1
 
 -- where no sum stands first, no minimum stands there
-pub least_no_sum : (ss : List Symbol) → NoSum ss → (s : Addends) (sums : List Addends) (m : List Symbol) → ss ≡ sum_then s (sums_then sums m) → ⊥
+pub least_no_sum : (ss : List Symbol) → NoSum ss → (s : Addends) (sums : List Addends) (m : List Symbol)
+    → ss ≡ sum_then s (sums_then sums m) → ⊥
 least_no_sum ss none s sums m e = none s (sums_then sums m) (sums_end sums m) e
 
 abbrev pub ChoiceFound : List Symbol → Choice → List Symbol → Type 0
@@ -97,7 +112,9 @@ pub record ChoicesGoOn (done : List Choice) (rest : List Symbol) (choices : List
   -- the symbols are those of the alternatives to come, and what follows the equation
   pub rest_is : rest ≡ choices_then tail m
 
-choices_by : (done tail : List Choice) (rest others after : List Symbol) (next : Choice) (cs : List Choice) (m : List Symbol) → done ++ tail ≡ cs → rest ≡ choices_then tail m → rest ≡ symbol.Comma ∷ others → ChoiceFound others next after → ChoicesGoOn (done ++ next ∷ []) after cs m
+choices_by : (done tail : List Choice) (rest others after : List Symbol) (next : Choice) (cs : List Choice) (m : List Symbol)
+    → done ++ tail ≡ cs → rest ≡ choices_then tail m → rest ≡ symbol.Comma ∷ others → ChoiceFound others next after
+    → ChoicesGoOn (done ++ next ∷ []) after cs m
 choices_by done [] rest others after next cs m l r c found = absurd cc
 choices_by done (s ∷ ss) rest others after next cs m l r c found =
     let t : others ≡ choice_then s (choices_then ss m) = cc in
@@ -105,38 +122,46 @@ choices_by done (s ∷ ss) rest others after next cs m l r c found =
     record { tail = ss; all = append_assoc done (next ∷ []) ss ∙ (ap (λ x. done ++ x ∷ ss) g.0 ∙ l); rest_is = g.1 }
 
 -- alternatives go on after `,` with the one that was found there
-pub choices_go : (done : List Choice) (rest others after : List Symbol) (next : Choice) (cs : List Choice) (m : List Symbol) → ChoicesGoOn done rest cs m → rest ≡ symbol.Comma ∷ others → ChoiceFound others next after → ChoicesGoOn (done ++ next ∷ []) after cs m
+pub choices_go : (done : List Choice) (rest others after : List Symbol) (next : Choice) (cs : List Choice) (m : List Symbol)
+    → ChoicesGoOn done rest cs m → rest ≡ symbol.Comma ∷ others → ChoiceFound others next after → ChoicesGoOn (done ++ next ∷ []) after cs m
 choices_go done rest others after next cs m g c found = choices_by done g.tail rest others after next cs m g.all g.rest_is c found
 
-choices_stuck_by : (tail : List Choice) (rest others m : List Symbol) → rest ≡ choices_then tail m → rest ≡ symbol.Comma ∷ others → NoChoice others → ⊥
+choices_stuck_by : (tail : List Choice) (rest others m : List Symbol) → rest ≡ choices_then tail m → rest ≡ symbol.Comma ∷ others
+    → NoChoice others → ⊥
 choices_stuck_by [] rest others m r c none = cc
 choices_stuck_by (s ∷ ss) rest others m r c none = none s (choices_then ss m) (choices_end ss m) cc
 
 -- where no alternative stands after `,`, no alternatives go on there
-pub choices_stuck : (done : List Choice) (rest others : List Symbol) (cs : List Choice) (m : List Symbol) → ChoicesGoOn done rest cs m → rest ≡ symbol.Comma ∷ others → NoChoice others → ⊥
+pub choices_stuck : (done : List Choice) (rest others : List Symbol) (cs : List Choice) (m : List Symbol) → ChoicesGoOn done rest cs m
+    → rest ≡ symbol.Comma ∷ others → NoChoice others → ⊥
 choices_stuck done rest others cs m g c none = choices_stuck_by g.tail rest others m g.rest_is c none
 
-choices_close_by : (done tail : List Choice) (rest after : List Symbol) (cs : List Choice) (m : List Symbol) → done ++ tail ≡ cs → rest ≡ choices_then tail m → rest ≡ symbol.RightParen ∷ symbol.Semicolon ∷ after → Same done cs after m
+choices_close_by : (done tail : List Choice) (rest after : List Symbol) (cs : List Choice) (m : List Symbol) → done ++ tail ≡ cs
+    → rest ≡ choices_then tail m → rest ≡ symbol.RightParen ∷ symbol.Semicolon ∷ after → Same done cs after m
 choices_close_by done [] rest after cs m l r c = let e : after ≡ m = cc in (sym (append-nil done) ∙ l, e)
 choices_close_by done (s ∷ ss) rest after cs m l r c = absurd cc
 
 -- at `)` and `;` the alternatives end, and are those found
-pub choices_close : (done made : List Choice) (rest after : List Symbol) (cs : List Choice) (m : List Symbol) → made ≡ done → ChoicesGoOn done rest cs m → rest ≡ symbol.RightParen ∷ symbol.Semicolon ∷ after → Same made cs after m
+pub choices_close : (done made : List Choice) (rest after : List Symbol) (cs : List Choice) (m : List Symbol) → made ≡ done
+    → ChoicesGoOn done rest cs m → rest ≡ symbol.RightParen ∷ symbol.Semicolon ∷ after → Same made cs after m
 choices_close done made rest after cs m e g c = let x = choices_close_by done g.tail rest after cs m g.all g.rest_is c in (e ∙ x.0, x.1)
 
-choices_open_by : (tail : List Choice) (rest m : List Symbol) → rest ≡ choices_then tail m → ((x : List Symbol) → rest ≡ symbol.Comma ∷ x → ⊥) → ((x : List Symbol) → rest ≡ symbol.RightParen ∷ symbol.Semicolon ∷ x → ⊥) → ⊥
+choices_open_by : (tail : List Choice) (rest m : List Symbol) → rest ≡ choices_then tail m
+    → ((x : List Symbol) → rest ≡ symbol.Comma ∷ x → ⊥) → ((x : List Symbol) → rest ≡ symbol.RightParen ∷ symbol.Semicolon ∷ x → ⊥) → ⊥
 choices_open_by [] rest m r comma paren = paren m r
 choices_open_by (s ∷ ss) rest m r comma paren = comma (choice_then s (choices_then ss m)) r
 
 -- where neither `,` nor `)` and `;` stand next, no alternatives go on
-pub choices_open : (done : List Choice) (rest : List Symbol) (cs : List Choice) (m : List Symbol) → ChoicesGoOn done rest cs m → ((x : List Symbol) → rest ≡ symbol.Comma ∷ x → ⊥) → ((x : List Symbol) → rest ≡ symbol.RightParen ∷ symbol.Semicolon ∷ x → ⊥) → ⊥
+pub choices_open : (done : List Choice) (rest : List Symbol) (cs : List Choice) (m : List Symbol) → ChoicesGoOn done rest cs m
+    → ((x : List Symbol) → rest ≡ symbol.Comma ∷ x → ⊥) → ((x : List Symbol) → rest ≡ symbol.RightParen ∷ symbol.Semicolon ∷ x → ⊥) → ⊥
 choices_open done rest cs m g comma paren = choices_open_by g.tail rest m g.rest_is comma paren
 
 choices_no_colon : (cs : List Choice) (m : List Symbol) → NoColon (choices_then cs m)
 choices_no_colon [] m = tt
 choices_no_colon (c ∷ cs) m = tt
 
-same_minus : (ss number x : List Symbol) (r : Ratio) (found minus : Option ℕ) → ss ≡ minus_then found number → NoMinus found ss → ss ≡ minus_then minus (ratio_then r x) → (found ≡ minus) × (number ≡ ratio_then r x)
+same_minus : (ss number x : List Symbol) (r : Ratio) (found minus : Option ℕ) → ss ≡ minus_then found number → NoMinus found ss
+    → ss ≡ minus_then minus (ratio_then r x) → (found ≡ minus) × (number ≡ ratio_then r x)
 same_minus ss number x r None None s none e = (refl, sym s ∙ e)
 same_minus ss number x r None (Some at) s none e = absurd (none at (ratio_then r x) e)
 same_minus ss number x r (Some a) None s none e = absurd cc
@@ -151,7 +176,15 @@ RatioFound ss r after = (s : Ratio) (m : List Symbol) → NoColon m → ss ≡ r
 abbrev pub ChoicesFound : List Symbol → List Choice → List Symbol → Type 0
 ChoicesFound ss cs after = (ds : List Choice) (m : List Symbol) → ss ≡ choices_then ds m → Same cs ds after m
 
-same_written : (e : Written) (name : List ℕ) (at : ℕ) (minus : Option ℕ) (start : Ratio) (choices : List Choice) → name ≡ e.name → at ≡ e.at → minus ≡ e.minus → start ≡ e.start → choices ≡ e.choices → record { name = name; at = at; minus = minus; start = start; choices = choices } ≡ e
+same_written : (e : Written) (name : List ℕ) (at : ℕ) (minus : Option ℕ) (start : Ratio) (choices : List Choice) → name ≡ e.name → at ≡ e.at
+    → minus ≡ e.minus → start ≡ e.start → choices ≡ e.choices → record {
+      name = name;
+      at = at;
+      minus = minus;
+      start = start;
+      choices =
+          choices;
+    } ≡ e
 same_written e name at minus start choices n a m s c =
     ap (λ x. record { name = x; at = at; minus = minus; start = start; choices = choices }) n
     ∙ (ap (λ x. record { name = e.name; at = x; minus = minus; start = start; choices = choices }) a
@@ -164,7 +197,10 @@ abbrev pub body_then : Written → List Symbol → List Symbol
 body_then e m = minus_then e.minus (ratio_then e.start (choices_then e.choices m))
 
 -- a start and alternatives that were found are those of the equation
-pub body_some : (ss number after rest : List Symbol) (name : List ℕ) (at : ℕ) (minus : Option ℕ) (start : Ratio) (choices : List Choice) → ss ≡ minus_then minus number → NoMinus minus ss → RatioFound number start after → ChoicesFound after choices rest → (e : Written) (m : List Symbol) → name ≡ e.name → at ≡ e.at → ss ≡ body_then e m → Same (record { name = name; at = at; minus = minus; start = start; choices = choices }) e rest m
+pub body_some : (ss number after rest : List Symbol) (name : List ℕ) (at : ℕ) (minus : Option ℕ) (start : Ratio) (choices : List Choice)
+    → ss ≡ minus_then minus number → NoMinus minus ss → RatioFound number start after → ChoicesFound after choices rest
+    → (e : Written) (m : List Symbol) → name ≡ e.name → at ≡ e.at → ss ≡ body_then e m
+    → Same (record { name = name; at = at; minus = minus; start = start; choices = choices }) e rest m
 body_some ss number after rest name at minus start choices s none found others e m n a h =
     let x = same_minus ss number (choices_then e.choices m) e.start minus e.minus s none h in
     let f = found e.start (choices_then e.choices m) (choices_no_colon e.choices m) x.1 in
@@ -172,13 +208,16 @@ body_some ss number after rest name at minus start choices s none found others e
     (same_written e name at minus start choices n a x.0 f.0 g.0, g.1)
 
 -- where no ratio stands first, no start does
-pub body_no_start : (ss number : List Symbol) (minus : Option ℕ) → ss ≡ minus_then minus number → NoMinus minus ss → ((r : Ratio) (m : List Symbol) → NoColon m → number ≡ ratio_then r m → ⊥) → (e : Written) (m : List Symbol) → ss ≡ body_then e m → ⊥
+pub body_no_start : (ss number : List Symbol) (minus : Option ℕ) → ss ≡ minus_then minus number → NoMinus minus ss
+    → ((r : Ratio) (m : List Symbol) → NoColon m → number ≡ ratio_then r m → ⊥) → (e : Written) (m : List Symbol) → ss ≡ body_then e m → ⊥
 body_no_start ss number minus s none absent e m h =
     let x = same_minus ss number (choices_then e.choices m) e.start minus e.minus s none h in
     absent e.start (choices_then e.choices m) (choices_no_colon e.choices m) x.1
 
 -- where no alternatives follow the start, no equation stands there
-pub body_no_choices : (ss number after : List Symbol) (minus : Option ℕ) (start : Ratio) → ss ≡ minus_then minus number → NoMinus minus ss → RatioFound number start after → ((ds : List Choice) (m : List Symbol) → after ≡ choices_then ds m → ⊥) → (e : Written) (m : List Symbol) → ss ≡ body_then e m → ⊥
+pub body_no_choices : (ss number after : List Symbol) (minus : Option ℕ) (start : Ratio) → ss ≡ minus_then minus number → NoMinus minus ss
+    → RatioFound number start after → ((ds : List Choice) (m : List Symbol) → after ≡ choices_then ds m → ⊥)
+    → (e : Written) (m : List Symbol) → ss ≡ body_then e m → ⊥
 body_no_choices ss number after minus start s none found absent e m h =
     let x = same_minus ss number (choices_then e.choices m) e.start minus e.minus s none h in
     let f = found e.start (choices_then e.choices m) (choices_no_colon e.choices m) x.1 in
@@ -204,28 +243,35 @@ pub equations_start : (ss : List Symbol) (es : List Written) → Spells ss es �
 equations_start ss [] h = absurd h
 equations_start ss (e ∷ es) h = record { tail = e ∷ es; all = refl; rest_is = h }
 
-equations_by : (done tail : List Written) (rest after : List Symbol) (next : Written) (es : List Written) → done ++ tail ≡ es → rest ≡ equations_symbols tail → ((x : List Symbol) → rest ≡ symbol.End ∷ x → ⊥) → EquationFound rest next after → EquationsGoOn (done ++ next ∷ []) after es
+equations_by : (done tail : List Written) (rest after : List Symbol) (next : Written) (es : List Written) → done ++ tail ≡ es
+    → rest ≡ equations_symbols tail → ((x : List Symbol) → rest ≡ symbol.End ∷ x → ⊥) → EquationFound rest next after
+    → EquationsGoOn (done ++ next ∷ []) after es
 equations_by done [] rest after next es l r none found = absurd (none [] r)
 equations_by done (s ∷ ss) rest after next es l r none found =
     let g = found s (equations_symbols ss) r in
     record { tail = ss; all = append_assoc done (next ∷ []) ss ∙ (ap (λ x. done ++ x ∷ ss) g.0 ∙ l); rest_is = g.1 }
 
 -- equations go on with the one that was found
-pub equations_go : (done : List Written) (rest after : List Symbol) (next : Written) (es : List Written) → EquationsGoOn done rest es → ((x : List Symbol) → rest ≡ symbol.End ∷ x → ⊥) → EquationFound rest next after → EquationsGoOn (done ++ next ∷ []) after es
+pub equations_go : (done : List Written) (rest after : List Symbol) (next : Written) (es : List Written) → EquationsGoOn done rest es
+    → ((x : List Symbol) → rest ≡ symbol.End ∷ x → ⊥) → EquationFound rest next after → EquationsGoOn (done ++ next ∷ []) after es
 equations_go done rest after next es g none found = equations_by done g.tail rest after next es g.all g.rest_is none found
 
-equations_stuck_by : (tail : List Written) (rest : List Symbol) → rest ≡ equations_symbols tail → ((x : List Symbol) → rest ≡ symbol.End ∷ x → ⊥) → NoEquation rest → ⊥
+equations_stuck_by : (tail : List Written) (rest : List Symbol) → rest ≡ equations_symbols tail
+    → ((x : List Symbol) → rest ≡ symbol.End ∷ x → ⊥) → NoEquation rest → ⊥
 equations_stuck_by [] rest r none absent = none [] r
 equations_stuck_by (s ∷ ss) rest r none absent = absent s (equations_symbols ss) r
 
 -- where neither an equation nor the end stands next, no equations go on
-pub equations_stuck : (done : List Written) (rest : List Symbol) (es : List Written) → EquationsGoOn done rest es → ((x : List Symbol) → rest ≡ symbol.End ∷ x → ⊥) → NoEquation rest → ⊥
+pub equations_stuck : (done : List Written) (rest : List Symbol) (es : List Written) → EquationsGoOn done rest es
+    → ((x : List Symbol) → rest ≡ symbol.End ∷ x → ⊥) → NoEquation rest → ⊥
 equations_stuck done rest es g none absent = equations_stuck_by g.tail rest g.rest_is none absent
 
-equations_end_by : (done tail : List Written) (rest after : List Symbol) (es : List Written) → done ++ tail ≡ es → rest ≡ equations_symbols tail → rest ≡ symbol.End ∷ after → done ≡ es
+equations_end_by : (done tail : List Written) (rest after : List Symbol) (es : List Written) → done ++ tail ≡ es
+    → rest ≡ equations_symbols tail → rest ≡ symbol.End ∷ after → done ≡ es
 equations_end_by done [] rest after es l r e = sym (append-nil done) ∙ l
 equations_end_by done (s ∷ ss) rest after es l r e = absurd cc
 
 -- at the end, the equations are those found
-pub equations_end : (done : List Written) (rest after : List Symbol) (es : List Written) → EquationsGoOn done rest es → rest ≡ symbol.End ∷ after → done ≡ es
+pub equations_end : (done : List Written) (rest after : List Symbol) (es : List Written) → EquationsGoOn done rest es
+    → rest ≡ symbol.End ∷ after → done ≡ es
 equations_end done rest after es g e = equations_end_by done g.tail rest after es g.all g.rest_is e

@@ -14,7 +14,8 @@ use Rattle.flow_rationals.specs.declared.reading.written.Addends.{Addends}
 use Rattle.flow_rationals.specs.declared.reading.written.Choice.{Choice}
 use Rattle.flow_rationals.specs.declared.reading.written.Choice.TheVariants.{Alone, Least}
 use Rattle.flow_rationals.specs.declared.reading.written.Written.{Written}
-use Rattle.flow_rationals.specs.Grammar.{below_then, ratio_then, minus_then, part_then, parts_then, sum_then, sums_then, choice_then, choices_then, equation_then, equations_symbols, Spells}
+use Rattle.flow_rationals.specs.Grammar.{below_then, ratio_then, minus_then, part_then, parts_then, sum_then, sums_then, choice_then}
+use Rattle.flow_rationals.specs.Grammar.{choices_then, equation_then, equations_symbols, Spells}
 use Rattle.flow_rationals.specs.Found.{EndsSum, EndsPart}
 use Rattle.flow_rationals.specs.Places.{next, run}
 
@@ -37,15 +38,18 @@ constant_follows w (symbol.RightParen ∷ ss) h = refl
 constant_follows w ss h = absurd h
 
 -- a ratio before `*`
-factor_run : (w : Within) (b : Option Below) (ss : List Symbol) → run (place.Factor w) (below_then b (symbol.Star ∷ ss)) ≡ run (place.Times w) ss
+factor_run : (w : Within) (b : Option Below) (ss : List Symbol) → run (place.Factor w) (below_then b (symbol.Star ∷ ss))
+    ≡ run (place.Times w) ss
 factor_run w None ss = refl
 factor_run w (Some b) ss = refl
 
-plain_run : (w : Within) (b : Option Below) (ss : List Symbol) → EndsPart ss → run (place.Factor w) (below_then b ss) ≡ run (place.AfterPart w) ss
+plain_run : (w : Within) (b : Option Below) (ss : List Symbol) → EndsPart ss
+    → run (place.Factor w) (below_then b ss) ≡ run (place.AfterPart w) ss
 plain_run w None ss h = factor_follows w ss h
 plain_run w (Some b) ss h = factor_end_follows w ss h
 
-minus_run : (w : Within) (b : Option Below) (ss : List Symbol) → EndsPart ss → run (place.ConstantBelow w) (below_then b ss) ≡ run (place.AfterPart w) ss
+minus_run : (w : Within) (b : Option Below) (ss : List Symbol) → EndsPart ss
+    → run (place.ConstantBelow w) (below_then b ss) ≡ run (place.AfterPart w) ss
 minus_run w None ss h = constant_follows w ss h
 minus_run w (Some b) ss h = refl
 
@@ -65,7 +69,8 @@ pub parts_end : (ps : List Part) (ss : List Symbol) → EndsSum ss → EndsPart 
 parts_end [] ss h = sum_ends_part ss h
 parts_end (p ∷ ps) ss h = tt
 
-parts_run : (w : Within) (ps : List Part) (ss : List Symbol) → EndsSum ss → run (place.AfterPart w) (parts_then ps ss) ≡ run (place.AfterPart w) ss
+parts_run : (w : Within) (ps : List Part) (ss : List Symbol) → EndsSum ss
+    → run (place.AfterPart w) (parts_then ps ss) ≡ run (place.AfterPart w) ss
 parts_run w [] ss h = refl
 parts_run w (p ∷ ps) ss h = part_run w p (parts_then ps ss) (parts_end ps ss h) ∙ parts_run w ps ss h
 
@@ -93,29 +98,36 @@ alone_starts (Multiple (Some r) name at) ss = refl
 alone_starts (Constant None r) ss = refl
 alone_starts (Constant (Some at) r) ss = refl
 
-after_alone : (cs : List Choice) (ss : List Symbol) → run (place.AfterPart within.Alone) (choices_then cs ss) ≡ run place.Alternatives (choices_then cs ss)
+after_alone : (cs : List Choice) (ss : List Symbol) → run (place.AfterPart within.Alone) (choices_then cs ss)
+    ≡ run place.Alternatives (choices_then cs ss)
 after_alone [] ss = refl
 after_alone (c ∷ cs) ss = refl
 
-choice_run : (c : Choice) (cs : List Choice) (ss : List Symbol) → run place.Alternative (choice_then c (choices_then cs ss)) ≡ run place.Alternatives (choices_then cs ss)
+choice_run : (c : Choice) (cs : List Choice) (ss : List Symbol) → run place.Alternative (choice_then c (choices_then cs ss))
+    ≡ run place.Alternatives (choices_then cs ss)
 choice_run (Alone s) cs ss =
-    alone_starts s.first (parts_then s.more (choices_then cs ss)) ∙ (sum_run within.Alone s (choices_then cs ss) (choices_end cs ss) ∙ after_alone cs ss)
+    alone_starts s.first (parts_then s.more (choices_then cs ss)) ∙ (sum_run within.Alone s (choices_then cs ss) (choices_end cs ss)
+    ∙ after_alone cs ss)
 choice_run (Least first more) cs ss =
-    sum_run within.Minimum first (sums_then more (choices_then cs ss)) (sums_end more (choices_then cs ss)) ∙ sums_run more (choices_then cs ss)
+    sum_run within.Minimum first (sums_then more (choices_then cs ss)) (sums_end more (choices_then cs ss))
+    ∙ sums_run more (choices_then cs ss)
 
 choices_run : (cs : List Choice) (ss : List Symbol) → run place.Alternatives (choices_then cs ss) ≡ run place.Name ss
 choices_run [] ss = refl
 choices_run (c ∷ cs) ss = choice_run c cs ss ∙ choices_run cs ss
 
-start_follows : (cs : List Choice) (ss : List Symbol) → run place.StartBelow (choices_then cs ss) ≡ run place.Alternatives (choices_then cs ss)
+start_follows : (cs : List Choice) (ss : List Symbol) → run place.StartBelow (choices_then cs ss)
+    ≡ run place.Alternatives (choices_then cs ss)
 start_follows [] ss = refl
 start_follows (c ∷ cs) ss = refl
 
-start_below : (b : Option Below) (cs : List Choice) (ss : List Symbol) → run place.StartBelow (below_then b (choices_then cs ss)) ≡ run place.Alternatives (choices_then cs ss)
+start_below : (b : Option Below) (cs : List Choice) (ss : List Symbol)
+    → run place.StartBelow (below_then b (choices_then cs ss)) ≡ run place.Alternatives (choices_then cs ss)
 start_below None cs ss = start_follows cs ss
 start_below (Some b) cs ss = refl
 
-start_run : (m : Option ℕ) (r : Ratio) (cs : List Choice) (ss : List Symbol) → run place.Start (minus_then m (ratio_then r (choices_then cs ss))) ≡ run place.Alternatives (choices_then cs ss)
+start_run : (m : Option ℕ) (r : Ratio) (cs : List Choice) (ss : List Symbol)
+    → run place.Start (minus_then m (ratio_then r (choices_then cs ss))) ≡ run place.Alternatives (choices_then cs ss)
 start_run None r cs ss = start_below r.below cs ss
 start_run (Some at) r cs ss = start_below r.below cs ss
 
@@ -134,7 +146,8 @@ spelled_runs ss (e ∷ es) h = ap (run place.First) h ∙ equations_run (e ∷ e
 abbrev pub run_then : List Symbol → Option Place → Option Place
 run_then ss o = option_and_then (λ q. run q ss) o
 
-after_run : (xs ys : List Symbol) (o : Option Place) → ((p : Place) → run p (xs ++ ys) ≡ run_then ys (run p xs)) → run_then (xs ++ ys) o ≡ run_then ys (run_then xs o)
+after_run : (xs ys : List Symbol) (o : Option Place) → ((p : Place) → run p (xs ++ ys) ≡ run_then ys (run p xs))
+    → run_then (xs ++ ys) o ≡ run_then ys (run_then xs o)
 after_run xs ys None h = refl
 after_run xs ys (Some q) h = h q
 

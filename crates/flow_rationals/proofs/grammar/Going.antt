@@ -12,7 +12,8 @@ step_only None = refl
 step_only (Some q) = refl
 
 -- where i symbols go through to a place, one more goes as the machine goes on from there
-pub run_more : (ss : List Symbol) (i : ℕ) (x : Symbol) (p : Place) (o : Option Place) → i < length ss → x ≡ get_or ss i x → run place.First (take i ss) ≡ Some p → o ≡ next p x → run place.First (take (i + 1) ss) ≡ o
+pub run_more : (ss : List Symbol) (i : ℕ) (x : Symbol) (p : Place) (o : Option Place) → i < length ss → x ≡ get_or ss i x
+    → run place.First (take i ss) ≡ Some p → o ≡ next p x → run place.First (take (i + 1) ss) ≡ o
 run_more ss i x p o h at before e =
     ap (run place.First) (take_more ss i x h)
     ∙ (run-append place.First (take i ss) (get_or ss i x ∷ [])

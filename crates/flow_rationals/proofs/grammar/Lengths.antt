@@ -11,7 +11,8 @@ use Rattle.flow_rationals.specs.declared.reading.written.Addends.{Addends}
 use Rattle.flow_rationals.specs.declared.reading.written.Choice.{Choice}
 use Rattle.flow_rationals.specs.declared.reading.written.Choice.TheVariants.{Alone, Least}
 use Rattle.flow_rationals.specs.declared.reading.written.Written.{Written}
-use Rattle.flow_rationals.specs.Grammar.{below_then, ratio_then, minus_then, part_then, parts_then, sum_then, sums_then, choice_then, choices_then, equation_then, equations_symbols, Spells}
+use Rattle.flow_rationals.specs.Grammar.{below_then, ratio_then, minus_then, part_then, parts_then, sum_then, sums_then, choice_then}
+use Rattle.flow_rationals.specs.Grammar.{choices_then, equation_then, equations_symbols, Spells}
 use Rattle.flow_rationals.specs.EquFaults.{choice_count}
 
 below_len : (b : Option Below) (ss : List Symbol) → length ss ≤ length (below_then b ss)
@@ -56,7 +57,12 @@ equation_len e ss = omega (arith, start_len e.minus e.start (choices_then e.choi
 equations_len : (es : List Written) → length es + choice_count es ≤ length (equations_symbols es)
 equations_len [] = omega arith
 equations_len (e ∷ es) =
-    omega (arith, equation_len e (equations_symbols es), equations_len es, sum_by_from (λ (x : Written). length x.choices) (0 + length e.choices) es)
+    omega (
+      arith,
+      equation_len e (equations_symbols es),
+      equations_len es,
+      sum_by_from (λ (x : Written). length x.choices) (0 + length e.choices) es,
+    )
 
 -- equations and their alternatives together are at most as many as their symbols
 pub spelled_len : (ss : List Symbol) (es : List Written) → Spells ss es → length es + choice_count es ≤ length ss

@@ -11,7 +11,8 @@ use Rattle.flow_rationals.specs.declared.reading.written.Choice.{Choice}
 use Rattle.flow_rationals.specs.declared.reading.written.Choice.TheVariants.{Alone, Least}
 use Rattle.flow_rationals.specs.declared.reading.written.Written.{Written}
 use Rattle.flow_rationals.specs.Found.{NoColon, EndsSum, EndsPart}
-use Rattle.flow_rationals.specs.Grammar.{below_then, ratio_then, factor_then, minus_then, part_then, parts_then, sum_then, sums_then, choice_then, choices_then, equation_then, equations_symbols, Spells}
+use Rattle.flow_rationals.specs.Grammar.{below_then, ratio_then, factor_then, minus_then, part_then, parts_then, sum_then, sums_then}
+use Rattle.flow_rationals.specs.Grammar.{choice_then, choices_then, equation_then, equations_symbols, Spells}
 use Rattle.flow_rationals.proofs.grammar.Complete.{parts_end, sums_end, choices_end}
 
 -- what stands after a part is no `:` and no `*`
@@ -150,7 +151,8 @@ choices_once (c ∷ cs) (d ∷ ds) r s e =
     let y = choices_once cs ds r s x.1 in
     (ap₂ (λ a b. a ∷ b) x.0 y.0, y.1)
 
-start_once : (m n : Option ℕ) (p q : Ratio) (r s : List Symbol) → NoColon r → NoColon s → minus_then m (ratio_then p r) ≡ minus_then n (ratio_then q s) → (m ≡ n) × (p ≡ q) × (r ≡ s)
+start_once : (m n : Option ℕ) (p q : Ratio) (r s : List Symbol) → NoColon r → NoColon s
+    → minus_then m (ratio_then p r) ≡ minus_then n (ratio_then q s) → (m ≡ n) × (p ≡ q) × (r ≡ s)
 start_once None None p q r s h k e = let x = ratio_once p q r s h k e in (refl, x.0, x.1)
 start_once None (Some n) p q r s h k e = absurd cc
 start_once (Some m) None p q r s h k e = absurd cc
@@ -167,9 +169,12 @@ equation_once : (d e : Written) (r s : List Symbol) → equation_then d r ≡ eq
 equation_once d e r s h =
     let name : d.name ≡ e.name = cc in
     let at : d.at ≡ e.at = cc in
-    let tail : minus_then d.minus (ratio_then d.start (choices_then d.choices r)) ≡ minus_then e.minus (ratio_then e.start (choices_then e.choices s)) = cc in
-    let ends : (cs : List Choice) (t : List Symbol) → NoColon (choices_then cs t) = λ cs t. no_colon (choices_then cs t) (parts_end [] (choices_then cs t) (choices_end cs t)) in
-    let x = start_once d.minus e.minus d.start e.start (choices_then d.choices r) (choices_then e.choices s) (ends d.choices r) (ends e.choices s) tail in
+    let tail : minus_then d.minus (ratio_then d.start (choices_then d.choices r))
+    ≡ minus_then e.minus (ratio_then e.start (choices_then e.choices s)) = cc in
+    let ends : (cs : List Choice) (t : List Symbol) → NoColon (choices_then cs t) =
+    λ cs t. no_colon (choices_then cs t) (parts_end [] (choices_then cs t) (choices_end cs t)) in
+    let x = start_once d.minus e.minus d.start e.start (choices_then d.choices r) (choices_then e.choices s) (ends d.choices r)
+    (ends e.choices s) tail in
     let y = choices_once d.choices e.choices r s x.2 in (
       ap (λ n. written_with n d.at d.minus d.start d.choices) name
           ∙ ap (λ a. written_with e.name a d.minus d.start d.choices) at
@@ -191,4 +196,5 @@ equations_once (d ∷ ds) (e ∷ es) h =
 pub spelled_once : (symbols : List Symbol) (ds es : List Written) → Spells symbols ds → Spells symbols es → ds ≡ es
 spelled_once symbols [] es h k = absurd h
 spelled_once symbols (d ∷ ds) [] h k = absurd k
-spelled_once symbols (d ∷ ds) (e ∷ es) h k = let both : equations_symbols (d ∷ ds) ≡ equations_symbols (e ∷ es) = cc in equations_once (d ∷ ds) (e ∷ es) both
+spelled_once symbols (d ∷ ds) (e ∷ es) h k = let both : equations_symbols (d ∷ ds) ≡ equations_symbols (e ∷ es) = cc in
+    equations_once (d ∷ ds) (e ∷ es) both

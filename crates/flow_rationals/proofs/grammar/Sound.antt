@@ -13,7 +13,8 @@ use Rattle.flow_rationals.specs.declared.reading.written.Addends.{Addends}
 use Rattle.flow_rationals.specs.declared.reading.written.Choice.{Choice}
 use Rattle.flow_rationals.specs.declared.reading.written.Choice.TheVariants.{Alone, Least}
 use Rattle.flow_rationals.specs.declared.reading.written.Written.{Written}
-use Rattle.flow_rationals.specs.Grammar.{ratio_then, minus_then, part_then, parts_then, sums_then, choice_then, choices_then, equations_symbols, Spells, Begins}
+use Rattle.flow_rationals.specs.Grammar.{ratio_then, minus_then, part_then, parts_then, sums_then, choice_then, choices_then}
+use Rattle.flow_rationals.specs.Grammar.{equations_symbols, Spells, Begins}
 use Rattle.flow_rationals.specs.Places.{comma_next, paren_next, run}
 use Rattle.flow_rationals.proofs.grammar.Complete.{spelled_runs, run_then, run-append}
 
@@ -45,7 +46,8 @@ StartOf ss = (r : Ratio) × (cs : List Choice) × (es : List Written) × (ss ≡
 
 -- a start, maybe with a `-`, and what may follow it, after these
 abbrev BodyOf : (List Symbol → List Symbol) → List Symbol → Type 0
-BodyOf f ss = (m : Option ℕ) × (r : Ratio) × (cs : List Choice) × (es : List Written) × (ss ≡ f (minus_then m (ratio_then r (choices_then cs (equations_symbols es)))))
+BodyOf f ss = (m : Option ℕ) × (r : Ratio) × (cs : List Choice) × (es : List Written)
+    × (ss ≡ f (minus_then m (ratio_then r (choices_then cs (equations_symbols es)))))
 
 -- What the symbols from a place on are, whatever stands before it.
 abbrev Rest : Place → List Symbol → Type 0
@@ -115,7 +117,8 @@ paren_after within.Minimum ss h = ([], symbol.RightParen ∷ ss, refl, ([], ss, 
 alone_plain : (w : Within) (ss : List Symbol) → After w ss → (n at : ℕ) → PartOf w (symbol.Number n at ∷ ss)
 alone_plain w ss h = λ n at. (Constant None (plain n at), ss, refl, h)
 
-alone_over : (w : Within) (ss : List Symbol) → After w ss → (n at d dat : ℕ) → PartOf w (symbol.Number n at ∷ symbol.Colon ∷ symbol.Number d dat ∷ ss)
+alone_over : (w : Within) (ss : List Symbol) → After w ss → (n at d dat : ℕ)
+    → PartOf w (symbol.Number n at ∷ symbol.Colon ∷ symbol.Number d dat ∷ ss)
 alone_over w ss h = λ n at d dat. (Constant None (over n at d dat), ss, refl, h)
 
 alone_minus : (w : Within) (ss : List Symbol) → After w ss → (m n at : ℕ) → PartOf w (symbol.Minus m ∷ symbol.Number n at ∷ ss)
@@ -124,7 +127,8 @@ alone_minus w ss h = λ m n at. (Constant (Some m) (plain n at), ss, refl, h)
 start_plain : (ss : List Symbol) → Choices ss → (n at : ℕ) → StartOf (symbol.Number n at ∷ ss)
 start_plain ss h = λ n at. (plain n at, h.0, h.1, ap (λ x. symbol.Number n at ∷ x) h.2)
 
-named_equation : (name : List ℕ) (at : ℕ) (ss : List Symbol) → Rest place.Equal ss → (e : Written) × (es : List Written) × (symbol.Named name at ∷ ss ≡ equations_symbols (e ∷ es))
+named_equation : (name : List ℕ) (at : ℕ) (ss : List Symbol) → Rest place.Equal ss
+    → (e : Written) × (es : List Written) × (symbol.Named name at ∷ ss ≡ equations_symbols (e ∷ es))
 named_equation name at ss h =
     (record { name = name; at = at; minus = h.0; start = h.1; choices = h.2 }, h.3, ap (λ x. symbol.Named name at ∷ x) h.4)
 
@@ -141,7 +145,8 @@ sound place.Max (symbol.Max ∷ ss) h = let b = sound place.Opening ss h in (b.0
 sound place.Max ss h = absurd cc
 sound place.Opening (symbol.LeftParen ∷ ss) h = let b = sound place.Start ss h in (b.0, b.1, b.2, b.3, ap (λ x. symbol.LeftParen ∷ x) b.4)
 sound place.Opening ss h = absurd cc
-sound place.Start (symbol.Minus m ∷ ss) h = let b = sound place.StartNumber ss h in (Some m, b.0, b.1, b.2, ap (λ x. symbol.Minus m ∷ x) b.3)
+sound place.Start (symbol.Minus m ∷ ss) h = let b = sound place.StartNumber ss h in
+    (Some m, b.0, b.1, b.2, ap (λ x. symbol.Minus m ∷ x) b.3)
 sound place.Start (symbol.Number n at ∷ ss) h = let b = sound place.StartBelow ss h n at in (None, b.0, b.1, b.2, b.3)
 sound place.Start ss h = absurd cc
 sound place.StartNumber (symbol.Number n at ∷ ss) h = sound place.StartBelow ss h n at
@@ -151,13 +156,19 @@ sound place.StartBelow (symbol.Comma ∷ ss) h = start_plain (symbol.Comma ∷ s
 sound place.StartBelow (symbol.RightParen ∷ ss) h = start_plain (symbol.RightParen ∷ ss) (paren_choices ss (sound place.Semicolon ss h))
 sound place.StartBelow ss h = absurd cc
 sound place.StartDen (symbol.Number d dat ∷ ss) h =
-    let b = sound place.Alternatives ss h in λ n at. (over n at d dat, b.0, b.1, ap (λ x. symbol.Number n at ∷ symbol.Colon ∷ symbol.Number d dat ∷ x) b.2)
+    let b = sound place.Alternatives ss h in λ n at. (
+      over n at d dat,
+      b.0,
+      b.1,
+      ap (λ x. symbol.Number n at ∷ symbol.Colon ∷ symbol.Number d dat ∷ x) b.2,
+    )
 sound place.StartDen ss h = absurd cc
 sound place.Alternatives (symbol.Comma ∷ ss) h = comma_choices ss (sound place.Alternative ss h)
 sound place.Alternatives (symbol.RightParen ∷ ss) h = paren_choices ss (sound place.Semicolon ss h)
 sound place.Alternatives ss h = absurd cc
 sound place.Alternative (symbol.Min ∷ ss) h = sound place.MinOpening ss h
-sound place.Alternative (symbol.Named name at ∷ ss) h = alone_of (symbol.Named name at ∷ ss) (Multiple None name at, ss, refl, sound (place.AfterPart within.Alone) ss h)
+sound place.Alternative (symbol.Named name at ∷ ss) h = alone_of (symbol.Named name at ∷ ss)
+    (Multiple None name at, ss, refl, sound (place.AfterPart within.Alone) ss h)
 sound place.Alternative (symbol.Number n at ∷ ss) h = alone_of (symbol.Number n at ∷ ss) (sound (place.Factor within.Alone) ss h n at)
 sound place.Alternative (symbol.Minus m ∷ ss) h = alone_of (symbol.Minus m ∷ ss) (sound (place.Constant within.Alone) ss h m)
 sound place.Alternative ss h = absurd cc
@@ -169,7 +180,12 @@ sound (place.Part w) (symbol.Minus m ∷ ss) h = sound (place.Constant w) ss h m
 sound (place.Part w) ss h = absurd cc
 sound (place.Factor w) (symbol.Colon ∷ ss) h = sound (place.FactorDen w) ss h
 sound (place.Factor w) (symbol.Star ∷ ss) h =
-    let b = sound (place.Times w) ss h in λ n at. (Multiple (Some (plain n at)) b.0 b.1, b.2, ap (λ x. symbol.Number n at ∷ symbol.Star ∷ x) b.3, b.4)
+    let b = sound (place.Times w) ss h in λ n at. (
+      Multiple (Some (plain n at)) b.0 b.1,
+      b.2,
+      ap (λ x. symbol.Number n at ∷ symbol.Star ∷ x) b.3,
+      b.4,
+    )
 sound (place.Factor w) (symbol.Plus ∷ ss) h = alone_plain w (symbol.Plus ∷ ss) (plus_after w ss (sound (place.Part w) ss h))
 sound (place.Factor w) (symbol.Comma ∷ ss) h = alone_plain w (symbol.Comma ∷ ss) (comma_after w ss (sound (comma_next w) ss h))
 sound (place.Factor w) (symbol.RightParen ∷ ss) h = alone_plain w (symbol.RightParen ∷ ss) (paren_after w ss (sound (paren_next w) ss h))
@@ -178,7 +194,13 @@ sound (place.FactorDen w) (symbol.Number d dat ∷ ss) h = λ n at. sound (place
 sound (place.FactorDen w) ss h = absurd cc
 sound (place.FactorEnd w) (symbol.Star ∷ ss) h =
     let b = sound (place.Times w) ss h in
-    λ n at d dat. (Multiple (Some (over n at d dat)) b.0 b.1, b.2, ap (λ x. symbol.Number n at ∷ symbol.Colon ∷ symbol.Number d dat ∷ symbol.Star ∷ x) b.3, b.4)
+    λ n at d dat. (
+      Multiple (Some (over n at d dat)) b.0 b.1,
+      b.2,
+      ap (λ x. symbol.Number n at ∷ symbol.Colon ∷ symbol.Number d dat
+          ∷ symbol.Star ∷ x) b.3,
+      b.4,
+    )
 sound (place.FactorEnd w) (symbol.Plus ∷ ss) h = alone_over w (symbol.Plus ∷ ss) (plus_after w ss (sound (place.Part w) ss h))
 sound (place.FactorEnd w) (symbol.Comma ∷ ss) h = alone_over w (symbol.Comma ∷ ss) (comma_after w ss (sound (comma_next w) ss h))
 sound (place.FactorEnd w) (symbol.RightParen ∷ ss) h = alone_over w (symbol.RightParen ∷ ss) (paren_after w ss (sound (paren_next w) ss h))
@@ -190,7 +212,8 @@ sound (place.Constant w) ss h = absurd cc
 sound (place.ConstantBelow w) (symbol.Colon ∷ ss) h = sound (place.ConstantDen w) ss h
 sound (place.ConstantBelow w) (symbol.Plus ∷ ss) h = alone_minus w (symbol.Plus ∷ ss) (plus_after w ss (sound (place.Part w) ss h))
 sound (place.ConstantBelow w) (symbol.Comma ∷ ss) h = alone_minus w (symbol.Comma ∷ ss) (comma_after w ss (sound (comma_next w) ss h))
-sound (place.ConstantBelow w) (symbol.RightParen ∷ ss) h = alone_minus w (symbol.RightParen ∷ ss) (paren_after w ss (sound (paren_next w) ss h))
+sound (place.ConstantBelow w) (symbol.RightParen ∷ ss) h = alone_minus w (symbol.RightParen ∷ ss)
+    (paren_after w ss (sound (paren_next w) ss h))
 sound (place.ConstantBelow w) ss h = absurd cc
 sound (place.ConstantDen w) (symbol.Number d dat ∷ ss) h =
     let b = sound (place.AfterPart w) ss h in λ m n at. (Constant (Some m) (over n at d dat), ss, refl, b)
@@ -288,7 +311,8 @@ ends place.Done = refl
 -- symbols that go through begin a text
 pub through_begins : (front : List Symbol) (p : Place) → run place.First front ≡ Some p → Begins front
 through_begins front p h =
-    let whole : run place.First (front ++ ending p) ≡ Some place.Done = run-append place.First front (ending p) ∙ (ap (run_then (ending p)) h ∙ ends p) in
+    let whole : run place.First (front ++ ending p) ≡ Some place.Done =
+    run-append place.First front (ending p) ∙ (ap (run_then (ending p)) h ∙ ends p) in
     let s = sound place.First (front ++ ending p) whole in
     (s.0, ending p, s.1)
 

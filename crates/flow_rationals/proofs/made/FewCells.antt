@@ -1,5 +1,6 @@
 -- How large the joint problems of a system of equations can get.
-use Rattle.std.proofs.Common.{◌≡◌, ◌∙◌, ◌==◌, inl, inr, ⊎_elim, ℕ, suc, ◌+◌, ◌*◌, ◌≤◌, Bool, true, false, cond, List, [], ◌∷◌, ◌++◌, length, map, refl, ap, sym, subst, arith, mul-le-mul_right}
+use Rattle.std.proofs.Common.{◌≡◌, ◌∙◌, ◌==◌, inl, inr, ⊎_elim, ℕ, suc, ◌+◌, ◌*◌, ◌≤◌, Bool, true, false, cond, List, [], ◌∷◌, ◌++◌, length}
+use Rattle.std.proofs.Common.{map, refl, ap, sym, subst, arith, mul-le-mul_right}
 use Rattle.std.specs.Prelude.{ℤ, IsTrue, flat_map}
 use Rattle.std.specs.List.{filter, enumerate_from}
 use Rattle.std.proofs.lemmas.List.Sums.{sum_by-cons}
@@ -14,7 +15,8 @@ use Rattle.flow_systems.specs.Cells.{is_guard, guard_count, greatest, most, cell
 use Rattle.flow_rationals.specs.declared.equation.Sum.{Sum}
 use Rattle.flow_rationals.specs.declared.equation.Equation.{Equation}
 use Rattle.flow_rationals.specs.Equations.{are_equations}
-use Rattle.flow_rationals.specs.System.{variables_of, entry_and_loop, rows_of, start_form, start_actions, start_edge, sum_form, last_form, alternative_actions, alternative_edge, alternative_edges, edges_of, system_of}
+use Rattle.flow_rationals.specs.System.{variables_of, entry_and_loop, rows_of, start_form, start_actions, start_edge, sum_form, last_form}
+use Rattle.flow_rationals.specs.System.{alternative_actions, alternative_edge, alternative_edges, edges_of, system_of}
 use Rattle.flow_rationals.proofs.values.Sound.{IsSoundAlternative, AreSound, sound_equations, in_slice}
 use Rattle.flow_rationals.proofs.traces.Rows.{length-rows}
 use Rattle.flow_rationals.proofs.above.Places.{of_enumerated}
@@ -26,7 +28,8 @@ most_le count [] p m h = omega arith
 most_le count (e ∷ edges) p m h = by (e.to == p) (h e (inl refl)) (most_le count edges p m (λ f k. h f (inr k)))
   where
     by : (b : Bool) → count e.actions ≤ m → most count edges p ≤ m →
-        greatest (map (λ (f : Edge). count f.actions) (cond b (e ∷ filter (λ (f : Edge). f.to == p) edges) (filter (λ (f : Edge). f.to == p) edges))) ≤ m
+        greatest (map (λ (f : Edge). count f.actions) (cond b (e ∷ filter (λ (f : Edge). f.to == p) edges)
+        (filter (λ (f : Edge). f.to == p) edges))) ≤ m
     by true one rest = omega arith
     by false one rest = rest
 
@@ -34,7 +37,8 @@ most_le count (e ∷ edges) p m h = by (e.to == p) (h e (inl refl)) (most_le cou
 guard-cons : (a : Action) (actions : List Action) → guard_count (a ∷ actions) ≡ cond (is_guard a) 1 0 + guard_count actions
 guard-cons a actions = sum_by-cons (λ b. cond (is_guard b) 1 0) a actions
 
-start_guards : (n : ℕ) (equations : List Equation) (k : ℕ) → guard_count (flat_map (start_actions n) (enumerate_from k equations)) ≡ length equations
+start_guards : (n : ℕ) (equations : List Equation) (k : ℕ) → guard_count (flat_map (start_actions n) (enumerate_from k equations))
+    ≡ length equations
 start_guards n [] k = refl
 start_guards n (e ∷ equations) k =
     let rest = flat_map (start_actions n) (enumerate_from (k + 1) equations) in
@@ -44,7 +48,8 @@ start_guards n (e ∷ equations) k =
     let c = start_guards n equations (k + 1) in
     omega arith
 
-start_frees : (n : ℕ) (equations : List Equation) (k : ℕ) → free_count (flat_map (start_actions n) (enumerate_from k equations)) ≡ length equations
+start_frees : (n : ℕ) (equations : List Equation) (k : ℕ) → free_count (flat_map (start_actions n) (enumerate_from k equations))
+    ≡ length equations
 start_frees n [] k = refl
 start_frees n (e ∷ equations) k = ap suc (start_frees n equations (k + 1))
 
@@ -79,7 +84,8 @@ module _ (equations : List Equation) (sound : AreSound equations) where
           let r = of_flat_map (alternative_edges (length equations)) (enumerate_from 0 equations) edge j in
           let p = of_enumerated equations 0 r.0 r.1 in
           let s = of_map (alternative_edge (length equations) r.0.0) r.0.1.alternatives edge r.2 in
-          subst (λ (f : Edge). count f.actions ≤ m) s.2 (each r.0.0 s.0 ((sound.each r.0.1 (in_slice equations p.0 r.0.1 p.1)).alternatives s.0 s.1))
+          subst (λ (f : Edge). count f.actions ≤ m) s.2 (each r.0.0 s.0
+          ((sound.each r.0.1 (in_slice equations p.0 r.0.1 p.1)).alternatives s.0 s.1))
 
   few_guards : most guard_count (edges_of equations) 1 ≤ 16
   few_guards = most_le guard_count (edges_of equations) 1 16 (few_on guard_count 16
@@ -106,18 +112,22 @@ product n rows guards frees e h i j =
 few_cells : (equations : List Equation) → IsTrue (are_equations equations) → cells_of (system_of equations) ≤ 160890
 few_cells equations h =
     let sound = sound_equations equations h in
-    product (length equations) (length (rows_of (length equations))) (most guard_count (edges_of equations) 1) (most free_count (edges_of equations) 1)
+    product (length equations) (length (rows_of (length equations))) (most guard_count (edges_of equations) 1)
+    (most free_count (edges_of equations) 1)
     (length-rows (length equations)) sound.few (few_guards equations sound) (few_frees equations sound)
 
 -- the same of parts that are those of the system
 abbrev pub HasFew : ℕ → ℕ → List Edge → List (List ℤ) → Type 0
-HasFew variables points edges template = cells_of (record { variables = variables; points = points; edges = edges; template = template }) ≤ 160890
+HasFew variables points edges template = cells_of (record { variables = variables; points = points; edges = edges; template = template })
+    ≤ 160890
 
 -- the joint problems of a system of equations have at most 160890 cells
-pub few_cells_in : (equations : List Equation) (names : List (List ℕ)) (points : List Point) (edges : List Edge) (template : List (List ℤ)) → IsTrue (are_equations equations) →
+pub few_cells_in : (equations : List Equation) (names : List (List ℕ)) (points : List Point) (edges : List Edge) (template : List (List ℤ))
+    → IsTrue (are_equations equations) →
     names ≡ variables_of equations → points ≡ entry_and_loop → edges ≡ edges_of equations → template ≡ rows_of (length equations) →
     HasFew (length names) (length points) edges template
 few_cells_in equations names points edges template h e f g k =
     subst (λ v. HasFew v (length points) edges template) (sym (ap length e ∙ length-variables equations))
     (subst (λ (ps : List Point). HasFew (length equations + 1) (length ps) edges template) (sym f)
-    (subst (λ es. HasFew (length equations + 1) 2 es template) (sym g) (subst (λ t. HasFew (length equations + 1) 2 (edges_of equations) t) (sym k) (few_cells equations h))))
+    (subst (λ es. HasFew (length equations + 1) 2 es template) (sym g)
+    (subst (λ t. HasFew (length equations + 1) 2 (edges_of equations) t) (sym k) (few_cells equations h))))

@@ -1,5 +1,7 @@
 -- The flow and the rows of equations are within the limits.
-use Rattle.std.proofs.Common.{◌≡◌, ◌∙◌, ◌==◌, ◌&&◌, ◌||◌, not, eqb, inl, inr, ⊎_elim, ℕ, zero, suc, ◌+◌, ◌*◌, ◌<◌, ◌≤◌, Bool, true, false, true≢false, ℤ, pos, negsuc, neg_ℤ, nat_abs, to_z, of_z, w64, List, [], ◌∷◌, ◌++◌, length, map, refl, ap, ap₂, sym, subst, arith}
+use Rattle.std.proofs.Common.{◌≡◌, ◌∙◌, ◌==◌, ◌&&◌, ◌||◌, not, eqb, inl, inr, ⊎_elim, ℕ, zero, suc, ◌+◌, ◌*◌, ◌<◌, ◌≤◌, Bool, true, false}
+use Rattle.std.proofs.Common.{true≢false, ℤ, pos, negsuc, neg_ℤ, nat_abs, to_z, of_z, w64, List, [], ◌∷◌, ◌++◌, length, map, refl, ap, ap₂}
+use Rattle.std.proofs.Common.{sym, subst, arith}
 use Rattle.std.specs.Prelude.{IsTrue, flat_map, nat_le, nat_lt, if◌then◌else◌}
 use Rattle.std.specs.List.{list_all, range_with_len, enumerate_from}
 use Rattle.std.proofs.lemmas.Bool.{leb-true, and_parts, and_from, eq-eqb, le-leb, lt-ltb}
@@ -23,7 +25,8 @@ use Rattle.flow_systems.specs.SystemLimits.{is_over, is_system}
 use Rattle.flow_rationals.specs.declared.equation.Sum.{Sum}
 use Rattle.flow_rationals.specs.declared.equation.Equation.{Equation}
 use Rattle.flow_rationals.specs.Equations.{is_from, is_start, alternative_count, are_equations}
-use Rattle.flow_rationals.specs.System.{variables_of, entry_and_loop, rows_of, start_form, start_actions, start_edge, sum_form, last_form, alternative_actions, alternative_edge, alternative_edges, edges_of}
+use Rattle.flow_rationals.specs.System.{variables_of, entry_and_loop, rows_of, start_form, start_actions, start_edge, sum_form, last_form}
+use Rattle.flow_rationals.specs.System.{alternative_actions, alternative_edge, alternative_edges, edges_of}
 use Rattle.flow_rationals.proofs.values.Sound.{IsSound, IsSoundAlternative, AreSound, sound_equations, in_slice}
 use Rattle.flow_rationals.proofs.traces.Rows.{length-rows}
 use Rattle.flow_rationals.proofs.above.Places.{of_enumerated}
@@ -43,7 +46,8 @@ term_number c i k h = by (k == i)
 
 numbers-multiple : (c : ℤ) (i : ℕ) (ks : List ℕ) → is_number c ≡ true → are_numbers (map (term c i) ks) ≡ true
 numbers-multiple c i [] h = refl
-numbers-multiple c i (k ∷ ks) h = and_from (is_number (term c i k)) (are_numbers (map (term c i) ks)) (term_number c i k h) (numbers-multiple c i ks h)
+numbers-multiple c i (k ∷ ks) h = and_from (is_number (term c i k)) (are_numbers (map (term c i) ks)) (term_number c i k h)
+    (numbers-multiple c i ks h)
 
 nat_abs-neg : (z : ℤ) → nat_abs (neg_ℤ z) ≡ nat_abs z
 nat_abs-neg (pos zero) = refl
@@ -56,12 +60,14 @@ number_negated z h = rw (nat_abs-neg z) h
 is_form_of : (width : ℕ) (coeffs : List ℤ) (constant : ℤ) → length coeffs ≡ width → are_numbers coeffs ≡ true → is_number constant ≡ true →
     is_form width (record { coeffs = coeffs; constant = constant }) ≡ true
 is_form_of width coeffs constant e h k =
-    and_from (length coeffs == width) (are_numbers coeffs && is_number constant) (eq-eqb (length coeffs) width e) (and_from (are_numbers coeffs) (is_number constant) h k)
+    and_from (length coeffs == width) (are_numbers coeffs && is_number constant) (eq-eqb (length coeffs) width e)
+    (and_from (are_numbers coeffs) (is_number constant) h k)
 
 multiple_form : (width : ℕ) (c : ℤ) (i : ℕ) (constant : ℤ) → is_number c ≡ true → is_number constant ≡ true →
     is_form width (record { coeffs = multiple width c i; constant = constant }) ≡ true
 multiple_form width c i constant h k =
-    is_form_of width (multiple width c i) constant (length-map-range_with_len (term c i) 0 width) (numbers-multiple c i (range_with_len 0 width) h) k
+    is_form_of width (multiple width c i) constant (length-map-range_with_len (term c i) 0 width)
+    (numbers-multiple c i (range_with_len 0 width) h) k
 
 from_number : (least : ℕ) (c : ℤ) → is_from least c ≡ true → is_number c ≡ true
 from_number least (pos n) h = (and_parts (nat_le least n) (nat_le n 9223372036854775807) h).1
@@ -80,9 +86,11 @@ negated_numbers (c ∷ cs) d h k =
     and_from (is_number (neg_ℤ c)) (are_numbers (map neg_ℤ cs ++ d ∷ [])) (number_negated c parts.0) (negated_numbers cs d parts.1 k)
 
 -- the negated numbers, with one more after them
-pub negated_pushed : (cs list more : List ℤ) (y d : ℤ) → list ≡ map neg_ℤ cs → more ≡ list ++ y ∷ [] → y ≡ d → are_numbers cs ≡ true → is_number d ≡ true → are_numbers more ≡ true
+pub negated_pushed : (cs list more : List ℤ) (y d : ℤ) → list ≡ map neg_ℤ cs → more ≡ list ++ y ∷ [] → y ≡ d → are_numbers cs ≡ true
+    → is_number d ≡ true → are_numbers more ≡ true
 negated_pushed cs list more y d e p v h k =
-    subst (λ zs. are_numbers zs ≡ true) (sym (p ∙ ap (λ ys. ys ++ y ∷ []) e ∙ ap (λ z. map neg_ℤ cs ++ z ∷ []) v)) (negated_numbers cs d h k)
+    subst (λ zs. are_numbers zs ≡ true) (sym (p ∙ ap (λ ys. ys ++ y ∷ []) e ∙ ap (λ z. map neg_ℤ cs ++ z ∷ []) v))
+    (negated_numbers cs d h k)
 
 -- a number of a program as the code passes it
 pub number_same : (z : ℤ) → is_number z ≡ true → to_z w64 (of_z w64 z) ≡ z
@@ -92,10 +100,12 @@ sum_form_within : (n : ℕ) (s : Sum) → IsSound n s → is_form (n + 1) (sum_f
 sum_form_within n s sound =
     is_form_of (n + 1) (map neg_ℤ s.coeffs ++ s.den ∷ []) (neg_ℤ s.constant)
     (length_push (map neg_ℤ s.coeffs) s.den ∙ ap (λ m. m + 1) (length-map s.coeffs neg_ℤ ∙ sound.size))
-    (negated_numbers s.coeffs s.den (numbers_from s.coeffs sound.coeffs) (from_number 1 s.den sound.den)) (number_negated s.constant sound.constant)
+    (negated_numbers s.coeffs s.den (numbers_from s.coeffs sound.coeffs) (from_number 1 s.den sound.den))
+    (number_negated s.constant sound.constant)
 
 -- ---- the edge into the loop
-start_action : (n k : ℕ) (e : Equation) → k < n → is_start e.start ≡ true → (a : Action) → In (start_actions n (k, e)) a → is_action (n + 1) a ≡ true
+start_action : (n k : ℕ) (e : Equation) → k < n → is_start e.start ≡ true → (a : Action) → In (start_actions n (k, e)) a
+    → is_action (n + 1) a ≡ true
 start_action n k e l h a m =
     ⊎_elim (λ f. subst (λ b. is_action (n + 1) b ≡ true) f (lt-ltb k (n + 1) (omega arith)))
     (λ m'. ⊎_elim (λ f. subst (λ b. is_action (n + 1) b ≡ true) f guard) (λ none. absurd none) m') m
@@ -105,22 +115,26 @@ start_action n k e l h a m =
         let parts = and_parts (is_number e.start.num) (nat_le e.start.den 9223372036854775807) h in
         multiple_form (n + 1) (pos e.start.den) k (neg_ℤ e.start.num) parts.1 (number_negated e.start.num parts.0)
 
-length-starts : (n : ℕ) (equations : List Equation) (k : ℕ) → length (flat_map (start_actions n) (enumerate_from k equations)) ≡ 2 * length equations
+length-starts : (n : ℕ) (equations : List Equation) (k : ℕ) → length (flat_map (start_actions n) (enumerate_from k equations))
+    ≡ 2 * length equations
 length-starts n [] k = refl
 length-starts n (e ∷ equations) k = let h = length-starts n equations (k + 1) in omega arith
 
 -- ---- the edges of alternatives
-alternative_action : (n k : ℕ) (sums : List Sum) → k < n → IsSoundAlternative n sums → (a : Action) → In (alternative_actions n k sums) a → is_action (n + 1) a ≡ true
+alternative_action : (n k : ℕ) (sums : List Sum) → k < n → IsSoundAlternative n sums → (a : Action) → In (alternative_actions n k sums) a
+    → is_action (n + 1) a ≡ true
 alternative_action n k sums l sound a m =
     ⊎_elim (λ f. subst (λ b. is_action (n + 1) b ≡ true) f (lt-ltb n (n + 1) (omega arith)))
     (λ m'. ⊎_elim guards (λ last. ⊎_elim (λ f. subst (λ b. is_action (n + 1) b ≡ true) f assign) (λ none. absurd none) last)
     (of_append (map (λ s. Guard (sum_form s)) sums) (Assign k (last_form n) ∷ []) a m')) m
   where
     guards : In (map (λ s. Guard (sum_form s)) sums) a → is_action (n + 1) a ≡ true
-    guards h = let s = of_map (λ (u : Sum). Guard (sum_form u)) sums a h in subst (λ b. is_action (n + 1) b ≡ true) s.2 (sum_form_within n s.0 (sound.each s.0 s.1))
+    guards h = let s = of_map (λ (u : Sum). Guard (sum_form u)) sums a h in
+        subst (λ b. is_action (n + 1) b ≡ true) s.2 (sum_form_within n s.0 (sound.each s.0 s.1))
 
     assign : is_action (n + 1) (Assign k (last_form n)) ≡ true
-    assign = and_from (nat_lt k (n + 1)) (is_form (n + 1) (last_form n)) (lt-ltb k (n + 1) (omega arith)) (multiple_form (n + 1) (pos 1) n (pos 0) refl refl)
+    assign = and_from (nat_lt k (n + 1)) (is_form (n + 1) (last_form n)) (lt-ltb k (n + 1) (omega arith))
+        (multiple_form (n + 1) (pos 1) n (pos 0) refl refl)
 
 length-alternative : (n k : ℕ) (sums : List Sum) → length (alternative_actions n k sums) ≡ length sums + 2
 length-alternative n k sums =
@@ -128,7 +142,8 @@ length-alternative n k sums =
     let b = length-map sums (λ s. Guard (sum_form s)) in
     omega arith
 
-length-edges : (n : ℕ) (equations : List Equation) (k : ℕ) → length (flat_map (alternative_edges n) (enumerate_from k equations)) ≡ alternative_count equations
+length-edges : (n : ℕ) (equations : List Equation) (k : ℕ) → length (flat_map (alternative_edges n) (enumerate_from k equations))
+    ≡ alternative_count equations
 length-edges n [] k = refl
 length-edges n (e ∷ equations) k =
     length-append (map (alternative_edge n k) e.alternatives) (flat_map (alternative_edges n) (enumerate_from (k + 1) equations))
@@ -136,11 +151,13 @@ length-edges n (e ∷ equations) k =
     ∙ sym (sum_by-cons (λ (f : Equation). length f.alternatives) e equations)
 
 -- ---- all edges
-edge_within : (n from : ℕ) (actions : List Action) → from < 2 → length actions ≤ 256 → ((a : Action) → In actions a → is_action (n + 1) a ≡ true) →
+edge_within : (n from : ℕ) (actions : List Action) → from < 2 → length actions ≤ 256
+    → ((a : Action) → In actions a → is_action (n + 1) a ≡ true) →
     is_edge (n + 1) 2 (record { from = from; to = 1; actions = actions }) ≡ true
 edge_within n from actions l few h =
     and_from (nat_lt from 2) (nat_le (length actions) 256 && list_all (is_action (n + 1)) actions) (lt-ltb from 2 l)
-    (and_from (nat_le (length actions) 256) (list_all (is_action (n + 1)) actions) (le-leb (length actions) 256 few) (all_from (is_action (n + 1)) actions h))
+    (and_from (nat_le (length actions) 256) (list_all (is_action (n + 1)) actions) (le-leb (length actions) 256 few)
+    (all_from (is_action (n + 1)) actions h))
 
 module _ (equations : List Equation) (sound : AreSound equations) where
   start_within : is_edge (length equations + 1) 2 (start_edge equations) ≡ true
@@ -153,7 +170,8 @@ module _ (equations : List Equation) (sound : AreSound equations) where
       let l : r.0.0 < n = (let i = slice_get_within equations p.0 r.0.1 p.1 in let f = p.2 in omega arith) in
       start_action n r.0.0 r.0.1 l (sound.each r.0.1 (in_slice equations p.0 r.0.1 p.1)).start a r.2)
 
-  alternative_within : (edge : Edge) → In (flat_map (alternative_edges (length equations)) (enumerate_from 0 equations)) edge → is_edge (length equations + 1) 2 edge ≡ true
+  alternative_within : (edge : Edge) → In (flat_map (alternative_edges (length equations)) (enumerate_from 0 equations)) edge
+      → is_edge (length equations + 1) 2 edge ≡ true
   alternative_within edge m =
       let n = length equations in
       let r = of_flat_map (alternative_edges n) (enumerate_from 0 equations) edge m in
@@ -162,7 +180,8 @@ module _ (equations : List Equation) (sound : AreSound equations) where
       let s = of_map (alternative_edge n r.0.0) r.0.1.alternatives edge r.2 in
       let good = (sound.each r.0.1 (in_slice equations p.0 r.0.1 p.1)).alternatives s.0 s.1 in
       subst (λ e. is_edge (n + 1) 2 e ≡ true) s.2
-      (edge_within n 1 (alternative_actions n r.0.0 s.0) (omega arith) (let e = length-alternative n r.0.0 s.0 in let f = good.few in omega arith)
+      (edge_within n 1 (alternative_actions n r.0.0 s.0) (omega arith)
+      (let e = length-alternative n r.0.0 s.0 in let f = good.few in omega arith)
       (alternative_action n r.0.0 s.0 l good))
 
   edges_within : list_all (is_edge (length equations + 1) 2) (edges_of equations) ≡ true
@@ -174,9 +193,11 @@ module _ (equations : List Equation) (sound : AreSound equations) where
 
 -- there is one variable for each equation, and one more
 pub length-variables : (equations : List Equation) → length (variables_of equations) ≡ length equations + 1
-length-variables equations = length_push (map (λ (e : Equation). e.name) equations) (105 ∷ 110 ∷ 116 ∷ []) ∙ ap (λ m. m + 1) (length-map equations (λ (e : Equation). e.name))
+length-variables equations = length_push (map (λ (e : Equation). e.name) equations) (105 ∷ 110 ∷ 116 ∷ [])
+    ∙ ap (λ m. m + 1) (length-map equations (λ (e : Equation). e.name))
 
-flow_limits : (equations : List Equation) → IsTrue (are_equations equations) → IsTrue (is_flow (variables_of equations) entry_and_loop (edges_of equations))
+flow_limits : (equations : List Equation) → IsTrue (are_equations equations)
+    → IsTrue (is_flow (variables_of equations) entry_and_loop (edges_of equations))
 flow_limits equations h =
     let sound = sound_equations equations h in
     let few = sound.few in
@@ -191,7 +212,8 @@ flow_limits equations h =
     (subst (λ k. list_all (is_edge k 2) edges ≡ true) (sym e) (edges_within equations sound)))))
 
 -- variables, points and edges of equations within the limits are a flow within the limits
-pub flow_within : (equations : List Equation) (names : List (List ℕ)) (points : List Point) (edges : List Edge) → IsTrue (are_equations equations) →
+pub flow_within : (equations : List Equation) (names : List (List ℕ)) (points : List Point) (edges : List Edge)
+    → IsTrue (are_equations equations) →
     names ≡ variables_of equations → points ≡ entry_and_loop → edges ≡ edges_of equations → IsTrue (is_flow names points edges)
 flow_within equations names points edges h e f g =
     subst (λ x. IsTrue (is_flow x points edges)) (sym e) (subst (λ x. IsTrue (is_flow (variables_of equations) x edges)) (sym f)
@@ -223,16 +245,21 @@ rows_limits : (n : ℕ) → 1 ≤ n → n ≤ 11 → IsTrue (is_template (rows_o
 rows_limits n h k =
     let e = length-rows n in
     and_from (nat_le 1 (length (rows_of n)) && nat_le (length (rows_of n)) 288) _
-    (and_from (nat_le 1 (length (rows_of n))) (nat_le (length (rows_of n)) 288) (le-leb 1 (length (rows_of n)) (omega arith)) (le-leb (length (rows_of n)) 288 (omega arith)))
+    (and_from (nat_le 1 (length (rows_of n))) (nat_le (length (rows_of n)) 288) (le-leb 1 (length (rows_of n)) (omega arith))
+    (le-leb (length (rows_of n)) 288 (omega arith)))
     (all_from (λ row. is_row row && length row == width_of (rows_of n)) (rows_of n) (λ row m.
     let p = row_passes n row m in
-    and_from (is_row row) (length row == width_of (rows_of n)) p.0 (eq-eqb (length row) (width_of (rows_of n)) (p.1 ∙ sym (width-rows n h)))))
+    and_from (is_row row) (length row == width_of (rows_of n)) p.0 (eq-eqb (length row) (width_of (rows_of n))
+    (p.1 ∙ sym (width-rows n h)))))
 
 -- one row for each of at most 11 names is a template within the limits
-pub rows_within : (n k : ℕ) (rows : List (List ℤ)) → rows ≡ map (multiple (n + 1) (pos 1)) (range_with_len 0 k) → k ≡ n → 1 ≤ n → n ≤ 11 → IsTrue (is_template rows)
-rows_within n k rows e f h l = subst (λ x. IsTrue (is_template x)) (sym (e ∙ ap (λ m. map (multiple (n + 1) (pos 1)) (range_with_len 0 m)) f)) (rows_limits n h l)
+pub rows_within : (n k : ℕ) (rows : List (List ℤ)) → rows ≡ map (multiple (n + 1) (pos 1)) (range_with_len 0 k) → k ≡ n → 1 ≤ n → n ≤ 11
+    → IsTrue (is_template rows)
+rows_within n k rows e f h l = subst (λ x. IsTrue (is_template x)) (sym
+    (e ∙ ap (λ m. map (multiple (n + 1) (pos 1)) (range_with_len 0 m)) f)) (rows_limits n h l)
 
-system_limits : (equations : List Equation) → IsTrue (are_equations equations) → IsTrue (is_system (length (variables_of equations)) 2 (rows_of (length equations)))
+system_limits : (equations : List Equation) → IsTrue (are_equations equations)
+    → IsTrue (is_system (length (variables_of equations)) 2 (rows_of (length equations)))
 system_limits equations h =
     let sound = sound_equations equations h in
     let few = sound.few in
@@ -240,12 +267,16 @@ system_limits equations h =
     let names = length (variables_of equations) in
     let e = length-rows n in
     and_from (is_over names (rows_of n)) (nat_le (2 * length (rows_of n)) 2048)
-    (all_from (λ row. length row == names) (rows_of n) (λ row m. eq-eqb (length row) names ((row_passes n row m).1 ∙ sym (length-variables equations))))
+    (all_from (λ row. length row == names) (rows_of n) (λ row m. eq-eqb (length row) names
+    ((row_passes n row m).1 ∙ sym (length-variables equations))))
     (le-leb (2 * length (rows_of n)) 2048 (omega arith))
 
 -- variables, points and rows of equations within the limits are a system within the limits
-pub system_within : (equations : List Equation) (names : List (List ℕ)) (points : List Point) (template : List (List ℤ)) → IsTrue (are_equations equations) →
-    names ≡ variables_of equations → points ≡ entry_and_loop → template ≡ rows_of (length equations) → IsTrue (is_system (length names) (length points) template)
+pub system_within : (equations : List Equation) (names : List (List ℕ)) (points : List Point) (template : List (List ℤ))
+    → IsTrue (are_equations equations) →
+    names ≡ variables_of equations → points ≡ entry_and_loop → template ≡ rows_of (length equations)
+    → IsTrue (is_system (length names) (length points) template)
 system_within equations names points template h e f g =
-    subst (λ x. IsTrue (is_system (length x) (length points) template)) (sym e) (subst (λ x. IsTrue (is_system (length (variables_of equations)) (length x) template)) (sym f)
+    subst (λ x. IsTrue (is_system (length x) (length points) template)) (sym e)
+    (subst (λ x. IsTrue (is_system (length (variables_of equations)) (length x) template)) (sym f)
     (subst (λ x. IsTrue (is_system (length (variables_of equations)) 2 x)) (sym g) (system_limits equations h)))

@@ -1,5 +1,6 @@
 -- The traces of an alternative's edge: the name gets any value that is at most each sum.
-use Rattle.std.proofs.Common.{◌≡◌, ◌∙◌, inl, inr, ⊎_elim, ℕ, ◌+◌, ◌<◌, ℤ, neg_ℤ, List, [], ◌∷◌, ◌++◌, length, get_or, map, refl, ap, ap₂, sym, subst, arith}
+use Rattle.std.proofs.Common.{◌≡◌, ◌∙◌, inl, inr, ⊎_elim, ℕ, ◌+◌, ◌<◌, ℤ, neg_ℤ, List, [], ◌∷◌, ◌++◌, length, get_or, map, refl, ap, ap₂}
+use Rattle.std.proofs.Common.{sym, subst, arith}
 use Rattle.std.specs.Prelude.{slice_set}
 use Rattle.std.proofs.lemmas.List.{get_or-set_same, set-get_or}
 use Rattle.base_facts.specs.Elements.{In}
@@ -42,25 +43,31 @@ sum_form_value : (n : ℕ) (s : Sum) (x : RationalState) → IsSound n s → len
     valueℚ (sum_form s) x ≡ (whole s.den *ℚ get_or x n zero_ℚ -ℚ parts_sum s.coeffs (values_of x)) +ℚ neg_ℚ (whole s.constant)
 sum_form_value n s x sound e =
     let d = guard_dot s.coeffs s.den x (let f = sound.size in omega arith) in
-    ap₂ (λ a b. a +ℚ b) (d ∙ ap (λ k. whole s.den *ℚ get_or x k zero_ℚ -ℚ parts_sum s.coeffs (values_of x)) sound.size) (whole-neg s.constant)
+    ap₂ (λ a b. a +ℚ b) (d ∙ ap (λ k. whole s.den *ℚ get_or x k zero_ℚ -ℚ parts_sum s.coeffs (values_of x)) sound.size)
+    (whole-neg s.constant)
 
 module _ (n : ℕ) (s : Sum) (x : RationalState) (sound : IsSound n s) (size : length x ≡ n + 1) where
   -- the guard passes exactly where the last variable times the denominator is at most the sum
-  pub guard_passes : get_or x n zero_ℚ *ℚ whole s.den ≤ℚ parts_sum s.coeffs (values_of x) +ℚ whole s.constant → valueℚ (sum_form s) x ≤ℚ zero_ℚ
-  guard_passes h = subst (λ y. y ≤ℚ zero_ℚ) (sym (sum_form_value n s x sound size)) (by (get_or x n zero_ℚ) (whole s.den) (parts_sum s.coeffs (values_of x)) (whole s.constant) h)
+  pub guard_passes : get_or x n zero_ℚ *ℚ whole s.den ≤ℚ parts_sum s.coeffs (values_of x) +ℚ whole s.constant
+      → valueℚ (sum_form s) x ≤ℚ zero_ℚ
+  guard_passes h = subst (λ y. y ≤ℚ zero_ℚ) (sym (sum_form_value n s x sound size))
+      (by (get_or x n zero_ℚ) (whole s.den) (parts_sum s.coeffs (values_of x)) (whole s.constant) h)
     where
       by : (q d p k : ℚ) → q *ℚ d ≤ℚ p +ℚ k → (d *ℚ q -ℚ p) +ℚ neg_ℚ k ≤ℚ zero_ℚ
       by q d p k i = lin_le (q ∷ d ∷ p ∷ k ∷ []) (le i ∷ []) (search reads_all depth 40) tt
 
   -- a state that passes a sum's guard has the last variable, times the denominator, at most the sum
-  pub passes_guard : valueℚ (sum_form s) x ≤ℚ zero_ℚ → get_or x n zero_ℚ *ℚ whole s.den ≤ℚ parts_sum s.coeffs (values_of x) +ℚ whole s.constant
-  passes_guard h = by (get_or x n zero_ℚ) (whole s.den) (parts_sum s.coeffs (values_of x)) (whole s.constant) (subst (λ y. y ≤ℚ zero_ℚ) (sum_form_value n s x sound size) h)
+  pub passes_guard : valueℚ (sum_form s) x ≤ℚ zero_ℚ → get_or x n zero_ℚ *ℚ whole s.den ≤ℚ parts_sum s.coeffs (values_of x) +ℚ whole
+      s.constant
+  passes_guard h = by (get_or x n zero_ℚ) (whole s.den) (parts_sum s.coeffs (values_of x)) (whole s.constant)
+      (subst (λ y. y ≤ℚ zero_ℚ) (sum_form_value n s x sound size) h)
     where
       by : (q d p k : ℚ) → (d *ℚ q -ℚ p) +ℚ neg_ℚ k ≤ℚ zero_ℚ → q *ℚ d ≤ℚ p +ℚ k
       by q d p k i = lin_le (q ∷ d ∷ p ∷ k ∷ []) (le i ∷ []) (search reads_all depth 40) tt
 
 -- ---- guards in a row
-guards_pass : (sums : List Sum) (rest : List Action) (x y : RationalState) → ((s : Sum) → In sums s → valueℚ (sum_form s) x ≤ℚ zero_ℚ) → Traces rest x y →
+guards_pass : (sums : List Sum) (rest : List Action) (x y : RationalState) → ((s : Sum) → In sums s → valueℚ (sum_form s) x ≤ℚ zero_ℚ)
+    → Traces rest x y →
     Traces (map (λ s. Guard (sum_form s)) sums ++ rest) x y
 guards_pass [] rest x y h t = t
 guards_pass (s ∷ sums) rest x y h t = (h s (inl refl), guards_pass sums rest x y (λ u m. h u (inr m)) t)
@@ -82,7 +89,8 @@ pub alternative_passes : (n k : ℕ) (sums : List Sum) (x : RationalState) → (
 alternative_passes n k sums x h =
     let q = get_or x n zero_ℚ in (
       q,
-      subst (λ z. Traces (map (λ s. Guard (sum_form s)) sums ++ Assign k (last_form n) ∷ []) z (slice_set x k q)) (sym (set-get_or x n zero_ℚ))
+      subst (λ z. Traces (map (λ s. Guard (sum_form s)) sums ++ Assign k (last_form n) ∷ []) z (slice_set x k q))
+          (sym (set-get_or x n zero_ℚ))
           (guards_pass sums (Assign k (last_form n) ∷ []) x (slice_set x k q) h (ap (λ w. slice_set x k w) (sym (last_value n x)))),
     )
 

@@ -1,5 +1,6 @@
 -- The rows of the system are the names' values.
-use Rattle.std.proofs.Common.{◌≡◌, ◌∙◌, ℕ, zero, suc, ◌+◌, ◌<◌, ℤ, pos, List, [], ◌∷◌, length, get_or, map, refl, ap, ap₂, sym, subst, arith, zero-add}
+use Rattle.std.proofs.Common.{◌≡◌, ◌∙◌, ℕ, zero, suc, ◌+◌, ◌<◌, ℤ, pos, List, [], ◌∷◌, length, get_or, map, refl, ap, ap₂, sym, subst}
+use Rattle.std.proofs.Common.{arith, zero-add}
 use Rattle.std.specs.Prelude.{slice_get, Some}
 use Rattle.std.specs.List.{range_with_len}
 use Rattle.std.proofs.lemmas.Bool.{eq-eqb, ne_eqb}
@@ -30,7 +31,8 @@ dot_past c i a (suc n) [] h = refl
 dot_past c i a (suc n) (y ∷ x) h =
     ap₂ (λ z w. (whole z *ℚ y) +ℚ w) (term_other c i a (λ e. omega arith)) (dot_past c i (a + 1) n x (omega arith)) ∙ none_added y zero_ℚ
 
-dot_from : (c : ℤ) (i a d n : ℕ) (x : RationalState) → a + d ≡ i → d < n → dotℚ (map (term c i) (range_with_len a n)) x ≡ whole c *ℚ get_or x d zero_ℚ
+dot_from : (c : ℤ) (i a d n : ℕ) (x : RationalState) → a + d ≡ i → d < n
+    → dotℚ (map (term c i) (range_with_len a n)) x ≡ whole c *ℚ get_or x d zero_ℚ
 dot_from c i a d zero x e h = absurd (omega arith)
 dot_from c i a d (suc n) [] e h = sym (*ℚ-zero (whole c))
 dot_from c i a zero (suc n) (y ∷ x) e h =

@@ -31,14 +31,16 @@ start_value n k start x h =
     ∙ ap (λ y. (get_or x k zero_ℚ *ℚ d) +ℚ y) (whole-neg start.num ∙ ap neg_ℚ (sym (times_den start)))
 
 start_passes : (n k : ℕ) (start : ℚ) (x : RationalState) → k < n → get_or x k zero_ℚ ≡ start → valueℚ (start_form n k start) x ≤ℚ zero_ℚ
-start_passes n k start x h e = subst (λ y. y ≤ℚ zero_ℚ) (sym (start_value n k start x h)) (by (get_or x k zero_ℚ *ℚ whole (pos start.den)) (start *ℚ whole (pos start.den)) (ap (λ y. y *ℚ whole (pos start.den)) e))
+start_passes n k start x h e = subst (λ y. y ≤ℚ zero_ℚ) (sym (start_value n k start x h))
+    (by (get_or x k zero_ℚ *ℚ whole (pos start.den)) (start *ℚ whole (pos start.den)) (ap (λ y. y *ℚ whole (pos start.den)) e))
   where
     by : (a b : ℚ) → a ≡ b → a +ℚ neg_ℚ b ≤ℚ zero_ℚ
     by a b f = lin_le (a ∷ b ∷ []) (eq f ∷ []) (search reads_all depth 40) tt
 
 passes_start : (n k : ℕ) (start : ℚ) (x : RationalState) → k < n → valueℚ (start_form n k start) x ≤ℚ zero_ℚ → get_or x k zero_ℚ ≤ℚ start
 passes_start n k start x h i =
-    le_by_times (den_positive start) (by (get_or x k zero_ℚ *ℚ whole (pos start.den)) (start *ℚ whole (pos start.den)) (subst (λ y. y ≤ℚ zero_ℚ) (start_value n k start x h) i))
+    le_by_times (den_positive start) (by (get_or x k zero_ℚ *ℚ whole (pos start.den)) (start *ℚ whole (pos start.den))
+    (subst (λ y. y ≤ℚ zero_ℚ) (start_value n k start x h) i))
   where
     by : (a b : ℚ) → a +ℚ neg_ℚ b ≤ℚ zero_ℚ → a ≤ℚ b
     by a b f = lin_le (a ∷ b ∷ []) (le f ∷ []) (search reads_all depth 40) tt
@@ -49,9 +51,11 @@ module _ (n : ℕ) where
   actions k equations = flat_map (start_actions n) (enumerate_from k equations)
 
   -- the values of the names before keep
-  kept : (equations : List Equation) (k : ℕ) (x y : RationalState) → Traces (actions k equations) x y → (i : ℕ) → i < k → get_or y i zero_ℚ ≡ get_or x i zero_ℚ
+  kept : (equations : List Equation) (k : ℕ) (x y : RationalState) → Traces (actions k equations) x y → (i : ℕ) → i < k
+      → get_or y i zero_ℚ ≡ get_or x i zero_ℚ
   kept [] k x y t i l = ap (λ z. get_or z i zero_ℚ) t
-  kept (e ∷ equations) k x y t i l = kept equations (k + 1) (slice_set x k t.0) y t.1.1 i (omega arith) ∙ get_or-set_other x k i t.0 zero_ℚ (λ f. omega arith)
+  kept (e ∷ equations) k x y t i l = kept equations (k + 1) (slice_set x k t.0) y t.1.1 i (omega arith)
+      ∙ get_or-set_other x k i t.0 zero_ℚ (λ f. omega arith)
 
   -- each of these names gets at most its start
   pub at_most_start : (equations : List Equation) (k : ℕ) (x y : RationalState) → Traces (actions k equations) x y →
@@ -63,15 +67,20 @@ module _ (n : ℕ) where
       let place : k ≡ j = omega arith in
       subst (λ g. get_or y j zero_ℚ ≤ℚ g.start) same (subst (λ m. get_or y m zero_ℚ ≤ℚ f.start) place
       (subst (λ q. q ≤ℚ f.start) (sym (kept equations (k + 1) z y t.1.1 k (omega arith))) (passes_start n k f.start z (omega arith) t.1.0)))
-  at_most_start (f ∷ equations) k x y t (suc i) j e s p l = at_most_start equations (k + 1) (slice_set x k t.0) y t.1.1 i j e s (omega arith) l
+  at_most_start (f ∷ equations) k x y t (suc i) j e s p l = at_most_start equations (k + 1) (slice_set x k t.0) y t.1.1 i j e s
+      (omega arith) l
 
   -- the starts themselves pass
   pub starts_pass : (equations : List Equation) (k : ℕ) (x : RationalState) → k + length equations ≤ n →
-      ((i j : ℕ) (e : Equation) → slice_get equations i ≡ Some e → k + i ≡ j → get_or x j zero_ℚ ≡ e.start) → Traces (actions k equations) x x
+      ((i j : ℕ) (e : Equation) → slice_get equations i ≡ Some e → k + i ≡ j → get_or x j zero_ℚ ≡ e.start)
+      → Traces (actions k equations) x x
   starts_pass [] k x l h = refl
   starts_pass (e ∷ equations) k x l h =
       let at = h 0 k e refl (omega arith) in (
         get_or x k zero_ℚ,
-        subst (λ z. Traces (Guard (start_form n k e.start) ∷ actions (k + 1) equations) z x) (sym (set-get_or x k zero_ℚ))
-            (start_passes n k e.start x (omega arith) at, starts_pass equations (k + 1) x (omega arith) (λ i j f s p. h (suc i) j f s (omega arith))),
+        subst (λ z. Traces (Guard (start_form n k e.start) ∷ actions (k + 1) equations) z x) (sym (set-get_or x k zero_ℚ)) (
+          start_passes n k e.start x (omega arith) at,
+          starts_pass equations (k + 1) x (omega arith)
+              (λ i j f s p. h (suc i) j f s (omega arith)),
+        ),
       )

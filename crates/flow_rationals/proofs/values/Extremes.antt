@@ -51,12 +51,15 @@ least_le (t ∷ sums) values s m =
     let x = sum_value t values in
     let y = least_value sums values in
     let both = lesser_by x y (cmp_ᴱ x y) refl in
-    ⊎_elim (λ e. subst (λ u. lesser x y ≤ᴱ sum_value u values) e both.0) (λ k. ≤ᴱ_trans (lesser x y) y (sum_value s values) both.1 (least_le sums values s k)) m
+    ⊎_elim (λ e. subst (λ u. lesser x y ≤ᴱ sum_value u values) e both.0)
+    (λ k. ≤ᴱ_trans (lesser x y) y (sum_value s values) both.1 (least_le sums values s k)) m
 
 -- what is at most each sum is at most the least of them
-pub le_least : (z : Ext) (sums : List Sum) (values : Values) → ((s : Sum) → In sums s → z ≤ᴱ sum_value s values) → z ≤ᴱ least_value sums values
+pub le_least : (z : Ext) (sums : List Sum) (values : Values) → ((s : Sum) → In sums s → z ≤ᴱ sum_value s values)
+    → z ≤ᴱ least_value sums values
 le_least z [] values h = le_top z
-le_least z (s ∷ sums) values h = le_lesser z (sum_value s values) (least_value sums values) (h s (inl refl)) (le_least z sums values (λ t m. h t (inr m)))
+le_least z (s ∷ sums) values h = le_lesser z (sum_value s values) (least_value sums values) (h s (inl refl))
+    (le_least z sums values (λ t m. h t (inr m)))
 
 -- ---- the greatest of a start and alternatives
 pub start_le : (x : Ext) (alternatives : List (List Sum)) (values : Values) → x ≤ᴱ greatest_value x alternatives values
@@ -67,7 +70,8 @@ start_le x (sums ∷ more) values =
     ≤ᴱ_trans x z (greater y z) (start_le x more values) (greater_by y z (cmp_ᴱ y z) refl).1
 
 -- an alternative is at most the greatest of them
-pub alternative_le : (x : Ext) (alternatives : List (List Sum)) (values : Values) (sums : List Sum) → In alternatives sums → least_value sums values ≤ᴱ greatest_value x alternatives values
+pub alternative_le : (x : Ext) (alternatives : List (List Sum)) (values : Values) (sums : List Sum) → In alternatives sums
+    → least_value sums values ≤ᴱ greatest_value x alternatives values
 alternative_le x [] values sums m = absurd m
 alternative_le x (other ∷ more) values sums m =
     let y = least_value other values in
@@ -77,8 +81,10 @@ alternative_le x (other ∷ more) values sums m =
     (λ k. ≤ᴱ_trans (least_value sums values) z (greater y z) (alternative_le x more values sums k) both.1) m
 
 -- where the start and each alternative are at most z, the greatest of them is
-pub greatest_le : (z x : Ext) (alternatives : List (List Sum)) (values : Values) → x ≤ᴱ z → ((sums : List Sum) → In alternatives sums → least_value sums values ≤ᴱ z) →
+pub greatest_le : (z x : Ext) (alternatives : List (List Sum)) (values : Values) → x ≤ᴱ z
+    → ((sums : List Sum) → In alternatives sums → least_value sums values ≤ᴱ z) →
     greatest_value x alternatives values ≤ᴱ z
 greatest_le z x [] values h i = h
 greatest_le z x (sums ∷ more) values h i =
-    greater_le z (least_value sums values) (greatest_value x more values) (i sums (inl refl)) (greatest_le z x more values h (λ other m. i other (inr m)))
+    greater_le z (least_value sums values) (greatest_value x more values) (i sums (inl refl))
+    (greatest_le z x more values h (λ other m. i other (inr m)))

@@ -1,12 +1,14 @@
 -- The value of a sum as a sum of values, part by part; it is monotone.
-use Rattle.std.proofs.Common.{◌≡◌, ◌∙◌, ◌&&◌, ◌||◌, ⊎_elim, ℕ, zero, suc, ◌<◌, Bool, true, false, ℤ, pos, negsuc, List, [], ◌∷◌, length, refl, ap, ap₂, sym, subst, subst₂, arith, zero-lt-suc, true≢false}
+use Rattle.std.proofs.Common.{◌≡◌, ◌∙◌, ◌&&◌, ◌||◌, ⊎_elim, ℕ, zero, suc, ◌<◌, Bool, true, false, ℤ, pos, negsuc, List, [], ◌∷◌, length}
+use Rattle.std.proofs.Common.{refl, ap, ap₂, sym, subst, subst₂, arith, zero-lt-suc, true≢false}
 use Rattle.std.specs.Prelude.{if◌then◌else◌}
 use Rattle.std.specs.List.{list_all}
 use Rattle.std.proofs.lemmas.Bool.{and_parts}
 use Rattle.std.proofs.lemmas.Int.{ints}
 use Rattle.base_numbers.specs.Rational.{ℚ, whole, zero_ℚ, ◌+ℚ◌, ◌-ℚ◌, ◌*ℚ◌, ◌/ℚ◌, ◌≤ℚ◌, ◌<ℚ◌}
 use Rattle.base_numbers.specs.Extended.{Ext, neg_inf, fin, pos_inf, ◌≤ᴱ◌}
-use Rattle.base_numbers.proofs.rational.Laws.{≤ℚ_refl, ≤ℚ_trans, le_of_lt_ℚ, le_or_lt, not_le_of_lt, ne_of_lt_ℚ, whole-zero, whole_le, zero-*ℚ, +ℚ_le, *ℚ_pos}
+use Rattle.base_numbers.proofs.rational.Laws.{≤ℚ_refl, ≤ℚ_trans, le_of_lt_ℚ, le_or_lt, not_le_of_lt, ne_of_lt_ℚ, whole-zero, whole_le}
+use Rattle.base_numbers.proofs.rational.Laws.{zero-*ℚ, +ℚ_le, *ℚ_pos}
 use Rattle.base_numbers.proofs.rational.Quotients.{quotient_times}
 use Rattle.base_numbers.proofs.tactics.Linear.{gap, gap_lt, ◌⊗◌}
 use Rattle.base_numbers.proofs.tactics.Linarith.{lin_le, lin_lt, le, ge0, gt0, reads_all}
@@ -56,7 +58,8 @@ plus-choose false false q true d r = refl
 plus-choose false false q false true r = refl
 plus-choose false false q false false r = refl
 
-folded_is : (cs : List ℤ) (values : Values) → folded cs values ≡ choose (has_part is_pos_inf cs values) (has_part is_neg_inf cs values) (parts_sum cs values)
+folded_is : (cs : List ℤ) (values : Values) → folded cs values ≡ choose (has_part is_pos_inf cs values) (has_part is_neg_inf cs values)
+    (parts_sum cs values)
 folded_is [] values = refl
 folded_is (c ∷ cs) values =
     let x = values 0 in
@@ -65,7 +68,8 @@ folded_is (c ∷ cs) values =
     ∙ plus-choose (is_positive c && is_pos_inf x) (is_positive c && is_neg_inf x) (whole c *ℚ number x)
     (has_part is_pos_inf cs rest) (has_part is_neg_inf cs rest) (parts_sum cs rest)
 
-scaled-choose : (s : Sum) (a b : Bool) (q : ℚ) → scaled s (choose a b q) ≡ (if a then pos_inf else if b then neg_inf else fin ((q +ℚ whole s.constant) /ℚ whole s.den))
+scaled-choose : (s : Sum) (a b : Bool) (q : ℚ) → scaled s (choose a b q)
+    ≡ (if a then pos_inf else if b then neg_inf else fin ((q +ℚ whole s.constant) /ℚ whole s.den))
 scaled-choose s true b q = refl
 scaled-choose s false true q = refl
 scaled-choose s false false q = refl
@@ -88,10 +92,12 @@ folded_fin [] f = refl
 folded_fin (c ∷ cs) f = ap₂ plus (part_fin c (f 0)) (folded_fin cs (λ k. f (suc k)))
 
 -- values with the same fractions have the same sum
-pub parts_sum_same : (cs : List ℤ) (values others : Values) → ((k : ℕ) → k < length cs → values k ≡ others k) → parts_sum cs values ≡ parts_sum cs others
+pub parts_sum_same : (cs : List ℤ) (values others : Values) → ((k : ℕ) → k < length cs → values k ≡ others k)
+    → parts_sum cs values ≡ parts_sum cs others
 parts_sum_same [] values others h = refl
 parts_sum_same (c ∷ cs) values others h =
-    ap₂ (λ x y. (whole c *ℚ number x) +ℚ y) (h 0 (zero-lt-suc (length cs))) (parts_sum_same cs (later values) (later others) (λ k l. h (suc k) (omega arith)))
+    ap₂ (λ x y. (whole c *ℚ number x) +ℚ y) (h 0 (zero-lt-suc (length cs)))
+    (parts_sum_same cs (later values) (later others) (λ k l. h (suc k) (omega arith)))
 
 -- ---- monotone
 times_le : {a b : ℚ} (c : ℚ) → zero_ℚ ≤ℚ c → a ≤ℚ b → c *ℚ a ≤ℚ c *ℚ b
@@ -137,7 +143,8 @@ plus_mono pos_inf (fin c) y y' h i = absurd h
 plus_mono pos_inf pos_inf y y' h i = tt
 
 -- greater values make a greater sum, where no coefficient is below 0
-pub folded_mono : (cs : List ℤ) (values others : Values) → list_all (is_from 0) cs ≡ true → ((k : ℕ) → k < length cs → values k ≤ᴱ others k) → folded cs values ≤ᴱ folded cs others
+pub folded_mono : (cs : List ℤ) (values others : Values) → list_all (is_from 0) cs ≡ true → ((k : ℕ) → k < length cs → values k ≤ᴱ others k)
+    → folded cs values ≤ᴱ folded cs others
 folded_mono [] values others h i = ≤ℚ_refl zero_ℚ
 folded_mono (c ∷ cs) values others h i =
     let parts = and_parts (is_from 0 c) (list_all (is_from 0) cs) h in
@@ -181,14 +188,16 @@ scaled_mono s (fin a) neg_inf h i = i
 scaled_mono s (fin a) (fin b) h i =
     let k = whole s.constant in
     let d = whole s.den in
-    le_quotient d h ((a +ℚ k) /ℚ d) (b +ℚ k) (≤ℚ_trans (product_le d h ((a +ℚ k) /ℚ d) (a +ℚ k) (≤ℚ_refl ((a +ℚ k) /ℚ d))) (+ℚ_le i (≤ℚ_refl k)))
+    le_quotient d h ((a +ℚ k) /ℚ d) (b +ℚ k) (≤ℚ_trans (product_le d h ((a +ℚ k) /ℚ d) (a +ℚ k) (≤ℚ_refl ((a +ℚ k) /ℚ d)))
+    (+ℚ_le i (≤ℚ_refl k)))
 scaled_mono s (fin a) pos_inf h i = tt
 scaled_mono s pos_inf neg_inf h i = i
 scaled_mono s pos_inf (fin b) h i = absurd i
 scaled_mono s pos_inf pos_inf h i = tt
 
 -- a fraction is at most a sum where what it asks of the parts is at most them
-pub scaled_below : (s : Sum) (q : ℚ) (x : Ext) → zero_ℚ <ℚ whole s.den → fin q ≤ᴱ scaled s x → fin (q *ℚ whole s.den -ℚ whole s.constant) ≤ᴱ x
+pub scaled_below : (s : Sum) (q : ℚ) (x : Ext) → zero_ℚ <ℚ whole s.den → fin q ≤ᴱ scaled s x
+    → fin (q *ℚ whole s.den -ℚ whole s.constant) ≤ᴱ x
 scaled_below s q neg_inf h i = i
 scaled_below s q (fin a) h i = over (whole s.den) (whole s.constant) (product_le (whole s.den) h q (a +ℚ whole s.constant) i)
   where
@@ -201,7 +210,8 @@ pub below_scaled : (s : Sum) (q a : ℚ) → zero_ℚ <ℚ whole s.den → q *�
 below_scaled s q a h i = le_quotient (whole s.den) h q (a +ℚ whole s.constant) i
 
 -- a sum's value is monotone
-pub sum_mono : (s : Sum) (values others : Values) → list_all (is_from 0) s.coeffs ≡ true → zero_ℚ <ℚ whole s.den → ((k : ℕ) → k < length s.coeffs → values k ≤ᴱ others k) →
+pub sum_mono : (s : Sum) (values others : Values) → list_all (is_from 0) s.coeffs ≡ true → zero_ℚ <ℚ whole s.den
+    → ((k : ℕ) → k < length s.coeffs → values k ≤ᴱ others k) →
     sum_value s values ≤ᴱ sum_value s others
 sum_mono s values others c d h =
     subst₂ (λ x y. x ≤ᴱ y) (sym (sum_value_is s values)) (sym (sum_value_is s others))

@@ -1,5 +1,6 @@
 -- What the limits of equations say of each sum.
-use Rattle.std.proofs.Common.{◌≡◌, ◌==◌, ◌&&◌, inl, inr, ⊎_elim, ℕ, zero, suc, ◌≤◌, Bool, true, true≢false, ℤ, pos, negsuc, List, [], ◌∷◌, length, sym, subst, arith}
+use Rattle.std.proofs.Common.{◌≡◌, ◌==◌, ◌&&◌, inl, inr, ⊎_elim, ℕ, zero, suc, ◌≤◌, Bool, true, true≢false, ℤ, pos, negsuc, List, [], ◌∷◌}
+use Rattle.std.proofs.Common.{length, sym, subst, arith}
 use Rattle.std.specs.Prelude.{IsTrue, slice_get, Some, nat_le}
 use Rattle.std.specs.List.{list_all}
 use Rattle.std.proofs.lemmas.Bool.{and_parts, eqb-true, leb-true}
@@ -16,7 +17,8 @@ use Rattle.flow_rationals.specs.Equations.{is_from, is_sum, is_alternative, is_s
 -- what each element of a list passes
 pub all_at : {A : Type 0} (p : A → Bool) (xs : List A) (x : A) → list_all p xs ≡ true → In xs x → p x ≡ true
 all_at p [] x h m = absurd m
-all_at p (y ∷ xs) x h m = let b = and_parts (p y) (list_all p xs) h in ⊎_elim (λ e. subst (λ z. p z ≡ true) e b.0) (λ k. all_at p xs x b.1 k) m
+all_at p (y ∷ xs) x h m = let b = and_parts (p y) (list_all p xs) h in
+    ⊎_elim (λ e. subst (λ z. p z ≡ true) e b.0) (λ k. all_at p xs x b.1 k) m
 
 -- what stands at a place is an element
 pub in_slice : {A : Type 0} (xs : List A) (k : ℕ) (x : A) → slice_get xs k ≡ Some x → In xs x
@@ -90,7 +92,8 @@ pub record AreSound (equations : List Equation) : Type 0 where
 pub sound_equations : (equations : List Equation) → IsTrue (are_equations equations) → AreSound equations
 sound_equations equations h =
     let n = length equations in
-    let a = and_parts (nat_le 1 n && nat_le n MOST_EQUATIONS) (nat_le (alternative_count equations) MOST_ALTERNATIVES && list_all (is_equation n) equations) h in
+    let a = and_parts (nat_le 1 n && nat_le n MOST_EQUATIONS) (nat_le (alternative_count equations) MOST_ALTERNATIVES
+    && list_all (is_equation n) equations) h in
     let b = and_parts (nat_le 1 n) (nat_le n MOST_EQUATIONS) a.0 in
     let c = and_parts (nat_le (alternative_count equations) MOST_ALTERNATIVES) (list_all (is_equation n) equations) a.1 in
     record {

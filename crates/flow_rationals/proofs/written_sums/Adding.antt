@@ -1,5 +1,6 @@
 -- One more amount.
-use Rattle.std.proofs.Common.{◌≡◌, ◌∙◌, ◌≤◌, ◌<◌, ◌+◌, ◌+ℤ◌, ◌++◌, ◌&&◌, Bool, true, false, cond, eqb, List, [], ◌∷◌, length, take, drop, map, get_or, ℕ, ℤ, pos, Option, MatchOption, IsTrue, IsFalse, refl, sym, ap, ap₂, arith, FitsSigned, w64}
+use Rattle.std.proofs.Common.{◌≡◌, ◌∙◌, ◌≤◌, ◌<◌, ◌+◌, ◌+ℤ◌, ◌++◌, ◌&&◌, Bool, true, false, cond, eqb, List, [], ◌∷◌, length, take, drop}
+use Rattle.std.proofs.Common.{map, get_or, ℕ, ℤ, pos, Option, MatchOption, IsTrue, IsFalse, refl, sym, ap, ap₂, arith, FitsSigned, w64}
 use Rattle.std.proofs.Math.ListN.{set, length-set}
 use Rattle.std.proofs.lemmas.Bool.{leb-true, eqb-true, eq-eqb, and_from}
 use Rattle.std.proofs.lemmas.Int.{fits_signed_from_abs}
@@ -20,7 +21,9 @@ number_fits z h = fits_signed_from_abs w64 z (omega (arith, leb-true _ _ h))
 pub total_more : (k : ℕ) (before : List Amount) (a : Amount) → total k (before ++ a ∷ []) ≡ total k before +ℤ share k a
 total_more k before a = fold-append (λ sum x. sum +ℤ share k x) (pos 0) before (a ∷ [])
 
-placed : (totals : List ℤ) (k place : ℕ) (before value new : ℤ) (b : Bool) → eqb place k ≡ b → place < length totals → get_or totals k (pos 0) ≡ before → new ≡ get_or totals place (pos 0) +ℤ value → get_or (set totals place new) k (pos 0) ≡ before +ℤ cond b value (pos 0)
+placed : (totals : List ℤ) (k place : ℕ) (before value new : ℤ) (b : Bool) → eqb place k ≡ b → place < length totals
+    → get_or totals k (pos 0) ≡ before → new ≡ get_or totals place (pos 0) +ℤ value
+    → get_or (set totals place new) k (pos 0) ≡ before +ℤ cond b value (pos 0)
 placed totals k place before value new true e h at n =
     let same : place ≡ k = eqb-true place k e in
     ap (λ j. get_or (set totals place new) j (pos 0)) (sym same)
@@ -32,7 +35,9 @@ placed totals k place before value new false e h at n =
     other p k f s = let t : eqb p k ≡ true = eq-eqb p k s in cc
 
 -- the amount is added in its place; read, value and new are as the code passes them
-pub added_some : (totals : List ℤ) (before : List Amount) (a : Amount) (place : ℕ) (read value sum new : ℤ) → AreTotals totals before → place ≡ a.0 → place ≤ 11 → read ≡ get_or totals place (pos 0) → value ≡ a.1 → IsTrue (is_number a.1) → sum ≡ read +ℤ value → IsTrue (is_number (read +ℤ value)) → new ≡ sum → IsTrue (fits_after before a) × AreTotals (set totals place new) (before ++ a ∷ [])
+pub added_some : (totals : List ℤ) (before : List Amount) (a : Amount) (place : ℕ) (read value sum new : ℤ) → AreTotals totals before
+    → place ≡ a.0 → place ≤ 11 → read ≡ get_or totals place (pos 0) → value ≡ a.1 → IsTrue (is_number a.1) → sum ≡ read +ℤ value
+    → IsTrue (is_number (read +ℤ value)) → new ≡ sum → IsTrue (fits_after before a) × AreTotals (set totals place new) (before ++ a ∷ [])
 added_some totals before a place read value sum new kept p w r v n s m e =
     let below : place < 12 = omega arith in
     let old : get_or totals place (pos 0) ≡ total a.0 before = kept.each place below ∙ ap (λ k. total k before) p in
@@ -56,23 +61,28 @@ and_true true c h = refl
 and_true false c h = cc
 
 -- an amount that doesn't fit, among those that are still to be added
-pub stays_out : (f : Part → Amount) (before : List Amount) (s : Bool) (ps : List Part) (i : ℕ) (p : Part) → i < length ps → p ≡ get_or ps i p → s ≡ stay_within before (map f (drop i ps)) → IsFalse (fits_after before (f p)) → IsFalse s
+pub stays_out : (f : Part → Amount) (before : List Amount) (s : Bool) (ps : List Part) (i : ℕ) (p : Part) → i < length ps
+    → p ≡ get_or ps i p → s ≡ stay_within before (map f (drop i ps)) → IsFalse (fits_after before (f p)) → IsFalse s
 stays_out f before s ps i p h e k out =
     k ∙ (ap (λ x. stay_within before (map f x)) (dropped ps i p h e) ∙ and_false (fits_after before (f p)) _ out)
 
 -- where an amount fits after those before it, all that are to come fit exactly where those after it do
-pub stays_more : (f : Part → Amount) (before : List Amount) (s : Bool) (ps : List Part) (i : ℕ) (p : Part) → i < length ps → p ≡ get_or ps i p → s ≡ stay_within before (map f (drop i ps)) → IsTrue (fits_after before (f p)) → s ≡ stay_within (before ++ f p ∷ []) (map f (drop (i + 1) ps))
+pub stays_more : (f : Part → Amount) (before : List Amount) (s : Bool) (ps : List Part) (i : ℕ) (p : Part) → i < length ps
+    → p ≡ get_or ps i p → s ≡ stay_within before (map f (drop i ps)) → IsTrue (fits_after before (f p))
+    → s ≡ stay_within (before ++ f p ∷ []) (map f (drop (i + 1) ps))
 stays_more f before s ps i p h e k fits =
     k ∙ (ap (λ x. stay_within before (map f x)) (dropped ps i p h e) ∙ and_true (fits_after before (f p)) _ fits)
 
 -- the amounts of i + 1 parts after the first are those of i parts, and one more
-pub amounts_more : (f : Part → Amount) (first : Part) (ps : List Part) (i : ℕ) (p : Part) → i < length ps → p ≡ get_or ps i p → map f (first ∷ take (i + 1) ps) ≡ map f (first ∷ take i ps) ++ f p ∷ []
+pub amounts_more : (f : Part → Amount) (first : Part) (ps : List Part) (i : ℕ) (p : Part) → i < length ps → p ≡ get_or ps i p
+    → map f (first ∷ take (i + 1) ps) ≡ map f (first ∷ take i ps) ++ f p ∷ []
 amounts_more f first ps i p h e =
     ap (λ x. f first ∷ map f x) (take_more ps i p h)
     ∙ (ap (λ x. f first ∷ x) (map-append f (take i ps) (get_or ps i p ∷ [])) ∙ ap (λ x. f first ∷ (map f (take i ps) ++ f x ∷ [])) (sym e))
 
 -- where the first amount fits, all fit where the others do
-pub first_fits : {X : Type 0} (K : X → Type 0) (r : Option X) (b c : Bool) → b ≡ true → MatchOption r (IsFalse c) (λ n. IsTrue c × K n) → MatchOption r (IsFalse (b && c)) (λ n. IsTrue (b && c) × K n)
+pub first_fits : {X : Type 0} (K : X → Type 0) (r : Option X) (b c : Bool) → b ≡ true → MatchOption r (IsFalse c) (λ n. IsTrue c × K n)
+    → MatchOption r (IsFalse (b && c)) (λ n. IsTrue (b && c) × K n)
 first_fits K r true c h m = m
 first_fits K r false c h m = cc
 

@@ -1,5 +1,6 @@
 -- Fractions of literals, and least common multiples.
-use Rattle.std.proofs.Common.{◌≡◌, ◌≢◌, ◌∙◌, ◌⊎◌, ⊎_elim, ◌≤◌, ◌<◌, ◌+◌, ◌*◌, ◌/◌, ◌++◌, List, [], ◌∷◌, length, take, drop, get_or, ℕ, zero, suc, ℤ, pos, nat_abs, Option, Some, None, IsSome, MatchOption, refl, sym, ap, subst, arith}
+use Rattle.std.proofs.Common.{◌≡◌, ◌≢◌, ◌∙◌, ◌⊎◌, ⊎_elim, ◌≤◌, ◌<◌, ◌+◌, ◌*◌, ◌/◌, ◌++◌, List, [], ◌∷◌, length, take, drop, get_or, ℕ, zero}
+use Rattle.std.proofs.Common.{suc, ℤ, pos, nat_abs, Option, Some, None, IsSome, MatchOption, refl, sym, ap, subst, arith}
 use Rattle.std.proofs.lemmas.Int.{ints}
 use native.Mathlib.Nat.{div-le_self, div-mul_cancel}
 use Rattle.std.proofs.Math.Nat.{mul-le-mul_left}
@@ -47,12 +48,14 @@ fraction_fits n d a b h = record {
 }
 
 -- `make` makes a fraction of two literals whose second isn't 0
-pub made_some : (n d : ℕ) (x y : ℤ) (P : ℚ → Type 0) (o : Option ℚ) → x ≡ pos n → y ≡ pos d → n ≤ 9223372036854775807 → 1 ≤ d → d ≤ 9223372036854775807 → MatchOption o ((y ≡ pos 0) ⊎ (¬ (Fits long_limit (whole x /ℚ whole y)))) P → IsSome o
+pub made_some : (n d : ℕ) (x y : ℤ) (P : ℚ → Type 0) (o : Option ℚ) → x ≡ pos n → y ≡ pos d → n ≤ 9223372036854775807 → 1 ≤ d
+    → d ≤ 9223372036854775807 → MatchOption o ((y ≡ pos 0) ⊎ (¬ (Fits long_limit (whole x /ℚ whole y)))) P → IsSome o
 made_some n d x y P (Some q) e f a b g m = refl
 made_some n d x y P None e f a b g m =
     absurd (⊎_elim
     (λ z. let k = ap nat_abs (sym f ∙ z) in omega (arith, k))
-    (λ no_fit. no_fit (subst (λ z. Fits long_limit (whole z /ℚ whole y)) (sym e) (subst (λ z. Fits long_limit (whole (pos n) /ℚ whole z)) (sym f)
+    (λ no_fit. no_fit (subst (λ z. Fits long_limit (whole z /ℚ whole y)) (sym e)
+    (subst (λ z. Fits long_limit (whole (pos n) /ℚ whole z)) (sym f)
     (fraction_fits n d a g (omega arith))))) m)
 
 -- what is left of one number times the other is their least common multiple
@@ -93,7 +96,8 @@ fold_above m [] = omega arith
 fold_above m (p ∷ ps) = omega (arith, lcm_above m (part_value p).den (den_pos (part_value p)), fold_above (lcm m (part_value p).den) ps)
 
 -- where a multiple on the way is too great, so is the last one
-pub multiple_out : (m g : ℕ) (ps : List Part) (i : ℕ) (p : Part) (d : ℕ) → i < length ps → p ≡ get_or ps i p → d ≡ (part_value p).den → g < lcm (common_multiple_of m (take i ps)) d → g < common_multiple_of m ps
+pub multiple_out : (m g : ℕ) (ps : List Part) (i : ℕ) (p : Part) (d : ℕ) → i < length ps → p ≡ get_or ps i p → d ≡ (part_value p).den
+    → g < lcm (common_multiple_of m (take i ps)) d → g < common_multiple_of m ps
 multiple_out m g ps i p d h e f out =
     let n = common_multiple_of m (take i ps) in
     let split : ps ≡ take i ps ++ p ∷ drop (i + 1) ps =

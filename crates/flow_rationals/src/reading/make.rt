@@ -13,10 +13,10 @@ use crate::equations::Equations;
 use crate::limits::MOST_EQUATIONS;
 use crate::reading::scaled::{Totals, common_den, ratio_value, signed_value, totals};
 use crate::reading::written::{Addends, Choice, Written};
-use std::alloc::{AllocError, Global};
 use base_fractions::Frac;
 use base_list::Sequence;
 use lang_tree::Coeffs;
+use std::alloc::{AllocError, Global};
 
 // The common denominator of a sum with small numbers.
 fn common_of(sum: &Addends) -> u64

@@ -14,8 +14,8 @@ ghost use Rattle.flow_rationals.specs.Found.{NoColon, EndsPart, EndsSum, Finds};
 use crate::reading::heads::{Mark, behind, minus, name, number};
 use crate::reading::symbol::Symbol;
 use crate::reading::written::{Addends, Below, Part, Ratio};
-use std::alloc::{AllocError, Global};
 use base_list::Sequence;
+use std::alloc::{AllocError, Global};
 
 // `:` and a number, if they stand first, and the symbols after them.
 fn below<'s>(symbols: &'s [Symbol]) -> Option<(Option<Below>, &'s [Symbol])>
@@ -47,7 +47,8 @@ pub(crate) fn ratio<'s>(symbols: &'s [Symbol]) -> Option<(Ratio, &'s [Symbol])>
 
 // A ratio with a `-` of this place before it, and the symbols after it.
 fn negative<'s>(at: u32, symbols: &'s [Symbol]) -> Option<(Part, &'s [Symbol])>
-    ensures found { (r : Ratio) (rest : List Symbol) → NoColon rest → symbols.now ≡ ratio_then r rest → Finds result (Constant (Some at) r) rest }
+    ensures found { (r : Ratio) (rest : List Symbol) → NoColon rest → symbols.now ≡ ratio_then r rest
+        → Finds result (Constant (Some at) r) rest }
     ensures shorter { IfSome result (λ found. length found.1.now < length symbols.now) }
 {
     match ratio(symbols) {
@@ -66,7 +67,8 @@ fn negative<'s>(at: u32, symbols: &'s [Symbol]) -> Option<(Part, &'s [Symbol])>
 fn factor<'s>(symbols: &'s [Symbol]) -> Option<(Part, &'s [Symbol])>
     ensures multiple { (r : Ratio) (n : List ℕ) (at : ℕ) (rest : List Symbol) → symbols.now ≡ ratio_then r (Star ∷ Named n at ∷ rest)
         → Finds result (Multiple (Some r) n at) rest }
-    ensures constant { (r : Ratio) (rest : List Symbol) → EndsPart rest → symbols.now ≡ ratio_then r rest → Finds result (Constant None r) rest }
+    ensures constant { (r : Ratio) (rest : List Symbol) → EndsPart rest → symbols.now ≡ ratio_then r rest
+        → Finds result (Constant None r) rest }
     ensures shorter { IfSome result (λ found. length found.1.now < length symbols.now) }
 {
     match ratio(symbols) {
@@ -114,7 +116,8 @@ pub(crate) fn sum<'s>(
     alloc: Global,
     symbols: &'s [Symbol],
 ) -> Result<Option<(Addends, &'s [Symbol])>, AllocError>
-    ensures found { IfOk result (λ found. (s : Addends) (rest : List Symbol) → EndsSum rest → symbols.now ≡ sum_then s rest → Finds found s rest) }
+    ensures found { IfOk result (λ found. (s : Addends) (rest : List Symbol) → EndsSum rest → symbols.now ≡ sum_then s rest
+        → Finds found s rest) }
     ensures shorter { IfOk result (λ found. IfSome found (λ f. length f.1.now < length symbols.now)) }
 {
     let Some((first, after)) = part(symbols) else {

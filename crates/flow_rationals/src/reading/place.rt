@@ -1,8 +1,10 @@
 //! Which token may stand where: a machine that goes from place to place.
 
 ghost use Rattle.std.specs.Prelude.{◌≡◌, MatchOption};
-ghost use Rattle.flow_rationals.specs.Places.{within_next, part_next, factor_next, factor_end_next, constant_below_next, number_next, name_next, start_next};
-ghost use Rattle.flow_rationals.specs.Places.{alternatives_next, start_below_next, alternative_next, name_or_end_next, only_next, next, GoesThrough, RefusedAt};
+ghost use Rattle.flow_rationals.specs.Places.{within_next, part_next, factor_next, factor_end_next, constant_below_next, number_next};
+ghost use Rattle.flow_rationals.specs.Places.{name_next, start_next};
+ghost use Rattle.flow_rationals.specs.Places.{alternatives_next, start_below_next, alternative_next, name_or_end_next, only_next, next};
+ghost use Rattle.flow_rationals.specs.Places.{GoesThrough, RefusedAt};
 
 use crate::reading::symbol::Symbol;
 

@@ -6,7 +6,8 @@ ghost use Rattle.base_numbers.specs.Rational.{whole, ◌/ℚ◌};
 ghost use Rattle.lang_tree.specs.Numbers.{is_number};
 ghost use Rattle.flow_rationals.specs.EquFaults.{below_faults};
 ghost use Rattle.flow_rationals.specs.Totals.{NoZeros, AreTotals};
-ghost use Rattle.flow_rationals.specs.WrittenSums.{is_named, den_of, factor_below, part_below, ratio_value, factor_value, signed_value, part_value, key, lcm, parts_of};
+ghost use Rattle.flow_rationals.specs.WrittenSums.{is_named, den_of, factor_below, part_below, ratio_value, factor_value, signed_value};
+ghost use Rattle.flow_rationals.specs.WrittenSums.{part_value, key, lcm, parts_of};
 ghost use Rattle.flow_rationals.specs.WrittenSums.{common_den, scaled_value, Amount, amount, fits_after, stay_within, is_small};
 
 use crate::limits::MOST_EQUATIONS;

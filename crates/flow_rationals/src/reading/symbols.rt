@@ -5,9 +5,9 @@ ghost use Rattle.flow_rationals.specs.Symbols.{word_symbol, sign_symbol, symbol_
 
 use crate::reading::literal::Literal;
 use crate::reading::symbol::Symbol;
-use std::alloc::{AllocError, Global};
 use lang_tokens::{Kind, Sign, Token};
 use lang_tree::Name;
+use std::alloc::{AllocError, Global};
 
 // The symbol of a name with these bytes.
 fn word_symbol(bytes: &[u8], at: u32) -> Symbol

@@ -7,23 +7,25 @@ ghost use Rattle.flow_rationals.specs.declared.reading.written.Addends.{Addends}
 ghost use Rattle.flow_rationals.specs.declared.reading.written.Choice.{Choice};
 ghost use Rattle.flow_rationals.specs.declared.reading.written.Choice.TheVariants.{Least};
 ghost use Rattle.flow_rationals.specs.declared.reading.written.Written.{Written};
-ghost use Rattle.flow_rationals.specs.Grammar.{minus_then, ratio_then, sum_then, sums_then, choice_then, choices_then, equation_then, Spells};
+ghost use Rattle.flow_rationals.specs.Grammar.{minus_then, ratio_then, sum_then, sums_then, choice_then, choices_then, equation_then};
+ghost use Rattle.flow_rationals.specs.Grammar.{Spells};
 ghost use Rattle.flow_rationals.specs.Found.{EndsSum, Finds};
 
 use crate::reading::heads::{Mark, behind, minus, name};
 use crate::reading::parts::{ratio, sum};
 use crate::reading::symbol::Symbol;
 use crate::reading::written::{Addends, Choice, Written};
-use std::alloc::{AllocError, Global};
 use base_list::Sequence;
 use lang_tree::Name;
+use std::alloc::{AllocError, Global};
 
 // The further sums of a minimum up to its `)`, and the symbols after it.
 fn sums<'s>(
     alloc: Global,
     symbols: &'s [Symbol],
 ) -> Result<Option<(Sequence<Addends>, &'s [Symbol])>, AllocError>
-    ensures found { IfOk result (λ found. (sums : List Addends) (rest : List Symbol) → symbols.now ≡ sums_then sums rest → Finds found sums rest) }
+    ensures found { IfOk result (λ found. (sums : List Addends) (rest : List Symbol) → symbols.now ≡ sums_then sums rest
+        → Finds found sums rest) }
     ensures shorter { IfOk result (λ found. IfSome found (λ f. length f.1.now < length symbols.now)) }
 {
     let mut sums = Vec::new(alloc);
@@ -46,7 +48,8 @@ fn least<'s>(
     alloc: Global,
     symbols: &'s [Symbol],
 ) -> Result<Option<(Choice, &'s [Symbol])>, AllocError>
-    ensures found { IfOk result (λ found. (s : Addends) (sums : List Addends) (rest : List Symbol) → symbols.now ≡ sum_then s (sums_then sums rest)
+    ensures found { IfOk result (λ found. (s : Addends) (sums : List Addends) (rest : List Symbol)
+        → symbols.now ≡ sum_then s (sums_then sums rest)
         → Finds found (Least s sums) rest) }
     ensures shorter { IfOk result (λ found. IfSome found (λ f. length f.1.now < length symbols.now)) }
 {
@@ -75,7 +78,8 @@ fn choice<'s>(
     alloc: Global,
     symbols: &'s [Symbol],
 ) -> Result<Option<(Choice, &'s [Symbol])>, AllocError>
-    ensures found { IfOk result (λ found. (c : Choice) (rest : List Symbol) → EndsSum rest → symbols.now ≡ choice_then c rest → Finds found c rest) }
+    ensures found { IfOk result (λ found. (c : Choice) (rest : List Symbol) → EndsSum rest → symbols.now ≡ choice_then c rest
+        → Finds found c rest) }
     ensures shorter { IfOk result (λ found. IfSome found (λ f. length f.1.now < length symbols.now)) }
 {
     match minimum(symbols) {
@@ -92,7 +96,8 @@ fn choices<'s>(
     alloc: Global,
     symbols: &'s [Symbol],
 ) -> Result<Option<(Sequence<Choice>, &'s [Symbol])>, AllocError>
-    ensures found { IfOk result (λ found. (cs : List Choice) (rest : List Symbol) → symbols.now ≡ choices_then cs rest → Finds found cs rest) }
+    ensures found { IfOk result (λ found. (cs : List Choice) (rest : List Symbol) → symbols.now ≡ choices_then cs rest
+        → Finds found cs rest) }
     ensures shorter { IfOk result (λ found. IfSome found (λ f. length f.1.now < length symbols.now)) }
 {
     let mut choices = Vec::new(alloc);

@@ -48,7 +48,8 @@ row_same : (s t : List ℤ) → Some s ≡ Some t → s ≡ t
 row_same s t e = cc
 
 -- a state fits where its two rows do
-both_fit : (v : Vector) (p : ℕ) (x : RationalState) → fin (dotℚ (pos 1 ∷ []) x) ≤ᴱ v p 0 → fin (dotℚ (minus_one ∷ []) x) ≤ᴱ v p 1 → Fits system v p x
+both_fit : (v : Vector) (p : ℕ) (x : RationalState) → fin (dotℚ (pos 1 ∷ []) x) ≤ᴱ v p 0 → fin (dotℚ (minus_one ∷ []) x) ≤ᴱ v p 1
+    → Fits system v p x
 both_fit v p x a b zero row e = subst (λ s. fin (dotℚ s x) ≤ᴱ v p 0) (row_same (pos 1 ∷ []) row e) a
 both_fit v p x a b (suc zero) row e = subst (λ s. fin (dotℚ s x) ≤ᴱ v p 1) (row_same (minus_one ∷ []) row e) b
 both_fit v p x a b (suc (suc r)) row e = cc
@@ -60,13 +61,15 @@ enters x y t =
     let f = form (pos 0) (pos 0) in
     let end : y ≡ valueℚ f (s.0 ∷ []) ∷ [] = subst (λ z. y ≡ slice_set z 0 (valueℚ f z)) (sym s.1) t.trace in
     subst (λ z. Fits system bounds 1 z) (sym end)
-    (both_fit bounds 1 (valueℚ f (s.0 ∷ []) ∷ []) (lin_le (s.0 ∷ []) [] (search reads_all depth 40) tt) (lin_le (s.0 ∷ []) [] (search reads_all depth 40) tt))
+    (both_fit bounds 1 (valueℚ f (s.0 ∷ []) ∷ []) (lin_le (s.0 ∷ []) [] (search reads_all depth 40) tt)
+    (lin_le (s.0 ∷ []) [] (search reads_all depth 40) tt))
 
 goes_again : (x y : RationalState) → Transition system bounds again x y → Fits system bounds 1 y
 goes_again x y t =
     let s = one_value x t.starts in
     let q = s.0 in
-    let at_q : RationalState → Type 0 = λ z. (valueℚ (form (pos 1) (negsuc 98)) z ≤ℚ zero_ℚ) × (y ≡ slice_set z 0 (valueℚ (form (pos 1) (pos 1)) z)) in
+    let at_q : RationalState → Type 0 = λ z. (valueℚ (form (pos 1) (negsuc 98)) z ≤ℚ zero_ℚ)
+    × (y ≡ slice_set z 0 (valueℚ (form (pos 1) (pos 1)) z)) in
     let trace = subst at_q (sym s.1) t.trace in
     let fits = subst (λ z. Fits system bounds 1 z) (sym s.1) t.fits in
     let low = fits 1 (minus_one ∷ []) refl in
@@ -85,22 +88,31 @@ leaves x y t =
     let high = fits 0 (pos 1 ∷ []) refl in
     let guard = trace.0 in
     subst (λ z. Fits system bounds 2 z) (sym trace.1)
-    (both_fit bounds 2 (q ∷ []) (lin_le (q ∷ []) (le high ∷ []) (search reads_all depth 40) tt) (lin_le (q ∷ []) (le guard ∷ []) (search reads_all depth 40) tt))
+    (both_fit bounds 2 (q ∷ []) (lin_le (q ∷ []) (le high ∷ []) (search reads_all depth 40) tt)
+    (lin_le (q ∷ []) (le guard ∷ []) (search reads_all depth 40) tt))
 
 abbrev Closed : Edge → Type 0
 Closed e = (x y : RationalState) → Transition system bounds e x y → Fits system bounds e.to y
 
 one_of_three : (e : Edge) → In (enter ∷ (again ∷ (leave ∷ []))) e → Closed e
 one_of_three e m =
-    ⊎_elim (λ k. subst Closed k enters) (λ n. ⊎_elim (λ k. subst Closed k goes_again) (λ l. ⊎_elim (λ k. subst Closed k leaves) (λ o. absurd o) l) n) m
+    ⊎_elim (λ k. subst Closed k enters) (λ n. ⊎_elim (λ k. subst Closed k goes_again)
+    (λ l. ⊎_elim (λ k. subst Closed k leaves) (λ o. absurd o) l) n) m
 
 post : PostSolution system bounds
 post = record { entry = λ r h. refl; closed = λ e x y t. one_of_three e (contains_in (enter ∷ (again ∷ (leave ∷ []))) e t.listed) x y t }
 
 -- ---- it solves the system
 -- a transition from one value to another, at any vector that the first fits
-moves : (v : Vector) (e : Edge) (x y : RationalState) → In (enter ∷ (again ∷ (leave ∷ []))) e → length x ≡ 1 → Fits system v e.from x → Traces e.actions x y → Transition system v e x y
-moves v e x y m size fits trace = record { listed = in_contains (enter ∷ (again ∷ (leave ∷ []))) e m; starts = size; fits = fits; trace = trace }
+moves : (v : Vector) (e : Edge) (x y : RationalState) → In (enter ∷ (again ∷ (leave ∷ []))) e → length x ≡ 1 → Fits system v e.from x
+    → Traces e.actions x y → Transition system v e x y
+moves v e x y m size fits trace = record {
+  listed = in_contains (enter ∷ (again ∷ (leave ∷ []))) e m;
+  starts = size;
+  fits = fits;
+  trace =
+      trace;
+}
 
 abbrev at : ℚ → RationalState
 at q = q ∷ []
@@ -116,13 +128,16 @@ moves_in : (v : Vector) → Fits system v 0 (at zero_ℚ) → Transition system 
 moves_in v fits = moves v enter (at zero_ℚ) entered (inl refl) refl fits refl
 
 moves_again : (v : Vector) (q : ℚ) → q ≤ℚ whole (pos 99) → Fits system v 1 (at q) → Transition system v again (at q) (next_of q)
-moves_again v q h fits = moves v again (at q) (next_of q) (inr (inl refl)) refl fits (lin_le (q ∷ []) (le h ∷ []) (search reads_all depth 40) tt, refl)
+moves_again v q h fits = moves v again (at q) (next_of q) (inr (inl refl)) refl fits
+    (lin_le (q ∷ []) (le h ∷ []) (search reads_all depth 40) tt, refl)
 
 moves_out : (v : Vector) (q : ℚ) → whole (pos 100) ≤ℚ q → Fits system v 1 (at q) → Transition system v leave (at q) (at q)
-moves_out v q h fits = moves v leave (at q) (at q) (inr (inr (inl refl))) refl fits (lin_le (q ∷ []) (le h ∷ []) (search reads_all depth 40) tt, refl)
+moves_out v q h fits = moves v leave (at q) (at q) (inr (inr (inl refl))) refl fits
+    (lin_le (q ∷ []) (le h ∷ []) (search reads_all depth 40) tt, refl)
 
 -- a number below a bound is exceeded by a transition whose end has the bound as the row's value
-shown : (p : ℕ) (row other : List ℤ) (number : Ext) (c : ℚ) (e : Edge) (x y : RationalState) → e.to ≡ p → Some other ≡ Some row → Transition system bounds e x y →
+shown : (p : ℕ) (row other : List ℤ) (number : Ext) (c : ℚ) (e : Edge) (x y : RationalState) → e.to ≡ p → Some other ≡ Some row
+    → Transition system bounds e x y →
     dotℚ other y ≡ c → number <ᴱ fin c → Exceeds system bounds p row number
 shown p row other number c e x y into listed t value smaller =
     record {
@@ -138,32 +153,40 @@ at_entry : (x : RationalState) → Fits system bounds 0 x
 at_entry x = both_fit bounds 0 x tt tt
 
 high_at : Fits system bounds 1 (at (whole (pos 99)))
-high_at = both_fit bounds 1 (at (whole (pos 99))) (lin_le [] [] (search reads_all depth 40) tt) (lin_le [] [] (search reads_all depth 40) tt)
+high_at = both_fit bounds 1 (at (whole (pos 99))) (lin_le [] [] (search reads_all depth 40) tt)
+    (lin_le [] [] (search reads_all depth 40) tt)
 
 top_at : Fits system bounds 1 (at (whole (pos 100)))
-top_at = both_fit bounds 1 (at (whole (pos 100))) (lin_le [] [] (search reads_all depth 40) tt) (lin_le [] [] (search reads_all depth 40) tt)
+top_at = both_fit bounds 1 (at (whole (pos 100))) (lin_le [] [] (search reads_all depth 40) tt)
+    (lin_le [] [] (search reads_all depth 40) tt)
 
-supported : (p r : ℕ) (row : List ℤ) (number : Ext) → 0 < p → p < 3 → slice_get intervals r ≡ Some row → number <ᴱ bounds p r → Exceeds system bounds p row number
+supported : (p r : ℕ) (row : List ℤ) (number : Ext) → 0 < p → p < 3 → slice_get intervals r ≡ Some row → number <ᴱ bounds p r
+    → Exceeds system bounds p row number
 supported zero r row number later within listed smaller = absurd (omega (arith, later))
 supported (suc zero) zero row number later within listed smaller =
     shown 1 row (pos 1 ∷ []) number (whole (pos 100)) again (at (whole (pos 99))) (next_of (whole (pos 99))) refl listed
-    (moves_again bounds (whole (pos 99)) (lin_le [] [] (search reads_all depth 40) tt) high_at) (lin_eq [] [] (search reads_all depth 40) tt) smaller
+    (moves_again bounds (whole (pos 99)) (lin_le [] [] (search reads_all depth 40) tt) high_at)
+    (lin_eq [] [] (search reads_all depth 40) tt) smaller
 supported (suc zero) (suc zero) row number later within listed smaller =
-    shown 1 row (minus_one ∷ []) number (whole (pos 0)) enter (at zero_ℚ) entered refl listed (moves_in bounds (at_entry (at zero_ℚ))) (lin_eq [] [] (search reads_all depth 40) tt) smaller
+    shown 1 row (minus_one ∷ []) number (whole (pos 0)) enter (at zero_ℚ) entered refl listed (moves_in bounds (at_entry (at zero_ℚ)))
+    (lin_eq [] [] (search reads_all depth 40) tt) smaller
 supported (suc zero) (suc (suc r)) row number later within listed smaller = cc
 supported (suc (suc zero)) zero row number later within listed smaller =
     shown 2 row (pos 1 ∷ []) number (whole (pos 100)) leave (at (whole (pos 100))) (at (whole (pos 100))) refl listed
-    (moves_out bounds (whole (pos 100)) (lin_le [] [] (search reads_all depth 40) tt) top_at) (lin_eq [] [] (search reads_all depth 40) tt) smaller
+    (moves_out bounds (whole (pos 100)) (lin_le [] [] (search reads_all depth 40) tt) top_at) (lin_eq [] [] (search reads_all depth 40) tt)
+    smaller
 supported (suc (suc zero)) (suc zero) row number later within listed smaller =
     shown 2 row (minus_one ∷ []) number (whole (negsuc 99)) leave (at (whole (pos 100))) (at (whole (pos 100))) refl listed
-    (moves_out bounds (whole (pos 100)) (lin_le [] [] (search reads_all depth 40) tt) top_at) (lin_eq [] [] (search reads_all depth 40) tt) smaller
+    (moves_out bounds (whole (pos 100)) (lin_le [] [] (search reads_all depth 40) tt) top_at) (lin_eq [] [] (search reads_all depth 40) tt)
+    smaller
 supported (suc (suc zero)) (suc (suc r)) row number later within listed smaller = cc
 supported (suc (suc (suc p))) r row number later within listed smaller = absurd (omega (arith, within))
 
 -- ---- it is at most every post-solution
 module _ (w : Vector) (other : PostSolution system w) where
   entry_fits : (x : RationalState) → Fits system w 0 x
-  entry_fits x = both_fit w 0 x (subst (λ b. fin (dotℚ (pos 1 ∷ []) x) ≤ᴱ b) (sym (other.entry 0 (omega arith))) tt) (subst (λ b. fin (dotℚ (minus_one ∷ []) x) ≤ᴱ b) (sym (other.entry 1 (omega arith))) tt)
+  entry_fits x = both_fit w 0 x (subst (λ b. fin (dotℚ (pos 1 ∷ []) x) ≤ᴱ b) (sym (other.entry 0 (omega arith))) tt)
+      (subst (λ b. fin (dotℚ (minus_one ∷ []) x) ≤ᴱ b) (sym (other.entry 1 (omega arith))) tt)
 
   entered_fits : Fits system w 1 entered
   entered_fits = other.closed enter (at zero_ℚ) entered (moves_in w (entry_fits (at zero_ℚ)))
@@ -184,7 +207,8 @@ module _ (w : Vector) (other : PostSolution system w) where
   between q h below =
       let e : q ≡ dotℚ (pos 1 ∷ []) (at q) = lin_eq (q ∷ []) [] (search reads_all depth 40) tt in
       let l : dotℚ (minus_one ∷ []) (at q) ≤ℚ whole (pos 0) = lin_le (q ∷ []) (le h ∷ []) (search reads_all depth 40) tt in
-      both_fit w 1 (at q) (subst (λ z. fin z ≤ᴱ w 1 0) e below) (≤ᴱ_trans (fin (dotℚ (minus_one ∷ []) (at q))) (fin (whole (pos 0))) (w 1 1) l zero_above)
+      both_fit w 1 (at q) (subst (λ z. fin z ≤ᴱ w 1 0) e below) (≤ᴱ_trans (fin (dotℚ (minus_one ∷ []) (at q))) (fin (whole (pos 0))) (w 1 1)
+      l zero_above)
 
   -- one more than a state that may go on is at most the bound
   one_more : (q : ℚ) → whole (pos 0) ≤ℚ q → q ≤ℚ whole (pos 99) → fin q ≤ᴱ w 1 0 → fin (dotℚ (pos 1 ∷ []) (next_of q)) ≤ᴱ w 1 0
@@ -215,7 +239,8 @@ module _ (w : Vector) (other : PostSolution system w) where
   out_fits : Fits system w 2 (at (whole (pos 100)))
   out_fits =
       let zero_le : whole (pos 0) ≤ℚ whole (pos 100) = lin_le [] [] (search reads_all depth 40) tt in
-      other.closed leave (at (whole (pos 100))) (at (whole (pos 100))) (moves_out w (whole (pos 100)) (≤ℚ_refl (whole (pos 100))) (between (whole (pos 100)) zero_le hundred))
+      other.closed leave (at (whole (pos 100))) (at (whole (pos 100)))
+      (moves_out w (whole (pos 100)) (≤ℚ_refl (whole (pos 100))) (between (whole (pos 100)) zero_le hundred))
 
   below : (p r : ℕ) → p < 3 → r < 2 → bounds p r ≤ᴱ w p r
   below zero r h k = subst (λ b. pos_inf ≤ᴱ b) (sym (other.entry r k)) tt

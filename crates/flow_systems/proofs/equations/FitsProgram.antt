@@ -58,7 +58,8 @@ rows_in (first ∷ rows) bounds x h (suc r) row e =
     let p = and_in (is_below (fin (dotℚ first x)) (bounds 0)) (fits_rows rows (λ k. bounds (suc k)) x) h in
     rows_in rows (λ k. bounds (suc k)) x p.1 r row e
 
-rows_out : (rows : List (List ℤ)) (bounds : ℕ → Ext) (x : RationalState) → ((r : ℕ) (row : List ℤ) → slice_get rows r ≡ Some row → fin (dotℚ row x) ≤ᴱ bounds r) →
+rows_out : (rows : List (List ℤ)) (bounds : ℕ → Ext) (x : RationalState)
+    → ((r : ℕ) (row : List ℤ) → slice_get rows r ≡ Some row → fin (dotℚ row x) ≤ᴱ bounds r) →
     T (fits_rows rows bounds x)
 rows_out [] bounds x f = tt
 rows_out (first ∷ rows) bounds x f =

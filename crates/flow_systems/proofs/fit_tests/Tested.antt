@@ -1,5 +1,6 @@
 -- The test of a state row by row.
-use Rattle.std.proofs.Common.{◌≡◌, ◌∙◌, ◌↔◌, ℕ, zero, suc, ◌+◌, ◌<◌, ◌≤◌, ⊎_elim, ℤ, Bool, true, false, T, cond, List, [], ◌∷◌, ◌++◌, length, get_or, drop, Some, None, refl, ap, sym, subst, subst₂, true≢false, add-one, arith}
+use Rattle.std.proofs.Common.{◌≡◌, ◌∙◌, ◌↔◌, ℕ, zero, suc, ◌+◌, ◌<◌, ◌≤◌, ⊎_elim, ℤ, Bool, true, false, T, cond, List, [], ◌∷◌, ◌++◌}
+use Rattle.std.proofs.Common.{length, get_or, drop, Some, None, refl, ap, sym, subst, subst₂, true≢false, add-one, arith}
 use Rattle.std.specs.Prelude.{IsTrue, slice_get}
 use Rattle.std.specs.Ordering.{partial_le, is_le, as_partial_cmp}
 use Rattle.std.specs.declared.cmp.Ordering.{Ordering}
@@ -70,41 +71,57 @@ pub record IsTested (rows : List (List ℤ)) (bounds : ℕ → Ext) (x : Rationa
 tested_none : (rows : List (List ℤ)) (bounds : ℕ → Ext) (x : RationalState) → IsTested rows bounds x 0
 tested_none rows bounds x = record { passed = λ r row l e. absurd (omega (arith, l)); first = refl }
 
-module _ (rows : List (List ℤ)) (bounds : ℕ → Ext) (x : RationalState) (i : ℕ) (h : IsTested rows bounds x i) (row : List ℤ) (l : i < length rows) (e : row ≡ get_or rows i row) (bound : Ext) (k : bound ≡ bounds i) where
-  left : first_wide long_limit (fit_operations rows bounds 0 x) ≡ first_wide long_limit (row_test row x bound ++ cond (is_at_most (dotℚ row x) bound) (fit_operations (drop (i + 1) rows) bounds (suc i) x) [])
+module _ (rows : List (List ℤ)) (bounds : ℕ → Ext) (x : RationalState) (i : ℕ) (h : IsTested rows bounds x i) (row : List ℤ)
+    (l : i < length rows) (e : row ≡ get_or rows i row) (bound : Ext) (k : bound ≡ bounds i) where
+  left : first_wide long_limit (fit_operations rows bounds 0 x) ≡ first_wide long_limit
+      (row_test row x bound ++ cond (is_at_most (dotℚ row x) bound) (fit_operations (drop (i + 1) rows) bounds (suc i) x) [])
   left =
-      h.first ∙ ap (λ rs. first_wide long_limit (fit_operations rs bounds i x)) (drop_more rows i row l ∙ ap (λ y. y ∷ drop (i + 1) rows) (sym e))
-      ∙ ap (λ b. first_wide long_limit (row_test row x b ++ cond (is_at_most (dotℚ row x) b) (fit_operations (drop (i + 1) rows) bounds (suc i) x) [])) (sym k)
+      h.first ∙ ap (λ rs. first_wide long_limit (fit_operations rs bounds i x))
+      (drop_more rows i row l ∙ ap (λ y. y ∷ drop (i + 1) rows) (sym e))
+      ∙ ap (λ b. first_wide long_limit (row_test row x b ++ cond (is_at_most (dotℚ row x) b)
+      (fit_operations (drop (i + 1) rows) bounds (suc i) x) [])) (sym k)
 
   -- one more row that is passed
   pub tested_more : fin (dotℚ row x) ≤ᴱ bound → first_wide long_limit (row_test row x bound) ≡ None → IsTested rows bounds x (i + 1)
   tested_more b n = record {
     passed = λ r other m f. ⊎_elim (λ s. h.passed r other s f) (at_row r other m f) (cases_lt r i);
-    first = left ∙ first_wide_later long_limit (row_test row x bound) (cond (is_at_most (dotℚ row x) bound) (fit_operations (drop (i + 1) rows) bounds (suc i) x) []) n
-        ∙ ap (λ t. first_wide long_limit (cond t (fit_operations (drop (i + 1) rows) bounds (suc i) x) [])) (at_most_yes (dotℚ row x) bound b)
+    first = left ∙ first_wide_later long_limit (row_test row x bound) (cond (is_at_most (dotℚ row x) bound)
+        (fit_operations (drop (i + 1) rows) bounds (suc i) x) []) n
+        ∙ ap (λ t. first_wide long_limit (cond t (fit_operations (drop (i + 1) rows) bounds (suc i) x) []))
+        (at_most_yes (dotℚ row x) bound b)
         ∙ ap (λ j. first_wide long_limit (fit_operations (drop (i + 1) rows) bounds j x)) (sym (add-one i));
   }
     where
       at_row : (r : ℕ) (other : List ℤ) → r < i + 1 → slice_get rows r ≡ Some other → i ≤ r → fin (dotℚ other x) ≤ᴱ bounds r
       at_row r other m f s =
           let q : i ≡ r = omega (arith, m, s) in
-          subst₂ (λ u v. fin (dotℚ u x) ≤ᴱ v) (e ∙ ap (λ j. get_or rows j row) q ∙ get_or_from_slice_get rows r other row f) (k ∙ ap bounds q) b
+          subst₂ (λ u v. fin (dotℚ u x) ≤ᴱ v) (e ∙ ap (λ j. get_or rows j row) q ∙ get_or_from_slice_get rows r other row f)
+          (k ∙ ap bounds q) b
 
   -- one that fails
-  pub tested_fails : ¬ (fin (dotℚ row x) ≤ᴱ bound) → first_wide long_limit (row_test row x bound) ≡ None → first_wide long_limit (fit_operations rows bounds 0 x) ≡ None
+  pub tested_fails : ¬ (fin (dotℚ row x) ≤ᴱ bound) → first_wide long_limit (row_test row x bound) ≡ None
+      → first_wide long_limit (fit_operations rows bounds 0 x) ≡ None
   tested_fails b n =
-      left ∙ first_wide_later long_limit (row_test row x bound) (cond (is_at_most (dotℚ row x) bound) (fit_operations (drop (i + 1) rows) bounds (suc i) x) []) n
+      left ∙ first_wide_later long_limit (row_test row x bound) (cond (is_at_most (dotℚ row x) bound)
+      (fit_operations (drop (i + 1) rows) bounds (suc i) x) []) n
       ∙ ap (λ t. first_wide long_limit (cond t (fit_operations (drop (i + 1) rows) bounds (suc i) x) [])) (at_most_no (dotℚ row x) bound b)
 
   -- where a row's value isn't at most its bound, not all rows are at most theirs
-  pub fails_at : ¬ (fin (dotℚ row x) ≤ᴱ bound) → ¬ ((r : ℕ) (other : List ℤ) → slice_get rows r ≡ Some other → fin (dotℚ other x) ≤ᴱ bounds r)
+  pub fails_at : ¬ (fin (dotℚ row x) ≤ᴱ bound) → ¬ ((r : ℕ) (other : List ℤ) → slice_get rows r ≡ Some other
+      → fin (dotℚ other x) ≤ᴱ bounds r)
   fails_at b all = b (subst (λ y. fin (dotℚ row x) ≤ᴱ y) (sym k) (all i row (slice_get-at rows i row l e)))
 
   -- one whose value is wide
-  pub tested_wide : (o : Operation) → first_wide long_limit (row_test row x bound) ≡ Some o → first_wide long_limit (fit_operations rows bounds 0 x) ≡ Some o
-  tested_wide o w = left ∙ first_wide_sooner long_limit (row_test row x bound) (cond (is_at_most (dotℚ row x) bound) (fit_operations (drop (i + 1) rows) bounds (suc i) x) []) o w
+  pub tested_wide : (o : Operation) → first_wide long_limit (row_test row x bound) ≡ Some o
+      → first_wide long_limit (fit_operations rows bounds 0 x) ≡ Some o
+  tested_wide o w = left ∙ first_wide_sooner long_limit (row_test row x bound)
+      (cond (is_at_most (dotℚ row x) bound) (fit_operations (drop (i + 1) rows) bounds (suc i) x) []) o w
 
 -- all rows
 pub tested_all : (rows : List (List ℤ)) (bounds : ℕ → Ext) (x : RationalState) (i : ℕ) → length rows ≤ i → IsTested rows bounds x i →
-    ((r : ℕ) (row : List ℤ) → slice_get rows r ≡ Some row → fin (dotℚ row x) ≤ᴱ bounds r) × (first_wide long_limit (fit_operations rows bounds 0 x) ≡ None)
-tested_all rows bounds x i l h = (λ r row e. h.passed r row (omega (arith, l, in_range rows r row e)) e, h.first ∙ ap (λ rs. first_wide long_limit (fit_operations rs bounds i x)) (drop_all i rows l))
+    ((r : ℕ) (row : List ℤ) → slice_get rows r ≡ Some row → fin (dotℚ row x) ≤ᴱ bounds r)
+    × (first_wide long_limit (fit_operations rows bounds 0 x) ≡ None)
+tested_all rows bounds x i l h = (
+  λ r row e. h.passed r row (omega (arith, l, in_range rows r row e)) e,
+  h.first ∙ ap (λ rs. first_wide long_limit (fit_operations rs bounds i x)) (drop_all i rows l),
+)

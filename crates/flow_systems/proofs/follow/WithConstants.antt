@@ -20,7 +20,8 @@ guard_with Kept form = refl
 guard_with Zero form = refl
 
 -- an assignment stays one to its variable
-pub assign_with : (constants : Constants) (var : ℕ) (form : Form) → action_with constants (Assign var form) ≡ Assign var (form_with constants form)
+pub assign_with : (constants : Constants) (var : ℕ) (form : Form) → action_with constants (Assign var form)
+    ≡ Assign var (form_with constants form)
 assign_with Kept var form = refl
 assign_with Zero var form = refl
 
@@ -37,12 +38,15 @@ free_with Zero (Assign var form) = refl
 free_with Zero (Havoc var) = refl
 
 -- the action at a place
-pub action_with-at : (constants : Constants) (actions : List Action) (i : ℕ) (action : Action) → i < length actions → action ≡ get_or actions i action →
+pub action_with-at : (constants : Constants) (actions : List Action) (i : ℕ) (action : Action) → i < length actions
+    → action ≡ get_or actions i action →
     action_with constants action ≡ get_or (map (action_with constants) actions) i (action_with constants action)
-action_with-at constants actions i action l e = ap (action_with constants) e ∙ sym (get_or-map (action_with constants) actions i action (action_with constants action) l)
+action_with-at constants actions i action l e = ap (action_with constants) e
+    ∙ sym (get_or-map (action_with constants) actions i action (action_with constants action) l)
 
 -- what is left of the actions from a place on
-pub action_left : (actions : List Action) (i : ℕ) (action : Action) → i < length actions → action ≡ get_or actions i action → drop i actions ≡ action ∷ drop (i + 1) actions
+pub action_left : (actions : List Action) (i : ℕ) (action : Action) → i < length actions → action ≡ get_or actions i action
+    → drop i actions ≡ action ∷ drop (i + 1) actions
 action_left actions i action l e = drop_more actions i action l ∙ ap (λ a. a ∷ drop (i + 1) actions) (sym e)
 
 -- actions with their constants are the actions

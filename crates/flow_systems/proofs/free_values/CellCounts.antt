@@ -1,5 +1,6 @@
 -- The greatest counts on the edges into a point, edge by edge.
-use Rattle.std.proofs.Common.{◌≡◌, ◌∙◌, ◌==◌, ℕ, suc, ◌+◌, ◌*◌, ◌<◌, ◌≤◌, Bool, true, false, cond, List, [], ◌∷◌, ◌++◌, length, get_or, map, take, refl, ap, sym, arith, max, nat_cmp}
+use Rattle.std.proofs.Common.{◌≡◌, ◌∙◌, ◌==◌, ℕ, suc, ◌+◌, ◌*◌, ◌<◌, ◌≤◌, Bool, true, false, cond, List, [], ◌∷◌, ◌++◌, length, get_or, map}
+use Rattle.std.proofs.Common.{take, refl, ap, sym, arith, max, nat_cmp}
 use Rattle.std.specs.Prelude.{IsTrue, nat_lt, nat_le}
 use Rattle.std.specs.Ordering.{ord_max}
 use Rattle.std.specs.List.{filter, list_all, count_by}
@@ -36,19 +37,23 @@ max-is a b = grind (arith, nat_tests)
 
 greatest-push : (xs : List ℕ) (x : ℕ) → greatest (xs ++ x ∷ []) ≡ max (greatest xs) x
 greatest-push [] x = let e : max x 0 ≡ max 0 x = omega arith in e
-greatest-push (y ∷ xs) x = let e = greatest-push xs x in let k : max y (greatest (xs ++ x ∷ [])) ≡ max (max y (greatest xs)) x = omega (arith, e) in k
+greatest-push (y ∷ xs) x = let e = greatest-push xs x in let k : max y (greatest (xs ++ x ∷ [])) ≡ max (max y (greatest xs)) x =
+    omega (arith, e) in k
 
 module _ (count : List Action → ℕ) where
-  most-push_yes : (edges : List Edge) (e : Edge) (p : ℕ) → e.to ≡ p → most count (edges ++ e ∷ []) p ≡ max (most count edges p) (count e.actions)
+  most-push_yes : (edges : List Edge) (e : Edge) (p : ℕ) → e.to ≡ p → most count (edges ++ e ∷ []) p
+      ≡ max (most count edges p) (count e.actions)
   most-push_yes edges e p h =
-      ap (λ es. greatest (map (λ e. count e.actions) es)) (filter-append (λ e. e.to == p) edges (e ∷ []) ∙ ap (λ b. filter (λ e. e.to == p) edges ++ cond b (e ∷ []) []) (eq-eqb e.to p h))
+      ap (λ es. greatest (map (λ e. count e.actions) es)) (filter-append (λ e. e.to == p) edges (e ∷ [])
+      ∙ ap (λ b. filter (λ e. e.to == p) edges ++ cond b (e ∷ []) []) (eq-eqb e.to p h))
       ∙ ap greatest (map-append (λ e. count e.actions) (filter (λ e. e.to == p) edges) (e ∷ []))
       ∙ greatest-push (map (λ e. count e.actions) (filter (λ e. e.to == p) edges)) (count e.actions)
 
   -- where edge i ends at the point, the greatest count of i + 1 edges is that of i edges or edge i's
   pub most_yes : (edges : List Edge) (i : ℕ) (e : Edge) (p : ℕ) → i < length edges → e ≡ get_or edges i e → e.to ≡ p →
       most count (take (i + 1) edges) p ≡ max (most count (take i edges) p) (count e.actions)
-  most_yes edges i e p l h k = ap (λ es. most count es p) (take_more edges i e l ∙ ap (λ x. take i edges ++ x ∷ []) (sym h)) ∙ most-push_yes (take i edges) e p k
+  most_yes edges i e p l h k = ap (λ es. most count es p) (take_more edges i e l ∙ ap (λ x. take i edges ++ x ∷ []) (sym h))
+      ∙ most-push_yes (take i edges) e p k
 
   -- where edge i ends elsewhere, the greatest count of i + 1 edges is that of i edges
   pub most_no : (edges : List Edge) (i : ℕ) (e : Edge) (p : ℕ) → i < length edges → e ≡ get_or edges i e → (e.to == p) ≡ false →
@@ -65,7 +70,8 @@ module _ (count : List Action → ℕ) where
       nothing_more (n ∷ ns) = ap (λ x. n ∷ x) (nothing_more ns)
 
 -- an edge has at most 256 actions
-most_few : (count : List Action → ℕ) → ((actions : List Action) → count actions ≤ length actions) → (n points : ℕ) (edges : List Edge) (p : ℕ) → IsTrue (list_all (is_edge n points) edges) → most count edges p ≤ 256
+most_few : (count : List Action → ℕ) → ((actions : List Action) → count actions ≤ length actions)
+    → (n points : ℕ) (edges : List Edge) (p : ℕ) → IsTrue (list_all (is_edge n points) edges) → most count edges p ≤ 256
 most_few count few n points [] p h = let l : 0 ≤ 256 = omega arith in l
 most_few count few n points (e ∷ es) p h =
     let t = both (is_edge n points e) (list_all (is_edge n points) es) h in
@@ -97,9 +103,16 @@ pub rows_bound : (rows guards : ℕ) → rows ≤ MOST_ROWS → guards ≤ 256 �
 rows_bound rows guards h k = mul-le rows (rows + 1 + guards) MOST_ROWS (MOST_ROWS + 257) h (omega (arith, h, k))
 
 -- the columns of an unknown's joint problem, for each row of the template, are within their limit
-pub columns_bound : (rows names frees : ℕ) → rows ≤ MOST_ROWS → names ≤ MOST_VARIABLES → frees ≤ 256 → rows * (1 + 2 * (names + frees)) ≤ MOST_ROWS * (2 * MOST_VARIABLES + 513)
+pub columns_bound : (rows names frees : ℕ) → rows ≤ MOST_ROWS → names ≤ MOST_VARIABLES → frees ≤ 256
+    → rows * (1 + 2 * (names + frees)) ≤ MOST_ROWS * (2 * MOST_VARIABLES + 513)
 columns_bound rows names frees h k l = mul-le rows (1 + 2 * (names + frees)) MOST_ROWS (2 * MOST_VARIABLES + 513) h (omega (arith, k, l))
 
 -- the counts of a flow's edges
-pub few_of : (count : List Action → ℕ) → ((actions : List Action) → count actions ≤ length actions) → (flow : Flow) (edges : List Edge) (p n : ℕ) → edges ≡ flow.edges → n ≡ most count edges p → n ≤ 256
-few_of count few flow edges p n e k = omega (arith, k, ap (λ es. most count es p) e, most_few count few (length flow.names) (length flow.points) flow.edges p (flow_sizes flow).edges)
+pub few_of : (count : List Action → ℕ) → ((actions : List Action) → count actions ≤ length actions)
+    → (flow : Flow) (edges : List Edge) (p n : ℕ) → edges ≡ flow.edges → n ≡ most count edges p → n ≤ 256
+few_of count few flow edges p n e k = omega (
+  arith,
+  k,
+  ap (λ es. most count es p) e,
+  most_few count few (length flow.names) (length flow.points) flow.edges p (flow_sizes flow).edges,
+)

@@ -21,7 +21,8 @@ followed (Assign var form ∷ actions) x free y h = followed actions (slice_set 
 followed (Havoc var ∷ actions) x [] y h = absurd h
 followed (Havoc var ∷ actions) x (q ∷ free) y h = (q, followed actions (slice_set x var q) free y h)
 
-counted : (actions : List Action) (x : RationalState) (free : List ℚ) (y : RationalState) → Follows actions x free y → length free ≡ free_count actions
+counted : (actions : List Action) (x : RationalState) (free : List ℚ) (y : RationalState) → Follows actions x free y
+    → length free ≡ free_count actions
 counted [] x [] y h = refl
 counted [] x (q ∷ free) y h = absurd h
 counted (Guard form ∷ actions) x free y h = counted actions x free y h.1
@@ -29,7 +30,8 @@ counted (Assign var form ∷ actions) x free y h = counted actions (slice_set x 
 counted (Havoc var ∷ actions) x [] y h = absurd h
 counted (Havoc var ∷ actions) x (q ∷ free) y h = ap suc (counted actions (slice_set x var q) free y h)
 
-same_end : (actions : List Action) (x : RationalState) (free : List ℚ) (y z : RationalState) → Follows actions x free y → Follows actions x free z → y ≡ z
+same_end : (actions : List Action) (x : RationalState) (free : List ℚ) (y z : RationalState) → Follows actions x free y
+    → Follows actions x free z → y ≡ z
 same_end [] x [] y z h k = h ∙ sym k
 same_end [] x (q ∷ free) y z h k = absurd h
 same_end (Guard form ∷ actions) x free y z h k = same_end actions x free y z h.1 k.1

@@ -14,7 +14,8 @@ pub dot_rational : (cs : List ℤ) (x : State) → dotℚ cs (rational x) ≡ wh
 dot_rational [] x = sym whole-zero
 dot_rational (c ∷ cs) [] = sym whole-zero
 dot_rational (c ∷ cs) (z ∷ x) =
-    ap (λ q. whole c *ℚ whole z +ℚ q) (dot_rational cs x) ∙ ap (λ q. q +ℚ whole (dot cs x)) (sym (whole-mul c z)) ∙ sym (whole-add (c *ℤ z) (dot cs x))
+    ap (λ q. whole c *ℚ whole z +ℚ q) (dot_rational cs x) ∙ ap (λ q. q +ℚ whole (dot cs x)) (sym (whole-mul c z))
+    ∙ sym (whole-add (c *ℤ z) (dot cs x))
 
 -- a form has the same value at an integer state and at the rational state that it is
 pub value_rational : (f : Form) (x : State) → valueℚ f (rational x) ≡ whole (value f x)

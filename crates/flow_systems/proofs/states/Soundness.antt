@@ -1,5 +1,6 @@
 -- Every post-solution of a program's system holds in every run.
-use Rattle.std.proofs.Common.{◌≡◌, ◌∙◌, ◌⊎◌, inl, inr, ⊎_elim, ℕ, List, [], ◌∷◌, ◌++◌, refl, sym, ap, subst, append_assoc, append-nil, length}
+use Rattle.std.proofs.Common.{◌≡◌, ◌∙◌, ◌⊎◌, inl, inr, ⊎_elim, ℕ, List, [], ◌∷◌, ◌++◌, refl, sym, ap, subst, append_assoc, append-nil}
+use Rattle.std.proofs.Common.{length}
 use Rattle.std.specs.Prelude.{pos, slice_set}
 use Rattle.std.proofs.lemmas.List.{map-set, length-set, length-map}
 use Rattle.std.proofs.lemmas.Option.{slice_get_within}
@@ -7,7 +8,8 @@ use Rattle.base_facts.specs.Elements.{In}
 use Rattle.base_numbers.specs.Rational.{whole, zero_ℚ, ◌≤ℚ◌}
 use Rattle.base_numbers.specs.Extended.{fin, ◌≤ᴱ◌}
 use Rattle.base_numbers.proofs.rational.Laws.{whole-zero, whole_le}
-use Rattle.lang_tree.specs.Tree.{Statements, while_loop, for_loop, do_loop, breaks, continues, set, havoc, assume, branch, loop, jump, label}
+use Rattle.lang_tree.specs.Tree.{Statements, while_loop, for_loop, do_loop, breaks, continues, set, havoc, assume, branch, loop, jump}
+use Rattle.lang_tree.specs.Tree.{label}
 use Rattle.lang_tree.specs.Meaning.{State, value}
 use Rattle.lang_tree.specs.Runs.{Item, node, mark, turn, end, start_work, Does, Configuration, Step, Follows}
 use Rattle.flow_edges.specs.declared.edge.Action.{Action}
@@ -39,7 +41,8 @@ acts_trace (Guard f ∷ actions) x y h =
     let at_most : whole (value f x) ≤ℚ zero_ℚ = subst (λ q. whole (value f x) ≤ℚ q) whole-zero (whole_le (value f x) (pos 0) h.0) in
     (subst (λ q. q ≤ℚ zero_ℚ) (sym (value_rational f x)) at_most, acts_trace actions x y h.1)
 acts_trace (Assign var f ∷ actions) x y h =
-    let e : rational (slice_set x var (value f x)) ≡ slice_set (rational x) var (valueℚ f (rational x)) = map-set whole x var (value f x) ∙ ap (slice_set (rational x) var) (sym (value_rational f x)) in
+    let e : rational (slice_set x var (value f x)) ≡ slice_set (rational x) var (valueℚ f (rational x)) =
+    map-set whole x var (value f x) ∙ ap (slice_set (rational x) var) (sym (value_rational f x)) in
     subst (λ z. Traces actions z (rational y)) e (acts_trace actions (slice_set x var (value f x)) y h)
 acts_trace (Havoc var ∷ actions) x y h =
     (whole h.0, subst (λ z. Traces actions z (rational y)) (map-set whole x var h.0) (acts_trace actions (slice_set x var h.0) y h.1))
@@ -48,7 +51,8 @@ acts_trace (Havoc var ∷ actions) x y h =
 abbrev Recorded : Item → List Item → State → List Item → State → Type 0
 Recorded item rest x work y = (s : Labelled) × In (steps_of item rest) s × (s.work ≡ work) × Traces s.actions (rational x) (rational y)
 
-recorded : (item : Item) (rest : List Item) (x : State) (work : List Item) (y : State) → ¬ (IsMark item) → Does item rest x work y → Recorded item rest x work y
+recorded : (item : Item) (rest : List Item) (x : State) (work : List Item) (y : State) → ¬ (IsMark item) → Does item rest x work y
+    → Recorded item rest x work y
 recorded item rest x work y other d = let r = (steps_law item rest x work y other).0 d in (r.0, r.1, r.2, acts_trace r.0.actions x y r.3)
 
 -- a state keeps its length
@@ -71,7 +75,8 @@ keeps_length (end do_loop c body line n) rest x work y d = ap length d.3
 -- labelled steps from the work after a mark, with no mark on the way
 data Part (start : List Item) : List Action → List Item → Type 0 where
   none : Part start [] start
-  more : (actions : List Action) (item : Item) (rest : List Item) (s : Labelled) → Part start actions (item ∷ rest) → In (steps_of item rest) s → Part start (actions ++ s.actions) s.work
+  more : (actions : List Action) (item : Item) (rest : List Item) (s : Labelled) → Part start actions (item ∷ rest)
+      → In (steps_of item rest) s → Part start (actions ++ s.actions) s.work
 
 part_arrives : (start : List Item) (actions : List Action) (work : List Item) (later : List Action) (p : ℕ) (behind : List Item) →
     Part start actions work → Arrives work later p behind → Arrives start (actions ++ later) p behind
@@ -84,9 +89,11 @@ part_leads : (start : List Item) (actions : List Action) (work : List Item) → 
 part_leads start actions work none = here start
 part_leads start actions work (more before item rest s part m) =
     let one = done item rest s [] s.work m (here s.work) in
-    subst (λ a. Leads start (before ++ a) s.work) (append-nil s.actions) (leads_then start (item ∷ rest) s.work before (s.actions ++ []) (part_leads start before (item ∷ rest) part) one)
+    subst (λ a. Leads start (before ++ a) s.work) (append-nil s.actions)
+    (leads_then start (item ∷ rest) s.work before (s.actions ++ []) (part_leads start before (item ∷ rest) part) one)
 
-module _ (system : Equations) (body : Statements) (v : Vector) (paths : EdgesArePaths system.edges body) (post : PostSolution system v) where
+module _ (system : Equations) (body : Statements) (v : Vector) (paths : EdgesArePaths system.edges body)
+    (post : PostSolution system v) where
   -- the mark of a point that labelled steps reach, with a state that fits there
   record AtMark (p : ℕ) (behind : List Item) (x : RationalState) : Type 0 where
     before : List Action
@@ -115,13 +122,26 @@ module _ (system : Equations) (body : Statements) (v : Vector) (paths : EdgesAre
   arrived : (p : ℕ) (rest : List Item) (x : RationalState) → Since (mark p ∷ rest) x → AtMark p rest x
   arrived p rest x s =
       let arrives = part_arrives s.behind s.actions (mark p ∷ rest) [] p rest s.part (at_mark p rest) in
-      let path : Path body s.from (s.actions ++ []) p = record { before = s.last.before; behind = s.behind; reached = s.last.reached; after = rest; arrives = arrives } in
+      let path : Path body s.from (s.actions ++ []) p = record {
+        before = s.last.before;
+        behind = s.behind;
+        reached =
+            s.last.reached;
+        after = rest;
+        arrives = arrives;
+      } in
       record {
         before = s.last.before ++ s.actions;
         reached = leads_then (start_work body) (mark s.from ∷ s.behind) (mark p ∷ rest) s.last.before s.actions s.last.reached
             (past s.from s.behind s.actions (mark p ∷ rest) (part_leads s.behind s.actions (mark p ∷ rest) s.part));
         fits = post.closed (record { from = s.from; to = p; actions = s.actions ++ [] }) s.begin x
-            (record { listed = paths.complete s.from p (s.actions ++ []) path; starts = s.starts; fits = s.last.fits; trace = trace-append s.actions [] s.begin x x s.trace refl });
+            (record {
+              listed = paths.complete s.from p (s.actions ++ []) path;
+              starts = s.starts;
+              fits = s.last.fits;
+              trace =
+                  trace-append s.actions [] s.begin x x s.trace refl;
+            });
       }
 
   at_start : (p : ℕ) (rest : List Item) (x : RationalState) → mark p ∷ rest ≡ start_work body → AtMark p rest x
@@ -136,7 +156,8 @@ module _ (system : Equations) (body : Statements) (v : Vector) (paths : EdgesAre
   marked : (p : ℕ) (rest : List Item) (x : RationalState) → (mark p ∷ rest ≡ start_work body) ⊎ Since (mark p ∷ rest) x → AtMark p rest x
   marked p rest x h = ⊎_elim (λ e. at_start p rest x e) (λ s. arrived p rest x s) h
 
-  went_on : (item : Item) (rest : List Item) (x : State) (work : List Item) (y : State) → Recorded item rest x work y → Since (item ∷ rest) (rational x) → Since work (rational y)
+  went_on : (item : Item) (rest : List Item) (x : State) (work : List Item) (y : State) → Recorded item rest x work y
+      → Since (item ∷ rest) (rational x) → Since work (rational y)
   went_on item rest x work y r s =
       subst (λ w. Since w (rational y)) r.2
       (record {
@@ -164,11 +185,22 @@ module _ (system : Equations) (body : Statements) (v : Vector) (paths : EdgesAre
   advanced_by item rest x work y other d h =
       ⊎_elim (λ e. absurd (starts_with_mark item rest other e)) (λ s. went_on item rest x work y (recorded item rest x work y other d) s) h
 
-  advanced : (item : Item) (rest : List Item) (x : State) (work : List Item) (y : State) → Does item rest x work y → length x ≡ system.variables →
+  advanced : (item : Item) (rest : List Item) (x : State) (work : List Item) (y : State) → Does item rest x work y
+      → length x ≡ system.variables →
       (item ∷ rest ≡ start_work body) ⊎ Since (item ∷ rest) (rational x) → Since work (rational y)
   advanced (mark p) rest x work y d size h =
       subst (λ w. Since w (rational y)) (sym d.0) (subst (λ z. Since rest (rational z)) (sym d.1)
-      (record { from = p; behind = rest; begin = rational x; last = marked p rest (rational x) h; starts = rational_size x size; actions = []; part = none; trace = refl }))
+      (record {
+        from = p;
+        behind = rest;
+        begin = rational x;
+        last = marked p rest (rational x) h;
+        starts = rational_size x size;
+        actions =
+            [];
+        part = none;
+        trace = refl;
+      }))
   advanced (node s n) rest x work y d size h = advanced_by (node s n) rest x work y (λ m. m) d h
   advanced (turn k c b l n) rest x work y d size h = advanced_by (turn k c b l n) rest x work y (λ m. m) d h
   advanced (end k c b l n) rest x work y d size h = advanced_by (end k c b l n) rest x work y (λ m. m) d h

@@ -19,23 +19,29 @@ is_end system p = list_any (λ e. e.to == p) system.edges
 abbrev pub sum_to : Equations → (ℕ → ℕ) → ℕ → ℕ
 sum_to system size n = sum_by (λ p. length system.template * size p) (filter (is_end system) (range_with_len 1 n))
 
-sum-more : (system : Equations) (size : ℕ → ℕ) (n : ℕ) → sum_to system size (n + 1) ≡ sum_to system size n + sum_by (λ p. length system.template * size p) (cond (is_end system (1 + n)) ((1 + n) ∷ []) [])
+sum-more : (system : Equations) (size : ℕ → ℕ) (n : ℕ) → sum_to system size (n + 1)
+    ≡ sum_to system size n + sum_by (λ p. length system.template * size p) (cond (is_end system (1 + n)) ((1 + n) ∷ []) [])
 sum-more system size n =
-    ap (λ ps. sum_by (λ p. length system.template * size p) ps) (ap (filter (is_end system)) (range-more 1 n) ∙ filter-append (is_end system) (range_with_len 1 n) ((1 + n) ∷ []))
-    ∙ sum_by-append (λ p. length system.template * size p) (filter (is_end system) (range_with_len 1 n)) (cond (is_end system (1 + n)) ((1 + n) ∷ []) [])
+    ap (λ ps. sum_by (λ p. length system.template * size p) ps) (ap (filter (is_end system)) (range-more 1 n)
+    ∙ filter-append (is_end system) (range_with_len 1 n) ((1 + n) ∷ []))
+    ∙ sum_by-append (λ p. length system.template * size p) (filter (is_end system) (range_with_len 1 n))
+    (cond (is_end system (1 + n)) ((1 + n) ∷ []) [])
 
 -- where an edge ends at the point p, the sum over the points up to p is that before, and the size at p for each row
-pub sum_yes : (system : Equations) (size : ℕ → ℕ) (p : ℕ) → 1 ≤ p → is_end system p ≡ true → sum_to system size (p + 1 - 1) ≡ sum_to system size (p - 1) + length system.template * size p
+pub sum_yes : (system : Equations) (size : ℕ → ℕ) (p : ℕ) → 1 ≤ p → is_end system p ≡ true
+    → sum_to system size (p + 1 - 1) ≡ sum_to system size (p - 1) + length system.template * size p
 sum_yes system size p h k =
     let e : p + 1 - 1 ≡ p - 1 + 1 = omega (arith, h) in
     let f : 1 + (p - 1) ≡ p = omega (arith, h) in
     ap (sum_to system size) e ∙ sum-more system size (p - 1)
     ∙ ap (λ x. sum_to system size (p - 1) + sum_by (λ q. length system.template * size q) (cond (is_end system x) (x ∷ []) [])) f
     ∙ ap (λ b. sum_to system size (p - 1) + sum_by (λ q. length system.template * size q) (cond b (p ∷ []) [])) k
-    ∙ ap (λ x. sum_to system size (p - 1) + x) (sum_by-cons (λ q. length system.template * size q) p [] ∙ (let z : length system.template * size p + 0 ≡ length system.template * size p = omega arith in z))
+    ∙ ap (λ x. sum_to system size (p - 1) + x) (sum_by-cons (λ q. length system.template * size q) p []
+    ∙ (let z : length system.template * size p + 0 ≡ length system.template * size p = omega arith in z))
 
 -- where no edge ends at the point p, the sum over the points up to p is that before
-pub sum_no : (system : Equations) (size : ℕ → ℕ) (p : ℕ) → 1 ≤ p → is_end system p ≡ false → sum_to system size (p + 1 - 1) ≡ sum_to system size (p - 1)
+pub sum_no : (system : Equations) (size : ℕ → ℕ) (p : ℕ) → 1 ≤ p → is_end system p ≡ false
+    → sum_to system size (p + 1 - 1) ≡ sum_to system size (p - 1)
 sum_no system size p h k =
     let e : p + 1 - 1 ≡ p - 1 + 1 = omega (arith, h) in
     let f : 1 + (p - 1) ≡ p = omega (arith, h) in

@@ -1,5 +1,6 @@
 -- A trace that is followed action by action.
-use Rattle.std.proofs.Common.{◌≡◌, ◌∙◌, ℕ, ◌+◌, ◌<◌, ◌≤◌, ℤ, Bool, true, false, cond, List, [], ◌∷◌, length, get_or, drop, Some, None, refl, ap, sym, subst, true≢false, arith}
+use Rattle.std.proofs.Common.{◌≡◌, ◌∙◌, ℕ, ◌+◌, ◌<◌, ◌≤◌, ℤ, Bool, true, false, cond, List, [], ◌∷◌, length, get_or, drop, Some, None, refl}
+use Rattle.std.proofs.Common.{ap, sym, subst, true≢false, arith}
 use Rattle.std.specs.Prelude.{IsTrue, slice_set}
 use Rattle.std.specs.List.{list_all}
 use Rattle.std.proofs.lemmas.List.{drop_more, drop_all, drop-drop, nil_from_length}
@@ -35,12 +36,16 @@ free_count-cons (Havoc var) rest = omega arith
 -- ---- one action
 module _ (form : Form) (x : RationalState) (free : List ℚ) where
   -- where an operation of a guard's form is wide, it is the first of the trace
-  pub guard_refused : (o : Operation) → first_wide long_limit (form_operations form x) ≡ Some o → (rest : List Action) (row : List ℤ) → first_wide long_limit (trace_operations (Guard form ∷ rest) x free row) ≡ Some o
-  guard_refused o w rest row = first_wide_sooner long_limit (form_operations form x) (cond (le_ℚ (valueℚ form x) zero_ℚ) (trace_operations rest x free row) []) o w
+  pub guard_refused : (o : Operation) → first_wide long_limit (form_operations form x) ≡ Some o → (rest : List Action) (row : List ℤ)
+      → first_wide long_limit (trace_operations (Guard form ∷ rest) x free row) ≡ Some o
+  guard_refused o w rest row = first_wide_sooner long_limit (form_operations form x)
+      (cond (le_ℚ (valueℚ form x) zero_ℚ) (trace_operations rest x free row) []) o w
 
   -- where an operation of an assigned form is wide, it is the first of the trace
-  pub assign_refused : (var : ℕ) (o : Operation) → first_wide long_limit (form_operations form x) ≡ Some o → (rest : List Action) (row : List ℤ) → first_wide long_limit (trace_operations (Assign var form ∷ rest) x free row) ≡ Some o
-  assign_refused var o w rest row = first_wide_sooner long_limit (form_operations form x) (trace_operations rest (slice_set x var (valueℚ form x)) free row) o w
+  pub assign_refused : (var : ℕ) (o : Operation) → first_wide long_limit (form_operations form x) ≡ Some o
+      → (rest : List Action) (row : List ℤ) → first_wide long_limit (trace_operations (Assign var form ∷ rest) x free row) ≡ Some o
+  assign_refused var o w rest row = first_wide_sooner long_limit (form_operations form x)
+      (trace_operations rest (slice_set x var (valueℚ form x)) free row) o w
 
   module _ (v : ℚ) (e : v ≡ valueℚ form x) (n : first_wide long_limit (form_operations form x) ≡ None) where
     -- a guard whose value is at most 0 leads on from the same state
@@ -49,7 +54,8 @@ module _ (form : Form) (x : RationalState) (free : List ℚ) where
         let k : valueℚ form x ≤ℚ zero_ℚ = subst (λ y. y ≤ℚ zero_ℚ) e h in
         record {
           ends = λ y. (λ f. f.1, λ f. (k, f));
-          first = λ row. first_wide_later long_limit (form_operations form x) (cond (le_ℚ (valueℚ form x) zero_ℚ) (trace_operations rest x free row) []) n
+          first = λ row. first_wide_later long_limit (form_operations form x)
+              (cond (le_ℚ (valueℚ form x) zero_ℚ) (trace_operations rest x free row) []) n
               ∙ ap (λ t. first_wide long_limit (cond t (trace_operations rest x free row) [])) (at_most_yes (valueℚ form x) (fin zero_ℚ) k);
         }
 
@@ -59,15 +65,20 @@ module _ (form : Form) (x : RationalState) (free : List ℚ) where
         let k : ¬ (valueℚ form x ≤ℚ zero_ℚ) = λ l. h (subst (λ y. y ≤ℚ zero_ℚ) (sym e) l) in
         record {
           ends = λ y f. k f.0;
-          first = λ row. first_wide_later long_limit (form_operations form x) (cond (le_ℚ (valueℚ form x) zero_ℚ) (trace_operations rest x free row) []) n
+          first = λ row. first_wide_later long_limit (form_operations form x)
+              (cond (le_ℚ (valueℚ form x) zero_ℚ) (trace_operations rest x free row) []) n
               ∙ ap (λ t. first_wide long_limit (cond t (trace_operations rest x free row) [])) (at_most_no (valueℚ form x) (fin zero_ℚ) k);
         }
 
     -- an assignment leads on from the state with the form's value in its place
     pub assigned : (var : ℕ) (rest : List Action) → LeadsOn (Assign var form ∷ rest) x free rest (slice_set x var v) free
     assigned var rest = record {
-      ends = λ y. (λ f. subst (λ u. Follows rest (slice_set x var u) free y) (sym e) f, λ f. subst (λ u. Follows rest (slice_set x var u) free y) e f);
-      first = λ row. first_wide_later long_limit (form_operations form x) (trace_operations rest (slice_set x var (valueℚ form x)) free row) n
+      ends = λ y. (
+        λ f. subst (λ u. Follows rest (slice_set x var u) free y) (sym e) f,
+        λ f. subst (λ u. Follows rest (slice_set x var u) free y) e f,
+      );
+      first = λ row. first_wide_later long_limit (form_operations form x) (trace_operations rest (slice_set x var (valueℚ form x)) free row)
+          n
           ∙ ap (λ u. first_wide long_limit (trace_operations rest (slice_set x var u) free row)) (sym e);
     }
 
@@ -78,7 +89,8 @@ module _ (actions : List Action) (x : RationalState) (free : List ℚ) where
   leads_none = record { ends = λ y. (λ f. f, λ f. f); first = λ row. refl }
 
   -- the action at i, and what is left of actions and free values
-  module _ (i taken : ℕ) (z : RationalState) (h : LeadsOn actions x free (drop i actions) z (drop taken free)) (action : Action) (l : i < length actions) (e : action ≡ get_or actions i action) where
+  module _ (i taken : ℕ) (z : RationalState) (h : LeadsOn actions x free (drop i actions) z (drop taken free)) (action : Action)
+      (l : i < length actions) (e : action ≡ get_or actions i action) where
     next_actions : drop i actions ≡ action ∷ drop (i + 1) actions
     next_actions = drop_more actions i action l ∙ ap (λ a. a ∷ drop (i + 1) actions) (sym e)
 
@@ -86,20 +98,29 @@ module _ (actions : List Action) (x : RationalState) (free : List ℚ) where
     to_next = subst (λ later. LeadsOn actions x free later z (drop taken free)) next_actions h
 
     -- a trace that leads on to action i leads on past it as that action does
-    pub leads_more : (n : ℕ) (y : RationalState) → LeadsOn (action ∷ drop (i + 1) actions) z (drop taken free) (drop (i + 1) actions) y (drop n (drop taken free)) → LeadsOn actions x free (drop (i + 1) actions) y (drop (taken + n) free)
+    pub leads_more : (n : ℕ) (y : RationalState) → LeadsOn (action ∷ drop (i + 1) actions) z (drop taken free) (drop (i + 1) actions) y
+        (drop n (drop taken free)) → LeadsOn actions x free (drop (i + 1) actions) y (drop (taken + n) free)
     leads_more n y s =
         subst (λ left. LeadsOn actions x free (drop (i + 1) actions) y left) (drop-drop n taken free)
-        (record { ends = λ w. (λ f. (s.ends w).0 ((to_next.ends w).0 f), λ f. (to_next.ends w).1 ((s.ends w).1 f)); first = λ row. to_next.first row ∙ s.first row })
+        (record {
+          ends = λ w. (λ f. (s.ends w).0 ((to_next.ends w).0 f), λ f. (to_next.ends w).1 ((s.ends w).1 f));
+          first =
+              λ row. to_next.first row ∙ s.first row;
+        })
 
     -- where action i fails, the trace fails
     pub leads_fails : Fails (action ∷ drop (i + 1) actions) z (drop taken free) → Fails actions x free
     leads_fails s = record { ends = λ y f. s.ends y ((to_next.ends y).0 f); first = λ row. to_next.first row ∙ s.first row }
 
     -- the first wide operation from action i on is the first of the trace
-    pub leads_wide : (o : Operation) → ((row : List ℤ) → first_wide long_limit (trace_operations (action ∷ drop (i + 1) actions) z (drop taken free) row) ≡ Some o) → (row : List ℤ) → first_wide long_limit (trace_operations actions x free row) ≡ Some o
+    pub leads_wide : (o : Operation) → ((row : List ℤ) → first_wide long_limit
+        (trace_operations (action ∷ drop (i + 1) actions) z (drop taken free) row) ≡ Some o) → (row : List ℤ)
+        → first_wide long_limit (trace_operations actions x free row) ≡ Some o
     leads_wide o w row = to_next.first row ∙ w row
 
-  leads_all : (i taken : ℕ) (z : RationalState) → LeadsOn actions x free (drop i actions) z (drop taken free) → length actions ≤ i → length (drop taken free) ≡ free_count (drop i actions) → LeadsOn actions x free [] z []
+  leads_all : (i taken : ℕ) (z : RationalState) → LeadsOn actions x free (drop i actions) z (drop taken free) → length actions ≤ i
+      → length (drop taken free) ≡ free_count (drop i actions) → LeadsOn actions x free [] z []
   leads_all i taken z h l n =
       let none = drop_all i actions l in
-      subst (λ left. LeadsOn actions x free [] z left) (nil_from_length (drop taken free) (n ∙ ap free_count none)) (subst (λ later. LeadsOn actions x free later z (drop taken free)) none h)
+      subst (λ left. LeadsOn actions x free [] z left) (nil_from_length (drop taken free) (n ∙ ap free_count none))
+      (subst (λ later. LeadsOn actions x free later z (drop taken free)) none h)

@@ -1,5 +1,6 @@
 -- Vectors and the lists of their bounds.
-use Rattle.std.proofs.Common.{◌≡◌, ◌∙◌, ℕ, zero, suc, ◌+◌, ◌*◌, ◌/◌, ◌%◌, ◌<◌, List, length, get_or, map, sym, ap, subst, arith, length-append, div-add-mod', mod-lt}
+use Rattle.std.proofs.Common.{◌≡◌, ◌∙◌, ℕ, zero, suc, ◌+◌, ◌*◌, ◌/◌, ◌%◌, ◌<◌, List, length, get_or, map, sym, ap, subst, arith}
+use Rattle.std.proofs.Common.{length-append, div-add-mod', mod-lt}
 use Rattle.std.specs.Prelude.{flat_map}
 use Rattle.std.specs.List.{range_with_len}
 use Rattle.std.proofs.Math.ListN.{get_or-append}
@@ -24,12 +25,18 @@ length-row_bounds v rows p = length-map-range_with_len (v p) 0 rows
 length-from_point : (v : Vector) (rows a n : ℕ) → length (from_point v rows a n) ≡ n * rows
 length-from_point v rows a zero = let e : 0 ≡ 0 * rows = omega arith in e
 length-from_point v rows a (suc n) =
-    omega (arith, length-append (row_bounds v rows a) (from_point v rows (a + 1) n), length-row_bounds v rows a, length-from_point v rows (a + 1) n)
+    omega (
+      arith,
+      length-append (row_bounds v rows a) (from_point v rows (a + 1) n),
+      length-row_bounds v rows a,
+      length-from_point v rows (a + 1) n,
+    )
 
 get_or-row_bounds : (v : Vector) (rows p r : ℕ) (d : Ext) → r < rows → get_or (row_bounds v rows p) r d ≡ v p r
 get_or-row_bounds v rows p r d h = get_or-map-range_with_len (v p) 0 rows r r d h (omega arith)
 
-get_or-from_point : (v : Vector) (rows a n p r : ℕ) (d : Ext) → p < n → r < rows → get_or (from_point v rows a n) (p * rows + r) d ≡ v (a + p) r
+get_or-from_point : (v : Vector) (rows a n p r : ℕ) (d : Ext) → p < n → r < rows
+    → get_or (from_point v rows a n) (p * rows + r) d ≡ v (a + p) r
 get_or-from_point v rows a zero p r d h i = absurd (omega (arith, h))
 get_or-from_point v rows a (suc n) zero r d h i =
     let k : 0 * rows + r ≡ r = omega arith in
@@ -45,7 +52,8 @@ get_or-from_point v rows a (suc n) (suc p) r d h i =
     ∙ get_or-from_point v rows (a + 1) n p r d (omega (arith, h)) i ∙ ap (λ j. v j r) q
 
 vector-listed : (points rows : ℕ) (v : Vector) (p r : ℕ) → p < points → r < rows → vector_of rows (bounds_of points rows v) p r ≡ v p r
-vector-listed points rows v p r h i = let q : 0 + p ≡ p = omega arith in get_or-from_point v rows 0 points p r neg_inf h i ∙ ap (λ j. v j r) q
+vector-listed points rows v p r h i = let q : 0 + p ≡ p = omega arith in
+    get_or-from_point v rows 0 points p r neg_inf h i ∙ ap (λ j. v j r) q
 
 -- a place in the list is that of a point and a row
 placed : (points rows k : ℕ) → k < points * rows → (p : ℕ) × (r : ℕ) × (p < points) × (r < rows) × (p * rows + r ≡ k)
@@ -72,4 +80,9 @@ list-vector points rows bounds e =
 
 -- each vector is that of its list at every unknown, and each list of the right length is that of its vector
 pub listed_law : VectorsAreLists
-listed_law points rows = record { vector = vector-listed points rows; count = λ v. length-from_point v rows 0 points; list = list-vector points rows }
+listed_law points rows = record {
+  vector = vector-listed points rows;
+  count = λ v. length-from_point v rows 0 points;
+  list =
+      list-vector points rows;
+}

@@ -1,5 +1,6 @@
 -- The rows of the templates: their numbers, that they are templates, and how many there are.
-use Rattle.std.proofs.Common.{◌≡◌, ◌≢◌, ◌≤◌, ◌+◌, ◌-◌, ◌*◌, ℕ, suc, zero, ℤ, pos, negsuc, Bool, true, false, ◌&&◌, cond, eqb, List, [], ◌∷◌, ◌++◌, length, map, ap}
+use Rattle.std.proofs.Common.{◌≡◌, ◌≢◌, ◌≤◌, ◌+◌, ◌-◌, ◌*◌, ℕ, suc, zero, ℤ, pos, negsuc, Bool, true, false, ◌&&◌, cond, eqb, List, [], ◌∷◌}
+use Rattle.std.proofs.Common.{◌++◌, length, map, ap}
 use Rattle.std.proofs.Common.{sym, ◌∙◌, refl, arith, append_assoc, ◌+ℤ◌}
 use Rattle.std.specs.List.{range_with_len, flat_map}
 use Rattle.std.proofs.lemmas.Bool.{and_from, and_parts, eq-eqb, eqb-true, ne_eqb, le-ltb, agree_below, agree_below_at}
@@ -41,14 +42,16 @@ pub numbers-terms : (c : ℤ) (i : ℕ) (ks : List ℕ) → is_number c ≡ true
 numbers-terms c i [] h = refl
 numbers-terms c i (k ∷ ks) h = and_from _ _ (term_number c (eqb k i) h) (numbers-terms c i ks h)
 
-two_number : (c d : ℤ) (a b : Bool) → (a ≡ true → b ≡ true → ⊥) → is_number c ≡ true → is_number d ≡ true → is_number (cond a c (pos 0) +ℤ cond b d (pos 0)) ≡ true
+two_number : (c d : ℤ) (a b : Bool) → (a ≡ true → b ≡ true → ⊥) → is_number c ≡ true → is_number d ≡ true
+    → is_number (cond a c (pos 0) +ℤ cond b d (pos 0)) ≡ true
 two_number c d true true n h k = absurd (n refl refl)
 two_number c d true false n h k = rw (+ℤ_idr c) h
 two_number c d false true n h k = rw (+ℤ_idl d) k
 two_number c d false false n h k = refl
 
 -- the coefficients of two terms over different variables stay within 2^63 - 1
-pub numbers-sums : (c d : ℤ) (i j : ℕ) (ks : List ℕ) → i ≢ j → is_number c ≡ true → is_number d ≡ true → are_numbers (map (λ k. term c i k +ℤ term d j k) ks) ≡ true
+pub numbers-sums : (c d : ℤ) (i j : ℕ) (ks : List ℕ) → i ≢ j → is_number c ≡ true → is_number d ≡ true
+    → are_numbers (map (λ k. term c i k +ℤ term d j k) ks) ≡ true
 numbers-sums c d i j [] n h m = refl
 numbers-sums c d i j (k ∷ ks) n h m =
     and_from _ _
@@ -56,7 +59,8 @@ numbers-sums c d i j (k ∷ ks) n h m =
     (numbers-sums c d i j ks n h m)
 
 -- one more coefficient
-pub terms_more : (f : ℕ → ℤ) (list more : List ℤ) (x : ℤ) (k : ℕ) → list ≡ map f (range_with_len 0 k) → more ≡ list ++ x ∷ [] → x ≡ f k → more ≡ map f (range_with_len 0 (k + 1))
+pub terms_more : (f : ℕ → ℤ) (list more : List ℤ) (x : ℤ) (k : ℕ) → list ≡ map f (range_with_len 0 k) → more ≡ list ++ x ∷ [] → x ≡ f k
+    → more ≡ map f (range_with_len 0 (k + 1))
 terms_more f list more x k e p v =
     let step : map f (range_with_len 0 (k + 1)) ≡ map f (range_with_len 0 k) ++ f k ∷ [] = map-range_with_len_more f 0 k k (omega arith) in
     cc
@@ -65,9 +69,11 @@ range_more : (k : ℕ) → range_with_len 0 (k + 1) ≡ range_with_len 0 k ++ k 
 range_more k = sym (map-id _) ∙ (map-range_with_len_more (λ j. j) 0 k k (omega arith) ∙ ap (λ l. l ++ k ∷ []) (map-id _))
 
 -- the parts of one more variable
-pub parts_more : {X : Type 0} (f : ℕ → List X) (front list more new : List X) (k : ℕ) → list ≡ front ++ flat_map f (range_with_len 0 k) → more ≡ list ++ new → new ≡ f k → more ≡ front ++ flat_map f (range_with_len 0 (k + 1))
+pub parts_more : {X : Type 0} (f : ℕ → List X) (front list more new : List X) (k : ℕ) → list ≡ front ++ flat_map f (range_with_len 0 k)
+    → more ≡ list ++ new → new ≡ f k → more ≡ front ++ flat_map f (range_with_len 0 (k + 1))
 parts_more f front list more new k e p v =
-    let step : (front ++ flat_map f (range_with_len 0 k)) ++ f k ≡ front ++ flat_map f (range_with_len 0 k ++ k ∷ []) = flat_map_more f front (range_with_len 0 k) k in
+    let step : (front ++ flat_map f (range_with_len 0 k)) ++ f k ≡ front ++ flat_map f (range_with_len 0 k ++ k ∷ []) =
+    flat_map_more f front (range_with_len 0 k) k in
     rw range_more (rw (← step) (rw (← e, ← v) p))
 
 -- the parts that two pushes add
@@ -99,7 +105,8 @@ counted : (rows : ℕ → List (List ℤ)) (count : ℕ → ℕ) → agree_below
 counted rows count all zero low high = absurd (omega (arith, low))
 counted rows count all (suc k) low high =
     let n = suc k in
-    let a = and_parts (is_template (rows n)) _ (agree_below_at (λ k. is_counted rows count (suc k)) (λ k. true) MOST_VARIABLES k all (omega (arith, high))) in
+    let a = and_parts (is_template (rows n)) _ (agree_below_at (λ k. is_counted rows count (suc k)) (λ k. true) MOST_VARIABLES k all
+    (omega (arith, high))) in
     let b = and_parts (eqb (width_of (rows n)) n) (eqb (length (rows n)) (count n)) a.1 in
     (a.0, eqb-true (width_of (rows n)) n b.0, eqb-true (length (rows n)) (count n) b.1)
 

@@ -1,5 +1,6 @@
 -- Rows without a fault are a template.
-use Rattle.std.proofs.Common.{◌≡◌, ◌+◌, subst, ℕ, ℤ, Bool, true, false, cond, ◌&&◌, eqb, List, [], ◌∷◌, ◌++◌, length, slice_get, None, refl, sym, nat_le}
+use Rattle.std.proofs.Common.{◌≡◌, ◌+◌, subst, ℕ, ℤ, Bool, true, false, cond, ◌&&◌, eqb, List, [], ◌∷◌, ◌++◌, length, slice_get, None, refl}
+use Rattle.std.proofs.Common.{sym, nat_le}
 use Rattle.std.specs.List.{list_all}
 use Rattle.std.proofs.lemmas.Bool.{and_from, and_parts, eqb-true}
 use Rattle.flow_templates.specs.declared.fault.RowFault.{RowFault}
@@ -45,11 +46,13 @@ pub count_within : (count : ℕ) → count_faults count ≡ [] → (nat_le 1 cou
 count_within count h = within (nat_le 1 count && nat_le count MOST_ROWS) (Count count) h
 
 -- rows over n variables, in a number that is right, are a template
-pub template_from : (n : ℕ) (rows : List (List ℤ)) → list_all (is_row_over n) rows ≡ true → (nat_le 1 (length rows) && nat_le (length rows) MOST_ROWS) ≡ true → (is_template rows ≡ true) × (width_of rows ≡ n)
+pub template_from : (n : ℕ) (rows : List (List ℤ)) → list_all (is_row_over n) rows ≡ true
+    → (nat_le 1 (length rows) && nat_le (length rows) MOST_ROWS) ≡ true → (is_template rows ≡ true) × (width_of rows ≡ n)
 template_from n [] h k = cc
 template_from n (row ∷ rows) h k =
     let same : length row ≡ n = eqb-true _ _ (and_parts _ _ (and_parts _ _ h).0).1 in
-    let wide : list_all (is_row_over (length row)) (row ∷ rows) ≡ true = subst (λ m. list_all (is_row_over m) (row ∷ rows) ≡ true) (sym same) h in
+    let wide : list_all (is_row_over (length row)) (row ∷ rows) ≡ true =
+    subst (λ m. list_all (is_row_over m) (row ∷ rows) ≡ true) (sym same) h in
     (and_from _ _ k wide, same)
 
 -- rows without a fault are a template over the variables

@@ -16,7 +16,8 @@ pub bad_none : (line : List ℕ) → is_skipped line ≡ false → ((amounts : L
 bad_none line s h = record { not_skipped = s; no_row = λ amounts r. h amounts r.reads }
 
 -- a line whose coefficients leave their range is bad
-pub bad_range : (line : List ℕ) (kept slice : List Term) → is_skipped line ≡ false → ReadsKept line kept → slice ≡ kept → (StaysWithin (map kept_amount slice) → ⊥) → IsBad line
+pub bad_range : (line : List ℕ) (kept slice : List Term) → is_skipped line ≡ false → ReadsKept line kept → slice ≡ kept
+    → (StaysWithin (map kept_amount slice) → ⊥) → IsBad line
 bad_range line kept slice s told same out = record {
   not_skipped = s;
   no_row = λ amounts r. out (subst StaysWithin (told.only amounts r.reads ∙ ap (map kept_amount) (sym same)) r.within);
@@ -30,14 +31,16 @@ pub record Told (line : List ℕ) (kept : List Term) (sums : BTreeMap (Bor (List
   pub add_up : AddUp sums (map kept_amount kept)
 
 -- a line with kept terms that stay in their range and are added up is told
-pub told_of : (line : List ℕ) (kept slice : List Term) (sums : BTreeMap (Bor (List ℕ)) ℤ) → is_skipped line ≡ false → ReadsKept line kept → slice ≡ kept → StaysWithin (map kept_amount slice) × AddUp sums (map kept_amount slice) → Told line kept sums
+pub told_of : (line : List ℕ) (kept slice : List Term) (sums : BTreeMap (Bor (List ℕ)) ℤ) → is_skipped line ≡ false → ReadsKept line kept
+    → slice ≡ kept → StaysWithin (map kept_amount slice) × AddUp sums (map kept_amount slice) → Told line kept sums
 told_of line kept slice sums s told same h =
     let P : List Term → Type 0 = λ ts. StaysWithin (map kept_amount ts) × AddUp sums (map kept_amount ts) in
     let here : P kept = subst P same h in
     record { reads = record { not_skipped = s; reads = told.reads; within = here.0 }; add_up = here.1 }
 
 -- a line with a name that is no variable's names an unknown one
-pub unknown_of : (names : List (List ℕ)) (line : List ℕ) (kept slice : List Term) (sums : BTreeMap (Bor (List ℕ)) ℤ) (b : Bool) → Told line kept sums → slice ≡ kept → b ≡ list_all (λ (t : Term). is_among names t.name.now) slice → b ≡ false → IsUnknown names line
+pub unknown_of : (names : List (List ℕ)) (line : List ℕ) (kept slice : List Term) (sums : BTreeMap (Bor (List ℕ)) ℤ) (b : Bool)
+    → Told line kept sums → slice ≡ kept → b ≡ list_all (λ (t : Term). is_among names t.name.now) slice → b ≡ false → IsUnknown names line
 unknown_of names line kept slice sums b told same e no_one = record {
   amounts = map kept_amount kept;
   reads = told.reads;
@@ -56,7 +59,9 @@ pub record Known (names : List (List ℕ)) (line : List ℕ) (row : List ℤ) : 
   pub row_is : row ≡ row_of names amounts
 
 -- a line each of whose names is a variable's has a known row
-pub known_of : (names : List (List ℕ)) (line : List ℕ) (kept slice : List Term) (sums : BTreeMap (Bor (List ℕ)) ℤ) (b : Bool) (row : List ℤ) → Told line kept sums → slice ≡ kept → b ≡ list_all (λ (t : Term). is_among names t.name.now) slice → b ≡ true → row ≡ row_by names (sum_at sums) → Known names line row
+pub known_of : (names : List (List ℕ)) (line : List ℕ) (kept slice : List Term) (sums : BTreeMap (Bor (List ℕ)) ℤ) (b : Bool) (row : List ℤ)
+    → Told line kept sums → slice ≡ kept → b ≡ list_all (λ (t : Term). is_among names t.name.now) slice → b ≡ true
+    → row ≡ row_by names (sum_at sums) → Known names line row
 known_of names line kept slice sums b row told same e all r = record {
   amounts = map kept_amount kept;
   reads = told.reads;
@@ -69,7 +74,8 @@ pub known_numbers : (names : List (List ℕ)) (line : List ℕ) (row : List ℤ)
 known_numbers names line row k = ap are_numbers k.row_is ∙ row_numbers names k.amounts k.reads.within
 
 -- a line whose known row has only zeros is a zero row
-pub zero_of : (names : List (List ℕ)) (line : List ℕ) (row slice : List ℤ) (b : Bool) → Known names line row → slice ≡ row → b ≡ is_row slice → b ≡ false → IsZero names line
+pub zero_of : (names : List (List ℕ)) (line : List ℕ) (row slice : List ℤ) (b : Bool) → Known names line row → slice ≡ row
+    → b ≡ is_row slice → b ≡ false → IsZero names line
 zero_of names line row slice b k same e z = record {
   amounts = k.amounts;
   reads = k.reads;
@@ -78,7 +84,8 @@ zero_of names line row slice b k same e z = record {
 }
 
 -- a line whose known row has a coefficient other than 0 is that row
-pub row_of_line : (names : List (List ℕ)) (line : List ℕ) (row slice made : List ℤ) (b : Bool) → Known names line row → slice ≡ row → b ≡ is_row slice → b ≡ true → made ≡ row → IsRowLine names line made
+pub row_of_line : (names : List (List ℕ)) (line : List ℕ) (row slice made : List ℤ) (b : Bool) → Known names line row → slice ≡ row
+    → b ≡ is_row slice → b ≡ true → made ≡ row → IsRowLine names line made
 row_of_line names line row slice made b k same e some m = record {
   amounts = k.amounts;
   reads = k.reads;

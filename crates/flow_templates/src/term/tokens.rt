@@ -6,8 +6,8 @@ ghost use Rattle.flow_templates.specs.Pending.{Pending};
 ghost use Rattle.flow_templates.specs.Kept.{AllFit, FitsLine, TakesTerm, NoTerm, TakesName, NoName, TakesSign, NoSign, NoRow, SpellsKept};
 
 use crate::term::Term;
-use std::alloc::{AllocError, Global};
 use lang_tokens::{Kind, Sign, Token};
+use std::alloc::{AllocError, Global};
 
 // A factor times the name that the token is.
 fn named<'a>(line: &'a [u8], token: Token, negative: bool, factor: i64) -> Term<'a>

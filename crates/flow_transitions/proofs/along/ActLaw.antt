@@ -43,7 +43,8 @@ choices_are_steps n (set var form line) h = refl
 choices_are_steps n (havoc var line) h = refl
 choices_are_steps n (assume c line) h = map_map (cases_of true c)
   where
-    map_map : (cs : List (List Form)) → map guards cs ≡ map recorded (map (λ forms. labelled (guards forms) (if splits c then mark 0 ∷ [] else [])) cs)
+    map_map : (cs : List (List Form)) → map guards cs ≡ map recorded (map
+        (λ forms. labelled (guards forms) (if splits c then mark 0 ∷ [] else [])) cs)
     map_map [] = refl
     map_map (forms ∷ cs) = ap (λ r. guards forms ∷ r) (map_map cs)
 choices_are_steps n (branch c first second line) h = absurd (false≢true h)
@@ -76,7 +77,8 @@ acts_chosen n (cons s rest) x y h d =
     let first = act_chosen n s x d.0 p.0 d.1 in
     let later = acts_chosen n rest d.0 y p.1 d.2 in (
       first.0 ++ later.0,
-      in_flat_map (then_later rest) (choices_of s) first.0 (first.0 ++ later.0) first.1 (in_map (λ a. first.0 ++ a) (choices_in rest) later.0 later.1),
+      in_flat_map (then_later rest) (choices_of s) first.0 (first.0 ++ later.0) first.1
+          (in_map (λ a. first.0 ++ a) (choices_in rest) later.0 later.1),
       acts-append first.0 later.0 x d.0 y first.2 later.2,
     )
 

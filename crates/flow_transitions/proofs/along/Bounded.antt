@@ -1,5 +1,6 @@
 -- Every post-solution of a transition system's edges holds along its runs.
-use Rattle.std.proofs.Common.{◌≡◌, ◌∙◌, ℕ, ◌<◌, inl, inr, ⊎_elim, Bool, true, false, cond, List, [], ◌∷◌, length, refl, sym, ap, subst, arith}
+use Rattle.std.proofs.Common.{◌≡◌, ◌∙◌, ℕ, ◌<◌, inl, inr, ⊎_elim, Bool, true, false, cond, List, [], ◌∷◌, length, refl, sym, ap, subst}
+use Rattle.std.proofs.Common.{arith}
 use Rattle.std.specs.Prelude.{ℤ, pos, slice_set, ◌≤ℤ◌, IsTrue, filter}
 use Rattle.std.specs.List.{list_all, range_with_len}
 use Rattle.std.proofs.lemmas.Bool.{and_parts, eq-eqb}
@@ -35,7 +36,10 @@ guarded z h = subst (λ q. whole z ≤ℚ q) whole-zero (whole_le z (pos 0) h)
 -- they are a trace, and keep the number of values
 pub acts_trace : (actions : List Action) (x y : State) → Acts actions x y → Traces actions (rational x) (rational y)
 acts_trace [] x y h = ap rational h
-acts_trace (Guard f ∷ actions) x y h = (subst (λ q. q ≤ℚ zero_ℚ) (sym (value_rational f x)) (guarded (value f x) h.0), acts_trace actions x y h.1)
+acts_trace (Guard f ∷ actions) x y h = (
+  subst (λ q. q ≤ℚ zero_ℚ) (sym (value_rational f x)) (guarded (value f x) h.0),
+  acts_trace actions x y h.1,
+)
 acts_trace (Assign var f ∷ actions) x y h =
     let assigned = map-set whole x var (value f x) ∙ ap (slice_set (rational x) var) (sym (value_rational f x)) in
     subst (λ z. Traces actions z (rational y)) assigned (acts_trace actions (slice_set x var (value f x)) y h)
@@ -67,12 +71,14 @@ in_filter p (y ∷ xs) x m h =
     later false k = k
 
 -- the edge of a choice is listed
-chosen_in : (edges : List AutoEdge) (points : ℕ) (e : AutoEdge) (actions : List Action) → In edges e → e.from < points → In (choices_in e.acts) actions →
+chosen_in : (edges : List AutoEdge) (points : ℕ) (e : AutoEdge) (actions : List Action) → In edges e → e.from < points
+    → In (choices_in e.acts) actions →
     In (edges_of points edges) (edge_by e actions)
 chosen_in edges points e actions m l k =
     let from = e.from in
     in_flat_map (edges_at edges) (range_with_len 0 points) from (edge_by e actions) (in_range 0 points from (omega arith) (omega arith))
-    (in_flat_map edges_along (filter (starts_at from) edges) e (edge_by e actions) (in_filter (starts_at from) edges e m (eq-eqb from from refl))
+    (in_flat_map edges_along (filter (starts_at from) edges) e (edge_by e actions)
+    (in_filter (starts_at from) edges e m (eq-eqb from from refl))
     (in_map (edge_by e) (choices_in e.acts) actions k))
 
 module _ (auto : Auto) (template : List (List ℤ)) (v : Vector) (post : PostSolution (equations_of_auto auto template) v) where
@@ -93,9 +99,11 @@ module _ (auto : Auto) (template : List (List ℤ)) (v : Vector) (post : PostSol
       let e = step.edge in
       let m = contains_in auto.edges e step.listed in
       let n = length auto.names in
-      let l = edge_limits n (length auto.points) e (all_in (is_auto_edge n (length auto.points)) auto.edges e (limits auto.names auto.points auto.edges auto.within_limits).along m) in
+      let l = edge_limits n (length auto.points) e (all_in (is_auto_edge n (length auto.points)) auto.edges e
+      (limits auto.names auto.points auto.edges auto.within_limits).along m) in
       let c = (choices_law n e.acts a.state b.state l.acts).0 step.does in
-      let listed = contains_from_in (edges_of (length auto.points) auto.edges) (edge_by e c.0) (chosen_in auto.edges (length auto.points) e c.0 m l.from c.1) in
+      let listed = contains_from_in (edges_of (length auto.points) auto.edges) (edge_by e c.0)
+      (chosen_in auto.edges (length auto.points) e c.0 m l.from c.1) in
       record {
         size = acts_size c.0 a.state b.state c.2 ∙ k.size;
         fits = subst (λ p. Fits (equations_of_auto auto template) v p (rational b.state)) step.to
@@ -108,7 +116,8 @@ module _ (auto : Auto) (template : List (List ℤ)) (v : Vector) (post : PostSol
             }));
       }
 
-  all_known : (a : AutoConfiguration) (cs : List AutoConfiguration) → AutoFollows auto.edges a cs → Known a → (c : AutoConfiguration) → In (a ∷ cs) c → Known c
+  all_known : (a : AutoConfiguration) (cs : List AutoConfiguration) → AutoFollows auto.edges a cs → Known a → (c : AutoConfiguration)
+      → In (a ∷ cs) c → Known c
   all_known a [] f k c m = ⊎_elim (λ e. subst Known e k) (λ n. absurd n) m
   all_known a (b ∷ cs) f k c m = ⊎_elim (λ e. subst Known e k) (λ n. all_known b cs f.1 (stepped a b f.0 k) c n) m
 

@@ -1,5 +1,6 @@
 -- The actions of one choice, act by act, as many as are kept.
-use Rattle.std.proofs.Common.{◌≡◌, ◌∙◌, ℕ, zero, suc, ◌*◌, ◌<◌, ◌≤◌, ◌/◌, ◌%◌, List, [], ◌∷◌, ◌++◌, length, get_or, refl, sym, ap, subst, ⊎_elim, arith, length-append}
+use Rattle.std.proofs.Common.{◌≡◌, ◌∙◌, ℕ, zero, suc, ◌*◌, ◌<◌, ◌≤◌, ◌/◌, ◌%◌, List, [], ◌∷◌, ◌++◌, length, get_or, refl, sym, ap, subst}
+use Rattle.std.proofs.Common.{⊎_elim, arith, length-append}
 use Rattle.std.proofs.Common.{append_assoc}
 use Rattle.std.proofs.lemmas.List.{append-nil, length-take, take_all, take-append-le}
 use Rattle.std.proofs.lemmas.Bool.{cases_lt}
@@ -50,7 +51,8 @@ pub record IsChosen (all : Statements) (whole : ℕ) (rest : Statements) (action
   pub short : length actions ≤ 257
   pub same : kept (actions ++ get_or (choices_in rest) number []) ≡ kept (get_or (choices_in all) whole [])
 
-pub chosen_none : (all : Statements) (whole count : ℕ) → count ≡ length (choices_in all) → whole < count → IsChosen all whole all [] count whole
+pub chosen_none : (all : Statements) (whole count : ℕ) → count ≡ length (choices_in all) → whole < count
+    → IsChosen all whole all [] count whole
 chosen_none all whole count e l = record { count = e; within = l; short = omega arith; same = refl }
 
 -- what one act leaves of the choices
@@ -60,7 +62,8 @@ pub record Parts (s : Statement) (rest : Statements) (left number n : ℕ) : Typ
   pub later_some : 0 < left / n
   pub first : number / (left / n) < n
 
-pub parts : (all : Statements) (whole : ℕ) (s : Statement) (rest : Statements) (actions : List Action) (left number n : ℕ) → n ≡ length (choices_of s) →
+pub parts : (all : Statements) (whole : ℕ) (s : Statement) (rest : Statements) (actions : List Action) (left number n : ℕ)
+    → n ≡ length (choices_of s) →
     IsChosen all whole (cons s rest) actions left number → Parts s rest left number n
 parts all whole s rest actions left number n e c =
     let m = length (choices_in rest) in
@@ -77,7 +80,8 @@ parts all whole s rest actions left number n e c =
     }
 
 -- one act more
-pub chosen_more : (all : Statements) (whole : ℕ) (s : Statement) (rest : Statements) (actions after : List Action) (left number n : ℕ) → n ≡ length (choices_of s) →
+pub chosen_more : (all : Statements) (whole : ℕ) (s : Statement) (rest : Statements) (actions after : List Action) (left number n : ℕ)
+    → n ≡ length (choices_of s) →
     IsChosen all whole (cons s rest) actions left number → after ≡ kept (actions ++ get_or (choices_of s) (number / (left / n)) []) →
     IsChosen all whole rest after (left / n) (number % (left / n))
 chosen_more all whole s rest actions after left number n e c f =
@@ -89,7 +93,8 @@ chosen_more all whole s rest actions after left number n e c f =
     let first = get_or (choices_of s) i [] in
     let later = get_or (choices_in rest) j [] in
     let within : i < length (choices_of s) = subst (λ k. i < k) e (subst (λ k. number / k < n) p.later p.first) in
-    let both : get_or (choices_in (cons s rest)) number [] ≡ first ++ later = get_or-crossing (choices_of s) (choices_in rest) number m_some within in
+    let both : get_or (choices_in (cons s rest)) number [] ≡ first ++ later =
+    get_or-crossing (choices_of s) (choices_in rest) number m_some within in
     let after_is : after ≡ kept (actions ++ first) = f ∙ ap (λ k. kept (actions ++ get_or (choices_of s) (number / k) [])) p.later in
     record {
       count = p.later;
@@ -106,4 +111,5 @@ pub chosen_all : (all : Statements) (whole : ℕ) (actions : List Action) (left 
     actions ≡ kept (get_or (choices_in all) whole [])
 chosen_all all whole actions left number c =
     let zero_is : number ≡ 0 = omega (arith, c.within, c.count) in
-    sym (kept_all actions c.short) ∙ sym (ap kept (append-nil actions)) ∙ sym (ap (λ k. kept (actions ++ get_or (choices_in nil) k [])) zero_is) ∙ c.same
+    sym (kept_all actions c.short) ∙ sym (ap kept (append-nil actions))
+    ∙ sym (ap (λ k. kept (actions ++ get_or (choices_in nil) k [])) zero_is) ∙ c.same

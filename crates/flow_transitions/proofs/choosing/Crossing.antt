@@ -1,5 +1,6 @@
 -- Each list of one list followed by each of another: how many there are, and which has a number.
-use Rattle.std.proofs.Common.{◌≡◌, ◌∙◌, ℕ, ◌+◌, ◌*◌, ◌<◌, ◌/◌, ◌%◌, List, [], ◌∷◌, ◌++◌, length, map, get_or, take, sym, ap, arith, length-append}
+use Rattle.std.proofs.Common.{◌≡◌, ◌∙◌, ℕ, ◌+◌, ◌*◌, ◌<◌, ◌/◌, ◌%◌, List, [], ◌∷◌, ◌++◌, length, map, get_or, take, sym, ap, arith}
+use Rattle.std.proofs.Common.{length-append}
 use Rattle.std.specs.Prelude.{flat_map}
 use Rattle.std.proofs.lemmas.List.{length-map, length-take-le, get_or-map}
 use Rattle.std.proofs.lemmas.List.Concat.{get_or-flat_map}
@@ -16,7 +17,13 @@ crossing xs ys = flat_map (followed ys) xs
 pub length-crossing : (xs ys : List (List Action)) → length (crossing xs ys) ≡ length xs * length ys
 length-crossing [] ys = omega (arith, zero-mul (length ys))
 length-crossing (x ∷ xs) ys =
-    omega (arith, length-append (followed ys x) (crossing xs ys), length-map ys (λ y. x ++ y), length-crossing xs ys, suc-mul (length xs) (length ys))
+    omega (
+      arith,
+      length-append (followed ys x) (crossing xs ys),
+      length-map ys (λ y. x ++ y),
+      length-crossing xs ys,
+      suc-mul (length xs) (length ys),
+    )
 
 -- the one of number k
 pub get_or-crossing : (xs ys : List (List Action)) (k : ℕ) → 0 < length ys → k / length ys < length xs →

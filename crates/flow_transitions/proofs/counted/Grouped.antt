@@ -1,5 +1,6 @@
 -- The edges from all points are as many as the choices along all edges of the text.
-use Rattle.std.proofs.Common.{◌≡◌, ◌∙◌, ℕ, zero, suc, ◌+◌, ◌<◌, ◌≤◌, Bool, true, false, List, [], ◌∷◌, length, min, refl, sym, ap, arith, cond, ⊎_elim, length-append}
+use Rattle.std.proofs.Common.{◌≡◌, ◌∙◌, ℕ, zero, suc, ◌+◌, ◌<◌, ◌≤◌, Bool, true, false, List, [], ◌∷◌, length, min, refl, sym, ap, arith}
+use Rattle.std.proofs.Common.{cond, ⊎_elim, length-append}
 use Rattle.std.specs.Prelude.{◌&&◌, ◌==◌, IsTrue, flat_map, filter, nat_lt}
 use Rattle.std.specs.List.{range_with_len, list_all, sum_by}
 use Rattle.std.proofs.lemmas.Bool.{and_parts, ltb-true, cases_eq, eq-eqb, ne_eqb}
@@ -19,7 +20,8 @@ share : Bool → AutoEdge → ℕ
 share true e = way_count e
 share false e = 0
 
-at_cons : (e : AutoEdge) (es : List AutoEdge) (p : ℕ) (b : Bool) → length (flat_map edges_along (cond b (e ∷ filter (starts_at p) es) (filter (starts_at p) es))) ≡ share b e + length (edges_at es p)
+at_cons : (e : AutoEdge) (es : List AutoEdge) (p : ℕ) (b : Bool) → length
+    (flat_map edges_along (cond b (e ∷ filter (starts_at p) es) (filter (starts_at p) es))) ≡ share b e + length (edges_at es p)
 unfolding share
 at_cons e es p true = omega (arith, length-append (edges_along e) (edges_at es p), length-map (choices_in e.acts) (edge_by e))
 at_cons e es p false = omega arith
@@ -51,7 +53,14 @@ somewhere a (suc n) e es h k =
     omega (arith, from_append a n (e ∷ es), from_append a n es, point_cons e es a, here, nothing_before (a + 1) n e es (omega arith)))
     (λ (d : e.from ≡ a → ⊥).
     let here : share (e.from == a) e ≡ 0 = ap (λ b. share b e) (ne_eqb e.from a d) in
-    omega (arith, from_append a n (e ∷ es), from_append a n es, point_cons e es a, here, somewhere (a + 1) n e es (omega (arith, d)) (omega (arith, d))))
+    omega (
+      arith,
+      from_append a n (e ∷ es),
+      from_append a n es,
+      point_cons e es a,
+      here,
+      somewhere (a + 1) n e es (omega (arith, d)) (omega (arith, d)),
+    ))
     (cases_eq e.from a)
 
 none_at_all : (a n : ℕ) → edges_from a n [] ≡ 0
@@ -66,10 +75,12 @@ grouped variables points (e ∷ es) h =
     let p = and_parts (is_auto_edge variables points e) (list_all (is_auto_edge variables points) es) h in
     let q = and_parts (nat_lt e.from points) (nat_lt 0 e.to && (nat_lt e.to points && are_acts variables e.acts)) p.0 in
     let below : e.from < points = ltb-true e.from points q.0 in
-    somewhere 0 points e es (omega arith) (omega arith) ∙ ap (λ k. way_count e + k) (grouped variables points es p.1) ∙ sym (sum_by-cons way_count e es)
+    somewhere 0 points e es (omega arith) (omega arith) ∙ ap (λ k. way_count e + k) (grouped variables points es p.1)
+    ∙ sym (sum_by-cons way_count e es)
 
 -- the same, counted no further than they matter
-pub total : (variables points : ℕ) (edges slice : List AutoEdge) (count : ℕ) → IsTrue (list_all (is_auto_edge variables points) edges) → slice ≡ edges →
+pub total : (variables points : ℕ) (edges slice : List AutoEdge) (count : ℕ) → IsTrue (list_all (is_auto_edge variables points) edges)
+    → slice ≡ edges →
     count ≡ min (sum_by way_count slice) 257 → count ≡ min (length (edges_of points edges)) 257
 total variables points edges slice count h e f =
     f ∙ ap (λ es. min (sum_by way_count es) 257) e ∙ ap (λ k. min k 257) (sym (grouped variables points edges h))

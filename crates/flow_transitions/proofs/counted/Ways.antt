@@ -1,5 +1,6 @@
 -- Choices and edges, counted no further than they matter.
-use Rattle.std.proofs.Common.{◌≡◌, ◌∙◌, ℕ, zero, suc, ◌+◌, ◌*◌, ◌<◌, ◌≤◌, min, Bool, true, false, List, [], ◌∷◌, length, refl, sym, ap, ⊎_elim, arith, cond}
+use Rattle.std.proofs.Common.{◌≡◌, ◌∙◌, ℕ, zero, suc, ◌+◌, ◌*◌, ◌<◌, ◌≤◌, min, Bool, true, false, List, [], ◌∷◌, length, refl, sym, ap}
+use Rattle.std.proofs.Common.{⊎_elim, arith, cond}
 use Rattle.std.specs.Prelude.{◌||◌, Option, Some, None, option_map}
 use Rattle.std.specs.List.{find, sum_by}
 use Rattle.std.proofs.lemmas.Bool.{cases_lt}
@@ -38,9 +39,15 @@ pub record AreCounted (all rest : Statements) (count : ℕ) : Type 0 where
   pub wide : has_wide all ≡ has_wide rest
 
 pub counted_none : (all : Statements) → AreCounted all all 1
-counted_none all = record { few = omega arith; product = ap (λ k. min k 257) (let e : 1 * length (choices_in all) ≡ length (choices_in all) = omega arith in e); wide = refl }
+counted_none all = record {
+  few = omega arith;
+  product = ap (λ k. min k 257)
+      (let e : 1 * length (choices_in all) ≡ length (choices_in all) = omega arith in e);
+  wide = refl;
+}
 
-pub counted_more : (all : Statements) (s : Statement) (rest : Statements) (count n after : ℕ) → n ≡ length (choices_of s) → is_wide_act s ≡ false → after ≡ min (count * n) 257 →
+pub counted_more : (all : Statements) (s : Statement) (rest : Statements) (count n after : ℕ) → n ≡ length (choices_of s)
+    → is_wide_act s ≡ false → after ≡ min (count * n) 257 →
     AreCounted all (cons s rest) count → AreCounted all rest after
 counted_more all s rest count n after e w f c =
     let m = length (choices_in rest) in
@@ -53,10 +60,12 @@ counted_more all s rest count n after e w f c =
       wide = c.wide ∙ ap (λ b. b || has_wide rest) w;
     }
 
-pub counted_all : (all : Statements) (count : ℕ) → AreCounted all nil count → (count ≡ min (length (choices_in all)) 257) × (has_wide all ≡ false)
+pub counted_all : (all : Statements) (count : ℕ) → AreCounted all nil count
+    → (count ≡ min (length (choices_in all)) 257) × (has_wide all ≡ false)
 counted_all all count c = ((let p = c.product in let f = c.few in omega (arith, mul-one count)), c.wide)
 
-pub counted_wide : (all : Statements) (s : Statement) (rest : Statements) (count : ℕ) → is_wide_act s ≡ true → AreCounted all (cons s rest) count → has_wide all ≡ true
+pub counted_wide : (all : Statements) (s : Statement) (rest : Statements) (count : ℕ) → is_wide_act s ≡ true
+    → AreCounted all (cons s rest) count → has_wide all ≡ true
 counted_wide all s rest count w c = c.wide ∙ ap (λ b. b || has_wide rest) w
 
 -- ---- along all edges of the text
@@ -66,12 +75,18 @@ pub record AreSummed (all rest : List AutoEdge) (count : ℕ) : Type 0 where
   pub wide : cases_fault all ≡ cases_fault rest
 
 pub summed_none : (all : List AutoEdge) → AreSummed all all 0
-summed_none all = record { few = omega arith; sum = ap (λ k. min k 257) (let e : 0 + sum_by way_count all ≡ sum_by way_count all = omega arith in e); wide = refl }
+summed_none all = record {
+  few = omega arith;
+  sum = ap (λ k. min k 257)
+      (let e : 0 + sum_by way_count all ≡ sum_by way_count all = omega arith in e);
+  wide = refl;
+}
 
 abbrev found : Bool → AutoEdge → List AutoEdge → Option AutoFault
 found b e rest = option_map (λ (x : AutoEdge). Cases x.at) (cond b (Some e) (find (λ x. has_wide x.acts) rest))
 
-pub summed_more : (all : List AutoEdge) (e : AutoEdge) (rest : List AutoEdge) (count n after : ℕ) → n ≡ min (way_count e) 257 → has_wide e.acts ≡ false → after ≡ min (count + n) 257 →
+pub summed_more : (all : List AutoEdge) (e : AutoEdge) (rest : List AutoEdge) (count n after : ℕ) → n ≡ min (way_count e) 257
+    → has_wide e.acts ≡ false → after ≡ min (count + n) 257 →
     AreSummed all (e ∷ rest) count → AreSummed all rest after
 summed_more all e rest count n after f w g c = record {
   few = omega arith;
@@ -79,8 +94,10 @@ summed_more all e rest count n after f w g c = record {
   wide = c.wide ∙ ap (λ b. found b e rest) w;
 }
 
-pub summed_all : (all : List AutoEdge) (count : ℕ) → AreSummed all [] count → (count ≡ min (sum_by way_count all) 257) × (cases_fault all ≡ None)
+pub summed_all : (all : List AutoEdge) (count : ℕ) → AreSummed all [] count
+    → (count ≡ min (sum_by way_count all) 257) × (cases_fault all ≡ None)
 summed_all all count c = ((let s = c.sum in let f = c.few in omega arith), c.wide)
 
-pub summed_wide : (all : List AutoEdge) (e : AutoEdge) (rest : List AutoEdge) (count : ℕ) → has_wide e.acts ≡ true → AreSummed all (e ∷ rest) count → cases_fault all ≡ Some (Cases e.at)
+pub summed_wide : (all : List AutoEdge) (e : AutoEdge) (rest : List AutoEdge) (count : ℕ) → has_wide e.acts ≡ true
+    → AreSummed all (e ∷ rest) count → cases_fault all ≡ Some (Cases e.at)
 summed_wide all e rest count w c = c.wide ∙ ap (λ b. found b e rest) w

@@ -4,17 +4,21 @@ use Rattle.std.proofs.Common.{append_assoc}
 use Rattle.std.proofs.lemmas.List.{append-nil}
 use Rattle.std.specs.Prelude.{codes}
 use Rattle.lang_grammar.specs.Expressions.{ReadsExpr, BeginsExpr, is_infix}
-use Rattle.lang_grammar.specs.Grammar.{Kind, a_name, comma, semicolon, left_brace, right_brace, left_paren, right_paren, change_sign, replaces}
+use Rattle.lang_grammar.specs.Grammar.{Kind, a_name, comma, semicolon, left_brace, right_brace, left_paren, right_paren, change_sign}
+use Rattle.lang_grammar.specs.Grammar.{replaces}
 use Rattle.lang_grammar.specs.Grammar.{assume_word, the_end, Token, token, Expr, number, spell_expr, Groups}
 use Rattle.lang_grammar.proofs.phrase.Found.{ends_there}
 use Rattle.lang_grammar.proofs.phrase.Starts.{reads_run}
-use Rattle.flow_transitions.specs.AutoGrammar.{Spot, Names, commas_then, names_then, Act, sets, assumes, act_then, acts_then, Head, head_then}
+use Rattle.flow_transitions.specs.AutoGrammar.{Spot, Names, commas_then, names_then, Act, sets, assumes, act_then, acts_then, Head}
+use Rattle.flow_transitions.specs.AutoGrammar.{head_then}
 use Rattle.flow_transitions.specs.AutoGrammar.{Written, edge_then}
-use Rattle.flow_transitions.specs.AutoGrammar.{edges_then, Heads, System, vars_then, points_then, heads_then, system_then, Frame, condition, side}
+use Rattle.flow_transitions.specs.AutoGrammar.{edges_then, Heads, System, vars_then, points_then, heads_then, system_then, Frame, condition}
+use Rattle.flow_transitions.specs.AutoGrammar.{side}
 use Rattle.flow_transitions.specs.AutoGrammar.{closing, frame_then}
 use Rattle.flow_transitions.specs.AutoGrammar.{Inside, inside_then, Begun, begun_then, no_token, some_variables, a_variable, all_variables}
 use Rattle.flow_transitions.specs.AutoGrammar.{some_points, a_point, some_edges}
-use Rattle.flow_transitions.specs.AutoGrammar.{an_edge, a_source, a_target, some_acts, an_assume, an_assigned, some_expression, an_expression}
+use Rattle.flow_transitions.specs.AutoGrammar.{an_edge, a_source, a_target, some_acts, an_assume, an_assigned, some_expression}
+use Rattle.flow_transitions.specs.AutoGrammar.{an_expression}
 use Rattle.flow_transitions.specs.AutoGrammar.{an_assumption}
 use Rattle.flow_transitions.specs.AutoGrammar.{GoodAct, GoodActs, GoodEdges, Begins, IsUnexpected}
 use Rattle.flow_transitions.proofs.grammar.Lists.{begun_append, commas_more, acts_more, edges_more, good_more, all_good_more, cancel_commas}

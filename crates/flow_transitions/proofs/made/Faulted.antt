@@ -35,7 +35,8 @@ none_long es h = short_from 0 es (sym (position_from-zero is_long es) ∙ h)
 
 whole : (es : List Edge) → Each IsShort es → map kept_edge es ≡ es
 whole [] h = refl
-whole (e ∷ es) h = ap₂ (λ a r. let f : Edge = record e { actions = a } in f ∷ r) (take_all 257 e.actions (omega (arith, h.0))) (whole es h.1)
+whole (e ∷ es) h = ap₂ (λ a r. let f : Edge = record e { actions = a } in f ∷ r) (take_all 257 e.actions (omega (arith, h.0)))
+    (whole es h.1)
 
 -- where no edge is too long nothing of them is cut off
 pub nothing_cut : (es : List Edge) → position is_long (map kept_edge es) ≡ None → map kept_edge es ≡ es
@@ -51,11 +52,15 @@ after_edges es b = fault_or (if b then Some Edges else None) (actions_fault es)
 pub wide_first : (points : ℕ) (edges : List AutoEdge) (f : AutoFault) → cases_fault edges ≡ Some f → fault_of points edges ≡ Some f
 wide_first points edges f h = ap (after_cases points edges) h
 
-pub many_edges : (points : ℕ) (edges : List AutoEdge) → cases_fault edges ≡ None → 256 < length (edges_of points edges) → fault_of points edges ≡ Some Edges
-many_edges points edges h l = ap (after_cases points edges) h ∙ ap (after_edges (edges_of points edges)) (lt-ltb 256 (length (edges_of points edges)) l)
+pub many_edges : (points : ℕ) (edges : List AutoEdge) → cases_fault edges ≡ None → 256 < length (edges_of points edges)
+    → fault_of points edges ≡ Some Edges
+many_edges points edges h l = ap (after_cases points edges) h ∙ ap (after_edges (edges_of points edges))
+    (lt-ltb 256 (length (edges_of points edges)) l)
 
-few : (points : ℕ) (edges : List AutoEdge) → cases_fault edges ≡ None → length (edges_of points edges) ≤ 256 → fault_of points edges ≡ actions_fault (edges_of points edges)
-few points edges h l = ap (after_cases points edges) h ∙ ap (after_edges (edges_of points edges)) (le-ltb 256 (length (edges_of points edges)) l)
+few : (points : ℕ) (edges : List AutoEdge) → cases_fault edges ≡ None → length (edges_of points edges) ≤ 256
+    → fault_of points edges ≡ actions_fault (edges_of points edges)
+few points edges h l = ap (after_cases points edges) h ∙ ap (after_edges (edges_of points edges))
+    (le-ltb 256 (length (edges_of points edges)) l)
 
 pub long_edge : (points : ℕ) (edges : List AutoEdge) (k : ℕ) → cases_fault edges ≡ None → length (edges_of points edges) ≤ 256 →
     position is_long (map kept_edge (edges_of points edges)) ≡ Some k → fault_of points edges ≡ Some (Actions k)

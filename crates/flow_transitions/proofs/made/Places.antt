@@ -1,5 +1,6 @@
 -- One element more of the lists that are walked.
-use Rattle.std.proofs.Common.{◌≡◌, ◌∙◌, ℕ, zero, suc, ◌+◌, ◌<◌, Bool, List, [], ◌∷◌, ◌++◌, length, map, get_or, drop, take, sym, ap, subst, arith, append_assoc}
+use Rattle.std.proofs.Common.{◌≡◌, ◌∙◌, ℕ, zero, suc, ◌+◌, ◌<◌, Bool, List, [], ◌∷◌, ◌++◌, length, map, get_or, drop, take, sym, ap, subst}
+use Rattle.std.proofs.Common.{arith, append_assoc}
 use Rattle.std.specs.Prelude.{IsTrue, flat_map}
 use Rattle.std.specs.List.{range_with_len, list_all}
 use Rattle.std.proofs.lemmas.Bool.{and_parts}
@@ -22,7 +23,8 @@ use Rattle.flow_transitions.specs.Counted.{have_room_along}
 use Rattle.flow_transitions.proofs.choosing.Chosen.{kept-append}
 
 -- a test of each element at one of them
-pub list_all_place : {A : Type 0} (p : A → Bool) (xs : List A) (i : ℕ) (x : A) → i < length xs → x ≡ get_or xs i x → IsTrue (list_all p xs) → IsTrue (p x)
+pub list_all_place : {A : Type 0} (p : A → Bool) (xs : List A) (i : ℕ) (x : A) → i < length xs → x ≡ get_or xs i x → IsTrue (list_all p xs)
+    → IsTrue (p x)
 list_all_place p [] i x l e h = absurd (omega arith)
 list_all_place p (y ∷ xs) zero x l e h = subst (λ z. IsTrue (p z)) (sym e) (and_parts (p y) (list_all p xs) h).0
 list_all_place p (y ∷ xs) (suc i) x l e h = list_all_place p xs i x (omega arith) e (and_parts (p y) (list_all p xs) h).1
@@ -34,18 +36,24 @@ statements-drop ss i x l e =
     at_drop_more statements_of ss i x l ∙ ap (λ y. cons (statement_of y) (statements_of (drop (i + 1) ss))) (sym e)
 
 -- room in one of the statements
-pub room_at : (ss : List Stmt) (i : ℕ) (x : Stmt) → i < length ss → x ≡ get_or ss i x → IsTrue (have_rooms (statements_of ss)) → IsTrue (has_rooms (statement_of x))
+pub room_at : (ss : List Stmt) (i : ℕ) (x : Stmt) → i < length ss → x ≡ get_or ss i x → IsTrue (have_rooms (statements_of ss))
+    → IsTrue (has_rooms (statement_of x))
 room_at [] i x l e h = absurd (omega arith)
-room_at (s ∷ ss) zero x l e h = subst (λ y. IsTrue (has_rooms (statement_of y))) (sym e) (and_parts (has_rooms (statement_of s)) (have_rooms (statements_of ss)) h).0
-room_at (s ∷ ss) (suc i) x l e h = room_at ss i x (omega arith) e (and_parts (has_rooms (statement_of s)) (have_rooms (statements_of ss)) h).1
+room_at (s ∷ ss) zero x l e h = subst (λ y. IsTrue (has_rooms (statement_of y))) (sym e)
+    (and_parts (has_rooms (statement_of s)) (have_rooms (statements_of ss)) h).0
+room_at (s ∷ ss) (suc i) x l e h = room_at ss i x (omega arith) e (and_parts (has_rooms (statement_of s)) (have_rooms (statements_of ss))
+    h).1
 
 -- room on one of the edges
-pub room_along_at : (es : List AutoEdge) (i : ℕ) (x : AutoEdge) → i < length es → x ≡ get_or es i x → IsTrue (have_room_along es) → IsTrue (have_rooms x.acts)
+pub room_along_at : (es : List AutoEdge) (i : ℕ) (x : AutoEdge) → i < length es → x ≡ get_or es i x → IsTrue (have_room_along es)
+    → IsTrue (have_rooms x.acts)
 room_along_at es i x l e h = list_all_place (λ y. have_rooms y.acts) es i x l e h
 
 -- one guard more
-pub guard_more : (first before after : List Action) (forms : List Form) (i : ℕ) (x y : Form) → i < length forms → x ≡ get_or forms i x → y ≡ x →
-    after ≡ kept (before ++ Guard y ∷ []) → before ≡ kept (first ++ guards (take i forms)) → after ≡ kept (first ++ guards (take (i + 1) forms))
+pub guard_more : (first before after : List Action) (forms : List Form) (i : ℕ) (x y : Form) → i < length forms → x ≡ get_or forms i x
+    → y ≡ x →
+    after ≡ kept (before ++ Guard y ∷ []) → before ≡ kept (first ++ guards (take i forms))
+    → after ≡ kept (first ++ guards (take (i + 1) forms))
 guard_more first before after forms i x y l e f g h =
     let one : List Action = Guard x ∷ [] in
     let all : guards (take i forms) ++ one ≡ guards (take (i + 1) forms) =
@@ -61,7 +69,8 @@ choice_more first before after e all i x l f g h =
     let made : List (List Action) → List Edge = λ actions. map kept_edge (map (edge_by e) actions) in
     let one : made (take (i + 1) all) ≡ made (take i all) ++ x ∷ [] =
     ap made (take_more all i [] l) ∙ ap (map kept_edge) (map-append (edge_by e) (take i all) (get_or all i [] ∷ []))
-    ∙ map-append kept_edge (map (edge_by e) (take i all)) (edge_by e (get_or all i []) ∷ []) ∙ ap (λ z. made (take i all) ++ z ∷ []) (sym f) in
+    ∙ map-append kept_edge (map (edge_by e) (take i all)) (edge_by e (get_or all i []) ∷ [])
+    ∙ ap (λ z. made (take i all) ++ z ∷ []) (sym f) in
     g ∙ ap (λ z. z ++ x ∷ []) h ∙ append_assoc first (made (take i all)) (x ∷ []) ∙ ap (λ z. first ++ z) (sym one)
 
 -- the edges of one point more
@@ -72,7 +81,9 @@ edges_of-more edges p =
     ∙ flat_map-append (edges_at edges) (range_with_len 0 p) (range_with_len (0 + p) 1)
     ∙ ap (λ z. edges_of p edges ++ z) (append-nil (edges_at edges (0 + p)) ∙ ap (edges_at edges) next)
 
-pub point_more : (before after : List Edge) (edges : List AutoEdge) (p : ℕ) → after ≡ before ++ map kept_edge (edges_at edges p) → before ≡ map kept_edge (edges_of p edges) →
+pub point_more : (before after : List Edge) (edges : List AutoEdge) (p : ℕ) → after ≡ before ++ map kept_edge (edges_at edges p)
+    → before ≡ map kept_edge (edges_of p edges) →
     after ≡ map kept_edge (edges_of (p + 1) edges)
 point_more before after edges p f h =
-    f ∙ ap (λ z. z ++ map kept_edge (edges_at edges p)) h ∙ sym (ap (map kept_edge) (edges_of-more edges p) ∙ map-append kept_edge (edges_of p edges) (edges_at edges p))
+    f ∙ ap (λ z. z ++ map kept_edge (edges_at edges p)) h ∙ sym (ap (map kept_edge) (edges_of-more edges p)
+    ∙ map-append kept_edge (edges_of p edges) (edges_at edges p))

@@ -36,7 +36,8 @@ pub record AutoLimits (names : List (List ℕ)) (points : List Point) (edges : L
   pub labels : IsTrue (are_labels points)
   pub along : IsTrue (list_all (is_auto_edge (length names) (length points)) edges)
 
-pub limits : (names : List (List ℕ)) (points : List Point) (edges : List AutoEdge) → IsTrue (is_auto names points edges) → AutoLimits names points edges
+pub limits : (names : List (List ℕ)) (points : List Point) (edges : List AutoEdge) → IsTrue (is_auto names points edges)
+    → AutoLimits names points edges
 limits names points edges h =
     let n = length names in
     let m = length points in
@@ -102,7 +103,8 @@ module _ (n : ℕ) where
   choice_fits (set var form line) h = ((h, tt), tt)
   choice_fits (havoc var line) h = ((h, tt), tt)
   choice_fits (assume c line) h =
-      each-map (Each (IsForm n)) (Each Fits) guards (λ forms k. each-map (IsForm n) Fits Guard (λ f q. q) forms k) (cases_of true c) (cases_forms n true c (tested n c h))
+      each-map (Each (IsForm n)) (Each Fits) guards (λ forms k. each-map (IsForm n) Fits Guard (λ f q. q) forms k) (cases_of true c)
+      (cases_forms n true c (tested n c h))
   choice_fits (branch c first second line) h = tt
   choice_fits (loop kind c body line) h = tt
   choice_fits (jump kind line) h = tt
@@ -113,7 +115,8 @@ module _ (n : ℕ) where
   choices_fit (cons s rest) h =
       let p = and_parts (is_act n s) (are_acts n rest) h in
       each-flat_map (Each Fits) (Each Fits) (λ first. map (λ later. first ++ later) (choices_in rest))
-      (λ first k. each-map (Each Fits) (Each Fits) (λ later. first ++ later) (λ later q. each-append Fits first later k q) (choices_in rest) (choices_fit rest p.1))
+      (λ first k. each-map (Each Fits) (Each Fits) (λ later. first ++ later) (λ later q. each-append Fits first later k q) (choices_in rest)
+      (choices_fit rest p.1))
       (choices_of s) (choice_fits s p.0)
 
 -- ---- the edges
@@ -126,7 +129,8 @@ record EdgeFits (n m : ℕ) (e : Edge) : Type 0 where
 along_fits : (n m : ℕ) (e : AutoEdge) → IsTrue (is_auto_edge n m e) → Each (EdgeFits n m) (edges_along e)
 along_fits n m e h =
     let l = edge_limits n m e h in
-    each-map (Each (Fits n)) (EdgeFits n m) (edge_by e) (λ actions k. record { from = l.from; later = l.later; to = l.to; actions = k }) (choices_in e.acts) (choices_fit n e.acts l.acts)
+    each-map (Each (Fits n)) (EdgeFits n m) (edge_by e) (λ actions k. record { from = l.from; later = l.later; to = l.to; actions = k })
+    (choices_in e.acts) (choices_fit n e.acts l.acts)
 
 at_fits : (n m p : ℕ) (edges : List AutoEdge) → IsTrue (list_all (is_auto_edge n m) edges) → Each (EdgeFits n m) (edges_at edges p)
 at_fits n m p [] h = tt
@@ -139,9 +143,11 @@ at_fits n m p (e ∷ edges) h =
     there true k j = each-append (EdgeFits n m) (edges_along e) (edges_at edges p) k j
     there false k j = j
 
-all_fit : (n m : ℕ) (edges : List AutoEdge) (ps : List ℕ) → IsTrue (list_all (is_auto_edge n m) edges) → Each (EdgeFits n m) (flat_map (edges_at edges) ps)
+all_fit : (n m : ℕ) (edges : List AutoEdge) (ps : List ℕ) → IsTrue (list_all (is_auto_edge n m) edges)
+    → Each (EdgeFits n m) (flat_map (edges_at edges) ps)
 all_fit n m edges [] h = tt
-all_fit n m edges (p ∷ ps) h = each-append (EdgeFits n m) (edges_at edges p) (flat_map (edges_at edges) ps) (at_fits n m p edges h) (all_fit n m edges ps h)
+all_fit n m edges (p ∷ ps) h = each-append (EdgeFits n m) (edges_at edges p) (flat_map (edges_at edges) ps) (at_fits n m p edges h)
+    (all_fit n m edges ps h)
 
 kept_fits : (n m : ℕ) (e : Edge) → EdgeFits n m e → EdgeFits n m (kept_edge e)
 kept_fits n m e h = record { from = h.from; later = h.later; to = h.to; actions = each-take (Fits n) 257 e.actions h.actions }
@@ -153,12 +159,15 @@ edge_within n m e h k =
     (and_from (nat_lt e.to m) _ (lt-ltb e.to m h.to)
     (and_from (nat_le (length e.actions) 256) _ (le-leb (length e.actions) 256 k) (each_passes (is_action n) e.actions h.actions))))
 
-edges_within : (n m : ℕ) (edges : List AutoEdge) (es : List Edge) → IsTrue (list_all (is_auto_edge n m) edges) → es ≡ map kept_edge (edges_of m edges) →
+edges_within : (n m : ℕ) (edges : List AutoEdge) (es : List Edge) → IsTrue (list_all (is_auto_edge n m) edges)
+    → es ≡ map kept_edge (edges_of m edges) →
     position is_long es ≡ None → IsTrue (list_all (is_edge n m) es)
 edges_within n m edges es h e l =
-    let fit = each-map (EdgeFits n m) (EdgeFits n m) kept_edge (kept_fits n m) (edges_of m edges) (all_fit n m edges (range_with_len 0 m) h) in
+    let fit = each-map (EdgeFits n m) (EdgeFits n m) kept_edge (kept_fits n m) (edges_of m edges)
+    (all_fit n m edges (range_with_len 0 m) h) in
     each_passes (is_edge n m) es
-    (each_both (EdgeFits n m) IsShort (λ x. IsTrue (is_edge n m x)) (edge_within n m) es (subst (Each (EdgeFits n m)) (sym e) fit) (none_long es l))
+    (each_both (EdgeFits n m) IsShort (λ x. IsTrue (is_edge n m x)) (edge_within n m) es (subst (Each (EdgeFits n m)) (sym e) fit)
+    (none_long es l))
 
 -- ---- the points
 record IsInner (p : Place) : Type 0 where
@@ -177,15 +186,19 @@ or_right : (a b : Bool) → b ≡ true → (a || b) ≡ true
 or_right true b h = refl
 or_right false b h = h
 
-later_points : (ps : List Point) → IsTrue (list_all (λ q. is_label q.place) ps) → IsTrue (list_all (λ q. not (is_entry q.place)) ps) × IsTrue (list_all has_line ps)
+later_points : (ps : List Point) → IsTrue (list_all (λ q. is_label q.place) ps)
+    → IsTrue (list_all (λ q. not (is_entry q.place)) ps) × IsTrue (list_all has_line ps)
 later_points [] h = (refl, refl)
 later_points (p ∷ ps) h =
     let q = and_parts (is_label p.place) (list_all (λ r. is_label r.place) ps) h in
     let i = inner p.place q.0 in
     let more = later_points ps q.1 in
     let entry : not (is_entry p.place) ≡ true = ap not i.no_entry in
-    let line : has_line p ≡ true = ap (λ b. not (b || is_exit p.place) || (p.line == 0)) i.no_entry ∙ ap (λ b. not b || (p.line == 0)) i.no_exit in
-    (and_from (not (is_entry p.place)) (list_all (λ r. not (is_entry r.place)) ps) entry more.0, and_from (has_line p) (list_all has_line ps) line more.1)
+    let line : has_line p ≡ true = ap (λ b. not (b || is_exit p.place) || (p.line == 0)) i.no_entry
+    ∙ ap (λ b. not b || (p.line == 0)) i.no_exit in (
+      and_from (not (is_entry p.place)) (list_all (λ r. not (is_entry r.place)) ps) entry more.0,
+      and_from (has_line p) (list_all has_line ps) line more.1,
+    )
 
 points_within : (ps : List Point) → IsTrue (are_labels ps) → IsTrue (begins_with_entry ps && list_all has_line ps)
 points_within [] h = absurd (false≢true h)
@@ -198,13 +211,16 @@ points_within (p ∷ ps) h =
     (and_from (has_line p) (list_all has_line ps) (or_right (not (is_entry p.place || is_exit p.place)) (p.line == 0) r.1) more.1)
 
 -- ---- the flow
-pub flow_within : (names : List (List ℕ)) (points : List Point) (edges : List AutoEdge) (es : List Edge) → IsTrue (is_auto names points edges) →
+pub flow_within : (names : List (List ℕ)) (points : List Point) (edges : List AutoEdge) (es : List Edge)
+    → IsTrue (is_auto names points edges) →
     es ≡ map kept_edge (edges_of (length points) edges) → length es ≤ 256 → position is_long es ≡ None → IsTrue (is_flow names points es)
 flow_within names points edges es h e f l =
     let n = length names in
     let m = length points in
     let o = limits names points edges h in
-    and_from (nat_le 1 n && nat_le n MOST_VARIABLES) _ (and_from (nat_le 1 n) (nat_le n MOST_VARIABLES) (le-leb 1 n o.some_name) (le-leb n MOST_VARIABLES o.few_names))
-    (and_from (nat_le 2 m && nat_le m MOST_POINTS) _ (and_from (nat_le 2 m) (nat_le m MOST_POINTS) (le-leb 2 m o.two_points) (le-leb m MOST_POINTS o.few_points))
+    and_from (nat_le 1 n && nat_le n MOST_VARIABLES) _ (and_from (nat_le 1 n) (nat_le n MOST_VARIABLES) (le-leb 1 n o.some_name)
+    (le-leb n MOST_VARIABLES o.few_names))
+    (and_from (nat_le 2 m && nat_le m MOST_POINTS) _ (and_from (nat_le 2 m) (nat_le m MOST_POINTS) (le-leb 2 m o.two_points)
+    (le-leb m MOST_POINTS o.few_points))
     (and_from (begins_with_entry points && list_all has_line points) _ (points_within points o.labels)
     (and_from (nat_le (length es) 256) (list_all (is_edge n m) es) (le-leb (length es) 256 f) (edges_within n m edges es o.along e l))))

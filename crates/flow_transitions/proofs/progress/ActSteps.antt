@@ -17,12 +17,15 @@ use Rattle.flow_transitions.specs.declared.reading.point_name.PointName.{PointNa
 use Rattle.flow_transitions.specs.declared.reading.symbol.Symbol.{Symbol}
 use Rattle.flow_transitions.specs.declared.reading.symbol.Symbol.TheVariants as symbol
 use Rattle.flow_transitions.specs.AutoSymbols.{Seen, seen_at}
-use Rattle.flow_transitions.specs.AutoReading.{progress, Progress, Stand, at_act, at_paren, at_condition, past_condition, at_equal, at_right_side, past_act, at_edge, with_act}
+use Rattle.flow_transitions.specs.AutoReading.{progress, Progress, Stand, at_act, at_paren, at_condition, past_condition, at_equal}
+use Rattle.flow_transitions.specs.AutoReading.{at_right_side, past_act, at_edge, with_act}
 use Rattle.flow_transitions.specs.AutoReading.{going, unexpected_fault, act_or_end, assigned_if, as_side, assumed, assigned}
-use Rattle.flow_transitions.proofs.progress.Steps.{Goes, Fails, token_goes, token_fails, sign_goes, sign_fails, expression_goes, expression_fails, refused_fails}
+use Rattle.flow_transitions.proofs.progress.Steps.{Goes, Fails, token_goes, token_fails, sign_goes, sign_fails, expression_goes}
+use Rattle.flow_transitions.proofs.progress.Steps.{expression_fails, refused_fails}
 use Rattle.flow_transitions.proofs.progress.Signs.{no_paren, no_closing, no_equal, no_semicolon}
 
-module _ (text : List ℕ) (tokens : List Token) (names : List (List ℕ)) (points : List PointName) (edges : List AutoEdge) (e : AutoEdge) where
+module _ (text : List ℕ) (tokens : List Token) (names : List (List ℕ)) (points : List PointName) (edges : List AutoEdge)
+    (e : AutoEdge) where
   abbrev at : Stand → Progress
   at stand = progress names points edges stand
 
@@ -30,75 +33,102 @@ module _ (text : List ℕ) (tokens : List Token) (names : List (List ℕ)) (poin
   there i = seen_at text tokens i
 
   -- ---- an assumption
-  pub assume_goes : (i line : ℕ) → (there i).symbol ≡ symbol.Assume → line ≡ (there i).line → Goes text tokens (at (at_act e)) i (at (at_paren e line)) (i + 1)
+  pub assume_goes : (i line : ℕ) → (there i).symbol ≡ symbol.Assume → line ≡ (there i).line
+      → Goes text tokens (at (at_act e)) i (at (at_paren e line)) (i + 1)
   assume_goes i line w l =
       token_goes text tokens (at (at_act e)) (at (at_paren e line)) i refl
       (ap (λ y. act_or_end y e (at (at_act e)) (there i)) w ∙ ap (λ n. going (at (at_act e)) (at_paren e n)) (sym l))
 
-  pub paren_goes : (i line : ℕ) → (there i).symbol ≡ symbol.LeftParen → Goes text tokens (at (at_paren e line)) i (at (at_condition e line)) (i + 1)
+  pub paren_goes : (i line : ℕ) → (there i).symbol ≡ symbol.LeftParen →
+      Goes text tokens (at (at_paren e line)) i (at (at_condition e line)) (i + 1)
   paren_goes i line w = sign_goes text tokens (at (at_paren e line)) i symbol.LeftParen (at_condition e line) refl (λ y. refl) w refl
 
-  pub paren_fails : (i line : ℕ) (f : AutoFault) → f ≡ unexpected_fault (there i) → ((there i).symbol ≡ symbol.LeftParen → ⊥) → Fails text tokens (at (at_paren e line)) i f
-  paren_fails i line f h n = sign_fails text tokens (at (at_paren e line)) i f refl (λ y. refl) h (no_paren (there i).at e line (there i).symbol n)
+  pub paren_fails : (i line : ℕ) (f : AutoFault) → f ≡ unexpected_fault (there i) → ((there i).symbol ≡ symbol.LeftParen → ⊥)
+      → Fails text tokens (at (at_paren e line)) i f
+  paren_fails i line f h n = sign_fails text tokens (at (at_paren e line)) i f refl (λ y. refl) h
+      (no_paren (there i).at e line (there i).symbol n)
 
-  pub condition_goes : (i line next : ℕ) (m : Meaning) (c : Condition) → ExpressionMeans text (tokens_of text tokens) i names (Ok (m, next)) →
-      assumed (as_truth (there i).at m) e line (at (at_condition e line)) ≡ going (at (at_condition e line)) (past_condition e (assume c line)) →
+  pub condition_goes : (i line next : ℕ) (m : Meaning) (c : Condition) → ExpressionMeans text (tokens_of text tokens) i names (Ok (m, next))
+      →
+      assumed (as_truth (there i).at m) e line (at (at_condition e line))
+      ≡ going (at (at_condition e line)) (past_condition e (assume c line)) →
       Goes text tokens (at (at_condition e line)) i (at (past_condition e (assume c line))) next
-  condition_goes i line next m c h k = expression_goes text tokens (at (at_condition e line)) (at (past_condition e (assume c line))) i next m refl h k
+  condition_goes i line next m c h k = expression_goes text tokens (at (at_condition e line)) (at (past_condition e (assume c line))) i next
+      m refl h k
 
-  pub condition_refused : (i line : ℕ) (p : ParseFault) (f : AutoFault) → ExpressionMeans text (tokens_of text tokens) i names (Err p) → f ≡ fault.Parse p →
+  pub condition_refused : (i line : ℕ) (p : ParseFault) (f : AutoFault) → ExpressionMeans text (tokens_of text tokens) i names (Err p)
+      → f ≡ fault.Parse p →
       Fails text tokens (at (at_condition e line)) i f
   condition_refused i line p f h k = refused_fails text tokens (at (at_condition e line)) i p f refl h k
 
-  pub condition_fails : (i line next : ℕ) (m : Meaning) (f : AutoFault) → ExpressionMeans text (tokens_of text tokens) i names (Ok (m, next)) →
+  pub condition_fails : (i line next : ℕ) (m : Meaning) (f : AutoFault)
+      → ExpressionMeans text (tokens_of text tokens) i names (Ok (m, next)) →
       assumed (as_truth (there i).at m) e line (at (at_condition e line)) ≡ Err f → Fails text tokens (at (at_condition e line)) i f
   condition_fails i line next m f h k = expression_fails text tokens (at (at_condition e line)) i next m f refl h k
 
-  pub closing_goes : (i : ℕ) (act : Statement) → (there i).symbol ≡ symbol.RightParen → Goes text tokens (at (past_condition e act)) i (at (past_act e act)) (i + 1)
+  pub closing_goes : (i : ℕ) (act : Statement) → (there i).symbol ≡ symbol.RightParen
+      → Goes text tokens (at (past_condition e act)) i (at (past_act e act)) (i + 1)
   closing_goes i act w = sign_goes text tokens (at (past_condition e act)) i symbol.RightParen (past_act e act) refl (λ y. refl) w refl
 
-  pub closing_fails : (i : ℕ) (act : Statement) (f : AutoFault) → f ≡ unexpected_fault (there i) → ((there i).symbol ≡ symbol.RightParen → ⊥) → Fails text tokens (at (past_condition e act)) i f
-  closing_fails i act f h n = sign_fails text tokens (at (past_condition e act)) i f refl (λ y. refl) h (no_closing (there i).at e act (there i).symbol n)
+  pub closing_fails : (i : ℕ) (act : Statement) (f : AutoFault) → f ≡ unexpected_fault (there i)
+      → ((there i).symbol ≡ symbol.RightParen → ⊥) → Fails text tokens (at (past_condition e act)) i f
+  closing_fails i act f h n = sign_fails text tokens (at (past_condition e act)) i f refl (λ y. refl) h
+      (no_closing (there i).at e act (there i).symbol n)
 
   -- ---- the end of an act
-  pub end_goes : (i : ℕ) (act : Statement) → (there i).symbol ≡ symbol.Semicolon → Goes text tokens (at (past_act e act)) i (at (at_act (with_act e act))) (i + 1)
+  pub end_goes : (i : ℕ) (act : Statement) → (there i).symbol ≡ symbol.Semicolon
+      → Goes text tokens (at (past_act e act)) i (at (at_act (with_act e act))) (i + 1)
   end_goes i act w = sign_goes text tokens (at (past_act e act)) i symbol.Semicolon (at_act (with_act e act)) refl (λ y. refl) w refl
 
-  pub end_fails : (i : ℕ) (act : Statement) (f : AutoFault) → f ≡ unexpected_fault (there i) → ((there i).symbol ≡ symbol.Semicolon → ⊥) → Fails text tokens (at (past_act e act)) i f
-  end_fails i act f h n = sign_fails text tokens (at (past_act e act)) i f refl (λ y. refl) h (no_semicolon (there i).at e act (there i).symbol n)
+  pub end_fails : (i : ℕ) (act : Statement) (f : AutoFault) → f ≡ unexpected_fault (there i) → ((there i).symbol ≡ symbol.Semicolon → ⊥)
+      → Fails text tokens (at (past_act e act)) i f
+  end_fails i act f h n = sign_fails text tokens (at (past_act e act)) i f refl (λ y. refl) h
+      (no_semicolon (there i).at e act (there i).symbol n)
 
   -- ---- an assignment
-  pub variable_goes : (i var line : ℕ) → (there i).symbol ≡ symbol.Name → line ≡ (there i).line → place_of (there i).bytes names ≡ Some var →
+  pub variable_goes : (i var line : ℕ) → (there i).symbol ≡ symbol.Name → line ≡ (there i).line → place_of (there i).bytes names ≡ Some var
+      →
       Goes text tokens (at (at_act e)) i (at (at_equal e var line)) (i + 1)
   variable_goes i var line w l p =
       token_goes text tokens (at (at_act e)) (at (at_equal e var line)) i refl
-      (ap (λ y. act_or_end y e (at (at_act e)) (there i)) w ∙ ap (λ o. assigned_if o e (at (at_act e)) (there i)) p ∙ ap (λ n. going (at (at_act e)) (at_equal e var n)) (sym l))
+      (ap (λ y. act_or_end y e (at (at_act e)) (there i)) w ∙ ap (λ o. assigned_if o e (at (at_act e)) (there i)) p
+      ∙ ap (λ n. going (at (at_act e)) (at_equal e var n)) (sym l))
 
-  pub variable_fails : (i : ℕ) (f : AutoFault) → (there i).symbol ≡ symbol.Name → place_of (there i).bytes names ≡ None → f ≡ fault.Parse (parse.UnknownName (there i).at) →
+  pub variable_fails : (i : ℕ) (f : AutoFault) → (there i).symbol ≡ symbol.Name → place_of (there i).bytes names ≡ None
+      → f ≡ fault.Parse (parse.UnknownName (there i).at) →
       Fails text tokens (at (at_act e)) i f
   variable_fails i f w p h =
       token_fails text tokens (at (at_act e)) i f refl
       (ap (λ y. act_or_end y e (at (at_act e)) (there i)) w ∙ ap (λ o. assigned_if o e (at (at_act e)) (there i)) p ∙ ap Err (sym h))
 
-  pub equal_goes : (i var line sign : ℕ) → (there i).symbol ≡ symbol.Equal → sign ≡ (there i).at → Goes text tokens (at (at_equal e var line)) i (at (at_right_side e var line sign)) (i + 1)
+  pub equal_goes : (i var line sign : ℕ) → (there i).symbol ≡ symbol.Equal → sign ≡ (there i).at
+      → Goes text tokens (at (at_equal e var line)) i (at (at_right_side e var line sign)) (i + 1)
   equal_goes i var line sign w s =
-      sign_goes text tokens (at (at_equal e var line)) i symbol.Equal (at_right_side e var line sign) refl (λ y. refl) w (ap (λ n. Some (at_right_side e var line n)) (sym s))
+      sign_goes text tokens (at (at_equal e var line)) i symbol.Equal (at_right_side e var line sign) refl (λ y. refl) w
+      (ap (λ n. Some (at_right_side e var line n)) (sym s))
 
-  pub equal_fails : (i var line : ℕ) (f : AutoFault) → f ≡ unexpected_fault (there i) → ((there i).symbol ≡ symbol.Equal → ⊥) → Fails text tokens (at (at_equal e var line)) i f
-  equal_fails i var line f h n = sign_fails text tokens (at (at_equal e var line)) i f refl (λ y. refl) h (no_equal (there i).at e var line (there i).symbol n)
+  pub equal_fails : (i var line : ℕ) (f : AutoFault) → f ≡ unexpected_fault (there i) → ((there i).symbol ≡ symbol.Equal → ⊥)
+      → Fails text tokens (at (at_equal e var line)) i f
+  equal_fails i var line f h n = sign_fails text tokens (at (at_equal e var line)) i f refl (λ y. refl) h
+      (no_equal (there i).at e var line (there i).symbol n)
 
-  pub side_goes : (i var line sign next : ℕ) (m : Meaning) (side : Option Form) → ExpressionMeans text (tokens_of text tokens) i names (Ok (m, next)) →
-      assigned (as_side sign m) e var line (at (at_right_side e var line sign)) ≡ going (at (at_right_side e var line sign)) (past_act e (assignment var side line)) →
+  pub side_goes : (i var line sign next : ℕ) (m : Meaning) (side : Option Form)
+      → ExpressionMeans text (tokens_of text tokens) i names (Ok (m, next)) →
+      assigned (as_side sign m) e var line (at (at_right_side e var line sign))
+      ≡ going (at (at_right_side e var line sign)) (past_act e (assignment var side line)) →
       Goes text tokens (at (at_right_side e var line sign)) i (at (past_act e (assignment var side line))) next
   side_goes i var line sign next m side h k =
       expression_goes text tokens (at (at_right_side e var line sign)) (at (past_act e (assignment var side line))) i next m refl h k
 
-  pub side_refused : (i var line sign : ℕ) (p : ParseFault) (f : AutoFault) → ExpressionMeans text (tokens_of text tokens) i names (Err p) → f ≡ fault.Parse p →
+  pub side_refused : (i var line sign : ℕ) (p : ParseFault) (f : AutoFault) → ExpressionMeans text (tokens_of text tokens) i names (Err p)
+      → f ≡ fault.Parse p →
       Fails text tokens (at (at_right_side e var line sign)) i f
   side_refused i var line sign p f h k = refused_fails text tokens (at (at_right_side e var line sign)) i p f refl h k
 
-  pub side_fails : (i var line sign next : ℕ) (m : Meaning) (f : AutoFault) → ExpressionMeans text (tokens_of text tokens) i names (Ok (m, next)) →
-      assigned (as_side sign m) e var line (at (at_right_side e var line sign)) ≡ Err f → Fails text tokens (at (at_right_side e var line sign)) i f
+  pub side_fails : (i var line sign next : ℕ) (m : Meaning) (f : AutoFault)
+      → ExpressionMeans text (tokens_of text tokens) i names (Ok (m, next)) →
+      assigned (as_side sign m) e var line (at (at_right_side e var line sign)) ≡ Err f
+      → Fails text tokens (at (at_right_side e var line sign)) i f
   side_fails i var line sign next m f h k = expression_fails text tokens (at (at_right_side e var line sign)) i next m f refl h k
 
   -- ---- no act
@@ -109,10 +139,13 @@ module _ (text : List ℕ) (tokens : List Token) (names : List (List ℕ)) (poin
   no_act i symbol.Name h k l = absurd (l refl)
   no_act i s h k l = refl
 
-  pub act_fails : (i : ℕ) (f : AutoFault) → f ≡ unexpected_fault (there i) → ((there i).symbol ≡ symbol.RightBrace → ⊥) → ((there i).symbol ≡ symbol.Assume → ⊥) →
+  pub act_fails : (i : ℕ) (f : AutoFault) → f ≡ unexpected_fault (there i) → ((there i).symbol ≡ symbol.RightBrace → ⊥)
+      → ((there i).symbol ≡ symbol.Assume → ⊥) →
       ((there i).symbol ≡ symbol.Name → ⊥) → Fails text tokens (at (at_act e)) i f
   act_fails i f h k l m = token_fails text tokens (at (at_act e)) i f refl (no_act i (there i).symbol k l m ∙ ap Err (sym h))
 
-  pub brace_goes : (i : ℕ) → (there i).symbol ≡ symbol.RightBrace → Goes text tokens (at (at_act e)) i (progress names points (edges ++ e ∷ []) at_edge) (i + 1)
+  pub brace_goes : (i : ℕ) → (there i).symbol ≡ symbol.RightBrace → Goes text tokens (at (at_act e)) i
+      (progress names points (edges ++ e ∷ []) at_edge) (i + 1)
   brace_goes i w =
-      token_goes text tokens (at (at_act e)) (progress names points (edges ++ e ∷ []) at_edge) i refl (ap (λ y. act_or_end y e (at (at_act e)) (there i)) w)
+      token_goes text tokens (at (at_act e)) (progress names points (edges ++ e ∷ []) at_edge) i refl
+      (ap (λ y. act_or_end y e (at (at_act e)) (there i)) w)

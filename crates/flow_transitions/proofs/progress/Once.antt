@@ -11,7 +11,8 @@ use Rattle.flow_transitions.specs.declared.auto.Auto.{Auto}
 use Rattle.flow_transitions.specs.declared.fault.AutoFault.{AutoFault}
 use Rattle.flow_transitions.specs.declared.fault.AutoFault.TheVariants as fault
 use Rattle.flow_transitions.specs.AutoSymbols.{seen_at}
-use Rattle.flow_transitions.specs.AutoReading.{Progress, Stepped, Wanted, a_token, an_expression, nothing, wanted_at, token_at, expression_at, content_of, AutoAnswer}
+use Rattle.flow_transitions.specs.AutoReading.{Progress, Stepped, Wanted, a_token, an_expression, nothing, wanted_at, token_at}
+use Rattle.flow_transitions.specs.AutoReading.{expression_at, content_of, AutoAnswer}
 use Rattle.flow_transitions.specs.AutoReading.{ReadsTo, failed, ended, by_token, by_expression, no_expression, start}
 use Rattle.flow_transitions.proofs.progress.Expressions.{meaning_in, next_in}
 use Rattle.flow_transitions.specs.AutoTexts.{content, IsAuto, no_tokens, by_tokens, GivesAuto}
@@ -22,10 +23,12 @@ other_want r s v w e h k = sym h ∙ ap (λ (z : Progress). wanted_at z.stand) e
 
 module _ (text : List ℕ) (tokens : List Token) where
   -- expressions that stand there over the variables of the same progress
-  same_expression : (i : ℕ) (r s : Progress) (a b : ExpressionAnswer) → r ≡ s → ExpressionMeans text (tokens_of text tokens) i r.variables a →
+  same_expression : (i : ℕ) (r s : Progress) (a b : ExpressionAnswer) → r ≡ s → ExpressionMeans text (tokens_of text tokens) i r.variables a
+      →
       ExpressionMeans text (tokens_of text tokens) i s.variables b → a ≡ b
   same_expression i r s a b e h k =
-      expression_once text (tokens_of text tokens) i s.variables a b (subst (λ (z : Progress). ExpressionMeans text (tokens_of text tokens) i z.variables a) e h) k
+      expression_once text (tokens_of text tokens) i s.variables a b (subst
+      (λ (z : Progress). ExpressionMeans text (tokens_of text tokens) i z.variables a) e h) k
 
   once : (x : Stepped) (i : ℕ) (a b : AutoAnswer) → ReadsTo text tokens x i a → ReadsTo text tokens x i b → a ≡ b
   once x i a b (failed _ _ _ f e q) (failed _ _ _ g d p) = cc
@@ -106,7 +109,8 @@ memory_or : (f : AutoFault) → (f ≡ fault.NoMemory) ⊎ (f ≢ fault.NoMemory
 memory_or fault.NoMemory = inl refl
 memory_or f = inr (λ e. cc)
 
-pub gives : (text : List ℕ) (result : Result Auto AutoFault) → IfOk result (λ a. IsAuto text (Ok (content a))) → IfErr result (λ f. f ≢ fault.NoMemory → IsAuto text (Err f)) →
+pub gives : (text : List ℕ) (result : Result Auto AutoFault) → IfOk result (λ a. IsAuto text (Ok (content a)))
+    → IfErr result (λ f. f ≢ fault.NoMemory → IsAuto text (Err f)) →
     (answer : AutoAnswer) → IsAuto text answer → GivesAuto result answer
 gives text (Ok a) h k answer is = one_answer text answer (Ok (content a)) is h
 gives text (Err f) h k answer is = ⊎_elim (λ e. inl e) (λ n. inr (one_answer text answer (Err f) is (k n))) (memory_or f)
@@ -118,6 +122,7 @@ answered text tokens ts (Ok a) e r h = by_tokens ts (subst (Reads text) (sym e) 
 answered text tokens ts (Err f) e r h = tt
 
 pub refused : (text : List ℕ) (tokens ts : List Token) (result : Result Auto AutoFault) → ts ≡ tokens → Reads text tokens →
-    IfErr result (λ f. f ≢ fault.NoMemory → ReadsTo text ts (Ok start) 0 (Err f)) → IfErr result (λ f. f ≢ fault.NoMemory → IsAuto text (Err f))
+    IfErr result (λ f. f ≢ fault.NoMemory → ReadsTo text ts (Ok start) 0 (Err f))
+    → IfErr result (λ f. f ≢ fault.NoMemory → IsAuto text (Err f))
 refused text tokens ts (Ok a) e r h = tt
 refused text tokens ts (Err f) e r h = λ n. by_tokens ts (subst (Reads text) (sym e) r) (h n)

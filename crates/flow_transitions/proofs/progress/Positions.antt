@@ -18,20 +18,25 @@ placed_none name points = position_from-zero (bytes_eq name) (names_of points)
 
 -- one point on
 rest_at : (name : List ℕ) (points : List PointName) (i : ℕ) (p : PointName) → i < length points → p ≡ get_or points i p →
-    position_from (bytes_eq name) i (names_of (drop i points)) ≡ cond (bytes_eq name p.name) (Some i) (position_from (bytes_eq name) (i + 1) (names_of (drop (i + 1) points)))
+    position_from (bytes_eq name) i (names_of (drop i points)) ≡ cond (bytes_eq name p.name) (Some i)
+    (position_from (bytes_eq name) (i + 1) (names_of (drop (i + 1) points)))
 rest_at name points i p l e =
     at_drop_more (λ ps. position_from (bytes_eq name) i (names_of ps)) points i p l
-    ∙ ap (λ (q : PointName). cond (bytes_eq name q.name) (Some i) (position_from (bytes_eq name) (i + 1) (names_of (drop (i + 1) points)))) (sym e)
+    ∙ ap (λ (q : PointName). cond (bytes_eq name q.name) (Some i) (position_from (bytes_eq name) (i + 1) (names_of (drop (i + 1) points))))
+    (sym e)
 
-pub placed_here : (name : List ℕ) (points : List PointName) (i : ℕ) (p : PointName) → i < length points → p ≡ get_or points i p → bytes_eq name p.name ≡ true →
+pub placed_here : (name : List ℕ) (points : List PointName) (i : ℕ) (p : PointName) → i < length points → p ≡ get_or points i p
+    → bytes_eq name p.name ≡ true →
     IsPlaced name points i → place_of name (names_of points) ≡ Some i
 placed_here name points i p l e t h =
     h ∙ rest_at name points i p l e ∙ ap (λ b. cond b (Some i) (position_from (bytes_eq name) (i + 1) (names_of (drop (i + 1) points)))) t
 
-pub placed_more : (name : List ℕ) (points : List PointName) (i : ℕ) (p : PointName) → i < length points → p ≡ get_or points i p → bytes_eq name p.name ≡ false →
+pub placed_more : (name : List ℕ) (points : List PointName) (i : ℕ) (p : PointName) → i < length points → p ≡ get_or points i p
+    → bytes_eq name p.name ≡ false →
     IsPlaced name points i → IsPlaced name points (i + 1)
 placed_more name points i p l e t h =
     h ∙ rest_at name points i p l e ∙ ap (λ b. cond b (Some i) (position_from (bytes_eq name) (i + 1) (names_of (drop (i + 1) points)))) t
 
-pub placed_all : (name : List ℕ) (points : List PointName) (i : ℕ) → length points ≤ i → IsPlaced name points i → place_of name (names_of points) ≡ None
+pub placed_all : (name : List ℕ) (points : List PointName) (i : ℕ) → length points ≤ i → IsPlaced name points i
+    → place_of name (names_of points) ≡ None
 placed_all name points i l h = h ∙ at_drop_all (λ ps. position_from (bytes_eq name) i (names_of ps)) points i l

@@ -1,5 +1,6 @@
 -- Which tokens a text has, and how many.
-use Rattle.std.proofs.Common.{◌≡◌, ◌∙◌, ℕ, zero, suc, ◌+◌, ◌<◌, ◌≤◌, List, [], ◌∷◌, ◌++◌, length, refl, sym, ap, subst, ⊎_elim, arith, length-append}
+use Rattle.std.proofs.Common.{◌≡◌, ◌∙◌, ℕ, zero, suc, ◌+◌, ◌<◌, ◌≤◌, List, [], ◌∷◌, ◌++◌, length, refl, sym, ap, subst, ⊎_elim, arith}
+use Rattle.std.proofs.Common.{length-append}
 use Rattle.std.specs.Prelude.{IsTrue, slice_get, slice_range, Some}
 use Rattle.std.proofs.lemmas.Bool.{cases_lt}
 use Rattle.lang_tokens.specs.declared.token.Token.{Token}
@@ -18,7 +19,8 @@ use Rattle.flow_transitions.specs.declared.reading.symbol.Symbol.TheVariants.{Na
 use Rattle.flow_transitions.specs.AutoSymbols.{sign_symbol, word_symbol, symbol_of, seen_or_end, seen_at, IsSource}
 
 -- ---- how many tokens there are
-front_few : (text : List ℕ) (place : ℕ) (ts : List Token) → place ≤ length text → AreTokensAfter text place ts → place + length ts ≤ length text
+front_few : (text : List ℕ) (place : ℕ) (ts : List Token) → place ≤ length text → AreTokensAfter text place ts
+    → place + length ts ≤ length text
 front_few text place [] l h = omega (arith, l)
 front_few text place (t ∷ ts) l h = omega (arith, h.0.after, h.0.some, h.0.within, front_few text (t.at + t.len) ts h.0.within h.1)
 
@@ -26,7 +28,12 @@ pub source_of : (text : List ℕ) (tokens : List Token) → length text ≤ 6553
 source_of text tokens short h = record {
   size = short;
   tokens_of = h;
-  few = omega (arith, ap length h.ended, length-append h.front (end_at (length text) ∷ []), front_few text 0 h.front (omega arith) h.placed);
+  few = omega (
+    arith,
+    ap length h.ended,
+    length-append h.front (end_at (length text) ∷ []),
+    front_few text 0 h.front (omega arith) h.placed,
+  );
 }
 
 -- there is a first token
@@ -40,7 +47,8 @@ last_end [] e (suc i) h = absurd (omega arith)
 last_end (t ∷ ts) e zero h = absurd (omega arith)
 last_end (t ∷ ts) e (suc i) h = last_end ts e i (omega arith)
 
-pub not_last : (text : List ℕ) (tokens : List Token) (i : ℕ) → AreTokensOf text tokens → i < length tokens → ((seen_at text tokens i).symbol ≡ End → ⊥) → i + 1 < length tokens
+pub not_last : (text : List ℕ) (tokens : List Token) (i : ℕ) → AreTokensOf text tokens → i < length tokens
+    → ((seen_at text tokens i).symbol ≡ End → ⊥) → i + 1 < length tokens
 not_last text tokens i h l n =
     ⊎_elim
     (λ (k : i < length h.front). omega (arith, ap length h.ended, length-append h.front (end_at (length text) ∷ [])))
@@ -66,7 +74,8 @@ sign_no_name sign.LeftBrace h = absurd cc
 sign_no_name sign.RightBrace h = absurd cc
 sign_no_name s h = absurd cc
 
-named : (k : Kind) (text : List ℕ) (t : Token) → symbol_of k ≡ Name → IsWordIn k text t → (t.at + t.len ≤ length text) × IsTrue (is_word (slice_range text t.at (t.at + t.len)))
+named : (k : Kind) (text : List ℕ) (t : Token) → symbol_of k ≡ Name → IsWordIn k text t
+    → (t.at + t.len ≤ length text) × IsTrue (is_word (slice_range text t.at (t.at + t.len)))
 named kind.Name text t h p = p
 named (kind.Word w) text t h p = absurd (word_no_name w h)
 named (kind.Sign s) text t h p = absurd (sign_no_name s h)
@@ -78,7 +87,8 @@ proper_of text [] i t e p = absurd cc
 proper_of text (u ∷ ts) zero t e p = subst (IsProper text) (let same : u ≡ t = cc in same) p.0
 proper_of text (u ∷ ts) (suc i) t e p = proper_of text ts i t e p.1
 
-pub name_proper : (text : List ℕ) (tokens : List Token) (i : ℕ) (t : Token) → AreTokensOf text tokens → slice_get tokens i ≡ Some t → (seen_at text tokens i).symbol ≡ Name →
+pub name_proper : (text : List ℕ) (tokens : List Token) (i : ℕ) (t : Token) → AreTokensOf text tokens → slice_get tokens i ≡ Some t
+    → (seen_at text tokens i).symbol ≡ Name →
     (t.at + t.len ≤ length text) × IsTrue (is_word (slice_range text t.at (t.at + t.len)))
 name_proper text tokens i t h e n =
     named t.kind text t (sym (ap (λ o. (seen_or_end text o).symbol) e) ∙ n) (proper_of text tokens i t e (all_proper text tokens h))

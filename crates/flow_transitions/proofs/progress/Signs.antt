@@ -15,7 +15,8 @@ pub no_paren : (at : ℕ) (e : AutoEdge) (line : ℕ) (s : Symbol) → (s ≡ Le
 no_paren at e line LeftParen h = absurd (h refl)
 no_paren at e line s h = refl
 
-pub no_closing : (at : ℕ) (e : AutoEdge) (act : Statement) (s : Symbol) → (s ≡ RightParen → ⊥) → behind_sign at (past_condition e act) s ≡ None
+pub no_closing : (at : ℕ) (e : AutoEdge) (act : Statement) (s : Symbol) → (s ≡ RightParen → ⊥)
+    → behind_sign at (past_condition e act) s ≡ None
 no_closing at e act RightParen h = absurd (h refl)
 no_closing at e act s h = refl
 

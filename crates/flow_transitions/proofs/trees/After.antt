@@ -5,27 +5,34 @@ use Rattle.std.specs.Prelude.{codes}
 use Rattle.std.specs.Str.{bytes_eq}
 use Rattle.lang_tokens.specs.Lines.{line_at}
 use Rattle.lang_grammar.specs.Expressions.{BeginsExpr}
-use Rattle.lang_grammar.specs.Grammar.{Kind, a_name, comma, semicolon, left_brace, right_brace, left_paren, right_paren, change_sign, replaces}
+use Rattle.lang_grammar.specs.Grammar.{Kind, a_name, comma, semicolon, left_brace, right_brace, left_paren, right_paren, change_sign}
+use Rattle.lang_grammar.specs.Grammar.{replaces}
 use Rattle.lang_grammar.specs.Grammar.{assume_word, the_end, token, Expr, spell_expr}
 use Rattle.lang_tree.specs.Tree.{Statement}
 use Rattle.lang_meaning.specs.Names.{place_of}
-use Rattle.flow_transitions.specs.AutoReading.{Stand, Progress, progress, start, Stepped, Wanted, a_token, an_expression, wanted_at, token_at}
+use Rattle.flow_transitions.specs.AutoReading.{Stand, Progress, progress, start, Stepped, Wanted, a_token, an_expression, wanted_at}
+use Rattle.flow_transitions.specs.AutoReading.{token_at}
 use Rattle.flow_transitions.specs.AutoReading.{unexpected_fault, names_of, edge_to}
-use Rattle.flow_transitions.specs.AutoReading.{at_vars, at_variable, past_variable, at_points, at_point, past_point, at_edge, at_source, at_target}
+use Rattle.flow_transitions.specs.AutoReading.{at_vars, at_variable, past_variable, at_points, at_point, past_point, at_edge, at_source}
+use Rattle.flow_transitions.specs.AutoReading.{at_target}
 use Rattle.flow_transitions.specs.AutoReading.{at_opening, at_act, at_paren}
-use Rattle.flow_transitions.specs.AutoReading.{at_condition, past_condition, at_equal, at_right_side, past_act, at_end, variable_if, point_if}
+use Rattle.flow_transitions.specs.AutoReading.{at_condition, past_condition, at_equal, at_right_side, past_act, at_end, variable_if}
+use Rattle.flow_transitions.specs.AutoReading.{point_if}
 use Rattle.flow_transitions.specs.AutoReading.{counted_then, going, point_or}
 use Rattle.flow_transitions.specs.AutoReading.{from_then, to_then, not_first, assigned_if, unexpected}
 use Rattle.flow_transitions.specs.AutoGrammar.{Act, sets, assumes, head_then, Written, edges_then, Heads}
 use Rattle.flow_transitions.specs.AutoGrammar.{heads_then}
 use Rattle.flow_transitions.specs.AutoGrammar.{condition, side, Inside, Begun, no_token, some_variables}
 use Rattle.flow_transitions.specs.AutoGrammar.{a_variable, all_variables}
-use Rattle.flow_transitions.specs.AutoGrammar.{some_points, a_point, some_edges, an_edge, a_source, a_target, some_acts, an_assume, an_assigned}
+use Rattle.flow_transitions.specs.AutoGrammar.{some_points, a_point, some_edges, an_edge, a_source, a_target, some_acts, an_assume}
+use Rattle.flow_transitions.specs.AutoGrammar.{an_assigned}
 use Rattle.flow_transitions.specs.AutoGrammar.{an_assumption}
 use Rattle.flow_transitions.specs.AutoGrammar.{some_expression as begun_expression, an_expression as whole_expression}
-use Rattle.flow_transitions.specs.AutoTrees.{spot_names, all_spots, names_in, point_here, AreNew, AreVariables, AreHeads, Outer, Inner, FrameSays}
+use Rattle.flow_transitions.specs.AutoTrees.{spot_names, all_spots, names_in, point_here, AreNew, AreVariables, AreHeads, Outer, Inner}
+use Rattle.flow_transitions.specs.AutoTrees.{FrameSays}
 use Rattle.flow_transitions.specs.AutoTrees.{Faultless, FirstFault}
-use Rattle.flow_transitions.specs.AutoTrees.{variable_twice, many_variables, point_twice, point_count, no_source, no_target, into_entry, no_variable}
+use Rattle.flow_transitions.specs.AutoTrees.{variable_twice, many_variables, point_twice, point_count, no_source, no_target, into_entry}
+use Rattle.flow_transitions.specs.AutoTrees.{no_variable}
 use Rattle.flow_transitions.specs.AutoTrees.{unexpected as unexpected_token}
 use Rattle.flow_transitions.proofs.grammar.Lists.{acts_more, edges_more}
 use Rattle.flow_transitions.proofs.trees.Has.{Has, outside, inside}
@@ -149,7 +156,8 @@ module _ (text : List ℕ) where
     one_more act = record { heads = i.heads; edges = i.edges; head = i.head; acts = i.acts ++ act ∷ [] }
 
     -- an act behind the others
-    abbrev acted : (act : Act) (s : Statement) → FrameSays text (names_in i.heads.variables) (Rattle.flow_transitions.specs.AutoTrees.frame_of act)
+    abbrev acted : (act : Act) (s : Statement) → FrameSays text (names_in i.heads.variables)
+        (Rattle.flow_transitions.specs.AutoTrees.frame_of act)
         (Rattle.flow_transitions.specs.AutoTrees.expr_in act) s
         → Inner text (one_more act)
     acted act s says = record {

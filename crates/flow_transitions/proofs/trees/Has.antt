@@ -16,11 +16,14 @@ use Rattle.flow_transitions.specs.AutoReading.{at_opening, at_act, at_paren}
 use Rattle.flow_transitions.specs.AutoReading.{at_condition, past_condition, at_equal, at_right_side, past_act}
 use Rattle.flow_transitions.specs.AutoGrammar.{Spot, Act, sets, assumes, Written, Heads, Frame, condition, side, Inside, Begun}
 use Rattle.flow_transitions.specs.AutoGrammar.{no_token, some_variables, a_variable}
-use Rattle.flow_transitions.specs.AutoGrammar.{all_variables, some_points, a_point, some_edges, an_edge, a_source, a_target, some_acts, an_assume}
+use Rattle.flow_transitions.specs.AutoGrammar.{all_variables, some_points, a_point, some_edges, an_edge, a_source, a_target, some_acts}
+use Rattle.flow_transitions.specs.AutoGrammar.{an_assume}
 use Rattle.flow_transitions.specs.AutoGrammar.{an_assigned}
-use Rattle.flow_transitions.specs.AutoGrammar.{some_expression as begun_expression, an_expression as whole_expression, an_assumption, GoodAct}
+use Rattle.flow_transitions.specs.AutoGrammar.{some_expression as begun_expression, an_expression as whole_expression, an_assumption}
+use Rattle.flow_transitions.specs.AutoGrammar.{GoodAct}
 use Rattle.flow_transitions.specs.AutoGrammar.{GoodActs, GoodEdges}
-use Rattle.flow_transitions.specs.AutoTrees.{spot_names, all_spots, names_in, point_here, AreNew, AreVariables, FrameSays, frame_of, expr_in}
+use Rattle.flow_transitions.specs.AutoTrees.{spot_names, all_spots, names_in, point_here, AreNew, AreVariables, FrameSays, frame_of}
+use Rattle.flow_transitions.specs.AutoTrees.{expr_in}
 use Rattle.flow_transitions.specs.AutoTrees.{ActsSay, HeadSays, EdgesSay}
 use Rattle.flow_transitions.specs.AutoTrees.{Outer, Inner, Faultless}
 use Rattle.flow_transitions.proofs.grammar.Accepts.{Good, GoodInside}

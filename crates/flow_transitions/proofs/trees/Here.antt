@@ -3,7 +3,8 @@ use Rattle.std.proofs.Common.{◌≡◌, ◌∙◌, ◌+◌, ◌<◌, ℕ, List,
 use Rattle.std.proofs.lemmas.List.{drop-map, drop_more}
 use Rattle.std.proofs.lemmas.Option.{slice_get-get_or}
 use Rattle.std.specs.Prelude.{slice_range}
-use Rattle.lang_grammar.specs.Grammar.{Kind, a_name, comma, semicolon, left_brace, right_brace, left_paren, right_paren, change_sign, replaces}
+use Rattle.lang_grammar.specs.Grammar.{Kind, a_name, comma, semicolon, left_brace, right_brace, left_paren, right_paren, change_sign}
+use Rattle.lang_grammar.specs.Grammar.{replaces}
 use Rattle.lang_grammar.specs.Grammar.{assume_word, the_end, token}
 use Rattle.lang_grammar.specs.View.{sign_kind}
 use Rattle.lang_tokens.specs.Lines.{line_at}
@@ -16,7 +17,8 @@ use Rattle.flow_transitions.specs.declared.reading.symbol.Symbol.{Symbol}
 use Rattle.flow_transitions.specs.declared.reading.symbol.Symbol.TheVariants as symbol
 use Rattle.flow_transitions.specs.AutoSymbols.{symbol_of, word_symbol, sign_symbol, Seen, seen, seen_or_end, seen_at}
 use Rattle.flow_transitions.specs.AutoGrammar.{kind_here, token_here, tokens_here}
-use Rattle.flow_transitions.specs.AutoReading.{Stand, Progress, token_at, at_vars, at_variable, at_points, at_point, at_edge, at_source, at_target}
+use Rattle.flow_transitions.specs.AutoReading.{Stand, Progress, token_at, at_vars, at_variable, at_points, at_point, at_edge, at_source}
+use Rattle.flow_transitions.specs.AutoReading.{at_target}
 use Rattle.flow_transitions.specs.AutoReading.{at_act}
 
 abbrev pub symbol_here : Kind → Symbol

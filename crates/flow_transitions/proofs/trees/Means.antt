@@ -35,11 +35,13 @@ use Rattle.flow_transitions.specs.AutoReading.{AutoAnswer}
 use Rattle.flow_transitions.specs.AutoReading.{ReadsTo, failed, ended, by_token, by_expression, no_expression}
 use Rattle.flow_transitions.specs.AutoGrammar.{tokens_here, kind_here, Written, Heads, system_then, Frame, condition, side, frame_then}
 use Rattle.flow_transitions.specs.AutoGrammar.{Inside, inside_then, Begun}
-use Rattle.flow_transitions.specs.AutoGrammar.{begun_then, no_token, some_variables, a_variable, all_variables, some_points, a_point, some_edges}
+use Rattle.flow_transitions.specs.AutoGrammar.{begun_then, no_token, some_variables, a_variable, all_variables, some_points, a_point}
+use Rattle.flow_transitions.specs.AutoGrammar.{some_edges}
 use Rattle.flow_transitions.specs.AutoGrammar.{an_edge, a_source, a_target}
 use Rattle.flow_transitions.specs.AutoGrammar.{some_acts, an_assume, an_assigned, an_assumption, some_expression as begun_expression}
 use Rattle.flow_transitions.specs.AutoGrammar.{an_expression as whole_expression}
-use Rattle.flow_transitions.specs.AutoTrees.{names_in, Outer, Inner, FrameSays, FrameStands, FrameFault, truth_of, side_of, FirstFault, too_deep}
+use Rattle.flow_transitions.specs.AutoTrees.{names_in, Outer, Inner, FrameSays, FrameStands, FrameFault, truth_of, side_of, FirstFault}
+use Rattle.flow_transitions.specs.AutoTrees.{too_deep}
 use Rattle.flow_transitions.specs.AutoTrees.{says_nothing, SystemMeans}
 use Rattle.flow_transitions.specs.AutoTrees.{unexpected as unexpected_token}
 use Rattle.flow_transitions.proofs.grammar.Accepts.{unexpected_by}

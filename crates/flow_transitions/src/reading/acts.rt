@@ -16,10 +16,10 @@ use crate::reading::places::place_of;
 use crate::reading::symbol::Symbol;
 use crate::reading::tokens::{line, name, place, sign, symbol, unexpected};
 use crate::reading::values::{assumed, side, whole};
-use std::alloc::Global;
-use lang_tokens::Token;
 use lang_parser::ParseFault;
+use lang_tokens::Token;
 use lang_tree::{Form, Name, Stmt};
+use std::alloc::Global;
 
 /// The acts from this token on, up to the `}` behind them, and the number of the token behind it.
 pub(crate) fn acts(
@@ -34,7 +34,8 @@ pub(crate) fn acts(
     requires names { length names.now ≤ MOST_VARIABLES }
     ensures reads { (points : List PointName) (edges : List AutoEdge) (line from place to : ℕ) →
         Advances text.now tokens.now (progress names.now points edges (at_act (edge_to line from place to))) at result
-        (λ found. progress names.now points (edges ++ (record (edge_to line from place to) { acts = statements_of found.0.items }) ∷ []) at_edge) (λ found. found.1) }
+        (λ found. progress names.now points (edges ++ (record (edge_to line from place to) { acts = statements_of found.0.items }) ∷ [])
+        at_edge) (λ found. found.1) }
     ensures later { IfOk result (λ found. at < found.1) }
     ensures next { IfOk result (λ found. found.1 < length tokens.now) }
     ensures acts { IfOk result (λ found. IsTrue (are_acts (length names.now) (statements_of found.0.items))) }

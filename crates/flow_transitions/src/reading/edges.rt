@@ -16,9 +16,9 @@ use crate::reading::places::point_place;
 use crate::reading::point_name::PointName;
 use crate::reading::symbol::Symbol;
 use crate::reading::tokens::{line, name, place, sign, symbol, word};
-use std::alloc::Global;
 use lang_tokens::Token;
 use lang_tree::{Block, Name};
+use std::alloc::Global;
 
 /// The edges from this token on, up to the end.
 pub(crate) fn edges(

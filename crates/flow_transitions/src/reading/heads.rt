@@ -5,18 +5,19 @@ ghost use Rattle.lang_tree.specs.declared.limits.TheConstants.{MOST_VARIABLES};
 ghost use Rattle.flow_edges.specs.declared.limits.TheConstants.{MOST_POINTS};
 ghost use Rattle.flow_transitions.specs.declared.reading.point_name.PointName.{PointName};
 ghost use Rattle.flow_transitions.specs.AutoSymbols.{IsSource, seen_at};
-ghost use Rattle.flow_transitions.specs.AutoReading.{Advances, at_edge, at_point, at_points, at_variable, past_point, progress, start, unexpected_fault};
+ghost use Rattle.flow_transitions.specs.AutoReading.{Advances, at_edge, at_point, at_points, at_variable, past_point, progress, start};
+ghost use Rattle.flow_transitions.specs.AutoReading.{unexpected_fault};
 
 use crate::fault::AutoFault;
 use crate::reading::places::{place_of, point_place};
 use crate::reading::point_name::PointName;
 use crate::reading::symbol::Symbol;
 use crate::reading::tokens::{line, name, place, symbol, unexpected, word};
-use std::alloc::Global;
 use flow_edges::MOST_POINTS;
-use lang_tokens::Token;
 use lang_parser::{Limit, ParseFault};
+use lang_tokens::Token;
 use lang_tree::{MOST_VARIABLES, Name};
+use std::alloc::Global;
 
 /// The variables that a text names first, and the number of the token behind them.
 pub(crate) fn variables(
@@ -149,7 +150,8 @@ fn comma_behind(text: &[u8], tokens: &[Token], at: u32, count: u32) -> Result<bo
     requires source { IsSource text.now tokens.now }
     requires at { at < length tokens.now }
     ensures reads { (variables : List (List ℕ)) (points : List PointName) → length points ≡ count →
-        Advances text.now tokens.now (progress variables points [] past_point) at result (λ comma. progress variables points [] (cond comma at_point at_edge)) (λ _. at + 1) }
+        Advances text.now tokens.now (progress variables points [] past_point) at result
+        (λ comma. progress variables points [] (cond comma at_point at_edge)) (λ _. at + 1) }
     ensures next { IfOk result (λ _. at + 1 < length tokens.now) }
     ensures counted { IfOk result (λ comma. IsFalse comma → (2 ≤ count) × (count ≤ MOST_POINTS)) }
 {

@@ -7,8 +7,8 @@ ghost use Rattle.flow_transitions.specs.AutoReading.{Progress, Stand, going, une
 
 use crate::fault::AutoFault;
 use crate::reading::symbol::{Symbol, symbol_of};
-use lang_tokens::{Token, line_of};
 use lang_parser::ParseFault;
+use lang_tokens::{Token, line_of};
 use lang_tree::Name;
 
 /// The token of this number.
@@ -104,10 +104,12 @@ pub(crate) fn sign(text: &[u8], tokens: &[Token], at: u32, wanted: Symbol) -> Re
 pub(crate) fn word(text: &[u8], tokens: &[Token], at: u32, bytes: &[u8]) -> Result<(), AutoFault>
     requires source { IsSource text.now tokens.now }
     requires at { at < length tokens.now }
-    ensures reads { IfOk result (λ _. (r : Progress) (stand : Stand) → word_then bytes.now stand r (seen_at text.now tokens.now at) ≡ going r stand) }
+    ensures reads { IfOk result (λ _. (r : Progress) (stand : Stand) →
+        word_then bytes.now stand r (seen_at text.now tokens.now at) ≡ going r stand) }
     ensures next { IfOk result (λ _. at + 1 < length tokens.now) }
     ensures fault { IfErr result (λ fault. fault ≡ unexpected_fault (seen_at text.now tokens.now at)) }
-    ensures other { IfErr result (λ fault. (r : Progress) (stand : Stand) → word_then bytes.now stand r (seen_at text.now tokens.now at) ≡ Err fault) }
+    ensures other { IfErr result (λ fault. (r : Progress) (stand : Stand)
+        → word_then bytes.now stand r (seen_at text.now tokens.now at) ≡ Err fault) }
 {
     let name = name(text, tokens, at)?;
     if name.bytes() == bytes {

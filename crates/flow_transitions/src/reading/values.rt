@@ -13,13 +13,14 @@ ghost use Rattle.lang_parser.specs.Expressions.{expr_of, read_of};
 ghost use Rattle.flow_transitions.specs.declared.fault.AutoFault.TheVariants.{NoMemory};
 ghost use Rattle.flow_transitions.specs.declared.auto_edge.AutoEdge.{AutoEdge};
 ghost use Rattle.flow_transitions.specs.AutoSymbols.{IsSource};
-ghost use Rattle.flow_transitions.specs.AutoReading.{Progress, as_side, assigned, assumed, going, is_side, parse_fault, past_act, past_condition};
+ghost use Rattle.flow_transitions.specs.AutoReading.{Progress, as_side, assigned, assumed, going, is_side, parse_fault, past_act};
+ghost use Rattle.flow_transitions.specs.AutoReading.{past_condition};
 
 use crate::fault::AutoFault;
-use std::alloc::Global;
-use lang_tokens::Token;
 use lang_parser::{Expr, ParseFault, Read, condition, expression};
+use lang_tokens::Token;
 use lang_tree::{Cond, Form, Name};
+use std::alloc::Global;
 
 /// The longest expression from this token on.
 pub(crate) fn whole(
@@ -73,7 +74,8 @@ pub(crate) fn assumed(expr: Expr, first: u32) -> Result<Cond, AutoFault>
 pub(crate) fn side(expr: Expr, sign: u32) -> Result<Option<Form>, AutoFault>
     ensures side { IfOk result (λ side. (e : AutoEdge) (var line : ℕ) (r : Progress) →
         assigned (as_side sign (expr_of expr)) e var line r ≡ going r (past_act e (assignment var side line))) }
-    ensures fault { IfErr result (λ fault. (e : AutoEdge) (var line : ℕ) (r : Progress) → assigned (as_side sign (expr_of expr)) e var line r ≡ Err fault) }
+    ensures fault { IfErr result (λ fault. (e : AutoEdge) (var line : ℕ) (r : Progress)
+        → assigned (as_side sign (expr_of expr)) e var line r ≡ Err fault) }
     ensures fits { IfOk result (λ side. (n : ℕ) → MeaningFits n (expr_of expr) → IsTrue (is_side n side)) }
 {
     match expr {

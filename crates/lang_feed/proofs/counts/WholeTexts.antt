@@ -1,8 +1,11 @@
 -- Tokens that end with `End` and begin a sentence are one; and the width of a sentence.
-use Rattle.std.proofs.Common.{◌≡◌, ◌∙◌, ◌++◌, ◌+◌, ◌-◌, ℕ, zero, suc, List, [], ◌∷◌, length, map, min, refl, sym, ap, ap₂, subst, arith, append_assoc}
+use Rattle.std.proofs.Common.{◌≡◌, ◌∙◌, ◌++◌, ◌+◌, ◌-◌, ℕ, zero, suc, List, [], ◌∷◌, length, map, min, refl, sym, ap, ap₂, subst, arith}
+use Rattle.std.proofs.Common.{append_assoc}
 use Rattle.std.proofs.lemmas.List.{append-nil, map-append}
-use Rattle.lang_grammar.specs.Grammar.{Kind, left_paren, right_paren, left_brace, right_brace, comma, int_word, main_word, the_end, Token, token, Items}
-use Rattle.lang_grammar.specs.Grammar.{spell_items, Parameters, spell_parameters, Return, spell_return, Program, program, spell, Reads, Begins}
+use Rattle.lang_grammar.specs.Grammar.{Kind, left_paren, right_paren, left_brace, right_brace, comma, int_word, main_word, the_end, Token}
+use Rattle.lang_grammar.specs.Grammar.{token, Items}
+use Rattle.lang_grammar.specs.Grammar.{spell_items, Parameters, spell_parameters, Return, spell_return, Program, program, spell, Reads}
+use Rattle.lang_grammar.specs.Grammar.{Begins}
 use Rattle.lang_grammar.specs.View.{kind_of, plain_kind, token_of, tokens_of, plain_token}
 use Rattle.lang_tokens.specs.declared.token.Kind.TheVariants as lex
 use Rattle.lang_tokens.specs.declared.token.Kind as lex_kind
@@ -42,7 +45,8 @@ times_one (suc n) = omega (arith, times_one n)
 abbrev body : ℕ → ℕ → ℕ → Parameters → ℕ → ℕ → Items → Return → ℕ → List Token
 body a b c ps d e is r g = front ending 0 ending_none refl refl a b c ps d e is r g
 
-spell_body : (a b c : ℕ) (ps : Parameters) (d e : ℕ) (is : Items) (r : Return) (g h : ℕ) → spell (program a b c ps d e is r g h) ≡ body a b c ps d e is r g ++ token the_end h ∷ []
+spell_body : (a b c : ℕ) (ps : Parameters) (d e : ℕ) (is : Items) (r : Return) (g h : ℕ)
+    → spell (program a b c ps d e is r g h) ≡ body a b c ps d e is r g ++ token the_end h ∷ []
 spell_body a b c ps d e is r g h =
     ap (λ x. token int_word a ∷ token main_word b ∷ token left_paren c ∷ x)
     (ap (λ x. spell_parameters ps ++ token right_paren d ∷ token left_brace e ∷ x)
@@ -52,7 +56,8 @@ spell_body a b c ps d e is r g h =
     (token right_paren d ∷ token left_brace e ∷ (spell_items is ++ (spell_return r ++ token right_brace g ∷ []))) (token the_end h ∷ [])))
 
 -- where the end stands once, nothing follows it
-ends_there : (xs ys rest : List Token) (a b : ℕ) → total ending ys ≡ 0 → xs ++ token the_end a ∷ rest ≡ ys ++ token the_end b ∷ [] → rest ≡ []
+ends_there : (xs ys rest : List Token) (a b : ℕ) → total ending ys ≡ 0 → xs ++ token the_end a ∷ rest ≡ ys ++ token the_end b ∷ []
+    → rest ≡ []
 ends_there [] [] rest a b z e = cc
 ends_there [] (token k c ∷ ys) rest a b z e = let i : k ≡ the_end = cc in let j : ending the_end + total ending ys ≡ 0 =
     subst (λ (x : Kind). ending x + total ending ys ≡ 0) i z in absurd (omega (arith, j))
@@ -69,7 +74,8 @@ begun_is_whole ts (xs, a, e) (program i j c ps d f is r g h, rest, k) = (
   program i j c ps d f is r g h,
   record {
     spelled = k.spelled
-        ∙ ap (λ x. ts ++ x) (ends_there xs (body i j c ps d f is r g) rest a h (front_total ending 0 ending_none refl refl i j c ps d f is r g
+        ∙ ap (λ x. ts ++ x) (ends_there xs (body i j c ps d f is r g) rest a h
+        (front_total ending 0 ending_none refl refl i j c ps d f is r g
         ∙ omega (arith, times_zero (declared_items is))) (sym (append_assoc xs (token the_end a ∷ []) rest) ∙ ap (λ x. x ++ rest) (sym e)
         ∙ sym k.spelled ∙ spell_body i j c ps d f is r g h)) ∙ append-nil ts;
     good = k.good;
@@ -78,7 +84,12 @@ begun_is_whole ts (xs, a, e) (program i j c ps d f is r g h, rest, k) = (
 
 -- ---- tokens of a text
 pub ends_well : (text : List ℕ) (ts : List lex_token.Token) → AreTokensOf text ts → EndsWell (tokens_of text ts)
-ends_well text ts h = (tokens_of text h.front, length text, ap (tokens_of text) (sym h.ended) ∙ map-append (token_of text) h.front (end_at (length text) ∷ []))
+ends_well text ts h = (
+  tokens_of text h.front,
+  length text,
+  ap (tokens_of text) (sym h.ended)
+      ∙ map-append (token_of text) h.front (end_at (length text) ∷ []),
+)
 
 mark_same : (bytes : List ℕ) (k : lex_kind.Kind) → mark (plain_kind k) ≡ mark (kind_of bytes k)
 mark_same bytes (lex.Word w) = refl
@@ -90,8 +101,10 @@ marks_same text (t ∷ ts) = ap₂ (λ (x y : ℕ). x + y) (mark_same _ t.kind) 
 
 -- the marks of a program, but for one, are its variables
 pub width_is : (text : List ℕ) (ts : List lex_token.Token) (a b c : ℕ) (ps : Parameters) (d e : ℕ) (is : Items) (r : Return) (g h n : ℕ)
-    → Reads (tokens_of text ts) (program a b c ps d e is r g h) → n ≡ min MOST_VARIABLES (total mark (map plain_token ts) - 1) → n ≡ min MOST_VARIABLES (declared_items is)
+    → Reads (tokens_of text ts) (program a b c ps d e is r g h) → n ≡ min MOST_VARIABLES (total mark (map plain_token ts) - 1)
+    → n ≡ min MOST_VARIABLES (declared_items is)
 width_is text ts a b c ps d e is r g h n k w =
     w ∙ ap (λ m. min MOST_VARIABLES (m - 1)) (marks_same text ts ∙ ap (total mark) (sym k.spelled ∙ spell_body a b c ps d e is r g h)
     ∙ total_append mark (body a b c ps d e is r g) (token the_end h ∷ [])
-    ∙ ap (λ m. m + 0) (front_total mark 1 mark_none refl refl a b c ps d e is r g)) ∙ ap (min MOST_VARIABLES) (omega (arith, times_one (declared_items is)))
+    ∙ ap (λ m. m + 0) (front_total mark 1 mark_none refl refl a b c ps d e is r g))
+    ∙ ap (min MOST_VARIABLES) (omega (arith, times_one (declared_items is)))

@@ -1,8 +1,10 @@
 -- Feeding the spelling of a tree is walking it.
-use Rattle.std.proofs.Common.{◌≡◌, ◌∙◌, ◌++◌, ◌<◌, ◌≤◌, ℕ, suc, List, [], ◌∷◌, Result, Ok, refl, sym, ap, append_assoc, arith, Bool, true, false}
+use Rattle.std.proofs.Common.{◌≡◌, ◌∙◌, ◌++◌, ◌<◌, ◌≤◌, ℕ, suc, List, [], ◌∷◌, Result, Ok, refl, sym, ap, append_assoc, arith, Bool, true}
+use Rattle.std.proofs.Common.{false}
 use Rattle.std.proofs.lemmas.Bool.{lt-ltb, le-ltb}
 use Rattle.std.specs.Prelude.{pos}
-use Rattle.lang_grammar.specs.Grammar.{Op, level, Prefix, negative, positive, negation, infix_sign, right_paren, comma, semicolon, Token, token, Groups, Expr}
+use Rattle.lang_grammar.specs.Grammar.{Op, level, Prefix, negative, positive, negation, infix_sign, right_paren, comma, semicolon, Token}
+use Rattle.lang_grammar.specs.Grammar.{token, Groups, Expr}
 use Rattle.lang_grammar.specs.Grammar.{number, variable, free, grouped, prefixed, joined, spell_expr}
 use Rattle.lang_grammar.proofs.grammar.Sound.{below_six}
 use Rattle.lang_meaning.specs.declared.fault.ParseFault.{ParseFault}
@@ -10,7 +12,8 @@ use Rattle.lang_meaning.specs.Results.{◌>>=◌}
 use Rattle.lang_meaning.specs.Forms.{constant_form, variable_form}
 use Rattle.lang_meaning.specs.Walk.{Value, a_form, a_nondet, State, known_number, prefix_value, ranged, regarded}
 use Rattle.lang_meaning.specs.Feed as feeds
-use Rattle.lang_meaning.specs.Feed.{combined_small, Frame, side, before, group, test, assigns, initial, header, header_tested, under, of_if, of_while, of_assume, wants, has, stands}
+use Rattle.lang_meaning.specs.Feed.{combined_small, Frame, side, before, group, test, assigns, initial, header, header_tested, under, of_if}
+use Rattle.lang_meaning.specs.Feed.{of_while, of_assume, wants, has, stands}
 use Rattle.lang_meaning.specs.Feed.{heading, after, ends, Mode, Machine, at, Outcome, complete, join_tighter, pushed}
 use Rattle.lang_feed.proofs.feed.SmallConditions.{walk_small}
 use Rattle.lang_meaning.proofs.results.Binds.{bind_assoc, bind_same, bind_both, bind_right}
@@ -63,7 +66,8 @@ next_more l m (token semicolon a) n h = tt
 next_more l m (token comma a) n h = tt
 next_more l m (token _ a) n h = absurd n
 
-join_side : (m : ℕ) (u : Value) (o : Op) (a : ℕ) (fs : List Frame) (v : Value) → m ≤ level o → join_tighter m (side u o a ∷ fs) v ≡ combined_small o a u v >>= λ x. join_tighter m fs x
+join_side : (m : ℕ) (u : Value) (o : Op) (a : ℕ) (fs : List Frame) (v : Value) → m ≤ level o
+    → join_tighter m (side u o a ∷ fs) v ≡ combined_small o a u v >>= λ x. join_tighter m fs x
 join_side m u o a fs v h = ap
     (λ (t : Bool). elim t as (λ x. Result (List Frame × Value) ParseFault) [
       | true ↦ Ok (side u o a ∷ fs, v)
@@ -71,7 +75,8 @@ join_side m u o a fs v h = ap
           >>= λ x. join_tighter m fs x
     ]) (le-ltb (level o) m h)
 
-joined_tighter : (m : ℕ) (u : Value) (o : Op) (a : ℕ) (fs : List Frame) (v : Value) (p : List Frame × Value → Outcome) (q : Machine → Outcome) → m ≤ level o
+joined_tighter : (m : ℕ) (u : Value) (o : Op) (a : ℕ) (fs : List Frame) (v : Value) (p : List Frame × Value → Outcome)
+    (q : Machine → Outcome) → m ≤ level o
     → (join_tighter m (side u o a ∷ fs) v >>= p) >>= q ≡ combined_small o a u v >>= λ x. (join_tighter m fs x >>= p) >>= q
 joined_tighter m u o a fs v p q h = ap (λ (z : Result (List Frame × Value) ParseFault). (z >>= p) >>= q) (join_side m u o a fs v h)
     ∙ ap (λ (z : Outcome). z >>= q) (bind_assoc (combined_small o a u v) (λ x. join_tighter m fs x) p)
@@ -89,12 +94,17 @@ module _ (line : ℕ → ℕ) (width : ℕ) where
   on st w fs v = complete fs v >>= λ r. feed w (given_by st r)
 
   -- the pending side is joined by the next token
-  joins : (st : State) (u : Value) (o : Op) (a : ℕ) (fs : List Frame) (v : Value) (l : ℕ) (t : Token) (w : List Token) → Next l t → l ≤ level o
+  joins : (st : State) (u : Value) (o : Op) (a : ℕ) (fs : List Frame) (v : Value) (l : ℕ) (t : Token) (w : List Token) → Next l t
+      → l ≤ level o
       → feed (t ∷ w) (at st (side u o a ∷ fs) (has v)) ≡ combined_small o a u v >>= λ x. feed (t ∷ w) (at st fs (has x))
-  joins st u o a fs v l (token (infix_sign p) b) w n h = joined_tighter (level p) u o a fs v (λ r. Ok (at st (side r.1 p b ∷ r.0) wants)) (λ r. feed w r) (omega arith)
-  joins st u o a fs v l (token right_paren b) w n h = joined_tighter 0 u o a fs v (λ r. feeds.after_paren line width st r) (λ r. feed w r) (omega arith)
-  joins st u o a fs v l (token semicolon b) w n h = joined_tighter 0 u o a fs v (λ r. feeds.after_semicolon line width st r) (λ r. feed w r) (omega arith)
-  joins st u o a fs v l (token comma b) w n h = joined_tighter 0 u o a fs v (λ r. feeds.after_comma line width st r) (λ r. feed w r) (omega arith)
+  joins st u o a fs v l (token (infix_sign p) b) w n h = joined_tighter (level p) u o a fs v (λ r. Ok (at st (side r.1 p b ∷ r.0) wants))
+      (λ r. feed w r) (omega arith)
+  joins st u o a fs v l (token right_paren b) w n h = joined_tighter 0 u o a fs v (λ r. feeds.after_paren line width st r) (λ r. feed w r)
+      (omega arith)
+  joins st u o a fs v l (token semicolon b) w n h = joined_tighter 0 u o a fs v (λ r. feeds.after_semicolon line width st r) (λ r. feed w r)
+      (omega arith)
+  joins st u o a fs v l (token comma b) w n h = joined_tighter 0 u o a fs v (λ r. feeds.after_comma line width st r) (λ r. feed w r)
+      (omega arith)
   joins st u o a fs v l (token _ b) w n h = absurd n
 
   abbrev FedOperand : State → Expr → List Frame → List Token → Type 0
@@ -114,7 +124,8 @@ module _ (line : ℕ → ℕ) (width : ℕ) where
   op_free : (st : State) (a b c : ℕ) (fs : List Frame) (w : List Token) → FedOperand st (free a b c) fs w
   op_free st a b c fs w = bind_assoc (complete fs (a_nondet a)) (λ r. Ok (given_by st r)) (λ r. feed w r)
 
-  op_grouped : (st : State) (a : ℕ) (e : Expr) (b : ℕ) (fs : List Frame) (w : List Token) → FedExpr st e (group a ∷ fs) (token right_paren b) w → FedOperand st (grouped a e b) fs w
+  op_grouped : (st : State) (a : ℕ) (e : Expr) (b : ℕ) (fs : List Frame) (w : List Token)
+      → FedExpr st e (group a ∷ fs) (token right_paren b) w → FedOperand st (grouped a e b) fs w
   op_grouped st a e b fs w h = ap (λ (x : List Token). feed x (at st (group a ∷ fs) wants))
       (append_assoc (spell_expr e) (token right_paren b ∷ []) w) ∙ h
       ∙ bind_right (walk_small line width st e) _ (λ v. Ok (regarded a v)) (λ v. on st w fs v)
@@ -126,12 +137,15 @@ module _ (line : ℕ → ℕ) (width : ℕ) where
       ∙ bind_right (walk_small line width st e) _ (λ v. prefix_value p a v) (λ v. on st w fs v)
       (λ v. bind_assoc (prefix_value p a v) (λ u. complete fs u) (λ r. feed w (given_by st r)))
 
-  lift : (st : State) (e : Expr) (l : ℕ) (fs : List Frame) (t : Token) (w : List Token) → Base l fs → FedOperand st e fs (t ∷ w) → FedExpr st e fs t w
-  lift st e l fs t w b h = h ∙ bind_same (walk_small line width st e) _ _ (λ v. ap (λ (r : Result (List Frame × Value) ParseFault). r >>= λ r. feed (t ∷ w) (given_by st r)) (base_complete l fs v b))
+  lift : (st : State) (e : Expr) (l : ℕ) (fs : List Frame) (t : Token) (w : List Token) → Base l fs → FedOperand st e fs (t ∷ w)
+      → FedExpr st e fs t w
+  lift st e l fs t w b h = h ∙ bind_same (walk_small line width st e) _ _
+      (λ v. ap (λ (r : Result (List Frame × Value) ParseFault). r >>= λ r. feed (t ∷ w) (given_by st r)) (base_complete l fs v b))
 
   pushes : (st : State) (o : Op) (a : ℕ) (fs : List Frame) (v : Value) (w : List Token) → Base (level o) fs
       → feed (token (infix_sign o) a ∷ w) (at st fs (has v)) ≡ feed w (at st (side v o a ∷ fs) wants)
-  pushes st o a fs v w b = ap (λ (z : Result (List Frame × Value) ParseFault). (z >>= λ r. Ok (at st (side r.1 o a ∷ r.0) wants)) >>= λ r. feed w r)
+  pushes st o a fs v w b = ap (λ (z : Result (List Frame × Value) ParseFault). (z >>= λ r. Ok (at st (side r.1 o a ∷ r.0) wants))
+      >>= λ r. feed w r)
       (join_none (level o) (level o) fs v b (omega arith))
 
   mutual
@@ -146,14 +160,19 @@ module _ (line : ℕ → ℕ) (width : ℕ) where
     fed_operand st (joined e o a f) fs w g = absurd (omega (arith, g.0, below_six o))
 
     -- Feeding an expression is walking it; then its value is there, under what was pending.
-    pub fed_expr : (st : State) (e : Expr) (l : ℕ) (fs : List Frame) (t : Token) (w : List Token) → Groups l e → Base l fs → Next l t → FedExpr st e fs t w
+    pub fed_expr : (st : State) (e : Expr) (l : ℕ) (fs : List Frame) (t : Token) (w : List Token) → Groups l e → Base l fs → Next l t
+        → FedExpr st e fs t w
     fed_expr st (number n a) l fs t w g b i = lift st (number n a) l fs t w b (op_number st n a fs (t ∷ w))
     fed_expr st (variable x a) l fs t w g b i = lift st (variable x a) l fs t w b (op_variable st x a fs (t ∷ w))
     fed_expr st (free a j c) l fs t w g b i = lift st (free a j c) l fs t w b (op_free st a j c fs (t ∷ w))
-    fed_expr st (grouped a e j) l fs t w g b i = lift st (grouped a e j) l fs t w b (op_grouped st a e j fs (t ∷ w) (fed_expr st e 0 (group a ∷ fs) (token right_paren j) (t ∷ w) g tt tt))
-    fed_expr st (prefixed negative a e) l fs t w g b i = lift st (prefixed negative a e) l fs t w b (op_prefixed st negative a e fs (t ∷ w) (fed_operand st e (before negative a ∷ fs) (t ∷ w) g))
-    fed_expr st (prefixed positive a e) l fs t w g b i = lift st (prefixed positive a e) l fs t w b (op_prefixed st positive a e fs (t ∷ w) (fed_operand st e (before positive a ∷ fs) (t ∷ w) g))
-    fed_expr st (prefixed negation a e) l fs t w g b i = lift st (prefixed negation a e) l fs t w b (op_prefixed st negation a e fs (t ∷ w) (fed_operand st e (before negation a ∷ fs) (t ∷ w) g))
+    fed_expr st (grouped a e j) l fs t w g b i = lift st (grouped a e j) l fs t w b
+        (op_grouped st a e j fs (t ∷ w) (fed_expr st e 0 (group a ∷ fs) (token right_paren j) (t ∷ w) g tt tt))
+    fed_expr st (prefixed negative a e) l fs t w g b i = lift st (prefixed negative a e) l fs t w b
+        (op_prefixed st negative a e fs (t ∷ w) (fed_operand st e (before negative a ∷ fs) (t ∷ w) g))
+    fed_expr st (prefixed positive a e) l fs t w g b i = lift st (prefixed positive a e) l fs t w b
+        (op_prefixed st positive a e fs (t ∷ w) (fed_operand st e (before positive a ∷ fs) (t ∷ w) g))
+    fed_expr st (prefixed negation a e) l fs t w g b i = lift st (prefixed negation a e) l fs t w b
+        (op_prefixed st negation a e fs (t ∷ w) (fed_operand st e (before negation a ∷ fs) (t ∷ w) g))
     fed_expr st (joined e o a f) l fs t w g b i =
         ap (λ (x : List Token). feed x (at st fs wants)) (append_assoc (spell_expr e) (token (infix_sign o) a ∷ spell_expr f) (t ∷ w))
         ∙ fed_expr st e (level o) fs (token (infix_sign o) a) (spell_expr f ++ t ∷ w) g.1 (base_more l (level o) fs b g.0) (omega arith)
@@ -161,4 +180,5 @@ module _ (line : ℕ → ℕ) (width : ℕ) where
         ∙ fed_expr st f (suc (level o)) (side v o a ∷ fs) t w g.2 (omega arith) (next_more l (suc (level o)) t i (omega (arith, g.0)))
         ∙ bind_same (walk_small line width st f) _ _ (λ u. joins st v o a fs u l t w i g.0)
         ∙ sym (bind_assoc (walk_small line width st f) (λ u. combined_small o a v u) (λ x. feed (t ∷ w) (at st fs (has x)))))
-        ∙ sym (bind_assoc (walk_small line width st e) (λ v. walk_small line width st f >>= λ u. combined_small o a v u) (λ x. feed (t ∷ w) (at st fs (has x))))
+        ∙ sym (bind_assoc (walk_small line width st e) (λ v. walk_small line width st f >>= λ u. combined_small o a v u)
+        (λ x. feed (t ∷ w) (at st fs (has x))))

@@ -1,13 +1,16 @@
 -- What a statement leaves within another one, and behind it.
 use Rattle.std.proofs.Common.{◌≡◌, ◌∙◌, ℕ, List, [], ◌∷◌, Ok, refl, sym, ap, ◌++◌, length, Bool, Result, append_assoc}
-use Rattle.lang_grammar.specs.Grammar.{Kind, else_word, while_word, Token, token, Ending, shut, waiting, right_paren, left_paren, right_brace, left_brace, semicolon, if_word, do_word, Groups, Expr, spell_expr, assumed, spell_core}
+use Rattle.lang_grammar.specs.Grammar.{Kind, else_word, while_word, Token, token, Ending, shut, waiting, right_paren, left_paren}
+use Rattle.lang_grammar.specs.Grammar.{right_brace, left_brace, semicolon, if_word, do_word, Groups, Expr, spell_expr, assumed, spell_core}
 use Rattle.lang_grammar.proofs.grammar.Complete.{NotElse, GoesOn}
 use Rattle.lang_tree.specs.Tree as tree
 use Rattle.lang_tree.specs.Tree.{Condition, Statement, Statements, nil, cons}
 use Rattle.lang_meaning.specs.Results.{◌>>=◌}
 use Rattle.lang_meaning.specs.Walk.{State, followed_by, one, closed, counted, tested, walk_expr, walk_core}
 use Rattle.lang_meaning.specs.Feed as feeds
-use Rattle.lang_meaning.specs.Feed.{Frame, side, before, group, test, assigns, initial, header, header_tested, of_items, of_branch, of_other, of_loop, of_body, of_for, under, wrapped, stands, after, Machine, at, Outcome, is_inside, pushed, settled, of_if, of_while, of_do, of_assume, wants}
+use Rattle.lang_meaning.specs.Feed.{Frame, side, before, group, test, assigns, initial, header, header_tested, of_items, of_branch}
+use Rattle.lang_meaning.specs.Feed.{of_other, of_loop, of_body, of_for, under, wrapped, stands, after, Machine, at, Outcome, is_inside}
+use Rattle.lang_meaning.specs.Feed.{pushed, settled, of_if, of_while, of_do, of_assume, wants}
 use Rattle.lang_feed.proofs.feed.Expressions.{feed, fed_expr}
 use Rattle.lang_meaning.specs.declared.fault.ParseFault.{ParseFault}
 use Rattle.lang_meaning.proofs.results.Binds.{bind_both, bind_right}
@@ -70,18 +73,26 @@ module _ (line : ℕ → ℕ) (width : ℕ) where
   behind_same st su fs gs ms ns else_word b h i = ap (λ (x : State × List Frame). Ok (at x.0 x.1 stands)) i
   behind_same st su fs gs ms ns k b h i = ap (λ (x : State × List Frame). behind_closed x k b) h
 
-  behind_go : (st : State) (fs : List Frame) (ms : Statements) (k : Kind) (b : ℕ) → NotElse k → behind st fs ms k b ≡ behind_closed (close st ms fs) k b
+  behind_go : (st : State) (fs : List Frame) (ms : Statements) (k : Kind) (b : ℕ) → NotElse k
+      → behind st fs ms k b ≡ behind_closed (close st ms fs) k b
   behind_go st fs ms else_word b h = cc
   behind_go st fs ms _ b h = refl
 
   -- what closes a frame with a statement more
-  pub pushed_close : (n : Statement) (st : State) (fs : List Frame) (ms : Statements) → IsOpen fs → close st ms (pushed n fs) ≡ close st (cons n ms) fs
-  pushed_close n st (under (of_items k) ns ∷ fs) ms h = ap (λ (x : Statements). pair st (under (of_items k) x ∷ fs)) (follow_assoc ns (one n) ms)
-  pushed_close n st (under (of_body a) ns ∷ fs) ms h = ap (λ (x : Statements). pair st (under (of_body a) x ∷ fs)) (follow_assoc ns (one n) ms)
-  pushed_close n st (under (of_branch c a) ns ∷ fs) ms h = ap (λ (x : Statements). close st (wrapped line (of_branch c a) x) fs) (follow_assoc ns (one n) ms)
-  pushed_close n st (under (of_other c ls a) ns ∷ fs) ms h = ap (λ (x : Statements). close st (wrapped line (of_other c ls a) x) fs) (follow_assoc ns (one n) ms)
-  pushed_close n st (under (of_loop c a) ns ∷ fs) ms h = ap (λ (x : Statements). close st (wrapped line (of_loop c a) x) fs) (follow_assoc ns (one n) ms)
-  pushed_close n st (under (of_for k a bs c g) ns ∷ fs) ms h = ap (λ (x : Statements). close (closed k st) (wrapped line (of_for k a bs c g) x) fs) (follow_assoc ns (one n) ms)
+  pub pushed_close : (n : Statement) (st : State) (fs : List Frame) (ms : Statements) → IsOpen fs
+      → close st ms (pushed n fs) ≡ close st (cons n ms) fs
+  pushed_close n st (under (of_items k) ns ∷ fs) ms h = ap (λ (x : Statements). pair st (under (of_items k) x ∷ fs))
+      (follow_assoc ns (one n) ms)
+  pushed_close n st (under (of_body a) ns ∷ fs) ms h = ap (λ (x : Statements). pair st (under (of_body a) x ∷ fs))
+      (follow_assoc ns (one n) ms)
+  pushed_close n st (under (of_branch c a) ns ∷ fs) ms h = ap (λ (x : Statements). close st (wrapped line (of_branch c a) x) fs)
+      (follow_assoc ns (one n) ms)
+  pushed_close n st (under (of_other c ls a) ns ∷ fs) ms h = ap (λ (x : Statements). close st (wrapped line (of_other c ls a) x) fs)
+      (follow_assoc ns (one n) ms)
+  pushed_close n st (under (of_loop c a) ns ∷ fs) ms h = ap (λ (x : Statements). close st (wrapped line (of_loop c a) x) fs)
+      (follow_assoc ns (one n) ms)
+  pushed_close n st (under (of_for k a bs c g) ns ∷ fs) ms h = ap (λ (x : Statements). close (closed k st)
+      (wrapped line (of_for k a bs c g) x) fs) (follow_assoc ns (one n) ms)
   pushed_close n st [] ms h = absurd h
   pushed_close n st (side u o a ∷ fs) ms h = absurd h
   pushed_close n st (before p a ∷ fs) ms h = absurd h
@@ -93,13 +104,18 @@ module _ (line : ℕ → ℕ) (width : ℕ) where
   pushed_close n st (header_tested k a ns c ∷ fs) ms h = absurd h
 
   -- what is attached to a frame with a statement more
-  pub pushed_attach : (n : Statement) (st : State) (fs : List Frame) (ms : Statements) → IsOpen fs → attach st ms (pushed n fs) ≡ attach st (cons n ms) fs
+  pub pushed_attach : (n : Statement) (st : State) (fs : List Frame) (ms : Statements) → IsOpen fs
+      → attach st ms (pushed n fs) ≡ attach st (cons n ms) fs
   pushed_attach n st (under (of_items k) ns ∷ fs) ms h = refl
   pushed_attach n st (under (of_body a) ns ∷ fs) ms h = refl
-  pushed_attach n st (under (of_branch c a) ns ∷ fs) ms h = ap (λ (x : Statements). pair st (under (of_other c x a) nil ∷ fs)) (follow_assoc ns (one n) ms)
-  pushed_attach n st (under (of_other c ls a) ns ∷ fs) ms h = ap (λ (x : Statements). attach st (wrapped line (of_other c ls a) x) fs) (follow_assoc ns (one n) ms)
-  pushed_attach n st (under (of_loop c a) ns ∷ fs) ms h = ap (λ (x : Statements). attach st (wrapped line (of_loop c a) x) fs) (follow_assoc ns (one n) ms)
-  pushed_attach n st (under (of_for k a bs c g) ns ∷ fs) ms h = ap (λ (x : Statements). attach (closed k st) (wrapped line (of_for k a bs c g) x) fs) (follow_assoc ns (one n) ms)
+  pushed_attach n st (under (of_branch c a) ns ∷ fs) ms h = ap (λ (x : Statements). pair st (under (of_other c x a) nil ∷ fs))
+      (follow_assoc ns (one n) ms)
+  pushed_attach n st (under (of_other c ls a) ns ∷ fs) ms h = ap (λ (x : Statements). attach st (wrapped line (of_other c ls a) x) fs)
+      (follow_assoc ns (one n) ms)
+  pushed_attach n st (under (of_loop c a) ns ∷ fs) ms h = ap (λ (x : Statements). attach st (wrapped line (of_loop c a) x) fs)
+      (follow_assoc ns (one n) ms)
+  pushed_attach n st (under (of_for k a bs c g) ns ∷ fs) ms h = ap (λ (x : Statements). attach (closed k st)
+      (wrapped line (of_for k a bs c g) x) fs) (follow_assoc ns (one n) ms)
   pushed_attach n st [] ms h = absurd h
   pushed_attach n st (side u o a ∷ fs) ms h = absurd h
   pushed_attach n st (before p a ∷ fs) ms h = absurd h
@@ -156,7 +172,8 @@ module _ (line : ℕ → ℕ) (width : ℕ) where
 
   -- ---- what a statement within another one leaves
   -- feeding what follows a statement depends on what is closed and attached alone
-  pub pass : (st su : State) (fs gs : List Frame) (ms ns : Statements) (x : Ending) (w : List Token) → Follows x w → close st ms fs ≡ close su ns gs
+  pub pass : (st su : State) (fs gs : List Frame) (ms ns : Statements) (x : Ending) (w : List Token) → Follows x w
+      → close st ms fs ≡ close su ns gs
       → attach st ms fs ≡ attach su ns gs → F w (at st fs (after ms)) ≡ F w (at su gs (after ns))
   pass st su fs gs ms ns shut [] f h i = absurd f
   pass st su fs gs ms ns waiting [] f h i = absurd f
@@ -164,9 +181,11 @@ module _ (line : ℕ → ℕ) (width : ℕ) where
 
   -- where no `else` follows, an `if` is closed
   pub pass_branch : (st : State) (c : Condition) (a : ℕ) (ns : Statements) (fs : List Frame) (ms : Statements) (w : List Token) → GoesOn w
-      → F w (at st (under (of_branch c a) ns ∷ fs) (after ms)) ≡ F w (at st fs (after (one (tree.branch c (followed_by ns ms) nil (line a)))))
+      → F w (at st (under (of_branch c a) ns ∷ fs) (after ms)) ≡ F w (at st fs
+      (after (one (tree.branch c (followed_by ns ms) nil (line a)))))
   pass_branch st c a ns fs ms [] h = absurd h
-  pass_branch st c a ns fs ms (token k b ∷ w) h = ap (λ (r : Outcome). r >>= λ s. F w s) (behind_go st (under (of_branch c a) ns ∷ fs) ms k b h
+  pass_branch st c a ns fs ms (token k b ∷ w) h = ap (λ (r : Outcome). r >>= λ s. F w s)
+      (behind_go st (under (of_branch c a) ns ∷ fs) ms k b h
       ∙ sym (behind_go st fs (one (tree.branch c (followed_by ns ms) nil (line a))) k b h))
 
   items_begun : (st : State) (i : ℕ) (ns : Statements) (fs : List Frame) (k : Kind) (b : ℕ)
@@ -192,14 +211,17 @@ module _ (line : ℕ → ℕ) (width : ℕ) where
 
   -- the same as items
   abbrev pub DoesItems : List Token → List Token → State → ℕ → Statements → List Frame → Result (State × Statements) ParseFault → Type 0
-  DoesItems x w st i ns fs r = F (x ++ w) (at st (under (of_items i) ns ∷ fs) stands) ≡ r >>= λ q. F w (at q.0 (under (of_items i) (followed_by ns q.1) ∷ fs) stands)
+  DoesItems x w st i ns fs r = F (x ++ w) (at st (under (of_items i) ns ∷ fs) stands) ≡ r
+      >>= λ q. F w (at q.0 (under (of_items i) (followed_by ns q.1) ∷ fs) stands)
 
   -- a block does what its items do
-  pub case_block : (a : ℕ) (x : List Token) (b : ℕ) (w : List Token) (st : State) (fs : List Frame) (walked : Result (State × Statements) ParseFault)
+  pub case_block : (a : ℕ) (x : List Token) (b : ℕ) (w : List Token) (st : State) (fs : List Frame)
+      (walked : Result (State × Statements) ParseFault)
       → DoesItems x (token right_brace b ∷ w) st (length st.known) nil fs walked
       → Does (token left_brace a ∷ (x ++ token right_brace b ∷ [])) w st fs (walked >>= λ r. Ok (closed (length st.known) r.0, r.1))
   case_block a x b w st fs walked h =
-      ap (λ (y : List Token). F y (at st (under (of_items (length st.known)) nil ∷ fs) stands)) (append_assoc x (token right_brace b ∷ []) w) ∙ h
+      ap (λ (y : List Token). F y (at st (under (of_items (length st.known)) nil ∷ fs) stands))
+      (append_assoc x (token right_brace b ∷ []) w) ∙ h
       ∙ bind_right walked _ (λ r. Ok (closed (length st.known) r.0, r.1)) _ (λ r. refl)
 
   -- a condition in parentheses, and what comes of it
@@ -221,26 +243,31 @@ module _ (line : ℕ → ℕ) (width : ℕ) where
       → Does (token if_word a ∷ token left_paren b ∷ (spell_expr e ++ token right_paren c ∷ y)) w st fs (walk_expr line width st e
       >>= λ v. tested a v >>= λ x. counted a st >>= λ now. walked now >>= λ r. Ok (r.0, one (tree.branch x r.1 nil (line a))))
   case_if_alone a b c e y w st fs walked g h f =
-      condition_fed a of_if st fs e c y w (λ x. counted a st >>= λ now. walked now >>= λ r. Ok (r.0, one (tree.branch x r.1 nil (line a)))) g
+      condition_fed a of_if st fs e c y w (λ x. counted a st >>= λ now. walked now >>= λ r. Ok (r.0, one (tree.branch x r.1 nil (line a))))
+      g
       (λ x. bind_both (counted a st) (λ now. Ok (at now (under (of_branch x a) nil ∷ fs) stands)) (λ s. F (y ++ w) s)
       (λ now. walked now >>= λ r. Ok (r.0, one (tree.branch x r.1 nil (line a)))) _ (λ now. f now x
       ∙ bind_right (walked now) _ (λ r. Ok (r.0, one (tree.branch x r.1 nil (line a)))) _ (λ r. pass_branch r.0 x a nil fs r.1 w h)))
 
   -- a `while` does what its body does
-  pub case_repeat : (a b c : ℕ) (e : Expr) (y w : List Token) (st : State) (fs : List Frame) (walked : Walk) (n : Ending) → Groups 0 e → Follows n w
+  pub case_repeat : (a b c : ℕ) (e : Expr) (y w : List Token) (st : State) (fs : List Frame) (walked : Walk) (n : Ending) → Groups 0 e
+      → Follows n w
       → ((now : State) (x : Condition) → Does y w now (under (of_loop x a) nil ∷ fs) (walked now))
       → Does (token while_word a ∷ token left_paren b ∷ (spell_expr e ++ token right_paren c ∷ y)) w st fs (walk_expr line width st e
       >>= λ v. tested a v >>= λ x. counted a st >>= λ now. walked now >>= λ r. Ok (r.0, one (tree.loop tree.while_loop x r.1 (line a))))
   case_repeat a b c e y w st fs walked n g h f =
-      condition_fed a of_while st fs e c y w (λ x. counted a st >>= λ now. walked now >>= λ r. Ok (r.0, one (tree.loop tree.while_loop x r.1 (line a)))) g
+      condition_fed a of_while st fs e c y w (λ x. counted a st >>= λ now. walked now
+      >>= λ r. Ok (r.0, one (tree.loop tree.while_loop x r.1 (line a)))) g
       (λ x. bind_both (counted a st) (λ now. Ok (at now (under (of_loop x a) nil ∷ fs) stands)) (λ s. F (y ++ w) s)
       (λ now. walked now >>= λ r. Ok (r.0, one (tree.loop tree.while_loop x r.1 (line a)))) _ (λ now. f now x
       ∙ bind_right (walked now) _ (λ r. Ok (r.0, one (tree.loop tree.while_loop x r.1 (line a)))) _
       (λ r. pass r.0 r.0 (under (of_loop x a) nil ∷ fs) fs r.1 (one (tree.loop tree.while_loop x r.1 (line a))) n w h refl refl)))
 
   -- an `if` with `else` does what its branches do
-  pub case_if_else : (a b c i : ℕ) (e : Expr) (y z w : List Token) (st : State) (fs : List Frame) (first second : Walk) (n : Ending) → Groups 0 e
-      → Follows n w → ((now : State) (x : Condition) → Does y (token else_word i ∷ (z ++ w)) now (under (of_branch x a) nil ∷ fs) (first now))
+  pub case_if_else : (a b c i : ℕ) (e : Expr) (y z w : List Token) (st : State) (fs : List Frame) (first second : Walk) (n : Ending)
+      → Groups 0 e
+      → Follows n w → ((now : State) (x : Condition) → Does y (token else_word i ∷ (z ++ w)) now (under (of_branch x a) nil ∷ fs)
+      (first now))
       → ((now : State) (x : Condition) (ns : Statements) → Does z w now (under (of_other x ns a) nil ∷ fs) (second now))
       → Does (token if_word a ∷ token left_paren b ∷ (spell_expr e ++ token right_paren c ∷ (y ++ token else_word i ∷ z))) w st fs
       (walk_expr line width st e >>= λ v. tested a v >>= λ x. counted a st >>= λ now. first now >>= λ r. second r.0
@@ -248,7 +275,8 @@ module _ (line : ℕ → ℕ) (width : ℕ) where
   case_if_else a b c i e y z w st fs first second n g h f k =
       condition_fed a of_if st fs e c (y ++ token else_word i ∷ z) w (λ x. counted a st >>= λ now. first now >>= λ r. second r.0
       >>= λ q. Ok (q.0, one (tree.branch x r.1 q.1 (line a)))) g
-      (λ x. bind_both (counted a st) (λ now. Ok (at now (under (of_branch x a) nil ∷ fs) stands)) (λ s. F ((y ++ token else_word i ∷ z) ++ w) s)
+      (λ x. bind_both (counted a st) (λ now. Ok (at now (under (of_branch x a) nil ∷ fs) stands))
+      (λ s. F ((y ++ token else_word i ∷ z) ++ w) s)
       (λ now. first now >>= λ r. second r.0 >>= λ q. Ok (q.0, one (tree.branch x r.1 q.1 (line a)))) _ (λ now.
       ap (λ (u : List Token). F u (at now (under (of_branch x a) nil ∷ fs) stands)) (append_assoc y (token else_word i ∷ z) w)
       ∙ f now x
@@ -262,25 +290,30 @@ module _ (line : ℕ → ℕ) (width : ℕ) where
       → Does (spell_core (assumed a b e c d)) w st fs (walk_core line width n (assumed a b e c d) st)
   case_assumed a b c d e w st fs n o g =
       bind_both (counted a st) (λ now. Ok (at now fs (feeds.opens of_assume a)))
-      (λ s. F (token left_paren b ∷ ((spell_expr e ++ token right_paren c ∷ token semicolon d ∷ []) ++ w)) s) (λ now. walk_expr line width now e
+      (λ s. F (token left_paren b ∷ ((spell_expr e ++ token right_paren c ∷ token semicolon d ∷ []) ++ w)) s)
+      (λ now. walk_expr line width now e
       >>= λ v. tested a v >>= λ x. Ok (now, one (tree.assume x (line a)))) _
       (λ now. condition_fed a of_assume now fs e c (token semicolon d ∷ []) w (λ x. Ok (now, one (tree.assume x (line a)))) g
       (λ x. ap (λ (m : Machine). F w m) (settled_open now fs (one (tree.assume x (line a))) o)))
 
   -- a `do` does what its body does
   pub case_do : (a b c d i : ℕ) (e : Expr) (y w : List Token) (st : State) (fs : List Frame) (walked : Walk) → IsOpen fs → Groups 0 e
-      → ((now : State) → Does y (token while_word b ∷ token left_paren c ∷ ((spell_expr e ++ token right_paren d ∷ token semicolon i ∷ []) ++ w))
+      → ((now : State) → Does y (token while_word b ∷ token left_paren c
+      ∷ ((spell_expr e ++ token right_paren d ∷ token semicolon i ∷ []) ++ w))
       now (under (of_body a) nil ∷ fs) (walked now))
-      → Does (token do_word a ∷ (y ++ token while_word b ∷ token left_paren c ∷ (spell_expr e ++ token right_paren d ∷ token semicolon i ∷ []))) w st fs
+      → Does (token do_word a ∷ (y ++ token while_word b ∷ token left_paren c
+      ∷ (spell_expr e ++ token right_paren d ∷ token semicolon i ∷ []))) w st fs
       (counted a st >>= λ now. walked now >>= λ r. walk_expr line width r.0 e >>= λ v. tested a v
       >>= λ x. Ok (r.0, one (tree.loop tree.do_loop x r.1 (line a))))
   case_do a b c d i e y w st fs walked o g f =
       bind_both (counted a st) (λ now. Ok (at now (under (of_body a) nil ∷ fs) stands))
       (λ s. F ((y ++ token while_word b ∷ token left_paren c ∷ (spell_expr e ++ token right_paren d ∷ token semicolon i ∷ [])) ++ w) s)
-      (λ now. walked now >>= λ r. walk_expr line width r.0 e >>= λ v. tested a v >>= λ x. Ok (r.0, one (tree.loop tree.do_loop x r.1 (line a)))) _ (λ now.
+      (λ now. walked now >>= λ r. walk_expr line width r.0 e >>= λ v. tested a v
+      >>= λ x. Ok (r.0, one (tree.loop tree.do_loop x r.1 (line a)))) _ (λ now.
       ap (λ (u : List Token). F u (at now (under (of_body a) nil ∷ fs) stands))
       (append_assoc y (token while_word b ∷ token left_paren c ∷ (spell_expr e ++ token right_paren d ∷ token semicolon i ∷ [])) w)
       ∙ f now
-      ∙ bind_right (walked now) _ (λ r. walk_expr line width r.0 e >>= λ v. tested a v >>= λ x. Ok (r.0, one (tree.loop tree.do_loop x r.1 (line a)))) _
+      ∙ bind_right (walked now) _ (λ r. walk_expr line width r.0 e >>= λ v. tested a v
+      >>= λ x. Ok (r.0, one (tree.loop tree.do_loop x r.1 (line a)))) _
       (λ r. condition_fed a (of_do r.1) r.0 fs e d (token semicolon i ∷ []) w (λ x. Ok (r.0, one (tree.loop tree.do_loop x r.1 (line a)))) g
       (λ x. ap (λ (m : Machine). F w m) (settled_open r.0 fs (one (tree.loop tree.do_loop x r.1 (line a))) o))))

@@ -34,19 +34,23 @@ pub short_is_read : (ts : List Token) → EndsWell ts → Finds short ts → IsR
 short_is_read ts e f = let r = begun_is_whole ts e f.0 in (r.0, r.1, f)
 
 -- The second pass over what is read gives its meaning, at the width of the text.
-pub walked_is : (line : ℕ → ℕ) (ts : List Token) (n : ℕ) (p : Program) → Reads ts p → n ≡ width_of p → (feed line n ts begin >>= λ s. result_of s) ≡ walk line p
+pub walked_is : (line : ℕ → ℕ) (ts : List Token) (n : ℕ) (p : Program) → Reads ts p → n ≡ width_of p
+    → (feed line n ts begin >>= λ s. result_of s) ≡ walk line p
 walked_is line ts n (program a b c ps d e is r g h) k w =
     ap₂ (λ (m : ℕ) (x : List Token). feed line m x begin >>= λ s. result_of s) w (sym k.spelled)
     ∙ program_fed line (min MOST_VARIABLES (declared_items is)) a b c ps d e is r g h k.good
 
 -- what is given is a program within the limits
-pub given_fits : (line : ℕ → ℕ) (ts : List Token) (n : ℕ) (r : IsRead ts) (x : List (List ℕ) × Statements) → n ≡ width_of r.0 → (feed line n ts begin >>= λ s. result_of s) ≡ Ok x → IsProgram x
+pub given_fits : (line : ℕ → ℕ) (ts : List Token) (n : ℕ) (r : IsRead ts) (x : List (List ℕ) × Statements) → n ≡ width_of r.0
+    → (feed line n ts begin >>= λ s. result_of s) ≡ Ok x → IsProgram x
 given_fits line ts n (p, k, f) x w e = ok_fits (walk line p) x (walk_fits line p) (sym (walked_is line ts n p k w) ∙ e)
 
-pub read_means : (text : List ℕ) (ts : List Token) (n : ℕ) (r : IsRead ts) → n ≡ width_of r.0 → Means text ts (feed (line_at text) n ts begin >>= λ s. result_of s)
+pub read_means : (text : List ℕ) (ts : List Token) (n : ℕ) (r : IsRead ts) → n ≡ width_of r.0
+    → Means text ts (feed (line_at text) n ts begin >>= λ s. result_of s)
 read_means text ts n (p, k, f) w = inr (inr (p, k, f, walked_is (line_at text) ts n p k w))
 
-pub read_width : (text : List ℕ) (ts : List lex_token.Token) (n : ℕ) (r : IsRead (tokens_of text ts)) → n ≡ min MOST_VARIABLES (total mark (map plain_token ts) - 1) → n ≡ width_of r.0
+pub read_width : (text : List ℕ) (ts : List lex_token.Token) (n : ℕ) (r : IsRead (tokens_of text ts))
+    → n ≡ min MOST_VARIABLES (total mark (map plain_token ts) - 1) → n ≡ width_of r.0
 read_width text ts n (program a b c ps d e is r g h, k, f) w = width_is text ts a b c ps d e is r g h n k w
 
 -- Every text means something.

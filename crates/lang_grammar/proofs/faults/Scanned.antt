@@ -1,5 +1,6 @@
 -- What the scan finds is what the trees say.
-use Rattle.std.proofs.Common.{◌≡◌, ◌∙◌, ◌++◌, ◌≤◌, ◌<◌, length, ℕ, suc, List, [], ◌∷◌, Option, Some, None, refl, sym, ap, ap₂, Bool, true, false, nat_lt, subst}
+use Rattle.std.proofs.Common.{◌≡◌, ◌∙◌, ◌++◌, ◌≤◌, ◌<◌, length, ℕ, suc, List, [], ◌∷◌, Option, Some, None, refl, sym, ap, ap₂, Bool, true}
+use Rattle.std.proofs.Common.{false, nat_lt, subst}
 use Rattle.std.proofs.lemmas.Bool.{ltb-true, ltb-false}
 use Rattle.lang_grammar.specs.Grammar.{Kind, Token, token}
 use Rattle.lang_grammar.specs.Machine.{Goal, step, run, start}
@@ -12,8 +13,11 @@ use Rattle.lang_grammar.proofs.machine.Meaning.{accepts_law, alive_begins, unexp
 abbrev Found : Scan → List Goal → List Token → Type 0
 Found whole gs ts = (run gs ts ≡ Some []) × AllShallow (trace gs ts)
 Found short gs ts = (now : List Goal) × (run gs ts ≡ Some now) × AllShallow (trace gs ts)
-Found (unexpected a) gs ts = (front : List Token) × (k : Kind) × (rest : List Token) × (now : List Goal) × (ts ≡ front ++ token k a ∷ rest) × (run gs front ≡ Some now) × (step now k ≡ None) × AllShallow (trace gs front)
-Found (nested a) gs ts = (front : List Token) × (k : Kind) × (rest : List Token) × (now : List Goal) × (ts ≡ front ++ token k a ∷ rest) × (run gs front ≡ Some now) × ((next : List Goal) × (step now k ≡ Some next)) × ((d : ℕ) × (opened now k ≡ Some d) × (64 ≤ d)) × AllShallow (trace gs front)
+Found (unexpected a) gs ts = (front : List Token) × (k : Kind) × (rest : List Token) × (now : List Goal) × (ts ≡ front ++ token k a ∷ rest)
+    × (run gs front ≡ Some now) × (step now k ≡ None) × AllShallow (trace gs front)
+Found (nested a) gs ts = (front : List Token) × (k : Kind) × (rest : List Token) × (now : List Goal) × (ts ≡ front ++ token k a ∷ rest)
+    × (run gs front ≡ Some now) × ((next : List Goal) × (step now k ≡ Some next)) × ((d : ℕ) × (opened now k ≡ Some d) × (64 ≤ d))
+    × AllShallow (trace gs front)
 
 -- the run of a text goes on after its first token
 pub run_one : (gs next : List Goal) (k : Kind) (a : ℕ) (ts : List Token) → step gs k ≡ Some next → run gs (token k a ∷ ts) ≡ run next ts
@@ -23,8 +27,10 @@ run_stop : (gs : List Goal) (k : Kind) (a : ℕ) (ts : List Token) → step gs k
 run_stop gs k a ts e = ap (λ (o : Option (List Goal)). elim o as (λ x. Option (List Goal)) [ None ↦ None | Some next ↦ run next ts ]) e
 
 -- the trace of a text goes on after its first token
-pub trace_one : (gs next : List Goal) (o : Option ℕ) (k : Kind) (a : ℕ) (ts : List Token) → step gs k ≡ Some next → opened gs k ≡ o → trace gs (token k a ∷ ts) ≡ o ∷ trace next ts
-trace_one gs next o k a ts e f = ap₂ (λ (x : Option ℕ) (o : Option (List Goal)). x ∷ elim o as (λ x. List (Option ℕ)) [ None ↦ [] | Some next ↦ trace next ts ]) f e
+pub trace_one : (gs next : List Goal) (o : Option ℕ) (k : Kind) (a : ℕ) (ts : List Token) → step gs k ≡ Some next → opened gs k ≡ o
+    → trace gs (token k a ∷ ts) ≡ o ∷ trace next ts
+trace_one gs next o k a ts e f = ap₂ (λ (x : Option ℕ) (o : Option (List Goal)). x
+    ∷ elim o as (λ x. List (Option ℕ)) [ None ↦ [] | Some next ↦ trace next ts ]) f e
 
 -- a token opens no construct, or one that is within the limit
 abbrev pub Low : Option ℕ → Type 0
@@ -36,20 +42,38 @@ shallow_more None os h i = i
 shallow_more (Some d) os h i = (h, i)
 
 -- a shallow trace stays shallow with one more token in front that opens nothing too deep
-pub trace_low : (gs next : List Goal) (o : Option ℕ) (k : Kind) (a : ℕ) (ts : List Token) → step gs k ≡ Some next → opened gs k ≡ o → Low o → AllShallow (trace next ts) → AllShallow (trace gs (token k a ∷ ts))
+pub trace_low : (gs next : List Goal) (o : Option ℕ) (k : Kind) (a : ℕ) (ts : List Token) → step gs k ≡ Some next → opened gs k ≡ o → Low o
+    → AllShallow (trace next ts) → AllShallow (trace gs (token k a ∷ ts))
 trace_low gs next o k a ts e f h i = subst AllShallow (sym (trace_one gs next o k a ts e f)) (shallow_more o (trace next ts) h i)
 
-later : (s : Scan) (gs next : List Goal) (o : Option ℕ) (k : Kind) (a : ℕ) (ts : List Token) → step gs k ≡ Some next → opened gs k ≡ o → Low o → Found s next ts → Found s gs (token k a ∷ ts)
+later : (s : Scan) (gs next : List Goal) (o : Option ℕ) (k : Kind) (a : ℕ) (ts : List Token) → step gs k ≡ Some next → opened gs k ≡ o
+    → Low o → Found s next ts → Found s gs (token k a ∷ ts)
 later whole gs next o k a ts e f h (i, j) = (run_one gs next k a ts e ∙ i, trace_low gs next o k a ts e f h j)
 later short gs next o k a ts e f h (n, i, j) = (n, run_one gs next k a ts e ∙ i, trace_low gs next o k a ts e f h j)
-later (unexpected b) gs next o k a ts e f h (front, l, rest, now, i, j, m, q) = (token k a ∷ front, l, rest, now, ap (λ x. token k a ∷ x) i, run_one gs next k a front e ∙ j, m, trace_low gs next o k a front e f h q)
-later (nested b) gs next o k a ts e f h (front, l, rest, now, i, j, m, n, q) = (token k a ∷ front, l, rest, now, ap (λ x. token k a ∷ x) i, run_one gs next k a front e ∙ j, m, n, trace_low gs next o k a front e f h q)
+later (unexpected b) gs next o k a ts e f h (front, l, rest, now, i, j, m, q) =
+    (token k a ∷ front, l, rest, now, ap (λ x. token k a ∷ x) i, run_one gs next k a front e ∙ j, m, trace_low gs next o k a front e f h q)
+later (nested b) gs next o k a ts e f h (front, l, rest, now, i, j, m, n, q) = (
+  token k a ∷ front,
+  l,
+  rest,
+  now,
+  ap (λ x. token k a ∷ x) i,
+  run_one gs next k a front e ∙ j,
+  m,
+  n,
+  trace_low gs next o k a front e f h q,
+)
 
-deep_case : (t : Bool) (next : List Goal) (d : ℕ) (gs : List Goal) (k : Kind) (a : ℕ) (ts : List Token) → nat_lt d 64 ≡ t → step gs k ≡ Some next → opened gs k ≡ Some d → ((n : List Goal) → Found (scan n ts) n ts) → Found (elim (elim t as (λ x. Verdict) [ true ↦ goes next | false ↦ too_deep ]) as (λ x. Scan) [ goes next ↦ scan next ts | refused ↦ unexpected a | too_deep ↦ nested a ]) gs (token k a ∷ ts)
+deep_case : (t : Bool) (next : List Goal) (d : ℕ) (gs : List Goal) (k : Kind) (a : ℕ) (ts : List Token) → nat_lt d 64 ≡ t
+    → step gs k ≡ Some next → opened gs k ≡ Some d → ((n : List Goal) → Found (scan n ts) n ts)
+    → Found (elim (elim t as (λ x. Verdict) [ true ↦ goes next | false ↦ too_deep ]) as (λ x. Scan)
+    [ goes next ↦ scan next ts | refused ↦ unexpected a | too_deep ↦ nested a ]) gs (token k a ∷ ts)
 deep_case true next d gs k a ts t e f r = later (scan next ts) gs next (Some d) k a ts e f (ltb-true d 64 t) (r next)
 deep_case false next d gs k a ts t e f r = ([], k, ts, gs, refl, refl, (next, e), (d, f, ltb-false d 64 t), tt)
 
-one : (s : Option (List Goal)) (o : Option ℕ) (gs : List Goal) (k : Kind) (a : ℕ) (ts : List Token) → step gs k ≡ s → opened gs k ≡ o → ((n : List Goal) → Found (scan n ts) n ts) → Found (elim (judged s o) as (λ x. Scan) [ goes next ↦ scan next ts | refused ↦ unexpected a | too_deep ↦ nested a ]) gs (token k a ∷ ts)
+one : (s : Option (List Goal)) (o : Option ℕ) (gs : List Goal) (k : Kind) (a : ℕ) (ts : List Token) → step gs k ≡ s → opened gs k ≡ o
+    → ((n : List Goal) → Found (scan n ts) n ts) → Found (elim (judged s o) as (λ x. Scan)
+    [ goes next ↦ scan next ts | refused ↦ unexpected a | too_deep ↦ nested a ]) gs (token k a ∷ ts)
 one None o gs k a ts e f r = ([], k, ts, gs, refl, refl, e, tt)
 one (Some next) None gs k a ts e f r = later (scan next ts) gs next None k a ts e f tt (r next)
 one (Some next) (Some d) gs k a ts e f r = deep_case (nat_lt d 64) next d gs k a ts refl e f r
@@ -60,10 +84,15 @@ found [] (g ∷ gs) = (g ∷ gs, refl, tt)
 found (token k a ∷ ts) gs = one (step gs k) (opened gs k) gs k a ts refl refl (λ n. found ts n)
 
 -- the trace of a text is that of a front that runs, and that of the rest
-pub trace_front : (front rest : List Token) (gs now : List Goal) → run gs front ≡ Some now → trace gs (front ++ rest) ≡ trace gs front ++ trace now rest
+pub trace_front : (front rest : List Token) (gs now : List Goal) → run gs front ≡ Some now
+    → trace gs (front ++ rest) ≡ trace gs front ++ trace now rest
 trace_front [] rest gs now h = let e : gs ≡ now = cc in ap (λ (x : List Goal). trace x rest) e
 trace_front (token k a ∷ ts) rest gs now h = on_step (step gs k) (opened gs k) ts rest now (λ n e. trace_front ts rest n now e) h where
-  on_step : (s : Option (List Goal)) (o : Option ℕ) (ts rest : List Token) (now : List Goal) → ((n : List Goal) → run n ts ≡ Some now → trace n (ts ++ rest) ≡ trace n ts ++ trace now rest) → elim s as (λ x. Option (List Goal)) [ None ↦ None | Some next ↦ run next ts ] ≡ Some now → o ∷ elim s as (λ x. List (Option ℕ)) [ None ↦ [] | Some next ↦ trace next (ts ++ rest) ] ≡ (o ∷ elim s as (λ x. List (Option ℕ)) [ None ↦ [] | Some next ↦ trace next ts ]) ++ trace now rest
+  on_step : (s : Option (List Goal)) (o : Option ℕ) (ts rest : List Token) (now : List Goal)
+      → ((n : List Goal) → run n ts ≡ Some now → trace n (ts ++ rest) ≡ trace n ts ++ trace now rest)
+      → elim s as (λ x. Option (List Goal)) [ None ↦ None | Some next ↦ run next ts ] ≡ Some now
+      → o ∷ elim s as (λ x. List (Option ℕ)) [ None ↦ [] | Some next ↦ trace next (ts ++ rest) ]
+      ≡ (o ∷ elim s as (λ x. List (Option ℕ)) [ None ↦ [] | Some next ↦ trace next ts ]) ++ trace now rest
   on_step None o ts rest now f h = cc
   on_step (Some n) o ts rest now f h = ap (λ x. o ∷ x) (f n h)
 
@@ -71,26 +100,57 @@ trace_front (token k a ∷ ts) rest gs now h = on_step (step gs k) (opened gs k)
 pub trace_length : (front : List Token) (gs now : List Goal) → run gs front ≡ Some now → length (trace gs front) ≡ length front
 trace_length [] gs now h = refl
 trace_length (token k a ∷ ts) gs now h = length_step (step gs k) (opened gs k) ts now (λ n e. trace_length ts n now e) h where
-  length_step : (s : Option (List Goal)) (o : Option ℕ) (ts : List Token) (now : List Goal) → ((n : List Goal) → run n ts ≡ Some now → length (trace n ts) ≡ length ts) → elim s as (λ x. Option (List Goal)) [ None ↦ None | Some next ↦ run next ts ] ≡ Some now → suc (length (elim s as (λ x. List (Option ℕ)) [ None ↦ [] | Some next ↦ trace next ts ])) ≡ suc (length ts)
+  length_step : (s : Option (List Goal)) (o : Option ℕ) (ts : List Token) (now : List Goal)
+      → ((n : List Goal) → run n ts ≡ Some now → length (trace n ts) ≡ length ts)
+      → elim s as (λ x. Option (List Goal)) [ None ↦ None | Some next ↦ run next ts ] ≡ Some now
+      → suc (length (elim s as (λ x. List (Option ℕ)) [ None ↦ [] | Some next ↦ trace next ts ])) ≡ suc (length ts)
   length_step None o ts now f h = cc
   length_step (Some n) o ts now f h = ap suc (f n h)
 
 -- the trace of a front that runs says what each sentence that begins with it opens
 pub opens_front : (front : List Token) (now : List Goal) → run start front ≡ Some now → Opens front (trace start front)
-opens_front front now h = (trace_length front start now h, λ p rest r. (trace now rest, sym (traced p r.good) ∙ ap (λ (x : List Token). trace start x) r.spelled ∙ trace_front front rest start now h))
+opens_front front now h = (
+  trace_length front start now h,
+  λ p rest r.
+      (trace now rest, sym (traced p r.good) ∙ ap (λ (x : List Token). trace start x) r.spelled ∙ trace_front front rest start now h),
+)
 
 fine : (front : List Token) (now : List Goal) → run start front ≡ Some now → AllShallow (trace start front) → Fine front
 fine front now h s = (alive_begins front now h, (trace start front, opens_front front now h, s))
 
-trace_last : (front : List Token) (now next : List Goal) (k : Kind) (a d : ℕ) → run start front ≡ Some now → step now k ≡ Some next → opened now k ≡ Some d → trace start (front ++ token k a ∷ []) ≡ trace start front ++ Some d ∷ []
-trace_last front now next k a d h e f = trace_front front (token k a ∷ []) start now h ∙ ap (λ x. trace start front ++ x) (trace_one now next (Some d) k a [] e f)
+trace_last : (front : List Token) (now next : List Goal) (k : Kind) (a d : ℕ) → run start front ≡ Some now → step now k ≡ Some next
+    → opened now k ≡ Some d → trace start (front ++ token k a ∷ []) ≡ trace start front ++ Some d ∷ []
+trace_last front now next k a d h e f = trace_front front (token k a ∷ []) start now h
+    ∙ ap (λ x. trace start front ++ x) (trace_one now next (Some d) k a [] e f)
 
 -- What the scan says of a text is so.
 pub finds : (s : Scan) (ts : List Token) → Found s start ts → Finds s ts
 finds whole ts (h, s) = ((accepts_law ts).0 h, fine ts [] h s)
 finds short ts (now, h, s) = fine ts now h s
-finds (unexpected a) ts (front, k, rest, now, i, h, e, s) = (front, k, rest, i, unexpected_law front now (token k a) h (run_front start now front (token k a ∷ []) h ∙ run_stop now k a [] e), fine front now h s)
-finds (nested a) ts (front, k, rest, now, i, h, (next, e), (d, f, b), s) = (front, k, rest, i, fine front now h s, alive_begins (front ++ token k a ∷ []) next (run_front start now front (token k a ∷ []) h ∙ run_one now next k a [] e), (trace start front, d, subst (Opens (front ++ token k a ∷ [])) (trace_last front now next k a d h e f) (opens_front (front ++ token k a ∷ []) next (run_front start now front (token k a ∷ []) h ∙ run_one now next k a [] e)), b))
+finds (unexpected a) ts (front, k, rest, now, i, h, e, s) = (
+  front,
+  k,
+  rest,
+  i,
+  unexpected_law front now (token k a) h (run_front start now front (token k a ∷ []) h ∙ run_stop now k a [] e),
+  fine front now h s,
+)
+finds (nested a) ts (front, k, rest, now, i, h, (next, e), (d, f, b), s) = (
+  front,
+  k,
+  rest,
+  i,
+  fine front now h s,
+  alive_begins (front ++ token k a ∷ []) next
+      (run_front start now front (token k a ∷ []) h ∙ run_one now next k a [] e),
+  (
+    trace start front,
+    d,
+    subst (Opens (front ++ token k a ∷ [])) (trace_last front now next k a d h e f)
+        (opens_front (front ++ token k a ∷ []) next (run_front start now front (token k a ∷ []) h ∙ run_one now next k a [] e)),
+    b,
+  ),
+)
 
 -- what the scan says of a text from its start is so
 pub scan_finds : (ts : List Token) → Finds (scan start ts) ts

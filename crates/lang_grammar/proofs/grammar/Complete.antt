@@ -1,17 +1,25 @@
 -- The machine takes the spelling of each good tree.
 use Rattle.std.proofs.Common.{◌≡◌, ◌∙◌, ◌++◌, ℕ, suc, List, [], ◌∷◌, Option, Some, None, refl, ap, append_assoc}
-use Rattle.lang_grammar.specs.Grammar.{else_word, negative, positive, negation, Kind, Token, token, Expr, number, variable, free, grouped, prefixed, joined}
-use Rattle.lang_grammar.specs.Grammar.{spell_expr, bare, given, Declarators, declares, declares_more, spell_declarators, Core, empty, block, if_alone, if_else}
-use Rattle.lang_grammar.specs.Grammar.{set, step_after, step_before, ForFirst, no_first, declared_first, updated_first, ForTest, no_test, given_test}
+use Rattle.lang_grammar.specs.Grammar.{else_word, negative, positive, negation, Kind, Token, token, Expr, number, variable, free, grouped}
+use Rattle.lang_grammar.specs.Grammar.{prefixed, joined}
+use Rattle.lang_grammar.specs.Grammar.{spell_expr, bare, given, Declarators, declares, declares_more, spell_declarators, Core, empty, block}
+use Rattle.lang_grammar.specs.Grammar.{if_alone, if_else}
+use Rattle.lang_grammar.specs.Grammar.{set, step_after, step_before, ForFirst, no_first, declared_first, updated_first, ForTest, no_test}
+use Rattle.lang_grammar.specs.Grammar.{given_test}
 use Rattle.lang_grammar.specs.Grammar.{ForLast, no_last, updated_last, spell_first, spell_test, spell_last}
-use Rattle.lang_grammar.specs.Grammar.{repeat, repeat_after, repeat_for, jumps, assumed, updates, Sub, labelled, plain, Items, no_items, label, declaration, item, spell_core}
-use Rattle.lang_grammar.specs.Grammar.{spell_sub, spell_items, shut, ending_core, ending_sub, GoodCore, GoodSub, GoodItems, Return, no_return, returns, while_word, left_paren}
-use Rattle.lang_grammar.specs.Grammar.{returns_minus, spell_return, nothing, void_at, Program, program, spell, Good, right_brace, right_paren, comma, semicolon}
-use Rattle.lang_grammar.specs.Machine.{do_end, header_first, header_test, header_last, until_paren, until_semicolon, Ender, until_declared, Place, in_sub, in_block, in_main, next, Goal, operand, more, statement, maybe_else, declarator, only}
+use Rattle.lang_grammar.specs.Grammar.{repeat, repeat_after, repeat_for, jumps, assumed, updates, Sub, labelled, plain, Items, no_items}
+use Rattle.lang_grammar.specs.Grammar.{label, declaration, item, spell_core}
+use Rattle.lang_grammar.specs.Grammar.{spell_sub, spell_items, shut, ending_core, ending_sub, GoodCore, GoodSub, GoodItems, Return}
+use Rattle.lang_grammar.specs.Grammar.{no_return, returns, while_word, left_paren}
+use Rattle.lang_grammar.specs.Grammar.{returns_minus, spell_return, nothing, void_at, Program, program, spell, Good, right_brace}
+use Rattle.lang_grammar.specs.Grammar.{right_paren, comma, semicolon}
+use Rattle.lang_grammar.specs.Machine.{do_end, header_first, header_test, header_last, until_paren, until_semicolon, Ender, until_declared}
+use Rattle.lang_grammar.specs.Machine.{Place, in_sub, in_block, in_main, next, Goal, operand, more, statement, maybe_else, declarator, only}
 use Rattle.lang_grammar.specs.Machine.{statement_end, text_end, skips, else_entry, step, run, start}
 
 -- the machine takes an expression where an operand has to come
-pub expr_run : (e : Expr) (n : Ender) (d c : ℕ) (gs : List Goal) (w : List Token) → run (operand d ∷ more n c ∷ gs) (spell_expr e ++ w) ≡ run (more n c ∷ gs) w
+pub expr_run : (e : Expr) (n : Ender) (d c : ℕ) (gs : List Goal) (w : List Token)
+    → run (operand d ∷ more n c ∷ gs) (spell_expr e ++ w) ≡ run (more n c ∷ gs) w
 expr_run (number m a) n d c gs w = refl
 expr_run (variable x a) n d c gs w = refl
 expr_run (free i j k) n d c gs w = refl
@@ -22,11 +30,13 @@ expr_run (prefixed negation a e) n d c gs w = expr_run e n (suc d) c gs w
 expr_run (joined e o a f) n d c gs w = rw append_assoc (expr_run e n d c gs _ ∙ expr_run f n c c gs w)
 
 -- the machine takes declarators where one has to come
-pub declarators_run : (xs : Declarators) (d : ℕ) (gs : List Goal) (w : List Token) → run (declarator d ∷ gs) (spell_declarators xs ++ w) ≡ run gs w
+pub declarators_run : (xs : Declarators) (d : ℕ) (gs : List Goal) (w : List Token)
+    → run (declarator d ∷ gs) (spell_declarators xs ++ w) ≡ run gs w
 declarators_run (declares (bare x a) c) d gs w = refl
 declarators_run (declares (given x a b e) c) d gs w = rw append_assoc (expr_run e until_declared d d gs (token semicolon c ∷ w))
 declarators_run (declares_more (bare x a) c xs) d gs w = declarators_run xs d gs w
-declarators_run (declares_more (given x a b e) c xs) d gs w = rw append_assoc (expr_run e until_declared d d gs (token comma c ∷ (spell_declarators xs ++ w)) ∙ declarators_run xs d gs w)
+declarators_run (declares_more (given x a b e) c xs) d gs w = rw append_assoc
+    (expr_run e until_declared d d gs (token comma c ∷ (spell_declarators xs ++ w)) ∙ declarators_run xs d gs w)
 
 -- ---- the head of a `for`
 first_run : (f : ForFirst) (d : ℕ) (gs : List Goal) (w : List Token) → run (header_first d ∷ gs) (spell_first f ++ w) ≡ run gs w
@@ -37,11 +47,13 @@ first_run (updated_first (step_after x a g b) c) d gs w = refl
 first_run (updated_first (step_before g a x b) c) d gs w = refl
 
 -- An expression is taken as by an operand and what follows it.
-test_expr_run : (e : Expr) (d : ℕ) (gs : List Goal) (w : List Token) → run (header_test d ∷ gs) (spell_expr e ++ w) ≡ run (more until_semicolon d ∷ gs) w
+test_expr_run : (e : Expr) (d : ℕ) (gs : List Goal) (w : List Token) →
+    run (header_test d ∷ gs) (spell_expr e ++ w) ≡ run (more until_semicolon d ∷ gs) w
 test_expr_run (number m a) d gs w = refl
 test_expr_run (variable x a) d gs w = refl
 test_expr_run (free i j k) d gs w = refl
-test_expr_run (grouped a e b) d gs w = rw append_assoc (expr_run e _ (suc d) (suc d) (more until_semicolon d ∷ gs) (token right_paren b ∷ w))
+test_expr_run (grouped a e b) d gs w = rw append_assoc (expr_run e _ (suc d) (suc d) (more until_semicolon d ∷ gs)
+    (token right_paren b ∷ w))
 test_expr_run (prefixed negative a e) d gs w = expr_run e until_semicolon (suc d) d gs w
 test_expr_run (prefixed positive a e) d gs w = expr_run e until_semicolon (suc d) d gs w
 test_expr_run (prefixed negation a e) d gs w = expr_run e until_semicolon (suc d) d gs w
@@ -123,11 +135,13 @@ GoesOn (token k a ∷ ts) = NotElse k
 
 pass_run : (d : ℕ) (c : Core) (gs : List Goal) (w : List Token) → GoesOn w → run (pending_core d c ++ gs) w ≡ run gs w
 pass_run d c gs [] h = absurd h
-pass_run d c gs (token k a ∷ ts) h = ap (λ (o : Option (List Goal)). elim o as (λ x. Option (List Goal)) [ None ↦ None | Some next ↦ run next ts ]) (pass_core d c gs k h)
+pass_run d c gs (token k a ∷ ts) h = ap (λ (o : Option (List Goal)). elim o as (λ x. Option (List Goal))
+    [ None ↦ None | Some next ↦ run next ts ]) (pass_core d c gs k h)
 
 pass_sub_run : (d : ℕ) (s : Sub) (gs : List Goal) (w : List Token) → GoesOn w → run (pending_sub d s ++ gs) w ≡ run gs w
 pass_sub_run d s gs [] h = absurd h
-pass_sub_run d s gs (token k a ∷ ts) h = ap (λ (o : Option (List Goal)). elim o as (λ x. Option (List Goal)) [ None ↦ None | Some next ↦ run next ts ]) (pass_sub d s gs k h)
+pass_sub_run d s gs (token k a ∷ ts) h = ap (λ (o : Option (List Goal)). elim o as (λ x. Option (List Goal))
+    [ None ↦ None | Some next ↦ run next ts ]) (pass_sub d s gs k h)
 
 -- no statement begins with `else`
 pub core_head : (c : Core) (w : List Token) → GoesOn (spell_core c ++ w)
@@ -150,32 +164,56 @@ IsMany in_block = Unit {0}
 IsMany in_main = Unit {0}
 
 mutual
-  core_run : (c : Core) (p : Place) (d : ℕ) (gs : List Goal) (w : List Token) → GoodCore c → run (statement p d ∷ gs) (spell_core c ++ w) ≡ run (pending_core d c ++ (next p d ++ gs)) w
+  core_run : (c : Core) (p : Place) (d : ℕ) (gs : List Goal) (w : List Token) → GoodCore c
+      → run (statement p d ∷ gs) (spell_core c ++ w) ≡ run (pending_core d c ++ (next p d ++ gs)) w
   core_run (empty a) p d gs w g = refl
   core_run (block a is b) p d gs w g = rw append_assoc (items_run is in_block tt (suc d) (next p d ++ gs) (token right_brace b ∷ w) g refl)
-  core_run (if_alone a b e c s) p d gs w g = simp append_assoc (expr_run e _ (suc d) (suc d) (statement in_sub (suc d) ∷ maybe_else (suc d) ∷ (next p d ++ gs)) (token right_paren c ∷ (spell_sub s ++ w)) ∙ sub_run s (suc d) (maybe_else (suc d) ∷ (next p d ++ gs)) w g.1)
-  core_run (if_else a b e c s i t) p d gs w g = simp append_assoc (expr_run e _ (suc d) (suc d) (statement in_sub (suc d) ∷ maybe_else (suc d) ∷ (next p d ++ gs)) _ ∙ sub_run s (suc d) (maybe_else (suc d) ∷ (next p d ++ gs)) _ g.1 ∙ rw (none_sub (suc d) s g.2) (sub_run t (suc d) (next p d ++ gs) w g.3))
-  core_run (repeat a b e c s) p d gs w g = simp append_assoc (expr_run e _ (suc d) (suc d) (statement in_sub (suc d) ∷ (next p d ++ gs)) _ ∙ sub_run s (suc d) (next p d ++ gs) w g.1)
-  core_run (repeat_after a s b c e i j) p d gs w g = ap (λ (x : List Token). run (statement in_sub (suc d) ∷ do_end (suc d) ∷ (next p d ++ gs)) x) (append_assoc (spell_sub s) (token while_word b ∷ token left_paren c ∷ (spell_expr e ++ token right_paren i ∷ token semicolon j ∷ [])) w ∙ ap (λ x. spell_sub s ++ token while_word b ∷ token left_paren c ∷ x) (append_assoc (spell_expr e) (token right_paren i ∷ token semicolon j ∷ []) w)) ∙ sub_run s (suc d) (do_end (suc d) ∷ (next p d ++ gs)) (token while_word b ∷ token left_paren c ∷ (spell_expr e ++ token right_paren i ∷ token semicolon j ∷ w)) g.0 ∙ pass_sub_run (suc d) s (do_end (suc d) ∷ (next p d ++ gs)) (token while_word b ∷ token left_paren c ∷ (spell_expr e ++ token right_paren i ∷ token semicolon j ∷ w)) refl ∙ expr_run e until_paren (suc d) (suc d) (only statement_end ∷ (next p d ++ gs)) (token right_paren i ∷ token semicolon j ∷ w)
-  core_run (repeat_for a b f t l s) p d gs w g = simp append_assoc (first_run f (suc d) (header_test (suc d) ∷ header_last (suc d) ∷ statement in_sub (suc d) ∷ (next p d ++ gs)) _ ∙ test_run t (suc d) (header_last (suc d) ∷ statement in_sub (suc d) ∷ (next p d ++ gs)) _ ∙ last_run l (suc d) (statement in_sub (suc d) ∷ (next p d ++ gs)) _ ∙ sub_run s (suc d) (next p d ++ gs) w g.3)
+  core_run (if_alone a b e c s) p d gs w g = simp append_assoc (expr_run e _ (suc d) (suc d)
+      (statement in_sub (suc d) ∷ maybe_else (suc d) ∷ (next p d ++ gs)) (token right_paren c ∷ (spell_sub s ++ w))
+      ∙ sub_run s (suc d) (maybe_else (suc d) ∷ (next p d ++ gs)) w g.1)
+  core_run (if_else a b e c s i t) p d gs w g = simp append_assoc (expr_run e _ (suc d) (suc d)
+      (statement in_sub (suc d) ∷ maybe_else (suc d) ∷ (next p d ++ gs)) _ ∙ sub_run s (suc d) (maybe_else (suc d) ∷ (next p d ++ gs)) _ g.1
+      ∙ rw (none_sub (suc d) s g.2) (sub_run t (suc d) (next p d ++ gs) w g.3))
+  core_run (repeat a b e c s) p d gs w g = simp append_assoc (expr_run e _ (suc d) (suc d) (statement in_sub (suc d) ∷ (next p d ++ gs)) _
+      ∙ sub_run s (suc d) (next p d ++ gs) w g.1)
+  core_run (repeat_after a s b c e i j) p d gs w g = ap (λ (x : List Token). run
+      (statement in_sub (suc d) ∷ do_end (suc d) ∷ (next p d ++ gs)) x)
+      (append_assoc (spell_sub s) (token while_word b ∷ token left_paren c ∷ (spell_expr e ++ token right_paren i ∷ token semicolon j ∷ []))
+      w ∙ ap (λ x. spell_sub s ++ token while_word b ∷ token left_paren c ∷ x)
+      (append_assoc (spell_expr e) (token right_paren i ∷ token semicolon j ∷ []) w))
+      ∙ sub_run s (suc d) (do_end (suc d) ∷ (next p d ++ gs)) (token while_word b ∷ token left_paren c
+      ∷ (spell_expr e ++ token right_paren i ∷ token semicolon j ∷ w)) g.0
+      ∙ pass_sub_run (suc d) s (do_end (suc d) ∷ (next p d ++ gs)) (token while_word b ∷ token left_paren c
+      ∷ (spell_expr e ++ token right_paren i ∷ token semicolon j ∷ w)) refl
+      ∙ expr_run e until_paren (suc d) (suc d) (only statement_end ∷ (next p d ++ gs)) (token right_paren i ∷ token semicolon j ∷ w)
+  core_run (repeat_for a b f t l s) p d gs w g = simp append_assoc (first_run f (suc d)
+      (header_test (suc d) ∷ header_last (suc d) ∷ statement in_sub (suc d) ∷ (next p d ++ gs)) _
+      ∙ test_run t (suc d) (header_last (suc d) ∷ statement in_sub (suc d) ∷ (next p d ++ gs)) _
+      ∙ last_run l (suc d) (statement in_sub (suc d) ∷ (next p d ++ gs)) _ ∙ sub_run s (suc d) (next p d ++ gs) w g.3)
   core_run (jumps j a b) p d gs w g = refl
   core_run (assumed a b e c i) p d gs w g = simp append_assoc (expr_run e _ d d (only statement_end ∷ (next p d ++ gs)) _)
   core_run (updates (set x a g b e) c) p d gs w h = rw append_assoc (expr_run e _ d d (next p d ++ gs) _)
   core_run (updates (step_after x a g b) c) p d gs w h = refl
   core_run (updates (step_before g a x b) c) p d gs w h = refl
 
-  sub_run : (s : Sub) (d : ℕ) (gs : List Goal) (w : List Token) → GoodSub s → run (statement in_sub d ∷ gs) (spell_sub s ++ w) ≡ run (pending_sub d s ++ gs) w
+  sub_run : (s : Sub) (d : ℕ) (gs : List Goal) (w : List Token) → GoodSub s
+      → run (statement in_sub d ∷ gs) (spell_sub s ++ w) ≡ run (pending_sub d s ++ gs) w
   sub_run (labelled x a b s) d gs w g = sub_run s d gs w g
   sub_run (plain c) d gs w g = core_run c in_sub d gs w g
 
-  items_run : (is : Items) (p : Place) → IsMany p → (d : ℕ) (gs : List Goal) (w : List Token) → GoodItems is → GoesOn w → run (statement p d ∷ gs) (spell_items is ++ w) ≡ run (statement p d ∷ gs) w
+  items_run : (is : Items) (p : Place) → IsMany p → (d : ℕ) (gs : List Goal) (w : List Token) → GoodItems is → GoesOn w
+      → run (statement p d ∷ gs) (spell_items is ++ w) ≡ run (statement p d ∷ gs) w
   items_run no_items p m d gs w g h = refl
   items_run (label x b c is) in_block m d gs w g h = items_run is in_block m d gs w g h
   items_run (label x b c is) in_main m d gs w g h = items_run is in_main m d gs w g h
-  items_run (declaration a xs is) in_block m d gs w g h = rw append_assoc (declarators_run xs d (statement in_block d ∷ gs) _ ∙ items_run is in_block m d gs w g.1 h)
-  items_run (declaration a xs is) in_main m d gs w g h = rw append_assoc (declarators_run xs d (statement in_main d ∷ gs) _ ∙ items_run is in_main m d gs w g.1 h)
-  items_run (item c is) in_block m d gs w g h = rw append_assoc (core_run c in_block d gs _ g.0 ∙ pass_run d c (statement in_block d ∷ gs) _ (items_head is w h) ∙ items_run is in_block m d gs w g.1 h)
-  items_run (item c is) in_main m d gs w g h = rw append_assoc (core_run c in_main d gs _ g.0 ∙ pass_run d c (statement in_main d ∷ gs) _ (items_head is w h) ∙ items_run is in_main m d gs w g.1 h)
+  items_run (declaration a xs is) in_block m d gs w g h = rw append_assoc
+      (declarators_run xs d (statement in_block d ∷ gs) _ ∙ items_run is in_block m d gs w g.1 h)
+  items_run (declaration a xs is) in_main m d gs w g h = rw append_assoc
+      (declarators_run xs d (statement in_main d ∷ gs) _ ∙ items_run is in_main m d gs w g.1 h)
+  items_run (item c is) in_block m d gs w g h = rw append_assoc (core_run c in_block d gs _ g.0
+      ∙ pass_run d c (statement in_block d ∷ gs) _ (items_head is w h) ∙ items_run is in_block m d gs w g.1 h)
+  items_run (item c is) in_main m d gs w g h = rw append_assoc (core_run c in_main d gs _ g.0
+      ∙ pass_run d c (statement in_main d ∷ gs) _ (items_head is w h) ∙ items_run is in_main m d gs w g.1 h)
   items_run (label x b c is) in_sub m d gs w g h = absurd m
   items_run (declaration a xs is) in_sub m d gs w g h = absurd m
   items_run (item c is) in_sub m d gs w g h = absurd m
@@ -186,12 +224,15 @@ return_head no_return f w = refl
 return_head (returns a n b c) f w = refl
 return_head (returns_minus a b n c d) f w = refl
 
-return_run : (r : Return) (f : ℕ) (gs : List Goal) (w : List Token) → run (statement in_main 0 ∷ gs) (spell_return r ++ token right_brace f ∷ w) ≡ run gs w
+return_run : (r : Return) (f : ℕ) (gs : List Goal) (w : List Token) → run (statement in_main 0 ∷ gs)
+    (spell_return r ++ token right_brace f ∷ w) ≡ run gs w
 return_run no_return f gs w = refl
 return_run (returns a n b c) f gs w = refl
 return_run (returns_minus a b n c d) f gs w = refl
 
 -- Each program's spelling is accepted.
 pub accepted : (p : Program) → Good p → run start (spell p) ≡ Some []
-accepted (program a b c nothing d e is r f i) g = items_run is in_main tt 0 (only text_end ∷ []) (spell_return r ++ token right_brace f ∷ _) g (return_head r f _) ∙ return_run r f (only text_end ∷ []) _
-accepted (program a b c (void_at x) d e is r f i) g = items_run is in_main tt 0 (only text_end ∷ []) (spell_return r ++ token right_brace f ∷ _) g (return_head r f _) ∙ return_run r f (only text_end ∷ []) _
+accepted (program a b c nothing d e is r f i) g = items_run is in_main tt 0 (only text_end ∷ []) (spell_return r ++ token right_brace f ∷ _)
+    g (return_head r f _) ∙ return_run r f (only text_end ∷ []) _
+accepted (program a b c (void_at x) d e is r f i) g = items_run is in_main tt 0 (only text_end ∷ [])
+    (spell_return r ++ token right_brace f ∷ _) g (return_head r f _) ∙ return_run r f (only text_end ∷ []) _

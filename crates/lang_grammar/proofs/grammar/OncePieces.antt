@@ -5,8 +5,10 @@ use Rattle.lang_grammar.specs.Grammar.{semicolon, colon, change_sign, int_word, 
 use Rattle.lang_grammar.specs.Grammar.{do_word, for_word}
 use Rattle.lang_grammar.specs.Grammar.{ForFirst, ForTest}
 use Rattle.lang_grammar.specs.Grammar.{ForLast, repeat_after, repeat_for, jumps, updates}
-use Rattle.lang_grammar.specs.Grammar.{Token, token, Groups, Expr, spell_expr, bare, given, Declarators, declares, declares_more, spell_declarators}
-use Rattle.lang_grammar.specs.Grammar.{GoodDeclarators, Core, empty, block, if_alone, if_else, repeat, assumed, set, step_after, step_before, Sub, labelled}
+use Rattle.lang_grammar.specs.Grammar.{Token, token, Groups, Expr, spell_expr, bare, given, Declarators, declares, declares_more}
+use Rattle.lang_grammar.specs.Grammar.{spell_declarators}
+use Rattle.lang_grammar.specs.Grammar.{GoodDeclarators, Core, empty, block, if_alone, if_else, repeat, assumed, set, step_after}
+use Rattle.lang_grammar.specs.Grammar.{step_before, Sub, labelled}
 use Rattle.lang_grammar.specs.Grammar.{Items, label, declaration, spell_core, Ending, shut, waiting}
 use Rattle.lang_grammar.proofs.grammar.Complete.{NotElse, GoesOn}
 use Rattle.lang_grammar.proofs.grammar.Sound.{Clear}
@@ -21,10 +23,14 @@ pub record Cond (a b : ℕ) (e : Expr) (c a2 b2 : ℕ) (f : Expr) (c2 : ℕ) (y 
   pub rest : y ≡ z
 
 -- a word, `(`, an expression and `)`
-pub cond_once : (k : Kind) (a b : ℕ) (e : Expr) (c : ℕ) (k2 : Kind) (a2 b2 : ℕ) (f : Expr) (c2 : ℕ) (m : Kind) (y z w x : List Token) → IsEnd (token m 0) → Groups 0 e → Groups 0 f → token k a ∷ token k2 b ∷ ((spell_expr e ++ token m c ∷ y) ++ w) ≡ token k a2 ∷ token k2 b2 ∷ ((spell_expr f ++ token m c2 ∷ z) ++ x) → Cond a b e c a2 b2 f c2 (y ++ w) (z ++ x)
+pub cond_once : (k : Kind) (a b : ℕ) (e : Expr) (c : ℕ) (k2 : Kind) (a2 b2 : ℕ) (f : Expr) (c2 : ℕ) (m : Kind) (y z w x : List Token)
+    → IsEnd (token m 0) → Groups 0 e → Groups 0 f → token k a ∷ token k2 b ∷ ((spell_expr e ++ token m c ∷ y) ++ w)
+    ≡ token k a2 ∷ token k2 b2 ∷ ((spell_expr f ++ token m c2 ∷ z) ++ x) → Cond a b e c a2 b2 f c2 (y ++ w) (z ++ x)
 cond_once k a b e c k2 a2 b2 f c2 m y z w x n g h q =
     let i : (spell_expr e ++ token m c ∷ y) ++ w ≡ (spell_expr f ++ token m c2 ∷ z) ++ x = cc in
-    let r = unique_expr (suc (weight e)) (unique (suc (weight e))) e f (token m c) (token m c2) (y ++ w) (z ++ x) (omega arith) g h (ends m c n) (ends m c2 n) (sym (append_assoc (spell_expr e) (token m c ∷ y) w) ∙ i ∙ append_assoc (spell_expr f) (token m c2 ∷ z) x) in
+    let r = unique_expr (suc (weight e)) (unique (suc (weight e))) e f (token m c) (token m c2) (y ++ w) (z ++ x) (omega arith) g h
+    (ends m c n) (ends m c2 n) (sym (append_assoc (spell_expr e) (token m c ∷ y) w) ∙ i
+    ∙ append_assoc (spell_expr f) (token m c2 ∷ z) x) in
     let s : token m c ∷ (y ++ w) ≡ token m c2 ∷ (z ++ x) = r.1 in
     record { one = cc; two = cc; same = r.0; three = cc; rest = cc } where
       ends : (m : Kind) (c : ℕ) → IsEnd (token m 0) → IsEnd (token m c)
@@ -135,43 +141,57 @@ end_goes return_word a w n = refl
 end_goes _ a w n = absurd n
 
 -- an `if` without `else` is determined by its parts
-pub if_alone_same : (a b : ℕ) (f : Expr) (c : ℕ) (s : Sub) (a2 b2 : ℕ) (f2 : Expr) (c2 : ℕ) (s2 : Sub) → a ≡ a2 → b ≡ b2 → f ≡ f2 → c ≡ c2 → s ≡ s2 → if_alone a b f c s ≡ if_alone a2 b2 f2 c2 s2
+pub if_alone_same : (a b : ℕ) (f : Expr) (c : ℕ) (s : Sub) (a2 b2 : ℕ) (f2 : Expr) (c2 : ℕ) (s2 : Sub) → a ≡ a2 → b ≡ b2 → f ≡ f2 → c ≡ c2
+    → s ≡ s2 → if_alone a b f c s ≡ if_alone a2 b2 f2 c2 s2
 if_alone_same a b f c s a2 b2 f2 c2 s2 h i j k l = cc
 
 -- an `if` with `else` is determined by its parts
-pub if_else_same : (a b : ℕ) (f : Expr) (c : ℕ) (s : Sub) (i : ℕ) (t : Sub) (a2 b2 : ℕ) (f2 : Expr) (c2 : ℕ) (s2 : Sub) (j : ℕ) (u : Sub) → a ≡ a2 → b ≡ b2 → f ≡ f2 → c ≡ c2 → s ≡ s2 → token else_word i ≡ token else_word j → t ≡ u → if_else a b f c s i t ≡ if_else a2 b2 f2 c2 s2 j u
+pub if_else_same : (a b : ℕ) (f : Expr) (c : ℕ) (s : Sub) (i : ℕ) (t : Sub) (a2 b2 : ℕ) (f2 : Expr) (c2 : ℕ) (s2 : Sub) (j : ℕ) (u : Sub)
+    → a ≡ a2 → b ≡ b2 → f ≡ f2 → c ≡ c2 → s ≡ s2 → token else_word i ≡ token else_word j → t ≡ u
+    → if_else a b f c s i t ≡ if_else a2 b2 f2 c2 s2 j u
 if_else_same a b f c s i t a2 b2 f2 c2 s2 j u h k l m n o p = cc
 
 -- a `while` is determined by its parts
-pub repeat_same : (a b : ℕ) (f : Expr) (c : ℕ) (s : Sub) (a2 b2 : ℕ) (f2 : Expr) (c2 : ℕ) (s2 : Sub) → a ≡ a2 → b ≡ b2 → f ≡ f2 → c ≡ c2 → s ≡ s2 → repeat a b f c s ≡ repeat a2 b2 f2 c2 s2
+pub repeat_same : (a b : ℕ) (f : Expr) (c : ℕ) (s : Sub) (a2 b2 : ℕ) (f2 : Expr) (c2 : ℕ) (s2 : Sub) → a ≡ a2 → b ≡ b2 → f ≡ f2 → c ≡ c2
+    → s ≡ s2 → repeat a b f c s ≡ repeat a2 b2 f2 c2 s2
 repeat_same a b f c s a2 b2 f2 c2 s2 h i j k l = cc
 
 -- a `do` is determined by its parts
-pub repeat_after_same : (a : ℕ) (s : Sub) (b c : ℕ) (f : Expr) (d i a2 : ℕ) (s2 : Sub) (b2 c2 : ℕ) (f2 : Expr) (d2 i2 : ℕ) → token do_word a ≡ token do_word a2 → s ≡ s2 → b ≡ b2 → c ≡ c2 → f ≡ f2 → d ≡ d2 → token semicolon i ≡ token semicolon i2 → repeat_after a s b c f d i ≡ repeat_after a2 s2 b2 c2 f2 d2 i2
+pub repeat_after_same : (a : ℕ) (s : Sub) (b c : ℕ) (f : Expr) (d i a2 : ℕ) (s2 : Sub) (b2 c2 : ℕ) (f2 : Expr) (d2 i2 : ℕ)
+    → token do_word a ≡ token do_word a2 → s ≡ s2 → b ≡ b2 → c ≡ c2 → f ≡ f2 → d ≡ d2 → token semicolon i ≡ token semicolon i2
+    → repeat_after a s b c f d i ≡ repeat_after a2 s2 b2 c2 f2 d2 i2
 repeat_after_same a s b c f d i a2 s2 b2 c2 f2 d2 i2 h j k l m n o = cc
 
 -- a `for` is determined by its parts
-pub repeat_for_same : (a b : ℕ) (f : ForFirst) (t : ForTest) (l : ForLast) (s : Sub) (a2 b2 : ℕ) (f2 : ForFirst) (t2 : ForTest) (l2 : ForLast) (s2 : Sub) → token for_word a ≡ token for_word a2 → token left_paren b ≡ token left_paren b2 → f ≡ f2 → t ≡ t2 → l ≡ l2 → s ≡ s2 → repeat_for a b f t l s ≡ repeat_for a2 b2 f2 t2 l2 s2
+pub repeat_for_same : (a b : ℕ) (f : ForFirst) (t : ForTest) (l : ForLast) (s : Sub) (a2 b2 : ℕ) (f2 : ForFirst) (t2 : ForTest)
+    (l2 : ForLast) (s2 : Sub) → token for_word a ≡ token for_word a2 → token left_paren b ≡ token left_paren b2 → f ≡ f2 → t ≡ t2 → l ≡ l2
+    → s ≡ s2 → repeat_for a b f t l s ≡ repeat_for a2 b2 f2 t2 l2 s2
 repeat_for_same a b f t l s a2 b2 f2 t2 l2 s2 h i j k m n = cc
 
 -- an assignment is determined by its parts
-pub set_same : (v : List ℕ) (a b : ℕ) (g : Change) (f : Expr) (v2 : List ℕ) (a2 b2 : ℕ) (g2 : Change) (f2 : Expr) → token (a_name v) a ≡ token (a_name v2) a2 → token (change_sign g) b ≡ token (change_sign g2) b2 → f ≡ f2 → set v a g b f ≡ set v2 a2 g2 b2 f2
+pub set_same : (v : List ℕ) (a b : ℕ) (g : Change) (f : Expr) (v2 : List ℕ) (a2 b2 : ℕ) (g2 : Change) (f2 : Expr)
+    → token (a_name v) a ≡ token (a_name v2) a2 → token (change_sign g) b ≡ token (change_sign g2) b2 → f ≡ f2
+    → set v a g b f ≡ set v2 a2 g2 b2 f2
 set_same v a b g f v2 a2 b2 g2 f2 h i j = cc
 
 -- an assumption is determined by its parts
-pub assumed_same : (a b : ℕ) (f : Expr) (c d a2 b2 : ℕ) (f2 : Expr) (c2 d2 : ℕ) → a ≡ a2 → b ≡ b2 → f ≡ f2 → c ≡ c2 → d ≡ d2 → assumed a b f c d ≡ assumed a2 b2 f2 c2 d2
+pub assumed_same : (a b : ℕ) (f : Expr) (c d a2 b2 : ℕ) (f2 : Expr) (c2 d2 : ℕ) → a ≡ a2 → b ≡ b2 → f ≡ f2 → c ≡ c2 → d ≡ d2
+    → assumed a b f c d ≡ assumed a2 b2 f2 c2 d2
 assumed_same a b f c d a2 b2 f2 c2 d2 h i j k l = cc
 
 -- a labelled statement is determined by its label and the statement
-pub labelled_same : (v : List ℕ) (a b : ℕ) (s : Sub) (v2 : List ℕ) (a2 b2 : ℕ) (t : Sub) → token (a_name v) a ≡ token (a_name v2) a2 → token colon b ≡ token colon b2 → s ≡ t → labelled v a b s ≡ labelled v2 a2 b2 t
+pub labelled_same : (v : List ℕ) (a b : ℕ) (s : Sub) (v2 : List ℕ) (a2 b2 : ℕ) (t : Sub) → token (a_name v) a ≡ token (a_name v2) a2
+    → token colon b ≡ token colon b2 → s ≡ t → labelled v a b s ≡ labelled v2 a2 b2 t
 labelled_same v a b s v2 a2 b2 t h i j = cc
 
 -- a label among items is determined by the label and the items after it
-pub label_same : (v : List ℕ) (a b : ℕ) (s : Items) (v2 : List ℕ) (a2 b2 : ℕ) (t : Items) → token (a_name v) a ≡ token (a_name v2) a2 → token colon b ≡ token colon b2 → s ≡ t → label v a b s ≡ label v2 a2 b2 t
+pub label_same : (v : List ℕ) (a b : ℕ) (s : Items) (v2 : List ℕ) (a2 b2 : ℕ) (t : Items) → token (a_name v) a ≡ token (a_name v2) a2
+    → token colon b ≡ token colon b2 → s ≡ t → label v a b s ≡ label v2 a2 b2 t
 label_same v a b s v2 a2 b2 t h i j = cc
 
 -- a declaration among items is determined by its declarators and the items after it
-pub declaration_same : (a b : ℕ) (xs ys : Declarators) (is js : Items) → token int_word a ≡ token int_word b → xs ≡ ys → is ≡ js → declaration a xs is ≡ declaration b ys js
+pub declaration_same : (a b : ℕ) (xs ys : Declarators) (is js : Items) → token int_word a ≡ token int_word b → xs ≡ ys → is ≡ js
+    → declaration a xs is ≡ declaration b ys js
 declaration_same a b xs ys is js h i j = cc
 
 record Given (x : List ℕ) (a b : ℕ) (e : Expr) (y : List ℕ) (c d : ℕ) (f : Expr) (t s : Token) (u v : List Token) : Type 0 where
@@ -181,25 +201,36 @@ record Given (x : List ℕ) (a b : ℕ) (e : Expr) (y : List ℕ) (c d : ℕ) (f
   pub same : e ≡ f
   pub rest : t ∷ u ≡ s ∷ v
 
-given_once : (x : List ℕ) (a b : ℕ) (e : Expr) (y : List ℕ) (c d : ℕ) (f : Expr) (t s : Token) (u v : List Token) → IsEnd t → IsEnd s → Groups 0 e → Groups 0 f → token (a_name x) a ∷ token (change_sign replaces) b ∷ (spell_expr e ++ t ∷ u) ≡ token (a_name y) c ∷ token (change_sign replaces) d ∷ (spell_expr f ++ s ∷ v) → Given x a b e y c d f t s u v
+given_once : (x : List ℕ) (a b : ℕ) (e : Expr) (y : List ℕ) (c d : ℕ) (f : Expr) (t s : Token) (u v : List Token) → IsEnd t → IsEnd s
+    → Groups 0 e → Groups 0 f → token (a_name x) a ∷ token (change_sign replaces) b ∷ (spell_expr e ++ t ∷ u)
+    ≡ token (a_name y) c ∷ token (change_sign replaces) d ∷ (spell_expr f ++ s ∷ v) → Given x a b e y c d f t s u v
 given_once x a b e y c d f t s u v m n g h q =
-    let r = unique_expr (suc (weight e)) (unique (suc (weight e))) e f t s u v (omega arith) g h m n (tail_of _ _ _ _ (tail_of _ _ _ _ q)) in
+    let r = unique_expr (suc (weight e)) (unique (suc (weight e))) e f t s u v (omega arith) g h m n
+    (tail_of _ _ _ _ (tail_of _ _ _ _ q)) in
     record { name = cc; one = cc; two = cc; same = r.0; rest = r.1 }
 
-given_same : (x : List ℕ) (a b : ℕ) (e : Expr) (y : List ℕ) (c d : ℕ) (f : Expr) → x ≡ y → a ≡ c → b ≡ d → e ≡ f → given x a b e ≡ given y c d f
+given_same : (x : List ℕ) (a b : ℕ) (e : Expr) (y : List ℕ) (c d : ℕ) (f : Expr) → x ≡ y → a ≡ c → b ≡ d → e ≡ f
+    → given x a b e ≡ given y c d f
 given_same x a b e y c d f h i j k = cc
 
-given_texts : (x : List ℕ) (a b : ℕ) (e : Expr) (t : Token) (u w : List Token) → (token (a_name x) a ∷ token (change_sign replaces) b ∷ (spell_expr e ++ t ∷ u)) ++ w ≡ token (a_name x) a ∷ token (change_sign replaces) b ∷ (spell_expr e ++ t ∷ (u ++ w))
-given_texts x a b e t u w = ap (λ (z : List Token). token (a_name x) a ∷ token (change_sign replaces) b ∷ z) (append_assoc (spell_expr e) (t ∷ u) w)
+given_texts : (x : List ℕ) (a b : ℕ) (e : Expr) (t : Token) (u w : List Token)
+    → (token (a_name x) a ∷ token (change_sign replaces) b ∷ (spell_expr e ++ t ∷ u)) ++ w
+    ≡ token (a_name x) a ∷ token (change_sign replaces) b ∷ (spell_expr e ++ t ∷ (u ++ w))
+given_texts x a b e t u w = ap (λ (z : List Token). token (a_name x) a ∷ token (change_sign replaces) b ∷ z)
+    (append_assoc (spell_expr e) (t ∷ u) w)
 
-given_texts_2 : (x : List ℕ) (a b : ℕ) (e : Expr) (t : Token) (u w : List Token) → ((token (a_name x) a ∷ token (change_sign replaces) b ∷ spell_expr e) ++ t ∷ u) ++ w ≡ token (a_name x) a ∷ token (change_sign replaces) b ∷ (spell_expr e ++ t ∷ (u ++ w))
+given_texts_2 : (x : List ℕ) (a b : ℕ) (e : Expr) (t : Token) (u w : List Token)
+    → ((token (a_name x) a ∷ token (change_sign replaces) b ∷ spell_expr e) ++ t ∷ u) ++ w
+    ≡ token (a_name x) a ∷ token (change_sign replaces) b ∷ (spell_expr e ++ t ∷ (u ++ w))
 given_texts_2 x a b e t u w = given_texts x a b e t u w
 
 -- declarators have at most one reading, and what follows them is the same
-pub declarators_once : (xs ys : Declarators) (w x : List Token) → GoodDeclarators xs → GoodDeclarators ys → spell_declarators xs ++ w ≡ spell_declarators ys ++ x → (xs ≡ ys) × (w ≡ x)
+pub declarators_once : (xs ys : Declarators) (w x : List Token) → GoodDeclarators xs → GoodDeclarators ys
+    → spell_declarators xs ++ w ≡ spell_declarators ys ++ x → (xs ≡ ys) × (w ≡ x)
 declarators_once (declares (bare v a) c) (declares (bare v2 a2) c2) w x g h e = ((cc), (cc))
 declarators_once (declares (given v a b f) c) (declares (given v2 a2 b2 f2) c2) w x g h e =
-    let r = given_once v a b f v2 a2 b2 f2 (token semicolon c) (token semicolon c2) w x tt tt g h (sym (given_texts_2 v a b f (token semicolon c) [] w) ∙ e ∙ given_texts_2 v2 a2 b2 f2 (token semicolon c2) [] x) in
+    let r = given_once v a b f v2 a2 b2 f2 (token semicolon c) (token semicolon c2) w x tt tt g h
+    (sym (given_texts_2 v a b f (token semicolon c) [] w) ∙ e ∙ given_texts_2 v2 a2 b2 f2 (token semicolon c2) [] x) in
     let k = given_same v a b f v2 a2 b2 f2 r.name r.one r.two r.same in
     let q : token semicolon c ≡ token semicolon c2 = head_of _ _ _ _ r.rest in
     ((cc), tail_of _ _ _ _ r.rest)
@@ -208,18 +239,24 @@ declarators_once (declares_more (bare v a) c xs) (declares_more (bare v2 a2) c2 
     let k : xs ≡ ys = r.0 in
     ((cc), r.1)
 declarators_once (declares_more (given v a b f) c xs) (declares_more (given v2 a2 b2 f2) c2 ys) w x g h e =
-    let r = given_once v a b f v2 a2 b2 f2 (token comma c) (token comma c2) (spell_declarators xs ++ w) (spell_declarators ys ++ x) tt tt g.0 h.0 (sym (given_texts_2 v a b f (token comma c) (spell_declarators xs) w) ∙ e ∙ given_texts_2 v2 a2 b2 f2 (token comma c2) (spell_declarators ys) x) in
+    let r = given_once v a b f v2 a2 b2 f2 (token comma c) (token comma c2) (spell_declarators xs ++ w) (spell_declarators ys ++ x) tt tt
+    g.0 h.0 (sym (given_texts_2 v a b f (token comma c) (spell_declarators xs) w) ∙ e
+    ∙ given_texts_2 v2 a2 b2 f2 (token comma c2) (spell_declarators ys) x) in
     let k = given_same v a b f v2 a2 b2 f2 r.name r.one r.two r.same in
     let q : token comma c ≡ token comma c2 = head_of _ _ _ _ r.rest in
     let m = declarators_once xs ys w x g.1 h.1 (tail_of _ _ _ _ r.rest) in
     let n : xs ≡ ys = m.0 in
     ((cc), m.1)
 declarators_once (declares (given v a b f) c) (declares_more (given v2 a2 b2 f2) c2 ys) w x g h e =
-    let r = given_once v a b f v2 a2 b2 f2 (token semicolon c) (token comma c2) w (spell_declarators ys ++ x) tt tt g h.0 (sym (given_texts_2 v a b f (token semicolon c) [] w) ∙ e ∙ given_texts_2 v2 a2 b2 f2 (token comma c2) (spell_declarators ys) x) in
+    let r = given_once v a b f v2 a2 b2 f2 (token semicolon c) (token comma c2) w (spell_declarators ys ++ x) tt tt g h.0
+    (sym (given_texts_2 v a b f (token semicolon c) [] w) ∙ e ∙ given_texts_2 v2 a2 b2 f2 (token comma c2) (spell_declarators ys)
+    x) in
     let q : token semicolon c ≡ token comma c2 = head_of _ _ _ _ r.rest in
     cc
 declarators_once (declares_more (given v a b f) c xs) (declares (given v2 a2 b2 f2) c2) w x g h e =
-    let r = given_once v a b f v2 a2 b2 f2 (token comma c) (token semicolon c2) (spell_declarators xs ++ w) x tt tt g.0 h (sym (given_texts_2 v a b f (token comma c) (spell_declarators xs) w) ∙ e ∙ given_texts_2 v2 a2 b2 f2 (token semicolon c2) [] x) in
+    let r = given_once v a b f v2 a2 b2 f2 (token comma c) (token semicolon c2) (spell_declarators xs ++ w) x tt tt g.0 h
+    (sym (given_texts_2 v a b f (token comma c) (spell_declarators xs) w) ∙ e
+    ∙ given_texts_2 v2 a2 b2 f2 (token semicolon c2) [] x) in
     let q : token comma c ≡ token semicolon c2 = head_of _ _ _ _ r.rest in
     cc
 declarators_once (declares (bare v a) c) (declares (given v2 a2 b2 f2) c2) w x g h e = cc

@@ -1,6 +1,7 @@
 -- A text has at most one tree.
 use Rattle.std.proofs.Common.{◌≡◌, ◌∙◌, ◌++◌, ◌+◌, ◌<◌, ℕ, zero, suc, List, [], ◌∷◌, refl, sym, ap, ap₂, append_assoc, arith, subst}
-use Rattle.lang_grammar.specs.Grammar.{level, Prefix, negative, positive, negation, infix_sign, right_paren, left_paren, Token, token, Groups, Expr, number}
+use Rattle.lang_grammar.specs.Grammar.{level, Prefix, negative, positive, negation, infix_sign, right_paren, left_paren, Token, token}
+use Rattle.lang_grammar.specs.Grammar.{Groups, Expr, number}
 use Rattle.lang_grammar.specs.Grammar.{variable, free, grouped, prefixed, joined, spell_expr}
 use Rattle.lang_grammar.proofs.grammar.Sound.{Links, ended, link, spell_links, GoodLinks, extend_all, below_six}
 use Rattle.lang_grammar.proofs.grammar.Flat.{after, first, links, again, spell_flat, first_good}
@@ -31,7 +32,8 @@ after_good ended ms h i = i
 after_good (link o a u ls) ms h i = (h.0, after_good ls ms h.1 i)
 
 links_good : (l : ℕ) (e : Expr) → Groups l e → GoodLinks (links e)
-links_good l (joined e o a f) g = after_good (links e) (link o a (first f) (links f)) (links_good (level o) e g.1) (first_good (suc (level o)) f g.2, links_good (suc (level o)) f g.2)
+links_good l (joined e o a f) g = after_good (links e) (link o a (first f) (links f)) (links_good (level o) e g.1)
+    (first_good (suc (level o)) f g.2, links_good (suc (level o)) f g.2)
 links_good l _ g = tt
 
 -- the token is no sign between two sides
@@ -48,15 +50,18 @@ pub head_of : (t s : Token) (xs ys : List Token) → t ∷ xs ≡ s ∷ ys → t
 head_of t s xs ys e = cc
 
 abbrev Unique : ℕ → Type 0
-Unique n = (u v : Expr) (w x : List Token) → weight u < n → Groups 6 u → Groups 6 v → spell_expr u ++ w ≡ spell_expr v ++ x → (u ≡ v) × (w ≡ x)
+Unique n = (u v : Expr) (w x : List Token) → weight u < n → Groups 6 u → Groups 6 v → spell_expr u ++ w ≡ spell_expr v ++ x
+    → (u ≡ v) × (w ≡ x)
 
-unique_links : (n : ℕ) → Unique n → (ls ms : Links) (t s : Token) (w x : List Token) → links_weight ls < n → GoodLinks ls → GoodLinks ms → IsEnd t → IsEnd s → spell_links ls ++ t ∷ w ≡ spell_links ms ++ s ∷ x → (ls ≡ ms) × (t ∷ w ≡ s ∷ x)
+unique_links : (n : ℕ) → Unique n → (ls ms : Links) (t s : Token) (w x : List Token) → links_weight ls < n → GoodLinks ls → GoodLinks ms
+    → IsEnd t → IsEnd s → spell_links ls ++ t ∷ w ≡ spell_links ms ++ s ∷ x → (ls ≡ ms) × (t ∷ w ≡ s ∷ x)
 unique_links n f ended ended t s w x b g h i j e = (refl, e)
 unique_links n f ended (link o a u ms) t s w x b g h i j e = absurd (subst IsEnd (head_of t (token (infix_sign o) a) _ _ e) i)
 unique_links n f (link o a u ls) ended t s w x b g h i j e = absurd (subst IsEnd (sym (head_of (token (infix_sign o) a) s _ _ e)) j)
 unique_links n f (link o a u ls) (link p c v ms) t s w x b g h i j e =
     let k = tail_of (token (infix_sign o) a) (token (infix_sign p) c) _ _ e in
-    let m = f u v (spell_links ls ++ t ∷ w) (spell_links ms ++ s ∷ x) (omega arith) g.0 h.0 (sym (append_assoc (spell_expr u) (spell_links ls) (t ∷ w)) ∙ k ∙ append_assoc (spell_expr v) (spell_links ms) (s ∷ x)) in
+    let m = f u v (spell_links ls ++ t ∷ w) (spell_links ms ++ s ∷ x) (omega arith) g.0 h.0
+    (sym (append_assoc (spell_expr u) (spell_links ls) (t ∷ w)) ∙ k ∙ append_assoc (spell_expr v) (spell_links ms) (s ∷ x)) in
     let q = unique_links n f ls ms t s w x (omega arith) g.1 h.1 i j m.1 in
     let y : token (infix_sign o) a ≡ token (infix_sign p) c = head_of (token (infix_sign o) a) (token (infix_sign p) c) _ _ e in
     let z : u ≡ v = m.0 in
@@ -64,23 +69,32 @@ unique_links n f (link o a u ls) (link p c v ms) t s w x b g h i j e =
     ((cc), q.1)
 
 -- expressions before tokens that end them are the same where their spellings are
-pub unique_expr : (n : ℕ) → Unique n → (e f : Expr) (t s : Token) (w x : List Token) → weight e < n → Groups 0 e → Groups 0 f → IsEnd t → IsEnd s → spell_expr e ++ t ∷ w ≡ spell_expr f ++ s ∷ x → (e ≡ f) × (t ∷ w ≡ s ∷ x)
+pub unique_expr : (n : ℕ) → Unique n → (e f : Expr) (t s : Token) (w x : List Token) → weight e < n → Groups 0 e → Groups 0 f → IsEnd t
+    → IsEnd s → spell_expr e ++ t ∷ w ≡ spell_expr f ++ s ∷ x → (e ≡ f) × (t ∷ w ≡ s ∷ x)
 unique_expr n un e f t s w x b g h i j k =
     let c = flat_weight e in
-    let m = un (first e) (first f) (spell_links (links e) ++ t ∷ w) (spell_links (links f) ++ s ∷ x) (omega arith) (first_good 0 e g) (first_good 0 f h) (sym (append_assoc (spell_expr (first e)) (spell_links (links e)) (t ∷ w)) ∙ ap (λ y. y ++ t ∷ w) (sym (spell_flat e)) ∙ k ∙ ap (λ y. y ++ s ∷ x) (spell_flat f) ∙ append_assoc (spell_expr (first f)) (spell_links (links f)) (s ∷ x)) in
+    let m = un (first e) (first f) (spell_links (links e) ++ t ∷ w) (spell_links (links f) ++ s ∷ x) (omega arith) (first_good 0 e g)
+    (first_good 0 f h) (sym (append_assoc (spell_expr (first e)) (spell_links (links e)) (t ∷ w))
+    ∙ ap (λ y. y ++ t ∷ w) (sym (spell_flat e)) ∙ k ∙ ap (λ y. y ++ s ∷ x) (spell_flat f)
+    ∙ append_assoc (spell_expr (first f)) (spell_links (links f)) (s ∷ x)) in
     let q = unique_links n un (links e) (links f) t s w x (omega arith) (links_good 0 e g) (links_good 0 f h) i j m.1 in
     (sym (again 0 e g) ∙ ap₂ extend_all m.0 q.0 ∙ again 0 f h, q.1)
 
-unique_group : (n : ℕ) → Unique n → (a : ℕ) (e : Expr) (b c : ℕ) (f : Expr) (d : ℕ) (w x : List Token) → suc (weight e) < suc n → Groups 0 e → Groups 0 f → spell_expr (grouped a e b) ++ w ≡ spell_expr (grouped c f d) ++ x → (grouped a e b ≡ grouped c f d) × (w ≡ x)
+unique_group : (n : ℕ) → Unique n → (a : ℕ) (e : Expr) (b c : ℕ) (f : Expr) (d : ℕ) (w x : List Token) → suc (weight e) < suc n → Groups 0 e
+    → Groups 0 f → spell_expr (grouped a e b) ++ w ≡ spell_expr (grouped c f d) ++ x → (grouped a e b ≡ grouped c f d) × (w ≡ x)
 unique_group n un a e b c f d w x h g k q =
     let y = tail_of (token left_paren a) (token left_paren c) _ _ q in
     let z : token left_paren a ≡ token left_paren c = head_of (token left_paren a) (token left_paren c) _ _ q in
-    let m = unique_expr n un e f (token right_paren b) (token right_paren d) w x (omega arith) g k tt tt (sym (append_assoc (spell_expr e) (token right_paren b ∷ []) w) ∙ y ∙ append_assoc (spell_expr f) (token right_paren d ∷ []) x) in
+    let m = unique_expr n un e f (token right_paren b) (token right_paren d) w x (omega arith) g k tt tt
+    (sym (append_assoc (spell_expr e) (token right_paren b ∷ []) w) ∙ y
+    ∙ append_assoc (spell_expr f) (token right_paren d ∷ []) x) in
     let i : e ≡ f = m.0 in
     let j : token right_paren b ∷ w ≡ token right_paren d ∷ x = m.1 in
     ((cc), (cc))
 
-unique_prefix : (n : ℕ) → Unique n → (p : Prefix) (a : ℕ) (e : Expr) (c : ℕ) (f : Expr) (w x : List Token) → suc (weight e) < suc n → Groups 6 e → Groups 6 f → spell_expr (prefixed p a e) ++ w ≡ spell_expr (prefixed p c f) ++ x → (prefixed p a e ≡ prefixed p c f) × (w ≡ x)
+unique_prefix : (n : ℕ) → Unique n → (p : Prefix) (a : ℕ) (e : Expr) (c : ℕ) (f : Expr) (w x : List Token) → suc (weight e) < suc n
+    → Groups 6 e → Groups 6 f → spell_expr (prefixed p a e) ++ w ≡ spell_expr (prefixed p c f) ++ x
+    → (prefixed p a e ≡ prefixed p c f) × (w ≡ x)
 unique_prefix n un p a e c f w x h g k q =
     let m = un e f w x (omega arith) g k (tail_of _ _ _ _ q) in
     let i : e ≡ f = m.0 in

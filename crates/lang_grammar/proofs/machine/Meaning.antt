@@ -15,12 +15,14 @@ accepts_law w = ((λ h. accepted_reads w h), (λ h. reads_accepted w h.0 h.1))
 
 -- a front that the machine has taken begins a sentence
 pub alive_begins : (front : List Token) (gs : List Goal) → run start front ≡ Some gs → Begins front
-alive_begins front gs h = let r = accepted_reads (front ++ finish gs) (run_front start gs front (finish gs) h ∙ finishes gs) in (r.0, finish gs, r.1)
+alive_begins front gs h = let r = accepted_reads (front ++ finish gs) (run_front start gs front (finish gs) h ∙ finishes gs) in
+    (r.0, finish gs, r.1)
 
 none_clash : (front : List Token) → run start front ≡ None → Begins front → ⊥
 none_clash front h (p, rest, r) = let e = reads_accepted (front ++ rest) p r in let i = none_front start front rest h in cc
 
-alive_of : (front : List Token) (o : Option (List Goal)) → run start front ≡ o → Begins front → (gs : List Goal) × (run start front ≡ Some gs)
+alive_of : (front : List Token) (o : Option (List Goal)) → run start front ≡ o → Begins front
+    → (gs : List Goal) × (run start front ≡ Some gs)
 alive_of front None h b = absurd (none_clash front h b)
 alive_of front (Some gs) h b = (gs, h)
 
@@ -29,11 +31,13 @@ pub begins_law : (front : List Token) → ((gs : List Goal) × (run start front 
 begins_law front = ((λ h. alive_begins front h.0 h.1), (λ b. alive_of front (run start front) refl b))
 
 -- The machine stops exactly at the first token that is unexpected.
-pub unexpected_law : (front : List Token) (gs : List Goal) (t : Token) → run start front ≡ Some gs → run start (front ++ t ∷ []) ≡ None → IsUnexpected front t
+pub unexpected_law : (front : List Token) (gs : List Goal) (t : Token) → run start front ≡ Some gs → run start (front ++ t ∷ []) ≡ None
+    → IsUnexpected front t
 unexpected_law front gs t h i = (alive_begins front gs h, λ b. none_clash (front ++ t ∷ []) i b)
 
 -- at a token that is unexpected the machine has a stack before it, and stops at it
-pub unexpected_back : (front : List Token) (t : Token) → IsUnexpected front t → ((gs : List Goal) × (run start front ≡ Some gs)) × (run start (front ++ t ∷ []) ≡ None)
+pub unexpected_back : (front : List Token) (t : Token) → IsUnexpected front t
+    → ((gs : List Goal) × (run start front ≡ Some gs)) × (run start (front ++ t ∷ []) ≡ None)
 unexpected_back front t (b, n) = (alive_of front (run start front) refl b, gone (run start (front ++ t ∷ [])) refl) where
   gone : (o : Option (List Goal)) → run start (front ++ t ∷ []) ≡ o → run start (front ++ t ∷ []) ≡ None
   gone None h = h

@@ -12,7 +12,8 @@ found_is x ts n f = exact_by (reach expression_start ts) x ts refl n f
 -- tokens read as one expression at most
 pub reads_once : (front : List Token) (e f : Expr) → ReadsExpr front e → ReadsExpr front f → e ≡ f
 reads_once front e f r s =
-    (unique_expr (suc (weight e)) (unique (suc (weight e))) e f (token semicolon 0) (token semicolon 0) [] [] (omega arith) r.good s.good tt tt
+    (unique_expr (suc (weight e)) (unique (suc (weight e))) e f (token semicolon 0) (token semicolon 0) [] [] (omega arith) r.good s.good tt
+    tt
     (ap (λ x. x ++ token semicolon 0 ∷ []) (r.spelled ∙ sym s.spelled))).0
 
 same_front : (xs ys u v : List Token) → length xs ≡ length ys → xs ++ u ≡ ys ++ v → xs ≡ ys
@@ -28,5 +29,6 @@ longest_size ts n m e f l k = let h = sym (found_is (reaches n) ts (λ i. cc) (e
 -- there is one longest expression
 pub longest_once : (ts : List Token) (n m : ℕ) (e f : Expr) → IsLongest ts n e → IsLongest ts m f → e ≡ f
 longest_once ts n m e f l k =
-    let i = same_front l.front k.front (l.next ∷ l.rest) (k.next ∷ k.rest) (l.size ∙ longest_size ts n m e f l k ∙ sym k.size) (sym l.split ∙ k.split) in
+    let i = same_front l.front k.front (l.next ∷ l.rest) (k.next ∷ k.rest) (l.size ∙ longest_size ts n m e f l k ∙ sym k.size)
+    (sym l.split ∙ k.split) in
     reads_once l.front e f l.reads (record { spelled = k.reads.spelled ∙ sym i; good = k.reads.good })

@@ -20,20 +20,28 @@ ends_same (g ∷ []) k l e = ap not e
 ends_same (g ∷ h ∷ gs) k l e = refl
 
 abbrev by : Bool → Verdict → ℕ → (List Goal → Reach) → Reach
-by b v a f = elim b as (λ x. Reach) [ true ↦ reaches 0 | false ↦ elim v as (λ x. Reach) [ goes next ↦ longer (f next) | refused ↦ stops_at a | too_deep ↦ nests_at a ] ]
+by b v a f = elim b as (λ x. Reach) [
+  | true ↦ reaches 0
+  | false ↦ elim v as (λ x. Reach)
+      [ goes next ↦ longer (f next) | refused ↦ stops_at a | too_deep ↦ nests_at a ]
+]
 
 -- an expression reaches as far whatever names and numbers are
-pub plain_reach : (text : List ℕ) (gs : List Goal) (ts : List lex_token.Token) → reach gs (map plain_token ts) ≡ reach gs (tokens_of text ts)
+pub plain_reach : (text : List ℕ) (gs : List Goal) (ts : List lex_token.Token)
+    → reach gs (map plain_token ts) ≡ reach gs (tokens_of text ts)
 plain_reach text gs [] = refl
 plain_reach text gs (t ∷ ts) =
     let bytes = slice_range text t.at (t.at + t.len) in
-    on (ends_before gs (plain_kind t.kind)) (ends_before gs (kind_of bytes t.kind)) (verdict gs (plain_kind t.kind)) (verdict gs (kind_of bytes t.kind)) t.at
-    (ends_same gs (plain_kind t.kind) (kind_of bytes t.kind) (infix_same t.kind bytes)) (plain_verdict gs t.kind bytes) (λ next. plain_reach text next ts) where
+    on (ends_before gs (plain_kind t.kind)) (ends_before gs (kind_of bytes t.kind)) (verdict gs (plain_kind t.kind))
+    (verdict gs (kind_of bytes t.kind)) t.at
+    (ends_same gs (plain_kind t.kind) (kind_of bytes t.kind) (infix_same t.kind bytes)) (plain_verdict gs t.kind bytes)
+    (λ next. plain_reach text next ts) where
       same : (b : Bool) (v : Verdict) (a : ℕ) {f h : List Goal → Reach} → ((next : List Goal) → f next ≡ h next) → by b v a f ≡ by b v a h
       same true v a i = refl
       same false (goes next) a i = ap longer (i next)
       same false refused a i = refl
       same false too_deep a i = refl
 
-      on : (b c : Bool) (v w : Verdict) (a : ℕ) {f h : List Goal → Reach} → b ≡ c → v ≡ w → ((next : List Goal) → f next ≡ h next) → by b v a f ≡ by c w a h
+      on : (b c : Bool) (v w : Verdict) (a : ℕ) {f h : List Goal → Reach} → b ≡ c → v ≡ w → ((next : List Goal) → f next ≡ h next)
+          → by b v a f ≡ by c w a h
       on b c v w a {f} {h} d e i = ap (λ (x : Bool). by x v a f) d ∙ ap (λ (x : Verdict). by c x a f) e ∙ same c w a i

@@ -43,7 +43,8 @@ on_end b v a ts = elim b as (λ x. Reach) [ true ↦ reaches 0 | false ↦ on_ve
 pub reach_ends : (gs : List Goal) (k : Kind) (a : ℕ) (ts : List Token) → ends_before gs k ≡ true → reach gs (token k a ∷ ts) ≡ reaches 0
 reach_ends gs k a ts h = ap (λ (b : Bool). on_end b (verdict gs k) a ts) h
 
-reach_by : (gs : List Goal) (k : Kind) (a : ℕ) (ts : List Token) (v : Verdict) → ends_before gs k ≡ false → verdict gs k ≡ v → reach gs (token k a ∷ ts) ≡ on_verdict v a ts
+reach_by : (gs : List Goal) (k : Kind) (a : ℕ) (ts : List Token) (v : Verdict) → ends_before gs k ≡ false → verdict gs k ≡ v
+    → reach gs (token k a ∷ ts) ≡ on_verdict v a ts
 reach_by gs k a ts v h i = ap (λ (b : Bool). on_end b (verdict gs k) a ts) h ∙ ap (λ (x : Verdict). on_verdict x a ts) i
 
 -- a token with which the machine goes on is one more
@@ -52,9 +53,11 @@ pub reach_goes : (gs next : List Goal) (k : Kind) (a : ℕ) (ts : List Token) �
 reach_goes gs next k a ts h i = reach_by gs k a ts (goes next) h i
 
 -- a token that the machine refuses is where the reading stops
-pub reach_stops : (gs : List Goal) (k : Kind) (a : ℕ) (ts : List Token) → ends_before gs k ≡ false → verdict gs k ≡ refused → reach gs (token k a ∷ ts) ≡ stops_at a
+pub reach_stops : (gs : List Goal) (k : Kind) (a : ℕ) (ts : List Token) → ends_before gs k ≡ false → verdict gs k ≡ refused
+    → reach gs (token k a ∷ ts) ≡ stops_at a
 reach_stops gs k a ts h i = reach_by gs k a ts refused h i
 
 -- a token that opens one construct too many is where the reading nests too deep
-pub reach_nests : (gs : List Goal) (k : Kind) (a : ℕ) (ts : List Token) → ends_before gs k ≡ false → verdict gs k ≡ too_deep → reach gs (token k a ∷ ts) ≡ nests_at a
+pub reach_nests : (gs : List Goal) (k : Kind) (a : ℕ) (ts : List Token) → ends_before gs k ≡ false → verdict gs k ≡ too_deep
+    → reach gs (token k a ∷ ts) ≡ nests_at a
 reach_nests gs k a ts h i = reach_by gs k a ts too_deep h i

@@ -1,8 +1,10 @@
 -- The stacks of the machine at an expression: at the bottom what goes on with it or ends it, above that parts of operands alone.
 use Rattle.std.specs.Prelude.{not}
 use Rattle.std.proofs.Common.{◌≡◌, ◌∙◌, ◌++◌, ℕ, List, [], ◌∷◌, Option, Some, None, refl, sym, ap, Bool, true, false, subst}
-use Rattle.lang_grammar.specs.Grammar.{Kind, Op, plus_op, minus_op, infix_sign, a_name, a_number, bang, left_paren, right_paren, semicolon, nondet_word}
-use Rattle.lang_grammar.specs.Machine.{until_paren, until_semicolon, opening, closing, Goal, operand, more, only, Entry, takes, skips, stops, prefix_entry}
+use Rattle.lang_grammar.specs.Grammar.{Kind, Op, plus_op, minus_op, infix_sign, a_name, a_number, bang, left_paren, right_paren, semicolon}
+use Rattle.lang_grammar.specs.Grammar.{nondet_word}
+use Rattle.lang_grammar.specs.Machine.{until_paren, until_semicolon, opening, closing, Goal, operand, more, only, Entry, takes, skips}
+use Rattle.lang_grammar.specs.Machine.{stops, prefix_entry}
 use Rattle.lang_grammar.specs.Machine.{operand_entry, more_entry, only_entry, entry, step}
 use Rattle.lang_grammar.specs.Expressions.{expression_start, is_infix, ends_before}
 
@@ -96,7 +98,8 @@ pending_step (g ∷ []) next k p e h =
     let i : next ≡ expression_start = infix_step k next (not_false (is_infix k) e) (ap (λ (x : Goal). step (x ∷ []) k) (sym p) ∙ h) in
     subst IsPending (sym i) (tt, refl)
 pending_step (g ∷ f ∷ gs) next k p e h = on_entry (entry g k) (inner g k p.0) h where
-  on_entry : (x : Entry) → EntersInner x → elim x as (λ x. Option (List Goal)) [ takes ns ↦ Some (ns ++ f ∷ gs) | skips ↦ step (f ∷ gs) k | stops ↦ None ] ≡ Some next → IsPending next
+  on_entry : (x : Entry) → EntersInner x → elim x as (λ x. Option (List Goal))
+      [ takes ns ↦ Some (ns ++ f ∷ gs) | skips ↦ step (f ∷ gs) k | stops ↦ None ] ≡ Some next → IsPending next
   on_entry (takes ns) i q = let j : ns ++ f ∷ gs ≡ next = cc in subst IsPending j (pending_over ns f gs i p.1)
   on_entry skips i q = absurd i
   on_entry stops i q = cc

@@ -12,7 +12,8 @@ use Rattle.lang_grammar.proofs.phrase.Reached.{reaches_by, out_by, stops_by, nes
 use Rattle.lang_tokens.specs.declared.token.Token.{Token}
 
 -- the token at n, with the stack and whether the expression ends before the token
-module _ (ts : List Token) (n : ℕ) (d : Token) (within : n < length ts) (stack shown : List code_goal.Goal) (same : shown ≡ stack) (b : Bool)
+module _ (ts : List Token) (n : ℕ) (d : Token) (within : n < length ts) (stack shown : List code_goal.Goal) (same : shown ≡ stack)
+    (b : Bool)
     (says : b ≡ ends_before (stack_of shown) (plain_kind (get_or ts n d).kind)) where
   said : ends_before (stack_of stack) (plain_kind (get_or ts n d).kind) ≡ b
   said = ap (λ x. ends_before (stack_of x) (plain_kind (get_or ts n d).kind)) (sym same) ∙ sym says
@@ -22,17 +23,22 @@ module _ (ts : List Token) (n : ℕ) (d : Token) (within : n < length ts) (stack
   turn_ends h = at_drop_more (λ x. longer_by n (reach (stack_of stack) (map plain_token x))) ts n d within
       ∙ ap (longer_by n) (reach_ends (stack_of stack) _ _ _ (said ∙ h)) ∙ reaches_by n
 
-  module _ (h : b ≡ false) (o : code_outcome.Outcome) (now : List Goal) (advances : Advances o (verdict (stack_of stack) (plain_kind (get_or ts n d).kind)) now) where
+  module _ (h : b ≡ false) (o : code_outcome.Outcome) (now : List Goal)
+      (advances : Advances o (verdict (stack_of stack) (plain_kind (get_or ts n d).kind)) now) where
     -- where the machine refuses the token, the reading stops at its place
-    pub turn_stops : o ≡ code_outcome.TheVariants.Refused → longer_by n (reach (stack_of stack) (map plain_token (drop n ts))) ≡ stops_at (get_or ts n d).at
+    pub turn_stops : o ≡ code_outcome.TheVariants.Refused → longer_by n (reach (stack_of stack) (map plain_token (drop n ts)))
+        ≡ stops_at (get_or ts n d).at
     turn_stops i = at_drop_more (λ x. longer_by n (reach (stack_of stack) (map plain_token x))) ts n d within
-        ∙ ap (longer_by n) (reach_stops (stack_of stack) _ _ _ (said ∙ h) (subst (λ x. Advances x (verdict (stack_of stack) (plain_kind (get_or ts n d).kind)) now) i advances))
+        ∙ ap (longer_by n) (reach_stops (stack_of stack) _ _ _ (said ∙ h)
+        (subst (λ x. Advances x (verdict (stack_of stack) (plain_kind (get_or ts n d).kind)) now) i advances))
         ∙ stops_by n _
 
     -- where the token opens one construct too many, the reading nests too deep at its place
-    pub turn_nests : o ≡ code_outcome.TheVariants.TooDeep → longer_by n (reach (stack_of stack) (map plain_token (drop n ts))) ≡ nests_at (get_or ts n d).at
+    pub turn_nests : o ≡ code_outcome.TheVariants.TooDeep → longer_by n (reach (stack_of stack) (map plain_token (drop n ts)))
+        ≡ nests_at (get_or ts n d).at
     turn_nests i = at_drop_more (λ x. longer_by n (reach (stack_of stack) (map plain_token x))) ts n d within
-        ∙ ap (longer_by n) (reach_nests (stack_of stack) _ _ _ (said ∙ h) (subst (λ x. Advances x (verdict (stack_of stack) (plain_kind (get_or ts n d).kind)) now) i advances))
+        ∙ ap (longer_by n) (reach_nests (stack_of stack) _ _ _ (said ∙ h)
+        (subst (λ x. Advances x (verdict (stack_of stack) (plain_kind (get_or ts n d).kind)) now) i advances))
         ∙ nests_by n _
 
 -- where no token is left, they end too early

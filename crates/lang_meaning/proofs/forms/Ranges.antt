@@ -24,7 +24,8 @@ zeros_fit (suc n) = zeros_fit n
 pub set_fits : (xs : List ℤ) (i : ℕ) → IsTrue (are_numbers xs) → IsTrue (are_numbers (set xs i (pos 1)))
 set_fits [] i h = h
 set_fits (x ∷ xs) zero h = (and_split (is_number x) (are_numbers xs) h).1
-set_fits (x ∷ xs) (suc i) h = let p = and_split (is_number x) (are_numbers xs) h in both_true (is_number x) (are_numbers (set xs i (pos 1))) p.0 (set_fits xs i p.1)
+set_fits (x ∷ xs) (suc i) h = let p = and_split (is_number x) (are_numbers xs) h in
+    both_true (is_number x) (are_numbers (set xs i (pos 1))) p.0 (set_fits xs i p.1)
 
 -- ---- what is in its range is a number
 abbrev OkNumber : Result ℤ ParseFault → Type 0
@@ -44,7 +45,8 @@ one_ok a z = by_test (is_number z) refl where
 all_ok : (a : ℕ) (zs : List ℤ) → OkNumbers (ranged_numbers a zs)
 all_ok a [] = refl
 all_ok a (z ∷ zs) = joined (ranged_number a z) (ranged_numbers a zs) (one_ok a z) (all_ok a zs) where
-  joined : (r : Result ℤ ParseFault) (s : Result (List ℤ) ParseFault) → OkNumber r → OkNumbers s → OkNumbers (r >>= λ y. s >>= λ ys. Ok (y ∷ ys))
+  joined : (r : Result ℤ ParseFault) (s : Result (List ℤ) ParseFault) → OkNumber r → OkNumbers s
+      → OkNumbers (r >>= λ y. s >>= λ ys. Ok (y ∷ ys))
   joined (Ok y) (Ok ys) h i = both_true (is_number y) (are_numbers ys) h i
   joined (Ok y) (Err e) h i = tt
   joined (Err e) s h i = tt

@@ -27,8 +27,10 @@ Below names i = i < length names
 
 place_below : (x : List ℕ) (names : List (List ℕ)) (i : ℕ) → place_of x names ≡ Some i → i < length names
 place_below x names i e = by_test (nat_lt (position_or_len (bytes_eq x) names) (length names)) refl e where
-  by_test : (b : Bool) → nat_lt (position_or_len (bytes_eq x) names) (length names) ≡ b → cond b (Some (position_or_len (bytes_eq x) names)) None ≡ Some i → i < length names
-  by_test true h k = let q : position_or_len (bytes_eq x) names ≡ i = cc in subst (λ (z : ℕ). z < length names) q (ltb-true (position_or_len (bytes_eq x) names) (length names) h)
+  by_test : (b : Bool) → nat_lt (position_or_len (bytes_eq x) names) (length names) ≡ b
+      → cond b (Some (position_or_len (bytes_eq x) names)) None ≡ Some i → i < length names
+  by_test true h k = let q : position_or_len (bytes_eq x) names ≡ i = cc in
+      subst (λ (z : ℕ). z < length names) q (ltb-true (position_or_len (bytes_eq x) names) (length names) h)
   by_test false h k = cc
 
 -- the number of a known variable is one of those named
@@ -56,7 +58,8 @@ Counted st now = Fits now × (now.names ≡ st.names) × (now.count ≡ suc st.c
 
 -- what comes of a change
 abbrev pub Turns : ℕ → State → State × Change → Type 0
-Turns N st r = Fits r.0 × (length r.0.names ≡ length st.names) × (r.0.count ≡ st.count + change_count r.1) × (length r.0.names ≤ N → IsTrue (is_change N r.1))
+Turns N st r = Fits r.0 × (length r.0.names ≡ length st.names) × (r.0.count ≡ st.count + change_count r.1)
+    × (length r.0.names ≤ N → IsTrue (is_change N r.1))
 
 -- one node more fits where it is counted
 pub counted_fits : (a : ℕ) (st : State) → length st.names ≤ MOST_VARIABLES → OnValue (Counted st) (counted a st)
@@ -84,7 +87,8 @@ pub one_good : (N : ℕ) (inside : Bool) (s : Statement) → IsTrue (is_statemen
 one_good N inside s h = both_true (is_statement N inside s) true h refl
 
 -- an assignment is over variables that are named
-pub assignment_good : (N : ℕ) (inside : Bool) (i : ℕ) (o : Option Form) (line : ℕ) → i < N → SideFits N o → IsTrue (is_statement N inside (assignment i o line))
+pub assignment_good : (N : ℕ) (inside : Bool) (i : ℕ) (o : Option Form) (line : ℕ) → i < N → SideFits N o
+    → IsTrue (is_statement N inside (assignment i o line))
 assignment_good N inside i (Some f) line h k = both_true (nat_lt i N) (is_form N f) (lt-ltb i N h) k
 assignment_good N inside i None line h k = lt-ltb i N h
 
@@ -119,6 +123,10 @@ change_nodes_count (change.Havoc i line) = refl
 pub label_fits : (x : List ℕ) (a : ℕ) (st : State) → Fits st → OnValue (Counted st) (labelled_by x a st)
 label_fits x a st h = by_place (place_of x st.labels) where
   by_place : (o : Option ℕ) → OnValue (Counted st)
-      (elim o as (λ z. Result State ParseFault) [ Some i ↦ Err (fault.NameTwice a) | None ↦ counted a (record st { labels = st.labels ++ x ∷ [] }) ])
+      (elim o as (λ z. Result State ParseFault) [
+        | Some i ↦ Err (fault.NameTwice a)
+        | None ↦ counted a
+            (record st { labels = st.labels ++ x ∷ [] })
+      ])
   by_place (Some i) = tt
   by_place None = counted_fits a (record st { labels = st.labels ++ x ∷ [] }) h.few_names

@@ -1,12 +1,16 @@
 -- What a walk gives is a program within the limits.
-use Rattle.std.proofs.Common.{◌≡◌, ◌∙◌, ◌++◌, ◌+◌, ◌≤◌, ◌<◌, inl, inr, ℕ, suc, ℤ, pos, negsuc, List, [], ◌∷◌, length, Bool, true, false, ◌&&◌, cond, IsTrue}
+use Rattle.std.proofs.Common.{◌≡◌, ◌∙◌, ◌++◌, ◌+◌, ◌≤◌, ◌<◌, inl, inr, ℕ, suc, ℤ, pos, negsuc, List, [], ◌∷◌, length, Bool, true, false}
+use Rattle.std.proofs.Common.{◌&&◌, cond, IsTrue}
 use Rattle.std.proofs.Common.{Result, Ok, Err, Option, Some, None, refl, sym, ap, arith, replicate, nat_le, nat_lt, min, subst}
 use Rattle.std.proofs.lemmas.Bool.{lt-ltb, le-leb, ltb-true}
 use Rattle.std.proofs.lemmas.List.{length-append, length-replicate}
-use Rattle.lang_grammar.specs.Grammar.{Jump, Update, set as set_update, ForFirst, no_first, declared_first, updated_first, ForTest, no_test, given_test, ForLast}
-use Rattle.lang_grammar.specs.Grammar.{no_last, updated_last, repeat_after, repeat_for, jumps, updates, Direction, up, down, Expr, number, variable, free, grouped, prefixed, joined, Declarator, bare}
+use Rattle.lang_grammar.specs.Grammar.{Jump, Update, set as set_update, ForFirst, no_first, declared_first, updated_first, ForTest, no_test}
+use Rattle.lang_grammar.specs.Grammar.{given_test, ForLast}
+use Rattle.lang_grammar.specs.Grammar.{no_last, updated_last, repeat_after, repeat_for, jumps, updates, Direction, up, down, Expr, number}
+use Rattle.lang_grammar.specs.Grammar.{variable, free, grouped, prefixed, joined, Declarator, bare}
 use Rattle.lang_grammar.specs.Grammar.{given, Declarators, declares, declares_more, Core, empty, block, if_alone, if_else, repeat, assumed}
-use Rattle.lang_grammar.specs.Grammar.{step_after, step_before, Sub, labelled, plain, Items, no_items, label, declaration, item, Token, Program, program}
+use Rattle.lang_grammar.specs.Grammar.{step_after, step_before, Sub, labelled, plain, Items, no_items, label, declaration, item, Token}
+use Rattle.lang_grammar.specs.Grammar.{Program, program}
 use Rattle.lang_tree.specs.declared.form.Form.{Form}
 use Rattle.lang_tree.specs.Numbers.{is_number}
 use Rattle.lang_tree.specs.Limits.{is_form, is_condition, is_tested, is_change, is_kind, is_statement, are_statements, is_program}
@@ -23,8 +27,10 @@ use Rattle.lang_meaning.specs.Forms.{constant_form, variable_form}
 use Rattle.lang_meaning.specs.Walk.{State, start_state, followed_by, one, counted, labelled_by, known_number}
 use Rattle.lang_meaning.specs.Walk.{ranged}
 use Rattle.lang_meaning.specs.Walk.{tested, right_side, assignment, changed, change_nodes, assigned, always, jump_kind}
-use Rattle.lang_meaning.specs.Walk.{step_change, declared_by, closed, walk_expr, walk_update, walk_first, walk_test, walk_last, declared_before}
-use Rattle.lang_meaning.specs.Walk.{walk_declarator, walk_declarators, walk_core, walk_sub, walk_items, declared_in, declared_core, declared_sub, declared_items}
+use Rattle.lang_meaning.specs.Walk.{step_change, declared_by, closed, walk_expr, walk_update, walk_first, walk_test, walk_last}
+use Rattle.lang_meaning.specs.Walk.{declared_before}
+use Rattle.lang_meaning.specs.Walk.{walk_declarator, walk_declarators, walk_core, walk_sub, walk_items, declared_in, declared_core}
+use Rattle.lang_meaning.specs.Walk.{declared_sub, declared_items}
 use Rattle.lang_meaning.specs.Walk.{program_of}
 use Rattle.lang_meaning.proofs.forms.Ranges.{both_true, zeros_fit}
 use Rattle.lang_tree.specs.declared.limits.TheConstants.{MOST_VARIABLES}
@@ -32,29 +38,41 @@ use Rattle.lang_meaning.specs.Walk.{walk}
 use Rattle.lang_meaning.specs.Meaning.{Answer, Means}
 use Rattle.lang_tokens.specs.Lines.{line_at}
 use Rattle.lang_meaning.proofs.limits.Values.{OnValue, on_bind, FormFits, form_fits, ranged_fits, constant_length, variable_fits, ValueFits}
-use Rattle.lang_meaning.proofs.limits.Values.{compared_fits, combined_fits, prefix_fits, regarded_fits, TestFits, tested_fits, SideFits, side_fits, assigned_fits}
-use Rattle.lang_meaning.proofs.limits.ProgramPieces.{Below, known_below, Fits, Grows, Counted, Turns, counted_fits, follow_good, follow_count, one_good, assignment_good, assignment_count, changed_good, changed_count, change_nodes_good, change_nodes_count, label_fits}
+use Rattle.lang_meaning.proofs.limits.Values.{compared_fits, combined_fits, prefix_fits, regarded_fits, TestFits, tested_fits, SideFits}
+use Rattle.lang_meaning.proofs.limits.Values.{side_fits, assigned_fits}
+use Rattle.lang_meaning.proofs.limits.ProgramPieces.{Below, known_below, Fits, Grows, Counted, Turns, counted_fits, follow_good}
+use Rattle.lang_meaning.proofs.limits.ProgramPieces.{follow_count, one_good, assignment_good, assignment_count, changed_good, changed_count}
+use Rattle.lang_meaning.proofs.limits.ProgramPieces.{change_nodes_good, change_nodes_count, label_fits}
 
 module _ (line : ℕ → ℕ) (N : ℕ) where
   pub expr_fits : (st : State) (e : Expr) → OnValue (ValueFits N) (walk_expr line N st e)
-  expr_fits st (number n a) = on_bind (FormFits N) (ValueFits N) (ranged a (constant_form N (pos n))) _ (ranged_fits N a (constant_form N (pos n)) (constant_length N (pos n))) (λ f h. h)
-  expr_fits st (variable x a) = on_bind (Below st.names) (ValueFits N) (known_number x a st) _ (known_below x a st) (λ i h. variable_fits N i (pos 0) refl)
+  expr_fits st (number n a) = on_bind (FormFits N) (ValueFits N) (ranged a (constant_form N (pos n))) _
+      (ranged_fits N a (constant_form N (pos n)) (constant_length N (pos n))) (λ f h. h)
+  expr_fits st (variable x a) = on_bind (Below st.names) (ValueFits N) (known_number x a st) _ (known_below x a st)
+      (λ i h. variable_fits N i (pos 0) refl)
   expr_fits st (free a b c) = tt
-  expr_fits st (grouped a e b) = on_bind (ValueFits N) (ValueFits N) (walk_expr line N st e) _ (expr_fits st e) (λ v h. regarded_fits N a v h)
-  expr_fits st (prefixed p a e) = on_bind (ValueFits N) (ValueFits N) (walk_expr line N st e) _ (expr_fits st e) (λ v h. prefix_fits N p a v h)
+  expr_fits st (grouped a e b) = on_bind (ValueFits N) (ValueFits N) (walk_expr line N st e) _ (expr_fits st e)
+      (λ v h. regarded_fits N a v h)
+  expr_fits st (prefixed p a e) = on_bind (ValueFits N) (ValueFits N) (walk_expr line N st e) _ (expr_fits st e)
+      (λ v h. prefix_fits N p a v h)
   expr_fits st (joined e o a f) = on_bind (ValueFits N) (ValueFits N) (walk_expr line N st e) _ (expr_fits st e)
       (λ v h. on_bind (ValueFits N) (ValueFits N) (walk_expr line N st f) _ (expr_fits st f) (λ w i. combined_fits N o a v w h i))
 
   -- one node for a variable, with one more name
   abbrev Declares : State → State × Statement → Type 0
-  Declares st r = Fits r.0 × (length r.0.names ≡ suc (length st.names)) × (r.0.count ≡ suc st.count) × ((inside : Bool) → length r.0.names ≤ N → IsTrue (is_statement N inside r.1)) × (nodes_in (one r.1) ≡ 1)
+  Declares st r = Fits r.0 × (length r.0.names ≡ suc (length st.names)) × (r.0.count ≡ suc st.count)
+      × ((inside : Bool) → length r.0.names ≤ N → IsTrue (is_statement N inside r.1)) × (nodes_in (one r.1) ≡ 1)
 
   declared_fits : (x : List ℕ) (a : ℕ) (o : Option Form) (st : State) → SideFits N o → OnValue (Declares st) (declared_by line x a o st)
   declared_fits x a o st s = by_place (place_of x st.names) where
     by_test : (b : Bool) → nat_lt (length st.names) MOST_VARIABLES ≡ b
         → OnValue (Declares st) (cond b (counted a (record st { names = st.names ++ x ∷ []; known = st.known ++ length st.names ∷ [] })
         >>= λ now. Ok (now, assignment (length st.names) o (line a))) (Err (fault.Limit a limit.Variables)))
-    by_test true e = on_bind _ (Declares st) (counted a (record st { names = st.names ++ x ∷ []; known = st.known ++ length st.names ∷ [] })) _
+    by_test true e = on_bind _ (Declares st) (counted a (record st {
+      names = st.names ++ x ∷ [];
+      known =
+          st.known ++ length st.names ∷ [];
+    })) _
         (counted_fits a (record st { names = st.names ++ x ∷ []; known = st.known ++ length st.names ∷ [] })
         (omega (arith, length-append st.names (x ∷ []), ltb-true (length st.names) MOST_VARIABLES e)))
         (λ now h. (
@@ -85,9 +103,16 @@ module _ (line : ℕ → ℕ) (N : ℕ) where
       (λ v h. on_bind (SideFits N) (Declares st) (right_side b v) _ (side_fits N b v h) (λ o i. declared_fits x a o st i))
 
   grows_one : (inside : Bool) (st : State) (r : State × Statement) → Declares st r → Grows N inside st 1 (r.0, one r.1)
-  grows_one inside st r (f, n, c, g, k) = record { fits = f; names = omega (arith, n); nodes = omega (arith, c, k); good = λ h. one_good N inside r.1 (g inside h) }
+  grows_one inside st r (f, n, c, g, k) = record {
+    fits = f;
+    names = omega (arith, n);
+    nodes = omega (arith, c, k);
+    good =
+        λ h. one_good N inside r.1 (g inside h);
+  }
 
-  grows_more : (inside : Bool) (st : State) (d : ℕ) (r : State × Statement) (q : State × Statements) → Declares st r → Grows N inside r.0 d q → Grows N inside st (suc d) (q.0, cons r.1 q.1)
+  grows_more : (inside : Bool) (st : State) (d : ℕ) (r : State × Statement) (q : State × Statements) → Declares st r
+      → Grows N inside r.0 d q → Grows N inside st (suc d) (q.0, cons r.1 q.1)
   grows_more inside st d r q (f, n, c, g, k) h = record {
     fits = h.fits;
     names = omega (arith, n, h.names);
@@ -96,7 +121,8 @@ module _ (line : ℕ → ℕ) (N : ℕ) where
         λ i. both_true (is_statement N inside r.1) (are_statements N inside q.1) (g inside (omega (arith, h.names, i))) (h.good i);
   }
 
-  declarators_fit : (inside : Bool) (xs : Declarators) (st : State) → OnValue (Grows N inside st (declared_in xs)) (walk_declarators line N xs st)
+  declarators_fit : (inside : Bool) (xs : Declarators) (st : State) → OnValue (Grows N inside st (declared_in xs))
+      (walk_declarators line N xs st)
   declarators_fit inside (declares x c) st =
       on_bind (Declares st) (Grows N inside st 1) (walk_declarator line N x st) _ (declarator_fits x st) (λ r h. grows_one inside st r h)
   declarators_fit inside (declares_more x c xs) st =
@@ -132,7 +158,8 @@ module _ (line : ℕ → ℕ) (N : ℕ) where
       → Walked inside (λ st. labelled_by x a st >>= λ now. walked now >>= λ r. Ok (r.0, cons (tree.label x (line a)) r.1)) d
   labelled_then inside x a d walked w st f =
       on_bind (Counted st) (Grows N inside st d) (labelled_by x a st) _ (label_fits x a st f)
-      (λ now h. on_bind (Grows N inside now d) (Grows N inside st d) (walked now) _ (w now h.0) (λ r i. grows_label inside st now d x a r h i))
+      (λ now h. on_bind (Grows N inside now d) (Grows N inside st d) (walked now) _ (w now h.0)
+      (λ r i. grows_label inside st now d x a r h i))
 
   -- a node over branches
   grows_branch : (inside : Bool) (st now : State) (d : ℕ) (c : Condition) (a : ℕ) (r : State × Statements) → TestFits N c
@@ -143,7 +170,8 @@ module _ (line : ℕ → ℕ) (N : ℕ) where
     nodes =
         omega (arith, h.nodes, k);
     good =
-        λ i. one_good N inside (tree.branch c r.1 nil (line a)) (both_true (is_tested N c) (are_statements N inside r.1 && are_statements N inside nil) t
+        λ i. one_good N inside (tree.branch c r.1 nil (line a)) (both_true (is_tested N c)
+        (are_statements N inside r.1 && are_statements N inside nil) t
         (both_true (are_statements N inside r.1) true (h.good i) refl));
   }
 
@@ -156,7 +184,8 @@ module _ (line : ℕ → ℕ) (N : ℕ) where
     nodes =
         omega (arith, i.nodes, h.nodes, k);
     good =
-        λ j. one_good N inside (tree.branch c r.1 q.1 (line a)) (both_true (is_tested N c) (are_statements N inside r.1 && are_statements N inside q.1) t
+        λ j. one_good N inside (tree.branch c r.1 q.1 (line a)) (both_true (is_tested N c)
+        (are_statements N inside r.1 && are_statements N inside q.1) t
         (both_true (are_statements N inside r.1) (are_statements N inside q.1) (h.good (omega (arith, i.names, j))) (i.good j)));
   }
 
@@ -167,8 +196,10 @@ module _ (line : ℕ → ℕ) (N : ℕ) where
       one_good N inside (tree.loop m c body l) (both_true (is_tested N c) (is_kind N m && are_statements N true body) t
       (both_true (is_kind N m) (are_statements N true body) k b))
 
-  grows_loop : (inside : Bool) (st now : State) (d : ℕ) (m : tree.LoopKind) (c : Condition) (a : ℕ) (r : State × Statements) → IsTrue (is_kind N m)
-      → kind_count m ≡ 0 → TestFits N c → Counted st now → Grows N true now d r → Grows N inside st d (r.0, one (tree.loop m c r.1 (line a)))
+  grows_loop : (inside : Bool) (st now : State) (d : ℕ) (m : tree.LoopKind) (c : Condition) (a : ℕ) (r : State × Statements)
+      → IsTrue (is_kind N m)
+      → kind_count m ≡ 0 → TestFits N c → Counted st now → Grows N true now d r
+      → Grows N inside st d (r.0, one (tree.loop m c r.1 (line a)))
   grows_loop inside st now d m c a r e z t (f, n, k) h = record {
     fits = h.fits;
     names = h.names ∙ ap (λ z. length z + d) n;
@@ -177,7 +208,8 @@ module _ (line : ℕ → ℕ) (N : ℕ) where
     good = λ i. loop_good inside m c r.1 (line a) e t (h.good i);
   }
 
-  grows_for : (inside : Bool) (st now : State) (k d e : ℕ) (c : Condition) (a : ℕ) (r : State × Statements) (u : State × Change) (q : State × Statements)
+  grows_for : (inside : Bool) (st now : State) (k d e : ℕ) (c : Condition) (a : ℕ) (r : State × Statements) (u : State × Change)
+      (q : State × Statements)
       → Grows N inside st d r → TestFits N c → Counted r.0 now → Turns N now u → Grows N true u.0 e q
       → Grows N inside st (d + e) (closed k q.0, followed_by r.1 (one (tree.loop (tree.for_loop u.1) c q.1 (line a))))
   grows_for inside st now k d e c a r u q h t (f, n, l) (v, w, x, y) i = record {
@@ -185,7 +217,8 @@ module _ (line : ℕ → ℕ) (N : ℕ) where
     names = omega (arith, i.names, w, ap length n, h.names);
     nodes =
         omega (arith, h.nodes, l, x, i.nodes, follow_count r.1 (one (tree.loop (tree.for_loop u.1) c q.1 (line a))));
-    good = λ j. follow_good N inside r.1 (one (tree.loop (tree.for_loop u.1) c q.1 (line a))) (h.good (omega (arith, i.names, w, ap length n, j)))
+    good = λ j. follow_good N inside r.1 (one (tree.loop (tree.for_loop u.1) c q.1 (line a)))
+        (h.good (omega (arith, i.names, w, ap length n, j)))
         (loop_good inside (tree.for_loop u.1) c q.1 (line a) (y (omega (arith, i.names, j))) t (i.good j));
   }
 
@@ -210,7 +243,8 @@ module _ (line : ℕ → ℕ) (N : ℕ) where
   }
 
   -- ---- assignments and steps
-  turned : (st now : State) (g : Change) → Counted st now → change_count g ≡ 1 → (length st.names ≤ N → IsTrue (is_change N g)) → Turns N st (now, g)
+  turned : (st now : State) (g : Change) → Counted st now → change_count g ≡ 1 → (length st.names ≤ N → IsTrue (is_change N g))
+      → Turns N st (now, g)
   turned st now g (f, n, c) e h = (f, ap length n, omega (arith, c, e), (λ k. h (omega (arith, ap length n, k))))
 
   set_good : (i : ℕ) (z : ℤ) (l : ℕ) → i < N → IsTrue (is_number z) → IsTrue (is_change N (change.Set i (variable_form N i z) l))
@@ -225,7 +259,8 @@ module _ (line : ℕ → ℕ) (N : ℕ) where
       (λ i l. on_bind (Counted st) (Turns N st) (counted a st) _ (counted_fits a st f.few_names)
       (λ now k. on_bind (ValueFits N) (Turns N st) (walk_expr line N now e) _ (expr_fits now e)
       (λ v h. on_bind (SideFits N) (Turns N st) (assigned N g i b v) _ (assigned_fits N g i b v h)
-      (λ o s. turned st now (changed i o (line a)) k (changed_count i o (line a)) (λ j. changed_good N i o (line a) (omega (arith, l, j)) s)))))
+      (λ o s. turned st now (changed i o (line a)) k (changed_count i o (line a))
+      (λ j. changed_good N i o (line a) (omega (arith, l, j)) s)))))
   update_fits (step_after x a g b) st f = on_bind (Below st.names) (Turns N st) (known_number x a st) _ (known_below x a st)
       (λ i l. on_bind (Counted st) (Turns N st) (counted a st) _ (counted_fits a st f.few_names)
       (λ now k. turned st now (step_change line N g i a) k refl (λ j. step_good g i a (omega (arith, l, j)))))
@@ -234,7 +269,8 @@ module _ (line : ℕ → ℕ) (N : ℕ) where
       (λ i l. turned st now (step_change line N g i a) k refl (λ j. step_good g i a (omega (arith, l, ap length k.1, j)))))
 
   -- ---- the head of a `for`
-  first_fits : (inside : Bool) (f : ForFirst) (st : State) → Fits st → OnValue (Grows N inside st (declared_before f)) (walk_first line N f st)
+  first_fits : (inside : Bool) (f : ForFirst) (st : State) → Fits st →
+      OnValue (Grows N inside st (declared_before f)) (walk_first line N f st)
   first_fits inside (no_first a) st f = grows_none inside st f
   first_fits inside (declared_first a xs) st f = declarators_fit inside xs st
   first_fits inside (updated_first u a) st f =
@@ -248,14 +284,16 @@ module _ (line : ℕ → ℕ) (N : ℕ) where
 
   test_fits : (a : ℕ) (t : ForTest) (st : State) → OnValue (TestFits N) (walk_test line N a t st)
   test_fits a (no_test b) st = always_fits
-  test_fits a (given_test e b) st = on_bind (ValueFits N) (TestFits N) (walk_expr line N st e) _ (expr_fits st e) (λ v h. tested_fits N a v h)
+  test_fits a (given_test e b) st = on_bind (ValueFits N) (TestFits N) (walk_expr line N st e) _ (expr_fits st e)
+      (λ v h. tested_fits N a v h)
 
   last_turns : (l : ForLast) (st : State) → Fits st → OnValue (Turns N st) (walk_last line N l st)
   last_turns (no_last a) st f = (f, refl, omega arith, (λ h. refl))
   last_turns (updated_last u a) st f = update_fits u st f
 
   -- ---- statements
-  case_test : (inside : Bool) (e : Expr) (a d : ℕ) (made : Condition → State → Result (State × Statements) ParseFault) (st : State) → Fits st
+  case_test : (inside : Bool) (e : Expr) (a d : ℕ) (made : Condition → State → Result (State × Statements) ParseFault) (st : State)
+      → Fits st
       → ((c : Condition) (now : State) → TestFits N c → Counted st now → OnValue (Grows N inside st d) (made c now))
       → OnValue (Grows N inside st d) (walk_expr line N st e >>= λ v. tested a v >>= λ x. counted a st >>= λ now. made x now)
   case_test inside e a d made st f g = on_bind (ValueFits N) (Grows N inside st d) (walk_expr line N st e) _ (expr_fits st e)
@@ -273,38 +311,52 @@ module _ (line : ℕ → ℕ) (N : ℕ) where
       (λ now k. grows_node true st now (tree.jump (jump_kind j) (line a)) k refl (λ h. refl))
   case_jumps false j a b st f = tt
 
-  grows_closed : (inside : Bool) (st : State) (n d : ℕ) (r : State × Statements) → Grows N inside st d r → Grows N inside st d (closed n r.0, r.1)
-  grows_closed inside st n d r h = record { fits = record { few_names = h.fits.few_names; few_nodes = h.fits.few_nodes }; names = h.names; nodes = h.nodes; good = h.good }
+  grows_closed : (inside : Bool) (st : State) (n d : ℕ) (r : State × Statements) → Grows N inside st d r
+      → Grows N inside st d (closed n r.0, r.1)
+  grows_closed inside st n d r h = record {
+    fits = record { few_names = h.fits.few_names; few_nodes = h.fits.few_nodes };
+    names =
+        h.names;
+    nodes = h.nodes;
+    good = h.good;
+  }
 
   mutual
     core_fits : (inside : Bool) (c : Core) → Walked inside (walk_core line N inside c) (declared_core c)
     core_fits inside (empty a) st f = grows_none inside st f
     core_fits inside (block a is b) st f = on_bind (Grows N inside st (declared_items is)) (Grows N inside st (declared_items is))
-        (walk_items line N inside is st) _ (items_fit inside is st f) (λ r h. grows_closed inside st (length st.known) (declared_items is) r h)
+        (walk_items line N inside is st) _ (items_fit inside is st f) (λ r h. grows_closed inside st (length st.known) (declared_items is) r
+        h)
     core_fits inside (if_alone a b e c s) st f =
-        case_test inside e a (declared_sub s) (λ x now. walk_sub line N inside s now >>= λ r. Ok (r.0, one (tree.branch x r.1 nil (line a)))) st f
+        case_test inside e a (declared_sub s) (λ x now. walk_sub line N inside s now
+        >>= λ r. Ok (r.0, one (tree.branch x r.1 nil (line a)))) st f
         (λ x now t k. on_bind (Grows N inside now (declared_sub s)) (Grows N inside st (declared_sub s)) (walk_sub line N inside s now) _
         (sub_fits inside s now k.0) (λ r h. grows_branch inside st now (declared_sub s) x a r t k h))
     core_fits inside (if_else a b e c s d u) st f =
         case_test inside e a (declared_sub s + declared_sub u) (λ x now. walk_sub line N inside s now >>= λ r. walk_sub line N inside u r.0
         >>= λ q. Ok (q.0, one (tree.branch x r.1 q.1 (line a)))) st f
-        (λ x now t k. on_bind (Grows N inside now (declared_sub s)) (Grows N inside st (declared_sub s + declared_sub u)) (walk_sub line N inside s now) _
-        (sub_fits inside s now k.0) (λ r h. on_bind (Grows N inside r.0 (declared_sub u)) (Grows N inside st (declared_sub s + declared_sub u))
+        (λ x now t k. on_bind (Grows N inside now (declared_sub s)) (Grows N inside st (declared_sub s + declared_sub u))
+        (walk_sub line N inside s now) _
+        (sub_fits inside s now k.0) (λ r h. on_bind (Grows N inside r.0 (declared_sub u))
+        (Grows N inside st (declared_sub s + declared_sub u))
         (walk_sub line N inside u r.0) _ (sub_fits inside u r.0 h.fits)
         (λ q i. grows_both inside st now (declared_sub s) (declared_sub u) x a r q t k h i)))
     core_fits inside (repeat a b e c s) st f =
-        case_test inside e a (declared_sub s) (λ x now. walk_sub line N true s now >>= λ r. Ok (r.0, one (tree.loop tree.while_loop x r.1 (line a)))) st f
+        case_test inside e a (declared_sub s) (λ x now. walk_sub line N true s now
+        >>= λ r. Ok (r.0, one (tree.loop tree.while_loop x r.1 (line a)))) st f
         (λ x now t k. on_bind (Grows N true now (declared_sub s)) (Grows N inside st (declared_sub s)) (walk_sub line N true s now) _
         (sub_fits true s now k.0) (λ r h. grows_loop inside st now (declared_sub s) tree.while_loop x a r refl refl t k h))
     core_fits inside (repeat_after a s b c e d i) st f =
         on_bind (Counted st) (Grows N inside st (declared_sub s)) (counted a st) _ (counted_fits a st f.few_names)
-        (λ now k. on_bind (Grows N true now (declared_sub s)) (Grows N inside st (declared_sub s)) (walk_sub line N true s now) _ (sub_fits true s now k.0)
+        (λ now k. on_bind (Grows N true now (declared_sub s)) (Grows N inside st (declared_sub s)) (walk_sub line N true s now) _
+        (sub_fits true s now k.0)
         (λ r h. on_bind (ValueFits N) (Grows N inside st (declared_sub s)) (walk_expr line N r.0 e) _ (expr_fits r.0 e)
         (λ v j. on_bind (TestFits N) (Grows N inside st (declared_sub s)) (tested a v) _ (tested_fits N a v j)
         (λ x t. grows_loop inside st now (declared_sub s) tree.do_loop x a r refl refl t k h))))
     core_fits inside (repeat_for a b y t l s) st f =
         on_bind (Grows N inside st (declared_before y)) (Grows N inside st (declared_before y + declared_sub s)) (walk_first line N y st) _
-        (first_fits inside y st f) (λ r h. on_bind (TestFits N) (Grows N inside st (declared_before y + declared_sub s)) (walk_test line N a t r.0) _
+        (first_fits inside y st f) (λ r h. on_bind (TestFits N) (Grows N inside st (declared_before y + declared_sub s))
+        (walk_test line N a t r.0) _
         (test_fits a t r.0) (λ x i. on_bind (Counted r.0) (Grows N inside st (declared_before y + declared_sub s)) (counted a r.0) _
         (counted_fits a r.0 h.fits.few_names) (λ now k. on_bind (Turns N now) (Grows N inside st (declared_before y + declared_sub s))
         (walk_last line N l now) _ (last_turns l now k.0) (λ u m. on_bind (Grows N true u.0 (declared_sub s))
@@ -316,20 +368,27 @@ module _ (line : ℕ → ℕ) (N : ℕ) where
         on_bind (Turns N st) (Grows N inside st 0) (walk_update line N u st) _ (update_fits u st f) (λ r h. grows_change inside st r h)
 
     sub_fits : (inside : Bool) (s : Sub) → Walked inside (walk_sub line N inside s) (declared_sub s)
-    sub_fits inside (labelled x a b s) st f = labelled_then inside x a (declared_sub s) (walk_sub line N inside s) (λ now k. sub_fits inside s now k) st f
+    sub_fits inside (labelled x a b s) st f = labelled_then inside x a (declared_sub s) (walk_sub line N inside s)
+        (λ now k. sub_fits inside s now k) st f
     sub_fits inside (plain c) st f = core_fits inside c st f
 
     items_fit : (inside : Bool) (is : Items) → Walked inside (walk_items line N inside is) (declared_items is)
     items_fit inside no_items st f = grows_none inside st f
-    items_fit inside (label x a b is) st f = labelled_then inside x a (declared_items is) (walk_items line N inside is) (λ now k. items_fit inside is now k) st f
+    items_fit inside (label x a b is) st f = labelled_then inside x a (declared_items is) (walk_items line N inside is)
+        (λ now k. items_fit inside is now k) st f
     items_fit inside (declaration a xs is) st f =
-        on_bind (Grows N inside st (declared_in xs)) (Grows N inside st (declared_in xs + declared_items is)) (walk_declarators line N xs st) _
-        (declarators_fit inside xs st) (λ r h. on_bind (Grows N inside r.0 (declared_items is)) (Grows N inside st (declared_in xs + declared_items is))
-        (walk_items line N inside is r.0) _ (items_fit inside is r.0 h.fits) (λ q i. grows_then inside st (declared_in xs) (declared_items is) r q h i))
-    items_fit inside (item c is) st f = on_bind (Grows N inside st (declared_core c)) (Grows N inside st (declared_core c + declared_items is))
+        on_bind (Grows N inside st (declared_in xs)) (Grows N inside st (declared_in xs + declared_items is))
+        (walk_declarators line N xs st) _
+        (declarators_fit inside xs st) (λ r h. on_bind (Grows N inside r.0 (declared_items is))
+        (Grows N inside st (declared_in xs + declared_items is))
+        (walk_items line N inside is r.0) _ (items_fit inside is r.0 h.fits)
+        (λ q i. grows_then inside st (declared_in xs) (declared_items is) r q h i))
+    items_fit inside (item c is) st f = on_bind (Grows N inside st (declared_core c))
+        (Grows N inside st (declared_core c + declared_items is))
         (walk_core line N inside c st) _ (core_fits inside c st f)
         (λ r h. on_bind (Grows N inside r.0 (declared_items is)) (Grows N inside st (declared_core c + declared_items is))
-        (walk_items line N inside is r.0) _ (items_fit inside is r.0 h.fits) (λ q i. grows_then inside st (declared_core c) (declared_items is) r q h i))
+        (walk_items line N inside is r.0) _ (items_fit inside is r.0 h.fits)
+        (λ q i. grows_then inside st (declared_core c) (declared_items is) r q h i))
 
 -- a walk that gives a program gives one within the limits
 abbrev pub IsProgram : List (List ℕ) × Statements → Type 0
@@ -338,23 +397,29 @@ IsProgram r = IsTrue (is_program (length r.0) r.1)
 start_fits : Fits start_state
 start_fits = record { few_names = omega arith; few_nodes = omega arith }
 
-last_fits : (N d : ℕ) (names : List (List ℕ)) (q : State × Statements) → N ≡ min MOST_VARIABLES d → Grows N false start_state d q → q.0.names ≡ names
-    → OnValue IsProgram (elim names as (λ z. Result (List (List ℕ) × Statements) ParseFault) [ [] ↦ Err fault.NoVariables | x ∷ xs ↦ Ok (x ∷ xs, q.1) ])
+last_fits : (N d : ℕ) (names : List (List ℕ)) (q : State × Statements) → N ≡ min MOST_VARIABLES d → Grows N false start_state d q
+    → q.0.names ≡ names
+    → OnValue IsProgram (elim names as (λ z. Result (List (List ℕ) × Statements) ParseFault)
+    [ [] ↦ Err fault.NoVariables | x ∷ xs ↦ Ok (x ∷ xs, q.1) ])
 last_fits N d [] q k h e = tt
 last_fits N d (x ∷ xs) q k h e =
     let l : length (x ∷ xs) ≡ length q.0.names = ap length (sym e) in
     let n : N ≡ length (x ∷ xs) = omega (arith, k, l, h.names, h.fits.few_names) in
     let c : nodes_in q.1 ≤ 512 = omega (arith, h.nodes, h.fits.few_nodes) in
-    let g : IsTrue (are_statements (length (x ∷ xs)) false q.1) = subst (λ (m : ℕ). IsTrue (are_statements m false q.1)) n (h.good (omega (arith, n, l))) in
-    both_true (nat_le 1 (length (x ∷ xs))) (nat_le (length (x ∷ xs)) MOST_VARIABLES && (nat_le (nodes_in q.1) 512 && are_statements (length (x ∷ xs)) false q.1))
+    let g : IsTrue (are_statements (length (x ∷ xs)) false q.1) = subst (λ (m : ℕ). IsTrue (are_statements m false q.1)) n
+    (h.good (omega (arith, n, l))) in
+    both_true (nat_le 1 (length (x ∷ xs))) (nat_le (length (x ∷ xs)) MOST_VARIABLES
+    && (nat_le (nodes_in q.1) 512 && are_statements (length (x ∷ xs)) false q.1))
     (le-leb 1 (length (x ∷ xs)) (omega arith))
     (both_true (nat_le (length (x ∷ xs)) MOST_VARIABLES) (nat_le (nodes_in q.1) 512 && are_statements (length (x ∷ xs)) false q.1)
     (le-leb (length (x ∷ xs)) MOST_VARIABLES (omega (arith, l, h.fits.few_names)))
     (both_true (nat_le (nodes_in q.1) 512) (are_statements (length (x ∷ xs)) false q.1) (le-leb (nodes_in q.1) 512 c) g))
 
-pub program_fits : (line : ℕ → ℕ) (is : Items) → OnValue IsProgram (walk_items line (min MOST_VARIABLES (declared_items is)) false is start_state >>= λ q. program_of q)
+pub program_fits : (line : ℕ → ℕ) (is : Items) → OnValue IsProgram (walk_items line (min MOST_VARIABLES (declared_items is)) false is
+    start_state >>= λ q. program_of q)
 program_fits line is = on_bind (Grows (min MOST_VARIABLES (declared_items is)) false start_state (declared_items is)) IsProgram
-    (walk_items line (min MOST_VARIABLES (declared_items is)) false is start_state) _ (items_fit line (min MOST_VARIABLES (declared_items is)) false is start_state start_fits)
+    (walk_items line (min MOST_VARIABLES (declared_items is)) false is start_state) _
+    (items_fit line (min MOST_VARIABLES (declared_items is)) false is start_state start_fits)
     (λ q h. last_fits (min MOST_VARIABLES (declared_items is)) (declared_items is) q.0.names q refl h refl)
 
 pub walk_fits : (line : ℕ → ℕ) (p : Program) → OnValue IsProgram (walk line p)

@@ -4,7 +4,8 @@ use Rattle.std.proofs.Common.{Result, Ok, Err, Option, Some, None, refl, ap, ari
 use Rattle.std.proofs.Math.ListN.{set}
 use Rattle.std.proofs.lemmas.Bool.{le-leb, ltb-false, eq-eqb, eqb-true}
 use Rattle.std.proofs.lemmas.List.{length-set, length-replicate}
-use Rattle.lang_grammar.specs.Grammar.{Relation, Op, or_op, and_op, compare_op, plus_op, minus_op, times_op, Prefix, negative, positive, negation, Change as Assigning}
+use Rattle.lang_grammar.specs.Grammar.{Relation, Op, or_op, and_op, compare_op, plus_op, minus_op, times_op, Prefix, negative, positive}
+use Rattle.lang_grammar.specs.Grammar.{negation, Change as Assigning}
 use Rattle.lang_grammar.specs.Grammar.{replaces, adds, subtracts}
 use Rattle.lang_tree.specs.declared.form.Form.{Form}
 use Rattle.lang_tree.specs.Numbers.{is_number, are_numbers}
@@ -14,9 +15,11 @@ use Rattle.lang_meaning.specs.declared.fault.ParseFault.{ParseFault}
 use Rattle.lang_meaning.specs.declared.fault.ParseFault.TheVariants as fault
 use Rattle.lang_meaning.specs.declared.fault.Limit.TheVariants as limit
 use Rattle.lang_meaning.specs.Results.{◌>>=◌}
-use Rattle.lang_meaning.specs.Forms.{constant_form, variable_form, pairwise, together, plus, minus, products, scaled, is_constant, is_comparable}
+use Rattle.lang_meaning.specs.Forms.{constant_form, variable_form, pairwise, together, plus, minus, products, scaled, is_constant}
+use Rattle.lang_meaning.specs.Forms.{is_comparable}
 use Rattle.lang_meaning.specs.Walk.{Value, a_form, a_truth, a_nondet}
-use Rattle.lang_meaning.specs.Walk.{number_of, as_condition, ranged_number, ranged_numbers, ranged, two_numbers, two_conditions, compared, product, combined}
+use Rattle.lang_meaning.specs.Walk.{number_of, as_condition, ranged_number, ranged_numbers, ranged, two_numbers, two_conditions, compared}
+use Rattle.lang_meaning.specs.Walk.{product, combined}
 use Rattle.lang_meaning.specs.Walk.{prefix_value, regarded, few_leaves, tested, right_side, assigned}
 use Rattle.lang_meaning.proofs.forms.Ranges.{both_true, and_split, zeros_fit, set_fits, ranged_are_numbers, ranged_is_number}
 
@@ -25,11 +28,13 @@ abbrev pub OnValue : {A : Type 0} → (A → Type 0) → Result A ParseFault →
 OnValue P (Ok x) = P x
 OnValue P (Err e) = Unit {0}
 
-pub on_bind : {A B : Type 0} (P : A → Type 0) (Q : B → Type 0) (r : Result A ParseFault) (f : A → Result B ParseFault) → OnValue P r → ((x : A) → P x → OnValue Q (f x)) → OnValue Q (r >>= f)
+pub on_bind : {A B : Type 0} (P : A → Type 0) (Q : B → Type 0) (r : Result A ParseFault) (f : A → Result B ParseFault) → OnValue P r
+    → ((x : A) → P x → OnValue Q (f x)) → OnValue Q (r >>= f)
 on_bind P Q (Ok x) f h g = g x h
 on_bind P Q (Err e) f h g = tt
 
-pub on_cond : {A : Type 0} (P : A → Type 0) (b : Bool) (x y : Result A ParseFault) → (IsTrue b → OnValue P x) → OnValue P y → OnValue P (cond b x y)
+pub on_cond : {A : Type 0} (P : A → Type 0) (b : Bool) (x y : Result A ParseFault) → (IsTrue b → OnValue P x) → OnValue P y
+    → OnValue P (cond b x y)
 on_cond P true x y f h = f refl
 on_cond P false x y f h = h
 
@@ -37,7 +42,8 @@ on_cond P false x y f h = h
 numbers_length : (a : ℕ) (zs : List ℤ) → OnValue (λ ys. length ys ≡ length zs) (ranged_numbers a zs)
 numbers_length a [] = refl
 numbers_length a (z ∷ zs) = on_bind (λ y. Unit {0}) (λ ys. length ys ≡ length (z ∷ zs)) (ranged_number a z) _ (any (ranged_number a z))
-    (λ y h. on_bind (λ ys. length ys ≡ length zs) (λ ys. length ys ≡ length (z ∷ zs)) (ranged_numbers a zs) _ (numbers_length a zs) (λ ys e. ap suc e)) where
+    (λ y h. on_bind (λ ys. length ys ≡ length zs) (λ ys. length ys ≡ length (z ∷ zs)) (ranged_numbers a zs) _ (numbers_length a zs)
+    (λ ys e. ap suc e)) where
       any : {A : Type 0} (r : Result A ParseFault) → OnValue (λ x. Unit {0}) r
       any (Ok x) = tt
       any (Err e) = tt
@@ -64,8 +70,10 @@ products_length z (x ∷ xs) = ap suc (products_length z xs)
 abbrev pub FormFits : ℕ → Form → Type 0
 FormFits n f = IsTrue (is_form n f)
 
-pub form_fits : (n : ℕ) (cs : List ℤ) (c : ℤ) → length cs ≡ n → IsTrue (are_numbers cs) → IsTrue (is_number c) → FormFits n (record { coeffs = cs; constant = c })
-form_fits n cs c l h i = both_true (length cs == n) (are_numbers cs && is_number c) (eq-eqb (length cs) n l) (both_true (are_numbers cs) (is_number c) h i)
+pub form_fits : (n : ℕ) (cs : List ℤ) (c : ℤ) → length cs ≡ n → IsTrue (are_numbers cs) → IsTrue (is_number c)
+    → FormFits n (record { coeffs = cs; constant = c })
+form_fits n cs c l h i = both_true (length cs == n) (are_numbers cs && is_number c) (eq-eqb (length cs) n l)
+    (both_true (are_numbers cs) (is_number c) h i)
 
 form_length : (n : ℕ) (f : Form) → FormFits n f → length f.coeffs ≡ n
 form_length n f h = eqb-true (length f.coeffs) n (and_split (length f.coeffs == n) (are_numbers f.coeffs && is_number f.constant) h).0
@@ -81,7 +89,8 @@ pub constant_length : (n : ℕ) (z : ℤ) → length (constant_form n z).coeffs 
 constant_length n z = length-replicate n (pos 0)
 
 pub variable_fits : (n i : ℕ) (z : ℤ) → IsTrue (is_number z) → FormFits n (variable_form n i z)
-variable_fits n i z h = form_fits n (set (replicate n (pos 0)) i (pos 1)) z (length-set (replicate n (pos 0)) i (pos 1) ∙ length-replicate n (pos 0)) (set_fits (replicate n (pos 0)) i (zeros_fit n)) h
+variable_fits n i z h = form_fits n (set (replicate n (pos 0)) i (pos 1)) z
+    (length-set (replicate n (pos 0)) i (pos 1) ∙ length-replicate n (pos 0)) (set_fits (replicate n (pos 0)) i (zeros_fit n)) h
 
 -- ---- values
 abbrev pub ValueFits : ℕ → Value → Type 0
@@ -106,9 +115,12 @@ numbers_fit : (n a : ℕ) (v w : Value) → ValueFits n v → ValueFits n w → 
 numbers_fit n a v w h i = on_bind (FormFits n) (λ p. FormFits n p.0 × FormFits n p.1) (number_of a v) _ (number_fits n a v h)
     (λ f k. on_bind (FormFits n) (λ p. FormFits n p.0 × FormFits n p.1) (number_of a w) _ (number_fits n a w i) (λ g l. (k, l)))
 
-conditions_fit : (n : ℕ) (v w : Value) → ValueFits n v → ValueFits n w → OnValue (λ p. IsTrue (is_condition n p.0) × IsTrue (is_condition n p.1)) (two_conditions v w)
-conditions_fit n v w h i = on_bind (λ c. IsTrue (is_condition n c)) (λ p. IsTrue (is_condition n p.0) × IsTrue (is_condition n p.1)) (as_condition v)
-    _ (condition_fits n v h) (λ c k. on_bind (λ c. IsTrue (is_condition n c)) (λ p. IsTrue (is_condition n p.0) × IsTrue (is_condition n p.1))
+conditions_fit : (n : ℕ) (v w : Value) → ValueFits n v → ValueFits n w
+    → OnValue (λ p. IsTrue (is_condition n p.0) × IsTrue (is_condition n p.1)) (two_conditions v w)
+conditions_fit n v w h i = on_bind (λ c. IsTrue (is_condition n c)) (λ p. IsTrue (is_condition n p.0) × IsTrue (is_condition n p.1))
+    (as_condition v)
+    _ (condition_fits n v h) (λ c k. on_bind (λ c. IsTrue (is_condition n c))
+    (λ p. IsTrue (is_condition n p.0) × IsTrue (is_condition n p.1))
     (as_condition w) _ (condition_fits n w i) (λ d l. (k, l)))
 
 together_fits : (n a : ℕ) (b : Bool) (f g : Form) → FormFits n f → FormFits n g → OnValue (FormFits n) (ranged a (together b f g))
@@ -118,16 +130,20 @@ scaled_fits : (n a : ℕ) (z : ℤ) (f : Form) → FormFits n f → OnValue (For
 scaled_fits n a z f h = ranged_fits n a (scaled z f) (products_length z f.coeffs ∙ form_length n f h)
 
 product_fits : (n a : ℕ) (f g : Form) → FormFits n f → FormFits n g → OnValue (FormFits n) (product a f g)
-product_fits n a f g h i = on_cond (FormFits n) (is_constant f) _ _ (λ t. scaled_fits n a f.constant g i) (on_cond (FormFits n) (is_constant g) _ _ (λ t. scaled_fits n a g.constant f h) tt)
+product_fits n a f g h i = on_cond (FormFits n) (is_constant f) _ _ (λ t. scaled_fits n a f.constant g i)
+    (on_cond (FormFits n) (is_constant g) _ _ (λ t. scaled_fits n a g.constant f h) tt)
 
 comparison_fits : (n : ℕ) (r : Relation) (a : ℕ) (f g : Form) → FormFits n f → FormFits n g → OnValue (ValueFits n) (compared r a f g)
 comparison_fits n r a f g h i = on_bind (FormFits n) (ValueFits n) (ranged a (minus f g)) _ (together_fits n a true f g h i)
     (λ k l. on_cond (ValueFits n) (is_comparable k) _ _ (λ t. compared_fits n k l t) tt)
 
 pub combined_fits : (n : ℕ) (o : Op) (a : ℕ) (v w : Value) → ValueFits n v → ValueFits n w → OnValue (ValueFits n) (combined o a v w)
-combined_fits n or_op a v w h i = on_bind _ (ValueFits n) (two_conditions v w) _ (conditions_fit n v w h i) (λ p k. both_true (is_condition n p.0) (is_condition n p.1) k.0 k.1)
-combined_fits n and_op a v w h i = on_bind _ (ValueFits n) (two_conditions v w) _ (conditions_fit n v w h i) (λ p k. both_true (is_condition n p.0) (is_condition n p.1) k.0 k.1)
-combined_fits n (compare_op r) a v w h i = on_bind _ (ValueFits n) (two_numbers a v w) _ (numbers_fit n a v w h i) (λ p k. comparison_fits n r a p.0 p.1 k.0 k.1)
+combined_fits n or_op a v w h i = on_bind _ (ValueFits n) (two_conditions v w) _ (conditions_fit n v w h i)
+    (λ p k. both_true (is_condition n p.0) (is_condition n p.1) k.0 k.1)
+combined_fits n and_op a v w h i = on_bind _ (ValueFits n) (two_conditions v w) _ (conditions_fit n v w h i)
+    (λ p k. both_true (is_condition n p.0) (is_condition n p.1) k.0 k.1)
+combined_fits n (compare_op r) a v w h i = on_bind _ (ValueFits n) (two_numbers a v w) _ (numbers_fit n a v w h i)
+    (λ p k. comparison_fits n r a p.0 p.1 k.0 k.1)
 combined_fits n plus_op a v w h i =
     on_bind _ (ValueFits n) (two_numbers a v w) _ (numbers_fit n a v w h i)
     (λ p k. on_bind (FormFits n) (ValueFits n) (ranged a (plus p.0 p.1)) _ (together_fits n a false p.0 p.1 k.0 k.1) (λ f l. l))
@@ -153,12 +169,14 @@ abbrev pub TestFits : ℕ → Condition → Type 0
 TestFits n c = IsTrue (is_tested n c)
 
 pub tested_fits : (n a : ℕ) (v : Value) → ValueFits n v → OnValue (TestFits n) (tested a v)
-tested_fits n a v h = on_bind (λ c. IsTrue (is_condition n c)) (TestFits n) (as_condition v) _ (condition_fits n v h) (λ c i. few n a c i) where
-  few : (n a : ℕ) (c : Condition) → IsTrue (is_condition n c) → OnValue (TestFits n) (few_leaves a c)
-  few n a c i = by_test (nat_lt 64 (leaf_count c)) refl where
-    by_test : (b : Bool) → nat_lt 64 (leaf_count c) ≡ b → OnValue (TestFits n) (cond b (Err (fault.Limit a limit.Leaves)) (Ok c))
-    by_test true e = tt
-    by_test false e = both_true (nat_le (leaf_count c) 64) (is_condition n c) (le-leb (leaf_count c) 64 (ltb-false 64 (leaf_count c) e)) i
+tested_fits n a v h = on_bind (λ c. IsTrue (is_condition n c)) (TestFits n) (as_condition v) _ (condition_fits n v h)
+    (λ c i. few n a c i) where
+      few : (n a : ℕ) (c : Condition) → IsTrue (is_condition n c) → OnValue (TestFits n) (few_leaves a c)
+      few n a c i = by_test (nat_lt 64 (leaf_count c)) refl where
+        by_test : (b : Bool) → nat_lt 64 (leaf_count c) ≡ b → OnValue (TestFits n) (cond b (Err (fault.Limit a limit.Leaves)) (Ok c))
+        by_test true e = tt
+        by_test false e = both_true (nat_le (leaf_count c) 64) (is_condition n c) (le-leb (leaf_count c) 64 (ltb-false 64 (leaf_count c) e))
+            i
 
 abbrev pub SideFits : ℕ → Option Form → Type 0
 SideFits n (Some f) = FormFits n f

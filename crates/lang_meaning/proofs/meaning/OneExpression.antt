@@ -24,13 +24,16 @@ not_nested : (a n : ℕ) (ts : List Token) (e : Expr) → FindsExpr (nests_at a)
 not_nested a n ts e f l = let h = sym (found_is (nests_at a) ts (λ e. cc) f) ∙ found_is (reaches n) ts (λ e. cc) (e, l) in cc
 
 -- At most one answer is meant.
-pub expression_once : (text : List ℕ) (ts : List Token) (from : ℕ) (names : List (List ℕ)) (r s : ExpressionAnswer) → ExpressionMeans text ts from names r
+pub expression_once : (text : List ℕ) (ts : List Token) (from : ℕ) (names : List (List ℕ)) (r s : ExpressionAnswer)
+    → ExpressionMeans text ts from names r
     → ExpressionMeans text ts from names s → r ≡ s
-expression_once text ts from names r s (inl (a, f, e)) (inl (b, g, h)) = e ∙ ap (λ x. Err (fault.Unexpected x)) (two_stops a b (drop from ts) f g) ∙ sym h
+expression_once text ts from names r s (inl (a, f, e)) (inl (b, g, h)) =
+    e ∙ ap (λ x. Err (fault.Unexpected x)) (two_stops a b (drop from ts) f g) ∙ sym h
 expression_once text ts from names r s (inl (a, f, e)) (inr (inl (b, g, h))) = absurd (not_both a b (drop from ts) f g)
 expression_once text ts from names r s (inl (a, f, e)) (inr (inr (p, n, l, i))) = absurd (not_read a n (drop from ts) p f l)
 expression_once text ts from names r s (inr (inl (a, f, e))) (inl (b, g, h)) = absurd (not_both b a (drop from ts) g f)
-expression_once text ts from names r s (inr (inl (a, f, e))) (inr (inl (b, g, h))) = e ∙ ap (λ x. Err (fault.Limit x Nesting)) (two_nests a b (drop from ts) f g) ∙ sym h
+expression_once text ts from names r s (inr (inl (a, f, e))) (inr (inl (b, g, h))) =
+    e ∙ ap (λ x. Err (fault.Limit x Nesting)) (two_nests a b (drop from ts) f g) ∙ sym h
 expression_once text ts from names r s (inr (inl (a, f, e))) (inr (inr (p, n, l, i))) = absurd (not_nested a n (drop from ts) p f l)
 expression_once text ts from names r s (inr (inr (p, n, l, e))) (inl (b, g, h)) = absurd (not_read b n (drop from ts) p g l)
 expression_once text ts from names r s (inr (inr (p, n, l, e))) (inr (inl (b, g, h))) = absurd (not_nested b n (drop from ts) p g l)

@@ -39,15 +39,18 @@ means_once text ts r s (inl (a, f, e)) (inl (b, g, h)) = e ∙ ap (λ x. Err (fa
 means_once text ts r s (inl (a, f, e)) (inr (inl (b, g, h))) = absurd (not_both a b ts f g)
 means_once text ts r s (inl (a, f, e)) (inr (inr (p, g, h, i))) = absurd (not_read a ts p f g h)
 means_once text ts r s (inr (inl (a, f, e))) (inl (b, g, h)) = absurd (not_both b a ts g f)
-means_once text ts r s (inr (inl (a, f, e))) (inr (inl (b, g, h))) = e ∙ ap (λ x. Err (fault.Limit x Nesting)) (two_nested a b ts f g) ∙ sym h
+means_once text ts r s (inr (inl (a, f, e))) (inr (inl (b, g, h))) = e ∙ ap (λ x. Err (fault.Limit x Nesting)) (two_nested a b ts f g)
+    ∙ sym h
 means_once text ts r s (inr (inl (a, f, e))) (inr (inr (p, g, h, i))) = absurd (not_nested a ts p f g h)
 means_once text ts r s (inr (inr (p, f, k, e))) (inl (b, g, h)) = absurd (not_read b ts p g f k)
 means_once text ts r s (inr (inr (p, f, k, e))) (inr (inl (b, g, h))) = absurd (not_nested b ts p g f k)
 means_once text ts r s (inr (inr (p, f, k, e))) (inr (inr (q, g, l, h))) = e ∙ ap (walk (line_at text)) (reads_once ts p q f g) ∙ sym h
 
 -- what is answered in place of what is meant
-pub meant_value : (text : List ℕ) (ts : List Token) (wanted r : Answer) (x : List (List ℕ) × Statements) → Means text ts wanted → Means text ts r → r ≡ Ok x → wanted ≡ Ok x
+pub meant_value : (text : List ℕ) (ts : List Token) (wanted r : Answer) (x : List (List ℕ) × Statements) → Means text ts wanted
+    → Means text ts r → r ≡ Ok x → wanted ≡ Ok x
 meant_value text ts wanted r x m n e = means_once text ts wanted r m n ∙ e
 
-pub meant_fault : (text : List ℕ) (ts : List Token) (wanted r : Answer) (e : ParseFault) → Means text ts wanted → Means text ts r → r ≡ Err e → wanted ≡ Err e
+pub meant_fault : (text : List ℕ) (ts : List Token) (wanted r : Answer) (e : ParseFault) → Means text ts wanted → Means text ts r
+    → r ≡ Err e → wanted ≡ Err e
 meant_fault text ts wanted r e m n h = means_once text ts wanted r m n ∙ h

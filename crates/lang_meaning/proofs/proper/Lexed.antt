@@ -1,5 +1,6 @@
 -- The tokens of a text are proper, and end with `End`.
-use Rattle.std.proofs.Common.{◌≡◌, ◌∙◌, ◌++◌, ◌+◌, ◌≤◌, ◌<◌, ℕ, zero, suc, List, [], ◌∷◌, length, get_or, take, drop, ◌-◌, Bool, true, false, ◌&&◌, ◌||◌, IsTrue, nat_le, refl}
+use Rattle.std.proofs.Common.{◌≡◌, ◌∙◌, ◌++◌, ◌+◌, ◌≤◌, ◌<◌, ℕ, zero, suc, List, [], ◌∷◌, length, get_or, take, drop, ◌-◌, Bool, true}
+use Rattle.std.proofs.Common.{false, ◌&&◌, ◌||◌, IsTrue, nat_le, refl}
 use Rattle.std.proofs.Common.{sym, subst, arith}
 use Rattle.std.specs.Prelude.{slice_range}
 use Rattle.std.proofs.lemmas.Bool.{le-leb}
@@ -26,16 +27,19 @@ same_word [] = refl
 same_word (b ∷ bs) = first_twice (is_letter b) (is_ascii_digit b) (list_all is_word_byte bs)
 
 name_word : (bytes : List ℕ) → IsName bytes → IsTrue (is_word bytes)
-name_word bytes n = both_true (nat_le (length bytes) 32) (begins_word bytes && list_all is_word_byte bytes) (le-leb (length bytes) 32 n.short) (sym (same_word bytes) ∙ n.word)
+name_word bytes n = both_true (nat_le (length bytes) 32) (begins_word bytes && list_all is_word_byte bytes)
+    (le-leb (length bytes) 32 n.short) (sym (same_word bytes) ∙ n.word)
 
-kind_proper : (k : Kind) (text : List ℕ) (t : Token) → t.at + t.len ≤ length text → IsToken k (slice_range text t.at (t.at + t.len)) → IsWordIn k text t
+kind_proper : (k : Kind) (text : List ℕ) (t : Token) → t.at + t.len ≤ length text → IsToken k (slice_range text t.at (t.at + t.len))
+    → IsWordIn k text t
 kind_proper (kind.Word w) text t h i = tt
 kind_proper kind.Name text t h i = (h, name_word _ i)
 kind_proper (kind.Number n) text t h i = tt
 kind_proper (kind.Sign s) text t h i = tt
 kind_proper kind.End text t h i = tt
 
-front_proper : (text : List ℕ) (place : ℕ) (front : List Token) (n : ℕ) → AreTokensAfter text place front → AllProper text (front ++ end_at n ∷ [])
+front_proper : (text : List ℕ) (place : ℕ) (front : List Token) (n : ℕ) → AreTokensAfter text place front
+    → AllProper text (front ++ end_at n ∷ [])
 front_proper text place [] n h = (tt, tt)
 front_proper text place (t ∷ ts) n h = (kind_proper t.kind text t h.0.within h.0.is_token, front_proper text (t.at + t.len) ts n h.1)
 

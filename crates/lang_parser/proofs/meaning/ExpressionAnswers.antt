@@ -27,7 +27,8 @@ Exact text ts from names result = (wanted : ExpressionAnswer) → ExpressionMean
 -- where both passes have been made
 module _ (text : List ℕ) (ts : List lex_token.Token) (from n : ℕ) (d : lex_token.Token) (names : List (List ℕ)) (within : from < length ts)
     (longest : HasLongest (drop from (tokens_of text ts)) n) (result : Result Read ParseFault)
-    (gives : Gives read_of result (reading_of text names (get_or ts from d).at (tokens_of text (slice_range ts from (from + n))) (from + n))) where
+    (gives : Gives read_of result (reading_of text names (get_or ts from d).at (tokens_of text (slice_range ts from (from + n)))
+    (from + n))) where
   pub reading_found : Found text (tokens_of text ts) from names result
   reading_found = (_, reading_means text ts from n d names within longest, gives)
 
@@ -36,7 +37,8 @@ module _ (text : List ℕ) (ts : List lex_token.Token) (from n : ℕ) (d : lex_t
       (expression_once text (tokens_of text ts) from names _ w (reading_means text ts from n d names within longest) m) gives
 
 -- where the first pass has refused the tokens
-module _ (text : List ℕ) (ts : List Token) (from : ℕ) (names : List (List ℕ)) (f : ParseFault) (result : Result Read ParseFault) (handed : IsErrAnd result (λ y. y ≡ f))
+module _ (text : List ℕ) (ts : List Token) (from : ℕ) (names : List (List ℕ)) (f : ParseFault) (result : Result Read ParseFault)
+    (handed : IsErrAnd result (λ y. y ≡ f))
     (refused : (f ≡ NoMemory → ⊥) → IsRefused text ts from f) where
   pub refused_exact : Exact text ts from names result
   refused_exact = λ w m. handed_on read_of result f w handed (λ n. expression_once text ts from names w (Err f) m (refused n names))
@@ -45,7 +47,8 @@ module _ (text : List ℕ) (ts : List Token) (from : ℕ) (names : List (List �
   refused_found e = let s = some_meaning text ts from names e in (s.0, s.1, refused_exact s.0 s.1)
 
 -- what is answered of what is meant
-pub read_fits : (text : List ℕ) (ts : List Token) (from : ℕ) (names : List (List ℕ)) (r : ExpressionAnswer) → ExpressionMeans text ts from names r
+pub read_fits : (text : List ℕ) (ts : List Token) (from : ℕ) (names : List (List ℕ)) (r : ExpressionAnswer)
+    → ExpressionMeans text ts from names r
     → (result : Result Read ParseFault) → Gives read_of result r → IfOk result (λ read. MeaningFits (length names) (expr_of read.expr))
 read_fits text ts from names r m result g = on result g where
   on : (result : Result Read ParseFault) → Gives read_of result r → IfOk result (λ read. MeaningFits (length names) (expr_of read.expr))

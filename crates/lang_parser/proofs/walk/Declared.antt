@@ -7,12 +7,14 @@ use Rattle.lang_meaning.specs.Walk.{State, program_of}
 
 pub program_of_none : (st : State) (ns : Statements) → length st.names ≡ 0 → program_of (st, ns) ≡ Err NoVariables
 program_of_none st ns h = by_names st.names h where
-  by_names : (names : List (List ℕ)) → length names ≡ 0 → elim names as (λ z. Result (List (List ℕ) × Statements) ParseFault) [ [] ↦ Err NoVariables | x ∷ xs ↦ Ok (x ∷ xs, ns) ] ≡ Err NoVariables
+  by_names : (names : List (List ℕ)) → length names ≡ 0 → elim names as (λ z. Result (List (List ℕ) × Statements) ParseFault)
+      [ [] ↦ Err NoVariables | x ∷ xs ↦ Ok (x ∷ xs, ns) ] ≡ Err NoVariables
   by_names [] h = refl
   by_names (x ∷ xs) h = absurd (omega arith)
 
 pub program_of_some : (st : State) (ns : Statements) → (length st.names ≡ 0 → ⊥) → program_of (st, ns) ≡ Ok (st.names, ns)
 program_of_some st ns h = by_names st.names h where
-  by_names : (names : List (List ℕ)) → (length names ≡ 0 → ⊥) → elim names as (λ z. Result (List (List ℕ) × Statements) ParseFault) [ [] ↦ Err NoVariables | x ∷ xs ↦ Ok (x ∷ xs, ns) ] ≡ Ok (names, ns)
+  by_names : (names : List (List ℕ)) → (length names ≡ 0 → ⊥) → elim names as (λ z. Result (List (List ℕ) × Statements) ParseFault)
+      [ [] ↦ Err NoVariables | x ∷ xs ↦ Ok (x ∷ xs, ns) ] ≡ Ok (names, ns)
   by_names [] h = absurd (h refl)
   by_names (x ∷ xs) h = refl

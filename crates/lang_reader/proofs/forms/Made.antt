@@ -26,13 +26,17 @@ zeros_ranged a n = numbers_ok a (replicate n (pos 0)) (zeros_fit n)
 abbrev pub with_rest : ℕ → List ℤ → List ℤ → Result (List ℤ) ParseFault
 with_rest a list rest = ranged_numbers a rest >>= λ ys. Ok (list ++ ys)
 
-next_ok : (a : ℕ) (list : List ℤ) (z y : ℤ) (rest : List ℤ) → ranged_number a z ≡ Ok y → with_rest a list (z ∷ rest) ≡ with_rest a (list ++ y ∷ []) rest
-next_ok a list z y rest e = ap (λ (r : Result ℤ ParseFault). (r >>= λ y. ranged_numbers a rest >>= λ ys. Ok (y ∷ ys)) >>= λ ys. Ok (list ++ ys)) e
+next_ok : (a : ℕ) (list : List ℤ) (z y : ℤ) (rest : List ℤ) → ranged_number a z ≡ Ok y
+    → with_rest a list (z ∷ rest) ≡ with_rest a (list ++ y ∷ []) rest
+next_ok a list z y rest e = ap (λ (r : Result ℤ ParseFault). (r >>= λ y. ranged_numbers a rest >>= λ ys. Ok (y ∷ ys))
+    >>= λ ys. Ok (list ++ ys)) e
     ∙ bind_assoc (ranged_numbers a rest) (λ ys. Ok (y ∷ ys)) (λ ys. Ok (list ++ ys))
     ∙ bind_same (ranged_numbers a rest) _ _ (λ ys. ap Ok (sym (append_assoc list (y ∷ []) ys)))
 
-next_err : (a : ℕ) (list : List ℤ) (z : ℤ) (e : ParseFault) (rest : List ℤ) → ranged_number a z ≡ Err e → with_rest a list (z ∷ rest) ≡ Err e
-next_err a list z e rest h = ap (λ (r : Result ℤ ParseFault). (r >>= λ y. ranged_numbers a rest >>= λ ys. Ok (y ∷ ys)) >>= λ ys. Ok (list ++ ys)) h
+next_err : (a : ℕ) (list : List ℤ) (z : ℤ) (e : ParseFault) (rest : List ℤ) → ranged_number a z ≡ Err e
+    → with_rest a list (z ∷ rest) ≡ Err e
+next_err a list z e rest h = ap (λ (r : Result ℤ ParseFault). (r >>= λ y. ranged_numbers a rest >>= λ ys. Ok (y ∷ ys))
+    >>= λ ys. Ok (list ++ ys)) h
 
 drop-past : (xs : List ℤ) (i : ℕ) → length xs ≤ i → drop i xs ≡ []
 drop-past [] zero h = refl
@@ -66,13 +70,17 @@ module _ (a : ℕ) (z y : ℤ) (same : y ≡ z) (xs : List ℤ) where
   pub products_next : (list now : List ℤ) (n x : ℤ) (i : ℕ) → i < length xs → x ≡ get_or xs i (pos 0) → now ≡ list ++ n ∷ []
       → ranged_number a (y *ℤ x) ≡ Ok n → ranged_numbers a (products y xs) ≡ with_rest a list (products y (drop i xs))
       → ranged_numbers a (products y xs) ≡ with_rest a now (products y (drop (i + 1) xs))
-  products_next list now n x i h g e f k = rw (e, add-one) (k ∙ ap (with_rest a list) (times_at i x h g) ∙ next_ok a list (y *ℤ x) n (products y (drop (suc i) xs)) f)
+  products_next list now n x i h g e f k = rw (e, add-one) (k ∙ ap (with_rest a list) (times_at i x h g)
+      ∙ next_ok a list (y *ℤ x) n (products y (drop (suc i) xs)) f)
 
-  pub products_stop : (list : List ℤ) (e : ParseFault) (x : ℤ) (i : ℕ) → i < length xs → x ≡ get_or xs i (pos 0) → ranged_number a (y *ℤ x) ≡ Err e
+  pub products_stop : (list : List ℤ) (e : ParseFault) (x : ℤ) (i : ℕ) → i < length xs → x ≡ get_or xs i (pos 0)
+      → ranged_number a (y *ℤ x) ≡ Err e
       → ranged_numbers a (products y xs) ≡ with_rest a list (products y (drop i xs)) → ranged_numbers a (products z xs) ≡ Err e
-  products_stop list e x i h g f k = wanted (Err e) (k ∙ ap (with_rest a list) (times_at i x h g) ∙ next_err a list (y *ℤ x) e (products y (drop (suc i) xs)) f)
+  products_stop list e x i h g f k = wanted (Err e) (k ∙ ap (with_rest a list) (times_at i x h g)
+      ∙ next_err a list (y *ℤ x) e (products y (drop (suc i) xs)) f)
 
-  pub products_done : (list : List ℤ) (i : ℕ) → length xs ≤ i → ranged_numbers a (products y xs) ≡ with_rest a list (products y (drop i xs)) → ranged_numbers a (products z xs) ≡ Ok list
+  pub products_done : (list : List ℤ) (i : ℕ) → length xs ≤ i → ranged_numbers a (products y xs) ≡ with_rest a list (products y (drop i xs))
+      → ranged_numbers a (products z xs) ≡ Ok list
   products_done list i h e = wanted (Ok list) (e ∙ done a list _ (ap (products y) (drop-past xs i h)))
 
 module _ (a : ℕ) (b : Bool) (xs ys : List ℤ) (whole : Result (List ℤ) ParseFault) where
@@ -83,19 +91,24 @@ module _ (a : ℕ) (b : Bool) (xs ys : List ℤ) (whole : Result (List ℤ) Pars
       ∙ ap (λ z. sum_or_difference b z (get_or ys i (pos 0)) ∷ pairwise b (drop (suc i) xs) (drop (suc i) ys)) (sym e)
       ∙ ap (λ z. sum_or_difference b x z ∷ pairwise b (drop (suc i) xs) (drop (suc i) ys)) (sym f)
 
-  pub pairs_next : (list now : List ℤ) (n x y : ℤ) (i : ℕ) → i < length xs → i < length ys → x ≡ get_or xs i (pos 0) → y ≡ get_or ys i (pos 0)
-      → now ≡ list ++ n ∷ [] → ranged_number a (sum_or_difference b x y) ≡ Ok n → whole ≡ with_rest a list (pairwise b (drop i xs) (drop i ys))
+  pub pairs_next : (list now : List ℤ) (n x y : ℤ) (i : ℕ) → i < length xs → i < length ys → x ≡ get_or xs i (pos 0)
+      → y ≡ get_or ys i (pos 0)
+      → now ≡ list ++ n ∷ [] → ranged_number a (sum_or_difference b x y) ≡ Ok n
+      → whole ≡ with_rest a list (pairwise b (drop i xs) (drop i ys))
       → whole ≡ with_rest a now (pairwise b (drop (i + 1) xs) (drop (i + 1) ys))
   pairs_next list now n x y i h k e f g m w =
       rw (g, add-one) (w ∙ ap (with_rest a list) (pair_at i x y h k e f)
       ∙ next_ok a list (sum_or_difference b x y) n (pairwise b (drop (suc i) xs) (drop (suc i) ys)) m)
 
   pub pairs_stop : (list : List ℤ) (z : ParseFault) (x y : ℤ) (i : ℕ) → i < length xs → i < length ys → x ≡ get_or xs i (pos 0)
-      → y ≡ get_or ys i (pos 0) → ranged_number a (sum_or_difference b x y) ≡ Err z → whole ≡ with_rest a list (pairwise b (drop i xs) (drop i ys))
+      → y ≡ get_or ys i (pos 0) → ranged_number a (sum_or_difference b x y) ≡ Err z
+      → whole ≡ with_rest a list (pairwise b (drop i xs) (drop i ys))
       → whole ≡ Err z
-  pairs_stop list z x y i h k e f m w = w ∙ ap (with_rest a list) (pair_at i x y h k e f) ∙ next_err a list (sum_or_difference b x y) z (pairwise b (drop (suc i) xs) (drop (suc i) ys)) m
+  pairs_stop list z x y i h k e f m w = w ∙ ap (with_rest a list) (pair_at i x y h k e f)
+      ∙ next_err a list (sum_or_difference b x y) z (pairwise b (drop (suc i) xs) (drop (suc i) ys)) m
 
-  pub pairs_done : (list : List ℤ) (i : ℕ) → min (length xs) (length ys) ≤ i → whole ≡ with_rest a list (pairwise b (drop i xs) (drop i ys)) → whole ≡ Ok list
+  pub pairs_done : (list : List ℤ) (i : ℕ) → min (length xs) (length ys) ≤ i → whole ≡ with_rest a list (pairwise b (drop i xs) (drop i ys))
+      → whole ≡ Ok list
   pairs_done list i h e = e ∙ done a list _ (pairs_none b xs ys i h)
 
 -- a form of these coefficients

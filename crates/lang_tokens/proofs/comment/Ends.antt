@@ -1,7 +1,9 @@
 -- Where comments end.
-use Rattle.std.proofs.Common.{◌≡◌, ◌≤◌, ◌<◌, ◌+◌, ◌-◌, ℕ, suc, zero, true, not, eqb, List, [], ◌∷◌, ◌++◌, length, take, drop, get_or, refl, ap, subst, ◌∙◌}
+use Rattle.std.proofs.Common.{◌≡◌, ◌≤◌, ◌<◌, ◌+◌, ◌-◌, ℕ, suc, zero, true, not, eqb, List, [], ◌∷◌, ◌++◌, length, take, drop, get_or, refl}
+use Rattle.std.proofs.Common.{ap, subst, ◌∙◌}
 use Rattle.std.proofs.Common.{arith, None, Some, ⊎_elim}
-use Rattle.std.proofs.lemmas.List.{take-append-drop, length-take-le, length-take, length-append, take_rest, get_or_at, append_assoc, get_or_past}
+use Rattle.std.proofs.lemmas.List.{take-append-drop, length-take-le, length-take, length-append, take_rest, get_or_at, append_assoc}
+use Rattle.std.proofs.lemmas.List.{get_or_past}
 use Rattle.std.proofs.lemmas.List.Sums.{prefix_len-le-length}
 use Rattle.std.proofs.lemmas.Bool.{not-true, not-false, cases_lt}
 use Rattle.std.specs.List.{prefix_len}
@@ -21,7 +23,8 @@ ends_from_stops : (xs : List ℕ) → stops is_on_line xs ≡ true → ends_line
 ends_from_stops [] h = refl
 ends_from_stops (x ∷ xs) h = not-false (eqb x 10) (not-true (not (eqb x 10)) h)
 
-line_comment_from : (body : List ℕ) (n : ℕ) → n ≡ prefix_len is_on_line body → StandsFirst (47 ∷ 47 ∷ body) (record { kind = None; len = 2 + n })
+line_comment_from : (body : List ℕ) (n : ℕ) → n ≡ prefix_len is_on_line body
+    → StandsFirst (47 ∷ 47 ∷ body) (record { kind = None; len = 2 + n })
 line_comment_from body n e = rw e record {
   piece = line_comment (take (prefix_len is_on_line body) body);
   after = drop (prefix_len is_on_line body) body;
@@ -32,7 +35,8 @@ line_comment_from body n e = rw e record {
 }
 
 -- a text that starts with `//` has a line comment first, up to the next line feed
-pub line_comment_stands : (rest : List ℕ) (n : ℕ) → 2 ≤ length rest → get_or rest 0 0 ≡ 47 → get_or rest 1 0 ≡ 47 → n ≡ prefix_len is_on_line (take (length rest - 2) (drop 2 rest)) → StandsFirst rest (record { kind = None; len = 2 + n })
+pub line_comment_stands : (rest : List ℕ) (n : ℕ) → 2 ≤ length rest → get_or rest 0 0 ≡ 47 → get_or rest 1 0 ≡ 47
+    → n ≡ prefix_len is_on_line (take (length rest - 2) (drop 2 rest)) → StandsFirst rest (record { kind = None; len = 2 + n })
 line_comment_stands rest n some e f h =
     subst (λ (r : List ℕ). StandsFirst r (record { kind = None; len = 2 + n })) (first_two rest 47 47 some e f)
     (line_comment_from (drop 2 rest) n (rw (take_rest rest 2) at h))
@@ -56,9 +60,12 @@ close_split (x ∷ text) (suc k) h =
     rw two (ap (λ (xs : List ℕ). x ∷ xs) (close_split text k (h.0, rw one at h.1)))
 
 close_within : (text : List ℕ) (k : ℕ) → ClosesAt text k → k + 2 ≤ length text
-close_within text k h = ⊎_elim (λ (short : length text < k + 2). let past : get_or text (k + 1) 0 ≡ 0 = get_or_past text (k + 1) 0 (omega arith) in absurd (omega (arith, h.1))) (λ (long : k + 2 ≤ length text). long) (cases_lt (length text) (k + 2))
+close_within text k h = ⊎_elim (λ (short : length text < k + 2). let past : get_or text (k + 1) 0 ≡ 0 =
+    get_or_past text (k + 1) 0 (omega arith) in absurd (omega (arith, h.1))) (λ (long : k + 2 ≤ length text). long)
+    (cases_lt (length text) (k + 2))
 
-block_comment_from : (body : List ℕ) (k : ℕ) → IsFirstClose body (Some k) → StandsFirst (47 ∷ 42 ∷ body) (record { kind = None; len = k + 4 })
+block_comment_from : (body : List ℕ) (k : ℕ) → IsFirstClose body (Some k)
+    → StandsFirst (47 ∷ 42 ∷ body) (record { kind = None; len = k + 4 })
 block_comment_from body k first = record {
   piece = block_comment (take k body);
   after = drop (k + 2) body;
@@ -81,13 +88,15 @@ block_comment_from body k first = record {
     length_is = omega (arith, length-append (take k body) (42 ∷ 47 ∷ []), length-take-le k body (omega (arith, within)))
 
 -- a text that starts with `/*` has a block comment first, up to the first `*/` that follows
-pub block_comment_stands : (rest : List ℕ) (k : ℕ) → 2 ≤ length rest → get_or rest 0 0 ≡ 47 → get_or rest 1 0 ≡ 42 → IsFirstClose (take (length rest - 2) (drop 2 rest)) (Some k) → StandsFirst rest (record { kind = None; len = k + 4 })
+pub block_comment_stands : (rest : List ℕ) (k : ℕ) → 2 ≤ length rest → get_or rest 0 0 ≡ 47 → get_or rest 1 0 ≡ 42
+    → IsFirstClose (take (length rest - 2) (drop 2 rest)) (Some k) → StandsFirst rest (record { kind = None; len = k + 4 })
 block_comment_stands rest k some e f h =
     subst (λ (r : List ℕ). StandsFirst r (record { kind = None; len = k + 4 })) (first_two rest 47 42 some e f)
     (block_comment_from (drop 2 rest) k (rw (take_rest rest 2) at h))
 
 -- a text that starts with `/*` and has no `*/` after it starts with an open comment
-pub open_comment_stands : (rest : List ℕ) → 2 ≤ length rest → get_or rest 0 0 ≡ 47 → get_or rest 1 0 ≡ 42 → IsFirstClose (take (length rest - 2) (drop 2 rest)) None → IsOpen rest
+pub open_comment_stands : (rest : List ℕ) → 2 ≤ length rest → get_or rest 0 0 ≡ 47 → get_or rest 1 0 ≡ 42
+    → IsFirstClose (take (length rest - 2) (drop 2 rest)) None → IsOpen rest
 open_comment_stands rest some e f h = record {
   more = drop 2 rest;
   split = first_two rest 47 42 some e f;

@@ -24,11 +24,13 @@ pub data Grade : Type 0 where
   plain_sign : Grade
 
 abbrev number_grade : List ℕ → List ℕ → Grade
-number_grade bytes after = cond (is_bad bytes after) bad_number (cond (ltb greatest_literal (digits_value 10 bytes)) great_number good_number)
+number_grade bytes after = cond (is_bad bytes after) bad_number (cond (ltb greatest_literal (digits_value 10 bytes)) great_number
+    good_number)
 
 -- the grade of the longest lexeme, from its bytes and what follows
 abbrev pub grade : List ℕ → List ℕ → Grade
-grade bytes after = cond (heads is_letter bytes) (cond (ltb longest_word (length bytes)) long_word short_word) (cond (heads is_digit bytes) (number_grade bytes after) plain_sign)
+grade bytes after = cond (heads is_letter bytes) (cond (ltb longest_word (length bytes)) long_word short_word)
+    (cond (heads is_digit bytes) (number_grade bytes after) plain_sign)
 
 -- the grade that each kind of token has
 abbrev pub kind_grade : Kind → Grade
@@ -65,11 +67,13 @@ long_word_grade bytes after w h = rw (word_heads bytes w, lt-ltb longest_word (l
 numeral_grade : (bytes after : List ℕ) → is_numeral bytes ≡ true → grade bytes after ≡ number_grade bytes after
 numeral_grade bytes after d = let digit = numeral_heads bytes d in rw (numeral_no_word bytes digit, digit) refl
 
-good_number_grade : (bytes after : List ℕ) → is_numeral bytes ≡ true → is_bad bytes after ≡ false → digits_value 10 bytes ≤ greatest_literal → grade bytes after ≡ good_number
+good_number_grade : (bytes after : List ℕ) → is_numeral bytes ≡ true → is_bad bytes after ≡ false → digits_value 10 bytes ≤ greatest_literal
+    → grade bytes after ≡ good_number
 good_number_grade bytes after d good h = numeral_grade bytes after d ∙ rw (good, le-ltb greatest_literal (digits_value 10 bytes) h) refl
 
 -- a numeral that is too great has the grade of great numbers
-pub great_number_grade : (bytes after : List ℕ) → is_numeral bytes ≡ true → is_bad bytes after ≡ false → greatest_literal < digits_value 10 bytes → grade bytes after ≡ great_number
+pub great_number_grade : (bytes after : List ℕ) → is_numeral bytes ≡ true → is_bad bytes after ≡ false
+    → greatest_literal < digits_value 10 bytes → grade bytes after ≡ great_number
 great_number_grade bytes after d good h = numeral_grade bytes after d ∙ rw (good, lt-ltb greatest_literal (digits_value 10 bytes) h) refl
 
 -- a numeral that is malformed has the grade of bad numbers
@@ -81,9 +85,11 @@ sign_grade bytes after m = rw (mark_no_letter bytes m, mark_no_digit bytes m) re
 
 -- a token has the grade of its kind
 pub token_grade : (kind : Kind) (bytes after : List ℕ) → IsWholeToken kind bytes after → grade bytes after ≡ kind_grade kind
-token_grade (kind.Word word) bytes after t = rw (← t.is_token) (short_word_grade (word_bytes word) after (word_spelled word) (word_short word))
+token_grade (kind.Word word) bytes after t = rw (← t.is_token) (short_word_grade (word_bytes word) after (word_spelled word)
+    (word_short word))
 token_grade kind.Name bytes after t = short_word_grade bytes after t.is_token.word t.is_token.short
-token_grade (kind.Number value) bytes after t = good_number_grade bytes after t.is_token.digits (or_from (is_padded bytes) (starts_with_letter after) t.is_token.plain t.apart) t.is_token.within
+token_grade (kind.Number value) bytes after t = good_number_grade bytes after t.is_token.digits
+    (or_from (is_padded bytes) (starts_with_letter after) t.is_token.plain t.apart) t.is_token.within
 token_grade (kind.Sign sign) bytes after t = rw (← t.is_token) (sign_grade (sign_bytes sign) after (sign_heads sign))
 token_grade kind.End bytes after t = absurd t.is_token
 
@@ -97,7 +103,8 @@ one_kind (kind.Number x) (kind.Number y) bytes after s t = ap kind.Number (s.is_
 one_kind (kind.Sign x) (kind.Sign y) bytes after s t = ap kind.Sign (one_sign x y bytes s.is_token t.is_token)
 one_kind kind.End l bytes after s t = absurd s.is_token
 one_kind k kind.End bytes after s t = absurd t.is_token
-one_kind k l bytes after s t = let same : kind_grade k ≡ kind_grade l = sym (token_grade k bytes after s) ∙ token_grade l bytes after t in cc
+one_kind k l bytes after s t = let same : kind_grade k ≡ kind_grade l = sym (token_grade k bytes after s) ∙ token_grade l bytes after t in
+    cc
 
 -- the longest lexeme of a text is one
 pub one_longest : (a x b y : List ℕ) → IsLongest a x → IsLongest b y → a ++ x ≡ b ++ y → a ≡ b

@@ -16,7 +16,8 @@ heads p [] = false
 heads p (x ∷ xs) = p x
 
 -- where the first element of a front passes a test, that of the whole list does
-pub heads_front : {X : Type 0} (p : X → Bool) (other after xs : List X) (x : X) → other ++ after ≡ x ∷ xs → heads p other ≡ true → p x ≡ true
+pub heads_front : {X : Type 0} (p : X → Bool) (other after xs : List X) (x : X) → other ++ after ≡ x ∷ xs → heads p other ≡ true
+    → p x ≡ true
 heads_front p [] after xs x e h = cc
 heads_front p (o ∷ other) after xs x e h = let same : o ≡ x = cc in sym (ap p same) ∙ h
 

@@ -29,13 +29,15 @@ module _ (other after bs : List ℕ) (b : ℕ) (front : other ++ after ≡ b ∷
   pub word_starts : IsLexeme other → is_letter b ≡ true → is_word other ≡ true
   word_starts (a_word w) l = w
   word_starts (a_numeral d) l = absurd (letter_no_digit b l (heads_front is_digit other after bs b front (numeral_heads other d)))
-  word_starts (a_sign sign e) l = let m = mark_is b (heads_front is_mark other after bs b front (rw (← e) (sign_heads sign))) in let no : is_letter b ≡ false = m.no_letter in cc
+  word_starts (a_sign sign e) l = let m = mark_is b (heads_front is_mark other after bs b front (rw (← e) (sign_heads sign))) in
+      let no : is_letter b ≡ false = m.no_letter in cc
 
   -- a lexeme whose first byte is a digit is a numeral
   pub numeral_starts : IsLexeme other → is_digit b ≡ true → is_numeral other ≡ true
   numeral_starts (a_numeral d) l = d
   numeral_starts (a_word w) l = absurd (letter_no_digit b (heads_front is_letter other after bs b front (word_heads other w)) l)
-  numeral_starts (a_sign sign e) l = let m = mark_is b (heads_front is_mark other after bs b front (rw (← e) (sign_heads sign))) in let no : is_digit b ≡ false = m.no_digit in cc
+  numeral_starts (a_sign sign e) l = let m = mark_is b (heads_front is_mark other after bs b front (rw (← e) (sign_heads sign))) in
+      let no : is_digit b ≡ false = m.no_digit in cc
 
   -- a lexeme whose first byte is neither letter nor digit is a sign
   pub sign_starts : IsLexeme other → is_letter b ≡ false → is_digit b ≡ false → (sign : Sign) × (sign_bytes sign ≡ other)
@@ -53,7 +55,8 @@ numeral_passes : (bytes : List ℕ) → is_numeral bytes ≡ true → list_all i
 numeral_passes [] h = refl
 numeral_passes (b ∷ bs) h = h
 
-word_run_cons : (b : ℕ) (bs : List ℕ) (n : ℕ) (t : Bool) → t ≡ true → is_letter b ≡ true → list_all is_word_byte (take n bs) ≡ true → is_word (take (cond t (1 + n) 0) (b ∷ bs)) ≡ true
+word_run_cons : (b : ℕ) (bs : List ℕ) (n : ℕ) (t : Bool) → t ≡ true → is_letter b ≡ true → list_all is_word_byte (take n bs) ≡ true
+    → is_word (take (cond t (1 + n) 0) (b ∷ bs)) ≡ true
 word_run_cons b bs n true e l h = let one : 1 + n ≡ suc n = omega arith in rw one (and_from _ _ l h)
 word_run_cons b bs n false e l h = cc
 
@@ -61,7 +64,8 @@ word_run_cons b bs n false e l h = cc
 pub word_run : (b : ℕ) (bs : List ℕ) → is_letter b ≡ true → is_word (take (prefix_len is_word_byte (b ∷ bs)) (b ∷ bs)) ≡ true
 word_run b bs l = word_run_cons b bs (prefix_len is_word_byte bs) (is_word_byte b) (or_left _ _ l) l (all_run is_word_byte bs)
 
-numeral_run_cons : (b : ℕ) (bs : List ℕ) (n : ℕ) (t : Bool) → t ≡ true → is_digit b ≡ true → list_all is_digit (take n bs) ≡ true → is_numeral (take (cond t (1 + n) 0) (b ∷ bs)) ≡ true
+numeral_run_cons : (b : ℕ) (bs : List ℕ) (n : ℕ) (t : Bool) → t ≡ true → is_digit b ≡ true → list_all is_digit (take n bs) ≡ true
+    → is_numeral (take (cond t (1 + n) 0) (b ∷ bs)) ≡ true
 numeral_run_cons b bs n true e d h = let one : 1 + n ≡ suc n = omega arith in rw one (and_from _ _ d h)
 numeral_run_cons b bs n false e d h = cc
 
@@ -70,18 +74,25 @@ pub numeral_run : (b : ℕ) (bs : List ℕ) → is_digit b ≡ true → is_numer
 numeral_run b bs d = numeral_run_cons b bs (prefix_len is_digit bs) (is_digit b) d d (all_run is_digit bs)
 
 -- where every lexeme that starts here passes a test, the longest front that passes is the longest lexeme, if it is one
-run_is_longest : (p : ℕ → Bool) (text : List ℕ) → ((other after : List ℕ) → other ++ after ≡ text → IsLexeme other → list_all p other ≡ true) → IsLexeme (take (prefix_len p text) text) → IsLongest (take (prefix_len p text) text) (drop (prefix_len p text) text)
+run_is_longest : (p : ℕ → Bool) (text : List ℕ) → ((other after : List ℕ) → other ++ after ≡ text → IsLexeme other
+    → list_all p other ≡ true) → IsLexeme (take (prefix_len p text) text)
+    → IsLongest (take (prefix_len p text) text) (drop (prefix_len p text) text)
 run_is_longest p text passes lexeme = record {
   lexeme = lexeme;
   longest = λ other after e is_lexeme.
       let whole : other ++ after ≡ text = e ∙ take-append-drop (prefix_len p text) text in
-      rw (length-take-le (prefix_len p text) text (prefix_len-le-length p text)) (run_longest p other after text whole (passes other after whole is_lexeme));
+      rw (length-take-le (prefix_len p text) text (prefix_len-le-length p text))
+      (run_longest p other after text whole (passes other after whole is_lexeme));
 }
 
 -- where a text starts with a letter, its longest front of word bytes is its longest lexeme
-pub word_longest : (b : ℕ) (bs : List ℕ) → is_letter b ≡ true → IsLongest (take (prefix_len is_word_byte (b ∷ bs)) (b ∷ bs)) (drop (prefix_len is_word_byte (b ∷ bs)) (b ∷ bs))
-word_longest b bs l = run_is_longest is_word_byte (b ∷ bs) (λ other after e x. word_passes other (word_starts other after bs b e x l)) (a_word (word_run b bs l))
+pub word_longest : (b : ℕ) (bs : List ℕ) → is_letter b ≡ true → IsLongest (take (prefix_len is_word_byte (b ∷ bs)) (b ∷ bs))
+    (drop (prefix_len is_word_byte (b ∷ bs)) (b ∷ bs))
+word_longest b bs l = run_is_longest is_word_byte (b ∷ bs) (λ other after e x. word_passes other (word_starts other after bs b e x l))
+    (a_word (word_run b bs l))
 
 -- where a text starts with a digit, its longest front of digits is its longest lexeme
-pub numeral_longest : (b : ℕ) (bs : List ℕ) → is_digit b ≡ true → IsLongest (take (prefix_len is_digit (b ∷ bs)) (b ∷ bs)) (drop (prefix_len is_digit (b ∷ bs)) (b ∷ bs))
-numeral_longest b bs d = run_is_longest is_digit (b ∷ bs) (λ other after e x. numeral_passes other (numeral_starts other after bs b e x d)) (a_numeral (numeral_run b bs d))
+pub numeral_longest : (b : ℕ) (bs : List ℕ) → is_digit b ≡ true → IsLongest (take (prefix_len is_digit (b ∷ bs)) (b ∷ bs))
+    (drop (prefix_len is_digit (b ∷ bs)) (b ∷ bs))
+numeral_longest b bs d = run_is_longest is_digit (b ∷ bs) (λ other after e x. numeral_passes other (numeral_starts other after bs b e x d))
+    (a_numeral (numeral_run b bs d))

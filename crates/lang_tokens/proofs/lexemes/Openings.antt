@@ -68,7 +68,8 @@ opening_of_piece (token kind bytes) rest fits = lexeme_opening (bytes ++ rest) b
 
 second_none : (rest bs : List ℕ) (b : ℕ) → b ∷ bs ≡ rest → NothingStarts rest → b ≡ 47 → second_opening bs ≡ another
 second_none rest [] b e n slash = refl
-second_none rest (c ∷ bs) b e n slash = cond_both (eqb c 47) a_line_comment (cond (eqb c 42) a_block_comment another) (λ (o : Opening). o ≡ another)
+second_none rest (c ∷ bs) b e n slash = cond_both (eqb c 47) a_line_comment (cond (eqb c 42) a_block_comment another)
+    (λ (o : Opening). o ≡ another)
     (λ h. let two : c ≡ 47 = eqb-true c 47 h in absurd (n.no_line_comment bs (let same : 47 ∷ 47 ∷ bs ≡ b ∷ c ∷ bs = cc in same ∙ e)))
     (λ h. cond_both (eqb c 42) a_block_comment another (λ (o : Opening). o ≡ another)
     (λ k. let two : c ≡ 42 = eqb-true c 42 k in absurd (n.no_block_comment bs (let same : 47 ∷ 42 ∷ bs ≡ b ∷ c ∷ bs = cc in same ∙ e)))
@@ -79,7 +80,8 @@ nothing_opening [] n = refl
 nothing_opening (b ∷ bs) n =
     let same : n.first ≡ b = let e : n.first ∷ n.more ≡ b ∷ bs = n.split in cc in
     let no_blank : is_blank b ≡ false = sym (ap is_blank same) ∙ n.no_blank in
-    rw no_blank (cond_both (eqb b 47) (second_opening bs) another (λ (o : Opening). o ≡ another) (λ h. second_none (b ∷ bs) bs b refl n (eqb-true b 47 h)) (λ h. refl))
+    rw no_blank (cond_both (eqb b 47) (second_opening bs) another (λ (o : Opening). o ≡ another)
+    (λ h. second_none (b ∷ bs) bs b refl n (eqb-true b 47 h)) (λ h. refl))
 
 -- a text that starts with a fault has the opening of that fault
 pub opening_of_fault : (fault : LexFault) (place : ℕ) (rest : List ℕ) → Stands fault place rest → opening rest ≡ fault_opening fault

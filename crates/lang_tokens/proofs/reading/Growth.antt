@@ -1,5 +1,6 @@
 -- A reading grows by the piece that stands next.
-use Rattle.std.proofs.Common.{◌≡◌, ◌≤◌, ◌<◌, ◌+◌, ◌-◌, ℕ, Bool, true, List, [], ◌∷◌, ◌++◌, length, take, drop, refl, sym, ap, subst, ◌∙◌, arith, Option, Some}
+use Rattle.std.proofs.Common.{◌≡◌, ◌≤◌, ◌<◌, ◌+◌, ◌-◌, ℕ, Bool, true, List, [], ◌∷◌, ◌++◌, length, take, drop, refl, sym, ap, subst, ◌∙◌}
+use Rattle.std.proofs.Common.{arith, Option, Some}
 use Rattle.std.proofs.Common.{None}
 use Rattle.std.proofs.lemmas.List.{append_assoc, append-nil, length-append, length-drop, take_rest, drop_at, drop-drop}
 use Rattle.lang_tokens.specs.declared.token.Kind.{Kind}
@@ -8,7 +9,8 @@ use Rattle.lang_tokens.specs.declared.found.Found.{Found}
 use Rattle.lang_tokens.specs.Bytes.{is_letter, is_digit}
 use Rattle.lang_tokens.specs.Signs.{sign_bytes}
 use Rattle.lang_tokens.specs.Lexemes.{IsLexeme, a_word, a_numeral, a_sign}
-use Rattle.lang_tokens.specs.Reading.{Piece, blank, line_comment, block_comment, token, piece_bytes, spelling, Fits, AllFit, piece_tokens, tokens_from, ReadsUpTo}
+use Rattle.lang_tokens.specs.Reading.{Piece, blank, line_comment, block_comment, token, piece_bytes, spelling, Fits, AllFit, piece_tokens}
+use Rattle.lang_tokens.specs.Reading.{tokens_from, ReadsUpTo}
 use Rattle.lang_tokens.specs.Steps.{StandsFirst, piece_kind}
 use Rattle.lang_tokens.proofs.lexemes.Heads.{heads, is_mark, sign_heads, word_heads, numeral_heads}
 
@@ -31,21 +33,32 @@ piece_some (token kind bytes) rest fits = lexeme_some bytes fits.longest.lexeme
 
 spelling_push : (pieces : List Piece) (piece : Piece) → spelling (pieces ++ piece ∷ []) ≡ spelling pieces ++ piece_bytes piece
 spelling_push [] piece = append-nil (piece_bytes piece)
-spelling_push (p ∷ pieces) piece = ap (λ (bs : List ℕ). piece_bytes p ++ bs) (spelling_push pieces piece) ∙ sym (append_assoc (piece_bytes p) (spelling pieces) (piece_bytes piece))
+spelling_push (p ∷ pieces) piece = ap (λ (bs : List ℕ). piece_bytes p ++ bs) (spelling_push pieces piece)
+    ∙ sym (append_assoc (piece_bytes p) (spelling pieces) (piece_bytes piece))
 
-spelled_push : (pieces : List Piece) (piece : Piece) (rest : List ℕ) → spelling (pieces ++ piece ∷ []) ++ rest ≡ spelling pieces ++ (piece_bytes piece ++ rest)
-spelled_push pieces piece rest = ap (λ (bs : List ℕ). bs ++ rest) (spelling_push pieces piece) ∙ append_assoc (spelling pieces) (piece_bytes piece) rest
+spelled_push : (pieces : List Piece) (piece : Piece) (rest : List ℕ) →
+    spelling (pieces ++ piece ∷ []) ++ rest ≡ spelling pieces ++ (piece_bytes piece ++ rest)
+spelled_push pieces piece rest = ap (λ (bs : List ℕ). bs ++ rest) (spelling_push pieces piece)
+    ∙ append_assoc (spelling pieces) (piece_bytes piece) rest
 
-fit_push : (pieces : List Piece) (piece : Piece) (rest : List ℕ) → AllFit pieces (piece_bytes piece ++ rest) → Fits piece rest → AllFit (pieces ++ piece ∷ []) rest
+fit_push : (pieces : List Piece) (piece : Piece) (rest : List ℕ) → AllFit pieces (piece_bytes piece ++ rest) → Fits piece rest
+    → AllFit (pieces ++ piece ∷ []) rest
 fit_push [] piece rest fit fits = (fits, tt)
-fit_push (p ∷ pieces) piece rest fit fits = (subst (Fits p) (sym (spelled_push pieces piece rest)) fit.0, fit_push pieces piece rest fit.1 fits)
+fit_push (p ∷ pieces) piece rest fit fits = (
+  subst (Fits p) (sym (spelled_push pieces piece rest)) fit.0,
+  fit_push pieces piece rest fit.1 fits,
+)
 
-tokens_push : (at : ℕ) (pieces : List Piece) (piece : Piece) → tokens_from at (pieces ++ piece ∷ []) ≡ tokens_from at pieces ++ piece_tokens (at + length (spelling pieces)) piece
+tokens_push : (at : ℕ) (pieces : List Piece) (piece : Piece) → tokens_from at (pieces ++ piece ∷ [])
+    ≡ tokens_from at pieces ++ piece_tokens (at + length (spelling pieces)) piece
 tokens_push at [] piece = let none : at + 0 ≡ at = omega arith in rw none (append-nil (piece_tokens at piece))
 tokens_push at (p ∷ pieces) piece =
-    let next : at + length (piece_bytes p) + length (spelling pieces) ≡ at + length (piece_bytes p ++ spelling pieces) = omega (arith, length-append (piece_bytes p) (spelling pieces)) in
+    let next : at + length (piece_bytes p) + length (spelling pieces) ≡ at + length (piece_bytes p ++ spelling pieces) =
+    omega (arith, length-append (piece_bytes p) (spelling pieces)) in
     let more = tokens_push (at + length (piece_bytes p)) pieces piece in
-    ap (λ (ts : List Token). piece_tokens at p ++ ts) (rw next at more) ∙ sym (append_assoc (piece_tokens at p) (tokens_from (at + length (piece_bytes p)) pieces) (piece_tokens (at + length (piece_bytes p ++ spelling pieces)) piece))
+    ap (λ (ts : List Token). piece_tokens at p ++ ts) (rw next at more)
+    ∙ sym (append_assoc (piece_tokens at p) (tokens_from (at + length (piece_bytes p)) pieces)
+    (piece_tokens (at + length (piece_bytes p ++ spelling pieces)) piece))
 
 -- every text reads up to its start, as no tokens
 pub reads_none : (text : List ℕ) → ReadsUpTo text 0 [] text
@@ -56,18 +69,22 @@ abbrev pub found_tokens : ℕ → Option Kind → ℕ → List Token
 found_tokens at None len = []
 found_tokens at (Some kind) len = record { kind = kind; at = at; len = len } ∷ []
 
-found_piece : (at : ℕ) (piece : Piece) (kind : Option Kind) (len : ℕ) → length (piece_bytes piece) ≡ len → piece_kind piece ≡ kind → piece_tokens at piece ≡ found_tokens at kind len
+found_piece : (at : ℕ) (piece : Piece) (kind : Option Kind) (len : ℕ) → length (piece_bytes piece) ≡ len → piece_kind piece ≡ kind
+    → piece_tokens at piece ≡ found_tokens at kind len
 found_piece at (token k bytes) kind len e f = rw (← f, ← e) refl
 found_piece at (blank b) kind len e f = rw (← f) refl
 found_piece at (line_comment body) kind len e f = rw (← f) refl
 found_piece at (block_comment body) kind len e f = rw (← f) refl
 
 -- a reading goes on by the piece that stands first in the rest
-pub reads_more : (text : List ℕ) (at : ℕ) (tokens : List Token) (rest : List ℕ) (found : Found) → ReadsUpTo text at tokens rest → StandsFirst rest found → ReadsUpTo text (at + found.len) (tokens ++ found_tokens at found.kind found.len) (drop found.len rest)
+pub reads_more : (text : List ℕ) (at : ℕ) (tokens : List Token) (rest : List ℕ) (found : Found) → ReadsUpTo text at tokens rest
+    → StandsFirst rest found → ReadsUpTo text (at + found.len) (tokens ++ found_tokens at found.kind found.len) (drop found.len rest)
 reads_more text at tokens rest found reads stands = record {
   pieces = pieces;
-  spelled = spelled_push reads.pieces stands.piece (drop found.len rest) ∙ (ap (λ (bs : List ℕ). spelling reads.pieces ++ bs) split ∙ reads.spelled);
-  fit = fit_push reads.pieces stands.piece (drop found.len rest) (subst (AllFit reads.pieces) (sym split) reads.fit) (subst (Fits stands.piece) after stands.fits);
+  spelled = spelled_push reads.pieces stands.piece (drop found.len rest)
+      ∙ (ap (λ (bs : List ℕ). spelling reads.pieces ++ bs) split ∙ reads.spelled);
+  fit = fit_push reads.pieces stands.piece (drop found.len rest) (subst (AllFit reads.pieces) (sym split) reads.fit)
+      (subst (Fits stands.piece) after stands.fits);
   place = place;
   told = tokens_push 0 reads.pieces stands.piece ∙ told;
 }
@@ -82,9 +99,16 @@ reads_more text at tokens rest found reads stands = record {
     split = rw (← after) stands.split
 
     place : length (spelling pieces) ≡ at + found.len
-    place = omega (arith, ap length (spelling_push reads.pieces stands.piece), length-append (spelling reads.pieces) (piece_bytes stands.piece), stands.length_is, reads.place)
+    place = omega (
+      arith,
+      ap length (spelling_push reads.pieces stands.piece),
+      length-append (spelling reads.pieces) (piece_bytes stands.piece),
+      stands.length_is,
+      reads.place,
+    )
 
-    told : tokens_from 0 reads.pieces ++ piece_tokens (0 + length (spelling reads.pieces)) stands.piece ≡ tokens ++ found_tokens at found.kind found.len
+    told : tokens_from 0 reads.pieces ++ piece_tokens (0 + length (spelling reads.pieces)) stands.piece
+        ≡ tokens ++ found_tokens at found.kind found.len
     told =
         let here : 0 + length (spelling reads.pieces) ≡ at = omega (arith, reads.place) in
         let piece = found_piece at stands.piece found.kind found.len stands.length_is stands.kind_is in
@@ -96,15 +120,27 @@ found_some rest found stands = omega (arith, piece_some stands.piece stands.afte
 
 -- what is found lies within the rest
 pub found_within : (rest : List ℕ) (found : Found) → StandsFirst rest found → found.len ≤ length rest
-found_within rest found stands = omega (arith, stands.length_is, ap length stands.split, length-append (piece_bytes stands.piece) stands.after)
+found_within rest found stands = omega (
+  arith,
+  stands.length_is,
+  ap length stands.split,
+  length-append (piece_bytes stands.piece) stands.after,
+)
 
 -- one turn of the loop
-pub reads_step : (text : List ℕ) (at : ℕ) (tokens items : List Token) (found : Found) → ReadsUpTo text at tokens (drop at text) → StandsFirst (take (length text - at) (drop at text)) found → items ≡ tokens ++ found_tokens at found.kind found.len → ReadsUpTo text (at + found.len) items (drop (at + found.len) text)
+pub reads_step : (text : List ℕ) (at : ℕ) (tokens items : List Token) (found : Found) → ReadsUpTo text at tokens (drop at text)
+    → StandsFirst (take (length text - at) (drop at text)) found → items ≡ tokens ++ found_tokens at found.kind found.len
+    → ReadsUpTo text (at + found.len) items (drop (at + found.len) text)
 reads_step text at tokens items found reads stands e =
     let here = rw (take_rest text at) at stands in
     let more = reads_more text at tokens (drop at text) found reads here in
     rw e (rw (drop-drop found.len at text) at more)
 
 -- what is found from a place on ends within the text
-pub found_fits : (text : List ℕ) (at : ℕ) (found : Found) → at ≤ length text → StandsFirst (take (length text - at) (drop at text)) found → at + found.len ≤ length text
-found_fits text at found within stands = omega (arith, found_within (drop at text) found (rw (take_rest text at) at stands), length-drop at text)
+pub found_fits : (text : List ℕ) (at : ℕ) (found : Found) → at ≤ length text → StandsFirst (take (length text - at) (drop at text)) found
+    → at + found.len ≤ length text
+found_fits text at found within stands = omega (
+  arith,
+  found_within (drop at text) found (rw (take_rest text at) at stands),
+  length-drop at text,
+)

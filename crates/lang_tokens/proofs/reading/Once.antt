@@ -9,16 +9,19 @@ use Rattle.lang_tokens.specs.declared.token.Kind.TheVariants as kind
 use Rattle.lang_tokens.specs.declared.token.Token.{Token}
 use Rattle.lang_tokens.specs.declared.fault.LexFault.{LexFault}
 use Rattle.lang_tokens.specs.declared.fault.LexFault.TheVariants.{BadByte, OpenComment, LongNumber, LongName, BadNumber, NoMemory}
-use Rattle.lang_tokens.specs.Reading.{Piece, blank, line_comment, block_comment, token, piece_bytes, spelling, ends_line, IsClosed, IsLongest, IsWholeToken, Fits}
+use Rattle.lang_tokens.specs.Reading.{Piece, blank, line_comment, block_comment, token, piece_bytes, spelling, ends_line, IsClosed}
+use Rattle.lang_tokens.specs.Reading.{IsLongest, IsWholeToken, Fits}
 use Rattle.lang_tokens.specs.Reading.{AllFit, tokens_from, ReadsUpTo, end_at, Reads}
 use Rattle.lang_tokens.specs.Faults.{NothingStarts, IsOpen, IsLongNumber, IsLongName, IsBadNumber, Stands, HasFault}
 use Rattle.lang_tokens.proofs.words.Runs.{stops}
 use Rattle.lang_tokens.proofs.reading.Growth.{piece_some, lexeme_some}
-use Rattle.lang_tokens.proofs.lexemes.Grades.{Grade, short_word, long_word, good_number, bad_number, great_number, plain_sign, grade, kind_grade, token_grade, one_kind}
+use Rattle.lang_tokens.proofs.lexemes.Grades.{Grade, short_word, long_word, good_number, bad_number, great_number, plain_sign, grade}
+use Rattle.lang_tokens.proofs.lexemes.Grades.{kind_grade, token_grade, one_kind}
 use Rattle.lang_tokens.proofs.lexemes.Grades.{one_longest, one_rest, long_word_grade, great_number_grade, bad_number_grade}
 use Rattle.lang_tokens.proofs.lexemes.Openings.{opening, piece_opening, fault_opening, opening_of_piece, opening_of_fault}
 
-one_run : (p : ℕ → Bool) (xs r ys s : List ℕ) → list_all p xs ≡ true → stops p r ≡ true → list_all p ys ≡ true → stops p s ≡ true → xs ++ r ≡ ys ++ s → xs ≡ ys
+one_run : (p : ℕ → Bool) (xs r ys s : List ℕ) → list_all p xs ≡ true → stops p r ≡ true → list_all p ys ≡ true → stops p s ≡ true
+    → xs ++ r ≡ ys ++ s → xs ≡ ys
 one_run p [] r [] s a b c d e = refl
 one_run p [] r (y ∷ ys) s a b c d e =
     let stop : not (p y) ≡ true = rw e at b in
@@ -66,7 +69,8 @@ one_piece (block_comment x) (block_comment y) r s f g e =
     let text : (x ++ 42 ∷ 47 ∷ []) ++ r ≡ (y ++ 42 ∷ 47 ∷ []) ++ s = cc in
     ap block_comment (one_close x r y s f g (sym (closed_text x r) ∙ (text ∙ closed_text y s)))
 one_piece (token k a) (token l b) r s f g e = one_token k l a r b s f g e
-one_piece p q r s f g e = let same : piece_opening p ≡ piece_opening q = sym (opening_of_piece p r f) ∙ (ap opening e ∙ opening_of_piece q s g) in cc
+one_piece p q r s f g e = let same : piece_opening p ≡ piece_opening q =
+    sym (opening_of_piece p r f) ∙ (ap opening e ∙ opening_of_piece q s g) in cc
 
 -- The longest lexeme of a text has this grade.
 record IsGraded (text : List ℕ) (of : Grade) : Type 0 where
@@ -88,13 +92,34 @@ token_graded : (k : Kind) (a x : List ℕ) → IsWholeToken k a x → IsGraded (
 token_graded k a x t = record { bytes = a; after = x; split = refl; longest = t.longest; graded = token_grade k a x t }
 
 long_name_graded : (text : List ℕ) → IsLongName text → IsGraded text long_word
-long_name_graded text t = record { bytes = t.bytes; after = t.after; split = t.split; longest = t.longest; graded = long_word_grade t.bytes t.after t.word t.long }
+long_name_graded text t = record {
+  bytes = t.bytes;
+  after = t.after;
+  split = t.split;
+  longest = t.longest;
+  graded =
+      long_word_grade t.bytes t.after t.word t.long;
+}
 
 long_number_graded : (text : List ℕ) → IsLongNumber text → IsGraded text great_number
-long_number_graded text t = record { bytes = t.bytes; after = t.after; split = t.split; longest = t.longest; graded = great_number_grade t.bytes t.after t.digits t.good t.great }
+long_number_graded text t = record {
+  bytes = t.bytes;
+  after = t.after;
+  split = t.split;
+  longest = t.longest;
+  graded =
+      great_number_grade t.bytes t.after t.digits t.good t.great;
+}
 
 bad_number_graded : (text : List ℕ) → IsBadNumber text → IsGraded text bad_number
-bad_number_graded text t = record { bytes = t.bytes; after = t.after; split = t.split; longest = t.longest; graded = bad_number_grade t.bytes t.after t.digits t.bad }
+bad_number_graded text t = record {
+  bytes = t.bytes;
+  after = t.after;
+  split = t.split;
+  longest = t.longest;
+  graded =
+      bad_number_grade t.bytes t.after t.digits t.bad;
+}
 
 nothing_graded : (text : List ℕ) (g : Grade) → NothingStarts text → IsGraded text g → ⊥
 nothing_graded text g n t = n.no_token t.bytes t.after t.split t.longest.lexeme
@@ -117,7 +142,8 @@ token_no_fault k a x g t s = rw (one_grade (a ++ x) g (kind_grade k) s (token_gr
 
 closed_or_open : (body rest : List ℕ) → IsOpen (piece_bytes (block_comment body) ++ rest) → ⊥
 closed_or_open body rest o =
-    let more : o.more ≡ (body ++ 42 ∷ 47 ∷ []) ++ rest = let e : 47 ∷ 42 ∷ o.more ≡ 47 ∷ 42 ∷ ((body ++ 42 ∷ 47 ∷ []) ++ rest) = o.split in cc in
+    let more : o.more ≡ (body ++ 42 ∷ 47 ∷ []) ++ rest = let e : 47 ∷ 42 ∷ o.more ≡ 47 ∷ 42 ∷ ((body ++ 42 ∷ 47 ∷ []) ++ rest) = o.split in
+    cc in
     o.unclosed body rest (sym (closed_text body rest) ∙ sym more)
 
 -- no piece stands where a fault does
@@ -125,10 +151,14 @@ no_piece : (p : Piece) (r : List ℕ) (fault : LexFault) (place : ℕ) → Fits 
 no_piece p r NoMemory place f s = s
 no_piece (block_comment body) r (OpenComment at) place f s = closed_or_open body r s.1
 no_piece (token k a) r (BadByte at) place f s = s.1.no_token a r refl f.longest.lexeme
-no_piece (token k a) r (LongNumber at) place f s = let no : is_kind_grade great_number ≡ true = token_no_fault k a r great_number f (long_number_graded (a ++ r) s.1) in cc
-no_piece (token k a) r (LongName at) place f s = let no : is_kind_grade long_word ≡ true = token_no_fault k a r long_word f (long_name_graded (a ++ r) s.1) in cc
-no_piece (token k a) r (BadNumber at) place f s = let no : is_kind_grade bad_number ≡ true = token_no_fault k a r bad_number f (bad_number_graded (a ++ r) s.1) in cc
-no_piece p r fault place f s = let same : piece_opening p ≡ fault_opening fault = sym (opening_of_piece p r f) ∙ opening_of_fault fault place (piece_bytes p ++ r) s in cc
+no_piece (token k a) r (LongNumber at) place f s = let no : is_kind_grade great_number ≡ true =
+    token_no_fault k a r great_number f (long_number_graded (a ++ r) s.1) in cc
+no_piece (token k a) r (LongName at) place f s = let no : is_kind_grade long_word ≡ true =
+    token_no_fault k a r long_word f (long_name_graded (a ++ r) s.1) in cc
+no_piece (token k a) r (BadNumber at) place f s = let no : is_kind_grade bad_number ≡ true =
+    token_no_fault k a r bad_number f (bad_number_graded (a ++ r) s.1) in cc
+no_piece p r fault place f s = let same : piece_opening p ≡ fault_opening fault =
+    sym (opening_of_piece p r f) ∙ opening_of_fault fault place (piece_bytes p ++ r) s in cc
 
 -- one fault stands at a place
 one_fault : (f g : LexFault) (place : ℕ) (rest : List ℕ) → Stands f place rest → Stands g place rest → f ≡ g
@@ -145,33 +175,44 @@ one_fault (BadByte x) (BadNumber y) place rest s t = absurd (nothing_graded rest
 one_fault (LongNumber x) (BadByte y) place rest s t = absurd (nothing_graded rest great_number t.1 (long_number_graded rest s.1))
 one_fault (LongName x) (BadByte y) place rest s t = absurd (nothing_graded rest long_word t.1 (long_name_graded rest s.1))
 one_fault (BadNumber x) (BadByte y) place rest s t = absurd (nothing_graded rest bad_number t.1 (bad_number_graded rest s.1))
-one_fault (LongNumber x) (LongName y) place rest s t = let no = one_grade rest great_number long_word (long_number_graded rest s.1) (long_name_graded rest t.1) in cc
-one_fault (LongNumber x) (BadNumber y) place rest s t = let no = one_grade rest great_number bad_number (long_number_graded rest s.1) (bad_number_graded rest t.1) in cc
-one_fault (LongName x) (LongNumber y) place rest s t = let no = one_grade rest long_word great_number (long_name_graded rest s.1) (long_number_graded rest t.1) in cc
-one_fault (LongName x) (BadNumber y) place rest s t = let no = one_grade rest long_word bad_number (long_name_graded rest s.1) (bad_number_graded rest t.1) in cc
-one_fault (BadNumber x) (LongNumber y) place rest s t = let no = one_grade rest bad_number great_number (bad_number_graded rest s.1) (long_number_graded rest t.1) in cc
-one_fault (BadNumber x) (LongName y) place rest s t = let no = one_grade rest bad_number long_word (bad_number_graded rest s.1) (long_name_graded rest t.1) in cc
-one_fault f g place rest s t = let same : fault_opening f ≡ fault_opening g = sym (opening_of_fault f place rest s) ∙ opening_of_fault g place rest t in cc
+one_fault (LongNumber x) (LongName y) place rest s t = let no = one_grade rest great_number long_word (long_number_graded rest s.1)
+    (long_name_graded rest t.1) in cc
+one_fault (LongNumber x) (BadNumber y) place rest s t = let no = one_grade rest great_number bad_number (long_number_graded rest s.1)
+    (bad_number_graded rest t.1) in cc
+one_fault (LongName x) (LongNumber y) place rest s t = let no = one_grade rest long_word great_number (long_name_graded rest s.1)
+    (long_number_graded rest t.1) in cc
+one_fault (LongName x) (BadNumber y) place rest s t = let no = one_grade rest long_word bad_number (long_name_graded rest s.1)
+    (bad_number_graded rest t.1) in cc
+one_fault (BadNumber x) (LongNumber y) place rest s t = let no = one_grade rest bad_number great_number (bad_number_graded rest s.1)
+    (long_number_graded rest t.1) in cc
+one_fault (BadNumber x) (LongName y) place rest s t = let no = one_grade rest bad_number long_word (bad_number_graded rest s.1)
+    (long_name_graded rest t.1) in cc
+one_fault f g place rest s t = let same : fault_opening f ≡ fault_opening g =
+    sym (opening_of_fault f place rest s) ∙ opening_of_fault g place rest t in cc
 
 -- no piece starts here
 abbrev IsLast : List ℕ → Type 0
 IsLast rest = (p : Piece) (after : List ℕ) → Fits p after → piece_bytes p ++ after ≡ rest → ⊥
 
 end_last : IsLast []
-end_last p after f e = let none : length (piece_bytes p ++ after) ≡ 0 = ap length e in omega (arith, piece_some p after f, length-append (piece_bytes p) after)
+end_last p after f e = let none : length (piece_bytes p ++ after) ≡ 0 = ap length e in
+    omega (arith, piece_some p after f, length-append (piece_bytes p) after)
 
 fault_last : (fault : LexFault) (place : ℕ) (rest : List ℕ) → Stands fault place rest → IsLast rest
 fault_last fault place rest stands p after f e = no_piece p after fault place f (subst (Stands fault place) (sym e) stands)
 
 -- a text is these pieces, as far as pieces go
-one_reading : (ps qs : List Piece) (r s : List ℕ) → AllFit ps r → AllFit qs s → IsLast r → IsLast s → spelling ps ++ r ≡ spelling qs ++ s → ps ≡ qs
+one_reading : (ps qs : List Piece) (r s : List ℕ) → AllFit ps r → AllFit qs s → IsLast r → IsLast s → spelling ps ++ r ≡ spelling qs ++ s
+    → ps ≡ qs
 one_reading [] [] r s a b c d e = refl
 one_reading [] (q ∷ qs) r s a b c d e = absurd (c q (spelling qs ++ s) b.0 (sym (append_assoc (piece_bytes q) (spelling qs) s) ∙ sym e))
 one_reading (p ∷ ps) [] r s a b c d e = absurd (d p (spelling ps ++ r) a.0 (sym (append_assoc (piece_bytes p) (spelling ps) r) ∙ e))
 one_reading (p ∷ ps) (q ∷ qs) r s a b c d e =
-    let whole : piece_bytes p ++ (spelling ps ++ r) ≡ piece_bytes q ++ (spelling qs ++ s) = sym (append_assoc (piece_bytes p) (spelling ps) r) ∙ (e ∙ append_assoc (piece_bytes q) (spelling qs) s) in
+    let whole : piece_bytes p ++ (spelling ps ++ r) ≡ piece_bytes q ++ (spelling qs ++ s) =
+    sym (append_assoc (piece_bytes p) (spelling ps) r) ∙ (e ∙ append_assoc (piece_bytes q) (spelling qs) s) in
     let first : p ≡ q = one_piece p q (spelling ps ++ r) (spelling qs ++ s) a.0 b.0 whole in
-    let more : spelling ps ++ r ≡ spelling qs ++ s = append_cancel_left (piece_bytes q) (spelling ps ++ r) (spelling qs ++ s) (rw first at whole) in
+    let more : spelling ps ++ r ≡ spelling qs ++ s = append_cancel_left (piece_bytes q) (spelling ps ++ r) (spelling qs ++ s)
+    (rw first at whole) in
     let same : ps ≡ qs = one_reading ps qs r s a.1 b.1 c d more in
     cc
 
@@ -181,7 +222,8 @@ record IsSame (place other : ℕ) (tokens others : List Token) (rest after : Lis
   lists : tokens ≡ others
   rests : rest ≡ after
 
-same_reading : (text : List ℕ) (place other : ℕ) (tokens others : List Token) (rest after : List ℕ) → ReadsUpTo text place tokens rest → ReadsUpTo text other others after → IsLast rest → IsLast after → IsSame place other tokens others rest after
+same_reading : (text : List ℕ) (place other : ℕ) (tokens others : List Token) (rest after : List ℕ) → ReadsUpTo text place tokens rest
+    → ReadsUpTo text other others after → IsLast rest → IsLast after → IsSame place other tokens others rest after
 same_reading text place other tokens others rest after a b c d =
     let whole : spelling a.pieces ++ rest ≡ spelling b.pieces ++ after = a.spelled ∙ sym b.spelled in
     let pieces : a.pieces ≡ b.pieces = one_reading a.pieces b.pieces rest after a.fit b.fit c d whole in
@@ -200,12 +242,14 @@ one_token_list text tokens others a b =
 -- a text has at most one fault
 pub one_text_fault : (text : List ℕ) (fault other : LexFault) → HasFault text fault → HasFault text other → fault ≡ other
 one_text_fault text fault other a b =
-    let same = same_reading text a.place b.place a.tokens b.tokens a.rest b.rest a.reads b.reads (fault_last fault a.place a.rest a.stands) (fault_last other b.place b.rest b.stands) in
+    let same = same_reading text a.place b.place a.tokens b.tokens a.rest b.rest a.reads b.reads (fault_last fault a.place a.rest a.stands)
+    (fault_last other b.place b.rest b.stands) in
     let here : Stands fault b.place b.rest = rw same.rests at (rw same.places at a.stands) in
     one_fault fault other b.place b.rest here b.stands
 
 lexeme_at_end : (bytes after : List ℕ) → bytes ++ after ≡ [] → IsLongest bytes after → ⊥
-lexeme_at_end bytes after e l = let none : length (bytes ++ after) ≡ 0 = ap length e in omega (arith, lexeme_some bytes l.lexeme, length-append bytes after)
+lexeme_at_end bytes after e l = let none : length (bytes ++ after) ≡ 0 = ap length e in
+    omega (arith, lexeme_some bytes l.lexeme, length-append bytes after)
 
 nothing_at_end : (fault : LexFault) (place : ℕ) → Stands fault place [] → ⊥
 nothing_at_end (BadByte at) place s = let e : s.1.first ∷ s.1.more ≡ [] = s.1.split in cc
@@ -218,5 +262,6 @@ nothing_at_end NoMemory place s = s
 -- a text with a reading has no fault
 pub no_fault : (text : List ℕ) (tokens : List Token) (fault : LexFault) → Reads text tokens → HasFault text fault → ⊥
 no_fault text tokens fault a b =
-    let same = same_reading text (length text) b.place a.front b.tokens [] b.rest a.whole b.reads end_last (fault_last fault b.place b.rest b.stands) in
+    let same = same_reading text (length text) b.place a.front b.tokens [] b.rest a.whole b.reads end_last
+    (fault_last fault b.place b.rest b.stands) in
     nothing_at_end fault b.place (rw (← same.rests) at b.stands)

@@ -10,12 +10,14 @@ use Rattle.lang_tokens.specs.TokenLists.{IsTokenAfter, AreTokensAfter, AreTokens
 use Rattle.lang_tokens.proofs.reading.Growth.{lexeme_some}
 
 -- the bytes between what stands before and what stands after
-range_is : (front bytes after : List ℕ) (at end : ℕ) → length front ≡ at → at + length bytes ≡ end → slice_range (front ++ (bytes ++ after)) at end ≡ bytes
+range_is : (front bytes after : List ℕ) (at end : ℕ) → length front ≡ at → at + length bytes ≡ end
+    → slice_range (front ++ (bytes ++ after)) at end ≡ bytes
 range_is front bytes after at end e f =
     let len : end - at ≡ length bytes = omega arith in
     rw (drop_at front (bytes ++ after) at e, len) (take_at bytes after (length bytes) refl)
 
-token_placed : (text front bytes after : List ℕ) (at low : ℕ) (kind : Kind) → front ++ (bytes ++ after) ≡ text → length front ≡ at → low ≤ at → IsWholeToken kind bytes after → IsTokenAfter text low (record { kind = kind; at = at; len = length bytes })
+token_placed : (text front bytes after : List ℕ) (at low : ℕ) (kind : Kind) → front ++ (bytes ++ after) ≡ text → length front ≡ at
+    → low ≤ at → IsWholeToken kind bytes after → IsTokenAfter text low (record { kind = kind; at = at; len = length bytes })
 token_placed text front bytes after at low kind e f low_is t = record {
   after = low_is;
   some = lexeme_some bytes t.longest.lexeme;
@@ -23,19 +25,25 @@ token_placed text front bytes after at low kind e f low_is t = record {
   is_token = rw (← e) (subst (IsToken kind) (sym (range_is front bytes after at (at + length bytes) f refl)) t.is_token);
 }
 
-placed_from : (text front : List ℕ) (pieces : List Piece) (at low : ℕ) → front ++ spelling pieces ≡ text → length front ≡ at → low ≤ at → AllFit pieces [] → AreTokensAfter text low (tokens_from at pieces)
+placed_from : (text front : List ℕ) (pieces : List Piece) (at low : ℕ) → front ++ spelling pieces ≡ text → length front ≡ at → low ≤ at
+    → AllFit pieces [] → AreTokensAfter text low (tokens_from at pieces)
 placed_from text front [] at low e f low_is fit = tt
 placed_from text front (token kind bytes ∷ pieces) at low e f low_is fit = (
-  token_placed text front bytes (spelling pieces) at low kind e f low_is (subst (IsWholeToken kind bytes) (append-nil (spelling pieces)) fit.0),
-  placed_from text (front ++ bytes) pieces (at + length bytes) (at + length bytes) (append_assoc front bytes (spelling pieces) ∙ e) (omega (arith, length-append front bytes)) (omega arith) fit.1,
+  token_placed text front bytes (spelling pieces) at low kind e f low_is
+      (subst (IsWholeToken kind bytes) (append-nil (spelling pieces)) fit.0),
+  placed_from text (front ++ bytes) pieces (at + length bytes) (at + length bytes) (append_assoc front bytes (spelling pieces) ∙ e)
+      (omega (arith, length-append front bytes)) (omega arith) fit.1,
 )
 placed_from text front (piece ∷ pieces) at low e f low_is fit =
-    placed_from text (front ++ piece_bytes piece) pieces (at + length (piece_bytes piece)) low (append_assoc front (piece_bytes piece) (spelling pieces) ∙ e) (omega (arith, length-append front (piece_bytes piece))) (omega arith) fit.1
+    placed_from text (front ++ piece_bytes piece) pieces (at + length (piece_bytes piece)) low
+    (append_assoc front (piece_bytes piece) (spelling pieces) ∙ e) (omega (arith, length-append front (piece_bytes piece)))
+    (omega arith) fit.1
 
 -- the tokens of a reading are tokens of the text in order, with its end last
 pub placed_tokens : (text : List ℕ) (tokens : List Token) → Reads text tokens → AreTokensOf text tokens
 placed_tokens text tokens reads = record {
   front = reads.front;
   ended = reads.told;
-  placed = subst (AreTokensAfter text 0) reads.whole.told (placed_from text [] reads.whole.pieces 0 0 (sym (append-nil (spelling reads.whole.pieces)) ∙ reads.whole.spelled) refl (omega arith) reads.whole.fit);
+  placed = subst (AreTokensAfter text 0) reads.whole.told (placed_from text [] reads.whole.pieces 0 0
+      (sym (append-nil (spelling reads.whole.pieces)) ∙ reads.whole.spelled) refl (omega arith) reads.whole.fit);
 }

@@ -22,7 +22,8 @@ pub record IsLongestFront (test : List ℕ → Bool) (rest : List ℕ) (len : �
   pub length_is : length (take len rest) ≡ len
 
 -- where the rest starts with a letter, its front of word bytes is the longest lexeme, and a word
-pub word_front : (rest : List ℕ) (len : ℕ) → len ≡ prefix_len is_word_byte rest → 1 ≤ length rest → is_letter (get_or rest 0 0) ≡ true → IsLongestFront is_word rest len
+pub word_front : (rest : List ℕ) (len : ℕ) → len ≡ prefix_len is_word_byte rest → 1 ≤ length rest → is_letter (get_or rest 0 0) ≡ true
+    → IsLongestFront is_word rest len
 word_front [] len e some letter = absurd (omega arith)
 word_front (b ∷ bs) len e some letter = rw e record {
   longest = word_longest b bs letter;
@@ -31,7 +32,8 @@ word_front (b ∷ bs) len e some letter = rw e record {
 }
 
 -- where the rest starts with a digit, its front of digits is the longest lexeme, and a numeral
-pub numeral_front : (rest : List ℕ) (len : ℕ) → len ≡ prefix_len is_digit rest → 1 ≤ length rest → is_digit (get_or rest 0 0) ≡ true → IsLongestFront is_numeral rest len
+pub numeral_front : (rest : List ℕ) (len : ℕ) → len ≡ prefix_len is_digit rest → 1 ≤ length rest → is_digit (get_or rest 0 0) ≡ true
+    → IsLongestFront is_numeral rest len
 numeral_front [] len e some digit = absurd (omega arith)
 numeral_front (b ∷ bs) len e some digit = rw e record {
   longest = numeral_longest b bs digit;
@@ -40,7 +42,8 @@ numeral_front (b ∷ bs) len e some digit = rw e record {
 }
 
 -- a longest front that is a token stands first
-pub token_stands : {test : List ℕ → Bool} (rest : List ℕ) (len : ℕ) (kind : Kind) → IsLongestFront test rest len → IsToken kind (take len rest) → IsApart kind (drop len rest) → StandsFirst rest (record { kind = Some kind; len = len })
+pub token_stands : {test : List ℕ → Bool} (rest : List ℕ) (len : ℕ) (kind : Kind) → IsLongestFront test rest len
+    → IsToken kind (take len rest) → IsApart kind (drop len rest) → StandsFirst rest (record { kind = Some kind; len = len })
 token_stands rest len kind front is_token apart = record {
   piece = token kind (take len rest);
   after = drop len rest;
@@ -62,7 +65,8 @@ long_name rest len front long = record {
 }
 
 -- a longest front that is a malformed numeral is a bad number
-pub bad_number : (rest : List ℕ) (len : ℕ) → IsLongestFront is_numeral rest len → is_bad (take len rest) (drop len rest) ≡ true → IsBadNumber rest
+pub bad_number : (rest : List ℕ) (len : ℕ) → IsLongestFront is_numeral rest len → is_bad (take len rest) (drop len rest) ≡ true
+    → IsBadNumber rest
 bad_number rest len front bad = record {
   bytes = take len rest;
   after = drop len rest;
@@ -73,7 +77,8 @@ bad_number rest len front bad = record {
 }
 
 -- a longest front that is a numeral past the greatest literal is a long number
-pub long_number : (rest : List ℕ) (len : ℕ) → IsLongestFront is_numeral rest len → is_bad (take len rest) (drop len rest) ≡ false → greatest_literal < digits_value 10 (take len rest) → IsLongNumber rest
+pub long_number : (rest : List ℕ) (len : ℕ) → IsLongestFront is_numeral rest len → is_bad (take len rest) (drop len rest) ≡ false
+    → greatest_literal < digits_value 10 (take len rest) → IsLongNumber rest
 long_number rest len front good great = record {
   bytes = take len rest;
   after = drop len rest;
@@ -85,6 +90,7 @@ long_number rest len front good great = record {
 }
 
 -- a blank byte stands first as a blank
-pub blank_stands : (rest : List ℕ) → 1 ≤ length rest → is_blank (get_or rest 0 0) ≡ true → StandsFirst rest (record { kind = None; len = 1 })
+pub blank_stands : (rest : List ℕ) → 1 ≤ length rest → is_blank (get_or rest 0 0) ≡ true
+    → StandsFirst rest (record { kind = None; len = 1 })
 blank_stands [] some is = absurd (omega arith)
 blank_stands (b ∷ bs) some is = record { piece = blank b; after = bs; split = refl; fits = is; length_is = refl; kind_is = refl }

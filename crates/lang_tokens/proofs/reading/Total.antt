@@ -1,13 +1,16 @@
 -- At every place a piece or a fault stands.
-use Rattle.std.proofs.Common.{◌≡◌, ◌≤◌, ◌<◌, ◌+◌, ◌⊎◌, ℕ, suc, zero, Bool, true, false, eqb, leb, List, [], ◌∷◌, ◌++◌, length, take, drop, get_or, refl, sym}
+use Rattle.std.proofs.Common.{◌≡◌, ◌≤◌, ◌<◌, ◌+◌, ◌⊎◌, ℕ, suc, zero, Bool, true, false, eqb, leb, List, [], ◌∷◌, ◌++◌, length, take, drop}
+use Rattle.std.proofs.Common.{get_or, refl, sym}
 use Rattle.std.proofs.Common.{ap, subst, arith, Option, Some, None, ◌-◌, pos, inl, inr, ⊎_elim}
 use Rattle.std.proofs.lemmas.Bool.{cases_eq, cases_lt, cases_Bool, and_parts, or_parts, leb-true}
 use Rattle.std.proofs.lemmas.List.{length-append, length-drop}
 use Rattle.std.specs.List.{list_all, prefix_len}
 use Rattle.std.specs.Str.Parse.{digits_value}
 use Rattle.lang_tokens.specs.declared.sign.Sign.{Sign}
-use Rattle.lang_tokens.specs.declared.sign.Sign.TheVariants.{LeftParen, RightParen, LeftBrace, RightBrace, Comma, Semicolon, Colon, Assign, PlusAssign}
-use Rattle.lang_tokens.specs.declared.sign.Sign.TheVariants.{MinusAssign, Increment, Decrement, Plus, Minus, Star, Bang, Less, LessEqual, Greater, GreaterEqual}
+use Rattle.lang_tokens.specs.declared.sign.Sign.TheVariants.{LeftParen, RightParen, LeftBrace, RightBrace, Comma, Semicolon, Colon, Assign}
+use Rattle.lang_tokens.specs.declared.sign.Sign.TheVariants.{PlusAssign}
+use Rattle.lang_tokens.specs.declared.sign.Sign.TheVariants.{MinusAssign, Increment, Decrement, Plus, Minus, Star, Bang, Less, LessEqual}
+use Rattle.lang_tokens.specs.declared.sign.Sign.TheVariants.{Greater, GreaterEqual}
 use Rattle.lang_tokens.specs.declared.sign.Sign.TheVariants.{EqualEqual, BangEqual, AndAnd, OrOr}
 use Rattle.lang_tokens.specs.Signs.{sign_bytes}
 use Rattle.lang_tokens.specs.Bytes.{is_blank, is_letter, is_digit, is_word_byte}
@@ -24,7 +27,8 @@ use Rattle.lang_tokens.proofs.lexemes.Longest.{leads}
 use Rattle.lang_tokens.proofs.lexemes.Openings.{lead_plain}
 use Rattle.lang_tokens.proofs.lexemes.Spellings.{reserved_or_not}
 use Rattle.lang_tokens.proofs.comment.Ends.{line_comment_stands, block_comment_stands, open_comment_stands}
-use Rattle.lang_tokens.proofs.reading.Standing.{IsLongestFront, word_front, numeral_front, token_stands, long_name, bad_number, long_number, blank_stands}
+use Rattle.lang_tokens.proofs.reading.Standing.{IsLongestFront, word_front, numeral_front, token_stands, long_name, bad_number, long_number}
+use Rattle.lang_tokens.proofs.reading.Standing.{blank_stands}
 use Rattle.lang_tokens.proofs.signs.Longest.{sign_short, second_of, sign_stands, nothing_stands}
 use Rattle.lang_tokens.proofs.reading.Growth.{reads_none, reads_more, found_tokens, found_some, found_within}
 
@@ -34,7 +38,8 @@ starts_or_not [] first second = inr (λ h. h)
 starts_or_not (b ∷ []) first second = cases_eq b first
 starts_or_not (b ∷ c ∷ bs) first None = inr (λ h. let no : Some c ≡ None = h.1 in cc)
 starts_or_not (b ∷ c ∷ bs) first (Some d) = ⊎_elim
-    (λ (e : b ≡ first). ⊎_elim (λ (f : c ≡ d). inl (e, ap (λ (n : ℕ). Some n) f)) (λ (f : c ≡ d → ⊥). inr (λ h. f (let same : Some c ≡ Some d = h.1 in cc))) (cases_eq c d))
+    (λ (e : b ≡ first). ⊎_elim (λ (f : c ≡ d). inl (e, ap (λ (n : ℕ). Some n) f))
+    (λ (f : c ≡ d → ⊥). inr (λ h. f (let same : Some c ≡ Some d = h.1 in cc))) (cases_eq c d))
     (λ (e : b ≡ first → ⊥). inr (λ h. e h.0))
     (cases_eq b first)
 
@@ -52,12 +57,18 @@ record Starting (n first : ℕ) (second : Option ℕ) : Type 0 where
   starts : StartWith (sign_bytes sign) first second
   long : n ≤ length (sign_bytes sign)
 
-one_starts : (n : ℕ) (signs : List Sign) (first : ℕ) (second : Option ℕ) → are_long n signs ≡ true → Starting n first second ⊎ NoneStart signs first second
+one_starts : (n : ℕ) (signs : List Sign) (first : ℕ) (second : Option ℕ) → are_long n signs ≡ true
+    → Starting n first second ⊎ NoneStart signs first second
 one_starts n [] first second long = inr tt
 one_starts n (sign ∷ signs) first second long =
     let both = and_parts (leb n (length (sign_bytes sign))) (are_long n signs) long in
     ⊎_elim
-    (λ (h : StartWith (sign_bytes sign) first second). inl (record { sign = sign; starts = h; long = leb-true n (length (sign_bytes sign)) both.0 }))
+    (λ (h : StartWith (sign_bytes sign) first second). inl (record {
+      sign = sign;
+      starts = h;
+      long =
+          leb-true n (length (sign_bytes sign)) both.0;
+    }))
     (λ (h : StartWith (sign_bytes sign) first second → ⊥). ⊎_elim
     (λ (found : Starting n first second). inl found)
     (λ (none : NoneStart signs first second). inr (h, none))
@@ -69,9 +80,11 @@ abbrev twos : List Sign
 twos = PlusAssign ∷ MinusAssign ∷ Increment ∷ Decrement ∷ LessEqual ∷ GreaterEqual ∷ EqualEqual ∷ BangEqual ∷ AndAnd ∷ OrOr ∷ []
 
 abbrev ones : List Sign
-ones = LeftParen ∷ RightParen ∷ LeftBrace ∷ RightBrace ∷ Comma ∷ Semicolon ∷ Colon ∷ Assign ∷ Plus ∷ Minus ∷ Star ∷ Bang ∷ Less ∷ Greater ∷ []
+ones = LeftParen ∷ RightParen ∷ LeftBrace ∷ RightBrace ∷ Comma ∷ Semicolon ∷ Colon ∷ Assign ∷ Plus ∷ Minus ∷ Star ∷ Bang ∷ Less ∷ Greater
+    ∷ []
 
-no_two : (first : ℕ) (second : Option ℕ) → NoneStart twos first second → (sign : Sign) → StartWith (sign_bytes sign) first second → length (sign_bytes sign) ≤ 1
+no_two : (first : ℕ) (second : Option ℕ) → NoneStart twos first second → (sign : Sign) → StartWith (sign_bytes sign) first second
+    → length (sign_bytes sign) ≤ 1
 no_two first second none PlusAssign h = absurd (none.0 h)
 no_two first second none MinusAssign h = absurd (none.1.0 h)
 no_two first second none Increment h = absurd (none.1.1.0 h)
@@ -84,7 +97,8 @@ no_two first second none AndAnd h = absurd (none.1.1.1.1.1.1.1.1.0 h)
 no_two first second none OrOr h = absurd (none.1.1.1.1.1.1.1.1.1.0 h)
 no_two first second none _ h = omega arith
 
-no_one : (first : ℕ) (second : Option ℕ) → NoneStart twos first second → NoneStart ones first second → (sign : Sign) → StartWith (sign_bytes sign) first second → ⊥
+no_one : (first : ℕ) (second : Option ℕ) → NoneStart twos first second → NoneStart ones first second → (sign : Sign)
+    → StartWith (sign_bytes sign) first second → ⊥
 no_one first second none alone PlusAssign h = none.0 h
 no_one first second none alone MinusAssign h = none.1.0 h
 no_one first second none alone Increment h = none.1.1.0 h
@@ -117,9 +131,17 @@ record LongestSign (first : ℕ) (second : Option ℕ) : Type 0 where
 
 longest_sign : (first : ℕ) (second : Option ℕ) → LongestSign first second
 longest_sign first second = ⊎_elim
-    (λ (s : Starting 2 first second). record { answer = Some s.sign; longest = (s.starts, λ other h. omega (arith, sign_short other, s.long)) })
+    (λ (s : Starting 2 first second). record {
+      answer = Some s.sign;
+      longest =
+          (s.starts, λ other h. omega (arith, sign_short other, s.long));
+    })
     (λ (none : NoneStart twos first second). ⊎_elim
-    (λ (s : Starting 1 first second). record { answer = Some s.sign; longest = (s.starts, λ other h. omega (arith, no_two first second none other h, s.long)) })
+    (λ (s : Starting 1 first second). record {
+      answer = Some s.sign;
+      longest =
+          (s.starts, λ other h. omega (arith, no_two first second none other h, s.long));
+    })
     (λ (alone : NoneStart ones first second). record { answer = None; longest = no_one first second none alone })
     (one_starts 1 ones first second refl))
     (one_starts 2 twos first second refl)
@@ -138,7 +160,8 @@ close_later x text here later = from later.answer later.first
     forth : (place : ℕ) → ClosesAt text place → ClosesAt (x ∷ text) (suc place)
     forth place h = let one : suc place + 1 ≡ suc (place + 1) = omega arith in (h.0, rw one h.1)
 
-    before : (place : ℕ) → ((other : ℕ) → other < place → ClosesAt text other → ⊥) → (other : ℕ) → other < suc place → ClosesAt (x ∷ text) other → ⊥
+    before : (place : ℕ) → ((other : ℕ) → other < place → ClosesAt text other → ⊥) → (other : ℕ) → other < suc place
+        → ClosesAt (x ∷ text) other → ⊥
     before place none zero low h = here h
     before place none (suc other) low h = none other (omega arith) (back other h)
 
@@ -189,11 +212,13 @@ at_slash place bs = ⊎_elim
     (cases_eq (get_or bs 0 0) 42))
     (cases_eq (get_or bs 0 0) 47)
   where
-    from : 2 ≤ length (47 ∷ bs) → get_or bs 0 0 ≡ 42 → (o : Option ℕ) → IsFirstClose (take (length (47 ∷ bs) - 2) (drop 2 (47 ∷ bs))) o → AtPlace place (47 ∷ bs)
+    from : 2 ≤ length (47 ∷ bs) → get_or bs 0 0 ≡ 42 → (o : Option ℕ) → IsFirstClose (take (length (47 ∷ bs) - 2) (drop 2 (47 ∷ bs))) o
+        → AtPlace place (47 ∷ bs)
     from long e (Some k) h = a_piece _ (block_comment_stands (47 ∷ bs) k long refl e h)
     from long e None h = a_fault (OpenComment place) (refl, open_comment_stands (47 ∷ bs) long refl e h)
 
-    block : 2 ≤ length (47 ∷ bs) → get_or bs 0 0 ≡ 42 → FirstClose (take (length (47 ∷ bs) - 2) (drop 2 (47 ∷ bs))) → AtPlace place (47 ∷ bs)
+    block : 2 ≤ length (47 ∷ bs) → get_or bs 0 0 ≡ 42 → FirstClose (take (length (47 ∷ bs) - 2) (drop 2 (47 ∷ bs)))
+        → AtPlace place (47 ∷ bs)
     block long e close = from long e close.answer close.first
 
 at_digit : (place b : ℕ) (bs : List ℕ) → is_digit b ≡ true → AtPlace place (b ∷ bs)
@@ -203,7 +228,8 @@ at_digit place b bs digit = ⊎_elim
     (λ (great : greatest_literal < digits_value 10 bytes). a_fault (LongNumber place) (refl, long_number rest len front good great))
     (λ (small : digits_value 10 bytes ≤ greatest_literal).
     let both = or_parts (is_padded bytes) (starts_with_letter after) good in
-    a_piece _ (token_stands rest len (kind.Number (pos (digits_value 10 bytes))) front (record { digits = front.passes; plain = both.0; value_is = refl; within = small }) both.1))
+    a_piece _ (token_stands rest len (kind.Number (pos (digits_value 10 bytes))) front
+    (record { digits = front.passes; plain = both.0; value_is = refl; within = small }) both.1))
     (cases_lt greatest_literal (digits_value 10 bytes)))
     (cases_Bool (is_bad bytes after))
   where
@@ -227,7 +253,8 @@ at_letter place b bs letter = ⊎_elim
     (λ (long : longest_word < len). a_fault (LongName place) (refl, long_name rest len front long))
     (λ (short : len ≤ longest_word). ⊎_elim
     (λ (is : IsReserved (take len rest)). a_piece _ (token_stands rest len (kind.Word is.0) front is.1 tt))
-    (λ (free : IsReserved (take len rest) → ⊥). a_piece _ (token_stands rest len kind.Name front (record { word = front.passes; free = free; short = rw front.length_is short }) tt))
+    (λ (free : IsReserved (take len rest) → ⊥). a_piece _ (token_stands rest len kind.Name front
+    (record { word = front.passes; free = free; short = rw front.length_is short }) tt))
     (reserved_or_not (take len rest)))
     (cases_lt longest_word len)
   where
@@ -240,7 +267,8 @@ at_letter place b bs letter = ⊎_elim
     front : IsLongestFront is_word rest len
     front = word_front rest len refl (omega arith) letter
 
-at_other : (place b : ℕ) (bs : List ℕ) → is_blank b ≡ false → (b ≡ 47 → ⊥) → is_letter b ≡ false → is_digit b ≡ false → AtPlace place (b ∷ bs)
+at_other : (place b : ℕ) (bs : List ℕ) → is_blank b ≡ false → (b ≡ 47 → ⊥) → is_letter b ≡ false → is_digit b ≡ false
+    → AtPlace place (b ∷ bs)
 at_other place b bs no_blank no_slash no_letter no_digit = from (longest_sign b (second_of (b ∷ bs)))
   where
     by_answer : (o : Option Sign) → IsLongestSign b (second_of (b ∷ bs)) o → AtPlace place (b ∷ bs)
@@ -275,11 +303,14 @@ reads_end text at tokens reads =
 abbrev pub HasAnswer : List ℕ → Type 0
 HasAnswer text = ((tokens : List Token) × Reads text tokens) ⊎ ((fault : LexFault) × HasFault text fault)
 
-answer_from : (most : ℕ) (text : List ℕ) (at : ℕ) (tokens : List Token) (rest : List ℕ) → length rest ≤ most → ReadsUpTo text at tokens rest → HasAnswer text
+answer_from : (most : ℕ) (text : List ℕ) (at : ℕ) (tokens : List Token) (rest : List ℕ) → length rest ≤ most → ReadsUpTo text at tokens rest
+    → HasAnswer text
 answer_from most text at tokens [] short reads = inl (tokens ++ end_at (length text) ∷ [], reads_end text at tokens reads)
 answer_from zero text at tokens (b ∷ bs) short reads = absurd (omega arith)
 answer_from (suc most) text at tokens (b ∷ bs) short reads = elim (at_place at b bs) [
-  | a_piece found stands ↦ answer_from most text (at + found.len) (tokens ++ found_tokens at found.kind found.len) (drop found.len (b ∷ bs)) (omega (arith, length-drop found.len (b ∷ bs), found_some (b ∷ bs) found stands, found_within (b ∷ bs) found stands)) (reads_more text at tokens (b ∷ bs) found reads stands)
+  | a_piece found stands ↦ answer_from most text (at + found.len) (tokens ++ found_tokens at found.kind found.len) (drop found.len (b ∷ bs))
+      (omega (arith, length-drop found.len (b ∷ bs), found_some (b ∷ bs) found stands, found_within (b ∷ bs) found stands))
+      (reads_more text at tokens (b ∷ bs) found reads stands)
   | a_fault fault stands ↦ inr (fault, record { place = at; tokens = tokens; rest = b ∷ bs; reads = reads; stands = stands })
 ]
 

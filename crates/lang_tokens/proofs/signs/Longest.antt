@@ -1,5 +1,6 @@
 -- The sign that stands first, from the first two bytes.
-use Rattle.std.proofs.Common.{◌≡◌, ◌≢◌, ◌≤◌, ℕ, suc, true, false, ltb, List, [], ◌∷◌, ◌++◌, length, get_or, refl, sym, ap, ◌∙◌, arith, Option, Some, None}
+use Rattle.std.proofs.Common.{◌≡◌, ◌≢◌, ◌≤◌, ℕ, suc, true, false, ltb, List, [], ◌∷◌, ◌++◌, length, get_or, refl, sym, ap, ◌∙◌, arith}
+use Rattle.std.proofs.Common.{Option, Some, None}
 use Rattle.std.proofs.Common.{Bor, is_some, IfSome}
 use Rattle.std.specs.Option.{option_copied}
 use Rattle.std.proofs.lemmas.Bool.{lt-ltb}
@@ -22,7 +23,8 @@ second_of (a ∷ []) = None
 second_of (a ∷ b ∷ bs) = Some b
 
 -- a look-up at index 1 reads the second byte, if there is one
-pub second_read : (rest : List ℕ) (o : Option (Bor ℕ)) → is_some o ≡ ltb 1 (length rest) → IfSome o (λ x. x.now ≡ get_or rest 1 x.now) → option_copied o ≡ second_of rest
+pub second_read : (rest : List ℕ) (o : Option (Bor ℕ)) → is_some o ≡ ltb 1 (length rest) → IfSome o (λ x. x.now ≡ get_or rest 1 x.now)
+    → option_copied o ≡ second_of rest
 second_read [] None e h = refl
 second_read [] (Some x) e h = cc
 second_read (a ∷ []) None e h = refl
@@ -35,26 +37,31 @@ pub sign_short : (sign : Sign) → length (sign_bytes sign) ≤ 2
 sign_short LeftParen = omega arith
 sign_short _ = omega arith
 
-start_split : (xs : List ℕ) (first : ℕ) (bs : List ℕ) → StartWith xs first (second_of (first ∷ bs)) → length xs ≤ 2 → (after : List ℕ) × (xs ++ after ≡ first ∷ bs)
+start_split : (xs : List ℕ) (first : ℕ) (bs : List ℕ) → StartWith xs first (second_of (first ∷ bs)) → length xs ≤ 2
+    → (after : List ℕ) × (xs ++ after ≡ first ∷ bs)
 start_split [] first bs h short = absurd h
 start_split (b ∷ []) first bs h short = (bs, ap (λ (x : ℕ). x ∷ bs) h)
 start_split (b ∷ c ∷ []) first [] h short = let no : Some c ≡ None = h.1 in cc
 start_split (b ∷ c ∷ []) first (d ∷ ds) h short = let one : b ≡ first = h.0 in let two : Some c ≡ Some d = h.1 in (ds, cc)
 start_split (b ∷ c ∷ d ∷ ds) first bs h short = absurd (omega arith)
 
-start_from : (xs after : List ℕ) (first : ℕ) (bs : List ℕ) → heads is_mark xs ≡ true → xs ++ after ≡ first ∷ bs → StartWith xs first (second_of (first ∷ bs))
+start_from : (xs after : List ℕ) (first : ℕ) (bs : List ℕ) → heads is_mark xs ≡ true → xs ++ after ≡ first ∷ bs
+    → StartWith xs first (second_of (first ∷ bs))
 start_from [] after first bs h e = cc
 start_from (b ∷ []) after first bs h e = cc
 start_from (b ∷ c ∷ cs) after first [] h e = cc
 start_from (b ∷ c ∷ cs) after first (d ∷ ds) h e = let one : b ≡ first = cc in let two : c ≡ d = cc in (one, ap (λ (n : ℕ). Some n) two)
 
 -- every lexeme here is a sign that starts so
-signs_only : (first : ℕ) (bs other after : List ℕ) → is_letter first ≡ false → is_digit first ≡ false → other ++ after ≡ first ∷ bs → IsLexeme other → (sign : Sign) × (sign_bytes sign ≡ other) × StartWith (sign_bytes sign) first (second_of (first ∷ bs))
+signs_only : (first : ℕ) (bs other after : List ℕ) → is_letter first ≡ false → is_digit first ≡ false → other ++ after ≡ first ∷ bs
+    → IsLexeme other → (sign : Sign) × (sign_bytes sign ≡ other) × StartWith (sign_bytes sign) first (second_of (first ∷ bs))
 signs_only first bs other after no_letter no_digit e lexeme =
     let found = sign_starts other after bs first e lexeme no_letter no_digit in
     (found.0, found.1, start_from (sign_bytes found.0) after first bs (sign_heads found.0) (rw found.1 e))
 
-sign_from : (first : ℕ) (bs : List ℕ) (sign : Sign) (len : ℕ) → IsLongestSign first (second_of (first ∷ bs)) (Some sign) → is_letter first ≡ false → is_digit first ≡ false → len ≡ length (sign_bytes sign) → StandsFirst (first ∷ bs) (record { kind = Some (kind.Sign sign); len = len })
+sign_from : (first : ℕ) (bs : List ℕ) (sign : Sign) (len : ℕ) → IsLongestSign first (second_of (first ∷ bs)) (Some sign)
+    → is_letter first ≡ false → is_digit first ≡ false → len ≡ length (sign_bytes sign)
+    → StandsFirst (first ∷ bs) (record { kind = Some (kind.Sign sign); len = len })
 sign_from first bs sign len longest no_letter no_digit e =
     let found = start_split (sign_bytes sign) first bs longest.0 (sign_short sign) in
     record {
@@ -76,12 +83,16 @@ sign_from first bs sign len longest no_letter no_digit e =
     }
 
 -- the longest sign that starts with the first two bytes stands first
-pub sign_stands : (rest : List ℕ) (sign : Sign) (len : ℕ) → 1 ≤ length rest → is_letter (get_or rest 0 0) ≡ false → is_digit (get_or rest 0 0) ≡ false → IsLongestSign (get_or rest 0 0) (second_of rest) (Some sign) → len ≡ length (sign_bytes sign) → StandsFirst rest (record { kind = Some (kind.Sign sign); len = len })
+pub sign_stands : (rest : List ℕ) (sign : Sign) (len : ℕ) → 1 ≤ length rest → is_letter (get_or rest 0 0) ≡ false
+    → is_digit (get_or rest 0 0) ≡ false → IsLongestSign (get_or rest 0 0) (second_of rest) (Some sign) → len ≡ length (sign_bytes sign)
+    → StandsFirst rest (record { kind = Some (kind.Sign sign); len = len })
 sign_stands [] sign len some no_letter no_digit longest e = absurd (omega arith)
 sign_stands (first ∷ bs) sign len some no_letter no_digit longest e = sign_from first bs sign len longest no_letter no_digit e
 
 -- where no sign starts with the first two bytes, and nothing else does, nothing starts at all
-pub nothing_stands : (rest : List ℕ) → 1 ≤ length rest → is_blank (get_or rest 0 0) ≡ false → get_or rest 0 0 ≢ 47 → is_letter (get_or rest 0 0) ≡ false → is_digit (get_or rest 0 0) ≡ false → IsLongestSign (get_or rest 0 0) (second_of rest) None → NothingStarts rest
+pub nothing_stands : (rest : List ℕ) → 1 ≤ length rest → is_blank (get_or rest 0 0) ≡ false → get_or rest 0 0 ≢ 47
+    → is_letter (get_or rest 0 0) ≡ false → is_digit (get_or rest 0 0) ≡ false → IsLongestSign (get_or rest 0 0) (second_of rest) None
+    → NothingStarts rest
 nothing_stands [] some no_blank no_slash no_letter no_digit none = absurd (omega arith)
 nothing_stands (first ∷ bs) some no_blank no_slash no_letter no_digit none = record {
   first = first;

@@ -8,7 +8,8 @@ abbrev pub stops : {X : Type 0} → (X → Bool) → List X → Bool
 stops p [] = true
 stops p (x ∷ xs) = not (p x)
 
-all_run_cons : {X : Type 0} (p : X → Bool) (x : X) (xs : List X) (n : ℕ) (b : Bool) → p x ≡ b → list_all p (take n xs) ≡ true → list_all p (take (cond b (1 + n) 0) (x ∷ xs)) ≡ true
+all_run_cons : {X : Type 0} (p : X → Bool) (x : X) (xs : List X) (n : ℕ) (b : Bool) → p x ≡ b → list_all p (take n xs) ≡ true
+    → list_all p (take (cond b (1 + n) 0) (x ∷ xs)) ≡ true
 all_run_cons p x xs n true e h = let one : 1 + n ≡ suc n = omega arith in rw one (and_from _ _ e h)
 all_run_cons p x xs n false e h = refl
 
@@ -17,7 +18,8 @@ pub all_run : {X : Type 0} (p : X → Bool) (xs : List X) → list_all p (take (
 all_run p [] = refl
 all_run p (x ∷ xs) = all_run_cons p x xs (prefix_len p xs) (p x) refl (all_run p xs)
 
-stops_run_cons : {X : Type 0} (p : X → Bool) (x : X) (xs : List X) (n : ℕ) (b : Bool) → p x ≡ b → stops p (drop n xs) ≡ true → stops p (drop (cond b (1 + n) 0) (x ∷ xs)) ≡ true
+stops_run_cons : {X : Type 0} (p : X → Bool) (x : X) (xs : List X) (n : ℕ) (b : Bool) → p x ≡ b → stops p (drop n xs) ≡ true
+    → stops p (drop (cond b (1 + n) 0) (x ∷ xs)) ≡ true
 stops_run_cons p x xs n true e h = let one : 1 + n ≡ suc n = omega arith in rw one h
 stops_run_cons p x xs n false e h = rw e refl
 
@@ -27,7 +29,8 @@ stops_run p [] = refl
 stops_run p (x ∷ xs) = stops_run_cons p x xs (prefix_len p xs) (p x) refl (stops_run p xs)
 
 -- a front that passes is no longer
-pub run_longest : {X : Type 0} (p : X → Bool) (other after xs : List X) → other ++ after ≡ xs → list_all p other ≡ true → length other ≤ prefix_len p xs
+pub run_longest : {X : Type 0} (p : X → Bool) (other after xs : List X) → other ++ after ≡ xs → list_all p other ≡ true
+    → length other ≤ prefix_len p xs
 run_longest p [] after xs e h = omega arith
 run_longest p (o ∷ other) after [] e h = cc
 run_longest p (o ∷ other) after (x ∷ xs) e h = grind (arith, run_longest p other after xs)

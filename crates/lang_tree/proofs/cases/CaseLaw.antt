@@ -1,5 +1,6 @@
 -- A condition may have a truth exactly where all guards of some case hold.
-use Rattle.std.proofs.Common.{◌≡◌, ◌≢◌, ◌∙◌, ◌↔◌, ◌⊎◌, inl, inr, ⊎_elim, zero, suc, Bool, true, false, List, [], ◌∷◌, ◌++◌, ◌*◌, map, arith, refl, sym, ap}
+use Rattle.std.proofs.Common.{◌≡◌, ◌≢◌, ◌∙◌, ◌↔◌, ◌⊎◌, inl, inr, ⊎_elim, zero, suc, Bool, true, false, List, [], ◌∷◌, ◌++◌, ◌*◌, map, arith}
+use Rattle.std.proofs.Common.{refl, sym, ap}
 use Rattle.std.specs.Prelude.{ℤ, pos, negsuc, ◌+ℤ◌, ◌*ℤ◌, ◌≤ℤ◌, ◌<ℤ◌, neg_ℤ}
 use Rattle.std.proofs.lemmas.Int.{ints}
 use Rattle.std.proofs.Math.IntN.{neg_ℤ-+ℤ, neg_ℤ-neg_ℤ, zero-*ℤ, negsuc-*ℤ-pos, negsuc-*ℤ-negsuc, pos-*ℤ-negsuc}
@@ -14,7 +15,8 @@ use Rattle.lang_tree.specs.Cases.{plus_one, negated, comparison_cases, crossed, 
 neg-times : (a b : ℤ) → neg_ℤ a *ℤ b ≡ neg_ℤ (a *ℤ b)
 neg-times (pos zero) b = zero-*ℤ b ∙ ap neg_ℤ (sym (zero-*ℤ b))
 neg-times (pos (suc n)) (pos m) = negsuc-*ℤ-pos n m
-neg-times (pos (suc n)) (negsuc m) = negsuc-*ℤ-negsuc n m ∙ sym (neg_ℤ-neg_ℤ (pos (suc n * suc m))) ∙ ap neg_ℤ (sym (pos-*ℤ-negsuc (suc n) m))
+neg-times (pos (suc n)) (negsuc m) = negsuc-*ℤ-negsuc n m ∙ sym (neg_ℤ-neg_ℤ (pos (suc n * suc m)))
+    ∙ ap neg_ℤ (sym (pos-*ℤ-negsuc (suc n) m))
 neg-times (negsuc n) (pos m) = sym (neg_ℤ-neg_ℤ (pos (suc n * m))) ∙ ap neg_ℤ (sym (negsuc-*ℤ-pos n m))
 neg-times (negsuc n) (negsuc m) = pos-*ℤ-negsuc (suc n) m ∙ ap neg_ℤ (sym (negsuc-*ℤ-negsuc n m))
 
@@ -85,7 +87,10 @@ unequal_in f x (inr (inr h)) e = absurd h
 -- ---- a comparison holds, or fails, exactly where all guards of one of its cases hold
 comparison : (truth : Bool) (r : Rel) (f : Form) (x : State) → MayBe truth (compare r f) x ↔ HoldSome x (comparison_cases truth r f)
 comparison true Lt f x = let p = value-plus_one f x in ((λ h. one.0 (omega (arith, ints))), (λ h. let k = one.1 h in omega (arith, ints)))
-comparison false Lt f x = let n = value-negated f x in ((λ h. let k = not_below (value f x) h in one.0 (omega (arith, ints))), (λ h k. let g = one.1 h in omega (arith, ints)))
+comparison false Lt f x = let n = value-negated f x in (
+  (λ h. let k = not_below (value f x) h in one.0 (omega (arith, ints))),
+  (λ h k. let g = one.1 h in omega (arith, ints)),
+)
 comparison true Le f x = one
 comparison false Le f x =
     let n = value-negated f x in
@@ -97,7 +102,10 @@ comparison true Gt f x =
     ((λ h. one.0 (omega (arith, ints))), (λ h. let g = one.1 h in omega (arith, ints)))
 comparison false Gt f x = ((λ h. one.0 (not_above (value f x) h)), (λ h k. let g = one.1 h in omega (arith, ints)))
 comparison true Ge f x = let n = value-negated f x in ((λ h. one.0 (omega (arith, ints))), (λ h. let g = one.1 h in omega (arith, ints)))
-comparison false Ge f x = let p = value-plus_one f x in ((λ h. let k = not_at_least (value f x) h in one.0 (omega (arith, ints))), (λ h k. let g = one.1 h in omega (arith, ints)))
+comparison false Ge f x = let p = value-plus_one f x in (
+  (λ h. let k = not_at_least (value f x) h in one.0 (omega (arith, ints))),
+  (λ h k. let g = one.1 h in omega (arith, ints)),
+)
 comparison true Eq f x = (equal_out f x, equal_in f x)
 comparison false Eq f x = (unequal_out f x, unequal_in f x)
 comparison true Ne f x = (unequal_out f x, unequal_in f x)
@@ -156,6 +164,8 @@ cases_law false (compare r f) x = comparison false r f x
 cases_law true (negation c) x = cases_law false c x
 cases_law false (negation c) x = cases_law true c x
 cases_law true (both a b) x = through (pairs (cases_law true a x) (cases_law true b x)) (some-crossed x (cases_of true a) (cases_of true b))
-cases_law false (both a b) x = through (sums (cases_law false a x) (cases_law false b x)) (some-append x (cases_of false a) (cases_of false b))
+cases_law false (both a b) x = through (sums (cases_law false a x) (cases_law false b x))
+    (some-append x (cases_of false a) (cases_of false b))
 cases_law true (either a b) x = through (sums (cases_law true a x) (cases_law true b x)) (some-append x (cases_of true a) (cases_of true b))
-cases_law false (either a b) x = through (pairs (cases_law false a x) (cases_law false b x)) (some-crossed x (cases_of false a) (cases_of false b))
+cases_law false (either a b) x = through (pairs (cases_law false a x) (cases_law false b x))
+    (some-crossed x (cases_of false a) (cases_of false b))

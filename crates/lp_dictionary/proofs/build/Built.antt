@@ -1,5 +1,6 @@
 -- Lists that grow at their end, in the loops that build the first dictionary.
-use Rattle.std.proofs.Common.{◌≡◌, ℕ, zero, suc, ◌+◌, ◌<◌, Bool, List, [], ◌∷◌, ◌++◌, length, map, take, get_or, refl, ap, ap₂, sym, ◌∙◌, subst, arith, append_assoc, add-one, length-append}
+use Rattle.std.proofs.Common.{◌≡◌, ℕ, zero, suc, ◌+◌, ◌<◌, Bool, List, [], ◌∷◌, ◌++◌, length, map, take, get_or, refl, ap, ap₂, sym, ◌∙◌}
+use Rattle.std.proofs.Common.{subst, arith, append_assoc, add-one, length-append}
 use Rattle.std.proofs.lemmas.List.{map_push, map_more, get_or-map, length-map}
 use Rattle.base_numbers.specs.Rational.{ℚ, zero_ℚ, neg_ℚ}
 use Rattle.lp_dictionary.specs.Listed.{joined}
@@ -22,14 +23,17 @@ negated_more m xs i x y l e f =
     ∙ ap (λ v. map neg_ℚ (take i (map m xs)) ++ v ∷ []) (ap neg_ℚ (get_or-map m xs i x zero_ℚ l ∙ ap m (sym e)) ∙ sym f)
 
 -- one more entry of a list whose meaning is a first part and what was appended
-pub appended_more : {F : Type 0} (m : F → ℚ) (xs ys : List F) (us vs ws : List ℚ) (y : F) → ys ≡ xs ++ y ∷ [] → map m xs ≡ us ++ vs → ws ≡ vs ++ m y ∷ [] → map m ys ≡ us ++ ws
+pub appended_more : {F : Type 0} (m : F → ℚ) (xs ys : List F) (us vs ws : List ℚ) (y : F) → ys ≡ xs ++ y ∷ [] → map m xs ≡ us ++ vs
+    → ws ≡ vs ++ m y ∷ [] → map m ys ≡ us ++ ws
 appended_more m xs ys us vs ws y e f h =
     ap (map m) e ∙ map_push m xs y ∙ ap (λ x. x ++ m y ∷ []) f ∙ append_assoc us vs (m y ∷ []) ∙ ap (λ x. us ++ x) (sym h)
 
 -- one more row of a slack
-pub slacks_more : (aux : Bool) (A : List (List ℚ)) (b : List ℚ) (i : ℕ) (u : List ℚ) (s : ℚ) → get_or A i [] ≡ u → get_or b i zero_ℚ ≡ s → slacks_entries aux A b (i + 1) ≡ slacks_entries aux A b i ++ slack_entries aux u s
+pub slacks_more : (aux : Bool) (A : List (List ℚ)) (b : List ℚ) (i : ℕ) (u : List ℚ) (s : ℚ) → get_or A i [] ≡ u → get_or b i zero_ℚ ≡ s
+    → slacks_entries aux A b (i + 1) ≡ slacks_entries aux A b i ++ slack_entries aux u s
 slacks_more aux A b i u s e f =
-    joined-suc i (λ j. slack_entries aux (get_or A j []) (get_or b j zero_ℚ)) ∙ ap₂ (λ v t. slacks_entries aux A b i ++ slack_entries aux v t) e f
+    joined-suc i (λ j. slack_entries aux (get_or A j []) (get_or b j zero_ℚ))
+    ∙ ap₂ (λ v t. slacks_entries aux A b i ++ slack_entries aux v t) e f
 
 -- no slacks have no entries
 pub slacks_none : (aux : Bool) (A : List (List ℚ)) (b : List ℚ) → slacks_entries aux A b 0 ≡ []

@@ -1,5 +1,6 @@
 -- The table of a dictionary after the auxiliary variable's column and the first goal are left out.
-use Rattle.std.proofs.Common.{◌≡◌, ◌≢◌, ℕ, suc, ◌+◌, ◌-◌, ◌*◌, ◌<◌, ◌≤◌, ⊎_elim, cond, ltb, List, length, map, get_or, take, refl, ap, ap₂, sym, ◌∙◌, subst, arith, lt-ltb, le-ltb}
+use Rattle.std.proofs.Common.{◌≡◌, ◌≢◌, ℕ, suc, ◌+◌, ◌-◌, ◌*◌, ◌<◌, ◌≤◌, ⊎_elim, cond, ltb, List, length, map, get_or, take, refl, ap, ap₂}
+use Rattle.std.proofs.Common.{sym, ◌∙◌, subst, arith, lt-ltb, le-ltb}
 use Rattle.std.specs.Prelude.{remove}
 use Rattle.std.proofs.lemmas.List.{get_or-take, take-map}
 use Rattle.std.proofs.lemmas.List.Edits.{length-remove, get_or-remove_below, get_or-remove_above}
@@ -20,14 +21,17 @@ cell_taken m n xs p l = ap (λ ys. get_or ys p zero_ℚ) (sym (take-map m n xs))
 name_removed : (ns : List ℕ) (z k : ℕ) → z < length ns → get_or (remove ns z) k 0 ≡ get_or ns (skip z k) 0
 name_removed ns z k l = ⊎_elim
     (λ a. get_or-remove_below ns z 0 k a l ∙ ap (λ j. get_or ns j 0) (sym (skip_below z k a)))
-    (λ a. get_or-remove_above ns z 0 k a l ∙ ap (λ j. get_or ns j 0) (let e = skip_above z k a in let f : k + 1 ≡ skip z k = omega (arith, e) in f))
+    (λ a. get_or-remove_above ns z 0 k a l ∙ ap (λ j. get_or ns j 0) (let e = skip_above z k a in
+    let f : k + 1 ≡ skip z k = omega (arith, e) in f))
     (cases_lt k z)
 
 goal_renamed : (b n i : ℕ) → 0 < n → b ≤ i → i < b + 1 → goal_name b 1 (n - 1) i ≡ goal_name b 2 n (suc i)
 goal_renamed b n i l h k = omega (arith, l, h, k)
 
-module _ {F : Type 0} (m : F → ℚ) (bs ns ms : List ℕ) (xs ys zs : List F) (z : ℕ) (z_in : z < length ns) (z_is : z ≡ place_of (λ k. get_or ns k 0) (length ns) 0)
-    (h : ShiftsRows m (length bs + 1) (length bs) (suc (length ns)) z xs ys) (ms_is : ms ≡ remove ns z) (zs_is : zs ≡ take ((length bs + 1) * length ns) ys) where
+module _ {F : Type 0} (m : F → ℚ) (bs ns ms : List ℕ) (xs ys zs : List F) (z : ℕ) (z_in : z < length ns)
+    (z_is : z ≡ place_of (λ k. get_or ns k 0) (length ns) 0)
+    (h : ShiftsRows m (length bs + 1) (length bs) (suc (length ns)) z xs ys) (ms_is : ms ≡ remove ns z)
+    (zs_is : zs ≡ take ((length bs + 1) * length ns) ys) where
   T : Table
   T = cells_table m bs ns 2 xs
 
@@ -46,7 +50,8 @@ module _ {F : Type 0} (m : F → ℚ) (bs ns ms : List ℕ) (xs ys zs : List F) 
       (λ a. ap (λ b. cond b (get_or bs i 0) (goal_name (length bs) 1 (length ms) i)) (le-ltb i (length bs) a)
       ∙ ap (λ w. goal_name (length bs) 1 w i) (let w = width in let e : length ms ≡ length ns - 1 = omega (arith, w) in e)
       ∙ goal_renamed (length bs) (length ns) i (omega (arith, z_in)) a l
-      ∙ sym (ap (λ b. cond b (get_or bs (suc i) 0) (goal_name (length bs) 2 (length ns) (suc i))) (le-ltb (suc i) (length bs) (omega (arith, a))))
+      ∙ sym (ap (λ b. cond b (get_or bs (suc i) 0) (goal_name (length bs) 2 (length ns) (suc i)))
+      (le-ltb (suc i) (length bs) (omega (arith, a))))
       ∙ ap (λ j. cond (ltb j (length bs)) (get_or bs j 0) (goal_name (length bs) 2 (length ns) j)) (sym (skip_above (length bs) i a)))
       (cases_lt i (length bs))
 
@@ -55,7 +60,8 @@ module _ {F : Type 0} (m : F → ℚ) (bs ns ms : List ℕ) (xs ys zs : List F) 
   entries i k l b =
       let s : suc (length ns) - 1 ≡ length ns = omega arith in
       let p : i * length ns + k < (length bs + 1) * length ns = let e = row_end i (length bs + 1) (length ns) l in omega (arith, e, b) in
-      ap (λ w. row_from m zs (i * w) k) width ∙ ap (λ o. cell m o (i * length ns + k)) zs_is ∙ cell_taken m ((length bs + 1) * length ns) ys (i * length ns + k) p
+      ap (λ w. row_from m zs (i * w) k) width ∙ ap (λ o. cell m o (i * length ns + k)) zs_is
+      ∙ cell_taken m ((length bs + 1) * length ns) ys (i * length ns + k) p
       ∙ ap (λ w. cell m ys (i * w + k)) (sym s) ∙ h.moved i k l (omega (arith, b))
 
   -- the table is the one that is left
@@ -71,6 +77,8 @@ module _ {F : Type 0} (m : F → ℚ) (bs ns ms : List ℕ) (xs ys zs : List F) 
   }
 
 -- the shift in the numbers of a dictionary
-pub shifts_in : {F : Type 0} (m : F → ℚ) (n k r q s t c : ℕ) (xs xs' ys : List F) → n ≡ k → r ≡ q → s ≡ t → xs ≡ xs' → ShiftsRows m n r s c xs ys → ShiftsRows m k q t c xs' ys
+pub shifts_in : {F : Type 0} (m : F → ℚ) (n k r q s t c : ℕ) (xs xs' ys : List F) → n ≡ k → r ≡ q → s ≡ t → xs ≡ xs'
+    → ShiftsRows m n r s c xs ys → ShiftsRows m k q t c xs' ys
 shifts_in m n k r q s t c xs xs' ys e f i j h =
-    subst (λ a. ShiftsRows m a q t c xs' ys) e (subst (λ b. ShiftsRows m n b t c xs' ys) f (subst (λ d. ShiftsRows m n r d c xs' ys) i (subst (λ o. ShiftsRows m n r s c o ys) j h)))
+    subst (λ a. ShiftsRows m a q t c xs' ys) e (subst (λ b. ShiftsRows m n b t c xs' ys) f
+    (subst (λ d. ShiftsRows m n r d c xs' ys) i (subst (λ o. ShiftsRows m n r s c o ys) j h)))

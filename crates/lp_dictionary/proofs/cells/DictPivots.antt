@@ -1,5 +1,7 @@
 -- The table of a dictionary after a pivot.
-use Rattle.std.proofs.Common.{◌≡◌, ◌≢◌, ℕ, suc, ◌+◌, ◌*◌, ◌<◌, ◌≤◌, ⊎_elim, Bool, true, false, cond, eqb, ltb, ℤ, List, [], ◌++◌, length, get_or, set, take, drop, Option, Some, None, refl, ap, ap₂, sym, ◌∙◌, subst, arith, get_or-set_same, get_or-set_other, lt-ltb, le-ltb}
+use Rattle.std.proofs.Common.{◌≡◌, ◌≢◌, ℕ, suc, ◌+◌, ◌*◌, ◌<◌, ◌≤◌, ⊎_elim, Bool, true, false, cond, eqb, ltb, ℤ, List, [], ◌++◌, length}
+use Rattle.std.proofs.Common.{get_or, set, take, drop, Option, Some, None, refl, ap, ap₂, sym, ◌∙◌, subst, arith, get_or-set_same}
+use Rattle.std.proofs.Common.{get_or-set_other, lt-ltb, le-ltb}
 use Rattle.std.proofs.lemmas.List.{length-set, take_at, get_or_default}
 use Rattle.std.proofs.lemmas.Bool.{cases_eq, eq-eqb, ne_eqb, eqb-true}
 use Rattle.base_numbers.specs.Rational.{ℚ, one_ℚ, neg_ℚ, ◌+ℚ◌, ◌*ℚ◌, ◌/ℚ◌}
@@ -29,11 +31,13 @@ pub other_entry : (T : Table) (r c i k : ℕ) → pivot_other_entry T r c i k �
 unfolding pivot_other_entry
 other_entry T r c i k = by (eqb k c) refl
   where
-    by : (b : Bool) → eqb k c ≡ b → cond b (T.entry i c *ℚ pivot_row_entry T r c c) (T.entry i k +ℚ T.entry i c *ℚ pivot_row_entry T r c k) ≡ combined (T.entry i k) (T.entry i c) (divided_row (T.entry r) c k) b
+    by : (b : Bool) → eqb k c ≡ b → cond b (T.entry i c *ℚ pivot_row_entry T r c c) (T.entry i k +ℚ T.entry i c *ℚ pivot_row_entry T r c k)
+        ≡ combined (T.entry i k) (T.entry i c) (divided_row (T.entry r) c k) b
     by true e = ap (λ t. T.entry i c *ℚ t) (row_entry T r c c ∙ ap (divided_row (T.entry r) c) (sym (eqb-true k c e)))
     by false e = ap (λ t. T.entry i k +ℚ T.entry i c *ℚ t) (row_entry T r c k)
 
-module _ {F : Type 0} (m : F → ℚ) (bs ns : List ℕ) (goals : ℕ) (xs ys : List F) (r c x y : ℕ) (r_in : r < length bs) (c_in : c < length ns) (x_is : x ≡ get_or ns c x) (y_is : y ≡ get_or bs r y)
+module _ {F : Type 0} (m : F → ℚ) (bs ns : List ℕ) (goals : ℕ) (xs ys : List F) (r c x y : ℕ) (r_in : r < length bs) (c_in : c < length ns)
+    (x_is : x ≡ get_or ns c x) (y_is : y ≡ get_or bs r y)
     (h : Exchanges m (length bs + goals) r (suc (length ns)) c xs ys) where
   T : Table
   T = cells_table m bs ns goals xs
@@ -44,27 +48,34 @@ module _ {F : Type 0} (m : F → ℚ) (bs ns : List ℕ) (goals : ℕ) (xs ys : 
   row_names : (i : ℕ) → U.row_name i ≡ cond (eqb i r) (T.col_name c) (T.row_name i)
   unfolding T U
   row_names i = ⊎_elim
-      (λ e. ap₂ (λ b t. cond b t (goal_name (length (set bs r x)) goals (length (set ns c y)) i)) (lt-ltb i (length (set bs r x)) (omega (arith, e, length-set bs r x, r_in)))
+      (λ e. ap₂ (λ b t. cond b t (goal_name (length (set bs r x)) goals (length (set ns c y)) i))
+      (lt-ltb i (length (set bs r x)) (omega (arith, e, length-set bs r x, r_in)))
       (ap (λ j. get_or (set bs r x) j 0) e ∙ get_or-set_same bs r x 0 r_in ∙ name_read ns c x c_in x_is)
-      ∙ sym (ap (λ b. cond b (get_or ns c 0) (cond (ltb i (length bs)) (get_or bs i 0) (goal_name (length bs) goals (length ns) i))) (eq-eqb i r e)))
+      ∙ sym (ap (λ b. cond b (get_or ns c 0) (cond (ltb i (length bs)) (get_or bs i 0) (goal_name (length bs) goals (length ns) i)))
+      (eq-eqb i r e)))
       (λ d. ap₂ (λ n w. cond (ltb i n) (get_or (set bs r x) i 0) (goal_name n goals w i)) (length-set bs r x) (length-set ns c y)
       ∙ ap (λ t. cond (ltb i (length bs)) t (goal_name (length bs) goals (length ns) i)) (get_or-set_other bs r i x 0 d)
-      ∙ sym (ap (λ b. cond b (get_or ns c 0) (cond (ltb i (length bs)) (get_or bs i 0) (goal_name (length bs) goals (length ns) i))) (ne_eqb i r d)))
+      ∙ sym (ap (λ b. cond b (get_or ns c 0) (cond (ltb i (length bs)) (get_or bs i 0) (goal_name (length bs) goals (length ns) i)))
+      (ne_eqb i r d)))
       (cases_eq i r)
 
   col_names : (k : ℕ) → U.col_name k ≡ cond (eqb k c) (T.row_name r) (T.col_name k)
   unfolding T U
   col_names k = ⊎_elim
       (λ e. ap (λ j. get_or (set ns c y) j 0) e ∙ get_or-set_same ns c y 0 c_in ∙ name_read bs r y r_in y_is
-      ∙ sym (ap₂ (λ b t. cond b (cond t (get_or bs r 0) (goal_name (length bs) goals (length ns) r)) (get_or ns k 0)) (eq-eqb k c e) (lt-ltb r (length bs) r_in)))
+      ∙ sym (ap₂ (λ b t. cond b (cond t (get_or bs r 0) (goal_name (length bs) goals (length ns) r)) (get_or ns k 0)) (eq-eqb k c e)
+      (lt-ltb r (length bs) r_in)))
       (λ d. get_or-set_other ns c k y 0 d ∙ sym (ap (λ b. cond b (T.row_name r) (get_or ns k 0)) (ne_eqb k c d)))
       (cases_eq k c)
 
-  entries : (i k : ℕ) → i < length bs + goals → k ≤ length ns → U.entry i k ≡ cond (eqb i r) (pivot_row_entry T r c k) (pivot_other_entry T r c i k)
+  entries : (i k : ℕ) → i < length bs + goals → k ≤ length ns → U.entry i k
+      ≡ cond (eqb i r) (pivot_row_entry T r c k) (pivot_other_entry T r c i k)
   unfolding T U
   entries i k l b = ap (λ w. row_from m ys (i * suc w) k) (length-set ns c y) ∙ ⊎_elim
-      (λ e. ap (λ j. row_from m ys (j * suc (length ns)) k) e ∙ h.pivot_row k (omega (arith, b)) ∙ sym (row_entry T r c k) ∙ sym (ap (λ t. cond t (pivot_row_entry T r c k) (pivot_other_entry T r c i k)) (eq-eqb i r e)))
-      (λ d. h.others i k l d (omega (arith, b)) ∙ sym (other_entry T r c i k) ∙ sym (ap (λ t. cond t (pivot_row_entry T r c k) (pivot_other_entry T r c i k)) (ne_eqb i r d)))
+      (λ e. ap (λ j. row_from m ys (j * suc (length ns)) k) e ∙ h.pivot_row k (omega (arith, b)) ∙ sym (row_entry T r c k)
+      ∙ sym (ap (λ t. cond t (pivot_row_entry T r c k) (pivot_other_entry T r c i k)) (eq-eqb i r e)))
+      (λ d. h.others i k l d (omega (arith, b)) ∙ sym (other_entry T r c i k)
+      ∙ sym (ap (λ t. cond t (pivot_row_entry T r c k) (pivot_other_entry T r c i k)) (ne_eqb i r d)))
       (cases_eq i r)
 
   -- the table is that of the pivot
@@ -80,7 +91,8 @@ module _ {F : Type 0} (m : F → ℚ) (bs ns : List ℕ) (goals : ℕ) (xs ys : 
   }
 
 -- its operations
-pub pivot_operations_are : {F : Type 0} (m : F → ℚ) (bs ns : List ℕ) (goals : ℕ) (xs : List F) (r c : ℕ) → pivot_operations (cells_table m bs ns goals xs) r c ≡ exchange_operations m xs (length bs + goals) r (suc (length ns)) c
+pub pivot_operations_are : {F : Type 0} (m : F → ℚ) (bs ns : List ℕ) (goals : ℕ) (xs : List F) (r c : ℕ)
+    → pivot_operations (cells_table m bs ns goals xs) r c ≡ exchange_operations m xs (length bs + goals) r (suc (length ns)) c
 unfolding pivot_operations exchange_operations
 pivot_operations_are m bs ns goals xs r c = refl
 
@@ -89,9 +101,13 @@ pub written_back : {A : Type 0} (xs ys : List A) (n : ℕ) → length ys ≡ n �
 written_back xs ys n e = take_at ys (drop (length ys) xs) n e
 
 -- the exchange in the numbers of a dictionary
-pub exchange_in : {F : Type 0} (m : F → ℚ) (n k r s t c : ℕ) (xs xs' ys : List F) → n ≡ k → s ≡ t → xs ≡ xs' → Exchanges m n r s c xs ys → Exchanges m k r t c xs' ys
-exchange_in m n k r s t c xs xs' ys e f g h = subst (λ a. Exchanges m a r t c xs' ys) e (subst (λ b. Exchanges m n r b c xs' ys) f (subst (λ o. Exchanges m n r s c o ys) g h))
+pub exchange_in : {F : Type 0} (m : F → ℚ) (n k r s t c : ℕ) (xs xs' ys : List F) → n ≡ k → s ≡ t → xs ≡ xs' → Exchanges m n r s c xs ys
+    → Exchanges m k r t c xs' ys
+exchange_in m n k r s t c xs xs' ys e f g h = subst (λ a. Exchanges m a r t c xs' ys) e
+    (subst (λ b. Exchanges m n r b c xs' ys) f (subst (λ o. Exchanges m n r s c o ys) g h))
 
 -- the operations of a pivot at equal sizes, places and entries are the same
-pub exchange_operations_in : {F : Type 0} (m : F → ℚ) (n k r s t c : ℕ) (xs xs' : List F) → n ≡ k → s ≡ t → xs ≡ xs' → exchange_operations m xs n r s c ≡ exchange_operations m xs' k r t c
-exchange_operations_in m n k r s t c xs xs' e f g = ap₂ (λ a b. exchange_operations m xs a r b c) e f ∙ ap (λ o. exchange_operations m o k r t c) g
+pub exchange_operations_in : {F : Type 0} (m : F → ℚ) (n k r s t c : ℕ) (xs xs' : List F) → n ≡ k → s ≡ t → xs ≡ xs'
+    → exchange_operations m xs n r s c ≡ exchange_operations m xs' k r t c
+exchange_operations_in m n k r s t c xs xs' e f g = ap₂ (λ a b. exchange_operations m xs a r b c) e f
+    ∙ ap (λ o. exchange_operations m o k r t c) g

@@ -1,5 +1,6 @@
 -- The table of the first dictionary.
-use Rattle.std.proofs.Common.{◌≡◌, ◌≢◌, ℕ, zero, suc, ◌+◌, ◌-◌, ◌*◌, ◌<◌, ◌≤◌, ⊎_elim, Bool, true, false, cond, eqb, ltb, List, [], ◌∷◌, ◌++◌, length, map, get_or, refl, ap, ap₂, sym, ◌∙◌, subst, arith, lt-ltb, le-ltb, length-append}
+use Rattle.std.proofs.Common.{◌≡◌, ◌≢◌, ℕ, zero, suc, ◌+◌, ◌-◌, ◌*◌, ◌<◌, ◌≤◌, ⊎_elim, Bool, true, false, cond, eqb, ltb, List, [], ◌∷◌}
+use Rattle.std.proofs.Common.{◌++◌, length, map, get_or, refl, ap, ap₂, sym, ◌∙◌, subst, arith, lt-ltb, le-ltb, length-append}
 use Rattle.std.proofs.lemmas.List.{length-map, get_or-map, get_or_append_left, get_or-append-add}
 use Rattle.std.proofs.lemmas.Bool.{cases_lt, cases_eq, eq-eqb, ne_eqb}
 use Rattle.base_numbers.specs.Rational.{ℚ, zero_ℚ, one_ℚ, neg_ℚ}
@@ -22,14 +23,17 @@ joined_length s (suc n) f h =
     length-append (joined n f) (f n) ∙ ap₂ (λ x y. x + y) e k ∙ sym d
 
 -- an entry of joined lists of one length is an entry of one of them
-pub get_joined : {A : Type 0} (s n : ℕ) (f : ℕ → List A) → ((i : ℕ) → i < n → length (f i) ≡ s) → (i k : ℕ) (d : A) → i < n → k < s → get_or (joined n f) (i * s + k) d ≡ get_or (f i) k d
+pub get_joined : {A : Type 0} (s n : ℕ) (f : ℕ → List A) → ((i : ℕ) → i < n → length (f i) ≡ s) → (i k : ℕ) (d : A) → i < n → k < s
+    → get_or (joined n f) (i * s + k) d ≡ get_or (f i) k d
 unfolding joined
 get_joined s zero f h i k d l b = absurd (omega (arith, l))
 get_joined s (suc n) f h i k d l b =
     let e = joined_length s n f (λ j q. h j (omega (arith, q))) in
     ⊎_elim
-    (λ a. get_or_append_left (joined n f) (f n) d (i * s + k) (let r = row_end i n s a in omega (arith, e, r, b)) ∙ get_joined s n f (λ j q. h j (omega (arith, q))) i k d a b)
-    (λ a. let q : i ≡ n = omega (arith, a, l) in get_behind (joined n f) (f n) k (i * s + k) d (ap (λ y. y + k) e ∙ ap (λ j. j * s + k) (sym q)) ∙ ap (λ j. get_or (f j) k d) (sym q))
+    (λ a. get_or_append_left (joined n f) (f n) d (i * s + k) (let r = row_end i n s a in omega (arith, e, r, b))
+    ∙ get_joined s n f (λ j q. h j (omega (arith, q))) i k d a b)
+    (λ a. let q : i ≡ n = omega (arith, a, l) in get_behind (joined n f) (f n) k (i * s + k) d
+    (ap (λ y. y + k) e ∙ ap (λ j. j * s + k) (sym q)) ∙ ap (λ j. get_or (f j) k d) (sym q))
     (cases_lt i n)
 
 -- a list of n zeros has the length n
@@ -54,16 +58,20 @@ module _ (W : ℕ) (u : List ℚ) (length_is : length u ≡ W) where
   slack_long s = let e = negated_length in let f = length-append (map neg_ℚ u) (one_ℚ ∷ s ∷ []) in omega (arith, e, f)
 
   -- an entry of a slack's row: the negated coefficient, 1 for the auxiliary variable, then the side
-  pub slack_entry_long : (s : ℚ) (k : ℕ) → k < suc (suc W) → get_or (slack_entries true u s) k zero_ℚ ≡ cond (ltb k W) (neg_ℚ (get_or u k zero_ℚ)) (cond (eqb k W) one_ℚ s)
+  pub slack_entry_long : (s : ℚ) (k : ℕ) → k < suc (suc W) → get_or (slack_entries true u s) k zero_ℚ
+      ≡ cond (ltb k W) (neg_ℚ (get_or u k zero_ℚ)) (cond (eqb k W) one_ℚ s)
   slack_entry_long s k l =
       let e = negated_length in
       ⊎_elim
-      (λ a. get_or_append_left (map neg_ℚ u) (one_ℚ ∷ s ∷ []) zero_ℚ k (omega (arith, a, e)) ∙ negated_entry k a ∙ sym (ap (λ b. cond b (neg_ℚ (get_or u k zero_ℚ)) (cond (eqb k W) one_ℚ s)) (lt-ltb k W a)))
+      (λ a. get_or_append_left (map neg_ℚ u) (one_ℚ ∷ s ∷ []) zero_ℚ k (omega (arith, a, e)) ∙ negated_entry k a
+      ∙ sym (ap (λ b. cond b (neg_ℚ (get_or u k zero_ℚ)) (cond (eqb k W) one_ℚ s)) (lt-ltb k W a)))
       (λ a. ⊎_elim
       (λ q. get_behind (map neg_ℚ u) (one_ℚ ∷ s ∷ []) 0 k zero_ℚ (omega (arith, q, e))
-      ∙ sym (ap (λ b. cond b (neg_ℚ (get_or u k zero_ℚ)) (cond (eqb k W) one_ℚ s)) (le-ltb k W a) ∙ ap (λ b. cond b one_ℚ s) (eq-eqb k W q)))
+      ∙ sym (ap (λ b. cond b (neg_ℚ (get_or u k zero_ℚ)) (cond (eqb k W) one_ℚ s)) (le-ltb k W a)
+      ∙ ap (λ b. cond b one_ℚ s) (eq-eqb k W q)))
       (λ q. get_behind (map neg_ℚ u) (one_ℚ ∷ s ∷ []) 1 k zero_ℚ (omega (arith, a, q, l, e))
-      ∙ sym (ap (λ b. cond b (neg_ℚ (get_or u k zero_ℚ)) (cond (eqb k W) one_ℚ s)) (le-ltb k W a) ∙ ap (λ b. cond b one_ℚ s) (ne_eqb k W q)))
+      ∙ sym (ap (λ b. cond b (neg_ℚ (get_or u k zero_ℚ)) (cond (eqb k W) one_ℚ s)) (le-ltb k W a)
+      ∙ ap (λ b. cond b one_ℚ s) (ne_eqb k W q)))
       (cases_eq k W))
       (cases_lt k W)
 
@@ -72,12 +80,15 @@ module _ (W : ℕ) (u : List ℚ) (length_is : length u ≡ W) where
   slack_short s = let e = negated_length in let f = length-append (map neg_ℚ u) (s ∷ []) in omega (arith, e, f)
 
   -- an entry of a slack's row without the auxiliary variable: the negated coefficient, then the side
-  pub slack_entry_short : (s : ℚ) (k : ℕ) → k < suc W → get_or (slack_entries false u s) k zero_ℚ ≡ cond (ltb k W) (neg_ℚ (get_or u k zero_ℚ)) s
+  pub slack_entry_short : (s : ℚ) (k : ℕ) → k < suc W → get_or (slack_entries false u s) k zero_ℚ
+      ≡ cond (ltb k W) (neg_ℚ (get_or u k zero_ℚ)) s
   slack_entry_short s k l =
       let e = negated_length in
       ⊎_elim
-      (λ a. get_or_append_left (map neg_ℚ u) (s ∷ []) zero_ℚ k (omega (arith, a, e)) ∙ negated_entry k a ∙ sym (ap (λ b. cond b (neg_ℚ (get_or u k zero_ℚ)) s) (lt-ltb k W a)))
-      (λ a. get_behind (map neg_ℚ u) (s ∷ []) 0 k zero_ℚ (omega (arith, a, l, e)) ∙ sym (ap (λ b. cond b (neg_ℚ (get_or u k zero_ℚ)) s) (le-ltb k W a)))
+      (λ a. get_or_append_left (map neg_ℚ u) (s ∷ []) zero_ℚ k (omega (arith, a, e)) ∙ negated_entry k a
+      ∙ sym (ap (λ b. cond b (neg_ℚ (get_or u k zero_ℚ)) s) (lt-ltb k W a)))
+      (λ a. get_behind (map neg_ℚ u) (s ∷ []) 0 k zero_ℚ (omega (arith, a, l, e))
+      ∙ sym (ap (λ b. cond b (neg_ℚ (get_or u k zero_ℚ)) s) (le-ltb k W a)))
       (cases_lt k W)
 
   -- the row of the problem's goal
@@ -87,10 +98,13 @@ module _ (W : ℕ) (u : List ℚ) (length_is : length u ≡ W) where
   -- an entry of the goal's row: the coefficient, then 0 for the auxiliary variable and for the constant
   pub goal_entry_long : (k : ℕ) → k < suc (suc W) → get_or (goal_entries true u) k zero_ℚ ≡ cond (ltb k W) (get_or u k zero_ℚ) zero_ℚ
   goal_entry_long k l = ⊎_elim
-      (λ a. get_or_append_left u (zero_ℚ ∷ zero_ℚ ∷ []) zero_ℚ k (omega (arith, a, length_is)) ∙ sym (ap (λ b. cond b (get_or u k zero_ℚ) zero_ℚ) (lt-ltb k W a)))
+      (λ a. get_or_append_left u (zero_ℚ ∷ zero_ℚ ∷ []) zero_ℚ k (omega (arith, a, length_is))
+      ∙ sym (ap (λ b. cond b (get_or u k zero_ℚ) zero_ℚ) (lt-ltb k W a)))
       (λ a. ⊎_elim
-      (λ q. get_behind u (zero_ℚ ∷ zero_ℚ ∷ []) 0 k zero_ℚ (omega (arith, q, length_is)) ∙ sym (ap (λ b. cond b (get_or u k zero_ℚ) zero_ℚ) (le-ltb k W a)))
-      (λ q. get_behind u (zero_ℚ ∷ zero_ℚ ∷ []) 1 k zero_ℚ (omega (arith, a, q, l, length_is)) ∙ sym (ap (λ b. cond b (get_or u k zero_ℚ) zero_ℚ) (le-ltb k W a)))
+      (λ q. get_behind u (zero_ℚ ∷ zero_ℚ ∷ []) 0 k zero_ℚ (omega (arith, q, length_is))
+      ∙ sym (ap (λ b. cond b (get_or u k zero_ℚ) zero_ℚ) (le-ltb k W a)))
+      (λ q. get_behind u (zero_ℚ ∷ zero_ℚ ∷ []) 1 k zero_ℚ (omega (arith, a, q, l, length_is))
+      ∙ sym (ap (λ b. cond b (get_or u k zero_ℚ) zero_ℚ) (le-ltb k W a)))
       (cases_eq k W))
       (cases_lt k W)
 
@@ -101,8 +115,10 @@ module _ (W : ℕ) (u : List ℚ) (length_is : length u ≡ W) where
   -- an entry of the goal's row without the auxiliary variable: the coefficient, then 0 for the constant
   pub goal_entry_short : (k : ℕ) → k < suc W → get_or (goal_entries false u) k zero_ℚ ≡ cond (ltb k W) (get_or u k zero_ℚ) zero_ℚ
   goal_entry_short k l = ⊎_elim
-      (λ a. get_or_append_left u (zero_ℚ ∷ []) zero_ℚ k (omega (arith, a, length_is)) ∙ sym (ap (λ b. cond b (get_or u k zero_ℚ) zero_ℚ) (lt-ltb k W a)))
-      (λ a. get_behind u (zero_ℚ ∷ []) 0 k zero_ℚ (omega (arith, a, l, length_is)) ∙ sym (ap (λ b. cond b (get_or u k zero_ℚ) zero_ℚ) (le-ltb k W a)))
+      (λ a. get_or_append_left u (zero_ℚ ∷ []) zero_ℚ k (omega (arith, a, length_is))
+      ∙ sym (ap (λ b. cond b (get_or u k zero_ℚ) zero_ℚ) (lt-ltb k W a)))
+      (λ a. get_behind u (zero_ℚ ∷ []) 0 k zero_ℚ (omega (arith, a, l, length_is))
+      ∙ sym (ap (λ b. cond b (get_or u k zero_ℚ) zero_ℚ) (le-ltb k W a)))
       (cases_lt k W)
 
 -- the row of the first goal
@@ -114,9 +130,12 @@ pub auxiliary_get : (W k : ℕ) → k < suc (suc W) → get_or (auxiliary_entrie
 auxiliary_get W k l =
     let e = length-zeros W in
     ⊎_elim
-    (λ a. get_or_append_left (zeros W) (neg_ℚ one_ℚ ∷ zero_ℚ ∷ []) zero_ℚ k (omega (arith, a, e)) ∙ get-zeros W k ∙ sym (ap (λ b. cond b (neg_ℚ one_ℚ) zero_ℚ) (ne_eqb k W (λ q. omega (arith, q, a)))))
+    (λ a. get_or_append_left (zeros W) (neg_ℚ one_ℚ ∷ zero_ℚ ∷ []) zero_ℚ k (omega (arith, a, e)) ∙ get-zeros W k
+    ∙ sym (ap (λ b. cond b (neg_ℚ one_ℚ) zero_ℚ) (ne_eqb k W (λ q. omega (arith, q, a)))))
     (λ a. ⊎_elim
-    (λ q. get_behind (zeros W) (neg_ℚ one_ℚ ∷ zero_ℚ ∷ []) 0 k zero_ℚ (omega (arith, q, e)) ∙ sym (ap (λ b. cond b (neg_ℚ one_ℚ) zero_ℚ) (eq-eqb k W q)))
-    (λ q. get_behind (zeros W) (neg_ℚ one_ℚ ∷ zero_ℚ ∷ []) 1 k zero_ℚ (omega (arith, a, q, l, e)) ∙ sym (ap (λ b. cond b (neg_ℚ one_ℚ) zero_ℚ) (ne_eqb k W q)))
+    (λ q. get_behind (zeros W) (neg_ℚ one_ℚ ∷ zero_ℚ ∷ []) 0 k zero_ℚ (omega (arith, q, e))
+    ∙ sym (ap (λ b. cond b (neg_ℚ one_ℚ) zero_ℚ) (eq-eqb k W q)))
+    (λ q. get_behind (zeros W) (neg_ℚ one_ℚ ∷ zero_ℚ ∷ []) 1 k zero_ℚ (omega (arith, a, q, l, e))
+    ∙ sym (ap (λ b. cond b (neg_ℚ one_ℚ) zero_ℚ) (ne_eqb k W q)))
     (cases_eq k W))
     (cases_lt k W)

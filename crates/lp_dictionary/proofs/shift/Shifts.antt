@@ -1,5 +1,6 @@
 -- One more entry, and one more row, moved forward.
-use Rattle.std.proofs.Common.{◌≡◌, ℕ, suc, ◌+◌, ◌-◌, ◌*◌, ◌<◌, ◌≤◌, ◌⊎◌, inl, inr, ⊎_elim, List, length, get_or, set, refl, ap, ap₂, sym, ◌∙◌, subst, arith}
+use Rattle.std.proofs.Common.{◌≡◌, ℕ, suc, ◌+◌, ◌-◌, ◌*◌, ◌<◌, ◌≤◌, ◌⊎◌, inl, inr, ⊎_elim, List, length, get_or, set, refl, ap, ap₂, sym}
+use Rattle.std.proofs.Common.{◌∙◌, subst, arith}
 use native.Mathlib.Nat.{mul-le-mul_right, mul-le-mul_left}
 use Rattle.std.proofs.lemmas.Bool.{cases_lt}
 use Rattle.base_numbers.specs.Rational.{ℚ}
@@ -28,7 +29,8 @@ skip_most z k = ⊎_elim (λ l. omega (arith, skip_below z k l)) (λ l. omega (a
 
 module _ {F : Type 0} (m : F → ℚ) where
   -- one entry more is moved forward
-  pub shift_more : (old ys : List F) (from to k c p : ℕ) (x : F) → SetsRow m to k (λ j. row_from m old from (skip c j)) old ys → to ≤ from → p ≡ skip c k → from + p < length ys → x ≡ get_or ys (from + p) x →
+  pub shift_more : (old ys : List F) (from to k c p : ℕ) (x : F) → SetsRow m to k (λ j. row_from m old from (skip c j)) old ys → to ≤ from
+      → p ≡ skip c k → from + p < length ys → x ≡ get_or ys (from + p) x →
       SetsRow m to (k + 1) (λ j. row_from m old from (skip c j)) old (set ys (to + k) x)
   shift_more old ys from to k c p x h o e l i =
       let q : k ≤ p = subst (λ y. k ≤ y) (sym e) (skip_least c k) in
@@ -36,7 +38,8 @@ module _ {F : Type 0} (m : F → ℚ) where
       (sym (cell_read m ys (from + p) x l i) ∙ h.outside (from + p) (inr (omega (arith, o, q))) ∙ ap (row_from m old from) e)
 
   -- one more row
-  pub rows_shift_more : (old ys zs : List F) (i r s c p : ℕ) → 0 < s → ShiftsRows m i r s c old ys → p ≡ skip r i → SetsRow m (i * (s - 1)) (s - 1) (λ k. row_from m ys (p * s) (skip c k)) ys zs → ShiftsRows m (i + 1) r s c old zs
+  pub rows_shift_more : (old ys zs : List F) (i r s c p : ℕ) → 0 < s → ShiftsRows m i r s c old ys → p ≡ skip r i
+      → SetsRow m (i * (s - 1)) (s - 1) (λ k. row_from m ys (p * s) (skip c k)) ys zs → ShiftsRows m (i + 1) r s c old zs
   rows_shift_more old ys zs i r s c p b h e w = record {
     moved = λ j k l a. ⊎_elim
         (λ f. w.outside (j * (s - 1) + k) (inl (let g = row_end j i (s - 1) f in omega (arith, g, a))) ∙ h.moved j k f a)

@@ -1,5 +1,6 @@
 -- The least side so far, one row further, and at the end.
-use Rattle.std.proofs.Common.{◌≡◌, ℕ, zero, suc, ◌+◌, ◌<◌, ◌≤◌, ⊎_elim, Bool, true, false, Option, Some, None, List, [], length, map, get_or, refl, ap, sym, ◌∙◌, subst, subst₂, arith, true≢false}
+use Rattle.std.proofs.Common.{◌≡◌, ℕ, zero, suc, ◌+◌, ◌<◌, ◌≤◌, ⊎_elim, Bool, true, false, Option, Some, None, List, [], length, map}
+use Rattle.std.proofs.Common.{get_or, refl, ap, sym, ◌∙◌, subst, subst₂, arith, true≢false}
 use Rattle.std.proofs.lemmas.Bool.{cases_lt}
 use Rattle.std.proofs.lemmas.List.{get_or-map, length-map}
 use Rattle.base_numbers.specs.Rational.{ℚ, zero_ℚ, lt_ℚ, ◌≤ℚ◌, ◌<ℚ◌}
@@ -15,12 +16,17 @@ use Rattle.lp_dictionary.specs.Exact.{exact, search_of}
 use Rattle.lp_dictionary.specs.Sides.{IsLeastSoFar}
 
 -- the side of a row that was read
-pub side_read : {F : Type 0} (m : F → ℚ) (p : Problem F) (i : ℕ) (r : Row F) → i < length p.rows.items → r ≡ get_or p.rows.items i r → (exact m p).side i ≡ m r.side
+pub side_read : {F : Type 0} (m : F → ℚ) (p : Problem F) (i : ℕ) (r : Row F) → i < length p.rows.items → r ≡ get_or p.rows.items i r
+    → (exact m p).side i ≡ m r.side
 side_read m p i r l e = get_or-map (λ (x : Row _). m x.side) p.rows.items i r zero_ℚ l ∙ ap (λ (x : Row _). m x.side) (sym e)
 
 -- one row further, where its side is not less
 pub least_kept : (f : ℕ → ℚ) (n : ℕ) (x : ℚ) (o : Option ℕ) → IsLeastSoFar f n x o → x ≤ℚ f n → IsLeastSoFar f (n + 1) x o
-least_kept f n x None h l = (h.0, λ k b. ⊎_elim (λ a. h.1 k a) (λ a. let e : k ≡ n = omega (arith, a, b) in subst (λ j. zero_ℚ ≤ℚ f j) (sym e) (subst (λ y. y ≤ℚ f n) h.0 l)) (cases_lt k n))
+least_kept f n x None h l = (
+  h.0,
+  λ k b. ⊎_elim (λ a. h.1 k a) (λ a. let e : k ≡ n = omega (arith, a, b) in
+      subst (λ j. zero_ℚ ≤ℚ f j) (sym e) (subst (λ y. y ≤ℚ f n) h.0 l)) (cases_lt k n),
+)
 least_kept f n x (Some r) h l = (
   omega (arith, h.0),
   h.1,
@@ -43,17 +49,20 @@ least_found f n x y o h e l = (
   omega arith,
   e,
   below_zero f n x y o h l,
-  λ k b. ⊎_elim (λ a. ≤ℚ_trans (le_of_lt_ℚ l) (above_all f n x o h k a)) (λ a. let s : k ≡ n = omega (arith, a, b) in subst (λ j. y ≤ℚ f j) (sym s) (subst (λ z. y ≤ℚ z) (sym e) (≤ℚ_refl y))) (cases_lt k n),
+  λ k b. ⊎_elim (λ a. ≤ℚ_trans (le_of_lt_ℚ l) (above_all f n x o h k a))
+      (λ a. let s : k ≡ n = omega (arith, a, b) in subst (λ j. y ≤ℚ f j) (sym s) (subst (λ z. y ≤ℚ z) (sym e) (≤ℚ_refl y))) (cases_lt k n),
   λ k b. lt_of_lt_of_le_ℚ l (above_all f n x o h k b),
 )
 
 -- after all rows
 pub least_lowest : (P : lp.Problem) (x : ℚ) (o : Option ℕ) → IsLeastSoFar P.side P.rows x o → search_of o ≡ lowest P
 unfolding lowest
-least_lowest P x None h = sym (least_none (λ r. lt_ℚ (P.side r) zero_ℚ) P.side P.rows (lowest P) (least_is (λ r. lt_ℚ (P.side r) zero_ℚ) P.side P.rows) (λ i l. not_below (P.side i) (h.1 i l)))
-least_lowest P x (Some r) h = sym (least_same (λ r. lt_ℚ (P.side r) zero_ℚ) P.side P.rows (lowest P) r (least_is (λ r. lt_ℚ (P.side r) zero_ℚ) P.side P.rows) record {
-  below = h.0;
-  wanted = lt_does (subst (λ y. y <ℚ zero_ℚ) (sym h.1) h.2);
-  least = λ i l w. subst (λ y. y ≤ℚ P.side i) (sym h.1) (h.3 i l);
-  before = λ i l w. subst (λ y. y <ℚ P.side i) (sym h.1) (h.4 i l);
-})
+least_lowest P x None h = sym (least_none (λ r. lt_ℚ (P.side r) zero_ℚ) P.side P.rows (lowest P)
+    (least_is (λ r. lt_ℚ (P.side r) zero_ℚ) P.side P.rows) (λ i l. not_below (P.side i) (h.1 i l)))
+least_lowest P x (Some r) h = sym (least_same (λ r. lt_ℚ (P.side r) zero_ℚ) P.side P.rows (lowest P) r
+    (least_is (λ r. lt_ℚ (P.side r) zero_ℚ) P.side P.rows) record {
+      below = h.0;
+      wanted = lt_does (subst (λ y. y <ℚ zero_ℚ) (sym h.1) h.2);
+      least = λ i l w. subst (λ y. y ≤ℚ P.side i) (sym h.1) (h.3 i l);
+      before = λ i l w. subst (λ y. y <ℚ P.side i) (sym h.1) (h.4 i l);
+    })

@@ -31,7 +31,8 @@ module _ (P : lp.Problem) where
   side_same y z e = sum_to_same P.rows (λ r. z r *ℚ P.side r) (λ r. y r *ℚ P.side r) (λ r l. ap (λ t. t *ℚ P.side r) (e r l))
 
   -- evidence in other functions with the same values
-  best_same : (x x' y y' : ℕ → ℚ) (v w : ℚ) → ((j : ℕ) → j < P.cols → x' j ≡ x j) → w ≡ v → ((r : ℕ) → r < P.rows → y' r ≡ y r) → lp.IsBest P x v y → lp.IsBest P x' w y'
+  best_same : (x x' y y' : ℕ → ℚ) (v w : ℚ) → ((j : ℕ) → j < P.cols → x' j ≡ x j) → w ≡ v → ((r : ℕ) → r < P.rows → y' r ≡ y r)
+      → lp.IsBest P x v y → lp.IsBest P x' w y'
   best_same x x' y y' v w e f g b = record {
     point = point_same x x' e b.point;
     value = value_same x x' e ∙ b.value ∙ sym f;
@@ -40,7 +41,8 @@ module _ (P : lp.Problem) where
     bound = side_same y y' g ∙ b.bound ∙ sym f;
   }
 
-  unbounded_same : (x x' d d' : ℕ → ℚ) → ((j : ℕ) → j < P.cols → x' j ≡ x j) → ((j : ℕ) → j < P.cols → d' j ≡ d j) → lp.IsUnbounded P x d → lp.IsUnbounded P x' d'
+  unbounded_same : (x x' d d' : ℕ → ℚ) → ((j : ℕ) → j < P.cols → x' j ≡ x j) → ((j : ℕ) → j < P.cols → d' j ≡ d j) → lp.IsUnbounded P x d
+      → lp.IsUnbounded P x' d'
   unbounded_same x x' d d' e f u = record {
     point = point_same x x' e u.point;
     nonneg = λ j l. subst (λ t. zero_ℚ ≤ℚ t) (sym (f j l)) (u.nonneg j l);
@@ -57,11 +59,13 @@ module _ (P : lp.Problem) where
 
   -- an outcome with the numbers of right evidence has right evidence
   pub evidence_of : {F : Type 0} (m : F → ℚ) (o : lp.Outcome) (q : Outcome F) → lp.IsOutcome P o → IsOutcomeOf m P o q → HasEvidence m P q
-  evidence_of m (lp.best x v y) (Best point value multipliers) h e = best_same x (at (map m point.items)) y (at (map m multipliers.items)) v (m value) e.0.each e.1 e.2.each h
+  evidence_of m (lp.best x v y) (Best point value multipliers) h e = best_same x (at (map m point.items)) y (at (map m multipliers.items)) v
+      (m value) e.0.each e.1 e.2.each h
   evidence_of m (lp.best x v y) (Unbounded point rise) h e = absurd e
   evidence_of m (lp.best x v y) (Empty multipliers) h e = absurd e
   evidence_of m (lp.unbounded x d) (Best point value multipliers) h e = absurd e
-  evidence_of m (lp.unbounded x d) (Unbounded point rise) h e = unbounded_same x (at (map m point.items)) d (at (map m rise.items)) e.0.each e.1.each h
+  evidence_of m (lp.unbounded x d) (Unbounded point rise) h e = unbounded_same x (at (map m point.items)) d (at (map m rise.items)) e.0.each
+      e.1.each h
   evidence_of m (lp.unbounded x d) (Empty multipliers) h e = absurd e
   evidence_of m (lp.empty y) (Best point value multipliers) h e = absurd e
   evidence_of m (lp.empty y) (Unbounded point rise) h e = absurd e
@@ -69,6 +73,12 @@ module _ (P : lp.Problem) where
 
   -- and says what it has to of the supremum
   pub supremum_of : {F : Type 0} (m : F → ℚ) (q : Outcome F) → HasEvidence m P q → SaysSupremum m P q
-  supremum_of m (Best point value multipliers) h = (h.point, h.value, λ x p. weak_best P (at (map m point.items)) (at (map m multipliers.items)) (m value) h x p)
-  supremum_of m (Unbounded point rise) h = λ b. let w = ray_exceeds P (at (map m point.items)) (at (map m rise.items)) h b in (lp.moved (at (map m point.items)) w.0 (at (map m rise.items)), w.2, w.3)
+  supremum_of m (Best point value multipliers) h = (
+    h.point,
+    h.value,
+    λ x p. weak_best P (at (map m point.items))
+        (at (map m multipliers.items)) (m value) h x p,
+  )
+  supremum_of m (Unbounded point rise) h = λ b. let w = ray_exceeds P (at (map m point.items)) (at (map m rise.items)) h b in
+      (lp.moved (at (map m point.items)) w.0 (at (map m rise.items)), w.2, w.3)
   supremum_of m (Empty multipliers) h = λ x p. weak_empty P (at (map m multipliers.items)) h x p

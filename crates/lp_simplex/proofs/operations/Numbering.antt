@@ -1,5 +1,6 @@
 -- The first wide operation among numbered ones.
-use Rattle.std.proofs.Common.{◌≡◌, ℕ, zero, suc, ◌+◌, ◌<◌, ◌≤◌, ⊎_elim, Bool, true, false, not, cond, ℤ, List, [], ◌∷◌, ◌++◌, map, Option, Some, None, refl, ap, sym, ◌∙◌, subst, arith, add-one, true≢false}
+use Rattle.std.proofs.Common.{◌≡◌, ℕ, zero, suc, ◌+◌, ◌<◌, ◌≤◌, ⊎_elim, Bool, true, false, not, cond, ℤ, List, [], ◌∷◌, ◌++◌, map, Option}
+use Rattle.std.proofs.Common.{Some, None, refl, ap, sym, ◌∙◌, subst, arith, add-one, true≢false}
 use Rattle.std.specs.Prelude.{find}
 use Rattle.std.proofs.lemmas.List.Folds.{find-append}
 use Rattle.std.proofs.lemmas.Bool.{cases_lt}
@@ -13,16 +14,19 @@ pub numbered_none : (L : ℤ) (j : ℕ) (os : List Operation) → first_wide L o
 numbered_none L j [] e = refl
 numbered_none L j (o ∷ os) e = by (is_wide L o) e (λ f. numbered_none L j os f)
   where
-    by : (b : Bool) → cond b (Some o) (first_wide L os) ≡ None → (first_wide L os ≡ None → first_refused L (numbered j os) ≡ None) → cond b (Some (record { pivot = j; operation = o })) (first_refused L (numbered j os)) ≡ None
+    by : (b : Bool) → cond b (Some o) (first_wide L os) ≡ None → (first_wide L os ≡ None → first_refused L (numbered j os) ≡ None)
+        → cond b (Some (record { pivot = j; operation = o })) (first_refused L (numbered j os)) ≡ None
     by true e k = cc
     by false e k = k e
 
 -- the first wide operation of a pivot comes first among the numbered ones, with the pivot's number
-pub numbered_some : (L : ℤ) (j : ℕ) (os : List Operation) (o : Operation) → first_wide L os ≡ Some o → first_refused L (numbered j os) ≡ Some (record { pivot = j; operation = o })
+pub numbered_some : (L : ℤ) (j : ℕ) (os : List Operation) (o : Operation) → first_wide L os ≡ Some o
+    → first_refused L (numbered j os) ≡ Some (record { pivot = j; operation = o })
 numbered_some L j [] o e = cc
 numbered_some L j (p ∷ os) o e = by (is_wide L p) e (λ f. numbered_some L j os o f)
   where
-    by : (b : Bool) → cond b (Some p) (first_wide L os) ≡ Some o → (first_wide L os ≡ Some o → first_refused L (numbered j os) ≡ Some (record { pivot = j; operation = o })) →
+    by : (b : Bool) → cond b (Some p) (first_wide L os) ≡ Some o → (first_wide L os ≡ Some o
+        → first_refused L (numbered j os) ≡ Some (record { pivot = j; operation = o })) →
         cond b (Some (record { pivot = j; operation = p })) (first_refused L (numbered j os)) ≡ Some (record { pivot = j; operation = o })
     by true e k = let f : p ≡ o = cc in ap (λ x. Some (record { pivot = j; operation = x })) f
     by false e k = k e
@@ -36,19 +40,24 @@ pub refused_sooner : (L : ℤ) (os ps : List Numbered) (o : Numbered) → first_
 refused_sooner L os ps o e = find-append (λ o. is_wide L o.operation) os ps ∙ cc
 
 -- one more pivot, of which no operation is wide
-pub run_fits_more : (L : ℤ) (k : ℕ) (f : ℕ → List Numbered) → first_refused L (joined k f) ≡ None → first_refused L (f k) ≡ None → first_refused L (joined (k + 1) f) ≡ None
+pub run_fits_more : (L : ℤ) (k : ℕ) (f : ℕ → List Numbered) → first_refused L (joined k f) ≡ None → first_refused L (f k) ≡ None
+    → first_refused L (joined (k + 1) f) ≡ None
 run_fits_more L k f h e = ap (first_refused L) (joined-suc k f) ∙ refused_later L (joined k f) (f k) h ∙ e
 
-run_wide_more : (L : ℤ) (k n : ℕ) (f : ℕ → List Numbered) (o : Numbered) → k ≤ n → first_refused L (joined k f) ≡ Some o → first_refused L (joined n f) ≡ Some o
+run_wide_more : (L : ℤ) (k n : ℕ) (f : ℕ → List Numbered) (o : Numbered) → k ≤ n → first_refused L (joined k f) ≡ Some o
+    → first_refused L (joined n f) ≡ Some o
 run_wide_more L k zero f o l h = ap (λ x. first_refused L (joined x f)) (let e : 0 ≡ k = omega (arith, l) in e) ∙ h
 run_wide_more L k (suc n) f o l h = ⊎_elim
-    (λ b. ap (λ x. first_refused L (joined x f)) (sym (add-one n)) ∙ ap (first_refused L) (joined-suc n f) ∙ refused_sooner L (joined n f) (f n) o (run_wide_more L k n f o (omega (arith, b)) h))
+    (λ b. ap (λ x. first_refused L (joined x f)) (sym (add-one n)) ∙ ap (first_refused L) (joined-suc n f)
+    ∙ refused_sooner L (joined n f) (f n) o (run_wide_more L k n f o (omega (arith, b)) h))
     (λ b. ap (λ x. first_refused L (joined x f)) (let e : suc n ≡ k = omega (arith, b, l) in e) ∙ h)
     (cases_lt k (suc n))
 
 -- a pivot with an operation that is wide
-pub run_wide_at : (L : ℤ) (k n : ℕ) (f : ℕ → List Numbered) (o : Numbered) → k < n → first_refused L (joined k f) ≡ None → first_refused L (f k) ≡ Some o → first_refused L (joined n f) ≡ Some o
-run_wide_at L k n f o l h w = run_wide_more L (k + 1) n f o (omega (arith, l)) (ap (first_refused L) (joined-suc k f) ∙ refused_later L (joined k f) (f k) h ∙ w)
+pub run_wide_at : (L : ℤ) (k n : ℕ) (f : ℕ → List Numbered) (o : Numbered) → k < n → first_refused L (joined k f) ≡ None
+    → first_refused L (f k) ≡ Some o → first_refused L (joined n f) ≡ Some o
+run_wide_at L k n f o l h w = run_wide_more L (k + 1) n f o (omega (arith, l))
+    (ap (first_refused L) (joined-suc k f) ∙ refused_later L (joined k f) (f k) h ∙ w)
 
 -- no pivots have no wide operation
 pub run_fits_none : (L : ℤ) (f : ℕ → List Numbered) → first_refused L (joined 0 f) ≡ None

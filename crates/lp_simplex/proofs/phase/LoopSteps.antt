@@ -1,5 +1,6 @@
 -- From one turn of a phase's loop to the next, and to its end.
-use Rattle.std.proofs.Common.{◌≡◌, ◌≢◌, ℕ, zero, suc, ◌+◌, ◌-◌, ◌<◌, ◌≤◌, ◌⊎◌, inl, inr, ⊎_elim, Bool, true, false, cond, eqb, ltb, min, ℤ, List, [], ◌++◌, Option, Some, None, refl, ap, ap₂, sym, ◌∙◌, subst, subst₂, arith, true≢false}
+use Rattle.std.proofs.Common.{◌≡◌, ◌≢◌, ℕ, zero, suc, ◌+◌, ◌-◌, ◌<◌, ◌≤◌, ◌⊎◌, inl, inr, ⊎_elim, Bool, true, false, cond, eqb, ltb, min, ℤ}
+use Rattle.std.proofs.Common.{List, [], ◌++◌, Option, Some, None, refl, ap, ap₂, sym, ◌∙◌, subst, subst₂, arith, true≢false}
 use Rattle.std.proofs.lemmas.Bool.{cases_lt, ne_eqb, lt-ltb, le-ltb}
 use Rattle.base_numbers.specs.Rational.{ℚ}
 use Rattle.lp_theory.specs.Problem as lp
@@ -19,11 +20,13 @@ use Rattle.base_fractions.specs.Operation.{Operation, first_wide, operation_of}
 use Rattle.lp_simplex.specs.declared.phase.End.TheVariants.{AtBest, AtRay, Left}
 use Rattle.lp_simplex.specs.declared.outcome.SolveFault.{SolveFault}
 use Rattle.lp_simplex.specs.declared.outcome.SolveFault.TheVariants.{Wide, NoMemory}
-use Rattle.lp_simplex.specs.Operations.{Numbered, numbered, first_refused, step_operations, pivot_of_phase, phase_operations, whole_phase, capped}
+use Rattle.lp_simplex.specs.Operations.{Numbered, numbered, first_refused, step_operations, pivot_of_phase, phase_operations, whole_phase}
+use Rattle.lp_simplex.specs.Operations.{capped}
 use Rattle.lp_simplex.specs.Choices.{EntersAt, LeavesAt, LeavesOf, PivotMade, StepWide, StepRefused}
 use Rattle.lp_simplex.specs.Answers.{RefusesRun, BeginsPhase, EndOf, EndsPhase}
 use Rattle.lp_simplex.proofs.operations.Numbering.{numbered_none, numbered_some, run_fits_more, run_wide_at, run_fits_none}
-use Rattle.lp_simplex.proofs.operations.PhaseSteps.{shown, enters_in, leaves_in, optimal_in, ray_in, pivot_in, dict_in, stays_in, goes_in, wide_in, fits_in}
+use Rattle.lp_simplex.proofs.operations.PhaseSteps.{shown, enters_in, leaves_in, optimal_in, ray_in, pivot_in, dict_in, stays_in, goes_in}
+use Rattle.lp_simplex.proofs.operations.PhaseSteps.{wide_in, fits_in}
 use Rattle.lp_simplex.proofs.phase.PhaseLoops.{Stands}
 
 capped_below : (k : ℕ) → k < 4294967295 → capped k ≡ k
@@ -39,13 +42,16 @@ capped_next k p q e f = ⊎_elim
     (λ m. let b = capped_below (k + 1) m in let c : min (p + 1) 4294967295 ≡ k + 1 = omega (arith, e, a, m) in f ∙ c ∙ sym b)
     (λ m. let b = capped_above (k + 1) m in let c : min (p + 1) 4294967295 ≡ 4294967295 = omega (arith, e, a, m, l) in f ∙ c ∙ sym b)
     (cases_lt (k + 1) 4294967295))
-    (λ l. let a = capped_above k l in let b = capped_above (k + 1) (omega (arith, l)) in let c : min (p + 1) 4294967295 ≡ 4294967295 = omega (arith, e, a) in f ∙ c ∙ sym b)
+    (λ l. let a = capped_above k l in let b = capped_above (k + 1) (omega (arith, l)) in
+    let c : min (p + 1) 4294967295 ≡ 4294967295 = omega (arith, e, a) in f ∙ c ∙ sym b)
     (cases_lt k 4294967295)
 
-module _ (L : ℤ) (P : lp.Problem) (aux : Bool) (h : IsPhase (names P) (phase_of P aux)) (T : Table) (pivots : ℕ) (s : Stands L P aux T pivots) where
+module _ (L : ℤ) (P : lp.Problem) (aux : Bool) (h : IsPhase (names P) (phase_of P aux)) (T : Table) (pivots : ℕ)
+    (s : Stands L P aux T pivots) where
   -- a phase that stops is at its end
   last_at : stops (phase_of P aux).goal (names P) (phase_dict (names P) (phase_of P aux) s.j) ≡ true → s.j ≡ (phase_of P aux).last
-  last_at e = ⊎_elim (λ l. absurd (true≢false (sym e ∙ (h.goes_on s.j l).0))) (λ l. let b = s.below in omega (arith, l, b)) (cases_lt s.j (phase_of P aux).last)
+  last_at e = ⊎_elim (λ l. absurd (true≢false (sym e ∙ (h.goes_on s.j l).0))) (λ l. let b = s.below in omega (arith, l, b))
+      (cases_lt s.j (phase_of P aux).last)
 
   -- one that goes on is not
   goes_at : stops (phase_of P aux).goal (names P) (phase_dict (names P) (phase_of P aux) s.j) ≡ false → s.j < (phase_of P aux).last
@@ -58,7 +64,8 @@ module _ (L : ℤ) (P : lp.Problem) (aux : Bool) (h : IsPhase (names P) (phase_o
           h.ends
 
   table_at : (U : Table) → Agree T U → s.j ≡ (phase_of P aux).last → Agree (phase_table (names P) (phase_of P aux) (phase_of P aux).last) U
-  table_at U a e = subst (λ k. Agree (phase_table (names P) (phase_of P aux) k) U) e (agree_trans (phase_table (names P) (phase_of P aux) s.j) T U s.table a)
+  table_at U a e = subst (λ k. Agree (phase_table (names P) (phase_of P aux) k) U) e
+      (agree_trans (phase_table (names P) (phase_of P aux) s.j) T U s.table a)
 
   goal_at : (U : Table) → Agree T U → U.row_name U.rows ≡ (phase_of P aux).goal
   goal_at U a = ap U.row_name a.rows ∙ a.row_name T.rows (let g = s.goals in omega (arith, g)) ∙ s.goal
@@ -83,7 +90,8 @@ module _ (L : ℤ) (P : lp.Problem) (aux : Bool) (h : IsPhase (names P) (phase_o
       }
 
   -- no row leaves
-  pub ends_ray : (U : Table) (c : ℕ) → Agree T U → EntersAt T T.rows T.width (Some c) → LeavesOf T c T.rows None → EndsPhase L P aux U (AtRay c) pivots
+  pub ends_ray : (U : Table) (c : ℕ) → Agree T U → EntersAt T T.rows T.width (Some c) → LeavesOf T c T.rows None
+      → EndsPhase L P aux U (AtRay c) pivots
   ends_ray U c a e l =
       let r = ray_in (names P) (phase_of P aux) h s.j T s.table s.goal s.goals c e l in
       let q = last_at (ap is_stop r) in
@@ -97,21 +105,25 @@ module _ (L : ℤ) (P : lp.Problem) (aux : Bool) (h : IsPhase (names P) (phase_o
         goal = goal_at U a;
         why = (
           (let b = a.width in let w = e.0 in omega (arith, b, w)),
-          ap (λ k. choose (phase_of P aux).goal (names P) (phase_dict (names P) (phase_of P aux) k)) (sym q) ∙ r ∙ ap ray (sym (a.col_name c e.0)),
+          ap (λ k. choose (phase_of P aux).goal (names P) (phase_dict (names P) (phase_of P aux) k)) (sym q) ∙ r
+              ∙ ap ray (sym (a.col_name c e.0)),
           ap (λ k. (phase_dict (names P) (phase_of P aux) k).basic 0) (sym q) ∙ s.basic,
         );
       }
 
   -- a step is refused
-  pub refuses : {F : Type 0} (m : F → ℚ) (number : ℕ) (e : SolveFault F) → number ≡ capped ((phase_of P aux).made + s.j + 1) → StepRefused m L T T.rows T.width number e → RefusesRun m L (whole_phase P (phase_of P aux)) e
+  pub refuses : {F : Type 0} (m : F → ℚ) (number : ℕ) (e : SolveFault F) → number ≡ capped ((phase_of P aux).made + s.j + 1)
+      → StepRefused m L T T.rows T.width number e → RefusesRun m L (whole_phase P (phase_of P aux)) e
   unfolding phase_operations
   refuses m number (Wide pivot wide) c r =
       let w = wide_in (names P) (phase_of P aux) h s.j T s.table s.goal s.goals L (operation_of m wide) r.1 in
       let k : (phase_of P aux).made + s.j + 1 ≡ suc ((phase_of P aux).made + s.j) = omega arith in (
         suc ((phase_of P aux).made + s.j),
         r.0 ∙ c ∙ ap capped k,
-        run_wide_at L s.j (phase_of P aux).last (pivot_of_phase (names P) (phase_of P aux)) (record { pivot = suc ((phase_of P aux).made + s.j); operation = operation_of m wide }) (goes_at w.0) s.fits
-            (numbered_some L (suc ((phase_of P aux).made + s.j)) (step_operations (phase_table (names P) (phase_of P aux) s.j) (choose (phase_of P aux).goal (names P) (phase_dict (names P) (phase_of P aux) s.j))) (operation_of m wide) w.1),
+        run_wide_at L s.j (phase_of P aux).last (pivot_of_phase (names P) (phase_of P aux))
+            (record { pivot = suc ((phase_of P aux).made + s.j); operation = operation_of m wide }) (goes_at w.0) s.fits
+            (numbered_some L (suc ((phase_of P aux).made + s.j)) (step_operations (phase_table (names P) (phase_of P aux) s.j)
+            (choose (phase_of P aux).goal (names P) (phase_dict (names P) (phase_of P aux) s.j))) (operation_of m wide) w.1),
       )
   refuses m number NoMemory c r = tt
 
@@ -125,7 +137,8 @@ module _ (L : ℤ) (P : lp.Problem) (aux : Bool) (h : IsPhase (names P) (phase_o
     made_fits : first_refused L (phase_operations (names P) (phase_of P aux) (s.j + 1)) ≡ None
     unfolding phase_operations
     made_fits = run_fits_more L s.j (pivot_of_phase (names P) (phase_of P aux)) s.fits
-        (numbered_none L (suc ((phase_of P aux).made + s.j)) (step_operations (phase_table (names P) (phase_of P aux) s.j) (choose (phase_of P aux).goal (names P) (phase_dict (names P) (phase_of P aux) s.j)))
+        (numbered_none L (suc ((phase_of P aux).made + s.j)) (step_operations (phase_table (names P) (phase_of P aux) s.j)
+        (choose (phase_of P aux).goal (names P) (phase_dict (names P) (phase_of P aux) s.j)))
         (fits_in (names P) (phase_of P aux) h s.j T s.table s.goal s.goals L p.col p.row p.enters p.leaves p.fits))
 
     made_rows : U.rows ≡ P.rows
@@ -144,10 +157,12 @@ module _ (L : ℤ) (P : lp.Problem) (aux : Bool) (h : IsPhase (names P) (phase_o
     unfolding pivot_table
     made_goal =
         ap U.row_name p.table.rows ∙ p.table.row_name T.rows (let g = s.goals in omega (arith, g))
-        ∙ ap (λ b. cond b (T.col_name p.col) (T.row_name T.rows)) (ne_eqb T.rows p.row (λ e. let l = p.leaves.row in omega (arith, e, l))) ∙ s.goal
+        ∙ ap (λ b. cond b (T.col_name p.col) (T.row_name T.rows)) (ne_eqb T.rows p.row (λ e. let l = p.leaves.row in omega (arith, e, l)))
+        ∙ s.goal
 
     count_next : (number : ℕ) → number ≡ min (pivots + 1) 4294967295 → number ≡ capped ((phase_of P aux).made + (s.j + 1))
-    count_next number e = capped_next ((phase_of P aux).made + s.j) pivots number s.count e ∙ ap capped (let k : (phase_of P aux).made + s.j + 1 ≡ (phase_of P aux).made + (s.j + 1) = omega arith in k)
+    count_next number e = capped_next ((phase_of P aux).made + s.j) pivots number s.count e
+        ∙ ap capped (let k : (phase_of P aux).made + s.j + 1 ≡ (phase_of P aux).made + (s.j + 1) = omega arith in k)
 
     -- the loop goes on
     pub stands_next : (number : ℕ) → number ≡ min (pivots + 1) 4294967295 → name ≢ 0 → Stands L P aux U number
@@ -157,7 +172,8 @@ module _ (L : ℤ) (P : lp.Problem) (aux : Bool) (h : IsPhase (names P) (phase_o
       table = made_table;
       count = count_next number e;
       fits = made_fits;
-      basic = stays_in (names P) (phase_of P aux) h s.j T s.table s.goal s.goals p.col p.row p.enters p.leaves (λ f. z (p.named ∙ f)) s.basic;
+      basic = stays_in (names P) (phase_of P aux) h s.j T s.table s.goal s.goals p.col p.row p.enters p.leaves (λ f. z (p.named ∙ f))
+          s.basic;
       rows = made_rows;
       goals = made_goals;
       width = made_width;
@@ -174,16 +190,20 @@ module _ (L : ℤ) (P : lp.Problem) (aux : Bool) (h : IsPhase (names P) (phase_o
         let form = (phase_good (names P) (phase_of P aux) h s.j).form in
         let e = enters_in (names P) (phase_of P aux) h s.j T s.table s.goal s.goals p.col p.enters in
         let l = leaves_in (names P) (phase_of P aux) h s.j T s.table s.goal s.goals p.col p.row p.enters.0 p.leaves in
-        let d : T.row_name p.row ≢ T.col_name p.col = λ q. true≢false (sym (leaves_basic (names P) (phase_dict (names P) (phase_of P aux) s.j) form (T.col_name p.col) (T.row_name p.row) l.falls)
-        ∙ ap (phase_dict (names P) (phase_of P aux) s.j).basic q ∙ enters_free (phase_of P aux).goal (names P) (phase_dict (names P) (phase_of P aux) s.j) form (T.col_name p.col) e.gains) in
+        let d : T.row_name p.row ≢ T.col_name p.col = λ q. true≢false (sym
+        (leaves_basic (names P) (phase_dict (names P) (phase_of P aux) s.j) form (T.col_name p.col) (T.row_name p.row) l.falls)
+        ∙ ap (phase_dict (names P) (phase_of P aux) s.j).basic q ∙ enters_free (phase_of P aux).goal (names P)
+        (phase_dict (names P) (phase_of P aux) s.j) form (T.col_name p.col) e.gains) in
         ap (λ E. E.basic 0) (dict_in (names P) (phase_of P aux) h s.j T s.table s.goal s.goals p.col p.row p.enters p.leaves)
-        ∙ subst (λ q. (pivot (phase_dict (names P) (phase_of P aux) s.j) (T.row_name p.row) (T.col_name p.col)).basic q ≡ false) (sym p.named ∙ z) (pivot_leaves (phase_dict (names P) (phase_of P aux) s.j) (T.row_name p.row) (T.col_name p.col) d)
+        ∙ subst (λ q. (pivot (phase_dict (names P) (phase_of P aux) s.j) (T.row_name p.row) (T.col_name p.col)).basic q ≡ false)
+        (sym p.named ∙ z) (pivot_leaves (phase_dict (names P) (phase_of P aux) s.j) (T.row_name p.row) (T.col_name p.col) d)
 
     -- the auxiliary variable has left
     pub ends_left : (number : ℕ) → number ≡ min (pivots + 1) 4294967295 → name ≡ 0 → EndsPhase L P aux U Left number
     ends_left number e z =
         let f = left_basic z in
-        let q : s.j + 1 ≡ (phase_of P aux).last = ⊎_elim (λ l. absurd (true≢false (sym (h.goes_on (s.j + 1) l).1 ∙ f))) (λ l. let b = made_below in omega (arith, l, b)) (cases_lt (s.j + 1) (phase_of P aux).last) in
+        let q : s.j + 1 ≡ (phase_of P aux).last = ⊎_elim (λ l. absurd (true≢false (sym (h.goes_on (s.j + 1) l).1 ∙ f)))
+        (λ l. let b = made_below in omega (arith, l, b)) (cases_lt (s.j + 1) (phase_of P aux).last) in
         record {
           table = subst (λ k. Agree (phase_table (names P) (phase_of P aux) k) U) q made_table;
           count = count_next number e ∙ ap (λ k. capped ((phase_of P aux).made + k)) q;

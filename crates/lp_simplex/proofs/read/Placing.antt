@@ -1,5 +1,6 @@
 -- Values that are put at the places of their names, one after another.
-use Rattle.std.proofs.Common.{◌≡◌, ◌≢◌, ℕ, zero, suc, ◌+◌, ◌-◌, ◌<◌, ◌≤◌, ⊎_elim, List, [], ◌∷◌, ◌++◌, length, map, get_or, set, refl, ap, sym, ◌∙◌, subst, arith}
+use Rattle.std.proofs.Common.{◌≡◌, ◌≢◌, ℕ, zero, suc, ◌+◌, ◌-◌, ◌<◌, ◌≤◌, ⊎_elim, List, [], ◌∷◌, ◌++◌, length, map, get_or, set, refl, ap}
+use Rattle.std.proofs.Common.{sym, ◌∙◌, subst, arith}
 use Rattle.std.proofs.lemmas.Bool.{cases_lt, cases_eq}
 use Rattle.std.proofs.lemmas.List.{length-set, length-map, map_push, get_or_append_left}
 use Rattle.base_numbers.specs.Rational.{ℚ, zero_ℚ}
@@ -10,10 +11,12 @@ use Rattle.lp_simplex.specs.Placed.{IsPlaced, Places}
 
 module _ {F : Type 0} (m : F → ℚ) where
   -- a value is put
-  pub put_in : (xs : List F) (name base : ℕ) (v : F) → base < name → name - base - 1 < length xs → Places m name base (m v) xs (set xs (name - base - 1) v)
+  pub put_in : (xs : List F) (name base : ℕ) (v : F) → base < name → name - base - 1 < length xs
+      → Places m name base (m v) xs (set xs (name - base - 1) v)
   put_in xs name base v b l = record {
     size = length-set xs (name - base - 1) v;
-    put = λ j k e. let p : j ≡ name - base - 1 = omega (arith, e) in ap (cell m (set xs (name - base - 1) v)) p ∙ cell_written m xs (name - base - 1) v l;
+    put = λ j k e. let p : j ≡ name - base - 1 = omega (arith, e) in ap (cell m (set xs (name - base - 1) v)) p
+        ∙ cell_written m xs (name - base - 1) v l;
     kept = λ j n. cell_kept m xs (name - base - 1) j v (λ e. n (omega (arith, e, b)));
   }
 
@@ -25,7 +28,8 @@ module _ {F : Type 0} (m : F → ℚ) where
   zero_pushed : (xs : List F) (z : F) → ((j : ℕ) → cell m xs j ≡ zero_ℚ) → m z ≡ zero_ℚ → (j : ℕ) → cell m (xs ++ z ∷ []) j ≡ zero_ℚ
   zero_pushed xs z h e j = ap (λ ys. get_or ys j zero_ℚ) (map_push m xs z) ∙ ⊎_elim
       (λ l. get_or_append_left (map m xs) (m z ∷ []) zero_ℚ j (let k = length-map xs m in omega (arith, l, k)) ∙ h j)
-      (λ l. get_behind (map m xs) (m z ∷ []) (j - length xs) j zero_ℚ (let k = length-map xs m in omega (arith, l, k)) ∙ last (j - length xs))
+      (λ l. get_behind (map m xs) (m z ∷ []) (j - length xs) j zero_ℚ (let k = length-map xs m in omega (arith, l, k))
+      ∙ last (j - length xs))
       (cases_lt j (length xs))
     where
       last : (i : ℕ) → get_or (m z ∷ []) i zero_ℚ ≡ zero_ℚ
@@ -33,11 +37,13 @@ module _ {F : Type 0} (m : F → ℚ) where
       last (suc i) = refl
 
   -- nothing is placed yet
-  placed_none : (name : ℕ → ℕ) (value : ℕ → ℚ) (base count : ℕ) (xs : List F) → length xs ≡ count → ((j : ℕ) → cell m xs j ≡ zero_ℚ) → IsPlaced m name value 0 base count xs
+  placed_none : (name : ℕ → ℕ) (value : ℕ → ℚ) (base count : ℕ) (xs : List F) → length xs ≡ count → ((j : ℕ) → cell m xs j ≡ zero_ℚ)
+      → IsPlaced m name value 0 base count xs
   placed_none name value base count xs e h = record { size = e; put = λ i j l. absurd (omega (arith, l)); rest = λ j l n. h j }
 
   -- one more name
-  placed_more : (name : ℕ → ℕ) (value : ℕ → ℚ) (n base count : ℕ) (xs ys : List F) → IsPlaced m name value n base count xs → Places m (name n) base (value n) xs ys → ((i : ℕ) → i < n → name i ≢ name n) → IsPlaced m name value (n + 1) base count ys
+  placed_more : (name : ℕ → ℕ) (value : ℕ → ℚ) (n base count : ℕ) (xs ys : List F) → IsPlaced m name value n base count xs
+      → Places m (name n) base (value n) xs ys → ((i : ℕ) → i < n → name i ≢ name n) → IsPlaced m name value (n + 1) base count ys
   placed_more name value n base count xs ys h p apart = record {
     size = p.size ∙ h.size;
     put = λ i j l b e. ⊎_elim

@@ -2,7 +2,8 @@
 use mir.Syntax.{w64}
 use lib.Signed.{mag}
 use Rattle.std.proofs.lemmas.Int.{ints, to_z-of_z}
-use Rattle.std.proofs.Common.{◌≡◌, ◌<◌, ◌^◌, ℤ, FitsSigned, to_z, of_z, pos, [], ◌∷◌, Some, Result, Ok, Err, MatchResult, ap, sym, ◌∙◌, subst, arith}
+use Rattle.std.proofs.Common.{◌≡◌, ◌<◌, ◌^◌, ℤ, FitsSigned, to_z, of_z, pos, [], ◌∷◌, Some, Result, Ok, Err, MatchResult, ap, sym, ◌∙◌}
+use Rattle.std.proofs.Common.{subst, arith}
 use Rattle.base_numbers.specs.Rational.{ℚ, one_ℚ, neg_ℚ, ◌+ℚ◌, ◌*ℚ◌}
 use Rattle.base_numbers.proofs.rational.Laws.{*ℚ_idl, neg_ℚ-*ℚ, neg_ℚ-neg_ℚ}
 use Rattle.base_numbers.proofs.rational.Reps.{IsRep, rep, rep_eq, rep_one}
@@ -35,7 +36,8 @@ module _ {F : Type 0} (m : F → ℚ) (L : ℤ) (f b : ℚ) (term : F) (e : m te
   unit_answer = (e, first_wide_past L (record { op = Mul; left = f; right = b }) [] (subst (Fits L) e h))
 
   -- the sum with it
-  pub unit_sum : (x : F) (res : Result F (Wide F)) → MatchResult res (λ r. (m r ≡ m x +ℚ m term) × Fits L (m r)) (λ w. (¬ (Fits L (m x +ℚ m term))) × (w ≡ record { op = Add; left = x; right = term })) →
+  pub unit_sum : (x : F) (res : Result F (Wide F)) → MatchResult res (λ r. (m r ≡ m x +ℚ m term) × Fits L (m r))
+      (λ w. (¬ (Fits L (m x +ℚ m term))) × (w ≡ record { op = Add; left = x; right = term })) →
       Answers m L (m x +ℚ f *ℚ b) (product_sum_operations (m x) f b) res
   unit_sum x (Ok r) s = (
     s.0 ∙ ap (λ y. m x +ℚ y) e,
@@ -43,7 +45,8 @@ module _ {F : Type 0} (m : F → ℚ) (L : ℤ) (f b : ℚ) (term : F) (e : m te
         ∙ first_wide_past L (record { op = Add; left = m x; right = f *ℚ b }) [] (subst (Fits L) (s.0 ∙ ap (λ y. m x +ℚ y) e) s.1),
   )
   unit_sum x (Err w) s =
-      first_wide_past L (record { op = Mul; left = f; right = b }) (record { op = Add; left = m x; right = f *ℚ b } ∷ []) (subst (Fits L) e h)
+      first_wide_past L (record { op = Mul; left = f; right = b }) (record { op = Add; left = m x; right = f *ℚ b } ∷ [])
+      (subst (Fits L) e h)
       ∙ first_wide_here L (record { op = Add; left = m x; right = f *ℚ b }) [] (subst (λ y. ¬ (Fits L (m x +ℚ y))) e s.0)
       ∙ ap (λ y. Some (record { op = Add; left = m x; right = y })) (sym e)
       ∙ ap (λ (v : Wide _). Some (operation_of m v)) (sym s.1)

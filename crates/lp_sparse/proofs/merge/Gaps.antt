@@ -1,5 +1,6 @@
 -- What is left of a row from a column on, and operations of columns that are passed over.
-use Rattle.std.proofs.Common.{◌≡◌, ◌≢◌, ℕ, zero, suc, drop, get_or, ◌+◌, ◌<◌, ◌≤◌, ⊎_elim, cond, eqb, ℤ, List, [], ◌∷◌, length, None, refl, ap, sym, ◌∙◌, subst, arith, add-one}
+use Rattle.std.proofs.Common.{◌≡◌, ◌≢◌, ℕ, zero, suc, drop, get_or, ◌+◌, ◌<◌, ◌≤◌, ⊎_elim, cond, eqb, ℤ, List, [], ◌∷◌, length, None, refl}
+use Rattle.std.proofs.Common.{ap, sym, ◌∙◌, subst, arith, add-one}
 use Rattle.std.proofs.lemmas.Bool.{cases_lt, cases_eq, eq-eqb, ne_eqb}
 use Rattle.std.proofs.lemmas.List.{drop_more, drop_all}
 use Rattle.base_numbers.specs.Rational.{ℚ, zero_ℚ}
@@ -12,10 +13,12 @@ use Rattle.lp_sparse.specs.Merge.{StartsAt, Left}
 use Rattle.lp_sparse.proofs.merge.Lists.{value_before}
 
 -- lists of operations that are passed over
-pub joined_gap : (L : ℤ) (r k : ℕ) (f : ℕ → List Operation) → first_wide L (joined r f) ≡ None → r ≤ k → ((q : ℕ) → r ≤ q → q < k → first_wide L (f q) ≡ None) → first_wide L (joined k f) ≡ None
+pub joined_gap : (L : ℤ) (r k : ℕ) (f : ℕ → List Operation) → first_wide L (joined r f) ≡ None → r ≤ k
+    → ((q : ℕ) → r ≤ q → q < k → first_wide L (f q) ≡ None) → first_wide L (joined k f) ≡ None
 joined_gap L r zero f h l z = ap (λ n. first_wide L (joined n f)) (let e : 0 ≡ r = omega (arith, l) in e) ∙ h
 joined_gap L r (suc k) f h l z = ⊎_elim
-    (λ a. ap (λ n. first_wide L (joined n f)) (sym (add-one k)) ∙ joined_fits_more L k f (joined_gap L r k f h (omega (arith, a)) (λ q b c. z q b (omega (arith, c)))) (z k (omega (arith, a)) (omega arith)))
+    (λ a. ap (λ n. first_wide L (joined n f)) (sym (add-one k)) ∙ joined_fits_more L k f
+    (joined_gap L r k f h (omega (arith, a)) (λ q b c. z q b (omega (arith, c)))) (z k (omega (arith, a)) (omega arith)))
     (λ a. ap (λ n. first_wide L (joined n f)) (let e : suc k ≡ r = omega (arith, a, l) in e) ∙ h)
     (cases_lt r (suc k))
 
@@ -28,12 +31,14 @@ module _ {F : Type 0} (m : F → ℚ) (a : ℕ → ℚ) (n : ℕ) where
   -- 0 before that column
   pub left_zero : (r q k : ℕ) (es : List (Entry F)) → Left m a r n es → StartsAt k es → r ≤ q → q < k → a q ≡ zero_ℚ
   left_zero r q k [] h s l b = sym (h.values q l)
-  left_zero r q k (e ∷ es) h s l b = sym (h.values q l) ∙ value_before m e.col n q (e ∷ es) (omega arith, h.rises.1, h.rises.2) (omega (arith, s, b))
+  left_zero r q k (e ∷ es) h s l b = sym (h.values q l) ∙ value_before m e.col n q (e ∷ es) (omega arith, h.rises.1, h.rises.2)
+      (omega (arith, s, b))
 
   -- the number at the column
   pub left_head : (k : ℕ) (es : List (Entry F)) → Left m a k n es → head_value m es k ≡ a k
   left_head k [] h = h.values k (omega arith)
-  left_head k (e ∷ es) h = ap (λ x. cond (eqb e.col k) (m e.value) x) (sym (value_before m (suc e.col) n k es h.rises.2 (let b = h.rises.0 in omega (arith, b)))) ∙ h.values k (omega arith)
+  left_head k (e ∷ es) h = ap (λ x. cond (eqb e.col k) (m e.value) x) (sym
+      (value_before m (suc e.col) n k es h.rises.2 (let b = h.rises.0 in omega (arith, b)))) ∙ h.values k (omega arith)
 
   -- what is left after a column has the row's numbers from the next column on
   pub left_behind : (k : ℕ) (es : List (Entry F)) → Left m a k n es → Left m a (k + 1) n (behind es k)
@@ -41,7 +46,8 @@ module _ {F : Type 0} (m : F → ℚ) (a : ℕ → ℚ) (n : ℕ) where
   left_behind k (e ∷ es) h = ⊎_elim
       (λ s. subst (λ b. Left m a (k + 1) n (cond b es (e ∷ es))) (sym (eq-eqb e.col k s)) record {
         rises = subst (λ j. Rises j n es) (let t : suc e.col ≡ k + 1 = omega (arith, s) in t) h.rises.2;
-        values = λ q c. sym (ap (λ b. cond b (m e.value) (value_at m es q)) (ne_eqb e.col q (λ t. omega (arith, t, s, c)))) ∙ h.values q (omega (arith, c));
+        values = λ q c. sym (ap (λ b. cond b (m e.value) (value_at m es q)) (ne_eqb e.col q (λ t. omega (arith, t, s, c))))
+            ∙ h.values q (omega (arith, c));
       })
       (λ d. subst (λ b. Left m a (k + 1) n (cond b es (e ∷ es))) (sym (ne_eqb e.col k d)) record {
         rises = (let b = h.rises.0 in omega (arith, b, d), h.rises.1, h.rises.2);
@@ -73,12 +79,14 @@ starts_before u k [] s l = tt
 starts_before u k (e ∷ es) s l = omega (arith, s, l)
 
 -- an entry at the place is passed over that stands at another column
-pub missed : {F : Type 0} (m : F → ℚ) (es : List (Entry F)) (i k : ℕ) (x : Entry F) → i < length es → (get_or es i x).col ≢ k → (head_value m (drop i es) k ≡ zero_ℚ) × (behind (drop i es) k ≡ drop i es)
+pub missed : {F : Type 0} (m : F → ℚ) (es : List (Entry F)) (i k : ℕ) (x : Entry F) → i < length es → (get_or es i x).col ≢ k
+    → (head_value m (drop i es) k ≡ zero_ℚ) × (behind (drop i es) k ≡ drop i es)
 missed m es i k x l d =
     let off = ne_eqb (get_or es i x).col k d in
     subst (λ xs. (head_value m xs k ≡ zero_ℚ) × (behind xs k ≡ xs)) (sym (drop_more es i x l))
     (ap (λ b. cond b (m (get_or es i x).value) zero_ℚ) off, ap (λ b. cond b (drop (i + 1) es) (get_or es i x ∷ drop (i + 1) es)) off)
 
 -- and so is the end
-pub missed_all : {F : Type 0} (m : F → ℚ) (es : List (Entry F)) (i k : ℕ) → length es ≤ i → (head_value m (drop i es) k ≡ zero_ℚ) × (behind (drop i es) k ≡ drop i es)
+pub missed_all : {F : Type 0} (m : F → ℚ) (es : List (Entry F)) (i k : ℕ) → length es ≤ i
+    → (head_value m (drop i es) k ≡ zero_ℚ) × (behind (drop i es) k ≡ drop i es)
 missed_all m es i k l = subst (λ xs. (head_value m xs k ≡ zero_ℚ) × (behind xs k ≡ xs)) (sym (drop_all i es l)) (refl, refl)

@@ -1,5 +1,6 @@
 -- Lists of entries: what rises, and which number stands at a column.
-use Rattle.std.proofs.Common.{◌≡◌, ◌≢◌, ℕ, zero, suc, ◌+◌, ◌<◌, ◌≤◌, ⊎_elim, Bool, true, false, cond, eqb, pos, ℤ, negsuc, List, [], ◌∷◌, ◌++◌, length, get_or, refl, ap, sym, ◌∙◌, arith, true≢false}
+use Rattle.std.proofs.Common.{◌≡◌, ◌≢◌, ℕ, zero, suc, ◌+◌, ◌<◌, ◌≤◌, ⊎_elim, Bool, true, false, cond, eqb, pos, ℤ, negsuc, List, [], ◌∷◌}
+use Rattle.std.proofs.Common.{◌++◌, length, get_or, refl, ap, sym, ◌∙◌, arith, true≢false}
 use Rattle.std.proofs.lemmas.List.{get_or-map}
 use Rattle.std.proofs.lemmas.Bool.{cases_lt, cases_eq, eq-eqb, ne_eqb}
 use Rattle.base_numbers.specs.Rational.{ℚ, zero_ℚ}
@@ -25,12 +26,21 @@ module _ {F : Type 0} where
   -- bounds that are wider
   rises_wider : (lo lo' n n' : ℕ) (es : List (Entry F)) → lo' ≤ lo → n ≤ n' → Rises lo n es → Rises lo' n' es
   rises_wider lo lo' n n' [] l h r = tt
-  rises_wider lo lo' n n' (e ∷ es) l h r = (omega (arith, r.0, l), omega (arith, r.1, h), rises_wider (suc e.col) (suc e.col) n n' es (omega arith) h r.2)
+  rises_wider lo lo' n n' (e ∷ es) l h r = (
+    omega (arith, r.0, l),
+    omega (arith, r.1, h),
+    rises_wider (suc e.col) (suc e.col) n n' es (omega arith) h r.2,
+  )
 
   -- a list that rises below n rises with an entry from n on at its end
-  rises_push : (lo n n' k : ℕ) (x : F) (es : List (Entry F)) → Rises lo n es → lo ≤ k → n ≤ k → k < n' → Rises lo n' (es ++ record { col = k; value = x } ∷ [])
+  rises_push : (lo n n' k : ℕ) (x : F) (es : List (Entry F)) → Rises lo n es → lo ≤ k → n ≤ k → k < n'
+      → Rises lo n' (es ++ record { col = k; value = x } ∷ [])
   rises_push lo n n' k x [] r l h b = (l, b, tt)
-  rises_push lo n n' k x (e ∷ es) r l h b = (r.0, omega (arith, r.1, h, b), rises_push (suc e.col) n n' k x es r.2 (omega (arith, r.1, h)) h b)
+  rises_push lo n n' k x (e ∷ es) r l h b = (
+    r.0,
+    omega (arith, r.1, h, b),
+    rises_push (suc e.col) n n' k x es r.2 (omega (arith, r.1, h)) h b,
+  )
 
   -- a later entry has a later column
   cols_above : (lo n i : ℕ) (es : List (Entry F)) → Rises lo n es → i < length es → lo ≤ col_at es i
@@ -57,7 +67,8 @@ module _ {F : Type 0} where
     -- 0 before the first column, and from the last bound on
     pub value_before : (lo n k : ℕ) (es : List (Entry F)) → Rises lo n es → k < lo → value_at m es k ≡ zero_ℚ
     value_before lo n k [] r l = refl
-    value_before lo n k (e ∷ es) r l = head_off e es k (λ q. omega (arith, q, r.0, l)) ∙ value_before (suc e.col) n k es r.2 (omega (arith, r.0, l))
+    value_before lo n k (e ∷ es) r l = head_off e es k (λ q. omega (arith, q, r.0, l))
+        ∙ value_before (suc e.col) n k es r.2 (omega (arith, r.0, l))
 
     -- a list that rises below n has 0 at each column from n on
     pub value_behind : (lo n k : ℕ) (es : List (Entry F)) → Rises lo n es → n ≤ k → value_at m es k ≡ zero_ℚ
@@ -70,7 +81,8 @@ module _ {F : Type 0} where
     value_none k (e ∷ es) h = head_off e es k (h 0 (omega arith)) ∙ value_none k es (λ i l. h (suc i) (omega (arith, l)))
 
     -- the entry that was read
-    pub value_read : (lo n i k : ℕ) (es : List (Entry F)) (e : Entry F) → Rises lo n es → i < length es → (get_or es i e).col ≡ k → value_at m es k ≡ m (get_or es i e).value
+    pub value_read : (lo n i k : ℕ) (es : List (Entry F)) (e : Entry F) → Rises lo n es → i < length es → (get_or es i e).col ≡ k
+        → value_at m es k ≡ m (get_or es i e).value
     value_read lo n i k [] e r l q = absurd (omega (arith, l))
     value_read lo n zero k (x ∷ es) e r l q = head_on x es k q
     value_read lo n (suc i) k (x ∷ es) e r l q =
@@ -80,15 +92,19 @@ module _ {F : Type 0} where
         head_off x es k (λ s. omega (arith, s, below, at)) ∙ value_read (suc x.col) n i k es e r.2 b q
 
     -- with an entry at its end, past all columns, a list has that entry's number at its column and the old ones elsewhere
-    value_push : (lo n k q : ℕ) (x : F) (es : List (Entry F)) → Rises lo n es → n ≤ k → value_at m (es ++ record { col = k; value = x } ∷ []) q ≡ cond (eqb k q) (m x) (value_at m es q)
+    value_push : (lo n k q : ℕ) (x : F) (es : List (Entry F)) → Rises lo n es → n ≤ k
+        → value_at m (es ++ record { col = k; value = x } ∷ []) q ≡ cond (eqb k q) (m x) (value_at m es q)
     value_push lo n k q x [] r h = refl
     value_push lo n k q x (e ∷ es) r h = ⊎_elim
-        (λ a. head_on e (es ++ record { col = k; value = x } ∷ []) q a ∙ sym (ap (λ b. cond b (m x) (value_at m (e ∷ es) q)) (ne_eqb k q (λ s. omega (arith, s, a, r.1, h))) ∙ head_on e es q a))
-        (λ a. head_off e (es ++ record { col = k; value = x } ∷ []) q a ∙ value_push (suc e.col) n k q x es r.2 h ∙ ap (λ t. cond (eqb k q) (m x) t) (sym (head_off e es q a)))
+        (λ a. head_on e (es ++ record { col = k; value = x } ∷ []) q a
+        ∙ sym (ap (λ b. cond b (m x) (value_at m (e ∷ es) q)) (ne_eqb k q (λ s. omega (arith, s, a, r.1, h))) ∙ head_on e es q a))
+        (λ a. head_off e (es ++ record { col = k; value = x } ∷ []) q a ∙ value_push (suc e.col) n k q x es r.2 h
+        ∙ ap (λ t. cond (eqb k q) (m x) t) (sym (head_off e es q a)))
         (cases_eq e.col q)
 
     -- what holds with a pushed entry and without one that is 0
-    pushed_cases : (P : List (Entry F) → Type 0) (es : List (Entry F)) (k : ℕ) (x : F) → (m x ≡ zero_ℚ → P es) → (m x ≢ zero_ℚ → P (es ++ record { col = k; value = x } ∷ [])) → P (pushed m es k x)
+    pushed_cases : (P : List (Entry F) → Type 0) (es : List (Entry F)) (k : ℕ) (x : F) → (m x ≡ zero_ℚ → P es)
+        → (m x ≢ zero_ℚ → P (es ++ record { col = k; value = x } ∷ [])) → P (pushed m es k x)
     pushed_cases P es k x y n = by (is_zero (m x)) refl
       where
         by : (b : Bool) → is_zero (m x) ≡ b → P (cond b es (es ++ record { col = k; value = x } ∷ []))
@@ -112,7 +128,8 @@ module _ {F : Type 0} where
     keeps_pushed f k x es h e = pushed_cases (Keeps m f (k + 1)) es k x
         (λ z. record {
           rises = rises_wider 0 0 k (k + 1) es (omega arith) (omega arith) h.rises;
-          values = λ j l. ⊎_elim (λ a. h.values j a) (λ a. let s : j ≡ k = omega (arith, a, l) in value_behind 0 k j es h.rises a ∙ sym (ap f s ∙ sym e ∙ z)) (cases_lt j k);
+          values = λ j l. ⊎_elim (λ a. h.values j a) (λ a. let s : j ≡ k = omega (arith, a, l) in
+              value_behind 0 k j es h.rises a ∙ sym (ap f s ∙ sym e ∙ z)) (cases_lt j k);
         })
         (λ n. record {
           rises = rises_push 0 k (k + 1) k x es h.rises (omega arith) (omega arith) (omega arith);
@@ -123,7 +140,8 @@ module _ {F : Type 0} where
         })
 
     -- columns at which f is 0
-    pub keeps_gap : (f : ℕ → ℚ) (r k : ℕ) (es : List (Entry F)) → Keeps m f r es → r ≤ k → ((q : ℕ) → r ≤ q → q < k → f q ≡ zero_ℚ) → Keeps m f k es
+    pub keeps_gap : (f : ℕ → ℚ) (r k : ℕ) (es : List (Entry F)) → Keeps m f r es → r ≤ k → ((q : ℕ) → r ≤ q → q < k → f q ≡ zero_ℚ)
+        → Keeps m f k es
     keeps_gap f r k es h l z = record {
       rises = rises_wider 0 0 r k es (omega arith) l h.rises;
       values = λ j b. ⊎_elim (λ a. h.values j a) (λ a. value_behind 0 r j es h.rises a ∙ sym (z j a b)) (cases_lt j r);

@@ -1,5 +1,6 @@
 -- One more column in the merge of a row and the pivot's row.
-use Rattle.std.proofs.Common.{◌≡◌, ℕ, ◌+◌, ◌<◌, ◌≤◌, Bool, true, false, cond, eqb, ℤ, List, [], ◌∷◌, Some, None, refl, ap, ap₂, sym, ◌∙◌, subst, subst₂, arith}
+use Rattle.std.proofs.Common.{◌≡◌, ℕ, ◌+◌, ◌<◌, ◌≤◌, Bool, true, false, cond, eqb, ℤ, List, [], ◌∷◌, Some, None, refl, ap, ap₂, sym, ◌∙◌}
+use Rattle.std.proofs.Common.{subst, subst₂, arith}
 use Rattle.std.proofs.lemmas.Bool.{eqb-true, eq-eqb}
 use Rattle.base_numbers.specs.Rational.{ℚ, zero_ℚ, ◌+ℚ◌, ◌*ℚ◌}
 use Rattle.base_fractions.specs.Operation.{Operation, first_wide}
@@ -13,7 +14,8 @@ use Rattle.lp_sparse.specs.Rows.{merged}
 use Rattle.lp_sparse.specs.Merge.{kept, StartsAt, Left, Merging}
 use Rattle.lp_sparse.proofs.merge.SingleEntries.{combined_none, merged_kept}
 use Rattle.lp_sparse.proofs.merge.Lists.{keeps_none, keeps_gap, keeps_pushed}
-use Rattle.lp_sparse.proofs.merge.Gaps.{joined_gap, left_to, left_zero, left_head, left_behind, left_none, starts_value, starts_behind, starts_before}
+use Rattle.lp_sparse.proofs.merge.Gaps.{joined_gap, left_to, left_zero, left_head, left_behind, left_none, starts_value, starts_behind}
+use Rattle.lp_sparse.proofs.merge.Gaps.{starts_before}
 
 -- the first entry, which stands at its column
 head_read : {F : Type 0} (m : F → ℚ) (e : Entry F) (es : List (Entry F)) → head_value m (e ∷ es) e.col ≡ m e.value
@@ -31,10 +33,12 @@ module _ {F : Type 0} (m : F → ℚ) (L : ℤ) (a b : ℕ → ℚ) (f : ℚ) (c
   passed q y z = let h = combined_none L (a q) f (b q) (eqb q c) y z in (ap (λ t. combined (a q) t (b q) (eqb q c)) (sym f_is) ∙ h.0, h.1)
 
   -- up to a column before which no entry stands
-  gap : (r k : ℕ) (da db out : List (Entry F)) → Merging m L a b f c n r da db out → r ≤ k → k ≤ n → StartsAt k da → StartsAt k db → Merging m L a b f c n k da db out
+  gap : (r k : ℕ) (da db out : List (Entry F)) → Merging m L a b f c n r da db out → r ≤ k → k ≤ n → StartsAt k da → StartsAt k db
+      → Merging m L a b f c n k da db out
   unfolding added_row_operations
   gap r k da db out h l w x y =
-      let none = λ (q : ℕ) (s : r ≤ q) (t : q < k). passed q (left_zero m a n r q k da h.left x s t) (left_zero m b n r q k db h.above y s t) in
+      let none = λ (q : ℕ) (s : r ≤ q) (t : q < k). passed q (left_zero m a n r q k da h.left x s t)
+      (left_zero m b n r q k db h.above y s t) in
       record {
         left = left_to m a n r k da h.left l x;
         above = left_to m b n r k db h.above l y;
@@ -50,7 +54,8 @@ module _ {F : Type 0} (m : F → ℚ) (L : ℤ) (a b : ℕ → ℚ) (f : ℚ) (c
       by true s = e ∙ ap₂ (λ x y. x *ℚ y) f_is (ap b (sym (eqb-true k c s)))
       by false s = ap (λ x. a k +ℚ x *ℚ b k) f_is
 
-  module _ (r k : ℕ) (da db out : List (Entry F)) (h : Merging m L a b f c n r da db out) (l : r ≤ k) (d : k < n) (s : StartsAt k da) (t : StartsAt k db) (x y : ℚ) (x_is : x ≡ head_value m da k) (y_is : y ≡ head_value m db k) where
+  module _ (r k : ℕ) (da db out : List (Entry F)) (h : Merging m L a b f c n r da db out) (l : r ≤ k) (d : k < n) (s : StartsAt k da)
+      (t : StartsAt k db) (x y : ℚ) (x_is : x ≡ head_value m da k) (y_is : y ≡ head_value m db k) where
     at_column : Merging m L a b f c n k da db out
     at_column = gap r k da db out h l (omega (arith, d)) s t
 
@@ -64,53 +69,72 @@ module _ {F : Type 0} (m : F → ℚ) (L : ℤ) (a b : ℕ → ℚ) (f : ℚ) (c
     ops_are = ap₂ (λ s t. added_operations s f t (eqb k c)) entry_is above_is
 
     -- one more column
-    merging_more : (p : ℚ) (v : F) → p ≡ f *ℚ b c → m v ≡ merged x f y p (eqb k c) → first_wide L (added_operations x f y (eqb k c)) ≡ None →
+    merging_more : (p : ℚ) (v : F) → p ≡ f *ℚ b c → m v ≡ merged x f y p (eqb k c) → first_wide L (added_operations x f y (eqb k c)) ≡ None
+        →
         Merging m L a b f c n (k + 1) (behind da k) (behind db k) (pushed m out k v)
     unfolding added_row_operations
     merging_more p v p_is v_is w =
         record {
           left = left_behind m a n k da at_column.left;
           above = left_behind m b n k db at_column.above;
-          kept = keeps_pushed m (combined_row a b c) k v out at_column.kept (v_is ∙ ap₂ (λ s t. merged s f t p (eqb k c)) entry_is above_is ∙ merged_is k p p_is);
+          kept = keeps_pushed m (combined_row a b c) k v out at_column.kept
+              (v_is ∙ ap₂ (λ s t. merged s f t p (eqb k c)) entry_is above_is ∙ merged_is k p p_is);
           fits = joined_fits_more L k made at_column.fits (ap (first_wide L) (sym ops_are) ∙ w);
           reach = omega (arith, d);
         }
 
     -- a column that is refused
-    merging_refused : (o : Operation) → first_wide L (added_operations x f y (eqb k c)) ≡ Some o → first_wide L (added_row_operations n a f b c) ≡ Some o
+    merging_refused : (o : Operation) → first_wide L (added_operations x f y (eqb k c)) ≡ Some o
+        → first_wide L (added_row_operations n a f b c) ≡ Some o
     unfolding added_row_operations
     merging_refused o w = joined_wide_at L k n made o d at_column.fits (ap (first_wide L) (sym ops_are) ∙ w)
 
   -- an entry of the row that stands before the other list
-  pub merging_kept : (r u : ℕ) (e : Entry F) (es db out : List (Entry F)) → Merging m L a b f c n r (e ∷ es) db out → e.col < u → StartsAt u db → (p : ℚ) (v : F) → p ≡ f *ℚ b c → m v ≡ kept (m e.value) p (eqb e.col c) →
+  pub merging_kept : (r u : ℕ) (e : Entry F) (es db out : List (Entry F)) → Merging m L a b f c n r (e ∷ es) db out → e.col < u
+      → StartsAt u db → (p : ℚ) (v : F) → p ≡ f *ℚ b c → m v ≡ kept (m e.value) p (eqb e.col c) →
       Merging m L a b f c n (e.col + 1) es db (pushed m out e.col v)
   merging_kept r u e es db out h l s p v p_is v_is =
       let one = merged_kept L (m e.value) f p (eqb e.col c) in
       subst₂ (λ us vs. Merging m L a b f c n (e.col + 1) us vs (pushed m out e.col v)) (taken_head e es) (starts_behind u e.col db s l)
-      (merging_more r e.col (e ∷ es) db out h h.left.rises.0 h.left.rises.1 (omega arith) (starts_before u e.col db s (omega (arith, l))) (m e.value) zero_ℚ (sym (head_read m e es)) (starts_value m u e.col db s l) p v p_is (v_is ∙ one.0) one.1)
+      (merging_more r e.col (e ∷ es) db out h h.left.rises.0 h.left.rises.1 (omega arith) (starts_before u e.col db s (omega (arith, l)))
+      (m e.value) zero_ℚ (sym (head_read m e es)) (starts_value m u e.col db s l) p v p_is (v_is ∙ one.0) one.1)
 
   module _ (r : ℕ) (e : Entry F) (da es out : List (Entry F)) (h : Merging m L a b f c n r da (e ∷ es) out) (s : StartsAt e.col da) where
     -- an entry of the pivot's row, before which the row has none
     pub merging_entry : (p : ℚ) (v : F) → p ≡ f *ℚ b c → m v ≡ merged (head_value m da e.col) f (m e.value) p (eqb e.col c) →
-        first_wide L (added_operations (head_value m da e.col) f (m e.value) (eqb e.col c)) ≡ None → Merging m L a b f c n (e.col + 1) (behind da e.col) es (pushed m out e.col v)
+        first_wide L (added_operations (head_value m da e.col) f (m e.value) (eqb e.col c)) ≡ None
+        → Merging m L a b f c n (e.col + 1) (behind da e.col) es (pushed m out e.col v)
     merging_entry p v p_is v_is w =
         subst (λ vs. Merging m L a b f c n (e.col + 1) (behind da e.col) vs (pushed m out e.col v)) (taken_head e es)
-        (merging_more r e.col da (e ∷ es) out h h.above.rises.0 h.above.rises.1 s (omega arith) (head_value m da e.col) (m e.value) refl (sym (head_read m e es)) p v p_is v_is w)
+        (merging_more r e.col da (e ∷ es) out h h.above.rises.0 h.above.rises.1 s (omega arith) (head_value m da e.col) (m e.value) refl
+        (sym (head_read m e es)) p v p_is v_is w)
 
     -- one that is refused
-    pub entry_refused : (o : Operation) → first_wide L (added_operations (head_value m da e.col) f (m e.value) (eqb e.col c)) ≡ Some o → first_wide L (added_row_operations n a f b c) ≡ Some o
-    entry_refused o w = merging_refused r e.col da (e ∷ es) out h h.above.rises.0 h.above.rises.1 s (omega arith) (head_value m da e.col) (m e.value) refl (sym (head_read m e es)) o w
+    pub entry_refused : (o : Operation) → first_wide L (added_operations (head_value m da e.col) f (m e.value) (eqb e.col c)) ≡ Some o
+        → first_wide L (added_row_operations n a f b c) ≡ Some o
+    entry_refused o w = merging_refused r e.col da (e ∷ es) out h h.above.rises.0 h.above.rises.1 s (omega arith) (head_value m da e.col)
+        (m e.value) refl (sym (head_read m e es)) o w
 
   -- no column is merged
   pub merging_none : (da db : List (Entry F)) → Left m a 0 n da → Left m b 0 n db → Merging m L a b f c n 0 da db []
   unfolding added_row_operations
-  merging_none da db p q = record { left = p; above = q; kept = keeps_none m (combined_row a b c); fits = joined_fits_none L made; reach = omega arith }
+  merging_none da db p q = record {
+    left = p;
+    above = q;
+    kept = keeps_none m (combined_row a b c);
+    fits = joined_fits_none L made;
+    reach =
+        omega arith;
+  }
 
   -- all columns are
-  pub merging_end : (r : ℕ) (da db out : List (Entry F)) → Merging m L a b f c n r da db out → da ≡ [] → db ≡ [] → Keeps m (combined_row a b c) n out × (first_wide L (added_row_operations n a f b c) ≡ None)
+  pub merging_end : (r : ℕ) (da db out : List (Entry F)) → Merging m L a b f c n r da db out → da ≡ [] → db ≡ []
+      → Keeps m (combined_row a b c) n out × (first_wide L (added_row_operations n a f b c) ≡ None)
   unfolding added_row_operations
   merging_end r da db out h s t =
       let p = subst (λ (es : List (Entry F)). Left m a r n es) s h.left in
       let q = subst (λ (es : List (Entry F)). Left m b r n es) t h.above in
-      let none = λ (k : ℕ) (l : r ≤ k). passed k (left_none m a n r k p l) (left_none m b n r k q l) in
-      (keeps_gap m (combined_row a b c) r n out h.kept h.reach (λ k l d. (none k l).0), joined_gap L r n made h.fits h.reach (λ k l d. (none k l).1))
+      let none = λ (k : ℕ) (l : r ≤ k). passed k (left_none m a n r k p l) (left_none m b n r k q l) in (
+        keeps_gap m (combined_row a b c) r n out h.kept h.reach (λ k l d. (none k l).0),
+        joined_gap L r n made h.fits h.reach (λ k l d. (none k l).1),
+      )

@@ -1,5 +1,6 @@
 -- One more entry in the division of the pivot's row.
-use Rattle.std.proofs.Common.{◌≡◌, ◌≢◌, ℕ, ◌+◌, ◌<◌, ◌≤◌, false, cond, eqb, ℤ, List, [], ◌∷◌, Some, None, refl, ap, ap₂, sym, ◌∙◌, subst, arith}
+use Rattle.std.proofs.Common.{◌≡◌, ◌≢◌, ℕ, ◌+◌, ◌<◌, ◌≤◌, false, cond, eqb, ℤ, List, [], ◌∷◌, Some, None, refl, ap, ap₂, sym, ◌∙◌, subst}
+use Rattle.std.proofs.Common.{arith}
 use Rattle.std.proofs.lemmas.Bool.{eq-eqb, ne_eqb}
 use Rattle.base_numbers.specs.Rational.{ℚ, zero_ℚ}
 use Rattle.base_fractions.specs.Operation.{Operation, first_wide}
@@ -56,20 +57,23 @@ module _ {F : Type 0} (m : F → ℚ) (L : ℤ) (a : ℕ → ℚ) (c n : ℕ) (p
     ops_are p q = ap₂ (λ s t. divided_operations s t (eqb e.col c)) entry_is q
 
     -- one more entry
-    pub dividing_more : (p : ℚ) (v : F) → p ≡ a c → m v ≡ divided (m e.value) p (eqb e.col c) → first_wide L (divided_operations (m e.value) p (eqb e.col c)) ≡ None → Dividing m L a c n (e.col + 1) es (pushed m out e.col v)
+    pub dividing_more : (p : ℚ) (v : F) → p ≡ a c → m v ≡ divided (m e.value) p (eqb e.col c)
+        → first_wide L (divided_operations (m e.value) p (eqb e.col c)) ≡ None → Dividing m L a c n (e.col + 1) es (pushed m out e.col v)
     unfolding division_row_operations
     dividing_more p v p_is v_is w =
         let g = here in
         let b : e.col < n = h.left.rises.1 in
         record {
-          left = subst (λ b. Left m a (e.col + 1) n (cond b es (e ∷ es))) (eq-eqb e.col e.col refl) (left_behind m a n e.col (e ∷ es) g.left);
+          left = subst (λ b. Left m a (e.col + 1) n (cond b es (e ∷ es))) (eq-eqb e.col e.col refl)
+              (left_behind m a n e.col (e ∷ es) g.left);
           kept = keeps_pushed m (divided_row a c) e.col v out g.kept (v_is ∙ ap₂ (λ s t. divided s t (eqb e.col c)) entry_is p_is);
           fits = joined_fits_more L e.col made g.fits (ap (first_wide L) (sym (ops_are p p_is)) ∙ w);
           reach = omega (arith, b);
         }
 
     -- an entry that is refused
-    pub dividing_refused : (p : ℚ) (o : Operation) → p ≡ a c → first_wide L (divided_operations (m e.value) p (eqb e.col c)) ≡ Some o → first_wide L (division_row_operations n a c) ≡ Some o
+    pub dividing_refused : (p : ℚ) (o : Operation) → p ≡ a c → first_wide L (divided_operations (m e.value) p (eqb e.col c)) ≡ Some o
+        → first_wide L (division_row_operations n a c) ≡ Some o
     unfolding division_row_operations
     dividing_refused p o p_is w = joined_wide_at L e.col n made o h.left.rises.1 here.fits (ap (first_wide L) (sym (ops_are p p_is)) ∙ w)
 
@@ -79,9 +83,12 @@ module _ {F : Type 0} (m : F → ℚ) (L : ℤ) (a : ℕ → ℚ) (c n : ℕ) (p
   dividing_none es p = record { left = p; kept = keeps_none m (divided_row a c); fits = joined_fits_none L made; reach = omega arith }
 
   -- all are
-  pub dividing_end : (r : ℕ) (es out : List (Entry F)) → Dividing m L a c n r es out → es ≡ [] → Keeps m (divided_row a c) n out × (first_wide L (division_row_operations n a c) ≡ None)
+  pub dividing_end : (r : ℕ) (es out : List (Entry F)) → Dividing m L a c n r es out → es ≡ []
+      → Keeps m (divided_row a c) n out × (first_wide L (division_row_operations n a c) ≡ None)
   unfolding division_row_operations
   dividing_end r es out h s =
       let p = subst (λ (xs : List (Entry F)). Left m a r n xs) s h.left in
-      let none = λ (k : ℕ) (l : r ≤ k). passed k (left_none m a n r k p l) in
-      (keeps_gap m (divided_row a c) r n out h.kept h.reach (λ k l d. (none k l).0), joined_gap L r n made h.fits h.reach (λ k l d. (none k l).1))
+      let none = λ (k : ℕ) (l : r ≤ k). passed k (left_none m a n r k p l) in (
+        keeps_gap m (divided_row a c) r n out h.kept h.reach (λ k l d. (none k l).0),
+        joined_gap L r n made h.fits h.reach (λ k l d. (none k l).1),
+      )

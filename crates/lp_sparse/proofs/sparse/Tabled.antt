@@ -1,5 +1,6 @@
 -- The tables of dictionaries of sparse rows after a pivot, and after a column and a goal are left out.
-use Rattle.std.proofs.Common.{◌≡◌, ℕ, suc, ◌+◌, ◌*◌, ◌<◌, ⊎_elim, Bool, true, false, cond, eqb, List, [], length, get_or, set, take, refl, ap, sym, ◌∙◌, subst, arith}
+use Rattle.std.proofs.Common.{◌≡◌, ℕ, suc, ◌+◌, ◌*◌, ◌<◌, ⊎_elim, Bool, true, false, cond, eqb, List, [], length, get_or, set, take, refl}
+use Rattle.std.proofs.Common.{ap, sym, ◌∙◌, subst, arith}
 use Rattle.std.specs.Prelude.{remove}
 use Rattle.std.proofs.lemmas.Bool.{cases_lt, cases_eq, eq-eqb, ne_eqb}
 use Rattle.std.proofs.lemmas.List.Edits.{length-remove}
@@ -42,14 +43,16 @@ nothing_exchanged n r s c = record {
   others = λ i k l d b. combined_none (divided zero_ℚ zero_ℚ (eqb k c)) (eqb k c);
 }
 
-module _ {F : Type 0} (m : F → ℚ) (bs ns : List ℕ) (goals : ℕ) (rows ys : List (SparseRow F)) (r c : ℕ) (sized : length rows ≡ length bs + goals) (h : Exchanges m (length rows) r (suc (length ns)) c rows ys) where
+module _ {F : Type 0} (m : F → ℚ) (bs ns : List ℕ) (goals : ℕ) (rows ys : List (SparseRow F)) (r c : ℕ)
+    (sized : length rows ≡ length bs + goals) (h : Exchanges m (length rows) r (suc (length ns)) c rows ys) where
   -- the table is that of the pivot
   pub sparse_pivots : (x y : ℕ) → r < length bs → c < length ns → x ≡ get_or ns c x → y ≡ get_or bs r y →
       Agree (pivot_table (named_table bs ns goals (numbers m rows)) r c) (named_table (set bs r x) (set ns c y) goals (numbers m ys))
   unfolding pivot_table
   sparse_pivots x y r_in c_in x_is y_is =
       let T = named_table bs ns goals (numbers m rows) in
-      let names = pivot_agrees {F = ℕ} nothing bs ns goals [] [] r c x y r_in c_in x_is y_is (nothing_exchanged (length bs + goals) r (suc (length ns)) c) in
+      let names = pivot_agrees {F = ℕ} nothing bs ns goals [] [] r c x y r_in c_in x_is y_is
+      (nothing_exchanged (length bs + goals) r (suc (length ns)) c) in
       record {
         rows = names.rows;
         goals = refl;
@@ -57,8 +60,10 @@ module _ {F : Type 0} (m : F → ℚ) (bs ns : List ℕ) (goals : ℕ) (rows ys 
         row_name = names.row_name;
         col_name = names.col_name;
         entry = λ i k l b. ⊎_elim
-            (λ e. ap (λ j. numbers m ys j k) e ∙ h.pivot_row.values k (omega (arith, b)) ∙ sym (row_entry T r c k) ∙ sym (ap (λ t. cond t (pivot_row_entry T r c k) (pivot_other_entry T r c i k)) (eq-eqb i r e)))
-            (λ d. (h.others i (omega (arith, l, sized)) d).values k (omega (arith, b)) ∙ sym (other_entry T r c i k) ∙ sym (ap (λ t. cond t (pivot_row_entry T r c k) (pivot_other_entry T r c i k)) (ne_eqb i r d)))
+            (λ e. ap (λ j. numbers m ys j k) e ∙ h.pivot_row.values k (omega (arith, b)) ∙ sym (row_entry T r c k)
+            ∙ sym (ap (λ t. cond t (pivot_row_entry T r c k) (pivot_other_entry T r c i k)) (eq-eqb i r e)))
+            (λ d. (h.others i (omega (arith, l, sized)) d).values k (omega (arith, b)) ∙ sym (other_entry T r c i k)
+            ∙ sym (ap (λ t. cond t (pivot_row_entry T r c k) (pivot_other_entry T r c i k)) (ne_eqb i r d)))
             (cases_eq i r);
       }
 
@@ -73,33 +78,41 @@ module _ {F : Type 0} (m : F → ℚ) (bs ns : List ℕ) (goals : ℕ) (rows ys 
       (cases_eq i r)
 
 -- its operations
-pub pivot_operations_are : (bs ns : List ℕ) (goals n : ℕ) (a : ℕ → ℕ → ℚ) (r c : ℕ) → n ≡ length bs + goals → pivot_operations (named_table bs ns goals a) r c ≡ exchange_operations a n r (suc (length ns)) c
+pub pivot_operations_are : (bs ns : List ℕ) (goals n : ℕ) (a : ℕ → ℕ → ℚ) (r c : ℕ) → n ≡ length bs + goals
+    → pivot_operations (named_table bs ns goals a) r c ≡ exchange_operations a n r (suc (length ns)) c
 unfolding pivot_operations exchange_operations rows_operations
 pivot_operations_are bs ns goals n a r c e = ap (λ N. exchange_operations a N r (suc (length ns)) c) (sym e)
 
-module _ {F : Type 0} (m : F → ℚ) (bs ns ms : List ℕ) (rows ys zs : List (SparseRow F)) (z : ℕ) (z_in : z < length ns) (ms_is : ms ≡ remove ns z) (left : (i : ℕ) → row_at ys i ≡ left_out z (row_at rows i)) (zs_is : zs ≡ remove ys (length bs)) (sized : length bs < length ys) where
+module _ {F : Type 0} (m : F → ℚ) (bs ns ms : List ℕ) (rows ys zs : List (SparseRow F)) (z : ℕ) (z_in : z < length ns)
+    (ms_is : ms ≡ remove ns z) (left : (i : ℕ) → row_at ys i ≡ left_out z (row_at rows i)) (zs_is : zs ≡ remove ys (length bs))
+    (sized : length bs < length ys) where
   row_left : (i : ℕ) → row_at zs i ≡ left_out z (row_at rows (skip (length bs) i))
   row_left i = ap (λ (xs : List (SparseRow F)). row_at xs i) zs_is ∙ row_removed ys (length bs) i sized ∙ left (skip (length bs) i)
 
   -- the table is the one that is left
-  pub sparse_leaves : z ≡ place_of (λ k. get_or ns k 0) (length ns) 0 → Agree (leave_table (named_table bs ns 2 (numbers m rows))) (named_table bs ms 1 (numbers m zs))
+  pub sparse_leaves : z ≡ place_of (λ k. get_or ns k 0) (length ns) 0 →
+      Agree (leave_table (named_table bs ns 2 (numbers m rows))) (named_table bs ms 1 (numbers m zs))
   unfolding leave_table drop_table
   sparse_leaves z_is =
-      let names = leave_agrees {F = ℕ} nothing bs ns ms [] [] (take ((length bs + 1) * length ns) []) z z_in z_is (record { moved = λ i k l b. refl; later = λ p l. refl }) ms_is refl in
+      let names = leave_agrees {F = ℕ} nothing bs ns ms [] [] (take ((length bs + 1) * length ns) []) z z_in z_is
+      (record { moved = λ i k l b. refl; later = λ p l. refl }) ms_is refl in
       record {
         rows = refl;
         goals = refl;
         width = names.width;
         row_name = names.row_name;
         col_name = names.col_name;
-        entry = λ i k l b. ap (λ es. value_at m es k) (row_left i) ∙ value_left m z k (row_at rows (skip (length bs) i)) ∙ ap (λ y. numbers m rows (skip (length bs) i) (skip y k)) z_is;
+        entry = λ i k l b. ap (λ es. value_at m es k) (row_left i) ∙ value_left m z k (row_at rows (skip (length bs) i))
+            ∙ ap (λ y. numbers m rows (skip (length bs) i) (skip y k)) z_is;
       }
 
   -- the rows rise below the new width when a column and a goal are left out
   pub leave_rises : EachRises (suc (length ns)) rows → EachRises (suc (length ms)) zs
   leave_rises h i =
       let e : suc (length ms) ≡ length ns = let f = length-remove ns z z_in in let g = ap length ms_is in omega (arith, f, g) in
-      subst (λ n. Rises 0 n (row_at zs i)) (sym e) (subst (Rises 0 (length ns)) (sym (row_left i)) (left_out_rises z 0 0 (length ns) (row_at rows (skip (length bs) i)) (omega (arith, z_in)) (omega arith) (λ l. absurd (omega (arith, l))) (h (skip (length bs) i))))
+      subst (λ n. Rises 0 n (row_at zs i)) (sym e) (subst (Rises 0 (length ns)) (sym (row_left i))
+      (left_out_rises z 0 0 (length ns) (row_at rows (skip (length bs) i)) (omega (arith, z_in)) (omega arith)
+      (λ l. absurd (omega (arith, l))) (h (skip (length bs) i))))
 
   -- no row has a zero entry when a column and a goal are left out
   pub leave_no_zeros : NoZeros m rows → NoZeros m zs

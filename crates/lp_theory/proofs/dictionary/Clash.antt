@@ -21,7 +21,8 @@ product_zero_right a b e h = <ℚ_irrefl (subst (λ x. zero_ℚ <ℚ x) (ap (λ 
 
 -- where a product is above 0 and one factor is at most 0, the other is below 0
 product_signs : (a b : ℚ) → zero_ℚ <ℚ a *ℚ b → a ≤ℚ zero_ℚ → b <ℚ zero_ℚ
-product_signs a b h l = ⊎_elim (λ p. absurd (lin_false (a ∷ b ∷ []) (lt h ∷ ge0 (gap l ⊗ p) ∷ []) (search reads_all depth 40) tt)) (λ n. n) (le_or_lt zero_ℚ b)
+product_signs a b h l = ⊎_elim (λ p. absurd (lin_false (a ∷ b ∷ []) (lt h ∷ ge0 (gap l ⊗ p) ∷ []) (search reads_all depth 40) tt)) (λ n. n)
+    (le_or_lt zero_ℚ b)
 
 product_mixed : (a b : ℚ) → zero_ℚ <ℚ a *ℚ b → zero_ℚ <ℚ a → b <ℚ zero_ℚ → ⊥
 product_mixed a b h p n = lin_false (a ∷ b ∷ []) (lt h ∷ gt0 (*ℚ_pos p (gap_lt n)) ∷ []) (search reads_all depth 40) tt
@@ -81,10 +82,12 @@ module _ (g n : ℕ) (A E : Dict) (s t : ℕ)
   pub clash : ⊥
   unfolding row
   clash =
-      let v : along E s g ≡ A.const g +ℚ sum_to n (λ k. A.coef g k *ℚ along E s k) = (means (along E s) (along_models n E e s other.name)).says g in
+      let v : along E s g ≡ A.const g +ℚ sum_to n (λ k. A.coef g k *ℚ along E s k) =
+      (means (along E s) (along_models n E e s other.name)).says g in
       let w = same g in
       let o = other.gains in
       let p : zero_ℚ <ℚ sum_to n (λ k. A.coef g k *ℚ along E s k) =
-      lin_lt (E.const g ∷ E.coef g s ∷ A.const g ∷ sum_to n (λ k. A.coef g k *ℚ along E s k) ∷ []) (lt o ∷ eq v ∷ eq w ∷ []) (search reads_all depth 40) tt in
+      lin_lt (E.const g ∷ E.coef g s ∷ A.const g ∷ sum_to n (λ k. A.coef g k *ℚ along E s k) ∷ []) (lt o ∷ eq v ∷ eq w ∷ [])
+      (search reads_all depth 40) tt in
       let q = positive_term n (λ k. A.coef g k *ℚ along E s k) p in
       term_out q.0 q.1 q.2

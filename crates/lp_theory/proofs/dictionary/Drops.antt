@@ -53,8 +53,10 @@ drop_row m D V z i =
     ap (λ x. x +ℚ sum_to (suc m) (λ k. (drop_zero D).coef i k *ℚ V k)) (drop-const D i)
     ∙ ap (λ x. D.const i +ℚ x)
     (sum_first m (λ k. (drop_zero D).coef i k *ℚ V k)
-    ∙ ap (λ x. x +ℚ sum_to m (λ k. (drop_zero D).coef i (suc k) *ℚ V (suc k))) (ap (λ x. x *ℚ V 0) (drop-zero D i) ∙ zero-*ℚ (V 0) ∙ sym (ap (λ x. D.coef i 0 *ℚ x) z ∙ *ℚ-zero (D.coef i 0)))
-    ∙ ap (λ x. D.coef i 0 *ℚ V 0 +ℚ x) (sum_to_same m (λ k. (drop_zero D).coef i (suc k) *ℚ V (suc k)) (λ k. D.coef i (suc k) *ℚ V (suc k)) (λ k l. ap (λ x. x *ℚ V (suc k)) (drop-coef D i k)))
+    ∙ ap (λ x. x +ℚ sum_to m (λ k. (drop_zero D).coef i (suc k) *ℚ V (suc k)))
+    (ap (λ x. x *ℚ V 0) (drop-zero D i) ∙ zero-*ℚ (V 0) ∙ sym (ap (λ x. D.coef i 0 *ℚ x) z ∙ *ℚ-zero (D.coef i 0)))
+    ∙ ap (λ x. D.coef i 0 *ℚ V 0 +ℚ x) (sum_to_same m (λ k. (drop_zero D).coef i (suc k) *ℚ V (suc k)) (λ k. D.coef i (suc k) *ℚ V (suc k))
+    (λ k l. ap (λ x. x *ℚ V (suc k)) (drop-coef D i k)))
     ∙ sym (sum_first m (λ k. D.coef i k *ℚ V k)))
 
 -- the meaning with the value 0 stays
@@ -71,8 +73,10 @@ pub drop_value : (m : ℕ) (D : Dict) → IsDict (suc m) D → D.basic 0 ≡ fal
 unfolding row
 drop_value m D d f V h =
     h.says 0 ∙ ap (λ x. x +ℚ sum_to (suc m) (λ k. (drop_zero D).coef 0 k *ℚ V k)) (drop-const D 0 ∙ d.still 0 f)
-    ∙ ap (λ x. zero_ℚ +ℚ x) (sum_nothing (suc m) (λ k. (drop_zero D).coef 0 k *ℚ V k) (λ k l. ap (λ x. x *ℚ V k) (row_vanishes m D d f k) ∙ zero-*ℚ (V k))) ∙ +ℚ_idl zero_ℚ
+    ∙ ap (λ x. zero_ℚ +ℚ x) (sum_nothing (suc m) (λ k. (drop_zero D).coef 0 k *ℚ V k)
+    (λ k l. ap (λ x. x *ℚ V k) (row_vanishes m D d f k) ∙ zero-*ℚ (V k))) ∙ +ℚ_idl zero_ℚ
 
 -- what is left says no more than the dictionary
-pub drop_means_back : (m : ℕ) (D : Dict) → IsDict (suc m) D → D.basic 0 ≡ false → (V : ℕ → ℚ) → Models (suc m) (drop_zero D) V → Models (suc m) D V
+pub drop_means_back : (m : ℕ) (D : Dict) → IsDict (suc m) D → D.basic 0 ≡ false → (V : ℕ → ℚ) → Models (suc m) (drop_zero D) V
+    → Models (suc m) D V
 drop_means_back m D d f V h = record { says = λ i. h.says i ∙ drop_row m D V (drop_value m D d f V h) i }

@@ -12,4 +12,5 @@ unfolding dot
 sum_is_dot [] v n l = sum_nothing n (λ k. zero_ℚ *ℚ at v k) (λ k m. zero-*ℚ (at v k))
 sum_is_dot (x ∷ u) [] n l = sum_nothing n (λ k. at (x ∷ u) k *ℚ zero_ℚ) (λ k m. *ℚ-zero (at (x ∷ u) k))
 sum_is_dot (x ∷ u) (y ∷ v) zero l = absurd (omega (arith, l))
-sum_is_dot (x ∷ u) (y ∷ v) (suc n) l = sum_first n (λ k. at (x ∷ u) k *ℚ at (y ∷ v) k) ∙ ap (λ s. x *ℚ y +ℚ s) (sum_is_dot u v n (omega (arith, l)))
+sum_is_dot (x ∷ u) (y ∷ v) (suc n) l = sum_first n (λ k. at (x ∷ u) k *ℚ at (y ∷ v) k)
+    ∙ ap (λ s. x *ℚ y +ℚ s) (sum_is_dot u v n (omega (arith, l)))

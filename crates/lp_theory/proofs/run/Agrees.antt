@@ -22,11 +22,13 @@ module _ (T U : Table) (a : Agree T U) where
   unfolding pivot_row_entry
   agree_row_entry r c k l m n = ap₂ (λ p x. cond (eqb k c) (one_ℚ /ℚ p) (neg_ℚ (x /ℚ p))) (a.entry r c l m) (a.entry r k l n)
 
-  agree_other_entry : (r c i k : ℕ) → r < T.rows + T.goals → c ≤ T.width → i < T.rows + T.goals → k ≤ T.width → pivot_other_entry U r c i k ≡ pivot_other_entry T r c i k
+  agree_other_entry : (r c i k : ℕ) → r < T.rows + T.goals → c ≤ T.width → i < T.rows + T.goals → k ≤ T.width
+      → pivot_other_entry U r c i k ≡ pivot_other_entry T r c i k
   unfolding pivot_other_entry
   agree_other_entry r c i k l m n o =
       ap₂ (λ f x. cond (eqb k c) (f *ℚ pivot_row_entry U r c c) (x +ℚ f *ℚ pivot_row_entry U r c k)) (a.entry i c n m) (a.entry i k n o)
-      ∙ ap₂ (λ x y. cond (eqb k c) (T.entry i c *ℚ x) (T.entry i k +ℚ T.entry i c *ℚ y)) (agree_row_entry r c c l m m) (agree_row_entry r c k l m o)
+      ∙ ap₂ (λ x y. cond (eqb k c) (T.entry i c *ℚ x) (T.entry i k +ℚ T.entry i c *ℚ y)) (agree_row_entry r c c l m m)
+      (agree_row_entry r c k l m o)
 
   -- pivots at one place of tables that agree agree
   pub agree_pivot : (r c : ℕ) → r < T.rows → c < T.width → Agree (pivot_table T r c) (pivot_table U r c)
@@ -37,21 +39,26 @@ module _ (T U : Table) (a : Agree T U) where
     width = a.width;
     row_name = λ i n. ap₂ (λ x y. cond (eqb i r) x y) (a.col_name c m) (a.row_name i n);
     col_name = λ k n. ap₂ (λ x y. cond (eqb k c) x y) (a.row_name r (omega (arith, l))) (a.col_name k n);
-    entry = λ i k n o. ap₂ (λ x y. cond (eqb i r) x y) (agree_row_entry r c k (omega (arith, l)) (omega (arith, m)) o) (agree_other_entry r c i k (omega (arith, l)) (omega (arith, m)) n o);
+    entry = λ i k n o. ap₂ (λ x y. cond (eqb i r) x y) (agree_row_entry r c k (omega (arith, l)) (omega (arith, m)) o)
+        (agree_other_entry r c i k (omega (arith, l)) (omega (arith, m)) n o);
   }
 
   -- tables that agree agree without the auxiliary variable's column and the first goal
   pub agree_leave : 0 < T.goals → 0 < T.width → Agree (leave_table T) (leave_table U)
   unfolding leave_table drop_table
   agree_leave g w =
-      let z : place_of U.col_name U.width 0 ≡ place_of T.col_name T.width 0 = ap (λ n. place_of U.col_name n 0) a.width ∙ place_same U.col_name T.col_name T.width 0 (λ j l. a.col_name j l) in
+      let z : place_of U.col_name U.width 0 ≡ place_of T.col_name T.width 0 =
+      ap (λ n. place_of U.col_name n 0) a.width ∙ place_same U.col_name T.col_name T.width 0 (λ j l. a.col_name j l) in
       record {
         rows = a.rows;
         goals = ap (λ x. x - 1) a.goals;
         width = ap (λ x. x - 1) a.width;
-        row_name = λ i l. ap (λ n. U.row_name (skip n i)) a.rows ∙ a.row_name (skip T.rows i) (let b = skip_bound T.rows i (T.rows + (T.goals - 1)) l in omega (arith, b, g));
-        col_name = λ k l. ap (λ p. U.col_name (skip p k)) z ∙ a.col_name (skip (place_of T.col_name T.width 0) k) (let b = skip_bound (place_of T.col_name T.width 0) k (T.width - 1) l in omega (arith, b, w));
+        row_name = λ i l. ap (λ n. U.row_name (skip n i)) a.rows ∙ a.row_name (skip T.rows i)
+            (let b = skip_bound T.rows i (T.rows + (T.goals - 1)) l in omega (arith, b, g));
+        col_name = λ k l. ap (λ p. U.col_name (skip p k)) z ∙ a.col_name (skip (place_of T.col_name T.width 0) k)
+            (let b = skip_bound (place_of T.col_name T.width 0) k (T.width - 1) l in omega (arith, b, w));
         entry = λ i k l m. ap₂ (λ n p. U.entry (skip n i) (skip p k)) a.rows z
-            ∙ a.entry (skip T.rows i) (skip (place_of T.col_name T.width 0) k) (let b = skip_bound T.rows i (T.rows + (T.goals - 1)) l in omega (arith, b, g))
+            ∙ a.entry (skip T.rows i) (skip (place_of T.col_name T.width 0) k)
+            (let b = skip_bound T.rows i (T.rows + (T.goals - 1)) l in omega (arith, b, g))
             (let b = skip_bound (place_of T.col_name T.width 0) k (suc (T.width - 1)) (omega (arith, m)) in omega (arith, b, w));
       }

@@ -15,7 +15,8 @@ pub least_same : (p : ℕ → Bool) (f : ℕ → ℚ) (n : ℕ) (s : Search) (r 
 least_same p f n none r h k = absurd (true≢false (sym k.wanted ∙ h r k.below))
 least_same p f n (found q) r h k = ap found (⊎_elim
     (λ l. absurd (not_le_of_lt (k.before q l h.wanted) (h.least r k.below k.wanted)))
-    (λ l. ⊎_elim (λ m. absurd (not_le_of_lt (h.before r m k.wanted) (k.least q h.below h.wanted))) (λ m. omega (arith, l, m)) (cases_lt r q))
+    (λ l. ⊎_elim (λ m. absurd (not_le_of_lt (h.before r m k.wanted) (k.least q h.below h.wanted))) (λ m. omega (arith, l, m))
+    (cases_lt r q))
     (cases_lt q r))
 
 -- the search finds none where none is wanted

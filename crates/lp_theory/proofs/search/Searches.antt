@@ -53,7 +53,8 @@ abbrev pub LeastIs : (ℕ → Bool) → (ℕ → ℚ) → ℕ → Search → Typ
 LeastIs p f n none = (k : ℕ) → k < n → p k ≡ false
 LeastIs p f n (found r) = IsLeast p f n r
 
-least_step : (p : ℕ → Bool) (f : ℕ → ℚ) (n : ℕ) (s : Search) → LeastIs p f n s → (b : Bool) → p n ≡ b → LeastIs p f (suc n) (least_more f n s b)
+least_step : (p : ℕ → Bool) (f : ℕ → ℚ) (n : ℕ) (s : Search) → LeastIs p f n s → (b : Bool) → p n ≡ b
+    → LeastIs p f (suc n) (least_more f n s b)
 least_step p f n (found r) h true e = by (lt_ℚ (f n) (f r)) refl
   where
     by : (t : Bool) → lt_ℚ (f n) (f r) ≡ t → LeastIs p f (suc n) (cond t (found n) (found r))
@@ -62,7 +63,8 @@ least_step p f n (found r) h true e = by (lt_ℚ (f n) (f r)) refl
         record {
           below = omega arith;
           wanted = e;
-          least = λ i m w. ⊎_elim (λ q. subst (λ x. f n ≤ℚ f x) (sym q) (≤ℚ_refl (f n))) (λ q. ≤ℚ_trans (le_of_lt_ℚ l) (h.least i (omega (arith, q)) w)) (cases_eq i n);
+          least = λ i m w. ⊎_elim (λ q. subst (λ x. f n ≤ℚ f x) (sym q) (≤ℚ_refl (f n)))
+              (λ q. ≤ℚ_trans (le_of_lt_ℚ l) (h.least i (omega (arith, q)) w)) (cases_eq i n);
           before = λ i m w. lt_of_lt_of_le_ℚ l (h.least i m w);
         }
     by false g =
@@ -82,7 +84,8 @@ least_step p f n (found r) h false e = record {
 least_step p f n none h true e = record {
   below = omega arith;
   wanted = e;
-  least = λ i m w. ⊎_elim (λ q. subst (λ x. f n ≤ℚ f x) (sym q) (≤ℚ_refl (f n))) (λ q. absurd (true≢false (sym w ∙ h i (omega (arith, q))))) (cases_eq i n);
+  least = λ i m w. ⊎_elim (λ q. subst (λ x. f n ≤ℚ f x) (sym q) (≤ℚ_refl (f n))) (λ q. absurd (true≢false (sym w ∙ h i (omega (arith, q)))))
+      (cases_eq i n);
   before = λ i m w. absurd (true≢false (sym w ∙ h i m));
 }
 least_step p f n none h false e = λ k l. ⊎_elim (λ q. ap p q ∙ e) (λ q. h k (omega (arith, q))) (cases_eq k n)

@@ -38,6 +38,8 @@ entered_shows P r l =
     let w : P.cols < (first_table P).width = omega (arith, b.2) in
     let i : r < (first_table P).rows + (first_table P).goals = omega (arith, m) in
     let e : (first_table P).entry r P.cols ≡ one_ℚ =
-    h.entries r P.cols i w ∙ ap (λ x. (first_dict P).coef x ((first_table P).col_name P.cols)) (first_row_name P r l) ∙ ap ((first_dict P).coef (slack_name P r)) (first_col_name P) ∙ first-slack P r 0 l ∙ ap (slack_coef P r) (role-zero P) in
-    subst₂ (λ x y. Shows (names P) (pivot_table (first_table P) r P.cols) (pivot (first_dict P) x y)) (first_row_name P r l) (first_col_name P)
+    h.entries r P.cols i w ∙ ap (λ x. (first_dict P).coef x ((first_table P).col_name P.cols)) (first_row_name P r l)
+    ∙ ap ((first_dict P).coef (slack_name P r)) (first_col_name P) ∙ first-slack P r 0 l ∙ ap (slack_coef P r) (role-zero P) in
+    subst₂ (λ x y. Shows (names P) (pivot_table (first_table P) r P.cols) (pivot (first_dict P) x y)) (first_row_name P r l)
+    (first_col_name P)
     (table_pivot (names P) (first_table P) (first_dict P) h (first_form P) r P.cols m w (λ z. one_ne_zero (sym e ∙ z)))

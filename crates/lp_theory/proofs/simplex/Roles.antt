@@ -1,10 +1,13 @@
 -- The first dictionary: which name stands for what, and the form and the meaning.
-use Rattle.std.proofs.Common.{◌≡◌, ⊎_elim, ℕ, zero, suc, ◌+◌, ◌-◌, ◌<◌, ◌≤◌, Bool, true, false, cond, ltb, eqb, refl, ap, sym, ◌∙◌, arith, true≢false, lt-ltb, le-ltb, eq-eqb, ne_eqb}
+use Rattle.std.proofs.Common.{◌≡◌, ⊎_elim, ℕ, zero, suc, ◌+◌, ◌-◌, ◌<◌, ◌≤◌, Bool, true, false, cond, ltb, eqb, refl, ap, sym, ◌∙◌, arith}
+use Rattle.std.proofs.Common.{true≢false, lt-ltb, le-ltb, eq-eqb, ne_eqb}
 use Rattle.std.proofs.lemmas.Bool.{cases_lt}
 use Rattle.base_numbers.specs.Rational.{ℚ, zero_ℚ}
 use Rattle.lp_theory.specs.Problem.{Problem}
 use Rattle.lp_theory.specs.Dictionary.{delta, IsDict}
-use Rattle.lp_theory.specs.Simplex.{names, main_row, aux_row, slack_name, Role, auxiliary, column, slack, main_goal, aux_goal, nothing, role, role_rest, role_goal, is_basic, slack_coef, main_coef, aux_coef, first_coef, first_const, first_dict}
+use Rattle.lp_theory.specs.Simplex.{names, main_row, aux_row, slack_name, Role, auxiliary, column, slack, main_goal, aux_goal, nothing}
+use Rattle.lp_theory.specs.Simplex.{role, role_rest, role_goal, is_basic, slack_coef, main_coef, aux_coef, first_coef, first_const}
+use Rattle.lp_theory.specs.Simplex.{first_dict}
 use Rattle.lp_theory.proofs.Sums.{delta_other}
 
 -- the name of a column
@@ -34,8 +37,10 @@ role-main P =
 role-aux : (P : Problem) → role P (aux_row P) ≡ aux_goal
 role-aux P =
     let e : suc (suc (P.rows + P.cols)) ≡ suc (suc P.rows + P.cols) = omega arith in
-    ap (role P) e ∙ role_behind P (suc P.rows) ∙ ap (λ b. cond b (slack (suc P.rows)) (role_goal P.rows (suc P.rows))) (le-ltb (suc P.rows) P.rows (omega arith))
-    ∙ ap (λ b. cond b main_goal (cond (eqb (suc P.rows) (suc P.rows)) aux_goal nothing)) (ne_eqb (suc P.rows) P.rows (λ x. omega (arith, x)))
+    ap (role P) e ∙ role_behind P (suc P.rows) ∙ ap (λ b. cond b (slack (suc P.rows)) (role_goal P.rows (suc P.rows)))
+    (le-ltb (suc P.rows) P.rows (omega arith))
+    ∙ ap (λ b. cond b main_goal (cond (eqb (suc P.rows) (suc P.rows)) aux_goal nothing))
+    (ne_eqb (suc P.rows) P.rows (λ x. omega (arith, x)))
     ∙ ap (λ b. cond b aux_goal nothing) (eq-eqb (suc P.rows) (suc P.rows) refl)
 
 -- the name of the auxiliary variable
@@ -63,8 +68,10 @@ role-behind P zero l = absurd (omega (arith, l))
 role-behind P (suc k) l =
     let e : suc k ≡ suc ((k - P.cols) + P.cols) = omega (arith, l) in
     let h : suc P.rows < k - P.cols = omega (arith, l, e) in
-    ap (role P) e ∙ role_behind P (k - P.cols) ∙ ap (λ b. cond b (slack (k - P.cols)) (role_goal P.rows (k - P.cols))) (le-ltb (k - P.cols) P.rows (omega (arith, h)))
-    ∙ ap (λ b. cond b main_goal (cond (eqb (k - P.cols) (suc P.rows)) aux_goal nothing)) (ne_eqb (k - P.cols) P.rows (λ x. omega (arith, x, h)))
+    ap (role P) e ∙ role_behind P (k - P.cols) ∙ ap (λ b. cond b (slack (k - P.cols)) (role_goal P.rows (k - P.cols)))
+    (le-ltb (k - P.cols) P.rows (omega (arith, h)))
+    ∙ ap (λ b. cond b main_goal (cond (eqb (k - P.cols) (suc P.rows)) aux_goal nothing))
+    (ne_eqb (k - P.cols) P.rows (λ x. omega (arith, x, h)))
     ∙ ap (λ b. cond b aux_goal nothing) (ne_eqb (k - P.cols) (suc P.rows) (λ x. omega (arith, x, h)))
 
 rest_basic : (R m : ℕ) → is_basic (role_rest R m) ≡ true
@@ -133,7 +140,8 @@ by_role_still P nothing e = absurd (true≢false e)
 pub first_form : (P : Problem) → IsDict (names P) (first_dict P)
 unfolding first_dict
 first_form P = record {
-  column = λ i k e. by_role_column P (role P i) (role P k) (delta i k) (λ f. delta_other i k (λ q. true≢false (sym e ∙ ap (λ x. is_basic (role P x)) (sym q) ∙ f))) e;
+  column = λ i k e. by_role_column P (role P i) (role P k) (delta i k)
+      (λ f. delta_other i k (λ q. true≢false (sym e ∙ ap (λ x. is_basic (role P x)) (sym q) ∙ f))) e;
   unit = λ i k e. by_role_unit P (role P i) (role P k) (delta i k) e;
   still = λ i e. by_role_still P (role P i) e;
   goals = λ i h. first_basic P i (omega (arith, h));

@@ -16,6 +16,9 @@ value_of (unbounded x d) = whole (negsuc 0)
 value_of (empty y) = whole (negsuc 1)
 
 -- phase 1, phase 2 and the value of `lp` by computation alone
-sample : value_of (lp (list_problem 1 ((whole (pos 1) ∷ []) ∷ (whole (negsuc 0) ∷ []) ∷ []) (whole (pos 2) ∷ whole (negsuc 0) ∷ []) (whole (pos 1) ∷ []))) ≡ whole (pos 2)
-unfolding value_of lp lowest phase_one last_of_one phase_one_index phase_two last_of stop_index after next choose entering leaving ratio_of first least pivot share drop_zero first_dict role delta whole zero_ℚ one_ℚ ratio ◌+ℚ◌ ◌*ℚ◌ neg_ℚ ◌-ℚ◌ inv_ℚ ◌/ℚ◌ lt_ℚ gcd gcd_within is_reduced
+sample : value_of (lp (list_problem 1 ((whole (pos 1) ∷ []) ∷ (whole (negsuc 0) ∷ []) ∷ []) (whole (pos 2) ∷ whole (negsuc 0) ∷ [])
+    (whole (pos 1) ∷ []))) ≡ whole (pos 2)
+unfolding value_of lp lowest phase_one last_of_one phase_one_index phase_two last_of stop_index after next choose entering leaving ratio_of
+    first least pivot share drop_zero first_dict role delta whole zero_ℚ one_ℚ ratio ◌+ℚ◌ ◌*ℚ◌ neg_ℚ ◌-ℚ◌ inv_ℚ ◌/ℚ◌ lt_ℚ gcd gcd_within
+    is_reduced
 sample = refl

@@ -27,26 +27,35 @@ dropped_shows : (P : Problem) → Shows (names P) (dropped_first P) (drop_zero (
 unfolding dropped_first
 dropped_shows P =
     let s = first_size P in
-    table_drop (names P) (first_table P) (first_dict P) (first_table_shows P) (first_form P) 1 P.cols P.cols s.1 s.2 (omega (arith, s.2)) (last_column P)
+    table_drop (names P) (first_table P) (first_dict P) (first_table_shows P) (first_form P) 1 P.cols P.cols s.1 s.2 (omega (arith, s.2))
+    (last_column P)
 
 plain_row : (P : Problem) (i : ℕ) → i < P.rows + 1 → (plain_table P).row_name i ≡ (first_table P).row_name (skip P.rows i)
 unfolding plain_table first_table
 plain_row P i l = ⊎_elim
     (λ h. ap (λ b. cond b (slack_name P i) (main_row P)) (lt-ltb i P.rows h)
-    ∙ sym (ap (λ x. cond (ltb x P.rows) (slack_name P x) (cond (eqb x P.rows) (aux_row P) (main_row P))) (skip_below P.rows i h) ∙ ap (λ b. cond b (slack_name P i) (cond (eqb i P.rows) (aux_row P) (main_row P))) (lt-ltb i P.rows h)))
+    ∙ sym (ap (λ x. cond (ltb x P.rows) (slack_name P x) (cond (eqb x P.rows) (aux_row P) (main_row P))) (skip_below P.rows i h)
+    ∙ ap (λ b. cond b (slack_name P i) (cond (eqb i P.rows) (aux_row P) (main_row P))) (lt-ltb i P.rows h)))
     (λ h. ap (λ b. cond b (slack_name P i) (main_row P)) (le-ltb i P.rows h)
     ∙ sym (ap (λ x. cond (ltb x P.rows) (slack_name P x) (cond (eqb x P.rows) (aux_row P) (main_row P))) (skip_above P.rows i h)
-    ∙ ap (λ b. cond b (slack_name P (suc i)) (cond (eqb (suc i) P.rows) (aux_row P) (main_row P))) (le-ltb (suc i) P.rows (omega (arith, h))) ∙ ap (λ b. cond b (aux_row P) (main_row P)) (ne_eqb (suc i) P.rows (λ x. omega (arith, x, h)))))
+    ∙ ap (λ b. cond b (slack_name P (suc i)) (cond (eqb (suc i) P.rows) (aux_row P) (main_row P)))
+    (le-ltb (suc i) P.rows (omega (arith, h))) ∙ ap (λ b. cond b (aux_row P) (main_row P))
+    (ne_eqb (suc i) P.rows (λ x. omega (arith, x, h)))))
     (cases_lt i P.rows)
 
 -- a column's entry in the plain table: of the column or the constant
 plain_slack : (P : Problem) (i k : ℕ) → i < P.rows → k ≤ P.cols → (plain_table P).entry i k ≡ first_entry P i (skip P.cols k)
 unfolding plain_table
 plain_slack P i k l m = ⊎_elim
-    (λ h. ap (λ b. cond b (cond (ltb k P.cols) (neg_ℚ (P.coef i k)) (P.side i)) (cond (ltb k P.cols) (P.goal k) zero_ℚ)) (lt-ltb i P.rows l) ∙ ap (λ b. cond b (neg_ℚ (P.coef i k)) (P.side i)) (lt-ltb k P.cols h)
-    ∙ sym (ap (first_entry P i) (skip_below P.cols k h) ∙ entry_slack P i k l ∙ ap (λ b. cond b (neg_ℚ (P.coef i k)) (cond (eqb k P.cols) one_ℚ (P.side i))) (lt-ltb k P.cols h)))
-    (λ h. ap (λ b. cond b (cond (ltb k P.cols) (neg_ℚ (P.coef i k)) (P.side i)) (cond (ltb k P.cols) (P.goal k) zero_ℚ)) (lt-ltb i P.rows l) ∙ ap (λ b. cond b (neg_ℚ (P.coef i k)) (P.side i)) (le-ltb k P.cols h)
-    ∙ sym (ap (first_entry P i) (skip_above P.cols k h) ∙ entry_slack P i (suc k) l ∙ ap (λ b. cond b (neg_ℚ (P.coef i (suc k))) (cond (eqb (suc k) P.cols) one_ℚ (P.side i))) (le-ltb (suc k) P.cols (omega (arith, h))) ∙ ap (λ b. cond b one_ℚ (P.side i)) (ne_eqb (suc k) P.cols (λ x. omega (arith, x, h)))))
+    (λ h. ap (λ b. cond b (cond (ltb k P.cols) (neg_ℚ (P.coef i k)) (P.side i)) (cond (ltb k P.cols) (P.goal k) zero_ℚ)) (lt-ltb i P.rows l)
+    ∙ ap (λ b. cond b (neg_ℚ (P.coef i k)) (P.side i)) (lt-ltb k P.cols h)
+    ∙ sym (ap (first_entry P i) (skip_below P.cols k h) ∙ entry_slack P i k l
+    ∙ ap (λ b. cond b (neg_ℚ (P.coef i k)) (cond (eqb k P.cols) one_ℚ (P.side i))) (lt-ltb k P.cols h)))
+    (λ h. ap (λ b. cond b (cond (ltb k P.cols) (neg_ℚ (P.coef i k)) (P.side i)) (cond (ltb k P.cols) (P.goal k) zero_ℚ)) (lt-ltb i P.rows l)
+    ∙ ap (λ b. cond b (neg_ℚ (P.coef i k)) (P.side i)) (le-ltb k P.cols h)
+    ∙ sym (ap (first_entry P i) (skip_above P.cols k h) ∙ entry_slack P i (suc k) l
+    ∙ ap (λ b. cond b (neg_ℚ (P.coef i (suc k))) (cond (eqb (suc k) P.cols) one_ℚ (P.side i)))
+    (le-ltb (suc k) P.cols (omega (arith, h))) ∙ ap (λ b. cond b one_ℚ (P.side i)) (ne_eqb (suc k) P.cols (λ x. omega (arith, x, h)))))
     (cases_lt k P.cols)
 
 plain_main : (P : Problem) (i k : ℕ) → i ≡ P.rows → k ≤ P.cols → (plain_table P).entry i k ≡ first_entry P (suc i) (skip P.cols k)
@@ -55,13 +64,18 @@ plain_main P i k e m =
     let r : P.rows ≤ i = omega (arith, e) in
     let f : suc i ≡ suc P.rows = omega (arith, e) in
     ⊎_elim
-    (λ h. ap (λ b. cond b (cond (ltb k P.cols) (neg_ℚ (P.coef i k)) (P.side i)) (cond (ltb k P.cols) (P.goal k) zero_ℚ)) (le-ltb i P.rows r) ∙ ap (λ b. cond b (P.goal k) zero_ℚ) (lt-ltb k P.cols h)
-    ∙ sym (ap (first_entry P (suc i)) (skip_below P.cols k h) ∙ entry_main P (suc i) k f ∙ ap (λ b. cond b (P.goal k) zero_ℚ) (lt-ltb k P.cols h)))
-    (λ h. ap (λ b. cond b (cond (ltb k P.cols) (neg_ℚ (P.coef i k)) (P.side i)) (cond (ltb k P.cols) (P.goal k) zero_ℚ)) (le-ltb i P.rows r) ∙ ap (λ b. cond b (P.goal k) zero_ℚ) (le-ltb k P.cols h)
-    ∙ sym (ap (first_entry P (suc i)) (skip_above P.cols k h) ∙ entry_main P (suc i) (suc k) f ∙ ap (λ b. cond b (P.goal (suc k)) zero_ℚ) (le-ltb (suc k) P.cols (omega (arith, h)))))
+    (λ h. ap (λ b. cond b (cond (ltb k P.cols) (neg_ℚ (P.coef i k)) (P.side i)) (cond (ltb k P.cols) (P.goal k) zero_ℚ)) (le-ltb i P.rows r)
+    ∙ ap (λ b. cond b (P.goal k) zero_ℚ) (lt-ltb k P.cols h)
+    ∙ sym (ap (first_entry P (suc i)) (skip_below P.cols k h) ∙ entry_main P (suc i) k f
+    ∙ ap (λ b. cond b (P.goal k) zero_ℚ) (lt-ltb k P.cols h)))
+    (λ h. ap (λ b. cond b (cond (ltb k P.cols) (neg_ℚ (P.coef i k)) (P.side i)) (cond (ltb k P.cols) (P.goal k) zero_ℚ)) (le-ltb i P.rows r)
+    ∙ ap (λ b. cond b (P.goal k) zero_ℚ) (le-ltb k P.cols h)
+    ∙ sym (ap (first_entry P (suc i)) (skip_above P.cols k h) ∙ entry_main P (suc i) (suc k) f
+    ∙ ap (λ b. cond b (P.goal (suc k)) zero_ℚ) (le-ltb (suc k) P.cols (omega (arith, h)))))
     (cases_lt k P.cols)
 
-plain_entry : (P : Problem) (i k : ℕ) → i < P.rows + 1 → k ≤ P.cols → (plain_table P).entry i k ≡ first_entry P (skip P.rows i) (skip P.cols k)
+plain_entry : (P : Problem) (i k : ℕ) → i < P.rows + 1 → k ≤ P.cols → (plain_table P).entry i k
+    ≡ first_entry P (skip P.rows i) (skip P.cols k)
 plain_entry P i k l m = ⊎_elim
     (λ h. plain_slack P i k h m ∙ ap (λ x. first_entry P x (skip P.cols k)) (sym (skip_below P.rows i h)))
     (λ h. plain_main P i k (omega (arith, h, l)) m ∙ ap (λ x. first_entry P x (skip P.cols k)) (sym (skip_above P.rows i h)))

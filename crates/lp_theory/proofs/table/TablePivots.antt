@@ -7,9 +7,11 @@ use Rattle.lp_theory.specs.Dictionary.{delta, Dict, IsDict, pivot}
 use Rattle.lp_theory.specs.Table.{Table, pivot_table, Shows}
 use Rattle.lp_theory.proofs.dictionary.Dictionaries.{free_below}
 use Rattle.lp_theory.proofs.Pivots.{pivot-coef, pivot_enters, pivot_leaves, pivot_stays, share_zero}
-use Rattle.lp_theory.proofs.dictionary.Tables.{table_row_new, table_row_old, table_col_new, table_col_old, basic_row, free_col, names_apart, shown_entry, shown_const}
+use Rattle.lp_theory.proofs.dictionary.Tables.{table_row_new, table_row_old, table_col_new, table_col_old, basic_row, free_col, names_apart}
+use Rattle.lp_theory.proofs.dictionary.Tables.{shown_entry, shown_const}
 
-module _ (n : ℕ) (T : Table) (D : Dict) (h : Shows n T D) (d : IsDict n D) (r c : ℕ) (l : r < T.rows) (m : c < T.width) (p : T.entry r c ≢ zero_ℚ) where
+module _ (n : ℕ) (T : Table) (D : Dict) (h : Shows n T D) (d : IsDict n D) (r c : ℕ) (l : r < T.rows) (m : c < T.width)
+    (p : T.entry r c ≢ zero_ℚ) where
   abbrev B : ℕ
   B = T.row_name r
 
@@ -30,23 +32,28 @@ module _ (n : ℕ) (T : Table) (D : Dict) (h : Shows n T D) (d : IsDict n D) (r 
 
   row_below : (i : ℕ) → i < T.rows → (pivot_table T r c).row_name i < n
   row_below i a = ⊎_elim
-      (λ x. subst (λ z. z < n) (sym (ap (pivot_table T r c).row_name x ∙ table_row_new T r c)) (free_below n D d N (free_col n T D h d r c l m p)))
+      (λ x. subst (λ z. z < n) (sym (ap (pivot_table T r c).row_name x ∙ table_row_new T r c))
+      (free_below n D d N (free_col n T D h d r c l m p)))
       (λ x. subst (λ z. z < n) (sym (table_row_old T r c i x)) (h.row_below i a))
       (cases_eq i r)
 
   row_basic : (i : ℕ) → i < T.rows + T.goals → (pivot D B N).basic ((pivot_table T r c).row_name i) ≡ true
   row_basic i a = ⊎_elim
       (λ x. ap (pivot D B N).basic (ap (pivot_table T r c).row_name x ∙ table_row_new T r c) ∙ pivot_enters D B N)
-      (λ x. ap (pivot D B N).basic (table_row_old T r c i x) ∙ pivot_stays D B N (T.row_name i) (basic_not_free (h.row_basic i a)) (λ e. x (h.rows_apart i r a in_rows e)) ∙ h.row_basic i a)
+      (λ x. ap (pivot D B N).basic (table_row_old T r c i x) ∙ pivot_stays D B N (T.row_name i) (basic_not_free (h.row_basic i a))
+      (λ e. x (h.rows_apart i r a in_rows e)) ∙ h.row_basic i a)
       (cases_eq i r)
 
-  rows_apart : (i j : ℕ) → i < T.rows + T.goals → j < T.rows + T.goals → (pivot_table T r c).row_name i ≡ (pivot_table T r c).row_name j → i ≡ j
+  rows_apart : (i j : ℕ) → i < T.rows + T.goals → j < T.rows + T.goals → (pivot_table T r c).row_name i ≡ (pivot_table T r c).row_name j
+      → i ≡ j
   rows_apart i j a b e = ⊎_elim
       (λ x. ⊎_elim (λ y. x ∙ sym y)
-      (λ y. absurd (basic_not_free (h.row_basic j b) (sym (table_row_old T r c j y) ∙ sym e ∙ ap (pivot_table T r c).row_name x ∙ table_row_new T r c)))
+      (λ y. absurd (basic_not_free (h.row_basic j b) (sym (table_row_old T r c j y) ∙ sym e ∙ ap (pivot_table T r c).row_name x
+      ∙ table_row_new T r c)))
       (cases_eq j r))
       (λ x. ⊎_elim
-      (λ y. absurd (basic_not_free (h.row_basic i a) (sym (table_row_old T r c i x) ∙ e ∙ ap (pivot_table T r c).row_name y ∙ table_row_new T r c)))
+      (λ y. absurd (basic_not_free (h.row_basic i a) (sym (table_row_old T r c i x) ∙ e ∙ ap (pivot_table T r c).row_name y
+      ∙ table_row_new T r c)))
       (λ y. h.rows_apart i j a b (sym (table_row_old T r c i x) ∙ e ∙ table_row_old T r c j y))
       (cases_eq j r))
       (cases_eq i r)
@@ -54,16 +61,19 @@ module _ (n : ℕ) (T : Table) (D : Dict) (h : Shows n T D) (d : IsDict n D) (r 
   col_free : (k : ℕ) → k < T.width → (pivot D B N).basic ((pivot_table T r c).col_name k) ≡ false
   col_free k a = ⊎_elim
       (λ x. ap (pivot D B N).basic (ap (pivot_table T r c).col_name x ∙ table_col_new T r c) ∙ pivot_leaves D B N apart)
-      (λ x. ap (pivot D B N).basic (table_col_old T r c k x) ∙ pivot_stays D B N (T.col_name k) (λ e. x (h.cols_apart k c a m e)) (free_not_basic (h.col_free k a)) ∙ h.col_free k a)
+      (λ x. ap (pivot D B N).basic (table_col_old T r c k x) ∙ pivot_stays D B N (T.col_name k) (λ e. x (h.cols_apart k c a m e))
+      (free_not_basic (h.col_free k a)) ∙ h.col_free k a)
       (cases_eq k c)
 
   cols_apart : (j k : ℕ) → j < T.width → k < T.width → (pivot_table T r c).col_name j ≡ (pivot_table T r c).col_name k → j ≡ k
   cols_apart i j a b e = ⊎_elim
       (λ x. ⊎_elim (λ y. x ∙ sym y)
-      (λ y. absurd (free_not_basic (h.col_free j b) (sym (table_col_old T r c j y) ∙ sym e ∙ ap (pivot_table T r c).col_name x ∙ table_col_new T r c)))
+      (λ y. absurd (free_not_basic (h.col_free j b) (sym (table_col_old T r c j y) ∙ sym e ∙ ap (pivot_table T r c).col_name x
+      ∙ table_col_new T r c)))
       (cases_eq j c))
       (λ x. ⊎_elim
-      (λ y. absurd (free_not_basic (h.col_free i a) (sym (table_col_old T r c i x) ∙ e ∙ ap (pivot_table T r c).col_name y ∙ table_col_new T r c)))
+      (λ y. absurd (free_not_basic (h.col_free i a) (sym (table_col_old T r c i x) ∙ e ∙ ap (pivot_table T r c).col_name y
+      ∙ table_col_new T r c)))
       (λ y. h.cols_apart i j a b (sym (table_col_old T r c i x) ∙ e ∙ table_col_old T r c j y))
       (cases_eq j c))
       (cases_eq i c)
@@ -77,14 +87,16 @@ module _ (n : ℕ) (T : Table) (D : Dict) (h : Shows n T D) (d : IsDict n D) (r 
       (w.0, w.1, table_col_old T r c w.0 (λ e. y (sym w.2 ∙ ap T.col_name e)) ∙ w.2))
       (cases_eq q B)
 
-  all_rows : (q : ℕ) → q < n → (pivot D B N).basic q ≡ true → ((i : ℕ) × (i < T.rows) × ((pivot_table T r c).row_name i ≡ q)) ⊎ ((k : ℕ) → (pivot D B N).coef q k ≡ zero_ℚ)
+  all_rows : (q : ℕ) → q < n → (pivot D B N).basic q ≡ true → ((i : ℕ) × (i < T.rows) × ((pivot_table T r c).row_name i ≡ q))
+      ⊎ ((k : ℕ) → (pivot D B N).coef q k ≡ zero_ℚ)
   all_rows q a b = ⊎_elim
       (λ x. inl (r, l, table_row_new T r c ∙ sym x))
       (λ x.
       let y : q ≢ T.row_name r = λ e. true≢false (sym b ∙ ap (pivot D B N).basic e ∙ pivot_leaves D B N apart) in
       ⊎_elim
       (λ w. inl (w.0, w.1, table_row_old T r c w.0 (λ e. y (sym w.2 ∙ ap T.row_name e)) ∙ w.2))
-      (λ z. inr (λ k. pivot-coef D B N q k ∙ ap (λ s. D.coef q k +ℚ s *ℚ (delta B k -ℚ D.coef B k)) (share_zero D B N q (z N)) ∙ ap (λ s. D.coef q k +ℚ s) (zero-*ℚ (delta B k -ℚ D.coef B k)) ∙ +ℚ_idr (D.coef q k) ∙ z k))
+      (λ z. inr (λ k. pivot-coef D B N q k ∙ ap (λ s. D.coef q k +ℚ s *ℚ (delta B k -ℚ D.coef B k)) (share_zero D B N q (z N))
+      ∙ ap (λ s. D.coef q k +ℚ s) (zero-*ℚ (delta B k -ℚ D.coef B k)) ∙ +ℚ_idr (D.coef q k) ∙ z k))
       (h.all_rows q a (sym (pivot_stays D B N q x y) ∙ b)))
       (cases_eq q N)
 

@@ -1,5 +1,6 @@
 -- A generated program has points and edges within the limits, and each edge few actions.
-use Rattle.std.proofs.Common.{◌≡◌, ◌≤◌, ◌+◌, ◌*◌, ℕ, pos, Bool, true, false, cond, List, [], ◌∷◌, ◌++◌, length, map, Option, None, Some, refl, sym, ap, ◌∙◌, subst, arith}
+use Rattle.std.proofs.Common.{◌≡◌, ◌≤◌, ◌+◌, ◌*◌, ℕ, pos, Bool, true, false, cond, List, [], ◌∷◌, ◌++◌, length, map, Option, None, Some}
+use Rattle.std.proofs.Common.{refl, sym, ap, ◌∙◌, subst, arith}
 use Rattle.std.specs.Prelude.{nat_lt, neg_ℤ, if◌then◌else◌}
 use Rattle.std.specs.List.{position, position_from}
 use Rattle.std.proofs.lemmas.Bool.{le-ltb}
@@ -60,7 +61,8 @@ generated_points seed loops =
     )
 
 -- the system over intervals of a generated program with at most 46 loops has at most 288 unknowns
-pub generated_unknowns : (seed loops : ℕ) → loops ≤ 46 → length (points_of_program (generated_body seed loops)) * length (intervals_of 3) ≤ 288
+pub generated_unknowns : (seed loops : ℕ) → loops ≤ 46 → length (points_of_program (generated_body seed loops)) * length (intervals_of 3)
+    ≤ 288
 generated_unknowns seed loops h =
     let six : length (intervals_of 3) ≡ 6 = refl in
     omega (arith, generated_points seed loops)
@@ -109,19 +111,24 @@ kept_short : (actions : List Action) → length (kept actions) ≤ length action
 kept_short actions = omega (arith, length-take 257 actions)
 
 reached_few : (p : ℕ) (ways : List Way) → Each (IsShortWay 4) ways → Each IsFew (reached (begun_at p) ways)
-reached_few p ways h = each-map (IsShortWay 4) IsFew (λ w. record { from = p; to = w.to; actions = kept w.actions }) (λ w k. omega (arith, k, kept_short w.actions)) ways h
+reached_few p ways h = each-map (IsShortWay 4) IsFew (λ w. record { from = p; to = w.to; actions = kept w.actions })
+    (λ w k. omega (arith, k, kept_short w.actions)) ways h
 
-guarded_short : (forms : List Form) (ways : List Way) → length forms ≡ 1 → Each (IsShortWay 1) ways → Each (IsShortWay 4) (prefixed (guards forms) ways)
+guarded_short : (forms : List Form) (ways : List Way) → length forms ≡ 1 → Each (IsShortWay 1) ways
+    → Each (IsShortWay 4) (prefixed (guards forms) ways)
 guarded_short forms ways e h =
     each-map (IsShortWay 1) (IsShortWay 4) (λ w. record { actions = guards forms ++ w.actions; to = w.to })
     (λ w k. omega (arith, k, e, length-append (guards forms) w.actions, length-map forms Guard)) ways h
 
 -- the edges from the head of a loop: through its body, and past it
 head_few : (f : Form) (u v w : ℕ) (g h : Form) (m n p : ℕ) (jumps : Jumps) (next : List Way) → Each (IsShortWay 1) next →
-    Each IsFew (reached (begun_at p) (by_case true (compare Lt f) (ways_in (cons (set u g m) (cons (set v h n) nil)) w jumps (arrived p)) ++ by_case false (compare Lt f) next))
+    Each IsFew (reached (begun_at p) (by_case true (compare Lt f) (ways_in (cons (set u g m) (cons (set v h n) nil)) w jumps (arrived p))
+    ++ by_case false (compare Lt f) next))
 head_few f u v w g h m n p jumps next k =
-    reached_few p (by_case true (compare Lt f) (ways_in (cons (set u g m) (cons (set v h n) nil)) w jumps (arrived p)) ++ by_case false (compare Lt f) next)
-    (each-append (IsShortWay 4) (by_case true (compare Lt f) (ways_in (cons (set u g m) (cons (set v h n) nil)) w jumps (arrived p))) (by_case false (compare Lt f) next)
+    reached_few p (by_case true (compare Lt f) (ways_in (cons (set u g m) (cons (set v h n) nil)) w jumps (arrived p))
+    ++ by_case false (compare Lt f) next)
+    (each-append (IsShortWay 4) (by_case true (compare Lt f) (ways_in (cons (set u g m) (cons (set v h n) nil)) w jumps (arrived p)))
+    (by_case false (compare Lt f) next)
     (omega arith, tt)
     (each-append (IsShortWay 4) (prefixed (guards (negated f ∷ [])) next) [] (guarded_short (negated f ∷ []) next refl k) tt))
 
@@ -132,12 +139,18 @@ loops_few n (l ∷ ls) p e =
     let behind = head + (1 + (0 + (0 + 0))) in
     let next = ways_in (loops_body (n + 5) ls) behind no_jumps (arrived e) in
     let jumps = loop_jumps while_loop (compare Lt (variable_form 3 l.variable (neg_ℤ (pos l.bound)))) head next in
-    let through = by_case true (compare Lt (variable_form 3 l.variable (neg_ℤ (pos l.bound)))) (ways_in (turn_of (n + 2) l) (head + 1) jumps (arrived head)) ++ by_case false (compare Lt (variable_form 3 l.variable (neg_ℤ (pos l.bound)))) next in
+    let through = by_case true (compare Lt (variable_form 3 l.variable (neg_ℤ (pos l.bound))))
+    (ways_in (turn_of (n + 2) l) (head + 1) jumps (arrived head))
+    ++ by_case false (compare Lt (variable_form 3 l.variable (neg_ℤ (pos l.bound)))) next in
     each-append IsFew (reached (begun_at head) through ++ []) (edges_in_nodes (loops_body (n + 5) ls) behind no_jumps (arrived e))
-    (each-append IsFew (reached (begun_at head) through) [] (head_few (variable_form 3 l.variable (neg_ℤ (pos l.bound))) l.variable (following l.variable) (head + 1) (variable_form 3 l.variable (pos l.step)) (variable_form 3 l.variable (pos 0)) (n + 2) (n + 2 + 1) head jumps next (loops_ways (n + 5) ls behind e)) tt)
+    (each-append IsFew (reached (begun_at head) through) [] (head_few (variable_form 3 l.variable (neg_ℤ (pos l.bound))) l.variable
+    (following l.variable) (head + 1) (variable_form 3 l.variable (pos l.step)) (variable_form 3 l.variable (pos 0)) (n + 2) (n + 2 + 1)
+    head jumps next (loops_ways (n + 5) ls behind e)) tt)
     (loops_few (n + 5) ls behind e)
 
-begin_few : (n : ℕ) (ls : List Loop) (p e : ℕ) → Each (IsShortWay 4) (prefixed (Assign 0 (constant_form 3 (pos 0)) ∷ []) (prefixed (Assign 1 (constant_form 3 (pos 0)) ∷ []) (prefixed (Assign 2 (constant_form 3 (pos 0)) ∷ []) (ways_in (loops_body n ls) p no_jumps (arrived e)))))
+begin_few : (n : ℕ) (ls : List Loop) (p e : ℕ) → Each (IsShortWay 4) (prefixed (Assign 0 (constant_form 3 (pos 0)) ∷ [])
+    (prefixed (Assign 1 (constant_form 3 (pos 0)) ∷ []) (prefixed (Assign 2 (constant_form 3 (pos 0)) ∷ [])
+    (ways_in (loops_body n ls) p no_jumps (arrived e)))))
 begin_few n [] p e = (omega arith, tt)
 begin_few n (l ∷ ls) p e = (omega arith, tt)
 

@@ -28,7 +28,8 @@ fine_one k n false e here below h = below (other n k e h)
 
 fine_below : (k n : ℕ) → are_fine k ≡ true → n < k → is_fine n ≡ true
 fine_below zero n h l = absurd (omega arith)
-fine_below (suc k) n h l = let both = and_parts (is_fine k) (are_fine k) h in fine_one k n (eqb n k) refl both.0 (λ less. fine_below k n both.1 less) l
+fine_below (suc k) n h l = let both = and_parts (is_fine k) (are_fine k) h in
+    fine_one k n (eqb n k) refl both.0 (λ less. fine_below k n both.1 less) l
 
 -- the same as facts
 pub record IsShortNumeral (n : ℕ) : Type 0 where
@@ -41,10 +42,17 @@ pub record IsShortNumeral (n : ℕ) : Type 0 where
 pub short_numeral : (n : ℕ) → n ≤ 100 → IsShortNumeral n
 short_numeral n h =
     let fine : is_fine n ≡ true = fine_below 101 n all_fine (omega arith) in
-    let one = and_parts (is_numeral (decimal n)) (not (is_padded (decimal n)) && (eqb (digits_value 10 (decimal n)) n && leb (length (decimal n)) 3)) fine in
+    let one = and_parts (is_numeral (decimal n)) (not (is_padded (decimal n))
+    && (eqb (digits_value 10 (decimal n)) n && leb (length (decimal n)) 3)) fine in
     let two = and_parts (not (is_padded (decimal n))) (eqb (digits_value 10 (decimal n)) n && leb (length (decimal n)) 3) one.1 in
     let three = and_parts (eqb (digits_value 10 (decimal n)) n) (leb (length (decimal n)) 3) two.1 in
     record {
-      numeral = record { digits = one.0; plain = not-true (is_padded (decimal n)) two.0; value = eqb-true (digits_value 10 (decimal n)) n three.0; small = omega arith };
+      numeral = record {
+        digits = one.0;
+        plain = not-true (is_padded (decimal n)) two.0;
+        value =
+            eqb-true (digits_value 10 (decimal n)) n three.0;
+        small = omega arith;
+      };
       short = leb-true (length (decimal n)) 3 three.1;
     }

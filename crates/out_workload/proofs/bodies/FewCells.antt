@@ -35,11 +35,21 @@ sum_few f m (x ∷ xs) h = omega (arith, sum_by-cons f x xs, h x, sum_few f m xs
 few_targets : (system : Equations) → length (targets system) ≤ system.points - 1
 few_targets system =
     let range = range_with_len 1 (system.points - 1) in
-    omega (arith, length-filter (λ p. list_any (λ e. e.to == p) system.edges) range, count_by-le-length (λ p. list_any (λ e. e.to == p) system.edges) range, length-range_with_len 1 (system.points - 1))
+    omega (
+      arith,
+      length-filter (λ p. list_any (λ e. e.to == p) system.edges) range,
+      count_by-le-length (λ p. list_any (λ e. e.to == p) system.edges) range,
+      length-range_with_len 1 (system.points - 1),
+    )
 
-sum_bound : (system : Equations) (size : ℕ → ℕ) (m : ℕ) → ((p : ℕ) → length system.template * size p ≤ m) → system.points ≤ 48 → sum_over system size ≤ 47 * m
+sum_bound : (system : Equations) (size : ℕ → ℕ) (m : ℕ) → ((p : ℕ) → length system.template * size p ≤ m) → system.points ≤ 48
+    → sum_over system size ≤ 47 * m
 sum_bound system size m h k =
-    omega (arith, sum_few (λ p. length system.template * size p) m (targets system) h, mul-le (length (targets system)) m 47 m (omega (arith, few_targets system)) (omega arith))
+    omega (
+      arith,
+      sum_few (λ p. length system.template * size p) m (targets system) h,
+      mul-le (length (targets system)) m 47 m (omega (arith, few_targets system)) (omega arith),
+    )
 
 -- the joint problems of a generated program with at most 46 loops have at most 134217728 cells
 pub generated_cells : (seed loops : ℕ) → loops ≤ 46 → cells_of (generated_equations seed loops) ≤ 134217728
@@ -47,7 +57,13 @@ generated_cells seed loops h =
     let system = generated_equations seed loops in
     let edges = edges_of_program (generated_body seed loops) in
     let six : length (intervals_of 3) ≡ 6 = refl in
-    let rows : sum_over system (unknown_rows system) ≤ 47 * 66 = sum_bound system (unknown_rows system) 66 (λ p. omega (arith, most_few guard_count guards_few edges p (generated_few seed loops))) (omega arith) in
-    let columns : sum_over system (unknown_columns system) ≤ 47 * 90 = sum_bound system (unknown_columns system) 90 (λ p. omega (arith, most_few free_count frees_few edges p (generated_few seed loops))) (omega arith) in
-    let product = mul-le (sum_over system (unknown_rows system) + 2) (sum_over system (unknown_columns system) + 2) 3104 4232 (omega (arith, rows)) (omega (arith, columns)) in
+    let rows : sum_over system (unknown_rows system) ≤ 47 * 66 = sum_bound system (unknown_rows system) 66
+    (λ p. omega (arith, most_few guard_count guards_few edges p (generated_few seed loops))) (omega arith) in
+    let columns : sum_over system (unknown_columns system) ≤ 47 * 90 =
+    sum_bound system (unknown_columns system) 90 (λ p. omega (
+      arith,
+      most_few free_count frees_few edges p (generated_few seed loops),
+    )) (omega arith) in
+    let product = mul-le (sum_over system (unknown_rows system) + 2) (sum_over system (unknown_columns system) + 2) 3104 4232
+    (omega (arith, rows)) (omega (arith, columns)) in
     omega (arith, product)

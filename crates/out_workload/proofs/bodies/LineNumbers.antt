@@ -5,7 +5,9 @@ use Rattle.std.proofs.lemmas.Bool.{and_parts, eqb-true}
 use Rattle.std.proofs.lemmas.List.{append_assoc, append-nil, length-append, take_at}
 use Rattle.std.proofs.lemmas.List.Sums.{sum_by-append}
 use Rattle.lang_tokens.specs.declared.sign.Sign.{Sign}
-use Rattle.lang_tokens.specs.declared.sign.Sign.TheVariants.{LeftParen, RightParen, LeftBrace, RightBrace, Comma, Semicolon, Colon, Assign, PlusAssign, MinusAssign, Increment, Decrement, Plus, Minus, Star, Bang, Less, LessEqual, Greater, GreaterEqual, EqualEqual, BangEqual, AndAnd, OrOr}
+use Rattle.lang_tokens.specs.declared.sign.Sign.TheVariants.{LeftParen, RightParen, LeftBrace, RightBrace, Comma, Semicolon, Colon, Assign}
+use Rattle.lang_tokens.specs.declared.sign.Sign.TheVariants.{PlusAssign, MinusAssign, Increment, Decrement, Plus, Minus, Star, Bang, Less}
+use Rattle.lang_tokens.specs.declared.sign.Sign.TheVariants.{LessEqual, Greater, GreaterEqual, EqualEqual, BangEqual, AndAnd, OrOr}
 use Rattle.lang_tokens.specs.Bytes.{is_letter, is_digit, is_word_byte}
 use Rattle.lang_tokens.specs.Words.{word_bytes}
 use Rattle.lang_tokens.specs.Signs.{sign_bytes}
@@ -13,7 +15,8 @@ use Rattle.lang_tokens.specs.Lines.{line_at}
 use Rattle.lang_tokens.proofs.lexemes.Heads.{word_spelled}
 use Rattle.lang_grammar.specs.Grammar as g
 use Rattle.out_workload.proofs.bodies.WholeTokens.{word_passes, numeral_passes}
-use Rattle.out_workload.proofs.bodies.Pieces.{Part, space, word, sign, letter, number, part_bytes, spelled, IsGood, AllGood, good_parts, part_tokens, tokens_at}
+use Rattle.out_workload.proofs.bodies.Pieces.{Part, space, word, sign, letter, number, part_bytes, spelled, IsGood, AllGood, good_parts}
+use Rattle.out_workload.proofs.bodies.Pieces.{part_tokens, tokens_at}
 
 -- how many line feeds there are
 abbrev pub feeds : List ℕ → ℕ
@@ -99,10 +102,12 @@ line_behind_is (letter b) line g = omega (arith, no_feed is_letter b (eqb b 10) 
 line_behind_is (number n bytes) line g = omega (arith, no_feeds is_digit bytes refl (numeral_passes bytes g.digits))
 
 -- ---- the lines of the text's tokens
-line_here : (text front after : List ℕ) (at line : ℕ) → front ++ after ≡ text → length front ≡ at → 1 + feeds front ≡ line → line_at text at ≡ line
+line_here : (text front after : List ℕ) (at line : ℕ) → front ++ after ≡ text → length front ≡ at → 1 + feeds front ≡ line
+    → line_at text at ≡ line
 line_here text front after at line e f h = ap (λ (x : List ℕ). 1 + feeds x) (ap (take at) (sym e) ∙ take_at front after at f) ∙ h
 
-part_lines_are : (text front after : List ℕ) (at line : ℕ) (p : Part) → front ++ after ≡ text → length front ≡ at → 1 + feeds front ≡ line → lines_of (line_at text) (part_tokens at p) ≡ part_lines line p
+part_lines_are : (text front after : List ℕ) (at line : ℕ) (p : Part) → front ++ after ≡ text → length front ≡ at → 1 + feeds front ≡ line
+    → lines_of (line_at text) (part_tokens at p) ≡ part_lines line p
 part_lines_are text front after at line (space b) e f h = refl
 part_lines_are text front after at line (word w) e f h = ap (λ (x : ℕ). x ∷ []) (line_here text front after at line e f h)
 part_lines_are text front after at line (sign s) e f h = ap (λ (x : ℕ). x ∷ []) (line_here text front after at line e f h)
@@ -110,24 +115,30 @@ part_lines_are text front after at line (letter b) e f h = ap (λ (x : ℕ). x �
 part_lines_are text front after at line (number n bytes) e f h = ap (λ (x : ℕ). x ∷ []) (line_here text front after at line e f h)
 
 -- the lines of the tokens of parts within a text are those counted part by part
-pub lines_are : (text front after : List ℕ) (at line : ℕ) (ps : List Part) → AllGood ps → front ++ (spelled ps ++ after) ≡ text → length front ≡ at → 1 + feeds front ≡ line → lines_of (line_at text) (tokens_at at ps) ≡ lines_at line ps
+pub lines_are : (text front after : List ℕ) (at line : ℕ) (ps : List Part) → AllGood ps → front ++ (spelled ps ++ after) ≡ text
+    → length front ≡ at → 1 + feeds front ≡ line → lines_of (line_at text) (tokens_at at ps) ≡ lines_at line ps
 lines_are text front after at line [] g e f h = refl
 lines_are text front after at line (p ∷ ps) g e f h =
-    let one : front ++ (part_bytes p ++ (spelled ps ++ after)) ≡ text = ap (λ (x : List ℕ). front ++ x) (sym (append_assoc (part_bytes p) (spelled ps) after)) ∙ e in
+    let one : front ++ (part_bytes p ++ (spelled ps ++ after)) ≡ text =
+    ap (λ (x : List ℕ). front ++ x) (sym (append_assoc (part_bytes p) (spelled ps) after)) ∙ e in
     let more : (front ++ part_bytes p) ++ (spelled ps ++ after) ≡ text = append_assoc front (part_bytes p) (spelled ps ++ after) ∙ one in
     let size : length (front ++ part_bytes p) ≡ at + length (part_bytes p) = omega (arith, length-append front (part_bytes p)) in
     let good = good_parts p ps g in
     let behind : line_behind line p ≡ line + feeds (part_bytes p) = line_behind_is p line good.0 in
-    let lines : 1 + feeds (front ++ part_bytes p) ≡ line_behind line p = omega (arith, sum_by-append (λ b. cond (eqb b 10) 1 0) front (part_bytes p), behind) in
+    let lines : 1 + feeds (front ++ part_bytes p) ≡ line_behind line p =
+    omega (arith, sum_by-append (λ b. cond (eqb b 10) 1 0) front (part_bytes p), behind) in
     lines_append (line_at text) (part_tokens at p) (tokens_at (at + length (part_bytes p)) ps)
     ∙ ap₂ (λ (x y : List ℕ). x ++ y) (part_lines_are text front (part_bytes p ++ (spelled ps ++ after)) at line p one f h)
     (lines_are text (front ++ part_bytes p) after (at + length (part_bytes p)) (line_behind line p) ps good.1 more size lines)
 
 -- the line after all parts
-pub behind_all : (front : List ℕ) (line : ℕ) (ps : List Part) → AllGood ps → 1 + feeds front ≡ line → 1 + feeds (front ++ spelled ps) ≡ line_after line ps
+pub behind_all : (front : List ℕ) (line : ℕ) (ps : List Part) → AllGood ps → 1 + feeds front ≡ line
+    → 1 + feeds (front ++ spelled ps) ≡ line_after line ps
 behind_all front line [] g h = ap (λ (x : List ℕ). 1 + feeds x) (append-nil front) ∙ h
 behind_all front line (p ∷ ps) g h =
     let good = good_parts p ps g in
     let behind : line_behind line p ≡ line + feeds (part_bytes p) = line_behind_is p line good.0 in
-    let lines : 1 + feeds (front ++ part_bytes p) ≡ line_behind line p = omega (arith, sum_by-append (λ b. cond (eqb b 10) 1 0) front (part_bytes p), behind) in
-    ap (λ (x : List ℕ). 1 + feeds x) (sym (append_assoc front (part_bytes p) (spelled ps))) ∙ behind_all (front ++ part_bytes p) (line_behind line p) ps good.1 lines
+    let lines : 1 + feeds (front ++ part_bytes p) ≡ line_behind line p =
+    omega (arith, sum_by-append (λ b. cond (eqb b 10) 1 0) front (part_bytes p), behind) in
+    ap (λ (x : List ℕ). 1 + feeds x) (sym (append_assoc front (part_bytes p) (spelled ps)))
+    ∙ behind_all (front ++ part_bytes p) (line_behind line p) ps good.1 lines

@@ -1,5 +1,6 @@
 -- What the tokens of a generated text mean, token by token.
-use Rattle.std.proofs.Common.{◌≡◌, ◌≤◌, ◌<◌, ◌+◌, ◌*◌, ◌%◌, ℕ, zero, suc, pos, true, List, [], ◌∷◌, ◌++◌, length, Option, Some, None, Ok, refl, sym, ap, ap₂, ◌∙◌, arith}
+use Rattle.std.proofs.Common.{◌≡◌, ◌≤◌, ◌<◌, ◌+◌, ◌*◌, ◌%◌, ℕ, zero, suc, pos, true, List, [], ◌∷◌, ◌++◌, length, Option, Some, None, Ok}
+use Rattle.std.proofs.Common.{refl, sym, ap, ap₂, ◌∙◌, arith}
 use Rattle.std.proofs.lemmas.Int.{ints}
 use Rattle.std.specs.Prelude.{nat_le, nat_lt, nat_abs, neg_ℤ, ◌-ℤ◌, get_or, decimal}
 use Rattle.std.proofs.lemmas.Bool.{lt-ltb, le-leb}
@@ -37,7 +38,8 @@ abbrev pub first_node : ℕ → List ℕ → Statements
 first_node v ls = one (set v (constant_form 3 (pos 0)) (nth ls 0))
 
 abbrev pub second_node : (v w bound step : ℕ) → List ℕ → Statements
-second_node v w bound step ls = one (loop while_loop (compare Lt (variable_form 3 v (neg_ℤ (pos bound)))) (cons (set v (variable_form 3 v (pos step)) (nth ls 11)) (cons (set w (variable_form 3 v (pos 0)) (nth ls 15)) nil)) (nth ls 4))
+second_node v w bound step ls = one (loop while_loop (compare Lt (variable_form 3 v (neg_ℤ (pos bound))))
+    (cons (set v (variable_form 3 v (pos step)) (nth ls 11)) (cons (set w (variable_form 3 v (pos 0)) (nth ls 15)) nil)) (nth ls 4))
 
 -- what is known of the numbers
 record Small (k bound step : ℕ) : Type 0 where
@@ -57,16 +59,101 @@ abbrev pub next : Option (List ℕ) → g.Kind
 next (Some x) = g.a_name x
 next None = g.return_word
 
-fed_case : (v w : ℕ) → v < 3 → w ≡ (v + 1) % 3 → (line : ℕ → ℕ) (p k bound step : ℕ) (bs ss : List ℕ) (ns : Statements) (o : Option (List ℕ)) (a : ℕ) (rest : List g.Token) → Small k bound step →
+fed_case : (v w : ℕ) → v < 3 → w ≡ (v + 1) % 3 → (line : ℕ → ℕ) (p k bound step : ℕ) (bs ss : List ℕ) (ns : Statements)
+    (o : Option (List ℕ)) (a : ℕ) (rest : List g.Token) → Small k bound step →
     feed line 3 (tokens_at p (parts_of v w bound bs step ss) ++ g.token (next o) a ∷ rest) (machine_at k ns)
     ≡ feed line 3 (g.token (next o) a ∷ rest)
-    (machine_at (suc (suc (suc (suc k)))) (followed_by (followed_by ns (first_node v (lines_of line (tokens_at p (parts_of v w bound bs step ss))))) (second_node v w bound step (lines_of line (tokens_at p (parts_of v w bound bs step ss))))))
-fed_case zero w h e line p k bound step bs ss ns (Some x) a rest s = rw (e, s.first, s.bound_fits, s.minus_bound, s.minus_fits, s.comparable, s.second, s.third, s.step_fits, s.plus_step, s.step_fits, s.fourth) refl
-fed_case zero w h e line p k bound step bs ss ns None a rest s = rw (e, s.first, s.bound_fits, s.minus_bound, s.minus_fits, s.comparable, s.second, s.third, s.step_fits, s.plus_step, s.step_fits, s.fourth) refl
-fed_case (suc zero) w h e line p k bound step bs ss ns (Some x) a rest s = rw (e, s.first, s.bound_fits, s.minus_bound, s.minus_fits, s.comparable, s.second, s.third, s.step_fits, s.plus_step, s.step_fits, s.fourth) refl
-fed_case (suc zero) w h e line p k bound step bs ss ns None a rest s = rw (e, s.first, s.bound_fits, s.minus_bound, s.minus_fits, s.comparable, s.second, s.third, s.step_fits, s.plus_step, s.step_fits, s.fourth) refl
-fed_case (suc (suc zero)) w h e line p k bound step bs ss ns (Some x) a rest s = rw (e, s.first, s.bound_fits, s.minus_bound, s.minus_fits, s.comparable, s.second, s.third, s.step_fits, s.plus_step, s.step_fits, s.fourth) refl
-fed_case (suc (suc zero)) w h e line p k bound step bs ss ns None a rest s = rw (e, s.first, s.bound_fits, s.minus_bound, s.minus_fits, s.comparable, s.second, s.third, s.step_fits, s.plus_step, s.step_fits, s.fourth) refl
+    (machine_at (suc (suc (suc (suc k)))) (followed_by (followed_by ns
+    (first_node v (lines_of line (tokens_at p (parts_of v w bound bs step ss)))))
+    (second_node v w bound step (lines_of line (tokens_at p (parts_of v w bound bs step ss))))))
+fed_case zero w h e line p k bound step bs ss ns (Some x) a rest s = rw (
+  e,
+  s.first,
+  s.bound_fits,
+  s.minus_bound,
+  s.minus_fits,
+  s.comparable,
+  s.second,
+  s.third,
+  s.step_fits,
+  s.plus_step,
+  s.step_fits,
+  s.fourth,
+) refl
+fed_case zero w h e line p k bound step bs ss ns None a rest s = rw (
+  e,
+  s.first,
+  s.bound_fits,
+  s.minus_bound,
+  s.minus_fits,
+  s.comparable,
+  s.second,
+  s.third,
+  s.step_fits,
+  s.plus_step,
+  s.step_fits,
+  s.fourth,
+) refl
+fed_case (suc zero) w h e line p k bound step bs ss ns (Some x) a rest s =
+    rw (
+      e,
+      s.first,
+      s.bound_fits,
+      s.minus_bound,
+      s.minus_fits,
+      s.comparable,
+      s.second,
+      s.third,
+      s.step_fits,
+      s.plus_step,
+      s.step_fits,
+      s.fourth,
+    ) refl
+fed_case (suc zero) w h e line p k bound step bs ss ns None a rest s =
+    rw (
+      e,
+      s.first,
+      s.bound_fits,
+      s.minus_bound,
+      s.minus_fits,
+      s.comparable,
+      s.second,
+      s.third,
+      s.step_fits,
+      s.plus_step,
+      s.step_fits,
+      s.fourth,
+    ) refl
+fed_case (suc (suc zero)) w h e line p k bound step bs ss ns (Some x) a rest s =
+    rw (
+      e,
+      s.first,
+      s.bound_fits,
+      s.minus_bound,
+      s.minus_fits,
+      s.comparable,
+      s.second,
+      s.third,
+      s.step_fits,
+      s.plus_step,
+      s.step_fits,
+      s.fourth,
+    ) refl
+fed_case (suc (suc zero)) w h e line p k bound step bs ss ns None a rest s =
+    rw (
+      e,
+      s.first,
+      s.bound_fits,
+      s.minus_bound,
+      s.minus_fits,
+      s.comparable,
+      s.second,
+      s.third,
+      s.step_fits,
+      s.plus_step,
+      s.step_fits,
+      s.fourth,
+    ) refl
 fed_case (suc (suc (suc v))) w h e line p k bound step bs ss ns o a rest s = absurd (omega arith)
 
 abs_minus : (n : ℕ) → nat_abs (neg_ℤ (pos n)) ≡ n
@@ -104,9 +191,15 @@ tail (t ∷ ts) = ts
 
 -- what begins after a loop
 starts : (ls : List Loop) (q : ℕ) (o : Option (List ℕ)) (a : ℕ) (rest : List g.Token) →
-    (n : Option (List ℕ)) × (b : ℕ) × (more : List g.Token) × (tokens_at q (loops_parts ls) ++ g.token (next o) a ∷ rest ≡ g.token (next n) b ∷ more)
+    (n : Option (List ℕ)) × (b : ℕ) × (more : List g.Token) × (tokens_at q (loops_parts ls) ++ g.token (next o) a ∷ rest
+    ≡ g.token (next n) b ∷ more)
 starts [] q o a rest = (o, a, rest, refl)
-starts (l ∷ ls) q o a rest = (Some ((97 + l.variable) ∷ []), q + 1 + 1, tail (tokens_at q (loops_parts (l ∷ ls)) ++ g.token (next o) a ∷ rest), refl)
+starts (l ∷ ls) q o a rest = (
+  Some ((97 + l.variable) ∷ []),
+  q + 1 + 1,
+  tail (tokens_at q (loops_parts (l ∷ ls)) ++ g.token (next o) a ∷ rest),
+  refl,
+)
 
 -- the number of nodes after the loops
 abbrev pub count_behind : ℕ → List Loop → ℕ
@@ -114,51 +207,70 @@ count_behind k [] = k
 count_behind k (l ∷ ls) = count_behind (suc (suc (suc (suc k)))) ls
 
 nodes_are : (n : ℕ) (l : Loop) (ls : List Loop) (m : ℕ) → m ≡ n + 5 → (ns : Statements) →
-    followed_by (followed_by (followed_by ns (first_node l.variable (lines_at n (loop_parts l)))) (second_node l.variable (following l.variable) l.bound l.step (lines_at n (loop_parts l)))) (loops_body m ls)
+    followed_by (followed_by (followed_by ns (first_node l.variable (lines_at n (loop_parts l))))
+    (second_node l.variable (following l.variable) l.bound l.step (lines_at n (loop_parts l)))) (loops_body m ls)
     ≡ followed_by ns (loops_body n (l ∷ ls))
 nodes_are n l ls m e ns =
     let two : n + 1 + 1 ≡ n + 2 = omega arith in
-    followed_assoc (followed_by ns (first_node l.variable (lines_at n (loop_parts l)))) (second_node l.variable (following l.variable) l.bound l.step (lines_at n (loop_parts l))) (loops_body m ls)
-    ∙ followed_assoc ns (first_node l.variable (lines_at n (loop_parts l))) (followed_by (second_node l.variable (following l.variable) l.bound l.step (lines_at n (loop_parts l))) (loops_body m ls))
+    followed_assoc (followed_by ns (first_node l.variable (lines_at n (loop_parts l))))
+    (second_node l.variable (following l.variable) l.bound l.step (lines_at n (loop_parts l))) (loops_body m ls)
+    ∙ followed_assoc ns (first_node l.variable (lines_at n (loop_parts l)))
+    (followed_by (second_node l.variable (following l.variable) l.bound l.step (lines_at n (loop_parts l))) (loops_body m ls))
     ∙ rw (two, e) refl
 
 -- the loops of a text, where they stand after a front
-pub loops_fed : (text front after : List ℕ) (p n : ℕ) (ls : List Loop) → AreDrawn ls → front ++ (spelled (loops_parts ls) ++ after) ≡ text → length front ≡ p → 1 + feeds front ≡ n →
+pub loops_fed : (text front after : List ℕ) (p n : ℕ) (ls : List Loop) → AreDrawn ls → front ++ (spelled (loops_parts ls) ++ after) ≡ text
+    → length front ≡ p → 1 + feeds front ≡ n →
     (k : ℕ) → k + 4 * length ls ≤ 512 → (ns : Statements) (o : Option (List ℕ)) (a : ℕ) (rest : List g.Token) →
     feed (line_at text) 3 (tokens_at p (loops_parts ls) ++ g.token (next o) a ∷ rest) (machine_at k ns)
     ≡ feed (line_at text) 3 (g.token (next o) a ∷ rest) (machine_at (count_behind k ls) (followed_by ns (loops_body n ls)))
-loops_fed text front after p n [] d e f h k c ns o a rest = ap (λ (x : Statements). feed (line_at text) 3 (g.token (next o) a ∷ rest) (machine_at k x)) (sym (followed_none ns))
+loops_fed text front after p n [] d e f h k c ns o a rest = ap (λ (x : Statements). feed (line_at text) 3 (g.token (next o) a ∷ rest)
+    (machine_at k x)) (sym (followed_none ns))
 loops_fed text front after p n (l ∷ ls) d e f h k c ns o a rest =
     let line = line_at text in
     let q = p + length (spelled (loop_parts l)) in
     let last = g.token (next o) a ∷ rest in
-    let one : front ++ (spelled (loop_parts l) ++ (spelled (loops_parts ls) ++ after)) ≡ text = ap (λ (x : List ℕ). front ++ x) (sym (append_assoc (spelled (loop_parts l)) (spelled (loops_parts ls)) after) ∙ ap (λ (x : List ℕ). x ++ after) (sym (spelled_append (loop_parts l) (loops_parts ls)))) ∙ e in
-    let more : (front ++ spelled (loop_parts l)) ++ (spelled (loops_parts ls) ++ after) ≡ text = append_assoc front (spelled (loop_parts l)) (spelled (loops_parts ls) ++ after) ∙ one in
+    let one : front ++ (spelled (loop_parts l) ++ (spelled (loops_parts ls) ++ after)) ≡ text =
+    ap (λ (x : List ℕ). front ++ x) (sym (append_assoc (spelled (loop_parts l)) (spelled (loops_parts ls)) after)
+    ∙ ap (λ (x : List ℕ). x ++ after) (sym (spelled_append (loop_parts l) (loops_parts ls)))) ∙ e in
+    let more : (front ++ spelled (loop_parts l)) ++ (spelled (loops_parts ls) ++ after) ≡ text =
+    append_assoc front (spelled (loop_parts l)) (spelled (loops_parts ls) ++ after) ∙ one in
     let size : length (front ++ spelled (loop_parts l)) ≡ q = omega (arith, length-append front (spelled (loop_parts l))) in
-    let lines : lines_of line (tokens_at p (loop_parts l)) ≡ lines_at n (loop_parts l) = lines_are text front (spelled (loops_parts ls) ++ after) p n (loop_parts l) (one_good l d.0) one f h in
-    let behind : 1 + feeds (front ++ spelled (loop_parts l)) ≡ line_after n (loop_parts l) = behind_all front n (loop_parts l) (one_good l d.0) h in
+    let lines : lines_of line (tokens_at p (loop_parts l)) ≡ lines_at n (loop_parts l) =
+    lines_are text front (spelled (loops_parts ls) ++ after) p n (loop_parts l) (one_good l d.0) one f h in
+    let behind : 1 + feeds (front ++ spelled (loop_parts l)) ≡ line_after n (loop_parts l) =
+    behind_all front n (loop_parts l) (one_good l d.0) h in
     let five : line_after n (loop_parts l) ≡ n + 5 = omega arith in
     let start = starts ls q o a rest in
-    let ms = followed_by (followed_by ns (first_node l.variable (lines_at n (loop_parts l)))) (second_node l.variable (following l.variable) l.bound l.step (lines_at n (loop_parts l))) in
+    let ms = followed_by (followed_by ns (first_node l.variable (lines_at n (loop_parts l))))
+    (second_node l.variable (following l.variable) l.bound l.step (lines_at n (loop_parts l))) in
     ap (λ (x : List g.Token). feed line 3 x (machine_at k ns))
     (ap (λ (x : List g.Token). x ++ last) (tokens_append p (loop_parts l) (loops_parts ls))
     ∙ append_assoc (tokens_at p (loop_parts l)) (tokens_at q (loops_parts ls)) last
     ∙ ap (λ (x : List g.Token). tokens_at p (loop_parts l) ++ x) start.3)
-    ∙ fed_case l.variable (following l.variable) d.0.variable refl line p k l.bound l.step (decimal l.bound) (decimal l.step) ns start.0 start.1 start.2 (small k l.bound l.step (omega arith) d.0.bound d.0.step)
-    ∙ ap₂ (λ (x : List g.Token) (y : List ℕ). feed line 3 x (machine_at (suc (suc (suc (suc k)))) (followed_by (followed_by ns (first_node l.variable y)) (second_node l.variable (following l.variable) l.bound l.step y)))) (sym start.3) lines
-    ∙ loops_fed text (front ++ spelled (loop_parts l)) after q (line_after n (loop_parts l)) ls d.1 more size behind (suc (suc (suc (suc k)))) (omega arith) ms o a rest
-    ∙ ap (λ (x : Statements). feed line 3 last (machine_at (count_behind (suc (suc (suc (suc k)))) ls) x)) (nodes_are n l ls (line_after n (loop_parts l)) five ns)
+    ∙ fed_case l.variable (following l.variable) d.0.variable refl line p k l.bound l.step (decimal l.bound) (decimal l.step) ns start.0
+    start.1 start.2 (small k l.bound l.step (omega arith) d.0.bound d.0.step)
+    ∙ ap₂ (λ (x : List g.Token) (y : List ℕ). feed line 3 x (machine_at (suc (suc (suc (suc k))))
+    (followed_by (followed_by ns (first_node l.variable y)) (second_node l.variable (following l.variable) l.bound l.step y))))
+    (sym start.3) lines
+    ∙ loops_fed text (front ++ spelled (loop_parts l)) after q (line_after n (loop_parts l)) ls d.1 more size behind
+    (suc (suc (suc (suc k)))) (omega arith) ms o a rest
+    ∙ ap (λ (x : Statements). feed line 3 last (machine_at (count_behind (suc (suc (suc (suc k)))) ls) x))
+    (nodes_are n l ls (line_after n (loop_parts l)) five ns)
 
 -- ---- the lines before the loops and after them
 abbrev pub front_nodes : List ℕ → Statements
-front_nodes ls = cons (set 0 (constant_form 3 (pos 0)) (nth ls 6)) (cons (set 1 (constant_form 3 (pos 0)) (nth ls 10)) (cons (set 2 (constant_form 3 (pos 0)) (nth ls 14)) nil))
+front_nodes ls = cons (set 0 (constant_form 3 (pos 0)) (nth ls 6)) (cons (set 1 (constant_form 3 (pos 0)) (nth ls 10))
+    (cons (set 2 (constant_form 3 (pos 0)) (nth ls 14)) nil))
 
 -- the tokens before the loops declare the three variables and set them to 0
-pub front_fed : (line : ℕ → ℕ) (rest : List g.Token) → feed line 3 (tokens_at 0 front_parts ++ rest) begin ≡ feed line 3 rest (machine_at 3 (front_nodes (lines_of line (tokens_at 0 front_parts))))
+pub front_fed : (line : ℕ → ℕ) (rest : List g.Token) → feed line 3 (tokens_at 0 front_parts ++ rest) begin
+    ≡ feed line 3 rest (machine_at 3 (front_nodes (lines_of line (tokens_at 0 front_parts))))
 front_fed line rest = refl
 
 -- the tokens after the loops end the program with the nodes so far
-pub back_fed : (line : ℕ → ℕ) (p k : ℕ) (ns : Statements) (z : ℕ) → (feed line 3 (tokens_at p back_parts ++ g.token g.the_end z ∷ []) (machine_at k ns) >>= λ s. result_of s) ≡ Ok (generated_names, ns)
+pub back_fed : (line : ℕ → ℕ) (p k : ℕ) (ns : Statements) (z : ℕ) → (feed line 3 (tokens_at p back_parts ++ g.token g.the_end z ∷ [])
+    (machine_at k ns) >>= λ s. result_of s) ≡ Ok (generated_names, ns)
 back_fed line p k ns z = refl
 
 -- ---- the grammar's machine
@@ -169,16 +281,20 @@ in_program = statement in_main 0 ∷ only text_end ∷ []
 pub front_scanned : (rest : List g.Token) → scan start (tokens_at 0 front_parts ++ rest) ≡ scan in_program rest
 front_scanned rest = refl
 
-loop_scanned : (p v w bound step : ℕ) (bs ss : List ℕ) (rest : List g.Token) → scan in_program (tokens_at p (parts_of v w bound bs step ss) ++ rest) ≡ scan in_program rest
+loop_scanned : (p v w bound step : ℕ) (bs ss : List ℕ) (rest : List g.Token)
+    → scan in_program (tokens_at p (parts_of v w bound bs step ss) ++ rest) ≡ scan in_program rest
 loop_scanned p v w bound step bs ss rest = refl
 
 -- the grammar's machine goes through the tokens of the loops and is in the program still
-pub loops_scanned : (p : ℕ) (ls : List Loop) (rest : List g.Token) → scan in_program (tokens_at p (loops_parts ls) ++ rest) ≡ scan in_program rest
+pub loops_scanned : (p : ℕ) (ls : List Loop) (rest : List g.Token) → scan in_program (tokens_at p (loops_parts ls) ++ rest)
+    ≡ scan in_program rest
 loops_scanned p [] rest = refl
 loops_scanned p (l ∷ ls) rest =
     let q = p + length (spelled (loop_parts l)) in
-    ap (λ (x : List g.Token). scan in_program x) (ap (λ (x : List g.Token). x ++ rest) (tokens_append p (loop_parts l) (loops_parts ls)) ∙ append_assoc (tokens_at p (loop_parts l)) (tokens_at q (loops_parts ls)) rest)
-    ∙ loop_scanned p l.variable (following l.variable) l.bound l.step (decimal l.bound) (decimal l.step) (tokens_at q (loops_parts ls) ++ rest)
+    ap (λ (x : List g.Token). scan in_program x) (ap (λ (x : List g.Token). x ++ rest) (tokens_append p (loop_parts l) (loops_parts ls))
+    ∙ append_assoc (tokens_at p (loop_parts l)) (tokens_at q (loops_parts ls)) rest)
+    ∙ loop_scanned p l.variable (following l.variable) l.bound l.step (decimal l.bound) (decimal l.step)
+    (tokens_at q (loops_parts ls) ++ rest)
     ∙ loops_scanned q ls rest
 
 -- the grammar's machine goes through the tokens after the loops to the end

@@ -1,5 +1,6 @@
 -- The parts of a generated text: how they fit, and which tokens stand where.
-use Rattle.std.proofs.Common.{◌≡◌, ◌≤◌, ◌+◌, ◌-◌, ℕ, pos, Bool, true, false, not, ◌&&◌, List, [], ◌∷◌, ◌++◌, length, take, map, refl, sym, ap, ap₂, ◌∙◌, subst, arith}
+use Rattle.std.proofs.Common.{◌≡◌, ◌≤◌, ◌+◌, ◌-◌, ℕ, pos, Bool, true, false, not, ◌&&◌, List, [], ◌∷◌, ◌++◌, length, take, map, refl, sym}
+use Rattle.std.proofs.Common.{ap, ap₂, ◌∙◌, subst, arith}
 use Rattle.std.specs.List.{slice_range}
 use Rattle.std.specs.Str.Parse.{digits_value}
 use Rattle.std.proofs.lemmas.Bool.{and_parts, not-true}
@@ -11,7 +12,8 @@ use Rattle.lang_tokens.specs.Bytes.{is_blank, is_letter, is_digit, is_word_byte}
 use Rattle.lang_tokens.specs.Words.{word_bytes}
 use Rattle.lang_tokens.specs.Signs.{sign_bytes}
 use Rattle.lang_tokens.specs.Lexemes.{is_numeral, is_padded, greatest_literal}
-use Rattle.lang_tokens.specs.Reading.{Piece, blank, token, piece_bytes, spelling, Fits, AllFit, starts_with_letter, piece_tokens, tokens_from}
+use Rattle.lang_tokens.specs.Reading.{Piece, blank, token, piece_bytes, spelling, Fits, AllFit, starts_with_letter, piece_tokens}
+use Rattle.lang_tokens.specs.Reading.{tokens_from}
 use Rattle.lang_tokens.proofs.lexemes.Heads.{heads}
 use Rattle.lang_grammar.specs.Grammar as g
 use Rattle.lang_grammar.specs.View.{word_kind, sign_kind, token_of, tokens_of}
@@ -59,7 +61,8 @@ spelled_is (p ∷ ps) = ap₂ (λ (x y : List ℕ). x ++ y) (part_is p) (spelled
 -- the text of parts joined is their texts joined
 pub spelled_append : (ps qs : List Part) → spelled (ps ++ qs) ≡ spelled ps ++ spelled qs
 spelled_append [] qs = refl
-spelled_append (p ∷ ps) qs = ap (λ (x : List ℕ). part_bytes p ++ x) (spelled_append ps qs) ∙ sym (append_assoc (part_bytes p) (spelled ps) (spelled qs))
+spelled_append (p ∷ ps) qs = ap (λ (x : List ℕ). part_bytes p ++ x) (spelled_append ps qs)
+    ∙ sym (append_assoc (part_bytes p) (spelled ps) (spelled qs))
 
 -- ---- how they fit
 -- what each part needs of the bytes after it
@@ -122,27 +125,33 @@ part_fits (sign s) rest g h = a_whole_sign s rest (not-true (heads is_second res
 part_fits (letter b) rest g h = a_whole_letter b rest g (not-true (heads is_word_byte rest) h)
 part_fits (number n bytes) rest g h =
     let both = and_parts (not (heads is_digit rest)) (not (starts_with_letter rest)) h in
-    a_whole_number n bytes rest g.digits g.plain g.value g.small (not-true (heads is_digit rest) both.0) (not-true (starts_with_letter rest) both.1)
+    a_whole_number n bytes rest g.digits g.plain g.value g.small (not-true (heads is_digit rest) both.0)
+    (not-true (starts_with_letter rest) both.1)
 
 -- good parts that stand before what follows them fit
 pub all_fit : (ps : List Part) (rest : List ℕ) → AllGood ps → all_stand ps rest ≡ true → AllFit (map piece_of ps) rest
 all_fit [] rest g h = tt
 all_fit (p ∷ ps) rest g h =
     let both = and_parts (stands p (spelled ps ++ rest)) (all_stand ps rest) h in
-    let good = good_parts p ps g in
-    (subst (λ (x : List ℕ). Fits (piece_of p) (x ++ rest)) (sym (spelled_is ps)) (part_fits p (spelled ps ++ rest) good.0 both.0), all_fit ps rest good.1 both.1)
+    let good = good_parts p ps g in (
+      subst (λ (x : List ℕ). Fits (piece_of p) (x ++ rest)) (sym (spelled_is ps)) (part_fits p (spelled ps ++ rest) good.0 both.0),
+      all_fit ps rest good.1 both.1,
+    )
 
 and_true : (a b c : Bool) → a ≡ true → b ≡ c → (a && b) ≡ c
 and_true true b c h e = e
 and_true false b c h e = cc
 
 -- where the first parts stand before the others, both joined stand where the others do
-pub stand_append : (ps qs : List Part) (rest : List ℕ) → all_stand ps (spelled qs ++ rest) ≡ true → all_stand (ps ++ qs) rest ≡ all_stand qs rest
+pub stand_append : (ps qs : List Part) (rest : List ℕ) → all_stand ps (spelled qs ++ rest) ≡ true
+    → all_stand (ps ++ qs) rest ≡ all_stand qs rest
 stand_append [] qs rest h = refl
 stand_append (p ∷ ps) qs rest h =
     let both = and_parts (stands p (spelled ps ++ (spelled qs ++ rest))) (all_stand ps (spelled qs ++ rest)) h in
-    let same : spelled (ps ++ qs) ++ rest ≡ spelled ps ++ (spelled qs ++ rest) = ap (λ (x : List ℕ). x ++ rest) (spelled_append ps qs) ∙ append_assoc (spelled ps) (spelled qs) rest in
-    and_true (stands p (spelled (ps ++ qs) ++ rest)) (all_stand (ps ++ qs) rest) (all_stand qs rest) (ap (stands p) same ∙ both.0) (stand_append ps qs rest both.1)
+    let same : spelled (ps ++ qs) ++ rest ≡ spelled ps ++ (spelled qs ++ rest) =
+    ap (λ (x : List ℕ). x ++ rest) (spelled_append ps qs) ∙ append_assoc (spelled ps) (spelled qs) rest in
+    and_true (stands p (spelled (ps ++ qs) ++ rest)) (all_stand (ps ++ qs) rest) (all_stand qs rest) (ap (stands p) same ∙ both.0)
+    (stand_append ps qs rest both.1)
 
 -- ---- their tokens
 abbrev pub part_tokens : ℕ → Part → List g.Token
@@ -160,18 +169,25 @@ tokens_at at (p ∷ ps) = part_tokens at p ++ tokens_at (at + length (part_bytes
 pub tokens_append : (at : ℕ) (ps qs : List Part) → tokens_at at (ps ++ qs) ≡ tokens_at at ps ++ tokens_at (at + length (spelled ps)) qs
 tokens_append at [] qs = let e : at + 0 ≡ at = omega arith in ap (λ (x : ℕ). tokens_at x qs) (sym e)
 tokens_append at (p ∷ ps) qs =
-    let e : (at + length (part_bytes p)) + length (spelled ps) ≡ at + length (part_bytes p ++ spelled ps) = omega (arith, length-append (part_bytes p) (spelled ps)) in
-    ap (λ (ts : List g.Token). part_tokens at p ++ ts) (tokens_append (at + length (part_bytes p)) ps qs ∙ ap (λ (x : ℕ). tokens_at (at + length (part_bytes p)) ps ++ tokens_at x qs) e)
-    ∙ sym (append_assoc (part_tokens at p) (tokens_at (at + length (part_bytes p)) ps) (tokens_at (at + length (part_bytes p ++ spelled ps)) qs))
+    let e : (at + length (part_bytes p)) + length (spelled ps) ≡ at + length (part_bytes p ++ spelled ps) =
+    omega (arith, length-append (part_bytes p) (spelled ps)) in
+    ap (λ (ts : List g.Token). part_tokens at p ++ ts) (tokens_append (at + length (part_bytes p)) ps qs
+    ∙ ap (λ (x : ℕ). tokens_at (at + length (part_bytes p)) ps ++ tokens_at x qs) e)
+    ∙ sym (append_assoc (part_tokens at p) (tokens_at (at + length (part_bytes p)) ps)
+    (tokens_at (at + length (part_bytes p ++ spelled ps)) qs))
 
-range_is : (front bytes after : List ℕ) (at end : ℕ) → length front ≡ at → at + length bytes ≡ end → slice_range (front ++ (bytes ++ after)) at end ≡ bytes
-range_is front bytes after at end e f = let size : length bytes ≡ end - at = omega (arith, f) in ap (take (end - at)) (drop_at front (bytes ++ after) at e) ∙ take_at bytes after (end - at) size
+range_is : (front bytes after : List ℕ) (at end : ℕ) → length front ≡ at → at + length bytes ≡ end
+    → slice_range (front ++ (bytes ++ after)) at end ≡ bytes
+range_is front bytes after at end e f = let size : length bytes ≡ end - at = omega (arith, f) in
+    ap (take (end - at)) (drop_at front (bytes ++ after) at e) ∙ take_at bytes after (end - at) size
 
-part_tokens_are : (text front after : List ℕ) (at : ℕ) (p : Part) → front ++ (part_bytes p ++ after) ≡ text → length front ≡ at → map (token_of text) (piece_tokens at (piece_of p)) ≡ part_tokens at p
+part_tokens_are : (text front after : List ℕ) (at : ℕ) (p : Part) → front ++ (part_bytes p ++ after) ≡ text → length front ≡ at
+    → map (token_of text) (piece_tokens at (piece_of p)) ≡ part_tokens at p
 part_tokens_are text front after at (space b) e f = refl
 part_tokens_are text front after at (word w) e f = refl
 part_tokens_are text front after at (sign s) e f = refl
-part_tokens_are text front after at (letter b) e f = ap (λ (x : List ℕ). g.token (g.a_name x) at ∷ []) (ap (λ (t : List ℕ). slice_range t at (at + 1)) (sym e) ∙ range_is front (b ∷ []) after at (at + 1) f refl)
+part_tokens_are text front after at (letter b) e f = ap (λ (x : List ℕ). g.token (g.a_name x) at ∷ [])
+    (ap (λ (t : List ℕ). slice_range t at (at + 1)) (sym e) ∙ range_is front (b ∷ []) after at (at + 1) f refl)
 part_tokens_are text front after at (number n bytes) e f = refl
 
 map_append : {A B : Type 0} (f : A → B) (xs ys : List A) → map f (xs ++ ys) ≡ map f xs ++ map f ys
@@ -179,12 +195,15 @@ map_append f [] ys = refl
 map_append f (x ∷ xs) ys = ap (λ l. f x ∷ l) (map_append f xs ys)
 
 -- the tokens of the text, where these parts stand after a front
-pub tokens_are : (text front after : List ℕ) (at : ℕ) (ps : List Part) → front ++ (spelled ps ++ after) ≡ text → length front ≡ at → tokens_of text (tokens_from at (map piece_of ps)) ≡ tokens_at at ps
+pub tokens_are : (text front after : List ℕ) (at : ℕ) (ps : List Part) → front ++ (spelled ps ++ after) ≡ text → length front ≡ at
+    → tokens_of text (tokens_from at (map piece_of ps)) ≡ tokens_at at ps
 tokens_are text front after at [] e f = refl
 tokens_are text front after at (p ∷ ps) e f =
-    let one : front ++ (part_bytes p ++ (spelled ps ++ after)) ≡ text = ap (λ (x : List ℕ). front ++ x) (sym (append_assoc (part_bytes p) (spelled ps) after)) ∙ e in
+    let one : front ++ (part_bytes p ++ (spelled ps ++ after)) ≡ text =
+    ap (λ (x : List ℕ). front ++ x) (sym (append_assoc (part_bytes p) (spelled ps) after)) ∙ e in
     let more : (front ++ part_bytes p) ++ (spelled ps ++ after) ≡ text = append_assoc front (part_bytes p) (spelled ps ++ after) ∙ one in
     let size : length (front ++ part_bytes p) ≡ at + length (part_bytes p) = omega (arith, length-append front (part_bytes p)) in
     map_append (token_of text) (piece_tokens at (piece_of p)) (tokens_from (at + length (piece_bytes (piece_of p))) (map piece_of ps))
     ∙ ap₂ (λ (x y : List g.Token). x ++ y) (part_tokens_are text front (spelled ps ++ after) at p one f)
-    (ap (λ (x : List ℕ). tokens_of text (tokens_from (at + length x) (map piece_of ps))) (part_is p) ∙ tokens_are text (front ++ part_bytes p) after (at + length (part_bytes p)) ps more size)
+    (ap (λ (x : List ℕ). tokens_of text (tokens_from (at + length x) (map piece_of ps))) (part_is p)
+    ∙ tokens_are text (front ++ part_bytes p) after (at + length (part_bytes p)) ps more size)

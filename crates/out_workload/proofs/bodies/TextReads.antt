@@ -21,11 +21,14 @@ use Rattle.out_workload.specs.declared.draws.Loop.{Loop}
 use Rattle.out_workload.specs.Draws.{following, loops_from}
 use Rattle.out_workload.specs.Texts.{generated_text}
 use Rattle.out_workload.specs.Bodies.{generated_names, generated_body, loops_body}
-use Rattle.out_workload.proofs.bodies.Pieces.{Part, space, word, sign, letter, number, piece_of, spelled, spelled_is, spelled_append, all_fit, tokens_at, tokens_append, tokens_are}
+use Rattle.out_workload.proofs.bodies.Pieces.{Part, space, word, sign, letter, number, piece_of, spelled, spelled_is, spelled_append}
+use Rattle.out_workload.proofs.bodies.Pieces.{all_fit, tokens_at, tokens_append, tokens_are}
 use Rattle.out_workload.proofs.bodies.LineNumbers.{lines_of, lines_at, lines_are}
-use Rattle.out_workload.proofs.draws.TextParts.{front_parts, back_parts, parts_of, loop_parts, loops_parts, text_parts, IsDrawn, AreDrawn, are_drawn, count_drawn, text_spelled, text_stands, text_good, front_good}
+use Rattle.out_workload.proofs.draws.TextParts.{front_parts, back_parts, parts_of, loop_parts, loops_parts, text_parts, IsDrawn, AreDrawn}
+use Rattle.out_workload.proofs.draws.TextParts.{are_drawn, count_drawn, text_spelled, text_stands, text_good, front_good}
 use Rattle.out_workload.proofs.bodies.Decimals.{short_numeral}
-use Rattle.out_workload.proofs.bodies.Machines.{machine_at, count_behind, front_nodes, front_fed, loops_fed, back_fed, front_scanned, loops_scanned, back_scanned}
+use Rattle.out_workload.proofs.bodies.Machines.{machine_at, count_behind, front_nodes, front_fed, loops_fed, back_fed, front_scanned}
+use Rattle.out_workload.proofs.bodies.Machines.{loops_scanned, back_scanned}
 use Rattle.lang_tree.specs.declared.limits.TheConstants.{MOST_VARIABLES}
 
 -- the tokens of the text that these loops make
@@ -60,7 +63,8 @@ abbrev loops_end : List Loop → ℕ
 loops_end ls = front_end + length (spelled (loops_parts ls))
 
 abbrev read_tokens : List ℕ → List Loop → List g.Token
-read_tokens text ls = tokens_at 0 front_parts ++ (tokens_at front_end (loops_parts ls) ++ (tokens_at (loops_end ls) back_parts ++ ended text))
+read_tokens text ls = tokens_at 0 front_parts ++ (tokens_at front_end (loops_parts ls)
+    ++ (tokens_at (loops_end ls) back_parts ++ ended text))
 
 tokens_read : (text : List ℕ) (ls : List Loop) → spelled (text_parts ls) ≡ text → tokens_of text (lexed text ls) ≡ read_tokens text ls
 tokens_read text ls e =
@@ -71,7 +75,8 @@ tokens_read text ls e =
     ∙ tokens_append 0 front_parts (loops_parts ls ++ back_parts)
     ∙ ap (λ (x : List g.Token). tokens_at 0 front_parts ++ x) (tokens_append front_end (loops_parts ls) back_parts))
     ∙ append_assoc (tokens_at 0 front_parts) (tokens_at front_end (loops_parts ls) ++ tokens_at (loops_end ls) back_parts) (ended text)
-    ∙ ap (λ (x : List g.Token). tokens_at 0 front_parts ++ x) (append_assoc (tokens_at front_end (loops_parts ls)) (tokens_at (loops_end ls) back_parts) (ended text))
+    ∙ ap (λ (x : List g.Token). tokens_at 0 front_parts ++ x) (append_assoc (tokens_at front_end (loops_parts ls))
+    (tokens_at (loops_end ls) back_parts) (ended text))
 
 scanned : (text : List ℕ) (ls : List Loop) → scan start (read_tokens text ls) ≡ whole
 scanned text ls =
@@ -113,7 +118,14 @@ text_marks : (ls : List Loop) → marks (text_parts ls) ≡ 4
 text_marks ls =
     let front : marks front_parts ≡ 4 = refl in
     let back : marks back_parts ≡ 0 = refl in
-    omega (arith, marks_append front_parts (loops_parts ls ++ back_parts), marks_append (loops_parts ls) back_parts, front, back, loops_marks ls)
+    omega (
+      arith,
+      marks_append front_parts (loops_parts ls ++ back_parts),
+      marks_append (loops_parts ls) back_parts,
+      front,
+      back,
+      loops_marks ls,
+    )
 
 total_marks : (text : List ℕ) (ls : List Loop) → total mark (map plain_token (lexed text ls)) ≡ 4
 total_marks text ls =
@@ -131,17 +143,21 @@ behind_first [] = []
 behind_first (t ∷ ts) = ts
 
 fed : (text : List ℕ) (ls : List Loop) → AreDrawn ls → 3 + 4 * length ls ≤ 512 → spelled (text_parts ls) ≡ text →
-    (feed (line_at text) 3 (read_tokens text ls) begin >>= λ s. result_of s) ≡ Ok (generated_names, followed_by (front_nodes (lines_at 1 front_parts)) (loops_body 3 ls))
+    (feed (line_at text) 3 (read_tokens text ls) begin >>= λ s. result_of s)
+    ≡ Ok (generated_names, followed_by (front_nodes (lines_at 1 front_parts)) (loops_body 3 ls))
 fed text ls d c e =
     let line = line_at text in
     let back = tokens_at (loops_end ls) back_parts ++ ended text in
     let split : spelled front_parts ++ (spelled (loops_parts ls) ++ spelled back_parts) ≡ text =
-    sym (spelled_append front_parts (loops_parts ls ++ back_parts) ∙ ap (λ (x : List ℕ). spelled front_parts ++ x) (spelled_append (loops_parts ls) back_parts)) ∙ e in
-    let lines : lines_of line (tokens_at 0 front_parts) ≡ lines_at 1 front_parts = lines_are text [] (spelled (loops_parts ls) ++ spelled back_parts) 0 1 front_parts front_good split refl refl in
+    sym (spelled_append front_parts (loops_parts ls ++ back_parts) ∙ ap (λ (x : List ℕ). spelled front_parts ++ x)
+    (spelled_append (loops_parts ls) back_parts)) ∙ e in
+    let lines : lines_of line (tokens_at 0 front_parts) ≡ lines_at 1 front_parts =
+    lines_are text [] (spelled (loops_parts ls) ++ spelled back_parts) 0 1 front_parts front_good split refl refl in
     ap (λ (x : Outcome). x >>= λ s. result_of s)
     (front_fed line (tokens_at front_end (loops_parts ls) ++ back)
     ∙ ap (λ (y : List ℕ). feed line 3 (tokens_at front_end (loops_parts ls) ++ back) (machine_at 3 (front_nodes y))) lines
-    ∙ loops_fed text (spelled front_parts) (spelled back_parts) front_end 3 ls d split refl refl 3 c (front_nodes (lines_at 1 front_parts)) None (loops_end ls + 1 + 1) (behind_first back))
+    ∙ loops_fed text (spelled front_parts) (spelled back_parts) front_end 3 ls d split refl refl 3 c (front_nodes (lines_at 1 front_parts))
+    None (loops_end ls + 1 + 1) (behind_first back))
     ∙ back_fed line (loops_end ls) (count_behind 3 ls) (followed_by (front_nodes (lines_at 1 front_parts)) (loops_body 3 ls)) (length text)
 
 text_means : (text : List ℕ) (ls : List Loop) → AreDrawn ls → 3 + 4 * length ls ≤ 512 → spelled (text_parts ls) ≡ text →
@@ -159,19 +175,30 @@ pub generated_reads : (seed loops : ℕ) → Reads (generated_text seed loops) (
 generated_reads seed loops = text_reads (generated_text seed loops) (loops_from seed loops) (are_drawn seed loops) (text_spelled seed loops)
 
 -- the tokens of a generated text with at most 46 loops mean its body over a, b and c
-pub generated_means : (seed loops : ℕ) → loops ≤ 46 → Means (generated_text seed loops) (tokens_of (generated_text seed loops) (lexed (generated_text seed loops) (loops_from seed loops))) (Ok (generated_names, generated_body seed loops))
-generated_means seed loops h = text_means (generated_text seed loops) (loops_from seed loops) (are_drawn seed loops) (omega (arith, count_drawn seed loops)) (text_spelled seed loops)
+pub generated_means : (seed loops : ℕ) → loops ≤ 46 → Means (generated_text seed loops)
+    (tokens_of (generated_text seed loops) (lexed (generated_text seed loops) (loops_from seed loops)))
+    (Ok (generated_names, generated_body seed loops))
+generated_means seed loops h = text_means (generated_text seed loops) (loops_from seed loops) (are_drawn seed loops)
+    (omega (arith, count_drawn seed loops)) (text_spelled seed loops)
 
 -- ---- how long the text is
-parts_length : (v w bound : ℕ) (bs : List ℕ) (step : ℕ) (ss : List ℕ) → length (spelled (parts_of v w bound bs step ss)) ≤ 56 + length bs + length ss
+parts_length : (v w bound : ℕ) (bs : List ℕ) (step : ℕ) (ss : List ℕ) →
+    length (spelled (parts_of v w bound bs step ss)) ≤ 56 + length bs + length ss
 parts_length v w bound bs step ss = omega (arith, length-append {A = ℕ})
 
 loop_length : (l : Loop) → IsDrawn l → length (spelled (loop_parts l)) ≤ 62
-loop_length l d = let b = (short_numeral l.bound d.bound).short in let s = (short_numeral l.step (omega (arith, d.step))).short in omega (arith, parts_length l.variable (following l.variable) l.bound (decimal l.bound) l.step (decimal l.step))
+loop_length l d = let b = (short_numeral l.bound d.bound).short in let s = (short_numeral l.step (omega (arith, d.step))).short in
+    omega (arith, parts_length l.variable (following l.variable) l.bound (decimal l.bound) l.step (decimal l.step))
 
 loops_length : (ls : List Loop) → AreDrawn ls → length (spelled (loops_parts ls)) ≤ 62 * length ls
 loops_length [] d = omega arith
-loops_length (l ∷ ls) d = omega (arith, ap length (spelled_append (loop_parts l) (loops_parts ls)), length-append (spelled (loop_parts l)) (spelled (loops_parts ls)), loop_length l d.0, loops_length ls d.1)
+loops_length (l ∷ ls) d = omega (
+  arith,
+  ap length (spelled_append (loop_parts l) (loops_parts ls)),
+  length-append (spelled (loop_parts l)) (spelled (loops_parts ls)),
+  loop_length l d.0,
+  loops_length ls d.1,
+)
 
 -- a generated text with at most 46 loops has at most 65536 bytes
 pub generated_short : (seed loops : ℕ) → loops ≤ 46 → length (generated_text seed loops) ≤ 65536

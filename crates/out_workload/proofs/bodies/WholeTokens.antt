@@ -5,9 +5,15 @@ use Rattle.std.specs.List.{list_all}
 use Rattle.std.specs.Str.Parse.{digits_value}
 use Rattle.lang_tokens.specs.declared.token.Kind.TheVariants as kind
 use Rattle.lang_tokens.specs.declared.sign.Sign.{Sign}
-use Rattle.lang_tokens.specs.declared.sign.Sign.TheVariants.{LeftParen, RightParen, LeftBrace, RightBrace, Comma, Semicolon, Colon, Assign, PlusAssign, MinusAssign, Increment, Decrement, Plus, Minus, Star, Bang, Less, LessEqual, Greater, GreaterEqual, EqualEqual, BangEqual, AndAnd, OrOr}
+use Rattle.lang_tokens.specs.declared.sign.Sign.TheVariants.{LeftParen, RightParen, LeftBrace, RightBrace, Comma, Semicolon, Colon, Assign}
+use Rattle.lang_tokens.specs.declared.sign.Sign.TheVariants.{PlusAssign, MinusAssign, Increment, Decrement, Plus, Minus, Star, Bang, Less}
+use Rattle.lang_tokens.specs.declared.sign.Sign.TheVariants.{LessEqual, Greater, GreaterEqual, EqualEqual, BangEqual, AndAnd, OrOr}
 use Rattle.lang_tokens.specs.declared.word.Word.{Word}
-use Rattle.lang_tokens.specs.declared.word.Word.TheVariants.{Auto, Break, Case, Char, Const, Continue, Default, Do, Double, Else, Enum, Extern, Float, For, Goto, If, Inline, Int, Long, Register, Return, Short, Signed, SizeOf, Static, Struct, Switch, TypeDef, Union, Unsigned, Void, Volatile, While, Assume, Assert, Main, Nondet, VerifierAssume, VerifierAssert, VerifierNondetInt}
+use Rattle.lang_tokens.specs.declared.word.Word.TheVariants.{Auto, Break, Case, Char, Const, Continue, Default, Do, Double, Else, Enum}
+use Rattle.lang_tokens.specs.declared.word.Word.TheVariants.{Extern, Float, For, Goto, If, Inline, Int, Long, Register, Return, Short}
+use Rattle.lang_tokens.specs.declared.word.Word.TheVariants.{Signed, SizeOf, Static, Struct, Switch, TypeDef, Union, Unsigned, Void}
+use Rattle.lang_tokens.specs.declared.word.Word.TheVariants.{Volatile, While, Assume, Assert, Main, Nondet, VerifierAssume, VerifierAssert}
+use Rattle.lang_tokens.specs.declared.word.Word.TheVariants.{VerifierNondetInt}
 use Rattle.lang_tokens.specs.Bytes.{is_letter, is_digit, is_word_byte}
 use Rattle.lang_tokens.specs.Words.{word_bytes}
 use Rattle.lang_tokens.specs.Signs.{sign_bytes}
@@ -17,16 +23,20 @@ use Rattle.lang_tokens.proofs.lexemes.Heads.{heads, is_mark, sign_heads, word_sp
 use Rattle.lang_tokens.proofs.lexemes.Longest.{word_starts, numeral_starts, sign_starts}
 
 -- a front of which each byte passes ends before a rest that doesn't begin with such a byte
-front_short : (p : ℕ → Bool) (bytes rest other after : List ℕ) → heads p rest ≡ false → list_all p other ≡ true → other ++ after ≡ bytes ++ rest → length other ≤ length bytes
+front_short : (p : ℕ → Bool) (bytes rest other after : List ℕ) → heads p rest ≡ false → list_all p other ≡ true
+    → other ++ after ≡ bytes ++ rest → length other ≤ length bytes
 front_short p bytes rest [] after h k e = omega arith
 front_short p [] [] (o ∷ other) after h k e = cc
-front_short p [] (r ∷ rest) (o ∷ other) after h k e = let same : o ≡ r = cc in let yes : p o ≡ true = (and_parts (p o) (list_all p other) k).0 in let no : p o ≡ false = ap p same ∙ h in cc
-front_short p (b ∷ bytes) rest (o ∷ other) after h k e = let less = front_short p bytes rest other after h (and_parts (p o) (list_all p other) k).1 (cc) in omega arith
+front_short p [] (r ∷ rest) (o ∷ other) after h k e = let same : o ≡ r = cc in
+    let yes : p o ≡ true = (and_parts (p o) (list_all p other) k).0 in let no : p o ≡ false = ap p same ∙ h in cc
+front_short p (b ∷ bytes) rest (o ∷ other) after h k e = let less = front_short p bytes rest other after h
+    (and_parts (p o) (list_all p other) k).1 (cc) in omega arith
 
 -- each byte of a word is one of a word
 pub word_passes : (bytes : List ℕ) → is_word bytes ≡ true → list_all is_word_byte bytes ≡ true
 word_passes [] h = refl
-word_passes (b ∷ bs) h = let both = and_parts (is_letter b) (list_all is_word_byte bs) h in and_from (is_word_byte b) (list_all is_word_byte bs) (or_left (is_letter b) (is_digit b) both.0) both.1
+word_passes (b ∷ bs) h = let both = and_parts (is_letter b) (list_all is_word_byte bs) h in
+    and_from (is_word_byte b) (list_all is_word_byte bs) (or_left (is_letter b) (is_digit b) both.0) both.1
 
 -- each byte of a numeral is a digit
 pub numeral_passes : (bytes : List ℕ) → is_numeral bytes ≡ true → list_all is_digit bytes ≡ true
@@ -37,14 +47,16 @@ word_whole : (bytes rest : List ℕ) → is_word bytes ≡ true → heads is_wor
 word_whole [] rest w h = cc
 word_whole (b ∷ bs) rest w h = record {
   lexeme = a_word w;
-  longest = λ other after e lexeme. front_short is_word_byte (b ∷ bs) rest other after h (word_passes other (word_starts other after (bs ++ rest) b e lexeme (and_parts (is_letter b) (list_all is_word_byte bs) w).0)) e;
+  longest = λ other after e lexeme. front_short is_word_byte (b ∷ bs) rest other after h
+      (word_passes other (word_starts other after (bs ++ rest) b e lexeme (and_parts (is_letter b) (list_all is_word_byte bs) w).0)) e;
 }
 
 numeral_whole : (bytes rest : List ℕ) → is_numeral bytes ≡ true → heads is_digit rest ≡ false → IsLongest bytes rest
 numeral_whole [] rest w h = cc
 numeral_whole (b ∷ bs) rest w h = record {
   lexeme = a_numeral w;
-  longest = λ other after e lexeme. front_short is_digit (b ∷ bs) rest other after h (numeral_passes other (numeral_starts other after (bs ++ rest) b e lexeme (and_parts (is_digit b) (list_all is_digit bs) w).0)) e;
+  longest = λ other after e lexeme. front_short is_digit (b ∷ bs) rest other after h
+      (numeral_passes other (numeral_starts other after (bs ++ rest) b e lexeme (and_parts (is_digit b) (list_all is_digit bs) w).0)) e;
 }
 
 -- a byte that the sign before it may take as its second
@@ -82,11 +94,13 @@ seconds BangEqual = refl
 seconds AndAnd = refl
 seconds OrOr = refl
 
-sign_front : (b : ℕ) (bs rest other after : List ℕ) → heads is_second rest ≡ false → list_all is_second (behind other) ≡ true → other ++ after ≡ b ∷ (bs ++ rest) → length other ≤ length (b ∷ bs)
+sign_front : (b : ℕ) (bs rest other after : List ℕ) → heads is_second rest ≡ false → list_all is_second (behind other) ≡ true
+    → other ++ after ≡ b ∷ (bs ++ rest) → length other ≤ length (b ∷ bs)
 sign_front b bs rest [] after h k e = omega arith
 sign_front b bs rest (o ∷ other) after h k e = let less = front_short is_second bs rest other after h k (cc) in omega arith
 
-sign_whole : (sign : Sign) (bytes rest : List ℕ) → sign_bytes sign ≡ bytes → heads is_mark bytes ≡ true → heads is_second rest ≡ false → IsLongest bytes rest
+sign_whole : (sign : Sign) (bytes rest : List ℕ) → sign_bytes sign ≡ bytes → heads is_mark bytes ≡ true → heads is_second rest ≡ false
+    → IsLongest bytes rest
 sign_whole sign [] rest e m h = cc
 sign_whole sign (b ∷ bs) rest e m h = record {
   lexeme = a_sign sign e;
@@ -155,10 +169,16 @@ a_whole_letter b rest l h = record { is_token = name; longest = word_whole (b �
     word = and_from (is_letter b) true l refl
 
     name : IsName (b ∷ [])
-    name = record { word = word; free = λ r. (let e = ap length r.1 in let more = long_word r.0 in absurd (omega arith)); short = omega arith }
+    name = record {
+      word = word;
+      free = λ r. (let e = ap length r.1 in let more = long_word r.0 in absurd (omega arith));
+      short =
+          omega arith;
+    }
 
 -- a numeral is a whole token where neither a digit nor a letter follows
-pub a_whole_number : (n : ℕ) (bytes rest : List ℕ) → is_numeral bytes ≡ true → is_padded bytes ≡ false → digits_value 10 bytes ≡ n → n ≤ greatest_literal → heads is_digit rest ≡ false → starts_with_letter rest ≡ false → IsWholeToken (kind.Number (pos n)) bytes rest
+pub a_whole_number : (n : ℕ) (bytes rest : List ℕ) → is_numeral bytes ≡ true → is_padded bytes ≡ false → digits_value 10 bytes ≡ n
+    → n ≤ greatest_literal → heads is_digit rest ≡ false → starts_with_letter rest ≡ false → IsWholeToken (kind.Number (pos n)) bytes rest
 a_whole_number n bytes rest d p e s h l = record {
   is_token = record { digits = d; plain = p; value_is = ap pos (sym e); within = subst (λ (x : ℕ). x ≤ greatest_literal) (sym e) s };
   longest = numeral_whole bytes rest d h;

@@ -20,7 +20,9 @@ begun seed loops text h e = record {
 }
 
 -- with one loop more the text still begins the generated text
-pub begun_more : (seed loops : ℕ) (text more : List ℕ) (state after counter : ℕ) → counter < loops → after < 2147483648 → after ≡ after_loop state → more ≡ text ++ loop_text (loop_at state) → IsBegun seed loops text state counter → IsBegun seed loops more after (counter + 1)
+pub begun_more : (seed loops : ℕ) (text more : List ℕ) (state after counter : ℕ) → counter < loops → after < 2147483648
+    → after ≡ after_loop state → more ≡ text ++ loop_text (loop_at state) → IsBegun seed loops text state counter
+    → IsBegun seed loops more after (counter + 1)
 begun_more seed loops text more state after counter h s e m b = record {
   small = s;
   whole =
@@ -33,11 +35,13 @@ begun_more seed loops text more state after counter h s e m b = record {
 }
 
 -- after all loops and the last lines the text is the generated text
-pub begun_whole : (seed loops : ℕ) (text out : List ℕ) (state counter : ℕ) → loops ≤ counter → out ≡ text ++ back_text → IsBegun seed loops text state counter → out ≡ generated_text seed loops
+pub begun_whole : (seed loops : ℕ) (text out : List ℕ) (state counter : ℕ) → loops ≤ counter → out ≡ text ++ back_text
+    → IsBegun seed loops text state counter → out ≡ generated_text seed loops
 begun_whole seed loops text out state counter h e b =
     let none : loops - counter ≡ 0 = omega arith in
     e ∙ ap (λ (k : ℕ). text ++ (flat_map loop_text (loops_from state k) ++ back_text)) (sym none) ∙ b.whole
 
 -- six parts that are appended one after another
-pub six_parts : (start one two three four five whole a b c d e f : List ℕ) → start ≡ [] → one ≡ start ++ a → two ≡ one ++ b → three ≡ two ++ c → four ≡ three ++ d → five ≡ four ++ e → whole ≡ five ++ f → whole ≡ a ++ (b ++ (c ++ (d ++ (e ++ f))))
+pub six_parts : (start one two three four five whole a b c d e f : List ℕ) → start ≡ [] → one ≡ start ++ a → two ≡ one ++ b
+    → three ≡ two ++ c → four ≡ three ++ d → five ≡ four ++ e → whole ≡ five ++ f → whole ≡ a ++ (b ++ (c ++ (d ++ (e ++ f))))
 six_parts start one two three four five whole a b c d e f s g h i j k l = rw (l, k, j, i, h, g, s) (simp append_assoc)

@@ -38,7 +38,8 @@ constants-dense w [] = refl
 constants-dense w (f ∷ forms) = ap (λ xs. f.constant ∷ xs) (constants-dense w forms)
 
 -- ---- the entries of a row over a state
-pub coeff-combined : (row : List ℤ) (forms : List Form) (k : ℕ) → get_or (combined row forms).coeffs k zero_ℚ ≡ dotℚ row (column_values k forms)
+pub coeff-combined : (row : List ℤ) (forms : List Form) (k : ℕ) → get_or (combined row forms).coeffs k zero_ℚ
+    ≡ dotℚ row (column_values k forms)
 unfolding combined
 coeff-combined [] forms k = refl
 coeff-combined (c ∷ cs) [] k = refl
@@ -54,9 +55,11 @@ constant-combined (c ∷ cs) [] = refl
 constant-combined (c ∷ cs) (f ∷ forms) = ap (λ y. (whole c *ℚ f.constant) +ℚ y) (constant-combined cs forms)
 
 -- the coefficients of a row over a state
-pub coeffs-combined : (w : ℕ) (row : List ℤ) (forms : List Form) → map (λ k. dotℚ row (column_values k forms)) (range_with_len 0 w) ≡ first_entries w (combined row forms).coeffs
+pub coeffs-combined : (w : ℕ) (row : List ℤ) (forms : List Form) → map (λ k. dotℚ row (column_values k forms)) (range_with_len 0 w)
+    ≡ first_entries w (combined row forms).coeffs
 coeffs-combined w row forms =
-    sym (fill_by_all (λ k. dotℚ row (column_values k forms)) (first_entries w (combined row forms).coeffs) w zero_ℚ (length-first_entries w (combined row forms).coeffs)
+    sym (fill_by_all (λ k. dotℚ row (column_values k forms)) (first_entries w (combined row forms).coeffs) w zero_ℚ
+    (length-first_entries w (combined row forms).coeffs)
     (λ k l. get_or-first_entries w (combined row forms).coeffs k l ∙ coeff-combined row forms k))
 
 -- a program's form over forms has the coefficients of its row over them
@@ -71,7 +74,8 @@ constant-composed form forms = ap (λ y. y +ℚ whole form.constant) (constant-c
 
 -- ---- single columns
 pub entries-first : (w : ℕ) (xs : List ℚ) → map (λ k. get_or xs k zero_ℚ) (range_with_len 0 w) ≡ first_entries w xs
-entries-first w xs = sym (fill_by_all (λ k. get_or xs k zero_ℚ) (first_entries w xs) w zero_ℚ (length-first_entries w xs) (get_or-first_entries w xs))
+entries-first w xs = sym (fill_by_all (λ k. get_or xs k zero_ℚ) (first_entries w xs) w zero_ℚ (length-first_entries w xs)
+    (get_or-first_entries w xs))
 
 -- a column's form has coefficient one at its own place
 pub column-here : (place : ℕ) → get_or (column place).coeffs place zero_ℚ ≡ one_ℚ

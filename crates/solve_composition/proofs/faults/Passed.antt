@@ -17,9 +17,11 @@ pub record IsPassed {X : Type 0} (f : X → List Operation) (xs : List X) (i : �
 pub passed_none : {X : Type 0} (f : X → List Operation) (xs : List X) → IsPassed f xs 0
 passed_none f xs = record { first = refl }
 
-module _ {X : Type 0} (f : X → List Operation) (xs : List X) (i : ℕ) (h : IsPassed f xs i) (x : X) (l : i < length xs) (e : x ≡ get_or xs i x) where
+module _ {X : Type 0} (f : X → List Operation) (xs : List X) (i : ℕ) (h : IsPassed f xs i) (x : X) (l : i < length xs)
+    (e : x ≡ get_or xs i x) where
   left : first_wide long_limit (flat_map f xs) ≡ first_wide long_limit (f x ++ flat_map f (drop (i + 1) xs))
-  left = h.first ∙ ap (λ ys. first_wide long_limit (flat_map f ys)) (drop_more xs i x l) ∙ ap (λ y. first_wide long_limit (f y ++ flat_map f (drop (i + 1) xs))) (sym e)
+  left = h.first ∙ ap (λ ys. first_wide long_limit (flat_map f ys)) (drop_more xs i x l)
+      ∙ ap (λ y. first_wide long_limit (f y ++ flat_map f (drop (i + 1) xs))) (sym e)
 
   -- an element with no wide operation is passed
   pub passed_more : first_wide long_limit (f x) ≡ None → IsPassed f xs (i + 1)
@@ -30,10 +32,12 @@ module _ {X : Type 0} (f : X → List Operation) (xs : List X) (i : ℕ) (h : Is
   passed_wide o w = left ∙ first_wide_sooner long_limit (f x) (flat_map f (drop (i + 1) xs)) o w
 
 -- where all elements are passed, none of their operations is wide
-pub passed_all : {X : Type 0} (f : X → List Operation) (xs : List X) (i : ℕ) → length xs ≤ i → IsPassed f xs i → first_wide long_limit (flat_map f xs) ≡ None
+pub passed_all : {X : Type 0} (f : X → List Operation) (xs : List X) (i : ℕ) → length xs ≤ i → IsPassed f xs i
+    → first_wide long_limit (flat_map f xs) ≡ None
 passed_all f xs i l h = h.first ∙ ap (λ ys. first_wide long_limit (flat_map f ys)) (drop_all i xs l)
 
 -- an element with a fault
-pub passed_refused : {X : Type 0} (f : X → List Operation) (xs : List X) (i : ℕ) → IsPassed f xs i → (x : X) → i < length xs → x ≡ get_or xs i x → (fault : OperationFault) → IsFaultOf (f x) fault → IsFaultOf (flat_map f xs) fault
+pub passed_refused : {X : Type 0} (f : X → List Operation) (xs : List X) (i : ℕ) → IsPassed f xs i → (x : X) → i < length xs
+    → x ≡ get_or xs i x → (fault : OperationFault) → IsFaultOf (f x) fault → IsFaultOf (flat_map f xs) fault
 passed_refused f xs i h x l e (Wide w) k = passed_wide f xs i h x l e (operation_of (λ q. q) w) k
 passed_refused f xs i h x l e NoMemory k = tt

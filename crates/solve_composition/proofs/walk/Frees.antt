@@ -13,8 +13,10 @@ frees_cons (Assign var form) rest = let e : free_count rest ≡ 0 + free_count r
 frees_cons (Havoc var) rest = omega arith
 
 -- the free assignments left are those of the action at hand and of the actions behind it
-pub frees_left : (actions : List Action) (i : ℕ) (action : Action) → i < length actions → action ≡ get_or actions i action → free_count (drop i actions) ≡ free_count (action ∷ []) + free_count (drop (i + 1) actions)
-frees_left actions i action l e = ap free_count (drop_more actions i action l ∙ ap (λ a. a ∷ drop (i + 1) actions) (sym e)) ∙ frees_cons action (drop (i + 1) actions)
+pub frees_left : (actions : List Action) (i : ℕ) (action : Action) → i < length actions → action ≡ get_or actions i action
+    → free_count (drop i actions) ≡ free_count (action ∷ []) + free_count (drop (i + 1) actions)
+frees_left actions i action l e = ap free_count (drop_more actions i action l ∙ ap (λ a. a ∷ drop (i + 1) actions) (sym e))
+    ∙ frees_cons action (drop (i + 1) actions)
 
 -- a free assignment counts one
 pub frees-havoc : (var : ℕ) → free_count (Havoc var ∷ []) ≡ 1

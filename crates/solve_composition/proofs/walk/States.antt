@@ -16,12 +16,14 @@ pub state_has : (state : List Affine) (w k : ℕ) → k < w → IsState w state 
 state_has [] w k l h = refl
 state_has (f ∷ state) w k l h =
     let p = both (length f.coeffs == w) (list_all (has_width w) state) h in
-    ap₂ (λ a b. a && b) (lt-ltb k (length f.coeffs) (subst (λ n. k < n) (sym (eqb-true (length f.coeffs) w p.0)) l)) (state_has state w k l p.1)
+    ap₂ (λ a b. a && b) (lt-ltb k (length f.coeffs) (subst (λ n. k < n) (sym (eqb-true (length f.coeffs) w p.0)) l))
+    (state_has state w k l p.1)
 
 -- forms with w columns make a state
 pub state_dense : (w : ℕ) (forms : List Form) → IsState w (map (dense w) forms)
 state_dense w [] = refl
-state_dense w (f ∷ forms) = ap₂ (λ a b. a && b) (eq-eqb (length (dense w f).coeffs) w (length-first_entries w f.coeffs)) (state_dense w forms)
+state_dense w (f ∷ forms) = ap₂ (λ a b. a && b) (eq-eqb (length (dense w f).coeffs) w (length-first_entries w f.coeffs))
+    (state_dense w forms)
 
 -- forms with all w columns have w coefficients each
 pub state_is : (state : List Affine) (w : ℕ) (forms : List Form) → state ≡ map (dense w) forms → IsState w state

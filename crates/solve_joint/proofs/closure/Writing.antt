@@ -1,5 +1,6 @@
 -- Lists that are written from the front on.
-use Rattle.std.proofs.Common.{◌≡◌, ◌∙◌, ℕ, ◌+◌, ◌<◌, ◌≤◌, List, [], ◌∷◌, ◌++◌, length, get_or, set, take, drop, refl, ap, ap₂, sym, arith, length-set}
+use Rattle.std.proofs.Common.{◌≡◌, ◌∙◌, ℕ, ◌+◌, ◌<◌, ◌≤◌, List, [], ◌∷◌, ◌++◌, length, get_or, set, take, drop, refl, ap, ap₂, sym, arith}
+use Rattle.std.proofs.Common.{length-set}
 use Rattle.std.proofs.lemmas.List.{take_more, take_more_set, drop-set-lt, take_all, get_or-drop}
 use Rattle.std.proofs.lemmas.Grind.{drop_more_same}
 
@@ -21,10 +22,12 @@ module _ {X : Type 0} (ts ys : List X) where
   pub write_at : (xs : List X) (i : ℕ) (d : X) → IsWritten ts ys xs i → get_or xs i d ≡ get_or ys i d
   write_at xs i d h =
       let k : i + 0 ≡ i = omega arith in
-      ap (λ j. get_or xs j d) (sym k) ∙ sym (get_or-drop i xs 0 d) ∙ ap (λ s. get_or s 0 d) h.left ∙ get_or-drop i ys 0 d ∙ ap (λ j. get_or ys j d) k
+      ap (λ j. get_or xs j d) (sym k) ∙ sym (get_or-drop i xs 0 d) ∙ ap (λ s. get_or s 0 d) h.left ∙ get_or-drop i ys 0 d
+      ∙ ap (λ j. get_or ys j d) k
 
   -- one element more is written at the place at hand
-  pub write_more : (xs : List X) (i : ℕ) (y : X) → length ts ≡ length ys → IsWritten ts ys xs i → i < length xs → y ≡ get_or ts i y → IsWritten ts ys (set xs i y) (i + 1)
+  pub write_more : (xs : List X) (i : ℕ) (y : X) → length ts ≡ length ys → IsWritten ts ys xs i → i < length xs → y ≡ get_or ts i y
+      → IsWritten ts ys (set xs i y) (i + 1)
   write_more xs i y e h l k = record {
     size = length-set xs i y ∙ h.size;
     done = take_more_set xs i y l ∙ ap₂ (λ s z. s ++ z ∷ []) h.done k ∙ sym (take_more ts i y (let s = h.size in omega (arith, l, e, s)));

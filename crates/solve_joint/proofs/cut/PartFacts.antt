@@ -1,5 +1,6 @@
 -- What the parts are, by the numbers of their unknowns.
-use Rattle.std.proofs.Common.{◌≡◌, ◌∙◌, inl, inr, ⊎_elim, ℕ, zero, suc, ◌+◌, ◌≤◌, cond, Bool, true, false, List, [], ◌∷◌, length, map, Option, Some, None, refl, ap, ap₂, sym, subst, arith}
+use Rattle.std.proofs.Common.{◌≡◌, ◌∙◌, inl, inr, ⊎_elim, ℕ, zero, suc, ◌+◌, ◌≤◌, cond, Bool, true, false, List, [], ◌∷◌, length, map}
+use Rattle.std.proofs.Common.{Option, Some, None, refl, ap, ap₂, sym, subst, arith}
 use Rattle.std.specs.Prelude.{find}
 use Rattle.std.specs.List.{filter}
 use Rattle.base_facts.specs.Elements.{In}
@@ -12,7 +13,8 @@ use Rattle.solve_joint.specs.declared.node.Node.{Node}
 use Rattle.solve_joint.specs.Numbers.{number_of, listed_of, all_listed, Rises, nodes_of, ArePicked}
 use Rattle.solve_joint.specs.Tables.{closed}
 use Rattle.solve_joint.specs.Cuts.{are_one_part, are_apart, may_come, cut_next, cut_from}
-use Rattle.solve_joint.specs.PartLists.{listed_parts, part_numbers, each_listed, EachRises, NumberClasses, NumbersAdmissible, NumbersInOrder}
+use Rattle.solve_joint.specs.PartLists.{listed_parts, part_numbers, each_listed, EachRises, NumberClasses, NumbersAdmissible}
+use Rattle.solve_joint.specs.PartLists.{NumbersInOrder}
 use Rattle.solve_joint.proofs.numbers.NodeFacts.{number_back, unknowns_all}
 use Rattle.solve_joint.proofs.cut.SameParts.{parts_shown}
 
@@ -36,9 +38,13 @@ cut_rises : (rows : List (List Bool)) (n : ℕ) (left : List Node) → Rises 0 (
 cut_rises rows zero left h = tt
 cut_rises rows (suc n) left h = by (find (may_come rows left) left) (λ next r. cut_rises rows n next r)
   where
-    by : (o : Option Node) → ((next : List Node) → Rises 0 (unknowns next) → EachRises (cut_from rows n next)) → EachRises (cut_next rows left (cut_from rows n) o)
+    by : (o : Option Node) → ((next : List Node) → Rises 0 (unknowns next) → EachRises (cut_from rows n next))
+        → EachRises (cut_next rows left (cut_from rows n) o)
     by None t = tt
-    by (Some part) t = (filter_rises (are_one_part rows part) 0 left h, t (filter (are_apart rows part) left) (filter_rises (are_apart rows part) 0 left h))
+    by (Some part) t = (
+      filter_rises (are_one_part rows part) 0 left h,
+      t (filter (are_apart rows part) left) (filter_rises (are_apart rows part) 0 left h),
+    )
 
 module _ (system : System) (pick : List (Option ℕ)) (list : List ℕ) where
   abbrev us : List Listed
@@ -49,21 +55,26 @@ module _ (system : System) (pick : List (Option ℕ)) (list : List ℕ) where
 
   -- each part of a rising list rises
   pub parts_rise : ArePicked system pick list → Rises 0 list → EachRises (part_numbers system pick list)
-  parts_rise picked h = subst EachRises (parts_shown system pick list picked) (cut_rises (closed (length system.flow.points) nodes) (length nodes) nodes (subst (Rises 0) (sym (unknowns_all system pick list)) h))
+  parts_rise picked h = subst EachRises (parts_shown system pick list picked)
+      (cut_rises (closed (length system.flow.points) nodes) (length nodes) nodes (subst (Rises 0) (sym (unknowns_all system pick list)) h))
 
   -- ---- the numbers stand for the unknowns
-  listed_back : (ns : List ℕ) (x : Listed) → In (all_listed system pick ns) x → listed_of (length system.template) pick (number_of (length system.template) x) ≡ x
+  listed_back : (ns : List ℕ) (x : Listed) → In (all_listed system pick ns) x
+      → listed_of (length system.template) pick (number_of (length system.template) x) ≡ x
   listed_back [] x m = absurd m
   listed_back (u ∷ ns) x m = ⊎_elim
-      (λ e. ap (λ y. listed_of (length system.template) pick (number_of (length system.template) y)) (sym e) ∙ ap (listed_of (length system.template) pick) (number_back (length system.template) pick u) ∙ e)
+      (λ e. ap (λ y. listed_of (length system.template) pick (number_of (length system.template) y)) (sym e)
+      ∙ ap (listed_of (length system.template) pick) (number_back (length system.template) pick u) ∙ e)
       (λ k. listed_back ns x k)
       m
 
-  part_back : (xs : List Listed) → ((x : Listed) → In xs x → In us x) → all_listed system pick (map (number_of (length system.template)) xs) ≡ xs
+  part_back : (xs : List Listed) → ((x : Listed) → In xs x → In us x) →
+      all_listed system pick (map (number_of (length system.template)) xs) ≡ xs
   part_back [] sub = refl
   part_back (x ∷ xs) sub = ap₂ (λ y ys. y ∷ ys) (listed_back list x (sub x (inl refl))) (part_back xs (λ y m. sub y (inr m)))
 
-  parts_back : (ps : List (List Listed)) → ((x : Listed) → InSome ps x → In us x) → each_listed system pick (map (map (number_of (length system.template))) ps) ≡ ps
+  parts_back : (ps : List (List Listed)) → ((x : Listed) → InSome ps x → In us x)
+      → each_listed system pick (map (map (number_of (length system.template))) ps) ≡ ps
   parts_back [] sub = refl
   parts_back (xs ∷ ps) sub = ap₂ (λ y ys. y ∷ ys) (part_back xs (λ y m. sub y (inl m))) (parts_back ps (λ y m. sub y (inr m)))
 

@@ -1,5 +1,6 @@
 -- The parts that are cut are those of the theory.
-use Rattle.std.proofs.Common.{◌≡◌, ◌∙◌, ◌⊎◌, inl, inr, ⊎_elim, ℕ, zero, suc, ◌&&◌, ◌||◌, not, cond, Bool, true, false, List, [], ◌∷◌, length, map, Option, Some, None, refl, ap, ap₂, sym, if◌then◌else◌}
+use Rattle.std.proofs.Common.{◌≡◌, ◌∙◌, ◌⊎◌, inl, inr, ⊎_elim, ℕ, zero, suc, ◌&&◌, ◌||◌, not, cond, Bool, true, false, List, [], ◌∷◌}
+use Rattle.std.proofs.Common.{length, map, Option, Some, None, refl, ap, ap₂, sym, if◌then◌else◌}
 use Rattle.std.specs.Prelude.{find}
 use Rattle.std.specs.List.{list_all, filter}
 use Rattle.std.proofs.lemmas.List.{length-map}
@@ -22,26 +23,33 @@ abbrev both : {X Y : Type 0} → (X → Y) → Option X → Option Y
 both h None = None
 both h (Some x) = Some (h x)
 
-all_shown : (f : Node → Bool) (g : Listed → Bool) (h : Node → Listed) (xs : List Node) → ((x : Node) → In xs x → f x ≡ g (h x)) → list_all f xs ≡ all_in g (map h xs)
+all_shown : (f : Node → Bool) (g : Listed → Bool) (h : Node → Listed) (xs : List Node) → ((x : Node) → In xs x → f x ≡ g (h x))
+    → list_all f xs ≡ all_in g (map h xs)
 unfolding all_in
 all_shown f g h [] e = refl
 all_shown f g h (x ∷ xs) e = ap₂ (λ a b. a && b) (e x (inl refl)) (all_shown f g h xs (λ y m. e y (inr m)))
 
-kept_shown : (f : Node → Bool) (g : Listed → Bool) (h : Node → Listed) (xs : List Node) → ((x : Node) → In xs x → f x ≡ g (h x)) → map h (filter f xs) ≡ keep g (map h xs)
+kept_shown : (f : Node → Bool) (g : Listed → Bool) (h : Node → Listed) (xs : List Node) → ((x : Node) → In xs x → f x ≡ g (h x))
+    → map h (filter f xs) ≡ keep g (map h xs)
 unfolding keep
 kept_shown f g h [] e = refl
-kept_shown f g h (x ∷ xs) e = by (f x) (kept_shown f g h xs (λ y m. e y (inr m))) ∙ ap (λ b. if b then h x ∷ keep g (map h xs) else keep g (map h xs)) (e x (inl refl))
+kept_shown f g h (x ∷ xs) e = by (f x) (kept_shown f g h xs (λ y m. e y (inr m)))
+    ∙ ap (λ b. if b then h x ∷ keep g (map h xs) else keep g (map h xs)) (e x (inl refl))
   where
-    by : (b : Bool) → map h (filter f xs) ≡ keep g (map h xs) → map h (cond b (x ∷ filter f xs) (filter f xs)) ≡ (if b then h x ∷ keep g (map h xs) else keep g (map h xs))
+    by : (b : Bool) → map h (filter f xs) ≡ keep g (map h xs) → map h (cond b (x ∷ filter f xs) (filter f xs))
+        ≡ (if b then h x ∷ keep g (map h xs) else keep g (map h xs))
     by true k = ap (λ ys. h x ∷ ys) k
     by false k = k
 
-first_shown : (f : Node → Bool) (g : Listed → Bool) (h : Node → Listed) (xs : List Node) → ((x : Node) → In xs x → f x ≡ g (h x)) → both h (find f xs) ≡ first_of g (map h xs)
+first_shown : (f : Node → Bool) (g : Listed → Bool) (h : Node → Listed) (xs : List Node) → ((x : Node) → In xs x → f x ≡ g (h x))
+    → both h (find f xs) ≡ first_of g (map h xs)
 unfolding first_of
 first_shown f g h [] e = refl
-first_shown f g h (x ∷ xs) e = by (f x) (first_shown f g h xs (λ y m. e y (inr m))) ∙ ap (λ b. if b then Some (h x) else first_of g (map h xs)) (e x (inl refl))
+first_shown f g h (x ∷ xs) e = by (f x) (first_shown f g h xs (λ y m. e y (inr m)))
+    ∙ ap (λ b. if b then Some (h x) else first_of g (map h xs)) (e x (inl refl))
   where
-    by : (b : Bool) → both h (find f xs) ≡ first_of g (map h xs) → both h (cond b (Some x) (find f xs)) ≡ (if b then Some (h x) else first_of g (map h xs))
+    by : (b : Bool) → both h (find f xs) ≡ first_of g (map h xs) → both h (cond b (Some x) (find f xs))
+        ≡ (if b then Some (h x) else first_of g (map h xs))
     by true k = refl
     by false k = k
 
@@ -100,27 +108,35 @@ module _ (system : System) (pick : List (Option ℕ)) (list : List ℕ) (picked 
   numbers_shown [] = refl
   numbers_shown (a ∷ left) = ap₂ (λ x xs. x ∷ xs) (sym (number_back (length system.template) pick a.unknown)) (numbers_shown left)
 
-  cut_shown : (n : ℕ) (left : List Node) → Among left → cut_from rows n left ≡ map (map (number_of (length system.template))) (parts_from n eqs us (map h left))
+  cut_shown : (n : ℕ) (left : List Node) → Among left → cut_from rows n left
+      ≡ map (map (number_of (length system.template))) (parts_from n eqs us (map h left))
   unfolding parts_from part_before
   cut_shown zero left sub = refl
   cut_shown (suc n) left sub =
       by (find (may_come rows left) left) refl (λ next s. cut_shown n next s)
-      ∙ ap (λ o. map (map (number_of (length system.template))) (part_before eqs us (map h left) (parts_from n eqs us) o)) (first_shown (may_come rows left) (ready eqs us (map h left)) h left (λ a m. ready_shown left a sub (sub a m)))
+      ∙ ap (λ o. map (map (number_of (length system.template))) (part_before eqs us (map h left) (parts_from n eqs us) o))
+      (first_shown (may_come rows left) (ready eqs us (map h left)) h left (λ a m. ready_shown left a sub (sub a m)))
     where
       by : (o : Option Node) → find (may_come rows left) left ≡ o →
-          ((next : List Node) → Among next → cut_from rows n next ≡ map (map (number_of (length system.template))) (parts_from n eqs us (map h next))) →
-          cut_next rows left (cut_from rows n) o ≡ map (map (number_of (length system.template))) (part_before eqs us (map h left) (parts_from n eqs us) (both h o))
+          ((next : List Node) → Among next → cut_from rows n next ≡ map (map (number_of (length system.template)))
+          (parts_from n eqs us (map h next))) →
+          cut_next rows left (cut_from rows n) o ≡ map (map (number_of (length system.template)))
+          (part_before eqs us (map h left) (parts_from n eqs us) (both h o))
       by None e t = refl
       by (Some part) e t =
           let p = sub part (find_in (may_come rows left) left part e) in
           ap₂ (λ x xs. x ∷ xs)
-          (numbers_shown (filter (are_one_part rows part) left) ∙ ap (map (number_of (length system.template))) (kept_shown (are_one_part rows part) (together eqs us (h part)) h left (λ a m. together_shown part a p (sub a m))))
+          (numbers_shown (filter (are_one_part rows part) left) ∙ ap (map (number_of (length system.template)))
+          (kept_shown (are_one_part rows part) (together eqs us (h part)) h left (λ a m. together_shown part a p (sub a m))))
           (t (filter (are_apart rows part) left) (λ a m. sub a (filter_in (are_apart rows part) left a m))
-          ∙ ap (λ xs. map (map (number_of (length system.template))) (parts_from n eqs us xs)) (kept_shown (are_apart rows part) (λ v. not (together eqs us (h part) v)) h left (λ a m. ap not (together_shown part a p (sub a m)))))
+          ∙ ap (λ xs. map (map (number_of (length system.template))) (parts_from n eqs us xs))
+          (kept_shown (are_apart rows part) (λ v. not (together eqs us (h part) v)) h left
+          (λ a m. ap not (together_shown part a p (sub a m)))))
 
   -- the whole cut
   pub parts_shown : cut_from rows (length nodes) nodes ≡ part_numbers system pick list
   unfolding parts
   parts_shown =
       cut_shown (length nodes) nodes (λ a m. m)
-      ∙ ap₂ (λ n xs. map (map (number_of (length system.template))) (parts_from n eqs us xs)) (length-nodes system pick list ∙ sym (length-map list (listed_of (length system.template) pick))) (shown_all system pick list)
+      ∙ ap₂ (λ n xs. map (map (number_of (length system.template))) (parts_from n eqs us xs))
+      (length-nodes system pick list ∙ sym (length-map list (listed_of (length system.template) pick))) (shown_all system pick list)

@@ -1,5 +1,6 @@
 -- How large the parts of an edge are.
-use Rattle.std.proofs.Common.{◌≡◌, ◌∙◌, ℕ, suc, ◌+◌, ◌<◌, ◌≤◌, Bool, true, false, true≢false, List, [], ◌∷◌, ◌++◌, ◌*◌, ◌%◌, Option, length, ap, sym, refl, length-append, arith}
+use Rattle.std.proofs.Common.{◌≡◌, ◌∙◌, ℕ, suc, ◌+◌, ◌<◌, ◌≤◌, Bool, true, false, true≢false, List, [], ◌∷◌, ◌++◌, ◌*◌, ◌%◌, Option, length}
+use Rattle.std.proofs.Common.{ap, sym, refl, length-append, arith}
 use Rattle.std.proofs.Math.Nat.{mul-le-mul_right}
 use Rattle.std.specs.Prelude.{ℤ, IsTrue, nat_le, nat_lt, slice_set}
 use Rattle.std.specs.List.{list_all}
@@ -29,12 +30,15 @@ frees_within (Guard form ∷ actions) = omega (arith, frees_within actions)
 frees_within (Assign var form ∷ actions) = omega (arith, frees_within actions)
 frees_within (Havoc var ∷ actions) = omega (arith, frees_within actions)
 
-edge_is : (system : System) (edge : ℕ) → edge < length system.flow.edges → IsTrue (is_edge (length system.flow.names) (length system.flow.points) (edge_at system edge))
+edge_is : (system : System) (edge : ℕ) → edge < length system.flow.edges
+    → IsTrue (is_edge (length system.flow.names) (length system.flow.points) (edge_at system edge))
 edge_is system edge l = by (is_edge (length system.flow.names) (length system.flow.points) (edge_at system edge)) refl
   where
     by : (b : Bool) → is_edge (length system.flow.names) (length system.flow.points) (edge_at system edge) ≡ b → b ≡ true
     by true e = refl
-    by false e = absurd (true≢false (sym (flow_sizes system.flow).edges ∙ list_all_at (is_edge (length system.flow.names) (length system.flow.points)) system.flow.edges edge (record { from = 0; to = 0; actions = [] }) l e))
+    by false e = absurd (true≢false (sym (flow_sizes system.flow).edges
+        ∙ list_all_at (is_edge (length system.flow.names) (length system.flow.points)) system.flow.edges edge
+        (record { from = 0; to = 0; actions = [] }) l e))
 
 -- an edge comes from a point
 pub edge_from : (system : System) (edge : ℕ) → edge < length system.flow.edges → (edge_at system edge).from < length system.flow.points
@@ -51,9 +55,15 @@ few_actions system edge l =
     leb-true (length e.actions) 256 (both (nat_le (length e.actions) 256) (list_all (is_action (length system.flow.names)) e.actions) c.1).0
 
 -- and has few columns
-pub few_columns : (system : System) (edge : ℕ) → edge < length system.flow.edges → width (length system.flow.names) (edge_at system edge).actions ≤ MOST_VARIABLES + 256
+pub few_columns : (system : System) (edge : ℕ) → edge < length system.flow.edges
+    → width (length system.flow.names) (edge_at system edge).actions ≤ MOST_VARIABLES + 256
 unfolding width
-few_columns system edge l = omega (arith, (flow_sizes system.flow).names, frees_within (edge_at system edge).actions, few_actions system edge l)
+few_columns system edge l = omega (
+  arith,
+  (flow_sizes system.flow).names,
+  frees_within (edge_at system edge).actions,
+  few_actions system edge l,
+)
 
 -- the start values are among them
 pub names_within : (system : System) (edge : ℕ) → length system.flow.names ≤ width (length system.flow.names) (edge_at system edge).actions
@@ -61,12 +71,14 @@ unfolding width
 names_within system edge = omega arith
 
 -- ---- few rows
-sources_count : (f : ℕ → List ℚ → List ℚ) (n : ℕ) (bounds : ℕ → Ext) (rows : List (List ℤ)) → length (source_limits f n bounds rows) ≤ length rows
+sources_count : (f : ℕ → List ℚ → List ℚ) (n : ℕ) (bounds : ℕ → Ext) (rows : List (List ℤ))
+    → length (source_limits f n bounds rows) ≤ length rows
 unfolding source_limits source_limit
 sources_count f n bounds [] = omega arith
 sources_count f n bounds (row ∷ rows) = by (bounds 0) (sources_count (λ r. f (suc r)) n (λ r. bounds (suc r)) rows)
   where
-    by : (b : Ext) → length (source_limits (λ r. f (suc r)) n (λ r. bounds (suc r)) rows) ≤ length rows → length (source_limit (f 0) n b row (source_limits (λ r. f (suc r)) n (λ r. bounds (suc r)) rows)) ≤ suc (length rows)
+    by : (b : Ext) → length (source_limits (λ r. f (suc r)) n (λ r. bounds (suc r)) rows) ≤ length rows
+        → length (source_limit (f 0) n b row (source_limits (λ r. f (suc r)) n (λ r. bounds (suc r)) rows)) ≤ suc (length rows)
     by neg_inf h = omega (arith, h)
     by (fin c) h = omega (arith, h)
     by pos_inf h = omega (arith, h)
@@ -96,7 +108,8 @@ few_template system =
     omega (arith, s, k)
 
 -- a list's blocks have few rows for each of its unknowns
-pub few_rows : (system : System) (pick : List (Option ℕ)) (base : List Ext) (list : List ℕ) (offset : ℕ) (rest : List ℕ) → ArePicked system pick rest → length (blocks_from system pick base list offset rest) ≤ (MOST_UNKNOWNS + 257) * length rest
+pub few_rows : (system : System) (pick : List (Option ℕ)) (base : List Ext) (list : List ℕ) (offset : ℕ) (rest : List ℕ)
+    → ArePicked system pick rest → length (blocks_from system pick base list offset rest) ≤ (MOST_UNKNOWNS + 257) * length rest
 few_rows system pick base list offset [] h = omega arith
 few_rows system pick base list offset (u ∷ rest) h =
     let e = edge_for pick u in
@@ -110,7 +123,8 @@ few_rows system pick base list offset (u ∷ rest) h =
     let a = length-append (srcs ++ (grds ++ own ∷ [])) more in
     let b = length-append srcs (grds ++ own ∷ []) in
     let c = length-append grds (own ∷ []) in
-    let d = sources_count (λ r. embedded (neg_ℚ one_ℚ) ((edge_at system e).from * length system.template + r) list offset) n (vector_of (length system.template) base (edge_at system e).from) system.template in
+    let d = sources_count (λ r. embedded (neg_ℚ one_ℚ) ((edge_at system e).from * length system.template + r) list offset) n
+    (vector_of (length system.template) base (edge_at system e).from) system.template in
     let f = guards_count (embedded zero_ℚ 0 list offset) forms in
     let g = few_guards n (edge_at system e).actions in
     let k = few_actions system e inside in

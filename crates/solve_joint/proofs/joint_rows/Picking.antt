@@ -1,5 +1,6 @@
 -- Lists of picked unknowns.
-use Rattle.std.proofs.Common.{◌≡◌, ◌∙◌, ℕ, zero, suc, ◌+◌, ◌*◌, ◌<◌, ◌≤◌, List, [], ◌∷◌, length, get_or, ap, sym, subst, Option, None, arith}
+use Rattle.std.proofs.Common.{◌≡◌, ◌∙◌, ℕ, zero, suc, ◌+◌, ◌*◌, ◌<◌, ◌≤◌, List, [], ◌∷◌, length, get_or, ap, sym, subst, Option, None}
+use Rattle.std.proofs.Common.{arith}
 use Rattle.std.specs.Prelude.{IsTrue, nat_le}
 use Rattle.std.proofs.lemmas.Bool.{leb-true}
 use Rattle.flow_systems.specs.declared.system.System.{System}
@@ -9,13 +10,15 @@ use Rattle.solve_joint.specs.Numbers.{Rises, IsPicked, ArePicked, edge_of}
 use Rattle.flow_systems.specs.declared.limits.TheConstants.{MOST_UNKNOWNS}
 
 -- each number of a list of picked unknowns is picked
-pub picked_at : (system : System) (pick : List (Option ℕ)) (list : List ℕ) (i : ℕ) → ArePicked system pick list → i < length list → IsPicked system pick (get_or list i 0)
+pub picked_at : (system : System) (pick : List (Option ℕ)) (list : List ℕ) (i : ℕ) → ArePicked system pick list → i < length list
+    → IsPicked system pick (get_or list i 0)
 picked_at system pick [] i h l = absurd (omega (arith, l))
 picked_at system pick (u ∷ list) zero h l = h.0
 picked_at system pick (u ∷ list) (suc i) h l = picked_at system pick list i h.1 (omega (arith, l))
 
 -- a rising list is no longer than the unknowns from its first on
-rising_length : (system : System) (pick : List (Option ℕ)) (from : ℕ) (list : List ℕ) → Rises from list → ArePicked system pick list → from ≤ length system.flow.points * length system.template →
+rising_length : (system : System) (pick : List (Option ℕ)) (from : ℕ) (list : List ℕ) → Rises from list → ArePicked system pick list
+    → from ≤ length system.flow.points * length system.template →
     length list + from ≤ length system.flow.points * length system.template
 rising_length system pick from [] r p l = omega (arith, l)
 rising_length system pick from (u ∷ list) r p l =
@@ -32,10 +35,12 @@ system_size system =
 
 -- the template of a system is over its variables
 pub over : (system : System) → IsTrue (is_over (length system.flow.names) system.template)
-over system = (both (is_over (length system.flow.names) system.template) (nat_le (length system.flow.points * length system.template) MOST_UNKNOWNS) system.within_limits).0
+over system = (both (is_over (length system.flow.names) system.template)
+    (nat_le (length system.flow.points * length system.template) MOST_UNKNOWNS) system.within_limits).0
 
 -- a rising list of picked unknowns is no longer than the greatest number of unknowns
-pub few_listed : (system : System) (pick : List (Option ℕ)) (list : List ℕ) → Rises 0 list → ArePicked system pick list → length list ≤ MOST_UNKNOWNS
+pub few_listed : (system : System) (pick : List (Option ℕ)) (list : List ℕ) → Rises 0 list → ArePicked system pick list
+    → length list ≤ MOST_UNKNOWNS
 few_listed system pick list r p =
     let n = length system.flow.points * length system.template in
     let s = system_size system in
@@ -43,5 +48,6 @@ few_listed system pick list r p =
     omega (arith, s, k)
 
 -- the picked edge of an unknown is one of the system
-pub edge_within : (system : System) (pick : List (Option ℕ)) (u edge : ℕ) → IsPicked system pick u → edge ≡ edge_of (get_or pick u None) → edge < length system.flow.edges
+pub edge_within : (system : System) (pick : List (Option ℕ)) (u edge : ℕ) → IsPicked system pick u → edge ≡ edge_of (get_or pick u None)
+    → edge < length system.flow.edges
 edge_within system pick u edge p e = subst (λ j. j < length system.flow.edges) (sym (e ∙ ap edge_of p.picks)) p.is_edge

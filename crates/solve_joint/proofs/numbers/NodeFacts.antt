@@ -1,5 +1,6 @@
 -- What the unknowns of a list have to do with the numbers.
-use Rattle.std.proofs.Common.{◌≡◌, ◌∙◌, ⊎_elim, ℕ, ◌/◌, ◌<◌, List, [], ◌∷◌, length, get_or, map, Option, None, refl, ap, sym, subst, arith, div-add-mod'}
+use Rattle.std.proofs.Common.{◌≡◌, ◌∙◌, ⊎_elim, ℕ, ◌/◌, ◌<◌, List, [], ◌∷◌, length, get_or, map, Option, None, refl, ap, sym, subst, arith}
+use Rattle.std.proofs.Common.{div-add-mod'}
 use Rattle.std.proofs.lemmas.List.{length-map, get_or-map}
 use Rattle.std.proofs.lemmas.Nat.{row_below_turned}
 use Rattle.base_facts.specs.Elements.{In}
@@ -32,13 +33,15 @@ module _ (system : System) (pick : List (Option ℕ)) where
 
   source_few : (u : ℕ) → IsPicked system pick u → source_of system pick u < length system.flow.points
   unfolding picked
-  source_few u h = edge_from system (edge_of (get_or pick u None)) (subst (λ e. edge_of e < length system.flow.edges) (sym h.picks) h.is_edge)
+  source_few u h = edge_from system (edge_of (get_or pick u None)) (subst (λ e. edge_of e < length system.flow.edges) (sym h.picks)
+      h.is_edge)
 
   node_is : (u : ℕ) → IsPicked system pick u → IsNode (node_of system pick u)
   node_is u h = record {
     point = refl;
     source = refl;
-    point_within = (row_below_turned u (length system.template) (length system.flow.points) (length system.template) h.in_range (omega arith)).1;
+    point_within = (row_below_turned u (length system.template) (length system.flow.points) (length system.template) h.in_range
+        (omega arith)).1;
     source_within = source_few u h;
   }
 
@@ -48,10 +51,13 @@ module _ (system : System) (pick : List (Option ℕ)) where
   node_in (u ∷ list) h a m = ⊎_elim (λ e. subst IsNode e (node_is u h.0)) (λ k. node_in list h.1 a k) m
 
   -- the source of each node of a picked list is a point of the system
-  pub source_at : (list : List ℕ) (nodes : List Node) → nodes ≡ nodes_of system pick list → ArePicked system pick list → (k : ℕ) (d : Node) → k < length nodes → (get_or nodes k d).source < length system.flow.points
+  pub source_at : (list : List ℕ) (nodes : List Node) → nodes ≡ nodes_of system pick list → ArePicked system pick list → (k : ℕ) (d : Node)
+      → k < length nodes → (get_or nodes k d).source < length system.flow.points
   source_at list nodes e h k d l =
-      let l' : k < length list = let s = ap (λ (xs : List Node). length xs) e ∙ length-map list (node_of system pick) in omega (arith, l, s) in
-      subst (λ (x : Node). x.source < length system.flow.points) (sym (get_or-map (node_of system pick) list k 0 d l') ∙ ap (λ (xs : List Node). get_or xs k d) (sym e)) (source_few (get_or list k 0) (picked_at system pick list k h l'))
+      let l' : k < length list = let s = ap (λ (xs : List Node). length xs) e ∙ length-map list (node_of system pick) in
+      omega (arith, l, s) in
+      subst (λ (x : Node). x.source < length system.flow.points) (sym (get_or-map (node_of system pick) list k 0 d l')
+      ∙ ap (λ (xs : List Node). get_or xs k d) (sym e)) (source_few (get_or list k 0) (picked_at system pick list k h l'))
 
   -- the nodes of a list show its unknowns
   pub shown_all : (list : List ℕ) → map shown (nodes_of system pick list) ≡ all_listed system pick list

@@ -1,5 +1,6 @@
 -- Rows with one entry for each column.
-use Rattle.std.proofs.Common.{◌≡◌, ◌∙◌, ℕ, zero, suc, ◌+◌, ◌<◌, List, [], ◌∷◌, ◌++◌, length, get_or, take, refl, ap, sym, append_assoc, arith}
+use Rattle.std.proofs.Common.{◌≡◌, ◌∙◌, ℕ, zero, suc, ◌+◌, ◌<◌, List, [], ◌∷◌, ◌++◌, length, get_or, take, refl, ap, sym, append_assoc}
+use Rattle.std.proofs.Common.{arith}
 use Rattle.std.proofs.lemmas.List.{take_more}
 use Rattle.base_numbers.specs.Vector.{zeros}
 use Rattle.base_numbers.specs.Rational.{ℚ, zero_ℚ, one_ℚ, neg_ℚ}
@@ -25,7 +26,8 @@ pub split_more : (coeffs : List ℚ) (i : ℕ) (x y : ℚ) (first : List ℚ) �
 split_more coeffs i x y first l e f =
     append_assoc (first ++ split_list (take i coeffs)) (x ∷ []) (y ∷ [])
     ∙ append_assoc first (split_list (take i coeffs)) (x ∷ (y ∷ []))
-    ∙ ap (λ zs. first ++ zs) (ap (λ z. split_list (take i coeffs) ++ x ∷ (z ∷ [])) f ∙ ap (λ zs. split_list (take i coeffs) ++ zs) (sym (split_pair x)) ∙ sym (split-append (take i coeffs) (x ∷ []))
+    ∙ ap (λ zs. first ++ zs) (ap (λ z. split_list (take i coeffs) ++ x ∷ (z ∷ [])) f
+    ∙ ap (λ zs. split_list (take i coeffs) ++ zs) (sym (split_pair x)) ∙ sym (split-append (take i coeffs) (x ∷ []))
     ∙ ap (λ z. split_list (take i coeffs ++ z ∷ [])) e ∙ ap split_list (sym (take_more coeffs i x l)))
 
 -- a one more extends the ones

@@ -1,5 +1,6 @@
 -- Lists of coefficients that have the same entries, with zeros behind their ends.
-use Rattle.std.proofs.Common.{◌≡◌, ◌∙◌, ℕ, zero, suc, ◌+◌, ◌-◌, ◌≤◌, List, [], ◌∷◌, ◌++◌, length, map, refl, ap, ap₂, sym, append_assoc, length-append, arith}
+use Rattle.std.proofs.Common.{◌≡◌, ◌∙◌, ℕ, zero, suc, ◌+◌, ◌-◌, ◌≤◌, List, [], ◌∷◌, ◌++◌, length, map, refl, ap, ap₂, sym, append_assoc}
+use Rattle.std.proofs.Common.{length-append, arith}
 use Rattle.std.specs.Prelude.{ℤ}
 use Rattle.base_numbers.proofs.vector.Vectors.{length-zeros}
 use Rattle.base_numbers.specs.Rational.{ℚ, zero_ℚ, one_ℚ, whole, neg_ℚ, ◌+ℚ◌, ◌*ℚ◌}
@@ -51,14 +52,17 @@ split_same (x ∷ u) (y ∷ v) h (suc zero) = ap neg_ℚ (h 0)
 split_same (x ∷ u) (y ∷ v) h (suc (suc k)) = split_same u v (λ j. h (suc j)) k
 
 -- a dense row has the entries of rises, zeros and split columns
-pub dense_same : (cols : ℕ) (rises : List ℚ) (offset : ℕ) (u v : List ℚ) → Same u v → Same (dense_row cols rises offset u) (rises ++ (zeros offset ++ split_list v))
+pub dense_same : (cols : ℕ) (rises : List ℚ) (offset : ℕ) (u v : List ℚ) → Same u v
+    → Same (dense_row cols rises offset u) (rises ++ (zeros offset ++ split_list v))
 dense_same cols rises offset u v h k =
     same_zeros ((rises ++ zeros offset) ++ split_list u) (cols - length rises - offset - length u - length u) k
     ∙ ap (λ xs. at xs k) (append_assoc rises (zeros offset) (split_list u))
-    ∙ same_behind rises (zeros offset ++ split_list u) (zeros offset ++ split_list v) (same_behind (zeros offset) (split_list u) (split_list v) (split_same u v h)) k
+    ∙ same_behind rises (zeros offset ++ split_list u) (zeros offset ++ split_list v)
+    (same_behind (zeros offset) (split_list u) (split_list v) (split_same u v h)) k
 
 -- a row with all its columns has one entry for each column
-pub length-dense : (cols : ℕ) (rises : List ℚ) (offset : ℕ) (u : List ℚ) → length rises + (offset + (length u + length u)) ≤ cols → length (dense_row cols rises offset u) ≡ cols
+pub length-dense : (cols : ℕ) (rises : List ℚ) (offset : ℕ) (u : List ℚ) → length rises + (offset + (length u + length u)) ≤ cols
+    → length (dense_row cols rises offset u) ≡ cols
 length-dense cols rises offset u l =
     omega (
       arith,
@@ -85,17 +89,20 @@ at_scale c [] k = sym (*ℚ-zero c)
 at_scale c (x ∷ u) zero = refl
 at_scale c (x ∷ u) (suc k) = at_scale c u k
 
-combined_shifted : (cs : List ℤ) (fs : List Affine) (k : ℕ) → at (combined cs (map shifted fs)).coeffs k ≡ at (zero_ℚ ∷ (combined cs fs).coeffs) k
+combined_shifted : (cs : List ℤ) (fs : List Affine) (k : ℕ) → at (combined cs (map shifted fs)).coeffs k
+    ≡ at (zero_ℚ ∷ (combined cs fs).coeffs) k
 unfolding combined shifted
 combined_shifted [] fs zero = refl
 combined_shifted [] fs (suc k) = refl
 combined_shifted (c ∷ cs) [] zero = refl
 combined_shifted (c ∷ cs) [] (suc k) = refl
 combined_shifted (c ∷ cs) (f ∷ fs) zero =
-    at_add (scale_vec (whole c) (zero_ℚ ∷ f.coeffs)) (combined cs (map shifted fs)).coeffs 0 ∙ ap₂ (λ a b. a +ℚ b) (at_scale (whole c) (zero_ℚ ∷ f.coeffs) 0 ∙ *ℚ-zero (whole c)) (combined_shifted cs fs 0) ∙ +ℚ_idl zero_ℚ
+    at_add (scale_vec (whole c) (zero_ℚ ∷ f.coeffs)) (combined cs (map shifted fs)).coeffs 0
+    ∙ ap₂ (λ a b. a +ℚ b) (at_scale (whole c) (zero_ℚ ∷ f.coeffs) 0 ∙ *ℚ-zero (whole c)) (combined_shifted cs fs 0) ∙ +ℚ_idl zero_ℚ
 combined_shifted (c ∷ cs) (f ∷ fs) (suc k) =
     at_add (scale_vec (whole c) (zero_ℚ ∷ f.coeffs)) (combined cs (map shifted fs)).coeffs (suc k)
-    ∙ ap₂ (λ a b. a +ℚ b) (at_scale (whole c) (zero_ℚ ∷ f.coeffs) (suc k) ∙ sym (at_scale (whole c) f.coeffs k)) (combined_shifted cs fs (suc k))
+    ∙ ap₂ (λ a b. a +ℚ b) (at_scale (whole c) (zero_ℚ ∷ f.coeffs) (suc k) ∙ sym (at_scale (whole c) f.coeffs k))
+    (combined_shifted cs fs (suc k))
     ∙ sym (at_add (scale_vec (whole c) f.coeffs) (combined cs fs).coeffs k)
 
 -- the form of a row at the start has the row's coefficients
@@ -109,7 +116,8 @@ start_same (suc n) (c ∷ cs) l zero =
 start_same (suc n) (c ∷ cs) l (suc k) =
     start_same n cs (omega (arith, l)) k
     ∙ sym (at_add (scale_vec (whole c) (one_ℚ ∷ [])) (combined cs (map shifted (columns n))).coeffs (suc k)
-    ∙ ap₂ (λ a b. a +ℚ b) (at_scale (whole c) (one_ℚ ∷ []) (suc k) ∙ *ℚ-zero (whole c)) (combined_shifted cs (columns n) (suc k)) ∙ +ℚ_idl (at (combined cs (columns n)).coeffs k))
+    ∙ ap₂ (λ a b. a +ℚ b) (at_scale (whole c) (one_ℚ ∷ []) (suc k) ∙ *ℚ-zero (whole c)) (combined_shifted cs (columns n) (suc k))
+    ∙ +ℚ_idl (at (combined cs (columns n)).coeffs k))
 
 -- negated coefficients
 pub negated_same : (u v : List ℚ) → Same u v → Same (map neg_ℚ u) (scale_vec (neg_ℚ one_ℚ) v)

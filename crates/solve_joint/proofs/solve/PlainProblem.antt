@@ -14,5 +14,6 @@ rows_themselves f (r ∷ rows) = ap₂ (λ y ys. y ∷ ys) (map_itself (f r)) (r
 
 -- a problem of rationals is the theory's problem with the same numbers
 pub plain_problem : {X : Type 0} (f : X → List ℚ) (s : X → ℚ) (rows : List X) (goal : List ℚ) →
-    list_problem (length goal) (map (λ r. map (λ q. q) (f r)) rows) (map s rows) (map (λ q. q) goal) ≡ list_problem (length goal) (map f rows) (map s rows) goal
+    list_problem (length goal) (map (λ r. map (λ q. q) (f r)) rows) (map s rows) (map (λ q. q) goal)
+    ≡ list_problem (length goal) (map f rows) (map s rows) goal
 plain_problem f s rows goal = ap₂ (λ A c. list_problem (length goal) A (map s rows) c) (rows_themselves f rows) (map_itself goal)

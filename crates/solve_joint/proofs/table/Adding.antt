@@ -14,7 +14,8 @@ length-added (a ∷ row) [] = refl
 length-added (a ∷ row) (b ∷ other) = ap (λ n. suc n) (length-added row other)
 
 -- an entry of the sum of two rows is true where one of theirs is
-pub added_at : (row other : List Bool) (i : ℕ) (d : Bool) → i < length row → get_or (added row other) i d ≡ get_or row i false || get_or other i false
+pub added_at : (row other : List Bool) (i : ℕ) (d : Bool) → i < length row
+    → get_or (added row other) i d ≡ get_or row i false || get_or other i false
 added_at [] other i d l = absurd (omega (arith, l))
 added_at (a ∷ row) [] zero d l = sym (or_false a)
 added_at (a ∷ row) [] (suc i) d l = get_or_default row i d false (omega (arith, l)) ∙ sym (or_false (get_or row i false))

@@ -1,5 +1,6 @@
 -- The table of a list's points tells which of its unknowns reach which.
-use Rattle.std.proofs.Common.{◌≡◌, ◌∙◌, inl, inr, ⊎_elim, ℕ, ◌/◌, ◌<◌, ◌&&◌, ◌||◌, ◌==◌, cond, Bool, true, false, List, [], ◌∷◌, length, get_or, map, Option, refl, ap, ap₂, sym, arith, zero-add}
+use Rattle.std.proofs.Common.{◌≡◌, ◌∙◌, inl, inr, ⊎_elim, ℕ, ◌/◌, ◌<◌, ◌&&◌, ◌||◌, ◌==◌, cond, Bool, true, false, List, [], ◌∷◌, length}
+use Rattle.std.proofs.Common.{get_or, map, Option, refl, ap, ap₂, sym, arith, zero-add}
 use Rattle.std.specs.List.{range_with_len}
 use Rattle.std.proofs.lemmas.Bool.{eqb-true}
 use Rattle.std.proofs.lemmas.Bool.Decides.{eqb_tells}
@@ -42,24 +43,31 @@ or_nothing false b = refl
 -- ---- the table by which points lead where
 at_point : {X : Type 0} (f : ℕ → X) (points p : ℕ) (d : X) → p < points → get_or (map f (range_with_len 0 points)) p d ≡ f p
 at_point f points p d l =
-    get_or-map f (range_with_len 0 points) p p d (let e = length-range_with_len 0 points in omega (arith, l, e)) ∙ ap f (get_or-range_with_len 0 points p p l ∙ zero-add p)
+    get_or-map f (range_with_len 0 points) p p d (let e = length-range_with_len 0 points in omega (arith, l, e))
+    ∙ ap f (get_or-range_with_len 0 points p p l ∙ zero-add p)
 
 module _ (points : ℕ) (xs : List Node) (x : Node) (l : x.point < points) where
   row_more : (p : ℕ) → joined x.point (row_by points (leads xs x.source)) (row_by points (leads xs p)) ≡ row_by points (leads (x ∷ xs) p)
   row_more p =
-      ap (λ b. cond b (added (row_by points (leads xs p)) (row_by points (leads xs x.source))) (row_by points (leads xs p))) (at_point (leads xs p) points x.point false l) ∙ by (leads xs p x.point)
+      ap (λ b. cond b (added (row_by points (leads xs p)) (row_by points (leads xs x.source))) (row_by points (leads xs p)))
+      (at_point (leads xs p) points x.point false l) ∙ by (leads xs p x.point)
     where
-      by : (b : Bool) → cond b (added (row_by points (leads xs p)) (row_by points (leads xs x.source))) (row_by points (leads xs p)) ≡ map (λ q. leads xs p q || (b && leads xs x.source q)) (range_with_len 0 points)
+      by : (b : Bool) → cond b (added (row_by points (leads xs p)) (row_by points (leads xs x.source))) (row_by points (leads xs p))
+          ≡ map (λ q. leads xs p q || (b && leads xs x.source q)) (range_with_len 0 points)
       by true = added_map (leads xs p) (leads xs x.source) (range_with_len 0 points)
-      by false = map_equal (leads xs p) (λ q. leads xs p q || (false && leads xs x.source q)) (range_with_len 0 points) (λ q. sym (or_nothing (leads xs p q) (leads xs x.source q)))
+      by false = map_equal (leads xs p) (λ q. leads xs p q || (false && leads xs x.source q)) (range_with_len 0 points)
+          (λ q. sym (or_nothing (leads xs p q) (leads xs x.source q)))
 
-  table_more : x.source < points → stepped x.point (get_or (table_by points (leads xs)) x.source []) (table_by points (leads xs)) ≡ table_by points (leads (x ∷ xs))
+  table_more : x.source < points → stepped x.point (get_or (table_by points (leads xs)) x.source []) (table_by points (leads xs))
+      ≡ table_by points (leads (x ∷ xs))
   table_more k =
       ap (λ mid. stepped x.point mid (table_by points (leads xs))) (at_point (λ p. row_by points (leads xs p)) points x.source [] k)
       ∙ map_twice (joined x.point (row_by points (leads xs x.source))) (λ p. row_by points (leads xs p)) (range_with_len 0 points)
-      ∙ map_equal (λ p. joined x.point (row_by points (leads xs x.source)) (row_by points (leads xs p))) (λ p. row_by points (leads (x ∷ xs) p)) (range_with_len 0 points) row_more
+      ∙ map_equal (λ p. joined x.point (row_by points (leads xs x.source)) (row_by points (leads xs p)))
+      (λ p. row_by points (leads (x ∷ xs) p)) (range_with_len 0 points) row_more
 
-closed_is : (points : ℕ) (xs : List Node) → ((a : Node) → In xs a → (a.point < points) × (a.source < points)) → closed points xs ≡ table_by points (leads xs)
+closed_is : (points : ℕ) (xs : List Node) → ((a : Node) → In xs a → (a.point < points) × (a.source < points))
+    → closed points xs ≡ table_by points (leads xs)
 closed_is points [] h = refl
 closed_is points (x ∷ xs) h =
     let here = h x (inl refl) in
@@ -67,7 +75,8 @@ closed_is points (x ∷ xs) h =
 
 -- ---- leading from source to point is reaching
 -- where one unknown is the one in the middle, going through it adds nothing
-through : (same_ab leads_ab same_ax leads_ax same_xb leads_xb : Bool) → (same_ax ≡ true → (leads_xb ≡ leads_ab) × (same_xb ≡ same_ab)) → (same_xb ≡ true → leads_ax ≡ leads_ab) →
+through : (same_ab leads_ab same_ax leads_ax same_xb leads_xb : Bool) → (same_ax ≡ true → (leads_xb ≡ leads_ab) × (same_xb ≡ same_ab))
+    → (same_xb ≡ true → leads_ax ≡ leads_ab) →
     same_ab || (leads_ab || (leads_ax && leads_xb)) ≡ (same_ab || leads_ab) || ((same_ax || leads_ax) && (same_xb || leads_xb))
 through true b c d e f h k = refl
 through false true c d e f h k = refl
@@ -98,13 +107,16 @@ module _ (system : System) (pick : List (Option ℕ)) (list : List ℕ) (picked 
 
   same_numbers : (a b : Node) → a.unknown == b.unknown ≡ same (shown system pick a) (shown system pick b)
   same_numbers a b = ⊎_elim
-      (λ h. h.0 ∙ sym (ap (λ n. same (shown system pick a) (listed_of (length system.template) pick n)) (sym h.1) ∙ same_itself (shown system pick a)))
+      (λ h. h.0 ∙ sym (ap (λ n. same (shown system pick a) (listed_of (length system.template) pick n)) (sym h.1)
+      ∙ same_itself (shown system pick a)))
       (λ h. h.0 ∙ sym (not_same (same (shown system pick a) (shown system pick b)) refl h.1))
       (eqb_tells a.unknown b.unknown)
     where
       not_same : (t : Bool) → same (shown system pick a) (shown system pick b) ≡ t → ¬ (a.unknown ≡ b.unknown) → t ≡ false
       not_same false e n = refl
-      not_same true e n = absurd (n (sym (number_back (length system.template) pick a.unknown) ∙ ap (number_of (length system.template)) (same_equal (shown system pick a) (shown system pick b) e) ∙ number_back (length system.template) pick b.unknown))
+      not_same true e n = absurd (n (sym (number_back (length system.template) pick a.unknown)
+          ∙ ap (number_of (length system.template)) (same_equal (shown system pick a) (shown system pick b) e)
+          ∙ number_back (length system.template) pick b.unknown))
 
   -- a node leans on another exactly where its unknown does
   pub leans_shown : (a b : Node) → In nodes a → In nodes b → a.source == b.point ≡ leans eqs (shown system pick a) (shown system pick b)
@@ -113,34 +125,44 @@ module _ (system : System) (pick : List (Option ℕ)) (list : List ℕ) (picked 
 
   -- nodes of one number have one point and one source
   one_source : (a b : Node) → In nodes a → In nodes b → a.unknown == b.unknown ≡ true → a.source ≡ b.source
-  one_source a b m n e = (node_in system pick list picked a m).source ∙ ap (source_of system pick) (eqb-true a.unknown b.unknown e) ∙ sym (node_in system pick list picked b n).source
+  one_source a b m n e = (node_in system pick list picked a m).source ∙ ap (source_of system pick) (eqb-true a.unknown b.unknown e)
+      ∙ sym (node_in system pick list picked b n).source
 
   one_point : (a b : Node) → In nodes a → In nodes b → a.unknown == b.unknown ≡ true → a.point ≡ b.point
-  one_point a b m n e = (node_in system pick list picked a m).point ∙ ap (λ u. u / length system.template) (eqb-true a.unknown b.unknown e) ∙ sym (node_in system pick list picked b n).point
+  one_point a b m n e = (node_in system pick list picked a m).point ∙ ap (λ u. u / length system.template) (eqb-true a.unknown b.unknown e)
+      ∙ sym (node_in system pick list picked b n).point
 
-  leads_reaches : (xs : List Node) → ((x : Node) → In xs x → In nodes x) → (a b : Node) → In nodes a → In nodes b → a.unknown == b.unknown || leads xs a.source b.point ≡ reaches eqs (map (shown system pick) xs) (shown system pick a) (shown system pick b)
+  leads_reaches : (xs : List Node) → ((x : Node) → In xs x → In nodes x) → (a b : Node) → In nodes a → In nodes b
+      → a.unknown == b.unknown || leads xs a.source b.point ≡ reaches eqs (map (shown system pick) xs) (shown system pick a)
+      (shown system pick b)
   unfolding reaches
   leads_reaches [] sub a b m n = ap₂ (λ x y. x || y) (same_numbers a b) (leans_shown a b m n)
   leads_reaches (x ∷ xs) sub a b m n =
       let k = sub x (inl refl) in
       let more = λ (y : Node) (i : In xs y). sub y (inr i) in
-      through (a.unknown == b.unknown) (leads xs a.source b.point) (a.unknown == x.unknown) (leads xs a.source x.point) (x.unknown == b.unknown) (leads xs x.source b.point)
+      through (a.unknown == b.unknown) (leads xs a.source b.point) (a.unknown == x.unknown) (leads xs a.source x.point)
+      (x.unknown == b.unknown) (leads xs x.source b.point)
       (λ e. (ap (λ p. leads xs p b.point) (sym (one_source a x m k e)), ap (λ u. u == b.unknown) (sym (eqb-true a.unknown x.unknown e))))
       (λ e. ap (leads xs a.source) (one_point x b k n e))
-      ∙ ap₂ (λ y z. y || z) (leads_reaches xs more a b m n) (ap₂ (λ y z. y && z) (leads_reaches xs more a x m k) (leads_reaches xs more x b k n))
+      ∙ ap₂ (λ y z. y || z) (leads_reaches xs more a b m n) (ap₂ (λ y z. y && z) (leads_reaches xs more a x m k)
+      (leads_reaches xs more x b k n))
 
   -- ---- the whole table
-  gets_shown : (a b : Node) → In nodes a → In nodes b → gets_to (closed points nodes) a b ≡ reaches eqs us (shown system pick a) (shown system pick b)
+  gets_shown : (a b : Node) → In nodes a → In nodes b → gets_to (closed points nodes) a b
+      ≡ reaches eqs us (shown system pick a) (shown system pick b)
   gets_shown a b m n =
       let p = node_in system pick list picked a m in
       let q = node_in system pick list picked b n in
-      ap (λ t. a.unknown == b.unknown || cell t a.source b.point) (closed_is points nodes (λ x i. let y = node_in system pick list picked x i in (y.point_within, y.source_within)))
-      ∙ ap (λ (r : List Bool). a.unknown == b.unknown || get_or r b.point false) (at_point (λ s. row_by points (leads nodes s)) points a.source [] p.source_within)
+      ap (λ t. a.unknown == b.unknown || cell t a.source b.point) (closed_is points nodes
+      (λ x i. let y = node_in system pick list picked x i in (y.point_within, y.source_within)))
+      ∙ ap (λ (r : List Bool). a.unknown == b.unknown || get_or r b.point false)
+      (at_point (λ s. row_by points (leads nodes s)) points a.source [] p.source_within)
       ∙ ap (λ t. a.unknown == b.unknown || t) (at_point (leads nodes a.source) points b.point false q.point_within)
       ∙ leads_reaches nodes (λ x i. i) a b m n
       ∙ ap (λ vs. reaches eqs vs (shown system pick a) (shown system pick b)) (shown_all system pick list)
 
   -- two nodes are in one part exactly where their unknowns are
-  pub one_part_shown : (a b : Node) → In nodes a → In nodes b → are_one_part (closed points nodes) a b ≡ together eqs us (shown system pick a) (shown system pick b)
+  pub one_part_shown : (a b : Node) → In nodes a → In nodes b → are_one_part (closed points nodes) a b
+      ≡ together eqs us (shown system pick a) (shown system pick b)
   unfolding together
   one_part_shown a b m n = ap₂ (λ x y. x && y) (gets_shown a b m n) (gets_shown b a n m)

@@ -26,18 +26,22 @@ same_value : (a b : Found) → Some a ≡ Some b → a ≡ b
 same_value a b e = cc
 
 -- what is known of an edge and a row was found at the bounds
-pub known_found : (system : System) (bounds : List Extended) (known : Known) (edge row : ℕ) (found : Found) → AreKnown system bounds known → edge < length system.flow.edges → row < length system.template →
+pub known_found : (system : System) (bounds : List Extended) (known : Known) (edge row : ℕ) (found : Found) → AreKnown system bounds known
+    → edge < length system.flow.edges → row < length system.template →
     Some found ≡ known_at system known edge row → IsFound system bounds edge row found
 known_found system bounds known edge row found are p q e = are.stand edge row found p q (sym e)
 
 -- a transformer that is known is that at the bounds
-pub known_stands : (system : System) (bounds : List Extended) (known : Known) (edge row : ℕ) (value : Ext) → AreKnown system bounds known → edge < length system.flow.edges → row < length system.template →
+pub known_stands : (system : System) (bounds : List Extended) (known : Known) (edge row : ℕ) (value : Ext) → AreKnown system bounds known
+    → edge < length system.flow.edges → row < length system.template →
     Some value ≡ known_value system known edge row → IsTransformerAt system bounds edge row value
 known_stands system bounds known edge row value are p q e = by (known_at system known edge row) refl e
   where
-    by : (o : Option Found) → known_at system known edge row ≡ o → Some value ≡ option_map (λ (found : Found). found.value) o → IsTransformerAt system bounds edge row value
+    by : (o : Option Found) → known_at system known edge row ≡ o → Some value ≡ option_map (λ (found : Found). found.value) o
+        → IsTransformerAt system bounds edge row value
     by None k e = cc
-    by (Some found) k e = let same : found.value ≡ value = cc in subst (IsTransformerAt system bounds edge row) same (are.stand edge row found p q k).value
+    by (Some found) k e = let same : found.value ≡ value = cc in subst (IsTransformerAt system bounds edge row) same
+        (are.stand edge row found p q k).value
 
 -- the entry of an edge and a row is one of all
 pub place_within : (system : System) (edge row : ℕ) → edge < length system.flow.edges → row < length system.template →
@@ -45,7 +49,8 @@ pub place_within : (system : System) (edge row : ℕ) → edge < length system.f
 place_within system edge row p q = let l = mul-add-lt edge (length system.template) row (length system.flow.edges) p q in omega (arith, l)
 
 -- what was found at bounds stands where the edge's source has the same
-pub found_by_source : (system : System) (before after : List Extended) (edge row : ℕ) (found : Found) → IsSameAt system before after (edge_at system edge).from → IsFound system before edge row found → IsFound system after edge row found
+pub found_by_source : (system : System) (before after : List Extended) (edge row : ℕ) (found : Found)
+    → IsSameAt system before after (edge_at system edge).from → IsFound system before edge row found → IsFound system after edge row found
 found_by_source system before after edge row found same is =
     let E = equations_of system in
     let z = vector_at system before in
@@ -57,50 +62,63 @@ found_by_source system before after edge row found same is =
 
 -- an entry that is made none is none
 none_set : (xs : List (Option Found)) (place : ℕ) → get_or (slice_set xs place None) place None ≡ None
-none_set xs place = ⊎_elim (λ l. get_or-set_same xs place None None l) (λ l. get_or_past (slice_set xs place None) place None (let n = length-set xs place None in omega (arith, l, n))) (cases_lt place (length xs))
+none_set xs place = ⊎_elim (λ l. get_or-set_same xs place None None l)
+    (λ l. get_or_past (slice_set xs place None) place None (let n = length-set xs place None in omega (arith, l, n)))
+    (cases_lt place (length xs))
 
 -- nothing is known
-pub known_none : (system : System) (known : Known) → known.values.items ≡ replicate (length system.flow.edges * length system.template) None → (bounds : List Extended) → AreKnown system bounds known
+pub known_none : (system : System) (known : Known) → known.values.items ≡ replicate (length system.flow.edges * length system.template) None
+    → (bounds : List Extended) → AreKnown system bounds known
 known_none system known e bounds = record {
   entries = ap (λ l. length l) e ∙ length-replicate (length system.flow.edges * length system.template) None;
   stand = λ edge row value p q k.
-      absurd (no_value value (sym (get_or-replicate (length system.flow.edges * length system.template) (edge * length system.template + row) None None (place_within system edge row p q))
+      absurd (no_value value (sym (get_or-replicate (length system.flow.edges * length system.template)
+      (edge * length system.template + row) None None (place_within system edge row p q))
       ∙ sym (ap (λ l. get_or l (edge * length system.template + row) None) e) ∙ k));
 }
 
 -- a transformer is kept
-pub known_more : (system : System) (bounds : List Extended) (old new : Known) (edge row : ℕ) (value : Found) → edge < length system.flow.edges → row < length system.template → AreKnown system bounds old →
-    new.values.items ≡ slice_set old.values.items (edge * length system.template + row) (Some value) → IsFound system bounds edge row value → AreKnown system bounds new
+pub known_more : (system : System) (bounds : List Extended) (old new : Known) (edge row : ℕ) (value : Found)
+    → edge < length system.flow.edges → row < length system.template → AreKnown system bounds old →
+    new.values.items ≡ slice_set old.values.items (edge * length system.template + row) (Some value) → IsFound system bounds edge row value
+    → AreKnown system bounds new
 known_more system bounds old new edge row value p q known e is = record {
   entries = ap (λ l. length l) e ∙ length-set old.values.items (edge * length system.template + row) (Some value) ∙ known.entries;
   stand = λ other r v a b k.
       ⊎_elim
       (λ s. here other r v b s.1 (sym (ap (λ l. get_or l (other * length system.template + r) None) e) ∙ k))
       (λ apart. known.stand other r v a b
-      (sym (get_or-set_other old.values.items (edge * length system.template + row) (other * length system.template + r) (Some value) None apart.1) ∙ sym (ap (λ l. get_or l (other * length system.template + r) None) e) ∙ k))
+      (sym (get_or-set_other old.values.items (edge * length system.template + row) (other * length system.template + r) (Some value) None
+      apart.1) ∙ sym (ap (λ l. get_or l (other * length system.template + r) None) e) ∙ k))
       (eqb_tells (other * length system.template + r) (edge * length system.template + row));
 }
   where
     within : edge * length system.template + row < length old.values.items
     within = let l = place_within system edge row p q in let h = known.entries in omega (arith, l, h)
 
-    here : (other r : ℕ) (v : Found) → r < length system.template → other * length system.template + r ≡ edge * length system.template + row →
-        get_or (slice_set old.values.items (edge * length system.template + row) (Some value)) (other * length system.template + r) None ≡ Some v → IsFound system bounds other r v
+    here : (other r : ℕ) (v : Found) → r < length system.template → other * length system.template + r ≡ edge * length system.template + row
+        →
+        get_or (slice_set old.values.items (edge * length system.template + row) (Some value)) (other * length system.template + r) None
+        ≡ Some v → IsFound system bounds other r v
     here other r v b s k =
         let one = same_from_place other r edge row (length system.template) b q s in
-        let same : value ≡ v = same_value value v (sym (get_or-set_same old.values.items (edge * length system.template + row) (Some value) None within)
+        let same : value ≡ v = same_value value v (sym (get_or-set_same old.values.items (edge * length system.template + row) (Some value)
+        None within)
         ∙ sym (ap (λ n. get_or (slice_set old.values.items (edge * length system.template + row) (Some value)) n None) s) ∙ k) in
         subst (λ x. IsFound system bounds other r x) same
         (subst (λ n. IsFound system bounds n r value) (sym one.0) (subst (λ n. IsFound system bounds edge n value) (sym one.1) is))
 
 -- what was known of an edge and a row isn't any more
-pub known_less : (system : System) (bounds : List Extended) (old new : Known) (place : ℕ) → AreKnown system bounds old → new.values.items ≡ slice_set old.values.items place None → AreKnown system bounds new
+pub known_less : (system : System) (bounds : List Extended) (old new : Known) (place : ℕ) → AreKnown system bounds old
+    → new.values.items ≡ slice_set old.values.items place None → AreKnown system bounds new
 known_less system bounds old new place known e = record {
   entries = ap (λ l. length l) e ∙ length-set old.values.items place None ∙ known.entries;
-  stand = λ edge row value p q k. known.stand edge row value p q (was (edge * length system.template + row) value (sym (ap (λ l. get_or l (edge * length system.template + row) None) e) ∙ k));
+  stand = λ edge row value p q k. known.stand edge row value p q (was (edge * length system.template + row) value
+      (sym (ap (λ l. get_or l (edge * length system.template + row) None) e) ∙ k));
 }
   where
-    was : (k : ℕ) (value : Found) → get_or (slice_set old.values.items place None) k None ≡ Some value → get_or old.values.items k None ≡ Some value
+    was : (k : ℕ) (value : Found) → get_or (slice_set old.values.items place None) k None ≡ Some value
+        → get_or old.values.items k None ≡ Some value
     was k value is =
         ⊎_elim
         (λ s. absurd (no_value value (sym (gone k s.1) ∙ is)))
@@ -111,7 +129,8 @@ known_less system bounds old new place known e = record {
         gone k s = ap (λ n. get_or (slice_set old.values.items place None) n None) s ∙ none_set old.values.items place
 
 -- where the whole knows nothing a part knows nothing
-stays_none : (part whole : Known) (k : ℕ) → IsPartOf part whole → get_or whole.values.items k None ≡ None → get_or part.values.items k None ≡ None
+stays_none : (part whole : Known) (k : ℕ) → IsPartOf part whole → get_or whole.values.items k None ≡ None
+    → get_or part.values.items k None ≡ None
 stays_none part whole k of none = by (get_or part.values.items k None) refl
   where
     by : (o : Option Found) → get_or part.values.items k None ≡ o → get_or part.values.items k None ≡ None
@@ -120,23 +139,28 @@ stays_none part whole k of none = by (get_or part.values.items k None) refl
 
 module _ (system : System) (point number : ℕ) (mid : Known) (nothing : NothingFrom system point number mid) where
   -- one more edge is forgotten
-  pub nothing_more : (new : Known) → IsPartOf new mid → ((row : ℕ) → row < length system.template → known_at system new number row ≡ None) → NothingFrom system point (number + 1) new
+  pub nothing_more : (new : Known) → IsPartOf new mid → ((row : ℕ) → row < length system.template → known_at system new number row ≡ None)
+      → NothingFrom system point (number + 1) new
   nothing_more new part gone edge row l r from =
       ⊎_elim (λ e. subst (λ n. known_at system new n row ≡ None) (sym e.1) (gone row r))
-      (λ apart. stays_none new mid (edge * length system.template + row) part (nothing edge row (omega (arith, l, apart.1)) r from)) (eqb_tells edge number)
+      (λ apart. stays_none new mid (edge * length system.template + row) part (nothing edge row (omega (arith, l, apart.1)) r from))
+      (eqb_tells edge number)
 
   -- one more edge starts elsewhere
   pub nothing_apart : ((edge_at system number).from ≡ point → ⊥) → NothingFrom system point (number + 1) mid
   nothing_apart elsewhere edge row l r from =
-      ⊎_elim (λ e. absurd (elsewhere (subst (λ n. (edge_at system n).from ≡ point) e.1 from))) (λ apart. nothing edge row (omega (arith, l, apart.1)) r from) (eqb_tells edge number)
+      ⊎_elim (λ e. absurd (elsewhere (subst (λ n. (edge_at system n).from ≡ point) e.1 from)))
+      (λ apart. nothing edge row (omega (arith, l, apart.1)) r from) (eqb_tells edge number)
 
 -- what is known after some points: it was known, and those of these points from which a known edge starts keep their bounds
 pub record StillKnown (system : System) (before after : List Extended) (old new : Known) (points : ℕ) : Type 0 where
   -- there is one entry for each edge and row
   pub entries : HasEntries system new
   -- each value that is known is that of its edge and row
-  pub stand : (edge row : ℕ) (value : Found) → edge < length system.flow.edges → row < length system.template → known_at system new edge row ≡ Some value →
-      (known_at system old edge row ≡ Some value) × ((edge_at system edge).from < points → IsSameAt system before after (edge_at system edge).from)
+  pub stand : (edge row : ℕ) (value : Found) → edge < length system.flow.edges → row < length system.template
+      → known_at system new edge row ≡ Some value →
+      (known_at system old edge row ≡ Some value) × ((edge_at system edge).from < points
+      → IsSameAt system before after (edge_at system edge).from)
 
 module _ (system : System) (before after : List Extended) (old : Known) where
   -- before the first point
@@ -144,12 +168,14 @@ module _ (system : System) (before after : List Extended) (old : Known) where
   still_none known = record { entries = known.entries; stand = λ edge row value p q k. (k, λ l. absurd (omega (arith, l))) }
 
   -- a point with the same bounds
-  pub still_same : (new : Known) (point : ℕ) → StillKnown system before after old new point → IsSameAt system before after point → StillKnown system before after old new (point + 1)
+  pub still_same : (new : Known) (point : ℕ) → StillKnown system before after old new point → IsSameAt system before after point
+      → StillKnown system before after old new (point + 1)
   still_same new point still same = record {
     entries = still.entries;
     stand = λ edge row value p q k. (
       (still.stand edge row value p q k).0,
-      λ l. ⊎_elim (λ e. subst (λ n. IsSameAt system before after n) (sym e.1) same) (λ apart. (still.stand edge row value p q k).1 (omega (arith, l, apart.1))) (eqb_tells (edge_at system edge).from point),
+      λ l. ⊎_elim (λ e. subst (λ n. IsSameAt system before after n) (sym e.1) same)
+          (λ apart. (still.stand edge row value p q k).1 (omega (arith, l, apart.1))) (eqb_tells (edge_at system edge).from point),
     );
   }
 
@@ -161,12 +187,14 @@ module _ (system : System) (before after : List Extended) (old : Known) where
     stand = λ edge row value p q k.
         let s = still.stand edge row value p q (part (edge * length system.template + row) value k) in (
           s.0,
-          λ l. ⊎_elim (λ e. absurd (no_value value (sym (gone edge row p q e.1) ∙ k))) (λ apart. s.1 (omega (arith, l, apart.1))) (eqb_tells (edge_at system edge).from point),
+          λ l. ⊎_elim (λ e. absurd (no_value value (sym (gone edge row p q e.1) ∙ k))) (λ apart. s.1 (omega (arith, l, apart.1)))
+              (eqb_tells (edge_at system edge).from point),
         );
   }
 
   -- after all points it is known at the new bounds
-  pub still_all : (new : Known) (points : ℕ) → length system.flow.points ≤ points → AreKnown system before old → StillKnown system before after old new points → AreKnown system after new
+  pub still_all : (new : Known) (points : ℕ) → length system.flow.points ≤ points → AreKnown system before old
+      → StillKnown system before after old new points → AreKnown system after new
   still_all new points all known still = record {
     entries = still.entries;
     stand = λ edge row value p q k.

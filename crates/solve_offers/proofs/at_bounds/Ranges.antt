@@ -15,24 +15,30 @@ use Rattle.theory_validity.specs.Certificates.{PointsInRange}
 use Rattle.theory_validity.proofs.certificates.Needs.{in_of_contains}
 use Rattle.solve_offers.specs.AtBounds.{edge_at}
 
-edge_passes : (n points : ℕ) (edges : List Edge) → IsTrue (list_all (is_edge n points) edges) → (edge : Edge) → In edges edge → IsTrue (is_edge n points edge)
+edge_passes : (n points : ℕ) (edges : List Edge) → IsTrue (list_all (is_edge n points) edges) → (edge : Edge) → In edges edge
+    → IsTrue (is_edge n points edge)
 edge_passes n points [] h edge m = absurd m
 edge_passes n points (first ∷ edges) h edge m =
     let b = both (is_edge n points first) (list_all (is_edge n points) edges) h in
     ⊎_elim (λ e. subst (λ x. IsTrue (is_edge n points x)) e b.0) (λ k. edge_passes n points edges b.1 edge k) m
 
 -- both ends of an edge are tested
-ends_pass : (system : System) (edge : Edge) → Contains system.flow.edges edge → (edge.from < length system.flow.points) × (edge.to < length system.flow.points)
+ends_pass : (system : System) (edge : Edge) → Contains system.flow.edges edge
+    → (edge.from < length system.flow.points) × (edge.to < length system.flow.points)
 ends_pass system edge c =
     let n = length system.flow.names in
     let points = length system.flow.points in
-    let a = both (nat_lt edge.from points) (nat_lt 0 edge.to && (nat_lt edge.to points && (nat_le (length edge.actions) 256 && list_all (is_action n) edge.actions)))
+    let a = both (nat_lt edge.from points) (nat_lt 0 edge.to && (nat_lt edge.to points
+    && (nat_le (length edge.actions) 256 && list_all (is_action n) edge.actions)))
     (edge_passes n points system.flow.edges (flow_sizes system.flow).edges edge (in_of_contains system.flow.edges edge c)) in
-    let b = both (nat_lt 0 edge.to) (nat_lt edge.to points && (nat_le (length edge.actions) 256 && list_all (is_action n) edge.actions)) a.1 in
-    let d = both (nat_lt edge.to points) (nat_le (length edge.actions) 256 && list_all (is_action n) edge.actions) b.1 in (ltb-true edge.from points a.0, ltb-true edge.to points d.0)
+    let b = both (nat_lt 0 edge.to) (nat_lt edge.to points && (nat_le (length edge.actions) 256 && list_all (is_action n) edge.actions))
+    a.1 in
+    let d = both (nat_lt edge.to points) (nat_le (length edge.actions) 256 && list_all (is_action n) edge.actions) b.1 in
+    (ltb-true edge.from points a.0, ltb-true edge.to points d.0)
 
 -- an edge starts at a point
-pub source_in_range : (system : System) (edge : ℕ) → edge < length system.flow.edges → (edge_at system edge).from < length system.flow.points
+pub source_in_range : (system : System) (edge : ℕ) → edge < length system.flow.edges
+    → (edge_at system edge).from < length system.flow.points
 source_in_range system edge l = (ends_pass system (edge_at system edge) (Contains-get_or system.flow.edges edge _ l)).0
 
 -- each edge of a system ends at one of its points
@@ -43,5 +49,7 @@ points_in_range system = record {
 }
 
 -- the edge at a place of the edges is that of its number
-pub edge_here : (system : System) (edges : List Edge) (i : ℕ) (edge : Edge) → edges ≡ system.flow.edges → i < length edges → edge ≡ get_or edges i edge → edge_at system i ≡ edge
-edge_here system edges i edge same l is = ap (λ es. get_or es i (record { from = 0; to = 0; actions = [] })) (sym same) ∙ get_or_default edges i (record { from = 0; to = 0; actions = [] }) edge l ∙ sym is
+pub edge_here : (system : System) (edges : List Edge) (i : ℕ) (edge : Edge) → edges ≡ system.flow.edges → i < length edges
+    → edge ≡ get_or edges i edge → edge_at system i ≡ edge
+edge_here system edges i edge same l is = ap (λ es. get_or es i (record { from = 0; to = 0; actions = [] })) (sym same)
+    ∙ get_or_default edges i (record { from = 0; to = 0; actions = [] }) edge l ∙ sym is

@@ -1,5 +1,6 @@
 -- The product over all unknowns, point after point.
-use Rattle.std.proofs.Common.{◌≡◌, ◌∙◌, ℕ, zero, suc, ◌+◌, ◌*◌, ◌^◌, ◌<◌, ◌≤◌, eqb, Bool, true, false, cond, List, [], ◌∷◌, ◌++◌, length, map, refl, sym, ap, arith, mul_assoc, if◌then◌else◌}
+use Rattle.std.proofs.Common.{◌≡◌, ◌∙◌, ℕ, zero, suc, ◌+◌, ◌*◌, ◌^◌, ◌<◌, ◌≤◌, eqb, Bool, true, false, cond, List, [], ◌∷◌, ◌++◌, length}
+use Rattle.std.proofs.Common.{map, refl, sym, ap, arith, mul_assoc, if◌then◌else◌}
 use Rattle.std.specs.Prelude.{flat_map, ◌==◌}
 use Rattle.std.specs.List.{filter, range_with_len, count_by}
 use Rattle.std.proofs.Math.Nat.{one-le-pow, pow-zero, pow-suc, pow-succ', mul-le-mul_left, le-mul_of_pos_right, pow-le-pow_right}
@@ -18,7 +19,8 @@ edges_into-filter p [] = refl
 edges_into-filter p (edge ∷ edges) = by (eqb edge.to p) (edges_into-filter p edges)
   where
     by : (b : Bool) → edges_into p edges ≡ filter (λ other. other.to == p) edges →
-        (if b then edge ∷ edges_into p edges else edges_into p edges) ≡ cond b (edge ∷ filter (λ other. other.to == p) edges) (filter (λ other. other.to == p) edges)
+        (if b then edge ∷ edges_into p edges else edges_into p edges) ≡ cond b (edge ∷ filter (λ other. other.to == p) edges)
+        (filter (λ other. other.to == p) edges)
     by true e = ap (λ es. edge ∷ es) e
     by false e = e
 
@@ -67,7 +69,8 @@ module _ (system : Equations) where
   unfolding factor at made
   product_at p = ap (λ xs. product xs) (same (range_with_len 0 (length system.template)))
       ∙ product-same (suc (length (edges_into p system.edges))) (map (made p) (range_with_len 0 (length system.template)))
-      ∙ ap (λ n. suc (length (edges_into p system.edges)) ^ n) (length-map (range_with_len 0 (length system.template)) (made p) ∙ length-range_with_len 0 (length system.template))
+      ∙ ap (λ n. suc (length (edges_into p system.edges)) ^ n) (length-map (range_with_len 0 (length system.template)) (made p)
+      ∙ length-range_with_len 0 (length system.template))
     where
       same : (rs : List ℕ) → map factor (map (made p) rs) ≡ map (λ u. suc (length (edges_into p system.edges))) (map (made p) rs)
       same [] = refl
@@ -79,7 +82,8 @@ module _ (system : Equations) where
   product_to-zero = refl
 
   range_more : (n : ℕ) → range_with_len 0 (n + 1) ≡ range_with_len 0 n ++ n ∷ []
-  range_more n = sym (map-id (range_with_len 0 (n + 1))) ∙ map-range_with_len_more (λ k. k) 0 n n (omega arith) ∙ ap (λ xs. xs ++ n ∷ []) (map-id (range_with_len 0 n))
+  range_more n = sym (map-id (range_with_len 0 (n + 1))) ∙ map-range_with_len_more (λ k. k) 0 n n (omega arith)
+      ∙ ap (λ xs. xs ++ n ∷ []) (map-id (range_with_len 0 n))
     where
       map-id : (xs : List ℕ) → map (λ k. k) xs ≡ xs
       map-id [] = refl
@@ -105,8 +109,10 @@ module _ (system : Equations) where
   pub product_to-grows : (n k : ℕ) → product_to n ≤ product_to (n + k)
   product_to-grows n zero = (let same : product_to n ≡ product_to (n + 0) = ap product_to (omega arith) in omega arith)
   product_to-grows n (suc k) =
-      let more : product_to (n + k + 1) ≡ product_to (n + k) * suc (length (edges_into (n + k) system.edges)) ^ length system.template = product_to-more (n + k) in
-      let up = le-mul_of_pos_right (product_to (n + k)) (one-le-pow (length system.template) (suc (length (edges_into (n + k) system.edges))) (omega arith)) in
+      let more : product_to (n + k + 1) ≡ product_to (n + k) * suc (length (edges_into (n + k) system.edges)) ^ length system.template =
+      product_to-more (n + k) in
+      let up = le-mul_of_pos_right (product_to (n + k)) (one-le-pow (length system.template)
+      (suc (length (edges_into (n + k) system.edges))) (omega arith)) in
       let before = product_to-grows n k in
       let same : product_to (n + suc k) ≡ product_to (n + k + 1) = ap product_to (omega arith) in
       omega arith
@@ -114,10 +120,12 @@ module _ (system : Equations) where
 -- one more factor of a power
 pub power_more : (product factor k : ℕ) → product * factor ^ k * factor ≡ product * factor ^ (k + 1)
 power_more product factor k =
-    mul_assoc product (factor ^ k) factor ∙ ap (λ n. product * n) (sym (pow-suc factor k) ∙ ap (λ n. factor ^ n) (let e : suc k ≡ k + 1 = omega arith in e))
+    mul_assoc product (factor ^ k) factor ∙ ap (λ n. product * n) (sym (pow-suc factor k)
+    ∙ ap (λ n. factor ^ n) (let e : suc k ≡ k + 1 = omega arith in e))
 
 -- a product that passes a limit passes it with more factors too
-pub power_passes : (product factor k count limit : ℕ) → 0 < factor → k < count → limit < product * factor ^ k * factor → product * factor ^ count ≤ limit → ⊥
+pub power_passes : (product factor k count limit : ℕ) → 0 < factor → k < count → limit < product * factor ^ k * factor
+    → product * factor ^ count ≤ limit → ⊥
 power_passes product factor k count limit positive within above below =
     let more : product * factor ^ (k + 1) ≤ product * factor ^ count = mul-le-mul_left product (pow-le-pow_right positive (omega arith)) in
     let same = power_more product factor k in

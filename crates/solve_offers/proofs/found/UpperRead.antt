@@ -1,5 +1,6 @@
 -- The evidence that a value shows is what the outcome at the bounds gives.
-use Rattle.std.proofs.Common.{◌≡◌, ◌∙◌, ℕ, zero, suc, ◌||◌, Bool, true, false, true≢false, List, [], ◌∷◌, length, refl, sym, ap, ap₂, arith, if◌then◌else◌}
+use Rattle.std.proofs.Common.{◌≡◌, ◌∙◌, ℕ, zero, suc, ◌||◌, Bool, true, false, true≢false, List, [], ◌∷◌, length, refl, sym, ap, ap₂, arith}
+use Rattle.std.proofs.Common.{if◌then◌else◌}
 use Rattle.std.specs.Prelude.{ℤ}
 use Rattle.base_numbers.specs.Rational.{ℚ}
 use Rattle.base_numbers.specs.Extended.{Ext, neg_inf, fin, pos_inf, ◌<ᴱ◌}
@@ -27,7 +28,8 @@ above_not_lost (fin c) h e = true≢false (sym e)
 above_not_lost pos_inf h e = true≢false (sym e)
 
 -- the lowest row at −∞ is the one that is found
-lowest_is : (bounds : ℕ → Ext) (rows : List (List ℤ)) (r : ℕ) → IsLowestLost bounds (length rows) r → (lost bounds rows ≡ true) × (r ≡ lowest_lost bounds rows)
+lowest_is : (bounds : ℕ → Ext) (rows : List (List ℤ)) (r : ℕ) → IsLowestLost bounds (length rows) r
+    → (lost bounds rows ≡ true) × (r ≡ lowest_lost bounds rows)
 unfolding lost lowest_lost
 lowest_is bounds [] r h = absurd (let l = h.within in omega arith)
 lowest_is bounds (row ∷ rows) zero h =
@@ -37,7 +39,12 @@ lowest_is bounds (row ∷ rows) zero h =
     )
 lowest_is bounds (row ∷ rows) (suc r) h =
     by (is_lost (bounds 0)) refl
-    (lowest_is (λ k. bounds (suc k)) rows r (record { within = (let l = h.within in omega arith); is_lost = h.is_lost; lowest = λ k l. h.lowest (suc k) (omega arith) }))
+    (lowest_is (λ k. bounds (suc k)) rows r (record {
+      within = (let l = h.within in omega arith);
+      is_lost = h.is_lost;
+      lowest =
+          λ k l. h.lowest (suc k) (omega arith);
+    }))
   where
     by : (b : Bool) → is_lost (bounds 0) ≡ b → (lost (λ k. bounds (suc k)) rows ≡ true) × (r ≡ lowest_lost (λ k. bounds (suc k)) rows) →
         ((b || lost (λ k. bounds (suc k)) rows) ≡ true) × (suc r ≡ (if b then 0 else suc (lowest_lost (λ k. bounds (suc k)) rows)))
@@ -46,15 +53,18 @@ lowest_is bounds (row ∷ rows) (suc r) h =
 
 module _ (system : Equations) (z : Vector) (edge : Edge) (row : List ℤ) where
   -- where no row is lost, it is read from the outcome
-  from_outcome : lost (z edge.from) system.template ≡ false → outcome_upper system z edge (lp (whole_problem system z edge row)) ≡ exact_upper system z edge row
+  from_outcome : lost (z edge.from) system.template ≡ false → outcome_upper system z edge (lp (whole_problem system z edge row))
+      ≡ exact_upper system z edge row
   unfolding exact_upper
   from_outcome e =
-      ap (λ b. if b then Evidence.Unreached (lowest_lost (z edge.from) system.template) else outcome_upper system z edge (lp (whole_problem system z edge row))) (sym e)
+      ap (λ b. if b then Evidence.Unreached (lowest_lost (z edge.from) system.template) else outcome_upper system z edge
+      (lp (whole_problem system z edge row))) (sym e)
 
   count : ℕ
   count = length (guard_forms system.variables edge.actions)
 
-  read_empty : (n w : ℕ) (c : ℚ) (o : Outcome) (rows guards : List ℚ) → ReadsOutcome n w c (z edge.from) system.template (length (guard_forms system.variables edge.actions)) o (Empty rows guards) →
+  read_empty : (n w : ℕ) (c : ℚ) (o : Outcome) (rows guards : List ℚ) →
+      ReadsOutcome n w c (z edge.from) system.template (length (guard_forms system.variables edge.actions)) o (Empty rows guards) →
       Evidence.Empty rows guards ≡ outcome_upper system z edge o
   unfolding outcome_upper
   read_empty n w c (best x v y) rows guards h = absurd h
@@ -62,14 +72,16 @@ module _ (system : Equations) (z : Vector) (edge : Edge) (row : List ℤ) where
   read_empty n w c (empty y) rows guards h = ap₂ Evidence.Empty h.of_rows h.of_guards
 
   read_best : (n w : ℕ) (c : ℚ) (o : Outcome) (value : ℚ) (trace : Trace) (rows guards : List ℚ) →
-      ReadsOutcome n w c (z edge.from) system.template (length (guard_forms system.variables edge.actions)) o (Best value trace rows guards) → Evidence.Bound rows guards ≡ outcome_upper system z edge o
+      ReadsOutcome n w c (z edge.from) system.template (length (guard_forms system.variables edge.actions)) o (Best value trace rows guards)
+      → Evidence.Bound rows guards ≡ outcome_upper system z edge o
   unfolding outcome_upper
   read_best n w c (best x v y) value trace rows guards h = ap₂ Evidence.Bound h.2.of_rows h.2.of_guards
   read_best n w c (unbounded x d) value trace rows guards h = absurd h
   read_best n w c (empty y) value trace rows guards h = absurd h
 
   read_unbounded : (n w : ℕ) (c : ℚ) (o : Outcome) (trace direction : Trace) →
-      ReadsOutcome n w c (z edge.from) system.template (length (guard_forms system.variables edge.actions)) o (Unbounded trace direction) → Evidence.Unreached 0 ≡ outcome_upper system z edge o
+      ReadsOutcome n w c (z edge.from) system.template (length (guard_forms system.variables edge.actions)) o (Unbounded trace direction)
+      → Evidence.Unreached 0 ≡ outcome_upper system z edge o
   unfolding outcome_upper
   read_unbounded n w c (best x v y) trace direction h = absurd h
   read_unbounded n w c (unbounded x d) trace direction h = refl
@@ -81,7 +93,10 @@ module _ (system : Equations) (z : Vector) (edge : Edge) (row : List ℤ) where
   upper_is (Unreached r) h =
       let l = lowest_is (z edge.from) system.template r h in
       ap Evidence.Unreached l.1
-      ∙ ap (λ b. if b then Evidence.Unreached (lowest_lost (z edge.from) system.template) else outcome_upper system z edge (lp (whole_problem system z edge row))) (sym l.0)
+      ∙ ap (λ b. if b then Evidence.Unreached (lowest_lost (z edge.from) system.template) else outcome_upper system z edge
+      (lp (whole_problem system z edge row))) (sym l.0)
   upper_is (Empty rows guards) h = read_empty _ _ _ (lp (whole_problem system z edge row)) rows guards h.1 ∙ from_outcome h.0
-  upper_is (Best value trace rows guards) h = read_best _ _ _ (lp (whole_problem system z edge row)) value trace rows guards h.1 ∙ from_outcome h.0
-  upper_is (Unbounded trace direction) h = read_unbounded _ _ _ (lp (whole_problem system z edge row)) trace direction h.1 ∙ from_outcome h.0
+  upper_is (Best value trace rows guards) h = read_best _ _ _ (lp (whole_problem system z edge row)) value trace rows guards h.1
+      ∙ from_outcome h.0
+  upper_is (Unbounded trace direction) h = read_unbounded _ _ _ (lp (whole_problem system z edge row)) trace direction h.1
+      ∙ from_outcome h.0

@@ -1,5 +1,6 @@
 -- A pick that is improved unknown by unknown.
-use Rattle.std.proofs.Common.{◌≡◌, ◌∙◌, ◌⊎◌, inl, ⊎_elim, ℕ, suc, ◌+◌, ◌*◌, ◌/◌, ◌%◌, ◌<◌, ◌≤◌, Bool, true, false, true≢false, List, [], ◌∷◌, length, get_or, refl, sym, subst, subst₂, arith}
+use Rattle.std.proofs.Common.{◌≡◌, ◌∙◌, ◌⊎◌, inl, ⊎_elim, ℕ, suc, ◌+◌, ◌*◌, ◌/◌, ◌%◌, ◌<◌, ◌≤◌, Bool, true, false, true≢false, List, []}
+use Rattle.std.proofs.Common.{◌∷◌, length, get_or, refl, sym, subst, subst₂, arith}
 use Rattle.std.specs.Prelude.{Option, Some, None}
 use Rattle.std.proofs.lemmas.Option.{slice_get_within, get_or_from_slice_get, slice_get-get_or}
 use Rattle.std.proofs.lemmas.Bool.{cases_lt}
@@ -37,9 +38,11 @@ module _ (system : Equations) (z : Vector) (policy : Offer → ℕ → Type 0) w
     -- there is one entry for each unknown
     pub size : length new ≡ system.points * length system.template
     -- each unknown so far becomes what the policy says, and an offer to it marks an improvement
-    pub each : (k : ℕ) → k < u → (offered : Bool) × UnknownBecomes system z policy k (get_or old k None) (get_or new k None) offered × (offered ≡ true → improved ≡ true)
+    pub each : (k : ℕ) → k < u → (offered : Bool) × UnknownBecomes system z policy k (get_or old k None) (get_or new k None) offered
+        × (offered ≡ true → improved ≡ true)
     -- an improvement comes from an unknown with an offer
-    pub some : improved ≡ true → (k : ℕ) × (k < u) × IsListed (offers system (transformer system) z (k / length system.template) (k % length system.template)) true
+    pub some : improved ≡ true → (k : ℕ) × (k < u) × IsListed (offers system (transformer system) z (k / length system.template)
+        (k % length system.template)) true
 
   -- before the first unknown nothing is improved
   pub improved_none : (old new : List (Option ℕ)) → length new ≡ system.points * length system.template → ImprovedTo old new 0 false
@@ -50,29 +53,44 @@ module _ (system : Equations) (z : Vector) (policy : Offer → ℕ → Type 0) w
   }
 
   -- one more unknown
-  pub improved_more : (old new next : List (Option ℕ)) (u : ℕ) (before after offered : Bool) → ImprovedTo old new u before → length next ≡ length new →
-      ((k : ℕ) → (k ≡ u → ⊥) → get_or next k None ≡ get_or new k None) → UnknownBecomes system z policy u (get_or old u None) (get_or next u None) offered →
-      (before ≡ true → after ≡ true) → (offered ≡ true → after ≡ true) → (after ≡ true → (before ≡ true) ⊎ (offered ≡ true)) → ImprovedTo old next (u + 1) after
+  pub improved_more : (old new next : List (Option ℕ)) (u : ℕ) (before after offered : Bool) → ImprovedTo old new u before
+      → length next ≡ length new →
+      ((k : ℕ) → (k ≡ u → ⊥) → get_or next k None ≡ get_or new k None)
+      → UnknownBecomes system z policy u (get_or old u None) (get_or next u None) offered →
+      (before ≡ true → after ≡ true) → (offered ≡ true → after ≡ true) → (after ≡ true → (before ≡ true) ⊎ (offered ≡ true))
+      → ImprovedTo old next (u + 1) after
   improved_more old new next u before after offered so_far size others becomes kept told one = record {
     size = size ∙ so_far.size;
     each = λ k l. ⊎_elim
-        (λ h. let e = so_far.each k h in (e.0, subst (λ o. UnknownBecomes system z policy k (get_or old k None) o e.0) (sym (others k (λ s. omega (arith, h, s)))) e.1, λ t. kept (e.2 t)))
-        (λ h. let same : u ≡ k = omega arith in subst (λ k. (o : Bool) × UnknownBecomes system z policy k (get_or old k None) (get_or next k None) o × (o ≡ true → after ≡ true)) same (offered, becomes, told))
+        (λ h. let e = so_far.each k h in (
+          e.0,
+          subst (λ o. UnknownBecomes system z policy k (get_or old k None) o e.0)
+              (sym (others k (λ s. omega (arith, h, s)))) e.1,
+          λ t. kept (e.2 t),
+        ))
+        (λ h. let same : u ≡ k = omega arith in subst (λ k. (o : Bool)
+        × UnknownBecomes system z policy k (get_or old k None) (get_or next k None) o × (o ≡ true → after ≡ true)) same
+        (offered, becomes, told))
         (cases_lt k u);
-    some = λ e. ⊎_elim (λ h. let s = so_far.some h in (s.0, (let l = s.1 in omega arith), s.2)) (λ h. (u, omega arith, subst (IsListed (offers_of u)) h becomes.told)) (one e);
+    some = λ e. ⊎_elim (λ h. let s = so_far.some h in (s.0, (let l = s.1 in omega arith), s.2))
+        (λ h. (u, omega arith, subst (IsListed (offers_of u)) h becomes.told)) (one e);
   }
 
-  module _ (range : PointsInRange system) (old new : List (Option ℕ)) (improved : Bool) (old_size : length old ≡ system.points * length system.template)
+  module _ (range : PointsInRange system) (old new : List (Option ℕ)) (improved : Bool)
+      (old_size : length old ≡ system.points * length system.template)
       (u : ℕ) (last : u ≡ system.points * length system.template) (so_far : ImprovedTo old new u improved) where
     done : ImprovedTo old new (system.points * length system.template) improved
     done = subst (λ k. ImprovedTo old new k improved) last so_far
 
-    number_within : (p r : ℕ) → p < system.points → r < length system.template → p * length system.template + r < system.points * length system.template
-    number_within p r h l = (let m : suc p * length system.template ≤ system.points * length system.template = mul-le-mul_right (length system.template) h in omega arith)
+    number_within : (p r : ℕ) → p < system.points → r < length system.template
+        → p * length system.template + r < system.points * length system.template
+    number_within p r h l = (let m : suc p * length system.template ≤ system.points * length system.template =
+        mul-le-mul_right (length system.template) h in omega arith)
 
     -- what becomes of an unknown in range
     each_at : (p r : ℕ) → p < system.points → r < length system.template →
-        (offered : Bool) × Becomes system (transformer system) z policy p r (offers system (transformer system) z p r) (get_or old (p * length system.template + r) None) (get_or new (p * length system.template + r) None)
+        (offered : Bool) × Becomes system (transformer system) z policy p r (offers system (transformer system) z p r)
+        (get_or old (p * length system.template + r) None) (get_or new (p * length system.template + r) None)
         × IsListed (offers system (transformer system) z p r) offered × (offered ≡ true → improved ≡ true)
     each_at p r h l =
         let k = p * length system.template + r in
@@ -80,17 +98,20 @@ module _ (system : Equations) (z : Vector) (policy : Offer → ℕ → Type 0) w
         let point = div-mul-add p (length system.template) r l in
         let row = mod-mul-add p (length system.template) r l in (
           e.0,
-          subst₂ (λ q s. Becomes system (transformer system) z policy q s (offers system (transformer system) z q s) (get_or old k None) (get_or new k None)) point row e.1.becomes,
+          subst₂ (λ q s. Becomes system (transformer system) z policy q s (offers system (transformer system) z q s) (get_or old k None)
+              (get_or new k None)) point row e.1.becomes,
           subst₂ (λ q s. IsListed (offers system (transformer system) z q s) e.0) point row e.1.told,
           e.2,
         )
 
     becomes_at : (p r : ℕ) → p < system.points → r < length system.template →
-        Becomes system (transformer system) z policy p r (offers system (transformer system) z p r) (get_or old (p * length system.template + r) None) (get_or new (p * length system.template + r) None)
+        Becomes system (transformer system) z policy p r (offers system (transformer system) z p r)
+        (get_or old (p * length system.template + r) None) (get_or new (p * length system.template + r) None)
     becomes_at p r h l = (each_at p r h l).1
 
     -- nothing was offered
-    none_offered : improved ≡ false → (p r : ℕ) → p < system.points → r < length system.template → offers system (transformer system) z p r ≡ []
+    none_offered : improved ≡ false → (p r : ℕ) → p < system.points → r < length system.template
+        → offers system (transformer system) z p r ≡ []
     none_offered e p r h l = by (offers system (transformer system) z p r) (each_at p r h l).0 (each_at p r h l).2 (each_at p r h l).3
       where
         by : (os : List ℕ) (offered : Bool) → IsListed os offered → (offered ≡ true → improved ≡ true) → os ≡ []
@@ -102,15 +123,19 @@ module _ (system : Equations) (z : Vector) (policy : Offer → ℕ → Type 0) w
     next_none e = no_next system (transformer system) z policy range old new old_size done.size becomes_at (none_offered e)
 
     -- where an unknown is improved, the new pick is the next one
-    pub next_some : improved ≡ true → IsNext system (transformer system) z policy (pick_of (length system.template) old) (Some (pick_of (length system.template) new))
+    pub next_some : improved ≡ true → IsNext system (transformer system) z policy (pick_of (length system.template) old)
+        (Some (pick_of (length system.template) new))
     next_some e = by (offers_of s.0) refl s.2
       where
-        s : (k : ℕ) × (k < system.points * length system.template) × IsListed (offers system (transformer system) z (k / length system.template) (k % length system.template)) true
+        s : (k : ℕ) × (k < system.points * length system.template) × IsListed
+            (offers system (transformer system) z (k / length system.template) (k % length system.template)) true
         s = done.some e
 
-        by : (os : List ℕ) → offers_of s.0 ≡ os → IsListed os true → IsNext system (transformer system) z policy (pick_of (length system.template) old) (Some (pick_of (length system.template) new))
+        by : (os : List ℕ) → offers_of s.0 ≡ os → IsListed os true → IsNext system (transformer system) z policy
+            (pick_of (length system.template) old) (Some (pick_of (length system.template) new))
         by [] f t = absurd (true≢false t)
-        by (k ∷ ks) f t = next_is system (transformer system) z policy range old new old_size done.size becomes_at (s.0 / length system.template) (s.0 % length system.template) k ks f
+        by (k ∷ ks) f t = next_is system (transformer system) z policy range old new old_size done.size becomes_at
+            (s.0 / length system.template) (s.0 % length system.template) k ks f
 
     -- and so nothing exceeds
     pub nothing_exceeds : improved ≡ false → NoneExceeds system (transformer system) z
@@ -118,13 +143,16 @@ module _ (system : Equations) (z : Vector) (policy : Offer → ℕ → Type 0) w
         let l = slice_get_within system.template r row is_row in
         let there = range.ends edge listed in
         subst (λ w. transformer system z edge w ≤ᴱ z edge.to r) (get_or_from_slice_get system.template r row [] is_row)
-        (unlisted system (transformer system) z policy edge.to r 0 system.edges (sym (offers_at system (transformer system) z policy edge.to r l) ∙ none_offered e edge.to r there l) edge (in_of_contains system.edges edge listed) refl)
+        (unlisted system (transformer system) z policy edge.to r 0 system.edges
+        (sym (offers_at system (transformer system) z policy edge.to r l) ∙ none_offered e edge.to r there l) edge
+        (in_of_contains system.edges edge listed) refl)
 
     -- and so something exceeds
     pub something_exceeds : improved ≡ true → NoneExceeds system (transformer system) z → ⊥
     something_exceeds e none = by (offers_of s.0) refl s.2
       where
-        s : (k : ℕ) × (k < system.points * length system.template) × IsListed (offers system (transformer system) z (k / length system.template) (k % length system.template)) true
+        s : (k : ℕ) × (k < system.points * length system.template) × IsListed
+            (offers system (transformer system) z (k / length system.template) (k % length system.template)) true
         s = done.some e
 
         p : ℕ
@@ -139,15 +167,24 @@ module _ (system : Equations) (z : Vector) (policy : Offer → ℕ → Type 0) w
         by : (os : List ℕ) → offers_of s.0 ≡ os → IsListed os true → ⊥
         by [] f t = true≢false t
         by (k ∷ ks) f t =
-            let found = ends_there system (transformer system) z policy (s.0 / length system.template) (s.0 % length system.template) 0 system.edges k
-            (subst (λ os. In os k) (sym (sym (offers_at system (transformer system) z policy (s.0 / length system.template) (s.0 % length system.template) within) ∙ f)) (inl refl)) in
-            ext_not_le_of_lt (z (s.0 / length system.template) (s.0 % length system.template)) (transformer system z found.0 (get_or system.template (s.0 % length system.template) [])) found.3
-            (subst (λ q. transformer system z found.0 (get_or system.template (s.0 % length system.template) []) ≤ᴱ z q (s.0 % length system.template)) found.2
-            (none found.0 (s.0 % length system.template) (get_or system.template (s.0 % length system.template) []) (contains_from_in system.edges found.0 found.1) (slice_get-get_or system.template (s.0 % length system.template) [] within)))
+            let found = ends_there system (transformer system) z policy (s.0 / length system.template) (s.0 % length system.template) 0
+            system.edges k
+            (subst (λ os. In os k) (sym (sym (offers_at system (transformer system) z policy (s.0 / length system.template)
+            (s.0 % length system.template) within) ∙ f)) (inl refl)) in
+            ext_not_le_of_lt (z (s.0 / length system.template) (s.0 % length system.template))
+            (transformer system z found.0 (get_or system.template (s.0 % length system.template) [])) found.3
+            (subst (λ q. transformer system z found.0 (get_or system.template (s.0 % length system.template) [])
+            ≤ᴱ z q (s.0 % length system.template)) found.2
+            (none found.0 (s.0 % length system.template) (get_or system.template (s.0 % length system.template) [])
+            (contains_from_in system.edges found.0 found.1) (slice_get-get_or system.template (s.0 % length system.template) []
+            within)))
 
   -- the next pick of a tight pick is supported
-  pub next_supported : PointsInRange system → (old better : ℕ → ℕ → Option ℕ) → IsNext system (transformer system) z policy old (Some better) → Tight system (transformer system) z old → Supported system (transformer system) z better
+  pub next_supported : PointsInRange system → (old better : ℕ → ℕ → Option ℕ)
+      → IsNext system (transformer system) z policy old (Some better) → Tight system (transformer system) z old
+      → Supported system (transformer system) z better
   next_supported range old better next tight =
       let answers : Answers system (transformer system) z old (Some better) =
-      subst (Answers system (transformer system) z old) next.same (policy_answers system (transformer system) range next.choose next.is_choice.among z old tight) in
+      subst (Answers system (transformer system) z old) next.same (policy_answers system (transformer system) range next.choose
+      next.is_choice.among z old tight) in
       improve_supported system (transformer system) (transformer_reaches system) z old better tight answers.is_pick answers.improves

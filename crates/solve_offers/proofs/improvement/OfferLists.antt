@@ -1,5 +1,6 @@
 -- Offers made edge by edge.
-use Rattle.std.proofs.Common.{◌≡◌, ◌∙◌, ⊎_elim, ℕ, suc, ◌+◌, ◌<◌, eqb, Bool, true, false, List, [], ◌∷◌, ◌++◌, length, map, take, get_or, refl, sym, ap, ap₂, arith, length-take-le, if◌then◌else◌}
+use Rattle.std.proofs.Common.{◌≡◌, ◌∙◌, ⊎_elim, ℕ, suc, ◌+◌, ◌<◌, eqb, Bool, true, false, List, [], ◌∷◌, ◌++◌, length, map, take, get_or}
+use Rattle.std.proofs.Common.{refl, sym, ap, ap₂, arith, length-take-le, if◌then◌else◌}
 use Rattle.std.proofs.lemmas.List.{map-append, append-nil, length-map, take_more, get_or_default}
 use Rattle.std.proofs.lemmas.Bool.Decides.{eqb_tells}
 use Rattle.flow_edges.specs.declared.edge.Edge.{Edge}
@@ -19,7 +20,8 @@ module _ (p : ℕ) where
   length-numbers_into k (edge ∷ edges) = by (eqb edge.to p) (length-numbers_into (suc k) edges)
     where
       by : (b : Bool) → length (numbers_into p (suc k) edges) ≡ length (edges_into p edges) →
-          length (if b then k ∷ numbers_into p (suc k) edges else numbers_into p (suc k) edges) ≡ length (if b then edge ∷ edges_into p edges else edges_into p edges)
+          length (if b then k ∷ numbers_into p (suc k) edges else numbers_into p (suc k) edges)
+          ≡ length (if b then edge ∷ edges_into p edges else edges_into p edges)
       by true e = ap suc e
       by false e = e
 
@@ -30,12 +32,16 @@ module _ (p : ℕ) where
   this : Edge → List Edge
   this edge = if eqb edge.to p then edge ∷ [] else []
 
-  numbers-more : (k : ℕ) (edges : List Edge) (edge : Edge) → numbers_into p k (edges ++ edge ∷ []) ≡ numbers_into p k edges ++ here (k + length edges) edge
+  numbers-more : (k : ℕ) (edges : List Edge) (edge : Edge) → numbers_into p k (edges ++ edge ∷ [])
+      ≡ numbers_into p k edges ++ here (k + length edges) edge
   unfolding numbers_into here
   numbers-more k [] edge = ap (λ n. if eqb edge.to p then n ∷ [] else []) (let e : k ≡ k + 0 = omega arith in e)
-  numbers-more k (first ∷ edges) edge = by (eqb first.to p) (numbers-more (suc k) edges edge ∙ ap (λ n. numbers_into p (suc k) edges ++ here n edge) (let e : suc k + length edges ≡ k + length (first ∷ edges) = omega arith in e))
+  numbers-more k (first ∷ edges) edge = by (eqb first.to p) (numbers-more (suc k) edges edge
+      ∙ ap (λ n. numbers_into p (suc k) edges ++ here n edge) (let e : suc k + length edges ≡ k + length (first ∷ edges) = omega arith in
+      e))
     where
-      by : (b : Bool) → numbers_into p (suc k) (edges ++ edge ∷ []) ≡ numbers_into p (suc k) edges ++ here (k + length (first ∷ edges)) edge →
+      by : (b : Bool) → numbers_into p (suc k) (edges ++ edge ∷ []) ≡ numbers_into p (suc k) edges ++ here (k + length (first ∷ edges)) edge
+          →
           (if b then k ∷ numbers_into p (suc k) (edges ++ edge ∷ []) else numbers_into p (suc k) (edges ++ edge ∷ []))
           ≡ (if b then k ∷ numbers_into p (suc k) edges else numbers_into p (suc k) edges) ++ here (k + length (first ∷ edges)) edge
       by true e = ap (λ ns. k ∷ ns) e
@@ -47,7 +53,8 @@ module _ (p : ℕ) where
   edges-more (first ∷ edges) edge = by (eqb first.to p) (edges-more edges edge)
     where
       by : (b : Bool) → edges_into p (edges ++ edge ∷ []) ≡ edges_into p edges ++ this edge →
-          (if b then first ∷ edges_into p (edges ++ edge ∷ []) else edges_into p (edges ++ edge ∷ [])) ≡ (if b then first ∷ edges_into p edges else edges_into p edges) ++ this edge
+          (if b then first ∷ edges_into p (edges ++ edge ∷ []) else edges_into p (edges ++ edge ∷ []))
+          ≡ (if b then first ∷ edges_into p edges else edges_into p edges) ++ this edge
       by true e = ap (λ es. first ∷ es) e
       by false e = e
 
@@ -73,18 +80,22 @@ module _ (p : ℕ) where
     -- an edge into the point extends the edges into it
     edges_yes : edge.to ≡ p → edges_into p (take (i + 1) edges) ≡ edges_into p (take i edges) ++ edge ∷ []
     unfolding this
-    edges_yes to = ap (edges_into p) first_more ∙ edges-more (take i edges) edge ∙ ap (λ b. edges_into p (take i edges) ++ (if b then edge ∷ [] else [])) (eqb_is edge.to p to)
+    edges_yes to = ap (edges_into p) first_more ∙ edges-more (take i edges) edge
+        ∙ ap (λ b. edges_into p (take i edges) ++ (if b then edge ∷ [] else [])) (eqb_is edge.to p to)
 
     -- another edge doesn't
     pub numbers_no : (edge.to ≡ p → ⊥) → numbers_into p 0 (take (i + 1) edges) ≡ numbers_into p 0 (take i edges)
     unfolding here
     numbers_no to = ap (numbers_into p 0) first_more ∙ numbers-more 0 (take i edges) edge
-        ∙ ap (λ b. numbers_into p 0 (take i edges) ++ (if b then (0 + length (take i edges)) ∷ [] else [])) (eqb_is_not edge.to p to) ∙ append-nil (numbers_into p 0 (take i edges))
+        ∙ ap (λ b. numbers_into p 0 (take i edges) ++ (if b then (0 + length (take i edges)) ∷ [] else [])) (eqb_is_not edge.to p to)
+        ∙ append-nil (numbers_into p 0 (take i edges))
 
     -- an edge to another point leaves the edges into the point as they are
     edges_no : (edge.to ≡ p → ⊥) → edges_into p (take (i + 1) edges) ≡ edges_into p (take i edges)
     unfolding this
-    edges_no to = ap (edges_into p) first_more ∙ edges-more (take i edges) edge ∙ ap (λ b. edges_into p (take i edges) ++ (if b then edge ∷ [] else [])) (eqb_is_not edge.to p to) ∙ append-nil (edges_into p (take i edges))
+    edges_no to = ap (edges_into p) first_more ∙ edges-more (take i edges) edge
+        ∙ ap (λ b. edges_into p (take i edges) ++ (if b then edge ∷ [] else [])) (eqb_is_not edge.to p to)
+        ∙ append-nil (edges_into p (take i edges))
 
 -- no edges have no numbers
 pub numbers_none : (p k : ℕ) → numbers_into p k [] ≡ []
@@ -102,13 +113,16 @@ module _ (system : System) (bounds : List Extended) (row : ℕ) where
   row_value edge = transformers system (vector_at system bounds) edge (get_or system.template row [])
 
   -- the value that was found belongs to the edge
-  pub value_here : (edges : List Edge) (i : ℕ) (edge : Edge) (value : Ext) → edges ≡ system.flow.edges → i < length edges → edge ≡ get_or edges i edge → IsTransformerAt system bounds i row value → extended value ≡ row_value edge
+  pub value_here : (edges : List Edge) (i : ℕ) (edge : Edge) (value : Ext) → edges ≡ system.flow.edges → i < length edges
+      → edge ≡ get_or edges i edge → IsTransformerAt system bounds i row value → extended value ≡ row_value edge
   value_here edges i edge value same l is h =
-      h ∙ ap row_value (ap (λ es. get_or es i (record { from = 0; to = 0; actions = [] })) (sym same) ∙ get_or_default edges i (record { from = 0; to = 0; actions = [] }) edge l ∙ sym is)
+      h ∙ ap row_value (ap (λ es. get_or es i (record { from = 0; to = 0; actions = [] })) (sym same)
+      ∙ get_or_default edges i (record { from = 0; to = 0; actions = [] }) edge l ∙ sym is)
 
   module _ (p : ℕ) (edges : List Edge) (i : ℕ) (edge : Edge) (l : i < length edges) (is : edge ≡ get_or edges i edge) where
     -- the values with this edge's
-    pub values_yes : edge.to ≡ p → (before : List Ext) (value : Ext) → map extended before ≡ map row_value (edges_into p (take i edges)) → extended value ≡ row_value edge →
+    pub values_yes : edge.to ≡ p → (before : List Ext) (value : Ext) → map extended before ≡ map row_value (edges_into p (take i edges))
+        → extended value ≡ row_value edge →
         map extended (before ++ value ∷ []) ≡ map row_value (edges_into p (take (i + 1) edges))
     values_yes to before value e v =
         map-append extended before (value ∷ []) ∙ ap₂ (λ xs x. xs ++ x ∷ []) e v
@@ -119,5 +133,7 @@ module _ (system : System) (bounds : List Extended) (row : ℕ) where
     values_no to = ap (map row_value) (sym (edges_no p edges i edge l is to))
 
 -- the numbers of edges and their values are as many
-pub same_count : (p : ℕ) (edges : List Edge) (f : Edge → Extended) (numbers : List ℕ) (values : List Extended) → numbers ≡ numbers_into p 0 edges → values ≡ map f (edges_into p edges) → length numbers ≡ length values
-same_count p edges f numbers values n v = ap (λ ns. length ns) n ∙ length-numbers_into p 0 edges ∙ sym (length-map (edges_into p edges) f) ∙ sym (ap (λ vs. length vs) v)
+pub same_count : (p : ℕ) (edges : List Edge) (f : Edge → Extended) (numbers : List ℕ) (values : List Extended)
+    → numbers ≡ numbers_into p 0 edges → values ≡ map f (edges_into p edges) → length numbers ≡ length values
+same_count p edges f numbers values n v = ap (λ ns. length ns) n ∙ length-numbers_into p 0 edges ∙ sym (length-map (edges_into p edges) f)
+    ∙ sym (ap (λ vs. length vs) v)

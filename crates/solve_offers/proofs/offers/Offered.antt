@@ -1,5 +1,6 @@
 -- Positions of values in offers.
-use Rattle.std.proofs.Common.{◌≡◌, ◌∙◌, ◌↔◌, ℕ, ◌+◌, ◌<◌, ◌≤◌, Bool, true, false, List, length, map, get_or, refl, sym, ap, subst, ⊎_elim, IsTrue, arith, below_more}
+use Rattle.std.proofs.Common.{◌≡◌, ◌∙◌, ◌↔◌, ℕ, ◌+◌, ◌<◌, ◌≤◌, Bool, true, false, List, length, map, get_or, refl, sym, ap, subst, ⊎_elim}
+use Rattle.std.proofs.Common.{IsTrue, arith, below_more}
 use Rattle.std.specs.Ordering.{is_lt}
 use Rattle.std.specs.declared.cmp.Ordering.{Ordering}
 use Rattle.std.specs.declared.cmp.Ordering.TheVariants.{Less, Equal, Greater}
@@ -7,7 +8,8 @@ use Rattle.std.proofs.lemmas.List.{get_or-map, get_or_past}
 use Rattle.std.proofs.lemmas.Bool.{cases_lt}
 use Rattle.base_numbers.specs.Extended.{Ext as Extended, neg_inf, fin, pos_inf, ◌≤ᴱ◌, ◌<ᴱ◌}
 use Rattle.base_numbers.specs.Compare.{cmp_ᴱ}
-use Rattle.base_numbers.proofs.extended.ExtendedLaws.{≤ᴱ_refl, ≤ᴱ_trans, ext_le_or_lt, ext_le_of_lt, ext_not_le_of_lt, cmpᴱ-less, less-cmpᴱ, ext_lt_of_le_of_lt, ext_lt_of_lt_of_le}
+use Rattle.base_numbers.proofs.extended.ExtendedLaws.{≤ᴱ_refl, ≤ᴱ_trans, ext_le_or_lt, ext_le_of_lt, ext_not_le_of_lt, cmpᴱ-less, less-cmpᴱ}
+use Rattle.base_numbers.proofs.extended.ExtendedLaws.{ext_lt_of_le_of_lt, ext_lt_of_lt_of_le}
 use Rattle.base_fractions.specs.declared.ext.Ext.{Ext}
 use Rattle.base_fractions.specs.Extended.{extended}
 use Rattle.solve_offers.specs.declared.offer.Offer.{Offer}
@@ -73,7 +75,8 @@ module _ (V : ℕ → Extended) (best k : ℕ) (so_far : BestSoFar V best k) whe
 pub best_is : (values : List Extended) (best : ℕ) (bound : Extended) (m : ℕ) → bound <ᴱ get_or values m neg_inf →
     BestSoFar (λ j. get_or values j neg_inf) best (length values) → IsFirstGreatest values best
 best_is values best bound m above so_far = record {
-  within = ⊎_elim (λ l. l) (λ l. absurd (none_below bound (ext_lt_of_lt_of_le bound (V m) neg_inf above (subst (λ v. V m ≤ᴱ v) (get_or_past values best neg_inf l) (greatest m))))) (cases_lt best (length values));
+  within = ⊎_elim (λ l. l) (λ l. absurd (none_below bound (ext_lt_of_lt_of_le bound (V m) neg_inf above
+      (subst (λ v. V m ≤ᴱ v) (get_or_past values best neg_inf l) (greatest m))))) (cases_lt best (length values));
   greatest = greatest;
   first = so_far.first;
 }
@@ -82,16 +85,20 @@ best_is values best bound m above so_far = record {
     V j = get_or values j neg_inf
 
     greatest : (j : ℕ) → V j ≤ᴱ V best
-    greatest j = ⊎_elim (λ l. so_far.greatest j l) (λ l. subst (λ v. v ≤ᴱ V best) (sym (get_or_past values j neg_inf l)) (bottom (V best))) (cases_lt j (length values))
+    greatest j = ⊎_elim (λ l. so_far.greatest j l) (λ l. subst (λ v. v ≤ᴱ V best) (sym (get_or_past values j neg_inf l)) (bottom (V best)))
+        (cases_lt j (length values))
 
 -- the greatest value exceeds what some value exceeds
 pub best_exceeds : (offer : Offer) (k : ℕ) → SomeExceeds offer → IsFirstGreatest offer.values k → Exceeds offer k
-best_exceeds offer k some best = ext_lt_of_lt_of_le (extended offer.bound) (get_or offer.values some.0 neg_inf) (get_or offer.values k neg_inf) some.1 (best.greatest some.0)
+best_exceeds offer k some best = ext_lt_of_lt_of_le (extended offer.bound) (get_or offer.values some.0 neg_inf)
+    (get_or offer.values k neg_inf) some.1 (best.greatest some.0)
 
 -- a bound that no value exceeds
-pub none_exceeds : (values : List Extended) (bound : Extended) → ((j : ℕ) → j < length values → get_or values j neg_inf ≤ᴱ bound) → (m : ℕ) → bound <ᴱ get_or values m neg_inf → ⊥
+pub none_exceeds : (values : List Extended) (bound : Extended) → ((j : ℕ) → j < length values → get_or values j neg_inf ≤ᴱ bound) → (m : ℕ)
+    → bound <ᴱ get_or values m neg_inf → ⊥
 none_exceeds values bound all m above =
-    ⊎_elim (λ l. ext_not_le_of_lt bound (get_or values m neg_inf) above (all m l)) (λ l. none_below bound (subst (λ v. bound <ᴱ v) (get_or_past values m neg_inf l) above)) (cases_lt m (length values))
+    ⊎_elim (λ l. ext_not_le_of_lt bound (get_or values m neg_inf) above (all m l))
+    (λ l. none_below bound (subst (λ v. bound <ᴱ v) (get_or_past values m neg_inf l) above)) (cases_lt m (length values))
 
 -- a bound that is told to be +∞ is
 pub top_is : (x : Extended) → is_top x ≡ true → x ≡ pos_inf

@@ -35,7 +35,8 @@ module _ (system : Equations) (edge : Edge) (row : List ℤ) (b : ℚ) (trace di
 
   module _ (n : first_wide long_limit firsts ≡ None) where
     -- it exceeds the bound
-    pub kept : lt_ℚ b value ≡ true → (pieces_of trace ≡ low_of system edge row (fin b) trace direction) × (first_wide long_limit (low_operations system edge row (fin b) trace direction) ≡ None)
+    pub kept : lt_ℚ b value ≡ true → (pieces_of trace ≡ low_of system edge row (fin b) trace direction)
+        × (first_wide long_limit (low_operations system edge row (fin b) trace direction) ≡ None)
     unfolding low_of low_operations
     kept e = (
       sym (ap (λ t. if t then pieces_of trace else moved_pieces (multiple_along system edge row b trace direction) trace direction) e),
@@ -47,24 +48,34 @@ module _ (system : Equations) (edge : Edge) (row : List ℤ) (b : ℚ) (trace di
       unfolding low_operations
       operations_are = ap (λ t. firsts ++ rest t) e
 
-      low_is : low_of system edge row (fin b) trace direction ≡ moved_pieces (multiple_along system edge row b trace direction) trace direction
+      low_is : low_of system edge row (fin b) trace direction ≡ moved_pieces (multiple_along system edge row b trace direction) trace
+          direction
       unfolding low_of
       low_is = ap (λ t. if t then pieces_of trace else moved_pieces (multiple_along system edge row b trace direction) trace direction) e
 
       -- it doesn't, and the multiple is wide
-      pub multiple_wide : (f : OperationFault) → IsFaultOf (multiple_operations b value (carried Zero system edge row direction)) f → IsFaultOf (low_operations system edge row (fin b) trace direction) f
+      pub multiple_wide : (f : OperationFault) → IsFaultOf (multiple_operations b value (carried Zero system edge row direction)) f
+          → IsFaultOf (low_operations system edge row (fin b) trace direction) f
       multiple_wide f h =
           subst (λ os. IsFaultOf os f) (sym operations_are)
           (later firsts (move_operations system edge row b trace direction) f n
-          (sooner (multiple_operations b value (carried Zero system edge row direction)) (moved_operations (multiple_along system edge row b trace direction) trace direction) f h))
+          (sooner (multiple_operations b value (carried Zero system edge row direction))
+          (moved_operations (multiple_along system edge row b trace direction) trace direction) f h))
 
       -- it doesn't, and the trace is moved
-      pub low_answers : (res : Result Trace OperationFault) → first_wide long_limit (multiple_operations b value (carried Zero system edge row direction)) ≡ None →
-          AnswersBy {A = Trace} (λ low. pieces_of low ≡ moved_pieces (multiple_along system edge row b trace direction) trace direction) (moved_operations (multiple_along system edge row b trace direction) trace direction) res →
-          AnswersBy {A = Trace} (λ low. pieces_of low ≡ low_of system edge row (fin b) trace direction) (low_operations system edge row (fin b) trace direction) res
+      pub low_answers : (res : Result Trace OperationFault) → first_wide long_limit
+          (multiple_operations b value (carried Zero system edge row direction)) ≡ None →
+          AnswersBy {A = Trace} (λ low. pieces_of low ≡ moved_pieces (multiple_along system edge row b trace direction) trace direction)
+          (moved_operations (multiple_along system edge row b trace direction) trace direction) res →
+          AnswersBy {A = Trace} (λ low. pieces_of low ≡ low_of system edge row (fin b) trace direction)
+          (low_operations system edge row (fin b) trace direction) res
       low_answers res m a =
-          subst (λ os. AnswersBy {A = Trace} (λ low. pieces_of low ≡ low_of system edge row (fin b) trace direction) os res) (sym operations_are)
-          (subst (λ (p : Pieces). AnswersBy {A = Trace} (λ low. pieces_of low ≡ p) (firsts ++ move_operations system edge row b trace direction) res) (sym low_is)
-          (answers_later {A = Trace} (λ low. pieces_of low ≡ moved_pieces (multiple_along system edge row b trace direction) trace direction) firsts (move_operations system edge row b trace direction) res n
-          (answers_later {A = Trace} (λ low. pieces_of low ≡ moved_pieces (multiple_along system edge row b trace direction) trace direction) (multiple_operations b value (carried Zero system edge row direction))
+          subst (λ os. AnswersBy {A = Trace} (λ low. pieces_of low ≡ low_of system edge row (fin b) trace direction) os res)
+          (sym operations_are)
+          (subst (λ (p : Pieces). AnswersBy {A = Trace} (λ low. pieces_of low ≡ p)
+          (firsts ++ move_operations system edge row b trace direction) res) (sym low_is)
+          (answers_later {A = Trace} (λ low. pieces_of low ≡ moved_pieces (multiple_along system edge row b trace direction) trace
+          direction) firsts (move_operations system edge row b trace direction) res n
+          (answers_later {A = Trace} (λ low. pieces_of low ≡ moved_pieces (multiple_along system edge row b trace direction) trace
+          direction) (multiple_operations b value (carried Zero system edge row direction))
           (moved_operations (multiple_along system edge row b trace direction) trace direction) res m a)))

@@ -24,7 +24,8 @@ ends-kept k fs (Guard form ∷ actions) = ends-kept k fs actions
 ends-kept k fs (Assign var form ∷ actions) = ends-kept k (slice_set fs var (composed form fs)) actions
 ends-kept k fs (Havoc var ∷ actions) = ends-kept (suc k) (slice_set fs var (column k)) actions
 
-ends-zero : (k : ℕ) (fs : List Affine) (actions : List Action) → ends_from k fs (moves Zero actions) ≡ ends_from k fs (map linear_action actions)
+ends-zero : (k : ℕ) (fs : List Affine) (actions : List Action) → ends_from k fs (moves Zero actions)
+    ≡ ends_from k fs (map linear_action actions)
 unfolding ends_from
 ends-zero k fs [] = refl
 ends-zero k fs (Guard form ∷ actions) = ends-zero k fs actions
@@ -45,9 +46,11 @@ module _ (n : ℕ) (start free : Word) (y : RationalState) (l : length start ≡
   zero_end actions h = sym (end_of_moves (moves Zero actions) h ∙ ap (λ fs. values fs (start ++ free)) (ends-zero n (columns n) actions))
 
 -- the value that an edge's moves carry is that of its composed forms
-pub carried_is : (constants : Constants) (system : Equations) (edge : Edge) (row : List ℤ) (trace : Trace) (y : RationalState) → length trace.start ≡ system.variables →
+pub carried_is : (constants : Constants) (system : Equations) (edge : Edge) (row : List ℤ) (trace : Trace) (y : RationalState)
+    → length trace.start ≡ system.variables →
     Follows (moves constants edge.actions) trace.start trace.free y → carried constants system edge row trace ≡ dotℚ row y
 unfolding end_value
 carried_is Kept system edge row trace y l h = ap (dotℚ row) (kept_end system.variables trace.start trace.free y l edge.actions h)
 carried_is Zero system edge row trace y l h =
-    end-slope system.variables edge.actions row (trace.start ++ trace.free) ∙ ap (dotℚ row) (zero_end system.variables trace.start trace.free y l edge.actions h)
+    end-slope system.variables edge.actions row (trace.start ++ trace.free)
+    ∙ ap (dotℚ row) (zero_end system.variables trace.start trace.free y l edge.actions h)

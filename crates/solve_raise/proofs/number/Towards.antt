@@ -20,7 +20,8 @@ last_sum q = record { op = Add; left = whole (floor q); right = one_ℚ }
 
 -- the next whole number is answered, or its sum is wide
 pub next_answer : (q f o : ℚ) (res : Result ℚ (Wide ℚ)) → f ≡ whole (floor q) → o ≡ one_ℚ →
-    MatchResult res (λ r. (r ≡ f +ℚ o) × Fits long_limit r) (λ e. (¬ (Fits long_limit (f +ℚ o))) × (e ≡ record { op = Add; left = f; right = o })) →
+    MatchResult res (λ r. (r ≡ f +ℚ o) × Fits long_limit r) (λ e. (¬ (Fits long_limit (f +ℚ o)))
+    × (e ≡ record { op = Add; left = f; right = o })) →
     SumAnswers (next_whole q) (last_sum q ∷ []) res
 next_answer q f o res e g m =
     subst (λ v. SumAnswers v (last_sum q ∷ []) res) (one_more (floor q))
@@ -44,7 +45,8 @@ neither b c e = ap (λ t. t && c) e
 
 module _ (b v : ℚ) where
   -- where the next whole number is taken, and where it isn't
-  pub next_taken : (next : ℚ) → next ≡ next_whole b → fitting (next_whole b) && lt_ℚ (next_whole b) v ≡ true → (next ≡ between fitting b v) × (first_wide long_limit (number_operations (fin b) v) ≡ None)
+  pub next_taken : (next : ℚ) → next ≡ next_whole b → fitting (next_whole b) && lt_ℚ (next_whole b) v ≡ true
+      → (next ≡ between fitting b v) × (first_wide long_limit (number_operations (fin b) v) ≡ None)
   unfolding between number_operations
   next_taken next e f = (
     e ∙ sym (ap (λ t. if t then next_whole b else (b +ℚ v) /ℚ whole (pos 2)) f),
@@ -52,7 +54,10 @@ module _ (b v : ℚ) where
   )
 
   -- where no whole number stands between, the middle is taken
-  pub middle_taken : (res : Result ℚ (Wide ℚ)) → fitting (next_whole b) && lt_ℚ (next_whole b) v ≡ false → SumAnswers ((b +ℚ v) /ℚ whole (pos 2)) (middle_operations b v) res → SumAnswers (between fitting b v) (number_operations (fin b) v) res
+  pub middle_taken : (res : Result ℚ (Wide ℚ)) → fitting (next_whole b) && lt_ℚ (next_whole b) v ≡ false
+      → SumAnswers ((b +ℚ v) /ℚ whole (pos 2)) (middle_operations b v) res
+      → SumAnswers (between fitting b v) (number_operations (fin b) v) res
   unfolding between number_operations
   middle_taken res f a =
-      subst (λ t. SumAnswers (if t then next_whole b else (b +ℚ v) /ℚ whole (pos 2)) (if t then [] else middle_operations b v) res) (sym f) a
+      subst (λ t. SumAnswers (if t then next_whole b else (b +ℚ v) /ℚ whole (pos 2)) (if t then [] else middle_operations b v) res) (sym f)
+      a

@@ -20,7 +20,8 @@ shift_small (negsuc n) d = let l = div-le_self n d in omega (arith, l)
 -- the floor of a fraction that fits is a number that fits
 pub floor_number : (q : ℚ) → Fits long_limit q → IsTrue (is_number (floor q))
 unfolding floor
-floor_number q h = let l = shift_small q.num q.den in let f = h.num_fits in le-leb (nat_abs (shr_z q.num q.den)) 9223372036854775807 (omega (arith, ints, l, f))
+floor_number q h = let l = shift_small q.num q.den in let f = h.num_fits in
+    le-leb (nat_abs (shr_z q.num q.den)) 9223372036854775807 (omega (arith, ints, l, f))
 
 -- a number whose denominator is 1 is its own floor
 own_whole : (q : ℚ) → q.den ≡ 1 → q ≡ whole q.num

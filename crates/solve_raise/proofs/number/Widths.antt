@@ -1,5 +1,6 @@
 -- One operation after the other, of which the first that is wide is answered; and what comparisons answer.
-use Rattle.std.proofs.Common.{◌≡◌, ◌∙◌, Bool, true, false, not, cond, T, List, [], ◌∷◌, Some, None, Result, Ok, Err, refl, ap, sym, true≢false}
+use Rattle.std.proofs.Common.{◌≡◌, ◌∙◌, Bool, true, false, not, cond, T, List, [], ◌∷◌, Some, None, Result, Ok, Err, refl, ap, sym}
+use Rattle.std.proofs.Common.{true≢false}
 use Rattle.std.specs.Ordering.{partial_lt, is_lt, as_partial_cmp}
 use Rattle.std.specs.declared.cmp.Ordering.{Ordering}
 use Rattle.std.specs.declared.cmp.Ordering.TheVariants.{Less, Equal, Greater}
@@ -13,12 +14,14 @@ use Rattle.flow_systems.specs.Sums.{SumAnswers}
 use Rattle.flow_systems.proofs.Widths.{first_wide_past, first_wide_here}
 
 -- an operation that fits, before others
-pub then : (o : Operation) (os : List Operation) (v : ℚ) (res : Result ℚ (Wide ℚ)) → Fits long_limit (result_of o) → SumAnswers v os res → SumAnswers v (o ∷ os) res
+pub then : (o : Operation) (os : List Operation) (v : ℚ) (res : Result ℚ (Wide ℚ)) → Fits long_limit (result_of o) → SumAnswers v os res
+    → SumAnswers v (o ∷ os) res
 then o os v (Ok r) h a = (a.0, first_wide_past long_limit o os h ∙ a.1)
 then o os v (Err w) h a = first_wide_past long_limit o os h ∙ a
 
 -- one that doesn't
-pub stops : (o : Operation) (os : List Operation) (w : Wide ℚ) → ¬ (Fits long_limit (result_of o)) → operation_of (λ (q : ℚ). q) w ≡ o → first_wide long_limit (o ∷ os) ≡ Some (operation_of (λ (q : ℚ). q) w)
+pub stops : (o : Operation) (os : List Operation) (w : Wide ℚ) → ¬ (Fits long_limit (result_of o)) → operation_of (λ (q : ℚ). q) w ≡ o
+    → first_wide long_limit (o ∷ os) ≡ Some (operation_of (λ (q : ℚ). q) w)
 stops o os w n e = first_wide_here long_limit o os n ∙ ap Some (sym e)
 
 -- whether the result of one operation fits

@@ -41,14 +41,16 @@ no_rounds system policy = record {
 }
 
 -- after which the bounds are the start bounds
-pub bounds_first : (system : System) → bounds_after system (λ k. first_choice) 0 ≡ Rattle.flow_systems.specs.Starts.start_bounds (length system.flow.points) (length system.template)
+pub bounds_first : (system : System) → bounds_after system (λ k. first_choice) 0
+    ≡ Rattle.flow_systems.specs.Starts.start_bounds (length system.flow.points) (length system.template)
 unfolding state
 bounds_first system = sym (start_listed (length system.flow.points) (length system.template) (points_in_range system).entry)
 
 -- at a post-solution no transformer exceeds its bound
 pub post_none : (system : Equations) (z : Vector) → PostSolution system z → NoneExceeds system (transformer system) z
 post_none system z post edge r row listed e =
-    reach_least system z edge row (transformer system z edge row) (z edge.to r) (transformer_reaches system z edge row) (upper_of_post system z edge r row post listed e)
+    reach_least system z edge row (transformer system z edge row) (z edge.to r) (transformer_reaches system z edge row)
+    (upper_of_post system z edge r row post listed e)
 
 module _ (system : System) (policy : Offer → ℕ → Type 0) (n : ℕ) (choose : ℕ → Choice) (chain : IsChain system policy n choose) where
   abbrev E : Equations
@@ -67,7 +69,8 @@ module _ (system : System) (policy : Offer → ℕ → Type 0) (n : ℕ) (choose
   bounds_agree p r l = last_listed fitting (equations_of system) (points_in_range system) choose chain.among n chain.made p r l
 
   -- the pick is tight at the bounds
-  pub tight_after : Tight (equations_of system) (transformers system) (vector_at system (bounds_after system choose n)) (state_at system choose n).pick
+  pub tight_after : Tight (equations_of system) (transformers system) (vector_at system (bounds_after system choose n))
+      (state_at system choose n).pick
   tight_after =
       tight_agrees E (state_at system choose n).vector z (λ p r l. sym (bounds_agree p r l)) (state_at system choose n).pick
       (state_tight fitting E (points_in_range system) choose chain.among n chain.made)
@@ -80,9 +83,14 @@ module _ (system : System) (policy : Offer → ℕ → Type 0) (n : ℕ) (choose
   pub ended_after : NothingExceeds system (bounds_after system choose n) → IsEnded system choose n
   ended_after none =
       let at_state = none_agrees E z (state_at system choose n).vector bounds_agree none in
-      record { none = at_state; post = (state_least fitting E (points_in_range system) choose chain.among n chain.made at_state).solves.post }
+      record {
+        none = at_state;
+        post = (state_least fitting E (points_in_range system) choose chain.among n chain.made
+            at_state).solves.post;
+      }
 
-  module _ (better : Pick) (following : IsNext (equations_of system) (transformers system) (vector_at system (bounds_after system choose n)) policy (state_at system choose n).pick (Some better)) where
+  module _ (better : Pick) (following : IsNext (equations_of system) (transformers system) (vector_at system (bounds_after system choose n))
+      policy (state_at system choose n).pick (Some better)) where
     -- the choices with the next one
     pub more : ℕ → Choice
     more = with_choice choose n following.choose
@@ -111,18 +119,22 @@ module _ (system : System) (policy : Offer → ℕ → Type 0) (n : ℕ) (choose
     unfolding more
     extended = record {
       among = with_choice_takes choose n following.choose chain.among following.is_choice.among;
-      chosen = λ k h. ⊎_elim (λ l. chosen_before k l) (λ e. subst (λ j. IsChoice E (transformer E) (state_at system more j).vector policy (more j)) e chosen_last) (last_or k h);
-      made = λ k h. ⊎_elim (λ l. made_before k l) (λ e. subst (λ j. Goes E (more j) (state_at system more j)) e (better, next_is)) (last_or k h);
+      chosen = λ k h. ⊎_elim (λ l. chosen_before k l) (λ e. subst (λ j. IsChoice E (transformer E) (state_at system more j).vector policy
+          (more j)) e chosen_last) (last_or k h);
+      made = λ k h. ⊎_elim (λ l. made_before k l) (λ e. subst (λ j. Goes E (more j) (state_at system more j)) e (better, next_is))
+          (last_or k h);
     }
       where
         chosen_before : (k : ℕ) → k < n → IsChoice E (transformer E) (state_at system more k).vector policy (more k)
         chosen_before k l =
-            subst (λ c. IsChoice E (transformer E) (state_at system more k).vector policy c) (sym (with_choice-before choose n following.choose k l))
+            subst (λ c. IsChoice E (transformer E) (state_at system more k).vector policy c)
+            (sym (with_choice-before choose n following.choose k l))
             (subst (λ (s : State). IsChoice E (transformer E) s.vector policy (choose k)) (same_until k (omega arith)) (chain.chosen k l))
 
         chosen_last : IsChoice E (transformer E) (state_at system more n).vector policy (more n)
         chosen_last =
-            subst (λ c. IsChoice E (transformer E) (state_at system more n).vector policy c) (sym (with_choice-at choose n following.choose))
+            subst (λ c. IsChoice E (transformer E) (state_at system more n).vector policy c)
+            (sym (with_choice-at choose n following.choose))
             (subst (λ (s : State). IsChoice E (transformer E) s.vector policy following.choose) (same_until n (omega arith))
             (choice_agrees E z (state_at system choose n).vector bounds_agree policy following.choose following.is_choice))
 
@@ -143,20 +155,25 @@ module _ (system : System) (policy : Offer → ℕ → Type 0) (n : ℕ) (choose
         ∙ ap (λ (s : State). exact_round fitting E s.vector better) (sym (same_until n (omega arith)))
 
     is_pick : IsPick E better
-    is_pick = subst (IsPick E) pick_next (round_made fitting E (points_in_range system) more extended.among (suc n) extended.made n (omega arith)).better.is_pick
+    is_pick = subst (IsPick E) pick_next (round_made fitting E (points_in_range system) more extended.among (suc n) extended.made n
+        (omega arith)).better.is_pick
 
     -- the bounds of the round are those after the chain
     pub bounds_next : (new : List Extended) → length new ≡ length system.flow.points * length system.template →
-        AreBoundsOf system (exact_round fitting (equations_of system) (vector_at system (bounds_after system choose n)) better) new → new ≡ bounds_after system more (suc n)
+        AreBoundsOf system (exact_round fitting (equations_of system) (vector_at system (bounds_after system choose n)) better) new
+        → new ≡ bounds_after system more (suc n)
     bounds_next new size same =
         bounds_same (length system.flow.points) (length system.template) new (state_at system more (suc n)).vector size
-        (λ p r h l. same p r h l ∙ round_agrees fitting E better is_pick z (state_at system choose n).vector bounds_agree p r l ∙ sym (ap (λ v. v p r) vector_next))
+        (λ p r h l. same p r h l ∙ round_agrees fitting E better is_pick z (state_at system choose n).vector bounds_agree p r l
+        ∙ sym (ap (λ v. v p r) vector_next))
 
     -- and its steps come behind the others
-    pub steps_next : steps_after system choose n ++ exact_round_steps fitting (equations_of system) (vector_at system (bounds_after system choose n)) better ≡ steps_after system more (suc n)
+    pub steps_next : steps_after system choose n ++ exact_round_steps fitting (equations_of system)
+        (vector_at system (bounds_after system choose n)) better ≡ steps_after system more (suc n)
     unfolding exact_steps more
     steps_next =
-        ap (λ s. s ++ exact_round_steps fitting E z better) (steps_same fitting E choose more n (λ j h. sym (with_choice-before choose n following.choose j h)))
+        ap (λ s. s ++ exact_round_steps fitting E z better) (steps_same fitting E choose more n
+        (λ j h. sym (with_choice-before choose n following.choose j h)))
         ∙ ap (λ s. exact_steps fitting E more n ++ s)
         (round_steps_agree fitting E better is_pick z (state_at system choose n).vector bounds_agree
         ∙ ap (λ (s : State). exact_round_steps fitting E s.vector better) (same_until n (omega arith))

@@ -1,5 +1,6 @@
 -- Choices that a policy of the code allows follow what it means, so its rounds are improvements.
-use Rattle.std.proofs.Common.{◌≡◌, ◌∙◌, ℕ, zero, suc, ◌<◌, eqb, Bool, true, false, List, [], ◌∷◌, length, get_or, refl, sym, ap, subst, subst₂, arith, if◌then◌else◌}
+use Rattle.std.proofs.Common.{◌≡◌, ◌∙◌, ℕ, zero, suc, ◌<◌, eqb, Bool, true, false, List, [], ◌∷◌, length, get_or, refl, sym, ap, subst}
+use Rattle.std.proofs.Common.{subst₂, arith, if◌then◌else◌}
 use Rattle.std.specs.Prelude.{Option, Some, None}
 use Rattle.std.proofs.lemmas.Option.{slice_get-get_or}
 use Rattle.base_numbers.proofs.extended.ExtendedLaws.{ext_lt_of_lt_of_le}
@@ -36,13 +37,15 @@ numbers_same p k [] = refl
 numbers_same p k (edge ∷ edges) = by (eqb edge.to p) (numbers_same p (suc k) edges)
   where
     by : (b : Bool) → code_numbers p (suc k) edges ≡ numbers_into p (suc k) edges →
-        (if b then k ∷ code_numbers p (suc k) edges else code_numbers p (suc k) edges) ≡ (if b then k ∷ numbers_into p (suc k) edges else numbers_into p (suc k) edges)
+        (if b then k ∷ code_numbers p (suc k) edges else code_numbers p (suc k) edges)
+        ≡ (if b then k ∷ numbers_into p (suc k) edges else numbers_into p (suc k) edges)
     by true e = ap (λ xs. k ∷ xs) e
     by false e = e
 
 -- a position is one that a policy of the code answers of an offer, and so one that its meaning does, whose value exceeds
 pub Means : (CodeOffer → ℕ → Type 0) → (Offer → ℕ → Type 0) → Type 0
-Means policy meaning = (code : CodeOffer) (offer : Offer) → extended code.bound ≡ offer.bound → code.values ≡ offer.values → (j : ℕ) → policy code j → SomeExceeds offer →
+Means policy meaning = (code : CodeOffer) (offer : Offer) → extended code.bound ≡ offer.bound → code.values ≡ offer.values → (j : ℕ)
+    → policy code j → SomeExceeds offer →
     meaning offer j × Exceeds offer j × (j < length offer.values)
 
 nothing_below : (x : Extended) → x <ᴱ neg_inf → ⊥
@@ -77,7 +80,8 @@ first_means code offer bound values j h s =
     )
 
 module _ (policy : CodeOffer → ℕ → Type 0) (meaning : Offer → ℕ → Type 0) (means : Means policy meaning) where
-  choice_follows : (system : Equations) (z : Vector) (choose : Choice) → IsChoice system (transformer system) z policy choose → Follows meaning system z choose
+  choice_follows : (system : Equations) (z : Vector) (choose : Choice) → IsChoice system (transformer system) z policy choose
+      → Follows meaning system z choose
   unfolding Means exact_offer
   choice_follows system z choose h p r k ks l e =
       let c = h.chosen p r k ks e in
@@ -91,7 +95,8 @@ module _ (policy : CodeOffer → ℕ → Type 0) (meaning : Offer → ℕ → Ty
           c.position,
           m.0,
           m.1,
-          slice_get-get_or offer.edges c.position 0 (subst (λ n. c.position < n) is.count m.2) ∙ ap (λ es. Some (get_or es c.position 0)) (sym edges) ∙ ap Some (sym c.is_edge),
+          slice_get-get_or offer.edges c.position 0 (subst (λ n. c.position < n) is.count m.2)
+              ∙ ap (λ es. Some (get_or es c.position 0)) (sym edges) ∙ ap Some (sym c.is_edge),
         ),
       )
 
@@ -109,21 +114,30 @@ module _ (policy : CodeOffer → ℕ → Type 0) (meaning : Offer → ℕ → Ty
       same = λ p r h l. bounds_agree system policy n choose chain p r l;
     }
 
-    goes_on : (PostSolution (equations_of system) (vector_at system (bounds_after system choose n)) → ⊥) → GoesOnAfter (equations_of system) meaning n
-    goes_on unsolved = by (exact_next (equations_of system) (choose n) (state_at system choose n).vector (state_at system choose n).pick) refl
+    goes_on : (PostSolution (equations_of system) (vector_at system (bounds_after system choose n)) → ⊥)
+        → GoesOnAfter (equations_of system) meaning n
+    goes_on unsolved = by (exact_next (equations_of system) (choose n) (state_at system choose n).vector (state_at system choose n).pick)
+        refl
       where
-        by : (o : Option Pick) → exact_next (equations_of system) (choose n) (state_at system choose n).vector (state_at system choose n).pick ≡ o → GoesOnAfter (equations_of system) meaning n
+        by : (o : Option Pick) → exact_next (equations_of system) (choose n) (state_at system choose n).vector
+            (state_at system choose n).pick ≡ o → GoesOnAfter (equations_of system) meaning n
         by (Some better) e = improves.goes_on (better, e)
         by None e =
             let range = points_in_range system in
-            absurd (unsolved (least_agrees (equations_of system) (state_at system choose n).vector (vector_at system (bounds_after system choose n)) (λ p r l. sym (bounds_agree system policy n choose chain p r l))
-            (state_least fitting (equations_of system) range choose chain.among n chain.made (state_ends fitting (equations_of system) range choose chain.among n chain.made e))).solves.post)
+            absurd (unsolved (least_agrees (equations_of system) (state_at system choose n).vector
+            (vector_at system (bounds_after system choose n)) (λ p r l. sym (bounds_agree system policy n choose chain p r l))
+            (state_least fitting (equations_of system) range choose chain.among n chain.made
+            (state_ends fitting (equations_of system) range choose chain.among n chain.made e))).solves.post)
 
   -- the improvements of solved rounds end with their least vector
-  pub solved_law : (system : System) (limit : ℕ) (solved : Solved) → IsSolved system policy limit solved → EndsAfter (equations_of system) meaning solved.improvements (vector_at system solved.bounds)
+  pub solved_law : (system : System) (limit : ℕ) (solved : Solved) → IsSolved system policy limit solved
+      → EndsAfter (equations_of system) meaning solved.improvements (vector_at system solved.bounds)
   solved_law system limit solved s =
-      subst (λ bs. EndsAfter (equations_of system) meaning solved.improvements (vector_at system bs)) (sym s.bounds) (ends system solved.improvements s.choose s.chain s.ended)
+      subst (λ bs. EndsAfter (equations_of system) meaning solved.improvements (vector_at system bs)) (sym s.bounds)
+      (ends system solved.improvements s.choose s.chain s.ended)
 
   -- where rounds spend their limit, the improvements go on after it
-  pub spent_law : (system : System) (limit : ℕ) (bounds : List Extended) → IsSpent system policy limit bounds → GoesOnAfter (equations_of system) meaning limit
-  spent_law system limit bounds s = goes_on system limit s.choose s.chain (λ post. s.unsolved (subst (λ bs. PostSolution (equations_of system) (vector_at system bs)) (sym s.same) post))
+  pub spent_law : (system : System) (limit : ℕ) (bounds : List Extended) → IsSpent system policy limit bounds
+      → GoesOnAfter (equations_of system) meaning limit
+  spent_law system limit bounds s = goes_on system limit s.choose s.chain
+      (λ post. s.unsolved (subst (λ bs. PostSolution (equations_of system) (vector_at system bs)) (sym s.same) post))

@@ -1,5 +1,6 @@
 -- Lists of bounds and of picks, and the vectors and picks that they stand for.
-use Rattle.std.proofs.Common.{◌≡◌, ◌∙◌, ℕ, zero, suc, ◌+◌, ◌*◌, ◌-◌, ◌/◌, ◌%◌, ◌<◌, ltb, Bool, true, false, List, length, length-append, get_or, refl, sym, ap, arith, if◌then◌else◌}
+use Rattle.std.proofs.Common.{◌≡◌, ◌∙◌, ℕ, zero, suc, ◌+◌, ◌*◌, ◌-◌, ◌/◌, ◌%◌, ◌<◌, ltb, Bool, true, false, List, length, length-append}
+use Rattle.std.proofs.Common.{get_or, refl, sym, ap, arith, if◌then◌else◌}
 use Rattle.std.specs.Prelude.{Option, None, replicate}
 use Rattle.std.proofs.Math.Nat.{lt_of_mul-lt-mul_left}
 use Rattle.std.proofs.Math.Path.{fun_ext}
@@ -20,8 +21,10 @@ point_within : (u points rows : ℕ) → u < points * rows → u / rows < points
 point_within u points rows h = lt_of_mul-lt-mul_left rows (let e = div-add-mod' u rows in omega arith)
 
 -- a list of bounds that are a vector's is the list of the vector's bounds
-pub bounds_same : (points rows : ℕ) (bounds : List Ext) (v : Vector) → length bounds ≡ points * rows → ((p r : ℕ) → p < points → r < rows → vector_of rows bounds p r ≡ v p r) → bounds ≡ bounds_of points rows v
-bounds_same points rows bounds v size same = ext_get_or neg_inf bounds (bounds_of points rows v) (size ∙ sym (law.count v)) (λ k h. at_place k (omega (arith, h, size)))
+pub bounds_same : (points rows : ℕ) (bounds : List Ext) (v : Vector) → length bounds ≡ points * rows
+    → ((p r : ℕ) → p < points → r < rows → vector_of rows bounds p r ≡ v p r) → bounds ≡ bounds_of points rows v
+bounds_same points rows bounds v size same = ext_get_or neg_inf bounds (bounds_of points rows v) (size ∙ sym (law.count v))
+    (λ k h. at_place k (omega (arith, h, size)))
   where
     law : IsListed points rows
     law = listed_law points rows
@@ -30,14 +33,17 @@ bounds_same points rows bounds v size same = ext_get_or neg_inf bounds (bounds_o
     at_place k h =
         let p = point_within k points rows h in
         let r = row_within k points rows h in
-        sym (ap (λ j. get_or bounds j neg_inf) (div-add-mod' k rows)) ∙ same (k / rows) (k % rows) p r ∙ sym (law.vector v (k / rows) (k % rows) p r)
+        sym (ap (λ j. get_or bounds j neg_inf) (div-add-mod' k rows)) ∙ same (k / rows) (k % rows) p r
+        ∙ sym (law.vector v (k / rows) (k % rows) p r)
         ∙ ap (λ j. get_or (bounds_of points rows v) j neg_inf) (div-add-mod' k rows)
 
 length-start : (points rows : ℕ) → 0 < points → length (start_bounds points rows) ≡ points * rows
 length-start zero rows h = absurd (omega arith)
 length-start (suc points) rows h =
     length-append (replicate rows pos_inf) (replicate ((suc points - 1) * rows) neg_inf)
-    ∙ (let a = length-replicate rows pos_inf in let b = length-replicate ((suc points - 1) * rows) neg_inf in let c : (suc points - 1) * rows ≡ points * rows = ap (λ n. n * rows) (let e : suc points - 1 ≡ points = omega arith in e) in omega arith)
+    ∙ (let a = length-replicate rows pos_inf in let b = length-replicate ((suc points - 1) * rows) neg_inf in
+    let c : (suc points - 1) * rows ≡ points * rows = ap (λ n. n * rows) (let e : suc points - 1 ≡ points = omega arith in e) in
+    omega arith)
 
 start_same : (p r : ℕ) → Rattle.flow_systems.specs.Starts.start_vector p r ≡ start_vector p r
 unfolding start_vector

@@ -1,5 +1,6 @@
 -- Each part of a list is a list of the same kind.
-use Rattle.std.proofs.Common.{◌≡◌, ◌∙◌, inl, inr, ℕ, zero, suc, ◌+◌, ◌*◌, ◌<◌, ◌≤◌, List, [], ◌∷◌, length, get_or, map, sym, ap, subst, arith}
+use Rattle.std.proofs.Common.{◌≡◌, ◌∙◌, inl, inr, ℕ, zero, suc, ◌+◌, ◌*◌, ◌<◌, ◌≤◌, List, [], ◌∷◌, length, get_or, map, sym, ap, subst}
+use Rattle.std.proofs.Common.{arith}
 use Rattle.std.specs.Prelude.{Option, Some, None}
 use Rattle.std.proofs.lemmas.List.{get_or-map, length-map}
 use Rattle.base_facts.specs.Elements.{In}
@@ -20,11 +21,14 @@ use Rattle.solve_rounds.proofs.evaluation.Parting.{of_map}
 use Rattle.flow_systems.specs.declared.limits.TheConstants.{MOST_UNKNOWNS}
 
 -- what holds of each of a list holds of each of another whose elements are in it
-each_in : (P : ℕ → Type 0) (xs list : List ℕ) → ((u : ℕ) → In xs u → In list u) → ((k : ℕ) → k < length list → P (get_or list k 0)) → (k : ℕ) → k < length xs → P (get_or xs k 0)
-each_in P xs list within h k l = let p = place_of list (get_or xs k 0) 0 (within (get_or xs k 0) (in_place xs 0 k l)) in subst P p.2 (h p.0 p.1)
+each_in : (P : ℕ → Type 0) (xs list : List ℕ) → ((u : ℕ) → In xs u → In list u) → ((k : ℕ) → k < length list → P (get_or list k 0))
+    → (k : ℕ) → k < length xs → P (get_or xs k 0)
+each_in P xs list within h k l = let p = place_of list (get_or xs k 0) 0 (within (get_or xs k 0) (in_place xs 0 k l)) in
+    subst P p.2 (h p.0 p.1)
 
 -- a list whose numbers are all picked is a picked list
-pub picked_all : (system : System) (pick : List (Option ℕ)) (xs : List ℕ) → ((k : ℕ) → k < length xs → IsPicked system pick (get_or xs k 0)) → ArePicked system pick xs
+pub picked_all : (system : System) (pick : List (Option ℕ)) (xs : List ℕ) → ((k : ℕ) → k < length xs → IsPicked system pick (get_or xs k 0))
+    → ArePicked system pick xs
 picked_all system pick [] h = tt
 picked_all system pick (u ∷ xs) h = (h 0 (omega arith), picked_all system pick xs (λ k l. h (suc k) (omega arith)))
 
@@ -48,9 +52,11 @@ each_rises [] k l h = absurd (omega arith)
 each_rises (p ∷ ps) zero l h = h.0
 each_rises (p ∷ ps) (suc k) l h = each_rises ps k (omega arith) h.1
 
-module _ (system : System) (pick : List (Option ℕ)) (raises : List CodeStep) (places list : List ℕ) (whole : IsPart system pick raises places list) where
+module _ (system : System) (pick : List (Option ℕ)) (raises : List CodeStep) (places list : List ℕ)
+    (whole : IsPart system pick raises places list) where
   -- a member of a part is in the list
-  pub part_within : (k : ℕ) → k < length (part_numbers system pick list) → (u : ℕ) → In (get_or (part_numbers system pick list) k []) u → In list u
+  pub part_within : (k : ℕ) → k < length (part_numbers system pick list) → (u : ℕ) → In (get_or (part_numbers system pick list) k []) u
+      → In list u
   part_within k l u m =
       let rows = length system.template in
       let us = all_listed system pick list in
@@ -61,7 +67,8 @@ module _ (system : System) (pick : List (Option ℕ)) (raises : List CodeStep) (
       subst (In list) (sym (number_back rows pick v.0) ∙ ap (number_of rows) v.2 ∙ w.2) v.1
 
   -- each part is one
-  pub each_part : EachRises (part_numbers system pick list) → (k : ℕ) → k < length (part_numbers system pick list) → IsPart system pick raises places (get_or (part_numbers system pick list) k [])
+  pub each_part : EachRises (part_numbers system pick list) → (k : ℕ) → k < length (part_numbers system pick list)
+      → IsPart system pick raises places (get_or (part_numbers system pick list) k [])
   each_part rise k l =
       let xs = get_or (part_numbers system pick list) k [] in
       let within = part_within k l in
@@ -73,7 +80,8 @@ module _ (system : System) (pick : List (Option ℕ)) (raises : List CodeStep) (
       }
 
   -- with few members
-  pub part_few : length system.flow.points * length system.template ≤ MOST_UNKNOWNS → EachRises (part_numbers system pick list) → (k : ℕ) → k < length (part_numbers system pick list) → length (get_or (part_numbers system pick list) k []) ≤ MOST_UNKNOWNS
+  pub part_few : length system.flow.points * length system.template ≤ MOST_UNKNOWNS → EachRises (part_numbers system pick list) → (k : ℕ)
+      → k < length (part_numbers system pick list) → length (get_or (part_numbers system pick list) k []) ≤ MOST_UNKNOWNS
   part_few few rise k l =
       let p = each_part rise k l in
       let xs = get_or (part_numbers system pick list) k [] in

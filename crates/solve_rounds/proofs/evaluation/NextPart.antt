@@ -23,43 +23,55 @@ pub record IsNumbered (system : System) (pick : List (Option ℕ)) (list : List 
   pub is : p ≡ get_or (part_numbers system pick list) number []
 
 -- so is the one that the code reads
-pub numbered : (system : System) (pick : List (Option ℕ)) (list : List ℕ) {parts : List (List ℕ)} {number count : ℕ} {p : List ℕ} → parts ≡ part_numbers system pick list → count ≡ length parts → number < count → p ≡ get_or parts number [] →
+pub numbered : (system : System) (pick : List (Option ℕ)) (list : List ℕ) {parts : List (List ℕ)} {number count : ℕ} {p : List ℕ}
+    → parts ≡ part_numbers system pick list → count ≡ length parts → number < count → p ≡ get_or parts number [] →
     IsNumbered system pick list number p
 numbered system pick list {parts} {number} {count} {p} same size l e = record {
   within = subst (λ ps. number < length ps) same (subst (λ n. number < n) size l);
   is = e ∙ ap (λ ps. get_or ps number []) same;
 }
 
-module _ (system : System) (pick : List (Option ℕ)) (raises : List CodeStep) (places list : List ℕ) {number : ℕ} {p : List ℕ} (n : IsNumbered system pick list number p) where
+module _ (system : System) (pick : List (Option ℕ)) (raises : List CodeStep) (places list : List ℕ) {number : ℕ} {p : List ℕ}
+    (n : IsNumbered system pick list number p) where
   -- it is a list of the same kind, with at most as many unknowns as there are
-  module _ (whole : IsPart system pick raises places list) {parts : List (List ℕ)} (same : parts ≡ part_numbers system pick list) (rise : EachRises parts) where
+  module _ (whole : IsPart system pick raises places list) {parts : List (List ℕ)} (same : parts ≡ part_numbers system pick list)
+      (rise : EachRises parts) where
     -- a numbered part is a part of the list's kind
     pub numbered_part : IsPart system pick raises places p
-    numbered_part = subst (IsPart system pick raises places) (sym n.is) (each_part system pick raises places list whole (subst EachRises same rise) number n.within)
+    numbered_part = subst (IsPart system pick raises places) (sym n.is)
+        (each_part system pick raises places list whole (subst EachRises same rise) number n.within)
 
     -- a numbered part has at most the greatest number of unknowns
     pub numbered_few : length p ≤ MOST_UNKNOWNS
-    numbered_few = subst (λ xs. length xs ≤ MOST_UNKNOWNS) (sym n.is) (part_few system pick raises places list whole (system_size system) (subst EachRises same rise) number n.within)
+    numbered_few = subst (λ xs. length xs ≤ MOST_UNKNOWNS) (sym n.is) (part_few system pick raises places list whole (system_size system)
+        (subst EachRises same rise) number n.within)
 
     -- after its turns
-    pub numbered_more : (old now after : Turning) → ArePartings system pick raises places list old number now → IsDone system pick raises places p now after → ArePartings system pick raises places list old (number + 1) after
+    pub numbered_more : (old now after : Turning) → ArePartings system pick raises places list old number now
+        → IsDone system pick raises places p now after → ArePartings system pick raises places list old (number + 1) after
     numbered_more old now after h done =
-        partings_more system pick raises places list old number now after n.within (each_part system pick raises places list whole (subst EachRises same rise))
+        partings_more system pick raises places list old number now after n.within
+        (each_part system pick raises places list whole (subst EachRises same rise))
         (part_few system pick raises places list whole (system_size system) (subst EachRises same rise) number n.within) h
         (subst (λ q. IsDone system pick raises places q now after) n.is done)
 
   -- its turns have the list condition where those of all parts do
-  pub numbered_conditions : (old now : Turning) → IsPickAt system pick → HaveConditions system pick (turns_of_parts system pick raises places list old) → ArePartings system pick raises places list old number now →
+  pub numbered_conditions : (old now : Turning) → IsPickAt system pick
+      → HaveConditions system pick (turns_of_parts system pick raises places list old)
+      → ArePartings system pick raises places list old number now →
       HaveConditions system pick (turns_of_part system pick raises places p now)
   numbered_conditions old now chosen conditions h =
       subst (λ q. HaveConditions system pick (turns_of_part system pick raises places q now)) (sym n.is)
-      (conditions_like system pick (turns_of_part system pick raises places (get_or (part_numbers system pick list) number []) now) (turns_of_parts system pick raises places list old) chosen conditions
+      (conditions_like system pick (turns_of_part system pick raises places (get_or (part_numbers system pick list) number []) now)
+      (turns_of_parts system pick raises places list old) chosen conditions
       (next_like system pick raises places list old number now n.within h))
 
   -- a stop of one of its turns is one of the turns of all parts
-  pub numbered_stop : (old now : Turning) (round : ℕ) (stop : Fault Spot) → ArePartings system pick raises places list old number now → IsTurnStop system pick (turns_of_part system pick raises places p now) round stop →
+  pub numbered_stop : (old now : Turning) (round : ℕ) (stop : Fault Spot) → ArePartings system pick raises places list old number now
+      → IsTurnStop system pick (turns_of_part system pick raises places p now) round stop →
       IsTurnStop system pick (turns_of_parts system pick raises places list old) round stop
   numbered_stop old now round stop h s =
-      turn_stop_more system pick (turns_of_part system pick raises places (get_or (part_numbers system pick list) number []) now) (turns_of_parts system pick raises places list old) round
+      turn_stop_more system pick (turns_of_part system pick raises places (get_or (part_numbers system pick list) number []) now)
+      (turns_of_parts system pick raises places list old) round
       (next_like system pick raises places list old number now n.within h) stop
       (subst (λ q. IsTurnStop system pick (turns_of_part system pick raises places q now) round stop) n.is s)

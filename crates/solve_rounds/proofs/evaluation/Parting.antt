@@ -1,5 +1,6 @@
 -- The turns of a part, one after the other.
-use Rattle.std.proofs.Common.{◌==◌, true≢false, true, false, ◌≡◌, ◌∙◌, inl, inr, ⊎_elim, ℕ, zero, suc, ◌+◌, ◌<◌, ◌≤◌, List, [], ◌∷◌, ◌++◌, append_assoc, append-nil, length, get_or, map, refl, sym, ap, subst, arith}
+use Rattle.std.proofs.Common.{◌==◌, true≢false, true, false, ◌≡◌, ◌∙◌, inl, inr, ⊎_elim, ℕ, zero, suc, ◌+◌, ◌<◌, ◌≤◌, List, [], ◌∷◌, ◌++◌}
+use Rattle.std.proofs.Common.{append_assoc, append-nil, length, get_or, map, refl, sym, ap, subst, arith}
 use Rattle.std.specs.Prelude.{Option}
 use Rattle.std.proofs.lemmas.Bool.{eqb-true}
 use Rattle.base_facts.specs.Elements.{In}
@@ -21,7 +22,8 @@ use Rattle.solve_offers.specs.AtBounds.{vector_at, transformers}
 use Rattle.solve_offers.specs.Improvement.{pick_of}
 use Rattle.solve_rounds.specs.Growing.{Agrees}
 use Rattle.solve_rounds.specs.Lows.{raise_at, item_in, items_at}
-use Rattle.solve_rounds.specs.Turning.{turns_so_far, joint_of, HaveConditions, MeetsCondition, IsPart, IsTurned, IsTurnedBy, IsDone, turns_of_part}
+use Rattle.solve_rounds.specs.Turning.{turns_so_far, joint_of, HaveConditions, MeetsCondition, IsPart, IsTurned, IsTurnedBy, IsDone}
+use Rattle.solve_rounds.specs.Turning.{turns_of_part}
 use Rattle.solve_rounds.proofs.turning.TurnItems.{place_of}
 use Rattle.solve_rounds.proofs.lows.ListedLows.{raised_item}
 use Rattle.solve_offers.proofs.offers.Unknowns.{row_within}
@@ -33,14 +35,16 @@ of_map f [] y m = absurd m
 of_map f (x ∷ xs) y m = ⊎_elim (λ e. (x, inl refl, e)) (λ k. let r = of_map f xs y k in (r.0, inr r.1, r.2)) m
 
 -- the items of a part stand at rows of the template
-pub part_rows : (system : System) (pick : List (Option ℕ)) (raises : List CodeStep) (places list : List ℕ) → IsPart system pick raises places list → HaveRows (equations_of system) (items_at (length system.template) raises places list)
+pub part_rows : (system : System) (pick : List (Option ℕ)) (raises : List CodeStep) (places list : List ℕ)
+    → IsPart system pick raises places list → HaveRows (equations_of system) (items_at (length system.template) raises places list)
 part_rows system pick raises places list h item m =
     let u = of_map (λ u. item_in (length system.template) (raise_at raises places u)) list item m in
     let k = place_of list u.0 0 u.1 in
     let p = raised_item (length system.template) raises places (get_or list k.0 0) (h.raised k.0 k.1) in
     subst (λ (i : Item). i.row < length system.template) u.2
     (subst (λ n. (item_in (length system.template) (raise_at raises places n)).row < length system.template) k.2
-    (subst (λ r. r < length system.template) (sym p.1) (row_within (get_or list k.0 0) (length system.flow.points) (length system.template) (picked_in system pick list h.picked k.0 k.1).in_range)))
+    (subst (λ r. r < length system.template) (sym p.1) (row_within (get_or list k.0 0) (length system.flow.points) (length system.template)
+    (picked_in system pick list h.picked k.0 k.1).in_range)))
 
 -- a number that isn't 0
 pub not_none : (n : ℕ) → n == 0 ≡ false → 0 < n
@@ -84,13 +88,15 @@ module _ (system : System) (pick : List (Option ℕ)) (raises : List CodeStep) (
     -- the steps now are those before and those of the turns so far
     pub steps : turns_so_far system now ≡ turns_so_far system old ++ made
     -- the steps of the whole part are those so far, and then those of the unknowns left
-    pub whole : part joint (length list) (vector_at system old.bounds) (items list) ≡ made ++ part joint fuel (vector_at system now.bounds) (items left)
+    pub whole : part joint (length list) (vector_at system old.bounds) (items list)
+        ≡ made ++ part joint fuel (vector_at system now.bounds) (items left)
     -- the bounds are those after the steps so far
     pub agrees : Agrees system (after_steps made (vector_at system old.bounds)) now.bounds
     -- each step takes an unknown from those left
     pub few : length now.steps.items + length left ≤ length old.steps.items + length list
     -- the turns left are turns of the whole part
-    pub turns : (t : Turn) → In (part_turns joint fuel (length now.steps.items) (vector_at system now.bounds) (items left)) t → LikeOne eqs (turns_of_part system pick raises places list old) t
+    pub turns : (t : Turn) → In (part_turns joint fuel (length now.steps.items) (vector_at system now.bounds) (items left)) t
+        → LikeOne eqs (turns_of_part system pick raises places list old) t
 
   like_itself : (t : Turn) → Like eqs t t
   like_itself t = record { vector = λ p r l. refl; list = refl; number = refl }
@@ -124,8 +130,10 @@ module _ (system : System) (pick : List (Option ℕ)) (raises : List CodeStep) (
   -- at the end
   pub parting_ends : (left : List ℕ) (now : Turning) → left ≡ [] → IsParting left now → IsDone system pick raises places list old now
   parting_ends left now e h =
-      let none : part joint h.fuel (vector_at system now.bounds) (items left) ≡ [] = ap (λ l. part joint h.fuel (vector_at system now.bounds) (items l)) e ∙ nothing_more h.fuel (vector_at system now.bounds) in
-      let all : part joint (length list) (vector_at system old.bounds) (items list) ≡ h.made = h.whole ∙ ap (λ s. h.made ++ s) none ∙ append-nil h.made in
+      let none : part joint h.fuel (vector_at system now.bounds) (items left) ≡ [] =
+      ap (λ l. part joint h.fuel (vector_at system now.bounds) (items l)) e ∙ nothing_more h.fuel (vector_at system now.bounds) in
+      let all : part joint (length list) (vector_at system old.bounds) (items list) ≡ h.made =
+      h.whole ∙ ap (λ s. h.made ++ s) none ∙ append-nil h.made in
       record {
         size = h.size;
         steps = h.steps ∙ ap (λ s. turns_so_far system old ++ s) (sym all);
@@ -134,20 +142,27 @@ module _ (system : System) (pick : List (Option ℕ)) (raises : List CodeStep) (
       }
 
   -- the list condition at the next turn, and a turn of the part that is like it
-  pub parting_turn : (u : ℕ) (us : List ℕ) (now : Turning) → IsParting (u ∷ us) now → LikeOne eqs (turns_of_part system pick raises places list old) (record { vector = vector_at system now.bounds; list = items (u ∷ us); number = length now.steps.items })
+  pub parting_turn : (u : ℕ) (us : List ℕ) (now : Turning) → IsParting (u ∷ us) now
+      → LikeOne eqs (turns_of_part system pick raises places list old)
+      (record { vector = vector_at system now.bounds; list = items (u ∷ us); number = length now.steps.items })
   unfolding part_turns
   parting_turn u us now h = by h.fuel h.enough h.turns
     where
-      by : (n : ℕ) → length (u ∷ us) ≤ n → ((t : Turn) → In (part_turns joint n (length now.steps.items) (vector_at system now.bounds) (items (u ∷ us))) t → LikeOne eqs (turns_of_part system pick raises places list old) t) →
-          LikeOne eqs (turns_of_part system pick raises places list old) (record { vector = vector_at system now.bounds; list = items (u ∷ us); number = length now.steps.items })
+      by : (n : ℕ) → length (u ∷ us) ≤ n → ((t : Turn) → In (part_turns joint n (length now.steps.items) (vector_at system now.bounds)
+          (items (u ∷ us))) t → LikeOne eqs (turns_of_part system pick raises places list old) t) →
+          LikeOne eqs (turns_of_part system pick raises places list old)
+          (record { vector = vector_at system now.bounds; list = items (u ∷ us); number = length now.steps.items })
       by zero l f = absurd (omega arith)
-      by (suc n) l f = f (record { vector = vector_at system now.bounds; list = items (u ∷ us); number = length now.steps.items }) (inl refl)
+      by (suc n) l f = f (record { vector = vector_at system now.bounds; list = items (u ∷ us); number = length now.steps.items })
+          (inl refl)
 
   -- the turn at hand meets its condition where all turns of the part do
-  parting_condition : (u : ℕ) (us : List ℕ) (now : Turning) → HaveConditions system pick (turns_of_part system pick raises places list old) → IsParting (u ∷ us) now → MeetsCondition system pick raises places (u ∷ us) now.bounds
+  parting_condition : (u : ℕ) (us : List ℕ) (now : Turning) → HaveConditions system pick (turns_of_part system pick raises places list old)
+      → IsParting (u ∷ us) now → MeetsCondition system pick raises places (u ∷ us) now.bounds
   parting_condition u us now conditions h =
       let s = parting_turn u us now h in
-      condition_agrees eqs (pick_of rows pick) s.0.vector (vector_at system now.bounds) (items (u ∷ us)) (λ p r l. sym (s.2.vector p r l)) (part_rows system pick raises places (u ∷ us) h.part_left)
+      condition_agrees eqs (pick_of rows pick) s.0.vector (vector_at system now.bounds) (items (u ∷ us)) (λ p r l. sym (s.2.vector p r l))
+      (part_rows system pick raises places (u ∷ us) h.part_left)
       (subst (λ l. ListCondition eqs (transformers system) (pick_of rows pick) s.0.vector l) (sym s.2.list) (conditions s.0 s.1))
 
   -- a step after others
@@ -159,12 +174,14 @@ module _ (system : System) (pick : List (Option ℕ)) (raises : List CodeStep) (
   record Goes (u : ℕ) (us left : List ℕ) (now new : Turning) (n : ℕ) : Type 0 where
     step : Step
     one_step : turns_so_far system new ≡ turns_so_far system now ++ step ∷ []
-    rest_steps : part joint (suc n) (vector_at system now.bounds) (items (u ∷ us)) ≡ step ∷ part joint n (vector_at system new.bounds) (items left)
+    rest_steps : part joint (suc n) (vector_at system now.bounds) (items (u ∷ us))
+        ≡ step ∷ part joint n (vector_at system new.bounds) (items left)
     new_agrees : Agrees system (after_step step (vector_at system now.bounds)) new.bounds
     new_turns : (t : Turn) → In (part_turns joint n (length new.steps.items) (vector_at system new.bounds) (items left)) t →
         LikeOne eqs (part_turns joint (suc n) (length now.steps.items) (vector_at system now.bounds) (items (u ∷ us))) t
 
-  goes_by : (u : ℕ) (us left : List ℕ) (now new : Turning) (n : ℕ) → IsPart system pick raises places left → length new.steps.items ≡ length now.steps.items + 1 → (o : Outcome) → joint (vector_at system now.bounds) (items (u ∷ us)) ≡ o →
+  goes_by : (u : ℕ) (us left : List ℕ) (now new : Turning) (n : ℕ) → IsPart system pick raises places left
+      → length new.steps.items ≡ length now.steps.items + 1 → (o : Outcome) → joint (vector_at system now.bounds) (items (u ∷ us)) ≡ o →
       IsTurnedBy system raises places o (u ∷ us) now new left → Goes u us left now new n
   unfolding part turn part_turns later_turns
   goes_by u us left now new n kept one (Point its) e t =
@@ -173,9 +190,11 @@ module _ (system : System) (pick : List (Option ℕ)) (raises : List CodeStep) (
         step = step;
         one_step = t.0;
         rest_steps = ap (λ o. turn o (vector_at system now.bounds) (items (u ∷ us)) (λ c rest. part joint n c rest)) e
-            ∙ ap (λ s. step ∷ s) (sym (ap (λ l. part joint n (vector_at system new.bounds) (items l)) t.1 ∙ nothing_more n (vector_at system new.bounds)));
+            ∙ ap (λ s. step ∷ s) (sym (ap (λ l. part joint n (vector_at system new.bounds) (items l)) t.1
+            ∙ nothing_more n (vector_at system new.bounds)));
         new_agrees = t.2;
-        new_turns = λ s m. absurd (no_turns n (length new.steps.items) (vector_at system new.bounds) s (subst (λ l. In (part_turns joint n (length new.steps.items) (vector_at system new.bounds) (items l)) s) t.1 m));
+        new_turns = λ s m. absurd (no_turns n (length new.steps.items) (vector_at system new.bounds) s
+            (subst (λ l. In (part_turns joint n (length new.steps.items) (vector_at system new.bounds) (items l)) s) t.1 m));
       }
   goes_by u us left now new n kept one (Rays its) e t =
       let step : Step = record { kind = RayKind; items = its } in
@@ -186,13 +205,17 @@ module _ (system : System) (pick : List (Option ℕ)) (raises : List CodeStep) (
         step = step;
         one_step = t.0;
         rest_steps = ap (λ o. turn o (vector_at system now.bounds) (items (u ∷ us)) (λ c rest. part joint n c rest)) e
-            ∙ ap (λ s. step ∷ s) (ap (part joint n c) (sym t.1) ∙ part_agrees eqs (pick_of rows pick) n c (vector_at system new.bounds) (items left) t.2 rows_left);
+            ∙ ap (λ s. step ∷ s) (ap (part joint n c) (sym t.1) ∙ part_agrees eqs (pick_of rows pick) n c (vector_at system new.bounds)
+            (items left) t.2 rows_left);
         new_agrees = t.2;
         new_turns = λ s m.
-            let r = part_turns_agree eqs (pick_of rows pick) n (length new.steps.items) (vector_at system new.bounds) c (items left) (λ p r l. sym (t.2 p r l)) rows_left s m in (
+            let r = part_turns_agree eqs (pick_of rows pick) n (length new.steps.items) (vector_at system new.bounds) c (items left)
+            (λ p r l. sym (t.2 p r l)) rows_left s m in (
               r.0,
-              inr (subst (λ o. In (later_turns o (length now.steps.items) (vector_at system now.bounds) (items (u ∷ us)) (λ j d rest. part_turns joint n j d rest)) r.0) (sym e)
-                  (subst (λ k. In (part_turns joint n k c (without its (items (u ∷ us)))) r.0) number (subst (λ l. In (part_turns joint n (length new.steps.items) c l) r.0) t.1 r.1))),
+              inr (subst (λ o. In (later_turns o (length now.steps.items) (vector_at system now.bounds) (items (u ∷ us))
+                  (λ j d rest. part_turns joint n j d rest)) r.0) (sym e)
+                  (subst (λ k. In (part_turns joint n k c (without its (items (u ∷ us)))) r.0) number
+                  (subst (λ l. In (part_turns joint n (length new.steps.items) c l) r.0) t.1 r.1))),
               r.2,
             );
       }
@@ -201,11 +224,14 @@ module _ (system : System) (pick : List (Option ℕ)) (raises : List CodeStep) (
   like_one turns t s a r = (r.0, r.1, like_trans eqs t s r.0 a r.2)
 
   -- after one more turn
-  pub parting_more : (u : ℕ) (us left : List ℕ) (now new : Turning) → IsParting (u ∷ us) now → IsTurned system pick raises places (u ∷ us) now new left → IsParting left new
+  pub parting_more : (u : ℕ) (us left : List ℕ) (now new : Turning) → IsParting (u ∷ us) now
+      → IsTurned system pick raises places (u ∷ us) now new left → IsParting left new
   parting_more u us left now new h t = by h.fuel h.enough h.whole h.turns
     where
-      by : (n : ℕ) → length (u ∷ us) ≤ n → part joint (length list) (vector_at system old.bounds) (items list) ≡ h.made ++ part joint n (vector_at system now.bounds) (items (u ∷ us)) →
-          ((s : Turn) → In (part_turns joint n (length now.steps.items) (vector_at system now.bounds) (items (u ∷ us))) s → LikeOne eqs (turns_of_part system pick raises places list old) s) → IsParting left new
+      by : (n : ℕ) → length (u ∷ us) ≤ n → part joint (length list) (vector_at system old.bounds) (items list)
+          ≡ h.made ++ part joint n (vector_at system now.bounds) (items (u ∷ us)) →
+          ((s : Turn) → In (part_turns joint n (length now.steps.items) (vector_at system now.bounds) (items (u ∷ us))) s
+          → LikeOne eqs (turns_of_part system pick raises places list old) s) → IsParting left new
       by zero l w f = absurd (omega arith)
       by (suc n) l w f =
           let g = goes_by u us left now new n t.part t.one (joint (vector_at system now.bounds) (items (u ∷ us))) refl t.turned in
@@ -219,23 +245,31 @@ module _ (system : System) (pick : List (Option ℕ)) (raises : List CodeStep) (
             fuel = n;
             enough = omega arith;
             steps = g.one_step ∙ ap (λ s. s ++ g.step ∷ []) h.steps ∙ append_assoc (turns_so_far system old) h.made (g.step ∷ []);
-            whole = w ∙ ap (λ s. h.made ++ s) g.rest_steps ∙ sym (append_assoc h.made (g.step ∷ []) (part joint n (vector_at system new.bounds) (items left)));
-            agrees = λ p r m. ap (λ z. z p r) (led_one h.made g.step (vector_at system old.bounds)) ∙ after_agrees eqs g.step (after_steps h.made (vector_at system old.bounds)) (vector_at system now.bounds) h.agrees p r m ∙ g.new_agrees p r m;
+            whole = w ∙ ap (λ s. h.made ++ s) g.rest_steps ∙ sym (append_assoc h.made (g.step ∷ [])
+                (part joint n (vector_at system new.bounds) (items left)));
+            agrees = λ p r m. ap (λ z. z p r) (led_one h.made g.step (vector_at system old.bounds))
+                ∙ after_agrees eqs g.step (after_steps h.made (vector_at system old.bounds)) (vector_at system now.bounds) h.agrees p r m
+                ∙ g.new_agrees p r m;
             few = omega arith;
             turns = λ s m. let r = g.new_turns s m in like_one (turns_of_part system pick raises places list old) s r.0 r.2 (f r.0 r.1);
           }
 
   -- the same where something is left
-  pub left_turn : (left : List ℕ) (now : Turning) → 0 < length left → IsParting left now → LikeOne eqs (turns_of_part system pick raises places list old) (record { vector = vector_at system now.bounds; list = items left; number = length now.steps.items })
+  pub left_turn : (left : List ℕ) (now : Turning) → 0 < length left → IsParting left now
+      → LikeOne eqs (turns_of_part system pick raises places list old)
+      (record { vector = vector_at system now.bounds; list = items left; number = length now.steps.items })
   left_turn [] now l h = absurd (omega arith)
   left_turn (u ∷ us) now l h = parting_turn u us now h
 
   -- the unknowns left meet the condition of their turn
-  pub left_condition : (left : List ℕ) (now : Turning) → 0 < length left → HaveConditions system pick (turns_of_part system pick raises places list old) → IsParting left now → MeetsCondition system pick raises places left now.bounds
+  pub left_condition : (left : List ℕ) (now : Turning) → 0 < length left
+      → HaveConditions system pick (turns_of_part system pick raises places list old) → IsParting left now
+      → MeetsCondition system pick raises places left now.bounds
   left_condition [] now l conditions h = absurd (omega arith)
   left_condition (u ∷ us) now l conditions h = parting_condition u us now conditions h
 
   -- one turn more takes the part one turn further
-  pub left_more : (left more : List ℕ) (now new : Turning) → 0 < length left → IsParting left now → IsTurned system pick raises places left now new more → IsParting more new
+  pub left_more : (left more : List ℕ) (now new : Turning) → 0 < length left → IsParting left now
+      → IsTurned system pick raises places left now new more → IsParting more new
   left_more [] more now new l h t = absurd (omega arith)
   left_more (u ∷ us) more now new l h t = parting_more u us more now new h t

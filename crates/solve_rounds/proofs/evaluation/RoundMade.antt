@@ -1,5 +1,6 @@
 -- A round: its growth and then the turns of the parts of its list, as the theory has them.
-use Rattle.std.proofs.Common.{◌≡◌, ◌∙◌, ◌⊎◌, inl, inr, ℕ, zero, suc, ◌+◌, ◌*◌, ◌/◌, ◌%◌, ◌<◌, ◌≤◌, List, [], ◌∷◌, ◌++◌, length, get_or, map, refl, sym, ap, ap₂, subst, subst₂, arith, if◌then◌else◌}
+use Rattle.std.proofs.Common.{◌≡◌, ◌∙◌, ◌⊎◌, inl, inr, ℕ, zero, suc, ◌+◌, ◌*◌, ◌/◌, ◌%◌, ◌<◌, ◌≤◌, List, [], ◌∷◌, ◌++◌, length, get_or, map}
+use Rattle.std.proofs.Common.{refl, sym, ap, ap₂, subst, subst₂, arith, if◌then◌else◌}
 use Rattle.std.specs.Prelude.{Option, Some, None}
 use Rattle.std.specs.List.{range_with_len}
 use Rattle.std.proofs.lemmas.Bool.{lt-ltb, cases_lt}
@@ -59,11 +60,13 @@ use Rattle.solve_rounds.proofs.evaluation.Partings.{conditions_like}
 use Rattle.solve_rounds.proofs.evaluation.RoundRaises.{list_is, list_items}
 
 -- what was grown, where its raises stand, and the list of the unknowns that it raised to fractions
-pub record Setting (system : System) (bounds : List Extended) (pick : List (Option ℕ)) (raises : List CodeStep) (grown : List Extended) (places list : List ℕ) : Type 0 where
+pub record Setting (system : System) (bounds : List Extended) (pick : List (Option ℕ)) (raises : List CodeStep) (grown : List Extended)
+    (places list : List ℕ) : Type 0 where
   -- the raises are the steps of the growth
   pub same : map (step_of (length system.template)) raises ≡ growth_at system bounds pick
   -- the grown bounds are those of the theory's growth
-  pub agrees : Agrees system (exact_grown fitting (equations_of system) (vector_at system bounds) (pick_of (length system.template) pick)) grown
+  pub agrees : Agrees system (exact_grown fitting (equations_of system) (vector_at system bounds) (pick_of (length system.template) pick))
+      grown
   -- there is one place for each unknown
   pub size : length places ≡ length system.flow.points * length system.template
   -- the places are those of the raises
@@ -72,20 +75,26 @@ pub record Setting (system : System) (bounds : List Extended) (pick : List (Opti
   pub listed : list ≡ finite_in grown (named_at system (map (step_of (length system.template)) raises))
 
 -- the raises, places and list of a growth are the setting of its round
-pub setting : (system : System) (bounds : List Extended) (pick : List (Option ℕ)) (steps before raises : List CodeStep) (grown : List Extended) (places here raised from list here_list : List ℕ) →
+pub setting : (system : System) (bounds : List Extended) (pick : List (Option ℕ)) (steps before raises : List CodeStep)
+    (grown : List Extended) (places here raised from list here_list : List ℕ) →
     before ≡ steps → raises ≡ steps → here ≡ places → from ≡ raised → here_list ≡ list →
-    map (step_of (length system.template)) steps ≡ growth_at system bounds pick → AreLed system bounds (map (step_of (length system.template)) steps) grown → raised ≡ named_at system (map (step_of (length system.template)) steps) →
-    length places ≡ length system.flow.points * length system.template → ArePlaces before places (length before) → list ≡ finite_in grown from →
+    map (step_of (length system.template)) steps ≡ growth_at system bounds pick
+    → AreLed system bounds (map (step_of (length system.template)) steps) grown
+    → raised ≡ named_at system (map (step_of (length system.template)) steps) →
+    length places ≡ length system.flow.points * length system.template → ArePlaces before places (length before)
+    → list ≡ finite_in grown from →
     Setting system bounds pick raises grown here here_list
-setting system bounds pick steps before raises grown places here raised from list here_list a b c d e made led_to named size placed listed = record {
-  same = ap (map (step_of (length system.template))) b ∙ made;
-  agrees = subst (λ s. Agrees system (after_steps s (vector_at system bounds)) grown) made led_to;
-  size = ap length c ∙ size;
-  placed = subst₂ (λ s p. ArePlaces s p (length s)) (a ∙ sym b) (sym c) placed;
-  listed = e ∙ listed ∙ ap (finite_in grown) (d ∙ named ∙ ap (λ s. named_at system (map (step_of (length system.template)) s)) (sym b));
-}
+setting system bounds pick steps before raises grown places here raised from list here_list a b c d e made led_to named size placed listed =
+    record {
+      same = ap (map (step_of (length system.template))) b ∙ made;
+      agrees = subst (λ s. Agrees system (after_steps s (vector_at system bounds)) grown) made led_to;
+      size = ap length c ∙ size;
+      placed = subst₂ (λ s p. ArePlaces s p (length s)) (a ∙ sym b) (sym c) placed;
+      listed = e ∙ listed ∙ ap (finite_in grown) (d ∙ named ∙ ap (λ s. named_at system (map (step_of (length system.template)) s)) (sym b));
+    }
 
-module _ (system : System) (bounds : List Extended) (pick : List (Option ℕ)) (chosen : IsPickAt system pick) (raises : List CodeStep) (grown : List Extended) (places list : List ℕ) (is : Setting system bounds pick raises grown places list) where
+module _ (system : System) (bounds : List Extended) (pick : List (Option ℕ)) (chosen : IsPickAt system pick) (raises : List CodeStep)
+    (grown : List Extended) (places list : List ℕ) (is : Setting system bounds pick raises grown places list) where
   abbrev rows : ℕ
   rows = length system.template
 
@@ -115,7 +124,8 @@ module _ (system : System) (bounds : List Extended) (pick : List (Option ℕ)) (
 
   -- the list is one of raised unknowns with their picked edges
   pub setting_list : IsPart system pick raises places list
-  setting_list = subst (IsPart system pick raises places) (sym is.listed) (list_is system pick bounds chosen raises is.same grown is.agrees places is.size is.placed)
+  setting_list = subst (IsPart system pick raises places) (sym is.listed)
+      (list_is system pick bounds chosen raises is.same grown is.agrees places is.size is.placed)
 
   items_sorted : items list ≡ sorted
   items_sorted = ap items is.listed ∙ list_items system pick bounds chosen raises is.same grown is.agrees places is.size is.placed
@@ -128,33 +138,40 @@ module _ (system : System) (bounds : List Extended) (pick : List (Option ℕ)) (
 
   -- ---- the cut
   -- the item of an unknown of the list
-  item_here : (w : Listed) → In (all_listed system pick list) w → item_for sorted w ≡ item_in rows (raise_at raises places (number_of rows w)) ∷ []
+  item_here : (w : Listed) → In (all_listed system pick list) w → item_for sorted w
+      ≡ item_in rows (raise_at raises places (number_of rows w)) ∷ []
   item_here w m =
       let v = of_map (listed_of rows pick) list w m in
       let k = place_of list v.0 0 v.1 in
       let part = setting_list in
       let l : listed_item (item_in rows (raise_at raises places v.0)) ≡ listed_of rows pick v.0
-      = subst (λ u. listed_item (item_in rows (raise_at raises places u)) ≡ listed_of rows pick u) k.2 (listed_here rows pick raises places (get_or list k.0 0) (part.raised k.0 k.1) (part.edges k.0 k.1)) in
+      = subst (λ u. listed_item (item_in rows (raise_at raises places u)) ≡ listed_of rows pick u) k.2
+      (listed_here rows pick raises places (get_or list k.0 0) (part.raised k.0 k.1) (part.edges k.0 k.1)) in
       let n : number_of rows w ≡ v.0 = ap (number_of rows) (sym v.2) ∙ number_back rows pick v.0 in
       ap (item_for sorted) (sym (l ∙ v.2))
-      ∙ item_for_is sorted (item_in rows (raise_at raises places v.0)) apart_sorted (subst (λ s. In s (item_in rows (raise_at raises places v.0))) items_sorted (in_map (λ u. item_in rows (raise_at raises places u)) list v.0 v.1))
+      ∙ item_for_is sorted (item_in rows (raise_at raises places v.0)) apart_sorted
+      (subst (λ s. In s (item_in rows (raise_at raises places v.0))) items_sorted
+      (in_map (λ u. item_in rows (raise_at raises places u)) list v.0 v.1))
       ∙ ap (λ u. item_in rows (raise_at raises places u) ∷ []) (sym n)
 
   -- those of a part
-  part_here : (part : List Listed) → ((w : Listed) → In part w → In (all_listed system pick list) w) → items_for sorted part ≡ items (map (number_of rows) part)
+  part_here : (part : List Listed) → ((w : Listed) → In part w → In (all_listed system pick list) w)
+      → items_for sorted part ≡ items (map (number_of rows) part)
   unfolding items_for
   part_here [] within = refl
   part_here (w ∷ part) within = ap₂ (λ x y. x ++ y) (item_here w (within w (inl refl))) (part_here part (λ v m. within v (inr m)))
 
   -- those of parts
-  parts_here : (ps : List (List Listed)) → ((w : Listed) → InSome ps w → In (all_listed system pick list) w) → items_of_parts sorted ps ≡ map items (map (map (number_of rows)) ps)
+  parts_here : (ps : List (List Listed)) → ((w : Listed) → InSome ps w → In (all_listed system pick list) w)
+      → items_of_parts sorted ps ≡ map items (map (map (number_of rows)) ps)
   unfolding items_of_parts
   parts_here [] within = refl
   parts_here (part ∷ ps) within = ap₂ (λ x y. x ∷ y) (part_here part (λ w m. within w (inl m))) (parts_here ps (λ w m. within w (inr m)))
 
   cut_same : cut ≡ map items numbers
   unfolding exact_cut cut_items
-  cut_same = ap (λ l. items_of_parts sorted (parts eqs l)) listed_sorted ∙ parts_here (listed_parts system pick list) (λ w m. parts_sound eqs (all_listed system pick list) w m)
+  cut_same = ap (λ l. items_of_parts sorted (parts eqs l)) listed_sorted
+      ∙ parts_here (listed_parts system pick list) (λ w m. parts_sound eqs (all_listed system pick list) w m)
 
   -- ---- the turns
   cut_rows : HaveRows eqs (members cut)
@@ -164,10 +181,12 @@ module _ (system : System) (bounds : List Extended) (pick : List (Option ℕ)) (
   made = turns (joint_of system pick) (vector_at system grown) (map items numbers)
 
   made_same : turns (joint_of system pick) at_grown cut ≡ made
-  made_same = turns_agree eqs p cut at_grown (vector_at system grown) is.agrees cut_rows ∙ ap (turns (joint_of system pick) (vector_at system grown)) cut_same
+  made_same = turns_agree eqs p cut at_grown (vector_at system grown) is.agrees cut_rows
+      ∙ ap (turns (joint_of system pick) (vector_at system grown)) cut_same
 
   -- the turns of the list's parts are turns of the round
-  pub turns_like : (old : Turning) → old.bounds ≡ grown → length old.steps.items ≡ 0 → (t : Turn) → In (turns_of_parts system pick raises places list old) t → LikeOne eqs (turns_at system bounds pick) t
+  pub turns_like : (old : Turning) → old.bounds ≡ grown → length old.steps.items ≡ 0 → (t : Turn)
+      → In (turns_of_parts system pick raises places list old) t → LikeOne eqs (turns_at system bounds pick) t
   unfolding exact_turns
   turns_like old e none t m =
       parts_turns_agree eqs p cut 0 (vector_at system grown) at_grown (λ q r l. sym (is.agrees q r l)) cut_rows t
@@ -175,42 +194,54 @@ module _ (system : System) (bounds : List Extended) (pick : List (Option ℕ)) (
       (subst₂ (λ n b. In (parts_turns (joint_of system pick) n (vector_at system b) (map items numbers)) t) none e m))
 
   -- the turns of the list's parts have their conditions
-  pub setting_conditions : (old : Turning) → old.bounds ≡ grown → length old.steps.items ≡ 0 → HaveConditions system pick (turns_of_parts system pick raises places list old)
-  setting_conditions old e none = conditions_like system pick (turns_of_parts system pick raises places list old) (turns_at system bounds pick) chosen (λ t m. turn_condition fitting eqs d p chosen t m) (turns_like old e none)
+  pub setting_conditions : (old : Turning) → old.bounds ≡ grown → length old.steps.items ≡ 0
+      → HaveConditions system pick (turns_of_parts system pick raises places list old)
+  setting_conditions old e none = conditions_like system pick (turns_of_parts system pick raises places list old)
+      (turns_at system bounds pick) chosen (λ t m. turn_condition fitting eqs d p chosen t m) (turns_like old e none)
 
   -- ---- the steps and the bounds
   steps_same : growth_at system bounds pick ++ made ≡ round_at system bounds pick
   unfolding round_steps
   steps_same = ap (λ s. growth_at system bounds pick ++ s) (sym made_same)
 
-  done_made : (old new : Turning) → old.bounds ≡ grown → old.steps.items ≡ [] → AreAllDone system pick raises places list old new → turns_so_far system new ≡ made
-  done_made old new e none done = done.steps ∙ ap₂ (λ s b. map (step_of rows) s ++ turns (joint_of system pick) (vector_at system b) (map items numbers)) none e
+  done_made : (old new : Turning) → old.bounds ≡ grown → old.steps.items ≡ [] → AreAllDone system pick raises places list old new
+      → turns_so_far system new ≡ made
+  done_made old new e none done = done.steps ∙ ap₂ (λ s b. map (step_of rows) s
+      ++ turns (joint_of system pick) (vector_at system b) (map items numbers)) none e
 
   -- the growth's raises and the turns' steps are the steps of the round
-  pub setting_steps : (old new : Turning) (steps : List CodeStep) → old.bounds ≡ grown → old.steps.items ≡ [] → AreAllDone system pick raises places list old new → steps ≡ raises ++ new.steps.items →
+  pub setting_steps : (old new : Turning) (steps : List CodeStep) → old.bounds ≡ grown → old.steps.items ≡ []
+      → AreAllDone system pick raises places list old new → steps ≡ raises ++ new.steps.items →
       map (step_of rows) steps ≡ round_at system bounds pick
   setting_steps old new steps e none done appended =
-      ap (map (step_of rows)) appended ∙ map_both raises new.steps.items ∙ ap₂ (λ x y. x ++ y) is.same (done_made old new e none done) ∙ steps_same
+      ap (map (step_of rows)) appended ∙ map_both raises new.steps.items ∙ ap₂ (λ x y. x ++ y) is.same (done_made old new e none done)
+      ∙ steps_same
     where
       map_both : (xs ys : List CodeStep) → map (step_of rows) (xs ++ ys) ≡ map (step_of rows) xs ++ map (step_of rows) ys
       map_both [] ys = refl
       map_both (x ∷ xs) ys = ap (λ s. step_of rows x ∷ s) (map_both xs ys)
 
   -- the bounds after all parts are those of the round
-  pub setting_bounds : (old new : Turning) → old.bounds ≡ grown → AreAllDone system pick raises places list old new → Agrees system (rounded_at system bounds pick) new.bounds
+  pub setting_bounds : (old new : Turning) → old.bounds ≡ grown → AreAllDone system pick raises places list old new
+      → Agrees system (rounded_at system bounds pick) new.bounds
   unfolding round
   setting_bounds old new e done q r l =
       led_agrees eqs (turns (joint_of system pick) at_grown cut) at_grown (vector_at system grown) is.agrees q r l
       ∙ ap (λ s. after_steps s (vector_at system grown) q r) made_same
-      ∙ subst (λ b. Agrees system (after_steps (turns (joint_of system pick) (vector_at system b) (map items numbers)) (vector_at system b)) new.bounds) e done.agrees q r l
+      ∙ subst (λ b. Agrees system (after_steps (turns (joint_of system pick) (vector_at system b) (map items numbers)) (vector_at system b))
+      new.bounds) e done.agrees q r l
 
 -- ---- what holds of the vector of a round holds of the bounds
-module _ (system : System) (pick : List (Option ℕ)) (z : Vector) (new : List Extended) (agree : Agree (equations_of system) z (vector_at system new)) (chosen : IsPickAt system pick) where
-  value_same : (u : Item) → transformers system z (edge_of (equations_of system) u) (row_of (equations_of system) u) ≡ transformers system (vector_at system new) (edge_of (equations_of system) u) (row_of (equations_of system) u)
-  value_same u = transformer_agrees (equations_of system) z (vector_at system new) agree (edge_of (equations_of system) u) (row_of (equations_of system) u)
+module _ (system : System) (pick : List (Option ℕ)) (z : Vector) (new : List Extended)
+    (agree : Agree (equations_of system) z (vector_at system new)) (chosen : IsPickAt system pick) where
+  value_same : (u : Item) → transformers system z (edge_of (equations_of system) u) (row_of (equations_of system) u)
+      ≡ transformers system (vector_at system new) (edge_of (equations_of system) u) (row_of (equations_of system) u)
+  value_same u = transformer_agrees (equations_of system) z (vector_at system new) agree (edge_of (equations_of system) u)
+      (row_of (equations_of system) u)
 
   -- the new bounds are above the old ones
-  pub above_bounds : (old : List Extended) → Above (equations_of system) (transformers system) (vector_at system old) (pick_of (length system.template) pick) z → AreAbove system old pick new
+  pub above_bounds : (old : List Extended) → Above (equations_of system) (transformers system) (vector_at system old)
+      (pick_of (length system.template) pick) z → AreAbove system old pick new
   above_bounds old h = record {
     over = λ q r l. subst (λ x. vector_at system old q r ≤ᴱ x) (agree q r l) (h.over q r l);
     closed = λ u m. subst₂ (λ x y. x ≤ᴱ y) (value_same u) (agree u.point u.row (chosen u m).row_within) (h.closed u m);
@@ -218,7 +249,8 @@ module _ (system : System) (pick : List (Option ℕ)) (z : Vector) (new : List E
   }
 
   -- the pick is tight at the new bounds
-  pub tight_bounds : Tight (equations_of system) (transformers system) z (pick_of (length system.template) pick) → IsTightPick system new pick
+  pub tight_bounds : Tight (equations_of system) (transformers system) z (pick_of (length system.template) pick)
+      → IsTightPick system new pick
   tight_bounds h = record {
     supported = record {
       is_pick = chosen;
@@ -232,8 +264,11 @@ module _ (system : System) (pick : List (Option ℕ)) (z : Vector) (new : List E
 
 -- ---- a round by a supported pick
 pub round_done : (system : System) (bounds : List Extended) (pick : List (Option ℕ)) → IsSupportedPick system bounds pick →
-    RoundDone (equations_of system) (transformers system) (vector_at system bounds) (exact_grown fitting (equations_of system) (vector_at system bounds) (pick_of (length system.template) pick)) (pick_of (length system.template) pick) (growth_at system bounds pick) (round_at system bounds pick) (rounded_at system bounds pick)
-round_done system bounds pick supported = exact_round_is fitting (equations_of system) (vector_at system bounds) (pick_of (length system.template) pick) supported
+    RoundDone (equations_of system) (transformers system) (vector_at system bounds)
+    (exact_grown fitting (equations_of system) (vector_at system bounds) (pick_of (length system.template) pick))
+    (pick_of (length system.template) pick) (growth_at system bounds pick) (round_at system bounds pick) (rounded_at system bounds pick)
+round_done system bounds pick supported = exact_round_is fitting (equations_of system) (vector_at system bounds)
+    (pick_of (length system.template) pick) supported
 
 -- ---- what the parts of a round need
 past : (xs : List (Option ℕ)) (u : ℕ) → length xs ≤ u → get_or xs u None ≡ None
@@ -242,24 +277,36 @@ past (x ∷ xs) zero l = absurd (omega arith)
 past (x ∷ xs) (suc u) l = past xs u (omega arith)
 
 -- each picked edge is one of the system
-pub picked_edges : (system : System) (pick : List (Option ℕ)) → length pick ≡ length system.flow.points * length system.template → IsPickAt system pick → EdgesAreThere system pick
+pub picked_edges : (system : System) (pick : List (Option ℕ)) → length pick ≡ length system.flow.points * length system.template
+    → IsPickAt system pick → EdgesAreThere system pick
 picked_edges system pick size chosen u edge e = by (cases_lt u (length pick))
   where
     by : (u < length pick) ⊎ (length pick ≤ u) → edge < length system.flow.edges
     by (inl l) =
         let rows = length system.template in
         let b = lt-ltb (u % rows) rows (row_within u (length system.flow.points) rows (omega arith)) in
-        let item : Item = record { point = u / rows; row = u % rows; edge = edge; low = record { start = []; free = [] }; second = record { start = []; free = [] }; number = zero_ℚ } in
-        (chosen item (ap (λ t. if t then get_or pick (u / rows * rows + u % rows) None else None) b ∙ ap (λ n. get_or pick n None) (div-add-mod' u rows) ∙ e)).edge_within
+        let item : Item = record {
+          point = u / rows;
+          row = u % rows;
+          edge = edge;
+          low = record { start = []; free = [] };
+          second =
+              record { start = []; free = [] };
+          number = zero_ℚ;
+        } in
+        (chosen item (ap (λ t. if t then get_or pick (u / rows * rows + u % rows) None else None) b
+        ∙ ap (λ n. get_or pick n None) (div-add-mod' u rows) ∙ e)).edge_within
     by (inr l) = absurd (none edge (sym (past pick u l) ∙ e))
       where
         none : (k : ℕ) → None ≡ Some k → ⊥
         none k i = cc
 
 -- the named unknowns are some of the system's
-pub named_within : (system : System) (steps : List Step) (k : ℕ) → k < length (named_at system steps) → get_or (named_at system steps) k 0 < length system.flow.points * length system.template
+pub named_within : (system : System) (steps : List Step) (k : ℕ) → k < length (named_at system steps)
+    → get_or (named_at system steps) k 0 < length system.flow.points * length system.template
 named_within system steps k l =
     let rows = length system.template in
     let count = length system.flow.points * length system.template in
-    let h = of_range 0 count (get_or (named_at system steps) k 0) (of_filter (is_named rows (items_of steps)) (range_with_len 0 count) (get_or (named_at system steps) k 0) (in_place (named_at system steps) 0 k l)) in
+    let h = of_range 0 count (get_or (named_at system steps) k 0) (of_filter (is_named rows (items_of steps)) (range_with_len 0 count)
+    (get_or (named_at system steps) k 0) (in_place (named_at system steps) 0 k l)) in
     omega arith

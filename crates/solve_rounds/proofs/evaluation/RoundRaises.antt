@@ -1,5 +1,6 @@
 -- The code's steps of a growth: raises with places, and the list of the unknowns that they raised to fractions.
-use Rattle.std.proofs.Common.{◌≡◌, ◌∙◌, ◌⊎◌, inl, inr, ℕ, ◌+◌, ◌*◌, ◌/◌, ◌%◌, ◌<◌, ◌≤◌, true, true≢false, List, [], ◌∷◌, length, get_or, map, refl, sym, ap, ap₂, subst, subst₂, arith, mul-le-mul_right, if◌then◌else◌}
+use Rattle.std.proofs.Common.{◌≡◌, ◌∙◌, ◌⊎◌, inl, inr, ℕ, ◌+◌, ◌*◌, ◌/◌, ◌%◌, ◌<◌, ◌≤◌, true, true≢false, List, [], ◌∷◌, length, get_or}
+use Rattle.std.proofs.Common.{map, refl, sym, ap, ap₂, subst, subst₂, arith, mul-le-mul_right, if◌then◌else◌}
 use Rattle.std.specs.Prelude.{Option, Some, None}
 use Rattle.std.specs.List.{range_with_len}
 use Rattle.std.proofs.lemmas.Bool.{lt-ltb, cases_lt}
@@ -44,7 +45,8 @@ use Rattle.solve_rounds.proofs.evaluation.Parting.{of_map}
 use Rattle.solve_rounds.proofs.evaluation.EachPart.{picked_all}
 use Rattle.solve_rounds.proofs.lows.RaiseList.{any_true, true_any, passes_test, to_filter, range_rises, rises_listed, one_item, items_map}
 
-module _ (system : System) (pick : List (Option ℕ)) (bounds : List Extended) (chosen : IsPickAt system pick) (raises : List CodeStep) (same : map (step_of (length system.template)) raises ≡ growth_at system bounds pick) where
+module _ (system : System) (pick : List (Option ℕ)) (bounds : List Extended) (chosen : IsPickAt system pick) (raises : List CodeStep)
+    (same : map (step_of (length system.template)) raises ≡ growth_at system bounds pick) where
   abbrev rows : ℕ
   rows = length system.template
 
@@ -65,7 +67,8 @@ module _ (system : System) (pick : List (Option ℕ)) (bounds : List Extended) (
 
   single : (s : CodeStep) → In raises s → IsFilled s × ((step_of rows s).items ≡ item_in rows s ∷ [])
   single s m =
-      let h = grow_single fitting eqs p chosen d (step_of rows s) (subst (λ l. In l (step_of rows s)) same (in_map (step_of rows) raises s m)) in
+      let h = grow_single fitting eqs p chosen d (step_of rows s) (subst (λ l. In l (step_of rows s)) same
+      (in_map (step_of rows) raises s m)) in
       one_item rows s h.0 h.1
 
   items_are : items_of (growth_at system bounds pick) ≡ map (item_in rows) raises
@@ -75,13 +78,15 @@ module _ (system : System) (pick : List (Option ℕ)) (bounds : List Extended) (
   apart = subst Distinct items_are (grow_apart fitting eqs p chosen d)
 
   picked_step : (s : CodeStep) → In raises s → Picks p (item_in rows s)
-  picked_step s m = grow_picked fitting eqs p chosen d (item_in rows s) (subst (λ l. In l (item_in rows s)) (sym items_are) (in_map (item_in rows) raises s m))
+  picked_step s m = grow_picked fitting eqs p chosen d (item_in rows s)
+      (subst (λ l. In l (item_in rows s)) (sym items_are) (in_map (item_in rows) raises s m))
 
   placed_step : (s : CodeStep) → In raises s → Placed eqs (item_in rows s)
   placed_step s m = chosen (item_in rows s) (picked_step s m)
 
   -- the unknown of a step by its point and row
-  number_is : (s : CodeStep) → In raises s → (unknown_in s / rows < length system.flow.points) × (unknown_in s % rows < rows) × (unknown_in s < count)
+  number_is : (s : CodeStep) → In raises s → (unknown_in s / rows < length system.flow.points) × (unknown_in s % rows < rows)
+      × (unknown_in s < count)
   number_is s m =
       let i = item_is rows s (single s m).0 in
       let q = placed_step s m in
@@ -117,7 +122,8 @@ module _ (system : System) (pick : List (Option ℕ)) (bounds : List Extended) (
           (ap (λ (i : Item). i.point) x ∙ a.point ∙ ap (λ u. u / rows) f ∙ sym b.point ∙ sym (ap (λ (i : Item). i.point) y))
           (ap (λ (i : Item). i.row) x ∙ a.row ∙ ap (λ u. u % rows) f ∙ sym b.row ∙ sym (ap (λ (i : Item). i.row) y))
 
-      equal : (j k : ℕ) → j < length raises → k < length raises → unknown_in (step_at j) ≡ unknown_in (step_at k) → (j < k) ⊎ (k ≤ j) → (k < j) ⊎ (j ≤ k) → j ≡ k
+      equal : (j k : ℕ) → j < length raises → k < length raises → unknown_in (step_at j) ≡ unknown_in (step_at k) → (j < k) ⊎ (k ≤ j)
+          → (k < j) ⊎ (j ≤ k) → j ≡ k
       equal j k l m f (inl h) o = absurd (clash j k h m f)
       equal j k l m f (inr h) (inl g) = absurd (clash k j g l (sym f))
       equal j k l m f (inr h) (inr g) = omega arith
@@ -132,7 +138,8 @@ module _ (system : System) (pick : List (Option ℕ)) (bounds : List Extended) (
       omega arith
 
   -- ---- the unknowns that were raised to fractions
-  module _ (grown : List Extended) (agrees : Agrees system (exact_grown fitting eqs d p) grown) (places : List ℕ) (size : length places ≡ count) (placed : ArePlaces raises places (length raises)) where
+  module _ (grown : List Extended) (agrees : Agrees system (exact_grown fitting eqs d p) grown) (places : List ℕ)
+      (size : length places ≡ count) (placed : ArePlaces raises places (length raises)) where
     abbrev list : List ℕ
     list = finite_in grown (named_at system (map (step_of rows) raises))
 
@@ -154,7 +161,8 @@ module _ (system : System) (pick : List (Option ℕ)) (bounds : List Extended) (
 
     found : (u : ℕ) → In list u → Found u
     found u m =
-        let named = passes_test (is_named rows (items_of (map (step_of rows) raises))) (range_with_len 0 count) u (of_filter (λ v. is_finite (get_or grown v neg_inf)) (named_at system (map (step_of rows) raises)) u m) in
+        let named = passes_test (is_named rows (items_of (map (step_of rows) raises))) (range_with_len 0 count) u
+        (of_filter (λ v. is_finite (get_or grown v neg_inf)) (named_at system (map (step_of rows) raises)) u m) in
         let i = any_true (λ item. names item (u / rows) (u % rows)) (items_of (map (step_of rows) raises)) named in
         let s = of_map (item_in rows) raises i.0 (subst (λ l. In l i.0) named_items i.1) in
         let n = named_is i.0 (u / rows) (u % rows) i.2 in
@@ -185,8 +193,10 @@ module _ (system : System) (pick : List (Option ℕ)) (bounds : List Extended) (
         let q : pick_of rows pick (unknown_in (step_at f.k) / rows) (unknown_in (step_at f.k) % rows) ≡ Some (edge_in (step_at f.k))
         = ap₂ (λ x y. pick_of rows pick x y) (sym is.point) (sym is.row) ∙ picked_step (step_at f.k) m ∙ ap Some is.edge in
         let b = lt-ltb (unknown_in (step_at f.k) % rows) rows (number_is (step_at f.k) m).1 in
-        ap (λ v. get_or pick v None) (sym (div-add-mod' u rows ∙ refl) ∙ sym (ap₂ (λ x y. x * rows + y) (ap (λ v. v / rows) f.unknown) (ap (λ v. v % rows) f.unknown)))
-        ∙ sym (ap (λ t. if t then get_or pick (unknown_in (step_at f.k) / rows * rows + unknown_in (step_at f.k) % rows) None else None) b) ∙ q
+        ap (λ v. get_or pick v None) (sym (div-add-mod' u rows ∙ refl)
+        ∙ sym (ap₂ (λ x y. x * rows + y) (ap (λ v. v / rows) f.unknown) (ap (λ v. v % rows) f.unknown)))
+        ∙ sym (ap (λ t. if t then get_or pick (unknown_in (step_at f.k) / rows * rows + unknown_in (step_at f.k) % rows) None else None) b)
+        ∙ q
         ∙ ap (λ k. Some (edge_in (step_at k))) (sym (place_is u f))
 
     picked_of : (u : ℕ) → Found u → IsPicked system pick u
@@ -197,7 +207,8 @@ module _ (system : System) (pick : List (Option ℕ)) (bounds : List Extended) (
           in_range = subst (λ v. v < count) f.unknown (number_is (step_at f.k) m).2;
           edge = edge_in (raise_at raises places u);
           picks = edge_of_raise u f;
-          is_edge = subst (λ k. edge_in (step_at k) < length system.flow.edges) (sym (place_is u f)) (subst (λ e. e < length system.flow.edges) is.edge (placed_step (step_at f.k) m).edge_within);
+          is_edge = subst (λ k. edge_in (step_at k) < length system.flow.edges) (sym (place_is u f))
+              (subst (λ e. e < length system.flow.edges) is.edge (placed_step (step_at f.k) m).edge_within);
         }
 
     list_rises : Rises 0 list
@@ -217,7 +228,8 @@ module _ (system : System) (pick : List (Option ℕ)) (bounds : List Extended) (
     item_of_found : (u : ℕ) (f : Found u) → item_in rows (raise_at raises places u) ≡ item_in rows (step_at f.k)
     item_of_found u f = ap (λ k. item_in rows (step_at k)) (place_is u f)
 
-    grown_at : (s : CodeStep) → In raises s → exact_grown fitting eqs d p (item_in rows s).point (item_in rows s).row ≡ get_or grown (unknown_in s) neg_inf
+    grown_at : (s : CodeStep) → In raises s → exact_grown fitting eqs d p (item_in rows s).point (item_in rows s).row
+        ≡ get_or grown (unknown_in s) neg_inf
     grown_at s m =
         let is = item_is rows s (single s m).0 in
         ap₂ (λ x y. exact_grown fitting eqs d p x y) is.point is.row ∙ agrees (unknown_in s / rows) (unknown_in s % rows) (number_is s m).1
@@ -234,11 +246,14 @@ module _ (system : System) (pick : List (Option ℕ)) (bounds : List Extended) (
         let f = found u.0 u.1 in
         let s = step_at f.k in
         let n = in_place raises no_step f.k f.within in
-        let finite = finite_is (get_or grown u.0 neg_inf) (passes_test (λ v. is_finite (get_or grown v neg_inf)) (named_at system (map (step_of rows) raises)) u.0 u.1) in
-        let value : exact_grown fitting eqs d p (item_in rows s).point (item_in rows s).row ≡ fin finite.0 = grown_at s n ∙ ap (λ v. get_or grown v neg_inf) f.unknown ∙ finite.1 in
+        let finite = finite_is (get_or grown u.0 neg_inf) (passes_test (λ v. is_finite (get_or grown v neg_inf))
+        (named_at system (map (step_of rows) raises)) u.0 u.1) in
+        let value : exact_grown fitting eqs d p (item_in rows s).point (item_in rows s).row ≡ fin finite.0 =
+        grown_at s n ∙ ap (λ v. get_or grown v neg_inf) f.unknown ∙ finite.1 in
         subst (In (in_order (exact_rising fitting eqs d p))) (sym (item_of_found u.0 f) ∙ u.2)
         (to_order (exact_rising fitting eqs d p) (item_in rows s)
-        (to_rising fitting eqs p chosen d (item_in rows s) finite.0 (subst (λ l. In l (item_in rows s)) (sym items_are) (in_map (item_in rows) raises s n)) value))
+        (to_rising fitting eqs p chosen d (item_in rows s) finite.0 (subst (λ l. In l (item_in rows s)) (sym items_are)
+        (in_map (item_in rows) raises s n)) value))
 
     from_theirs : (i : Item) → In (in_order (exact_rising fitting eqs d p)) i → In (items_at rows raises places list) i
     from_theirs i m =
@@ -247,20 +262,25 @@ module _ (system : System) (pick : List (Option ℕ)) (bounds : List Extended) (
         let u = unknown_in s.0 in
         let is = item_is rows s.0 (single s.0 s.1).0 in
         let f = found_step s.0 s.1 in
-        let value : get_or grown u neg_inf ≡ fin r.1.0 = sym (grown_at s.0 s.1) ∙ ap (λ (x : Item). exact_grown fitting eqs d p x.point x.row) s.2 ∙ r.1.1 in
+        let value : get_or grown u neg_inf ≡ fin r.1.0 = sym (grown_at s.0 s.1)
+        ∙ ap (λ (x : Item). exact_grown fitting eqs d p x.point x.row) s.2 ∙ r.1.1 in
         let named : is_named rows (items_of (map (step_of rows) raises)) u ≡ true
-        = true_any (λ item. names item (u / rows) (u % rows)) (items_of (map (step_of rows) raises)) (item_in rows s.0) (subst (λ l. In l (item_in rows s.0)) (sym named_items) (in_map (item_in rows) raises s.0 s.1))
+        = true_any (λ item. names item (u / rows) (u % rows)) (items_of (map (step_of rows) raises)) (item_in rows s.0)
+        (subst (λ l. In l (item_in rows s.0)) (sym named_items) (in_map (item_in rows) raises s.0 s.1))
         (ap₂ (λ x y. names (item_in rows s.0) x y) (sym is.point) (sym is.row) ∙ names_itself (item_in rows s.0)) in
         let listed : In list u
         = to_filter (λ v. is_finite (get_or grown v neg_inf)) (named_at system (map (step_of rows) raises)) u
-        (to_filter (is_named rows (items_of (map (step_of rows) raises))) (range_with_len 0 count) u (in_range 0 count u (omega arith) (let l = (number_is s.0 s.1).2 in omega arith)) named) (ap is_finite value) in
+        (to_filter (is_named rows (items_of (map (step_of rows) raises))) (range_with_len 0 count) u
+        (in_range 0 count u (omega arith) (let l = (number_is s.0 s.1).2 in omega arith)) named) (ap is_finite value) in
         let at : step_at f.k ≡ s.0 = found_at s.0 s.1 in
-        subst (In (items_at rows raises places list)) (item_of_found u f ∙ ap (item_in rows) at ∙ s.2) (in_map (λ v. item_in rows (raise_at raises places v)) list u listed)
+        subst (In (items_at rows raises places list)) (item_of_found u f ∙ ap (item_in rows) at ∙ s.2)
+        (in_map (λ v. item_in rows (raise_at raises places v)) list u listed)
 
     -- and are those that the growth raised to fractions, in order
     pub list_items : items_at rows raises places list ≡ in_order (exact_rising fitting eqs d p)
     list_items =
         rising_unique (items_at rows raises places list) (in_order (exact_rising fitting eqs d p))
         (subst IsRising (sym (listed_same system pick raises places list list_is.raised list_is.edges))
-        (rises_listed system pick 0 list list_rises (λ k l. row_within (get_or list k 0) (length system.flow.points) rows (picked_of (get_or list k 0) (found (get_or list k 0) (in_place list 0 k l))).in_range)))
+        (rises_listed system pick 0 list list_rises (λ k l. row_within (get_or list k 0) (length system.flow.points) rows
+        (picked_of (get_or list k 0) (found (get_or list k 0) (in_place list 0 k l))).in_range)))
         (rising_ordered fitting eqs d p chosen) to_theirs from_theirs

@@ -1,5 +1,6 @@
 -- Marks and steps after one more raise.
-use Rattle.std.proofs.Common.{◌≡◌, ◌∙◌, ◌⊎◌, inl, inr, ⊎_elim, ℕ, zero, suc, ◌+◌, ◌*◌, ◌/◌, ◌%◌, ◌<◌, ◌≤◌, ◌||◌, Bool, true, false, true≢false, List, [], ◌∷◌, ◌++◌, length, map, get_or, refl, sym, ap, ap₂, arith, length-append}
+use Rattle.std.proofs.Common.{◌≡◌, ◌∙◌, ◌⊎◌, inl, inr, ⊎_elim, ℕ, zero, suc, ◌+◌, ◌*◌, ◌/◌, ◌%◌, ◌<◌, ◌≤◌, ◌||◌, Bool, true, false}
+use Rattle.std.proofs.Common.{true≢false, List, [], ◌∷◌, ◌++◌, length, map, get_or, refl, sym, ap, ap₂, arith, length-append}
 use Rattle.std.specs.Prelude.{slice_set}
 use Rattle.std.specs.List.{filter}
 use Rattle.std.specs.Prelude.{nat_le}
@@ -28,7 +29,8 @@ abbrev marks : List Bool → ℕ
 marks raised = length (filter (λ marked. marked) raised)
 
 -- one more mark
-marks_set : (raised : List Bool) (u : ℕ) → u < length raised → get_or raised u false ≡ false → marks (slice_set raised u true) ≡ suc (marks raised)
+marks_set : (raised : List Bool) (u : ℕ) → u < length raised → get_or raised u false ≡ false
+    → marks (slice_set raised u true) ≡ suc (marks raised)
 marks_set [] u l e = absurd (omega arith)
 marks_set (true ∷ raised) zero l e = absurd (true≢false e)
 marks_set (false ∷ raised) zero l e = refl
@@ -50,10 +52,12 @@ names_more rows unknown steps s one u =
     ap (λ l. is_named rows l u) (items-append steps (s ∷ []) ∙ ap (λ l. items_of steps ++ l) (items_one s one.item one.single))
     ∙ list_any-append (λ item. names item (u / rows) (u % rows)) (items_of steps) (one.item ∷ [])
 
-named_now : (rows unknown : ℕ) (item : Item) → item.point ≡ unknown / rows → item.row ≡ unknown % rows → names item (unknown / rows) (unknown % rows) ≡ true
+named_now : (rows unknown : ℕ) (item : Item) → item.point ≡ unknown / rows → item.row ≡ unknown % rows
+    → names item (unknown / rows) (unknown % rows) ≡ true
 named_now rows unknown item e f = sym (ap₂ (names item) e f) ∙ names_itself item
 
-not_named : (rows unknown u : ℕ) (item : Item) → item.point ≡ unknown / rows → item.row ≡ unknown % rows → (u ≡ unknown → ⊥) → names item (u / rows) (u % rows) ≡ false
+not_named : (rows unknown u : ℕ) (item : Item) → item.point ≡ unknown / rows → item.row ≡ unknown % rows → (u ≡ unknown → ⊥)
+    → names item (u / rows) (u % rows) ≡ false
 not_named rows unknown u item e f other = ⊎_elim (λ h. absurd (other (same h))) (λ h. h) (truth (names item (u / rows) (u % rows)))
   where
     same : names item (u / rows) (u % rows) ≡ true → u ≡ unknown
@@ -70,9 +74,11 @@ or_true true = refl
 or_true false = refl
 
 -- after one more raise everything is kept
-pub kept_more : (system : System) (old new : Growing) (unknown : ℕ) (bound : Extended) (step : CodeStep) → IsKept system old → unknown < length system.flow.points * length system.template →
+pub kept_more : (system : System) (old new : Growing) (unknown : ℕ) (bound : Extended) (step : CodeStep) → IsKept system old
+    → unknown < length system.flow.points * length system.template →
     get_or old.raised.items unknown false ≡ false → NamesOne (length system.template) unknown (step_of (length system.template) step) →
-    new.bounds ≡ slice_set old.bounds unknown bound → new.raised.items ≡ slice_set old.raised.items unknown true → new.steps.items ≡ old.steps.items ++ step ∷ [] → IsKept system new
+    new.bounds ≡ slice_set old.bounds unknown bound → new.raised.items ≡ slice_set old.raised.items unknown true
+    → new.steps.items ≡ old.steps.items ++ step ∷ [] → IsKept system new
 kept_more system old new unknown bound step kept within unraised one b r s =
     record {
       bounds = ap (λ l. length l) b ∙ length-set old.bounds unknown bound ∙ kept.bounds;
@@ -80,8 +86,10 @@ kept_more system old new unknown bound step kept within unraised one b r s =
       named = λ u l.
           ap (λ m. get_or m u false) r
           ∙ ⊎_elim (λ e. here u e.1) (λ e. there u l e.1) (eqb_tells u unknown)
-          ∙ sym (ap (λ steps. is_named (length system.template) (items_of steps) u) steps_are ∙ names_more (length system.template) unknown (steps_so_far system old) (step_of (length system.template) step) one u);
-      count = ap (λ l. length l) s ∙ length-append old.steps.items (step ∷ []) ∙ (let c = kept.count in let e : length old.steps.items + 1 ≡ suc (marks old.raised.items) = omega arith in e)
+          ∙ sym (ap (λ steps. is_named (length system.template) (items_of steps) u) steps_are
+          ∙ names_more (length system.template) unknown (steps_so_far system old) (step_of (length system.template) step) one u);
+      count = ap (λ l. length l) s ∙ length-append old.steps.items (step ∷ [])
+          ∙ (let c = kept.count in let e : length old.steps.items + 1 ≡ suc (marks old.raised.items) = omega arith in e)
           ∙ sym (ap marks r ∙ marks_set old.raised.items unknown (let k = kept.raised in omega arith) unraised);
     }
   where
@@ -89,25 +97,33 @@ kept_more system old new unknown bound step kept within unraised one b r s =
     steps_are = ap (map (step_of (length system.template))) s ∙ map-append (step_of (length system.template)) old.steps.items (step ∷ [])
 
     here : (u : ℕ) → u ≡ unknown → get_or (slice_set old.raised.items unknown true) u false
-        ≡ (is_named (length system.template) (items_of (steps_so_far system old)) u || (names one.item (u / length system.template) (u % length system.template) || false))
+        ≡ (is_named (length system.template) (items_of (steps_so_far system old)) u
+        || (names one.item (u / length system.template) (u % length system.template) || false))
     here u e =
         ap (λ k. get_or (slice_set old.raised.items unknown true) k false) e
         ∙ get_or-set_same old.raised.items unknown true false (let k = kept.raised in omega arith)
-        ∙ sym (ap (λ k. is_named (length system.template) (items_of (steps_so_far system old)) u || (names one.item (k / length system.template) (k % length system.template) || false)) e
-        ∙ ap (λ n. is_named (length system.template) (items_of (steps_so_far system old)) u || (n || false)) (named_now (length system.template) unknown one.item one.point one.row)
+        ∙ sym (ap (λ k. is_named (length system.template) (items_of (steps_so_far system old)) u
+        || (names one.item (k / length system.template) (k % length system.template) || false)) e
+        ∙ ap (λ n. is_named (length system.template) (items_of (steps_so_far system old)) u || (n || false))
+        (named_now (length system.template) unknown one.item one.point one.row)
         ∙ or_true (is_named (length system.template) (items_of (steps_so_far system old)) u))
 
-    there : (u : ℕ) → u < length system.flow.points * length system.template → (u ≡ unknown → ⊥) → get_or (slice_set old.raised.items unknown true) u false
-        ≡ (is_named (length system.template) (items_of (steps_so_far system old)) u || (names one.item (u / length system.template) (u % length system.template) || false))
+    there : (u : ℕ) → u < length system.flow.points * length system.template → (u ≡ unknown → ⊥)
+        → get_or (slice_set old.raised.items unknown true) u false
+        ≡ (is_named (length system.template) (items_of (steps_so_far system old)) u
+        || (names one.item (u / length system.template) (u % length system.template) || false))
     there u l other =
         get_or-set_other old.raised.items unknown u true false other
         ∙ kept.named u l
-        ∙ sym (ap (λ n. is_named (length system.template) (items_of (steps_so_far system old)) u || (n || false)) (not_named (length system.template) unknown u one.item one.point one.row other)
+        ∙ sym (ap (λ n. is_named (length system.template) (items_of (steps_so_far system old)) u || (n || false))
+        (not_named (length system.template) unknown u one.item one.point one.row other)
         ∙ or_false (is_named (length system.template) (items_of (steps_so_far system old)) u))
 
 -- there are at most as many steps as unknowns
-pub few_steps : (system : System) (growing : Growing) → IsKept system growing → length growing.steps.items ≤ length system.flow.points * length system.template
-few_steps system growing kept = (let a = kept.count in let b = kept.raised in omega (arith, a, b, length-filter (λ (m : Bool). m) growing.raised.items, count_by-le-length (λ (m : Bool). m) growing.raised.items))
+pub few_steps : (system : System) (growing : Growing) → IsKept system growing
+    → length growing.steps.items ≤ length system.flow.points * length system.template
+few_steps system growing kept = (let a = kept.count in let b = kept.raised in
+    omega (arith, a, b, length-filter (λ (m : Bool). m) growing.raised.items, count_by-le-length (λ (m : Bool). m) growing.raised.items))
 
 -- there are at most MOST_UNKNOWNS unknowns
 pub system_size : (system : System) → length system.flow.points * length system.template ≤ MOST_UNKNOWNS

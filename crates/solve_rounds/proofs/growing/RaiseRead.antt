@@ -44,9 +44,11 @@ module _ (system : Equations) (z : Vector) (u : Item) where
   edge = edge_of system u
 
   -- evidence with the words of an outcome has the words of the value that is read from it
-  read_words : (v : Ext) (h : Reaches system z (edge_of system u) (row_of system u) v) (o : Outcome) (value : Value) (c : ℚ) (bounds : ℕ → Ext) (count : ℕ) → v ≡ number_of value →
+  read_words : (v : Ext) (h : Reaches system z (edge_of system u) (row_of system u) v) (o : Outcome) (value : Value) (c : ℚ)
+      (bounds : ℕ → Ext) (count : ℕ) → v ≡ number_of value →
       HasExactWords system z (edge_of system u) (row_of system u) v h o →
-      ReadsOutcome system.variables (width system.variables (edge_of system u).actions) c bounds system.template count o value → HasWords system z u v h value
+      ReadsOutcome system.variables (width system.variables (edge_of system u).actions) c bounds system.template count o value
+      → HasWords system z u v h value
   read_words neg_inf h (best x w y) value c bounds count e words r = absurd words
   read_words neg_inf h (unbounded x d) value c bounds count e words r = absurd words
   read_words neg_inf h (empty y) (Unreached k) c bounds count e words r = tt
@@ -55,7 +57,8 @@ module _ (system : Equations) (z : Vector) (u : Item) where
   read_words neg_inf h (empty y) (Unbounded trace direction) c bounds count e words r = absurd r
   read_words (fin a) h (best x w y) (Unreached k) c bounds count e words r = absurd r
   read_words (fin a) h (best x w y) (Empty rows guards) c bounds count e words r = absurd r
-  read_words (fin a) h (best x w y) (Best value trace rows guards) c bounds count e words r = (fin_same a value e, words ∙ sym r.1.word, r.1.size)
+  read_words (fin a) h (best x w y) (Best value trace rows guards) c bounds count e words r =
+      (fin_same a value e, words ∙ sym r.1.word, r.1.size)
   read_words (fin a) h (best x w y) (Unbounded trace direction) c bounds count e words r = absurd r
   read_words (fin a) h (unbounded x d) value c bounds count e words r = absurd words
   read_words (fin a) h (empty y) value c bounds count e words r = absurd words
@@ -63,7 +66,8 @@ module _ (system : Equations) (z : Vector) (u : Item) where
   read_words pos_inf h (unbounded x d) (Unreached k) c bounds count e words r = absurd r
   read_words pos_inf h (unbounded x d) (Empty rows guards) c bounds count e words r = absurd r
   read_words pos_inf h (unbounded x d) (Best value trace rows guards) c bounds count e words r = absurd r
-  read_words pos_inf h (unbounded x d) (Unbounded trace direction) c bounds count e words r = (words.0 ∙ sym r.0.word, words.1 ∙ sym r.1.word, r.0.size, r.1.size)
+  read_words pos_inf h (unbounded x d) (Unbounded trace direction) c bounds count e words r =
+      (words.0 ∙ sym r.0.word, words.1 ∙ sym r.1.word, r.0.size, r.1.size)
   read_words pos_inf h (empty y) value c bounds count e words r = absurd words
 
   module _ (exceeds : z u.point u.row <ᴱ value_at system (transformer system) z u) where
@@ -71,23 +75,31 @@ module _ (system : Equations) (z : Vector) (u : Item) where
     no_number v e f = not_below (z u.point u.row) (subst (λ w. z u.point u.row <ᴱ w) (e ∙ f) exceeds)
 
     -- the step of the theory is the one that is made of the value
-    pub raise_is : (value : Value) → IsValue system z (edge_of system u) (row_of system u) value → value_at system (transformer system) z u ≡ number_of value →
+    pub raise_is : (value : Value) → IsValue system z (edge_of system u) (row_of system u) value
+        → value_at system (transformer system) z u ≡ number_of value →
         exact_raise fitting system z u ≡ raised system u (z u.point u.row) value
     unfolding raise_at
     raise_is (Unreached r) h e = absurd (no_number neg_inf e refl)
     raise_is (Empty rows guards) h e = absurd (no_number neg_inf e refl)
     raise_is (Best value trace rows guards) h e =
-        agree system z u (value_at system (transformer system) z u) (exact_evidence system z (edge_of system u) (row_of system u)) (Best value trace rows guards)
-        (read_words (value_at system (transformer system) z u) (exact_evidence system z (edge_of system u) (row_of system u)) (lp (whole_problem system z (edge_of system u) (row_of system u)))
-        (Best value trace rows guards) (end_form system.variables (edge_of system u).actions (row_of system u)).constant (z (edge_of system u).from) (length (guard_forms system.variables (edge_of system u).actions)) e
+        agree system z u (value_at system (transformer system) z u) (exact_evidence system z (edge_of system u) (row_of system u))
+        (Best value trace rows guards)
+        (read_words (value_at system (transformer system) z u) (exact_evidence system z (edge_of system u) (row_of system u))
+        (lp (whole_problem system z (edge_of system u) (row_of system u)))
+        (Best value trace rows guards) (end_form system.variables (edge_of system u).actions (row_of system u)).constant
+        (z (edge_of system u).from) (length (guard_forms system.variables (edge_of system u).actions)) e
         (evidence_words system z (edge_of system u) (row_of system u) h.0) h.1)
     raise_is (Unbounded trace direction) h e =
-        agree system z u (value_at system (transformer system) z u) (exact_evidence system z (edge_of system u) (row_of system u)) (Unbounded trace direction)
-        (read_words (value_at system (transformer system) z u) (exact_evidence system z (edge_of system u) (row_of system u)) (lp (whole_problem system z (edge_of system u) (row_of system u)))
-        (Unbounded trace direction) (end_form system.variables (edge_of system u).actions (row_of system u)).constant (z (edge_of system u).from) (length (guard_forms system.variables (edge_of system u).actions)) e
+        agree system z u (value_at system (transformer system) z u) (exact_evidence system z (edge_of system u) (row_of system u))
+        (Unbounded trace direction)
+        (read_words (value_at system (transformer system) z u) (exact_evidence system z (edge_of system u) (row_of system u))
+        (lp (whole_problem system z (edge_of system u) (row_of system u)))
+        (Unbounded trace direction) (end_form system.variables (edge_of system u).actions (row_of system u)).constant
+        (z (edge_of system u).from) (length (guard_forms system.variables (edge_of system u).actions)) e
         (evidence_words system z (edge_of system u) (row_of system u) h.0) h.1)
 
-  trace_sized : (x : ℕ → ℚ) (trace : Trace) → IsTraceOf system.variables (width system.variables (edge_of system u).actions) x trace → Sized system u (pieces_of trace)
+  trace_sized : (x : ℕ → ℚ) (trace : Trace) → IsTraceOf system.variables (width system.variables (edge_of system u).actions) x trace
+      → Sized system u (pieces_of trace)
   unfolding width
   trace_sized x trace h = (
     h.size,
@@ -102,15 +114,19 @@ module _ (system : Equations) (z : Vector) (u : Item) where
   sizes_are (Empty rows guards) h = tt
   sizes_are (Best value trace rows guards) h = by (lp (whole_problem system z (edge_of system u) (row_of system u))) h.1
     where
-      by : (o : Outcome) → ReadsOutcome system.variables (width system.variables (edge_of system u).actions) (end_form system.variables (edge_of system u).actions (row_of system u)).constant (z (edge_of system u).from)
-          system.template (length (guard_forms system.variables (edge_of system u).actions)) o (Best value trace rows guards) → Sized system u (pieces_of trace)
+      by : (o : Outcome) → ReadsOutcome system.variables (width system.variables (edge_of system u).actions)
+          (end_form system.variables (edge_of system u).actions (row_of system u)).constant (z (edge_of system u).from)
+          system.template (length (guard_forms system.variables (edge_of system u).actions)) o (Best value trace rows guards)
+          → Sized system u (pieces_of trace)
       by (best x w y) r = trace_sized (unsplit x) trace r.1
       by (unbounded x d) r = absurd r
       by (empty y) r = absurd r
   sizes_are (Unbounded trace direction) h = by (lp (whole_problem system z (edge_of system u) (row_of system u))) h.1
     where
-      by : (o : Outcome) → ReadsOutcome system.variables (width system.variables (edge_of system u).actions) (end_form system.variables (edge_of system u).actions (row_of system u)).constant (z (edge_of system u).from)
-          system.template (length (guard_forms system.variables (edge_of system u).actions)) o (Unbounded trace direction) → Sized system u (pieces_of trace) × Sized system u (pieces_of direction)
+      by : (o : Outcome) → ReadsOutcome system.variables (width system.variables (edge_of system u).actions)
+          (end_form system.variables (edge_of system u).actions (row_of system u)).constant (z (edge_of system u).from)
+          system.template (length (guard_forms system.variables (edge_of system u).actions)) o (Unbounded trace direction)
+          → Sized system u (pieces_of trace) × Sized system u (pieces_of direction)
       by (best x w y) r = absurd r
       by (unbounded x d) r = (trace_sized (unsplit x) trace r.0, trace_sized (unsplit d) direction r.1)
       by (empty y) r = absurd r

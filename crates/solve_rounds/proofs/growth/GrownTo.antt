@@ -1,5 +1,6 @@
 -- Passes so far, and the growth when one raised nothing.
-use Rattle.std.proofs.Common.{◌≡◌, ◌∙◌, inl, inr, ℕ, zero, suc, ◌+◌, ◌*◌, ◌<◌, ◌≤◌, Bool, true, false, true≢false, List, [], ◌∷◌, ◌++◌, append_assoc, length, length-append, map, refl, sym, ap, ap₂, subst, arith}
+use Rattle.std.proofs.Common.{◌≡◌, ◌∙◌, inl, inr, ℕ, zero, suc, ◌+◌, ◌*◌, ◌<◌, ◌≤◌, Bool, true, false, true≢false, List, [], ◌∷◌, ◌++◌}
+use Rattle.std.proofs.Common.{append_assoc, length, length-append, map, refl, sym, ap, ap₂, subst, arith}
 use Rattle.std.specs.Prelude.{Option}
 use Rattle.std.proofs.lemmas.List.{append-nil, length-map}
 use Rattle.base_facts.proofs.elements.Membership.{in_left, in_right}
@@ -25,7 +26,8 @@ use Rattle.solve_offers.specs.AtBounds.{transformers, vector_at}
 use Rattle.solve_offers.specs.Improvement.{pick_of}
 use Rattle.solve_rounds.specs.GrowthTests.{Test, if_raised, pass_tests, passes_tests, growth_tests}
 use Rattle.solve_rounds.specs.Growth.{growth_at, tests_at, IsGrowthStop}
-use Rattle.solve_rounds.specs.Growing.{Agrees, steps_so_far, left_from, unraised, IsKept, AreQuiet, IsPassed, IsPassStop, IsTold, IsFresh, IsGrown}
+use Rattle.solve_rounds.specs.Growing.{Agrees, steps_so_far, left_from, unraised, IsKept, AreQuiet, IsPassed, IsPassStop, IsTold, IsFresh}
+use Rattle.solve_rounds.specs.Growing.{IsGrown}
 use Rattle.solve_rounds.proofs.growth_tests.Passing.{raised_at, Order, log_by}
 use Rattle.solve_rounds.proofs.growing.Walked.{tests_of, stop_more}
 use Rattle.solve_rounds.proofs.growing.PickedUnknowns.{choices_are}
@@ -36,7 +38,8 @@ nothing_more log steps e = sym (ap (λ s. steps ++ s) e ∙ append-nil steps)
 
 module _ (system : System) where
   -- a pass has one step or one that is left for each unknown
-  pub log_count : (us : List Item) (z : Vector) → length (exact_pass fitting (equations_of system) z us).left + length (exact_pass fitting (equations_of system) z us).steps ≡ length us
+  pub log_count : (us : List Item) (z : Vector) → length (exact_pass fitting (equations_of system) z us).left
+      + length (exact_pass fitting (equations_of system) z us).steps ≡ length us
   unfolding pass stay go
   log_count [] z = let e : 0 + 0 ≡ 0 = omega arith in e
   log_count (u ∷ us) z =
@@ -44,11 +47,15 @@ module _ (system : System) where
       (log_count us (raised_at fitting (equations_of system) (transformers system) (exact_evidence (equations_of system)) z u))
     where
       by : (o : Order fitting (equations_of system) (transformers system) (exact_evidence (equations_of system)) z u) →
-          length (exact_pass fitting (equations_of system) z us).left + length (exact_pass fitting (equations_of system) z us).steps ≡ length us →
-          length (exact_pass fitting (equations_of system) (raised_at fitting (equations_of system) (transformers system) (exact_evidence (equations_of system)) z u) us).left
-          + length (exact_pass fitting (equations_of system) (raised_at fitting (equations_of system) (transformers system) (exact_evidence (equations_of system)) z u) us).steps ≡ length us →
+          length (exact_pass fitting (equations_of system) z us).left + length (exact_pass fitting (equations_of system) z us).steps
+          ≡ length us →
+          length (exact_pass fitting (equations_of system) (raised_at fitting (equations_of system) (transformers system)
+          (exact_evidence (equations_of system)) z u) us).left
+          + length (exact_pass fitting (equations_of system) (raised_at fitting (equations_of system) (transformers system)
+          (exact_evidence (equations_of system)) z u) us).steps ≡ length us →
           length (log_by fitting (equations_of system) (transformers system) (exact_evidence (equations_of system)) z u us o).left
-          + length (log_by fitting (equations_of system) (transformers system) (exact_evidence (equations_of system)) z u us o).steps ≡ suc (length us)
+          + length (log_by fitting (equations_of system) (transformers system) (exact_evidence (equations_of system)) z u us o).steps
+          ≡ suc (length us)
       by (inl h) a b = omega (arith, a)
       by (inr h) a b = omega (arith, b)
 
@@ -57,10 +64,13 @@ module _ (system : System) where
   passes_of n z us = exact_passes fitting (equations_of system) n z us
 
   abbrev more_tests : ℕ → ℕ → Vector → List Item → List Test
-  more_tests n raises z us = passes_tests fitting (equations_of system) (transformers system) (exact_evidence (equations_of system)) n raises z us
+  more_tests n raises z us = passes_tests fitting (equations_of system) (transformers system) (exact_evidence (equations_of system)) n
+      raises z us
 
   -- the tests of the first pass are tests of the passes
-  first_tests : (n raises : ℕ) (z : Vector) (us : List Item) (t : Test) → In (pass_tests fitting (equations_of system) (transformers system) (exact_evidence (equations_of system)) raises z us) t → In (more_tests (suc n) raises z us) t
+  first_tests : (n raises : ℕ) (z : Vector) (us : List Item) (t : Test)
+      → In (pass_tests fitting (equations_of system) (transformers system) (exact_evidence (equations_of system)) raises z us) t
+      → In (more_tests (suc n) raises z us) t
   unfolding passes_tests
   first_tests n raises z us t m =
       let log = exact_pass fitting (equations_of system) z us in
@@ -89,7 +99,8 @@ module _ (system : System) where
           ≡ steps_so_far system now ++ (exact_passes fitting (equations_of system) n (reached now) (rest now)).steps
       -- the tests of the passes left are tests of the growth
       pub tests : (t : Test) →
-          In (passes_tests fitting (equations_of system) (transformers system) (exact_evidence (equations_of system)) n (length (steps_so_far system now)) (reached now)
+          In (passes_tests fitting (equations_of system) (transformers system) (exact_evidence (equations_of system)) n
+          (length (steps_so_far system now)) (reached now)
           (rest now)) t → In (tests_at system bounds pick) t
 
     -- everything so far
@@ -113,7 +124,8 @@ module _ (system : System) where
     module _ (old new : Growing) (told : Bool) (so_far : GrowingTo old)
         (p : IsPassed system pick 0 (length system.flow.points * length system.template) (reached old) old new told) where
       led_is : after_steps p.made (reached old) ≡ reached new
-      led_is = sym (led-append (steps_so_far system old) p.made (vector_at system bounds)) ∙ ap (λ s. after_steps s (vector_at system bounds)) (sym p.steps)
+      led_is = sym (led-append (steps_so_far system old) p.made (vector_at system bounds))
+          ∙ ap (λ s. after_steps s (vector_at system bounds)) (sym p.steps)
 
       counted : length (rest new) + length p.made ≡ length (rest old)
       counted =
@@ -127,7 +139,8 @@ module _ (system : System) where
           ≡ steps_so_far system old
           ++ (continue p.made (record { steps = p.made; left = rest new }) (reached old) (λ y us. passes_of n y us)).steps
       unfolding passes
-      all_steps n e = e ∙ ap (λ (g : Log). steps_so_far system old ++ (continue g.steps g (reached old) (λ y us. passes_of n y us)).steps) p.log
+      all_steps n e = e ∙ ap (λ (g : Log). steps_so_far system old ++ (continue g.steps g (reached old) (λ y us. passes_of n y us)).steps)
+          p.log
 
       no_steps : length (rest old) ≤ zero → p.made ≡ []
       no_steps l = by p.made counted
@@ -136,7 +149,8 @@ module _ (system : System) where
           by [] e = refl
           by (s ∷ made) e = absurd (omega arith)
 
-      ended : p.made ≡ [] → growth_at system bounds pick ≡ steps_so_far system old ++ [] → steps_so_far system new ≡ growth_at system bounds pick
+      ended : p.made ≡ [] → growth_at system bounds pick ≡ steps_so_far system old ++ []
+          → steps_so_far system new ≡ growth_at system bounds pick
       ended none e = p.steps ∙ ap (λ s. steps_so_far system old ++ s) none ∙ sym e
 
       later_tests : (n : ℕ) (s : Step) (ss : List Step) → p.made ≡ s ∷ ss → (t : Test) →
@@ -147,11 +161,14 @@ module _ (system : System) where
           let first = tests_of system pick (length (steps_so_far system old)) (reached old) (rest old) in
           in_right first
           (if_raised (exact_pass fitting (equations_of system) (reached old) (rest old)).steps
-          (more_tests n (length (steps_so_far system old) + length (exact_pass fitting (equations_of system) (reached old) (rest old)).steps)
+          (more_tests n (length (steps_so_far system old) + length (exact_pass fitting (equations_of system) (reached old)
+          (rest old)).steps)
           (after_steps (exact_pass fitting (equations_of system) (reached old) (rest old)).steps (reached old))
           (exact_pass fitting (equations_of system) (reached old) (rest old)).left)) t
-          (subst (λ (g : Log). In (if_raised g.steps (more_tests n (length (steps_so_far system old) + length g.steps) (after_steps g.steps (reached old)) g.left)) t) (sym p.log)
-          (subst (λ made. In (if_raised made (more_tests n (length (steps_so_far system old) + length p.made) (after_steps p.made (reached old))
+          (subst (λ (g : Log). In (if_raised g.steps (more_tests n (length (steps_so_far system old) + length g.steps)
+          (after_steps g.steps (reached old)) g.left)) t) (sym p.log)
+          (subst (λ made. In (if_raised made (more_tests n (length (steps_so_far system old) + length p.made)
+          (after_steps p.made (reached old))
           (rest new))) t) (sym e)
           (subst (λ k. In (more_tests n k (after_steps p.made (reached old)) (rest new)) t)
           (ap (λ (l : List Step). length l) p.steps ∙ length-append (steps_so_far system old) p.made)
@@ -200,7 +217,14 @@ module _ (system : System) where
       pub next_told : IsKept system new → AreQuiet system pick new → told ≡ true → GrowingTo new
       next_told kept quiet e =
           let next = subst (Next new) e (next_by so_far.fuel so_far.grows_on p.made refl p.is_told) in
-          record { kept = kept; quiet = quiet; agrees = subst (λ y. Agrees system y new.bounds) led_is p.agrees; fuel = next.0; grows_on = next.1 }
+          record {
+            kept = kept;
+            quiet = quiet;
+            agrees = subst (λ y. Agrees system y new.bounds) led_is p.agrees;
+            fuel = next.0;
+            grows_on =
+                next.1;
+          }
 
       -- and are the growth after one that raised nothing
       pub next_ended : told ≡ false → IsGrown system bounds pick new
@@ -216,7 +240,13 @@ module _ (system : System) where
           lengths : length new.steps.items ≡ length old.steps.items + length p.made
           lengths =
               let f = ap (λ (l : List Step). length l) p.steps in
-              omega (arith, f, length-append (steps_so_far system old) p.made, length-map old.steps.items (step_of (length system.template)), length-map new.steps.items (step_of (length system.template)))
+              omega (
+                arith,
+                f,
+                length-append (steps_so_far system old) p.made,
+                length-map old.steps.items (step_of (length system.template)),
+                length-map new.steps.items (step_of (length system.template)),
+              )
 
           by : (made : List Step) → p.made ≡ made → IsTold made told → length old.steps.items < length new.steps.items
           by [] f t = absurd (true≢false (sym e ∙ t))
@@ -228,7 +258,9 @@ module _ (system : System) where
     no_tests raises z (u ∷ us) t l m = omega arith
 
     -- a wide operation of a pass is one of the growth
-    pub pass_stop : (old : Growing) → GrowingTo old → (round : ℕ) (stop : Fault Spot) → IsPassStop system pick 0 (length system.flow.points * length system.template) old round stop → IsGrowthStop system bounds pick round stop
+    pub pass_stop : (old : Growing) → GrowingTo old → (round : ℕ) (stop : Fault Spot)
+        → IsPassStop system pick 0 (length system.flow.points * length system.template) old round stop
+        → IsGrowthStop system bounds pick round stop
     pass_stop old so_far round stop s =
         stop_more system (tests_of system pick (length old.steps.items) (reached old) (rest old))
         (tests_at system bounds pick) round stop (inside so_far.fuel so_far.grows_on) (s (reached old) so_far.agrees)
@@ -247,7 +279,8 @@ module _ (system : System) where
       none_so_far = ap (map (step_of (length system.template))) fresh.steps
 
       all_left : rest now ≡ chosen
-      all_left = ap (λ r. left_from (length system.template) pick r 0 (length system.flow.points * length system.template)) fresh.raised ∙ sym (choices_are system pick)
+      all_left = ap (λ r. left_from (length system.template) pick r 0 (length system.flow.points * length system.template)) fresh.raised
+          ∙ sym (choices_are system pick)
 
       growth_steps : growth_at system bounds pick
           ≡ steps_so_far system now
@@ -267,7 +300,8 @@ module _ (system : System) where
       starts_at : bounds ≡ now.bounds → Agrees system (reached now) now.bounds
       unfolding after_steps
       starts_at e =
-          subst (λ s. Agrees system (after_steps s (vector_at system bounds)) now.bounds) (sym none_so_far) (subst (λ b. Agrees system (vector_at system bounds) b) e (λ p r l. refl))
+          subst (λ s. Agrees system (after_steps s (vector_at system bounds)) now.bounds) (sym none_so_far)
+          (subst (λ b. Agrees system (vector_at system bounds) b) e (λ p r l. refl))
 
       -- nothing has grown yet
       pub growing_start : bounds ≡ now.bounds → IsKept system now → AreQuiet system pick now → GrowingTo now

@@ -52,14 +52,17 @@ module _ (fitting : ℚ → Bool) (system : Equations) (T : Transformer) (reache
   tests_by n z u us o = ⊎_elim (λ h. tests_of n z us) (λ h. tests_of (suc n) (raised_at z u) us) o
 
   -- a pass over two parts
-  pub pass_append : (us vs : List Item) (z : Vector) → log_of z (us ++ vs) ≡ joined (log_of z us) (log_of (after_steps (log_of z us).steps z) vs)
+  pub pass_append : (us vs : List Item) (z : Vector) → log_of z (us ++ vs)
+      ≡ joined (log_of z us) (log_of (after_steps (log_of z us).steps z) vs)
   unfolding pass after_steps stay go
   pass_append [] vs z = refl
-  pass_append (u ∷ us) vs z = by (ext_le_or_lt (value_at system T z u) (z u.point u.row)) (pass_append us vs z) (pass_append us vs (raised_at z u))
+  pass_append (u ∷ us) vs z = by (ext_le_or_lt (value_at system T z u) (z u.point u.row)) (pass_append us vs z)
+      (pass_append us vs (raised_at z u))
     where
       by : (o : Order z u) →
           log_of z (us ++ vs) ≡ joined (log_of z us) (log_of (after_steps (log_of z us).steps z) vs) →
-          log_of (raised_at z u) (us ++ vs) ≡ joined (log_of (raised_at z u) us) (log_of (after_steps (log_of (raised_at z u) us).steps (raised_at z u)) vs) →
+          log_of (raised_at z u) (us ++ vs) ≡ joined (log_of (raised_at z u) us)
+          (log_of (after_steps (log_of (raised_at z u) us).steps (raised_at z u)) vs) →
           log_by z u (us ++ vs) o ≡ joined (log_by z u us o) (log_of (after_steps (log_by z u us o).steps z) vs)
       by (inl h) a b = ap (stay u) a
       by (inr h) a b = ap (go (raise_at fitting system T reaches z u)) b
@@ -79,7 +82,9 @@ module _ (fitting : ℚ → Bool) (system : Equations) (T : Transformer) (reache
       by : (o : Order z u) →
           tests_of n z (us ++ vs) ≡ tests_of n z us ++ tests_of (n + length (log_of z us).steps) (after_steps (log_of z us).steps z) vs →
           tests_of (suc n) (raised_at z u) (us ++ vs)
-          ≡ tests_of (suc n) (raised_at z u) us ++ tests_of (n + suc (length (log_of (raised_at z u) us).steps)) (after_steps (log_of (raised_at z u) us).steps (raised_at z u)) vs →
-          tests_by n z u (us ++ vs) o ≡ tests_by n z u us o ++ tests_of (n + length (log_by z u us o).steps) (after_steps (log_by z u us o).steps z) vs
+          ≡ tests_of (suc n) (raised_at z u) us ++ tests_of (n + suc (length (log_of (raised_at z u) us).steps))
+          (after_steps (log_of (raised_at z u) us).steps (raised_at z u)) vs →
+          tests_by n z u (us ++ vs) o ≡ tests_by n z u us o ++ tests_of (n + length (log_by z u us o).steps)
+          (after_steps (log_by z u us o).steps z) vs
       by (inl h) a b = a
       by (inr h) a b = b

@@ -24,5 +24,7 @@ best_is_one offer other j k bound edges values h i =
 pub first_is_one : AnswersOne by_first
 first_is_one offer other j k bound edges values h i =
     neither j k
-    (λ l. ext_not_le_of_lt (extended other.bound) (get_or other.values j neg_inf) (subst₂ (λ b vs. b <ᴱ get_or vs j neg_inf) bound values h.exceeds) (i.first j l))
-    (λ l. ext_not_le_of_lt (extended other.bound) (get_or other.values k neg_inf) i.exceeds (subst₂ (λ b vs. get_or vs k neg_inf ≤ᴱ b) bound values (h.first k l)))
+    (λ l. ext_not_le_of_lt (extended other.bound) (get_or other.values j neg_inf)
+    (subst₂ (λ b vs. b <ᴱ get_or vs j neg_inf) bound values h.exceeds) (i.first j l))
+    (λ l. ext_not_le_of_lt (extended other.bound) (get_or other.values k neg_inf) i.exceeds
+    (subst₂ (λ b vs. get_or vs k neg_inf ≤ᴱ b) bound values (h.first k l)))

@@ -1,5 +1,6 @@
 -- What a ray leaves of a list: the unknowns whose bounds are fractions still.
-use Rattle.std.proofs.Common.{◌≡◌, ◌∙◌, ◌⊎◌, inl, inr, ⊎_elim, ℕ, suc, ◌+◌, ◌<◌, ◌≤◌, Bool, true, false, true≢false, cond, List, [], ◌∷◌, length, get_or, refl, sym, ap, subst, arith}
+use Rattle.std.proofs.Common.{◌≡◌, ◌∙◌, ◌⊎◌, inl, inr, ⊎_elim, ℕ, suc, ◌+◌, ◌<◌, ◌≤◌, Bool, true, false, true≢false, cond, List, [], ◌∷◌}
+use Rattle.std.proofs.Common.{length, get_or, refl, sym, ap, subst, arith}
 use Rattle.std.specs.Prelude.{Option}
 use Rattle.std.specs.List.{filter}
 use Rattle.base_facts.specs.Elements.{In}
@@ -22,9 +23,11 @@ of_filter test (v ∷ list) u m = by (test v) m (λ k. of_filter test list u k)
     by false m rec = inr (rec m)
 
 -- what holds of each of a list holds of each that it keeps
-pub kept_each : (P : ℕ → Type 0) (test : ℕ → Bool) (list : List ℕ) → ((k : ℕ) → k < length list → P (get_or list k 0)) → (k : ℕ) → k < length (filter test list) → P (get_or (filter test list) k 0)
+pub kept_each : (P : ℕ → Type 0) (test : ℕ → Bool) (list : List ℕ) → ((k : ℕ) → k < length list → P (get_or list k 0)) → (k : ℕ)
+    → k < length (filter test list) → P (get_or (filter test list) k 0)
 kept_each P test list h k l =
-    let p = place_of list (get_or (filter test list) k 0) 0 (of_filter test list (get_or (filter test list) k 0) (in_place (filter test list) 0 k l)) in
+    let p = place_of list (get_or (filter test list) k 0) 0 (of_filter test list (get_or (filter test list) k 0)
+    (in_place (filter test list) 0 k l)) in
     subst P p.2 (h p.0 p.1)
 
 rises_from_less : (a b : ℕ) (list : List ℕ) → a ≤ b → Rises b list → Rises a list
@@ -41,7 +44,8 @@ kept_rises test n (u ∷ list) h = by (test u) (kept_rises test (u + 1) list h.1
     by false r = rises_from_less n (u + 1) (filter test list) (let k = h.0 in omega arith) r
 
 -- and is picked
-pub kept_picked : (system : System) (pick : List (Option ℕ)) (test : ℕ → Bool) (list : List ℕ) → ArePicked system pick list → ArePicked system pick (filter test list)
+pub kept_picked : (system : System) (pick : List (Option ℕ)) (test : ℕ → Bool) (list : List ℕ) → ArePicked system pick list
+    → ArePicked system pick (filter test list)
 kept_picked system pick test [] h = tt
 kept_picked system pick test (u ∷ list) h = by (test u) (kept_picked system pick test list h.1)
   where
@@ -54,14 +58,17 @@ pub kept_length : (test : ℕ → Bool) (list : List ℕ) → length (filter tes
 kept_length test [] = omega arith
 kept_length test (u ∷ list) = by (test u) (kept_length test list)
   where
-    by : (b : Bool) → length (filter test list) ≤ length list → length (cond b (u ∷ filter test list) (filter test list)) ≤ suc (length list)
+    by : (b : Bool) → length (filter test list) ≤ length list → length (cond b (u ∷ filter test list) (filter test list))
+        ≤ suc (length list)
     by true h = omega arith
     by false h = omega arith
 
 -- where the test fails at just the named unknowns, the items of what is kept are those without the named
 pub left_is : (rows : ℕ) (raises : List CodeStep) (places : List ℕ) (items : List Item) (test : ℕ → Bool) (list : List ℕ) →
-    ((k : ℕ) → k < length list → (v : Item) → In items v → v.point ≡ (item_in rows (raise_at raises places (get_or list k 0))).point → v.row ≡ (item_in rows (raise_at raises places (get_or list k 0))).row → test (get_or list k 0) ≡ false) →
-    ((k : ℕ) → k < length list → Unnamed items (item_in rows (raise_at raises places (get_or list k 0))).point (item_in rows (raise_at raises places (get_or list k 0))).row → test (get_or list k 0) ≡ true) →
+    ((k : ℕ) → k < length list → (v : Item) → In items v → v.point ≡ (item_in rows (raise_at raises places (get_or list k 0))).point
+    → v.row ≡ (item_in rows (raise_at raises places (get_or list k 0))).row → test (get_or list k 0) ≡ false) →
+    ((k : ℕ) → k < length list → Unnamed items (item_in rows (raise_at raises places (get_or list k 0))).point
+    (item_in rows (raise_at raises places (get_or list k 0))).row → test (get_or list k 0) ≡ true) →
     items_at rows raises places (filter test list) ≡ without items (items_at rows raises places list)
 unfolding without
 left_is rows raises places items test [] named unnamed = refl
@@ -72,9 +79,12 @@ left_is rows raises places items test (u ∷ list) named unnamed =
     item : Item
     item = item_in rows (raise_at raises places u)
 
-    by : (b : Bool) → test u ≡ b → (o : ((v : Item) × In items v × (v.point ≡ item.point) × (v.row ≡ item.row)) ⊎ Unnamed items item.point item.row) →
+    by : (b : Bool) → test u ≡ b → (o : ((v : Item) × In items v × (v.point ≡ item.point) × (v.row ≡ item.row))
+        ⊎ Unnamed items item.point item.row) →
         items_at rows raises places (filter test list) ≡ without items (items_at rows raises places list) →
-        items_at rows raises places (cond b (u ∷ filter test list) (filter test list)) ≡ ⊎_elim (λ h. without items (items_at rows raises places list)) (λ h. item ∷ without items (items_at rows raises places list)) o
+        items_at rows raises places (cond b (u ∷ filter test list) (filter test list))
+        ≡ ⊎_elim (λ h. without items (items_at rows raises places list)) (λ h. item ∷ without items (items_at rows raises places list))
+        o
     by true e (inl v) r = absurd (true≢false (sym e ∙ named 0 (omega arith) v.0 v.1 v.2 v.3))
     by true e (inr n) r = ap (λ xs. item ∷ xs) r
     by false e (inl v) r = r

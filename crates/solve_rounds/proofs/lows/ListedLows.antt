@@ -8,7 +8,8 @@ use Rattle.cert_types.specs.Certificates.{pieces_of}
 use Rattle.theory_transformers.specs.JointProblems.{Listed}
 use Rattle.solve_joint.specs.Numbers.{edge_of, listed_of, all_listed}
 use Rattle.theory_rounds.specs.JointItems.{listed_item, listed_items}
-use Rattle.solve_rounds.specs.Lows.{IsFilled, unknown_in, edge_in, low_in, item_in, raise_at, IsRaised, AreRaised, ArePickedRaises, items_at}
+use Rattle.solve_rounds.specs.Lows.{IsFilled, unknown_in, edge_in, low_in, item_in, raise_at, IsRaised, AreRaised, ArePickedRaises}
+use Rattle.solve_rounds.specs.Lows.{items_at}
 
 -- what the item of a step with items is
 pub record IsItemOf (rows : ℕ) (step : CodeStep) : Type 0 where
@@ -45,16 +46,24 @@ some_edge (Some f) e h = same f e h
     same a b h = cc
 
 -- a raised unknown with its picked edge is the listed unknown of its item
-pub listed_here : (rows : ℕ) (pick : List (Option ℕ)) (raises : List CodeStep) (places : List ℕ) (u : ℕ) → IsRaised raises places u → get_or pick u None ≡ Some (edge_in (raise_at raises places u)) →
+pub listed_here : (rows : ℕ) (pick : List (Option ℕ)) (raises : List CodeStep) (places : List ℕ) (u : ℕ) → IsRaised raises places u
+    → get_or pick u None ≡ Some (edge_in (raise_at raises places u)) →
     listed_item (item_in rows (raise_at raises places u)) ≡ listed_of rows pick u
 listed_here rows pick raises places u h e =
     let i = item_is rows (raise_at raises places u) h.filled in
     let p = raised_item rows raises places u h in
-    ap (λ n. let l : Listed = record { point = n; row = (item_in rows (raise_at raises places u)).row; edge = (item_in rows (raise_at raises places u)).edge } in l) p.0
-    ∙ ap₂ (λ n m. let l : Listed = record { point = u / rows; row = n; edge = m } in l) p.1 (i.edge ∙ sym (some_edge (get_or pick u None) (edge_in (raise_at raises places u)) e))
+    ap (λ n. let l : Listed = record {
+      point = n;
+      row = (item_in rows (raise_at raises places u)).row;
+      edge =
+          (item_in rows (raise_at raises places u)).edge;
+    } in l) p.0
+    ∙ ap₂ (λ n m. let l : Listed = record { point = u / rows; row = n; edge = m } in l) p.1
+    (i.edge ∙ sym (some_edge (get_or pick u None) (edge_in (raise_at raises places u)) e))
 
 -- the items are those of the listed unknowns
-pub listed_same : (system : System) (pick : List (Option ℕ)) (raises : List CodeStep) (places list : List ℕ) → AreRaised raises places list → ArePickedRaises pick raises places list →
+pub listed_same : (system : System) (pick : List (Option ℕ)) (raises : List CodeStep) (places list : List ℕ) → AreRaised raises places list
+    → ArePickedRaises pick raises places list →
     listed_items (items_at (length system.template) raises places list) ≡ all_listed system pick list
 unfolding listed_items
 listed_same system pick raises places [] h e = refl

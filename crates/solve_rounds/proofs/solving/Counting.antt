@@ -1,5 +1,6 @@
 -- Lists whose items name different unknowns are at most as long as there are unknowns.
-use Rattle.std.proofs.Common.{◌≡◌, inl, inr, ℕ, zero, suc, ◌+◌, ◌*◌, ◌<◌, ◌≤◌, List, [], ◌∷◌, ◌++◌, length, length-append, map, get_or, refl, ap, subst, subst₂, arith}
+use Rattle.std.proofs.Common.{◌≡◌, inl, inr, ℕ, zero, suc, ◌+◌, ◌*◌, ◌<◌, ◌≤◌, List, [], ◌∷◌, ◌++◌, length, length-append, map, get_or}
+use Rattle.std.proofs.Common.{refl, ap, subst, subst₂, arith}
 use Rattle.std.specs.Prelude.{flat_map, Option, Some, None}
 use Rattle.std.specs.List.{range_with_len}
 use Rattle.std.proofs.lemmas.List.FromFn.{length-range_with_len, length-map-range_with_len}
@@ -13,28 +14,37 @@ use Rattle.theory_strategy.specs.PickCount.{Unknown, unknowns}
 use Rattle.theory_strategy.proofs.round.FewRounds.{in_unknowns}
 
 -- a list of lists that each have at most m
-length-flat_most : {A B : Type 0} (f : A → List B) (xs : List A) (m : ℕ) → ((x : A) → length (f x) ≤ m) → length (flat_map f xs) ≤ length xs * m
+length-flat_most : {A B : Type 0} (f : A → List B) (xs : List A) (m : ℕ) → ((x : A) → length (f x) ≤ m)
+    → length (flat_map f xs) ≤ length xs * m
 length-flat_most f [] m h = omega arith
-length-flat_most f (x ∷ xs) m h = let a = length-append (f x) (flat_map f xs) in let b = h x in let c = length-flat_most f xs m h in let d : suc (length xs) * m ≡ m + length xs * m = grind arith in omega arith
+length-flat_most f (x ∷ xs) m h = let a = length-append (f x) (flat_map f xs) in let b = h x in let c = length-flat_most f xs m h in
+    let d : suc (length xs) * m ≡ m + length xs * m = grind arith in omega arith
 
 -- there are as many unknowns as points times rows
 count_unknowns : (system : Equations) → length (unknowns system) ≤ system.points * length system.template
 unfolding unknowns
 count_unknowns system =
-    subst (λ n. length (flat_map (λ p. map (λ r. record { point = p; row = r }) (range_with_len 0 (length system.template))) (range_with_len 0 system.points)) ≤ n * length system.template)
+    subst (λ n. length (flat_map (λ p. map (λ r. record { point = p; row = r }) (range_with_len 0 (length system.template)))
+    (range_with_len 0 system.points)) ≤ n * length system.template)
     (length-range_with_len 0 system.points)
-    (length-flat_most (λ p. map (λ r. record { point = p; row = r }) (range_with_len 0 (length system.template))) (range_with_len 0 system.points) (length system.template)
-    (λ p. let e = length-map-range_with_len (λ r. let u : Unknown = record { point = p; row = r } in u) 0 (length system.template) in omega arith))
+    (length-flat_most (λ p. map (λ r. record { point = p; row = r }) (range_with_len 0 (length system.template)))
+    (range_with_len 0 system.points) (length system.template)
+    (λ p. let e = length-map-range_with_len (λ r. let u : Unknown = record { point = p; row = r } in u) 0 (length system.template) in
+    omega arith))
 
 -- and at most as many choices
 pub count_choices : (system : Equations) (pick : Pick) → length (choices system pick) ≤ system.points * length system.template
 unfolding choices choice_at
 count_choices system pick =
-    subst (λ n. length (flat_map (λ p. flat_map (λ r. choice_at p r (pick p r)) (range_with_len 0 (length system.template))) (range_with_len 0 system.points)) ≤ n * length system.template)
+    subst (λ n. length (flat_map (λ p. flat_map (λ r. choice_at p r (pick p r)) (range_with_len 0 (length system.template)))
+    (range_with_len 0 system.points)) ≤ n * length system.template)
     (length-range_with_len 0 system.points)
-    (length-flat_most (λ p. flat_map (λ r. choice_at p r (pick p r)) (range_with_len 0 (length system.template))) (range_with_len 0 system.points) (length system.template)
-    (λ p. let e = length-range_with_len 0 (length system.template) in let h = length-flat_most (λ r. choice_at p r (pick p r)) (range_with_len 0 (length system.template)) 1 (λ r. one p r (pick p r)) in
-    let d : length (range_with_len 0 (length system.template)) * 1 ≡ length (range_with_len 0 (length system.template)) = grind arith in omega arith))
+    (length-flat_most (λ p. flat_map (λ r. choice_at p r (pick p r)) (range_with_len 0 (length system.template)))
+    (range_with_len 0 system.points) (length system.template)
+    (λ p. let e = length-range_with_len 0 (length system.template) in let h =
+    length-flat_most (λ r. choice_at p r (pick p r)) (range_with_len 0 (length system.template)) 1 (λ r. one p r (pick p r)) in
+    let d : length (range_with_len 0 (length system.template)) * 1 ≡ length (range_with_len 0 (length system.template)) = grind arith in
+    omega arith))
   where
     one : (p r : ℕ) (o : Option ℕ) → length (choice_at p r o) ≤ 1
     one p r None = omega arith
@@ -47,18 +57,22 @@ in_place (x ∷ xs) zero none l = inl refl
 in_place (x ∷ xs) (suc k) none l = inr (in_place xs k none (omega arith))
 
 -- items at different places name different unknowns
-apart : (items : List Item) (none : Item) → Distinct items → (i j : ℕ) → i < j → j < length items → (get_or items i none).point ≡ (get_or items j none).point → (get_or items i none).row ≡ (get_or items j none).row → ⊥
+apart : (items : List Item) (none : Item) → Distinct items → (i j : ℕ) → i < j → j < length items
+    → (get_or items i none).point ≡ (get_or items j none).point → (get_or items i none).row ≡ (get_or items j none).row → ⊥
 apart [] none d i j h l e f = absurd (omega arith)
 apart (x ∷ xs) none d i zero h l e f = absurd (omega arith)
-apart (x ∷ xs) none d zero (suc j) h l e f = not_unnamed xs (get_or xs j none) (in_place xs j none (omega arith)) (subst₂ (λ p r. Unnamed xs p r) e f d.0)
+apart (x ∷ xs) none d zero (suc j) h l e f = not_unnamed xs (get_or xs j none) (in_place xs j none (omega arith))
+    (subst₂ (λ p r. Unnamed xs p r) e f d.0)
 apart (x ∷ xs) none d (suc i) (suc j) h l e f = apart xs none d.1 i j (omega arith) (omega arith) e f
 
 -- distinct items in range are at most as many as there are unknowns
-pub distinct_few : (system : Equations) (items : List Item) → Distinct items → ((u : Item) → In items u → (u.point < system.points) × (u.row < length system.template)) →
+pub distinct_few : (system : Equations) (items : List Item) → Distinct items
+    → ((u : Item) → In items u → (u.point < system.points) × (u.row < length system.template)) →
     length items ≤ system.points * length system.template
 distinct_few system items d within =
     let few = pigeonhole (length items) unknown (unknowns system)
-    (λ k l. let w = within (get_or items k none) (in_place items k none l) in in_unknowns system (get_or items k none).point (get_or items k none).row w.0 w.1)
+    (λ k l. let w = within (get_or items k none) (in_place items k none l) in
+    in_unknowns system (get_or items k none).point (get_or items k none).row w.0 w.1)
     (λ i j h l e. apart items none d i j h l (ap (λ (u : Unknown). u.point) e) (ap (λ (u : Unknown). u.row) e)) in
     let all = count_unknowns system in
     omega arith
@@ -70,9 +84,13 @@ distinct_few system items d within =
     unknown k = record { point = (get_or items k none).point; row = (get_or items k none).row }
 
 -- two lists with no common unknown
-pub distinct_append : (xs ys : List Item) → Distinct xs → Distinct ys → ((u : Item) → In xs u → Unnamed ys u.point u.row) → Distinct (xs ++ ys)
+pub distinct_append : (xs ys : List Item) → Distinct xs → Distinct ys → ((u : Item) → In xs u → Unnamed ys u.point u.row)
+    → Distinct (xs ++ ys)
 distinct_append [] ys a b none = b
-distinct_append (x ∷ xs) ys a b none = (unnamed_append xs ys x.point x.row a.0 (none x (inl refl)), distinct_append xs ys a.1 b (λ u m. none u (inr m)))
+distinct_append (x ∷ xs) ys a b none = (
+  unnamed_append xs ys x.point x.row a.0 (none x (inl refl)),
+  distinct_append xs ys a.1 b (λ u m. none u (inr m)),
+)
   where
     unnamed_append : (xs ys : List Item) (p r : ℕ) → Unnamed xs p r → Unnamed ys p r → Unnamed (xs ++ ys) p r
     unnamed_append [] ys p r a b = b

@@ -36,22 +36,26 @@ use Rattle.solve_rounds.specs.Solving.{IsBegun, IsAfter, IsAdvanced, IsFinished}
 use Rattle.solve_offers.proofs.at_bounds.Ranges.{points_in_range}
 use Rattle.std.proofs.lemmas.List.{length-replicate}
 use Rattle.solve_rounds.proofs.chains.Listing.{nothing_picked, bounds_same}
-use Rattle.solve_rounds.proofs.chains.Chained.{no_rounds, bounds_first, post_none, bounds_count, tight_after, few_after, ended_after, more, same_bounds, extended, pick_next, bounds_next, steps_next}
+use Rattle.solve_rounds.proofs.chains.Chained.{no_rounds, bounds_first, post_none, bounds_count, tight_after, few_after, ended_after, more}
+use Rattle.solve_rounds.proofs.chains.Chained.{same_bounds, extended, pick_next, bounds_next, steps_next}
 
 -- before the first round
-pub after_none : (system : System) (policy : Offer → ℕ → Type 0) (progress : Progress) → IsBegun system progress → IsAfter system policy 0 progress
+pub after_none : (system : System) (policy : Offer → ℕ → Type 0) (progress : Progress) → IsBegun system progress
+    → IsAfter system policy 0 progress
 unfolding state exact_steps
 after_none system policy progress b = record {
   choose = λ k. first_choice;
   chain = no_rounds system policy;
   bounds = b.bounds ∙ sym (bounds_first system);
   size = ap (λ l. length l) b.pick ∙ length-replicate (length system.flow.points * length system.template) None;
-  pick = ap (pick_of (length system.template)) b.pick ∙ nothing_picked (length system.template) (length system.flow.points * length system.template);
+  pick = ap (pick_of (length system.template)) b.pick ∙ nothing_picked (length system.template)
+      (length system.flow.points * length system.template);
   steps = ap (map (step_of (length system.template))) b.steps;
 }
 
 -- a composition that is refused
-pub fault_halt : (system : System) (policy : Offer → ℕ → Type 0) (limit : ℕ) (fault : Fault Spot) → IsPathFault (equations_of system) fault → IsHalt system policy limit (halt_of fault)
+pub fault_halt : (system : System) (policy : Offer → ℕ → Type 0) (limit : ℕ) (fault : Fault Spot) → IsPathFault (equations_of system) fault
+    → IsHalt system policy limit (halt_of fault)
 fault_halt system policy limit (WideStop spot) h = inl h
 fault_halt system policy limit NoStop h = tt
 
@@ -63,14 +67,16 @@ module _ (system : System) (policy : Offer → ℕ → Type 0) (made : ℕ) (pro
   -- the pick is tight
   pub after_tight : IsTightPick system progress.bounds progress.pick
   after_tight =
-      subst₂ (λ b p. Tight (equations_of system) (transformers system) (vector_at system b) p) (sym a.bounds) (sym a.pick) (tight_after system policy made a.choose a.chain)
+      subst₂ (λ b p. Tight (equations_of system) (transformers system) (vector_at system b) p) (sym a.bounds) (sym a.pick)
+      (tight_after system policy made a.choose a.chain)
 
   -- with other known transformers
   pub after_learned : (known : Known) → IsAfter system policy made (record progress { known = known })
   after_learned known = record { choose = a.choose; chain = a.chain; bounds = a.bounds; size = a.size; pick = a.pick; steps = a.steps }
 
   -- an offer that is refused
-  pub offer_halt : (limit number : ℕ) (stop : Fault Spot) → made ≤ limit → number ≡ made + 1 → IsOfferStop system progress.bounds number stop → IsHalt system policy limit (halt_of stop)
+  pub offer_halt : (limit number : ℕ) (stop : Fault Spot) → made ≤ limit → number ≡ made + 1
+      → IsOfferStop system progress.bounds number stop → IsHalt system policy limit (halt_of stop)
   offer_halt limit number NoStop within e h = tt
   offer_halt limit number (WideStop spot) within e h =
       inr (inl (record {
@@ -82,11 +88,13 @@ module _ (system : System) (policy : Offer → ℕ → Type 0) (made : ℕ) (pro
       }))
 
   -- where nothing exceeds its bound there is a solution
-  pub after_solved : (limit : ℕ) (solved : Solved) → NothingExceeds system progress.bounds → made ≤ limit → IsFinished system progress made solved → IsSolved system policy limit solved
+  pub after_solved : (limit : ℕ) (solved : Solved) → NothingExceeds system progress.bounds → made ≤ limit
+      → IsFinished system progress made solved → IsSolved system policy limit solved
   after_solved limit solved none within f = record {
     choose = a.choose;
     chain = subst (λ n. IsChain system policy n a.choose) (sym f.improvements) a.chain;
-    ended = subst (IsEnded system a.choose) (sym f.improvements) (ended_after system policy made a.choose a.chain (subst (NothingExceeds system) a.bounds none));
+    ended = subst (IsEnded system a.choose) (sym f.improvements) (ended_after system policy made a.choose a.chain
+        (subst (NothingExceeds system) a.bounds none));
     within = subst (λ n. n ≤ limit) (sym f.improvements) within;
     few = subst (λ n. n < pick_count (equations_of system)) (sym f.improvements) (few_after system policy made a.choose a.chain);
     bounds = f.bounds ∙ a.bounds ∙ ap (bounds_after system a.choose) (sym f.improvements);
@@ -95,7 +103,8 @@ module _ (system : System) (policy : Offer → ℕ → Type 0) (made : ℕ) (pro
   }
 
   -- where something does after as many rounds as the limit, it is spent
-  pub after_spent : (limit : ℕ) → limit ≡ made → (NothingExceeds system progress.bounds → ⊥) → IsHalt system policy limit (Spent progress.bounds)
+  pub after_spent : (limit : ℕ) → limit ≡ made → (NothingExceeds system progress.bounds → ⊥)
+      → IsHalt system policy limit (Spent progress.bounds)
   after_spent limit e some = record {
     choose = a.choose;
     chain = subst (λ n. IsChain system policy n a.choose) (sym e) a.chain;
@@ -105,15 +114,18 @@ module _ (system : System) (policy : Offer → ℕ → Type 0) (made : ℕ) (pro
   }
 
   module _ (better : List (Option ℕ)) (following : IsNextPick system progress.bounds policy progress.pick (Some better)) where
-    next_one : IsNext (equations_of system) (transformers system) (vector_at system (bounds_after system a.choose made)) policy (state_at system a.choose made).pick (Some (pick_of (length system.template) better))
+    next_one : IsNext (equations_of system) (transformers system) (vector_at system (bounds_after system a.choose made)) policy
+        (state_at system a.choose made).pick (Some (pick_of (length system.template) better))
     next_one =
-        subst₂ (λ b p. IsNext (equations_of system) (transformers system) (vector_at system b) policy p (Some (pick_of (length system.template) better))) a.bounds a.pick following
+        subst₂ (λ b p. IsNext (equations_of system) (transformers system) (vector_at system b) policy p
+        (Some (pick_of (length system.template) better))) a.bounds a.pick following
 
     others : ℕ → Choice
     others = more system policy made a.choose a.chain (pick_of (length system.template) better) next_one
 
     -- a round that is refused
-    pub round_halt : (limit number : ℕ) (stop : Fault Spot) → made < limit → number ≡ made + 1 → length better ≡ length system.flow.points * length system.template →
+    pub round_halt : (limit number : ℕ) (stop : Fault Spot) → made < limit → number ≡ made + 1
+        → length better ≡ length system.flow.points * length system.template →
         IsRoundStop system progress.bounds better number stop → IsHalt system policy limit (halt_of stop)
     unfolding others
     round_halt limit number NoStop within e size h = tt
@@ -126,43 +138,58 @@ module _ (system : System) (policy : Offer → ℕ → Type 0) (made : ℕ) (pro
           pick = better;
           size = size;
           is_pick = sym (pick_next system policy made a.choose a.chain (pick_of (length system.template) better) next_one);
-          stop = subst₂ (λ b n. IsRoundStop system b better n (WideStop spot)) (a.bounds ∙ same_bounds system policy made a.choose a.chain (pick_of (length system.template) better) next_one)
+          stop = subst₂ (λ b n. IsRoundStop system b better n (WideStop spot))
+              (a.bounds ∙ same_bounds system policy made a.choose a.chain (pick_of (length system.template) better) next_one)
               (let f : number ≡ suc made = omega arith in f) h;
         }))
 
     -- after the round
-    after_next : (new : Progress) → length better ≡ length system.flow.points * length system.template → IsAdvanced system better progress new → IsAfter system policy (suc made) new
+    after_next : (new : Progress) → length better ≡ length system.flow.points * length system.template
+        → IsAdvanced system better progress new → IsAfter system policy (suc made) new
     unfolding others
     after_next new size h = record {
       choose = others;
       chain = extended system policy made a.choose a.chain (pick_of (length system.template) better) next_one;
-      bounds = bounds_next system policy made a.choose a.chain (pick_of (length system.template) better) next_one new.bounds (h.size ∙ after_count)
+      bounds = bounds_next system policy made a.choose a.chain (pick_of (length system.template) better) next_one new.bounds
+          (h.size ∙ after_count)
           (subst (λ b. AreBoundsOf system (rounded_at system b better) new.bounds) a.bounds h.bounds);
       size = ap (λ l. length l) h.pick ∙ size;
-      pick = ap (pick_of (length system.template)) h.pick ∙ sym (pick_next system policy made a.choose a.chain (pick_of (length system.template) better) next_one);
-      steps = h.steps ∙ ap (λ s. s ++ round_at system progress.bounds better) a.steps ∙ ap (λ b. steps_after system a.choose made ++ round_at system b better) a.bounds
+      pick = ap (pick_of (length system.template)) h.pick ∙ sym (pick_next system policy made a.choose a.chain
+          (pick_of (length system.template) better) next_one);
+      steps = h.steps ∙ ap (λ s. s ++ round_at system progress.bounds better) a.steps
+          ∙ ap (λ b. steps_after system a.choose made ++ round_at system b better) a.bounds
           ∙ steps_next system policy made a.choose a.chain (pick_of (length system.template) better) next_one;
     }
 
     -- a round that advances leads to the progress after one round more
-    pub after_round : (new : Progress) → length better ≡ length system.flow.points * length system.template → IsAdvanced system better progress new → IsAfter system policy (made + 1) new
-    after_round new size h = subst (λ n. IsAfter system policy n new) (let e : suc made ≡ made + 1 = omega arith in e) (after_next new size h)
+    pub after_round : (new : Progress) → length better ≡ length system.flow.points * length system.template
+        → IsAdvanced system better progress new → IsAfter system policy (made + 1) new
+    after_round new size h = subst (λ n. IsAfter system policy n new) (let e : suc made ≡ made + 1 = omega arith in e)
+        (after_next new size h)
 
 module _ (system : System) (policy : Offer → ℕ → Type 0) (limit : ℕ) (solved : Solved) (s : IsSolved system policy limit solved) where
   -- the certificate is the one that the rounds make
   pub solved_certificate : made_certificate system solved ≡ exact_certificate fitting (equations_of system) s.choose solved.improvements
   unfolding exact_certificate bounds_vector
   solved_certificate =
-      ap (λ b. record { bounds = b; steps = map (step_of (length system.template)) solved.steps; uppers = map evidence_of solved.uppers }) s.bounds
-      ∙ ap (λ t. record { bounds = bounds_after system s.choose solved.improvements; steps = t; uppers = map evidence_of solved.uppers }) s.steps
-      ∙ ap (λ u. record { bounds = bounds_after system s.choose solved.improvements; steps = steps_after system s.choose solved.improvements; uppers = u })
+      ap (λ b. record { bounds = b; steps = map (step_of (length system.template)) solved.steps; uppers = map evidence_of solved.uppers })
+      s.bounds
+      ∙ ap (λ t. record { bounds = bounds_after system s.choose solved.improvements; steps = t; uppers = map evidence_of solved.uppers })
+      s.steps
+      ∙ ap (λ u. record {
+        bounds = bounds_after system s.choose solved.improvements;
+        steps =
+            steps_after system s.choose solved.improvements;
+        uppers = u;
+      })
       (s.uppers ∙ ap (λ b. exact_uppers (equations_of system) (vector_at system b)) s.bounds)
 
   -- it is valid
   pub solved_valid : ValidCertificate (equations_of system) (made_certificate system solved)
   solved_valid =
       subst (ValidCertificate (equations_of system)) (sym solved_certificate)
-      (made_valid fitting (equations_of system) (points_in_range system) s.choose s.chain.among solved.improvements s.chain.made s.ended.none)
+      (made_valid fitting (equations_of system) (points_in_range system) s.choose s.chain.among solved.improvements s.chain.made
+      s.ended.none)
 
   -- and so the bounds are least
   pub solved_least : Least (equations_of system) (vector_at system solved.bounds)
@@ -170,14 +197,17 @@ module _ (system : System) (policy : Offer → ℕ → Type 0) (limit : ℕ) (so
   solved_least = certificate_least (equations_of system) (made_certificate system solved) (points_in_range system) solved_valid
 
 -- two solutions have the same bounds
-pub solved_same : (system : System) (policy other : Offer → ℕ → Type 0) (limit least : ℕ) (solved again : Solved) → IsSolved system policy limit solved → IsSolved system other least again → solved.bounds ≡ again.bounds
+pub solved_same : (system : System) (policy other : Offer → ℕ → Type 0) (limit least : ℕ) (solved again : Solved)
+    → IsSolved system policy limit solved → IsSolved system other least again → solved.bounds ≡ again.bounds
 solved_same system policy other limit least solved again s t =
     let points = length system.flow.points in
     let rows = length system.template in
     let first = solved_valid system policy limit solved s in
     let second = solved_valid system other least again t in
     sym ((listed_law points rows).list solved.bounds first.size)
-    ∙ sym (bounds_same points rows (bounds_of points rows (vector_of rows again.bounds)) (vector_of rows solved.bounds) ((listed_law points rows).count (vector_of rows again.bounds))
+    ∙ sym (bounds_same points rows (bounds_of points rows (vector_of rows again.bounds)) (vector_of rows solved.bounds)
+    ((listed_law points rows).count (vector_of rows again.bounds))
     (λ p r h l. (listed_law points rows).vector (vector_of rows again.bounds) p r h l
-    ∙ least_unique (equations_of system) (vector_at system again.bounds) (vector_at system solved.bounds) (solved_least system other least again t) (solved_least system policy limit solved s) p r h l))
+    ∙ least_unique (equations_of system) (vector_at system again.bounds) (vector_at system solved.bounds)
+    (solved_least system other least again t) (solved_least system policy limit solved s) p r h l))
     ∙ (listed_law points rows).list again.bounds second.size

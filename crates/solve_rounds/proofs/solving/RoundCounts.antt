@@ -1,5 +1,6 @@
 -- The steps of a round: at most two for each unknown, and each has an item.
-use Rattle.std.proofs.Common.{◌≡◌, ◌∙◌, inl, inr, ⊎_elim, Bool, ℕ, zero, suc, ◌+◌, ◌*◌, ◌≤◌, List, [], ◌∷◌, ◌++◌, length, length-append, refl, sym, ap, subst, arith}
+use Rattle.std.proofs.Common.{◌≡◌, ◌∙◌, inl, inr, ⊎_elim, Bool, ℕ, zero, suc, ◌+◌, ◌*◌, ◌≤◌, List, [], ◌∷◌, ◌++◌, length, length-append}
+use Rattle.std.proofs.Common.{refl, sym, ap, subst, arith}
 use Rattle.base_facts.proofs.elements.Membership.{of_append}
 use Rattle.base_facts.specs.Elements.{In}
 use Rattle.base_numbers.specs.Rational.{ℚ}
@@ -29,15 +30,18 @@ abbrev pub Filled : Step → Type 0
 Filled step = (item : Item) × In step.items item
 
 -- ---- growth
-raises_filled : (system : Equations) (T : Transformer) (pick : Pick) (steps : List Step) (z : Vector) → Raises system T pick z steps → (s : Step) → In steps s → Filled s
+raises_filled : (system : Equations) (T : Transformer) (pick : Pick) (steps : List Step) (z : Vector) → Raises system T pick z steps
+    → (s : Step) → In steps s → Filled s
 raises_filled system T pick [] z h s m = absurd m
 raises_filled system T pick (step ∷ steps) z h s m =
-    ⊎_elim (λ e. subst Filled e (h.0.item, subst (λ l. In l h.0.item) (sym h.0.single) (inl refl))) (λ j. raises_filled system T pick steps (after_step step z) h.1 s j) m
+    ⊎_elim (λ e. subst Filled e (h.0.item, subst (λ l. In l h.0.item) (sym h.0.single) (inl refl)))
+    (λ j. raises_filled system T pick steps (after_step step z) h.1 s j) m
 
 module _ (fitting : ℚ → Bool) (system : Equations) (d : Vector) (pick : Pick) (is_pick : IsPick system pick) where
   done : PassesDone fitting system (transformer system) (exact_evidence system) (exact_sizes system) pick is_pick d (choices system pick)
       (passes fitting system (transformer system) (exact_evidence system) (length (choices system pick)) d (choices system pick))
-  done = passes_done fitting system (transformer system) (exact_evidence system) (exact_sizes system) pick is_pick (length (choices system pick)) (choices system pick) d (omega arith) (choices_picked system pick)
+  done = passes_done fitting system (transformer system) (exact_evidence system) (exact_sizes system) pick is_pick
+      (length (choices system pick)) (choices system pick) d (omega arith) (choices_picked system pick)
 
   grow_few : length (exact_grow fitting system d pick) ≤ system.points * length system.template
   unfolding grow growth
@@ -45,7 +49,8 @@ module _ (fitting : ℚ → Bool) (system : Equations) (d : Vector) (pick : Pick
 
   grow_filled : (s : Step) → In (exact_grow fitting system d pick) s → Filled s
   unfolding grow growth
-  grow_filled = raises_filled system (transformer system) pick (passes fitting system (transformer system) (exact_evidence system) (length (choices system pick)) d (choices system pick)).steps d done.logged.raises
+  grow_filled = raises_filled system (transformer system) pick (passes fitting system (transformer system) (exact_evidence system)
+      (length (choices system pick)) d (choices system pick)).steps d done.logged.raises
 
 -- ---- turns
 part_few : (joint : Vector → List Item → Outcome) (n : ℕ) (b : Vector) (list : List Item) → length (part joint n b list) ≤ n
@@ -54,11 +59,13 @@ part_few joint zero b list = omega arith
 part_few joint (suc n) b [] = omega arith
 part_few joint (suc n) b (u ∷ us) = by (joint b (u ∷ us)) (λ c rest. part_few joint n c rest)
   where
-    by : (o : Outcome) → ((c : Vector) (rest : List Item) → length (part joint n c rest) ≤ n) → length (turn o b (u ∷ us) (λ c rest. part joint n c rest)) ≤ suc n
+    by : (o : Outcome) → ((c : Vector) (rest : List Item) → length (part joint n c rest) ≤ n)
+        → length (turn o b (u ∷ us) (λ c rest. part joint n c rest)) ≤ suc n
     by (Point items) rec = omega arith
     by (Rays items) rec = let r = rec (after_step (record { kind = Ray; items = items }) b) (without items (u ∷ us)) in omega arith
 
-turns_few : (joint : Vector → List Item → Outcome) (lists : List (List Item)) (b : Vector) → length (turns joint b lists) ≤ length (members lists)
+turns_few : (joint : Vector → List Item → Outcome) (lists : List (List Item)) (b : Vector)
+    → length (turns joint b lists) ≤ length (members lists)
 unfolding turns members
 turns_few joint [] b = omega arith
 turns_few joint (list ∷ lists) b =
@@ -87,10 +94,12 @@ record OfTurn (joint : Vector → List Item → Outcome) (turns : List Turn) (s 
   some : In at.list head
   same : s.items ≡ items_in (joint at.vector at.list)
 
-later_of : (joint : Vector → List Item → Outcome) (xs ys : List Turn) (s : Step) → ((t : Turn) → In xs t → In ys t) → OfTurn joint xs s → OfTurn joint ys s
+later_of : (joint : Vector → List Item → Outcome) (xs ys : List Turn) (s : Step) → ((t : Turn) → In xs t → In ys t) → OfTurn joint xs s
+    → OfTurn joint ys s
 later_of joint xs ys s h o = record { at = o.at; listed = h o.at o.listed; head = o.head; some = o.some; same = o.same }
 
-part_of : (joint : Vector → List Item → Outcome) (n k : ℕ) (b : Vector) (list : List Item) (s : Step) → In (part joint n b list) s → OfTurn joint (part_turns joint n k b list) s
+part_of : (joint : Vector → List Item → Outcome) (n k : ℕ) (b : Vector) (list : List Item) (s : Step) → In (part joint n b list) s
+    → OfTurn joint (part_turns joint n k b list) s
 unfolding part turn part_turns later_turns
 part_of joint zero k b list s m = absurd m
 part_of joint (suc n) k b [] s m = absurd m
@@ -98,15 +107,33 @@ part_of joint (suc n) k b (u ∷ us) s m = by (joint b (u ∷ us)) refl m (λ c 
   where
     by : (o : Outcome) → joint b (u ∷ us) ≡ o → In (turn o b (u ∷ us) (λ c rest. part joint n c rest)) s →
         ((c : Vector) (rest : List Item) → In (part joint n c rest) s → OfTurn joint (part_turns joint n (suc k) c rest) s) →
-        OfTurn joint (record { vector = b; list = u ∷ us; number = k } ∷ later_turns o k b (u ∷ us) (λ j c rest. part_turns joint n j c rest)) s
+        OfTurn joint (record { vector = b; list = u ∷ us; number = k }
+        ∷ later_turns o k b (u ∷ us) (λ j c rest. part_turns joint n j c rest)) s
     by (Point items) e j rec =
-        ⊎_elim (λ f. record { at = record { vector = b; list = u ∷ us; number = k }; listed = inl refl; head = u; some = inl refl; same = sym (ap (λ (t : Step). t.items) f) ∙ ap items_in (sym e) }) (λ f. absurd f) j
+        ⊎_elim (λ f. record {
+          at = record { vector = b; list = u ∷ us; number = k };
+          listed = inl refl;
+          head = u;
+          some = inl refl;
+          same =
+              sym (ap (λ (t : Step). t.items) f) ∙ ap items_in (sym e);
+        }) (λ f. absurd f) j
     by (Rays items) e j rec =
-        ⊎_elim (λ f. record { at = record { vector = b; list = u ∷ us; number = k }; listed = inl refl; head = u; some = inl refl; same = sym (ap (λ (t : Step). t.items) f) ∙ ap items_in (sym e) })
+        ⊎_elim (λ f. record {
+          at = record { vector = b; list = u ∷ us; number = k };
+          listed = inl refl;
+          head = u;
+          some = inl refl;
+          same =
+              sym (ap (λ (t : Step). t.items) f) ∙ ap items_in (sym e);
+        })
         (λ f. let c = after_step (record { kind = Ray; items = items }) b in
-        later_of joint (part_turns joint n (suc k) c (without items (u ∷ us))) (record { vector = b; list = u ∷ us; number = k } ∷ part_turns joint n (suc k) c (without items (u ∷ us))) s (λ t h. inr h) (rec c (without items (u ∷ us)) f)) j
+        later_of joint (part_turns joint n (suc k) c (without items (u ∷ us)))
+        (record { vector = b; list = u ∷ us; number = k } ∷ part_turns joint n (suc k) c (without items (u ∷ us))) s (λ t h. inr h)
+        (rec c (without items (u ∷ us)) f)) j
 
-turns_of : (joint : Vector → List Item → Outcome) (lists : List (List Item)) (k : ℕ) (b : Vector) (s : Step) → In (turns joint b lists) s → OfTurn joint (parts_turns joint k b lists) s
+turns_of : (joint : Vector → List Item → Outcome) (lists : List (List Item)) (k : ℕ) (b : Vector) (s : Step) → In (turns joint b lists) s
+    → OfTurn joint (parts_turns joint k b lists) s
 unfolding turns parts_turns
 turns_of joint [] k b s m = absurd m
 turns_of joint (list ∷ lists) k b s m =
@@ -114,7 +141,8 @@ turns_of joint (list ∷ lists) k b s m =
     let mine = part_turns joint (length list) k b list in
     let others = parts_turns joint (k + length p) (after_steps p b) lists in
     ⊎_elim (λ j. later_of joint mine (mine ++ others) s (λ t h. left mine others t h) (part_of joint (length list) k b list s j))
-    (λ j. later_of joint others (mine ++ others) s (λ t h. right mine others t h) (turns_of joint lists (k + length p) (after_steps p b) s j))
+    (λ j. later_of joint others (mine ++ others) s (λ t h. right mine others t h)
+    (turns_of joint lists (k + length p) (after_steps p b) s j))
     (of_append p (turns joint (after_steps p b) lists) s m)
   where
     left : (xs ys : List Turn) (t : Turn) → In xs t → In (xs ++ ys) t
@@ -125,12 +153,14 @@ turns_of joint (list ∷ lists) k b s m =
     right [] ys t m = m
     right (x ∷ xs) ys t m = inr (right xs ys t m)
 
-outcome_filled : (system : Equations) (b : Vector) (list : List Item) (o : Outcome) (u : Item) → OutcomeFacts system (transformer system) b list o → In list u → (item : Item) × In (items_in o) item
+outcome_filled : (system : Equations) (b : Vector) (list : List Item) (o : Outcome) (u : Item)
+    → OutcomeFacts system (transformer system) b list o → In list u → (item : Item) × In (items_in o) item
 outcome_filled system b list (Point items) u facts m = let c = facts.covers u m in (c.0, c.1)
 outcome_filled system b list (Rays items) u facts m = (facts.first, facts.some)
 
 module _ (fitting : ℚ → Bool) (system : Equations) (d : Vector) (pick : Pick) (is_pick : IsPick system pick) where
-  turn_filled : (s : Step) → In (turns (exact_joint system pick) (exact_grown fitting system d pick) (exact_cut fitting system d pick)) s → Filled s
+  turn_filled : (s : Step) → In (turns (exact_joint system pick) (exact_grown fitting system d pick) (exact_cut fitting system d pick)) s
+      → Filled s
   unfolding exact_turns
   turn_filled s m =
       let o = turns_of (exact_joint system pick) (exact_cut fitting system d pick) 0 (exact_grown fitting system d pick) s m in
@@ -144,19 +174,24 @@ module _ (fitting : ℚ → Bool) (system : Equations) (d : Vector) (pick : Pick
   unfolding round_steps
   round_filled s m =
       ⊎_elim (λ j. grow_filled fitting system d pick is_pick s j) (λ j. turn_filled s j)
-      (of_append (exact_grow fitting system d pick) (turns (exact_joint system pick) (exact_grown fitting system d pick) (exact_cut fitting system d pick)) s m)
+      (of_append (exact_grow fitting system d pick) (turns (exact_joint system pick) (exact_grown fitting system d pick)
+      (exact_cut fitting system d pick)) s m)
 
   members_few : length (members (exact_cut fitting system d pick)) ≤ system.points * length system.template
   members_few =
-      let cut = cut_is fitting system (transformer system) (exact_evidence system) (exact_sizes system) d pick (exact_cut fitting system d pick) is_pick (exact_cuts fitting system d pick is_pick) in
-      distinct_few system (members (exact_cut fitting system d pick)) (members_distinct system (exact_cut fitting system d pick) cut.admissible)
+      let cut = cut_is fitting system (transformer system) (exact_evidence system) (exact_sizes system) d pick
+      (exact_cut fitting system d pick) is_pick (exact_cuts fitting system d pick is_pick) in
+      distinct_few system (members (exact_cut fitting system d pick)) (members_distinct system (exact_cut fitting system d pick)
+      cut.admissible)
       (λ u m. let p = is_pick u (cut.listed u m).picked in (p.point_within, p.row_within))
 
   -- and there are at most two for each unknown
-  pub round_few : length (exact_round_steps fitting system d pick) ≤ system.points * length system.template + system.points * length system.template
+  pub round_few : length (exact_round_steps fitting system d pick) ≤ system.points * length system.template + system.points
+      * length system.template
   unfolding round_steps
   round_few =
-      let a = length-append (exact_grow fitting system d pick) (turns (exact_joint system pick) (exact_grown fitting system d pick) (exact_cut fitting system d pick)) in
+      let a = length-append (exact_grow fitting system d pick) (turns (exact_joint system pick) (exact_grown fitting system d pick)
+      (exact_cut fitting system d pick)) in
       let g = grow_few fitting system d pick is_pick in
       let t = turns_few (exact_joint system pick) (exact_cut fitting system d pick) (exact_grown fitting system d pick) in
       let m = members_few in

@@ -1,5 +1,6 @@
 -- The steps of a chain of rounds as the code has them: their number, and the numbers of their items.
-use Rattle.std.proofs.Common.{◌≡◌, ◌∙◌, inl, inr, ⊎_elim, Bool, true, false, ◌&&◌, ℕ, zero, suc, ◌+◌, ◌*◌, ◌%◌, ◌<◌, ◌≤◌, List, [], ◌∷◌, length, length-append, map, refl, sym, ap, subst, arith}
+use Rattle.std.proofs.Common.{◌≡◌, ◌∙◌, inl, inr, ⊎_elim, Bool, true, false, ◌&&◌, ℕ, zero, suc, ◌+◌, ◌*◌, ◌%◌, ◌<◌, ◌≤◌, List, [], ◌∷◌}
+use Rattle.std.proofs.Common.{length, length-append, map, refl, sym, ap, subst, arith}
 use Rattle.std.specs.Prelude.{IsTrue, nat_le, ℤ}
 use Rattle.std.specs.List.{list_all}
 use Rattle.std.proofs.lemmas.Bool.{le-leb, leb-true}
@@ -44,15 +45,20 @@ module _ (system : System) (policy : Offer → ℕ → Type 0) (n : ℕ) (choose
   steps_filled zero l s m = absurd m
   steps_filled (suc k) l s m =
       ⊎_elim (λ j. steps_filled k (omega arith) s j)
-      (λ j. round_filled fitting E (state_at system choose k).vector (state_at system choose (suc k)).pick (round_made fitting E (points_in_range system) choose chain.among n chain.made k (omega arith)).better.is_pick s j)
-      (of_append (exact_steps fitting E choose k) (exact_round_steps fitting E (state_at system choose k).vector (state_at system choose (suc k)).pick) s m)
+      (λ j. round_filled fitting E (state_at system choose k).vector (state_at system choose (suc k)).pick
+      (round_made fitting E (points_in_range system) choose chain.among n chain.made k (omega arith)).better.is_pick s j)
+      (of_append (exact_steps fitting E choose k) (exact_round_steps fitting E (state_at system choose k).vector
+      (state_at system choose (suc k)).pick) s m)
 
-  steps_few : length system.flow.points * length system.template ≤ MOST_UNKNOWNS → (k : ℕ) → k ≤ n → length (exact_steps fitting (equations_of system) choose k) ≤ k * (2 * MOST_UNKNOWNS)
+  steps_few : length system.flow.points * length system.template ≤ MOST_UNKNOWNS → (k : ℕ) → k ≤ n
+      → length (exact_steps fitting (equations_of system) choose k) ≤ k * (2 * MOST_UNKNOWNS)
   unfolding exact_steps
   steps_few limit zero l = omega arith
   steps_few limit (suc k) l =
-      let a = length-append (exact_steps fitting E choose k) (exact_round_steps fitting E (state_at system choose k).vector (state_at system choose (suc k)).pick) in
-      let r = round_few fitting E (state_at system choose k).vector (state_at system choose (suc k)).pick (round_made fitting E (points_in_range system) choose chain.among n chain.made k (omega arith)).better.is_pick in
+      let a = length-append (exact_steps fitting E choose k) (exact_round_steps fitting E (state_at system choose k).vector
+      (state_at system choose (suc k)).pick) in
+      let r = round_few fitting E (state_at system choose k).vector (state_at system choose (suc k)).pick
+      (round_made fitting E (points_in_range system) choose chain.among n chain.made k (omega arith)).better.is_pick in
       let before = steps_few limit k (omega arith) in
       omega arith
 
@@ -89,37 +95,49 @@ most_items rows count (Jump items) h = le-leb (length items) count (subst (λ k.
 most_items rows count (Ray items) h = le-leb (length items) count (subst (λ k. k ≤ count) (length-map items (ray_item rows)) h)
 
 -- each of valid steps is valid where it stands
-valid_at : (system : Equations) (steps : List Step) (z : Vector) → ValidSteps system z steps → (s : Step) → In steps s → (y : Vector) × ValidStep system y s
+valid_at : (system : Equations) (steps : List Step) (z : Vector) → ValidSteps system z steps → (s : Step) → In steps s
+    → (y : Vector) × ValidStep system y s
 valid_at system [] z h s m = absurd m
-valid_at system (step ∷ steps) z h s m = ⊎_elim (λ e. subst (λ t. (y : Vector) × ValidStep system y t) e (z, h.0)) (λ j. valid_at system steps (after_step step z) h.1 s j) m
+valid_at system (step ∷ steps) z h s m = ⊎_elim (λ e. subst (λ t. (y : Vector) × ValidStep system y t) e (z, h.0))
+    (λ j. valid_at system steps (after_step step z) h.1 s j) m
 
 module _ (system : System) (policy : Offer → ℕ → Type 0) (limit : ℕ) (solved : Solved) (s : IsSolved system policy limit solved) where
   unknowns_few : length system.flow.points * length system.template ≤ MOST_UNKNOWNS
-  unknowns_few = leb-true (length system.flow.points * length system.template) MOST_UNKNOWNS (both (is_over (length system.flow.names) system.template) (nat_le (length system.flow.points * length system.template) MOST_UNKNOWNS) system.within_limits).1
+  unknowns_few = leb-true (length system.flow.points * length system.template) MOST_UNKNOWNS
+      (both (is_over (length system.flow.names) system.template) (nat_le (length system.flow.points * length system.template) MOST_UNKNOWNS)
+      system.within_limits).1
 
   -- the steps and their items can be numbered
   pub solved_numbered : limit ≤ 1000000 → AreNumbered system solved.steps
   solved_numbered few = record {
     few = (let c = steps_few system policy solved.improvements s.choose s.chain unknowns_few solved.improvements (omega arith) in
-        let m : length solved.steps ≡ length (steps_after system s.choose solved.improvements) = sym (length-map solved.steps (step_of (length system.template))) ∙ ap (λ l. length l) s.steps in
+        let m : length solved.steps ≡ length (steps_after system s.choose solved.improvements) =
+        sym (length-map solved.steps (step_of (length system.template))) ∙ ap (λ l. length l) s.steps in
         let w = s.within in omega arith);
     short = all_in (has_most (length system.flow.points * length system.template)) solved.steps
         (λ step m.
-        let v = valid_at (equations_of system) (map (step_of (length system.template)) solved.steps) _ (solved_valid system policy limit solved s).steps (step_of (length system.template) step)
+        let v = valid_at (equations_of system) (map (step_of (length system.template)) solved.steps) _
+        (solved_valid system policy limit solved s).steps (step_of (length system.template) step)
         (in_map (step_of (length system.template)) solved.steps step m) in
         most_items (length system.template) (length system.flow.points * length system.template) step
-        (distinct_few (equations_of system) (step_of (length system.template) step).items v.1.distinct (λ u k. let p = v.1.placed u k in (p.point_within, p.row_within))));
+        (distinct_few (equations_of system) (step_of (length system.template) step).items v.1.distinct
+        (λ u k. let p = v.1.placed u k in (p.point_within, p.row_within))));
   }
 
   -- the certificate can be written
-  pub solved_shaped : IsTrue (is_template system.template) → IsTrue (list_all are_numbers system.template) → IsShaped (cert_with system solved)
+  pub solved_shaped : IsTrue (is_template system.template) → IsTrue (list_all are_numbers system.template)
+      → IsShaped (cert_with system solved)
   solved_shaped template numbers = record {
     row = some_row system.template template;
     numbers = numbers;
-    points = ap (λ k. k % length system.template) ((solved_valid system policy limit solved s).size ∙ (let e : length system.flow.points * length system.template ≡ length system.flow.points * length system.template + 0 = omega arith in e))
+    points = ap (λ k. k % length system.template) ((solved_valid system policy limit solved s).size
+        ∙ (let e : length system.flow.points * length system.template ≡ length system.flow.points * length system.template + 0 =
+        omega arith in e))
         ∙ mod-mul-add (length system.flow.points) (length system.template) 0 (some_row system.template template);
     items = all_in has_item solved.steps
         (λ step m. filled_item (length system.template) step
-        (steps_filled system policy solved.improvements s.choose s.chain solved.improvements (omega arith) (step_of (length system.template) step)
-        (subst (λ l. In l (step_of (length system.template) step)) s.steps (in_map (step_of (length system.template)) solved.steps step m))));
+        (steps_filled system policy solved.improvements s.choose s.chain solved.improvements (omega arith)
+        (step_of (length system.template) step)
+        (subst (λ l. In l (step_of (length system.template) step)) s.steps
+        (in_map (step_of (length system.template)) solved.steps step m))));
   }

@@ -17,16 +17,28 @@ use Rattle.solve_rounds.specs.Halts.{IsHalt, IsOfferHalt, IsRoundHalt}
 use Rattle.solve_rounds.specs.Solutions.{IsSolved}
 
 module _ (policy other : Offer → ℕ → Type 0) (also : (offer : Offer) (k : ℕ) → policy offer k → other offer k) where
-  choice_by : (system : Equations) (T : Transformer) (z : Vector) (choose : Choice) → IsChoice system T z policy choose → IsChoice system T z other choose
+  choice_by : (system : Equations) (T : Transformer) (z : Vector) (choose : Choice) → IsChoice system T z policy choose
+      → IsChoice system T z other choose
   choice_by system T z choose h = record {
     among = h.among;
     chosen = λ p r k ks e.
         let c = h.chosen p r k ks e in
-        record { offer = c.offer; is_offer = c.is_offer; position = c.position; answers = also c.offer c.position c.answers; is_edge = c.is_edge };
+        record {
+          offer = c.offer;
+          is_offer = c.is_offer;
+          position = c.position;
+          answers = also c.offer c.position c.answers;
+          is_edge =
+              c.is_edge;
+        };
   }
 
   chain_by : (system : System) (n : ℕ) (choose : ℕ → Choice) → IsChain system policy n choose → IsChain system other n choose
-  chain_by system n choose h = record { among = h.among; chosen = λ k l. choice_by (equations_of system) _ _ (choose k) (h.chosen k l); made = h.made }
+  chain_by system n choose h = record {
+    among = h.among;
+    chosen = λ k l. choice_by (equations_of system) _ _ (choose k) (h.chosen k l);
+    made = h.made;
+  }
 
   -- a solution
   pub solved_by : (system : System) (limit : ℕ) (solved : Solved) → IsSolved system policy limit solved → IsSolved system other limit solved
@@ -42,7 +54,14 @@ module _ (policy other : Offer → ℕ → Type 0) (also : (offer : Offer) (k : 
   }
 
   offer_by : (system : System) (limit : ℕ) (spot : Spot) → IsOfferHalt system policy limit spot → IsOfferHalt system other limit spot
-  offer_by system limit spot h = record { choose = h.choose; made = h.made; chain = chain_by system h.made h.choose h.chain; within = h.within; stop = h.stop }
+  offer_by system limit spot h = record {
+    choose = h.choose;
+    made = h.made;
+    chain = chain_by system h.made h.choose h.chain;
+    within =
+        h.within;
+    stop = h.stop;
+  }
 
   round_by : (system : System) (limit : ℕ) (spot : Spot) → IsRoundHalt system policy limit spot → IsRoundHalt system other limit spot
   round_by system limit spot h = record {
@@ -58,16 +77,26 @@ module _ (policy other : Offer → ℕ → Type 0) (also : (offer : Offer) (k : 
 
   -- a halt
   pub halt_by : (system : System) (limit : ℕ) (halt : Halt) → IsHalt system policy limit halt → IsHalt system other limit halt
-  halt_by system limit (Wide spot) h = ⊎_elim (λ c. inl c) (λ d. inr (⊎_elim (λ o. inl (offer_by system limit spot o)) (λ r. inr (round_by system limit spot r)) d)) h
-  halt_by system limit (Spent bounds) h = record { choose = h.choose; chain = chain_by system limit h.choose h.chain; same = h.same; unsolved = h.unsolved; few = h.few }
+  halt_by system limit (Wide spot) h = ⊎_elim (λ c. inl c) (λ d. inr (⊎_elim (λ o. inl (offer_by system limit spot o))
+      (λ r. inr (round_by system limit spot r)) d)) h
+  halt_by system limit (Spent bounds) h = record {
+    choose = h.choose;
+    chain = chain_by system limit h.choose h.chain;
+    same =
+        h.same;
+    unsolved = h.unsolved;
+    few = h.few;
+  }
   halt_by system limit NoMemory h = tt
 
   -- an answer
-  pub answer_solved : (system : System) (limit : ℕ) (result : Result Solved Halt) → IfOk result (IsSolved system policy limit) → IfOk result (IsSolved system other limit)
+  pub answer_solved : (system : System) (limit : ℕ) (result : Result Solved Halt) → IfOk result (IsSolved system policy limit)
+      → IfOk result (IsSolved system other limit)
   answer_solved system limit (Ok solved) h = solved_by system limit solved h
   answer_solved system limit (Err halt) h = tt
 
   -- a halt by a policy is a halt by one that may answer whatever it answers
-  pub answer_halt : (system : System) (limit : ℕ) (result : Result Solved Halt) → IfErr result (IsHalt system policy limit) → IfErr result (IsHalt system other limit)
+  pub answer_halt : (system : System) (limit : ℕ) (result : Result Solved Halt) → IfErr result (IsHalt system policy limit)
+      → IfErr result (IsHalt system other limit)
   answer_halt system limit (Ok solved) h = tt
   answer_halt system limit (Err halt) h = halt_by system limit halt h

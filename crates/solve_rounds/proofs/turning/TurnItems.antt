@@ -1,5 +1,6 @@
 -- The items of a turn, one after the other.
-use Rattle.std.proofs.Common.{◌≡◌, inl, inr, ⊎_elim, ℕ, zero, suc, ◌+◌, ◌<◌, List, [], ◌∷◌, ◌++◌, length, map, get_or, refl, sym, ap₂, subst, arith}
+use Rattle.std.proofs.Common.{◌≡◌, inl, inr, ⊎_elim, ℕ, zero, suc, ◌+◌, ◌<◌, List, [], ◌∷◌, ◌++◌, length, map, get_or, refl, sym, ap₂}
+use Rattle.std.proofs.Common.{subst, arith}
 use Rattle.std.specs.List.{range_with_len}
 use Rattle.std.proofs.lemmas.List.{get_or-map, length-map}
 use Rattle.std.proofs.lemmas.List.FromFn.{map-range_with_len_more}
@@ -12,7 +13,8 @@ use Rattle.solve_rounds.specs.Lows.{no_trace, edge_in, low_in, raise_at}
 use Rattle.solve_rounds.specs.Turning.{jump_item_at}
 
 -- the item at a place
-pub jump_item_here : (raises : List CodeStep) (places list : List ℕ) (to : List ℚ) (highs : List Trace) (k : ℕ) (q : ℚ) (high : Trace) → q ≡ get_or to k zero_ℚ → high ≡ get_or highs k no_trace →
+pub jump_item_here : (raises : List CodeStep) (places list : List ℕ) (to : List ℚ) (highs : List Trace) (k : ℕ) (q : ℚ) (high : Trace)
+    → q ≡ get_or to k zero_ℚ → high ≡ get_or highs k no_trace →
     jump_item_at raises places (get_or list k 0 ∷ []) (q ∷ []) (high ∷ []) 0 ≡ jump_item_at raises places list to highs k
 jump_item_here raises places list to highs k q high e f =
     ap₂ (λ (x : ℚ) (h : Trace). let i : JumpItem = record {
@@ -25,13 +27,15 @@ jump_item_here raises places list to highs k q high e f =
 
 -- one item more
 pub jump_items_more : (raises : List CodeStep) (places list : List ℕ) (to : List ℚ) (highs : List Trace) (k : ℕ) →
-    map (jump_item_at raises places list to highs) (range_with_len 0 (k + 1)) ≡ map (jump_item_at raises places list to highs) (range_with_len 0 k) ++ jump_item_at raises places list to highs k ∷ []
+    map (jump_item_at raises places list to highs) (range_with_len 0 (k + 1))
+    ≡ map (jump_item_at raises places list to highs) (range_with_len 0 k) ++ jump_item_at raises places list to highs k ∷ []
 jump_items_more raises places list to highs k = map-range_with_len_more (jump_item_at raises places list to highs) 0 k k (omega arith)
 
 -- an element stands at a place
 pub place_of : {A : Type 0} (xs : List A) (x d : A) → In xs x → (k : ℕ) × (k < length xs) × (get_or xs k d ≡ x)
 place_of [] x d m = absurd m
-place_of (y ∷ xs) x d m = ⊎_elim (λ e. (0, omega arith, e)) (λ j. let r = place_of xs x d j in (suc r.0, (let l = r.1 in omega arith), r.2)) m
+place_of (y ∷ xs) x d m = ⊎_elim (λ e. (0, omega arith, e)) (λ j. let r = place_of xs x d j in (suc r.0, (let l = r.1 in omega arith), r.2))
+    m
 
 -- and what stands at a place is an element
 pub in_place : {A : Type 0} (xs : List A) (d : A) (k : ℕ) → k < length xs → In xs (get_or xs k d)
@@ -40,7 +44,8 @@ in_place (x ∷ xs) d zero l = inl refl
 in_place (x ∷ xs) d (suc k) l = inr (in_place xs d k (omega arith))
 
 -- what holds of each of a list holds of the unknowns of others in it
-pub each_unknown : {X : Type 0} (P : ℕ → Type 0) (f : X → ℕ) (xs : List X) (d : X) (list : List ℕ) → ((k : ℕ) → k < length list → P (get_or list k 0)) → ((x : X) → In xs x → In list (f x)) →
+pub each_unknown : {X : Type 0} (P : ℕ → Type 0) (f : X → ℕ) (xs : List X) (d : X) (list : List ℕ)
+    → ((k : ℕ) → k < length list → P (get_or list k 0)) → ((x : X) → In xs x → In list (f x)) →
     (k : ℕ) → k < length (map f xs) → P (get_or (map f xs) k 0)
 each_unknown P f xs d list h within k l =
     let k_in : k < length xs = subst (λ n. k < n) (length-map xs f) l in

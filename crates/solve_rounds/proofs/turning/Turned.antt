@@ -1,5 +1,6 @@
 -- One turn of the code is one turn of the theory.
-use Rattle.std.proofs.Common.{◌≡◌, ◌∙◌, ℕ, zero, suc, ◌+◌, ◌*◌, ◌%◌, ◌<◌, List, [], ◌∷◌, length, get_or, map, refl, sym, ap, ap₂, subst, arith}
+use Rattle.std.proofs.Common.{◌≡◌, ◌∙◌, ℕ, zero, suc, ◌+◌, ◌*◌, ◌%◌, ◌<◌, List, [], ◌∷◌, length, get_or, map, refl, sym, ap, ap₂, subst}
+use Rattle.std.proofs.Common.{arith}
 use Rattle.std.specs.Prelude.{Option}
 use Rattle.std.proofs.lemmas.Nat.{div-add-mod'}
 use Rattle.std.proofs.lemmas.List.{get_or-map, length-map}
@@ -46,7 +47,8 @@ use Rattle.solve_rounds.proofs.putting.PutVector.{AreNumbers, put_agrees}
 use Rattle.solve_rounds.proofs.turning.LayoutReads.{layout_unknowns, layout_starts, layout_rises, layout_words, read_sizes}
 
 -- each number of a picked list is picked
-pub picked_in : (system : System) (pick : List (Option ℕ)) (list : List ℕ) → ArePicked system pick list → (k : ℕ) → k < length list → IsPicked system pick (get_or list k 0)
+pub picked_in : (system : System) (pick : List (Option ℕ)) (list : List ℕ) → ArePicked system pick list → (k : ℕ) → k < length list
+    → IsPicked system pick (get_or list k 0)
 picked_in system pick [] h k l = absurd (omega arith)
 picked_in system pick (u ∷ list) h zero l = h.0
 picked_in system pick (u ∷ list) h (suc k) l = picked_in system pick list h.1 k (omega arith)
@@ -58,8 +60,11 @@ no_item = choice 0 0 0
 no_rate : RateOf
 no_rate = record { unknown = 0; rate = zero_ℚ; direction = no_trace }
 
-module _ (system : System) (pick : List (Option ℕ)) (raises : List CodeStep) (places list : List ℕ) (part : IsPart system pick raises places list) (bounds : List Extended) (size : length bounds ≡ length system.flow.points * length system.template)
-    (condition : ListCondition (equations_of system) (transformers system) (pick_of (length system.template) pick) (vector_at system bounds) (items_at (length system.template) raises places list)) where
+module _ (system : System) (pick : List (Option ℕ)) (raises : List CodeStep) (places list : List ℕ)
+    (part : IsPart system pick raises places list) (bounds : List Extended)
+    (size : length bounds ≡ length system.flow.points * length system.template)
+    (condition : ListCondition (equations_of system) (transformers system) (pick_of (length system.template) pick) (vector_at system bounds)
+    (items_at (length system.template) raises places list)) where
   abbrev rows : ℕ
   rows = length system.template
 
@@ -96,7 +101,8 @@ module _ (system : System) (pick : List (Option ℕ)) (raises : List CodeStep) (
   row_in k l = row_within (get_or list k 0) (length system.flow.points) rows (picked_in system pick list part.picked k l).in_range
 
   -- ---- a point
-  module _ (x : ℕ → ℚ) (v : ℚ) (y : ℕ → ℚ) (to : List ℚ) (highs : List Trace) (read : IsReadFrom system pick bounds list (best x v y) (PointRead to highs)) where
+  module _ (x : ℕ → ℚ) (v : ℚ) (y : ℕ → ℚ) (to : List ℚ) (highs : List Trace)
+      (read : IsReadFrom system pick bounds list (best x v y) (PointRead to highs)) where
     sizes : (length to ≡ length list) × (length highs ≡ length list)
     sizes = read_sizes system pick bounds list (best x v y) (PointRead to highs) read
 
@@ -104,10 +110,12 @@ module _ (system : System) (pick : List (Option ℕ)) (raises : List CodeStep) (
     to_are = read.0 ∙ numbers_are system pick bounds list _ x (omega arith) rising apart
 
     -- the items are those of the theory's outcome
-    pub point_same : map (jump_item rows) (jump_items_at raises places list to highs) ≡ point_items eqs.variables (raised (listed_items items) x V) items (joint_words eqs (listed_items items) x)
+    pub point_same : map (jump_item rows) (jump_items_at raises places list to highs)
+        ≡ point_items eqs.variables (raised (listed_items items) x V) items (joint_words eqs (listed_items items) x)
     point_same =
         jump_is rows eqs.variables (raised us x V) raises places list to highs part.raised
-        (subst (Rattle.solve_rounds.proofs.lows.JumpTurn.AllStart eqs.variables) (sym read.1) (layout_starts system pick (entries_of system pick list x) list)) sizes.1
+        (subst (Rattle.solve_rounds.proofs.lows.JumpTurn.AllStart eqs.variables) (sym read.1)
+        (layout_starts system pick (entries_of system pick list x) list)) sizes.1
         (to_are ∙ ap (map (λ u. num (raised us x V u.point u.row))) (sym same))
         ∙ ap (point_items eqs.variables (raised us x V) items) (ap (map word_of) read.1 ∙ layout_words system pick x list)
         ∙ ap (λ l. point_items eqs.variables (raised l x V) items (joint_words eqs l x)) (sym same)
@@ -116,13 +124,16 @@ module _ (system : System) (pick : List (Option ℕ)) (raises : List CodeStep) (
     jumps = map (jump_item rows) (jump_items_at raises places list to highs)
 
     length-jumps : length jumps ≡ length list
-    length-jumps = length-map (jump_items_at raises places list to highs) (jump_item rows) ∙ length-map-range_with_len (jump_item_at raises places list to highs) 0 (length list)
+    length-jumps = length-map (jump_items_at raises places list to highs) (jump_item rows)
+        ∙ length-map-range_with_len (jump_item_at raises places list to highs) 0 (length list)
 
     jump_at : (k : ℕ) → k < length list → get_or jumps k no_item ≡ jump_item rows (jump_item_at raises places list to highs k)
     jump_at k l =
         let n = length-map-range_with_len (jump_item_at raises places list to highs) 0 (length list) in
-        get_or-map (jump_item rows) (jump_items_at raises places list to highs) k (jump_item_at raises places list to highs k) no_item (omega arith)
-        ∙ ap (jump_item rows) (get_or-map-range_with_len (jump_item_at raises places list to highs) 0 (length list) k k (jump_item_at raises places list to highs k) l (omega arith))
+        get_or-map (jump_item rows) (jump_items_at raises places list to highs) k (jump_item_at raises places list to highs k) no_item
+        (omega arith)
+        ∙ ap (jump_item rows) (get_or-map-range_with_len (jump_item_at raises places list to highs) 0 (length list) k k
+        (jump_item_at raises places list to highs k) l (omega arith))
 
     jump_numbers : AreNumbers rows no_item jumps (new_value JumpKind) list (λ k. fin (get_or to k zero_ℚ))
     unfolding new_value
@@ -137,12 +148,15 @@ module _ (system : System) (pick : List (Option ℕ)) (raises : List CodeStep) (
         within k l = subst (λ n. k < n) length-jumps l
 
     -- the bounds stand for the vector after the jump
-    pub point_agrees : Distinct jumps → Agrees system (after_step (record { kind = JumpKind; items = jumps }) V) (puts (λ k. fin (get_or to k zero_ℚ)) list bounds (length list))
+    pub point_agrees : Distinct jumps → Agrees system (after_step (record { kind = JumpKind; items = jumps }) V)
+        (puts (λ k. fin (get_or to k zero_ℚ)) list bounds (length list))
     unfolding after_step
-    point_agrees distinct p r l = put_agrees rows no_item jumps (new_value JumpKind) list (λ k. fin (get_or to k zero_ℚ)) jump_numbers distinct bounds in_range p r l
+    point_agrees distinct p r l = put_agrees rows no_item jumps (new_value JumpKind) list (λ k. fin (get_or to k zero_ℚ)) jump_numbers
+        distinct bounds in_range p r l
 
   -- ---- a ray
-  module _ (x d : ℕ → ℚ) (rates : List RateOf) (read : rates ≡ named_rates (entries_of system pick list d) (layout_of system pick list)) (within : (rate : RateOf) → In rates rate → In list rate.unknown) where
+  module _ (x d : ℕ → ℚ) (rates : List RateOf) (read : rates ≡ named_rates (entries_of system pick list d) (layout_of system pick list))
+      (within : (rate : RateOf) → In rates rate → In list rate.unknown) where
     abbrev ray : List ℚ
     ray = entries_of system pick list d
 
@@ -150,11 +164,14 @@ module _ (system : System) (pick : List (Option ℕ)) (raises : List CodeStep) (
     laid = layout_unknowns system pick list
 
     -- the items are those of the theory's outcome
-    pub ray_same : map (ray_item rows) (map (ray_item_of raises places) rates) ≡ rate_items eqs.variables (rise_at (listed_items items) d) items (joint_words eqs (listed_items items) d)
+    pub ray_same : map (ray_item rows) (map (ray_item_of raises places) rates)
+        ≡ rate_items eqs.variables (rise_at (listed_items items) d) items (joint_words eqs (listed_items items) d)
     ray_same =
         ap (λ rs. map (ray_item rows) (map (ray_item_of raises places) rs)) read
-        ∙ rate_is rows eqs.variables (rise_at us d) ray raises places (layout_of system pick list) (subst (AreRaised raises places) (sym laid) part.raised) (layout_starts system pick ray list)
-        (ap (λ l. map (λ v. rise_at us d v.point v.row) (listed_items (items_at rows raises places l))) laid ∙ ap (map (λ v. rise_at us d v.point v.row)) same ∙ layout_rises system pick d list apart)
+        ∙ rate_is rows eqs.variables (rise_at us d) ray raises places (layout_of system pick list)
+        (subst (AreRaised raises places) (sym laid) part.raised) (layout_starts system pick ray list)
+        (ap (λ l. map (λ v. rise_at us d v.point v.row) (listed_items (items_at rows raises places l))) laid
+        ∙ ap (map (λ v. rise_at us d v.point v.row)) same ∙ layout_rises system pick d list apart)
         ∙ ap₂ (λ l w. rate_items eqs.variables (rise_at us d) (items_at rows raises places l) w) laid (layout_words system pick d list)
         ∙ ap (λ l. rate_items eqs.variables (rise_at l d) items (joint_words eqs l d)) (sym same)
 
@@ -177,8 +194,11 @@ module _ (system : System) (pick : List (Option ℕ)) (raises : List CodeStep) (
     unfolding new_value
     top_numbers = record {
       size = length-map rates (λ (rate : RateOf). rate.unknown) ∙ sym length-tops;
-      row = λ k l. subst (λ (i : Item). i.row < rows) (sym (top_at k (inside k l))) (unknown_row (get_or rates k no_rate) (in_place rates no_rate k (inside k l)));
-      number = λ k l. get_or-map (λ (rate : RateOf). rate.unknown) rates k no_rate 0 (inside k l) ∙ sym (div-add-mod' (get_or rates k no_rate).unknown rows) ∙ ap (λ (i : Item). i.point * rows + i.row) (sym (top_at k (inside k l)));
+      row = λ k l. subst (λ (i : Item). i.row < rows) (sym (top_at k (inside k l)))
+          (unknown_row (get_or rates k no_rate) (in_place rates no_rate k (inside k l)));
+      number = λ k l. get_or-map (λ (rate : RateOf). rate.unknown) rates k no_rate 0 (inside k l)
+          ∙ sym (div-add-mod' (get_or rates k no_rate).unknown rows) ∙ ap (λ (i : Item). i.point * rows + i.row)
+          (sym (top_at k (inside k l)));
       value_is = λ k l. refl;
     }
       where
@@ -189,7 +209,8 @@ module _ (system : System) (pick : List (Option ℕ)) (raises : List CodeStep) (
         unknown_row rate m = let p = place_of list rate.unknown 0 (within rate m) in subst (λ u. u % rows < rows) p.2 (row_in p.0 p.1)
 
     -- the bounds stand for the vector after the ray
-    pub ray_agrees : Distinct tops → Agrees system (after_step (record { kind = RayKind; items = tops }) V) (puts (λ k. pos_inf) named bounds (length rates))
+    pub ray_agrees : Distinct tops → Agrees system (after_step (record { kind = RayKind; items = tops }) V)
+        (puts (λ k. pos_inf) named bounds (length rates))
     unfolding after_step
     ray_agrees distinct p r l =
         put_agrees rows no_item tops (new_value RayKind) named (λ k. pos_inf) top_numbers distinct bounds

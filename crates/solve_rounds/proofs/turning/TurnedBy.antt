@@ -1,5 +1,6 @@
 -- What one turn of the code makes of the bounds, the steps and the list is what the theory makes of them.
-use Rattle.std.proofs.Common.{◌≡◌, ◌∙◌, ℕ, ◌+◌, ◌*◌, ◌/◌, ◌%◌, ◌<◌, Bool, true, false, List, [], ◌∷◌, ◌++◌, length, get_or, map, sym, ap, ap₂, subst, subst₂, arith, length-append}
+use Rattle.std.proofs.Common.{◌≡◌, ◌∙◌, ℕ, ◌+◌, ◌*◌, ◌/◌, ◌%◌, ◌<◌, Bool, true, false, List, [], ◌∷◌, ◌++◌, length, get_or, map, sym, ap}
+use Rattle.std.proofs.Common.{ap₂, subst, subst₂, arith, length-append}
 use Rattle.std.specs.Prelude.{Option, Some, None}
 use Rattle.std.proofs.lemmas.Nat.{div-add-mod'}
 use Rattle.std.proofs.lemmas.List.{length-map, map-append}
@@ -43,9 +44,12 @@ use Rattle.solve_rounds.proofs.lows.LeftOver.{kept_each, kept_rises, kept_picked
 use Rattle.solve_rounds.proofs.turning.LayoutReads.{read_sizes}
 use Rattle.solve_rounds.proofs.turning.Turned.{same, row_in, point_same, point_agrees, ray_same, ray_agrees}
 
-module _ (system : System) (pick : List (Option ℕ)) (is_pick : IsPick (equations_of system) (pick_of (length system.template) pick)) (raises : List CodeStep) (places list : List ℕ) (part : IsPart system pick raises places list)
-    (some : 0 < length list) (old new : Turning) (left : List ℕ) (size : length old.bounds ≡ length system.flow.points * length system.template)
-    (condition : ListCondition (equations_of system) (transformers system) (pick_of (length system.template) pick) (vector_at system old.bounds) (items_at (length system.template) raises places list)) where
+module _ (system : System) (pick : List (Option ℕ)) (is_pick : IsPick (equations_of system) (pick_of (length system.template) pick))
+    (raises : List CodeStep) (places list : List ℕ) (part : IsPart system pick raises places list)
+    (some : 0 < length list) (old new : Turning) (left : List ℕ) (size :
+    length old.bounds ≡ length system.flow.points * length system.template)
+    (condition : ListCondition (equations_of system) (transformers system) (pick_of (length system.template) pick)
+    (vector_at system old.bounds) (items_at (length system.template) raises places list)) where
   abbrev rows : ℕ
   rows = length system.template
 
@@ -59,8 +63,13 @@ module _ (system : System) (pick : List (Option ℕ)) (is_pick : IsPick (equatio
   items = items_at rows raises places list
 
   -- one step more
-  one_more : (step : CodeStep) → new.steps.items ≡ old.steps.items ++ step ∷ [] → (turns_so_far system new ≡ turns_so_far system old ++ step_of rows step ∷ []) × (length new.steps.items ≡ length old.steps.items + 1)
-  one_more step e = (ap (map (step_of rows)) e ∙ map-append (step_of rows) old.steps.items (step ∷ []), ap length e ∙ length-append old.steps.items (step ∷ []))
+  one_more : (step : CodeStep) → new.steps.items ≡ old.steps.items ++ step ∷ []
+      → (turns_so_far system new ≡ turns_so_far system old ++ step_of rows step ∷ [])
+      × (length new.steps.items ≡ length old.steps.items + 1)
+  one_more step e = (
+    ap (map (step_of rows)) e ∙ map-append (step_of rows) old.steps.items (step ∷ []),
+    ap length e ∙ length-append old.steps.items (step ∷ []),
+  )
 
   none_left : IsPart system pick raises places []
   none_left = record { rises = tt; picked = tt; raised = λ k l. absurd (omega arith); edges = λ k l. absurd (omega arith) }
@@ -76,24 +85,33 @@ module _ (system : System) (pick : List (Option ℕ)) (is_pick : IsPick (equatio
   unfolding item_at
   item_place k l = raised_item rows raises places (get_or list k 0) (part.raised k l)
 
-  new_at : (its : List Item) → Agrees system (after_step (record { kind = RayKind; items = its }) V) new.bounds → (k : ℕ) → k < length list → put (new_value RayKind) its V (item_at k).point (item_at k).row ≡ get_or new.bounds (get_or list k 0) neg_inf
+  new_at : (its : List Item) → Agrees system (after_step (record { kind = RayKind; items = its }) V) new.bounds → (k : ℕ) → k < length list
+      → put (new_value RayKind) its V (item_at k).point (item_at k).row ≡ get_or new.bounds (get_or list k 0) neg_inf
   unfolding after_step
   new_at its agrees k l =
       let p = item_place k l in
-      ap₂ (λ a b. put (new_value RayKind) its V a b) p.0 p.1 ∙ agrees (get_or list k 0 / rows) (get_or list k 0 % rows) (row_in system pick raises places list part old.bounds size condition k l)
+      ap₂ (λ a b. put (new_value RayKind) its V a b) p.0 p.1 ∙ agrees (get_or list k 0 / rows) (get_or list k 0 % rows)
+      (row_in system pick raises places list part old.bounds size condition k l)
       ∙ sym (bound_at (get_or list k 0))
 
-  named_fails : (its : List Item) → Agrees system (after_step (record { kind = RayKind; items = its }) V) new.bounds → Distinct its → (k : ℕ) → k < length list → (v : Item) → In its v →
-      v.point ≡ (item_in rows (raise_at raises places (get_or list k 0))).point → v.row ≡ (item_in rows (raise_at raises places (get_or list k 0))).row → is_finite (get_or new.bounds (get_or list k 0) neg_inf) ≡ false
+  named_fails : (its : List Item) → Agrees system (after_step (record { kind = RayKind; items = its }) V) new.bounds → Distinct its
+      → (k : ℕ) → k < length list → (v : Item) → In its v →
+      v.point ≡ (item_in rows (raise_at raises places (get_or list k 0))).point
+      → v.row ≡ (item_in rows (raise_at raises places (get_or list k 0))).row
+      → is_finite (get_or new.bounds (get_or list k 0) neg_inf) ≡ false
   unfolding item_at new_value
   named_fails its agrees distinct k l v m e f =
-      ap is_finite (sym (new_at its agrees k l) ∙ subst₂ (λ a b. put (new_value RayKind) its V a b ≡ pos_inf) e f (put-named (new_value RayKind) its V v distinct m))
+      ap is_finite (sym (new_at its agrees k l) ∙ subst₂ (λ a b. put (new_value RayKind) its V a b ≡ pos_inf) e f
+      (put-named (new_value RayKind) its V v distinct m))
 
-  unnamed_passes : (its : List Item) → Agrees system (after_step (record { kind = RayKind; items = its }) V) new.bounds → (k : ℕ) → k < length list →
-      Unnamed its (item_in rows (raise_at raises places (get_or list k 0))).point (item_in rows (raise_at raises places (get_or list k 0))).row → is_finite (get_or new.bounds (get_or list k 0) neg_inf) ≡ true
+  unnamed_passes : (its : List Item) → Agrees system (after_step (record { kind = RayKind; items = its }) V) new.bounds → (k : ℕ)
+      → k < length list →
+      Unnamed its (item_in rows (raise_at raises places (get_or list k 0))).point
+      (item_in rows (raise_at raises places (get_or list k 0))).row → is_finite (get_or new.bounds (get_or list k 0) neg_inf) ≡ true
   unfolding item_at
   unnamed_passes its agrees k l n =
-      let c = condition.finite (item_at k) (in_map (λ u. item_in rows (raise_at raises places u)) list (get_or list k 0) (in_place list 0 k l)) in
+      let c = condition.finite (item_at k) (in_map (λ u. item_in rows (raise_at raises places u)) list (get_or list k 0)
+      (in_place list 0 k l)) in
       ap is_finite (sym (new_at its agrees k l) ∙ put-unnamed (new_value RayKind) its V (item_at k).point (item_at k).row n ∙ c.1)
 
   -- what is known of a turn by an outcome
@@ -109,30 +127,37 @@ module _ (system : System) (pick : List (Option ℕ)) (is_pick : IsPick (equatio
     -- the turn makes one step
     pub one : length new.steps.items ≡ length old.steps.items + 1
 
-  by_point : (x : ℕ → ℚ) (v : ℚ) (y : ℕ → ℚ) (to : _) (highs : List Trace) → PointFacts eqs (transformers system) V items (point_items eqs.variables (raised (listed_items items) x V) items (joint_words eqs (listed_items items) x)) →
-      IsReadFrom system pick old.bounds list (best x v y) (PointRead to highs) → IsTaken raises places list (PointRead to highs) old new left →
+  by_point : (x : ℕ → ℚ) (v : ℚ) (y : ℕ → ℚ) (to : _) (highs : List Trace)
+      → PointFacts eqs (transformers system) V items (point_items eqs.variables (raised (listed_items items) x V) items
+      (joint_words eqs (listed_items items) x)) →
+      IsReadFrom system pick old.bounds list (best x v y) (PointRead to highs)
+      → IsTaken raises places list (PointRead to highs) old new left →
       TurnedAs (Point (point_items eqs.variables (raised (listed_items items) x V) items (joint_words eqs (listed_items items) x)))
   by_point x v y to highs facts read t =
       let e = point_same system pick raises places list part old.bounds size condition x v y to highs read in
       let step = one_more (JumpStep (jump_items_at raises places list to highs)) t.0 in
-      let agrees = point_agrees system pick raises places list part old.bounds size condition x v y to highs read (subst Distinct (sym e) facts.distinct) in
+      let agrees = point_agrees system pick raises places list part old.bounds size condition x v y to highs read
+      (subst Distinct (sym e) facts.distinct) in
       record {
         size_kept = ap length t.1 ∙ length-puts (λ k. fin (get_or to k zero_ℚ)) list old.bounds (length list);
         turned = (
           step.0 ∙ ap (λ i. turns_so_far system old ++ record { kind = JumpKind; items = i } ∷ []) e,
           t.2,
-          subst (λ i. Agrees system (after_step (record { kind = JumpKind; items = i }) V) new.bounds) e (λ p r l. agrees p r l ∙ ap (λ bs. vector_of rows bs p r) (sym t.1)),
+          subst (λ i. Agrees system (after_step (record { kind = JumpKind; items = i }) V) new.bounds) e
+              (λ p r l. agrees p r l ∙ ap (λ bs. vector_of rows bs p r) (sym t.1)),
         );
         kept = subst (IsPart system pick raises places) (sym t.2) none_left;
         fewer = subst (λ l. length l < length list) (sym t.2) some;
         one = step.1;
       }
 
-  by_ray : (x d : ℕ → ℚ) (rates : Rates) → RayFacts eqs V items (rate_items eqs.variables (rise_at (listed_items items) d) items (joint_words eqs (listed_items items) d)) →
+  by_ray : (x d : ℕ → ℚ) (rates : Rates) → RayFacts eqs V items (rate_items eqs.variables (rise_at (listed_items items) d) items
+      (joint_words eqs (listed_items items) d)) →
       IsReadFrom system pick old.bounds list (unbounded x d) (RayRead rates) → IsTaken raises places list (RayRead rates) old new left →
       TurnedAs (Rays (rate_items eqs.variables (rise_at (listed_items items) d) items (joint_words eqs (listed_items items) d)))
   by_ray x d rates facts read t = record {
-    size_kept = ap length t.1 ∙ length-puts (λ k. pos_inf) (map (λ (rate : RateOf). rate.unknown) rates.list) old.bounds (length rates.list);
+    size_kept = ap length t.1 ∙ length-puts (λ k. pos_inf) (map (λ (rate : RateOf). rate.unknown) rates.list) old.bounds
+        (length rates.list);
     turned = (step.0 ∙ ap (λ i. turns_so_far system old ++ record { kind = RayKind; items = i } ∷ []) e, left_items, agrees);
     kept = subst (IsPart system pick raises places) (sym t.2) (record {
       rises = kept_rises test 0 list part.rises;
@@ -159,13 +184,16 @@ module _ (system : System) (pick : List (Option ℕ)) (is_pick : IsPick (equatio
       e : map (ray_item rows) (map (ray_item_of raises places) rates.list) ≡ its
       e = ray_same system pick raises places list part old.bounds size condition x d rates.list read within
 
-      step : (turns_so_far system new ≡ turns_so_far system old ++ step_of rows (RayStep (map (ray_item_of raises places) rates.list)) ∷ []) × (length new.steps.items ≡ length old.steps.items + 1)
+      step : (turns_so_far system new ≡ turns_so_far system old ++ step_of rows (RayStep (map (ray_item_of raises places) rates.list)) ∷ [])
+          × (length new.steps.items ≡ length old.steps.items + 1)
       step = one_more (RayStep (map (ray_item_of raises places) rates.list)) t.0
 
       agrees : Agrees system (after_step (record { kind = RayKind; items = its }) V) new.bounds
       agrees =
-          let a = ray_agrees system pick raises places list part old.bounds size condition x d rates.list read within (subst Distinct (sym e) facts.distinct) in
-          subst (λ i. Agrees system (after_step (record { kind = RayKind; items = i }) V) new.bounds) e (λ p r l. a p r l ∙ ap (λ bs. vector_of rows bs p r) (sym t.1))
+          let a = ray_agrees system pick raises places list part old.bounds size condition x d rates.list read within
+          (subst Distinct (sym e) facts.distinct) in
+          subst (λ i. Agrees system (after_step (record { kind = RayKind; items = i }) V) new.bounds) e
+          (λ p r l. a p r l ∙ ap (λ bs. vector_of rows bs p r) (sym t.1))
 
       test : ℕ → Bool
       test u = is_finite (get_or new.bounds u neg_inf)
@@ -173,9 +201,11 @@ module _ (system : System) (pick : List (Option ℕ)) (is_pick : IsPick (equatio
       left_items : items_at rows raises places left ≡ without its items
       left_items =
           ap (items_at rows raises places) t.2
-          ∙ left_is rows raises places its test list (λ k l. named_fails its agrees facts.distinct k l) (λ k l. unnamed_passes its agrees k l)
+          ∙ left_is rows raises places its test list (λ k l. named_fails its agrees facts.distinct k l)
+          (λ k l. unnamed_passes its agrees k l)
 
-  by_outcome : (o : Solution) → OutcomeFacts eqs (transformers system) V items (outcome_items eqs V items o) → (j : Joined) → IsReadFrom system pick old.bounds list o j → IsTaken raises places list j old new left →
+  by_outcome : (o : Solution) → OutcomeFacts eqs (transformers system) V items (outcome_items eqs V items o) → (j : Joined)
+      → IsReadFrom system pick old.bounds list o j → IsTaken raises places list j old new left →
       TurnedAs (outcome_items eqs V items o)
   unfolding outcome_items
   by_outcome (best x v y) facts (PointRead to highs) read t = by_point x v y to highs facts read t
@@ -185,10 +215,13 @@ module _ (system : System) (pick : List (Option ℕ)) (is_pick : IsPick (equatio
   by_outcome (empty y) facts j read t = absurd read
 
   -- the turn of a list is the theory's
-  pub turned_is : (j : Joined) → IsReadFrom system pick old.bounds list (lp (problem_of system pick old.bounds list)) j → IsTaken raises places list j old new left → IsTurned system pick raises places list old new left
+  pub turned_is : (j : Joined) → IsReadFrom system pick old.bounds list (lp (problem_of system pick old.bounds list)) j
+      → IsTaken raises places list j old new left → IsTurned system pick raises places list old new left
   unfolding exact_joint
   turned_is j read t =
       let us = same system pick raises places list part old.bounds size condition in
-      let as_theirs : IsReadFrom system pick old.bounds list (lp (joint_problem eqs V (listed_items items))) j = subst (λ l. IsReadFrom system pick old.bounds list (lp (joint_problem eqs V l)) j) (sym us) read in
-      let h = by_outcome (lp (joint_problem eqs V (listed_items items))) (exact_joined eqs (pick_of rows pick) is_pick V items condition) j as_theirs t in
+      let as_theirs : IsReadFrom system pick old.bounds list (lp (joint_problem eqs V (listed_items items))) j =
+      subst (λ l. IsReadFrom system pick old.bounds list (lp (joint_problem eqs V l)) j) (sym us) read in
+      let h = by_outcome (lp (joint_problem eqs V (listed_items items))) (exact_joined eqs (pick_of rows pick) is_pick V items condition) j
+      as_theirs t in
       record { size = h.size_kept; turned = h.turned; part = h.kept; fewer = h.fewer; one = h.one }

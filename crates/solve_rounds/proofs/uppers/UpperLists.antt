@@ -1,5 +1,6 @@
 -- The evidence of upper bounds, edge by edge, row by row and point by point.
-use Rattle.std.proofs.Common.{◌≡◌, ◌∙◌, ⊎_elim, ℕ, suc, ◌+◌, ◌-◌, ◌<◌, eqb, Bool, true, false, true≢false, List, [], ◌∷◌, ◌++◌, length, map, take, get_or, refl, sym, ap, arith, if◌then◌else◌}
+use Rattle.std.proofs.Common.{◌≡◌, ◌∙◌, ⊎_elim, ℕ, suc, ◌+◌, ◌-◌, ◌<◌, eqb, Bool, true, false, true≢false, List, [], ◌∷◌, ◌++◌, length, map}
+use Rattle.std.proofs.Common.{take, get_or, refl, sym, ap, arith, if◌then◌else◌}
 use Rattle.std.specs.Prelude.{flat_map}
 use Rattle.std.specs.List.{range_with_len}
 use Rattle.std.proofs.Math.Path.{fun_ext}
@@ -33,15 +34,21 @@ module _ (system : Equations) (z : Vector) where
     here : ℕ → Edge → List Need
     here k edge = if eqb edge.to p then record { edge = edge; number = k; row = r } ∷ [] else []
 
-    needs-more : (k : ℕ) (edges : List Edge) (edge : Edge) → into_needs p r k (edges ++ edge ∷ []) ≡ into_needs p r k edges ++ here (k + length edges) edge
+    needs-more : (k : ℕ) (edges : List Edge) (edge : Edge) → into_needs p r k (edges ++ edge ∷ [])
+        ≡ into_needs p r k edges ++ here (k + length edges) edge
     unfolding into_needs here
-    needs-more k [] edge = ap (λ n. if eqb edge.to p then record { edge = edge; number = n; row = r } ∷ [] else []) (let e : k ≡ k + 0 = omega arith in e)
+    needs-more k [] edge = ap (λ n. if eqb edge.to p then record { edge = edge; number = n; row = r } ∷ [] else [])
+        (let e : k ≡ k + 0 = omega arith in e)
     needs-more k (first ∷ edges) edge =
-        by (eqb first.to p) (needs-more (suc k) edges edge ∙ ap (λ n. into_needs p r (suc k) edges ++ here n edge) (let e : suc k + length edges ≡ k + length (first ∷ edges) = omega arith in e))
+        by (eqb first.to p) (needs-more (suc k) edges edge ∙ ap (λ n. into_needs p r (suc k) edges ++ here n edge)
+        (let e : suc k + length edges ≡ k + length (first ∷ edges) = omega arith in e))
       where
-        by : (b : Bool) → into_needs p r (suc k) (edges ++ edge ∷ []) ≡ into_needs p r (suc k) edges ++ here (k + length (first ∷ edges)) edge →
-            (if b then record { edge = first; number = k; row = r } ∷ into_needs p r (suc k) (edges ++ edge ∷ []) else into_needs p r (suc k) (edges ++ edge ∷ []))
-            ≡ (if b then record { edge = first; number = k; row = r } ∷ into_needs p r (suc k) edges else into_needs p r (suc k) edges) ++ here (k + length (first ∷ edges)) edge
+        by : (b : Bool) → into_needs p r (suc k) (edges ++ edge ∷ []) ≡ into_needs p r (suc k) edges
+            ++ here (k + length (first ∷ edges)) edge →
+            (if b then record { edge = first; number = k; row = r } ∷ into_needs p r (suc k) (edges ++ edge ∷ []) else into_needs p r
+            (suc k) (edges ++ edge ∷ []))
+            ≡ (if b then record { edge = first; number = k; row = r } ∷ into_needs p r (suc k) edges else into_needs p r (suc k) edges)
+            ++ here (k + length (first ∷ edges)) edge
         by true e = ap (λ ns. record { edge = first; number = k; row = r } ∷ ns) e
         by false e = e
 
@@ -59,11 +66,14 @@ module _ (system : Equations) (z : Vector) where
       more = ap (into_needs p r 0) (take_more edges i edge l ∙ ap (λ x. take i edges ++ x ∷ []) (sym is)) ∙ needs-more 0 (take i edges) edge
 
       -- an edge into the point has its evidence behind the others
-      pub uppers_yes : edge.to ≡ p → uppers_to edges i ++ exact_upper system z edge (get_or system.template r []) ∷ [] ≡ uppers_to edges (i + 1)
+      pub uppers_yes : edge.to ≡ p → uppers_to edges i ++ exact_upper system z edge (get_or system.template r []) ∷ []
+          ≡ uppers_to edges (i + 1)
       unfolding here uppers_for
       uppers_yes to =
-          sym (uppers_for-append (into_needs p r 0 (take i edges)) (record { edge = edge; number = 0 + length (take i edges); row = r } ∷ []))
-          ∙ ap (λ b. uppers_for system z (into_needs p r 0 (take i edges) ++ (if b then record { edge = edge; number = 0 + length (take i edges); row = r } ∷ [] else [])))
+          sym (uppers_for-append (into_needs p r 0 (take i edges)) (record { edge = edge; number = 0 + length (take i edges); row = r }
+          ∷ []))
+          ∙ ap (λ b. uppers_for system z (into_needs p r 0 (take i edges)
+          ++ (if b then record { edge = edge; number = 0 + length (take i edges); row = r } ∷ [] else [])))
           (⊎_elim (λ t. sym t.0) (λ t. absurd (t.1 to)) (eqb_tells edge.to p))
           ∙ ap (uppers_for system z) (sym more)
 
@@ -73,15 +83,18 @@ module _ (system : Equations) (z : Vector) where
       uppers_no to =
           ap (uppers_for system z)
           (sym (append-nil (into_needs p r 0 (take i edges)))
-          ∙ ap (λ b. into_needs p r 0 (take i edges) ++ (if b then record { edge = edge; number = 0 + length (take i edges); row = r } ∷ [] else []))
+          ∙ ap (λ b. into_needs p r 0 (take i edges) ++ (if b then record { edge = edge; number = 0 + length (take i edges); row = r }
+          ∷ [] else []))
           (⊎_elim (λ t. absurd (to t.1)) (λ t. sym t.0) (eqb_tells edge.to p))
           ∙ sym more)
 
   -- ---- rows
   module _ (p : ℕ) where
-    rows_more : (r : ℕ) → uppers_of_rows system z p (r + 1) ≡ uppers_of_rows system z p r ++ uppers_for system z (needs_at system p r (z p r))
+    rows_more : (r : ℕ) → uppers_of_rows system z p (r + 1) ≡ uppers_of_rows system z p r
+        ++ uppers_for system z (needs_at system p r (z p r))
     rows_more r =
-        ap (flat_map (λ k. uppers_for system z (needs_at system p k (z p k)))) (range-append 0 r 1 ∙ ap (λ n. range_with_len 0 r ++ range_with_len n 1) (let e : 0 + r ≡ r = omega arith in e))
+        ap (flat_map (λ k. uppers_for system z (needs_at system p k (z p k))))
+        (range-append 0 r 1 ∙ ap (λ n. range_with_len 0 r ++ range_with_len n 1) (let e : 0 + r ≡ r = omega arith in e))
         ∙ flat_map-append (λ k. uppers_for system z (needs_at system p k (z p k))) (range_with_len 0 r) (range_with_len r 1)
         ∙ ap (λ s. uppers_of_rows system z p r ++ s) (append-nil (uppers_for system z (needs_at system p r (z p r))))
 
@@ -96,7 +109,8 @@ module _ (system : Equations) (z : Vector) where
         by pos_inf f = refl
 
     -- another needs the evidence for each edge into the point
-    pub rows_edges : (r : ℕ) → is_top (z p r) ≡ false → uppers_of_rows system z p r ++ uppers_into system z p r ≡ uppers_of_rows system z p (r + 1)
+    pub rows_edges : (r : ℕ) → is_top (z p r) ≡ false → uppers_of_rows system z p r ++ uppers_into system z p r
+        ≡ uppers_of_rows system z p (r + 1)
     unfolding needs_at uppers_for
     rows_edges r e = sym (rows_more r ∙ ap (λ s. uppers_of_rows system z p r ++ s) (by (z p r) e))
       where
@@ -121,10 +135,13 @@ module _ (system : Equations) (z : Vector) where
   pub all_points : uppers_of_points (system.points - 1) ≡ exact_uppers system z
   unfolding exact_uppers needs
   all_points =
-      sym (uppers_for-flat (λ p. flat_map (λ r. needs_at system p r (z p r)) (range_with_len 0 (length system.template))) (range_with_len 1 (system.points - 1))
+      sym (uppers_for-flat (λ p. flat_map (λ r. needs_at system p r (z p r)) (range_with_len 0 (length system.template)))
+      (range_with_len 1 (system.points - 1))
       ∙ ap (λ f. flat_map f (range_with_len 1 (system.points - 1)))
       (fun_ext (λ p. uppers_for-flat (λ r. needs_at system p r (z p r)) (range_with_len 0 (length system.template)))))
 
 -- one more piece of evidence
-pub pushed : (before all : List Upper) (upper : Upper) (old rest : List Evidence) → all ≡ before ++ upper ∷ [] → map evidence_of before ≡ old ++ rest → map evidence_of all ≡ old ++ (rest ++ evidence_of upper ∷ [])
-pushed before all upper old rest e h = ap (map evidence_of) e ∙ map-append evidence_of before (upper ∷ []) ∙ ap (λ s. s ++ evidence_of upper ∷ []) h ∙ append_assoc old rest (evidence_of upper ∷ [])
+pub pushed : (before all : List Upper) (upper : Upper) (old rest : List Evidence) → all ≡ before ++ upper ∷ []
+    → map evidence_of before ≡ old ++ rest → map evidence_of all ≡ old ++ (rest ++ evidence_of upper ∷ [])
+pushed before all upper old rest e h = ap (map evidence_of) e ∙ map-append evidence_of before (upper ∷ [])
+    ∙ ap (λ s. s ++ evidence_of upper ∷ []) h ∙ append_assoc old rest (evidence_of upper ∷ [])

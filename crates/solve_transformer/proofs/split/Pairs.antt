@@ -1,5 +1,6 @@
 -- Numbers with their negations, as columns of a problem that are split in two.
-use Rattle.std.proofs.Common.{◌≡◌, ◌∙◌, ℕ, zero, suc, ◌+◌, ◌≤◌, ℤ, List, [], ◌∷◌, ◌++◌, length, get_or, map, append_assoc, refl, ap, ap₂, sym, arith}
+use Rattle.std.proofs.Common.{◌≡◌, ◌∙◌, ℕ, zero, suc, ◌+◌, ◌≤◌, ℤ, List, [], ◌∷◌, ◌++◌, length, get_or, map, append_assoc, refl, ap, ap₂}
+use Rattle.std.proofs.Common.{sym, arith}
 use Rattle.std.specs.List.{range_with_len}
 use Rattle.std.proofs.lemmas.List.{flat_map_more}
 use Rattle.std.proofs.lemmas.List.FromFn.{map-range_with_len_more}
@@ -16,14 +17,17 @@ use Rattle.solve_composition.proofs.Ranges.{range_map}
 use Rattle.solve_composition.proofs.composed.Dense.{coeff-combined, entries-first}
 
 -- one more number and its negation
-pub pairs_push : (xs : List ℚ) (x n : ℚ) (items mid new : List ℚ) → items ≡ pairs xs → mid ≡ items ++ x ∷ [] → n ≡ neg_ℚ x → new ≡ mid ++ n ∷ [] → new ≡ pairs (xs ++ x ∷ [])
+pub pairs_push : (xs : List ℚ) (x n : ℚ) (items mid new : List ℚ) → items ≡ pairs xs → mid ≡ items ++ x ∷ [] → n ≡ neg_ℚ x
+    → new ≡ mid ++ n ∷ [] → new ≡ pairs (xs ++ x ∷ [])
 pairs_push xs x n items mid new h m e k =
     k ∙ ap₂ (λ ys y. ys ++ y ∷ []) m e ∙ append_assoc items (x ∷ []) (neg_ℚ x ∷ []) ∙ ap (λ ys. ys ++ pair x) h ∙ flat_map_more pair [] xs x
 
 -- a number and its negation extend the pairs by the next column
-pub pairs_range : (f : ℕ → ℚ) (i : ℕ) (x n : ℚ) (items mid new : List ℚ) → items ≡ pairs (map f (range_with_len 0 i)) → x ≡ f i → mid ≡ items ++ x ∷ [] → n ≡ neg_ℚ x → new ≡ mid ++ n ∷ [] → new ≡ pairs (map f (range_with_len 0 (i + 1)))
+pub pairs_range : (f : ℕ → ℚ) (i : ℕ) (x n : ℚ) (items mid new : List ℚ) → items ≡ pairs (map f (range_with_len 0 i)) → x ≡ f i
+    → mid ≡ items ++ x ∷ [] → n ≡ neg_ℚ x → new ≡ mid ++ n ∷ [] → new ≡ pairs (map f (range_with_len 0 (i + 1)))
 pairs_range f i x n items mid new h g m e k =
-    pairs_push (map f (range_with_len 0 i)) x n items mid new h m e k ∙ ap (λ y. pairs (map f (range_with_len 0 i) ++ y ∷ [])) g ∙ ap pairs (sym (map-range_with_len_more f 0 i i (omega arith)))
+    pairs_push (map f (range_with_len 0 i)) x n items mid new h m e k ∙ ap (λ y. pairs (map f (range_with_len 0 i) ++ y ∷ [])) g
+    ∙ ap pairs (sym (map-range_with_len_more f 0 i i (omega arith)))
 
 -- ---- entries
 split_zero : (j : ℕ) → split (λ k. zero_ℚ) j ≡ zero_ℚ
@@ -63,9 +67,11 @@ start_entry : (row : List ℤ) (n k : ℕ) → length row ≡ n → dotℚ row (
 unfolding columns column
 start_entry [] n k e = refl
 start_entry (c ∷ cs) zero k e = absurd (omega (arith, e))
-start_entry (c ∷ cs) (suc n) zero e = ap (λ s. (whole c *ℚ one_ℚ) +ℚ s) (dot_nothing cs (columns n)) ∙ +ℚ_idr (whole c *ℚ one_ℚ) ∙ *ℚ_idr (whole c)
+start_entry (c ∷ cs) (suc n) zero e = ap (λ s. (whole c *ℚ one_ℚ) +ℚ s) (dot_nothing cs (columns n)) ∙ +ℚ_idr (whole c *ℚ one_ℚ)
+    ∙ *ℚ_idr (whole c)
 start_entry (c ∷ cs) (suc n) (suc k) e =
-    ap₂ (λ a b. a +ℚ b) (*ℚ-zero (whole c)) (ap (dotℚ cs) (values_shifted k (columns n)) ∙ start_entry cs n k (omega (arith, e))) ∙ +ℚ_idl (get_or (map whole cs) k zero_ℚ)
+    ap₂ (λ a b. a +ℚ b) (*ℚ-zero (whole c)) (ap (dotℚ cs) (values_shifted k (columns n)) ∙ start_entry cs n k (omega (arith, e)))
+    ∙ +ℚ_idl (get_or (map whole cs) k zero_ℚ)
 
 start_coeff : (n : ℕ) (row : List ℤ) (k : ℕ) → length row ≡ n → get_or (start_form n row).coeffs k zero_ℚ ≡ get_or (map whole row) k zero_ℚ
 unfolding start_form

@@ -24,7 +24,8 @@ use Rattle.solve_transformer.proofs.split.Pairs.{start_entries}
 -- zeros for one column more
 zeros_more : (w : ℕ) → first_entries (w + 1) [] ≡ first_entries w [] ++ zero_ℚ ∷ []
 zeros_more zero = refl
-zeros_more (suc w) = ap (λ n. first_entries n []) (let e : suc w + 1 ≡ suc (w + 1) = omega arith in e) ∙ ap (λ xs. zero_ℚ ∷ xs) (zeros_more w)
+zeros_more (suc w) = ap (λ n. first_entries n []) (let e : suc w + 1 ≡ suc (w + 1) = omega arith in e)
+    ∙ ap (λ xs. zero_ℚ ∷ xs) (zeros_more w)
 
 -- one zero more extends the list of zeros
 pub zeros_push : (w : ℕ) (xs ys : List ℚ) (q : ℚ) → xs ≡ first_entries w [] → ys ≡ xs ++ q ∷ [] → q ≡ zero_ℚ → ys ≡ first_entries (w + 1) []
@@ -39,7 +40,8 @@ pub form_long : (n : ℕ) (g : Form) → IsTrue (is_form n g) → length g.coeff
 form_long n g h = eqb-true (length g.coeffs) n (and_parts (length g.coeffs == n) (are_numbers g.coeffs && is_number g.constant) h).0
 
 form_constant : (n : ℕ) (g : Form) → IsTrue (is_form n g) → IsTrue (is_number g.constant)
-form_constant n g h = (and_parts (are_numbers g.coeffs) (is_number g.constant) (and_parts (length g.coeffs == n) (are_numbers g.coeffs && is_number g.constant) h).1).1
+form_constant n g h = (and_parts (are_numbers g.coeffs) (is_number g.constant)
+    (and_parts (length g.coeffs == n) (are_numbers g.coeffs && is_number g.constant) h).1).1
 
 -- the constants of forms that fit fit
 pub constants_fit : (n : ℕ) (gs : List Form) → IsTrue (list_all (is_form n) gs) → IsTrue (list_all (λ g. is_number g.constant) gs)
@@ -49,17 +51,21 @@ constants_fit n (g ∷ gs) h =
     and_from (is_number g.constant) (list_all (λ g. is_number g.constant) gs) (form_constant n g p.0) (constants_fit n gs p.1)
 
 -- ---- the guards
-pub affine_same : (cs ds : List ℚ) (q r : ℚ) → cs ≡ ds → q ≡ r → (let f : Affine = record { coeffs = cs; constant = q } in f) ≡ (let g : Affine = record { coeffs = ds; constant = r } in g)
+pub affine_same : (cs ds : List ℚ) (q r : ℚ) → cs ≡ ds → q ≡ r → (let f : Affine = record { coeffs = cs; constant = q } in f)
+    ≡ (let g : Affine = record { coeffs = ds; constant = r } in g)
 affine_same cs ds q r e f = ap₂ (λ xs x. let g : Affine = record { coeffs = xs; constant = x } in g) e f
 
 guard_is : (n : ℕ) (g : Form) → length g.coeffs ≡ n → whole_form g ≡ dense n (composed g (columns n))
 unfolding composed start_form
 guard_is n g e =
-    affine_same (map whole g.coeffs) (first_entries n (start_form n g.coeffs).coeffs) (whole g.constant) ((start_form n g.coeffs).constant +ℚ whole g.constant)
-    (sym (first_all (map whole g.coeffs)) ∙ ap (λ m. first_entries m (map whole g.coeffs)) (length-map g.coeffs whole ∙ e) ∙ sym (start_entries n n g.coeffs e))
+    affine_same (map whole g.coeffs) (first_entries n (start_form n g.coeffs).coeffs) (whole g.constant)
+    ((start_form n g.coeffs).constant +ℚ whole g.constant)
+    (sym (first_all (map whole g.coeffs)) ∙ ap (λ m. first_entries m (map whole g.coeffs)) (length-map g.coeffs whole ∙ e)
+    ∙ sym (start_entries n n g.coeffs e))
     (sym (+ℚ_idl (whole g.constant)) ∙ ap (λ q. q +ℚ whole g.constant) (sym (start-constant n g.coeffs)))
 
-guards_are : (n k : ℕ) (gs : List Form) → IsTrue (list_all (is_form n) gs) → map whole_form gs ≡ map (dense n) (guards_from k (columns n) (guards gs))
+guards_are : (n k : ℕ) (gs : List Form) → IsTrue (list_all (is_form n) gs)
+    → map whole_form gs ≡ map (dense n) (guards_from k (columns n) (guards gs))
 unfolding guards_from
 guards_are n k [] h = refl
 guards_are n k (g ∷ gs) h =
@@ -67,9 +73,11 @@ guards_are n k (g ∷ gs) h =
     ap₂ (λ x xs. x ∷ xs) (guard_is n g (form_long n g p.0)) (guards_are n k gs p.1)
 
 -- ---- the source
-module _ (system : Equations) (z : Vector) (p : ℕ) (gs : List Form) (forms : IsTrue (list_all (is_form system.variables) gs)) (template : List (List ℤ)) (t : template ≡ system.template) (source : List Ext) (b : bounds_at source ≡ z p) where
+module _ (system : Equations) (z : Vector) (p : ℕ) (gs : List Form) (forms : IsTrue (list_all (is_form system.variables) gs))
+    (template : List (List ℤ)) (t : template ≡ system.template) (source : List Ext) (b : bounds_at source ≡ z p) where
   -- an edge that stays is the source of its guards and of the row without coefficients
-  pub stay_source : (guards_list : List Affine) → guards_list ≡ map whole_form gs → (form : Affine) (w : ℕ) → form ≡ dense w nothing → w ≡ system.variables →
+  pub stay_source : (guards_list : List Affine) → guards_list ≡ map whole_form gs → (form : Affine) (w : ℕ) → form ≡ dense w nothing
+      → w ≡ system.variables →
       IsSource system z (guarded_edge p gs) [] (system.variables + 0) template source guards_list form
   unfolding guard_forms end_form combined
   stay_source guards_list g form w f e =

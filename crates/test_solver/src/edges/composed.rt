@@ -5,9 +5,9 @@ ghost use Rattle.std.specs.Prelude.{◌<◌, length};
 use crate::cases::{Case, Fail, first_wrong};
 use crate::edges::lines::{add_fractions, add_number};
 use crate::edges::systems::system_of;
-use std::alloc::{AllocError, Global};
-use solve_composition::{Affine, PathFault, Paths, compose_all};
 use flow_systems::Site;
+use solve_composition::{Affine, PathFault, Paths, compose_all};
+use std::alloc::{AllocError, Global};
 
 // Appends the coefficients of a form and its constant.
 fn add_form(line: &mut Vec<u8>, word: &[u8], form: &Affine) -> Result<(), AllocError> {

@@ -1,8 +1,8 @@
 //! Numbers as parts of a line.
 
+use base_fractions::Frac;
 use itoa::Buffer;
 use std::alloc::AllocError;
-use base_fractions::Frac;
 
 /// Appends a word and then a number.
 pub(crate) fn add_number(line: &mut Vec<u8>, word: &[u8], number: u32) -> Result<(), AllocError> {

@@ -6,9 +6,9 @@ ghost use Rattle.solve_joint.specs.Numbers.{ArePicked};
 use crate::cases::{Case, Fail, first_wrong};
 use crate::edges::lines::add_number;
 use crate::edges::systems::system_of;
-use std::alloc::{AllocError, Global};
 use flow_systems::{Pick, System};
 use solve_joint::{Parts, parts};
+use std::alloc::{AllocError, Global};
 
 // A loop whose two branches join before it: points entry, loop, join and exit; edge 0 to the loop, edges 1 and 2 through the
 // branches, edge 3 to the exit and edge 4 back.

@@ -9,15 +9,15 @@ ghost use Rattle.flow_systems.specs.FreeValues.{free_count};
 ghost use Rattle.solve_composition.specs.declared.value.Value.TheVariants.{Best};
 
 use crate::cases::{Case, Fail, first_wrong};
-use std::alloc::{AllocError, Global};
-use cert_types::{Item, RayItem, Step};
-use solve_composition::Value;
-use flow_systems::{Constants, Fracs, System, Trace};
-use flow_edges::{Action, Actions, Edge, Edges, Flow, Place, Point, Points};
 use base_fractions::{Ext, Frac, Op, OrderedField, Wide};
-use solve_raise::{RaiseFault, carried, raise};
+use cert_types::{Item, RayItem, Step};
+use flow_edges::{Action, Actions, Edge, Edges, Flow, Place, Point, Points};
+use flow_systems::{Constants, Fracs, System, Trace};
 use flow_templates::intervals;
 use lang_tree::{Coeffs, Form, Name, Names};
+use solve_composition::Value;
+use solve_raise::{RaiseFault, carried, raise};
+use std::alloc::{AllocError, Global};
 
 /// A numerator and a denominator.
 type Number = (i64, i64);

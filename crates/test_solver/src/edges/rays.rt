@@ -5,10 +5,10 @@ ghost use Rattle.solve_ray.specs.Ranges.{AreWithin};
 
 use crate::cases::{Case, Fail, first_wrong};
 use crate::edges::lines::{add_fractions, add_number};
-use std::alloc::{AllocError, Global};
-use flow_systems::PartFault;
 use base_fractions::Frac;
+use flow_systems::PartFault;
 use solve_ray::{Columns, Layout, Rates, Rise, Rises, rates};
+use std::alloc::{AllocError, Global};
 
 // Two unknowns over six columns: their rises, and the split columns of a start value and of a free value.
 fn two_unknowns(alloc: Global) -> Result<Layout, AllocError>

@@ -4,12 +4,12 @@ ghost use Rattle.std.specs.Prelude.{◌≤◌, ◌<◌, IfOk, IsTrue, length};
 ghost use Rattle.flow_systems.specs.SystemLimits.{is_over};
 
 use crate::cases::Fail;
-use std::alloc::{AllocError, Global};
-use flow_systems::System;
 use flow_edges::{Flow, flow};
-use lang_tokens::lex;
-use lang_parser::parse;
+use flow_systems::System;
 use flow_templates::{Template, intervals, zones};
+use lang_parser::parse;
+use lang_tokens::lex;
+use std::alloc::{AllocError, Global};
 
 // The points and edges of a text.
 fn flow_of(alloc: Global, text: &[u8]) -> Result<Flow, Fail> {

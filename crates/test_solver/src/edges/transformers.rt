@@ -7,11 +7,11 @@ ghost use Rattle.solve_composition.specs.Composed.{AreComposed};
 use crate::cases::{Case, Fail, first_wrong};
 use crate::edges::lines::{add_fractions, add_number};
 use crate::edges::systems::system_of;
-use std::alloc::{AllocError, Global};
-use solve_composition::{Paths, Value, compose_all};
-use flow_systems::{Bounds, System, Trace};
 use base_fractions::{Ext, Frac};
+use flow_systems::{Bounds, System, Trace};
+use solve_composition::{Paths, Value, compose_all};
 use solve_transformer::operator;
+use std::alloc::{AllocError, Global};
 
 /// A bound at an edge's source.
 #[derive(Clone, Copy, Drop)]

@@ -1,10 +1,10 @@
 //! What calls give, as one line: the bounds of all unknowns, numbers, steps. An item of a step has its unknown and its edge.
 
-use itoa::Buffer;
-use std::alloc::AllocError;
+use base_fractions::{Ext, Frac};
 use cert_types::{Item, JumpItem, RayItem, Step};
 use flow_systems::{Bounds, Trace};
-use base_fractions::{Ext, Frac};
+use itoa::Buffer;
+use std::alloc::AllocError;
 
 /// Appends a word and then a number.
 pub(crate) fn add_number(line: &mut Vec<u8>, word: &[u8], number: u64) -> Result<(), AllocError> {

@@ -3,9 +3,9 @@
 ghost use Rattle.solve_offers.specs.Offers.{Exceeds, SomeExceeds};
 
 use crate::cases::{Case, first_wrong};
-use std::alloc::{AllocError, Global};
 use base_fractions::{Ext, Frac};
 use solve_offers::{Chooser, EdgeNumbers, Offer, Values, best, exceeds, first};
+use std::alloc::{AllocError, Global};
 
 /// The last position whose value exceeds the bound.
 pub(crate) fn last(offer: &Offer) -> usize

@@ -8,10 +8,10 @@ use crate::cases::{Case, Fail, first_wrong};
 use crate::rounds::lines::{add_bounds, add_number};
 use crate::rounds::offers::last;
 use crate::rounds::systems::{CASES, COUNTER, Domain, ENDLESS, IDLE, TOGETHER, system_of};
-use std::alloc::Global;
 use flow_systems::System;
 use solve_offers::{Chooser, picks};
 use solve_rounds::{Halt, Solved, least, least_by_best, least_by_first};
+use std::alloc::Global;
 
 // A loop in a loop over three variables: five edges.
 const NESTED: &[u8] =
@@ -167,9 +167,11 @@ fn a_counter_is_solved(rt: HostRuntime) {
     assert_eq!(rt; first_wrong(rt.alloc(), COUNTERS), None);
 }
 
-// x is at most 3 behind the assumption and at the exit, whichever function chooses. Its greatest case is the third, so that the greatest and the last
+// x is at most 3 behind the assumption and at the exit, whichever function chooses. Its greatest case is the third, so that the greatest
+// and the last
 // value find it in round 1, and the exit
-// follows in round 2. The first value that exceeds the bound is that of the first case in round 1, of the second in round 2 and of the third in round
+// follows in round 2. The first value that exceeds the bound is that of the first case in round 1, of the second in round 2 and of the
+// third in round
 // 3; the exit follows from round 2.
 const POLICIES: &[(By, &[u8])] = &[
     (By::Best, b"+inf +inf 3 +inf 3 +inf improvements 2 "),

@@ -3,8 +3,8 @@
 use crate::cases::{Case, Fail, first_wrong};
 use crate::rounds::lines::add_step;
 use crate::rounds::systems::{COUNTER, Domain, ENDLESS, TOGETHER, system_of};
-use std::alloc::Global;
 use solve_rounds::{Solved, least_by_first};
+use std::alloc::Global;
 
 // What the rounds by the first edge that exceeds end with.
 fn solved_by_first(alloc: Global, text: &[u8], domain: Domain) -> Result<Solved, Fail> {

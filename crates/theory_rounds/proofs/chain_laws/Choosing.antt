@@ -79,7 +79,8 @@ earliest_of : (bound : Ext) (values : List Ext) (j : ℕ) → bound <ᴱ get_or 
 earliest_of bound [] j h = absurd (nothing_below bound h)
 earliest_of bound (x ∷ xs) j h = by (ext_le_or_lt x bound) j h (λ i g. earliest_of bound xs i g)
   where
-    by : (x ≤ᴱ bound) ⊎ (bound <ᴱ x) → (j : ℕ) → bound <ᴱ get_or (x ∷ xs) j neg_inf → ((i : ℕ) → bound <ᴱ get_or xs i neg_inf → Earliest bound xs) → Earliest bound (x ∷ xs)
+    by : (x ≤ᴱ bound) ⊎ (bound <ᴱ x) → (j : ℕ) → bound <ᴱ get_or (x ∷ xs) j neg_inf
+        → ((i : ℕ) → bound <ᴱ get_or xs i neg_inf → Earliest bound xs) → Earliest bound (x ∷ xs)
     by (inr lt) j h rec = record { position = 0; exceeds = lt; first = λ i l. absurd (omega arith) }
     by (inl le) zero h rec = absurd (ext_not_le_of_lt bound x h le)
     by (inl le) (suc i) h rec = let e = rec i h in record { position = suc e.position; exceeds = e.exceeds; first = firsts e }
@@ -90,7 +91,8 @@ earliest_of bound (x ∷ xs) j h = by (ext_le_or_lt x bound) j h (λ i g. earlie
 
 -- the policy of the first edge always chooses
 pub first_chooses : Chooses First
-first_chooses offer s = let e = earliest_of offer.bound offer.values s.0 s.1 in (e.position, record { exceeds = e.exceeds; first = e.first }, e.exceeds)
+first_chooses offer s = let e = earliest_of offer.bound offer.values s.0 s.1 in
+    (e.position, record { exceeds = e.exceeds; first = e.first }, e.exceeds)
 
 -- ---- laws
 -- each unknown at a row of the template has an offer
@@ -99,7 +101,8 @@ offers_law system z p r l = (exact_offer system z p r, offer_meant system z p r 
 
 -- chains of exact rounds by choices that follow a policy are chains of improvements by it
 pub improvements_law : (policy : Offer → ℕ → Type 0) → RoundsAreImprovements policy
-improvements_law policy fitting system range choose among n goes follows = improvement_meant policy fitting system range choose among n goes follows
+improvements_law policy fitting system range choose among n goes follows =
+    improvement_meant policy fitting system range choose among n goes follows
 
 -- chains by a policy that always chooses and answers one position end within a limit or go on after it
 pub decided_law : (policy : Offer → ℕ → Type 0) → Chooses policy → AnswersOne policy → EndsOrGoesOn policy

@@ -1,5 +1,6 @@
 -- Items in order of their unknowns: the same items, and the only list of them that rises.
-use Rattle.std.proofs.Common.{◌≡◌, ◌∙◌, ◌⊎◌, inl, inr, ⊎_elim, ◌<◌, ◌≤◌, ◌&&◌, ◌||◌, eqb, ltb, Bool, true, false, true≢false, List, [], ◌∷◌, refl, sym, ap, subst, subst₂, arith, if◌then◌else◌}
+use Rattle.std.proofs.Common.{◌≡◌, ◌∙◌, ◌⊎◌, inl, inr, ⊎_elim, ◌<◌, ◌≤◌, ◌&&◌, ◌||◌, eqb, ltb, Bool, true, false, true≢false, List, [], ◌∷◌}
+use Rattle.std.proofs.Common.{refl, sym, ap, subst, subst₂, arith, if◌then◌else◌}
 use Rattle.std.proofs.lemmas.Bool.{ltb-true, ltb-false, cases_lt}
 use Rattle.std.proofs.lemmas.Bool.Decides.{eqb_tells}
 use Rattle.base_facts.specs.Elements.{In}
@@ -82,7 +83,8 @@ unfolding insert_item
 of_insert u [] w m = m
 of_insert u (v ∷ list) w m = by (comes_before u v) m (λ k. of_insert u list w k)
   where
-    by : (b : Bool) → In (if b then u ∷ (v ∷ list) else v ∷ insert_item u list) w → (In (insert_item u list) w → (u ≡ w) ⊎ In list w) → (u ≡ w) ⊎ In (v ∷ list) w
+    by : (b : Bool) → In (if b then u ∷ (v ∷ list) else v ∷ insert_item u list) w → (In (insert_item u list) w → (u ≡ w) ⊎ In list w)
+        → (u ≡ w) ⊎ In (v ∷ list) w
     by true m k = m
     by false (inl e) k = inr (inl e)
     by false (inr j) k = ⊎_elim (λ e. inl e) (λ i. inr (inr i)) (k j)
@@ -92,7 +94,8 @@ unfolding insert_item
 in_insert u [] w m = m
 in_insert u (v ∷ list) w m = by (comes_before u v) m (λ k. in_insert u list w k)
   where
-    by : (b : Bool) → (u ≡ w) ⊎ In (v ∷ list) w → ((u ≡ w) ⊎ In list w → In (insert_item u list) w) → In (if b then u ∷ (v ∷ list) else v ∷ insert_item u list) w
+    by : (b : Bool) → (u ≡ w) ⊎ In (v ∷ list) w → ((u ≡ w) ⊎ In list w → In (insert_item u list) w)
+        → In (if b then u ∷ (v ∷ list) else v ∷ insert_item u list) w
     by true m k = m
     by false (inl e) k = inr (k (inl e))
     by false (inr (inl e)) k = inl e
@@ -111,18 +114,23 @@ to_order [] w m = m
 to_order (u ∷ list) w m = in_insert u (in_order list) w (⊎_elim (λ e. inl e) (λ k. inr (to_order list w k)) m)
 
 -- ---- order
-insert_rises : (u : Item) (list : List Item) → ((w : Item) → In list w → u.point ≡ w.point → u.row ≡ w.row → ⊥) → IsRising (listed_items list) → IsRising (listed_items (insert_item u list))
+insert_rises : (u : Item) (list : List Item) → ((w : Item) → In list w → u.point ≡ w.point → u.row ≡ w.row → ⊥)
+    → IsRising (listed_items list) → IsRising (listed_items (insert_item u list))
 unfolding insert_item listed_items
 insert_rises u [] apart h = (tt, tt)
 insert_rises u (v ∷ list) apart h = by (comes_before u v) refl (insert_rises u list (λ w m. apart w (inr m)) h.1)
   where
-    by : (b : Bool) → comes_before u v ≡ b → IsRising (listed_items (insert_item u list)) → IsRising (listed_items (if b then u ∷ (v ∷ list) else v ∷ insert_item u list))
+    by : (b : Bool) → comes_before u v ≡ b → IsRising (listed_items (insert_item u list))
+        → IsRising (listed_items (if b then u ∷ (v ∷ list) else v ∷ insert_item u list))
     by true e r =
         let f = test_true u v e in
         ((f, lower_by u list (λ w m. later_than u v w f (lower_at v list w h.0 m))), h)
     by false e r =
-        let f = test_false u v (apart v (inl refl)) e in
-        (lower_by v (insert_item u list) (λ w m. ⊎_elim (λ g. subst (Earlier v) g f) (λ k. lower_at v list w h.0 k) (of_insert u list w m)), r)
+        let f = test_false u v (apart v (inl refl)) e in (
+          lower_by v (insert_item u list) (λ w m. ⊎_elim (λ g. subst (Earlier v) g f) (λ k. lower_at v list w h.0 k)
+              (of_insert u list w m)),
+          r,
+        )
 
 -- distinct items in order rise
 pub order_rises : (list : List Item) → Distinct list → IsRising (listed_items (in_order list))
@@ -138,7 +146,8 @@ pub order_distinct : (list : List Item) → Distinct list → Distinct (in_order
 order_distinct list d = distinct_items (in_order list) (rising_distinct (listed_items (in_order list)) (order_rises list d))
 
 -- two rising lists of the same items are one
-pub rising_unique : (us vs : List Item) → IsRising (listed_items us) → IsRising (listed_items vs) → ((w : Item) → In us w → In vs w) → ((w : Item) → In vs w → In us w) → us ≡ vs
+pub rising_unique : (us vs : List Item) → IsRising (listed_items us) → IsRising (listed_items vs) → ((w : Item) → In us w → In vs w)
+    → ((w : Item) → In vs w → In us w) → us ≡ vs
 unfolding listed_items
 rising_unique [] [] h i to from = refl
 rising_unique [] (v ∷ vs) h i to from = absurd (from v (inl refl))

@@ -17,14 +17,20 @@ use Rattle.theory_rounds.proofs.joint_items.PointTurn.{point_turn}
 use Rattle.theory_rounds.proofs.joint_items.RayTurn.{ray_turn}
 
 -- an outcome of the joint problem gives a turn with its facts
-outcome_facts : (system : Equations) (pick : Pick) → IsPick system pick → (b : Vector) (list : List Item) → ListCondition system (transformer system) pick b list → (o : Outcome) →
-    IsOutcome (joint_problem system b (listed_items list)) o → OutcomeFacts system (transformer system) b list (outcome_items system b list o)
+outcome_facts : (system : Equations) (pick : Pick) → IsPick system pick → (b : Vector) (list : List Item)
+    → ListCondition system (transformer system) pick b list → (o : Outcome) →
+    IsOutcome (joint_problem system b (listed_items list)) o → OutcomeFacts system (transformer system) b list
+    (outcome_items system b list o)
 unfolding outcome_items
 outcome_facts system pick is_pick b list h (best x v y) i = point_turn system b list x v y (rising_items system pick b list h) h.distinct i
-outcome_facts system pick is_pick b list h (unbounded x d) i = ray_turn system b list x d (rising_items system pick b list h) h.distinct (λ u m. is_pick u (h.picked u m)) i
-outcome_facts system pick is_pick b list h (empty y) i = absurd (joint_never_empty system b (listed_items list) y (rising_items system pick b list h) i)
+outcome_facts system pick is_pick b list h (unbounded x d) i = ray_turn system b list x d (rising_items system pick b list h) h.distinct
+    (λ u m. is_pick u (h.picked u m)) i
+outcome_facts system pick is_pick b list h (empty y) i = absurd (joint_never_empty system b (listed_items list) y
+    (rising_items system pick b list h) i)
 
 -- the turn of the exact joint problem has its facts
-pub exact_joined : (system : Equations) (pick : Pick) → IsPick system pick → Joined system (transformer system) pick (exact_joint system pick)
+pub exact_joined : (system : Equations) (pick : Pick) → IsPick system pick
+    → Joined system (transformer system) pick (exact_joint system pick)
 unfolding exact_joint
-exact_joined system pick is_pick b list h = outcome_facts system pick is_pick b list h (lp (joint_problem system b (listed_items list))) (lp_is (joint_problem system b (listed_items list)))
+exact_joined system pick is_pick b list h = outcome_facts system pick is_pick b list h (lp (joint_problem system b (listed_items list)))
+    (lp_is (joint_problem system b (listed_items list)))

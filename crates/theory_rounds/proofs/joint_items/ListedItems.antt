@@ -49,11 +49,18 @@ distinct_items [] d = tt
 distinct_items (u ∷ list) d = (unnamed_items list u.point u.row d.0, distinct_items list d.1)
 
 -- the list condition of items is that of their unknowns
-pub rising_items : (system : Equations) (pick : Pick) (b : Vector) (list : List Item) → ListCondition system (transformer system) pick b list → AllRising system b (listed_items list)
+pub rising_items : (system : Equations) (pick : Pick) (b : Vector) (list : List Item)
+    → ListCondition system (transformer system) pick b list → AllRising system b (listed_items list)
 unfolding edge_of row_of picked own_row
-rising_items system pick b list h = all_rising system b (listed_items list) (λ v m. let u = of_listed list v m in subst (Rising system b) u.2 (rises u.0 u.1))
+rising_items system pick b list h = all_rising system b (listed_items list)
+    (λ v m. let u = of_listed list v m in subst (Rising system b) u.2 (rises u.0 u.1))
   where
     rises : (u : Item) → In list u → Rising system b (listed_item u)
     rises u m =
         let f = h.finite u m in
-        record { bound = f.0; finite = f.1; above = subst (λ s. s <ᴱ transformer system b (edge_of system u) (row_of system u)) f.1 (h.exceeds u m) }
+        record {
+          bound = f.0;
+          finite = f.1;
+          above = subst (λ s. s <ᴱ transformer system b (edge_of system u) (row_of system u)) f.1
+              (h.exceeds u m);
+        }

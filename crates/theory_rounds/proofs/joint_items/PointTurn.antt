@@ -6,11 +6,13 @@ use Rattle.base_numbers.specs.Rational.{ℚ, ◌≤ℚ◌}
 use Rattle.base_numbers.specs.Extended.{Ext, fin, ◌≤ᴱ◌, ◌<ᴱ◌}
 use Rattle.flow_systems.specs.Equations.{Equations, Vector}
 use Rattle.theory_validity.specs.Words.{Word}
-use Rattle.theory_validity.specs.Steps.{Runs, end_value, Item, Jump, edge_of, row_of, names, put, new_value, Unnamed, Distinct, Sized, item_value, word}
+use Rattle.theory_validity.specs.Steps.{Runs, end_value, Item, Jump, edge_of, row_of, names, put, new_value, Unnamed, Distinct, Sized}
+use Rattle.theory_validity.specs.Steps.{item_value, word}
 use Rattle.theory_validity.specs.Certificates.{num}
 use Rattle.lp_theory.specs.Problem.{IsBest}
 use Rattle.theory_transformers.specs.EdgeProblems.{transformer}
-use Rattle.theory_transformers.specs.JointProblems.{picked, own_row, columns_of, is_at, raised, joint_problem, joint_words, Supports, AllSupport, AllRising}
+use Rattle.theory_transformers.specs.JointProblems.{picked, own_row, columns_of, is_at, raised, joint_problem, joint_words, Supports}
+use Rattle.theory_transformers.specs.JointProblems.{AllSupport, AllRising}
 use Rattle.theory_transformers.specs.JointPoints.{Unlisted}
 use Rattle.theory_transformers.specs.JointSteps.{pieces}
 use Rattle.theory_transformers.proofs.joint_problems.JointMeaning.{point_supports}
@@ -39,7 +41,8 @@ record Made (system : Equations) (y : Vector) (list : List Item) (item : Item) :
   sized : length high ≡ columns_of system (listed_item unknown)
   supports : Supports system y (listed_item unknown) high
 
-point_made : (system : Equations) (y : Vector) (list : List Item) (highs : List Word) → AllSized system (listed_items list) highs → AllSupport system y (listed_items list) highs → (item : Item) →
+point_made : (system : Equations) (y : Vector) (list : List Item) (highs : List Word) → AllSized system (listed_items list) highs
+    → AllSupport system y (listed_items list) highs → (item : Item) →
     In (point_items system.variables y list highs) item → Made system y list item
 unfolding point_items listed_items
 point_made system y [] highs si su item m = absurd m
@@ -54,17 +57,24 @@ same_words : (u : Item) (n : ℕ) (y : Vector) (high : Word) → SameItem u (poi
 unfolding with_words
 same_words u n y high = record { point = refl; row = refl; edge = refl; low = refl }
 
-point_covers : (system : Equations) (y : Vector) (list : List Item) (highs : List Word) → AllSized system (listed_items list) highs → (u : Item) → In list u →
+point_covers : (system : Equations) (y : Vector) (list : List Item) (highs : List Word) → AllSized system (listed_items list) highs
+    → (u : Item) → In list u →
     (v : Item) × In (point_items system.variables y list highs) v × SameItem u v
 unfolding point_items listed_items
 point_covers system y [] highs si u m = absurd m
 point_covers system y (v ∷ list) [] si u m = absurd si
 point_covers system y (v ∷ list) (high ∷ highs) si u m = ⊎_elim
-    (λ e. (point_item system.variables y v high, inl refl, subst (λ s. SameItem s (point_item system.variables y v high)) e (same_words v system.variables y high)))
+    (λ e. (
+      point_item system.variables y v high,
+      inl refl,
+      subst (λ s. SameItem s (point_item system.variables y v high)) e
+          (same_words v system.variables y high),
+    ))
     (λ k. let r = point_covers system y list highs si.1 u k in (r.0, inr r.1, r.2))
     m
 
-point_unnamed : (n : ℕ) (y : Vector) (list : List Item) (highs : List Word) (p r : ℕ) → Unnamed list p r → Unnamed (point_items n y list highs) p r
+point_unnamed : (n : ℕ) (y : Vector) (list : List Item) (highs : List Word) (p r : ℕ) → Unnamed list p r
+    → Unnamed (point_items n y list highs) p r
 unfolding point_items with_words names
 point_unnamed n y [] highs p r h = tt
 point_unnamed n y (u ∷ list) [] p r h = tt
@@ -77,20 +87,25 @@ point_distinct n y (u ∷ list) [] d = tt
 point_distinct n y (u ∷ list) (high ∷ highs) d = (point_unnamed n y list highs u.point u.row d.0, point_distinct n y list highs d.1)
 
 -- the items put the vector's numbers in place
-point_puts : (system : Equations) (b y : Vector) (list : List Item) (highs : List Word) (p r : ℕ) → AllSized system (listed_items list) highs → ((u : Item) → In list u → (c : ℚ) × (y u.point u.row ≡ fin c)) →
+point_puts : (system : Equations) (b y : Vector) (list : List Item) (highs : List Word) (p r : ℕ)
+    → AllSized system (listed_items list) highs → ((u : Item) → In list u → (c : ℚ) × (y u.point u.row ≡ fin c)) →
     (Unlisted (listed_items list) p r → b p r ≡ y p r) → put (new_value Jump) (point_items system.variables y list highs) b p r ≡ y p r
 unfolding put point_items listed_items with_words names is_at new_value
 point_puts system b y [] highs p r si f k = k tt
 point_puts system b y (u ∷ list) [] p r si f k = absurd si
 point_puts system b y (u ∷ list) (high ∷ highs) p r si f k =
-    by (is_at (listed_item u) p r) refl (f u (inl refl)) (λ e. point_puts system b y list highs p r si.1 (λ v m. f v (inr m)) (λ n. k (e, n)))
+    by (is_at (listed_item u) p r) refl (f u (inl refl)) (λ e. point_puts system b y list highs p r si.1 (λ v m. f v (inr m))
+    (λ n. k (e, n)))
   where
-    by : (t : Bool) → is_at (listed_item u) p r ≡ t → ((c : ℚ) × (y u.point u.row ≡ fin c)) → (is_at (listed_item u) p r ≡ false → put (new_value Jump) (point_items system.variables y list highs) b p r ≡ y p r) →
+    by : (t : Bool) → is_at (listed_item u) p r ≡ t → ((c : ℚ) × (y u.point u.row ≡ fin c))
+        → (is_at (listed_item u) p r ≡ false → put (new_value Jump) (point_items system.variables y list highs) b p r ≡ y p r) →
         (if t then fin (num (y u.point u.row)) else put (new_value Jump) (point_items system.variables y list highs) b p r) ≡ y p r
-    by true e c t = let n = is_at_means (listed_item u) p r e in num_back (y u.point u.row) c.0 c.1 ∙ ap (λ s. y s u.row) n.0 ∙ ap (λ s. y p s) n.1
+    by true e c t = let n = is_at_means (listed_item u) p r e in num_back (y u.point u.row) c.0 c.1 ∙ ap (λ s. y s u.row) n.0
+        ∙ ap (λ s. y p s) n.1
     by false e c t = t e
 
-module _ (system : Equations) (b : Vector) (list : List Item) (x : ℕ → ℚ) (v : ℚ) (w : ℕ → ℚ) (rising : AllRising system b (listed_items list)) (distinct : Distinct list)
+module _ (system : Equations) (b : Vector) (list : List Item) (x : ℕ → ℚ) (v : ℚ) (w : ℕ → ℚ)
+    (rising : AllRising system b (listed_items list)) (distinct : Distinct list)
     (best : IsBest (joint_problem system b (listed_items list)) x v w) where
   abbrev y : Vector
   y = raised (listed_items list) x b
@@ -103,14 +118,17 @@ module _ (system : Equations) (b : Vector) (list : List Item) (x : ℕ → ℚ) 
 
   finite : (u : Item) → In list u → (c : ℚ) × (y u.point u.row ≡ fin c)
   finite u m =
-      let s = supported_at system b y (listed_items list) (listed_item u) (raised_candidate system b (listed_items list) x rising best.point).inside (in_listed list u m) in
+      let s = supported_at system b y (listed_items list) (listed_item u)
+      (raised_candidate system b (listed_items list) x rising best.point).inside (in_listed list u m) in
       (s.bound, s.finite)
 
   leads : put (new_value Jump) items b ≡ y
-  leads i p r = point_puts system b y list highs p r (sized_words system (listed_items list) x) finite (λ n. sym (raised_unlisted (listed_items list) x b p r n)) i
+  leads i p r = point_puts system b y list highs p r (sized_words system (listed_items list) x) finite
+      (λ n. sym (raised_unlisted (listed_items list) x b p r n)) i
 
   made : (item : Item) → In items item → Made system y list item
-  made item m = point_made system y list highs (sized_words system (listed_items list) x) (point_supports system b (listed_items list) x rising best.point) item m
+  made item m = point_made system y list highs (sized_words system (listed_items list) x)
+      (point_supports system b (listed_items list) x rising best.point) item m
 
   -- what is known of an item of the point
   record Reached (item : Item) : Type 0 where
@@ -123,19 +141,22 @@ module _ (system : Equations) (b : Vector) (list : List Item) (x : ℕ → ℚ) 
   num_le : (e : Ext) (c a : ℚ) → e ≡ fin c → e ≤ᴱ fin a → num e ≤ℚ a
   num_le e c a f h = subst (λ s. s ≤ℚ a) (sym (num-fin e c f)) (subst (λ s. s ≤ᴱ fin a) f h)
 
-  reached : (u : Item) (high : Word) → In list u → length high ≡ columns_of system (listed_item u) → Supports system y (listed_item u) high → Reached (point_item system.variables y u high)
+  reached : (u : Item) (high : Word) → In list u → length high ≡ columns_of system (listed_item u) → Supports system y (listed_item u) high
+      → Reached (point_item system.variables y u high)
   unfolding with_words split pieces edge_of row_of picked own_row columns_of
   reached u high m size supports =
       let c = finite u m in
       let n = system.variables in
       let all = listed_items list in
       record {
-        rises = subst (λ s. b u.point u.row <ᴱ s) (sym (num_back (y u.point u.row) c.0 c.1)) (joint_rises system b all x w v rising (apart_items list distinct) best (listed_item u) (in_listed list u m));
+        rises = subst (λ s. b u.point u.row <ᴱ s) (sym (num_back (y u.point u.row) c.0 c.1))
+            (joint_rises system b all x w v rising (apart_items list distinct) best (listed_item u) (in_listed list u m));
         size = pieces_sized system (listed_item u) high size;
         runs = subst (λ s. Runs system y (edge_of system u) s) (sym (word_pieces n high)) supports.runs;
         reaches = subst (λ s. num (y u.point u.row) ≤ℚ end_value system (edge_of system u) (row_of system u) s) (sym (word_pieces n high))
             (num_le (y u.point u.row) c.0 (end_value system (edge_of system u) (row_of system u) high) c.1 supports.reaches);
-        same = joint_tight system b all x w v rising (apart_items list distinct) best (listed_item u) (in_listed list u m) ∙ sym (num_back (y u.point u.row) c.0 c.1);
+        same = joint_tight system b all x w v rising (apart_items list distinct) best (listed_item u) (in_listed list u m)
+            ∙ sym (num_back (y u.point u.row) c.0 c.1);
       }
 
   reached_is : (item : Item) → In items item → Reached item
@@ -145,7 +166,12 @@ module _ (system : Equations) (b : Vector) (list : List Item) (x : ℕ → ℚ) 
   pub point_turn : PointFacts system (transformer system) b list items
   point_turn = record {
     distinct = point_distinct system.variables y list highs distinct;
-    listed = λ item m. let h = made item m in (h.unknown, h.listed, subst (SameItem h.unknown) h.is (same_words h.unknown system.variables y h.high));
+    listed = λ item m. let h = made item m in (
+      h.unknown,
+      h.listed,
+      subst (SameItem h.unknown) h.is
+          (same_words h.unknown system.variables y h.high),
+    );
     covers = point_covers system y list highs (sized_words system (listed_items list) x);
     rises = λ item m. (reached_is item m).rises;
     size = λ item m. (reached_is item m).size;

@@ -1,5 +1,6 @@
 -- The evidence that is read from an outcome passes for every number below +∞ that is at least the transformer.
-use Rattle.std.proofs.Common.{◌≡◌, ◌∙◌, ℕ, zero, suc, ◌<◌, Bool, true, false, true≢false, ◌||◌, List, [], ◌∷◌, length, map, refl, sym, ap, subst, arith, if◌then◌else◌}
+use Rattle.std.proofs.Common.{◌≡◌, ◌∙◌, ℕ, zero, suc, ◌<◌, Bool, true, false, true≢false, ◌||◌, List, [], ◌∷◌, length, map, refl, sym, ap}
+use Rattle.std.proofs.Common.{subst, arith, if◌then◌else◌}
 use Rattle.std.specs.Prelude.{ℤ}
 use Rattle.base_numbers.proofs.vector.Vectors.{get_or-add_vec}
 use Rattle.base_numbers.specs.Rational.{ℚ, zero_ℚ, ◌+ℚ◌, ◌≤ℚ◌, ◌<ℚ◌}
@@ -8,7 +9,8 @@ use Rattle.base_numbers.specs.Vector.{vec_mat}
 use Rattle.flow_edges.specs.declared.edge.Edge.{Edge}
 use Rattle.flow_systems.specs.Equations.{Equations, Vector}
 use Rattle.theory_validity.specs.Words.{guard_forms, start_form, end_form}
-use Rattle.theory_validity.specs.Certificates.{Unreached, coefficients, combination, row_side, side, Multipliers, BoundPasses, EmptyPasses, EvidencePasses}
+use Rattle.theory_validity.specs.Certificates.{Unreached, coefficients, combination, row_side, side, Multipliers, BoundPasses, EmptyPasses}
+use Rattle.theory_validity.specs.Certificates.{EvidencePasses}
 use Rattle.lp_theory.specs.Problem.{Outcome, best, unbounded, empty, mixed, mixed_side}
 use Rattle.lp_theory.specs.Simplex.{lp}
 use Rattle.lp_theory.specs.Listed.{at}
@@ -17,7 +19,8 @@ use Rattle.theory_transformers.specs.Limits.{limits_problem}
 use Rattle.theory_transformers.specs.EdgeProblems.{guard_limits, edge_limits, edge_problem, is_lost, lost, value_of, transformer}
 use Rattle.theory_transformers.specs.Spread.{skip}
 use Rattle.theory_transformers.proofs.limits.Products.{length-tabulate}
-use Rattle.theory_transformers.proofs.spread.Spreads.{column_sum_is, side_sum_is, nonneg_for, guard_columns, guard_sides, guard_nonneg, source_columns, source_sides, source_nonneg, spread_length, spread_zero}
+use Rattle.theory_transformers.proofs.spread.Spreads.{column_sum_is, side_sum_is, nonneg_for, guard_columns, guard_sides, guard_nonneg}
+use Rattle.theory_transformers.proofs.spread.Spreads.{source_columns, source_sides, source_nonneg, spread_length, spread_zero}
 use Rattle.theory_rounds.specs.Evidence.{whole_problem, outcome_is}
 use Rattle.theory_rounds.specs.Made.{lowest_lost, row_multipliers, guard_multipliers, outcome_upper, exact_upper}
 
@@ -27,7 +30,8 @@ unfolding lost lowest_lost
 lowest_lost_within bounds [] e = absurd (true≢false (sym e))
 lowest_lost_within bounds (row ∷ rows) e = by (is_lost (bounds 0)) refl (λ f. lowest_lost_within (λ r. bounds (suc r)) rows f)
   where
-    by : (b : Bool) → is_lost (bounds 0) ≡ b → (lost (λ r. bounds (suc r)) rows ≡ true → lowest_lost (λ r. bounds (suc r)) rows < length rows) →
+    by : (b : Bool) → is_lost (bounds 0) ≡ b → (lost (λ r. bounds (suc r)) rows ≡ true
+        → lowest_lost (λ r. bounds (suc r)) rows < length rows) →
         (if b then 0 else suc (lowest_lost (λ r. bounds (suc r)) rows)) < suc (length rows)
     by true f rec = omega arith
     by false f rec = let l = rec (sym (ap (λ b. b || lost (λ r. bounds (suc r)) rows) f) ∙ e) in omega arith
@@ -42,7 +46,8 @@ unfolding lost lowest_lost
 lowest_lost_is bounds [] e = absurd (true≢false (sym e))
 lowest_lost_is bounds (row ∷ rows) e = by (is_lost (bounds 0)) refl (λ f. lowest_lost_is (λ r. bounds (suc r)) rows f)
   where
-    by : (b : Bool) → is_lost (bounds 0) ≡ b → (lost (λ r. bounds (suc r)) rows ≡ true → bounds (suc (lowest_lost (λ r. bounds (suc r)) rows)) ≡ neg_inf) →
+    by : (b : Bool) → is_lost (bounds 0) ≡ b → (lost (λ r. bounds (suc r)) rows ≡ true
+        → bounds (suc (lowest_lost (λ r. bounds (suc r)) rows)) ≡ neg_inf) →
         bounds (if b then 0 else suc (lowest_lost (λ r. bounds (suc r)) rows)) ≡ neg_inf
     by true f rec = is_neg (bounds 0) f
     by false f rec = rec (sym (ap (λ b. b || lost (λ r. bounds (suc r)) rows) f) ∙ e)
@@ -67,27 +72,32 @@ lowest_lost_first bounds (row ∷ rows) k l = by (is_lost (bounds 0)) refl k l (
 -- ---- multipliers
 module _ (system : Equations) (z : Vector) (edge : Edge) (row : List ℤ) where
   -- a column's mix is the combination's entry
-  mix_is : (y : ℕ → ℚ) (j : ℕ) → mixed (edge_problem system z edge row) y j ≡ at (combination system edge (row_multipliers system z edge y) (guard_multipliers system z edge y)) j
+  mix_is : (y : ℕ → ℚ) (j : ℕ) → mixed (edge_problem system z edge row) y j
+      ≡ at (combination system edge (row_multipliers system z edge y) (guard_multipliers system z edge y)) j
   unfolding edge_problem limits_problem edge_limits combination
   mix_is y j =
       let n = system.variables in
       let gs = guard_forms n edge.actions in
       let a = vec_mat (row_multipliers system z edge y) (coefficients (map (start_form n) system.template)) in
       column_sum_is (edge_limits system z edge) y j ∙ source_columns n (z edge.from) system.template (guard_limits (λ u. u) gs) y j
-      ∙ ap (λ s. at a j +ℚ s) (guard_columns gs (skip (z edge.from) system.template y) j) ∙ sym (get_or-add_vec a (vec_mat (guard_multipliers system z edge y) (coefficients gs)) j)
+      ∙ ap (λ s. at a j +ℚ s) (guard_columns gs (skip (z edge.from) system.template y) j)
+      ∙ sym (get_or-add_vec a (vec_mat (guard_multipliers system z edge y) (coefficients gs)) j)
 
-  mix_side_is : (y : ℕ → ℚ) → mixed_side (edge_problem system z edge row) y ≡ side system z edge (row_multipliers system z edge y) (guard_multipliers system z edge y)
+  mix_side_is : (y : ℕ → ℚ) → mixed_side (edge_problem system z edge row) y
+      ≡ side system z edge (row_multipliers system z edge y) (guard_multipliers system z edge y)
   unfolding edge_problem limits_problem edge_limits side
   mix_side_is y =
       let gs = guard_forms system.variables edge.actions in
       side_sum_is (edge_limits system z edge) y ∙ source_sides system.variables (z edge.from) system.template (guard_limits (λ u. u) gs) y
       ∙ ap (λ s. row_side (row_multipliers system z edge y) (z edge.from) +ℚ s) (guard_sides gs (skip (z edge.from) system.template y))
 
-  multipliers_are : (y : ℕ → ℚ) → ((r : ℕ) → r < (edge_problem system z edge row).rows → zero_ℚ ≤ℚ y r) → Multipliers system z edge (row_multipliers system z edge y) (guard_multipliers system z edge y)
+  multipliers_are : (y : ℕ → ℚ) → ((r : ℕ) → r < (edge_problem system z edge row).rows → zero_ℚ ≤ℚ y r)
+      → Multipliers system z edge (row_multipliers system z edge y) (guard_multipliers system z edge y)
   unfolding edge_problem limits_problem edge_limits
   multipliers_are y h =
       let gs = guard_forms system.variables edge.actions in
-      let a = source_nonneg system.variables (z edge.from) system.template (guard_limits (λ u. u) gs) y (nonneg_for (edge_limits system z edge) y h) in
+      let a = source_nonneg system.variables (z edge.from) system.template (guard_limits (λ u. u) gs) y
+      (nonneg_for (edge_limits system z edge) y h) in
       record {
         row_count = spread_length (z edge.from) system.template y;
         guard_count = length-tabulate (length gs) (skip (z edge.from) system.template y);
@@ -96,7 +106,8 @@ module _ (system : Equations) (z : Vector) (edge : Edge) (row : List ℤ) where
         zero_where = λ r l e. spread_zero (z edge.from) system.template y r e;
       }
 
-  best_passes : (x y : ℕ → ℚ) (v limit : ℚ) → IsFreeBest (edge_problem system z edge row) x v y → v +ℚ (end_form system.variables edge.actions row).constant ≤ℚ limit →
+  best_passes : (x y : ℕ → ℚ) (v limit : ℚ) → IsFreeBest (edge_problem system z edge row) x v y
+      → v +ℚ (end_form system.variables edge.actions row).constant ≤ℚ limit →
       BoundPasses system z edge row (fin limit) (row_multipliers system z edge y) (guard_multipliers system z edge y)
   unfolding edge_problem limits_problem
   best_passes x y v limit b h = record {
@@ -107,7 +118,8 @@ module _ (system : Equations) (z : Vector) (edge : Edge) (row : List ℤ) where
     small = subst (λ s. s +ℚ (end_form system.variables edge.actions row).constant ≤ℚ limit) (sym b.bound ∙ mix_side_is y) h;
   }
 
-  empty_passes : (y : ℕ → ℚ) → IsFreeEmpty (edge_problem system z edge row) y → EmptyPasses system z edge (row_multipliers system z edge y) (guard_multipliers system z edge y)
+  empty_passes : (y : ℕ → ℚ) → IsFreeEmpty (edge_problem system z edge row) y
+      → EmptyPasses system z edge (row_multipliers system z edge y) (guard_multipliers system z edge y)
   unfolding edge_problem limits_problem
   empty_passes y e = record {
     multipliers = multipliers_are y e.multiplier;
@@ -115,7 +127,8 @@ module _ (system : Equations) (z : Vector) (edge : Edge) (row : List ℤ) where
     negative = subst (λ s. s <ℚ zero_ℚ) (mix_side_is y) e.below;
   }
 
-  outcome_passes : (number : Ext) (o : Outcome) → IsFreeOutcome (edge_problem system z edge row) (unsplit_outcome o) → value_of (end_form system.variables edge.actions row).constant (unsplit_outcome o) ≤ᴱ number →
+  outcome_passes : (number : Ext) (o : Outcome) → IsFreeOutcome (edge_problem system z edge row) (unsplit_outcome o)
+      → value_of (end_form system.variables edge.actions row).constant (unsplit_outcome o) ≤ᴱ number →
       number <ᴱ pos_inf → EvidencePasses system z edge row number (outcome_upper system z edge o)
   unfolding outcome_upper
   outcome_passes neg_inf (best x v y) h i l = absurd i
@@ -127,11 +140,14 @@ module _ (system : Equations) (z : Vector) (edge : Edge) (row : List ℤ) where
   outcome_passes number (empty y) h i l = empty_passes y h
 
   -- the evidence passes for a number below +∞ that the transformer is at most
-  pub exact_upper_passes : (number : Ext) → transformer system z edge row ≤ᴱ number → number <ᴱ pos_inf → EvidencePasses system z edge row number (exact_upper system z edge row)
+  pub exact_upper_passes : (number : Ext) → transformer system z edge row ≤ᴱ number → number <ᴱ pos_inf
+      → EvidencePasses system z edge row number (exact_upper system z edge row)
   unfolding transformer free_lp exact_upper
   exact_upper_passes number h l = by (lost (z edge.from) system.template) refl h
     where
-      by : (b : Bool) → lost (z edge.from) system.template ≡ b → (if b then neg_inf else value_of (end_form system.variables edge.actions row).constant (unsplit_outcome (lp (whole_problem system z edge row)))) ≤ᴱ number →
-          EvidencePasses system z edge row number (if b then Unreached (lowest_lost (z edge.from) system.template) else outcome_upper system z edge (lp (whole_problem system z edge row)))
+      by : (b : Bool) → lost (z edge.from) system.template ≡ b → (if b then neg_inf else value_of
+          (end_form system.variables edge.actions row).constant (unsplit_outcome (lp (whole_problem system z edge row)))) ≤ᴱ number →
+          EvidencePasses system z edge row number (if b then Unreached (lowest_lost (z edge.from) system.template) else outcome_upper system
+          z edge (lp (whole_problem system z edge row)))
       by true e i = (lowest_lost_within (z edge.from) system.template e, lowest_lost_is (z edge.from) system.template e)
       by false e i = outcome_passes number (lp (whole_problem system z edge row)) (outcome_is system z edge row) i l

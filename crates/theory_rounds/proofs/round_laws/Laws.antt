@@ -1,5 +1,6 @@
 -- The laws of growth, rounds and chains, put together.
-use Rattle.theory_rounds.specs.RoundLaws.{GrowthsAreExact, TurnsAreExact, CutsAreExact, RoundsAreExact, ChainsAreExact, RoundsEnd, RowsDecide}
+use Rattle.theory_rounds.specs.RoundLaws.{GrowthsAreExact, TurnsAreExact, CutsAreExact, RoundsAreExact, ChainsAreExact, RoundsEnd}
+use Rattle.theory_rounds.specs.RoundLaws.{RowsDecide}
 use Rattle.theory_rounds.proofs.joint_items.Joined.{exact_joined}
 use Rattle.theory_rounds.proofs.rounds.ExactRound.{exact_cuts, exact_grow_is, exact_round_is}
 use Rattle.theory_rounds.proofs.rounds.ExactChain.{state_tight, state_few, state_valid, state_leads, state_below, state_least, state_ends}

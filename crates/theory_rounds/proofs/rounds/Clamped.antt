@@ -1,5 +1,6 @@
 -- A choice that is one of the listed numbers.
-use Rattle.std.proofs.Common.{◌≡◌, ◌⊎◌, inl, inr, ⊎_elim, ℕ, eqb, Bool, true, false, true≢false, List, [], ◌∷◌, refl, sym, ap, if◌then◌else◌}
+use Rattle.std.proofs.Common.{◌≡◌, ◌⊎◌, inl, inr, ⊎_elim, ℕ, eqb, Bool, true, false, true≢false, List, [], ◌∷◌, refl, sym, ap}
+use Rattle.std.proofs.Common.{if◌then◌else◌}
 use Rattle.std.proofs.lemmas.Bool.Decides.{eqb_tells}
 use Rattle.base_facts.specs.Elements.{In}
 
@@ -12,7 +13,8 @@ unfolding has
 has_in e [] h = absurd (true≢false (sym h))
 has_in e (x ∷ xs) h = by (eqb e x) (eqb_tells e x) h (λ t. has_in e xs t)
   where
-    by : (b : Bool) → ((b ≡ true) × (e ≡ x)) ⊎ ((b ≡ false) × (e ≡ x → ⊥)) → (if b then true else has e xs) ≡ true → (has e xs ≡ true → In xs e) → In (x ∷ xs) e
+    by : (b : Bool) → ((b ≡ true) × (e ≡ x)) ⊎ ((b ≡ false) × (e ≡ x → ⊥)) → (if b then true else has e xs) ≡ true
+        → (has e xs ≡ true → In xs e) → In (x ∷ xs) e
     by true (inl t) h rec = inl (sym t.1)
     by true (inr t) h rec = absurd (true≢false t.0)
     by false t h rec = inr (rec h)
@@ -22,7 +24,8 @@ unfolding has
 in_has e [] m = absurd m
 in_has e (x ∷ xs) m = by (eqb e x) (eqb_tells e x) m (λ t. in_has e xs t)
   where
-    by : (b : Bool) → ((b ≡ true) × (e ≡ x)) ⊎ ((b ≡ false) × (e ≡ x → ⊥)) → In (x ∷ xs) e → (In xs e → has e xs ≡ true) → (if b then true else has e xs) ≡ true
+    by : (b : Bool) → ((b ≡ true) × (e ≡ x)) ⊎ ((b ≡ false) × (e ≡ x → ⊥)) → In (x ∷ xs) e → (In xs e → has e xs ≡ true)
+        → (if b then true else has e xs) ≡ true
     by true t m rec = refl
     by false (inl t) m rec = absurd (true≢false (sym t.0))
     by false (inr t) m rec = ⊎_elim (λ h. absurd (t.1 (sym h))) (λ h. rec h) m

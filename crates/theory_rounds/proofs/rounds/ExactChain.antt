@@ -1,4 +1,5 @@
--- The chain of exact rounds by choices among exceeding edges: tight picks, valid steps, fewer rounds than picks, and the least solution at its end.
+-- The chain of exact rounds by choices among exceeding edges: tight picks, valid steps, fewer rounds than picks, and the least solution at
+-- its end.
 use Rattle.std.proofs.Common.{◌≡◌, ◌∙◌, Bool, ℕ, zero, suc, ◌<◌, ◌≤◌, List, ◌++◌, refl, sym, ap, subst, arith}
 use Rattle.std.specs.Prelude.{Option, Some, None}
 use Rattle.base_numbers.specs.Rational.{ℚ}
@@ -12,17 +13,20 @@ use Rattle.theory_strategy.specs.Solve.{State, next, state}
 use Rattle.theory_strategy.proofs.picks.Picks.{improve_supported, start_tight}
 use Rattle.theory_strategy.proofs.growth.Grown.{Grown}
 use Rattle.theory_strategy.proofs.round.RoundLaw.{RoundDone}
-use Rattle.theory_strategy.proofs.round.Chain.{Chain, NoneExceeds, all_steps, chain_below, chain_end_least, chain_post, chain_rounds, chain_short, chain_steps}
+use Rattle.theory_strategy.proofs.round.Chain.{Chain, NoneExceeds, all_steps, chain_below, chain_end_least, chain_post, chain_rounds}
+use Rattle.theory_strategy.proofs.round.Chain.{chain_short, chain_steps}
 use Rattle.theory_strategy.proofs.round.NoTwice.{no_twice}
 use Rattle.theory_strategy.proofs.round.Solve.{Better, Answers}
 use Rattle.theory_strategy.proofs.picks.PolicyLaw.{policy_answers}
 use Rattle.theory_rounds.specs.Evidence.{exact_evidence}
 use Rattle.theory_rounds.specs.JointItems.{exact_joint}
 use Rattle.theory_rounds.specs.Cut.{exact_cut}
-use Rattle.theory_rounds.specs.Rounds.{Choice, exact_grow, exact_grown, exact_round_steps, exact_next, exact_state, exact_steps, Goes, TakesOne}
+use Rattle.theory_rounds.specs.Rounds.{Choice, exact_grow, exact_grown, exact_round_steps, exact_next, exact_state, exact_steps, Goes}
+use Rattle.theory_rounds.specs.Rounds.{TakesOne}
 use Rattle.theory_rounds.proofs.rounds.ExactRound.{exact_grow_is, exact_round_is}
 
-module _ (fitting : ℚ → Bool) (system : Equations) (range : PointsInRange system) (choose : ℕ → Choice) (among : (k : ℕ) → TakesOne (choose k)) where
+module _ (fitting : ℚ → Bool) (system : Equations) (range : PointsInRange system) (choose : ℕ → Choice)
+    (among : (k : ℕ) → TakesOne (choose k)) where
   abbrev now : ℕ → State
   now k = exact_state fitting system choose k
 
@@ -36,27 +40,40 @@ module _ (fitting : ℚ → Bool) (system : Equations) (range : PointsInRange sy
     -- the next pick is supported at the first vector
     pub supported : Supported system (transformer system) s.vector t.pick
     -- the growth of the next pick
-    pub growth : Grown system (transformer system) s.vector t.pick (exact_grow fitting system s.vector t.pick) (exact_grown fitting system s.vector t.pick)
+    pub growth : Grown system (transformer system) s.vector t.pick (exact_grow fitting system s.vector t.pick)
+        (exact_grown fitting system s.vector t.pick)
     -- the round leads to the second vector
-    pub done : RoundDone system (transformer system) s.vector (exact_grown fitting system s.vector t.pick) t.pick (exact_grow fitting system s.vector t.pick) (exact_round_steps fitting system s.vector t.pick) t.vector
+    pub done : RoundDone system (transformer system) s.vector (exact_grown fitting system s.vector t.pick) t.pick
+        (exact_grow fitting system s.vector t.pick) (exact_round_steps fitting system s.vector t.pick) t.vector
 
-  made_by : (s : State) (better : Pick) → Tight system (transformer system) s.vector s.pick → Better system (transformer system) s.vector s.pick better → RoundMade s (next_of (Some better) s)
+  made_by : (s : State) (better : Pick) → Tight system (transformer system) s.vector s.pick
+      → Better system (transformer system) s.vector s.pick better → RoundMade s (next_of (Some better) s)
   unfolding next
   made_by s better tight h =
-      let supported = improve_supported system (transformer system) (exact_evidence system) s.vector s.pick better tight h.is_pick h.improves in
-      record { better = h; supported = supported; growth = exact_grow_is fitting system s.vector better supported; done = exact_round_is fitting system s.vector better supported }
+      let supported = improve_supported system (transformer system) (exact_evidence system) s.vector s.pick better tight h.is_pick
+      h.improves in
+      record {
+        better = h;
+        supported = supported;
+        growth = exact_grow_is fitting system s.vector better supported;
+        done =
+            exact_round_is fitting system s.vector better supported;
+      }
 
-  answer : (k : ℕ) → Tight system (transformer system) (now k).vector (now k).pick → Answers system (transformer system) (now k).vector (now k).pick (exact_next system (choose k) (now k).vector (now k).pick)
+  answer : (k : ℕ) → Tight system (transformer system) (now k).vector (now k).pick
+      → Answers system (transformer system) (now k).vector (now k).pick (exact_next system (choose k) (now k).vector (now k).pick)
   answer k tight = policy_answers system (transformer system) range (choose k) (among k) (now k).vector (now k).pick tight
 
-  made_at : (k : ℕ) → Tight system (transformer system) (now k).vector (now k).pick → Goes system (choose k) (now k) → RoundMade (now k) (now (suc k))
+  made_at : (k : ℕ) → Tight system (transformer system) (now k).vector (now k).pick → Goes system (choose k) (now k)
+      → RoundMade (now k) (now (suc k))
   unfolding state next
   made_at k tight g =
       subst (λ o. RoundMade (now k) (next_of o (now k))) (sym g.1)
       (made_by (now k) g.0 tight (subst (Answers system (transformer system) (now k).vector (now k).pick) g.1 (answer k tight)))
 
   -- after rounds that were all made, the pick is tight at the vector
-  pub state_tight : (n : ℕ) → ((k : ℕ) → k < n → Goes system (choose k) (now k)) → Tight system (transformer system) (now n).vector (now n).pick
+  pub state_tight : (n : ℕ) → ((k : ℕ) → k < n → Goes system (choose k) (now k))
+      → Tight system (transformer system) (now n).vector (now n).pick
   unfolding state
   state_tight zero goes = start_tight system (transformer system) (exact_evidence system)
   state_tight (suc n) goes = (made_at n (state_tight n (λ k h. goes k (omega arith))) (goes n (omega arith))).done.tight
@@ -106,21 +123,25 @@ module _ (fitting : ℚ → Bool) (system : Equations) (range : PointsInRange sy
     pub state_twice : (i j : ℕ) → i < j → j ≤ n → ((p r : ℕ) → (now i).pick p r ≡ (now j).pick p r) → ⊥
     unfolding picks
     state_twice i j h l same =
-        no_twice system (transformer system) (exact_evidence system) n d z picks steps (chain_rounds system (transformer system) (exact_evidence system) n d z picks grown steps chain) i j h l same
+        no_twice system (transformer system) (exact_evidence system) n d z picks steps
+        (chain_rounds system (transformer system) (exact_evidence system) n d z picks grown steps chain) i j h l same
 
     -- the steps of all rounds are valid one after the other
     pub state_valid : ValidSteps system start_vector (exact_steps fitting system choose n)
-    state_valid = subst (ValidSteps system start_vector) (same_steps n) (chain_steps system (transformer system) (exact_evidence system) n d z picks grown steps chain n (omega arith)).0
+    state_valid = subst (ValidSteps system start_vector) (same_steps n)
+        (chain_steps system (transformer system) (exact_evidence system) n d z picks grown steps chain n (omega arith)).0
 
     -- and lead from the start vector to the vector
     pub state_leads : after_steps (exact_steps fitting system choose n) start_vector ≡ (now n).vector
     unfolding d
-    state_leads = ap (λ s. after_steps s start_vector) (sym (same_steps n)) ∙ (chain_steps system (transformer system) (exact_evidence system) n d z picks grown steps chain n (omega arith)).1
+    state_leads = ap (λ s. after_steps s start_vector) (sym (same_steps n))
+        ∙ (chain_steps system (transformer system) (exact_evidence system) n d z picks grown steps chain n (omega arith)).1
 
     -- which is at most every post-solution
     pub state_below : (q : Vector) → PostSolution system q → Below system (now n).vector q
     unfolding d
-    state_below q post = chain_below system (transformer system) (exact_evidence system) n d z picks grown steps chain n (omega arith) q post
+    state_below q post = chain_below system (transformer system) (exact_evidence system) n d z picks grown steps chain n (omega arith) q
+        post
 
     -- where no transformer exceeds its bound, it is least
     pub state_least : NoneExceeds system (transformer system) (now n).vector → Least system (now n).vector
@@ -128,7 +149,8 @@ module _ (fitting : ℚ → Bool) (system : Equations) (range : PointsInRange sy
     state_least none = chain_end_least system (transformer system) (exact_evidence system) n d z picks grown steps chain none
 
     -- where no choice goes, no transformer exceeds its bound
-    pub state_ends : exact_next system (choose n) (now n).vector (now n).pick ≡ None → NoneExceeds system (transformer system) (now n).vector
+    pub state_ends : exact_next system (choose n) (now n).vector (now n).pick ≡ None
+        → NoneExceeds system (transformer system) (now n).vector
     state_ends e = subst (Answers system (transformer system) (now n).vector (now n).pick) e (answer n (state_tight n goes))
 
     -- and where the vector is a post-solution, none does

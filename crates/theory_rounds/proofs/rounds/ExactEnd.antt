@@ -1,5 +1,6 @@
 -- The state after rounds depends on their choices alone; and with any choices the rounds end.
-use Rattle.std.proofs.Common.{◌≡◌, ◌∙◌, ◌⊎◌, inl, inr, ⊎_elim, Bool, true, false, ℕ, zero, suc, eqb, ◌<◌, ◌++◌, refl, ap, subst, arith, if◌then◌else◌}
+use Rattle.std.proofs.Common.{◌≡◌, ◌∙◌, ◌⊎◌, inl, inr, ⊎_elim, Bool, true, false, ℕ, zero, suc, eqb, ◌<◌, ◌++◌, refl, ap, subst, arith}
+use Rattle.std.proofs.Common.{if◌then◌else◌}
 use Rattle.std.specs.Prelude.{Option, Some, None}
 use Rattle.std.proofs.lemmas.Bool.{cases_lt}
 use Rattle.std.proofs.lemmas.Bool.Decides.{eqb_tells}
@@ -18,29 +19,39 @@ use Rattle.theory_rounds.proofs.rounds.ExactChain.{state_few}
 
 module _ (fitting : ℚ → Bool) (system : Equations) where
   -- with the same choices before it a state is the same
-  pub state_same : (choose other : ℕ → Choice) (n : ℕ) → ((k : ℕ) → k < n → choose k ≡ other k) → exact_state fitting system choose n ≡ exact_state fitting system other n
+  pub state_same : (choose other : ℕ → Choice) (n : ℕ) → ((k : ℕ) → k < n → choose k ≡ other k)
+      → exact_state fitting system choose n ≡ exact_state fitting system other n
   unfolding state
   state_same choose other zero same = refl
   state_same choose other (suc n) same =
-      ap (λ (s : State). next fitting system (transformer system) (exact_evidence system) (exact_joint system) (exact_cut fitting system) (exact_next system (choose n) s.vector s.pick) s) (state_same choose other n (λ k l. same k (omega arith)))
+      ap (λ (s : State). next fitting system (transformer system) (exact_evidence system) (exact_joint system) (exact_cut fitting system)
+      (exact_next system (choose n) s.vector s.pick) s) (state_same choose other n (λ k l. same k (omega arith)))
       ∙ ap (λ c. next fitting system (transformer system) (exact_evidence system) (exact_joint system) (exact_cut fitting system)
-      (exact_next system c (exact_state fitting system other n).vector (exact_state fitting system other n).pick) (exact_state fitting system other n)) (same n (omega arith))
+      (exact_next system c (exact_state fitting system other n).vector (exact_state fitting system other n).pick)
+      (exact_state fitting system other n)) (same n (omega arith))
 
   -- and the steps
-  pub steps_same : (choose other : ℕ → Choice) (n : ℕ) → ((k : ℕ) → k < n → choose k ≡ other k) → exact_steps fitting system choose n ≡ exact_steps fitting system other n
+  pub steps_same : (choose other : ℕ → Choice) (n : ℕ) → ((k : ℕ) → k < n → choose k ≡ other k)
+      → exact_steps fitting system choose n ≡ exact_steps fitting system other n
   unfolding exact_steps
   steps_same choose other zero same = refl
   steps_same choose other (suc n) same =
-      ap (λ s. s ++ exact_round_steps fitting system (exact_state fitting system choose n).vector (exact_state fitting system choose (suc n)).pick) (steps_same choose other n (λ k l. same k (omega arith)))
-      ∙ ap (λ (s : State). exact_steps fitting system other n ++ exact_round_steps fitting system s.vector (exact_state fitting system choose (suc n)).pick) (state_same choose other n (λ k l. same k (omega arith)))
-      ∙ ap (λ (s : State). exact_steps fitting system other n ++ exact_round_steps fitting system (exact_state fitting system other n).vector s.pick) (state_same choose other (suc n) same)
+      ap (λ s. s ++ exact_round_steps fitting system (exact_state fitting system choose n).vector
+      (exact_state fitting system choose (suc n)).pick) (steps_same choose other n (λ k l. same k (omega arith)))
+      ∙ ap (λ (s : State). exact_steps fitting system other n ++ exact_round_steps fitting system s.vector
+      (exact_state fitting system choose (suc n)).pick) (state_same choose other n (λ k l. same k (omega arith)))
+      ∙ ap (λ (s : State). exact_steps fitting system other n ++ exact_round_steps fitting system
+      (exact_state fitting system other n).vector s.pick) (state_same choose other (suc n) same)
 
   -- a round that is made
-  pub state_after : (choose : ℕ → Choice) (n : ℕ) (better : Pick) → exact_next system (choose n) (exact_state fitting system choose n).vector (exact_state fitting system choose n).pick ≡ Some better →
+  pub state_after : (choose : ℕ → Choice) (n : ℕ) (better : Pick) → exact_next system (choose n)
+      (exact_state fitting system choose n).vector (exact_state fitting system choose n).pick ≡ Some better →
       exact_state fitting system choose (suc n)
-      ≡ next fitting system (transformer system) (exact_evidence system) (exact_joint system) (exact_cut fitting system) (Some better) (exact_state fitting system choose n)
+      ≡ next fitting system (transformer system) (exact_evidence system) (exact_joint system) (exact_cut fitting system) (Some better)
+      (exact_state fitting system choose n)
   unfolding state
-  state_after choose n better e = ap (λ o. next fitting system (transformer system) (exact_evidence system) (exact_joint system) (exact_cut fitting system) o (exact_state fitting system choose n)) e
+  state_after choose n better e = ap (λ o. next fitting system (transformer system) (exact_evidence system) (exact_joint system)
+      (exact_cut fitting system) o (exact_state fitting system choose n)) e
 
 -- another choice for a round, and the old ones for the others
 pub with_choice-at : (choose : ℕ → Choice) (n : ℕ) (other : Choice) → with_choice choose n other n ≡ other
@@ -56,7 +67,8 @@ with_choice-before choose n other k l = ⊎_elim (λ h. absurd (less h.1)) (λ h
     less e = absurd (omega arith)
 
 -- each takes one of what is listed where the old ones and the other one do
-pub with_choice_takes : (choose : ℕ → Choice) (n : ℕ) (other : Choice) → ((k : ℕ) → TakesOne (choose k)) → TakesOne other → (k : ℕ) → TakesOne (with_choice choose n other k)
+pub with_choice_takes : (choose : ℕ → Choice) (n : ℕ) (other : Choice) → ((k : ℕ) → TakesOne (choose k)) → TakesOne other → (k : ℕ)
+    → TakesOne (with_choice choose n other k)
 unfolding with_choice
 with_choice_takes choose n other h i k = by (eqb k n)
   where
@@ -64,7 +76,8 @@ with_choice_takes choose n other h i k = by (eqb k n)
     by true = i
     by false = h k
 
-module _ (fitting : ℚ → Bool) (system : Equations) (range : PointsInRange system) (choose : ℕ → Choice) (among : (k : ℕ) → TakesOne (choose k)) where
+module _ (fitting : ℚ → Bool) (system : Equations) (range : PointsInRange system) (choose : ℕ → Choice)
+    (among : (k : ℕ) → TakesOne (choose k)) where
   abbrev now : ℕ → State
   now k = exact_state fitting system choose k
 
@@ -85,16 +98,20 @@ module _ (fitting : ℚ → Bool) (system : Equations) (range : PointsInRange sy
       ⊎_elim (λ e. inl (record { rounds = e.rounds; within = let h = e.within in omega arith; none = e.none; before = e.before }))
       (λ goes. at goes (exact_next system (choose n) (now n).vector (now n).pick) refl) (look n)
     where
-      joined_up : ((k : ℕ) → k < n → Goes system (choose k) (now k)) → Goes system (choose n) (now n) → (k : ℕ) → k < suc n → Goes system (choose k) (now k)
+      joined_up : ((k : ℕ) → k < n → Goes system (choose k) (now k)) → Goes system (choose n) (now n) → (k : ℕ) → k < suc n
+          → Goes system (choose k) (now k)
       joined_up goes g k h = ⊎_elim (λ l. goes k l) (λ e. subst (λ j. Goes system (choose j) (now j)) e g) (below k h)
         where
           below : (k : ℕ) → k < suc n → (k < n) ⊎ (n ≡ k)
           below k h = ⊎_elim (λ l. inl l) (λ l. inr (omega arith)) (cases_lt k n)
 
-      at : ((k : ℕ) → k < n → Goes system (choose k) (now k)) → (o : Option Pick) → exact_next system (choose n) (now n).vector (now n).pick ≡ o → Ends (suc n) ⊎ ((k : ℕ) → k < suc n → Goes system (choose k) (now k))
+      at : ((k : ℕ) → k < n → Goes system (choose k) (now k)) → (o : Option Pick)
+          → exact_next system (choose n) (now n).vector (now n).pick ≡ o
+          → Ends (suc n) ⊎ ((k : ℕ) → k < suc n → Goes system (choose k) (now k))
       at goes None e = inl (record { rounds = n; within = omega arith; none = e; before = goes })
       at goes (Some better) e = inr (joined_up goes (better, e))
 
   -- the rounds end, after fewer than there are picks
   pub rounds_end : Ends (pick_count system)
-  rounds_end = ⊎_elim (λ e. e) (λ goes. absurd (let h = state_few fitting system range choose among (pick_count system) goes in omega arith)) (look (pick_count system))
+  rounds_end = ⊎_elim (λ e. e) (λ goes. absurd (let h = state_few fitting system range choose among (pick_count system) goes in
+      omega arith)) (look (pick_count system))

@@ -30,8 +30,10 @@ Chooses policy = (offer : Offer) → SomeExceeds offer → (j : ℕ) × policy o
 
 module _ (policy : Offer → ℕ → Type 0) (chooses : Chooses policy) (fitting : ℚ → Bool) (system : Equations) where
   -- the edge that the policy takes at a vector, where something exceeds
-  edge_taken : (z : Vector) (p r : ℕ) → length system.template ≤ r ⊎ r < length system.template → SomeExceeds (exact_offer system z p r) ⊎ (SomeExceeds (exact_offer system z p r) → ⊥) → ℕ → ℕ
-  edge_taken z p r (inr l) (inl s) k = (exceeds_offered system z p r l (chooses (exact_offer system z p r) s).0 (chooses (exact_offer system z p r) s).2).0
+  edge_taken : (z : Vector) (p r : ℕ) → length system.template ≤ r ⊎ r < length system.template
+      → SomeExceeds (exact_offer system z p r) ⊎ (SomeExceeds (exact_offer system z p r) → ⊥) → ℕ → ℕ
+  edge_taken z p r (inr l) (inl s) k = (exceeds_offered system z p r l (chooses (exact_offer system z p r) s).0
+      (chooses (exact_offer system z p r) s).2).0
   edge_taken z p r (inr l) (inr none) k = k
   edge_taken z p r (inl past) o k = k
 
@@ -49,18 +51,29 @@ module _ (policy : Offer → ℕ → Type 0) (chooses : Chooses policy) (fitting
   unfolding choice_at edge_taken
   choice_follows z p r k ks l e = by (row_or_past r) (some_or_none (exact_offer system z p r))
     where
-      by : (b : length system.template ≤ r ⊎ r < length system.template) → (o : SomeExceeds (exact_offer system z p r) ⊎ (SomeExceeds (exact_offer system z p r) → ⊥)) →
-          (offer : Offer) × Rattle.theory_chains.specs.Offers.IsOffer system z p r offer × ((j : ℕ) × policy offer j × Exceeds offer j × (slice_get offer.edges j ≡ Some (clamp (edge_taken z p r b o k) k ks)))
+      by : (b : length system.template ≤ r ⊎ r < length system.template)
+          → (o : SomeExceeds (exact_offer system z p r) ⊎ (SomeExceeds (exact_offer system z p r) → ⊥)) →
+          (offer : Offer) × Rattle.theory_chains.specs.Offers.IsOffer system z p r offer
+          × ((j : ℕ) × policy offer j × Exceeds offer j × (slice_get offer.edges j ≡ Some (clamp (edge_taken z p r b o k) k ks)))
       by (inl past) o = absurd (omega arith)
       by (inr m) (inr none) = absurd (none (something_exceeds system z p r k ks e))
       by (inr m) (inl s) =
           let c = chooses (exact_offer system z p r) s in
-          let f = exceeds_offered system z p r m c.0 c.2 in
-          (exact_offer system z p r, offer_meant system z p r l, (c.0, c.1, c.2, f.1 ∙ ap Some (sym (clamp_is f.0 k ks (subst (λ os. In os f.0) e f.2)))))
+          let f = exceeds_offered system z p r m c.0 c.2 in (
+            exact_offer system z p r,
+            offer_meant system z p r l,
+            (
+              c.0,
+              c.1,
+              c.2,
+              f.1 ∙ ap Some (sym (clamp_is f.0 k ks (subst (λ os. In os f.0) e f.2))),
+            ),
+          )
 
   -- the states of rounds by these choices
   step : Choice → State → State
-  step choose s = next fitting system (transformer system) (exact_evidence system) (exact_joint system) (exact_cut fitting system) (exact_next system choose s.vector s.pick) s
+  step choose s = next fitting system (transformer system) (exact_evidence system) (exact_joint system) (exact_cut fitting system)
+      (exact_next system choose s.vector s.pick) s
 
   states : ℕ → State
   states zero = record { vector = start_vector; pick = λ p r. None }
@@ -83,14 +96,16 @@ module _ (policy : Offer → ℕ → Type 0) (chooses : Chooses policy) (fitting
 
   follows : (k : ℕ) → Follows policy system (now k).vector (choose k)
   unfolding choose
-  follows k = subst (λ (s : State). Follows policy system s.vector (choice_at (states k).vector)) (sym (states_are k)) (choice_follows (states k).vector)
+  follows k = subst (λ (s : State). Follows policy system s.vector (choice_at (states k).vector)) (sym (states_are k))
+      (choice_follows (states k).vector)
 
   module _ (range : PointsInRange system) where
     one_of : (limit : ℕ) → EndsWithin policy system limit ⊎ GoesOnAfter system policy limit
     one_of limit =
         let e = rounds_end fitting system range choose takes in
         ⊎_elim
-        (λ l. inr ((improvement_meant policy fitting system range choose takes limit (λ k h. e.before k (omega arith)) (λ k h. follows k)).goes_on (e.before limit l)))
+        (λ l. inr ((improvement_meant policy fitting system range choose takes limit (λ k h. e.before k (omega arith))
+        (λ k h. follows k)).goes_on (e.before limit l)))
         (λ l. inl (record {
           improvements = e.rounds;
           within = l;
@@ -104,5 +119,6 @@ module _ (policy : Offer → ℕ → Type 0) (chooses : Chooses policy) (fitting
     pub decided : AnswersOne policy → (limit : ℕ) → IsDecided policy system limit
     decided one limit = record {
       one = one_of limit;
-      not_both = λ e g. let l = (determined policy one).above system limit e.improvements e.vector g e.ends in let m = e.within in absurd (omega arith);
+      not_both = λ e g. let l = (determined policy one).above system limit e.improvements e.vector g e.ends in let m = e.within in
+          absurd (omega arith);
     }

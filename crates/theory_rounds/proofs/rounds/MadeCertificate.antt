@@ -1,5 +1,6 @@
 -- The certificate that rounds make is valid where no transformer exceeds its bound at the last vector.
-use Rattle.std.proofs.Common.{◌≡◌, ◌∙◌, ◌⊎◌, inl, inr, Bool, ℕ, ◌+◌, ◌*◌, ◌<◌, ◌≤◌, le_trans, le-add_right, mul-le-mul_right, List, [], ◌∷◌, length, refl, sym, ap, subst, subst₂, arith}
+use Rattle.std.proofs.Common.{◌≡◌, ◌∙◌, ◌⊎◌, inl, inr, Bool, ℕ, ◌+◌, ◌*◌, ◌<◌, ◌≤◌, le_trans, le-add_right, mul-le-mul_right, List, [], ◌∷◌}
+use Rattle.std.proofs.Common.{length, refl, sym, ap, subst, subst₂, arith}
 use Rattle.std.proofs.lemmas.Bool.{cases_lt}
 use Rattle.std.proofs.lemmas.Option.{slice_get_within}
 use Rattle.std.proofs.Math.ListN.{get_or-eq_default}
@@ -21,22 +22,27 @@ use Rattle.theory_rounds.proofs.rounds.ExactChain.{state_valid, state_leads}
 use Rattle.theory_rounds.proofs.made.MadeNeeds.{exact_uppers_pass}
 
 -- steps name no unknown past the points
-led_past : (system : Equations) (steps : List Step) (z : Vector) (p r : ℕ) → ValidSteps system z steps → system.points ≤ p → after_steps steps z p r ≡ z p r
+led_past : (system : Equations) (steps : List Step) (z : Vector) (p r : ℕ) → ValidSteps system z steps → system.points ≤ p
+    → after_steps steps z p r ≡ z p r
 unfolding after_steps after_step
 led_past system [] z p r v past = refl
 led_past system (step ∷ steps) z p r v past =
-    led_past system steps (after_step step z) p r v.1 past ∙ put-unnamed (new_value step.kind) step.items z p r (unnamed_by_all step.items p r (λ u m e f. behind u (v.0.placed u m) e))
+    led_past system steps (after_step step z) p r v.1 past ∙ put-unnamed (new_value step.kind) step.items z p r
+    (unnamed_by_all step.items p r (λ u m e f. behind u (v.0.placed u m) e))
   where
     behind : (u : Item) → Placed system u → u.point ≡ p → ⊥
     behind u placed e = let l = placed.point_within in absurd (omega arith)
 
-bounds_past : (system : Equations) (bounds : List Ext) (p r : ℕ) → length bounds ≡ system.points * length system.template → system.points ≤ p → bounds_vector system bounds p r ≡ neg_inf
+bounds_past : (system : Equations) (bounds : List Ext) (p r : ℕ) → length bounds ≡ system.points * length system.template
+    → system.points ≤ p → bounds_vector system bounds p r ≡ neg_inf
 unfolding bounds_vector
 bounds_past system bounds p r size past =
-    get_or-eq_default bounds neg_inf (subst (λ n. n ≤ p * length system.template + r) (sym size) (le_trans (mul-le-mul_right (length system.template) past) (le-add_right (p * length system.template) r)))
+    get_or-eq_default bounds neg_inf (subst (λ n. n ≤ p * length system.template + r) (sym size)
+    (le_trans (mul-le-mul_right (length system.template) past) (le-add_right (p * length system.template) r)))
 
 -- a vector to which valid steps lead is that of its list of bounds
-listed_agrees : (system : Equations) (steps : List Step) (z : Vector) → 0 < system.points → ValidSteps system start_vector steps → after_steps steps start_vector ≡ z → Agree system (bounds_vector system (listed_bounds system z)) z
+listed_agrees : (system : Equations) (steps : List Step) (z : Vector) → 0 < system.points → ValidSteps system start_vector steps
+    → after_steps steps start_vector ≡ z → Agree system (bounds_vector system (listed_bounds system z)) z
 unfolding bounds_vector
 listed_agrees system steps z some valid leads p r l = by (cases_lt p system.points)
   where
@@ -47,19 +53,24 @@ listed_agrees system steps z some valid leads p r l = by (cases_lt p system.poin
         ∙ sym (start_later p r (omega arith)) ∙ sym (led_past system steps start_vector p r valid h) ∙ ap (λ v. v p r) leads
 
 -- where no transformer exceeds its bound at a vector, none does at one that agrees
-pub none_agrees : (system : Equations) (z q : Vector) → Agree system z q → NoneExceeds system (transformer system) z → NoneExceeds system (transformer system) q
+pub none_agrees : (system : Equations) (z q : Vector) → Agree system z q → NoneExceeds system (transformer system) z
+    → NoneExceeds system (transformer system) q
 none_agrees system z q agree none edge r row listed e =
-    subst₂ (λ a b. a ≤ᴱ b) (transformer_agrees system z q agree edge row) (agree edge.to r (slice_get_within system.template r row e)) (none edge r row listed e)
+    subst₂ (λ a b. a ≤ᴱ b) (transformer_agrees system z q agree edge row) (agree edge.to r (slice_get_within system.template r row e))
+    (none edge r row listed e)
 
-module _ (fitting : ℚ → Bool) (system : Equations) (range : PointsInRange system) (choose : ℕ → Choice) (among : (k : ℕ) → TakesOne (choose k)) (n : ℕ)
+module _ (fitting : ℚ → Bool) (system : Equations) (range : PointsInRange system) (choose : ℕ → Choice)
+    (among : (k : ℕ) → TakesOne (choose k)) (n : ℕ)
     (goes : (k : ℕ) → k < n → Goes system (choose k) (exact_state fitting system choose k)) where
   -- the last vector is that of its bounds
-  pub last_listed : Agree system (bounds_vector system (listed_bounds system (exact_state fitting system choose n).vector)) (exact_state fitting system choose n).vector
+  pub last_listed : Agree system (bounds_vector system (listed_bounds system (exact_state fitting system choose n).vector))
+      (exact_state fitting system choose n).vector
   last_listed = listed_agrees system (exact_steps fitting system choose n) (exact_state fitting system choose n).vector range.entry
       (state_valid fitting system range choose among n goes) (state_leads fitting system range choose among n goes)
 
   -- the certificate of the rounds is valid
-  pub made_valid : NoneExceeds system (transformer system) (exact_state fitting system choose n).vector → ValidCertificate system (exact_certificate fitting system choose n)
+  pub made_valid : NoneExceeds system (transformer system) (exact_state fitting system choose n).vector
+      → ValidCertificate system (exact_certificate fitting system choose n)
   unfolding exact_certificate
   made_valid none =
       let z = (exact_state fitting system choose n).vector in
@@ -68,5 +79,6 @@ module _ (fitting : ℚ → Bool) (system : Equations) (range : PointsInRange sy
         size = (listed_law system.points (length system.template)).count z;
         steps = state_valid fitting system range choose among n goes;
         final = λ p r h l. ap (λ v. v p r) (state_leads fitting system range choose among n goes) ∙ sym (last_listed p r l);
-        uppers = exact_uppers_pass system (bounds_vector system bounds) (none_agrees system z (bounds_vector system bounds) (λ p r l. sym (last_listed p r l)) none);
+        uppers = exact_uppers_pass system (bounds_vector system bounds)
+            (none_agrees system z (bounds_vector system bounds) (λ p r l. sym (last_listed p r l)) none);
       }

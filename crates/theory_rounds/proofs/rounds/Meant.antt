@@ -1,5 +1,6 @@
 -- The exact transformers are the transformers that the definition of chains means, and make the offers that it means.
-use Rattle.std.proofs.Common.{◌≡◌, ◌∙◌, ◌⊎◌, inl, inr, ⊎_elim, ℕ, zero, suc, ◌+◌, ◌<◌, eqb, ltb, Bool, true, false, true≢false, List, [], ◌∷◌, ◌++◌, length, map, get_or, refl, sym, ap, subst, arith, if◌then◌else◌}
+use Rattle.std.proofs.Common.{◌≡◌, ◌∙◌, ◌⊎◌, inl, inr, ⊎_elim, ℕ, zero, suc, ◌+◌, ◌<◌, eqb, ltb, Bool, true, false, true≢false, List, []}
+use Rattle.std.proofs.Common.{◌∷◌, ◌++◌, length, map, get_or, refl, sym, ap, subst, arith, if◌then◌else◌}
 use Rattle.std.specs.Prelude.{ℤ, Some, slice_get, Contains}
 use Rattle.std.specs.Option.{option_map}
 use Rattle.std.proofs.lemmas.Bool.{lt-ltb}
@@ -24,7 +25,8 @@ use Rattle.theory_chains.specs.Offers.{Offer, numbers_into, IsOffer, Exceeds, So
 
 -- ---- transformers
 -- what bounds the words' end values bounds the values after transitions
-pub upper_of_words : (system : Equations) (z : Vector) (edge : Edge) (row : List ℤ) (number : Ext) → Upper system z edge row number → IsUpper system z edge row number
+pub upper_of_words : (system : Equations) (z : Vector) (edge : Edge) (row : List ℤ) (number : Ext) → Upper system z edge row number
+    → IsUpper system z edge row number
 unfolding end_value
 upper_of_words system z edge row number upper x y t =
     let w = word_of_trace system.variables edge.actions x y t.starts t.trace in
@@ -32,13 +34,21 @@ upper_of_words system z edge row number upper x y t =
     subst (λ s. fin (dotℚ row s) ≤ᴱ number) w.4 (upper (x ++ w.0) runs)
 
 -- what bounds the values after transitions bounds the words' end values
-pub upper_of_transitions : (system : Equations) (z : Vector) (edge : Edge) (row : List ℤ) (number : Ext) → Contains system.edges edge → IsUpper system z edge row number → Upper system z edge row number
+pub upper_of_transitions : (system : Equations) (z : Vector) (edge : Edge) (row : List ℤ) (number : Ext) → Contains system.edges edge
+    → IsUpper system z edge row number → Upper system z edge row number
 unfolding end_value
 upper_of_transitions system z edge row number listed upper w runs =
     upper (start_of system.variables w) (end_of system.variables edge.actions w)
-    (record { listed = listed; starts = start_length system.variables w; fits = runs.fits; trace = trace_of_word system.variables edge.actions w runs.passes })
+    (record {
+      listed = listed;
+      starts = start_length system.variables w;
+      fits = runs.fits;
+      trace =
+          trace_of_word system.variables edge.actions w runs.passes;
+    })
 
-transformer_meant : (system : Equations) (z : Vector) (edge : Edge) (row : List ℤ) → Contains system.edges edge → IsTransformer system z edge row (transformer system z edge row)
+transformer_meant : (system : Equations) (z : Vector) (edge : Edge) (row : List ℤ) → Contains system.edges edge
+    → IsTransformer system z edge row (transformer system z edge row)
 transformer_meant system z edge row listed =
     let t = transformer_is system z edge row in
     record {
@@ -62,8 +72,17 @@ record Stands (p k j n : ℕ) (edges : List Edge) : Type 0 where
 some_number : (a b : ℕ) → Some a ≡ Some b → a ≡ b
 some_number a b e = cc
 
-later : (p k j i n : ℕ) (edge : Edge) (edges : List Edge) → Stands p (suc k) j n edges → slice_get (edges_into p (edge ∷ edges)) i ≡ slice_get (edges_into p edges) j → Stands p k i n (edge ∷ edges)
-later p k j i n edge edges s e = record { place = suc s.place; is_number = (let h = s.is_number in omega arith); edge = s.edge; is_edge = s.is_edge; at = e ∙ s.at; into = s.into }
+later : (p k j i n : ℕ) (edge : Edge) (edges : List Edge) → Stands p (suc k) j n edges
+    → slice_get (edges_into p (edge ∷ edges)) i ≡ slice_get (edges_into p edges) j → Stands p k i n (edge ∷ edges)
+later p k j i n edge edges s e = record {
+  place = suc s.place;
+  is_number = (let h = s.is_number in omega arith);
+  edge = s.edge;
+  is_edge =
+      s.is_edge;
+  at = e ∙ s.at;
+  into = s.into;
+}
 
 stands : (p k : ℕ) (edges : List Edge) (j n : ℕ) → slice_get (numbers_into p k edges) j ≡ Some n → Stands p k j n edges
 unfolding edges_into
@@ -82,9 +101,11 @@ stands p k (edge ∷ edges) j n e = by (eqb edge.to p) refl (eqb_tells edge.to p
           at = ap (λ c. slice_get (if c then edge ∷ edges_into p edges else edges_into p edges) 0) b;
           into = t.1;
         }
-    by true b (inl t) (suc i) f rec = later p k i (suc i) n edge edges (rec i f) (ap (λ c. slice_get (if c then edge ∷ edges_into p edges else edges_into p edges) (suc i)) b)
+    by true b (inl t) (suc i) f rec = later p k i (suc i) n edge edges (rec i f)
+        (ap (λ c. slice_get (if c then edge ∷ edges_into p edges else edges_into p edges) (suc i)) b)
     by true b (inr t) i f rec = absurd (true≢false t.0)
-    by false b t i f rec = later p k i i n edge edges (rec i f) (ap (λ c. slice_get (if c then edge ∷ edges_into p edges else edges_into p edges) i) b)
+    by false b t i f rec = later p k i i n edge edges (rec i f) (ap (λ c. slice_get
+        (if c then edge ∷ edges_into p edges else edges_into p edges) i) b)
 
 length_into : (p k : ℕ) (edges : List Edge) → length (edges_into p edges) ≡ length (numbers_into p k edges)
 unfolding edges_into
@@ -92,7 +113,8 @@ length_into p k [] = refl
 length_into p k (edge ∷ edges) = by (eqb edge.to p) (length_into p (suc k) edges)
   where
     by : (b : Bool) → length (edges_into p edges) ≡ length (numbers_into p (suc k) edges) →
-        length (if b then edge ∷ edges_into p edges else edges_into p edges) ≡ length (if b then k ∷ numbers_into p (suc k) edges else numbers_into p (suc k) edges)
+        length (if b then edge ∷ edges_into p edges else edges_into p edges)
+        ≡ length (if b then k ∷ numbers_into p (suc k) edges else numbers_into p (suc k) edges)
     by true e = ap suc e
     by false e = e
 
@@ -109,7 +131,8 @@ module _ (system : Equations) (z : Vector) (p r : ℕ) where
   abbrev T : Edge → Ext
   T edge = transformer system z edge (get_or system.template r [])
 
-  value_of : (j : ℕ) (edge : Edge) (number : Ext) → slice_get (edges_into p system.edges) j ≡ Some edge → slice_get (map T (edges_into p system.edges)) j ≡ Some number → T edge ≡ number
+  value_of : (j : ℕ) (edge : Edge) (number : Ext) → slice_get (edges_into p system.edges) j ≡ Some edge
+      → slice_get (map T (edges_into p system.edges)) j ≡ Some number → T edge ≡ number
   value_of j edge number e f = by (sym (ap (option_map T) e) ∙ sym (slice_get-map T (edges_into p system.edges) j) ∙ f)
     where
       by : Some (T edge) ≡ Some number → T edge ≡ number
@@ -150,17 +173,23 @@ module _ (system : Equations) (z : Vector) (p r : ℕ) where
       next : (b : Bool) → eqb edge.to p ≡ b → Position (suc k) n edges → Position k n (edge ∷ edges)
       next true b h = record {
         position = suc h.position;
-        is_number = ap (λ c. slice_get (if c then k ∷ numbers_into p (suc k) edges else numbers_into p (suc k) edges) (suc h.position)) b ∙ h.is_number;
-        exceeds = subst (λ c. z p r <ᴱ get_or (map T (if c then edge ∷ edges_into p edges else edges_into p edges)) (suc h.position) neg_inf) (sym b) h.exceeds;
+        is_number = ap (λ c. slice_get (if c then k ∷ numbers_into p (suc k) edges else numbers_into p (suc k) edges) (suc h.position)) b
+            ∙ h.is_number;
+        exceeds = subst (λ c. z p r <ᴱ get_or (map T (if c then edge ∷ edges_into p edges else edges_into p edges)) (suc h.position)
+            neg_inf) (sym b) h.exceeds;
       }
       next false b h = record {
         position = h.position;
-        is_number = ap (λ c. slice_get (if c then k ∷ numbers_into p (suc k) edges else numbers_into p (suc k) edges) h.position) b ∙ h.is_number;
-        exceeds = subst (λ c. z p r <ᴱ get_or (map T (if c then edge ∷ edges_into p edges else edges_into p edges)) h.position neg_inf) (sym b) h.exceeds;
+        is_number = ap (λ c. slice_get (if c then k ∷ numbers_into p (suc k) edges else numbers_into p (suc k) edges) h.position) b
+            ∙ h.is_number;
+        exceeds = subst (λ c. z p r <ᴱ get_or (map T (if c then edge ∷ edges_into p edges else edges_into p edges)) h.position neg_inf)
+            (sym b) h.exceeds;
       }
 
       by : (b : Bool) → eqb edge.to p ≡ b → (o : (T edge ≤ᴱ z p r) ⊎ (z p r <ᴱ T edge)) →
-          In (if b then ⊎_elim (λ h. exceeding system (transformer system) z p r (suc k) edges) (λ h. k ∷ exceeding system (transformer system) z p r (suc k) edges) o else exceeding system (transformer system) z p r (suc k) edges) n →
+          In (if b then ⊎_elim (λ h. exceeding system (transformer system) z p r (suc k) edges)
+          (λ h. k ∷ exceeding system (transformer system) z p r (suc k) edges) o else exceeding system (transformer system) z p r
+          (suc k) edges) n →
           (In (exceeding system (transformer system) z p r (suc k) edges) n → Position (suc k) n edges) → Position k n (edge ∷ edges)
       by false b o m rec = next false b (rec m)
       by true b (inl h) m rec = next true b (rec m)
@@ -170,7 +199,8 @@ module _ (system : Equations) (z : Vector) (p r : ℕ) where
           first e = record {
             position = 0;
             is_number = ap (λ c. slice_get (if c then k ∷ numbers_into p (suc k) edges else numbers_into p (suc k) edges) 0) b ∙ ap Some e;
-            exceeds = subst (λ c. z p r <ᴱ get_or (map T (if c then edge ∷ edges_into p edges else edges_into p edges)) 0 neg_inf) (sym b) h;
+            exceeds = subst (λ c. z p r <ᴱ get_or (map T (if c then edge ∷ edges_into p edges else edges_into p edges)) 0 neg_inf) (sym b)
+                h;
           }
 
   nothing_below : (x : Ext) → x <ᴱ neg_inf → ⊥
@@ -185,10 +215,15 @@ module _ (system : Equations) (z : Vector) (p r : ℕ) where
   edge_of_position k [] j h = absurd (nothing_below (z p r) h)
   edge_of_position k (edge ∷ edges) j h = by (eqb edge.to p) (ext_le_or_lt (T edge) (z p r)) j h (λ i g. edge_of_position (suc k) edges i g)
     where
-      by : (b : Bool) → (o : (T edge ≤ᴱ z p r) ⊎ (z p r <ᴱ T edge)) → (i : ℕ) → z p r <ᴱ get_or (map T (if b then edge ∷ edges_into p edges else edges_into p edges)) i neg_inf →
-          ((i : ℕ) → z p r <ᴱ get_or (map T (edges_into p edges)) i neg_inf → (n : ℕ) × (slice_get (numbers_into p (suc k) edges) i ≡ Some n) × In (exceeding system (transformer system) z p r (suc k) edges) n) →
+      by : (b : Bool) → (o : (T edge ≤ᴱ z p r) ⊎ (z p r <ᴱ T edge)) → (i : ℕ)
+          → z p r <ᴱ get_or (map T (if b then edge ∷ edges_into p edges else edges_into p edges)) i neg_inf →
+          ((i : ℕ) → z p r <ᴱ get_or (map T (edges_into p edges)) i neg_inf
+          → (n : ℕ) × (slice_get (numbers_into p (suc k) edges) i ≡ Some n)
+          × In (exceeding system (transformer system) z p r (suc k) edges) n) →
           (n : ℕ) × (slice_get (if b then k ∷ numbers_into p (suc k) edges else numbers_into p (suc k) edges) i ≡ Some n)
-          × In (if b then ⊎_elim (λ h. exceeding system (transformer system) z p r (suc k) edges) (λ h. k ∷ exceeding system (transformer system) z p r (suc k) edges) o else exceeding system (transformer system) z p r (suc k) edges) n
+          × In (if b then ⊎_elim (λ h. exceeding system (transformer system) z p r (suc k) edges)
+          (λ h. k ∷ exceeding system (transformer system) z p r (suc k) edges) o else exceeding system (transformer system) z p r
+          (suc k) edges) n
       by false o i g rec = rec i g
       by true (inl le) zero g rec = absurd (ext_not_le_of_lt (z p r) (T edge) g le)
       by true (inl le) (suc i) g rec = rec i g
@@ -196,7 +231,8 @@ module _ (system : Equations) (z : Vector) (p r : ℕ) where
       by true (inr lt) (suc i) g rec = let f = rec i g in (f.0, f.1, inr f.2)
 
   -- some transformer exceeds exactly where something is offered
-  offered_exceeds : (n : ℕ) → In (offers system (transformer system) z p r) n → (j : ℕ) × (slice_get (exact_offer system z p r).edges j ≡ Some n) × Exceeds (exact_offer system z p r) j
+  offered_exceeds : (n : ℕ) → In (offers system (transformer system) z p r) n
+      → (j : ℕ) × (slice_get (exact_offer system z p r).edges j ≡ Some n) × Exceeds (exact_offer system z p r) j
   unfolding offers exact_offer
   offered_exceeds n m = by (ltb r (length system.template)) m
     where
@@ -206,14 +242,20 @@ module _ (system : Equations) (z : Vector) (p r : ℕ) where
       by false m = absurd m
 
   -- a position that exceeds is offered
-  pub exceeds_offered : r < length system.template → (j : ℕ) → Exceeds (exact_offer system z p r) j → (n : ℕ) × (slice_get (exact_offer system z p r).edges j ≡ Some n) × In (offers system (transformer system) z p r) n
+  pub exceeds_offered : r < length system.template → (j : ℕ) → Exceeds (exact_offer system z p r) j
+      → (n : ℕ) × (slice_get (exact_offer system z p r).edges j ≡ Some n) × In (offers system (transformer system) z p r) n
   unfolding offers exact_offer
   exceeds_offered l j h =
-      let f = edge_of_position 0 system.edges j h in
-      (f.0, f.1, subst (λ b. In (if b then exceeding system (transformer system) z p r 0 system.edges else []) f.0) (sym (lt-ltb r (length system.template) l)) f.2)
+      let f = edge_of_position 0 system.edges j h in (
+        f.0,
+        f.1,
+        subst (λ b. In (if b then exceeding system (transformer system) z p r 0 system.edges else []) f.0)
+            (sym (lt-ltb r (length system.template) l)) f.2,
+      )
 
   -- where nothing is offered, nothing exceeds
-  pub nothing_exceeds : offers system (transformer system) z p r ≡ [] → r < length system.template → SomeExceeds (exact_offer system z p r) → ⊥
+  pub nothing_exceeds : offers system (transformer system) z p r ≡ [] → r < length system.template → SomeExceeds (exact_offer system z p r)
+      → ⊥
   nothing_exceeds e l s = let f = exceeds_offered l s.0 s.1 in subst (λ os. In os f.0) e f.2
 
   -- where something is offered, something exceeds
@@ -221,7 +263,8 @@ module _ (system : Equations) (z : Vector) (p r : ℕ) where
   something_exceeds k ks e = let f = offered_exceeds k (subst (λ os. In os k) (sym e) (inl refl)) in (f.0, f.2)
 
   -- each position that exceeds is that of an edge into the point
-  pub exceeding_edge : (j : ℕ) → Exceeds (exact_offer system z p r) j → (edge : Edge) × Contains system.edges edge × (edge.to ≡ p) × (z p r <ᴱ transformer system z edge (get_or system.template r []))
+  pub exceeding_edge : (j : ℕ) → Exceeds (exact_offer system z p r) j →
+      (edge : Edge) × Contains system.edges edge × (edge.to ≡ p) × (z p r <ᴱ transformer system z edge (get_or system.template r []))
   unfolding exact_offer
   exceeding_edge j h =
       let f = edge_of_position 0 system.edges j h in
@@ -229,5 +272,6 @@ module _ (system : Equations) (z : Vector) (p r : ℕ) where
         s.edge,
         contains_at system.edges s.place s.edge s.is_edge,
         s.into,
-        subst (λ v. z p r <ᴱ v) (get_or_from_slice_get (map T (edges_into p system.edges)) j (T s.edge) neg_inf (slice_get-map T (edges_into p system.edges) j ∙ ap (option_map T) s.at)) h,
+        subst (λ v. z p r <ᴱ v) (get_or_from_slice_get (map T (edges_into p system.edges)) j (T s.edge) neg_inf
+            (slice_get-map T (edges_into p system.edges) j ∙ ap (option_map T) s.at)) h,
       )

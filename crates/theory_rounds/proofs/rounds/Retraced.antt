@@ -39,14 +39,26 @@ least_agrees system v w h l = record {
   where
     closed : (edge : Edge) (x y : RationalState) → Transition system w edge x y → Fits system w edge.to y
     closed edge x y t r row e =
-        subst (λ b. fin (dotℚ row y) ≤ᴱ b) (h edge.to r (slice_get_within system.template r row e)) (l.solves.post.closed edge x y (transition_agrees system w v edge x y (agree_sym system v w h) t) r row e)
+        subst (λ b. fin (dotℚ row y) ≤ᴱ b) (h edge.to r (slice_get_within system.template r row e))
+        (l.solves.post.closed edge x y (transition_agrees system w v edge x y (agree_sym system v w h) t) r row e)
 
-    supported : (p r : ℕ) (row : List ℤ) (number : Ext) → 0 < p → p < system.points → slice_get system.template r ≡ Some row → number <ᴱ w p r → ExceedsBy system w p row number
+    supported : (p r : ℕ) (row : List ℤ) (number : Ext) → 0 < p → p < system.points → slice_get system.template r ≡ Some row
+        → number <ᴱ w p r → ExceedsBy system w p row number
     supported p r row number later within e g =
-        let x = l.solves.supported p r row number later within e (subst (λ b. number <ᴱ b) (sym (h p r (slice_get_within system.template r row e))) g) in
-        record { edge = x.edge; before = x.before; after = x.after; into = x.into; transition = transition_agrees system v w x.edge x.before x.after h x.transition; exceeds = x.exceeds }
+        let x = l.solves.supported p r row number later within e (subst (λ b. number <ᴱ b)
+        (sym (h p r (slice_get_within system.template r row e))) g) in
+        record {
+          edge = x.edge;
+          before = x.before;
+          after = x.after;
+          into = x.into;
+          transition =
+              transition_agrees system v w x.edge x.before x.after h x.transition;
+          exceeds = x.exceeds;
+        }
 
-module _ (fitting : ℚ → Bool) (system : Equations) (range : PointsInRange system) (policy : Offer → ℕ → Type 0) (n : ℕ) (vectors : ℕ → Vector) (picks : ℕ → Pick)
+module _ (fitting : ℚ → Bool) (system : Equations) (range : PointsInRange system) (policy : Offer → ℕ → Type 0) (n : ℕ)
+    (vectors : ℕ → Vector) (picks : ℕ → Pick)
     (chain : IsChain system policy n vectors picks) where
   -- the choices of the chain's picks
   choose : ℕ → Choice
@@ -75,9 +87,12 @@ module _ (fitting : ℚ → Bool) (system : Equations) (range : PointsInRange sy
       edge = chain.next_pick k l p r m
 
       same : edge.offer ≡ exact_offer system (now k).vector p r
-      same = offer_one system (vectors k) p r edge.offer (exact_offer system (now k).vector p r) edge.is_offer (offer_agrees system (now k).vector (vectors k) p r (exact_offer system (now k).vector p r) at.vector m (offer_meant system (now k).vector p r m))
+      same = offer_one system (vectors k) p r edge.offer (exact_offer system (now k).vector p r) edge.is_offer
+          (offer_agrees system (now k).vector (vectors k) p r (exact_offer system (now k).vector p r) at.vector m
+          (offer_meant system (now k).vector p r m))
 
-      by : (os : List ℕ) → offers system (transformer system) (now k).vector p r ≡ os → taken system (transformer system) (now k).vector (choose k p r) os ((now k).pick p r) ≡ picks (suc k) p r
+      by : (os : List ℕ) → offers system (transformer system) (now k).vector p r ≡ os
+          → taken system (transformer system) (now k).vector (choose k p r) os ((now k).pick p r) ≡ picks (suc k) p r
       by [] e = at.pick p r m ∙ sym (edge.kept (λ s. nothing_exceeds system (now k).vector p r e m (subst SomeExceeds same s)))
       by (o ∷ os) e =
           let t = edge.taken (subst SomeExceeds (sym same) (something_exceeds system (now k).vector p r o os e)) in
@@ -91,10 +106,13 @@ module _ (fitting : ℚ → Bool) (system : Equations) (range : PointsInRange sy
     where
       by : (o : Option Pick) → exact_next system (choose k) (now k).vector (now k).pick ≡ o → Goes system (choose k) (now k)
       by (Some better) e = (better, e)
-      by None e = absurd (ended_or_not system (now k).vector (vectors k) at.vector (end_meant system (now k).vector (state_ends fitting system range choose among k at.goes e)) (chain.goes k l))
+      by None e = absurd (ended_or_not system (now k).vector (vectors k) at.vector
+          (end_meant system (now k).vector (state_ends fitting system range choose among k at.goes e)) (chain.goes k l))
 
-  joined : (k : ℕ) → ((j : ℕ) → j < k → Goes system (choose j) (now j)) → Goes system (choose k) (now k) → (j : ℕ) → j < suc k → Goes system (choose j) (now j)
-  joined k goes g j l = ⊎_elim (λ h. goes j h) (λ h. subst (λ i. Goes system (choose i) (now i)) (let e : k ≡ j = omega arith in e) g) (cases_lt j k)
+  joined : (k : ℕ) → ((j : ℕ) → j < k → Goes system (choose j) (now j)) → Goes system (choose k) (now k) → (j : ℕ) → j < suc k
+      → Goes system (choose j) (now j)
+  joined k goes g j l = ⊎_elim (λ h. goes j h) (λ h. subst (λ i. Goes system (choose i) (now i)) (let e : k ≡ j = omega arith in e) g)
+      (cases_lt j k)
 
   at_chain : (k : ℕ) → k ≤ n → IsAt k
   unfolding state start_vector
@@ -114,8 +132,10 @@ module _ (fitting : ℚ → Bool) (system : Equations) (range : PointsInRange sy
           ap (λ (x : Pick). x p r) (next_changed fitting system choose k g.0 g.1) ∙ changed_is k l at p r m in
           record {
             goes = goes;
-            vector = next_agrees system (now k).vector (vectors k) (now (suc k)).pick (picks (suc k)) (now (suc k)).vector (vectors (suc k)) at.vector pick
-                (above_meant system (now (suc k)).pick made.supported.is_pick (now k).vector (now (suc k)).vector made.done.above) (chain.next_vector k l);
+            vector = next_agrees system (now k).vector (vectors k) (now (suc k)).pick (picks (suc k)) (now (suc k)).vector (vectors (suc k))
+                at.vector pick
+                (above_meant system (now (suc k)).pick made.supported.is_pick (now k).vector (now (suc k)).vector made.done.above)
+                (chain.next_vector k l);
             pick = pick;
           }
 
@@ -148,8 +168,10 @@ module _ (fitting : ℚ → Bool) (system : Equations) (range : PointsInRange sy
       at = at_chain n (omega arith)
 
       by : (o : Option Pick) → exact_next system (choose n) (now n).vector (now n).pick ≡ o → Least system (vectors n)
-      by None e = least_agrees system (now n).vector (vectors n) at.vector (state_least fitting system range choose among n at.goes (state_ends fitting system range choose among n at.goes e))
-      by (Some better) e = absurd (ended_or_not system (vectors n) (now n).vector (agree_sym system (now n).vector (vectors n) at.vector) ended (goes_exceeded system (now n).vector (choose n) (now n).pick better e))
+      by None e = least_agrees system (now n).vector (vectors n) at.vector
+          (state_least fitting system range choose among n at.goes (state_ends fitting system range choose among n at.goes e))
+      by (Some better) e = absurd (ended_or_not system (vectors n) (now n).vector (agree_sym system (now n).vector (vectors n) at.vector)
+          ended (goes_exceeded system (now n).vector (choose n) (now n).pick better e))
 
 -- no test of numbers
 pub none_fits : ℚ → Bool

@@ -1,5 +1,6 @@
 -- The growth raises no unknown twice.
-use Rattle.std.proofs.Common.{◌≡◌, ◌∙◌, ◌⊎◌, inl, inr, ⊎_elim, ℕ, zero, suc, ◌+◌, ◌<◌, ◌≤◌, List, [], ◌∷◌, ◌++◌, length, refl, sym, ap, subst, subst₂, arith}
+use Rattle.std.proofs.Common.{◌≡◌, ◌∙◌, ◌⊎◌, inl, inr, ⊎_elim, ℕ, zero, suc, ◌+◌, ◌<◌, ◌≤◌, List, [], ◌∷◌, ◌++◌, length, refl, sym, ap}
+use Rattle.std.proofs.Common.{subst, subst₂, arith}
 use Rattle.std.specs.Prelude.{ℤ, Bool, Option, Some, None, flat_map}
 use Rattle.std.specs.List.{range_with_len}
 use Rattle.base_facts.proofs.elements.Membership.{of_append, of_flat_map}
@@ -24,9 +25,13 @@ unnamed_both [] ys p r a b = b
 unnamed_both (x ∷ xs) ys p r a b = (a.0, unnamed_both xs ys p r a.1 b)
 
 -- distinct lists that name no unknown of one another
-pub distinct_append : (xs ys : List Item) → Distinct xs → Distinct ys → ((x : Item) → In xs x → Unnamed ys x.point x.row) → Distinct (xs ++ ys)
+pub distinct_append : (xs ys : List Item) → Distinct xs → Distinct ys → ((x : Item) → In xs x → Unnamed ys x.point x.row)
+    → Distinct (xs ++ ys)
 distinct_append [] ys a b apart = b
-distinct_append (x ∷ xs) ys a b apart = (unnamed_both xs ys x.point x.row a.0 (apart x (inl refl)), distinct_append xs ys a.1 b (λ y m. apart y (inr m)))
+distinct_append (x ∷ xs) ys a b apart = (
+  unnamed_both xs ys x.point x.row a.0 (apart x (inl refl)),
+  distinct_append xs ys a.1 b (λ y m. apart y (inr m)),
+)
 
 Increasing : List ℕ → Type 0
 Increasing [] = Unit {0}
@@ -42,7 +47,8 @@ range_increasing a zero = tt
 range_increasing a (suc n) = ((λ y m. let h = range_above (a + 1) n y m in omega arith), range_increasing (a + 1) n)
 
 -- lists whose members differ in a key that increases
-distinct_flat : (f : ℕ → List Item) (key : Item → ℕ) (xs : List ℕ) → Increasing xs → ((k : ℕ) → Distinct (f k)) → ((k : ℕ) (u : Item) → In (f k) u → key u ≡ k) →
+distinct_flat : (f : ℕ → List Item) (key : Item → ℕ) (xs : List ℕ) → Increasing xs → ((k : ℕ) → Distinct (f k))
+    → ((k : ℕ) (u : Item) → In (f k) u → key u ≡ k) →
     ((u v : Item) → u.point ≡ v.point → u.row ≡ v.row → key u ≡ key v) → Distinct (flat_map f xs)
 unfolding Increasing
 distinct_flat f key [] h each at respects = tt
@@ -68,10 +74,13 @@ choice_at_distinct p r (Some k) = (tt, tt)
 pub choices_distinct : (system : Equations) (pick : Pick) → Distinct (choices system pick)
 unfolding choices
 choices_distinct system pick =
-    distinct_flat (λ p. flat_map (λ r. choice_at p r (pick p r)) (range_with_len 0 (length system.template))) (λ u. u.point) (range_with_len 0 system.points) (range_increasing 0 system.points)
-    (λ p. distinct_flat (λ r. choice_at p r (pick p r)) (λ u. u.row) (range_with_len 0 (length system.template)) (range_increasing 0 (length system.template))
+    distinct_flat (λ p. flat_map (λ r. choice_at p r (pick p r)) (range_with_len 0 (length system.template))) (λ u. u.point)
+    (range_with_len 0 system.points) (range_increasing 0 system.points)
+    (λ p. distinct_flat (λ r. choice_at p r (pick p r)) (λ u. u.row) (range_with_len 0 (length system.template))
+    (range_increasing 0 (length system.template))
     (λ r. choice_at_distinct p r (pick p r)) (λ r u m. (choice_at_is p r (pick p r) u m).1) (λ u v e g. g))
-    (λ p u m. let y = of_flat_map (λ r. choice_at p r (pick p r)) (range_with_len 0 (length system.template)) u m in (choice_at_is p y.0 (pick p y.0) u y.2).0)
+    (λ p u m. let y = of_flat_map (λ r. choice_at p r (pick p r)) (range_with_len 0 (length system.template)) u m in
+    (choice_at_is p y.0 (pick p y.0) u y.2).0)
     (λ u v e g. e)
 
 -- ---- the log's unknowns
@@ -94,10 +103,12 @@ items_unnamed us log a p r n = unnamed_by_all (items_of log.steps) p r (λ v m e
     let u = a.from v m in not_unnamed us u.0 u.1 (subst₂ (λ s t. Unnamed us s t) (sym (sym u.2.point ∙ e)) (sym (sym u.2.row ∙ f)) n))
 
 left_unnamed : (us : List Item) (log : Log) → Apart us log → (p r : ℕ) → Unnamed us p r → Unnamed log.left p r
-left_unnamed us log a p r n = unnamed_by_all log.left p r (λ v m e f. not_unnamed us v (a.within v m) (subst₂ (λ s t. Unnamed us s t) (sym e) (sym f) n))
+left_unnamed us log a p r n = unnamed_by_all log.left p r (λ v m e f. not_unnamed us v (a.within v m)
+    (subst₂ (λ s t. Unnamed us s t) (sym e) (sym f) n))
 
 module _ (fitting : ℚ → Bool) (system : Equations) (T : Transformer) (reaches : Evident system T)
-    (sizes : (z : Vector) (edge : Edge) (row : List ℤ) → Sizes system z edge row (T z edge row) (reaches z edge row)) (pick : Pick) (is_pick : IsPick system pick) where
+    (sizes : (z : Vector) (edge : Edge) (row : List ℤ) → Sizes system z edge row (T z edge row) (reaches z edge row)) (pick : Pick)
+    (is_pick : IsPick system pick) where
   stay_apart : (u : Item) (us : List Item) (log : Log) → Unnamed us u.point u.row → Apart us log → Apart (u ∷ us) (stay u log)
   unfolding stay
   stay_apart u us log n a =
@@ -106,15 +117,21 @@ module _ (fitting : ℚ → Bool) (system : Equations) (T : Transformer) (reache
         distinct = a.distinct;
         within = λ v m. ⊎_elim (λ e. inl e) (λ k. inr (a.within v k)) m;
         left_distinct = (left_unnamed us log a u.point u.row n, a.left_distinct);
-        left_apart = λ v m. ⊎_elim (λ e. subst (λ w. Unnamed (items_of log.steps) w.point w.row) e (items_unnamed us log a u.point u.row n)) (λ k. a.left_apart v k) m;
+        left_apart = λ v m. ⊎_elim (λ e. subst (λ w. Unnamed (items_of log.steps) w.point w.row) e (items_unnamed us log a u.point u.row n))
+            (λ k. a.left_apart v k) m;
       }
 
-  go_apart : (z : Vector) (u : Item) (us : List Item) (s : Step) (log : Log) → (r : Raise system T pick z s) → SameChoice r.item u → Unnamed us u.point u.row → Apart us log → Apart (u ∷ us) (go s log)
+  go_apart : (z : Vector) (u : Item) (us : List Item) (s : Step) (log : Log) → (r : Raise system T pick z s) → SameChoice r.item u
+      → Unnamed us u.point u.row → Apart us log → Apart (u ∷ us) (go s log)
   unfolding go items_of
   go_apart z u us s log r same n a =
       record {
-        from = λ v m. ⊎_elim (λ k. one v (subst (λ l. In l v) r.single k)) (λ k. let w = a.from v k in (w.0, inr w.1, w.2)) (of_append s.items (items_of log.steps) v m);
-        distinct = subst (λ l. Distinct (l ++ items_of log.steps)) (sym r.single) (subst₂ (λ p q. Unnamed (items_of log.steps) p q) (sym same.point) (sym same.row) (items_unnamed us log a u.point u.row n), a.distinct);
+        from = λ v m. ⊎_elim (λ k. one v (subst (λ l. In l v) r.single k)) (λ k. let w = a.from v k in (w.0, inr w.1, w.2))
+            (of_append s.items (items_of log.steps) v m);
+        distinct = subst (λ l. Distinct (l ++ items_of log.steps)) (sym r.single) (
+          subst₂ (λ p q. Unnamed (items_of log.steps) p q) (sym same.point) (sym same.row) (items_unnamed us log a u.point u.row n),
+          a.distinct,
+        );
         within = λ v m. inr (a.within v m);
         left_distinct = a.left_distinct;
         left_apart = λ v m. subst (λ l. Unnamed (l ++ items_of log.steps) v.point v.row) (sym r.single)
@@ -128,33 +145,50 @@ module _ (fitting : ℚ → Bool) (system : Equations) (T : Transformer) (reache
 
       other : (v : Item) → In log.left v → (w : Item) → In (r.item ∷ []) w → w.point ≡ v.point → w.row ≡ v.row → ⊥
       other v m w (inl g) e f =
-          not_unnamed us v (a.within v m) (subst₂ (λ p q. Unnamed us p q) (sym same.point ∙ ap (λ i. i.point) g ∙ e) (sym same.row ∙ ap (λ i. i.row) g ∙ f) n)
+          not_unnamed us v (a.within v m) (subst₂ (λ p q. Unnamed us p q) (sym same.point ∙ ap (λ i. i.point) g ∙ e)
+          (sym same.row ∙ ap (λ i. i.row) g ∙ f) n)
       other v m w (inr k) e f = absurd k
 
-  pass_apart : (us : List Item) (z : Vector) → ((u : Item) → In us u → Picks pick u) → Distinct us → Apart us (pass fitting system T reaches z us)
+  pass_apart : (us : List Item) (z : Vector) → ((u : Item) → In us u → Picks pick u) → Distinct us
+      → Apart us (pass fitting system T reaches z us)
   unfolding pass items_of
-  pass_apart [] z picked d = record { from = λ v m. absurd m; distinct = tt; within = λ v m. m; left_distinct = tt; left_apart = λ v m. absurd m }
+  pass_apart [] z picked d = record {
+    from = λ v m. absurd m;
+    distinct = tt;
+    within = λ v m. m;
+    left_distinct = tt;
+    left_apart =
+        λ v m. absurd m;
+  }
   pass_apart (u ∷ us) z picked d =
-      by (pass_apart us z (λ v m. picked v (inr m)) d.1) (pass_apart us (after_step (raise_at fitting system T reaches z u) z) (λ v m. picked v (inr m)) d.1) (ext_le_or_lt (value_at system T z u) (z u.point u.row))
+      by (pass_apart us z (λ v m. picked v (inr m)) d.1) (pass_apart us (after_step (raise_at fitting system T reaches z u) z)
+      (λ v m. picked v (inr m)) d.1) (ext_le_or_lt (value_at system T z u) (z u.point u.row))
     where
-      by : Apart us (pass fitting system T reaches z us) → Apart us (pass fitting system T reaches (after_step (raise_at fitting system T reaches z u) z) us) →
+      by : Apart us (pass fitting system T reaches z us) → Apart us (pass fitting system T reaches
+          (after_step (raise_at fitting system T reaches z u) z) us) →
           (o : (value_at system T z u ≤ᴱ z u.point u.row) ⊎ (z u.point u.row <ᴱ value_at system T z u)) →
           Apart (u ∷ us) (⊎_elim (λ h. stay u (pass fitting system T reaches z us))
-          (λ h. go (raise_at fitting system T reaches z u) (pass fitting system T reaches (after_step (raise_at fitting system T reaches z u) z) us)) o)
+          (λ h. go (raise_at fitting system T reaches z u) (pass fitting system T reaches
+          (after_step (raise_at fitting system T reaches z u) z) us)) o)
       by a b (inl h) = stay_apart u us (pass fitting system T reaches z us) d.0 a
       by a b (inr h) =
           let p = picked u (inl refl) in
           let r = raise_is fitting system T reaches sizes pick z u (is_pick u p) p h in
-          go_apart z u us (raise_at fitting system T reaches z u) (pass fitting system T reaches (after_step (raise_at fitting system T reaches z u) z) us) r.0 r.1 d.0 b
+          go_apart z u us (raise_at fitting system T reaches z u) (pass fitting system T reaches
+          (after_step (raise_at fitting system T reaches z u) z) us) r.0 r.1 d.0 b
 
-  join_apart : (us : List Item) (log rest : Log) → Apart us log → Apart log.left rest → Apart us (record { steps = log.steps ++ rest.steps; left = rest.left })
+  join_apart : (us : List Item) (log rest : Log) → Apart us log → Apart log.left rest
+      → Apart us (record { steps = log.steps ++ rest.steps; left = rest.left })
   join_apart us log rest a b =
       record {
-        from = λ v m. ⊎_elim (λ k. a.from v k) (λ k. let w = b.from v k in (w.0, a.within w.0 w.1, w.2)) (of_append (items_of log.steps) (items_of rest.steps) v (subst (λ l. In l v) (items-append log.steps rest.steps) m));
-        distinct = subst Distinct (sym (items-append log.steps rest.steps)) (distinct_append (items_of log.steps) (items_of rest.steps) a.distinct b.distinct
+        from = λ v m. ⊎_elim (λ k. a.from v k) (λ k. let w = b.from v k in (w.0, a.within w.0 w.1, w.2))
+            (of_append (items_of log.steps) (items_of rest.steps) v (subst (λ l. In l v) (items-append log.steps rest.steps) m));
+        distinct = subst Distinct (sym (items-append log.steps rest.steps))
+            (distinct_append (items_of log.steps) (items_of rest.steps) a.distinct b.distinct
             (λ v m. unnamed_by_all (items_of rest.steps) v.point v.row (λ w k e f.
             let x = b.from w k in
-            not_unnamed (items_of log.steps) v m (subst₂ (λ p q. Unnamed (items_of log.steps) p q) (sym x.2.point ∙ e) (sym x.2.row ∙ f) (a.left_apart x.0 x.1)))));
+            not_unnamed (items_of log.steps) v m (subst₂ (λ p q. Unnamed (items_of log.steps) p q) (sym x.2.point ∙ e) (sym x.2.row ∙ f)
+            (a.left_apart x.0 x.1)))));
         within = λ v m. a.within v (b.within v m);
         left_distinct = b.left_distinct;
         left_apart = λ v m. subst (λ l. Unnamed l v.point v.row) (sym (items-append log.steps rest.steps))
@@ -162,16 +196,28 @@ module _ (fitting : ℚ → Bool) (system : Equations) (T : Transformer) (reache
       }
 
   -- the passes raise no unknown twice
-  pub passes_apart : (n : ℕ) (us : List Item) (z : Vector) → ((u : Item) → In us u → Picks pick u) → Distinct us → Apart us (passes fitting system T reaches n z us)
+  pub passes_apart : (n : ℕ) (us : List Item) (z : Vector) → ((u : Item) → In us u → Picks pick u) → Distinct us
+      → Apart us (passes fitting system T reaches n z us)
   unfolding passes items_of continue
-  passes_apart zero us z picked d = record { from = λ v m. absurd m; distinct = tt; within = λ v m. m; left_distinct = d; left_apart = λ v m. tt }
+  passes_apart zero us z picked d = record {
+    from = λ v m. absurd m;
+    distinct = tt;
+    within = λ v m. m;
+    left_distinct = d;
+    left_apart =
+        λ v m. tt;
+  }
   passes_apart (suc n) us z picked d =
       let log = pass fitting system T reaches z us in
       let a = pass_apart us z picked d in
       by a (passes_apart n log.left (after_steps log.steps z) (λ u m. picked u (a.within u m)) a.left_distinct) log.steps
     where
       by : Apart us (pass fitting system T reaches z us) → Apart (pass fitting system T reaches z us).left
-          (passes fitting system T reaches n (after_steps (pass fitting system T reaches z us).steps z) (pass fitting system T reaches z us).left) →
-          (steps : List Step) → Apart us (continue steps (pass fitting system T reaches z us) z (λ y left. passes fitting system T reaches n y left))
+          (passes fitting system T reaches n (after_steps (pass fitting system T reaches z us).steps z)
+          (pass fitting system T reaches z us).left) →
+          (steps : List Step) → Apart us (continue steps (pass fitting system T reaches z us) z
+          (λ y left. passes fitting system T reaches n y left))
       by a b [] = a
-      by a b (s ∷ ss) = join_apart us (pass fitting system T reaches z us) (passes fitting system T reaches n (after_steps (pass fitting system T reaches z us).steps z) (pass fitting system T reaches z us).left) a b
+      by a b (s ∷ ss) = join_apart us (pass fitting system T reaches z us)
+          (passes fitting system T reaches n (after_steps (pass fitting system T reaches z us).steps z)
+          (pass fitting system T reaches z us).left) a b

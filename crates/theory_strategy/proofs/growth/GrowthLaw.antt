@@ -46,13 +46,15 @@ Raises system T pick z [] = Unit {0}
 Raises system T pick z (step ∷ steps) = Raise system T pick z step × Raises system T pick (after_step step z) steps
 
 -- raises after raises
-pub raises_append : (system : Equations) (T : Transformer) (pick : Pick) (a b : List Step) (z : Vector) → Raises system T pick z a → Raises system T pick (after_steps a z) b → Raises system T pick z (a ++ b)
+pub raises_append : (system : Equations) (T : Transformer) (pick : Pick) (a b : List Step) (z : Vector) → Raises system T pick z a
+    → Raises system T pick (after_steps a z) b → Raises system T pick z (a ++ b)
 unfolding after_steps
 raises_append system T pick [] b z h i = i
 raises_append system T pick (s ∷ a) b z h i = (h.0, raises_append system T pick a b (after_step s z) h.1 i)
 
 -- raises are valid steps
-pub raises_valid : (system : Equations) (T : Transformer) (pick : Pick) (steps : List Step) (z : Vector) → Raises system T pick z steps → ValidSteps system z steps
+pub raises_valid : (system : Equations) (T : Transformer) (pick : Pick) (steps : List Step) (z : Vector) → Raises system T pick z steps
+    → ValidSteps system z steps
 raises_valid system T pick [] z h = tt
 raises_valid system T pick (s ∷ steps) z h = (h.0.valid, raises_valid system T pick steps (after_step s z) h.1)
 
@@ -81,14 +83,20 @@ module _ (system : Equations) (T : Transformer) (reaches : Evident system T) (pi
       later : Raised system T pick (after_step s z) f u → Raised system T pick z f u
       later r = record {
         picked = r.picked;
-        rises = ext_lt_of_le_of_lt (z u.point u.row) (after_step s z u.point u.row) (f u.point u.row) (step_up system z s h.valid u.point u.row ((is_pick u r.picked).row_within)) r.rises;
+        rises = ext_lt_of_le_of_lt (z u.point u.row) (after_step s z u.point u.row) (f u.point u.row)
+            (step_up system z s h.valid u.point u.row ((is_pick u r.picked).row_within)) r.rises;
         settled = r.settled;
       }
 
       again : ((v : Item) × In (items_of steps) v × (v.point ≡ h.item.point) × (v.row ≡ h.item.row)) → Settled system T f h.item
       again v =
           let r = known v.0 v.1 in
-          settled_same system T f v.0 h.item (record { point = v.2; row = v.3; edge = picks_same pick v.0 h.item v.2 v.3 r.picked h.picked }) r.settled
+          settled_same system T f v.0 h.item (record {
+            point = v.2;
+            row = v.3;
+            edge =
+                picks_same pick v.0 h.item v.2 v.3 r.picked h.picked;
+          }) r.settled
 
       here : In (h.item ∷ []) u → Raised system T pick z f u
       here (inr k) = absurd k
@@ -96,22 +104,26 @@ module _ (system : Equations) (T : Transformer) (reaches : Evident system T) (pi
         picked = h.picked;
         rises = ext_lt_of_lt_of_le (z h.item.point h.item.row) (after_step s z h.item.point h.item.row) (f h.item.point h.item.row) h.rises
             (up h.item.point h.item.row ((is_pick h.item h.picked).row_within));
-        settled = ⊎_elim (λ v. again v) (λ n. settled_later system T reaches (after_step s z) f h.item up (led_unnamed steps (after_step s z) h.item.point h.item.row n) h.settled)
+        settled = ⊎_elim (λ v. again v) (λ n. settled_later system T reaches (after_step s z) f h.item up
+            (led_unnamed steps (after_step s z) h.item.point h.item.row n) h.settled)
             (named_or_not (items_of steps) h.item.point h.item.row);
       })
 
   -- an item of the raises is a raised unknown
-  pub raised_is : (steps : List Step) (z : Vector) → Raises system T pick z steps → (u : Item) → In (items_of steps) u → Raised system T pick z (after_steps steps z) u
+  pub raised_is : (steps : List Step) (z : Vector) → Raises system T pick z steps → (u : Item) → In (items_of steps) u
+      → Raised system T pick z (after_steps steps z) u
   unfolding after_steps items_of
   raised_is [] z h u m = absurd m
   raised_is (s ∷ steps) z h u m = raised_more s steps z h.0 h.1 (λ v k. raised_is steps (after_step s z) h.1 v k) u m
 
   -- raises lead to at most every closed vector that is at least the first
-  pub raises_below : (steps : List Step) (z q : Vector) → Raises system T pick z steps → Closed system T q pick → Below system z q → Below system (after_steps steps z) q
+  pub raises_below : (steps : List Step) (z q : Vector) → Raises system T pick z steps → Closed system T q pick → Below system z q
+      → Below system (after_steps steps z) q
   unfolding after_steps
   raises_below [] z q h closed below = below
   raises_below (s ∷ steps) z q h closed below =
-      raises_below steps (after_step s z) q h.1 closed (step_below system z q s h.0.valid below (λ u m. one u (subst (λ l. In l u) h.0.single m)))
+      raises_below steps (after_step s z) q h.1 closed (step_below system z q s h.0.valid below
+      (λ u m. one u (subst (λ l. In l u) h.0.single m)))
     where
       one : (u : Item) → In (h.0.item ∷ []) u → Upper system q (edge_of system u) (row_of system u) (q u.point u.row)
       one u (inl e) = subst (λ v. Upper system q (edge_of system v) (row_of system v) (q v.point v.row)) e
@@ -119,10 +131,12 @@ module _ (system : Equations) (T : Transformer) (reaches : Evident system T) (pi
       one u (inr m) = absurd m
 
   -- the items of raises are picked
-  pub raises_picked : (steps : List Step) (z : Vector) → Raises system T pick z steps → (s : Step) → In steps s → (u : Item) → In s.items u → Picks pick u
+  pub raises_picked : (steps : List Step) (z : Vector) → Raises system T pick z steps → (s : Step) → In steps s → (u : Item) → In s.items u
+      → Picks pick u
   raises_picked [] z h s m u k = absurd m
   raises_picked (first ∷ steps) z h s m u k =
-      ⊎_elim (λ e. one (subst (λ l. In l u) h.0.single (subst (λ t. In t.items u) (sym e) k))) (λ j. raises_picked steps (after_step first z) h.1 s j u k) m
+      ⊎_elim (λ e. one (subst (λ l. In l u) h.0.single (subst (λ t. In t.items u) (sym e) k)))
+      (λ j. raises_picked steps (after_step first z) h.1 s j u k) m
     where
       one : In (h.0.item ∷ []) u → Picks pick u
       one (inl e) = subst (Picks pick) e h.0.picked

@@ -24,7 +24,10 @@ midpoint : (b v : ℚ) → b <ℚ v → (b <ℚ (b +ℚ v) /ℚ whole (pos 2)) �
 midpoint b v h = by ((b +ℚ v) /ℚ whole (pos 2)) (quotient_times (b +ℚ v) (whole (pos 2)) (λ e. ne_of_lt_ℚ two_pos (sym e)))
   where
     by : (m : ℚ) → m *ℚ whole (pos 2) ≡ b +ℚ v → (b <ℚ m) × (m <ℚ v)
-    by m e = (lin_lt (m ∷ b ∷ v ∷ []) (eq e ∷ lt h ∷ []) (search reads_all depth 40) tt, lin_lt (m ∷ b ∷ v ∷ []) (eq e ∷ lt h ∷ []) (search reads_all depth 40) tt)
+    by m e = (
+      lin_lt (m ∷ b ∷ v ∷ []) (eq e ∷ lt h ∷ []) (search reads_all depth 40) tt,
+      lin_lt (m ∷ b ∷ v ∷ []) (eq e ∷ lt h ∷ []) (search reads_all depth 40) tt,
+    )
 
 both_true : (a b : Bool) → a && b ≡ true → T b
 both_true true true e = tt
@@ -37,7 +40,8 @@ unfolding between
 between_is fitting b v h = by (fitting (whole (floor b +ℤ pos 1)) && lt_ℚ (whole (floor b +ℤ pos 1)) v) refl
   where
     by : (t : Bool) → fitting (whole (floor b +ℤ pos 1)) && lt_ℚ (whole (floor b +ℤ pos 1)) v ≡ t →
-        (b <ℚ (if t then whole (floor b +ℤ pos 1) else (b +ℚ v) /ℚ whole (pos 2))) × ((if t then whole (floor b +ℤ pos 1) else (b +ℚ v) /ℚ whole (pos 2)) <ℚ v)
+        (b <ℚ (if t then whole (floor b +ℤ pos 1) else (b +ℚ v) /ℚ whole (pos 2)))
+        × ((if t then whole (floor b +ℤ pos 1) else (b +ℚ v) /ℚ whole (pos 2)) <ℚ v)
     by true e = (lt_floor b, record { lt = both_true (fitting (whole (floor b +ℤ pos 1))) (lt_ℚ (whole (floor b +ℤ pos 1)) v) e })
     by false e = midpoint b v h
 
@@ -57,18 +61,27 @@ pub record Exceeding (system : Equations) (z : Vector) (edge : Edge) (row : List
   -- its end value exceeds the bound
   pub exceeds : bound <ᴱ fin (end_value system edge row w)
 
-long_enough : (b e rate : ℚ) → zero_ℚ <ℚ rate → e ≤ℚ b → (zero_ℚ ≤ℚ whole (floor ((b -ℚ e) /ℚ rate) +ℤ pos 1)) × (b <ℚ e +ℚ whole (floor ((b -ℚ e) /ℚ rate) +ℤ pos 1) *ℚ rate)
-long_enough b e rate h i = by ((b -ℚ e) /ℚ rate) (whole (floor ((b -ℚ e) /ℚ rate) +ℤ pos 1)) (quotient_times (b -ℚ e) rate (λ f. ne_of_lt_ℚ h (sym f))) (lt_floor ((b -ℚ e) /ℚ rate))
+long_enough : (b e rate : ℚ) → zero_ℚ <ℚ rate → e ≤ℚ b → (zero_ℚ ≤ℚ whole (floor ((b -ℚ e) /ℚ rate) +ℤ pos 1))
+    × (b <ℚ e +ℚ whole (floor ((b -ℚ e) /ℚ rate) +ℤ pos 1) *ℚ rate)
+long_enough b e rate h i = by ((b -ℚ e) /ℚ rate) (whole (floor ((b -ℚ e) /ℚ rate) +ℤ pos 1))
+    (quotient_times (b -ℚ e) rate (λ f. ne_of_lt_ℚ h (sym f))) (lt_floor ((b -ℚ e) /ℚ rate))
   where
     early : (q t : ℚ) → q *ℚ rate ≡ b -ℚ e → q <ℚ t → t <ℚ zero_ℚ → ⊥
-    early q t f l k = lin_false (q ∷ t ∷ b ∷ e ∷ rate ∷ []) (gt0 (*ℚ_pos (gap_lt l) h) ∷ gt0 (*ℚ_pos (gap_lt k) h) ∷ eq f ∷ le i ∷ []) (search reads_all depth 40) tt
+    early q t f l k = lin_false (q ∷ t ∷ b ∷ e ∷ rate ∷ []) (gt0 (*ℚ_pos (gap_lt l) h) ∷ gt0 (*ℚ_pos (gap_lt k) h) ∷ eq f ∷ le i ∷ [])
+        (search reads_all depth 40) tt
 
     by : (q t : ℚ) → q *ℚ rate ≡ b -ℚ e → q <ℚ t → (zero_ℚ ≤ℚ t) × (b <ℚ e +ℚ t *ℚ rate)
-    by q t f l = (le_of_not_lt_ℚ (λ k. early q t f l k), lin_lt (q ∷ t ∷ b ∷ e ∷ rate ∷ []) (gt0 (*ℚ_pos (gap_lt l) h) ∷ eq f ∷ []) (search reads_all depth 40) tt)
+    by q t f l = (
+      le_of_not_lt_ℚ (λ k. early q t f l k),
+      lin_lt (q ∷ t ∷ b ∷ e ∷ rate ∷ []) (gt0 (*ℚ_pos (gap_lt l) h) ∷ eq f ∷ [])
+          (search reads_all depth 40) tt,
+    )
 
 -- a ray's low word runs and exceeds the bound
-pub ray_low_is : (system : Equations) (z : Vector) (edge : Edge) (row : List ℤ) (u : Unlimited system z edge row) (bound : Ext) → bound <ᴱ pos_inf →
-    length u.word ≡ width system.variables edge.actions → length u.direction ≡ width system.variables edge.actions → Exceeding system z edge row bound (ray_low system z edge row u bound)
+pub ray_low_is : (system : Equations) (z : Vector) (edge : Edge) (row : List ℤ) (u : Unlimited system z edge row) (bound : Ext)
+    → bound <ᴱ pos_inf →
+    length u.word ≡ width system.variables edge.actions → length u.direction ≡ width system.variables edge.actions
+    → Exceeding system z edge row bound (ray_low system z edge row u bound)
 unfolding ray_low
 ray_low_is system z edge row u neg_inf h a b = record { size = a; runs = u.runs; exceeds = tt }
 ray_low_is system z edge row u (fin c) h a b = by (lt_ℚ c (end_value system edge row u.word)) refl
@@ -79,7 +92,8 @@ ray_low_is system z edge row u (fin c) h a b = by (lt_ℚ c (end_value system ed
     t : ℚ
     t = whole (floor ((c -ℚ end_value system edge row u.word) /ℚ rate) +ℤ pos 1)
 
-    by : (test : Bool) → lt_ℚ c (end_value system edge row u.word) ≡ test → Exceeding system z edge row (fin c) (if test then u.word else moved u.word t u.direction)
+    by : (test : Bool) → lt_ℚ c (end_value system edge row u.word) ≡ test
+        → Exceeding system z edge row (fin c) (if test then u.word else moved u.word t u.direction)
     by true e = record { size = a; runs = u.runs; exceeds = record { lt = subst (λ x. T x) (sym e) tt } }
     by false e =
         let far = long_enough c (end_value system edge row u.word) rate u.gains (le_of_not_lt_ℚ (λ l. subst (λ x. T x) e l.lt)) in

@@ -4,13 +4,15 @@ use Rattle.flow_edges.specs.declared.edge.Action.{Action}
 use Rattle.flow_edges.specs.declared.edge.Edge.{Edge}
 use Rattle.flow_systems.specs.Equations.{Equations, Vector}
 use Rattle.std.proofs.lemmas.List.{take-append-drop}
-use Rattle.std.proofs.Common.{◌≡◌, ◌∙◌, ◌⊎◌, inl, inr, Bool, List, [], ◌∷◌, length, refl, sym, ap, subst, length-take, length-drop, min, ◌≤◌, arith, ℕ}
+use Rattle.std.proofs.Common.{◌≡◌, ◌∙◌, ◌⊎◌, inl, inr, Bool, List, [], ◌∷◌, length, refl, sym, ap, subst, length-take, length-drop, min}
+use Rattle.std.proofs.Common.{◌≤◌, arith, ℕ}
 use Rattle.std.specs.Prelude.{ℤ, get_or}
 use Rattle.base_numbers.specs.Rational.{ℚ, ◌<ℚ◌, ◌≤ℚ◌}
 use Rattle.base_numbers.specs.Extended.{Ext, neg_inf, fin, pos_inf, ◌≤ᴱ◌, ◌<ᴱ◌}
 use Rattle.base_numbers.proofs.rational.Laws.{le_of_lt_ℚ, ≤ℚ_trans, le_of_eq_ℚ, lt_of_lt_of_le_ℚ}
 use Rattle.theory_validity.specs.Words.{Word, width, lin, end_form, free_count}
-use Rattle.theory_validity.specs.Steps.{Below, Runs, end_value, Item, Step, Plain, Ray, edge_of, row_of, put, new_value, after_step, Placed, ValidStep, word, Pieces}
+use Rattle.theory_validity.specs.Steps.{Below, Runs, end_value, Item, Step, Plain, Ray, edge_of, row_of, put, new_value, after_step, Placed}
+use Rattle.theory_validity.specs.Steps.{ValidStep, word, Pieces}
 use Rattle.theory_validity.specs.Transformers.{Reaches}
 use Rattle.theory_validity.proofs.steps.Puts.{put-named, runs_below}
 use Rattle.theory_validity.proofs.steps.StepLaw.{step_up}
@@ -52,7 +54,8 @@ pub record SameChoice (u v : Item) : Type 0 where
   pub edge : u.edge ≡ v.edge
 
 -- what items for one unknown and edge share
-pub value_same : (system : Equations) (T : Transformer) (z : Vector) (u v : Item) → SameChoice u v → value_at system T z u ≡ value_at system T z v
+pub value_same : (system : Equations) (T : Transformer) (z : Vector) (u v : Item) → SameChoice u v
+    → value_at system T z u ≡ value_at system T z v
 unfolding edge_of row_of
 value_same system T z u v s =
     ap (λ k. T z (get_or system.edges k (record { from = 0; to = 0; actions = [] })) (get_or system.template u.row [])) s.edge
@@ -63,41 +66,72 @@ pub at_same : (z : Vector) (u v : Item) → SameChoice u v → z u.point u.row �
 at_same z u v s = ap (λ p. z p u.row) s.point ∙ ap (λ r. z v.point r) s.row
 
 -- an item for one unknown and edge is settled where another is
-pub settled_same : (system : Equations) (T : Transformer) (z : Vector) (u v : Item) → SameChoice u v → Settled system T z u → Settled system T z v
+pub settled_same : (system : Equations) (T : Transformer) (z : Vector) (u v : Item) → SameChoice u v → Settled system T z u
+    → Settled system T z v
 unfolding edge_of row_of
 settled_same system T z u v s (inl h) = inl (sym (at_same z u v s) ∙ h.0, sym (value_same system T z u v s) ∙ h.1)
 settled_same system T z u v s (inr h) = inr (record {
   bound = h.bound;
   finite = sym (at_same z u v s) ∙ h.finite;
   word = h.word;
-  size = subst (λ k. length h.word ≡ width system.variables (get_or system.edges k (record { from = 0; to = 0; actions = [] })).actions) s.edge h.size;
+  size = subst (λ k. length h.word ≡ width system.variables (get_or system.edges k (record { from = 0; to = 0; actions = [] })).actions)
+      s.edge h.size;
   runs = subst (λ k. Runs system z (get_or system.edges k (record { from = 0; to = 0; actions = [] })) h.word) s.edge h.runs;
-  exceeds = subst (λ r. h.bound <ℚ end_value system (get_or system.edges v.edge (record { from = 0; to = 0; actions = [] })) (get_or system.template r []) h.word) s.row
-      (subst (λ k. h.bound <ℚ end_value system (get_or system.edges k (record { from = 0; to = 0; actions = [] })) (get_or system.template u.row []) h.word) s.edge h.exceeds);
+  exceeds = subst (λ r. h.bound <ℚ end_value system (get_or system.edges v.edge (record { from = 0; to = 0; actions = [] }))
+      (get_or system.template r []) h.word) s.row
+      (subst (λ k. h.bound <ℚ end_value system (get_or system.edges k (record { from = 0; to = 0; actions = [] }))
+      (get_or system.template u.row []) h.word) s.edge h.exceeds);
 })
 
 -- a settled unknown stays so while its bound does
-pub settled_later : (system : Equations) (T : Transformer) (reaches : Evident system T) (z f : Vector) (u : Item) → Below system z f → f u.point u.row ≡ z u.point u.row → Settled system T z u → Settled system T f u
-settled_later system T reaches z f u below e (inl h) = inl (e ∙ h.0, top_from_le (value_at system T f u) (subst (λ v. v ≤ᴱ value_at system T f u) h.1 (value_mono system T reaches z f u below)))
-settled_later system T reaches z f u below e (inr h) = inr (record { bound = h.bound; finite = e ∙ h.finite; word = h.word; size = h.size; runs = runs_below system z f (edge_of system u) h.word below h.runs; exceeds = h.exceeds })
+pub settled_later : (system : Equations) (T : Transformer) (reaches : Evident system T) (z f : Vector) (u : Item) → Below system z f
+    → f u.point u.row ≡ z u.point u.row → Settled system T z u → Settled system T f u
+settled_later system T reaches z f u below e (inl h) = inl (
+  e ∙ h.0,
+  top_from_le (value_at system T f u)
+      (subst (λ v. v ≤ᴱ value_at system T f u) h.1 (value_mono system T reaches z f u below)),
+)
+settled_later system T reaches z f u below e (inr h) = inr (record {
+  bound = h.bound;
+  finite = e ∙ h.finite;
+  word = h.word;
+  size =
+      h.size;
+  runs = runs_below system z f (edge_of system u) h.word below h.runs;
+  exceeds = h.exceeds;
+})
 
 -- the pieces of a word of an edge's width
-split_is : (n : ℕ) (actions : List Action) (w : Word) → length w ≡ width n actions → (length (split n w).start ≡ n) × (length (split n w).free ≡ free_count actions) × (word (split n w) ≡ w)
+split_is : (n : ℕ) (actions : List Action) (w : Word) → length w ≡ width n actions
+    → (length (split n w).start ≡ n) × (length (split n w).free ≡ free_count actions) × (word (split n w) ≡ w)
 unfolding width split
-split_is n actions w e = (length-take n w ∙ min_left n (length w) (omega (arith, e)), omega (arith, length-drop n w, e), take-append-drop n w)
+split_is n actions w e = (
+  length-take n w ∙ min_left n (length w) (omega (arith, e)),
+  omega (arith, length-drop n w, e),
+  take-append-drop n w,
+)
   where
     min_left : (a b : ℕ) → a ≤ b → min a b ≡ a
     min_left a b h = omega arith
 
 -- words of another item for the same unknown and edge
-placed_with : (system : Equations) (u : Item) (low second : Pieces) (number : ℚ) → Placed system u → Placed system (with_words u low second number)
+placed_with : (system : Equations) (u : Item) (low second : Pieces) (number : ℚ) → Placed system u
+    → Placed system (with_words u low second number)
 unfolding with_words edge_of
-placed_with system u low second number p = record { later = p.later; point_within = p.point_within; row_within = p.row_within; edge_within = p.edge_within; into = p.into }
+placed_with system u low second number p = record {
+  later = p.later;
+  point_within = p.point_within;
+  row_within = p.row_within;
+  edge_within =
+      p.edge_within;
+  into = p.into;
+}
 
 module _ (fitting : ℚ → Bool) (system : Equations) (T : Transformer) (reaches : Evident system T)
     (sizes : (z : Vector) (edge : Edge) (row : List ℤ) → Sizes system z edge row (T z edge row) (reaches z edge row)) (pick : Pick) where
   -- a raise towards a fraction
-  plain_raise : (z : Vector) (u : Item) (c : ℚ) (h : Reaches system z (edge_of system u) (row_of system u) (fin c)) → Sizes system z (edge_of system u) (row_of system u) (fin c) h →
+  plain_raise : (z : Vector) (u : Item) (c : ℚ) (h : Reaches system z (edge_of system u) (row_of system u) (fin c))
+      → Sizes system z (edge_of system u) (row_of system u) (fin c) h →
       Placed system u → Picks pick u → z u.point u.row <ᴱ fin c →
       (r : Raise system T pick z (raise fitting system z u (fin c) h)) × SameChoice r.item u
   unfolding raise with_words edge_of row_of after_step new_value
@@ -105,10 +139,13 @@ module _ (fitting : ℚ → Bool) (system : Equations) (T : Transformer) (reache
       let n = system.variables in
       let cut = split_is n (edge_of system u).actions h.1.0 size in
       let item = with_words u (split n h.1.0) (split 0 []) (raised_to fitting (z u.point u.row) c) in
-      let runs : Runs system z (edge_of system u) (word (split n h.1.0)) = subst (λ w. Runs system z (edge_of system u) w) (sym cut.2) h.1.1 in
-      let ends : c ≤ℚ end_value system (edge_of system u) (row_of system u) (word (split n h.1.0)) = subst (λ w. c ≤ℚ end_value system (edge_of system u) (row_of system u) w) (sym cut.2) (le_of_eq_ℚ (sym h.1.2)) in
+      let runs : Runs system z (edge_of system u) (word (split n h.1.0)) =
+      subst (λ w. Runs system z (edge_of system u) w) (sym cut.2) h.1.1 in
+      let ends : c ≤ℚ end_value system (edge_of system u) (row_of system u) (word (split n h.1.0)) =
+      subst (λ w. c ≤ℚ end_value system (edge_of system u) (row_of system u) w) (sym cut.2) (le_of_eq_ℚ (sym h.1.2)) in
       let m = raised_to_is fitting (z u.point u.row) c below in
-      let valid = raise_plain system z item (placed_with system u (split n h.1.0) (split 0 []) (raised_to fitting (z u.point u.row) c) placed) (cut.0, cut.1) runs m.0 (≤ℚ_trans (le_of_lt_ℚ m.1) ends) in
+      let valid = raise_plain system z item (placed_with system u (split n h.1.0) (split 0 []) (raised_to fitting (z u.point u.row) c)
+      placed) (cut.0, cut.1) runs m.0 (≤ℚ_trans (le_of_lt_ℚ m.1) ends) in
       let e = put-named (new_value Plain) (item ∷ []) z item (tt, tt) (inl refl) in (
         record {
           item = item;
@@ -121,7 +158,8 @@ module _ (fitting : ℚ → Bool) (system : Equations) (T : Transformer) (reache
             finite = e;
             word = h.1.0;
             size = size;
-            runs = runs_below system z (put (new_value Plain) (item ∷ []) z) (edge_of system u) h.1.0 (step_up system z (record { kind = Plain; items = item ∷ [] }) valid) h.1.1;
+            runs = runs_below system z (put (new_value Plain) (item ∷ []) z) (edge_of system u) h.1.0
+                (step_up system z (record { kind = Plain; items = item ∷ [] }) valid) h.1.1;
             exceeds = lt_of_lt_of_le_ℚ m.1 (le_of_eq_ℚ (sym h.1.2));
           });
           own = inr (record {
@@ -129,7 +167,8 @@ module _ (fitting : ℚ → Bool) (system : Equations) (T : Transformer) (reache
             bound = raised_to fitting (z u.point u.row) c;
             finite = e;
             size = (cut.0, cut.1);
-            runs = runs_below system z (put (new_value Plain) (item ∷ []) z) (edge_of system u) (word (split n h.1.0)) (step_up system z (record { kind = Plain; items = item ∷ [] }) valid) runs;
+            runs = runs_below system z (put (new_value Plain) (item ∷ []) z) (edge_of system u) (word (split n h.1.0))
+                (step_up system z (record { kind = Plain; items = item ∷ [] }) valid) runs;
             exceeds = lt_of_lt_of_le_ℚ m.1 ends;
           });
         },
@@ -137,7 +176,8 @@ module _ (fitting : ℚ → Bool) (system : Equations) (T : Transformer) (reache
       )
 
   -- a raise to +∞
-  ray_raise : (z : Vector) (u : Item) (h : Reaches system z (edge_of system u) (row_of system u) pos_inf) → Sizes system z (edge_of system u) (row_of system u) pos_inf h →
+  ray_raise : (z : Vector) (u : Item) (h : Reaches system z (edge_of system u) (row_of system u) pos_inf)
+      → Sizes system z (edge_of system u) (row_of system u) pos_inf h →
       value_at system T z u ≡ pos_inf → Placed system u → Picks pick u → z u.point u.row <ᴱ pos_inf →
       (r : Raise system T pick z (raise fitting system z u pos_inf h)) × SameChoice r.item u
   unfolding raise with_words edge_of row_of after_step new_value
@@ -149,8 +189,10 @@ module _ (fitting : ℚ → Bool) (system : Equations) (T : Transformer) (reache
       let x = ray_low_is system z (edge_of system u) (row_of system u) h (z u.point u.row) below size.0 size.1 in
       let cut = split_is n (edge_of system u).actions low x.size in
       let way = split_is n (edge_of system u).actions h.direction size.1 in
-      let valid = raise_ray system z item h (placed_with system u (split n low) (split n h.direction) gain placed) (cut.0, cut.1) (way.0, way.1) way.2 refl
-      (subst (λ w. Runs system z (edge_of system u) w) (sym cut.2) x.runs) below (subst (λ w. z u.point u.row <ᴱ fin (end_value system (edge_of system u) (row_of system u) w)) (sym cut.2) x.exceeds) in
+      let valid = raise_ray system z item h (placed_with system u (split n low) (split n h.direction) gain placed) (cut.0, cut.1)
+      (way.0, way.1) way.2 refl
+      (subst (λ w. Runs system z (edge_of system u) w) (sym cut.2) x.runs) below
+      (subst (λ w. z u.point u.row <ᴱ fin (end_value system (edge_of system u) (row_of system u) w)) (sym cut.2) x.exceeds) in
       let e = put-named (new_value Ray) (item ∷ []) z item (tt, tt) (inl refl) in (
         record {
           item = item;
@@ -162,14 +204,16 @@ module _ (fitting : ℚ → Bool) (system : Equations) (T : Transformer) (reache
             e,
             top_from_le (value_at system T (put (new_value Ray) (item ∷ []) z) item)
                 (subst (λ v. v ≤ᴱ value_at system T (put (new_value Ray) (item ∷ []) z) item) top
-                (value_mono system T reaches z (put (new_value Ray) (item ∷ []) z) u (step_up system z (record { kind = Ray; items = item ∷ [] }) valid))),
+                (value_mono system T reaches z (put (new_value Ray) (item ∷ []) z) u
+                (step_up system z (record { kind = Ray; items = item ∷ [] }) valid))),
           );
           own = inl e;
         },
         record { point = refl; row = refl; edge = refl },
       )
 
-  any_raise : (z : Vector) (u : Item) (v : Ext) (h : Reaches system z (edge_of system u) (row_of system u) v) → Sizes system z (edge_of system u) (row_of system u) v h →
+  any_raise : (z : Vector) (u : Item) (v : Ext) (h : Reaches system z (edge_of system u) (row_of system u) v)
+      → Sizes system z (edge_of system u) (row_of system u) v h →
       value_at system T z u ≡ v → Placed system u → Picks pick u → z u.point u.row <ᴱ v →
       (r : Raise system T pick z (raise fitting system z u v h)) × SameChoice r.item u
   any_raise z u neg_inf h size e placed picked below = absurd (nothing (z u.point u.row) below)
@@ -186,4 +230,5 @@ module _ (fitting : ℚ → Bool) (system : Equations) (T : Transformer) (reache
       (r : Raise system T pick z (raise_at fitting system T reaches z u)) × SameChoice r.item u
   unfolding raise_at
   raise_is z u placed picked below =
-      any_raise z u (value_at system T z u) (reaches z (edge_of system u) (row_of system u)) (sizes z (edge_of system u) (row_of system u)) refl placed picked below
+      any_raise z u (value_at system T z u) (reaches z (edge_of system u) (row_of system u)) (sizes z (edge_of system u) (row_of system u))
+      refl placed picked below

@@ -1,5 +1,6 @@
 -- Distinct members of a list are at most as many as it has, and tuples are as many as the product of their choices.
-use Rattle.std.proofs.Common.{◌≡◌, ◌∙◌, inl, inr, ⊎_elim, ℕ, suc, ◌+◌, ◌*◌, List, [], ◌∷◌, length, map, length-append, refl, ap₂, subst, arith}
+use Rattle.std.proofs.Common.{◌≡◌, ◌∙◌, inl, inr, ⊎_elim, ℕ, suc, ◌+◌, ◌*◌, List, [], ◌∷◌, length, map, length-append, refl, ap₂, subst}
+use Rattle.std.proofs.Common.{arith}
 use Rattle.std.specs.Prelude.{flat_map}
 use Rattle.std.proofs.lemmas.List.{length-map}
 use Rattle.base_facts.proofs.elements.Membership.{in_map, in_flat_map}
@@ -23,10 +24,12 @@ pub length-tuples : {A : Type 0} (options : List (List A)) → length (tuples op
 unfolding tuples product
 length-tuples [] = refl
 length-tuples (xs ∷ rest) =
-    length-each (λ x. map (λ t. x ∷ t) (tuples rest)) xs (product (map length rest)) (λ x. length-map (tuples rest) (λ t. x ∷ t) ∙ length-tuples rest)
+    length-each (λ x. map (λ t. x ∷ t) (tuples rest)) xs (product (map length rest))
+    (λ x. length-map (tuples rest) (λ t. x ∷ t) ∙ length-tuples rest)
 
 -- the tuple of a function whose values are among the options
-pub in_tuples : {U A : Type 0} (options : U → List A) (f : U → A) (us : List U) → ((u : U) → In us u → In (options u) (f u)) → In (tuples (map options us)) (map f us)
+pub in_tuples : {U A : Type 0} (options : U → List A) (f : U → A) (us : List U) → ((u : U) → In us u → In (options u) (f u))
+    → In (tuples (map options us)) (map f us)
 unfolding tuples
 in_tuples options f [] h = inl refl
 in_tuples options f (u ∷ us) h =

@@ -24,8 +24,10 @@ use Rattle.theory_strategy.proofs.round.CutLaw.{valid_append}
 use Rattle.theory_strategy.proofs.round.RoundLaw.{RoundDone}
 use Rattle.theory_strategy.proofs.round.RoundGives.{Improved, round_facts}
 
--- n rounds from the start vector: pick k + 1 improves pick k at vector k, in one unknown at least, and the round by it leads to vector k + 1
-pub record Chain (system : Equations) (T : Transformer) (n : ℕ) (d z : ℕ → Vector) (pick : ℕ → Pick) (grown steps : ℕ → List Step) : Type 0 where
+-- n rounds from the start vector: pick k + 1 improves pick k at vector k, in one unknown at least, and the round by it leads to vector k +
+-- 1
+pub record Chain (system : Equations) (T : Transformer) (n : ℕ) (d z : ℕ → Vector) (pick : ℕ → Pick) (grown steps : ℕ → List Step) :
+    Type 0 where
   -- the first vector is the start vector
   pub start : d 0 ≡ start_vector
   -- the first pick is empty
@@ -48,7 +50,8 @@ all_steps steps (suc k) = all_steps steps k ++ steps k
 
 -- no edge's transformer exceeds the bound at its end
 abbrev pub NoneExceeds : Equations → Transformer → Vector → Type 0
-NoneExceeds system T d = (edge : Edge) (r : ℕ) (row : List ℤ) → Contains system.edges edge → slice_get system.template r ≡ Some row → T d edge row ≤ᴱ d edge.to r
+NoneExceeds system T d = (edge : Edge) (r : ℕ) (row : List ℤ) → Contains system.edges edge → slice_get system.template r ≡ Some row
+    → T d edge row ≤ᴱ d edge.to r
 
 -- outside the entry the start vector is -∞
 pub start_later : (p r : ℕ) → 0 < p → start_vector p r ≡ neg_inf
@@ -65,7 +68,8 @@ unfolding start_vector
 start_below system q post zero r l = subst (λ v. pos_inf ≤ᴱ v) (sym (post.entry r l)) tt
 start_below system q post (suc p) r l = tt
 
-module _ (system : Equations) (T : Transformer) (reaches : Evident system T) (n : ℕ) (d z : ℕ → Vector) (pick : ℕ → Pick) (grown steps : ℕ → List Step) (chain : Chain system T n d z pick grown steps) where
+module _ (system : Equations) (T : Transformer) (reaches : Evident system T) (n : ℕ) (d z : ℕ → Vector) (pick : ℕ → Pick)
+    (grown steps : ℕ → List Step) (chain : Chain system T n d z pick grown steps) where
   none_picked : (u : Item) → Picks (pick 0) u → ⊥
   none_picked u h = none-some u.edge (sym (chain.empty u.point u.row) ∙ h)
 
@@ -85,7 +89,8 @@ module _ (system : Equations) (T : Transformer) (reaches : Evident system T) (n 
 
   -- the next pick is supported at the vector
   pub chain_supported : (k : ℕ) → k < n → Supported system T (d k) (pick (suc k))
-  chain_supported k h = improve_supported system T reaches (d k) (pick k) (pick (suc k)) (chain_tight k (omega arith)) (chain.is_pick k h) (chain.improves k h)
+  chain_supported k h = improve_supported system T reaches (d k) (pick k) (pick (suc k)) (chain_tight k (omega arith)) (chain.is_pick k h)
+      (chain.improves k h)
 
   -- each vector is at least the one before
   pub chain_up : (k : ℕ) → k < n → Below system (d k) (d (suc k))
@@ -93,12 +98,14 @@ module _ (system : Equations) (T : Transformer) (reaches : Evident system T) (n 
 
   -- the facts of each round; a bound rises where the pick changes, so one at least
   chain_facts : (k : ℕ) → k < n → RoundFacts system (d k) (z k) (d (suc k)) (pick k) (pick (suc k)) (steps k)
-  chain_facts k h = round_facts system T reaches (d k) (z k) (d (suc k)) (pick k) (pick (suc k)) (grown k) (steps k) (chain.is_pick k h) (chain.growth k h) (chain.round k h) (chain.improves k h) (chain.improved k h)
+  chain_facts k h = round_facts system T reaches (d k) (z k) (d (suc k)) (pick k) (pick (suc k)) (grown k) (steps k) (chain.is_pick k h)
+      (chain.growth k h) (chain.round k h) (chain.improves k h) (chain.improved k h)
 
   -- each vector is at most every post-solution
   pub chain_below : (k : ℕ) → k ≤ n → (q : Vector) → PostSolution system q → Below system (d k) q
   chain_below zero h q post = λ p r l. subst (λ v. v ≤ᴱ q p r) (sym (ap (λ v. v p r) chain.start)) (start_below system q post p r l)
-  chain_below (suc k) h q post = above_post system T reaches (d k) (d (suc k)) q (pick (suc k)) (chain.is_pick k (omega arith)) (chain.round k (omega arith)).above post (chain_below k (omega arith) q post)
+  chain_below (suc k) h q post = above_post system T reaches (d k) (d (suc k)) q (pick (suc k)) (chain.is_pick k (omega arith))
+      (chain.round k (omega arith)).above post (chain_below k (omega arith) q post)
 
   -- where no transformer exceeds its bound, the vector is least
   pub chain_end_least : NoneExceeds system T (d n) → Least system (d n)
@@ -111,23 +118,31 @@ module _ (system : Equations) (T : Transformer) (reaches : Evident system T) (n 
 
   -- and where a vector of the chain is a post-solution, none does
   pub chain_post : (k : ℕ) → PostSolution system (d k) → NoneExceeds system T (d k)
-  chain_post k post edge r row listed e = reach_least system (d k) edge row (T (d k) edge row) (d k edge.to r) (reaches (d k) edge row) (upper_of_post system (d k) edge r row post listed e)
+  chain_post k post edge r row listed e = reach_least system (d k) edge row (T (d k) edge row) (d k edge.to r) (reaches (d k) edge row)
+      (upper_of_post system (d k) edge r row post listed e)
 
   -- the chain as rounds with their facts
   pub chain_rounds : Rounds system T n d z pick steps
-  chain_rounds = record { start = λ p r later. ap (λ v. v p r) chain.start ∙ start_later p r later; tight = chain_tight; facts = chain_facts }
+  chain_rounds = record {
+    start = λ p r later. ap (λ v. v p r) chain.start ∙ start_later p r later;
+    tight = chain_tight;
+    facts =
+        chain_facts;
+  }
 
   -- there are fewer rounds than picks
   pub chain_short : n < pick_count system
   chain_short = rounds_fewer system T reaches n d z pick steps chain_rounds
 
   -- the steps of all rounds are valid one after the other and lead from the start vector to the last vector
-  pub chain_steps : (k : ℕ) → k ≤ n → ValidSteps system start_vector (all_steps steps k) × (after_steps (all_steps steps k) start_vector ≡ d k)
+  pub chain_steps : (k : ℕ) → k ≤ n → ValidSteps system start_vector (all_steps steps k)
+      × (after_steps (all_steps steps k) start_vector ≡ d k)
   unfolding all_steps after_steps
   chain_steps zero h = (tt, sym chain.start)
   chain_steps (suc k) h =
       let before = chain_steps k (omega arith) in
       let r = chain.round k (omega arith) in (
-        valid_append system (all_steps steps k) (steps k) start_vector before.0 (subst (λ v. ValidSteps system v (steps k)) (sym before.1) r.valid),
+        valid_append system (all_steps steps k) (steps k) start_vector before.0
+            (subst (λ v. ValidSteps system v (steps k)) (sym before.1) r.valid),
         led-append (all_steps steps k) (steps k) start_vector ∙ ap (after_steps (steps k)) before.1 ∙ r.leads,
       )

@@ -12,7 +12,8 @@ use Rattle.theory_strategy.specs.Picks.{Pick, Picks, IsPick, choice, choice_at, 
 pub choices_picked : (system : Equations) (pick : Pick) (u : Item) → In (choices system pick) u → Picks pick u
 unfolding choices choice_at choice
 choices_picked system pick u m =
-    let a = of_flat_map (λ p. flat_map (λ r. choice_at p r (pick p r)) (range_with_len 0 (length system.template))) (range_with_len 0 system.points) u m in
+    let a = of_flat_map (λ p. flat_map (λ r. choice_at p r (pick p r)) (range_with_len 0 (length system.template)))
+    (range_with_len 0 system.points) u m in
     let b = of_flat_map (λ r. choice_at a.0 r (pick a.0 r)) (range_with_len 0 (length system.template)) u a.2 in
     by (pick a.0 b.0) refl b.2
   where
@@ -27,9 +28,11 @@ unfolding choices choice choice_at
 picked_choice system pick u is_pick h =
     let p = is_pick u h in (
       choice u.point u.row u.edge,
-      in_flat_map (λ p. flat_map (λ r. choice_at p r (pick p r)) (range_with_len 0 (length system.template))) (range_with_len 0 system.points) u.point (choice u.point u.row u.edge)
+      in_flat_map (λ p. flat_map (λ r. choice_at p r (pick p r)) (range_with_len 0 (length system.template)))
+          (range_with_len 0 system.points) u.point (choice u.point u.row u.edge)
           (in_range 0 system.points u.point (omega arith) (omega (arith, p.point_within)))
-          (in_flat_map (λ r. choice_at u.point r (pick u.point r)) (range_with_len 0 (length system.template)) u.row (choice u.point u.row u.edge)
+          (in_flat_map (λ r. choice_at u.point r (pick u.point r)) (range_with_len 0 (length system.template)) u.row
+          (choice u.point u.row u.edge)
           (in_range 0 (length system.template) u.row (omega arith) (omega (arith, p.row_within)))
           (at (pick u.point u.row) h)),
       refl,

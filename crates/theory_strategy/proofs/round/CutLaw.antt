@@ -25,10 +25,12 @@ use Rattle.theory_strategy.proofs.round.PartLaw.{Joined, PartDone, part_done}
 pub of_items : (steps : List Step) (v : Item) → In (items_of steps) v → (s : Step) × In steps s × In s.items v
 unfolding items_of
 of_items [] v m = absurd m
-of_items (s ∷ steps) v m = ⊎_elim (λ k. (s, inl refl, k)) (λ k. let r = of_items steps v k in (r.0, inr r.1, r.2)) (of_append s.items (items_of steps) v m)
+of_items (s ∷ steps) v m = ⊎_elim (λ k. (s, inl refl, k)) (λ k. let r = of_items steps v k in (r.0, inr r.1, r.2))
+    (of_append s.items (items_of steps) v m)
 
 -- what a list doesn't name, steps with its unknowns don't
-pub unnamed_items : (list : List Item) (steps : List Step) → ((s : Step) → In steps s → (v : Item) → In s.items v → (u : Item) × In list u × SameChoice u v) →
+pub unnamed_items : (list : List Item) (steps : List Step) → ((s : Step) → In steps s → (v : Item) → In s.items v
+    → (u : Item) × In list u × SameChoice u v) →
     (p r : ℕ) → Unnamed list p r → Unnamed (items_of steps) p r
 unnamed_items list steps from p r n = unnamed_by_all (items_of steps) p r (λ v m e f.
     let s = of_items steps v m in
@@ -36,39 +38,50 @@ unnamed_items list steps from p r n = unnamed_by_all (items_of steps) p r (λ v 
     not_unnamed list u.0 u.1 (subst₂ (λ a b. Unnamed list a b) (sym (u.2.point ∙ e)) (sym (u.2.row ∙ f)) n))
 
 -- valid steps and the valid steps after them
-pub valid_append : (system : Equations) (a b : List Step) (z : Vector) → ValidSteps system z a → ValidSteps system (after_steps a z) b → ValidSteps system z (a ++ b)
+pub valid_append : (system : Equations) (a b : List Step) (z : Vector) → ValidSteps system z a → ValidSteps system (after_steps a z) b
+    → ValidSteps system z (a ++ b)
 unfolding after_steps
 valid_append system [] b z h i = i
 valid_append system (s ∷ a) b z h i = (h.0, valid_append system a b (after_step s z) h.1 i)
 
 module _ (system : Equations) (T : Transformer) (reaches : Evident system T) (pick : Pick) (is_pick : IsPick system pick) where
   -- steps by a pick's edges lead to at most every closed vector that is at least the first
-  pub led_closed : (steps : List Step) (z q : Vector) → ValidSteps system z steps → ((s : Step) → In steps s → (v : Item) → In s.items v → Picks pick v) → Closed system T q pick → Below system z q → Below system (after_steps steps z) q
+  pub led_closed : (steps : List Step) (z q : Vector) → ValidSteps system z steps
+      → ((s : Step) → In steps s → (v : Item) → In s.items v → Picks pick v) → Closed system T q pick → Below system z q
+      → Below system (after_steps steps z) q
   unfolding after_steps
   led_closed [] z q valid picked closed below = below
   led_closed (s ∷ steps) z q valid picked closed below =
       led_closed steps (after_step s z) q valid.1 (λ t m. picked t (inr m)) closed
-      (step_below system z q s valid.0 below (λ v m. value_upper system T reaches q v (q v.point v.row) (closed v (picked s (inl refl) v m))))
+      (step_below system z q s valid.0 below (λ v m. value_upper system T reaches q v (q v.point v.row)
+      (closed v (picked s (inl refl) v m))))
 
   -- where the source bounds are the same, a transformer is
-  value_local : (z q : Vector) (u : Item) → ((r : ℕ) → r < length system.template → z (edge_of system u).from r ≡ q (edge_of system u).from r) → value_at system T z u ≡ value_at system T q u
+  value_local : (z q : Vector) (u : Item) → ((r : ℕ) → r < length system.template
+      → z (edge_of system u).from r ≡ q (edge_of system u).from r) → value_at system T z u ≡ value_at system T q u
   value_local z q u same =
       let edge = edge_of system u in
       let row = row_of system u in
-      transformer_local system z q edge row (T z edge row) (T q edge row) same (reach_is system z edge row (T z edge row) (reaches z edge row)) (reach_is system q edge row (T q edge row) (reaches q edge row))
+      transformer_local system z q edge row (T z edge row) (T q edge row) same
+      (reach_is system z edge row (T z edge row) (reaches z edge row)) (reach_is system q edge row (T q edge row) (reaches q edge row))
 
   module _ (joint : Vector → List Item → Outcome) (joined : Joined system T pick joint) (z : Vector) where
-    more_done : (b : Vector) (list : List Item) (lists : List (List Item)) (s t : List Step) → ((u : Item) → In list u → Listed system pick z u) →
-        ((u : Item) → In list u → Unnamed (members lists) u.point u.row) → ((u : Item) → In list u → (r : ℕ) → r < length system.template → Unnamed (members lists) (edge_of system u).from r) →
-        PartDone system T z b list s → PartDone system T z (after_steps s b) (members lists) t → PartDone system T z b (list ++ members lists) (s ++ t)
+    more_done : (b : Vector) (list : List Item) (lists : List (List Item)) (s t : List Step)
+        → ((u : Item) → In list u → Listed system pick z u) →
+        ((u : Item) → In list u → Unnamed (members lists) u.point u.row)
+        → ((u : Item) → In list u → (r : ℕ) → r < length system.template → Unnamed (members lists) (edge_of system u).from r) →
+        PartDone system T z b list s → PartDone system T z (after_steps s b) (members lists) t
+        → PartDone system T z b (list ++ members lists) (s ++ t)
     more_done b list lists s t listed apart sources first later =
         record {
           valid = valid_append system s t b first.valid later.valid;
           items = λ step m v k. ⊎_elim
               (λ j. let u = first.items step j v k in (u.0, in_left list (members lists) u.0 u.1, u.2))
               (λ j. let u = later.items step j v k in (u.0, in_right list (members lists) u.0 u.1, u.2)) (of_append s t step m);
-          risen = λ u m. subst (λ y. z u.point u.row <ᴱ y u.point u.row) (sym (led-append s t b)) (⊎_elim (λ k. risen u k) (λ k. later.risen u k) (of_append list (members lists) u m));
-          same = λ u m. subst (λ y. value_at system T y u ≡ y u.point u.row) (sym (led-append s t b)) (⊎_elim (λ k. same u k) (λ k. later.same u k) (of_append list (members lists) u m));
+          risen = λ u m. subst (λ y. z u.point u.row <ᴱ y u.point u.row) (sym (led-append s t b))
+              (⊎_elim (λ k. risen u k) (λ k. later.risen u k) (of_append list (members lists) u m));
+          same = λ u m. subst (λ y. value_at system T y u ≡ y u.point u.row) (sym (led-append s t b))
+              (⊎_elim (λ k. same u k) (λ k. later.same u k) (of_append list (members lists) u m));
         }
       where
         c : Vector
@@ -81,21 +94,34 @@ module _ (system : Equations) (T : Transformer) (reaches : Evident system T) (pi
         kept p r n = led_unnamed t c p r (unnamed_items (members lists) t later.items p r n)
 
         risen : (u : Item) → In list u → z u.point u.row <ᴱ f u.point u.row
-        risen u m = ext_lt_of_lt_of_le (z u.point u.row) (c u.point u.row) (f u.point u.row) (first.risen u m) (led_up system t c later.valid u.point u.row ((is_pick u (listed u m).picked).row_within))
+        risen u m = ext_lt_of_lt_of_le (z u.point u.row) (c u.point u.row) (f u.point u.row) (first.risen u m)
+            (led_up system t c later.valid u.point u.row ((is_pick u (listed u m).picked).row_within))
 
         same : (u : Item) → In list u → value_at system T f u ≡ f u.point u.row
-        same u m = value_local f c u (λ r l. kept (edge_of system u).from r (sources u m r l)) ∙ first.same u m ∙ sym (kept u.point u.row (apart u m))
+        same u m = value_local f c u (λ r l. kept (edge_of system u).from r (sources u m r l)) ∙ first.same u m
+            ∙ sym (kept u.point u.row (apart u m))
 
     -- the turns over an admissible cut
-    pub turns_done : (lists : List (List Item)) (b : Vector) → Below system z b → Admissible system lists → ((u : Item) → In (members lists) u → Listed system pick z u) →
-        ((u : Item) → In (members lists) u → b u.point u.row ≡ z u.point u.row) → PartDone system T z b (members lists) (turns joint b lists)
+    pub turns_done : (lists : List (List Item)) (b : Vector) → Below system z b → Admissible system lists
+        → ((u : Item) → In (members lists) u → Listed system pick z u) →
+        ((u : Item) → In (members lists) u → b u.point u.row ≡ z u.point u.row)
+        → PartDone system T z b (members lists) (turns joint b lists)
     unfolding turns members
-    turns_done [] b over admissible listed base = record { valid = tt; items = λ s m v k. absurd m; risen = λ u m. absurd m; same = λ u m. absurd m }
+    turns_done [] b over admissible listed base = record {
+      valid = tt;
+      items = λ s m v k. absurd m;
+      risen = λ u m. absurd m;
+      same =
+          λ u m. absurd m;
+    }
     turns_done (list ∷ lists) b over admissible listed base =
         let s = part joint (length list) b list in
         let mine : (u : Item) → In list u → Listed system pick z u = λ u m. listed u (in_left list (members lists) u m) in
-        let first = part_done system T reaches pick is_pick joint joined z (length list) list b (omega arith) over admissible.0 mine (λ u m. base u (in_left list (members lists) u m)) in
-        let later = turns_done lists (after_steps s b) (below_trans system z b (after_steps s b) over (led_up system s b first.valid)) admissible.3 (λ u m. listed u (in_right list (members lists) u m))
+        let first = part_done system T reaches pick is_pick joint joined z (length list) list b (omega arith) over admissible.0 mine
+        (λ u m. base u (in_left list (members lists) u m)) in
+        let later = turns_done lists (after_steps s b) (below_trans system z b (after_steps s b) over (led_up system s b first.valid))
+        admissible.3 (λ u m. listed u (in_right list (members lists) u m))
         (λ u m. led_unnamed s b u.point u.row (unnamed_items list s first.items u.point u.row (unnamed_by_all list u.point u.row (λ v k e f.
-        not_unnamed (members lists) u m (subst₂ (λ p r. Unnamed (members lists) p r) e f (admissible.1 v k))))) ∙ base u (in_right list (members lists) u m)) in
+        not_unnamed (members lists) u m (subst₂ (λ p r. Unnamed (members lists) p r) e f (admissible.1 v k)))))
+        ∙ base u (in_right list (members lists) u m)) in
         more_done b list lists s (turns joint (after_steps s b) lists) mine admissible.1 admissible.2 first later

@@ -9,7 +9,8 @@ use Rattle.base_numbers.proofs.rational.Laws.{le_of_lt_ℚ, ≤ℚ_refl, not_le_
 use Rattle.flow_edges.specs.declared.edge.Edge.{Edge}
 use Rattle.flow_systems.specs.Equations.{Equations, Vector}
 use Rattle.theory_validity.specs.Words.{lin, end_form, moved}
-use Rattle.theory_validity.specs.Steps.{Below, Runs, end_value, Item, Step, Jump, Ray, edge_of, row_of, put, new_value, after_step, Distinct, JumpItem, RayItem, ValidStep, item_value, word}
+use Rattle.theory_validity.specs.Steps.{Below, Runs, end_value, Item, Step, Jump, Ray, edge_of, row_of, put, new_value, after_step}
+use Rattle.theory_validity.specs.Steps.{Distinct, JumpItem, RayItem, ValidStep, item_value, word}
 use Rattle.theory_validity.specs.Certificates.{ValidSteps, after_steps}
 use Rattle.theory_validity.proofs.steps.Puts.{named_or_not, put-unnamed, put-named, below_trans, runs_below}
 use Rattle.theory_validity.proofs.steps.StepLaw.{step_up}
@@ -20,14 +21,16 @@ use Rattle.theory_validity.proofs.words.TransformerLaw.{reach_upper}
 use Rattle.theory_strategy.specs.Picks.{Pick, Transformer, value_at, Picks, IsPick}
 use Rattle.theory_strategy.specs.RoundFacts.{Listed}
 use Rattle.theory_strategy.specs.Growth.{Evident}
-use Rattle.theory_strategy.specs.Round.{SameItem, ListCondition, Outcome, Point, Rays, PointFacts, RayFacts, OutcomeFacts, without, turn, part}
+use Rattle.theory_strategy.specs.Round.{SameItem, ListCondition, Outcome, Point, Rays, PointFacts, RayFacts, OutcomeFacts, without, turn}
+use Rattle.theory_strategy.specs.Round.{part}
 use Rattle.theory_strategy.proofs.picks.Picks.{picks_same, value_mono}
 use Rattle.theory_strategy.proofs.growth.RaiseStep.{SameChoice, value_same, at_same}
 use Rattle.theory_strategy.proofs.round.TurnLaw.{choice_of, listed_same, in_without, of_without, distinct_without, fewer_without}
 
 -- a joint problem's outcome for each list that meets the list condition
 abbrev pub Joined : Equations → Transformer → Pick → (Vector → List Item → Outcome) → Type 0
-Joined system T pick joint = (b : Vector) (list : List Item) → ListCondition system T pick b list → OutcomeFacts system T b list (joint b list)
+Joined system T pick joint = (b : Vector) (list : List Item) → ListCondition system T pick b list
+    → OutcomeFacts system T b list (joint b list)
 
 -- what is known of a part's steps from b
 pub record PartDone (system : Equations) (T : Transformer) (z b : Vector) (list : List Item) (steps : List Step) : Type 0 where
@@ -40,9 +43,11 @@ pub record PartDone (system : Equations) (T : Transformer) (z b : Vector) (list 
   -- each unknown's transformer is its bound
   pub same : (u : Item) → In list u → value_at system T (after_steps steps b) u ≡ after_steps steps b u.point u.row
 
-module _ (system : Equations) (T : Transformer) (reaches : Evident system T) (pick : Pick) (is_pick : IsPick system pick) (joint : Vector → List Item → Outcome) (joined : Joined system T pick joint) (z : Vector) where
+module _ (system : Equations) (T : Transformer) (reaches : Evident system T) (pick : Pick) (is_pick : IsPick system pick)
+    (joint : Vector → List Item → Outcome) (joined : Joined system T pick joint) (z : Vector) where
   -- the list condition of a part's rest
-  pub list_condition : (b : Vector) (list : List Item) → Below system z b → Distinct list → ((u : Item) → In list u → Listed system pick z u) →
+  pub list_condition : (b : Vector) (list : List Item) → Below system z b → Distinct list
+      → ((u : Item) → In list u → Listed system pick z u) →
       ((u : Item) → In list u → b u.point u.row ≡ z u.point u.row) → ListCondition system T pick b list
   list_condition b list over distinct listed base =
       record {
@@ -53,17 +58,25 @@ module _ (system : Equations) (T : Transformer) (reaches : Evident system T) (pi
             let h = listed u m in
             subst (λ v. v <ᴱ value_at system T b u) (sym (base u m ∙ h.finite))
             (ext_lt_of_lt_of_le (fin h.bound) (fin (item_value system u (word u.low))) (value_at system T b u) h.exceeds
-            (reach_upper system b (edge_of system u) (row_of system u) (value_at system T b u) (reaches b (edge_of system u) (row_of system u)) (word u.low) (runs_below system z b (edge_of system u) (word u.low) over h.runs)));
+            (reach_upper system b (edge_of system u) (row_of system u) (value_at system T b u)
+            (reaches b (edge_of system u) (row_of system u)) (word u.low)
+            (runs_below system z b (edge_of system u) (word u.low) over h.runs)));
       }
 
   base_of : (b : Vector) (u v : Item) → SameItem u v → b u.point u.row ≡ z u.point u.row → b v.point v.row ≡ z v.point v.row
   base_of b u v s e = sym (at_same b u v (choice_of u v s)) ∙ e ∙ at_same z u v (choice_of u v s)
 
   -- ---- a point
-  jump_valid : (b : Vector) (list items : List Item) → Below system z b → ((u : Item) → In list u → Listed system pick z u) → ((u : Item) → In list u → b u.point u.row ≡ z u.point u.row) →
+  jump_valid : (b : Vector) (list items : List Item) → Below system z b → ((u : Item) → In list u → Listed system pick z u)
+      → ((u : Item) → In list u → b u.point u.row ≡ z u.point u.row) →
       PointFacts system T b list items → ValidStep system b (record { kind = Jump; items = items })
   jump_valid b list items over listed base facts =
-      record { distinct = facts.distinct; placed = λ v m. let u = facts.listed v m in is_pick v (listed_same system pick z u.0 v u.2 (listed u.0 u.1)).picked; valid = valid }
+      record {
+        distinct = facts.distinct;
+        placed = λ v m. let u = facts.listed v m in
+            is_pick v (listed_same system pick z u.0 v u.2 (listed u.0 u.1)).picked;
+        valid = valid;
+      }
     where
       valid : (v : Item) → In items v → JumpItem system b (put (new_value Jump) items b) v
       valid v m =
@@ -82,7 +95,8 @@ module _ (system : Equations) (T : Transformer) (reaches : Evident system T) (pi
             high_reaches = facts.reaches v m;
           }
 
-  point_done : (b : Vector) (list items : List Item) → Below system z b → ((u : Item) → In list u → Listed system pick z u) → ((u : Item) → In list u → b u.point u.row ≡ z u.point u.row) →
+  point_done : (b : Vector) (list items : List Item) → Below system z b → ((u : Item) → In list u → Listed system pick z u)
+      → ((u : Item) → In list u → b u.point u.row ≡ z u.point u.row) →
       PointFacts system T b list items → PartDone system T z b list (record { kind = Jump; items = items } ∷ [])
   unfolding after_steps after_step new_value
   point_done b list items over listed base facts =
@@ -102,7 +116,8 @@ module _ (system : Equations) (T : Transformer) (reaches : Evident system T) (pi
       new : (v : Item) → In items v → p v.point v.row ≡ fin v.number
       new v m = put-named (new_value Jump) items b v facts.distinct m
 
-      from : (s : Step) → In (record { kind = Jump; items = items } ∷ []) s → (v : Item) → In s.items v → (u : Item) × In list u × SameChoice u v
+      from : (s : Step) → In (record { kind = Jump; items = items } ∷ []) s → (v : Item) → In s.items v
+          → (u : Item) × In list u × SameChoice u v
       from s (inl e) v k = let u = facts.listed v (subst (λ t. In t.items v) (sym e) k) in (u.0, u.1, choice_of u.0 v u.2)
       from s (inr m) v k = absurd m
 
@@ -113,7 +128,8 @@ module _ (system : Equations) (T : Transformer) (reaches : Evident system T) (pi
           subst₂ (λ s t. s <ᴱ t) (sym (at_same b u v.0 s) ∙ base u m) (sym (new v.0 v.1) ∙ sym (at_same p u v.0 s)) (facts.rises v.0 v.1)
 
   -- ---- a ray
-  ray_item : (b : Vector) (list items : List Item) → Below system z b → ((u : Item) → In list u → Listed system pick z u) → ((u : Item) → In list u → b u.point u.row ≡ z u.point u.row) →
+  ray_item : (b : Vector) (list items : List Item) → Below system z b → ((u : Item) → In list u → Listed system pick z u)
+      → ((u : Item) → In list u → b u.point u.row ≡ z u.point u.row) →
       RayFacts system b list items → (v : Item) → In items v → RayItem system b items v
   ray_item b list items over listed base facts v m =
       let u = facts.listed v m in
@@ -132,7 +148,8 @@ module _ (system : Equations) (T : Transformer) (reaches : Evident system T) (pi
         gains = facts.gains v m;
       }
 
-  ray_valid : (b : Vector) (list items : List Item) → Below system z b → ((u : Item) → In list u → Listed system pick z u) → ((u : Item) → In list u → b u.point u.row ≡ z u.point u.row) →
+  ray_valid : (b : Vector) (list items : List Item) → Below system z b → ((u : Item) → In list u → Listed system pick z u)
+      → ((u : Item) → In list u → b u.point u.row ≡ z u.point u.row) →
       RayFacts system b list items → ValidStep system b (record { kind = Ray; items = items })
   ray_valid b list items over listed base facts =
       record {
@@ -142,7 +159,8 @@ module _ (system : Equations) (T : Transformer) (reaches : Evident system T) (pi
       }
 
   -- after a ray the transformers of its unknowns are +∞
-  ray_top : (b c : Vector) (items : List Item) → Below system b c → ((v : Item) → In items v → RayItem system b items v) → ((v : Item) → In items v → c v.point v.row ≡ pos_inf) →
+  ray_top : (b c : Vector) (items : List Item) → Below system b c → ((v : Item) → In items v → RayItem system b items v)
+      → ((v : Item) → In items v → c v.point v.row ≡ pos_inf) →
       (v : Item) → In items v → value_at system T c v ≡ pos_inf
   ray_top b c items over valid top v m = by (value_at system T c v) refl
     where
@@ -156,17 +174,22 @@ module _ (system : Equations) (T : Transformer) (reaches : Evident system T) (pi
       runs t h = ray_runs system b c items over valid (λ w k. ext_le_of_eq pos_inf (c w.point w.row) (sym (top w k))) v m t h
 
       at_most : (t : ℚ) → zero_ℚ ≤ℚ t → fin (end_value system edge row (moved (word v.low) t (word v.second))) ≤ᴱ value_at system T c v
-      at_most t h = reach_upper system c edge row (value_at system T c v) (reaches c edge row) (moved (word v.low) t (word v.second)) (runs t h)
+      at_most t h = reach_upper system c edge row (value_at system T c v) (reaches c edge row) (moved (word v.low) t (word v.second))
+          (runs t h)
 
       by : (w : Ext) → value_at system T c v ≡ w → value_at system T c v ≡ pos_inf
-      by neg_inf e = absurd (subst (λ s. fin (end_value system edge row (moved (word v.low) zero_ℚ (word v.second))) ≤ᴱ s) e (at_most zero_ℚ (≤ℚ_refl zero_ℚ)))
+      by neg_inf e = absurd (subst (λ s. fin (end_value system edge row (moved (word v.low) zero_ℚ (word v.second))) ≤ᴱ s) e
+          (at_most zero_ℚ (≤ℚ_refl zero_ℚ)))
       by (fin a) e =
           let x = valid v m in
-          let r = exceeds_in_time a (item_value system v (word v.low)) (lin (end_form system.variables edge.actions row) (word v.second)) v.number x.rate x.gains in
-          absurd (not_le_of_lt r.2 (subst₂ (λ s t. fin s ≤ᴱ t) (end_value-moved system edge row (word v.low) r.0 (word v.second)) e (at_most r.0 r.1)))
+          let r = exceeds_in_time a (item_value system v (word v.low)) (lin (end_form system.variables edge.actions row) (word v.second))
+          v.number x.rate x.gains in
+          absurd (not_le_of_lt r.2 (subst₂ (λ s t. fin s ≤ᴱ t) (end_value-moved system edge row (word v.low) r.0 (word v.second)) e
+          (at_most r.0 r.1)))
       by pos_inf e = e
 
-  ray_done : (b : Vector) (list items : List Item) (rest : List Step) → Below system z b → ((u : Item) → In list u → Listed system pick z u) → ((u : Item) → In list u → b u.point u.row ≡ z u.point u.row) →
+  ray_done : (b : Vector) (list items : List Item) (rest : List Step) → Below system z b → ((u : Item) → In list u → Listed system pick z u)
+      → ((u : Item) → In list u → b u.point u.row ≡ z u.point u.row) →
       RayFacts system b list items → PartDone system T z (after_step (record { kind = Ray; items = items }) b) (without items list) rest →
       PartDone system T z b list (record { kind = Ray; items = items } ∷ rest)
   unfolding after_steps after_step new_value
@@ -174,8 +197,10 @@ module _ (system : Equations) (T : Transformer) (reaches : Evident system T) (pi
       record {
         valid = (valid, done.valid);
         items = λ s m v k. ⊎_elim (λ e. from v (subst (λ t. In t.items v) (sym e) k)) (λ j. later s j v k) m;
-        risen = λ u m. ⊎_elim (λ v. named_risen u m v.0 v.1 v.2 v.3) (λ n. done.risen u (in_without items list u m n)) (named_or_not items u.point u.row);
-        same = λ u m. ⊎_elim (λ v. named_same u m v.0 v.1 v.2 v.3) (λ n. done.same u (in_without items list u m n)) (named_or_not items u.point u.row);
+        risen = λ u m. ⊎_elim (λ v. named_risen u m v.0 v.1 v.2 v.3) (λ n. done.risen u (in_without items list u m n))
+            (named_or_not items u.point u.row);
+        same = λ u m. ⊎_elim (λ v. named_same u m v.0 v.1 v.2 v.3) (λ n. done.same u (in_without items list u m n))
+            (named_or_not items u.point u.row);
       }
     where
       valid : ValidStep system b (record { kind = Ray; items = items })
@@ -203,30 +228,47 @@ module _ (system : Equations) (T : Transformer) (reaches : Evident system T) (pi
       picked v k = let u = facts.listed v k in (listed_same system pick z u.0 v u.2 (listed u.0 u.1)).picked
 
       top_later : (v : Item) → In items v → f v.point v.row ≡ pos_inf
-      top_later v k = top_from_le (f v.point v.row) (subst (λ s. s ≤ᴱ f v.point v.row) (top v k) (up v.point v.row ((is_pick v (picked v k)).row_within)))
+      top_later v k = top_from_le (f v.point v.row) (subst (λ s. s ≤ᴱ f v.point v.row) (top v k)
+          (up v.point v.row ((is_pick v (picked v k)).row_within)))
 
       value_later : (v : Item) → In items v → value_at system T f v ≡ pos_inf
       value_later v k =
-          let e = ray_top b c items (step_up system b (record { kind = Ray; items = items }) valid) (ray_item b list items over listed base facts) top v k in
+          let e = ray_top b c items (step_up system b (record { kind = Ray; items = items }) valid)
+          (ray_item b list items over listed base facts) top v k in
           top_from_le (value_at system T f v) (subst (λ s. s ≤ᴱ value_at system T f v) e (value_mono system T reaches c f v up))
 
-      named_risen : (u : Item) → In list u → (v : Item) → In items v → v.point ≡ u.point → v.row ≡ u.row → z u.point u.row <ᴱ f u.point u.row
+      named_risen : (u : Item) → In list u → (v : Item) → In items v → v.point ≡ u.point → v.row ≡ u.row
+          → z u.point u.row <ᴱ f u.point u.row
       named_risen u m v k e g =
           subst₂ (λ s t. s <ᴱ t) (sym (listed u m).finite) (sym (subst₂ (λ p r. f p r ≡ pos_inf) e g (top_later v k))) tt
 
-      named_same : (u : Item) → In list u → (v : Item) → In items v → v.point ≡ u.point → v.row ≡ u.row → value_at system T f u ≡ f u.point u.row
+      named_same : (u : Item) → In list u → (v : Item) → In items v → v.point ≡ u.point → v.row ≡ u.row
+          → value_at system T f u ≡ f u.point u.row
       named_same u m v k e g =
           let s : SameChoice v u = record { point = e; row = g; edge = picks_same pick v u e g (picked v k) (listed u m).picked } in
           sym (value_same system T f v u s) ∙ value_later v k ∙ sym (subst₂ (λ p r. f p r ≡ pos_inf) e g (top_later v k))
 
   -- ---- a part
   -- enough turns of a part lead by valid steps to where each of its unknowns has risen to its transformer
-  pub part_done : (n : ℕ) (list : List Item) (b : Vector) → length list ≤ n → Below system z b → Distinct list → ((u : Item) → In list u → Listed system pick z u) →
+  pub part_done : (n : ℕ) (list : List Item) (b : Vector) → length list ≤ n → Below system z b → Distinct list
+      → ((u : Item) → In list u → Listed system pick z u) →
       ((u : Item) → In list u → b u.point u.row ≡ z u.point u.row) → PartDone system T z b list (part joint n b list)
   unfolding part turn after_step
-  part_done zero [] b h over distinct listed base = record { valid = tt; items = λ s m v k. absurd m; risen = λ u m. absurd m; same = λ u m. absurd m }
+  part_done zero [] b h over distinct listed base = record {
+    valid = tt;
+    items = λ s m v k. absurd m;
+    risen = λ u m. absurd m;
+    same =
+        λ u m. absurd m;
+  }
   part_done zero (u ∷ us) b h over distinct listed base = absurd (omega arith)
-  part_done (suc n) [] b h over distinct listed base = record { valid = tt; items = λ s m v k. absurd m; risen = λ u m. absurd m; same = λ u m. absurd m }
+  part_done (suc n) [] b h over distinct listed base = record {
+    valid = tt;
+    items = λ s m v k. absurd m;
+    risen = λ u m. absurd m;
+    same =
+        λ u m. absurd m;
+  }
   part_done (suc n) (u ∷ us) b h over distinct listed base =
       by (joint b (u ∷ us)) (joined b (u ∷ us) (list_condition b (u ∷ us) over distinct listed base))
       (λ rest c l o d li ba. part_done n rest c l o d li ba)
@@ -235,7 +277,8 @@ module _ (system : Equations) (T : Transformer) (reaches : Evident system T) (pi
       list = u ∷ us
 
       by : (o : Outcome) → OutcomeFacts system T b list o →
-          ((rest : List Item) (c : Vector) → length rest ≤ n → Below system z c → Distinct rest → ((v : Item) → In rest v → Listed system pick z v) →
+          ((rest : List Item) (c : Vector) → length rest ≤ n → Below system z c → Distinct rest
+          → ((v : Item) → In rest v → Listed system pick z v) →
           ((v : Item) → In rest v → c v.point v.row ≡ z v.point v.row) → PartDone system T z c rest (part joint n c rest)) →
           PartDone system T z b list (turn o b list (λ c rest. part joint n c rest))
       by (Point items) facts rec = point_done b list items over listed base facts
@@ -245,7 +288,8 @@ module _ (system : Equations) (T : Transformer) (reaches : Evident system T) (pi
           let l = fewer_without items list first.0 facts.first first.1 facts.some (sym first.2.point) (sym first.2.row) in
           ray_done b list items (part joint n c (without items list)) over listed base facts
           (rec (without items list) c (omega arith)
-          (below_trans system z b c over (step_up system b (record { kind = Ray; items = items }) (ray_valid b list items over listed base facts)))
+          (below_trans system z b c over (step_up system b (record { kind = Ray; items = items })
+          (ray_valid b list items over listed base facts)))
           (distinct_without items list distinct)
           (λ v m. listed v (of_without items list v m).0)
           (λ v m. put-unnamed (new_value Ray) items b v.point v.row (of_without items list v m).1 ∙ base v (of_without items list v m).0))

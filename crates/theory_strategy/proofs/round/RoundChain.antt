@@ -8,7 +8,8 @@ use Rattle.theory_validity.proofs.steps.Puts.{below_itself, below_trans}
 use Rattle.theory_strategy.specs.Picks.{Pick, Transformer}
 use Rattle.theory_strategy.specs.Rounds.{Rounds}
 
-module _ (system : Equations) (T : Transformer) (n : ℕ) (d z : ℕ → Vector) (pick : ℕ → Pick) (steps : ℕ → List Step) (rounds : Rounds system T n d z pick steps) where
+module _ (system : Equations) (T : Transformer) (n : ℕ) (d z : ℕ → Vector) (pick : ℕ → Pick) (steps : ℕ → List Step)
+    (rounds : Rounds system T n d z pick steps) where
   -- a round rises
   pub one_round : (k : ℕ) → k < n → Below system (d k) (d (suc k))
   one_round k h = let f = rounds.facts k h in below_trans system (d k) (z k) (d (suc k)) f.grows f.turns
@@ -31,10 +32,13 @@ module _ (system : Equations) (T : Transformer) (n : ℕ) (d z : ℕ → Vector)
       let next : suc (a + m) ≡ a + suc m = omega arith in
       let within : a + m < n = omega arith in
       let back : d (suc (a + m)) p r ≤ᴱ d (a + m) p r =
-      ≤ᴱ_trans (d (suc (a + m)) p r) (d a p r) (d (a + m) p r) (ext_le_of_eq (d (suc (a + m)) p r) (d a p r) (ap (λ b. d b p r) next ∙ sym e)) (rises_by a m (omega arith) p r l) in
-      let same : d (a + m) p r ≡ d (suc (a + m)) p r = ≤ᴱ_antisymm (d (a + m) p r) (d (suc (a + m)) p r) (one_round (a + m) within p r l) back in
+      ≤ᴱ_trans (d (suc (a + m)) p r) (d a p r) (d (a + m) p r) (ext_le_of_eq (d (suc (a + m)) p r) (d a p r)
+      (ap (λ b. d b p r) next ∙ sym e)) (rises_by a m (omega arith) p r l) in
+      let same : d (a + m) p r ≡ d (suc (a + m)) p r = ≤ᴱ_antisymm (d (a + m) p r) (d (suc (a + m)) p r) (one_round (a + m) within p r l)
+      back in
       ap (λ b. pick b p r) (sym next)
-      ∙ ⊎_elim (λ k. k) (λ k. absurd (ext_lt_irrefl (d (a + m) p r) (ext_lt_of_lt_of_le (d (a + m) p r) (d (suc (a + m)) p r) (d (a + m) p r) k back))) ((rounds.facts (a + m) within).changed p r l)
+      ∙ ⊎_elim (λ k. k) (λ k. absurd (ext_lt_irrefl (d (a + m) p r) (ext_lt_of_lt_of_le (d (a + m) p r) (d (suc (a + m)) p r)
+      (d (a + m) p r) k back))) ((rounds.facts (a + m) within).changed p r l)
       ∙ stays_by a m p r (omega arith) l (e ∙ ap (λ b. d b p r) (sym next) ∙ sym same)
 
   -- where a later bound is the same, the pick is

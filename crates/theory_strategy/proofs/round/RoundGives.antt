@@ -24,7 +24,8 @@ pub record Improved (system : Equations) (T : Transformer) (d : Vector) (pick : 
   -- the edge's transformer exceeds the unknown's bound
   pub exceeds : d item.point item.row <ᴱ value_at system T d item
 
-module _ (system : Equations) (T : Transformer) (reaches : Evident system T) (d z f : Vector) (old pick : Pick) (grown steps : List Step) (is_pick : IsPick system pick)
+module _ (system : Equations) (T : Transformer) (reaches : Evident system T) (d z f : Vector) (old pick : Pick) (grown steps : List Step)
+    (is_pick : IsPick system pick)
     (growth : Grown system T d pick grown z) (done : RoundDone system T d z pick grown steps f) where
   -- a picked unknown whose transformer exceeded its bound has risen
   improved_rises : (u : Item) → Picks pick u → d u.point u.row <ᴱ value_at system T d u → d u.point u.row <ᴱ f u.point u.row
@@ -33,13 +34,15 @@ module _ (system : Equations) (T : Transformer) (reaches : Evident system T) (d 
       (subst (λ v. value_at system T d u ≤ᴱ v) (done.tight.same u p) (value_mono system T reaches d f u done.above.over))
 
   lows : (u : Item) (c : ℚ) → Picks pick u → d u.point u.row <ᴱ f u.point u.row → f u.point u.row ≡ fin c → LowWord system z u
-  lows u c p rose e = ⊎_elim named (λ n. absurd (ext_lt_irrefl (d u.point u.row) (subst (λ v. d u.point u.row <ᴱ v) (done.unraised u.point u.row n) rose))) (named_or_not (items_of grown) u.point u.row)
+  lows u c p rose e = ⊎_elim named (λ n. absurd (ext_lt_irrefl (d u.point u.row)
+      (subst (λ v. d u.point u.row <ᴱ v) (done.unraised u.point u.row n) rose))) (named_or_not (items_of grown) u.point u.row)
     where
       differ : pos_inf ≡ fin c → ⊥
       differ g = cc
 
       by : Settled system T z u → LowWord system z u
-      by (inl h) = absurd (differ (sym (top_from_le (f u.point u.row) (subst (λ v. v ≤ᴱ f u.point u.row) h.0 (done.turns u.point u.row ((is_pick u p).row_within)))) ∙ e))
+      by (inl h) = absurd (differ (sym (top_from_le (f u.point u.row) (subst (λ v. v ≤ᴱ f u.point u.row) h.0
+          (done.turns u.point u.row ((is_pick u p).row_within)))) ∙ e))
       by (inr h) = h
 
       named : ((v : Item) × In (items_of grown) v × (v.point ≡ u.point) × (v.row ≡ u.row)) → LowWord system z u
@@ -65,4 +68,5 @@ module _ (system : Equations) (T : Transformer) (reaches : Evident system T) (d 
       }
     where
       moved : (p r : ℕ) (u : Item) → u.point ≡ p → u.row ≡ r → Picks pick u → d p r <ᴱ value_at system T d u → d p r <ᴱ f p r
-      moved p r u e g h i = subst₂ (λ a b. d a b <ᴱ f a b) e g (improved_rises u h (subst₂ (λ a b. d a b <ᴱ value_at system T d u) (sym e) (sym g) i))
+      moved p r u e g h i = subst₂ (λ a b. d a b <ᴱ f a b) e g (improved_rises u h
+          (subst₂ (λ a b. d a b <ᴱ value_at system T d u) (sym e) (sym g) i))

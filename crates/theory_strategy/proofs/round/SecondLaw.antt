@@ -12,7 +12,8 @@ use Rattle.flow_systems.specs.States.{dotℚ}
 use Rattle.flow_edges.specs.declared.edge.Edge.{Edge}
 use Rattle.flow_systems.specs.Equations.{Equations, Vector}
 use Rattle.theory_validity.specs.Words.{Word, start_of, moved, lin, start_form, end_form}
-use Rattle.theory_validity.specs.Steps.{Below, Runs, end_value, Item, Step, Ray, edge_of, row_of, item_value, put, new_value, Unnamed, RayItem, ValidStep, word}
+use Rattle.theory_validity.specs.Steps.{Below, Runs, end_value, Item, Step, Ray, edge_of, row_of, item_value, put, new_value, Unnamed}
+use Rattle.theory_validity.specs.Steps.{RayItem, ValidStep, word}
 use Rattle.theory_validity.specs.Certificates.{num, NotFinite}
 use Rattle.theory_validity.specs.Transformers.{Reaches}
 use Rattle.theory_validity.proofs.words.WordLaws.{start-moved, end-moved, passes_moved}
@@ -30,16 +31,20 @@ use Rattle.theory_strategy.proofs.round.FirstLaw.{HighWord, first_law}
 abbrev pub Tops : Equations → Vector → Vector → Type 0
 Tops system before b = (p r : ℕ) → r < length system.template → b p r ≡ pos_inf → before p r ≡ pos_inf
 
-module _ (system : Equations) (T : Transformer) (reaches : (z : Vector) (edge : Edge) (row : List ℤ) → Reaches system z edge row (T z edge row))
+module _ (system : Equations) (T : Transformer) (reaches : (z : Vector) (edge : Edge) (row : List ℤ)
+    → Reaches system z edge row (T z edge row))
     (n : ℕ) (d z : ℕ → Vector) (pick : ℕ → Pick) (steps : ℕ → List Step) (rounds : Rounds system T n d z pick steps)
     (i j : ℕ) (i_before : i < j) (j_within : j ≤ n) (same_pick : (p r : ℕ) → pick i p r ≡ pick j p r) where
   -- a word that reaches the tight bound of a picked unknown
-  pub attained : (k : ℕ) → k ≤ n → (u : Item) (c : ℚ) → Picks (pick k) u → d k u.point u.row ≡ fin c → (w : Word) × Runs system (d k) (edge_of system u) w × (c ≤ℚ item_value system u w)
+  pub attained : (k : ℕ) → k ≤ n → (u : Item) (c : ℚ) → Picks (pick k) u → d k u.point u.row ≡ fin c
+      → (w : Word) × Runs system (d k) (edge_of system u) w × (c ≤ℚ item_value system u w)
   attained k h u c p e =
-      reach_attains system (d k) (edge_of system u) (row_of system u) (value_at system T (d k) u) c (reaches (d k) (edge_of system u) (row_of system u))
+      reach_attains system (d k) (edge_of system u) (row_of system u) (value_at system T (d k) u) c
+      (reaches (d k) (edge_of system u) (row_of system u))
       (ext_le_of_eq (fin c) (value_at system T (d k) u) (sym ((rounds.tight k h).same u p ∙ e)))
 
-  module _ (k : ℕ) (k_from : i ≤ k) (k_before : k < j) (b : Vector) (items : List Item) (over : Below system (d i) b) (tops : Tops system (d i) b)
+  module _ (k : ℕ) (k_from : i ≤ k) (k_before : k < j) (b : Vector) (items : List Item) (over : Below system (d i) b)
+      (tops : Tops system (d i) b)
       (valid : ValidStep system b (record { kind = Ray; items = items })) (under : Below system (put (new_value Ray) items b) (d (suc k)))
       (picked : (u : Item) → In items u → Picks (pick (suc k)) u) where
     -- a named unknown is picked in round i, with the same edge
@@ -47,15 +52,22 @@ module _ (system : Equations) (T : Transformer) (reaches : (z : Vector) (edge : 
     unfolding new_value
     picks_before u m =
         let l = (valid.placed u m).row_within in
-        let top : d (suc k) u.point u.row ≡ pos_inf = top_from_le (d (suc k) u.point u.row) (subst (λ v. v ≤ᴱ d (suc k) u.point u.row) (put-named (new_value Ray) items b u valid.distinct m) (under u.point u.row l)) in
-        let later : d j u.point u.row ≡ pos_inf = top_from_le (d j u.point u.row) (subst (λ v. v ≤ᴱ d j u.point u.row) top (rise system T n d z pick steps rounds (suc k) j (omega arith) j_within u.point u.row l)) in
-        same_pick u.point u.row ∙ pick_stays system T n d z pick steps rounds (suc k) j u.point u.row (omega arith) j_within l (top ∙ sym later) ∙ picked u m
+        let top : d (suc k) u.point u.row ≡ pos_inf = top_from_le (d (suc k) u.point u.row)
+        (subst (λ v. v ≤ᴱ d (suc k) u.point u.row) (put-named (new_value Ray) items b u valid.distinct m)
+        (under u.point u.row l)) in
+        let later : d j u.point u.row ≡ pos_inf = top_from_le (d j u.point u.row)
+        (subst (λ v. v ≤ᴱ d j u.point u.row) top (rise system T n d z pick steps rounds (suc k) j (omega arith) j_within u.point
+        u.row l)) in
+        same_pick u.point u.row ∙ pick_stays system T n d z pick steps rounds (suc k) j u.point u.row (omega arith) j_within l
+        (top ∙ sym later) ∙ picked u m
 
     -- and finite there
     finite_before : (u : Item) → In items u → (c : ℚ) × (d i u.point u.row ≡ fin c)
     finite_before u m =
-        finite_inside neg_inf (d i u.point u.row) pos_inf (tight_above system T reaches (d i) (pick i) u (rounds.tight i (omega arith)) (picks_before u m))
-        (ext_lt_of_le_of_lt (d i u.point u.row) (b u.point u.row) pos_inf (over u.point u.row (valid.placed u m).row_within) (valid.valid u m).below_top)
+        finite_inside neg_inf (d i u.point u.row) pos_inf (tight_above system T reaches (d i) (pick i) u (rounds.tight i (omega arith))
+        (picks_before u m))
+        (ext_lt_of_le_of_lt (d i u.point u.row) (b u.point u.row) pos_inf (over u.point u.row (valid.placed u m).row_within)
+        (valid.valid u m).below_top)
 
     raised : Item → Ext
     raised u = fin (num (d i u.point u.row) +ℚ u.number)
@@ -91,12 +103,17 @@ module _ (system : Equations) (T : Transformer) (reaches : (z : Vector) (edge : 
     lifted_finite : (p r : ℕ) (c : ℚ) → d i p r ≡ fin c → (a : ℚ) × (lifted p r ≡ fin a)
     unfolding lifted
     lifted_finite p r c e = ⊎_elim
-        (λ f. let x = finite_before f.0 f.1 in (x.0 +ℚ f.0.number, subst₂ (λ s t. put raised items (d i) s t ≡ fin (x.0 +ℚ f.0.number)) f.2 f.3 (lifted_named f.0 x.0 f.1 x.1)))
+        (λ f. let x = finite_before f.0 f.1 in (
+          x.0 +ℚ f.0.number,
+          subst₂ (λ s t. put raised items (d i) s t ≡ fin (x.0 +ℚ f.0.number)) f.2
+              f.3 (lifted_named f.0 x.0 f.1 x.1),
+        ))
         (λ u. (c, put-unnamed raised items (d i) p r u ∙ e))
         (named_or_not items p r)
 
     -- at a source row, a word moved along a named unknown's direction fits
-    moved_row : (u : Item) → In items u → (r : ℕ) (row : List ℤ) → slice_get system.template r ≡ Some row → (x : ℚ) → fin x ≤ᴱ d i (edge_of system u).from r →
+    moved_row : (u : Item) → In items u → (r : ℕ) (row : List ℤ) → slice_get system.template r ≡ Some row → (x : ℚ)
+        → fin x ≤ᴱ d i (edge_of system u).from r →
         fin (x +ℚ one_ℚ *ℚ lin (start_form system.variables row) (word u.second)) ≤ᴱ lifted (edge_of system u).from r
     unfolding lifted
     moved_row u m r row e x fits = ⊎_elim named unnamed (named_or_not items from r)
@@ -120,7 +137,8 @@ module _ (system : Equations) (T : Transformer) (reaches : (z : Vector) (edge : 
         named o =
             let c = finite_before o.0 o.1 in
             let low : x ≤ℚ c.0 = subst (λ s. fin x ≤ᴱ s) c.1 (subst₂ (λ s t. fin x ≤ᴱ d i s t) (sym o.2) (sym o.3) fits) in
-            let slow : rate ≤ℚ o.0.number = subst (λ s. lin (start_form system.variables s) (word u.second) ≤ℚ o.0.number) (row_of_is system o.0 r row o.3 e) (v.named o.0 o.1 o.2) in
+            let slow : rate ≤ℚ o.0.number = subst (λ s. lin (start_form system.variables s) (word u.second) ≤ℚ o.0.number)
+            (row_of_is system o.0 r row o.3 e) (v.named o.0 o.1 o.2) in
             subst₂ (λ s t. fin (x +ℚ one_ℚ *ℚ rate) ≤ᴱ put raised items (d i) s t) o.2 o.3
             (subst (λ s. fin (x +ℚ one_ℚ *ℚ rate) ≤ᴱ s) (sym (lifted_named o.0 c.0 o.1 c.1)) (sum_le x c.0 rate o.0.number low slow))
 
@@ -149,8 +167,10 @@ module _ (system : Equations) (T : Transformer) (reaches : (z : Vector) (edge : 
                 (moved_row u m r row e (dotℚ row (start_of system.variables top.0)) (top.1.fits r row e));
           };
           reaches = subst (λ s. s ≤ᴱ fin (item_value system u w)) (sym (lifted_named u c.0 m c.1))
-              (subst (λ s. c.0 +ℚ u.number ≤ℚ s) (sym (end-moved system.variables edge.actions (row_of system u) top.0 one_ℚ (word u.second)))
-              (sum_le c.0 (item_value system u top.0) u.number (lin (end_form system.variables edge.actions (row_of system u)) (word u.second)) top.2 v.gains));
+              (subst (λ s. c.0 +ℚ u.number ≤ℚ s) (sym (end-moved system.variables edge.actions (row_of system u) top.0 one_ℚ
+              (word u.second)))
+              (sum_le c.0 (item_value system u top.0) u.number (lin (end_form system.variables edge.actions (row_of system u))
+              (word u.second)) top.2 v.gains));
         }
       where
         sum_le : (c x g h : ℚ) → c ≤ℚ x → g ≤ℚ h → c +ℚ g ≤ℚ x +ℚ one_ℚ *ℚ h
@@ -166,7 +186,8 @@ module _ (system : Equations) (T : Transformer) (reaches : (z : Vector) (edge : 
           reaches =
               subst (λ p. y p v.row ≤ᴱ fin (item_value system v h.word)) e
               (subst (λ r. y u.point r ≤ᴱ fin (end_value system (edge_of system v) (get_or system.template r []) h.word)) f
-              (subst (λ k. y u.point u.row ≤ᴱ fin (end_value system (get_or system.edges k (record { from = 0; to = 0; actions = [] })) (row_of system u) h.word)) g h.reaches));
+              (subst (λ k. y u.point u.row ≤ᴱ fin (end_value system (get_or system.edges k (record { from = 0; to = 0; actions = [] }))
+              (row_of system u) h.word)) g h.reaches));
         }
 
     high : (v : Item) (c : ℚ) → Picks (pick i) v → d i v.point v.row ≡ fin c → HighWord system lifted v
@@ -184,9 +205,17 @@ module _ (system : Equations) (T : Transformer) (reaches : (z : Vector) (edge : 
     -- the second law: a ray step between the rounds names nothing
     pub no_ray : (u : Item) → In items u → ⊥
     no_ray u m =
-        let law = first_law system T reaches n d z pick steps rounds i (omega arith) lifted (record { over = lifted_over; same = λ p r l h. lifted_same p r h; finite = λ p r c l e. lifted_finite p r c e; highs = high }) in
+        let law = first_law system T reaches n d z pick steps rounds i (omega arith) lifted
+        (record {
+          over = lifted_over;
+          same = λ p r l h. lifted_same p r h;
+          finite = λ p r c l e. lifted_finite p r c e;
+          highs =
+              high;
+        }) in
         let c = finite_before u m in
-        more c.0 u.number (valid.valid u m).rate (same_fin (c.0 +ℚ u.number) c.0 (sym (lifted_named u c.0 m c.1) ∙ law u.point u.row (valid.placed u m).row_within ∙ c.1))
+        more c.0 u.number (valid.valid u m).rate (same_fin (c.0 +ℚ u.number) c.0
+        (sym (lifted_named u c.0 m c.1) ∙ law u.point u.row (valid.placed u m).row_within ∙ c.1))
       where
         same_fin : (a b : ℚ) → fin a ≡ fin b → a ≡ b
         same_fin a b e = cc

@@ -36,9 +36,11 @@ Answers system T d pick (Some better) = Better system T d pick better
 
 module _ (fitting : ℚ → Bool) (system : Equations) (T : Transformer) (reaches : Evident system T)
     (sizes : (z : Vector) (edge : Edge) (row : List ℤ) → Sizes system z edge row (T z edge row) (reaches z edge row))
-    (joint : Pick → Vector → List Item → Outcome) (joined : (pick : Pick) → IsPick system pick → Joined system T pick (joint pick)) (cut : Vector → Pick → List (List Item))
+    (joint : Pick → Vector → List Item → Outcome) (joined : (pick : Pick) → IsPick system pick → Joined system T pick (joint pick))
+    (cut : Vector → Pick → List (List Item))
     (cuts : (d : Vector) (pick : Pick) → IsPick system pick → Cuts fitting system T reaches sizes d pick (cut d pick))
-    (policy : ℕ → Vector → Pick → Option Pick) (answers : (k : ℕ) (d : Vector) (pick : Pick) → Tight system T d pick → Answers system T d pick (policy k d pick)) where
+    (policy : ℕ → Vector → Pick → Option Pick) (answers : (k : ℕ) (d : Vector) (pick : Pick) → Tight system T d pick
+    → Answers system T d pick (policy k d pick)) where
   abbrev now : ℕ → State
   now k = state fitting system T reaches joint cut policy k
 
@@ -56,11 +58,17 @@ module _ (fitting : ℚ → Bool) (system : Equations) (T : Transformer) (reache
     growth : Grown system T s.vector t.pick (grown s t) (after_steps (grown s t) s.vector)
     done : RoundDone system T s.vector (after_steps (grown s t) s.vector) t.pick (grown s t) (steps_of s t) t.vector
 
-  facts_of : (s : State) (better : Pick) → Tight system T s.vector s.pick → Better system T s.vector s.pick better → Facts s (next_of (Some better) s)
+  facts_of : (s : State) (better : Pick) → Tight system T s.vector s.pick → Better system T s.vector s.pick better
+      → Facts s (next_of (Some better) s)
   unfolding next grown steps_of
   facts_of s better tight h =
       let supported = improve_supported system T reaches s.vector s.pick better tight h.is_pick h.improves in
-      record { better = h; growth = grow_is fitting system T reaches sizes s.vector better supported; done = round_is fitting system T reaches sizes joint joined cut cuts s.vector better supported }
+      record {
+        better = h;
+        growth = grow_is fitting system T reaches sizes s.vector better supported;
+        done =
+            round_is fitting system T reaches sizes joint joined cut cuts s.vector better supported;
+      }
 
   Goes : ℕ → Type 0
   Goes k = (better : Pick) × (policy k (now k).vector (now k).pick ≡ Some better)
@@ -83,7 +91,8 @@ module _ (fitting : ℚ → Bool) (system : Equations) (T : Transformer) (reache
   picks k = (now k).pick
 
   chain_of : (n : ℕ) → ((k : ℕ) → k < n → Goes k) →
-      Chain system T n d (λ k. after_steps (grown (now k) (now (suc k))) (d k)) picks (λ k. grown (now k) (now (suc k))) (λ k. steps_of (now k) (now (suc k)))
+      Chain system T n d (λ k. after_steps (grown (now k) (now (suc k))) (d k)) picks (λ k. grown (now k) (now (suc k)))
+      (λ k. steps_of (now k) (now (suc k)))
   unfolding d picks state
   chain_of n goes =
       record {
@@ -113,7 +122,13 @@ module _ (fitting : ℚ → Bool) (system : Equations) (T : Transformer) (reache
   look : (n : ℕ) → Ends n ⊎ ((k : ℕ) → k < n → Goes k)
   unfolding Goes
   look zero = inr (λ k h. absurd (omega arith))
-  look (suc n) = ⊎_elim (λ e. inl (record { rounds = e.rounds; within = let h = e.within in omega arith; none = e.none; before = e.before })) (λ goes. at goes (policy n (now n).vector (now n).pick) refl) (look n)
+  look (suc n) = ⊎_elim (λ e. inl (record {
+    rounds = e.rounds;
+    within = let h = e.within in omega arith;
+    none = e.none;
+    before =
+        e.before;
+  })) (λ goes. at goes (policy n (now n).vector (now n).pick) refl) (look n)
     where
       joined_up : ((k : ℕ) → k < n → Goes k) → Goes n → (k : ℕ) → k < suc n → Goes k
       joined_up goes g k h = ⊎_elim (λ l. goes k l) (λ e. subst Goes e g) (below k h)
@@ -121,7 +136,8 @@ module _ (fitting : ℚ → Bool) (system : Equations) (T : Transformer) (reache
           below : (k : ℕ) → k < suc n → (k < n) ⊎ (n ≡ k)
           below k h = ⊎_elim (λ l. inl l) (λ l. inr (omega arith)) (cases_lt k n)
 
-      at : ((k : ℕ) → k < n → Goes k) → (o : Option Pick) → policy n (now n).vector (now n).pick ≡ o → Ends (suc n) ⊎ ((k : ℕ) → k < suc n → Goes k)
+      at : ((k : ℕ) → k < n → Goes k) → (o : Option Pick) → policy n (now n).vector (now n).pick ≡ o
+          → Ends (suc n) ⊎ ((k : ℕ) → k < suc n → Goes k)
       at goes None e = inl (record { rounds = n; within = omega arith; none = e; before = goes })
       at goes (Some better) e = inr (joined_up goes (better, e))
 
@@ -143,19 +159,23 @@ module _ (fitting : ℚ → Bool) (system : Equations) (T : Transformer) (reache
   -- with any policy the rounds end
   pub solved : Solved
   unfolding d
-  solved = ⊎_elim ended (λ goes. absurd (let h = chain_short system T reaches (pick_count system) d (λ k. after_steps (grown (now k) (now (suc k))) (d k)) picks (λ k. grown (now k) (now (suc k))) (λ k. steps_of (now k) (now (suc k))) (chain_of (pick_count system) goes) in omega arith)) (look (pick_count system))
+  solved = ⊎_elim ended (λ goes. absurd (let h = chain_short system T reaches (pick_count system) d
+      (λ k. after_steps (grown (now k) (now (suc k))) (d k)) picks (λ k. grown (now k) (now (suc k))) (λ k. steps_of (now k) (now (suc k)))
+      (chain_of (pick_count system) goes) in omega arith)) (look (pick_count system))
     where
       ended : Ends (pick_count system) → Solved
       ended e =
           let n = e.rounds in
           let chain = chain_of n e.before in
-          let made = chain_steps system T reaches n d (λ k. after_steps (grown (now k) (now (suc k))) (d k)) picks (λ k. grown (now k) (now (suc k))) (λ k. steps_of (now k) (now (suc k))) chain n (omega arith) in
+          let made = chain_steps system T reaches n d (λ k. after_steps (grown (now k) (now (suc k))) (d k)) picks
+          (λ k. grown (now k) (now (suc k))) (λ k. steps_of (now k) (now (suc k))) chain n (omega arith) in
           record {
             rounds = n;
             few = e.within;
             steps = all_steps (λ k. steps_of (now k) (now (suc k))) n;
             valid = made.0;
             leads = made.1;
-            least = chain_end_least system T reaches n d (λ k. after_steps (grown (now k) (now (suc k))) (d k)) picks (λ k. grown (now k) (now (suc k))) (λ k. steps_of (now k) (now (suc k))) chain
+            least = chain_end_least system T reaches n d (λ k. after_steps (grown (now k) (now (suc k))) (d k)) picks
+                (λ k. grown (now k) (now (suc k))) (λ k. steps_of (now k) (now (suc k))) chain
                 (subst (Answers system T (now n).vector (now n).pick) e.none (answers n (now n).vector (now n).pick (tight_at n e.before)));
           }

@@ -31,7 +31,9 @@ unfolding finite_items keep
 of_finite z [] u m = absurd m
 of_finite z (v ∷ us) u m = by (z v.point v.row) refl m (λ k. of_finite z us u k)
   where
-    by : (x : Ext) → z v.point v.row ≡ x → In (keep x v (finite_items z us)) u → (In (finite_items z us) u → In us u × ((c : ℚ) × (z u.point u.row ≡ fin c))) → In (v ∷ us) u × ((c : ℚ) × (z u.point u.row ≡ fin c))
+    by : (x : Ext) → z v.point v.row ≡ x → In (keep x v (finite_items z us)) u
+        → (In (finite_items z us) u → In us u × ((c : ℚ) × (z u.point u.row ≡ fin c)))
+        → In (v ∷ us) u × ((c : ℚ) × (z u.point u.row ≡ fin c))
     by neg_inf e m rec = let r = rec m in (inr r.0, r.1)
     by (fin c) e m rec = ⊎_elim (λ f. (inl f, (c, subst (λ i. z i.point i.row ≡ fin c) f e))) (λ k. let r = rec k in (inr r.0, r.1)) m
     by pos_inf e m rec = let r = rec m in (inr r.0, r.1)
@@ -61,21 +63,38 @@ unfolding finite_items keep
 distinct_finite z [] d = tt
 distinct_finite z (v ∷ us) d = by (z v.point v.row) (distinct_finite z us d.1) (λ u m. (of_finite z us u m).0)
   where
-    by : (x : Ext) → Distinct (finite_items z us) → ((u : Item) → In (finite_items z us) u → In us u) → Distinct (keep x v (finite_items z us))
+    by : (x : Ext) → Distinct (finite_items z us) → ((u : Item) → In (finite_items z us) u → In us u)
+        → Distinct (keep x v (finite_items z us))
     by neg_inf r from = r
-    by (fin c) r from = (unnamed_by_all (finite_items z us) v.point v.row (λ u m e f. not_unnamed us u (from u m) (subst₂ (λ p q. Unnamed us p q) (sym e) (sym f) d.0)), r)
+    by (fin c) r from = (
+      unnamed_by_all (finite_items z us) v.point v.row
+          (λ u m e f. not_unnamed us u (from u m) (subst₂ (λ p q. Unnamed us p q) (sym e) (sym f) d.0)),
+      r,
+    )
     by pos_inf r from = r
 
 -- a listed unknown is one at a greater vector that is the same there
-listed_later : (system : Equations) (pick : Pick) (z f : Vector) (u : Item) → Below system z f → f u.point u.row ≡ z u.point u.row → Listed system pick z u → Listed system pick f u
+listed_later : (system : Equations) (pick : Pick) (z f : Vector) (u : Item) → Below system z f → f u.point u.row ≡ z u.point u.row
+    → Listed system pick z u → Listed system pick f u
 listed_later system pick z f u below e h =
-    record { picked = h.picked; bound = h.bound; finite = e ∙ h.finite; size = h.size; runs = runs_below system z f (edge_of system u) (word u.low) below h.runs; exceeds = h.exceeds }
+    record {
+      picked = h.picked;
+      bound = h.bound;
+      finite = e ∙ h.finite;
+      size = h.size;
+      runs =
+          runs_below system z f (edge_of system u) (word u.low) below h.runs;
+      exceeds = h.exceeds;
+    }
 
 -- raises of distinct unknowns: each is +∞ at the end, or listed with its own low word
-own_more : (system : Equations) (T : Transformer) (pick : Pick) (s : Step) (steps : List Step) (z : Vector) → Raise system T pick z s → Raises system T pick (after_step s z) steps → Distinct (s.items ++ items_of steps) →
+own_more : (system : Equations) (T : Transformer) (pick : Pick) (s : Step) (steps : List Step) (z : Vector) → Raise system T pick z s
+    → Raises system T pick (after_step s z) steps → Distinct (s.items ++ items_of steps) →
     IsPick system pick →
-    (Distinct (items_of steps) → (u : Item) → In (items_of steps) u → (after_steps steps (after_step s z) u.point u.row ≡ pos_inf) ⊎ Listed system pick (after_steps steps (after_step s z)) u) →
-    (u : Item) → In (s.items ++ items_of steps) u → (after_steps steps (after_step s z) u.point u.row ≡ pos_inf) ⊎ Listed system pick (after_steps steps (after_step s z)) u
+    (Distinct (items_of steps) → (u : Item) → In (items_of steps) u → (after_steps steps (after_step s z) u.point u.row ≡ pos_inf)
+    ⊎ Listed system pick (after_steps steps (after_step s z)) u) →
+    (u : Item) → In (s.items ++ items_of steps) u → (after_steps steps (after_step s z) u.point u.row ≡ pos_inf)
+    ⊎ Listed system pick (after_steps steps (after_step s z)) u
 own_more system T pick s steps z h rest distinct is_pick known u m =
     ⊎_elim (λ k. here (subst (λ l. In l u) h.single k)) (λ k. known d.1 u k) (of_append s.items (items_of steps) u m)
   where
@@ -90,10 +109,12 @@ own_more system T pick s steps z h rest distinct is_pick known u m =
 
     here : In (h.item ∷ []) u → (f u.point u.row ≡ pos_inf) ⊎ Listed system pick f u
     here (inl g) = subst (λ i. (f i.point i.row ≡ pos_inf) ⊎ Listed system pick f i) g
-        (⊎_elim (λ t. inl (e ∙ t)) (λ l. inr (listed_later system pick (after_step s z) f h.item (led_up system steps (after_step s z) (raises_valid system T pick steps (after_step s z) rest)) e l)) h.own)
+        (⊎_elim (λ t. inl (e ∙ t)) (λ l. inr (listed_later system pick (after_step s z) f h.item
+        (led_up system steps (after_step s z) (raises_valid system T pick steps (after_step s z) rest)) e l)) h.own)
     here (inr k) = absurd k
 
-own_is : (system : Equations) (T : Transformer) (pick : Pick) (steps : List Step) (z : Vector) → Raises system T pick z steps → Distinct (items_of steps) → IsPick system pick → (u : Item) → In (items_of steps) u →
+own_is : (system : Equations) (T : Transformer) (pick : Pick) (steps : List Step) (z : Vector) → Raises system T pick z steps
+    → Distinct (items_of steps) → IsPick system pick → (u : Item) → In (items_of steps) u →
     (after_steps steps z u.point u.row ≡ pos_inf) ⊎ Listed system pick (after_steps steps z) u
 unfolding after_steps items_of
 own_is system T pick [] z h distinct is_pick u m = absurd m
@@ -109,9 +130,13 @@ module _ (fitting : ℚ → Bool) (system : Equations) (T : Transformer) (reache
       let us = choices system pick in
       let steps = grow fitting system T reaches d pick in
       let done = passes_done fitting system T reaches sizes pick is_pick (length us) us d (omega arith) (choices_picked system pick) in
-      let apart = passes_apart fitting system T reaches sizes pick is_pick (length us) us d (choices_picked system pick) (choices_distinct system pick) in
-      let r = of_finite (after_steps steps d) (items_of steps) u m in
-      (r.0, ⊎_elim (λ t. absurd (differ r.1.0 (sym t ∙ r.1.1))) (λ l. l) (own_is system T pick steps d done.logged.raises apart.distinct is_pick u r.0))
+      let apart = passes_apart fitting system T reaches sizes pick is_pick (length us) us d (choices_picked system pick)
+      (choices_distinct system pick) in
+      let r = of_finite (after_steps steps d) (items_of steps) u m in (
+        r.0,
+        ⊎_elim (λ t. absurd (differ r.1.0 (sym t ∙ r.1.1))) (λ l. l)
+            (own_is system T pick steps d done.logged.raises apart.distinct is_pick u r.0),
+      )
     where
       differ : (c : ℚ) → pos_inf ≡ fin c → ⊥
       differ c e = cc
@@ -135,7 +160,11 @@ module _ (fitting : ℚ → Bool) (system : Equations) (T : Transformer) (reache
         admissible = cut.admissible;
         listed = λ u m. (rising_listed d pick is_pick u (cut.from u m)).1;
         raised = λ u m. (u, (rising_listed d pick is_pick u (cut.from u m)).0, record { point = refl; row = refl; edge = refl });
-        complete = λ v c m e. (v, cut.all v (in_finite (after_steps steps d) (items_of steps) v c m e), record { point = refl; row = refl; edge = refl });
+        complete = λ v c m e. (
+          v,
+          cut.all v (in_finite (after_steps steps d) (items_of steps) v c m e),
+          record { point = refl; row = refl; edge = refl },
+        );
       }
 
   -- the whole list is a cut
@@ -144,20 +173,24 @@ module _ (fitting : ℚ → Bool) (system : Equations) (T : Transformer) (reache
   whole_cut d pick is_pick =
       let us = choices system pick in
       let steps = grow fitting system T reaches d pick in
-      let apart = passes_apart fitting system T reaches sizes pick is_pick (length us) us d (choices_picked system pick) (choices_distinct system pick) in
+      let apart = passes_apart fitting system T reaches sizes pick is_pick (length us) us d (choices_picked system pick)
+      (choices_distinct system pick) in
       record {
         admissible = (distinct_finite (after_steps steps d) (items_of steps) apart.distinct, (λ u m. tt), (λ u m r l. tt), tt);
         from = λ u m. subst (λ l. In l u) (append-nil (rising fitting system T reaches d pick)) m;
         all = λ u m. subst (λ l. In l u) (sym (append-nil (rising fitting system T reaches d pick))) m;
       }
 
-  module _ (joint : Pick → Vector → List Item → Outcome) (joined : (pick : Pick) → IsPick system pick → Joined system T pick (joint pick)) (cut : Vector → Pick → List (List Item))
+  module _ (joint : Pick → Vector → List Item → Outcome) (joined : (pick : Pick) → IsPick system pick → Joined system T pick (joint pick))
+      (cut : Vector → Pick → List (List Item))
       (cuts : (d : Vector) (pick : Pick) → IsPick system pick → Cuts d pick (cut d pick)) where
     -- the round by a supported pick leads to the vector above d by the pick
     pub round_is : (d : Vector) (pick : Pick) → Supported system T d pick →
-        RoundDone system T d (after_steps (grow fitting system T reaches d pick) d) pick (grow fitting system T reaches d pick) (round_steps fitting system T reaches joint cut d pick) (round fitting system T reaches joint cut d pick)
+        RoundDone system T d (after_steps (grow fitting system T reaches d pick) d) pick (grow fitting system T reaches d pick)
+        (round_steps fitting system T reaches joint cut d pick) (round fitting system T reaches joint cut d pick)
     unfolding round round_steps
     round_is d pick supported =
         let steps = grow fitting system T reaches d pick in
-        round_done system T reaches pick (joint pick) (joined pick supported.is_pick) d (after_steps steps d) steps supported (grow_is fitting system T reaches sizes d pick supported) (cut d pick)
+        round_done system T reaches pick (joint pick) (joined pick supported.is_pick) d (after_steps steps d) steps supported
+        (grow_is fitting system T reaches sizes d pick supported) (cut d pick)
         (cut_is d pick (cut d pick) supported.is_pick (cuts d pick supported.is_pick))

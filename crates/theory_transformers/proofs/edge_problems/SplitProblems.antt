@@ -18,13 +18,17 @@ value_unsplit c (empty y) = refl
 
 -- where no source row is at −∞ the transformer is read from the outcome of the split problem
 pub transformer_by_lp : (system : Equations) (z : Vector) (edge : Edge) (row : List ℤ) → lost (z edge.from) system.template ≡ false →
-    transformer system z edge row ≡ value_of (end_form system.variables edge.actions row).constant (lp (split_problem (edge_problem system z edge row)))
+    transformer system z edge row ≡ value_of (end_form system.variables edge.actions row).constant
+    (lp (split_problem (edge_problem system z edge row)))
 unfolding transformer free_lp
 transformer_by_lp system z edge row e =
-    ap (λ b. if b then neg_inf else value_of (end_form system.variables edge.actions row).constant (free_lp (edge_problem system z edge row))) e
+    ap (λ b. if b then neg_inf else value_of (end_form system.variables edge.actions row).constant
+    (free_lp (edge_problem system z edge row))) e
     ∙ value_unsplit (end_form system.variables edge.actions row).constant (lp (split_problem (edge_problem system z edge row)))
 
 -- else it is −∞
-pub transformer_lost : (system : Equations) (z : Vector) (edge : Edge) (row : List ℤ) → lost (z edge.from) system.template ≡ true → transformer system z edge row ≡ neg_inf
+pub transformer_lost : (system : Equations) (z : Vector) (edge : Edge) (row : List ℤ) → lost (z edge.from) system.template ≡ true
+    → transformer system z edge row ≡ neg_inf
 unfolding transformer
-transformer_lost system z edge row e = ap (λ b. if b then neg_inf else value_of (end_form system.variables edge.actions row).constant (free_lp (edge_problem system z edge row))) e
+transformer_lost system z edge row e = ap (λ b. if b then neg_inf else value_of (end_form system.variables edge.actions row).constant
+    (free_lp (edge_problem system z edge row))) e

@@ -37,7 +37,8 @@ parts_difference : (q : ℚ) → positive q -ℚ positive (neg_ℚ q) ≡ q
 unfolding positive
 parts_difference q = by (le_or_lt zero_ℚ q) (le_or_lt zero_ℚ (neg_ℚ q))
   where
-    by : (d : (zero_ℚ ≤ℚ q) ⊎ (q <ℚ zero_ℚ)) (e : (zero_ℚ ≤ℚ neg_ℚ q) ⊎ (neg_ℚ q <ℚ zero_ℚ)) → ⊎_elim (λ h. q) (λ h. zero_ℚ) d -ℚ ⊎_elim (λ h. neg_ℚ q) (λ h. zero_ℚ) e ≡ q
+    by : (d : (zero_ℚ ≤ℚ q) ⊎ (q <ℚ zero_ℚ)) (e : (zero_ℚ ≤ℚ neg_ℚ q) ⊎ (neg_ℚ q <ℚ zero_ℚ))
+        → ⊎_elim (λ h. q) (λ h. zero_ℚ) d -ℚ ⊎_elim (λ h. neg_ℚ q) (λ h. zero_ℚ) e ≡ q
     by (inl h) (inl i) = lin_eq (q ∷ []) (le h ∷ le i ∷ []) (search reads_all depth 40) tt
     by (inl h) (inr i) = lin_eq (q ∷ []) (le h ∷ []) (search reads_all depth 40) tt
     by (inr h) (inl i) = lin_eq (q ∷ []) (le i ∷ []) (search reads_all depth 40) tt
@@ -58,11 +59,13 @@ pos_neg_even f (suc j) = let e : suc j + suc j ≡ suc (suc (j + j)) = omega ari
 pos_neg_odd : (f : ℕ → ℚ) (j : ℕ) → pos_neg f (suc (j + j)) ≡ positive (neg_ℚ (f j))
 unfolding pos_neg
 pos_neg_odd f zero = refl
-pos_neg_odd f (suc j) = let e : suc (suc j + suc j) ≡ suc (suc (suc (j + j))) = omega arith in ap (pos_neg f) e ∙ pos_neg_odd (λ j. f (suc j)) j
+pos_neg_odd f (suc j) = let e : suc (suc j + suc j) ≡ suc (suc (suc (j + j))) = omega arith in
+    ap (pos_neg f) e ∙ pos_neg_odd (λ j. f (suc j)) j
 
 -- the parts' difference
 unsplit-pos_neg : (f : ℕ → ℚ) (j : ℕ) → unsplit (pos_neg f) j ≡ f j
-unsplit-pos_neg f j = ap (λ s. s -ℚ pos_neg f (suc (j + j))) (pos_neg_even f j) ∙ ap (λ s. positive (f j) -ℚ s) (pos_neg_odd f j) ∙ parts_difference (f j)
+unsplit-pos_neg f j = ap (λ s. s -ℚ pos_neg f (suc (j + j))) (pos_neg_even f j) ∙ ap (λ s. positive (f j) -ℚ s) (pos_neg_odd f j)
+    ∙ parts_difference (f j)
 
 -- the word of a split word
 pub word_back : (n : ℕ) (f g : ℕ → ℚ) → tabulate n (unsplit (join (n + n) (pos_neg f) g)) ≡ tabulate n f

@@ -1,5 +1,6 @@
 -- Elements of lists of unknowns with what holds of all of them.
-use Rattle.std.proofs.Common.{◌≡◌, ◌∙◌, ◌⊎◌, inl, inr, ⊎_elim, ℕ, zero, suc, ◌<◌, true, false, true≢false, List, [], ◌∷◌, length, refl, sym, ap, subst, arith, if◌then◌else◌}
+use Rattle.std.proofs.Common.{◌≡◌, ◌∙◌, ◌⊎◌, inl, inr, ⊎_elim, ℕ, zero, suc, ◌<◌, true, false, true≢false, List, [], ◌∷◌, length, refl, sym}
+use Rattle.std.proofs.Common.{ap, subst, arith, if◌then◌else◌}
 use Rattle.std.proofs.lemmas.Bool.{cases_Bool}
 use Rattle.base_facts.specs.Elements.{In}
 use Rattle.base_numbers.specs.Rational.{ℚ, ◌-ℚ◌}
@@ -12,32 +13,40 @@ use Rattle.theory_transformers.specs.Candidates.{Supported, AllSupported, rises_
 use Rattle.theory_transformers.proofs.joint_problems.Rises.{is_at_means, is_at_itself}
 
 -- each member of a list that rises does
-pub rising_at : (system : Equations) (b : Vector) (list : List Listed) (u : Listed) → AllRising system b list → In list u → Rising system b u
+pub rising_at : (system : Equations) (b : Vector) (list : List Listed) (u : Listed) → AllRising system b list → In list u
+    → Rising system b u
 rising_at system b [] u h m = absurd m
 rising_at system b (v ∷ list) u h m = ⊎_elim (λ e. subst (λ s. Rising system b s) e h.0) (λ k. rising_at system b list u h.1 k) m
 
 -- each member of a list that is supported is
-pub supported_at : (system : Equations) (b q : Vector) (list : List Listed) (u : Listed) → AllSupported system b q list → In list u → Supported system b q u
+pub supported_at : (system : Equations) (b q : Vector) (list : List Listed) (u : Listed) → AllSupported system b q list → In list u
+    → Supported system b q u
 supported_at system b q [] u h m = absurd m
-supported_at system b q (v ∷ list) u h m = ⊎_elim (λ e. subst (λ s. Supported system b q s) e h.0) (λ k. supported_at system b q list u h.1 k) m
+supported_at system b q (v ∷ list) u h m = ⊎_elim (λ e. subst (λ s. Supported system b q s) e h.0)
+    (λ k. supported_at system b q list u h.1 k) m
 
 -- a list whose members are all supported is supported
-pub all_supported : (system : Equations) (b q : Vector) (list : List Listed) → ((u : Listed) → In list u → Supported system b q u) → AllSupported system b q list
+pub all_supported : (system : Equations) (b q : Vector) (list : List Listed) → ((u : Listed) → In list u → Supported system b q u)
+    → AllSupported system b q list
 all_supported system b q [] h = tt
 all_supported system b q (u ∷ list) h = (h u (inl refl), all_supported system b q list (λ v m. h v (inr m)))
 
 -- each member of a list with supporting words has one
-pub support_at : (system : Equations) (y : Vector) (list : List Listed) (ws : List Word) (u : Listed) → AllSupport system y list ws → In list u → (w : Word) × Supports system y u w
+pub support_at : (system : Equations) (y : Vector) (list : List Listed) (ws : List Word) (u : Listed) → AllSupport system y list ws
+    → In list u → (w : Word) × Supports system y u w
 support_at system y [] ws u h m = absurd m
 support_at system y (v ∷ list) [] u h m = absurd h
-support_at system y (v ∷ list) (w ∷ ws) u h m = ⊎_elim (λ e. (w, subst (λ s. Supports system y s w) e h.0)) (λ k. support_at system y list ws u h.1 k) m
+support_at system y (v ∷ list) (w ∷ ws) u h m = ⊎_elim (λ e. (w, subst (λ s. Supports system y s w) e h.0))
+    (λ k. support_at system y list ws u h.1 k) m
 
 -- each member of a list with directions that keep to the rates has one
-pub follow_at : (system : Equations) (b : Vector) (all : List Listed) (rates : ℕ → ℚ) (list : List Listed) (ds : List Word) (u : Listed) → AllFollow system b all rates list ds → In list u →
+pub follow_at : (system : Equations) (b : Vector) (all : List Listed) (rates : ℕ → ℚ) (list : List Listed) (ds : List Word) (u : Listed)
+    → AllFollow system b all rates list ds → In list u →
     (d : Word) × Follows system b all rates u d
 follow_at system b all rates [] ds u h m = absurd m
 follow_at system b all rates (v ∷ list) [] u h m = absurd h
-follow_at system b all rates (v ∷ list) (d ∷ ds) u h m = ⊎_elim (λ e. (d, subst (λ s. Follows system b all rates s d) e h.0)) (λ k. follow_at system b all rates list ds u h.1 k) m
+follow_at system b all rates (v ∷ list) (d ∷ ds) u h m = ⊎_elim (λ e. (d, subst (λ s. Follows system b all rates s d) e h.0))
+    (λ k. follow_at system b all rates list ds u h.1 k) m
 
 -- no listed unknown is unlisted
 pub unlisted_other : (list : List Listed) (p r : ℕ) (u : Listed) → Unlisted list p r → In list u → is_at u p r ≡ false
@@ -52,7 +61,8 @@ moved_unlisted : (list : List Listed) (u : Listed) (p r : ℕ) → is_at u p r �
 moved_unlisted list u p r e n = let h = is_at_means u p r e in subst (λ s. Unlisted list p s) h.1 (subst (λ s. Unlisted list s u.row) h.0 n)
 
 back_unlisted : (list : List Listed) (u : Listed) (p r : ℕ) → is_at u p r ≡ true → Unlisted list p r → Unlisted list u.point u.row
-back_unlisted list u p r e n = let h = is_at_means u p r e in subst (λ s. Unlisted list u.point s) (sym h.1) (subst (λ s. Unlisted list s r) (sym h.0) n)
+back_unlisted list u p r e n = let h = is_at_means u p r e in subst (λ s. Unlisted list u.point s) (sym h.1)
+    (subst (λ s. Unlisted list s r) (sym h.0) n)
 
 -- where no unknown is listed twice, one unknown is one element
 pub distinct_same : (list : List Listed) (u v : Listed) → Distinct list → In list u → In list v → is_at u v.point v.row ≡ true → u ≡ v
@@ -61,8 +71,10 @@ distinct_same (x ∷ list) u v d m n e = by m n (λ k l. distinct_same list u v 
   where
     by : (x ≡ u) ⊎ In list u → (x ≡ v) ⊎ In list v → (In list u → In list v → u ≡ v) → u ≡ v
     by (inl a) (inl b) f = sym a ∙ b
-    by (inl a) (inr k) f = absurd (not_unlisted list v k (moved_unlisted list u v.point v.row e (subst (λ s. Unlisted list s.point s.row) a d.0)))
-    by (inr k) (inl b) f = absurd (not_unlisted list u k (back_unlisted list u v.point v.row e (subst (λ s. Unlisted list s.point s.row) b d.0)))
+    by (inl a) (inr k) f = absurd (not_unlisted list v k (moved_unlisted list u v.point v.row e
+        (subst (λ s. Unlisted list s.point s.row) a d.0)))
+    by (inr k) (inl b) f = absurd (not_unlisted list u k (back_unlisted list u v.point v.row e
+        (subst (λ s. Unlisted list s.point s.row) b d.0)))
     by (inr k) (inr l) f = f k l
 
 -- the element that stands at a place
@@ -80,7 +92,13 @@ pub record Placed (list : List Listed) (b q : Vector) (x : ℕ → ℚ) (k : ℕ
 pub placed : (list : List Listed) (b q : Vector) (x : ℕ → ℚ) (k : ℕ) → Distinct list → k < length list → Placed list b q x k
 unfolding rise_at rises_of
 placed [] b q x k d l = absurd (omega (arith, l))
-placed (u ∷ list) b q x zero d l = record { unknown = u; listed = inl refl; rise = ap (λ t. if t then x 0 else rise_at list (λ k. x (suc k)) u.point u.row) (is_at_itself u); over = refl }
+placed (u ∷ list) b q x zero d l = record {
+  unknown = u;
+  listed = inl refl;
+  rise =
+      ap (λ t. if t then x 0 else rise_at list (λ k. x (suc k)) u.point u.row) (is_at_itself u);
+  over = refl;
+}
 placed (u ∷ list) b q x (suc k) d l =
     let h = placed list b q (λ k. x (suc k)) k d.1 (omega (arith, l)) in
     record {
@@ -91,9 +109,11 @@ placed (u ∷ list) b q x (suc k) d l =
     }
   where
     other : (v : Listed) → In list v → is_at u v.point v.row ≡ false
-    other v m = ⊎_elim (λ e. absurd (not_unlisted list v m (moved_unlisted list u v.point v.row e d.0))) (λ e. e) (cases_Bool (is_at u v.point v.row))
+    other v m = ⊎_elim (λ e. absurd (not_unlisted list v m (moved_unlisted list u v.point v.row e d.0))) (λ e. e)
+        (cases_Bool (is_at u v.point v.row))
 
 -- a list whose members all rise rises
-pub all_rising : (system : Equations) (b : Vector) (list : List Listed) → ((u : Listed) → In list u → Rising system b u) → AllRising system b list
+pub all_rising : (system : Equations) (b : Vector) (list : List Listed) → ((u : Listed) → In list u → Rising system b u)
+    → AllRising system b list
 all_rising system b [] h = tt
 all_rising system b (u ∷ list) h = (h u (inl refl), all_rising system b list (λ v m. h v (inr m)))

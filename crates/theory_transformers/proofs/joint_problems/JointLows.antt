@@ -1,5 +1,6 @@
 -- Low words of a rising list, and what items of steps need.
-use Rattle.std.proofs.Common.{take-append-drop, length-take, length-drop, arith, ◌≡◌, ◌∙◌, ⊎_elim, ℕ, ◌+◌, List, [], ◌∷◌, length, refl, sym, ap, subst}
+use Rattle.std.proofs.Common.{take-append-drop, length-take, length-drop, arith, ◌≡◌, ◌∙◌, ⊎_elim, ℕ, ◌+◌, List, [], ◌∷◌, length, refl, sym}
+use Rattle.std.proofs.Common.{ap, subst}
 use Rattle.base_numbers.proofs.extended.ExtendedLaws.{above_neg_inf}
 use Rattle.base_facts.specs.Elements.{In}
 use Rattle.base_numbers.specs.Rational.{ℚ, ◌+ℚ◌}
@@ -21,20 +22,24 @@ use Rattle.theory_transformers.proofs.edge_problems.EdgePoints.{edge_runs, edge_
 use Rattle.theory_transformers.proofs.edge_problems.TransformerOf.{transformer_exceeds}
 
 -- a word cut to its edge's columns runs as it does, with its value
-cut_runs : (system : Equations) (z : Vector) (u : Listed) (w : Word) → Runs system z (picked system u) w → Runs system z (picked system u) (tabulate (columns_of system u) (at w))
+cut_runs : (system : Equations) (z : Vector) (u : Listed) (w : Word) → Runs system z (picked system u) w
+    → Runs system z (picked system u) (tabulate (columns_of system u) (at w))
 unfolding columns_of
 cut_runs system z u w runs =
     edge_runs system z (picked system u) (at w)
     (record { above = λ r row g. above_neg_inf (dotℚ row (start_of system.variables w)) (z (picked system u).from r) (runs.fits r row g) })
     (edge_meets system z (picked system u) w runs)
 
-cut_value : (system : Equations) (u : Listed) (w : Word) → end_value system (picked system u) (own_row system u) w ≡ end_value system (picked system u) (own_row system u) (tabulate (columns_of system u) (at w))
+cut_value : (system : Equations) (u : Listed) (w : Word) → end_value system (picked system u) (own_row system u) w
+    ≡ end_value system (picked system u) (own_row system u) (tabulate (columns_of system u) (at w))
 unfolding columns_of end_value val
 cut_value system u w =
     let n = system.variables in
     let e = picked system u in
     let f = end_form n e.actions (own_row system u) in
-    sym (val-end_form n e.actions (own_row system u) w) ∙ ap (λ t. t +ℚ f.constant) (sym (product-at f.coeffs w) ∙ sym (product-tabulate f.coeffs (width n e.actions) (at w) (end_form_width n e.actions (own_row system u))))
+    sym (val-end_form n e.actions (own_row system u) w) ∙ ap (λ t. t +ℚ f.constant)
+    (sym (product-at f.coeffs w) ∙ sym (product-tabulate f.coeffs (width n e.actions) (at w)
+    (end_form_width n e.actions (own_row system u))))
     ∙ val-end_form n e.actions (own_row system u) (tabulate (width n e.actions) (at w))
 
 -- under the list condition there are low words
@@ -48,7 +53,8 @@ lows system b (u ∷ rest) h =
         record {
           size = length-tabulate (columns_of system u) (at e.0);
           runs = cut_runs system b u e.0 e.1;
-          above = subst (λ s. s <ᴱ fin (end_value system (picked system u) (own_row system u) (tabulate (columns_of system u) (at e.0)))) (sym h.0.finite) (subst (λ s. fin h.0.bound <ᴱ fin s) (cut_value system u e.0) e.2);
+          above = subst (λ s. s <ᴱ fin (end_value system (picked system u) (own_row system u) (tabulate (columns_of system u) (at e.0))))
+              (sym h.0.finite) (subst (λ s. fin h.0.bound <ᴱ fin s) (cut_value system u e.0) e.2);
         },
         r.1,
       ),
@@ -64,12 +70,23 @@ AllSized system (u ∷ rest) (w ∷ ws) = (length w ≡ columns_of system u) × 
 pub words_sized : (system : Equations) (list : List Listed) (x : ℕ → ℚ) → AllSized system list (words_of system list x)
 unfolding words_of
 words_sized system [] x = tt
-words_sized system (u ∷ rest) x = (length-tabulate (columns_of system u) (unsplit x), words_sized system rest (shift (columns_of system u + columns_of system u) x))
+words_sized system (u ∷ rest) x = (
+  length-tabulate (columns_of system u) (unsplit x),
+  words_sized system rest (shift (columns_of system u + columns_of system u) x),
+)
 
 -- an item of a picked unknown is placed
-pub item_placed : (system : Equations) (u : Listed) (l h : Word) (c : ℚ) → IsPicked system u → Placed system (item_of system.variables u l h c)
+pub item_placed : (system : Equations) (u : Listed) (l h : Word) (c : ℚ) → IsPicked system u
+    → Placed system (item_of system.variables u l h c)
 unfolding item_of edge_of picked
-item_placed system u l h c p = record { later = p.later; point_within = p.point_within; row_within = p.row_within; edge_within = p.edge_within; into = p.into }
+item_placed system u l h c p = record {
+  later = p.later;
+  point_within = p.point_within;
+  row_within = p.row_within;
+  edge_within =
+      p.edge_within;
+  into = p.into;
+}
 
 -- each member of a list of picked unknowns is picked
 pub picked_at : (system : Equations) (list : List Listed) (u : Listed) → AllPicked system list → In list u → IsPicked system u
@@ -90,6 +107,8 @@ word_pieces n w = take-append-drop n w
 
 -- the pieces of a word with a value for each column have a value for each variable and for each free value
 pub pieces_sized : (system : Equations) (u : Listed) (w : Word) → length w ≡ columns_of system u →
-    (length (pieces system.variables w).start ≡ system.variables) × (length (pieces system.variables w).free ≡ free_count (picked system u).actions)
+    (length (pieces system.variables w).start ≡ system.variables) × (length (pieces system.variables w).free
+    ≡ free_count (picked system u).actions)
 unfolding pieces columns_of width
-pieces_sized system u w e = let a = length-take system.variables w in let b = length-drop system.variables w in (omega (arith, a, e), omega (arith, b, e))
+pieces_sized system u w e = let a = length-take system.variables w in let b = length-drop system.variables w in
+    (omega (arith, a, e), omega (arith, b, e))

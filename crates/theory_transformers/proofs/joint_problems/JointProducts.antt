@@ -1,5 +1,6 @@
 -- Products of the parts of a joint problem's rows.
-use Rattle.std.proofs.Common.{◌≡◌, ◌∙◌, ℕ, zero, suc, ◌+◌, ◌≤◌, Bool, true, false, List, [], ◌∷◌, ◌++◌, length, refl, sym, ap, arith, if◌then◌else◌}
+use Rattle.std.proofs.Common.{◌≡◌, ◌∙◌, ℕ, zero, suc, ◌+◌, ◌≤◌, Bool, true, false, List, [], ◌∷◌, ◌++◌, length, refl, sym, ap, arith}
+use Rattle.std.proofs.Common.{if◌then◌else◌}
 use Rattle.base_numbers.proofs.vector.Vectors.{length-zeros}
 use Rattle.base_numbers.proofs.vector.Sums.{sum_first}
 use Rattle.base_numbers.specs.Rational.{ℚ, zero_ℚ, ◌+ℚ◌, ◌*ℚ◌, neg_ℚ, ◌-ℚ◌}
@@ -15,13 +16,15 @@ use Rattle.theory_transformers.proofs.limits.Products.{product-append, product-t
 pub product-zeros : (n : ℕ) (x : ℕ → ℚ) → product (zeros n) x ≡ zero_ℚ
 unfolding product
 product-zeros zero x = refl
-product-zeros (suc n) x = ap (λ s. s +ℚ product (zeros n) (λ k. x (suc k))) (zero-*ℚ (x 0)) ∙ +ℚ_idl (product (zeros n) (λ k. x (suc k))) ∙ product-zeros n (λ k. x (suc k))
+product-zeros (suc n) x = ap (λ s. s +ℚ product (zeros n) (λ k. x (suc k))) (zero-*ℚ (x 0)) ∙ +ℚ_idl (product (zeros n) (λ k. x (suc k)))
+    ∙ product-zeros n (λ k. x (suc k))
 
 product_behind : (n : ℕ) (v : List ℚ) (x : ℕ → ℚ) → product (zeros n ++ v) x ≡ product v (shift n x)
 unfolding product
 product_behind zero v x = refl
 product_behind (suc n) v x =
-    ap (λ s. s +ℚ product (zeros n ++ v) (λ k. x (suc k))) (zero-*ℚ (x 0)) ∙ +ℚ_idl (product (zeros n ++ v) (λ k. x (suc k))) ∙ product_behind n v (λ k. x (suc k))
+    ap (λ s. s +ℚ product (zeros n ++ v) (λ k. x (suc k))) (zero-*ℚ (x 0)) ∙ +ℚ_idl (product (zeros n ++ v) (λ k. x (suc k)))
+    ∙ product_behind n v (λ k. x (suc k))
 
 unsplit-suc : (x : ℕ → ℚ) (j : ℕ) → unsplit (λ k. x (suc (suc k))) j ≡ unsplit x (suc j)
 unsplit-suc x j = let e : suc (suc (j + j)) ≡ suc j + suc j = omega arith in ap (λ k. x k -ℚ x (suc k)) e
@@ -29,7 +32,8 @@ unsplit-suc x j = let e : suc (suc (j + j)) ≡ suc j + suc j = omega arith in a
 product_same : (u : List ℚ) (x y : ℕ → ℚ) → ((k : ℕ) → x k ≡ y k) → product u x ≡ product u y
 unfolding product
 product_same [] x y h = refl
-product_same (a ∷ u) x y h = ap (λ s. a *ℚ s +ℚ product u (λ k. x (suc k))) (h 0) ∙ ap (λ s. a *ℚ y 0 +ℚ s) (product_same u (λ k. x (suc k)) (λ k. y (suc k)) (λ k. h (suc k)))
+product_same (a ∷ u) x y h = ap (λ s. a *ℚ s +ℚ product u (λ k. x (suc k))) (h 0)
+    ∙ ap (λ s. a *ℚ y 0 +ℚ s) (product_same u (λ k. x (suc k)) (λ k. y (suc k)) (λ k. h (suc k)))
 
 pair_up : (a p n s : ℚ) → a *ℚ p +ℚ (neg_ℚ a *ℚ n +ℚ s) ≡ a *ℚ (p -ℚ n) +ℚ s
 pair_up a p n s = ring (a ∷ p ∷ n ∷ s ∷ []) (search reads depth 40) refl
@@ -40,7 +44,8 @@ unfolding product split_list
 product-split [] x = refl
 product-split (a ∷ u) x =
     pair_up a (x 0) (x 1) (product (split_list u) (λ k. x (suc (suc k))))
-    ∙ ap (λ s. a *ℚ (x 0 -ℚ x 1) +ℚ s) (product-split u (λ k. x (suc (suc k))) ∙ product_same u (unsplit (λ k. x (suc (suc k)))) (λ k. unsplit x (suc k)) (unsplit-suc x))
+    ∙ ap (λ s. a *ℚ (x 0 -ℚ x 1) +ℚ s) (product-split u (λ k. x (suc (suc k)))
+    ∙ product_same u (unsplit (λ k. x (suc (suc k)))) (λ k. unsplit x (suc k)) (unsplit-suc x))
 
 -- the coefficients on the rises are as many as the listed unknowns
 pub length-on_rise : (c : ℚ) (list : List Listed) (p r : ℕ) → length (on_rise c list p r) ≡ length list
@@ -48,7 +53,8 @@ unfolding on_rise
 length-on_rise c [] p r = refl
 length-on_rise c (u ∷ list) p r = by (is_at u p r) (length-on_rise c list p r)
   where
-    by : (b : Bool) → length (on_rise c list p r) ≡ length list → length (if b then c ∷ zeros (length list) else zero_ℚ ∷ on_rise c list p r) ≡ suc (length list)
+    by : (b : Bool) → length (on_rise c list p r) ≡ length list → length
+        (if b then c ∷ zeros (length list) else zero_ℚ ∷ on_rise c list p r) ≡ suc (length list)
     by true h = ap suc (length-zeros (length list))
     by false h = ap suc h
 
@@ -59,9 +65,11 @@ product-on_rise c [] p r x = sym (*ℚ-zero c)
 product-on_rise c (u ∷ list) p r x = by (is_at u p r) (product-on_rise c list p r (λ k. x (suc k)))
   where
     by : (b : Bool) → product (on_rise c list p r) (λ k. x (suc k)) ≡ c *ℚ rise_at list (λ k. x (suc k)) p r →
-        product (if b then c ∷ zeros (length list) else zero_ℚ ∷ on_rise c list p r) x ≡ c *ℚ (if b then x 0 else rise_at list (λ k. x (suc k)) p r)
+        product (if b then c ∷ zeros (length list) else zero_ℚ ∷ on_rise c list p r) x
+        ≡ c *ℚ (if b then x 0 else rise_at list (λ k. x (suc k)) p r)
     by true h = ap (λ s. c *ℚ x 0 +ℚ s) (product-zeros (length list) (λ k. x (suc k))) ∙ +ℚ_idr (c *ℚ x 0)
-    by false h = ap (λ s. s +ℚ product (on_rise c list p r) (λ k. x (suc k))) (zero-*ℚ (x 0)) ∙ +ℚ_idl (product (on_rise c list p r) (λ k. x (suc k))) ∙ h
+    by false h = ap (λ s. s +ℚ product (on_rise c list p r) (λ k. x (suc k))) (zero-*ℚ (x 0))
+        ∙ +ℚ_idl (product (on_rise c list p r) (λ k. x (suc k))) ∙ h
 
 -- a row in its three parts: on the rises, on nothing up to the offset, on a word's split columns
 pub product_of_row : (a : List ℚ) (n offset : ℕ) (v : List ℚ) (x : ℕ → ℚ) (m : ℕ) → length a ≡ n → length v ≤ m →
@@ -69,7 +77,8 @@ pub product_of_row : (a : List ℚ) (n offset : ℕ) (v : List ℚ) (x : ℕ →
 product_of_row a n offset v x m e l =
     product-append a (zeros offset ++ split_list v) x
     ∙ ap (λ s. product a x +ℚ s)
-    (ap (λ k. product (zeros offset ++ split_list v) (shift k x)) e ∙ product_behind offset (split_list v) (shift n x) ∙ product-split v (shift offset (shift n x))
+    (ap (λ k. product (zeros offset ++ split_list v) (shift k x)) e ∙ product_behind offset (split_list v) (shift n x)
+    ∙ product-split v (shift offset (shift n x))
     ∙ sym (product-tabulate v m (unsplit (shift offset (shift n x))) l))
 
 -- a split list has twice as many entries
@@ -82,7 +91,8 @@ length-split (a ∷ u) = let h = length-split u in omega (arith, h)
 pub product-ones : (n : ℕ) (x : ℕ → ℚ) → product (ones n) x ≡ sum_to n x
 unfolding product ones sum_to
 product-ones zero x = refl
-product-ones (suc n) x = ap (λ s. s +ℚ product (ones n) (λ k. x (suc k))) (*ℚ_idl (x 0)) ∙ ap (λ s. x 0 +ℚ s) (product-ones n (λ k. x (suc k))) ∙ sym (sum_first n x)
+product-ones (suc n) x = ap (λ s. s +ℚ product (ones n) (λ k. x (suc k))) (*ℚ_idl (x 0))
+    ∙ ap (λ s. x 0 +ℚ s) (product-ones n (λ k. x (suc k))) ∙ sym (sum_first n x)
 
 -- a list of n ones has n entries
 pub length-ones : (n : ℕ) → length (ones n) ≡ n

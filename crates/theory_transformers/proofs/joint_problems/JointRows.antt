@@ -19,7 +19,8 @@ use Rattle.theory_validity.proofs.words.Widths.{end_form_width, guard_forms_widt
 use Rattle.lp_theory.specs.Free.{unsplit}
 use Rattle.theory_transformers.specs.Limits.{product, shift, tabulate, AllUnder}
 use Rattle.theory_transformers.specs.EdgeProblems.{source_limits, guard_limits, transformer}
-use Rattle.theory_transformers.specs.JointProblems.{Listed, picked, own_row, columns_of, split_list, on_rise, rise_at, raise_by, raised, own_limit, block_limits, Supports, Rising, Follows}
+use Rattle.theory_transformers.specs.JointProblems.{Listed, picked, own_row, columns_of, split_list, on_rise, rise_at, raise_by, raised}
+use Rattle.theory_transformers.specs.JointProblems.{own_limit, block_limits, Supports, Rising, Follows}
 use Rattle.theory_transformers.proofs.limits.LimitLaws.{under_first, under_second, under_both}
 use Rattle.theory_transformers.proofs.limits.SourceLimits.{source_out, source_in, guards_out, guards_fall, guards_in}
 use Rattle.theory_transformers.proofs.edge_problems.EdgePoints.{start_within, start_is}
@@ -38,24 +39,31 @@ unfolding columns_of
 source_product system all offset u x r row =
     let a = on_rise (neg_ℚ one_ℚ) all (picked system u).from r in
     let v = (start_form system.variables row).coeffs in
-    product_of_row a (length all) offset v x (width system.variables (picked system u).actions) (length-on_rise (neg_ℚ one_ℚ) all (picked system u).from r) (start_within system (picked system u) row)
+    product_of_row a (length all) offset v x (width system.variables (picked system u).actions)
+    (length-on_rise (neg_ℚ one_ℚ) all (picked system u).from r) (start_within system (picked system u) row)
     ∙ ap (λ s. s +ℚ dot v (word_at system all offset u x)) (product-on_rise (neg_ℚ one_ℚ) all (picked system u).from r x)
 
-guard_product : (system : Equations) (all : List Listed) (offset : ℕ) (u : Listed) (x : ℕ → ℚ) (v : List ℚ) → length v ≤ width system.variables (picked system u).actions →
+guard_product : (system : Equations) (all : List Listed) (offset : ℕ) (u : Listed) (x : ℕ → ℚ) (v : List ℚ)
+    → length v ≤ width system.variables (picked system u).actions →
     product (zeros (length all) ++ (zeros offset ++ split_list v)) x ≡ dot v (word_at system all offset u x)
 unfolding columns_of
 guard_product system all offset u x v l =
-    product_of_row (zeros (length all)) (length all) offset v x (width system.variables (picked system u).actions) (length-zeros (length all)) l
+    product_of_row (zeros (length all)) (length all) offset v x (width system.variables (picked system u).actions)
+    (length-zeros (length all)) l
     ∙ ap (λ s. s +ℚ dot v (word_at system all offset u x)) (product-zeros (length all) x) ∙ +ℚ_idl (dot v (word_at system all offset u x))
 
-own_product : (system : Equations) (b : Vector) (all : List Listed) (offset : ℕ) (u : Listed) (x : ℕ → ℚ) → product (own_limit system b all offset u).coeffs x
-    ≡ one_ℚ *ℚ rise_at all x u.point u.row +ℚ neg_ℚ one_ℚ *ℚ dot (end_form system.variables (picked system u).actions (own_row system u)).coeffs (word_at system all offset u x)
+own_product : (system : Equations) (b : Vector) (all : List Listed) (offset : ℕ) (u : Listed) (x : ℕ → ℚ)
+    → product (own_limit system b all offset u).coeffs x
+    ≡ one_ℚ *ℚ rise_at all x u.point u.row +ℚ neg_ℚ one_ℚ *ℚ dot (end_form system.variables (picked system u).actions
+    (own_row system u)).coeffs (word_at system all offset u x)
 unfolding own_limit columns_of
 own_product system b all offset u x =
     let m = width system.variables (picked system u).actions in
     let f = end_form system.variables (picked system u).actions (own_row system u) in
-    product_of_row (on_rise one_ℚ all u.point u.row) (length all) offset (scale_vec (neg_ℚ one_ℚ) f.coeffs) x m (length-on_rise one_ℚ all u.point u.row)
-    (subst (λ k. k ≤ m) (sym (length-scale_vec (neg_ℚ one_ℚ) f.coeffs)) (end_form_width system.variables (picked system u).actions (own_row system u)))
+    product_of_row (on_rise one_ℚ all u.point u.row) (length all) offset (scale_vec (neg_ℚ one_ℚ) f.coeffs) x m
+    (length-on_rise one_ℚ all u.point u.row)
+    (subst (λ k. k ≤ m) (sym (length-scale_vec (neg_ℚ one_ℚ) f.coeffs))
+    (end_form_width system.variables (picked system u).actions (own_row system u)))
     ∙ ap (λ s. s +ℚ dot (scale_vec (neg_ℚ one_ℚ) f.coeffs) (word_at system all offset u x)) (product-on_rise one_ℚ all u.point u.row x)
     ∙ ap (λ s. one_ℚ *ℚ rise_at all x u.point u.row +ℚ s) (dot-scale (neg_ℚ one_ℚ) f.coeffs (word_at system all offset u x))
 
@@ -94,14 +102,17 @@ raised_le a (fin d) q c h e = subst (λ s. a ≤ℚ s +ℚ q) (same d c e) h
 raised_le a pos_inf q c h e = cc
 
 own_end : (system : Equations) (u : Listed) (w : Word) → end_value system (picked system u) (own_row system u) w
-    ≡ dot (end_form system.variables (picked system u).actions (own_row system u)).coeffs w +ℚ (end_form system.variables (picked system u).actions (own_row system u)).constant
+    ≡ dot (end_form system.variables (picked system u).actions (own_row system u)).coeffs w +ℚ
+    (end_form system.variables (picked system u).actions (own_row system u)).constant
 unfolding end_value val
 own_end system u w = sym (val-end_form system.variables (picked system u).actions (own_row system u) w)
 
 -- the list condition keeps the source from −∞
-pub source_above : (system : Equations) (b : Vector) (u : Listed) → Rising system b u → (r : ℕ) (row : List ℤ) → slice_get system.template r ≡ Some row → neg_inf <ᴱ b (picked system u).from r
+pub source_above : (system : Equations) (b : Vector) (u : Listed) → Rising system b u → (r : ℕ) (row : List ℤ)
+    → slice_get system.template r ≡ Some row → neg_inf <ᴱ b (picked system u).from r
 source_above system b u rising r row e =
-    transformer_source system b (picked system u) (own_row system u) (over (transformer system b (picked system u) (own_row system u)) rising.above) r (slice_get_within system.template r row e)
+    transformer_source system b (picked system u) (own_row system u) (over (transformer system b (picked system u) (own_row system u))
+    rising.above) r (slice_get_within system.template r row e)
   where
     over : (v : Ext) → fin rising.bound <ᴱ v → neg_inf <ᴱ v
     over neg_inf h = h
@@ -126,19 +137,23 @@ block_out system b all offset u x rising h =
     record {
       runs = record {
         passes = record {
-          all = guards_out (λ v. zeros (length all) ++ (zeros offset ++ split_list v)) (width n e.actions) (guard_forms n e.actions) x w (guard_forms_width n e.actions)
+          all = guards_out (λ v. zeros (length all) ++ (zeros offset ++ split_list v)) (width n e.actions) (guard_forms n e.actions) x w
+              (guard_forms_width n e.actions)
               (λ v l. guard_product system all offset u x v l) (under_first true gs os x behind);
         };
-        fits = λ r row g. at_most_raised (dotℚ row (start_of n w)) (b e.from r) (rise_at all x e.from r) (source_above system b u rising r row g)
+        fits = λ r row g. at_most_raised (dotℚ row (start_of n w)) (b e.from r) (rise_at all x e.from r)
+            (source_above system b u rising r row g)
             (λ c k. subst (λ s. s ≤ℚ c +ℚ rise_at all x e.from r) (start_is n row w)
             (source_over (rise_at all x e.from r) (dot (start_form n row).coeffs w) c
             (subst (λ s. s ≤ℚ c) (source_product system all offset u x r row)
-            (source_out true (λ r v. on_rise (neg_ℚ one_ℚ) all e.from r ++ (zeros offset ++ split_list v)) n (b e.from) system.template x (under_first true ls (gs ++ os) x h) r row c g k))));
+            (source_out true (λ r v. on_rise (neg_ℚ one_ℚ) all e.from r ++ (zeros offset ++ split_list v)) n (b e.from) system.template x
+            (under_first true ls (gs ++ os) x h) r row c g k))));
       };
       reaches = subst (λ s. raise_by s (rise_at all x u.point u.row) ≤ᴱ fin (end_value system e (own_row system u) w)) (sym rising.finite)
           (subst (λ s. rising.bound +ℚ rise_at all x u.point u.row ≤ℚ s) (sym (own_end system u w))
           (own_over (rise_at all x u.point u.row) (dot f.coeffs w) f.constant rising.bound
-          (subst (λ s. one_ℚ *ℚ rise_at all x u.point u.row +ℚ neg_ℚ one_ℚ *ℚ dot f.coeffs w ≤ℚ f.constant -ℚ s) (num-fin (b u.point u.row) rising.bound rising.finite)
+          (subst (λ s. one_ℚ *ℚ rise_at all x u.point u.row +ℚ neg_ℚ one_ℚ *ℚ dot f.coeffs w ≤ℚ f.constant -ℚ s)
+          (num-fin (b u.point u.row) rising.bound rising.finite)
           (subst (λ s. s ≤ℚ f.constant -ℚ num (b u.point u.row)) (own_product system b all offset u x) own))));
     }
 
@@ -154,18 +169,23 @@ block_in system b all offset u x rising s =
     let gs = guard_limits (λ v. zeros (length all) ++ (zeros offset ++ split_list v)) (guard_forms n e.actions) in
     let os = own_limit system b all offset u ∷ [] in
     let f = end_form n e.actions (own_row system u) in
-    let reached = subst (λ k. raise_by k (rise_at all x u.point u.row) ≤ᴱ fin (end_value system e (own_row system u) w)) rising.finite s.reaches in
+    let reached = subst (λ k. raise_by k (rise_at all x u.point u.row) ≤ᴱ fin (end_value system e (own_row system u) w)) rising.finite
+    s.reaches in
     under_both true ls (gs ++ os) x
     (source_in true (λ r v. on_rise (neg_ℚ one_ℚ) all e.from r ++ (zeros offset ++ split_list v)) n (b e.from) system.template x
     (λ r row c g k. subst (λ t. t ≤ℚ c) (sym (source_product system all offset u x r row))
     (source_back (rise_at all x e.from r) (dot (start_form n row).coeffs w) c
-    (subst (λ t. t ≤ℚ c +ℚ rise_at all x e.from r) (sym (start_is n row w)) (raised_le (dotℚ row (start_of n w)) (b e.from r) (rise_at all x e.from r) c (s.runs.fits r row g) k)))))
+    (subst (λ t. t ≤ℚ c +ℚ rise_at all x e.from r) (sym (start_is n row w))
+    (raised_le (dotℚ row (start_of n w)) (b e.from r) (rise_at all x e.from r) c (s.runs.fits r row g) k)))))
     (under_both true gs os x
-    (guards_in (λ v. zeros (length all) ++ (zeros offset ++ split_list v)) (width n e.actions) (guard_forms n e.actions) x w (guard_forms_width n e.actions)
+    (guards_in (λ v. zeros (length all) ++ (zeros offset ++ split_list v)) (width n e.actions) (guard_forms n e.actions) x w
+    (guard_forms_width n e.actions)
     (λ v l. guard_product system all offset u x v l) s.runs.passes.all) (
       subst (λ t. t ≤ℚ f.constant -ℚ num (b u.point u.row)) (sym (own_product system b all offset u x))
-          (subst (λ t. one_ℚ *ℚ rise_at all x u.point u.row +ℚ neg_ℚ one_ℚ *ℚ dot f.coeffs w ≤ℚ f.constant -ℚ t) (sym (num-fin (b u.point u.row) rising.bound rising.finite))
-          (own_back (rise_at all x u.point u.row) (dot f.coeffs w) f.constant rising.bound (subst (λ t. rising.bound +ℚ rise_at all x u.point u.row ≤ℚ t) (own_end system u w) reached))),
+          (subst (λ t. one_ℚ *ℚ rise_at all x u.point u.row +ℚ neg_ℚ one_ℚ *ℚ dot f.coeffs w ≤ℚ f.constant -ℚ t)
+          (sym (num-fin (b u.point u.row) rising.bound rising.finite))
+          (own_back (rise_at all x u.point u.row) (dot f.coeffs w) f.constant rising.bound
+          (subst (λ t. rising.bound +ℚ rise_at all x u.point u.row ≤ℚ t) (own_end system u w) reached))),
       tt,
     ))
 
@@ -186,9 +206,11 @@ block_falls system b all offset u d h =
     record {
       still = λ r row bound g k. rate_over (rise_at all d e.from r) (dot (start_form n row).coeffs w)
           (subst (λ s. s ≤ℚ zero_ℚ) (source_product system all offset u d r row)
-          (source_out false (λ r v. on_rise (neg_ℚ one_ℚ) all e.from r ++ (zeros offset ++ split_list v)) n (b e.from) system.template d (under_first false ls (gs ++ os) d h) r row bound g k));
+          (source_out false (λ r v. on_rise (neg_ℚ one_ℚ) all e.from r ++ (zeros offset ++ split_list v)) n (b e.from) system.template d
+          (under_first false ls (gs ++ os) d h) r row bound g k));
       falls = record {
-        all = guards_fall (λ v. zeros (length all) ++ (zeros offset ++ split_list v)) (width n e.actions) (guard_forms n e.actions) d w (guard_forms_width n e.actions)
+        all = guards_fall (λ v. zeros (length all) ++ (zeros offset ++ split_list v)) (width n e.actions) (guard_forms n e.actions) d w
+            (guard_forms_width n e.actions)
             (λ v l. guard_product system all offset u d v l) (under_first false gs os d behind);
       };
       gains = gain_over (rise_at all d u.point u.row) (dot f.coeffs w) (subst (λ s. s ≤ℚ zero_ℚ) (own_product system b all offset u d) own);

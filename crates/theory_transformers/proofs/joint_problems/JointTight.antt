@@ -15,7 +15,8 @@ use Rattle.theory_transformers.specs.Candidates.{Supported, Candidate}
 use Rattle.theory_transformers.proofs.edge_problems.TransformerOf.{transformer_upper, transformer_lub, transformer_rises, runs_below_at}
 use Rattle.theory_transformers.proofs.joint_problems.JointMeaning.{point_supports, point_rises}
 use Rattle.theory_transformers.proofs.joint_problems.Rises.{is_at_means, is_at_itself, raised_above}
-use Rattle.theory_transformers.proofs.joint_problems.JointLists.{rising_at, supported_at, all_supported, support_at, unlisted_other, distinct_same}
+use Rattle.theory_transformers.proofs.joint_problems.JointLists.{rising_at, supported_at, all_supported, support_at, unlisted_other}
+use Rattle.theory_transformers.proofs.joint_problems.JointLists.{distinct_same}
 use Rattle.theory_transformers.proofs.joint_problems.JointBest.{joint_above, raised_candidate}
 
 -- a vector with one unknown at a number
@@ -33,15 +34,23 @@ with_at_above u e z h p r = by (is_at u p r) refl
     by false k = ≤ᴱ_refl (z p r)
 
 -- no word of a listed unknown's picked edge exceeds its number
-tight_upper : (system : Equations) (b : Vector) (list : List Listed) (x y : ℕ → ℚ) (v : ℚ) → AllRising system b list → Distinct list → IsBest (joint_problem system b list) x v y →
-    (u : Listed) → In list u → (w : Word) → Runs system (raised list x b) (picked system u) w → fin (end_value system (picked system u) (own_row system u) w) ≤ᴱ raised list x b u.point u.row
+tight_upper : (system : Equations) (b : Vector) (list : List Listed) (x y : ℕ → ℚ) (v : ℚ) → AllRising system b list → Distinct list
+    → IsBest (joint_problem system b list) x v y →
+    (u : Listed) → In list u → (w : Word) → Runs system (raised list x b) (picked system u) w
+    → fin (end_value system (picked system u) (own_row system u) w) ≤ᴱ raised list x b u.point u.row
 tight_upper system b list x y v rising distinct best u m w runs =
     ⊎_elim (λ h. h)
     (λ l.
     let l' = ext_le_of_lt (raised list x b u.point u.row) (fin (end_value system (picked system u) (own_row system u) w)) l in
-    subst (λ s. s ≤ᴱ raised list x b u.point u.row) (with_at_same u (fin (end_value system (picked system u) (own_row system u) w)) (raised list x b))
-    (joint_above system b list x y v rising best (with_at u (fin (end_value system (picked system u) (own_row system u) w)) (raised list x b))
-    (record { outside = outside; inside = all_supported system b (with_at u (fin (end_value system (picked system u) (own_row system u) w)) (raised list x b)) list (λ t k. inside l' t k (is_at u t.point t.row) refl) })
+    subst (λ s. s ≤ᴱ raised list x b u.point u.row) (with_at_same u (fin (end_value system (picked system u) (own_row system u) w))
+    (raised list x b))
+    (joint_above system b list x y v rising best (with_at u (fin (end_value system (picked system u) (own_row system u) w))
+    (raised list x b))
+    (record {
+      outside = outside;
+      inside = all_supported system b (with_at u (fin (end_value system (picked system u) (own_row system u) w))
+          (raised list x b)) list (λ t k. inside l' t k (is_at u t.point t.row) refl);
+    })
     u.point u.row))
     (ext_le_or_lt (fin (end_value system (picked system u) (own_row system u) w)) (raised list x b u.point u.row))
   where
@@ -64,8 +73,10 @@ tight_upper system b list x y v rising distinct best u m w runs =
     inside l t n true e = subst (λ s. Supported system b q s) (distinct_same list u t distinct m n e) (record {
       bound = c;
       finite = with_at_same u (fin c) z;
-      above = ≤ᴱ_trans (b u.point u.row) (z u.point u.row) (fin c) (raised_above list x b u.point u.row (point_rises system b list x best.point)) l;
-      supported = transformer_upper system q (picked system u) (own_row system u) w (runs_below_at system z q (picked system u) w (λ r i. with_at_above u (fin c) z l (picked system u).from r) runs);
+      above = ≤ᴱ_trans (b u.point u.row) (z u.point u.row) (fin c) (raised_above list x b u.point u.row
+          (point_rises system b list x best.point)) l;
+      supported = transformer_upper system q (picked system u) (own_row system u) w
+          (runs_below_at system z q (picked system u) w (λ r i. with_at_above u (fin c) z l (picked system u).from r) runs);
     })
     inside l t n false e =
         let s = supported_at system b z list t candidate.inside n in
@@ -73,12 +84,15 @@ tight_upper system b list x y v rising distinct best u m w runs =
           bound = s.bound;
           finite = ap (λ k. if k then fin c else z t.point t.row) e ∙ s.finite;
           above = s.above;
-          supported = ≤ᴱ_trans (fin s.bound) (transformer system z (picked system t) (own_row system t)) (transformer system q (picked system t) (own_row system t)) s.supported
-              (transformer_rises system z q (picked system t) (own_row system t) (λ r i. with_at_above u (fin c) z l (picked system t).from r));
+          supported = ≤ᴱ_trans (fin s.bound) (transformer system z (picked system t) (own_row system t))
+              (transformer system q (picked system t) (own_row system t)) s.supported
+              (transformer_rises system z q (picked system t) (own_row system t)
+              (λ r i. with_at_above u (fin c) z l (picked system t).from r));
         }
 
 -- the transformer of a listed unknown's picked edge is its number at the best point
-pub joint_tight : (system : Equations) (b : Vector) (list : List Listed) (x y : ℕ → ℚ) (v : ℚ) → AllRising system b list → Distinct list → IsBest (joint_problem system b list) x v y →
+pub joint_tight : (system : Equations) (b : Vector) (list : List Listed) (x y : ℕ → ℚ) (v : ℚ) → AllRising system b list → Distinct list
+    → IsBest (joint_problem system b list) x v y →
     (u : Listed) → In list u → transformer system (raised list x b) (picked system u) (own_row system u) ≡ raised list x b u.point u.row
 joint_tight system b list x y v rising distinct best u m =
     let z = raised list x b in
@@ -86,10 +100,12 @@ joint_tight system b list x y v rising distinct best u m =
     let s = support_at system z list (joint_words system list x) u (point_supports system b list x rising best.point) m in
     ≤ᴱ_antisymm (transformer system z e (own_row system u)) (z u.point u.row)
     ((transformer_lub system z e (own_row system u) (z u.point u.row)).1 (tight_upper system b list x y v rising distinct best u m))
-    (≤ᴱ_trans (z u.point u.row) (fin (end_value system e (own_row system u) s.0)) (transformer system z e (own_row system u)) s.1.reaches (transformer_upper system z e (own_row system u) s.0 s.1.runs))
+    (≤ᴱ_trans (z u.point u.row) (fin (end_value system e (own_row system u) s.0)) (transformer system z e (own_row system u)) s.1.reaches
+    (transformer_upper system z e (own_row system u) s.0 s.1.runs))
 
 -- and is above the base
-pub joint_rises : (system : Equations) (b : Vector) (list : List Listed) (x y : ℕ → ℚ) (v : ℚ) → AllRising system b list → Distinct list → IsBest (joint_problem system b list) x v y →
+pub joint_rises : (system : Equations) (b : Vector) (list : List Listed) (x y : ℕ → ℚ) (v : ℚ) → AllRising system b list → Distinct list
+    → IsBest (joint_problem system b list) x v y →
     (u : Listed) → In list u → b u.point u.row <ᴱ raised list x b u.point u.row
 joint_rises system b list x y v rising distinct best u m =
     let z = raised list x b in

@@ -7,16 +7,23 @@ use Rattle.base_numbers.specs.Vector.{add_vec, scale_vec}
 use Rattle.flow_edges.specs.declared.edge.Action.TheVariants.{Guard, Assign}
 use Rattle.flow_edges.specs.declared.edge.Edge.{Edge}
 use Rattle.flow_systems.specs.Equations.{Equations, Vector}
-use Rattle.theory_validity.specs.Words.{shifted, column, columns, combined, composed, guards_from, ends_from, free_count, width, guard_forms, start_form, end_form}
+use Rattle.theory_validity.specs.Words.{shifted, column, columns, combined, composed, guards_from, ends_from, free_count, width}
+use Rattle.theory_validity.specs.Words.{guard_forms, start_form, end_form}
 use Rattle.theory_validity.specs.Certificates.{num}
 use Rattle.theory_transformers.specs.Limits.{Limit, limits_problem}
 use Rattle.theory_transformers.specs.EdgeProblems.{source_limit, source_limits, guard_limits}
-use Rattle.theory_transformers.specs.JointProblems.{Listed, picked, own_row, is_at, columns_of, split_list, on_rise, own_limit, block_limits, joint_limits, word_columns, joint_problem}
+use Rattle.theory_transformers.specs.JointProblems.{Listed, picked, own_row, is_at, columns_of, split_list, on_rise, own_limit}
+use Rattle.theory_transformers.specs.JointProblems.{block_limits, joint_limits, word_columns, joint_problem}
 use Rattle.theory_transformers.specs.Parts.{leans, same, reaches, together, all_in, keep, first_of, ready, part_before, parts_from, parts}
 
 -- one variable x, one row x; the loop's edge: x - 9 is at most 0, x takes x + 1
 abbrev loop : Edge
-loop = record { from = 1; to = 1; actions = Guard (record { coeffs = pos 1 ∷ []; constant = negsuc 8 }) ∷ (Assign 0 (record { coeffs = pos 1 ∷ []; constant = pos 1 }) ∷ []) }
+loop = record {
+  from = 1;
+  to = 1;
+  actions = Guard (record { coeffs = pos 1 ∷ []; constant = negsuc 8 })
+      ∷ (Assign 0 (record { coeffs = pos 1 ∷ []; constant = pos 1 }) ∷ []);
+}
 
 abbrev sample : Equations
 sample = record { variables = 1; points = 2; edges = loop ∷ []; template = (pos 1 ∷ []) ∷ [] }
@@ -35,7 +42,11 @@ abbrev source_row : Limit
 source_row = record { coeffs = neg_ℚ one_ℚ ∷ (one_times one_ℚ ∷ (neg_ℚ (one_times one_ℚ) ∷ [])); side = zero_ℚ }
 
 abbrev guard_row : Limit
-guard_row = record { coeffs = zero_ℚ ∷ (one_times one_ℚ ∷ (neg_ℚ (one_times one_ℚ) ∷ [])); side = neg_ℚ ((one_times zero_ℚ +ℚ zero_ℚ) +ℚ whole (negsuc 8)) }
+guard_row = record {
+  coeffs = zero_ℚ ∷ (one_times one_ℚ ∷ (neg_ℚ (one_times one_ℚ) ∷ []));
+  side =
+      neg_ℚ ((one_times zero_ℚ +ℚ zero_ℚ) +ℚ whole (negsuc 8));
+}
 
 abbrev own : Limit
 own = record {
@@ -45,7 +56,8 @@ own = record {
 
 -- the source row with -1 on its own rise, the guard, and the own row; one rise and two split columns
 layout : joint_limits sample base (head ∷ []) 0 (head ∷ []) ≡ source_row ∷ (guard_row ∷ (own ∷ []))
-unfolding joint_limits block_limits own_limit source_limits source_limit guard_limits picked own_row is_at columns_of split_list on_rise start_form end_form guard_forms guards_from ends_from width free_count combined composed columns column shifted add_vec scale_vec num
+unfolding joint_limits block_limits own_limit source_limits source_limit guard_limits picked own_row is_at columns_of split_list on_rise
+    start_form end_form guard_forms guards_from ends_from width free_count combined composed columns column shifted add_vec scale_vec num
 layout = refl
 
 column_count : (joint_problem sample base (head ∷ [])).cols ≡ 3
@@ -61,7 +73,12 @@ from_point p = record { from = p; to = 0; actions = [] }
 
 -- edge k begins at the k-th of these points
 abbrev with_sources : ℕ → ℕ → ℕ → Equations
-with_sources a b c = record { variables = 1; points = 4; edges = from_point 0 ∷ (from_point a ∷ (from_point b ∷ (from_point c ∷ []))); template = (pos 1 ∷ []) ∷ [] }
+with_sources a b c = record {
+  variables = 1;
+  points = 4;
+  edges = from_point 0 ∷ (from_point a ∷ (from_point b ∷ (from_point c ∷ [])));
+  template = (pos 1 ∷ []) ∷ [];
+}
 
 abbrev three : List Listed
 three = at_point 1 ∷ (at_point 2 ∷ (at_point 3 ∷ []))

@@ -1,5 +1,6 @@
 -- Rises of listed unknowns: of a vector over a base, of the greater of two, and in order.
-use Rattle.std.proofs.Common.{◌≡◌, ◌∙◌, ◌⊎◌, inl, inr, ⊎_elim, ℕ, zero, suc, ◌<◌, ◌&&◌, eqb, Bool, true, false, List, [], ◌∷◌, length, refl, sym, ap, subst, arith, if◌then◌else◌}
+use Rattle.std.proofs.Common.{◌≡◌, ◌∙◌, ◌⊎◌, inl, inr, ⊎_elim, ℕ, zero, suc, ◌<◌, ◌&&◌, eqb, Bool, true, false, List, [], ◌∷◌, length, refl}
+use Rattle.std.proofs.Common.{sym, ap, subst, arith, if◌then◌else◌}
 use Rattle.std.proofs.lemmas.Bool.{and_parts, eqb-true, eq-eqb, cases_Bool}
 use Rattle.base_facts.specs.Elements.{In}
 use Rattle.base_numbers.specs.Rational.{ℚ, zero_ℚ, ◌-ℚ◌, ◌≤ℚ◌}
@@ -39,34 +40,41 @@ listed_or_not (u ∷ list) p r = ⊎_elim
 pub rise_unlisted : (list : List Listed) (x : ℕ → ℚ) (p r : ℕ) → Unlisted list p r → rise_at list x p r ≡ zero_ℚ
 unfolding rise_at
 rise_unlisted [] x p r n = refl
-rise_unlisted (u ∷ list) x p r n = ap (λ b. if b then x 0 else rise_at list (λ k. x (suc k)) p r) n.0 ∙ rise_unlisted list (λ k. x (suc k)) p r n.1
+rise_unlisted (u ∷ list) x p r n = ap (λ b. if b then x 0 else rise_at list (λ k. x (suc k)) p r) n.0
+    ∙ rise_unlisted list (λ k. x (suc k)) p r n.1
 
 -- the rise of a vector over the base
-pub rise-rises_of : (list : List Listed) (b q : Vector) (p r : ℕ) → Unlisted list p r ⊎ (rise_at list (rises_of list b q) p r ≡ num (q p r) -ℚ num (b p r))
+pub rise-rises_of : (list : List Listed) (b q : Vector) (p r : ℕ) → Unlisted list p r
+    ⊎ (rise_at list (rises_of list b q) p r ≡ num (q p r) -ℚ num (b p r))
 unfolding rise_at rises_of
 rise-rises_of [] b q p r = inl tt
 rise-rises_of (u ∷ list) b q p r = by (is_at u p r) refl (rise-rises_of list b q p r)
   where
     by : (t : Bool) → is_at u p r ≡ t → Unlisted list p r ⊎ (rise_at list (rises_of list b q) p r ≡ num (q p r) -ℚ num (b p r)) →
-        ((t ≡ false) × Unlisted list p r) ⊎ ((if t then num (q u.point u.row) -ℚ num (b u.point u.row) else rise_at list (rises_of list b q) p r) ≡ num (q p r) -ℚ num (b p r))
+        ((t ≡ false) × Unlisted list p r) ⊎ ((if t then num (q u.point u.row) -ℚ num (b u.point u.row) else rise_at list (rises_of list b q)
+        p r) ≡ num (q p r) -ℚ num (b p r))
     by true e h =
         let n = is_at_means u p r e in
         inr (ap (λ s. num (q s u.row) -ℚ num (b s u.row)) n.0 ∙ ap (λ s. num (q p s) -ℚ num (b p s)) n.1)
     by false e h = ⊎_elim (λ n. inl (refl, n)) (λ k. inr k) h
 
 -- the rise of the greater
-pub rise-greater : (list : List Listed) (x y : ℕ → ℚ) (p r : ℕ) → Unlisted list p r ⊎ (rise_at list (λ k. greater (x k) (y k)) p r ≡ greater (rise_at list x p r) (rise_at list y p r))
+pub rise-greater : (list : List Listed) (x y : ℕ → ℚ) (p r : ℕ) → Unlisted list p r
+    ⊎ (rise_at list (λ k. greater (x k) (y k)) p r ≡ greater (rise_at list x p r) (rise_at list y p r))
 unfolding rise_at
 rise-greater [] x y p r = inl tt
 rise-greater (u ∷ list) x y p r = by (is_at u p r) refl (rise-greater list (λ k. x (suc k)) (λ k. y (suc k)) p r)
   where
-    by : (t : Bool) → is_at u p r ≡ t → Unlisted list p r ⊎ (rise_at list (λ k. greater (x (suc k)) (y (suc k))) p r ≡ greater (rise_at list (λ k. x (suc k)) p r) (rise_at list (λ k. y (suc k)) p r)) →
-        ((t ≡ false) × Unlisted list p r) ⊎ ((if t then greater (x 0) (y 0) else rise_at list (λ k. greater (x (suc k)) (y (suc k))) p r) ≡ greater (if t then x 0 else rise_at list (λ k. x (suc k)) p r) (if t then y 0 else rise_at list (λ k. y (suc k)) p r))
+    by : (t : Bool) → is_at u p r ≡ t → Unlisted list p r ⊎ (rise_at list (λ k. greater (x (suc k)) (y (suc k))) p r
+        ≡ greater (rise_at list (λ k. x (suc k)) p r) (rise_at list (λ k. y (suc k)) p r)) →
+        ((t ≡ false) × Unlisted list p r) ⊎ ((if t then greater (x 0) (y 0) else rise_at list (λ k. greater (x (suc k)) (y (suc k))) p r)
+        ≡ greater (if t then x 0 else rise_at list (λ k. x (suc k)) p r) (if t then y 0 else rise_at list (λ k. y (suc k)) p r))
     by true e h = inr refl
     by false e h = ⊎_elim (λ n. inl (refl, n)) (λ k. inr k) h
 
 -- rises in order
-pub rise_mono : (list : List Listed) (x y : ℕ → ℚ) (p r : ℕ) → ((k : ℕ) → k < length list → x k ≤ℚ y k) → rise_at list x p r ≤ℚ rise_at list y p r
+pub rise_mono : (list : List Listed) (x y : ℕ → ℚ) (p r : ℕ) → ((k : ℕ) → k < length list → x k ≤ℚ y k)
+    → rise_at list x p r ≤ℚ rise_at list y p r
 unfolding rise_at
 rise_mono [] x y p r h = ≤ℚ_refl zero_ℚ
 rise_mono (u ∷ list) x y p r h = by (is_at u p r) (rise_mono list (λ k. x (suc k)) (λ k. y (suc k)) p r (λ k l. h (suc k) (omega arith)))
@@ -93,19 +101,23 @@ raise_nothing pos_inf = refl
 -- a bound that is raised by its difference to another becomes that one
 pub raise_to : (v w : Ext) (a c : ℚ) → v ≡ fin a → w ≡ fin c → raise_by v (num w -ℚ num v) ≡ w
 unfolding raise_by num
-raise_to v w a c e f = subst (λ s. raise_by s (num w -ℚ num s) ≡ w) (sym e) (subst (λ s. raise_by (fin a) (num s -ℚ num (fin a)) ≡ s) (sym f) (ap fin (lin_eq (a ∷ c ∷ []) [] (search reads_all depth 40) tt)))
+raise_to v w a c e f = subst (λ s. raise_by s (num w -ℚ num s) ≡ w) (sym e)
+    (subst (λ s. raise_by (fin a) (num s -ℚ num (fin a)) ≡ s) (sym f) (ap fin (lin_eq (a ∷ c ∷ []) [] (search reads_all depth 40) tt)))
 
 -- at least the base
-pub raised_above : (list : List Listed) (x : ℕ → ℚ) (b : Vector) (p r : ℕ) → ((k : ℕ) → k < length list → zero_ℚ ≤ℚ x k) → b p r ≤ᴱ raised list x b p r
+pub raised_above : (list : List Listed) (x : ℕ → ℚ) (b : Vector) (p r : ℕ) → ((k : ℕ) → k < length list → zero_ℚ ≤ℚ x k)
+    → b p r ≤ᴱ raised list x b p r
 unfolding raised rise_at
 raised_above list x b p r h =
-    subst (λ s. s ≤ᴱ raise_by (b p r) (rise_at list x p r)) (raise_nothing (b p r)) (raise_mono (b p r) zero_ℚ (rise_at list x p r) (from list x h))
+    subst (λ s. s ≤ᴱ raise_by (b p r) (rise_at list x p r)) (raise_nothing (b p r))
+    (raise_mono (b p r) zero_ℚ (rise_at list x p r) (from list x h))
   where
     from : (list : List Listed) (x : ℕ → ℚ) → ((k : ℕ) → k < length list → zero_ℚ ≤ℚ x k) → zero_ℚ ≤ℚ rise_at list x p r
     from [] x h = ≤ℚ_refl zero_ℚ
     from (u ∷ list) x h = by (is_at u p r) (from list (λ k. x (suc k)) (λ k l. h (suc k) (omega arith))) (h 0 (omega arith))
       where
-        by : (t : Bool) → zero_ℚ ≤ℚ rise_at list (λ k. x (suc k)) p r → zero_ℚ ≤ℚ x 0 → zero_ℚ ≤ℚ (if t then x 0 else rise_at list (λ k. x (suc k)) p r)
+        by : (t : Bool) → zero_ℚ ≤ℚ rise_at list (λ k. x (suc k)) p r → zero_ℚ ≤ℚ x 0
+            → zero_ℚ ≤ℚ (if t then x 0 else rise_at list (λ k. x (suc k)) p r)
         by true i j = j
         by false i j = i
 
@@ -123,7 +135,8 @@ sums_same (suc n) x y h i k l =
     let s = sum_to_mono n x y (λ j m. h j (omega arith)) in
     by (Rattle.std.proofs.lemmas.Bool.cases_eq k n)
     (lin_le (sum_to n x ∷ sum_to n y ∷ x n ∷ y n ∷ []) (le i ∷ le s ∷ []) (search reads_all depth 40) tt)
-    (λ m. sums_same n x y (λ j o. h j (omega arith)) (lin_le (sum_to n x ∷ sum_to n y ∷ x n ∷ y n ∷ []) (le i ∷ le a ∷ []) (search reads_all depth 40) tt) k m)
+    (λ m. sums_same n x y (λ j o. h j (omega arith)) (lin_le (sum_to n x ∷ sum_to n y ∷ x n ∷ y n ∷ []) (le i ∷ le a ∷ [])
+    (search reads_all depth 40) tt) k m)
   where
     by : (k ≡ n) ⊎ ((k ≡ n) → ⊥) → y n ≤ℚ x n → (k < n → y k ≤ℚ x k) → y k ≤ℚ x k
     by (inl e) p q = subst (λ j. y j ≤ℚ x j) (sym e) p

@@ -8,13 +8,18 @@ use Rattle.theory_transformers.proofs.limits.Products.{product_is_sum}
 
 -- each row by its number
 pub under_from : (t : Bool) (n : ℕ) (limits : List Limit) (x : ℕ → ℚ) → AllWithin n limits →
-    ((r : ℕ) → r < length limits → sum_to n (λ j. at (get_or limits r no_limit).coeffs j *ℚ x j) ≤ℚ side_for t (get_or limits r no_limit).side) → AllUnder t limits x
+    ((r : ℕ) → r < length limits → sum_to n (λ j. at (get_or limits r no_limit).coeffs j *ℚ x j) ≤ℚ side_for t
+    (get_or limits r no_limit).side) → AllUnder t limits x
 under_from t n [] x w h = tt
-under_from t n (l ∷ ls) x w h = (subst (λ s. s ≤ℚ side_for t l.side) (product_is_sum l.coeffs n x w.0) (h 0 (omega arith)), under_from t n ls x w.1 (λ r i. h (suc r) (omega (arith, i))))
+under_from t n (l ∷ ls) x w h = (
+  subst (λ s. s ≤ℚ side_for t l.side) (product_is_sum l.coeffs n x w.0) (h 0 (omega arith)),
+  under_from t n ls x w.1 (λ r i. h (suc r) (omega (arith, i))),
+)
 
 -- rows that are met are met by their numbers
 pub under_into : (t : Bool) (n : ℕ) (limits : List Limit) (x : ℕ → ℚ) → AllWithin n limits → AllUnder t limits x →
-    (r : ℕ) → r < length limits → sum_to n (λ j. at (get_or limits r no_limit).coeffs j *ℚ x j) ≤ℚ side_for t (get_or limits r no_limit).side
+    (r : ℕ) → r < length limits → sum_to n (λ j. at (get_or limits r no_limit).coeffs j *ℚ x j) ≤ℚ side_for t
+    (get_or limits r no_limit).side
 under_into t n [] x w p r i = absurd (omega (arith, i))
 under_into t n (l ∷ ls) x w p zero i = subst (λ s. s ≤ℚ side_for t l.side) (sym (product_is_sum l.coeffs n x w.0)) p.0
 under_into t n (l ∷ ls) x w p (suc r) i = under_into t n ls x w.1 p.1 r (omega (arith, i))

@@ -28,18 +28,22 @@ tail_out t embed n row rest x (fin d) h = h.1
 tail_out t embed n row rest x pos_inf h = h
 
 -- a template row with a finite bound is met
-pub source_out : (t : Bool) (embed : ℕ → List ℚ → List ℚ) (n : ℕ) (bounds : ℕ → Ext) (rows : List (List ℤ)) (x : ℕ → ℚ) → AllUnder t (source_limits embed n bounds rows) x →
-    (r : ℕ) (row : List ℤ) (c : ℚ) → slice_get rows r ≡ Some row → bounds r ≡ fin c → product (embed r (start_form n row).coeffs) x ≤ℚ side_for t c
+pub source_out : (t : Bool) (embed : ℕ → List ℚ → List ℚ) (n : ℕ) (bounds : ℕ → Ext) (rows : List (List ℤ)) (x : ℕ → ℚ)
+    → AllUnder t (source_limits embed n bounds rows) x →
+    (r : ℕ) (row : List ℤ) (c : ℚ) → slice_get rows r ≡ Some row → bounds r ≡ fin c
+    → product (embed r (start_form n row).coeffs) x ≤ℚ side_for t c
 unfolding source_limits
 source_out t embed n bounds [] x h r row c e f = cc
 source_out t embed n bounds (first ∷ rows) x h zero row c e f =
     subst (λ s. product (embed 0 (start_form n s).coeffs) x ≤ℚ side_for t c) (same_Some first row e)
     (head_out t (embed 0) n first (source_limits (λ r. embed (suc r)) n (λ r. bounds (suc r)) rows) x c (bounds 0) f h)
 source_out t embed n bounds (first ∷ rows) x h (suc r) row c e f =
-    source_out t (λ r. embed (suc r)) n (λ r. bounds (suc r)) rows x (tail_out t (embed 0) n first (source_limits (λ r. embed (suc r)) n (λ r. bounds (suc r)) rows) x (bounds 0) h) r row c e f
+    source_out t (λ r. embed (suc r)) n (λ r. bounds (suc r)) rows x (tail_out t (embed 0) n first
+    (source_limits (λ r. embed (suc r)) n (λ r. bounds (suc r)) rows) x (bounds 0) h) r row c e f
 
 joined_in : (t : Bool) (embed : List ℚ → List ℚ) (n : ℕ) (row : List ℤ) (rest : List Limit) (x : ℕ → ℚ) (v : Ext) →
-    ((c : ℚ) → v ≡ fin c → product (embed (start_form n row).coeffs) x ≤ℚ side_for t c) → AllUnder t rest x → AllUnder t (source_limit embed n v row rest) x
+    ((c : ℚ) → v ≡ fin c → product (embed (start_form n row).coeffs) x ≤ℚ side_for t c) → AllUnder t rest x
+    → AllUnder t (source_limit embed n v row rest) x
 unfolding source_limit
 joined_in t embed n row rest x neg_inf h i = i
 joined_in t embed n row rest x (fin d) h i = (h d refl, i)
@@ -47,7 +51,8 @@ joined_in t embed n row rest x pos_inf h i = i
 
 -- where each template row with a finite bound is met, the rows of the source are
 pub source_in : (t : Bool) (embed : ℕ → List ℚ → List ℚ) (n : ℕ) (bounds : ℕ → Ext) (rows : List (List ℤ)) (x : ℕ → ℚ) →
-    ((r : ℕ) (row : List ℤ) (c : ℚ) → slice_get rows r ≡ Some row → bounds r ≡ fin c → product (embed r (start_form n row).coeffs) x ≤ℚ side_for t c) → AllUnder t (source_limits embed n bounds rows) x
+    ((r : ℕ) (row : List ℤ) (c : ℚ) → slice_get rows r ≡ Some row → bounds r ≡ fin c
+    → product (embed r (start_form n row).coeffs) x ≤ℚ side_for t c) → AllUnder t (source_limits embed n bounds rows) x
 unfolding source_limits
 source_in t embed n bounds [] x h = tt
 source_in t embed n bounds (first ∷ rows) x h =
@@ -67,7 +72,8 @@ pub source_within : (m : ℕ) (embed : ℕ → List ℚ → List ℚ) (n : ℕ) 
 unfolding source_limits
 source_within m embed n bounds [] h = tt
 source_within m embed n bounds (first ∷ rows) h =
-    joined_within m (embed 0) n first (source_limits (λ r. embed (suc r)) n (λ r. bounds (suc r)) rows) (bounds 0) (h 0 (start_form n first).coeffs (start_form_width n first))
+    joined_within m (embed 0) n first (source_limits (λ r. embed (suc r)) n (λ r. bounds (suc r)) rows) (bounds 0)
+    (h 0 (start_form n first).coeffs (start_form_width n first))
     (source_within m (λ r. embed (suc r)) n (λ r. bounds (suc r)) rows (λ r u l. h (suc r) u l))
 
 -- ---- the guards
@@ -78,28 +84,39 @@ moved_back : (a c : ℚ) → a +ℚ c ≤ℚ zero_ℚ → a ≤ℚ neg_ℚ c
 moved_back a c h = lin_le (a ∷ c ∷ []) (le h ∷ []) (search reads_all depth 40) tt
 
 -- a word that meets the rows of guards passes them
-pub guards_out : (embed : List ℚ → List ℚ) (m : ℕ) (gs : List Affine) (x : ℕ → ℚ) (w : Word) → Narrow m gs → ((u : List ℚ) → length u ≤ m → product (embed u) x ≡ dot u w) →
+pub guards_out : (embed : List ℚ → List ℚ) (m : ℕ) (gs : List Affine) (x : ℕ → ℚ) (w : Word) → Narrow m gs
+    → ((u : List ℚ) → length u ≤ m → product (embed u) x ≡ dot u w) →
     AllUnder true (guard_limits embed gs) x → AllAtMost gs w
 unfolding guard_limits val
 guards_out embed m [] x w n e h = tt
-guards_out embed m (g ∷ gs) x w n e h = (moved_over (dot g.coeffs w) g.constant (subst (λ s. s ≤ℚ neg_ℚ g.constant) (e g.coeffs n.0) h.0), guards_out embed m gs x w n.1 e h.1)
+guards_out embed m (g ∷ gs) x w n e h = (
+  moved_over (dot g.coeffs w) g.constant (subst (λ s. s ≤ℚ neg_ℚ g.constant) (e g.coeffs n.0) h.0),
+  guards_out embed m gs x w n.1 e h.1,
+)
 
 -- along a direction that keeps the rows of guards no guard rises
-pub guards_fall : (embed : List ℚ → List ℚ) (m : ℕ) (gs : List Affine) (x : ℕ → ℚ) (w : Word) → Narrow m gs → ((u : List ℚ) → length u ≤ m → product (embed u) x ≡ dot u w) →
+pub guards_fall : (embed : List ℚ → List ℚ) (m : ℕ) (gs : List Affine) (x : ℕ → ℚ) (w : Word) → Narrow m gs
+    → ((u : List ℚ) → length u ≤ m → product (embed u) x ≡ dot u w) →
     AllUnder false (guard_limits embed gs) x → AllFall gs w
 unfolding guard_limits lin
 guards_fall embed m [] x w n e h = tt
 guards_fall embed m (g ∷ gs) x w n e h = (subst (λ s. s ≤ℚ zero_ℚ) (e g.coeffs n.0) h.0, guards_fall embed m gs x w n.1 e h.1)
 
 -- a word that passes guards meets their rows
-pub guards_in : (embed : List ℚ → List ℚ) (m : ℕ) (gs : List Affine) (x : ℕ → ℚ) (w : Word) → Narrow m gs → ((u : List ℚ) → length u ≤ m → product (embed u) x ≡ dot u w) →
+pub guards_in : (embed : List ℚ → List ℚ) (m : ℕ) (gs : List Affine) (x : ℕ → ℚ) (w : Word) → Narrow m gs
+    → ((u : List ℚ) → length u ≤ m → product (embed u) x ≡ dot u w) →
     AllAtMost gs w → AllUnder true (guard_limits embed gs) x
 unfolding guard_limits val
 guards_in embed m [] x w n e h = tt
-guards_in embed m (g ∷ gs) x w n e h = (subst (λ s. s ≤ℚ neg_ℚ g.constant) (sym (e g.coeffs n.0)) (moved_back (dot g.coeffs w) g.constant h.0), guards_in embed m gs x w n.1 e h.1)
+guards_in embed m (g ∷ gs) x w n e h = (
+  subst (λ s. s ≤ℚ neg_ℚ g.constant) (sym (e g.coeffs n.0))
+      (moved_back (dot g.coeffs w) g.constant h.0),
+  guards_in embed m gs x w n.1 e h.1,
+)
 
 -- the rows of guards are within the columns in which they are embedded
-pub guards_within : (k : ℕ) (embed : List ℚ → List ℚ) (m : ℕ) (gs : List Affine) → Narrow m gs → ((u : List ℚ) → length u ≤ m → length (embed u) ≤ k) → AllWithin k (guard_limits embed gs)
+pub guards_within : (k : ℕ) (embed : List ℚ → List ℚ) (m : ℕ) (gs : List Affine) → Narrow m gs
+    → ((u : List ℚ) → length u ≤ m → length (embed u) ≤ k) → AllWithin k (guard_limits embed gs)
 unfolding guard_limits
 guards_within k embed m [] n h = tt
 guards_within k embed m (g ∷ gs) n h = (h g.coeffs n.0, guards_within k embed m gs n.1 h)

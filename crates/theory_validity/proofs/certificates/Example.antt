@@ -6,13 +6,17 @@ use Rattle.base_numbers.specs.Vector.{dot, add_vec, scale_vec, vec_mat}
 use Rattle.base_numbers.specs.Rational.{ℚ, whole, zero_ℚ, one_ℚ, is_reduced, ratio, le_ℚ, lt_ℚ, neg_ℚ, ◌+ℚ◌, ◌-ℚ◌, ◌*ℚ◌, ◌≤ℚ◌, ◌<ℚ◌}
 use Rattle.base_numbers.specs.Extended.{fin, pos_inf, ◌≤ᴱ◌}
 use Rattle.std.specs.Prelude.{Some}
-use Rattle.theory_validity.specs.Words.{val, lin, shifted, column, columns, values, combined, composed, guards_from, ends_from, free_count, width, guard_forms, start_form, end_form, start_of, end_of}
+use Rattle.theory_validity.specs.Words.{val, lin, shifted, column, columns, values, combined, composed, guards_from, ends_from, free_count}
+use Rattle.theory_validity.specs.Words.{width, guard_forms, start_form, end_form, start_of, end_of}
 use Rattle.flow_edges.specs.declared.edge.Action.TheVariants.{Guard, Assign}
 use Rattle.flow_edges.specs.declared.edge.Edge.{Edge}
 use Rattle.flow_systems.specs.Equations.{Equations, Vector, Fits, Least}
 use Rattle.flow_systems.specs.States.{RationalState, dotℚ}
-use Rattle.theory_validity.specs.Steps.{Item, Runs, edge_of, row_of, names, put, new_value, after_step, end_value, Plain, Jump, Step, Placed, PlainItem, JumpItem, ValidStep, start_vector}
-use Rattle.theory_validity.specs.Certificates.{Bound, after_steps, Certificate, bounds_vector, needs, needs_at, into_needs, coefficients, combination, row_side, guard_side, side, num, AllPass, NotFinite, Multipliers, BoundPasses, PointsInRange}
+use Rattle.theory_validity.specs.Steps.{Item, Runs, edge_of, row_of, names, put, new_value, after_step, end_value, Plain, Jump, Step}
+use Rattle.theory_validity.specs.Steps.{Placed, PlainItem, JumpItem, ValidStep, start_vector}
+use Rattle.theory_validity.specs.Certificates.{Bound, after_steps, Certificate, bounds_vector, needs, needs_at, into_needs, coefficients}
+use Rattle.theory_validity.specs.Certificates.{combination, row_side, guard_side, side, num, AllPass, NotFinite, Multipliers, BoundPasses}
+use Rattle.theory_validity.specs.Certificates.{PointsInRange}
 use Rattle.theory_validity.proofs.certificates.Needs.{in_of_contains}
 use Rattle.theory_validity.proofs.steps.CertificateLaw.{certificate_least}
 
@@ -22,18 +26,47 @@ system = record {
   points = 2;
   edges =
       record { from = 0; to = 1; actions = Assign 0 (record { coeffs = pos 0 ∷ []; constant = pos 0 }) ∷ [] } ∷
-      record { from = 1; to = 1; actions = Guard (record { coeffs = pos 1 ∷ []; constant = negsuc 8 }) ∷ Assign 0 (record { coeffs = pos 1 ∷ []; constant = pos 1 }) ∷ [] } ∷ [];
+      record {
+        from = 1;
+        to = 1;
+        actions = Guard (record { coeffs = pos 1 ∷ []; constant = negsuc 8 })
+            ∷ Assign 0 (record { coeffs = pos 1 ∷ []; constant = pos 1 }) ∷ [];
+      } ∷ [];
   template = (pos 1 ∷ []) ∷ (negsuc 0 ∷ []) ∷ [];
 }
 
 abbrev up : Item
-up = record { point = 1; row = 0; edge = 0; low = record { start = whole (pos 5) ∷ []; free = [] }; second = record { start = []; free = [] }; number = whole (pos 0) }
+up = record {
+  point = 1;
+  row = 0;
+  edge = 0;
+  low = record { start = whole (pos 5) ∷ []; free = [] };
+  second =
+      record { start = []; free = [] };
+  number = whole (pos 0);
+}
 
 abbrev down : Item
-down = record { point = 1; row = 1; edge = 0; low = record { start = whole (pos 5) ∷ []; free = [] }; second = record { start = []; free = [] }; number = whole (pos 0) }
+down = record {
+  point = 1;
+  row = 1;
+  edge = 0;
+  low = record { start = whole (pos 5) ∷ []; free = [] };
+  second =
+      record { start = []; free = [] };
+  number = whole (pos 0);
+}
 
 abbrev loop : Item
-loop = record { point = 1; row = 0; edge = 1; low = record { start = whole (pos 0) ∷ []; free = [] }; second = record { start = whole (pos 9) ∷ []; free = [] }; number = whole (pos 10) }
+loop = record {
+  point = 1;
+  row = 0;
+  edge = 1;
+  low = record { start = whole (pos 0) ∷ []; free = [] };
+  second =
+      record { start = whole (pos 9) ∷ []; free = [] };
+  number = whole (pos 10);
+}
 
 abbrev first : Step
 first = record { kind = Plain; items = up ∷ down ∷ [] }
@@ -43,11 +76,14 @@ second_step = record { kind = Jump; items = loop ∷ [] }
 
 -- numbers compute where all these are open
 unfoldable pub computing : whole (pos 1) ≤ℚ whole (pos 3)
-unfolding le_ℚ lt_ℚ whole is_reduced ratio gcd gcd_within zero_ℚ one_ℚ ◌+ℚ◌ ◌*ℚ◌ ◌-ℚ◌ neg_ℚ val lin shifted column columns values combined composed guards_from ends_from free_count width guard_forms start_form end_form start_of end_of edge_of row_of names put new_value after_step end_value start_vector dot add_vec scale_vec
+unfolding le_ℚ lt_ℚ whole is_reduced ratio gcd gcd_within zero_ℚ one_ℚ ◌+ℚ◌ ◌*ℚ◌ ◌-ℚ◌ neg_ℚ val lin shifted column columns values combined
+    composed guards_from ends_from free_count width guard_forms start_form end_form start_of end_of edge_of row_of names put new_value
+    after_step end_value start_vector dot add_vec scale_vec
 computing = record { le = tt }
 
 -- a state fits where its two rows do
-fits_both : (v : Vector) (p : ℕ) (x : RationalState) → fin (dotℚ (pos 1 ∷ []) x) ≤ᴱ v p 0 → fin (dotℚ (negsuc 0 ∷ []) x) ≤ᴱ v p 1 → Fits system v p x
+fits_both : (v : Vector) (p : ℕ) (x : RationalState) → fin (dotℚ (pos 1 ∷ []) x) ≤ᴱ v p 0 → fin (dotℚ (negsuc 0 ∷ []) x) ≤ᴱ v p 1
+    → Fits system v p x
 fits_both v p x a b zero row e = subst (λ s. fin (dotℚ s x) ≤ᴱ v p 0) (same (pos 1 ∷ []) row e) a
   where
     same : (s t : List ℤ) → Some s ≡ Some t → s ≡ t
@@ -60,20 +96,42 @@ fits_both v p x a b (suc (suc r)) row e = cc
 
 low_runs : (item : Item) → edge_of system item ≡ edge_of system up → Runs system start_vector (edge_of system item) (whole (pos 5) ∷ [])
 unfolding computing
-low_runs item e = subst (λ k. Runs system start_vector k (whole (pos 5) ∷ [])) (sym e) (record { passes = record { all = tt }; fits = fits_both start_vector 0 (start_of 1 (whole (pos 5) ∷ [])) tt tt })
+low_runs item e = subst (λ k. Runs system start_vector k (whole (pos 5) ∷ [])) (sym e)
+    (record { passes = record { all = tt }; fits = fits_both start_vector 0 (start_of 1 (whole (pos 5) ∷ [])) tt tt })
 
 first_valid : ValidStep system start_vector first
 unfolding computing
 first_valid = record { distinct = ((refl, tt), (tt, tt)); placed = placed; valid = valid }
   where
     placed : (item : Item) → In (up ∷ (down ∷ [])) item → Placed system item
-    placed item (inl e) = subst (Placed system) e (record { later = omega arith; point_within = omega arith; row_within = omega arith; edge_within = omega arith; into = refl })
-    placed item (inr (inl e)) = subst (Placed system) e (record { later = omega arith; point_within = omega arith; row_within = omega arith; edge_within = omega arith; into = refl })
+    placed item (inl e) = subst (Placed system) e (record {
+      later = omega arith;
+      point_within = omega arith;
+      row_within =
+          omega arith;
+      edge_within = omega arith;
+      into = refl;
+    })
+    placed item (inr (inl e)) = subst (Placed system) e (record {
+      later = omega arith;
+      point_within = omega arith;
+      row_within =
+          omega arith;
+      edge_within = omega arith;
+      into = refl;
+    })
     placed item (inr (inr m)) = absurd m
 
     valid : (item : Item) → In (up ∷ (down ∷ [])) item → PlainItem system start_vector item
-    valid item (inl e) = subst (PlainItem system start_vector) e (record { size = (refl, refl); runs = low_runs up refl; above = tt; reached = record { le = tt } })
-    valid item (inr (inl e)) = subst (PlainItem system start_vector) e (record { size = (refl, refl); runs = low_runs down refl; above = tt; reached = record { le = tt } })
+    valid item (inl e) = subst (PlainItem system start_vector) e (record {
+      size = (refl, refl);
+      runs = low_runs up refl;
+      above =
+          tt;
+      reached = record { le = tt };
+    })
+    valid item (inr (inl e)) = subst (PlainItem system start_vector) e
+        (record { size = (refl, refl); runs = low_runs down refl; above = tt; reached = record { le = tt } })
     valid item (inr (inr m)) = absurd m
 
 second_valid : ValidStep system (after_step first start_vector) second_step
@@ -81,21 +139,39 @@ unfolding computing
 second_valid = record { distinct = (tt, tt); placed = placed; valid = valid }
   where
     placed : (item : Item) → In (loop ∷ []) item → Placed system item
-    placed item (inl e) = subst (Placed system) e (record { later = omega arith; point_within = omega arith; row_within = omega arith; edge_within = omega arith; into = refl })
+    placed item (inl e) = subst (Placed system) e (record {
+      later = omega arith;
+      point_within = omega arith;
+      row_within =
+          omega arith;
+      edge_within = omega arith;
+      into = refl;
+    })
     placed item (inr m) = absurd m
 
-    valid : (item : Item) → In (loop ∷ []) item → JumpItem system (after_step first start_vector) (put (new_value Jump) (loop ∷ []) (after_step first start_vector)) item
-    valid item (inl e) = subst (JumpItem system (after_step first start_vector) (put (new_value Jump) (loop ∷ []) (after_step first start_vector))) e (record {
-      low_size = (refl, refl);
-      high_size = (refl, refl);
-      bound = whole (pos 0);
-      finite = refl;
-      low_runs = record { passes = record { all = (record { le = tt }, tt) }; fits = fits_both (after_step first start_vector) 1 (start_of 1 (whole (pos 0) ∷ [])) (record { le = tt }) (record { le = tt }) };
-      low_above = record { lt = tt };
-      rises = record { le = tt };
-      high_runs = record { passes = record { all = (record { le = tt }, tt) }; fits = fits_both (put (new_value Jump) (loop ∷ []) (after_step first start_vector)) 1 (start_of 1 (whole (pos 9) ∷ [])) (record { le = tt }) (record { le = tt }) };
-      high_reaches = record { le = tt };
-    })
+    valid : (item : Item) → In (loop ∷ []) item → JumpItem system (after_step first start_vector)
+        (put (new_value Jump) (loop ∷ []) (after_step first start_vector)) item
+    valid item (inl e) = subst (JumpItem system (after_step first start_vector)
+        (put (new_value Jump) (loop ∷ []) (after_step first start_vector))) e (record {
+          low_size = (refl, refl);
+          high_size = (refl, refl);
+          bound = whole (pos 0);
+          finite = refl;
+          low_runs = record {
+            passes = record { all = (record { le = tt }, tt) };
+            fits =
+                fits_both (after_step first start_vector) 1 (start_of 1 (whole (pos 0) ∷ [])) (record { le = tt }) (record { le = tt });
+          };
+          low_above = record { lt = tt };
+          rises = record { le = tt };
+          high_runs = record {
+            passes = record { all = (record { le = tt }, tt) };
+            fits =
+                fits_both (put (new_value Jump) (loop ∷ []) (after_step first start_vector)) 1 (start_of 1 (whole (pos 9) ∷ []))
+                (record { le = tt }) (record { le = tt });
+          };
+          high_reaches = record { le = tt };
+        })
     valid item (inr m) = absurd m
 
 abbrev certificate : Certificate
@@ -135,7 +211,12 @@ abbrev enter : Edge
 enter = record { from = 0; to = 1; actions = Assign 0 (record { coeffs = pos 0 ∷ []; constant = pos 0 }) ∷ [] }
 
 abbrev again : Edge
-again = record { from = 1; to = 1; actions = Guard (record { coeffs = pos 1 ∷ []; constant = negsuc 8 }) ∷ Assign 0 (record { coeffs = pos 1 ∷ []; constant = pos 1 }) ∷ [] }
+again = record {
+  from = 1;
+  to = 1;
+  actions = Guard (record { coeffs = pos 1 ∷ []; constant = negsuc 8 })
+      ∷ Assign 0 (record { coeffs = pos 1 ∷ []; constant = pos 1 }) ∷ [];
+}
 
 abbrev nought : List ℚ
 nought = whole (pos 0) ∷ whole (pos 0) ∷ []
@@ -162,28 +243,49 @@ upper_bounds =
       multipliers = enter_multipliers;
       limit = whole (pos 10);
       finite = refl;
-      same = one (λ k. get_or (combination system enter nought []) k zero_ℚ ≡ get_or (end_form 1 enter.actions (pos 1 ∷ [])).coeffs k zero_ℚ) refl;
+      same = one (λ k. get_or (combination system enter nought []) k zero_ℚ
+          ≡ get_or (end_form 1 enter.actions (pos 1 ∷ [])).coeffs k zero_ℚ) refl;
       small = record { le = tt };
     } in
     let high_again : BoundPasses system B again (pos 1 ∷ []) (fin (whole (pos 10))) nought (whole (pos 1) ∷ []) = record {
-      multipliers = record { row_count = refl; guard_count = refl; rows_nonneg = (record { le = tt }, (record { le = tt }, tt)); guards_nonneg = (record { le = tt }, tt); zero_where = λ r l n. absurd (finite r l n) };
+      multipliers = record {
+        row_count = refl;
+        guard_count = refl;
+        rows_nonneg =
+            (record { le = tt }, (record { le = tt }, tt));
+        guards_nonneg = (record { le = tt }, tt);
+        zero_where =
+            λ r l n. absurd (finite r l n);
+      };
       limit = whole (pos 10);
       finite = refl;
-      same = one (λ k. get_or (combination system again nought (whole (pos 1) ∷ [])) k zero_ℚ ≡ get_or (end_form 1 again.actions (pos 1 ∷ [])).coeffs k zero_ℚ) refl;
+      same = one (λ k. get_or (combination system again nought (whole (pos 1) ∷ [])) k zero_ℚ
+          ≡ get_or (end_form 1 again.actions (pos 1 ∷ [])).coeffs k zero_ℚ) refl;
       small = record { le = tt };
     } in
     let low_in : BoundPasses system B enter (negsuc 0 ∷ []) (fin (whole (pos 0))) nought [] = record {
       multipliers = enter_multipliers;
       limit = whole (pos 0);
       finite = refl;
-      same = one (λ k. get_or (combination system enter nought []) k zero_ℚ ≡ get_or (end_form 1 enter.actions (negsuc 0 ∷ [])).coeffs k zero_ℚ) refl;
+      same = one (λ k. get_or (combination system enter nought []) k zero_ℚ
+          ≡ get_or (end_form 1 enter.actions (negsuc 0 ∷ [])).coeffs k zero_ℚ) refl;
       small = record { le = tt };
     } in
-    let low_again : BoundPasses system B again (negsuc 0 ∷ []) (fin (whole (pos 0))) (whole (pos 0) ∷ whole (pos 1) ∷ []) (whole (pos 0) ∷ []) = record {
-      multipliers = record { row_count = refl; guard_count = refl; rows_nonneg = (record { le = tt }, (record { le = tt }, tt)); guards_nonneg = (record { le = tt }, tt); zero_where = λ r l n. absurd (finite r l n) };
+    let low_again : BoundPasses system B again (negsuc 0 ∷ []) (fin (whole (pos 0))) (whole (pos 0) ∷ whole (pos 1) ∷ [])
+    (whole (pos 0) ∷ []) = record {
+      multipliers = record {
+        row_count = refl;
+        guard_count = refl;
+        rows_nonneg =
+            (record { le = tt }, (record { le = tt }, tt));
+        guards_nonneg = (record { le = tt }, tt);
+        zero_where =
+            λ r l n. absurd (finite r l n);
+      };
       limit = whole (pos 0);
       finite = refl;
-      same = one (λ k. get_or (combination system again (whole (pos 0) ∷ whole (pos 1) ∷ []) (whole (pos 0) ∷ [])) k zero_ℚ ≡ get_or (end_form 1 again.actions (negsuc 0 ∷ [])).coeffs k zero_ℚ) refl;
+      same = one (λ k. get_or (combination system again (whole (pos 0) ∷ whole (pos 1) ∷ []) (whole (pos 0) ∷ [])) k zero_ℚ
+          ≡ get_or (end_form 1 again.actions (negsuc 0 ∷ [])).coeffs k zero_ℚ) refl;
       small = record { le = tt };
     } in
     (high_in, (high_again, (low_in, (low_again, tt))))

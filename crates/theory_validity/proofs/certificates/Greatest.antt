@@ -1,5 +1,6 @@
 -- The greatest of the numbers of some edges, and the edges into a point.
-use Rattle.std.proofs.Common.{◌≡◌, ◌∙◌, ◌⊎◌, inl, inr, ⊎_elim, ℕ, eqb, Bool, true, false, List, [], ◌∷◌, refl, sym, ap, subst, if◌then◌else◌}
+use Rattle.std.proofs.Common.{◌≡◌, ◌∙◌, ◌⊎◌, inl, inr, ⊎_elim, ℕ, eqb, Bool, true, false, List, [], ◌∷◌, refl, sym, ap, subst}
+use Rattle.std.proofs.Common.{if◌then◌else◌}
 use Rattle.std.proofs.lemmas.Bool.Decides.{eqb_tells}
 use Rattle.base_facts.specs.Elements.{In}
 use Rattle.base_numbers.specs.Extended.{Ext, neg_inf, fin, pos_inf, ◌≤ᴱ◌, ◌<ᴱ◌}
@@ -42,7 +43,8 @@ unfolding greatest
 greatest_below f [] v h = tt
 greatest_below f (y ∷ xs) v h =
     let g = greater_of (f y) (greatest f xs) in
-    ⊎_elim (λ e. subst (λ k. k ≤ᴱ v) (sym e) (h y (inl refl))) (λ e. subst (λ k. k ≤ᴱ v) (sym e) (greatest_below f xs v (λ x m. h x (inr m)))) g.1.one
+    ⊎_elim (λ e. subst (λ k. k ≤ᴱ v) (sym e) (h y (inl refl))) (λ e. subst (λ k. k ≤ᴱ v) (sym e)
+    (greatest_below f xs v (λ x m. h x (inr m)))) g.1.one
 
 -- what is below the greatest is below some element's number
 pub below_greatest : {A : Type 0} (f : A → Ext) (xs : List A) (v : Ext) → v <ᴱ greatest f xs → (x : A) × In xs x × (v <ᴱ f x)

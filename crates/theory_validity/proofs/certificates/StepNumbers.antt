@@ -54,14 +54,17 @@ share_is b c top h i =
     at_most t w e l = lin_false (t ∷ b ∷ c ∷ top ∷ []) (ge0 (gap l ⊗ le_of_lt_ℚ w) ∷ eq e ∷ lt i ∷ []) (search reads_all depth 40) tt
 
 -- before c is reached, what mixes a value at most b and one at most the top is at most c
-pub before_share : (t s b c top x y : ℚ) → zero_ℚ ≤ℚ t → t ≤ℚ one_ℚ → t ≤ℚ s → Part b c top s → b ≤ℚ top → x ≤ℚ b → y ≤ℚ top → (one_ℚ -ℚ t) *ℚ x +ℚ t *ℚ y ≤ℚ c
+pub before_share : (t s b c top x y : ℚ) → zero_ℚ ≤ℚ t → t ≤ℚ one_ℚ → t ≤ℚ s → Part b c top s → b ≤ℚ top → x ≤ℚ b → y ≤ℚ top
+    → (one_ℚ -ℚ t) *ℚ x +ℚ t *ℚ y ≤ℚ c
 before_share t s b c top x y h i j p k l m =
-    lin_le (t ∷ s ∷ b ∷ c ∷ top ∷ x ∷ y ∷ []) (ge0 (gap i ⊗ gap l) ∷ ge0 (h ⊗ gap m) ∷ ge0 (gap j ⊗ gap k) ∷ eq p.times ∷ []) (search reads_all depth 40) tt
+    lin_le (t ∷ s ∷ b ∷ c ∷ top ∷ x ∷ y ∷ []) (ge0 (gap i ⊗ gap l) ∷ ge0 (h ⊗ gap m) ∷ ge0 (gap j ⊗ gap k) ∷ eq p.times ∷ [])
+    (search reads_all depth 40) tt
 
 -- where c is reached, a value above b and one at least the top have passed it
 pub past_share : (t b c top x y : ℚ) → Part b c top t → b <ℚ x → top ≤ℚ y → c <ℚ (one_ℚ -ℚ t) *ℚ x +ℚ t *ℚ y
 past_share t b c top x y p h i =
-    lin_lt (t ∷ b ∷ c ∷ top ∷ x ∷ y ∷ []) (gt0 (*ℚ_pos (gap_lt p.below_one) (gap_lt h)) ∷ ge0 (p.from_zero ⊗ gap i) ∷ eq p.times ∷ []) (search reads_all depth 40) tt
+    lin_lt (t ∷ b ∷ c ∷ top ∷ x ∷ y ∷ []) (gt0 (*ℚ_pos (gap_lt p.below_one) (gap_lt h)) ∷ ge0 (p.from_zero ⊗ gap i) ∷ eq p.times ∷ [])
+    (search reads_all depth 40) tt
 
 -- how long a rate takes from b to c
 unfoldable pub time : ℚ → ℚ → ℚ → ℚ
@@ -88,7 +91,8 @@ time_is b c rate h i =
 -- no later than that, a value at most b that rises at most so fast is at most c
 pub before_time : (t s b c rate x d : ℚ) → zero_ℚ ≤ℚ t → t ≤ℚ s → Takes b c rate s → zero_ℚ <ℚ rate → x ≤ℚ b → d ≤ℚ rate → x +ℚ t *ℚ d ≤ℚ c
 before_time t s b c rate x d h i p k l m =
-    lin_le (t ∷ s ∷ b ∷ c ∷ rate ∷ x ∷ d ∷ []) (le l ∷ ge0 (h ⊗ gap m) ∷ ge0 (gap i ⊗ le_of_lt_ℚ k) ∷ eq p.times ∷ []) (search reads_all depth 40) tt
+    lin_le (t ∷ s ∷ b ∷ c ∷ rate ∷ x ∷ d ∷ []) (le l ∷ ge0 (h ⊗ gap m) ∷ ge0 (gap i ⊗ le_of_lt_ℚ k) ∷ eq p.times ∷ [])
+    (search reads_all depth 40) tt
 
 -- at that time, a value above b that rises at least so fast is above c
 pub past_time : (t b c rate x d : ℚ) → Takes b c rate t → b <ℚ x → rate ≤ℚ d → c <ℚ x +ℚ t *ℚ d

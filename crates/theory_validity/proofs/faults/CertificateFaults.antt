@@ -1,5 +1,6 @@
 -- A certificate has no failing test exactly where it is valid.
-use Rattle.std.proofs.Common.{◌≡◌, ◌↔◌, inl, inr, ⊎_elim, ℕ, suc, ◌+◌, ◌*◌, ◌<◌, ◌≤◌, List, [], ◌∷◌, length, map, get_or, refl, ap, subst, arith}
+use Rattle.std.proofs.Common.{◌≡◌, ◌↔◌, inl, inr, ⊎_elim, ℕ, suc, ◌+◌, ◌*◌, ◌<◌, ◌≤◌, List, [], ◌∷◌, length, map, get_or, refl, ap, subst}
+use Rattle.std.proofs.Common.{arith}
 use Rattle.std.specs.Prelude.{None}
 use Rattle.std.specs.List.{range_with_len}
 use native.Mathlib.Decide.{dec_le, ℕ_discrete}
@@ -7,8 +8,10 @@ use Rattle.base_facts.proofs.elements.Membership.{in_map, in_flat_map, in_range,
 use Rattle.base_facts.specs.Elements.{In}
 use Rattle.flow_systems.specs.Equations.{Equations, Vector}
 use Rattle.theory_validity.specs.Steps.{Step, after_step, start_vector}
-use Rattle.theory_validity.specs.Certificates.{Evidence, Need, needs, AllPass, ValidSteps, after_steps, Certificate, bounds_vector, ValidCertificate}
-use Rattle.theory_validity.specs.Faults.{SizeFault, FinalFault, UpperFault, and_then, step_fault, steps_fault, unknowns, final_fault, uppers_fault, certificate_fault, dec_evidence}
+use Rattle.theory_validity.specs.Certificates.{Evidence, Need, needs, AllPass, ValidSteps, after_steps, Certificate, bounds_vector}
+use Rattle.theory_validity.specs.Certificates.{ValidCertificate}
+use Rattle.theory_validity.specs.Faults.{SizeFault, FinalFault, UpperFault, and_then, step_fault, steps_fault, unknowns, final_fault}
+use Rattle.theory_validity.specs.Faults.{uppers_fault, certificate_fault, dec_evidence}
 use Rattle.theory_validity.specs.Decide.{dec_and, ext_same}
 use Rattle.theory_validity.proofs.steps.StepFaults.{unless_none, unless_yes, and_then_none, and_then_yes, step_fault_none}
 
@@ -19,7 +22,8 @@ in_unknowns : (system : Equations) (p r : ℕ) → p < system.points → r < len
 unfolding unknowns
 in_unknowns system p r h i =
     in_flat_map (λ p. map (λ r. (p, r)) (range_with_len 0 (length system.template))) (range_with_len 0 system.points) p (p, r)
-    (in_range 0 system.points p (omega arith) (omega arith)) (in_map (λ r. (p, r)) (range_with_len 0 (length system.template)) r (in_range 0 (length system.template) r (omega arith) (omega arith)))
+    (in_range 0 system.points p (omega arith) (omega arith)) (in_map (λ r. (p, r)) (range_with_len 0 (length system.template)) r
+    (in_range 0 (length system.template) r (omega arith) (omega arith)))
 
 out_unknowns : (system : Equations) (u : ℕ × ℕ) → In (unknowns system) u → (u.0 < system.points) × (u.1 < length system.template)
 unfolding unknowns
@@ -31,46 +35,56 @@ out_unknowns system u m =
     subst (λ v. (v.0 < system.points) × (v.1 < length system.template)) b.2 (omega (arith, h), omega (arith, i))
 
 -- ---- steps
-steps_fault_none : (system : Equations) (z : Vector) (s : ℕ) (steps : List Step) → (steps_fault system z s steps ≡ None) ↔ ValidSteps system z steps
+steps_fault_none : (system : Equations) (z : Vector) (s : ℕ) (steps : List Step) → (steps_fault system z s steps ≡ None)
+    ↔ ValidSteps system z steps
 unfolding steps_fault
 steps_fault_none system z s [] = ((λ e. tt), (λ h. refl))
 steps_fault_none system z s (step ∷ steps) =
     let first = step_fault_none system z s step in
     let rest = steps_fault_none system (after_step step z) (suc s) steps in (
-      (λ e. let r = and_then_none (step_fault system z s step) (steps_fault system (after_step step z) (suc s) steps) e in (first.0 r.0, rest.0 r.1)),
+      (λ e. let r = and_then_none (step_fault system z s step) (steps_fault system (after_step step z) (suc s) steps) e in
+          (first.0 r.0, rest.0 r.1)),
       (λ h. and_then_yes (step_fault system z s step) (steps_fault system (after_step step z) (suc s) steps) (first.1 h.0) (rest.1 h.1)),
     )
 
 -- ---- the last two tests
-final_none : (system : Equations) (z b : Vector) (us : List (ℕ × ℕ)) → final_fault system z b us ≡ None → (u : ℕ × ℕ) → In us u → z u.0 u.1 ≡ b u.0 u.1
+final_none : (system : Equations) (z b : Vector) (us : List (ℕ × ℕ)) → final_fault system z b us ≡ None → (u : ℕ × ℕ) → In us u
+    → z u.0 u.1 ≡ b u.0 u.1
 unfolding final_fault
 final_none system z b [] e u m = absurd m
 final_none system z b (v ∷ us) e u m =
-    let r = unless_none (ext_same (z v.0 v.1) (b v.0 v.1)) (FinalFault (v.0 * length system.template + v.1)) (final_fault system z b us) e in
+    let r = unless_none (ext_same (z v.0 v.1) (b v.0 v.1)) (FinalFault (v.0 * length system.template + v.1)) (final_fault system z b us)
+    e in
     ⊎_elim (λ f. subst (λ w. z w.0 w.1 ≡ b w.0 w.1) f r.0) (λ k. final_none system z b us r.1 u k) m
 
-final_yes : (system : Equations) (z b : Vector) (us : List (ℕ × ℕ)) → ((u : ℕ × ℕ) → In us u → z u.0 u.1 ≡ b u.0 u.1) → final_fault system z b us ≡ None
+final_yes : (system : Equations) (z b : Vector) (us : List (ℕ × ℕ)) → ((u : ℕ × ℕ) → In us u → z u.0 u.1 ≡ b u.0 u.1)
+    → final_fault system z b us ≡ None
 unfolding final_fault
 final_yes system z b [] h = refl
 final_yes system z b (v ∷ us) h =
-    unless_yes (ext_same (z v.0 v.1) (b v.0 v.1)) (FinalFault (v.0 * length system.template + v.1)) (final_fault system z b us) (h v (inl refl)) (final_yes system z b us (λ u m. h u (inr m)))
+    unless_yes (ext_same (z v.0 v.1) (b v.0 v.1)) (FinalFault (v.0 * length system.template + v.1)) (final_fault system z b us)
+    (h v (inl refl)) (final_yes system z b us (λ u m. h u (inr m)))
 
-uppers_none : (system : Equations) (z : Vector) (ns : List Need) (es : List Evidence) → length es ≤ length ns → uppers_fault system z ns es ≡ None → AllPass system z ns es
+uppers_none : (system : Equations) (z : Vector) (ns : List Need) (es : List Evidence) → length es ≤ length ns
+    → uppers_fault system z ns es ≡ None → AllPass system z ns es
 unfolding uppers_fault
 uppers_none system z [] [] l e = tt
 uppers_none system z [] (x ∷ es) l e = absurd (omega arith)
 uppers_none system z (n ∷ ns) [] l e = cc
 uppers_none system z (n ∷ ns) (x ∷ es) l e =
-    let r = unless_none (dec_evidence system z n.edge (get_or system.template n.row []) (z n.edge.to n.row) x) (UpperFault (n.edge.to * length system.template + n.row) n.number) (uppers_fault system z ns es) e in
+    let r = unless_none (dec_evidence system z n.edge (get_or system.template n.row []) (z n.edge.to n.row) x)
+    (UpperFault (n.edge.to * length system.template + n.row) n.number) (uppers_fault system z ns es) e in
     (r.0, uppers_none system z ns es (omega arith) r.1)
 
-uppers_yes : (system : Equations) (z : Vector) (ns : List Need) (es : List Evidence) → AllPass system z ns es → uppers_fault system z ns es ≡ None
+uppers_yes : (system : Equations) (z : Vector) (ns : List Need) (es : List Evidence) → AllPass system z ns es
+    → uppers_fault system z ns es ≡ None
 unfolding uppers_fault
 uppers_yes system z [] [] h = refl
 uppers_yes system z [] (x ∷ es) h = refl
 uppers_yes system z (n ∷ ns) [] h = absurd h
 uppers_yes system z (n ∷ ns) (x ∷ es) h =
-    unless_yes (dec_evidence system z n.edge (get_or system.template n.row []) (z n.edge.to n.row) x) (UpperFault (n.edge.to * length system.template + n.row) n.number) (uppers_fault system z ns es) h.0 (uppers_yes system z ns es h.1)
+    unless_yes (dec_evidence system z n.edge (get_or system.template n.row []) (z n.edge.to n.row) x)
+    (UpperFault (n.edge.to * length system.template + n.row) n.number) (uppers_fault system z ns es) h.0 (uppers_yes system z ns es h.1)
 
 as_many : (system : Equations) (z : Vector) (ns : List Need) (es : List Evidence) → AllPass system z ns es → length es ≡ length ns
 as_many system z [] [] h = refl
@@ -79,12 +93,14 @@ as_many system z (n ∷ ns) [] h = absurd h
 as_many system z (n ∷ ns) (x ∷ es) h = ap suc (as_many system z ns es h.1)
 
 -- a certificate has no fault exactly where it is valid
-pub certificate_fault_none : (system : Equations) (certificate : Certificate) → (certificate_fault system certificate ≡ None) ↔ ValidCertificate system certificate
+pub certificate_fault_none : (system : Equations) (certificate : Certificate) → (certificate_fault system certificate ≡ None)
+    ↔ ValidCertificate system certificate
 unfolding certificate_fault
 certificate_fault_none system certificate =
     let B = bounds_vector system certificate.bounds in
     let F = after_steps certificate.steps start_vector in
-    let size = dec_and (ℕ_discrete (length certificate.bounds) (system.points * length system.template)) (dec_le (length certificate.uppers) (length (needs system B))) in
+    let size = dec_and (ℕ_discrete (length certificate.bounds) (system.points * length system.template))
+    (dec_le (length certificate.uppers) (length (needs system B))) in
     let steps = steps_fault_none system start_vector 0 certificate.steps in
     let finals = final_fault system F B (unknowns system) in
     let uppers = uppers_fault system B (needs system B) certificate.uppers in (
@@ -100,7 +116,8 @@ certificate_fault_none system certificate =
           }),
       (λ v.
           let many = as_many system B (needs system B) certificate.uppers v.uppers in
-          unless_yes size SizeFault (and_then (steps_fault system start_vector 0 certificate.steps) (and_then finals uppers)) (v.size, omega (arith, many))
+          unless_yes size SizeFault (and_then (steps_fault system start_vector 0 certificate.steps) (and_then finals uppers))
+          (v.size, omega (arith, many))
           (and_then_yes (steps_fault system start_vector 0 certificate.steps) (and_then finals uppers) (steps.1 v.steps)
           (and_then_yes finals uppers
           (final_yes system F B (unknowns system) (λ u m. let o = out_unknowns system u m in v.final u.0 u.1 o.0 o.1))

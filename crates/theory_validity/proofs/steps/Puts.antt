@@ -1,5 +1,6 @@
 -- What a vector is after the unknowns of a list of items take their values.
-use Rattle.std.proofs.Common.{◌≡◌, ◌∙◌, ◌⊎◌, inl, inr, ⊎_elim, ℕ, ◌&&◌, eqb, Bool, true, false, true≢false, List, [], ◌∷◌, refl, sym, ap, subst, if◌then◌else◌}
+use Rattle.std.proofs.Common.{◌≡◌, ◌∙◌, ◌⊎◌, inl, inr, ⊎_elim, ℕ, ◌&&◌, eqb, Bool, true, false, true≢false, List, [], ◌∷◌, refl, sym, ap}
+use Rattle.std.proofs.Common.{subst, if◌then◌else◌}
 use Rattle.std.specs.Prelude.{ℤ}
 use Rattle.std.proofs.lemmas.Option.{slice_get_within}
 use Rattle.std.proofs.lemmas.Bool.{and_parts, eqb-true, eq-eqb, cases_Bool}
@@ -47,15 +48,19 @@ pub not_unnamed : (items : List Item) (item : Item) → In items item → ¬ (Un
 not_unnamed items item m u = true≢false (sym (names_itself item) ∙ unnamed_by items item.point item.row item u m)
 
 -- a named unknown takes its item's value
-pub put-named : (value : Item → Ext) (items : List Item) (z : Vector) (item : Item) → Distinct items → In items item → put value items z item.point item.row ≡ value item
+pub put-named : (value : Item → Ext) (items : List Item) (z : Vector) (item : Item) → Distinct items → In items item
+    → put value items z item.point item.row ≡ value item
 unfolding put
 put-named value [] z item d m = absurd m
 put-named value (x ∷ items) z item d m = ⊎_elim
-    (λ e. subst (λ y. (if names x y.point y.row then value x else put value items z y.point y.row) ≡ value y) e (ap (λ b. if b then value x else put value items z x.point x.row) (names_itself x)))
-    (λ k. ap (λ b. if b then value x else put value items z item.point item.row) (other k (cases_Bool (names x item.point item.row))) ∙ put-named value items z item d.1 k)
+    (λ e. subst (λ y. (if names x y.point y.row then value x else put value items z y.point y.row) ≡ value y) e
+    (ap (λ b. if b then value x else put value items z x.point x.row) (names_itself x)))
+    (λ k. ap (λ b. if b then value x else put value items z item.point item.row) (other k (cases_Bool (names x item.point item.row)))
+    ∙ put-named value items z item d.1 k)
     m
   where
-    other : In items item → (names x item.point item.row ≡ true) ⊎ (names x item.point item.row ≡ false) → names x item.point item.row ≡ false
+    other : In items item → (names x item.point item.row ≡ true) ⊎ (names x item.point item.row ≡ false)
+        → names x item.point item.row ≡ false
     other k (inl e) =
         let h = named_is x item.point item.row e in
         absurd (not_unnamed items item k (subst (λ p. Unnamed items p item.row) h.0 (subst (λ r. Unnamed items x.point r) h.1 d.0)))
@@ -66,7 +71,8 @@ pub put_below : (system : Equations) (value : Item → Ext) (items : List Item) 
     ((item : Item) → In items item → value item ≤ᴱ q item.point item.row) → Below system (put value items z) q
 unfolding put
 put_below system value [] z q below h p r l = below p r l
-put_below system value (item ∷ items) z q below h p r l = by (names item p r) refl (put_below system value items z q below (λ i m. h i (inr m)) p r l)
+put_below system value (item ∷ items) z q below h p r l = by (names item p r) refl
+    (put_below system value items z q below (λ i m. h i (inr m)) p r l)
   where
     by : (b : Bool) → names item p r ≡ b → put value items z p r ≤ᴱ q p r → (if b then value item else put value items z p r) ≤ᴱ q p r
     by true e rest =
@@ -79,7 +85,8 @@ pub put_above : (system : Equations) (value : Item → Ext) (items : List Item) 
     ((item : Item) → In items item → q item.point item.row ≤ᴱ value item) → Below system q (put value items z)
 unfolding put
 put_above system value [] z q below h p r l = below p r l
-put_above system value (item ∷ items) z q below h p r l = by (names item p r) refl (put_above system value items z q below (λ i m. h i (inr m)) p r l)
+put_above system value (item ∷ items) z q below h p r l = by (names item p r) refl
+    (put_above system value items z q below (λ i m. h i (inr m)) p r l)
   where
     by : (b : Bool) → names item p r ≡ b → q p r ≤ᴱ put value items z p r → q p r ≤ᴱ (if b then value item else put value items z p r)
     by true e rest =
@@ -97,12 +104,15 @@ below_trans system x y z h i p r l = ≤ᴱ_trans (x p r) (y p r) (z p r) (h p r
 
 -- a state that fits a vector fits a greater one
 fits_below : (system : Equations) (z q : Vector) (p : ℕ) (x : RationalState) → Below system z q → Fits system z p x → Fits system q p x
-fits_below system z q p x below h r row e = ≤ᴱ_trans (fin (dotℚ row x)) (z p r) (q p r) (h r row e) (below p r (slice_get_within system.template r row e))
+fits_below system z q p x below h r row e = ≤ᴱ_trans (fin (dotℚ row x)) (z p r) (q p r) (h r row e)
+    (below p r (slice_get_within system.template r row e))
 
 -- a word that runs at a vector runs at a greater one
-pub runs_below : (system : Equations) (z q : Vector) (edge : Edge) (w : Word) → Below system z q → Runs system z edge w → Runs system q edge w
+pub runs_below : (system : Equations) (z q : Vector) (edge : Edge) (w : Word) → Below system z q → Runs system z edge w
+    → Runs system q edge w
 runs_below system z q edge w below h = record { passes = h.passes; fits = fits_below system z q edge.from _ below h.fits }
 
 -- an upper bound at a vector is one at a smaller vector
-pub upper_below : (system : Equations) (z q : Vector) (edge : Edge) (row : List ℤ) (number : Ext) → Below system z q → Upper system q edge row number → Upper system z edge row number
+pub upper_below : (system : Equations) (z q : Vector) (edge : Edge) (row : List ℤ) (number : Ext) → Below system z q
+    → Upper system q edge row number → Upper system z edge row number
 upper_below system z q edge row number below upper w runs = upper w (runs_below system z q edge w below runs)

@@ -11,8 +11,10 @@ use Rattle.flow_edges.specs.declared.edge.Edge.{Edge}
 use Rattle.flow_systems.specs.Equations.{Equations, Vector, Fits, Least}
 use Rattle.flow_systems.specs.States.{RationalState, dotℚ}
 use Rattle.theory_validity.specs.Words.{lin, start_form, end_form, start_of}
-use Rattle.theory_validity.specs.Steps.{word, Item, Runs, Unnamed, row_of, after_step, Plain, Ray, Step, Placed, PlainItem, RayItem, ValidStep, start_vector}
-use Rattle.theory_validity.specs.Certificates.{Bound, Empty, Unreached, after_steps, Certificate, bounds_vector, needs, AllPass, NotFinite, BoundPasses, EmptyPasses, combination, PointsInRange}
+use Rattle.theory_validity.specs.Steps.{word, Item, Runs, Unnamed, row_of, after_step, Plain, Ray, Step, Placed, PlainItem, RayItem}
+use Rattle.theory_validity.specs.Steps.{ValidStep, start_vector}
+use Rattle.theory_validity.specs.Certificates.{Bound, Empty, Unreached, after_steps, Certificate, bounds_vector, needs, AllPass, NotFinite}
+use Rattle.theory_validity.specs.Certificates.{BoundPasses, EmptyPasses, combination, PointsInRange}
 use Rattle.theory_validity.proofs.certificates.Needs.{in_of_contains}
 use Rattle.theory_validity.proofs.steps.CertificateLaw.{certificate_least}
 use Rattle.theory_validity.proofs.certificates.Example.{opened, one, two}
@@ -33,13 +35,37 @@ abbrev system : Equations
 system = record { variables = 1; points = 3; edges = enter ∷ again ∷ never ∷ idle ∷ []; template = (pos 1 ∷ []) ∷ (negsuc 0 ∷ []) ∷ [] }
 
 abbrev up : Item
-up = record { point = 1; row = 0; edge = 0; low = record { start = whole (pos 5) ∷ []; free = [] }; second = record { start = []; free = [] }; number = whole (pos 0) }
+up = record {
+  point = 1;
+  row = 0;
+  edge = 0;
+  low = record { start = whole (pos 5) ∷ []; free = [] };
+  second =
+      record { start = []; free = [] };
+  number = whole (pos 0);
+}
 
 abbrev down : Item
-down = record { point = 1; row = 1; edge = 0; low = record { start = whole (pos 5) ∷ []; free = [] }; second = record { start = []; free = [] }; number = whole (pos 0) }
+down = record {
+  point = 1;
+  row = 1;
+  edge = 0;
+  low = record { start = whole (pos 5) ∷ []; free = [] };
+  second =
+      record { start = []; free = [] };
+  number = whole (pos 0);
+}
 
 abbrev away : Item
-away = record { point = 1; row = 0; edge = 1; low = record { start = whole (pos 0) ∷ []; free = [] }; second = record { start = whole (pos 1) ∷ []; free = [] }; number = whole (pos 1) }
+away = record {
+  point = 1;
+  row = 0;
+  edge = 1;
+  low = record { start = whole (pos 0) ∷ []; free = [] };
+  second =
+      record { start = whole (pos 1) ∷ []; free = [] };
+  number = whole (pos 1);
+}
 
 abbrev first : Step
 first = record { kind = Plain; items = up ∷ down ∷ [] }
@@ -47,7 +73,8 @@ first = record { kind = Plain; items = up ∷ down ∷ [] }
 abbrev second_step : Step
 second_step = record { kind = Ray; items = away ∷ [] }
 
-fits_both : (v : Vector) (p : ℕ) (x : RationalState) → fin (dotℚ (pos 1 ∷ []) x) ≤ᴱ v p 0 → fin (dotℚ (negsuc 0 ∷ []) x) ≤ᴱ v p 1 → Fits system v p x
+fits_both : (v : Vector) (p : ℕ) (x : RationalState) → fin (dotℚ (pos 1 ∷ []) x) ≤ᴱ v p 0 → fin (dotℚ (negsuc 0 ∷ []) x) ≤ᴱ v p 1
+    → Fits system v p x
 fits_both v p x a b zero row e = subst (λ s. fin (dotℚ s x) ≤ᴱ v p 0) (same_Some (pos 1 ∷ []) row e) a
 fits_both v p x a b (suc zero) row e = subst (λ s. fin (dotℚ s x) ≤ᴱ v p 1) (same_Some (negsuc 0 ∷ []) row e) b
 fits_both v p x a b (suc (suc r)) row e = cc
@@ -57,16 +84,37 @@ unfolding opened
 first_valid = record { distinct = ((refl, tt), (tt, tt)); placed = placed; valid = valid }
   where
     placed : (item : Item) → In (up ∷ (down ∷ [])) item → Placed system item
-    placed item (inl e) = subst (Placed system) e (record { later = omega arith; point_within = omega arith; row_within = omega arith; edge_within = omega arith; into = refl })
-    placed item (inr (inl e)) = subst (Placed system) e (record { later = omega arith; point_within = omega arith; row_within = omega arith; edge_within = omega arith; into = refl })
+    placed item (inl e) = subst (Placed system) e (record {
+      later = omega arith;
+      point_within = omega arith;
+      row_within =
+          omega arith;
+      edge_within = omega arith;
+      into = refl;
+    })
+    placed item (inr (inl e)) = subst (Placed system) e (record {
+      later = omega arith;
+      point_within = omega arith;
+      row_within =
+          omega arith;
+      edge_within = omega arith;
+      into = refl;
+    })
     placed item (inr (inr m)) = absurd m
 
     runs : Runs system start_vector enter (whole (pos 5) ∷ [])
     runs = record { passes = record { all = tt }; fits = fits_both start_vector 0 (start_of 1 (whole (pos 5) ∷ [])) tt tt }
 
     valid : (item : Item) → In (up ∷ (down ∷ [])) item → PlainItem system start_vector item
-    valid item (inl e) = subst (PlainItem system start_vector) e (record { size = (refl, refl); runs = runs; above = tt; reached = record { le = tt } })
-    valid item (inr (inl e)) = subst (PlainItem system start_vector) e (record { size = (refl, refl); runs = runs; above = tt; reached = record { le = tt } })
+    valid item (inl e) = subst (PlainItem system start_vector) e (record {
+      size = (refl, refl);
+      runs = runs;
+      above = tt;
+      reached =
+          record { le = tt };
+    })
+    valid item (inr (inl e)) = subst (PlainItem system start_vector) e
+        (record { size = (refl, refl); runs = runs; above = tt; reached = record { le = tt } })
     valid item (inr (inr m)) = absurd m
 
 second_valid : ValidStep system (after_step first start_vector) second_step
@@ -74,16 +122,26 @@ unfolding opened
 second_valid = record { distinct = (tt, tt); placed = placed; valid = valid }
   where
     placed : (item : Item) → In (away ∷ []) item → Placed system item
-    placed item (inl e) = subst (Placed system) e (record { later = omega arith; point_within = omega arith; row_within = omega arith; edge_within = omega arith; into = refl })
+    placed item (inl e) = subst (Placed system) e (record {
+      later = omega arith;
+      point_within = omega arith;
+      row_within =
+          omega arith;
+      edge_within = omega arith;
+      into = refl;
+    })
     placed item (inr m) = absurd m
 
-    named : (other : Item) → In (away ∷ []) other → other.point ≡ 1 → lin (start_form 1 (row_of system other)) (word away.second) ≤ℚ other.number
+    named : (other : Item) → In (away ∷ []) other → other.point ≡ 1 → lin (start_form 1 (row_of system other)) (word away.second) ≤ℚ
+        other.number
     named other (inl e) f = subst (λ o. lin (start_form 1 (row_of system o)) (word away.second) ≤ℚ o.number) e (record { le = tt })
     named other (inr m) f = absurd m
 
-    others : (r : ℕ) (row : List ℤ) (bound : ℚ) → slice_get system.template r ≡ Some row → Unnamed (away ∷ []) 1 r → after_step first start_vector 1 r ≡ fin bound → lin (start_form 1 row) (word away.second) ≤ℚ zero_ℚ
+    others : (r : ℕ) (row : List ℤ) (bound : ℚ) → slice_get system.template r ≡ Some row → Unnamed (away ∷ []) 1 r
+        → after_step first start_vector 1 r ≡ fin bound → lin (start_form 1 row) (word away.second) ≤ℚ zero_ℚ
     others zero row bound e u f = cc (u.0)
-    others (suc zero) row bound e u f = subst (λ s. lin (start_form 1 s) (word away.second) ≤ℚ zero_ℚ) (same_Some (negsuc 0 ∷ []) row e) (record { le = tt })
+    others (suc zero) row bound e u f = subst (λ s. lin (start_form 1 s) (word away.second) ≤ℚ zero_ℚ) (same_Some (negsuc 0 ∷ []) row e)
+        (record { le = tt })
     others (suc (suc r)) row bound e u f = cc
 
     valid : (item : Item) → In (away ∷ []) item → RayItem system (after_step first start_vector) (away ∷ []) item
@@ -91,7 +149,11 @@ second_valid = record { distinct = (tt, tt); placed = placed; valid = valid }
       low_size = (refl, refl);
       direction_size = (refl, refl);
       below_top = tt;
-      low_runs = record { passes = record { all = tt }; fits = fits_both (after_step first start_vector) 1 (start_of 1 (whole (pos 0) ∷ [])) (record { le = tt }) (record { le = tt }) };
+      low_runs = record {
+        passes = record { all = tt };
+        fits = fits_both (after_step first start_vector) 1 (start_of 1 (whole (pos 0) ∷ []))
+            (record { le = tt }) (record { le = tt });
+      };
       low_above = record { lt = tt };
       rate = record { lt = tt };
       named = named;
@@ -107,7 +169,8 @@ certificate = record {
   steps = first ∷ second_step ∷ [];
   uppers =
       Bound (whole (pos 0) ∷ whole (pos 0) ∷ []) [] ∷ Bound (whole (pos 0) ∷ whole (pos 1) ∷ []) [] ∷
-      Empty (whole (pos 0) ∷ whole (pos 1) ∷ []) (whole (pos 1) ∷ []) ∷ Unreached 0 ∷ Empty (whole (pos 0) ∷ whole (pos 1) ∷ []) (whole (pos 1) ∷ []) ∷ Unreached 1 ∷ [];
+      Empty (whole (pos 0) ∷ whole (pos 1) ∷ []) (whole (pos 1) ∷ []) ∷ Unreached 0
+      ∷ Empty (whole (pos 0) ∷ whole (pos 1) ∷ []) (whole (pos 1) ∷ []) ∷ Unreached 1 ∷ [];
 }
 
 abbrev B : Vector
@@ -133,7 +196,8 @@ uppers =
       };
       limit = whole (pos 0);
       finite = refl;
-      same = one (λ k. get_or (combination system enter (whole (pos 0) ∷ whole (pos 0) ∷ []) []) k zero_ℚ ≡ get_or (end_form 1 enter.actions (negsuc 0 ∷ [])).coeffs k zero_ℚ) refl;
+      same = one (λ k. get_or (combination system enter (whole (pos 0) ∷ whole (pos 0) ∷ []) []) k zero_ℚ
+          ≡ get_or (end_form 1 enter.actions (negsuc 0 ∷ [])).coeffs k zero_ℚ) refl;
       small = record { le = tt };
     } in
     let goes : BoundPasses system B again (negsuc 0 ∷ []) (fin (whole (pos 0))) (whole (pos 0) ∷ whole (pos 1) ∷ []) [] = record {
@@ -142,11 +206,13 @@ uppers =
         guard_count = refl;
         rows_nonneg = (record { le = tt }, (record { le = tt }, tt));
         guards_nonneg = tt;
-        zero_where = two (λ r. NotFinite (B 1 r) → get_or (whole (pos 0) ∷ whole (pos 1) ∷ []) r zero_ℚ ≡ zero_ℚ) (λ n. refl) (λ n. absurd n);
+        zero_where = two (λ r. NotFinite (B 1 r) → get_or (whole (pos 0) ∷ whole (pos 1) ∷ []) r zero_ℚ ≡ zero_ℚ) (λ n. refl)
+            (λ n. absurd n);
       };
       limit = whole (pos 0);
       finite = refl;
-      same = one (λ k. get_or (combination system again (whole (pos 0) ∷ whole (pos 1) ∷ []) []) k zero_ℚ ≡ get_or (end_form 1 again.actions (negsuc 0 ∷ [])).coeffs k zero_ℚ) refl;
+      same = one (λ k. get_or (combination system again (whole (pos 0) ∷ whole (pos 1) ∷ []) []) k zero_ℚ
+          ≡ get_or (end_form 1 again.actions (negsuc 0 ∷ [])).coeffs k zero_ℚ) refl;
       small = record { le = tt };
     } in
     let none : EmptyPasses system B never (whole (pos 0) ∷ whole (pos 1) ∷ []) (whole (pos 1) ∷ []) = record {
@@ -155,7 +221,8 @@ uppers =
         guard_count = refl;
         rows_nonneg = (record { le = tt }, (record { le = tt }, tt));
         guards_nonneg = (record { le = tt }, tt);
-        zero_where = two (λ r. NotFinite (B 1 r) → get_or (whole (pos 0) ∷ whole (pos 1) ∷ []) r zero_ℚ ≡ zero_ℚ) (λ n. refl) (λ n. absurd n);
+        zero_where = two (λ r. NotFinite (B 1 r) → get_or (whole (pos 0) ∷ whole (pos 1) ∷ []) r zero_ℚ ≡ zero_ℚ) (λ n. refl)
+            (λ n. absurd n);
       };
       same = one (λ k. get_or (combination system never (whole (pos 0) ∷ whole (pos 1) ∷ []) (whole (pos 1) ∷ [])) k zero_ℚ ≡ zero_ℚ) refl;
       negative = record { lt = tt };
@@ -174,4 +241,10 @@ in_range = record { entry = omega arith; ends = λ edge c. by edge (in_of_contai
 
 -- the certificate is valid
 example : Least system B
-example = certificate_least system certificate in_range (record { size = refl; steps = (first_valid, (second_valid, tt)); final = final; uppers = uppers })
+example = certificate_least system certificate in_range (record {
+  size = refl;
+  steps = (first_valid, (second_valid, tt));
+  final =
+      final;
+  uppers = uppers;
+})

@@ -6,7 +6,8 @@ use Rattle.theory_validity.specs.Steps.{Below}
 
 -- every smaller number is exceeded by a transition into the unknown's point
 abbrev pub Shown : Equations → Vector → ℕ → ℕ → Type 0
-Shown system F p r = (row : List ℤ) (number : Ext) → slice_get system.template r ≡ Some row → number <ᴱ F p r → Exceeds system F p row number
+Shown system F p r = (row : List ℤ) (number : Ext) → slice_get system.template r ≡ Some row → number <ᴱ F p r
+    → Exceeds system F p row number
 
 -- at every greater vector each unknown outside the entry that is the same is shown
 abbrev pub StablyShown : Equations → Vector → Type 0

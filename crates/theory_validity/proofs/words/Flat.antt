@@ -4,7 +4,8 @@ use Rattle.std.specs.Prelude.{ℤ, slice_get, Some}
 use Rattle.std.proofs.lemmas.Option.{slice_get_within}
 use Rattle.base_numbers.specs.Rational.{ℚ, zero_ℚ, one_ℚ, ◌+ℚ◌, ◌-ℚ◌, ◌*ℚ◌, ◌≤ℚ◌, ◌<ℚ◌}
 use Rattle.base_numbers.specs.Extended.{Ext, neg_inf, fin, pos_inf, ◌≤ᴱ◌}
-use Rattle.base_numbers.proofs.rational.Laws.{≤ℚ_refl, ≤ℚ_trans, ≤ℚ_total, ≤ℚ_antisymm, *ℚ_pos, le_or_lt, le_of_lt_ℚ, le_of_not_lt_ℚ, lt_of_not_le_ℚ, zero_lt_one}
+use Rattle.base_numbers.proofs.rational.Laws.{≤ℚ_refl, ≤ℚ_trans, ≤ℚ_total, ≤ℚ_antisymm, *ℚ_pos, le_or_lt, le_of_lt_ℚ, le_of_not_lt_ℚ}
+use Rattle.base_numbers.proofs.rational.Laws.{lt_of_not_le_ℚ, zero_lt_one}
 use Rattle.base_numbers.proofs.tactics.Linear.{gap, gap_lt, ◌⊗◌}
 use Rattle.base_numbers.proofs.tactics.Linarith.{lin_false, le, lt, eq, ge0, gt0, reads_all}
 use Rattle.flow_systems.specs.States.{RationalState, dotℚ}
@@ -38,7 +39,8 @@ some_room a b x y h i k =
     )
   where
     positive : (t : ℚ) → Part a b y t → t ≤ℚ zero_ℚ → ⊥
-    positive t p l = lin_false (t ∷ a ∷ b ∷ y ∷ []) (ge0 (gap l ⊗ gap (≤ℚ_trans (le_of_lt_ℚ h) (le_of_lt_ℚ i))) ∷ eq p.times ∷ lt h ∷ []) (search reads_all depth 40) tt
+    positive t p l = lin_false (t ∷ a ∷ b ∷ y ∷ []) (ge0 (gap l ⊗ gap (≤ℚ_trans (le_of_lt_ℚ h) (le_of_lt_ℚ i))) ∷ eq p.times ∷ lt h ∷ [])
+        (search reads_all depth 40) tt
 
 -- at one row, with the bounds v before and u after
 row_room : (v u : Ext) (x y : ℚ) → fin x ≤ᴱ v → v ≤ᴱ u → (v ≡ u → fin y ≤ᴱ v) → Room (λ s. fin (mixed s x y) ≤ᴱ u)
@@ -70,8 +72,10 @@ rows_room : (rows : List (List ℤ)) (v u : ℕ → Ext) (x y : RationalState) �
 rows_room [] v u x y h i k = full (λ s j m r row e. cc)
 rows_room (first ∷ rows) v u x y h i k =
     let a = row_room (v 0) (u 0) (dotℚ first x) (dotℚ first y) (h 0 first refl) (i 0 first refl) (k 0 first refl) in
-    let b = rows_room rows (λ r. v (suc r)) (λ r. u (suc r)) x y (λ r row e. h (suc r) row e) (λ r row e. i (suc r) row e) (λ r row e. k (suc r) row e) in
-    let both = both_rooms {A = λ s. fin (mixed s (dotℚ first x) (dotℚ first y)) ≤ᴱ u 0} {B = λ s. (r : ℕ) (row : List ℤ) → slice_get rows r ≡ Some row → fin (mixed s (dotℚ row x) (dotℚ row y)) ≤ᴱ u (suc r)} a b in
+    let b = rows_room rows (λ r. v (suc r)) (λ r. u (suc r)) x y (λ r row e. h (suc r) row e) (λ r row e. i (suc r) row e)
+    (λ r row e. k (suc r) row e) in
+    let both = both_rooms {A = λ s. fin (mixed s (dotℚ first x) (dotℚ first y)) ≤ᴱ u 0}
+    {B = λ s. (r : ℕ) (row : List ℤ) → slice_get rows r ≡ Some row → fin (mixed s (dotℚ row x) (dotℚ row y)) ≤ᴱ u (suc r)} a b in
     (both.0, both.1, both.2, λ s j m. joined s (both.3 s j m).0 (both.3 s j m).1)
   where
     joined : (s : ℚ) → fin (mixed s (dotℚ first x) (dotℚ first y)) ≤ᴱ u 0 →
@@ -86,7 +90,8 @@ rows_room (first ∷ rows) v u x y h i k =
 -- a passing word that fits the old bounds where they are kept has at most the value that the new ones bound
 pub flat : (system : Equations) (d e : Vector) (edge : Edge) (row : List ℤ) (c : ℚ) (w0 w : Word) → Below system d e →
     Runs system d edge w0 → c ≤ℚ end_value system edge row w0 → Upper system e edge row (fin c) → Passes system.variables edge.actions w →
-    ((r : ℕ) (source : List ℤ) → slice_get system.template r ≡ Some source → d edge.from r ≡ e edge.from r → fin (dotℚ source (start_of system.variables w)) ≤ᴱ d edge.from r) →
+    ((r : ℕ) (source : List ℤ) → slice_get system.template r ≡ Some source → d edge.from r ≡ e edge.from r
+    → fin (dotℚ source (start_of system.variables w)) ≤ᴱ d edge.from r) →
     end_value system edge row w ≤ℚ c
 unfolding end_value
 flat system d e edge row c w0 w below runs reached upper passes kept =
@@ -97,8 +102,13 @@ flat system d e edge row c w0 w below runs reached upper passes kept =
     let fits : Fits system e edge.from (start_of n (mix t w0 w)) = λ r source f.
     subst (λ s. fin s ≤ᴱ e edge.from r) (sym (start-mix n source t w0 w)) (room.3 t (le_of_lt_ℚ room.1) (≤ℚ_refl t) r source f) in
     let between = subst (λ s. s ≤ℚ c) (end-mix n edge.actions row t w0 w)
-    (upper (mix t w0 w) (record { passes = passes_mix n edge.actions t w0 w (le_of_lt_ℚ room.1) room.2 runs.passes passes; fits = fits })) in
+    (upper (mix t w0 w) (record {
+      passes = passes_mix n edge.actions t w0 w (le_of_lt_ℚ room.1) room.2 runs.passes passes;
+      fits =
+          fits;
+    })) in
     le_of_not_lt_ℚ (λ l. over t room.1 room.2 _ _ reached between l)
   where
     over : (t : ℚ) → zero_ℚ <ℚ t → t ≤ℚ one_ℚ → (x y : ℚ) → c ≤ℚ x → (one_ℚ -ℚ t) *ℚ x +ℚ t *ℚ y ≤ℚ c → c <ℚ y → ⊥
-    over t h i x y k l m = lin_false (t ∷ c ∷ x ∷ y ∷ []) (gt0 (*ℚ_pos h (gap_lt m)) ∷ ge0 (gap i ⊗ gap k) ∷ le l ∷ []) (search reads_all depth 40) tt
+    over t h i x y k l m = lin_false (t ∷ c ∷ x ∷ y ∷ []) (gt0 (*ℚ_pos h (gap_lt m)) ∷ ge0 (gap i ⊗ gap k) ∷ le l ∷ [])
+        (search reads_all depth 40) tt

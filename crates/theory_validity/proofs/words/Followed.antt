@@ -15,22 +15,35 @@ use Rattle.theory_validity.proofs.words.Following.{follows_iff}
 use Rattle.theory_validity.proofs.words.Linearized.{falls_iff, end-slope}
 
 -- start values for the variables and a value for each free assignment make a word of the edge's width
-pub length-word : (n : ℕ) (actions : List Action) (start free : Word) → length start ≡ n → length free ≡ free_count actions → length (start ++ free) ≡ width n actions
+pub length-word : (n : ℕ) (actions : List Action) (start free : Word) → length start ≡ n → length free ≡ free_count actions
+    → length (start ++ free) ≡ width n actions
 unfolding width
 length-word n actions start free e f = omega (arith, length-append start free)
 
 -- such a word runs exactly where its start fits and the actions can be followed
-pub runs_iff : (system : Equations) (z : Vector) (edge : Edge) (start free : Word) → length start ≡ system.variables → length free ≡ free_count edge.actions →
+pub runs_iff : (system : Equations) (z : Vector) (edge : Edge) (start free : Word) → length start ≡ system.variables
+    → length free ≡ free_count edge.actions →
     Runs system z edge (start ++ free) ↔ (Fits system z edge.from start × ((y : RationalState) × Follows edge.actions start free y))
 runs_iff system z edge start free e f =
     let n = system.variables in
     let same = start_is n start free e in (
-      (λ h. (subst (Fits system z edge.from) same h.fits, (end_of n edge.actions (start ++ free), (follows_iff n edge.actions start free (end_of n edge.actions (start ++ free)) e).1 (f, h.passes, refl)))),
-      (λ h. record { passes = ((follows_iff n edge.actions start free h.1.0 e).0 h.1.1).1; fits = subst (Fits system z edge.from) (sym same) h.0 }),
+      (λ h. (
+        subst (Fits system z edge.from) same h.fits,
+        (
+          end_of n edge.actions (start ++ free),
+          (follows_iff n edge.actions start free (end_of n edge.actions (start ++ free)) e).1 (f, h.passes, refl),
+        ),
+      )),
+      (λ h. record {
+        passes = ((follows_iff n edge.actions start free h.1.0 e).0 h.1.1).1;
+        fits =
+            subst (Fits system z edge.from) (sym same) h.0;
+      }),
     )
 
 -- and its value is the row's where they lead
-pub end_value_is : (system : Equations) (edge : Edge) (row : List ℤ) (start free : Word) (y : RationalState) → length start ≡ system.variables → Follows edge.actions start free y →
+pub end_value_is : (system : Equations) (edge : Edge) (row : List ℤ) (start free : Word) (y : RationalState)
+    → length start ≡ system.variables → Follows edge.actions start free y →
     end_value system edge row (start ++ free) ≡ dotℚ row y
 unfolding end_value
 end_value_is system edge row start free y e h = ap (dotℚ row) (sym ((follows_iff system.variables edge.actions start free y e).0 h).2)
@@ -49,12 +62,15 @@ pub falls_followed : (n : ℕ) (actions : List Action) (start free : Word) → l
 falls_followed n actions start free e f = (
   (λ h. (
     end_of n (map linear_action actions) (start ++ free),
-    (follows_iff n (map linear_action actions) start free (end_of n (map linear_action actions) (start ++ free)) e).1 (f ∙ sym (free_count-linear actions), (falls_iff n actions (start ++ free)).0 h, refl),
+    (follows_iff n (map linear_action actions) start free (end_of n (map linear_action actions) (start ++ free)) e).1
+        (f ∙ sym (free_count-linear actions), (falls_iff n actions (start ++ free)).0 h, refl),
   )),
   (λ h. (falls_iff n actions (start ++ free)).1 ((follows_iff n (map linear_action actions) start free h.0 e).0 h.1).1),
 )
 
 -- and the linear part of a row's end form is the row's value where they lead
-pub end_slope_is : (n : ℕ) (actions : List Action) (row : List ℤ) (start free : Word) (y : RationalState) → length start ≡ n → Follows (map linear_action actions) start free y →
+pub end_slope_is : (n : ℕ) (actions : List Action) (row : List ℤ) (start free : Word) (y : RationalState) → length start ≡ n
+    → Follows (map linear_action actions) start free y →
     lin (end_form n actions row) (start ++ free) ≡ dotℚ row y
-end_slope_is n actions row start free y e h = end-slope n actions row (start ++ free) ∙ ap (dotℚ row) (sym ((follows_iff n (map linear_action actions) start free y e).0 h).2)
+end_slope_is n actions row start free y e h = end-slope n actions row (start ++ free)
+    ∙ ap (dotℚ row) (sym ((follows_iff n (map linear_action actions) start free y e).0 h).2)

@@ -9,7 +9,8 @@ use Rattle.lang_tree.specs.declared.form.Form.{Form}
 use Rattle.flow_edges.specs.declared.edge.Action.{Action}
 use Rattle.flow_edges.specs.declared.edge.Action.TheVariants.{Guard, Assign, Havoc}
 use Rattle.flow_systems.specs.States.{dotℚ}
-use Rattle.theory_validity.specs.Words.{Word, Affine, val, lin, shifted, column, columns, combined, composed, guards_from, ends_from, guard_forms, end_form, end_of, AllAtMost, AllFall, Passes, Falls}
+use Rattle.theory_validity.specs.Words.{Word, Affine, val, lin, shifted, column, columns, combined, composed, guards_from, ends_from}
+use Rattle.theory_validity.specs.Words.{guard_forms, end_form, end_of, AllAtMost, AllFall, Passes, Falls}
 use Rattle.flow_systems.specs.Constants.{linear_form, linear_action}
 use Rattle.theory_validity.proofs.words.WordLaws.{val-end_form}
 
@@ -57,23 +58,29 @@ flat-composed form fs =
 flat-set : (fs : List Affine) (var : ℕ) (f g : Affine) → g ≡ flat f → slice_set (map flat fs) var g ≡ map flat (slice_set fs var f)
 flat-set fs var f g e = ap (slice_set (map flat fs) var) e ∙ sym (map-set flat fs var f)
 
-flat-guards : (k : ℕ) (fs : List Affine) (actions : List Action) → guards_from k (map flat fs) (map linear_action actions) ≡ map flat (guards_from k fs actions)
+flat-guards : (k : ℕ) (fs : List Affine) (actions : List Action) → guards_from k (map flat fs) (map linear_action actions)
+    ≡ map flat (guards_from k fs actions)
 unfolding guards_from
 flat-guards k fs [] = refl
 flat-guards k fs (Guard form ∷ actions) = ap₂ (λ g gs. g ∷ gs) (flat-composed form fs) (flat-guards k fs actions)
 flat-guards k fs (Assign var form ∷ actions) =
-    ap (λ gs. guards_from k gs (map linear_action actions)) (flat-set fs var (composed form fs) (composed (linear_form form) (map flat fs)) (flat-composed form fs)) ∙ flat-guards k (slice_set fs var (composed form fs)) actions
+    ap (λ gs. guards_from k gs (map linear_action actions)) (flat-set fs var (composed form fs) (composed (linear_form form) (map flat fs))
+    (flat-composed form fs)) ∙ flat-guards k (slice_set fs var (composed form fs)) actions
 flat-guards k fs (Havoc var ∷ actions) =
-    ap (λ gs. guards_from (suc k) gs (map linear_action actions)) (flat-set fs var (column k) (column k) (sym (flat-column k))) ∙ flat-guards (suc k) (slice_set fs var (column k)) actions
+    ap (λ gs. guards_from (suc k) gs (map linear_action actions)) (flat-set fs var (column k) (column k) (sym (flat-column k)))
+    ∙ flat-guards (suc k) (slice_set fs var (column k)) actions
 
-flat-ends : (k : ℕ) (fs : List Affine) (actions : List Action) → ends_from k (map flat fs) (map linear_action actions) ≡ map flat (ends_from k fs actions)
+flat-ends : (k : ℕ) (fs : List Affine) (actions : List Action) → ends_from k (map flat fs) (map linear_action actions)
+    ≡ map flat (ends_from k fs actions)
 unfolding ends_from
 flat-ends k fs [] = refl
 flat-ends k fs (Guard form ∷ actions) = flat-ends k fs actions
 flat-ends k fs (Assign var form ∷ actions) =
-    ap (λ gs. ends_from k gs (map linear_action actions)) (flat-set fs var (composed form fs) (composed (linear_form form) (map flat fs)) (flat-composed form fs)) ∙ flat-ends k (slice_set fs var (composed form fs)) actions
+    ap (λ gs. ends_from k gs (map linear_action actions)) (flat-set fs var (composed form fs) (composed (linear_form form) (map flat fs))
+    (flat-composed form fs)) ∙ flat-ends k (slice_set fs var (composed form fs)) actions
 flat-ends k fs (Havoc var ∷ actions) =
-    ap (λ gs. ends_from (suc k) gs (map linear_action actions)) (flat-set fs var (column k) (column k) (sym (flat-column k))) ∙ flat-ends (suc k) (slice_set fs var (column k)) actions
+    ap (λ gs. ends_from (suc k) gs (map linear_action actions)) (flat-set fs var (column k) (column k) (sym (flat-column k)))
+    ∙ flat-ends (suc k) (slice_set fs var (column k)) actions
 
 falls_to : (gs : List Affine) (d : Word) → AllFall gs d ↔ AllAtMost (map flat gs) d
 falls_to [] d = ((λ h. tt), (λ h. tt))
@@ -93,9 +100,12 @@ falls_iff n actions d =
     )
 
 -- the linear part of a row's end form is the row's value where the direction ends
-pub end-slope : (n : ℕ) (actions : List Action) (row : List ℤ) (d : Word) → lin (end_form n actions row) d ≡ dotℚ row (end_of n (map linear_action actions) d)
+pub end-slope : (n : ℕ) (actions : List Action) (row : List ℤ) (d : Word)
+    → lin (end_form n actions row) d ≡ dotℚ row (end_of n (map linear_action actions) d)
 unfolding end_form
 end-slope n actions row d =
     sym (val-flat (end_form n actions row) d)
-    ∙ ap (λ f. val f d) (sym (flat-combined row (ends_from n (columns n) actions)) ∙ ap (combined row) (sym (flat-ends n (columns n) actions) ∙ ap (λ fs. ends_from n fs (map linear_action actions)) (flat-columns n)))
+    ∙ ap (λ f. val f d) (sym (flat-combined row (ends_from n (columns n) actions))
+    ∙ ap (combined row) (sym (flat-ends n (columns n) actions) ∙ ap (λ fs. ends_from n fs (map linear_action actions))
+    (flat-columns n)))
     ∙ val-end_form n (map linear_action actions) row d

@@ -8,7 +8,8 @@ use Rattle.base_numbers.proofs.rational.Laws.{+ℚ_idl, +ℚ_idr, *ℚ_idl, zero
 use Rattle.flow_edges.specs.declared.edge.Action.{Action}
 use Rattle.flow_edges.specs.declared.edge.Action.TheVariants.{Guard, Assign, Havoc}
 use Rattle.flow_systems.specs.States.{RationalState, valueℚ, Traces}
-use Rattle.theory_validity.specs.Words.{Word, Affine, val, shifted, column, columns, values, composed, guards_from, ends_from, free_count, guard_forms, start_of, end_of, AllAtMost, Passes}
+use Rattle.theory_validity.specs.Words.{Word, Affine, val, shifted, column, columns, values, composed, guards_from, ends_from, free_count}
+use Rattle.theory_validity.specs.Words.{guard_forms, start_of, end_of, AllAtMost, Passes}
 use Rattle.theory_validity.proofs.words.WordForms.{val-composed}
 
 -- ---- columns
@@ -29,7 +30,8 @@ val-column (x ∷ base) q rest = val-shifted (column (length base)) x (base ++ q
 values-shifted : (fs : List Affine) (x : ℚ) (w : Word) → values (map shifted fs) (x ∷ w) ≡ values fs w
 unfolding values
 values-shifted [] x w = refl
-values-shifted (f ∷ fs) x w = ap (λ s. s ∷ values (map shifted fs) (x ∷ w)) (val-shifted f x w) ∙ ap (λ s. val f w ∷ s) (values-shifted fs x w)
+values-shifted (f ∷ fs) x w = ap (λ s. s ∷ values (map shifted fs) (x ∷ w)) (val-shifted f x w)
+    ∙ ap (λ s. val f w ∷ s) (values-shifted fs x w)
 
 -- the start state of a word is its start values
 pub values-columns : (base rest : Word) → values (columns (length base)) (base ++ rest) ≡ base
@@ -55,7 +57,8 @@ unfolding start_of
 start_is n x free e = subst (λ k. values (columns k) (x ++ free) ≡ x) e (values-columns x free)
 
 -- ---- a word that passes is a trace
-pub values-set : (fs : List Affine) (var : ℕ) (f : Affine) (w : Word) → values (slice_set fs var f) w ≡ slice_set (values fs w) var (val f w)
+pub values-set : (fs : List Affine) (var : ℕ) (f : Affine) (w : Word) →
+    values (slice_set fs var f) w ≡ slice_set (values fs w) var (val f w)
 unfolding values
 values-set fs var f w = map-set (λ g. val g w) fs var f
 
@@ -84,9 +87,11 @@ trace_of_word n actions w h = trace_from actions n (columns n) w h.all
 -- the free values of a trace that goes on from a state of forms with these values, whatever comes after
 abbrev Frees : List Action → ℕ → List Affine → Word → RationalState → Type 0
 Frees actions k fs base y =
-    (free : Word) × (length free ≡ free_count actions) × AllAtMost (guards_from k fs actions) (base ++ free) × (y ≡ values (ends_from k fs actions) (base ++ free))
+    (free : Word) × (length free ≡ free_count actions) × AllAtMost (guards_from k fs actions) (base ++ free)
+    × (y ≡ values (ends_from k fs actions) (base ++ free))
 
-frees_from : (actions : List Action) (fs : List Affine) (base : Word) (x y : RationalState) → ((rest : Word) → values fs (base ++ rest) ≡ x) →
+frees_from : (actions : List Action) (fs : List Affine) (base : Word) (x y : RationalState) → ((rest : Word) → values fs (base ++ rest) ≡ x)
+    →
     Traces actions x y → Frees actions (length base) fs base y
 unfolding guards_from ends_from free_count
 frees_from [] fs base x y at h = ([], refl, tt, h ∙ sym (at []))
@@ -111,13 +116,16 @@ frees_from (Havoc var ∷ actions) fs base x y at h =
     let same = append_assoc base (q ∷ []) r.0 in (
       q ∷ r.0,
       ap suc r.1,
-      subst (λ j. AllAtMost (guards_from j next actions) (base ++ q ∷ r.0)) e (subst (λ w. AllAtMost (guards_from (length (base ++ q ∷ [])) next actions) w) same r.2),
-      subst (λ j. y ≡ values (ends_from j next actions) (base ++ q ∷ r.0)) e (subst (λ w. y ≡ values (ends_from (length (base ++ q ∷ [])) next actions) w) same r.3),
+      subst (λ j. AllAtMost (guards_from j next actions) (base ++ q ∷ r.0)) e
+          (subst (λ w. AllAtMost (guards_from (length (base ++ q ∷ [])) next actions) w) same r.2),
+      subst (λ j. y ≡ values (ends_from j next actions) (base ++ q ∷ r.0)) e
+          (subst (λ w. y ≡ values (ends_from (length (base ++ q ∷ [])) next actions) w) same r.3),
     )
 
 -- a trace from a state with n variables is a word that passes, with the same start, end and number of free values
 pub word_of_trace : (n : ℕ) (actions : List Action) (x y : RationalState) → length x ≡ n → Traces actions x y →
-    (free : Word) × (length free ≡ free_count actions) × Passes n actions (x ++ free) × (start_of n (x ++ free) ≡ x) × (end_of n actions (x ++ free) ≡ y)
+    (free : Word) × (length free ≡ free_count actions) × Passes n actions (x ++ free) × (start_of n (x ++ free) ≡ x)
+    × (end_of n actions (x ++ free) ≡ y)
 unfolding end_of guard_forms
 word_of_trace n actions x y e h =
     let r = frees_from actions (columns n) x x y (λ rest. subst (λ k. values (columns k) (x ++ rest) ≡ x) e (values-columns x rest)) h in (

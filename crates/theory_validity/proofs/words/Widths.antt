@@ -1,5 +1,6 @@
 -- A composed form has no column past a word's, so coefficients that are the same on those are the same.
-use Rattle.std.proofs.Common.{◌≡◌, ◌∙◌, ℕ, zero, suc, ◌+◌, ◌<◌, ◌≤◌, List, [], ◌∷◌, length, map, get_or, refl, sym, ap, subst, arith, le_trans}
+use Rattle.std.proofs.Common.{◌≡◌, ◌∙◌, ℕ, zero, suc, ◌+◌, ◌<◌, ◌≤◌, List, [], ◌∷◌, length, map, get_or, refl, sym, ap, subst, arith}
+use Rattle.std.proofs.Common.{le_trans}
 use Rattle.std.specs.Prelude.{ℤ, slice_set}
 use Rattle.std.proofs.Math.ListN.{get_or-eq_default}
 use native.Mathlib.Decide.{dec_lt}
@@ -12,7 +13,8 @@ use Rattle.flow_edges.specs.declared.edge.Action.{Action}
 use Rattle.flow_edges.specs.declared.edge.Action.TheVariants.{Guard, Assign, Havoc}
 use Rattle.flow_edges.specs.declared.edge.Edge.{Edge}
 use Rattle.flow_systems.specs.Equations.{Equations}
-use Rattle.theory_validity.specs.Words.{Affine, shifted, column, columns, combined, composed, guards_from, ends_from, free_count, width, guard_forms, start_form, end_form}
+use Rattle.theory_validity.specs.Words.{Affine, shifted, column, columns, combined, composed, guards_from, ends_from, free_count, width}
+use Rattle.theory_validity.specs.Words.{guard_forms, start_form, end_form}
 use Rattle.theory_validity.specs.Certificates.{coefficients, combination, SameColumns}
 
 -- forms of at most m coefficients
@@ -67,30 +69,36 @@ narrow_set m [] i f h n = tt
 narrow_set m (g ∷ fs) zero f h n = (h, n.1)
 narrow_set m (g ∷ fs) (suc i) f h n = (n.0, narrow_set m fs i f h n.1)
 
-narrow_guards : (k : ℕ) (fs : List Affine) (actions : List Action) → Narrow k fs → Narrow (k + free_count actions) (guards_from k fs actions)
+narrow_guards : (k : ℕ) (fs : List Affine) (actions : List Action) → Narrow k fs
+    → Narrow (k + free_count actions) (guards_from k fs actions)
 unfolding guards_from free_count
 narrow_guards k fs [] h = tt
 narrow_guards k fs (Guard form ∷ actions) h = (let r = narrow_composed k form fs h in omega arith, narrow_guards k fs actions h)
-narrow_guards k fs (Assign var form ∷ actions) h = narrow_guards k (slice_set fs var (composed form fs)) actions (narrow_set k fs var (composed form fs) (narrow_composed k form fs h) h)
+narrow_guards k fs (Assign var form ∷ actions) h = narrow_guards k (slice_set fs var (composed form fs)) actions
+    (narrow_set k fs var (composed form fs) (narrow_composed k form fs h) h)
 narrow_guards k fs (Havoc var ∷ actions) h =
     let e : suc k + free_count actions ≡ k + suc (free_count actions) = omega arith in
     subst (λ m. Narrow m (guards_from (suc k) (slice_set fs var (column k)) actions)) e
-    (narrow_guards (suc k) (slice_set fs var (column k)) actions (narrow_set (suc k) fs var (column k) (narrow_column k) (widen k (suc k) fs (omega arith) h)))
+    (narrow_guards (suc k) (slice_set fs var (column k)) actions (narrow_set (suc k) fs var (column k) (narrow_column k)
+    (widen k (suc k) fs (omega arith) h)))
 
 narrow_ends : (k : ℕ) (fs : List Affine) (actions : List Action) → Narrow k fs → Narrow (k + free_count actions) (ends_from k fs actions)
 unfolding ends_from free_count
 narrow_ends k fs [] h = widen k (k + 0) fs (omega arith) h
 narrow_ends k fs (Guard form ∷ actions) h = narrow_ends k fs actions h
-narrow_ends k fs (Assign var form ∷ actions) h = narrow_ends k (slice_set fs var (composed form fs)) actions (narrow_set k fs var (composed form fs) (narrow_composed k form fs h) h)
+narrow_ends k fs (Assign var form ∷ actions) h = narrow_ends k (slice_set fs var (composed form fs)) actions
+    (narrow_set k fs var (composed form fs) (narrow_composed k form fs h) h)
 narrow_ends k fs (Havoc var ∷ actions) h =
     let e : suc k + free_count actions ≡ k + suc (free_count actions) = omega arith in
     subst (λ m. Narrow m (ends_from (suc k) (slice_set fs var (column k)) actions)) e
-    (narrow_ends (suc k) (slice_set fs var (column k)) actions (narrow_set (suc k) fs var (column k) (narrow_column k) (widen k (suc k) fs (omega arith) h)))
+    (narrow_ends (suc k) (slice_set fs var (column k)) actions (narrow_set (suc k) fs var (column k) (narrow_column k)
+    (widen k (suc k) fs (omega arith) h)))
 
 -- a row's form at the end has at most a word's columns
 pub end_form_width : (n : ℕ) (actions : List Action) (row : List ℤ) → length (end_form n actions row).coeffs ≤ width n actions
 unfolding end_form width
-end_form_width n actions row = narrow_combined (n + free_count actions) row (ends_from n (columns n) actions) (narrow_ends n (columns n) actions (narrow_columns n))
+end_form_width n actions row = narrow_combined (n + free_count actions) row (ends_from n (columns n) actions)
+    (narrow_ends n (columns n) actions (narrow_columns n))
 
 -- so have the composed guards
 pub guard_forms_width : (n : ℕ) (actions : List Action) → Narrow (width n actions) (guard_forms n actions)
@@ -120,14 +128,17 @@ narrow_vec_mat m (y ∷ ys) (r ∷ rs) h =
     length-add_vec-le m (scale_vec y r) (vec_mat ys rs) (subst (λ k. k ≤ m) (sym (length-scale_vec y r)) h.0) (narrow_vec_mat m ys rs h.1)
 
 -- a combination has at most a word's columns
-pub combination_width : (system : Equations) (edge : Edge) (rows guards : List ℚ) → length (combination system edge rows guards) ≤ width system.variables edge.actions
+pub combination_width : (system : Equations) (edge : Edge) (rows guards : List ℚ)
+    → length (combination system edge rows guards) ≤ width system.variables edge.actions
 unfolding combination width guard_forms
 combination_width system edge rows guards =
     let n = system.variables in
     let m = n + free_count edge.actions in
-    length-add_vec-le m (vec_mat rows (coefficients (map (start_form n) system.template))) (vec_mat guards (coefficients (guards_from n (columns n) edge.actions)))
+    length-add_vec-le m (vec_mat rows (coefficients (map (start_form n) system.template)))
+    (vec_mat guards (coefficients (guards_from n (columns n) edge.actions)))
     (narrow_vec_mat m rows (coefficients (map (start_form n) system.template)) (narrow_starts n m system.template (omega arith)))
-    (narrow_vec_mat m guards (coefficients (guards_from n (columns n) edge.actions)) (narrow_coefficients m (guards_from n (columns n) edge.actions) (narrow_guards n (columns n) edge.actions (narrow_columns n))))
+    (narrow_vec_mat m guards (coefficients (guards_from n (columns n) edge.actions))
+    (narrow_coefficients m (guards_from n (columns n) edge.actions) (narrow_guards n (columns n) edge.actions (narrow_columns n))))
 
 -- coefficients that are the same column by column have the same products
 dot-zeros : (u w : List ℚ) → ((k : ℕ) → get_or u k zero_ℚ ≡ zero_ℚ) → dot u w ≡ zero_ℚ
@@ -142,7 +153,8 @@ unfolding dot
 dot_everywhere [] v w same = sym (dot-zeros v w (λ k. sym (same k)))
 dot_everywhere (x ∷ u) [] w same = dot-zeros (x ∷ u) w same
 dot_everywhere (x ∷ u) (y ∷ v) [] same = refl
-dot_everywhere (x ∷ u) (y ∷ v) (z ∷ w) same = ap (λ s. s *ℚ z +ℚ dot u w) (same 0) ∙ ap (λ s. y *ℚ z +ℚ s) (dot_everywhere u v w (λ k. same (suc k)))
+dot_everywhere (x ∷ u) (y ∷ v) (z ∷ w) same = ap (λ s. s *ℚ z +ℚ dot u w) (same 0)
+    ∙ ap (λ s. y *ℚ z +ℚ s) (dot_everywhere u v w (λ k. same (suc k)))
 
 -- coefficients that are the same on the columns have the same products
 pub dot_same : (columns : ℕ) (u v w : List ℚ) → length u ≤ columns → length v ≤ columns → SameColumns columns u v → dot u w ≡ dot v w

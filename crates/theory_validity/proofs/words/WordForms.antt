@@ -54,7 +54,8 @@ val-composed form fs w =
     ∙ ap (λ s. s +ℚ whole form.constant) (val-combined form.coeffs fs w)
 
 -- guards that pass at two words pass between them
-pub mix_pass : (gs : List Affine) (t : ℚ) (u v : Word) → zero_ℚ ≤ℚ t → t ≤ℚ one_ℚ → AllAtMost gs u → AllAtMost gs v → AllAtMost gs (mix t u v)
+pub mix_pass : (gs : List Affine) (t : ℚ) (u v : Word) → zero_ℚ ≤ℚ t → t ≤ℚ one_ℚ → AllAtMost gs u → AllAtMost gs v
+    → AllAtMost gs (mix t u v)
 mix_pass [] t u v h i p q = tt
 mix_pass (g ∷ gs) t u v h i p q = (
   subst (λ s. s ≤ℚ zero_ℚ) (sym (val-mix g t u v))

@@ -73,7 +73,8 @@ ends files request Write h = absurd h
 
 -- ---- and back
 
-accepted_with : (text bytes : List ℕ) (names : _) (body : _) (rows : _) (vector : _) → IsAcceptedWith text bytes names body rows vector → CheckEnd text bytes Done
+accepted_with : (text bytes : List ℕ) (names : _) (body : _) (rows : _) (vector : _) → IsAcceptedWith text bytes names body rows vector
+    → CheckEnd text bytes Done
 accepted_with text bytes names body rows vector a = (names, body, a.cert, a.valid, a.narrow)
 
 -- an ending by the exact meanings is one of the request
@@ -81,7 +82,8 @@ pub ends_by : (files : Option Contents) (request : Request) (s : Status) → pub
 ends_by files request s (public.too_long which e h) = subst (λ x. Ends files request x) (sym e) h
 ends_by files request s (public.analysed purpose a text rows e i h) =
     subst (λ r. Ends files r s) (sym e)
-    (question_end files (Analyse purpose a) (analysis_question exact purpose text rows a.policy a.improvements) s (λ x k. (text, rows, i, k)) h)
+    (question_end files (Analyse purpose a) (analysis_question exact purpose text rows a.policy a.improvements) s
+    (λ x k. (text, rows, i, k)) h)
 ends_by files request s (public.checked p c text bytes e i (public.program_refused cause f h)) =
     subst₂ (λ r x. Ends files r x) (sym e) (sym f) (text, bytes, i, h)
 ends_by files request s (public.checked p c text bytes e i (public.certificate_refused cause f h)) =
@@ -98,11 +100,14 @@ ends_by files request s (public.upgraded c bytes e i (public.rewritten written f
     subst₂ (λ r x. Ends files r x) (sym e) (sym f) (bytes, i, (written, u))
 ends_by files request s (public.claimed claims a text rows given e i c h) =
     subst (λ r. Ends files r s) (sym e)
-    (question_end files (Prove claims a) (claims_question exact text rows given a.policy a.improvements) s (λ x k. (text, rows, given, i, c, k)) h)
+    (question_end files (Prove claims a) (claims_question exact text rows given a.policy a.improvements) s
+    (λ x k. (text, rows, given, i, c, k)) h)
 ends_by files request s (public.traversed a text rows e i h) =
-    subst (λ r. Ends files r s) (sym e) (question_end files (Transitions a) (transitions_question exact text rows a.policy a.improvements) s (λ x k. (text, rows, i, k)) h)
+    subst (λ r. Ends files r s) (sym e) (question_end files (Transitions a) (transitions_question exact text rows a.policy a.improvements) s
+    (λ x k. (text, rows, i, k)) h)
 ends_by files request s (public.equated file text limit policy e i h) =
-    subst (λ r. Ends files r s) (sym e) (question_end files (Equations file limit policy) (equations_question exact text policy limit) s (λ x k. (text, i, k)) h)
+    subst (λ r. Ends files r s) (sym e) (question_end files (Equations file limit policy) (equations_question exact text policy limit) s
+    (λ x k. (text, i, k)) h)
 
 -- ---- what an answer says
 
@@ -115,7 +120,8 @@ spot_in files (Prove claims a) spot (text, rows, given, i, c, w) = public.wide_i
 spot_in files (Transitions a) spot (text, rows, i, w) = public.wide_in_transitions a text rows refl i w
 spot_in files (Equations file limit policy) spot (text, i, w) = public.wide_in_equations file text limit policy refl i w
 
-answer_to : (files : Option Contents) (words : List (List ℕ)) (o : Option Request) (status : Status) → request_of words ≡ o → IsAnswerToRequest files o status → IsAnswer exact files words status
+answer_to : (files : Option Contents) (words : List (List ℕ)) (o : Option Request) (status : Status) → request_of words ≡ o
+    → IsAnswerToRequest files o status → IsAnswer exact files words status
 answer_to files words None status e h = ⊎_elim (λ u. public.is_usage e u) (λ m. public.is_memory m) h
 answer_to files words (Some a) Done e h = public.is_ending a e (ends files a Done h)
 answer_to files words (Some a) (Refused cause) e h = public.is_ending a e (ends files a (Refused cause) h)
@@ -129,13 +135,16 @@ answer_to files words (Some a) Memory e h = public.is_memory refl
 answer_to files words (Some a) Write e h = public.is_unwritten a e refl (ends files a Done h)
 
 -- an answer to the request of the words is an answer to the words by the exact meanings
-pub answer : (files : Option Contents) (words : List (List ℕ)) (status : Status) → IsAnswerToRequest files (request_of words) status → IsAnswer exact files words status
+pub answer : (files : Option Contents) (words : List (List ℕ)) (status : Status) → IsAnswerToRequest files (request_of words) status
+    → IsAnswer exact files words status
 answer files words status h = answer_to files words (request_of words) status refl h
 
 -- ---- what is answered where an ending stands
 
-module _ (files : Option Contents) (words : List (List ℕ)) (request : Request) (asked : request_of words ≡ Some request) (told : Tells files request) where
-  answered_when : (wanted status : Status) → IsAnswerTo files request status → Ends files request wanted → Answers exact files words wanted status
+module _ (files : Option Contents) (words : List (List ℕ)) (request : Request) (asked : request_of words ≡ Some request)
+    (told : Tells files request) where
+  answered_when : (wanted status : Status) → IsAnswerTo files request status → Ends files request wanted
+      → Answers exact files words wanted status
   answered_when wanted Done h k = public.given (ends_once files request Done wanted told h k)
   answered_when wanted (Refused cause) h k = public.given (ends_once files request (Refused cause) wanted told h k)
   answered_when wanted Usage h k = absurd h
@@ -143,18 +152,23 @@ module _ (files : Option Contents) (words : List (List ℕ)) (request : Request)
   answered_when wanted (Read (TooLong which)) h k = public.given (ends_once files request (Read (TooLong which)) wanted told h k)
   answered_when wanted (Text cause) h k = public.given (ends_once files request (Text cause) wanted told h k)
   answered_when wanted (Wide spot) h k =
-      ⊎_elim (λ r. public.too_wide request asked spot refl (spot_in files request spot h) r) (λ e. public.given (sym e)) (spot_after files request wanted spot told k h)
+      ⊎_elim (λ r. public.too_wide request asked spot refl (spot_in files request spot h) r) (λ e. public.given (sym e))
+      (spot_after files request wanted spot told k h)
   answered_when wanted (Spent n) h k = public.given (ends_once files request (Spent n) wanted told h k)
   answered_when wanted Memory h k = public.no_memory refl
   answered_when wanted Write h k = public.unwritten refl (sym (ends_once files request Done wanted told h k))
 
-usage_answer : (files : Option Contents) (words : List (List ℕ)) (status : Status) → (status ≡ Usage) ⊎ (status ≡ Memory) → Answers exact files words Usage status
+usage_answer : (files : Option Contents) (words : List (List ℕ)) (status : Status) → (status ≡ Usage) ⊎ (status ≡ Memory)
+    → Answers exact files words Usage status
 usage_answer files words status h = ⊎_elim (λ u. public.given u) (λ m. public.no_memory m) h
 
 -- what an answer to the words, with what the output holds then, gives where an ending stands
-pub gives : (files : Option Contents) (words : List (List ℕ)) (status : Status) (held now : Option (List ℕ)) → IsAnswerToRequest files (request_of words) status
-    → ((request : Request) (wanted : Status) → request_of words ≡ Some request → Tells files request → Ends files request wanted → (wanted ≡ Done → ⊥) → now ≡ held)
-    → (request_of words ≡ None → now ≡ held) → (ending : Status) → WordsEnd exact files words ending → public.Gives exact files words ending status held now
+pub gives : (files : Option Contents) (words : List (List ℕ)) (status : Status) (held now : Option (List ℕ))
+    → IsAnswerToRequest files (request_of words) status
+    → ((request : Request) (wanted : Status) → request_of words ≡ Some request → Tells files request → Ends files request wanted
+    → (wanted ≡ Done → ⊥) → now ≡ held)
+    → (request_of words ≡ None → now ≡ held) → (ending : Status) → WordsEnd exact files words ending
+    → public.Gives exact files words ending status held now
 gives files words status held now h kept empty ending (public.unasked e u) =
     subst (λ x. public.Gives exact files words x status held now) (sym u)
     (record { answer = usage_answer files words status (subst (λ o. IsAnswerToRequest files o status) e h); unchanged = λ other. empty e })

@@ -40,7 +40,8 @@ few cert n = ⊎_elim (λ h. h) (λ h. absurd (n h)) (le_or_lt (values_of (named
     le_or_lt : (m k : ℕ) → (m ≤ k) ⊎ (k < m)
     le_or_lt m k = grind arith
 
-certificate : (text : List ℕ) (rows : Domain (List ℕ)) (policy : Policy) (limit : ℕ) (bytes : List ℕ) → IsCertificateOf text rows policy limit bytes → IsCertificate exact text rows policy limit bytes
+certificate : (text : List ℕ) (rows : Domain (List ℕ)) (policy : Policy) (limit : ℕ) (bytes : List ℕ)
+    → IsCertificateOf text rows policy limit bytes → IsCertificate exact text rows policy limit bytes
 certificate text rows policy limit bytes c = record {
   made = c;
   names = c.names;
@@ -51,7 +52,8 @@ certificate text rows policy limit bytes c = record {
   accepted = λ kept. record {
     cert = cert_with c.system c.solved;
     rows_are = c.system_for.template_is;
-    vector_is = bounds_are (system_with c.names c.body (cert_with c.system c.solved)) c.solved.bounds ∙ ap (λ t. vector_of (length t) c.solved.bounds) c.system_for.template_is;
+    vector_is = bounds_are (system_with c.names c.body (cert_with c.system c.solved)) c.solved.bounds
+        ∙ ap (λ t. vector_of (length t) c.solved.bounds) c.system_for.template_is;
     valid = c.accepted (few (cert_with c.system c.solved) (λ many. kept (c.names, c.body, c.ready.system.analysed, c.expands many)));
     narrow = c.narrow;
   };
@@ -76,13 +78,16 @@ summary seed loops bytes s = record {
   within = s.within;
   vector = s.vector;
   has_rounds = s.has_rounds;
-  least = subst (λ (q : Equations). Least q s.vector) (sym (equations_are generated_names (generated_body seed loops) (intervals_of 3) s.system s.system_for)) s.least;
+  least = subst (λ (q : Equations). Least q s.vector) (sym (equations_are generated_names (generated_body seed loops) (intervals_of 3)
+      s.system s.system_for)) s.least;
   summary = s.summary;
 }
 
-output_on : (files : Option Contents) (words : List (List ℕ)) (request : Request) (bytes : List ℕ) → request_of words ≡ Some request → IsReportOn files request bytes → IsOutput exact files words bytes
+output_on : (files : Option Contents) (words : List (List ℕ)) (request : Request) (bytes : List ℕ) → request_of words ≡ Some request
+    → IsReportOn files request bytes → IsOutput exact files words bytes
 output_on files words (Analyse Report a) bytes e (text, rows, i, r) = public.is_report a text rows e i r
-output_on files words (Analyse AsCertificate a) bytes e (text, rows, i, r) = public.is_certificate a text rows e i (certificate text rows a.policy a.improvements bytes r)
+output_on files words (Analyse AsCertificate a) bytes e (text, rows, i, r) =
+    public.is_certificate a text rows e i (certificate text rows a.policy a.improvements bytes r)
 output_on files words (Check p c) bytes e (text, given, i, r) = public.is_checked p c text given e i (checked text given bytes r)
 output_on files words (Bench seed loops) bytes e r = public.is_summary seed loops e (summary seed loops bytes r)
 output_on files words (Upgrade c) bytes e (given, i, u) = public.is_upgraded c given e i u
@@ -91,7 +96,8 @@ output_on files words (Transitions a) bytes e (text, rows, i, r) = public.is_rep
 output_on files words (Solve file limit policy) bytes e (text, i, v) = public.are_values file text limit policy e i v
 
 -- an output that holds one property gets another that follows from it
-pub gets : (P Q : List ℕ → Type 0) (status : Status) (held now : Option (List ℕ)) → ((bytes : List ℕ) → P bytes → Q bytes) → OutputHolds P status held now → OutputGets Q status held now
+pub gets : (P Q : List ℕ → Type 0) (status : Status) (held now : Option (List ℕ)) → ((bytes : List ℕ) → P bytes → Q bytes)
+    → OutputHolds P status held now → OutputGets Q status held now
 gets P Q Done held now f (bytes, p, appended) = public.gets_whole refl bytes (f bytes p) appended
 gets P Q (Refused cause) held now f o = public.gets_nothing (λ e. cc) (λ e. cc) o
 gets P Q Usage held now f o = public.gets_nothing (λ e. cc) (λ e. cc) o
@@ -104,21 +110,24 @@ gets P Q Memory held now f o =
 gets P Q Write held now f (bytes, n, p, appended) = public.gets_part (inl refl) bytes n (f bytes p) appended
 
 -- the output of a run is what the words get by the exact meanings
-pub output : (files : Option Contents) (words : List (List ℕ)) (status : Status) (held now : Option (List ℕ)) → OutputHolds (IsReportFor files words) status held now
+pub output : (files : Option Contents) (words : List (List ℕ)) (status : Status) (held now : Option (List ℕ))
+    → OutputHolds (IsReportFor files words) status held now
     → OutputGets (IsOutput exact files words) status held now
 output files words status held now o =
     gets (IsReportFor files words) (IsOutput exact files words) status held now (λ bytes r. output_on files words r.0 bytes r.1 r.2) o
 
 -- ---- the message
 
-rows_in : (files : Option Contents) (request : Request) (status : Status) (rows count : ℕ) → IsTold files → IsRowCountIn files request status rows → HasRows exact files request count → rows ≡ rows_of count status
+rows_in : (files : Option Contents) (request : Request) (status : Status) (rows count : ℕ) → IsTold files
+    → IsRowCountIn files request status rows → HasRows exact files request count → rows ≡ rows_of count status
 rows_in files request status rows count told h (public.template_rows purpose a text domain system e i is c) =
     subst (λ r. IsRowCountIn files r status rows) e h text domain system told i is ∙ sym (ap (λ n. rows_of n status) c)
 rows_in files request status rows count told h (public.certificate_rows p c bytes e has k) =
     subst (λ r. IsRowCountIn files r status rows) e h bytes k.cert told has k.spells ∙ sym (ap (λ n. rows_of n status) k.count_is)
 
 -- a message with the line and the row count of a run is a message to the words
-pub is_message : (files : Option Contents) (words : List (List ℕ)) (status : Status) (line rows : ℕ) → IsLine files words status line → IsRowCount files words status rows
+pub is_message : (files : Option Contents) (words : List (List ℕ)) (status : Status) (line rows : ℕ) → IsLine files words status line
+    → IsRowCount files words status rows
     → IsMessage exact files words status (message_of line rows status)
 is_message files words status line rows h k = record {
   line = line;
@@ -129,8 +138,11 @@ is_message files words status line rows h k = record {
 }
 
 -- a message of this line and these rows was put
-pub message_put : (files : Option Contents) (words : List (List ℕ)) (status : Status) (line rows : ℕ) (held now : Option (List ℕ)) (f f' s : ℕ) (taken taken_now : Option (List (List ℕ)))
-    → IsLine files words status line → IsRowCount files words status rows → GetsMessage status (message_of line rows status) held now f f' s → IsInOnePiece (message_of line rows status) taken taken_now
-    → (message : List ℕ) × IsMessage exact files words status message × GetsMessage status message held now f f' s × IsInOnePiece message taken taken_now
+pub message_put : (files : Option Contents) (words : List (List ℕ)) (status : Status) (line rows : ℕ) (held now : Option (List ℕ))
+    (f f' s : ℕ) (taken taken_now : Option (List (List ℕ)))
+    → IsLine files words status line → IsRowCount files words status rows → GetsMessage status (message_of line rows status) held now f f' s
+    → IsInOnePiece (message_of line rows status) taken taken_now
+    → (message : List ℕ) × IsMessage exact files words status message × GetsMessage status message held now f f' s
+    × IsInOnePiece message taken taken_now
 message_put files words status line rows held now f f' s taken taken_now h k e one =
     (message_of line rows status, is_message files words status line rows h k, e, one)

@@ -11,13 +11,15 @@ use Rattle.top_status.specs.declared.status.Status.{Status}
 use Rattle.top_status.specs.declared.status.Status.TheVariants.{Done, Memory, Write}
 
 -- a report that is put
-pub put_output : (P : List ℕ → Type 0) (bytes : List ℕ) (result : Status) (held now : Option (List ℕ)) (f f' : ℕ) → P bytes → PutsReport bytes result held now f f' → OutputHolds P result held now
+pub put_output : (P : List ℕ → Type 0) (bytes : List ℕ) (result : Status) (held now : Option (List ℕ)) (f f' : ℕ) → P bytes
+    → PutsReport bytes result held now f f' → OutputHolds P result held now
 put_output P bytes result held now f f' p (whole e a) = subst (λ s. OutputHolds P s held now) (sym e) (bytes, p, a)
 put_output P bytes result held now f f' p (failed e n a r) = subst (λ s. OutputHolds P s held now) (sym e) (bytes, n, p, a)
 put_output P bytes result held now f f' p (wanting e n a) = subst (λ s. OutputHolds P s held now) (sym e) (inr (bytes, n, p, a))
 
 -- only a put that failed is told
-pub put_rose : (bytes : List ℕ) (result : Status) (held now : Option (List ℕ)) (f f' : ℕ) → PutsReport bytes result held now f f' → result ≡ Write → Rose f f'
+pub put_rose : (bytes : List ℕ) (result : Status) (held now : Option (List ℕ)) (f f' : ℕ) → PutsReport bytes result held now f f'
+    → result ≡ Write → Rose f f'
 put_rose bytes result held now f f' (whole e a) w = absurd (done_write (sym e ∙ w))
   where
     done_write : Done ≡ Write → ⊥
@@ -29,7 +31,8 @@ put_rose bytes result held now f f' (wanting e n a) w = absurd (memory_write (sy
     memory_write e = cc
 
 -- a put report has no line and names no unknown
-pub put_line : (t bytes : List ℕ) (result : Status) (held now : Option (List ℕ)) (f f' : ℕ) → PutsReport bytes result held now f f' → 0 ≡ line_in t result
+pub put_line : (t bytes : List ℕ) (result : Status) (held now : Option (List ℕ)) (f f' : ℕ) → PutsReport bytes result held now f f'
+    → 0 ≡ line_in t result
 put_line t bytes result held now f f' (whole e a) = subst (λ s. 0 ≡ line_in t s) (sym e) refl
 put_line t bytes result held now f f' (failed e n a r) = subst (λ s. 0 ≡ line_in t s) (sym e) refl
 put_line t bytes result held now f f' (wanting e n a) = subst (λ s. 0 ≡ line_in t s) (sym e) refl

@@ -7,7 +7,8 @@ use Rattle.std.specs.Str.{bytes_eq}
 use Rattle.std.specs.Str.Parse.{digits_value}
 use Rattle.clap.specs.Words.{Kinds, Row, Text, fault_of, first_of, subcommand_of}
 use Rattle.ask_words.specs.CommandLine.{tmpl_app}
-use Rattle.ask_words.specs.Request.{analyse_in, analysis_in, bench_in, check_in, command_in, equations_in, improvements_in, policy_in, prove_in, request_of, transitions_in, unless_fault, upgrade_in}
+use Rattle.ask_words.specs.Request.{analyse_in, analysis_in, bench_in, check_in, command_in, equations_in, improvements_in, policy_in}
+use Rattle.ask_words.specs.Request.{prove_in, request_of, transitions_in, unless_fault, upgrade_in}
 use Rattle.ask_words.specs.Values.{domain_in, number_in}
 use Rattle.ask_words.specs.declared.request.Analysis.{Analysis}
 use Rattle.ask_words.specs.declared.request.Domain.{Domain}
@@ -24,7 +25,8 @@ none_some b e = cc
 same_some : {A : Type 0} (x y : A) → Some x ≡ Some y → x ≡ y
 same_some x y e = cc
 
-and_then_some : {A B : Type 0} (f : A → Option B) (o : Option A) (b : B) → option_and_then f o ≡ Some b → (a : A) × (o ≡ Some a) × (f a ≡ Some b)
+and_then_some : {A B : Type 0} (f : A → Option B) (o : Option A) (b : B) → option_and_then f o ≡ Some b
+    → (a : A) × (o ≡ Some a) × (f a ≡ Some b)
 and_then_some f None b e = absurd (none_some b e)
 and_then_some f (Some a) b e = (a, refl, e)
 
@@ -60,8 +62,11 @@ bounded least most v x y z e =
 
 number_bounds : (least most : ℕ) (text : Text) (n : ℕ) → number_in least most text ≡ Some n → (least ≤ n) × (n ≤ most)
 number_bounds least most text n e =
-    let v = if_value (nat_lt 0 (length text) && (nat_le (length text) 10 && (list_all is_ascii_digit text && (nat_le least (digits_value 10 text) && nat_le (digits_value 10 text) most)))) (digits_value 10 text) n e in
-    subst (λ m. (least ≤ m) × (m ≤ most)) v.1 (bounded least most (digits_value 10 text) (nat_lt 0 (length text)) (nat_le (length text) 10) (list_all is_ascii_digit text) v.0)
+    let v = if_value (nat_lt 0 (length text) && (nat_le (length text) 10
+    && (list_all is_ascii_digit text && (nat_le least (digits_value 10 text) && nat_le (digits_value 10 text) most))))
+    (digits_value 10 text) n e in
+    subst (λ m. (least ≤ m) × (m ≤ most)) v.1 (bounded least most (digits_value 10 text) (nat_lt 0 (length text)) (nat_le (length text) 10)
+    (list_all is_ascii_digit text) v.0)
 
 -- ---- the options of an analysis
 
@@ -69,7 +74,13 @@ rows_in : List Row → Option (Domain Text)
 rows_in given = domain_in (unwrap_or (first_of (codes "domain") given) (codes "intervals")) (first_of (codes "rows") given)
 
 with_policy : List Row → Text → Domain Text → ℕ → Option (Analysis Text)
-with_policy given program domain improvements = option_map (λ policy. record { program = program; domain = domain; improvements = improvements; policy = policy }) (policy_in given)
+with_policy given program domain improvements = option_map (λ policy. record {
+  program = program;
+  domain = domain;
+  improvements =
+      improvements;
+  policy = policy;
+}) (policy_in given)
 
 with_limit : List Row → Text → Domain Text → Option (Analysis Text)
 with_limit given program domain = option_and_then (with_policy given program domain) (improvements_in given)
@@ -86,7 +97,13 @@ analysis_bounds given a e =
     let program = and_then_some (with_domain given) (first_of (codes "program") given) a e in
     let domain = and_then_some (with_limit given program.0) (rows_in given) a program.2 in
     let improvements = and_then_some (with_policy given program.0 domain.0) (improvements_in given) a domain.2 in
-    let made : Policy → Analysis Text = λ policy. record { program = program.0; domain = domain.0; improvements = improvements.0; policy = policy } in
+    let made : Policy → Analysis Text = λ policy. record {
+      program = program.0;
+      domain = domain.0;
+      improvements = improvements.0;
+      policy =
+          policy;
+    } in
     let policy = map_some made (policy_in given) a improvements.2 in
     subst (λ (x : Analysis Text). x.improvements ≤ 1000000) policy.2
     (improvements_bound given improvements.0 improvements.1)
@@ -163,7 +180,8 @@ equations_range given r e =
     let policy = map_some made (policy_in given) r improvements.2 in
     subst (λ r. IsInRange r) policy.2 (improvements_bound given improvements.0 improvements.1)
 
-if_range : (b : Bool) (x y : Option (Request Text)) (r : Request Text) → (x ≡ Some r → IsInRange r) → (y ≡ Some r → IsInRange r) → (if b then x else y) ≡ Some r → IsInRange r
+if_range : (b : Bool) (x y : Option (Request Text)) (r : Request Text) → (x ≡ Some r → IsInRange r) → (y ≡ Some r → IsInRange r)
+    → (if b then x else y) ≡ Some r → IsInRange r
 if_range true x y r h k e = h e
 if_range false x y r h k e = k e
 
@@ -176,7 +194,8 @@ command_range (name, given) r e =
     (if_range (bytes_eq name (codes "upgrade")) (upgrade_in given) _ r (upgrade_range given r)
     (if_range (bytes_eq name (codes "prove")) (prove_in given) _ r (prove_range given r)
     (if_range (bytes_eq name (codes "transitions")) (transitions_in given) _ r (transitions_range given r)
-    (if_range (bytes_eq name (codes "equations")) (equations_in given) None r (equations_range given r) (λ h. absurd (none_some r h))))))))) e
+    (if_range (bytes_eq name (codes "equations")) (equations_in given) None r (equations_range given r) (λ h. absurd (none_some r h)))))))))
+    e
 
 unfaulted : (kinds : Kinds) (o : Option (Request Text)) (r : Request Text) → unless_fault kinds o ≡ Some r → o ≡ Some r
 unfaulted [] o r e = e
@@ -186,5 +205,6 @@ unfaulted (kind ∷ kinds) o r e = absurd (none_some r e)
 pub request_range : (words : List Text) (r : Request Text) → request_of words ≡ Some r → IsInRange r
 unfolding request_of
 request_range words r e =
-    let p = and_then_some command_in (subcommand_of tmpl_app words) r (unfaulted (fault_of tmpl_app words) (option_and_then command_in (subcommand_of tmpl_app words)) r e) in
+    let p = and_then_some command_in (subcommand_of tmpl_app words) r (unfaulted (fault_of tmpl_app words)
+    (option_and_then command_in (subcommand_of tmpl_app words)) r e) in
     command_range p.0 r p.2

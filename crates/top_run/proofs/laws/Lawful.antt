@@ -25,17 +25,22 @@ program_range : (variables : ℕ) (body : Statements) (rows : List (List ℤ)) �
 program_range variables body rows = record { entry = omega arith; ends = λ edge c. (ranges_law body edge c).to }
 
 -- the vector of an accepted certificate is the least one of its program
-pub accepted_least : (text bytes : List ℕ) (names : List (List ℕ)) (body : Statements) (rows : List (List ℤ)) (vector : Vector) → IsAcceptedWith text bytes names body rows vector
+pub accepted_least : (text bytes : List ℕ) (names : List (List ℕ)) (body : Statements) (rows : List (List ℤ)) (vector : Vector)
+    → IsAcceptedWith text bytes names body rows vector
     → Least (equations_of_program (length names) body rows) vector
 accepted_least text bytes names body rows vector a =
     let system = system_with names body a.cert in
-    let least : Least system (bounds_vector system a.cert.bounds) = certificate_least system (theirs a.cert) (program_range (length names) body a.cert.rows) a.valid.valid in
+    let least : Least system (bounds_vector system a.cert.bounds) = certificate_least system (theirs a.cert)
+    (program_range (length names) body a.cert.rows) a.valid.valid in
     subst (λ r. Least (equations_of_program (length names) body r) vector) a.rows_are (subst (λ v. Least system v) a.vector_is least)
 
 -- the text of the certificate that bytes spell
 pub one_upgrade : (bytes one other : List ℕ) → IsUpgradeOf bytes one → IsUpgradeOf bytes other → one ≡ other
-one_upgrade bytes one other h k = h.text ∙ ap (λ c. compact_text (cert_data c)) (one_reading bytes h.cert k.cert h.spells k.spells) ∙ sym k.text
+one_upgrade bytes one other h k = h.text ∙ ap (λ c. compact_text (cert_data c)) (one_reading bytes h.cert k.cert h.spells k.spells)
+    ∙ sym k.text
 
 -- a request over files that are told has one ending by the exact meanings
-pub one_ending : (files : Option Contents) (request : Request) (one other : Status) → public.Tells files request → public.Ends exact files request one → public.Ends exact files request other → one ≡ other
-one_ending files request one other told h k = ends_once files request one other told (ends_by files request one h) (ends_by files request other k)
+pub one_ending : (files : Option Contents) (request : Request) (one other : Status) → public.Tells files request
+    → public.Ends exact files request one → public.Ends exact files request other → one ≡ other
+one_ending files request one other told h k = ends_once files request one other told (ends_by files request one h)
+    (ends_by files request other k)

@@ -1,5 +1,6 @@
 -- A text is cut into lines behind each line feed.
-use Rattle.std.proofs.Common.{◌≡◌, ◌∙◌, ◌<◌, ◌≤◌, ◌+◌, ◌==◌, ℕ, suc, Bool, true, false, not, cond, List, [], ◌∷◌, length, take, drop, refl, sym, ap, ap₂, subst, if◌then◌else◌, None, Some, arith}
+use Rattle.std.proofs.Common.{◌≡◌, ◌∙◌, ◌<◌, ◌≤◌, ◌+◌, ◌==◌, ℕ, suc, Bool, true, false, not, cond, List, [], ◌∷◌, length, take, drop, refl}
+use Rattle.std.proofs.Common.{sym, ap, ap₂, subst, if◌then◌else◌, None, Some, arith}
 use Rattle.std.specs.Prelude.{nat_lt}
 use Rattle.std.specs.List.{position, position_or_len}
 use Rattle.std.proofs.lemmas.Bool.{ltb-true}
@@ -14,7 +15,8 @@ before text = position_or_len (λ byte. byte == 10) text
 abbrev CutAt : ℕ → List ℕ → Type 0
 CutAt n text = lines_of text ≡ take n text ∷ lines_of (drop n text)
 
-shifted : (n byte : ℕ) (rest : List ℕ) → (byte ∷ take (n + 1) rest) ∷ lines_of (drop (n + 1) rest) ≡ take (1 + n + 1) (byte ∷ rest) ∷ lines_of (drop (1 + n + 1) (byte ∷ rest))
+shifted : (n byte : ℕ) (rest : List ℕ) → (byte ∷ take (n + 1) rest) ∷ lines_of (drop (n + 1) rest)
+    ≡ take (1 + n + 1) (byte ∷ rest) ∷ lines_of (drop (1 + n + 1) (byte ∷ rest))
 shifted n byte rest = let e : suc (n + 1) ≡ 1 + n + 1 = omega arith in ap (λ k. take k (byte ∷ rest) ∷ lines_of (drop k (byte ∷ rest))) e
 
 by_test : (b : Bool) (byte : ℕ) (rest : List ℕ) → (before rest < length rest → CutAt (before rest + 1) rest)
@@ -48,13 +50,15 @@ no_place true k e = let f : ⊥ = cc in absurd f
 no_place false k e = refl
 
 -- the first line ends with the first line feed
-pub first_line : (text : List ℕ) (n : ℕ) → position (λ byte. byte == 10) text ≡ Some n → lines_of text ≡ take (n + 1) text ∷ lines_of (drop (n + 1) text)
+pub first_line : (text : List ℕ) (n : ℕ) → position (λ byte. byte == 10) text ≡ Some n
+    → lines_of text ≡ take (n + 1) text ∷ lines_of (drop (n + 1) text)
 first_line text n e =
     let p = some_place (nat_lt (before text) (length text)) (before text) n e in
     subst (λ m. CutAt (m + 1) text) p.1 (cut_behind text (ltb-true (before text) (length text) p.0))
 
 -- without one the whole text is a line
-pub last_line : (text : List ℕ) → 0 < length text → position (λ byte. byte == 10) text ≡ None → lines_of text ≡ take (length text) text ∷ lines_of (drop (length text) text)
+pub last_line : (text : List ℕ) → 0 < length text → position (λ byte. byte == 10) text ≡ None
+    → lines_of text ≡ take (length text) text ∷ lines_of (drop (length text) text)
 last_line text h e =
     one_line text h (not_less (before text) (length text) (no_place (nat_lt (before text) (length text)) (before text) e))
     ∙ ap₂ (λ line rest. line ∷ lines_of rest) (sym (take-length text)) (sym (drop_length text))

@@ -1,5 +1,6 @@
 -- A text that is put piece by piece.
-use Rattle.std.proofs.Common.{◌≡◌, ◌≤◌, ◌<◌, ◌+◌, ℕ, List, [], ◌∷◌, ◌++◌, Option, Some, None, length, take, min, refl, sym, ap, ◌∙◌, subst, arith, append_assoc, append-nil, length-append}
+use Rattle.std.proofs.Common.{◌≡◌, ◌≤◌, ◌<◌, ◌+◌, ℕ, List, [], ◌∷◌, ◌++◌, Option, Some, None, length, take, min, refl, sym, ap, ◌∙◌, subst}
+use Rattle.std.proofs.Common.{arith, append_assoc, append-nil, length-append}
 use Rattle.std.specs.Io.KnownBytes.{Appends}
 use Rattle.std.proofs.KnownBytes.{Appends-nil, Appends-trans}
 use Rattle.std.proofs.lemmas.List.{take-append-le, take_min}
@@ -38,13 +39,16 @@ one_more held now next f f' f'' s s' s'' text rest line others h cut appended ca
     }
 
 -- all of the text
-pub all_put : (held now : Option (List ℕ)) (f f' s s' : ℕ) (text rest : List ℕ) → HasPut held now f f' s s' text rest → rest ≡ [] → Appends held now text
+pub all_put : (held now : Option (List ℕ)) (f f' s s' : ℕ) (text rest : List ℕ) → HasPut held now f f' s s' text rest → rest ≡ []
+    → Appends held now text
 all_put held now f f' s s' text rest h none =
     subst (λ t. Appends held now t) (sym (h.whole ∙ ap (λ r. h.front ++ r) none ∙ append-nil h.front)) h.appended
 
-take_front : (n : ℕ) (front line others : List ℕ) → take (length front + min n (length line)) (front ++ (line ++ others)) ≡ front ++ take n line
+take_front : (n : ℕ) (front line others : List ℕ) → take (length front + min n (length line)) (front ++ (line ++ others))
+    ≡ front ++ take n line
 take_front n front line others =
-    take-append-add front (line ++ others) (min n (length line)) ∙ ap (λ t. front ++ t) (take-append-le (min n (length line)) line others (omega arith) ∙ take_min n line)
+    take-append-add front (line ++ others) (min n (length line)) ∙ ap (λ t. front ++ t)
+    (take-append-le (min n (length line)) line others (omega arith) ∙ take_min n line)
 
 -- a part of a piece is a part of the text
 pub part_put : (held now next : Option (List ℕ)) (f f' s s' : ℕ) (text rest line others : List ℕ) (n : ℕ)
@@ -53,7 +57,8 @@ pub part_put : (held now next : Option (List ℕ)) (f f' s s' : ℕ) (text rest 
 part_put held now next f f' s s' text rest line others n h cut part = (
   length h.front + min n (length line),
   subst (λ t. Appends held next t)
-      (sym (ap (λ t. take (length h.front + min n (length line)) t) (h.whole ∙ ap (λ r. h.front ++ r) cut) ∙ take_front n h.front line others))
+      (sym (ap (λ t. take (length h.front + min n (length line)) t) (h.whole ∙ ap (λ r. h.front ++ r) cut)
+      ∙ take_front n h.front line others))
       (Appends-trans held now next h.front (take n line) h.appended part),
 )
 
@@ -63,7 +68,8 @@ adds_nil : (taken : Option (List (List ℕ))) → AddsPieces taken taken []
 adds_nil None = tt
 adds_nil (Some old) = sym (append-nil old)
 
-adds_trans : (taken now next : Option (List (List ℕ))) (p q : List (List ℕ)) → AddsPieces taken now p → AddsPieces now next q → AddsPieces taken next (p ++ q)
+adds_trans : (taken now next : Option (List (List ℕ))) (p q : List (List ℕ)) → AddsPieces taken now p → AddsPieces now next q
+    → AddsPieces taken next (p ++ q)
 adds_trans None now next p q h k = tt
 adds_trans (Some old) None next p q h k = absurd h
 adds_trans (Some old) (Some mid) None p q h k = absurd k
@@ -87,7 +93,8 @@ pub none_taken : (taken : Option (List (List ℕ))) (text : List ℕ) → HasTak
 none_taken taken text = record { lines = []; cut = refl; added = adds_nil taken }
 
 -- a line that is put is taken as the next piece
-pub next_taken : (taken now next : Option (List (List ℕ))) (text rest line others : List ℕ) → HasTaken taken now text rest → lines_of rest ≡ line ∷ lines_of others → 0 < length line
+pub next_taken : (taken now next : Option (List (List ℕ))) (text rest line others : List ℕ) → HasTaken taken now text rest
+    → lines_of rest ≡ line ∷ lines_of others → 0 < length line
     → AddsPieces now next (as_pieces line) → HasTaken taken next text others
 next_taken taken now next text rest line others h cut some takes = record {
   lines = h.lines ++ (line ∷ []);
@@ -96,6 +103,7 @@ next_taken taken now next text rest line others h cut some takes = record {
 }
 
 -- where nothing is left, all lines of the text are taken
-pub all_taken : (taken now : Option (List (List ℕ))) (text rest : List ℕ) → HasTaken taken now text rest → rest ≡ [] → AddsPieces taken now (lines_of text)
+pub all_taken : (taken now : Option (List (List ℕ))) (text rest : List ℕ) → HasTaken taken now text rest → rest ≡ []
+    → AddsPieces taken now (lines_of text)
 all_taken taken now text rest h none =
     subst (λ ls. AddsPieces taken now ls) (sym (h.cut ∙ ap (λ r. h.lines ++ lines_of r) none ∙ append-nil h.lines)) h.added

@@ -45,7 +45,8 @@ pub(crate) fn load<S: Shelf>(
 ) -> Result<Inputs, Status>
     requires first { most_bytes first ≡ 65536 }
     ensures kept { S.files shelf.new ≡ S.files shelf.old }
-    ensures inputs { IfOk result (λ inputs. AreInputs (S.files shelf.old) (analysis_text analysis.entry) inputs.text.items (domain_of inputs.rows)) }
+    ensures inputs { IfOk result (λ inputs. AreInputs (S.files shelf.old) (analysis_text analysis.entry) inputs.text.items
+        (domain_of inputs.rows)) }
     ensures calm { IfOk result (λ _. S.faults shelf.new ≡ S.faults shelf.old) }
     ensures refused { (later : List NamedFile) → IfErr result (λ status. IsUnloaded (S.files shelf.old)
         ((first, analysis.entry.program.now) ∷ rows_before (domain_text analysis.entry.domain) later)

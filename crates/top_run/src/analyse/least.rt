@@ -8,9 +8,9 @@ ghost use Rattle.top_texts.specs.Short.{HasShortRows};
 ghost use Rattle.top_texts.specs.Parted.{domain_of};
 
 use super::inputs::{Inputs, load};
-use std::alloc::Global;
 use ask_words::{Analysis, Policy};
 use base_files::Shelf;
+use std::alloc::Global;
 use top_status::{Ending, Which, plain_ending};
 use top_texts::{LeastBounds, least_on};
 

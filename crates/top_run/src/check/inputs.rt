@@ -23,7 +23,8 @@ pub(crate) fn load<S: Shelf>(
     certificate: &str,
 ) -> Result<Inputs, Status>
     ensures kept { S.files shelf.new ≡ S.files shelf.old }
-    ensures inputs { IfOk result (λ inputs. AreChecked (S.files shelf.old) program.now certificate.now inputs.text.items inputs.bytes.items) }
+    ensures inputs { IfOk result (λ inputs. AreChecked (S.files shelf.old) program.now certificate.now inputs.text.items
+        inputs.bytes.items) }
     ensures refused { IfErr result (λ status. IsUnloaded (S.files shelf.old) (files_of (Check program.now certificate.now))
         (S.faults shelf.old) (S.faults shelf.new) (S.last_failed shelf.new) status) }
 {

@@ -20,11 +20,11 @@ ghost use Rattle.top_status.specs.CheckMessages.{
 
 use crate::message::Message;
 use crate::status::CertCause;
-use itoa::Buffer;
-use cert_checker::CheckFault;
-use flow_systems::{Part, Site, Spot};
-use cert_text::{Field, FormFault};
 use base_fractions::{Frac, Op};
+use cert_checker::CheckFault;
+use cert_text::{Field, FormFault};
+use flow_systems::{Part, Site, Spot};
+use itoa::Buffer;
 
 // Adds some words at the end.
 fn push_words(message: &mut Message, words: &[u8])

@@ -6,12 +6,12 @@ ghost use Rattle.top_status.specs.Messages.{auto_place, claim_place, equation_pl
 ghost use Rattle.top_status.specs.Messages.{place_of};
 
 use crate::status::{CertCause, Status, TextCause};
-use lang_meaning::ParseFault;
 use ask_claims::ClaimFault;
-use flow_transitions::AutoFault;
 use cert_checker::CheckFault;
-use flow_systems::Site;
 use flow_rationals::EquFault;
+use flow_systems::Site;
+use flow_transitions::AutoFault;
+use lang_meaning::ParseFault;
 use lang_tokens::{LexFault, line_of};
 
 // The place of a cause in its text.

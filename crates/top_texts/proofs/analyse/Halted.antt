@@ -18,18 +18,22 @@ use Rattle.ask_words.specs.declared.request.Purpose.TheVariants.{Report, Certifi
 use Rattle.top_texts.specs.declared.refusal.Refusal.TheVariants as refusal
 
 -- improvements that are spent run out
-pub runs_out : (system : System) (policy : Policy) (limit : ℕ) (bounds : List Extended) → IsSpent system (rule_of policy) limit bounds → RunsOut system policy limit
+pub runs_out : (system : System) (policy : Policy) (limit : ℕ) (bounds : List Extended) → IsSpent system (rule_of policy) limit bounds
+    → RunsOut system policy limit
 runs_out system Best limit bounds h = spent_law by_best MeantBest best_means system limit bounds h
 runs_out system First limit bounds h = spent_law by_first MeantFirst first_means system limit bounds h
 
-spot_has : (purpose : Purpose) (system : System) (policy : Policy) (limit : ℕ) (spot : Spot) → IsSpotOf system (rule_of policy) limit spot → HasSpot purpose system policy limit spot
+spot_has : (purpose : Purpose) (system : System) (policy : Policy) (limit : ℕ) (spot : Spot) → IsSpotOf system (rule_of policy) limit spot
+    → HasSpot purpose system policy limit spot
 spot_has Report system policy limit spot h = h
 spot_has Certificate system policy limit spot h = inl h
 
 -- a wide operation of the rounds halts the analysis
-pub halted_wide : (purpose : Purpose) (system : System) (policy : Policy) (limit : ℕ) (spot : Spot) → IsSpotOf system (rule_of policy) limit spot → IsHalted purpose system policy limit (refusal.Wide spot)
+pub halted_wide : (purpose : Purpose) (system : System) (policy : Policy) (limit : ℕ) (spot : Spot)
+    → IsSpotOf system (rule_of policy) limit spot → IsHalted purpose system policy limit (refusal.Wide spot)
 halted_wide purpose system policy limit spot h = spot_has purpose system policy limit spot h
 
 -- rounds that spend their limit halt the analysis
-pub halted_spent : (purpose : Purpose) (system : System) (policy : Policy) (limit : ℕ) (bounds : List Extended) → IsSpent system (rule_of policy) limit bounds → IsHalted purpose system policy limit (refusal.Spent limit)
+pub halted_spent : (purpose : Purpose) (system : System) (policy : Policy) (limit : ℕ) (bounds : List Extended)
+    → IsSpent system (rule_of policy) limit bounds → IsHalted purpose system policy limit (refusal.Spent limit)
 halted_spent purpose system policy limit bounds h = (runs_out system policy limit bounds h, refl)

@@ -1,5 +1,6 @@
 -- The certificate that rounds make can be checked, and only a wide operation stops its check.
-use Rattle.std.proofs.Common.{◌≡◌, ◌∙◌, ◌⊎◌, inl, inr, ℕ, ◌*◌, ◌≤◌, ◌<◌, ◌^◌, Bool, true, false, List, [], ◌∷◌, length, sym, ap, subst, arith, IsTrue}
+use Rattle.std.proofs.Common.{◌≡◌, ◌∙◌, ◌⊎◌, inl, inr, ℕ, ◌*◌, ◌≤◌, ◌<◌, ◌^◌, Bool, true, false, List, [], ◌∷◌, length, sym, ap, subst}
+use Rattle.std.proofs.Common.{arith, IsTrue}
 use Rattle.std.specs.Prelude.{Option, Some, None, ◌&&◌, nat_le}
 use Rattle.std.specs.List.{list_all}
 use Rattle.serde_json.specs.Written.{compact_text}
@@ -44,7 +45,8 @@ short_step count (Plain items) l h = grind arith
 short_step count (Jump items) l h = grind arith
 short_step count (Ray items) l h = grind arith
 
-short_steps : (count : ℕ) (steps : List Step) → count ≤ MOST_UNKNOWNS → IsTrue (list_all (has_most count) steps) → IsTrue (list_all is_short steps)
+short_steps : (count : ℕ) (steps : List Step) → count ≤ MOST_UNKNOWNS → IsTrue (list_all (has_most count) steps)
+    → IsTrue (list_all is_short steps)
 short_steps count [] l h = h
 short_steps count (step ∷ steps) l h =
     let a = both (has_most count step) _ h in
@@ -70,7 +72,8 @@ module _ (system : System) (solved : Solved) (cert : Cert) (same : cert ≡ cert
   -- each step of the certificate is short
   pub made_short : AreNumbered system solved.steps → IsTrue (list_all is_short cert.steps)
   made_short h =
-      subst (λ (c : Cert). IsTrue (list_all is_short c.steps)) (sym same) (short_steps (length system.flow.points * length system.template) solved.steps (unknowns_within system) h.short)
+      subst (λ (c : Cert). IsTrue (list_all is_short c.steps)) (sym same)
+      (short_steps (length system.flow.points * length system.template) solved.steps (unknowns_within system) h.short)
 
   -- the certificate can be written
   pub made_writable : IsShaped (cert_with system solved) → IsWritable cert
@@ -81,17 +84,22 @@ module _ (system : System) (solved : Solved) (cert : Cert) (same : cert ≡ cert
   some_none : (f : Fault) (o : Option Fault) → o ≡ Some f → o ≡ None → ⊥
   some_none f o h k = cc
 
-  stopped : (answer : _) → ValidCertificate (equations_of system) (made_certificate system solved) → IsStopped (equations_of system) (made_certificate system solved) answer → ⊥
+  stopped : (answer : _) → ValidCertificate (equations_of system) (made_certificate system solved)
+      → IsStopped (equations_of system) (made_certificate system solved) answer → ⊥
   stopped answer valid (f, e, stops) =
       some_none f (certificate_fault (equations_of system) (made_certificate system solved))
-      (stops_are_faults (equations_of system) (made_certificate system solved) f stops.stop) ((certificate_fault_none (equations_of system) (made_certificate system solved)).1 valid)
+      (stops_are_faults (equations_of system) (made_certificate system solved) f stops.stop)
+      ((certificate_fault_none (equations_of system) (made_certificate system solved)).1 valid)
 
-  module _ (policy : Policy) (limit : ℕ) (is : IsSolved system (rule_of policy) limit solved) (valid : ValidCertificate (equations_of system) (made_certificate system solved)) where
-    wide_spot : (spot : Spot) → IsCompositionSpot (equations_of system) spot ⊎ IsCheckSpot (equations_of system) (made_certificate system solved) spot → HasSpot AsCertificate system policy limit spot
+  module _ (policy : Policy) (limit : ℕ) (is : IsSolved system (rule_of policy) limit solved)
+      (valid : ValidCertificate (equations_of system) (made_certificate system solved)) where
+    wide_spot : (spot : Spot) → IsCompositionSpot (equations_of system) spot
+        ⊎ IsCheckSpot (equations_of system) (made_certificate system solved) spot → HasSpot AsCertificate system policy limit spot
     wide_spot spot (inl h) = inl (inl (h.round, (h.edge, h.site, h.wide)))
     wide_spot spot (inr h) = inr (record { solved = solved; is_solved = is; stop = h.stop })
 
-    halts : (r : Refusal) → IsUnaccepted (equations_of system) (made_certificate system solved) r → IsHalted AsCertificate system policy limit r
+    halts : (r : Refusal) → IsUnaccepted (equations_of system) (made_certificate system solved) r
+        → IsHalted AsCertificate system policy limit r
     halts (refusal.Text cause) h = absurd h
     halts (refusal.Certificate (Form fault)) h = absurd h
     halts (refusal.Certificate (Rows fault)) h = absurd h
@@ -106,7 +114,8 @@ module _ (system : System) (solved : Solved) (cert : Cert) (same : cert ≡ cert
     made_halts r h = halts r (subst (λ (c : Cert). IsUnaccepted (equations_of system) (theirs c) r) same h)
 
     -- a certificate of the rounds is spelled by its bytes, or has too many
-    pub made_certified : (bytes : List ℕ) → IsTrue (is_template system.template) → bytes ≡ compact_text (cert_data cert) → (IsWithin cert → SpellsCert bytes cert) → (IsBeyond cert → SpellsTooMany bytes) → NoneIsWide (equations_of system) (theirs cert)
+    pub made_certified : (bytes : List ℕ) → IsTrue (is_template system.template) → bytes ≡ compact_text (cert_data cert)
+        → (IsWithin cert → SpellsCert bytes cert) → (IsBeyond cert → SpellsTooMany bytes) → NoneIsWide (equations_of system) (theirs cert)
         → Least (equations_of system) (vector_of (length system.template) solved.bounds) → IsRoundsCertificate system policy limit bytes
     made_certified bytes template written spells expands narrow least = record {
       solved = solved;

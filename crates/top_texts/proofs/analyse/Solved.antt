@@ -27,14 +27,16 @@ abbrev made_of : ℕ → ℕ → List Edge → List (List ℤ) → Equations
 made_of variables points edges template = record { variables = variables; points = points; edges = edges; template = template }
 
 -- a flow and a template as the system of a program
-pub same_equations : (names : List (List ℕ)) (body : Statements) (s : System) → s.flow.names ≡ names → s.flow.points ≡ points_of_program body → s.flow.edges ≡ edges_of_program body
+pub same_equations : (names : List (List ℕ)) (body : Statements) (s : System) → s.flow.names ≡ names
+    → s.flow.points ≡ points_of_program body → s.flow.edges ≡ edges_of_program body
     → equations_of s ≡ equations_of_program (length names) body s.template
 same_equations names body s n p e =
     ap (λ k. made_of k (length s.flow.points) s.flow.edges s.template) (ap length n)
     ∙ ap (λ k. made_of (length names) k s.flow.edges s.template) (ap length p ∙ (numbering body).count)
     ∙ ap (λ es. made_of (length names) (point_count body) es s.template) e
 
-text_of : (names : List (List ℕ)) (body : Statements) (template : List (List ℤ)) (ns : List (List ℕ)) (points : List Point) (v : Vector) (footer : Footer) (bytes : List ℕ)
+text_of : (names : List (List ℕ)) (body : Statements) (template : List (List ℤ)) (ns : List (List ℕ)) (points : List Point) (v : Vector)
+    (footer : Footer) (bytes : List ℕ)
     → ns ≡ names → points ≡ points_of_program body → bytes ≡ report_text ns points template v footer
     → bytes ≡ report_text names (points_of_program body) template v footer
 text_of names body template ns points v footer bytes n p h =
@@ -46,7 +48,8 @@ pub least_report : (names : List (List ℕ)) (body : Statements) (s : System) (v
     → s.flow.names ≡ names → s.flow.points ≡ points_of_program body → s.flow.edges ≡ edges_of_program body
     → Least (equations_of s) v → bytes ≡ report_of s v footer → IsLeastReport names body s.template v footer bytes
 least_report names body s v footer bytes n p e least text =
-    let moved : Least (equations_of_program (length names) body s.template) v = subst (λ q. Least q v) (same_equations names body s n p e) least in
+    let moved : Least (equations_of_program (length names) body s.template) v =
+    subst (λ q. Least q v) (same_equations names body s n p e) least in
     record {
       least = moved;
       holds = program_soundness (length names) body s.template v moved.solves.post;
@@ -58,7 +61,8 @@ least_report names body s v footer bytes n p e least text =
 and_true : (a b : Bool) → IsTrue a → IsTrue b → IsTrue (a && b)
 and_true a b h k = rw (h, k) refl
 
-rows_over : (n : ℕ) (rows others : List (List ℤ)) → width_of others ≡ n → IsTrue (list_all (λ row. is_row row && length row == width_of others) rows) → IsTrue (list_all (λ row. length row == n) rows)
+rows_over : (n : ℕ) (rows others : List (List ℤ)) → width_of others ≡ n
+    → IsTrue (list_all (λ row. is_row row && length row == width_of others) rows) → IsTrue (list_all (λ row. length row == n) rows)
 rows_over n [] others e h = h
 rows_over n (row ∷ rows) others e h =
     let t = both (is_row row && length row == width_of others) _ h in

@@ -18,9 +18,12 @@ use Rattle.top_status.specs.declared.status.TextCause.TheVariants.{Cells}
 use Rattle.top_texts.proofs.texts.Once.{equations_are}
 use Rattle.flow_systems.specs.declared.limits.TheConstants.{MOST_UNKNOWNS}
 
-module _ (text : List ℕ) (rows : Domain (List ℕ)) (names : List (List ℕ)) (body : Statements) (flow : Flow) (template : List (List ℤ)) (s : System)
-    (analysed : IsAnalysed text names body) (names_are : flow.names ≡ names) (points_are : flow.points ≡ points_of_program body) (edges_are : flow.edges ≡ edges_of_program body)
-    (given : HasTemplate rows names (Ok template)) (flow_is : s.flow ≡ flow) (template_is : s.template ≡ template) (within : length flow.points * length template ≤ MOST_UNKNOWNS) where
+module _ (text : List ℕ) (rows : Domain (List ℕ)) (names : List (List ℕ)) (body : Statements) (flow : Flow) (template : List (List ℤ))
+    (s : System)
+    (analysed : IsAnalysed text names body) (names_are : flow.names ≡ names) (points_are : flow.points ≡ points_of_program body)
+    (edges_are : flow.edges ≡ edges_of_program body)
+    (given : HasTemplate rows names (Ok template)) (flow_is : s.flow ≡ flow) (template_is : s.template ≡ template)
+    (within : length flow.points * length template ≤ MOST_UNKNOWNS) where
   -- the system is the one for the program and the template
   pub system_for : IsSystemFor names body template s
   system_for = record {
@@ -42,12 +45,18 @@ module _ (text : List ℕ) (rows : Domain (List ℕ)) (names : List (List ℕ)) 
     names = names;
     body = body;
     template = template;
-    ready = record { system = system_of; within = few; cells_within = subst (λ q. cells_of q ≤ 134217728) (equations_are names body template s system_for) h };
+    ready = record {
+      system = system_of;
+      within = few;
+      cells_within = subst (λ q. cells_of q ≤ 134217728)
+          (equations_are names body template s system_for) h;
+    };
     system_for = system_for;
   }
 
   -- a system with too many cells is refused by their number
-  pub too_many_cells : 134217728 < cells_of (equations_of s) → (r : Refusal) → r ≡ refusal.Text (Cells (cells_of (equations_of s))) → IsRefusedBy text rows r
+  pub too_many_cells : 134217728 < cells_of (equations_of s) → (r : Refusal) → r ≡ refusal.Text (Cells (cells_of (equations_of s)))
+      → IsRefusedBy text rows r
   too_many_cells h r e =
       let same = equations_are names body template s system_for in
       subst (λ x. IsRefusedBy text rows x) (sym e)

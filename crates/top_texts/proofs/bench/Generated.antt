@@ -54,7 +54,13 @@ module _ (law : GeneratedTextsRead) (seed loops : ℕ) (few : loops ≤ 46) wher
 
   cells_are : cells_of (generated_equations seed loops) ≡ cells_of (equations_of_program 3 (generated_body seed loops) (intervals_of 3))
   cells_are =
-      ap (λ k. cells_of (record { variables = 3; points = k; edges = edges_of_program (generated_body seed loops); template = intervals_of 3 }))
+      ap (λ k. cells_of (record {
+        variables = 3;
+        points = k;
+        edges = edges_of_program (generated_body seed loops);
+        template =
+            intervals_of 3;
+      }))
       (sym (law seed loops few).points ∙ (numbering (generated_body seed loops)).count)
 
   ready : IsReady (generated_text seed loops) Intervals generated_names (generated_body seed loops) (intervals_of 3)
@@ -69,14 +75,17 @@ module _ (law : GeneratedTextsRead) (seed loops : ℕ) (few : loops ≤ 46) wher
   -- the system of the text is that of the generated program
   pub generated : (system : System) → IsSolvedSystem (generated_text seed loops) Intervals system → IsGenerated seed loops system
   generated system is =
-      let same = program_once (generated_text seed loops) (is.names, is.body) (generated_names, generated_body seed loops) is.ready.system.analysed.reading reading in
-      let rows : is.template ≡ intervals_of 3 = same_rows is.template (intervals_of 3) (is.ready.system.template_is ∙ ap (λ (p : List (List ℕ) × Statements). given (Ok (intervals_of (length p.0)))) same) in
+      let same = program_once (generated_text seed loops) (is.names, is.body) (generated_names, generated_body seed loops)
+      is.ready.system.analysed.reading reading in
+      let rows : is.template ≡ intervals_of 3 = same_rows is.template (intervals_of 3)
+      (is.ready.system.template_is ∙ ap (λ (p : List (List ℕ) × Statements). given (Ok (intervals_of (length p.0)))) same) in
       subst (λ t. IsSystemFor generated_names (generated_body seed loops) t system) rows
       (subst (λ (p : List (List ℕ) × Statements). IsSystemFor p.0 p.1 is.template system) same is.system_for)
 
   -- and the text is refused by no cause
   unrefused : (cause : TextCause) → IsRefused (generated_text seed loops) Intervals cause → ⊥
-  unrefused cause h = ready_unrefused (generated_text seed loops) Intervals generated_names (generated_body seed loops) (intervals_of 3) cause h ready
+  unrefused cause h = ready_unrefused (generated_text seed loops) Intervals generated_names (generated_body seed loops) (intervals_of 3)
+      cause h ready
 
   -- the text of a generated program is refused by no cause
   pub unread : (r : Refusal) → IsRefusedBy (generated_text seed loops) Intervals r → IsUnanswered (bench_question exact seed loops) r
@@ -87,13 +96,16 @@ module _ (law : GeneratedTextsRead) (seed loops : ℕ) (few : loops ≤ 46) wher
   unread refusal.NoMemory h = tt
 
   -- rounds of a generated program that halt leave its question unanswered
-  pub unended : (system : System) (r : Refusal) → IsSolvedSystem (generated_text seed loops) Intervals system → IsHalted Report system Best 1000 r → IsUnanswered (bench_question exact seed loops) r
+  pub unended : (system : System) (r : Refusal) → IsSolvedSystem (generated_text seed loops) Intervals system
+      → IsHalted Report system Best 1000 r → IsUnanswered (bench_question exact seed loops) r
   unended system r is h = halted (bench_question exact seed loops) Report system (generated system is) (λ spot w. w) r h
 
   -- the summary of the rounds is that of the generated program
-  pub summed : (system : System) (solved : Solved) (count : ℕ) (bytes : List ℕ) → IsSolvedSystem (generated_text seed loops) Intervals system → IsSolved system (rule_of Best) 1000 solved
+  pub summed : (system : System) (solved : Solved) (count : ℕ) (bytes : List ℕ)
+      → IsSolvedSystem (generated_text seed loops) Intervals system → IsSolved system (rule_of Best) 1000 solved
       → Least (equations_of system) (vector_of (length system.template) solved.bounds) → count ≡ length (generated_text seed loops)
-      → bytes ≡ summary_of seed loops count system (vector_of (length system.template) solved.bounds) solved.improvements → IsSummaryOf seed loops bytes
+      → bytes ≡ summary_of seed loops count system (vector_of (length system.template) solved.bounds) solved.improvements
+      → IsSummaryOf seed loops bytes
   summed system solved count bytes is solution least size written =
       let made = generated system is in
       record {
@@ -103,6 +115,8 @@ module _ (law : GeneratedTextsRead) (seed loops : ℕ) (few : loops ≤ 46) wher
         within = solution.within;
         has_rounds = solved_rounds system Best 1000 solved solution;
         vector = vector_of (length system.template) solved.bounds;
-        least = subst (λ q. Least q (vector_of (length system.template) solved.bounds)) (equations_are generated_names (generated_body seed loops) (intervals_of 3) system made) least;
-        summary = subst (λ n. bytes ≡ summary_of seed loops n system (vector_of (length system.template) solved.bounds) solved.improvements) size written;
+        least = subst (λ q. Least q (vector_of (length system.template) solved.bounds))
+            (equations_are generated_names (generated_body seed loops) (intervals_of 3) system made) least;
+        summary = subst (λ n. bytes ≡ summary_of seed loops n system (vector_of (length system.template) solved.bounds) solved.improvements)
+            size written;
       }

@@ -25,12 +25,15 @@ unfolding bounds_vector
 bounds_are system bounds = refl
 
 -- the system of a program's flow and a certificate's rows
-pub system_is : (names : List (List ℕ)) (body : Statements) (cert : Cert) (s : System) → s.flow.names ≡ names → s.flow.points ≡ points_of_program body → s.flow.edges ≡ edges_of_program body
+pub system_is : (names : List (List ℕ)) (body : Statements) (cert : Cert) (s : System) → s.flow.names ≡ names
+    → s.flow.points ≡ points_of_program body → s.flow.edges ≡ edges_of_program body
     → s.template ≡ cert.rows → equations_of s ≡ system_with names body cert
 system_is names body cert s n p e t = same_equations names body s n p e ∙ ap (λ rows. equations_of_program (length names) body rows) t
 
-least_with : (names : List (List ℕ)) (body : Statements) (cert : Cert) (template : List (List ℤ)) (v : Vector) (bytes : List ℕ) → template ≡ cert.rows → v ≡ bounds_vector (system_with names body cert) cert.bounds
-    → IsLeastReport names body template v Accepted bytes → IsLeastReport names body cert.rows (bounds_vector (system_with names body cert) cert.bounds) Accepted bytes
+least_with : (names : List (List ℕ)) (body : Statements) (cert : Cert) (template : List (List ℤ)) (v : Vector) (bytes : List ℕ)
+    → template ≡ cert.rows → v ≡ bounds_vector (system_with names body cert) cert.bounds
+    → IsLeastReport names body template v Accepted bytes → IsLeastReport names body cert.rows
+    (bounds_vector (system_with names body cert) cert.bounds) Accepted bytes
 least_with names body cert template v bytes t e h =
     subst (λ w. IsLeastReport names body cert.rows w Accepted bytes) e (subst (λ rows. IsLeastReport names body rows v Accepted bytes) t h)
 
@@ -38,12 +41,14 @@ least_with names body cert template v bytes t e h =
 pub accepted_report : (names : List (List ℕ)) (body : Statements) (cert : Cert) (s : System) (bytes text given : List ℕ)
     → s.flow.names ≡ names → s.flow.points ≡ points_of_program body → s.flow.edges ≡ edges_of_program body → s.template ≡ cert.rows
     → FitsProgram names body cert → ValidCertificate (equations_of s) (theirs cert) → NoneIsWide (equations_of s) (theirs cert)
-    → Least (equations_of s) (bounds_vector (equations_of s) cert.bounds) → bytes ≡ report_of s (vector_of (length s.template) cert.bounds) Accepted
+    → Least (equations_of s) (bounds_vector (equations_of s) cert.bounds)
+    → bytes ≡ report_of s (vector_of (length s.template) cert.bounds) Accepted
     → IsSpelt text given names body cert → IsReportBy text given bytes
 accepted_report names body cert s bytes text given n p e t fits valid narrow least report spelt =
     let same : equations_of s ≡ system_with names body cert = system_is names body cert s n p e t in
     let shown : IsLeastReport names body s.template (vector_of (length s.template) cert.bounds) Accepted bytes =
-    least_report names body s (vector_of (length s.template) cert.bounds) Accepted bytes n p e (subst (λ v. Least (equations_of s) v) (bounds_are (equations_of s) cert.bounds) least) report in
+    least_report names body s (vector_of (length s.template) cert.bounds) Accepted bytes n p e
+    (subst (λ v. Least (equations_of s) v) (bounds_are (equations_of s) cert.bounds) least) report in
     record {
       names = names;
       body = body;

@@ -1,4 +1,5 @@
--- The text of a program and the bytes of a certificate have one ending, by stages: each stage has one cause to end, or goes on to the next. So have the
+-- The text of a program and the bytes of a certificate have one ending, by stages: each stage has one cause to end, or goes on to the next.
+-- So have the
 -- bytes of a certificate that is upgraded.
 use Rattle.std.proofs.Common.{◌≡◌, ◌≤◌, ◌<◌, ◌⊎◌, inl, inr, ⊎_elim, ℕ, List, [], true, false, refl, sym, ap, ap₂, ◌∙◌, subst, arith}
 use Rattle.std.specs.Prelude.{Bool, Option, Result, Ok, Err, Some, None, nat_lt, slice_get, length}
@@ -40,7 +41,8 @@ use Rattle.flow_systems.specs.declared.limits.TheConstants.{MOST_UNKNOWNS}
 -- ---- a fault of the form is the only one
 
 -- what a fault says of the value that the bytes spell
-form_view : (bytes : List ℕ) (f : FormFault) → IsFormFault bytes f → ((f ≡ NotJson) × ((d : Data) → Spells bytes d → ⊥)) ⊎ ((d : Data) × Spells bytes d × (cert_in d ≡ Err f))
+form_view : (bytes : List ℕ) (f : FormFault) → IsFormFault bytes f → ((f ≡ NotJson) × ((d : Data) → Spells bytes d → ⊥))
+    ⊎ ((d : Data) × Spells bytes d × (cert_in d ≡ Err f))
 form_view bytes NotJson h = inl (refl, h)
 form_view bytes (Shape field) h = inr h
 form_view bytes (Number field) h = inr h
@@ -66,12 +68,14 @@ no_cert f c e = cc
 form_fault_once : (bytes : List ℕ) (f g : FormFault) → IsFormFault bytes f → IsFormFault bytes g → f ≡ g
 form_fault_once bytes f g h k =
     ⊎_elim (λ a. ⊎_elim (λ b. a.0 ∙ sym b.0) (λ b. absurd (a.1 b.0 b.1)) (form_view bytes g k))
-    (λ a. ⊎_elim (λ b. absurd (b.1 a.0 a.1)) (λ b. same_fault f g (sym a.2 ∙ ap cert_in (same_data bytes a.0 b.0 a.1 b.1) ∙ b.2)) (form_view bytes g k))
+    (λ a. ⊎_elim (λ b. absurd (b.1 a.0 a.1)) (λ b. same_fault f g (sym a.2 ∙ ap cert_in (same_data bytes a.0 b.0 a.1 b.1) ∙ b.2))
+    (form_view bytes g k))
     (form_view bytes f h)
 
 not_spelt : (bytes : List ℕ) (f : FormFault) (c : Cert) → IsFormFault bytes f → SpellsCert bytes c → ⊥
 not_spelt bytes f c h s =
-    ⊎_elim (λ a. a.1 s.data_is s.spells) (λ a. no_cert f c (sym a.2 ∙ ap cert_in (same_data bytes a.0 s.data_is a.1 s.spells) ∙ s.reads)) (form_view bytes f h)
+    ⊎_elim (λ a. a.1 s.data_is s.spells) (λ a. no_cert f c (sym a.2 ∙ ap cert_in (same_data bytes a.0 s.data_is a.1 s.spells) ∙ s.reads))
+    (form_view bytes f h)
 
 -- ---- the last stage: rows, unknowns, composition, tests
 
@@ -102,26 +106,33 @@ last_ending names body cert =
     picked (slice_get (faults_of (length names) cert.rows) 0) (nat_lt MOST_UNKNOWNS (unknowns body cert.rows)) (unknowns body cert.rows)
     (wide_composition (system_with names body cert)) (first_stop (check_events (system_with names body cert) (theirs cert)))
 
-rows_picked : (f : RowFault) (o : Option RowFault) (m : Bool) (count : ℕ) (w : Option (ℕ × Operation)) (s : Option CheckFault) → o ≡ Some f → Certificate (Rows f) ≡ picked o m count w s
+rows_picked : (f : RowFault) (o : Option RowFault) (m : Bool) (count : ℕ) (w : Option (ℕ × Operation)) (s : Option CheckFault) → o ≡ Some f
+    → Certificate (Rows f) ≡ picked o m count w s
 rows_picked f o m count w s e = subst (λ o. Certificate (Rows f) ≡ picked o m count w s) (sym e) refl
 
-many_picked : (o : Option RowFault) (m : Bool) (count : ℕ) (w : Option (ℕ × Operation)) (s : Option CheckFault) → o ≡ None → m ≡ true → Certificate (Unknowns count) ≡ picked o m count w s
+many_picked : (o : Option RowFault) (m : Bool) (count : ℕ) (w : Option (ℕ × Operation)) (s : Option CheckFault) → o ≡ None → m ≡ true
+    → Certificate (Unknowns count) ≡ picked o m count w s
 many_picked o m count w s e h =
-    subst (λ o. Certificate (Unknowns count) ≡ picked o m count w s) (sym e) (subst (λ m. Certificate (Unknowns count) ≡ picked None m count w s) (sym h) refl)
+    subst (λ o. Certificate (Unknowns count) ≡ picked o m count w s) (sym e)
+    (subst (λ m. Certificate (Unknowns count) ≡ picked None m count w s) (sym h) refl)
 
-composed_picked : (x : ℕ × Operation) (o : Option RowFault) (m : Bool) (count : ℕ) (w : Option (ℕ × Operation)) (s : Option CheckFault) → o ≡ None → m ≡ false → w ≡ Some x
+composed_picked : (x : ℕ × Operation) (o : Option RowFault) (m : Bool) (count : ℕ) (w : Option (ℕ × Operation)) (s : Option CheckFault)
+    → o ≡ None → m ≡ false → w ≡ Some x
     → Wide (composition_spot x) ≡ picked o m count w s
 composed_picked x o m count w s e h k =
-    subst (λ o. Wide (composition_spot x) ≡ picked o m count w s) (sym e) (subst (λ m. Wide (composition_spot x) ≡ picked None m count w s) (sym h)
+    subst (λ o. Wide (composition_spot x) ≡ picked o m count w s) (sym e)
+    (subst (λ m. Wide (composition_spot x) ≡ picked None m count w s) (sym h)
     (subst (λ w. Wide (composition_spot x) ≡ picked None false count w s) (sym k) refl))
 
-stopped_picked : (f : CheckFault) (o : Option RowFault) (m : Bool) (count : ℕ) (w : Option (ℕ × Operation)) (s : Option CheckFault) → o ≡ None → m ≡ false → w ≡ None → s ≡ Some f
+stopped_picked : (f : CheckFault) (o : Option RowFault) (m : Bool) (count : ℕ) (w : Option (ℕ × Operation)) (s : Option CheckFault)
+    → o ≡ None → m ≡ false → w ≡ None → s ≡ Some f
     → stopped f ≡ picked o m count w s
 stopped_picked f o m count w s e h k i =
     subst (λ o. stopped f ≡ picked o m count w s) (sym e) (subst (λ m. stopped f ≡ picked None m count w s) (sym h)
     (subst (λ w. stopped f ≡ picked None false count w s) (sym k) (subst (λ s. stopped f ≡ picked None false count None s) (sym i) refl)))
 
-done_picked : (o : Option RowFault) (m : Bool) (count : ℕ) (w : Option (ℕ × Operation)) (s : Option CheckFault) → o ≡ None → m ≡ false → w ≡ None → s ≡ None → Done ≡ picked o m count w s
+done_picked : (o : Option RowFault) (m : Bool) (count : ℕ) (w : Option (ℕ × Operation)) (s : Option CheckFault) → o ≡ None → m ≡ false
+    → w ≡ None → s ≡ None → Done ≡ picked o m count w s
 done_picked o m count w s e h k i =
     subst (λ o. Done ≡ picked o m count w s) (sym e) (subst (λ m. Done ≡ picked None m count w s) (sym h)
     (subst (λ w. Done ≡ picked None false count w s) (sym k) (subst (λ s. Done ≡ picked None false count None s) (sym i) refl)))
@@ -145,7 +156,8 @@ fault_stopped (RayFault s k) = refl
 fault_stopped (FinalFault u) = refl
 fault_stopped (UpperFault u e) = refl
 
-spot_is : (spot : Spot) (edge : ℕ) → spot.round ≡ 0 → spot.site ≡ Compose edge → spot ≡ composition_spot (edge, operation_of (λ q. q) spot.wide)
+spot_is : (spot : Spot) (edge : ℕ) → spot.round ≡ 0 → spot.site ≡ Compose edge
+    → spot ≡ composition_spot (edge, operation_of (λ q. q) spot.wide)
 spot_is spot edge e h = ap₂ (λ r s. record { round = r; site = s; wide = spot.wide }) e h
 
 -- ---- the stages before
@@ -200,26 +212,33 @@ check_ends_once t bytes s u (program p h e) (program q k i) =
 
 -- ---- an ending by its cause is one by stages
 
-spelt_ends : (t bytes : List ℕ) (names : List (List ℕ)) (body : Statements) (cert : Cert) (s : Status) → IsAnalysed t names body → SpellsCert bytes cert → s ≡ last_ending names body cert → CheckEnds t bytes s
+spelt_ends : (t bytes : List ℕ) (names : List (List ℕ)) (body : Statements) (cert : Cert) (s : Status) → IsAnalysed t names body
+    → SpellsCert bytes cert → s ≡ last_ending names body cert → CheckEnds t bytes s
 spelt_ends t bytes names body cert s a c e = program (names, body) a.reading (fits a.within (spelt cert c e))
 
-wide_spot : (names : List (List ℕ)) (body : Statements) (cert : Cert) (spot : Spot) → faults_of (length names) cert.rows ≡ [] → unknowns body cert.rows ≤ MOST_UNKNOWNS
+wide_spot : (names : List (List ℕ)) (body : Statements) (cert : Cert) (spot : Spot) → faults_of (length names) cert.rows ≡ []
+    → unknowns body cert.rows ≤ MOST_UNKNOWNS
     → IsCompositionSpot (system_with names body cert) spot → Wide spot ≡ last_ending names body cert
 wide_spot names body cert spot r w h =
-    ap Wide (spot_is spot h.edge h.round h.site) ∙ composed_picked (h.edge, operation_of (λ q. q) spot.wide) _ _ _ _ _ (sound_rows _ r) (within _ w) h.wide
+    ap Wide (spot_is spot h.edge h.round h.site) ∙ composed_picked (h.edge, operation_of (λ q. q) spot.wide) _ _ _ _ _ (sound_rows _ r)
+    (within _ w) h.wide
 
 -- the ending of a check is an ending by stages
 pub check_staged : (t bytes : List ℕ) (s : Status) → CheckEnd t bytes s → CheckEnds t bytes s
 check_staged t bytes Done (names, body, cert, v, n) =
     spelt_ends t bytes names body cert Done v.system.spelt.analysed v.system.spelt.spells
-    (done_picked _ _ _ _ _ (sound_rows _ v.system.rows) (within _ v.system.within) n.composition ((unstopped_is_valid (system_with names body cert) (theirs cert)).1 (v.valid, n.sums)))
+    (done_picked _ _ _ _ _ (sound_rows _ v.system.rows) (within _ v.system.within) n.composition
+    ((unstopped_is_valid (system_with names body cert) (theirs cert)).1 (v.valid, n.sums)))
 check_staged t bytes (Certificate (Form f)) (names, body, a, h) = program (names, body) a.reading (fits a.within (unspelt f h refl))
-check_staged t bytes (Certificate (Rows f)) (names, body, cert, y, e) = spelt_ends t bytes names body cert (Certificate (Rows f)) y.analysed y.spells (rows_picked f _ _ _ _ _ e)
+check_staged t bytes (Certificate (Rows f)) (names, body, cert, y, e) =
+    spelt_ends t bytes names body cert (Certificate (Rows f)) y.analysed y.spells (rows_picked f _ _ _ _ _ e)
 check_staged t bytes (Certificate (Unknowns count)) (names, body, cert, y, r, h, e) =
-    spelt_ends t bytes names body cert (Certificate (Unknowns count)) y.analysed y.spells (ap (λ c. Certificate (Unknowns c)) e ∙ many_picked _ _ _ _ _ (sound_rows _ r) (above _ h))
+    spelt_ends t bytes names body cert (Certificate (Unknowns count)) y.analysed y.spells
+    (ap (λ c. Certificate (Unknowns c)) e ∙ many_picked _ _ _ _ _ (sound_rows _ r) (above _ h))
 check_staged t bytes (Certificate (Check f)) (names, body, cert, y, (fault, e, stop)) =
     spelt_ends t bytes names body cert (Certificate (Check f)) y.spelt.analysed y.spelt.spells
-    (ap (λ x. Certificate (Check x)) e ∙ sym (fault_stopped fault) ∙ stopped_picked (fault_answer fault) _ _ _ _ _ (sound_rows _ y.rows) (within _ y.within) stop.composition stop.stop)
+    (ap (λ x. Certificate (Check x)) e ∙ sym (fault_stopped fault) ∙ stopped_picked (fault_answer fault) _ _ _ _ _ (sound_rows _ y.rows)
+    (within _ y.within) stop.composition stop.stop)
 check_staged t bytes Usage h = absurd h
 check_staged t bytes (Read cause) h = absurd h
 check_staged t bytes (Text (text.Lex f)) h = unlexed f h refl

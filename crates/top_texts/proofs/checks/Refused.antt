@@ -66,7 +66,8 @@ unread_unspelt t bytes refusal.NoMemory h = tt
 -- ---- the form of a certificate
 
 -- bytes that are misspelt spell no check
-pub misspelt_unspelt : (t bytes : List ℕ) (names : List (List ℕ)) (body : Statements) (r : Refusal) → IsAnalysed t names body → IsMisspelt bytes r → IsUnspelt t bytes r
+pub misspelt_unspelt : (t bytes : List ℕ) (names : List (List ℕ)) (body : Statements) (r : Refusal) → IsAnalysed t names body
+    → IsMisspelt bytes r → IsUnspelt t bytes r
 misspelt_unspelt t bytes names body (refusal.Text c) a h = absurd h
 misspelt_unspelt t bytes names body (refusal.Certificate (Form f)) a h = (names, body, a, h)
 misspelt_unspelt t bytes names body (refusal.Certificate (Rows f)) a h = absurd h
@@ -90,7 +91,8 @@ answer_is (check.Final u) n = (FinalFault u, refl)
 answer_is (check.Wide spot) n = absurd (n spot refl)
 
 -- a check that is refused but not as wide has no wide composition
-pub check_refused : (system : Equations) (certificate : TheoryCertificate) (x : CheckFault) → ((spot : Spot) → x ≡ check.Wide spot → ⊥) → wide_composition system ≡ None
+pub check_refused : (system : Equations) (certificate : TheoryCertificate) (x : CheckFault) → ((spot : Spot) → x ≡ check.Wide spot → ⊥)
+    → wide_composition system ≡ None
     → first_stop (check_events system certificate) ≡ Some x → IsUnaccepted system certificate (refusal.Certificate (Check x))
 check_refused system certificate x n composition stop =
     let a = answer_is x n in
@@ -121,7 +123,8 @@ unspelt_rows t bytes (refusal.Wide s) cert h = absurd h
 unspelt_rows t bytes (refusal.Spent k) cert h = absurd h
 unspelt_rows t bytes refusal.NoMemory cert h = refl
 
-no_system_answers : (t bytes : List ℕ) (names : List (List ℕ)) (body : Statements) (cert : Cert) (r : Refusal) → IsSpelt t bytes names body cert → IsNoSystem names body cert r → IsAnswerToCheck t bytes (refused r)
+no_system_answers : (t bytes : List ℕ) (names : List (List ℕ)) (body : Statements) (cert : Cert) (r : Refusal)
+    → IsSpelt t bytes names body cert → IsNoSystem names body cert r → IsAnswerToCheck t bytes (refused r)
 no_system_answers t bytes names body cert (refusal.Text c) y h = absurd h
 no_system_answers t bytes names body cert (refusal.Certificate (Form f)) y h = absurd h
 no_system_answers t bytes names body cert (refusal.Certificate (Rows f)) y h = (names, body, cert, y, h)
@@ -131,7 +134,8 @@ no_system_answers t bytes names body cert (refusal.Wide s) y h = absurd h
 no_system_answers t bytes names body cert (refusal.Spent k) y h = absurd h
 no_system_answers t bytes names body cert refusal.NoMemory y h = tt
 
-unaccepted_answers : (t bytes : List ℕ) (names : List (List ℕ)) (body : Statements) (cert : Cert) (r : Refusal) → IsSystemWith t bytes names body cert
+unaccepted_answers : (t bytes : List ℕ) (names : List (List ℕ)) (body : Statements) (cert : Cert) (r : Refusal)
+    → IsSystemWith t bytes names body cert
     → IsUnaccepted (system_with names body cert) (theirs cert) r → IsAnswerToCheck t bytes (refused r)
 unaccepted_answers t bytes names body cert (refusal.Text c) y h = absurd h
 unaccepted_answers t bytes names body cert (refusal.Certificate (Form f)) y h = absurd h
@@ -143,21 +147,24 @@ unaccepted_answers t bytes names body cert (refusal.Spent k) y h = absurd h
 unaccepted_answers t bytes names body cert refusal.NoMemory y h = tt
 
 -- a certificate that gets no report answers with its refusal
-pub unreported_answers : (t bytes : List ℕ) (names : List (List ℕ)) (body : Statements) (cert : Cert) (r : Refusal) → IsSpelt t bytes names body cert → GetsNoReport names body cert r
+pub unreported_answers : (t bytes : List ℕ) (names : List (List ℕ)) (body : Statements) (cert : Cert) (r : Refusal)
+    → IsSpelt t bytes names body cert → GetsNoReport names body cert r
     → IsAnswerToCheck t bytes (refused r)
 unreported_answers t bytes names body cert r y h =
     ⊎_elim (λ a. no_system_answers t bytes names body cert r y a)
     (λ a. unaccepted_answers t bytes names body cert r (record { spelt = y; rows = a.0.rows; within = a.0.within }) a.1) h
 
 -- a check has no line once the certificate is known
-no_system_line : (t : List ℕ) (names : List (List ℕ)) (body : Statements) (cert : Cert) (r : Refusal) → IsNoSystem names body cert r → 0 ≡ line_in t (refused r)
+no_system_line : (t : List ℕ) (names : List (List ℕ)) (body : Statements) (cert : Cert) (r : Refusal) → IsNoSystem names body cert r
+    → 0 ≡ line_in t (refused r)
 no_system_line t names body cert (refusal.Text c) h = absurd h
 no_system_line t names body cert (refusal.Certificate c) h = refl
 no_system_line t names body cert (refusal.Wide s) h = refl
 no_system_line t names body cert (refusal.Spent k) h = refl
 no_system_line t names body cert refusal.NoMemory h = refl
 
-unaccepted_line : (t : List ℕ) (names : List (List ℕ)) (body : Statements) (cert : Cert) (r : Refusal) → IsUnaccepted (system_with names body cert) (theirs cert) r → 0 ≡ line_in t (refused r)
+unaccepted_line : (t : List ℕ) (names : List (List ℕ)) (body : Statements) (cert : Cert) (r : Refusal)
+    → IsUnaccepted (system_with names body cert) (theirs cert) r → 0 ≡ line_in t (refused r)
 unaccepted_line t names body cert (refusal.Text c) h = absurd h
 unaccepted_line t names body cert (refusal.Certificate c) h = refl
 unaccepted_line t names body cert (refusal.Wide s) h = refl
@@ -165,7 +172,8 @@ unaccepted_line t names body cert (refusal.Spent k) h = refl
 unaccepted_line t names body cert refusal.NoMemory h = refl
 
 -- a certificate that gets no report names no line
-pub unreported_line : (t : List ℕ) (names : List (List ℕ)) (body : Statements) (cert : Cert) (r : Refusal) → GetsNoReport names body cert r → 0 ≡ line_in t (refused r)
+pub unreported_line : (t : List ℕ) (names : List (List ℕ)) (body : Statements) (cert : Cert) (r : Refusal) → GetsNoReport names body cert r
+    → 0 ≡ line_in t (refused r)
 unreported_line t names body cert r h = ⊎_elim (λ a. no_system_line t names body cert r a) (λ a. unaccepted_line t names body cert r a.1) h
 
 -- ---- no refusal says that the output failed

@@ -46,13 +46,15 @@ pub claims_stand : (flow : Graph) (claims : List Claim) → All (Stands flow.nam
 claims_stand flow claims h k d within = let s = h k d within in record { point = s.within; condition = s.condition; against = s.against }
 
 -- the claim at a place stands
-stands_at : (names : List (List ℕ)) (points : List Point) (claims : List Claim) (k : ℕ) (claim : Claim) → All (Stands names points) claims → slice_get claims k ≡ Some claim → Stands names points claim
+stands_at : (names : List (List ℕ)) (points : List Point) (claims : List Claim) (k : ℕ) (claim : Claim) → All (Stands names points) claims
+    → slice_get claims k ≡ Some claim → Stands names points claim
 stands_at names points claims k claim h e =
     subst (λ c. Stands names points c) (get_or_from_slice_get claims k claim claim e) (h k claim (slice_get_within claims k claim e))
 
 -- ---- refusals
 
-refused_texts : (text : List ℕ) (rows : Domain (List ℕ)) (given : List ℕ) (cause : TextCause) → IsRefused text rows cause → AreNoClaims text rows given cause
+refused_texts : (text : List ℕ) (rows : Domain (List ℕ)) (given : List ℕ) (cause : TextCause) → IsRefused text rows cause
+    → AreNoClaims text rows given cause
 refused_texts text rows given (Lex f) h = h
 refused_texts text rows given (Parse f) h = h
 refused_texts text rows given (Flow f) h = h
@@ -75,8 +77,14 @@ module _ (text : List ℕ) (rows : Domain (List ℕ)) (given : List ℕ) (policy
   module _ (s : System) (is : IsSolvedSystem text rows s) where
     -- a text of claims that has a fault
     pub unclaimed : (f : ClaimFault) → FileMeans given s.flow.names s.flow.points (Err f) → AreNoClaims text rows given (Claims f)
-    unclaimed f m =
-        (is.names, is.body, is.template, is.ready, subst₂ (λ ns ps. FileMeans given ns ps (Err f)) is.system_for.names_are is.system_for.points_are m)
+    unclaimed f m = (
+      is.names,
+      is.body,
+      is.template,
+      is.ready,
+      subst₂ (λ ns ps. FileMeans given ns ps (Err f)) is.system_for.names_are
+          is.system_for.points_are m,
+    )
 
     module _ (claims : List Claim) (are : AreClaimsOf given s.flow.names s.flow.points claims) where
       over : AreClaimsOf given is.names (points_of_program is.body) claims
@@ -91,7 +99,8 @@ module _ (text : List ℕ) (rows : Domain (List ℕ)) (given : List ℕ) (policy
 
       module _ (solved : Solved) (solution : IsSolved s (rule_of policy) limit solved) where
         -- claims for which an operation is too wide
-        pub unjudged : (r : Refusal) → AreUnjudged (equations_of s) (vector_of (length s.template) solved.bounds) claims r → IsUnanswered (claims_question exact text rows given policy limit) r
+        pub unjudged : (r : Refusal) → AreUnjudged (equations_of s) (vector_of (length s.template) solved.bounds) claims r
+            → IsUnanswered (claims_question exact text rows given policy limit) r
         unjudged (refusal.Text cause) h = absurd h
         unjudged (refusal.Certificate cause) h = absurd h
         unjudged (refusal.Wide spot) h = record {
@@ -111,15 +120,18 @@ module _ (text : List ℕ) (rows : Domain (List ℕ)) (given : List ℕ) (policy
         unjudged refusal.NoMemory h = tt
 
         -- verdicts
-        pub judged : ProvedVerdictsHold → OpenStatesBreak → Least (equations_of s) (vector_of (length s.template) solved.bounds) → (verdicts : List Verdict)
+        pub judged : ProvedVerdictsHold → OpenStatesBreak → Least (equations_of s) (vector_of (length s.template) solved.bounds)
+            → (verdicts : List Verdict)
             → AreVerdicts (equations_of s) (vector_of (length s.template) solved.bounds) claims verdicts → (bytes : List ℕ)
-            → bytes ≡ verdicts_text s.flow.names claims verdicts solved.improvements → AreVerdictsOf exact text rows given policy limit bytes
+            → bytes ≡ verdicts_text s.flow.names claims verdicts solved.improvements
+            → AreVerdictsOf exact text rows given policy limit bytes
         judged proved_hold open_break least verdicts h bytes written =
             let vector = vector_of (length s.template) solved.bounds in
             let system = equations_of_program (length is.names) is.body is.template in
             let same : equations_of s ≡ system = equations_are is.names is.body is.template s is.system_for in
             let lowest : Least system vector = subst (λ (q : Equations). Least q vector) same least in
-            let are_verdicts : AreVerdicts system vector claims verdicts = subst (λ (q : Equations). AreVerdicts q vector claims verdicts) same h in
+            let are_verdicts : AreVerdicts system vector claims verdicts =
+            subst (λ (q : Equations). AreVerdicts q vector claims verdicts) same h in
             record {
               system = s;
               solved = is;
@@ -136,7 +148,8 @@ module _ (text : List ℕ) (rows : Domain (List ℕ)) (given : List ℕ) (policy
                 speak = record {
                   one_each = AllZip-long (IsVerdict system vector) claims verdicts are_verdicts;
                   proved_where = λ k claim verdict e f. (verdict_at system vector claims verdicts k claim verdict are_verdicts e f).proved;
-                  proved = λ k claim e f. proved_hold (length is.names) is.body is.template vector claims verdicts k claim lowest.solves.post are_verdicts e f
+                  proved = λ k claim e f. proved_hold (length is.names) is.body is.template vector claims verdicts k claim
+                      lowest.solves.post are_verdicts e f
                       (stands_at is.names (points_of_program is.body) claims k claim over.stand e).against;
                   open_ones = λ k claim state e f. open_break system vector claims verdicts k claim state are_verdicts e f;
                 };
@@ -145,6 +158,8 @@ module _ (text : List ℕ) (rows : Domain (List ℕ)) (given : List ℕ) (policy
             }
 
   -- where verdicts are written, the improvements have ended
-  pub verdicts_end : (bytes : List ℕ) → AreVerdictsOf exact text rows given policy limit bytes → QuestionEnds (claims_question exact text rows given policy limit) Done
+  pub verdicts_end : (bytes : List ℕ) → AreVerdictsOf exact text rows given policy limit bytes
+      → QuestionEnds (claims_question exact text rows given policy limit) Done
   verdicts_end bytes v =
-      rounds_end v.system refl (record { solved = v.solved; stated = map stated_of v.claims; reading = v.claims_are.reading }) (v.rounds, v.within, v.vector, v.has_rounds)
+      rounds_end v.system refl (record { solved = v.solved; stated = map stated_of v.claims; reading = v.claims_are.reading })
+      (v.rounds, v.within, v.vector, v.has_rounds)

@@ -30,16 +30,19 @@ fault_or_claims f x e = cc
 
 module _ (text : List ℕ) (rows : Domain (List ℕ)) (given : List ℕ) where
   -- a text says one thing about the program
-  pub said_once : (names others : List (List ℕ)) (body other : Statements) (template rest : List (List ℤ)) (r s : StatedClaims) → IsReady text rows names body template → IsReady text rows others other rest
+  pub said_once : (names others : List (List ℕ)) (body other : Statements) (template rest : List (List ℤ)) (r s : StatedClaims)
+      → IsReady text rows names body template → IsReady text rows others other rest
       → FileMeans given names (points_of_program body) r → FileMeans given others (points_of_program other) s → r ≡ s
   said_once names others body other template rest r s h k m n =
       let same = program_once text (names, body) (others, other) h.system.analysed.reading k.system.analysed.reading in
-      file_once given others (points_of_program other) r s (subst (λ (p : List (List ℕ) × Statements). FileMeans given p.0 (points_of_program p.1) r) same m) n
+      file_once given others (points_of_program other) r s (subst (λ (p : List (List ℕ) × Statements). FileMeans given p.0
+      (points_of_program p.1) r) same m) n
 
   -- a cause is one of the program and its rows, or a fault of the claims about a program that has a system
   data Stage (c : TextCause) : Type 0 where
     refused : IsRefused text rows c → Stage c
-    faulty : (f : ClaimFault) (names : List (List ℕ)) (body : Statements) (template : List (List ℤ)) → c ≡ Claims f → IsReady text rows names body template
+    faulty : (f : ClaimFault) (names : List (List ℕ)) (body : Statements) (template : List (List ℤ)) → c ≡ Claims f
+        → IsReady text rows names body template
         → FileMeans given names (points_of_program body) (Err f) → Stage c
 
   stage : (c : TextCause) → AreNoClaims text rows given c → Stage c
@@ -67,7 +70,8 @@ module _ (text : List ℕ) (rows : Domain (List ℕ)) (given : List ℕ) where
   staged_apart : (c : TextCause) (s : System) → Stage c → IsClaimedSystem text rows given s → ⊥
   staged_apart c s (refused h) is = ready_unrefused text rows is.solved.names is.solved.body is.solved.template c h is.solved.ready
   staged_apart c s (faulty f names body template e r m) is =
-      fault_or_claims f is.stated (said_once names is.solved.names body is.solved.body template is.solved.template (Err f) (Ok is.stated) r is.solved.ready m is.reading)
+      fault_or_claims f is.stated (said_once names is.solved.names body is.solved.body template is.solved.template (Err f) (Ok is.stated) r
+      is.solved.ready m is.reading)
 
   -- or mean a system
   pub apart : (c : TextCause) (s : System) → AreNoClaims text rows given c → IsClaimedSystem text rows given s → ⊥

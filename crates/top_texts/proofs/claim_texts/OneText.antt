@@ -46,7 +46,8 @@ rest_stated c d cs ds e = cc
 
 -- have the same verdicts
 module _ (names : List (List ℕ)) (points : List Point) (system : Equations) (z : Vector) where
-  verdict_moves : (c d : Claim) (v : Verdict) → stated_of c ≡ stated_of d → Stands names points c → Stands names points d → IsVerdict system z d v → IsVerdict system z c v
+  verdict_moves : (c d : Claim) (v : Verdict) → stated_of c ≡ stated_of d → Stands names points c → Stands names points d
+      → IsVerdict system z d v → IsVerdict system z c v
   verdict_moves c d v e h k a =
       let point : d.point ≡ c.point = sym (ap (λ (s : Stated). s.point) e) in
       let against : d.against ≡ c.against = k.against ∙ sym (ap (λ (s : Stated). cases_of false s.cond) e) ∙ sym h.against in
@@ -55,7 +56,8 @@ module _ (names : List (List ℕ)) (points : List Point) (system : Equations) (z
         state = subst₂ (λ p cases. SaysOpen system z p cases v) point against a.state;
       }
 
-  verdicts_move : (claims others : List Claim) (verdicts : List Verdict) → SameStated claims others → All (Stands names points) claims → All (Stands names points) others
+  verdicts_move : (claims others : List Claim) (verdicts : List Verdict) → SameStated claims others → All (Stands names points) claims
+      → All (Stands names points) others
       → AreVerdicts system z others verdicts → AreVerdicts system z claims verdicts
   verdicts_move [] [] vs e h k a = a
   verdicts_move [] (d ∷ ds) vs e h k a = absurd cc
@@ -67,32 +69,38 @@ module _ (names : List (List ℕ)) (points : List Point) (system : Equations) (z
   )
 
 -- and the same lines
-lines_agree : (names : List (List ℕ)) (n : ℕ) (claims others : List Claim) (verdicts : List Verdict) → SameStated claims others → claim_lines names n claims verdicts ≡ claim_lines names n others verdicts
+lines_agree : (names : List (List ℕ)) (n : ℕ) (claims others : List Claim) (verdicts : List Verdict) → SameStated claims others
+    → claim_lines names n claims verdicts ≡ claim_lines names n others verdicts
 lines_agree names n [] [] vs e = refl
 lines_agree names n [] (d ∷ ds) vs e = absurd cc
 lines_agree names n (c ∷ cs) [] vs e = absurd cc
 lines_agree names n (c ∷ cs) (d ∷ ds) [] e = refl
 lines_agree names n (c ∷ cs) (d ∷ ds) (v ∷ vs) e =
-    ap₂ (λ (s : Stated) (rest : List ℕ). line (codes "claim " ++ decimal n ++ codes " " ++ s.label ++ codes ": " ++ verdict_text names v) ++ rest)
+    ap₂ (λ (s : Stated) (rest : List ℕ). line (codes "claim " ++ decimal n ++ codes " " ++ s.label ++ codes ": " ++ verdict_text names v)
+    ++ rest)
     (first_stated c d cs ds e) (lines_agree names (suc n) cs ds vs (rest_stated c d cs ds e))
 
 count_agrees : (claims others : List Claim) → SameStated claims others → length claims ≡ length others
 count_agrees claims others e = sym (length-map claims stated_of) ∙ ap length e ∙ length-map others stated_of
 
-text_agrees : (names : List (List ℕ)) (claims others : List Claim) (verdicts again : List Verdict) (n m : ℕ) → SameStated claims others → verdicts ≡ again → n ≡ m
+text_agrees : (names : List (List ℕ)) (claims others : List Claim) (verdicts again : List Verdict) (n m : ℕ) → SameStated claims others
+    → verdicts ≡ again → n ≡ m
     → verdicts_text names claims verdicts n ≡ verdicts_text names others again m
 text_agrees names claims others verdicts again n m e same rounds =
     ap₂ (λ (vs : List Verdict) k. verdicts_text names claims vs k) same rounds
-    ∙ ap₂ (λ (lines : List ℕ) k. lines ++ line (codes "proved " ++ decimal (count_by is_proved again) ++ codes " of " ++ decimal k) ++ footer_line (Improvements m))
+    ∙ ap₂ (λ (lines : List ℕ) k. lines ++ line (codes "proved " ++ decimal (count_by is_proved again) ++ codes " of " ++ decimal k)
+    ++ footer_line (Improvements m))
     (lines_agree names 0 claims others again e) (count_agrees claims others e)
 
 -- ---- the verdicts of a program
 
-at_points : (names : List (List ℕ)) (body : Statements) (template : List (List ℤ)) (claims : List Claim) → All (Stands names (points_of_program body)) claims
+at_points : (names : List (List ℕ)) (body : Statements) (template : List (List ℤ)) (claims : List Claim)
+    → All (Stands names (points_of_program body)) claims
     → AreAtPoints (equations_of_program (length names) body template) claims
 at_points names body template claims h k d within = subst (λ n. (get_or claims k d).point < n) (numbering body).count (h k d within).within
 
-least_once : (given : List ℕ) (names : List (List ℕ)) (body : Statements) (template : List (List ℤ)) (claims others : List Claim) (v w : Vector) (n m : ℕ) (one other : List ℕ) → n ≡ m → SameStated claims others
+least_once : (given : List ℕ) (names : List (List ℕ)) (body : Statements) (template : List (List ℤ)) (claims others : List Claim)
+    (v w : Vector) (n m : ℕ) (one other : List ℕ) → n ≡ m → SameStated claims others
     → AreClaimsOf given names (points_of_program body) claims → AreClaimsOf given names (points_of_program body) others
     → AreLeastVerdicts exact names body template v claims n one → AreLeastVerdicts exact names body template w others m other → one ≡ other
 least_once given names body template claims others v w n m one other rounds stated h k a b =
@@ -101,26 +109,31 @@ least_once given names body template claims others v w n m one other rounds stat
     let moved = verdicts_move names (points_of_program body) system w claims others b.verdicts stated h.stand k.stand b.verdicts_are in
     a.written
     ∙ text_agrees names claims others a.verdicts b.verdicts n m stated
-    (verdicts_are_one system v w claims a.verdicts b.verdicts same (at_points names body template claims h.stand) a.verdicts_are moved) rounds
+    (verdicts_are_one system v w claims a.verdicts b.verdicts same (at_points names body template claims h.stand) a.verdicts_are moved)
+    rounds
     ∙ sym b.written
 
 -- ---- of texts
 
 -- the texts of a program, of its rows and of claims have one list of verdicts
-pub verdicts_once : (text : List ℕ) (rows : Domain (List ℕ)) (given : List ℕ) (policy : Policy) (limit : ℕ) (one other : List ℕ) → AreVerdictsOf exact text rows given policy limit one
+pub verdicts_once : (text : List ℕ) (rows : Domain (List ℕ)) (given : List ℕ) (policy : Policy) (limit : ℕ) (one other : List ℕ)
+    → AreVerdictsOf exact text rows given policy limit one
     → AreVerdictsOf exact text rows given policy limit other → one ≡ other
 verdicts_once text rows given policy limit one other a b =
     let p = a.solved in
     let q = b.solved in
     let same = program_once text (q.names, q.body) (p.names, p.body) q.ready.system.analysed.reading p.ready.system.analysed.reading in
     let template : q.template ≡ p.template =
-    rows_once rows p.names q.template p.template (subst (λ (x : List (List ℕ) × Statements). HasTemplate rows x.0 (Ok q.template)) same q.ready.system.template_is) p.ready.system.template_is in
+    rows_once rows p.names q.template p.template (subst (λ (x : List (List ℕ) × Statements). HasTemplate rows x.0 (Ok q.template)) same
+    q.ready.system.template_is) p.ready.system.template_is in
     let claims : AreClaimsOf given p.names (points_of_program p.body) b.claims =
     subst (λ (x : List (List ℕ) × Statements). AreClaimsOf given x.0 (points_of_program x.1) b.claims) same b.claims_are in
     let least : AreLeastVerdicts exact p.names p.body p.template b.vector b.claims b.rounds other =
     subst (λ t. AreLeastVerdicts exact p.names p.body t b.vector b.claims b.rounds other) template
     (subst (λ (x : List (List ℕ) × Statements). AreLeastVerdicts exact x.0 x.1 q.template b.vector b.claims b.rounds other) same b.least) in
     let stated = same_stated (map stated_of a.claims) (map stated_of b.claims)
-    (said_once text rows given p.names q.names p.body q.body p.template q.template (Ok (map stated_of a.claims)) (Ok (map stated_of b.claims)) p.ready q.ready a.claims_are.reading b.claims_are.reading) in
+    (said_once text rows given p.names q.names p.body q.body p.template q.template (Ok (map stated_of a.claims))
+    (Ok (map stated_of b.claims)) p.ready q.ready a.claims_are.reading b.claims_are.reading) in
     least_once given p.names p.body p.template a.claims b.claims a.vector b.vector a.rounds b.rounds one other
-    (rounds_once a.system b.system policy a.rounds b.rounds a.vector b.vector (solved_once text rows a.system b.system p q) a.has_rounds b.has_rounds) stated a.claims_are claims a.least least
+    (rounds_once a.system b.system policy a.rounds b.rounds a.vector b.vector (solved_once text rows a.system b.system p q) a.has_rounds
+    b.has_rounds) stated a.claims_are claims a.least least

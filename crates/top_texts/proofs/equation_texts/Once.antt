@@ -28,7 +28,8 @@ fault_or_equations f x e = cc
 -- the systems of a text have the same equations
 pub equations_once : (text : List ℕ) (s t : System) → IsEquationSystem text s → IsEquationSystem text t → equations_of s ≡ equations_of t
 equations_once text s t is js =
-    is.system_is ∙ ap system_of (same_equations is.equations js.equations (answers_once text (Ok is.equations) (Ok js.equations) is.reading js.reading)) ∙ sym js.system_is
+    is.system_is ∙ ap system_of (same_equations is.equations js.equations
+    (answers_once text (Ok is.equations) (Ok js.equations) is.reading js.reading)) ∙ sym js.system_is
 
 -- a text that has a system has no fault
 not_faulty : (text : List ℕ) (f : EquFault) (s : System) → Answers text (Err f) → IsEquationSystem text s → ⊥

@@ -15,7 +15,8 @@ use Rattle.top_texts.specs.EquationTexts.{AreValuesOf, HasImprovements}
 use Rattle.top_texts.proofs.equation_texts.Once.{same_equations}
 use Rattle.top_texts.proofs.rounds.OneChain.{rounds_once}
 
-lines_agree : (k : ℕ) (names : List (List ℕ)) (v w : ℕ → Ext) → ((j : ℕ) → k ≤ j → j < k + length names → v j ≡ w j) → value_lines k names v ≡ value_lines k names w
+lines_agree : (k : ℕ) (names : List (List ℕ)) (v w : ℕ → Ext) → ((j : ℕ) → k ≤ j → j < k + length names → v j ≡ w j)
+    → value_lines k names v ≡ value_lines k names w
 lines_agree k [] v w h = refl
 lines_agree k (name ∷ names) v w h =
     let here : v k ≡ w k = h k (omega arith) (omega arith) in
@@ -23,23 +24,29 @@ lines_agree k (name ∷ names) v w h =
     ap₂ (λ x lines. value_line name x ++ lines) here (lines_agree (suc k) names v w rest)
 
 -- values that are the same for each name have the same text
-text_agrees : (names : List (List ℕ)) (v w : ℕ → Ext) (n m : ℕ) → ((j : ℕ) → j < length names → v j ≡ w j) → n ≡ m → values_text names v (Improvements n) ≡ values_text names w (Improvements m)
+text_agrees : (names : List (List ℕ)) (v w : ℕ → Ext) (n m : ℕ) → ((j : ℕ) → j < length names → v j ≡ w j) → n ≡ m
+    → values_text names v (Improvements n) ≡ values_text names w (Improvements m)
 text_agrees names v w n m h e =
     ap₂ (λ lines k. lines ++ footer_line (Improvements k)) (lines_agree 0 names v w (λ j a b. h j (omega arith))) e
 
-number_once : (equations : List Equation) (policy : Policy) (n m : ℕ) → HasImprovements equations policy n → HasImprovements equations policy m → n ≡ m
+number_once : (equations : List Equation) (policy : Policy) (n m : ℕ) → HasImprovements equations policy n
+    → HasImprovements equations policy m → n ≡ m
 number_once equations policy n m (s, is, v, a) (t, js, w, b) = rounds_once s t policy n m v w (is ∙ sym js) a b
 
 -- a text of equations has one list of values
-pub values_once : (text : List ℕ) (policy : Policy) (limit : ℕ) (one other : List ℕ) → AreValuesOf text policy limit one → AreValuesOf text policy limit other → one ≡ other
+pub values_once : (text : List ℕ) (policy : Policy) (limit : ℕ) (one other : List ℕ) → AreValuesOf text policy limit one
+    → AreValuesOf text policy limit other → one ≡ other
 values_once text policy limit one other a b =
-    let same : b.equations ≡ a.equations = same_equations b.equations a.equations (answers_once text (Ok b.equations) (Ok a.equations) b.reading a.reading) in
+    let same : b.equations ≡ a.equations = same_equations b.equations a.equations
+    (answers_once text (Ok b.equations) (Ok a.equations) b.reading a.reading) in
     let least : IsLeastAbove a.equations b.values = subst (λ es. IsLeastAbove es b.values) same b.least in
     let improvements : HasImprovements a.equations policy b.rounds = subst (λ es. HasImprovements es policy b.rounds) same b.improvements in
     let written : other ≡ values_text (map (λ e. e.name) a.equations) b.values (Improvements b.rounds) =
     subst (λ (es : List Equation). other ≡ values_text (map (λ e. e.name) es) b.values (Improvements b.rounds)) same b.written in
-    let size : length (map (λ (e : Equation). e.name) a.equations) ≡ length a.equations = length-map a.equations (λ (e : Equation). e.name) in
+    let size : length (map (λ (e : Equation). e.name) a.equations) ≡ length a.equations =
+    length-map a.equations (λ (e : Equation). e.name) in
     a.written
-    ∙ text_agrees (map (λ e. e.name) a.equations) a.values b.values a.rounds b.rounds (λ j h. at_most_one a.equations a.values b.values a.least least j (omega (arith, size)))
+    ∙ text_agrees (map (λ e. e.name) a.equations) a.values b.values a.rounds b.rounds
+    (λ j h. at_most_one a.equations a.values b.values a.least least j (omega (arith, size)))
     (number_once a.equations policy a.rounds b.rounds a.improvements improvements)
     ∙ sym written

@@ -34,7 +34,8 @@ use Rattle.top_texts.proofs.rounds.OneChain.{solved_rounds}
 module _ (s : System) (equations : List Equation) (is : equations_of s ≡ system_of equations) where
   -- the template has one row for each equation
   pub rows_are : length s.template ≡ length equations
-  rows_are = ap (λ (q : Equations). length q.template) is ∙ length-map-range_with_len (multiple (length equations + 1) (pos 1)) 0 (length equations)
+  rows_are = ap (λ (q : Equations). length q.template) is ∙ length-map-range_with_len (multiple (length equations + 1) (pos 1)) 0
+      (length equations)
 
   -- the system has one variable more than there are equations
   pub names_are : length s.flow.names ≡ length equations + 1
@@ -52,7 +53,8 @@ row_names equations n e =
     ap (λ k. take k (variables_of equations)) (e ∙ sym (length-map equations (λ (e : Equation). e.name)))
     ∙ take-append_seam (map (λ e. e.name) equations) (codes "int" ∷ [])
 
-module _ (text : List ℕ) (policy : Policy) (limit : ℕ) (equations : List Equation) (reading : Answers text (Ok equations)) (s : System) (is : equations_of s ≡ system_of equations) where
+module _ (text : List ℕ) (policy : Policy) (limit : ℕ) (equations : List Equation) (reading : Answers text (Ok equations)) (s : System)
+    (is : equations_of s ≡ system_of equations) where
   is_system : IsEquationSystem text s
   is_system = record { equations = equations; reading = reading; system_is = is }
 
@@ -61,9 +63,11 @@ module _ (text : List ℕ) (policy : Policy) (limit : ℕ) (equations : List Equ
   unsolved r h = halted (equations_question exact text policy limit) Report s is_system (λ spot w. w) r h
 
   -- the values of the least vector are those of the equations
-  pub valued : LeastVectorsAreLeastAbove → LeastAboveEqualRightSides → IsTrue (are_equations equations) → s.flow.names ≡ variables_of equations → (solved : Solved) → IsSolved s (rule_of policy) limit solved
+  pub valued : LeastVectorsAreLeastAbove → LeastAboveEqualRightSides → IsTrue (are_equations equations)
+      → s.flow.names ≡ variables_of equations → (solved : Solved) → IsSolved s (rule_of policy) limit solved
       → Least (equations_of s) (vector_of (length s.template) solved.bounds) → (bytes : List ℕ)
-      → bytes ≡ values_text (take (length s.template) s.flow.names) (vector_of (length s.template) solved.bounds 1) (Improvements solved.improvements) → AreValuesOf text policy limit bytes
+      → bytes ≡ values_text (take (length s.template) s.flow.names) (vector_of (length s.template) solved.bounds 1)
+      (Improvements solved.improvements) → AreValuesOf text policy limit bytes
   valued above equal within names solved solution least bytes written =
       let vector = vector_of (length s.template) solved.bounds in
       let lowest = above equations vector within (subst (λ q. Least q vector) is least) in
@@ -83,7 +87,9 @@ module _ (text : List ℕ) (policy : Policy) (limit : ℕ) (equations : List Equ
 -- ---- what the text is answered
 
 -- where values are written, the improvements have ended
-pub values_end : (text : List ℕ) (policy : Policy) (limit : ℕ) (bytes : List ℕ) → AreValuesOf text policy limit bytes → QuestionEnds (equations_question exact text policy limit) Done
+pub values_end : (text : List ℕ) (policy : Policy) (limit : ℕ) (bytes : List ℕ) → AreValuesOf text policy limit bytes
+    → QuestionEnds (equations_question exact text policy limit) Done
 values_end text policy limit bytes v =
     let made = v.improvements in
-    rounds_end made.0 refl (record { equations = v.equations; reading = v.reading; system_is = made.1 }) (v.rounds, v.within, made.2, made.3)
+    rounds_end made.0 refl (record { equations = v.equations; reading = v.reading; system_is = made.1 })
+    (v.rounds, v.within, made.2, made.3)

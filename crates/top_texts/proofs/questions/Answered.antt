@@ -24,7 +24,8 @@ module _ (q : Question) where
   unanswered r s e h = subst (λ x. QuestionAnswer q x) (sym e) (refused_answer r h)
 
   -- rounds over a system that is meant have no end
-  pub halted : (purpose : Purpose) (system : System) → q.means system → ((spot : Spot) → HasSpot purpose system q.policy q.limit spot → q.too_wide system spot)
+  pub halted : (purpose : Purpose) (system : System) → q.means system →
+      ((spot : Spot) → HasSpot purpose system q.policy q.limit spot → q.too_wide system spot)
       → (r : Refusal) → IsHalted purpose system q.policy q.limit r → IsUnanswered q r
   halted purpose system is wide (refusal.Text cause) h = absurd h
   halted purpose system is wide (refusal.Certificate cause) h = absurd h

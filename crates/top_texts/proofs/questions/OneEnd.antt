@@ -25,7 +25,9 @@ module _ (q : Question) (one : HasOneMeaning q) where
   question_ends_once s t (is_refused c e h) (rounds_spent y f js x) = absurd (one.apart c y h js)
   question_ends_once s t (rounds_end x e is ends) (is_refused d f k) = absurd (one.apart d x k is)
   question_ends_once s t (rounds_end x e is ends) (rounds_end y f js other) = e ∙ sym f
-  question_ends_once s t (rounds_end x e is ends) (rounds_spent y f js out) = absurd (ends_once x y q.policy q.limit (one.system x y is js) ends out)
+  question_ends_once s t (rounds_end x e is ends) (rounds_spent y f js out) =
+      absurd (ends_once x y q.policy q.limit (one.system x y is js) ends out)
   question_ends_once s t (rounds_spent x e is out) (is_refused d f k) = absurd (one.apart d x k is)
-  question_ends_once s t (rounds_spent x e is out) (rounds_end y f js ends) = absurd (ends_once y x q.policy q.limit (one.system y x js is) ends out)
+  question_ends_once s t (rounds_spent x e is out) (rounds_end y f js ends) =
+      absurd (ends_once y x q.policy q.limit (one.system y x js is) ends out)
   question_ends_once s t (rounds_spent x e is out) (rounds_spent y f js other) = e ∙ sym f

@@ -17,7 +17,8 @@ use Rattle.top_texts.proofs.transition_texts.Once.{apart, causes_once as refusal
 use Rattle.top_texts.proofs.texts.Once.{equations_are, ready_unrefused, refused_once, solved_once}
 
 -- the question of an analysis has one meaning
-pub analysis_once : (purpose : Purpose) (text : List ℕ) (rows : Domain (List ℕ)) (policy : Policy) (limit : ℕ) → HasOneMeaning (analysis_question exact purpose text rows policy limit)
+pub analysis_once : (purpose : Purpose) (text : List ℕ) (rows : Domain (List ℕ)) (policy : Policy) (limit : ℕ)
+    → HasOneMeaning (analysis_question exact purpose text rows policy limit)
 analysis_once purpose text rows policy limit = record {
   cause = refused_once text rows;
   apart = λ c s h is. ready_unrefused text rows is.names is.body is.template c h is.ready;
@@ -27,7 +28,8 @@ analysis_once purpose text rows policy limit = record {
 -- the systems of a generated program have the same equations
 generated_once : (seed loops : ℕ) (s t : System) → IsGenerated seed loops s → IsGenerated seed loops t → equations_of s ≡ equations_of t
 generated_once seed loops s t is js =
-    equations_are generated_names (generated_body seed loops) (intervals_of 3) s is ∙ sym (equations_are generated_names (generated_body seed loops) (intervals_of 3) t js)
+    equations_are generated_names (generated_body seed loops) (intervals_of 3) s is
+    ∙ sym (equations_are generated_names (generated_body seed loops) (intervals_of 3) t js)
 
 -- the question of a generated program has one meaning
 pub bench_once : (seed loops : ℕ) → HasOneMeaning (bench_question exact seed loops)
@@ -46,7 +48,8 @@ solution_once text policy limit = record {
 }
 
 -- the question of a transition system has one meaning
-pub transitions_once : (text : List ℕ) (rows : Domain (List ℕ)) (policy : Policy) (limit : ℕ) → HasOneMeaning (transitions_question exact text rows policy limit)
+pub transitions_once : (text : List ℕ) (rows : Domain (List ℕ)) (policy : Policy) (limit : ℕ)
+    → HasOneMeaning (transitions_question exact text rows policy limit)
 transitions_once text rows policy limit = record {
   cause = refusals_once text rows;
   apart = λ c s h is. apart text rows c s h is;
@@ -54,7 +57,8 @@ transitions_once text rows policy limit = record {
 }
 
 -- the question of claims has one meaning
-pub claims_once : (text : List ℕ) (rows : Domain (List ℕ)) (given : List ℕ) (policy : Policy) (limit : ℕ) → HasOneMeaning (claims_question exact text rows given policy limit)
+pub claims_once : (text : List ℕ) (rows : Domain (List ℕ)) (given : List ℕ) (policy : Policy) (limit : ℕ)
+    → HasOneMeaning (claims_question exact text rows given policy limit)
 claims_once text rows given policy limit = record {
   cause = proofs_refused_once text rows given;
   apart = refused_apart text rows given;

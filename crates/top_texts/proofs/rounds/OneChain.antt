@@ -30,9 +30,11 @@ solved_rounds system Best limit solved h = solved_law by_best MeantBest best_mea
 solved_rounds system First limit solved h = solved_law by_first MeantFirst first_means system limit solved h
 
 -- so its report is that of the rounds
-pub rounds_report : (system : System) (policy : Policy) (limit : ℕ) (solved : Solved) (bytes : List ℕ) → IsSolved system (rule_of policy) limit solved
+pub rounds_report : (system : System) (policy : Policy) (limit : ℕ) (solved : Solved) (bytes : List ℕ)
+    → IsSolved system (rule_of policy) limit solved
     → Least (equations_of system) (vector_of (length system.template) solved.bounds)
-    → bytes ≡ report_of system (vector_of (length system.template) solved.bounds) (Improvements solved.improvements) → IsRoundsReport system policy limit bytes
+    → bytes ≡ report_of system (vector_of (length system.template) solved.bounds) (Improvements solved.improvements)
+    → IsRoundsReport system policy limit bytes
 rounds_report system policy limit solved bytes h least e = record {
   rounds = solved.improvements;
   within = h.within;
@@ -47,20 +49,31 @@ one_answer Best = best_is_one
 one_answer First = first_is_one
 
 -- over systems with the same equations
-pub ends_once : (s t : System) (policy : Policy) (limit : ℕ) → equations_of s ≡ equations_of t → EndsWithin s policy limit → RunsOut t policy limit → ⊥
+pub ends_once : (s t : System) (policy : Policy) (limit : ℕ) → equations_of s ≡ equations_of t → EndsWithin s policy limit
+    → RunsOut t policy limit → ⊥
 ends_once s t policy limit same (n, within, vector, ends) out =
-    let below = number_above (equations_of s) (chosen_by policy) (one_answer policy) limit n vector (subst (λ (q : Equations). GoesOnAfter q (chosen_by policy) limit) (sym same) out) ends in
+    let below = number_above (equations_of s) (chosen_by policy) (one_answer policy) limit n vector
+    (subst (λ (q : Equations). GoesOnAfter q (chosen_by policy) limit) (sym same) out) ends in
     absurd (omega arith)
 
 -- improvements that run out are fewer than the picks
 pub runs_few : (system : System) (policy : Policy) (limit : ℕ) → RunsOut system policy limit → limit < pick_count (equations_of system)
-runs_few system policy limit o = (short_law (chosen_by policy) (equations_of system) (points_in_range system) limit o.vectors o.picks o.chain).few
+runs_few system policy limit o = (short_law (chosen_by policy) (equations_of system) (points_in_range system) limit o.vectors o.picks
+    o.chain).few
 
 -- rounds of one policy over the same equations are equally many
-pub rounds_once : (s t : System) (policy : Policy) (n m : ℕ) (v w : Vector) → equations_of s ≡ equations_of t → HasRounds s policy n v → HasRounds t policy m w → n ≡ m
+pub rounds_once : (s t : System) (policy : Policy) (n m : ℕ) (v w : Vector) → equations_of s ≡ equations_of t → HasRounds s policy n v
+    → HasRounds t policy m w → n ≡ m
 rounds_once s t policy n m v w same a b =
-    number_one (equations_of s) (chosen_by policy) (one_answer policy) n m v w a (subst (λ (q : Equations). EndsAfter q (chosen_by policy) m w) (sym same) b)
+    number_one (equations_of s) (chosen_by policy) (one_answer policy) n m v w a
+    (subst (λ (q : Equations). EndsAfter q (chosen_by policy) m w) (sym same) b)
 
 -- rounds that lead to a solution end within the limit
-pub solved_ends : (system : System) (policy : Policy) (limit : ℕ) (solved : Solved) → IsSolved system (rule_of policy) limit solved → EndsWithin system policy limit
-solved_ends system policy limit solved is = (solved.improvements, is.within, vector_of (length system.template) solved.bounds, solved_rounds system policy limit solved is)
+pub solved_ends : (system : System) (policy : Policy) (limit : ℕ) (solved : Solved) → IsSolved system (rule_of policy) limit solved
+    → EndsWithin system policy limit
+solved_ends system policy limit solved is = (
+  solved.improvements,
+  is.within,
+  vector_of (length system.template) solved.bounds,
+  solved_rounds system policy limit solved is,
+)

@@ -24,16 +24,20 @@ use Rattle.flow_systems.specs.declared.limits.TheConstants.{MOST_UNKNOWNS}
 -- ---- the last stage: too many unknowns, too many cells, or neither
 
 -- the equations of a system are those of its program and template
-pub equations_are : (names : List (List ℕ)) (body : Statements) (template : List (List ℤ)) (s : System) → IsSystemFor names body template s → equations_of s ≡ equations_of_program (length names) body template
+pub equations_are : (names : List (List ℕ)) (body : Statements) (template : List (List ℤ)) (s : System) → IsSystemFor names body template s
+    → equations_of s ≡ equations_of_program (length names) body template
 equations_are names body template s is =
-    same_equations names body s is.names_are is.points_are is.edges_are ∙ ap (λ t. equations_of_program (length names) body t) is.template_is
+    same_equations names body s is.names_are is.points_are is.edges_are
+    ∙ ap (λ t. equations_of_program (length names) body t) is.template_is
 
 data LastStage (names : List (List ℕ)) (body : Statements) (template : List (List ℤ)) (o : Option TextCause) : Type 0 where
   many : MOST_UNKNOWNS < unknowns body template → o ≡ Some (Unknowns (unknowns body template)) → LastStage names body template o
-  big : unknowns body template ≤ MOST_UNKNOWNS → 134217728 < cells names body template → o ≡ Some (Cells (cells names body template)) → LastStage names body template o
+  big : unknowns body template ≤ MOST_UNKNOWNS → 134217728 < cells names body template → o ≡ Some (Cells (cells names body template))
+      → LastStage names body template o
   few : unknowns body template ≤ MOST_UNKNOWNS → cells names body template ≤ 134217728 → o ≡ None → LastStage names body template o
 
-last_once : (names : List (List ℕ)) (body : Statements) (template : List (List ℤ)) (o p : Option TextCause) → LastStage names body template o → LastStage names body template p → o ≡ p
+last_once : (names : List (List ℕ)) (body : Statements) (template : List (List ℤ)) (o p : Option TextCause)
+    → LastStage names body template o → LastStage names body template p → o ≡ p
 last_once names body template o p (many h e) (many k i) = e ∙ sym i
 last_once names body template o p (many h e) (big k l i) = absurd (omega arith)
 last_once names body template o p (many h e) (few k l i) = absurd (omega arith)
@@ -68,14 +72,16 @@ some_none f o h k = cc
 some_some : (f g : FlowFault) (o : Option FlowFault) → o ≡ Some f → o ≡ Some g → f ≡ g
 some_some f g o h k = cc
 
-rows_once_by : (rows : Domain (List ℕ)) (names : List (List ℕ)) (body : Statements) (o p : Option TextCause) → RowsStage rows names body o → RowsStage rows names body p → o ≡ p
+rows_once_by : (rows : Domain (List ℕ)) (names : List (List ℕ)) (body : Statements) (o p : Option TextCause) → RowsStage rows names body o
+    → RowsStage rows names body p → o ≡ p
 rows_once_by rows names body o p (faulty f h e) (faulty g k i) = e ∙ ap (λ x. Some (Rows x)) (row_fault_once rows names f g h k) ∙ sym i
 rows_once_by rows names body o p (faulty f h e) (given u k i) = absurd (not_rows rows names f u h k)
 rows_once_by rows names body o p (given u h e) (faulty f k i) = absurd (not_rows rows names f u k h)
 rows_once_by rows names body o p (given u h e) (given v k i) =
     last_once names body u o p e (subst (λ x. LastStage names body x p) (sym (rows_once rows names u v h k)) i)
 
-flow_once : (rows : Domain (List ℕ)) (p : List (List ℕ) × Statements) (o q : Option TextCause) → FlowStage rows p o → FlowStage rows p q → o ≡ q
+flow_once : (rows : Domain (List ℕ)) (p : List (List ℕ) × Statements) (o q : Option TextCause) → FlowStage rows p o → FlowStage rows p q
+    → o ≡ q
 flow_once rows p o q (wide f h e) (wide g k i) = e ∙ ap (λ x. Some (Flow x)) (some_some f g (fault_of_program p.1) h k) ∙ sym i
 flow_once rows p o q (wide f h e) (fits k i) = absurd (some_none f (fault_of_program p.1) h k)
 flow_once rows p o q (fits h e) (wide f k i) = absurd (some_none f (fault_of_program p.1) k h)
@@ -101,16 +107,19 @@ refused_stage text rows (Parse f) h = unparsed f h refl
 refused_stage text rows (Flow f) (names, body, h, e) = program (names, body) h (wide f e refl)
 refused_stage text rows (Rows f) (names, body, a, h) = program (names, body) a.reading (fits a.within (faulty f h refl))
 refused_stage text rows (Unknowns count) (names, body, template, y, h, e) =
-    program (names, body) y.analysed.reading (fits y.analysed.within (given template y.template_is (many h (ap (λ c. Some (Unknowns c)) e))))
+    program (names, body) y.analysed.reading (fits y.analysed.within (given template y.template_is
+    (many h (ap (λ c. Some (Unknowns c)) e))))
 refused_stage text rows (Cells count) (names, body, template, y, h, k, e) =
     program (names, body) y.analysed.reading (fits y.analysed.within (given template y.template_is (big h k (ap (λ c. Some (Cells c)) e))))
 refused_stage text rows (Claims f) h = absurd h
 refused_stage text rows (Equ f) h = absurd h
 refused_stage text rows (Auto f) h = absurd h
 
-ready_stage : (text : List ℕ) (rows : Domain (List ℕ)) (names : List (List ℕ)) (body : Statements) (template : List (List ℤ)) → IsReady text rows names body template → TextStage text rows None
+ready_stage : (text : List ℕ) (rows : Domain (List ℕ)) (names : List (List ℕ)) (body : Statements) (template : List (List ℤ))
+    → IsReady text rows names body template → TextStage text rows None
 ready_stage text rows names body template r =
-    program (names, body) r.system.analysed.reading (fits r.system.analysed.within (given template r.system.template_is (few r.within r.cells_within refl)))
+    program (names, body) r.system.analysed.reading (fits r.system.analysed.within
+    (given template r.system.template_is (few r.within r.cells_within refl)))
 
 same_cause : (c d : TextCause) → Some c ≡ Some d → c ≡ d
 same_cause c d e = cc
@@ -120,20 +129,24 @@ no_cause c e = cc
 
 -- texts are refused by one cause
 pub refused_once : (text : List ℕ) (rows : Domain (List ℕ)) (c d : TextCause) → IsRefused text rows c → IsRefused text rows d → c ≡ d
-refused_once text rows c d h k = same_cause c d (text_once text rows (Some c) (Some d) (refused_stage text rows c h) (refused_stage text rows d k))
+refused_once text rows c d h k = same_cause c d (text_once text rows (Some c) (Some d) (refused_stage text rows c h)
+    (refused_stage text rows d k))
 
 -- texts that are ready aren't refused
-pub ready_unrefused : (text : List ℕ) (rows : Domain (List ℕ)) (names : List (List ℕ)) (body : Statements) (template : List (List ℤ)) (c : TextCause) → IsRefused text rows c
+pub ready_unrefused : (text : List ℕ) (rows : Domain (List ℕ)) (names : List (List ℕ)) (body : Statements) (template : List (List ℤ))
+    (c : TextCause) → IsRefused text rows c
     → IsReady text rows names body template → ⊥
 ready_unrefused text rows names body template c h r =
     no_cause c (text_once text rows (Some c) None (refused_stage text rows c h) (ready_stage text rows names body template r))
 
 -- the systems of texts have the same equations
-pub solved_once : (text : List ℕ) (rows : Domain (List ℕ)) (s t : System) → IsSolvedSystem text rows s → IsSolvedSystem text rows t → equations_of s ≡ equations_of t
+pub solved_once : (text : List ℕ) (rows : Domain (List ℕ)) (s t : System) → IsSolvedSystem text rows s → IsSolvedSystem text rows t
+    → equations_of s ≡ equations_of t
 solved_once text rows s t a b =
     let same = program_once text (a.names, a.body) (b.names, b.body) a.ready.system.analysed.reading b.ready.system.analysed.reading in
     let template : a.template ≡ b.template =
-    rows_once rows b.names a.template b.template (subst (λ (p : List (List ℕ) × Statements). HasTemplate rows p.0 (Ok a.template)) same a.ready.system.template_is) b.ready.system.template_is in
+    rows_once rows b.names a.template b.template (subst (λ (p : List (List ℕ) × Statements). HasTemplate rows p.0 (Ok a.template)) same
+    a.ready.system.template_is) b.ready.system.template_is in
     equations_are a.names a.body a.template s a.system_for
     ∙ ap (λ (p : List (List ℕ) × Statements). equations_of_program (length p.0) p.1 a.template) same
     ∙ ap (λ r. equations_of_program (length b.names) b.body r) template

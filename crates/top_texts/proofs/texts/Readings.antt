@@ -43,7 +43,8 @@ pub not_both : (text : List ℕ) (f : ParseFault) (p : List (List ℕ) × Statem
 not_both text f p h k = err_ok f p (reading_once text (Err f) (Ok p) h k)
 
 -- a domain has one template
-pub template_once : (rows : Domain (List ℕ)) (names : List (List ℕ)) (x y : Result (List (List ℤ)) RowFault) → HasTemplate rows names x → HasTemplate rows names y → x ≡ y
+pub template_once : (rows : Domain (List ℕ)) (names : List (List ℕ)) (x y : Result (List (List ℤ)) RowFault) → HasTemplate rows names x
+    → HasTemplate rows names y → x ≡ y
 template_once Intervals names x y h k = h ∙ sym k
 template_once Zones names x y h k = h ∙ sym k
 template_once Octagons names x y h k = h ∙ sym k
@@ -62,13 +63,16 @@ faulty_given : (f : RowFault) (t : List (List ℤ)) → rows_answer (Err f) ≡ 
 faulty_given f t e = cc
 
 -- a domain has one template over given variables
-pub rows_once : (rows : Domain (List ℕ)) (names : List (List ℕ)) (t u : List (List ℤ)) → HasTemplate rows names (Ok t) → HasTemplate rows names (Ok u) → t ≡ u
+pub rows_once : (rows : Domain (List ℕ)) (names : List (List ℕ)) (t u : List (List ℤ)) → HasTemplate rows names (Ok t)
+    → HasTemplate rows names (Ok u) → t ≡ u
 rows_once rows names t u h k = given_once t u (template_once rows names (Ok t) (Ok u) h k)
 
 -- a domain has one fault over given variables
-pub row_fault_once : (rows : Domain (List ℕ)) (names : List (List ℕ)) (f g : RowFault) → HasTemplate rows names (Err f) → HasTemplate rows names (Err g) → f ≡ g
+pub row_fault_once : (rows : Domain (List ℕ)) (names : List (List ℕ)) (f g : RowFault) → HasTemplate rows names (Err f)
+    → HasTemplate rows names (Err g) → f ≡ g
 row_fault_once rows names f g h k = faulty_once f g (template_once rows names (Err f) (Err g) h k)
 
 -- a domain that has a fault has no template
-pub not_rows : (rows : Domain (List ℕ)) (names : List (List ℕ)) (f : RowFault) (t : List (List ℤ)) → HasTemplate rows names (Err f) → HasTemplate rows names (Ok t) → ⊥
+pub not_rows : (rows : Domain (List ℕ)) (names : List (List ℕ)) (f : RowFault) (t : List (List ℤ)) → HasTemplate rows names (Err f)
+    → HasTemplate rows names (Ok t) → ⊥
 not_rows rows names f t h k = faulty_given f t (template_once rows names (Err f) (Ok t) h k)

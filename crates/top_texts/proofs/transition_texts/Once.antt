@@ -25,14 +25,22 @@ use Rattle.top_texts.proofs.transition_texts.Systems.{system_equations}
 
 -- what the equations of a transition system are made of
 abbrev along : Content → List (List ℤ) → Equations
-along c template = record { variables = length c.names; points = length c.points; edges = edges_of (length c.points) c.edges; template = template }
+along c template = record {
+  variables = length c.names;
+  points = length c.points;
+  edges = edges_of (length c.points) c.edges;
+  template =
+      template;
+}
 
 abbrev cells_along : Content → List (List ℤ) → ℕ
 cells_along c template = cells_of (along c template)
 
 data LastStage (c : Content) (template : List (List ℤ)) (o : Option TextCause) : Type 0 where
-  many : MOST_UNKNOWNS < length c.points * length template → o ≡ Some (Unknowns (length c.points * length template)) → LastStage c template o
-  big : length c.points * length template ≤ MOST_UNKNOWNS → 134217728 < cells_along c template → o ≡ Some (Cells (cells_along c template)) → LastStage c template o
+  many : MOST_UNKNOWNS < length c.points * length template → o ≡ Some (Unknowns (length c.points * length template))
+      → LastStage c template o
+  big : length c.points * length template ≤ MOST_UNKNOWNS → 134217728 < cells_along c template → o ≡ Some (Cells (cells_along c template))
+      → LastStage c template o
   few : length c.points * length template ≤ MOST_UNKNOWNS → cells_along c template ≤ 134217728 → o ≡ None → LastStage c template o
 
 above_and_below : (n most : ℕ) → most < n → n ≤ most → ⊥
@@ -85,16 +93,19 @@ rows_stage_once : (rows : Domain (List ℕ)) (c : Content) (o p : Option TextCau
 rows_stage_once rows c o p (faulty f h e) (faulty g k i) = e ∙ ap (λ x. Some (Rows x)) (row_fault_once rows c.names f g h k) ∙ sym i
 rows_stage_once rows c o p (faulty f h e) (given u k i) = absurd (not_rows rows c.names f u h k)
 rows_stage_once rows c o p (given u h e) (faulty f k i) = absurd (not_rows rows c.names f u k h)
-rows_stage_once rows c o p (given u h e) (given v k i) = last_once c u o p e (subst (λ x. LastStage c x p) (sym (rows_once rows c.names u v h k)) i)
+rows_stage_once rows c o p (given u h e) (given v k i) = last_once c u o p e
+    (subst (λ x. LastStage c x p) (sym (rows_once rows c.names u v h k)) i)
 
 flow_once : (rows : Domain (List ℕ)) (c : Content) (o p : Option TextCause) → FlowStage rows c o → FlowStage rows c p → o ≡ p
-flow_once rows c o p (wide f h e) (wide g k i) = e ∙ ap (λ x. Some (AutoCause x)) (some_some f g (fault_of (length c.points) c.edges) h k) ∙ sym i
+flow_once rows c o p (wide f h e) (wide g k i) = e ∙ ap (λ x. Some (AutoCause x)) (some_some f g (fault_of (length c.points) c.edges) h k)
+    ∙ sym i
 flow_once rows c o p (wide f h e) (fits k i) = absurd (some_none f (fault_of (length c.points) c.edges) h k)
 flow_once rows c o p (fits h e) (wide f k i) = absurd (some_none f (fault_of (length c.points) c.edges) k h)
 flow_once rows c o p (fits h e) (fits k i) = rows_stage_once rows c o p e i
 
 text_once : (text : List ℕ) (rows : Domain (List ℕ)) (o p : Option TextCause) → TextStage text rows o → TextStage text rows p → o ≡ p
-text_once text rows o p (unread f h e) (unread g k i) = e ∙ ap (λ x. Some (AutoCause x)) (same_fault f g (one_answer text (Err f) (Err g) h k)) ∙ sym i
+text_once text rows o p (unread f h e) (unread g k i) = e ∙ ap (λ x. Some (AutoCause x))
+    (same_fault f g (one_answer text (Err f) (Err g) h k)) ∙ sym i
 text_once text rows o p (unread f h e) (read c k i) = absurd (fault_or_content f c (one_answer text (Err f) (Ok c) h k))
 text_once text rows o p (read c h e) (unread f k i) = absurd (fault_or_content f c (one_answer text (Err f) (Ok c) k h))
 text_once text rows o p (read c h e) (read d k i) =
@@ -102,7 +113,8 @@ text_once text rows o p (read c h e) (read d k i) =
 
 -- ---- what is refused, and what is a system, by stages
 
-refused_stage : (text : List ℕ) (rows : Domain (List ℕ)) (cause : TextCause) → AreNoTransitions text rows cause → TextStage text rows (Some cause)
+refused_stage : (text : List ℕ) (rows : Domain (List ℕ)) (cause : TextCause) → AreNoTransitions text rows cause
+    → TextStage text rows (Some cause)
 refused_stage text rows (Lex f) h = absurd h
 refused_stage text rows (Parse f) h = absurd h
 refused_stage text rows (Flow f) h = absurd h
@@ -118,7 +130,8 @@ refused_stage text rows (Equ f) h = absurd h
 
 system_stage : (text : List ℕ) (rows : Domain (List ℕ)) (s : System) → IsTransitionSystem text rows s → TextStage text rows None
 system_stage text rows s is =
-    read (content is.auto) is.over.text_is.reading (fits is.over.text_is.within (given is.template is.over.template_is (few is.within is.cells_within refl)))
+    read (content is.auto) is.over.text_is.reading (fits is.over.text_is.within
+    (given is.template is.over.template_is (few is.within is.cells_within refl)))
 
 same_cause : (c d : TextCause) → Some c ≡ Some d → c ≡ d
 same_cause c d e = cc
@@ -127,19 +140,25 @@ no_cause : (c : TextCause) → Some c ≡ None → ⊥
 no_cause c e = cc
 
 -- the texts of a transition system and of its rows are refused by one cause
-pub causes_once : (text : List ℕ) (rows : Domain (List ℕ)) (c d : TextCause) → AreNoTransitions text rows c → AreNoTransitions text rows d → c ≡ d
-causes_once text rows c d h k = same_cause c d (text_once text rows (Some c) (Some d) (refused_stage text rows c h) (refused_stage text rows d k))
+pub causes_once : (text : List ℕ) (rows : Domain (List ℕ)) (c d : TextCause) → AreNoTransitions text rows c → AreNoTransitions text rows d
+    → c ≡ d
+causes_once text rows c d h k = same_cause c d (text_once text rows (Some c) (Some d) (refused_stage text rows c h)
+    (refused_stage text rows d k))
 
 -- texts that are refused mean no transition system
-pub apart : (text : List ℕ) (rows : Domain (List ℕ)) (c : TextCause) (s : System) → AreNoTransitions text rows c → IsTransitionSystem text rows s → ⊥
+pub apart : (text : List ℕ) (rows : Domain (List ℕ)) (c : TextCause) (s : System) → AreNoTransitions text rows c
+    → IsTransitionSystem text rows s → ⊥
 apart text rows c s h is = no_cause c (text_once text rows (Some c) None (refused_stage text rows c h) (system_stage text rows s is))
 
 -- the systems of texts have the same equations
-pub systems_once : (text : List ℕ) (rows : Domain (List ℕ)) (s t : System) → IsTransitionSystem text rows s → IsTransitionSystem text rows t → equations_of s ≡ equations_of t
+pub systems_once : (text : List ℕ) (rows : Domain (List ℕ)) (s t : System) → IsTransitionSystem text rows s → IsTransitionSystem text rows t
+    → equations_of s ≡ equations_of t
 systems_once text rows s t a b =
-    let same : content a.auto ≡ content b.auto = same_content (content a.auto) (content b.auto) (one_answer text (Ok (content a.auto)) (Ok (content b.auto)) a.over.text_is.reading b.over.text_is.reading) in
+    let same : content a.auto ≡ content b.auto = same_content (content a.auto) (content b.auto)
+    (one_answer text (Ok (content a.auto)) (Ok (content b.auto)) a.over.text_is.reading b.over.text_is.reading) in
     let template : a.template ≡ b.template =
-    rows_once rows b.auto.names a.template b.template (subst (λ (c : Content). HasTemplate rows c.names (Ok a.template)) same a.over.template_is) b.over.template_is in
+    rows_once rows b.auto.names a.template b.template (subst (λ (c : Content). HasTemplate rows c.names (Ok a.template)) same
+    a.over.template_is) b.over.template_is in
     system_equations text rows s a
     ∙ ap (λ c. along c a.template) same
     ∙ ap (λ r. along (content b.auto) r) template

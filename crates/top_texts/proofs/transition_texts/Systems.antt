@@ -42,11 +42,14 @@ equations_along auto template s n p e t =
     ∙ ap (λ rows. made_of (length auto.names) (length auto.points) (edges_of (length auto.points) auto.edges) rows) t
 
 -- a system of a transition system's text has the equations of its automaton and template
-pub system_equations : (text : List ℕ) (rows : Domain (List ℕ)) (s : System) (is : IsTransitionSystem text rows s) → equations_of s ≡ equations_of_auto is.auto is.template
+pub system_equations : (text : List ℕ) (rows : Domain (List ℕ)) (s : System) (is : IsTransitionSystem text rows s)
+    → equations_of s ≡ equations_of_auto is.auto is.template
 system_equations text rows s is = equations_along is.auto is.template s is.names_are is.points_are is.edges_are is.system_template
 
-module _ (text : List ℕ) (rows : Domain (List ℕ)) (auto : Auto) (flow : Flow) (template : List (List ℤ)) (reading : IsAuto text (Ok (content auto)))
-    (within : fault_of (length auto.points) auto.edges ≡ None) (names_are : flow.names ≡ auto.names) (points_are : flow.points ≡ auto.points)
+module _ (text : List ℕ) (rows : Domain (List ℕ)) (auto : Auto) (flow : Flow) (template : List (List ℤ))
+    (reading : IsAuto text (Ok (content auto)))
+    (within : fault_of (length auto.points) auto.edges ≡ None) (names_are : flow.names ≡ auto.names)
+    (points_are : flow.points ≡ auto.points)
     (edges_are : flow.edges ≡ edges_of (length auto.points) auto.edges) (given : HasTemplate rows auto.names (Ok template)) where
   -- the text is that of the automaton
   pub text_is : IsAutoText text auto
@@ -56,14 +59,17 @@ module _ (text : List ℕ) (rows : Domain (List ℕ)) (auto : Auto) (flow : Flow
   over = record { text_is = text_is; template_is = given }
 
   -- a system with too many unknowns is refused by their number
-  pub too_many : MOST_UNKNOWNS < length flow.points * length template → (r : Refusal) → r ≡ refusal.Text (Unknowns (length flow.points * length template)) → IsRefusedAlong text rows r
+  pub too_many : MOST_UNKNOWNS < length flow.points * length template → (r : Refusal)
+      → r ≡ refusal.Text (Unknowns (length flow.points * length template)) → IsRefusedAlong text rows r
   too_many h r e =
       let same = ap (λ (ps : List Point). length ps * length template) points_are in
       subst (λ x. IsRefusedAlong text rows x) (sym e) (auto, template, over, subst (λ n. MOST_UNKNOWNS < n) same h, same)
 
-  module _ (s : System) (flow_is : s.flow ≡ flow) (template_is : s.template ≡ template) (few : length flow.points * length template ≤ MOST_UNKNOWNS) where
+  module _ (s : System) (flow_is : s.flow ≡ flow) (template_is : s.template ≡ template)
+      (few : length flow.points * length template ≤ MOST_UNKNOWNS) where
     same : equations_of s ≡ equations_of_auto auto template
-    same = equations_along auto template s (ap (λ (f : Flow). f.names) flow_is ∙ names_are) (ap (λ (f : Flow). f.points) flow_is ∙ points_are)
+    same = equations_along auto template s (ap (λ (f : Flow). f.names) flow_is ∙ names_are)
+        (ap (λ (f : Flow). f.points) flow_is ∙ points_are)
         (ap (λ (f : Flow). f.edges) flow_is ∙ edges_are) template_is
 
     few_points : length auto.points * length template ≤ MOST_UNKNOWNS
@@ -84,7 +90,8 @@ module _ (text : List ℕ) (rows : Domain (List ℕ)) (auto : Auto) (flow : Flow
     }
 
     -- a system with too many cells is refused by their number
-    pub too_large : 134217728 < cells_of (equations_of s) → (r : Refusal) → r ≡ refusal.Text (Cells (cells_of (equations_of s))) → IsRefusedAlong text rows r
+    pub too_large : 134217728 < cells_of (equations_of s) → (r : Refusal) → r ≡ refusal.Text (Cells (cells_of (equations_of s)))
+        → IsRefusedAlong text rows r
     too_large h r e =
         subst (λ x. IsRefusedAlong text rows x) (sym e)
         (auto, template, over, few_points, subst (λ q. 134217728 < cells_of q) same h, ap cells_of same)
@@ -103,11 +110,13 @@ refused_along text rows policy limit refusal.NoMemory h = tt
 -- ---- the report
 
 -- the report of the system is that of the texts
-pub report_put : (text : List ℕ) (rows : Domain (List ℕ)) (s : System) (policy : Policy) (limit : ℕ) (bytes : List ℕ) → PostSolutionsHoldAlong → IsTransitionSystem text rows s
+pub report_put : (text : List ℕ) (rows : Domain (List ℕ)) (s : System) (policy : Policy) (limit : ℕ) (bytes : List ℕ)
+    → PostSolutionsHoldAlong → IsTransitionSystem text rows s
     → IsRoundsReport s policy limit bytes → IsAutoReport text rows policy limit bytes
 report_put text rows s policy limit bytes law is r =
     let vector = vector_of (length s.template) r.bounds in
-    let least : Least (equations_of_auto is.auto is.template) vector = subst (λ q. Least q vector) (system_equations text rows s is) r.least in
+    let least : Least (equations_of_auto is.auto is.template) vector =
+    subst (λ q. Least q vector) (system_equations text rows s is) r.least in
     record {
       system = s;
       meant = is;
@@ -123,6 +132,7 @@ report_put text rows s policy limit bytes law is r =
     }
 
 -- where a report is written, the improvements have ended
-pub report_end : (text : List ℕ) (rows : Domain (List ℕ)) (policy : Policy) (limit : ℕ) (bytes : List ℕ) → IsAutoReport text rows policy limit bytes
+pub report_end : (text : List ℕ) (rows : Domain (List ℕ)) (policy : Policy) (limit : ℕ) (bytes : List ℕ)
+    → IsAutoReport text rows policy limit bytes
     → QuestionEnds (transitions_question exact text rows policy limit) Done
 report_end text rows policy limit bytes r = rounds_end r.system refl r.meant (r.rounds, r.within, r.vector, r.has_rounds)

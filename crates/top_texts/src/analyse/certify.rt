@@ -11,13 +11,13 @@ ghost use Rattle.ask_words.specs.declared.request.Purpose.TheVariants.{Certifica
 use super::rounds::solve;
 use crate::check::accept::accept;
 use crate::refusal::Refusal;
-use std::alloc::{AllocError, Global};
-use cert_types::{Cert, Rows};
 use ask_words::Policy;
-use flow_systems::System;
 use cert_text::write;
-use solve_rounds::Solved;
+use cert_types::{Cert, Rows};
+use flow_systems::System;
 use lang_tree::Coeffs;
+use solve_rounds::Solved;
+use std::alloc::{AllocError, Global};
 
 // Adds the rows once more.
 fn add_rows(list: &mut Vec<Coeffs>, rows: &[Coeffs]) -> Result<(), AllocError>

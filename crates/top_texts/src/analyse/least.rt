@@ -10,10 +10,10 @@ ghost use Rattle.top_texts.specs.Parted.{domain_of};
 use super::rounds::solve;
 use super::system::system_on;
 use crate::refusal::refused;
-use std::alloc::Global;
 use ask_words::{Domain, Policy};
 use flow_systems::System;
 use solve_rounds::Solved;
+use std::alloc::Global;
 use top_status::{Ending, answer_line, answer_rows};
 
 /// The equation system of a program and of its rows, and its least bounds with the number of improvements that led to them.

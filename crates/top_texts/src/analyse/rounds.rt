@@ -15,11 +15,11 @@ ghost use Rattle.top_texts.specs.Parted.{IsHalted, IsRoundsReport};
 ghost use Rattle.top_texts.specs.Policies.{rule_of};
 
 use crate::refusal::Refusal;
-use std::alloc::Global;
 use ask_words::Policy;
 use flow_systems::{Footer, System};
 use out_report::report;
 use solve_rounds::{Halt, Solved, least_by_best, least_by_first};
+use std::alloc::Global;
 
 // The rounds over a system by a policy.
 fn rounds_by(alloc: Global, system: &System, policy: Policy, limit: u32) -> Result<Solved, Halt>

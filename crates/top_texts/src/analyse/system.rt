@@ -16,12 +16,12 @@ ghost use Rattle.flow_systems.specs.declared.limits.TheConstants.{MOST_UNKNOWNS}
 use super::template::template_of;
 use crate::program::{flow_of, program_of};
 use crate::refusal::Refusal;
-use std::alloc::Global;
 use ask_words::Domain;
-use flow_systems::{System, SystemFault};
 use flow_edges::Flow;
+use flow_systems::{System, SystemFault};
 use flow_templates::{RowFault, Template};
 use lang_tree::Program;
+use std::alloc::Global;
 use top_status::TextCause;
 
 // How many cells the largest joint problem may have.

@@ -8,10 +8,10 @@ ghost use Rattle.top_texts.specs.Parted.{domain_of};
 ghost use Rattle.top_texts.specs.Texts.{HasTemplate};
 ghost use Rattle.lang_tree.specs.declared.limits.TheConstants.{MOST_VARIABLES};
 
-use std::alloc::Global;
 use ask_words::Domain;
 use flow_templates::{RowFault, Template, intervals, octagons, read_rows, zones};
 use lang_tree::Name;
+use std::alloc::Global;
 
 // The template over these variables.
 pub(crate) fn template_of(

@@ -18,14 +18,14 @@ ghost use Rattle.top_texts.specs.Reports.{IsReportBy};
 
 use super::certificate::{is_countable, system_of};
 use crate::refusal::Refusal;
-use std::alloc::Global;
-use cert_types::Cert;
 use cert_checker::{CheckFault, Scratch, check};
-use flow_systems::{Footer, System};
+use cert_types::Cert;
 use flow_edges::Flow;
-use solve_transformer::{PathFault, Paths, compose_all};
-use out_report::report;
+use flow_systems::{Footer, System};
 use lang_tree::Program;
+use out_report::report;
+use solve_transformer::{PathFault, Paths, compose_all};
+use std::alloc::Global;
 use top_status::CertCause;
 
 // The composed edges of a system.

@@ -1,7 +1,8 @@
 //! From the text of a program and the bytes of a certificate to a system and its certificate, or the cause for which they
 //! are refused.
 
-ghost use Rattle.std.specs.Prelude.{◌≡◌, ◌*◌, ◌≤◌, ◌<◌, ◌^◌, ◌≢◌, ◌&&◌, ℕ, List, [], IfOk, IfErr, IsTrue, Ok, Err, Some, length, slice_get, nat_lt};
+ghost use Rattle.std.specs.Prelude.{◌≡◌, ◌*◌, ◌≤◌, ◌<◌, ◌^◌, ◌≢◌, ◌&&◌, ℕ, List, [], IfOk, IfErr, IsTrue, Ok, Err, Some, length, slice_get};
+ghost use Rattle.std.specs.Prelude.{nat_lt};
 ghost use Rattle.std.specs.List.{list_all};
 ghost use Rattle.lang_tree.specs.Tree.{Statements};
 ghost use Rattle.flow_edges.specs.Edges.{edges_of_program};
@@ -17,12 +18,12 @@ ghost use Rattle.top_texts.specs.Parted.{FitsProgram, IsNoSystem, IsUnspelt};
 use crate::form::cert_of;
 use crate::program::{flow_of, program_of};
 use crate::refusal::Refusal;
-use std::alloc::Global;
 use cert_types::{Cert, Step};
-use flow_systems::{System, SystemFault};
 use flow_edges::Flow;
+use flow_systems::{System, SystemFault};
 use flow_templates::{RowFault, Template, from_rows};
 use lang_tree::Program;
+use std::alloc::Global;
 use top_status::CertCause;
 
 /// A program with its points and edges, and a certificate.

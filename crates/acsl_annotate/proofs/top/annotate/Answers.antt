@@ -12,7 +12,8 @@ returns-clause-answer g c = answer _ _ _ c.obey-ending.ensures.answer
 pub returns-clause-output : goal.returns-clause-output
 returns-clause-output g c =
     gets (IsAnnotated (g.S.Shelf.files c.args.shelf.now) (as_solve (map string_bytes c.args.words.now)))
-    (IsAnnotated (g.S.Shelf.files c.args.shelf.now) (as_solve (map string_bytes c.args.words.now))) _ _ _ (λ bytes r. r) c.obey-ending.ensures.held
+    (IsAnnotated (g.S.Shelf.files c.args.shelf.now) (as_solve (map string_bytes c.args.words.now))) _ _ _ (λ bytes r. r)
+    c.obey-ending.ensures.held
 
 pub returns-clause-complete : goal.returns-clause-complete
 returns-clause-complete g c =
@@ -21,4 +22,5 @@ returns-clause-complete g c =
 
 pub returns-clause-message : goal.returns-clause-message
 returns-clause-message g c =
-    said_put _ _ _ c.obey-ending.result.line c.obey-ending.result.rows _ _ _ _ _ _ _ c.obey-ending.ensures.line c.obey-ending.ensures.rows c.say.ensures.gets c.say.ensures.piece
+    said_put _ _ _ c.obey-ending.result.line c.obey-ending.result.rows _ _ _ _ _ _ _ c.obey-ending.ensures.line c.obey-ending.ensures.rows
+    c.say.ensures.gets c.say.ensures.piece

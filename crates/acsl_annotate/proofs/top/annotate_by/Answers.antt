@@ -16,7 +16,8 @@ returns-in-Ok-clause-read g c = λ which e. failed_in _ _ _ _ _ _ _ which c.in-O
 
 pub returns-in-Ok-clause-held : goal.returns-in-Ok-clause-held
 returns-in-Ok-clause-held g c =
-    output_map (IsAnnotatedOn (g.S.Shelf.files c.args.shelf.now) (analysis_text c.in-Ok.analysis)) (IsAnnotated (g.S.Shelf.files c.args.shelf.now) (map string_bytes c.args.words.now)) _ _ _
+    output_map (IsAnnotatedOn (g.S.Shelf.files c.args.shelf.now) (analysis_text c.in-Ok.analysis))
+    (IsAnnotated (g.S.Shelf.files c.args.shelf.now) (map string_bytes c.args.words.now)) _ _ _
     (λ bytes r. (analysis_text c.in-Ok.analysis, c.in-Ok.ensures.ok, r)) c.annotate_program.ensures.held
 
 pub returns-in-Ok-clause-line : goal.returns-in-Ok-clause-line

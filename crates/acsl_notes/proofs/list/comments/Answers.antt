@@ -14,7 +14,8 @@ returns c list e =
     let found = c.loop-point.found.items in
     let point = c.loop-point.point in
     let behind : length points ≤ point = omega (arith, ap length c.as_slice-point-end.ensures) in
-    sym (ap (λ more. found ++ more) (none_behind text system.flow.names system.template vector point point points (map anchor_of (drop c.loop-point.used c.args.anchors.now)) behind)
+    sym (ap (λ more. found ++ more) (none_behind text system.flow.names system.template vector point point points
+    (map anchor_of (drop c.loop-point.used c.args.anchors.now)) behind)
     ∙ append-nil found)
     ∙ c.loop-point.invariant.comments
     ∙ ap (λ anchors. comments_from text system.flow.names system.template vector 0 points (map anchor_of anchors)) e

@@ -21,4 +21,5 @@ returns-in_ok-push_more_invariants-in-len1-up c =
     ∙ ap (λ items. c.push_invariant.new.text.items ++ rest items) (take_rest said 1)
     ∙ ap (λ t. t ++ left) c.in_ok-push_invariant-in-len1-up.ensures
     ∙ append_assoc text (invariant_text names (clause_of rows item)) left
-    ∙ ap (λ (items : List Said). text ++ joined between (map (invariant_text names) (clauses_of_said rows items))) (sym (next_item said 0 item some c.first-item.is))
+    ∙ ap (λ (items : List Said). text ++ joined between (map (invariant_text names) (clauses_of_said rows items)))
+    (sym (next_item said 0 item some c.first-item.is))

@@ -5,4 +5,5 @@ use Rattle.ask_claims.proofs.lines.push_state.Given as goal
 
 abbrev pub invariant-loop-index : goal.invariant-loop-index
 invariant-loop-index l =
-    l.text.items ++ state_text l.before (drop l.index l.names) (drop l.index l.state) ≡ l.initial.text.items ++ state_text (codes " at ") l.names l.state
+    l.text.items ++ state_text l.before (drop l.index l.names) (drop l.index l.state)
+    ≡ l.initial.text.items ++ state_text (codes " at ") l.names l.state

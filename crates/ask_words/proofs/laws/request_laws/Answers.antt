@@ -6,7 +6,8 @@ use Rattle.ask_words.proofs.request.AnyName.{any_name}
 use Rattle.ask_words.proofs.laws.request_laws.Goals as goal
 
 pub returns-clause-any_name : goal.returns-clause-any_name
-returns-clause-any_name c = λ first rest other. any_name first rest (⊎_elim (λ same. absurd (other same.1)) (λ unlike. unlike.0) (eqb_tells first 45))
+returns-clause-any_name c = λ first rest other. any_name first rest (⊎_elim (λ same. absurd (other same.1)) (λ unlike. unlike.0)
+    (eqb_tells first 45))
 
 pub returns-clause-one_word : goal.returns-clause-one_word
 unfolding clap_on_literals request_of

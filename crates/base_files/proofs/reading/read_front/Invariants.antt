@@ -3,7 +3,8 @@ use Rattle.std.specs.Io.KnownBytes.{Consumes}
 use Rattle.base_files.proofs.reading.read_front.Given as goal
 
 abbrev pub invariant-loop-bytes : goal.invariant-loop-bytes
-invariant-loop-bytes g l = (vec_len l.bytes ≤ l.most) × Consumes (g.R.Read.remaining l.initial.reader) (g.R.Read.remaining l.reader) l.bytes.items
+invariant-loop-bytes g l = (vec_len l.bytes ≤ l.most) × Consumes (g.R.Read.remaining l.initial.reader) (g.R.Read.remaining l.reader)
+    l.bytes.items
 
 abbrev pub decreases-loop-bytes : goal.decreases-loop-bytes
 decreases-loop-bytes g l = l.most - vec_len l.bytes

@@ -11,7 +11,8 @@ returns-in-Ok g c =
     let whole = with_items_is c.resize.new.self filled (search (rules, places)) in
     let long : length filled ≡ start + c.args.room = search (rules, places) in
     let begins : start ≡ length c.args.bytes.now.items = search (rules, places) in
-    let front = front_of_longer c.args.bytes.now.items c.resize.new.self.items _ start (start + c.args.room) begins (omega arith) c.in_ok-resize.ensures.items in
+    let front = front_of_longer c.args.bytes.now.items c.resize.new.self.items _ start (start + c.args.room) begins (omega arith)
+    c.in_ok-resize.ensures.items in
     moves_piece _ _ c.args.bytes.now.items filled _ start c.in-Ok.count _ begins
     (c.in-Ok.ensures.front ∙ ap (take start) c.as_mut_slice.ensures.value ∙ front) long
     (c.truncate.ensures.items ∙ ap (take end) whole) c.in-Ok.ensures.within c.in-Ok.ensures.bytes

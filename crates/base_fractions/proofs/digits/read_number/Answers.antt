@@ -10,7 +10,8 @@ pub returns-in-Ok : goal.returns-in-Ok
 returns-in-Ok c = λ z h e.
     let m = mag_small z h in
     let f : FitsSigned w64 z = record { sfits = m } in
-    c.ok.ensures.value ∙ ap result_ok (parse-signed_decimal w64 z c.in-Ok.text.now c.parse.result f m (c.in-Ok.ensures.cases.0 ∙ e) c.parse.ensures.value.0)
+    c.ok.ensures.value ∙ ap result_ok (parse-signed_decimal w64 z c.in-Ok.text.now c.parse.result f m (c.in-Ok.ensures.cases.0 ∙ e)
+    c.parse.ensures.value.0)
 
 pub returns-in-Err : goal.returns-in-Err
 returns-in-Err c = λ z h e.

@@ -25,4 +25,5 @@ odd_gcd-odd-requires-clause-b_odd c = (odd_part 64 c.args.b (omega (arith, c.if-
 
 pub returns : goal.returns
 returns c =
-    gcd_shifted c.args.a c.args.b c.odd_gcd-odd.result c.min.result (omega (arith, c.if-a-eq0.false)) (omega (arith, c.if-b-eq0.false)) c.ranges.a.fits c.ranges.b.fits c.odd_gcd-odd.ensures c.min.ensures
+    gcd_shifted c.args.a c.args.b c.odd_gcd-odd.result c.min.result (omega (arith, c.if-a-eq0.false)) (omega (arith, c.if-b-eq0.false))
+    c.ranges.a.fits c.ranges.b.fits c.odd_gcd-odd.ensures c.min.ensures

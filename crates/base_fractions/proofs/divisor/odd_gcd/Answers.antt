@@ -6,7 +6,8 @@ use Rattle.base_fractions.proofs.divisor.odd_gcd.Goals as goal
 pub loop-x-preserved : goal.loop-x-preserved
 loop-x-preserved c =
     let i = c.loop-x.invariant in
-    let h = halved_gcd 64 c.loop-x.x c.loop-x.y c.min-x.result c.abs_diff-gap.result i.x_odd i.y_odd c.loop-x-test.true c.abs_diff-gap.type_inv c.min-x.ensures c.abs_diff-gap.ensures in
+    let h = halved_gcd 64 c.loop-x.x c.loop-x.y c.min-x.result c.abs_diff-gap.result i.x_odd i.y_odd c.loop-x-test.true
+    c.abs_diff-gap.type_inv c.min-x.ensures c.abs_diff-gap.ensures in
     record { same = h.0 ∙ i.same; x_odd = h.1; y_odd = h.2 }
 
 pub returns : goal.returns

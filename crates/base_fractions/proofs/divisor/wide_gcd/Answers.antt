@@ -9,5 +9,6 @@ returns-then-g-eq1 c = sym (ap (gcd_of (nat_abs c.args.t)) c.if-g-eq1.true ∙ (
 
 pub returns : goal.returns
 returns c =
-    c.gcd.ensures ∙ ap (λ x. gcd_of x c.args.g) c.rest.ensures ∙ gcd_comm (c.unsigned_abs.result % c.args.g) c.args.g ∙ gcd-step c.unsigned_abs.result c.args.g
+    c.gcd.ensures ∙ ap (λ x. gcd_of x c.args.g) c.rest.ensures ∙ gcd_comm (c.unsigned_abs.result % c.args.g) c.args.g
+    ∙ gcd-step c.unsigned_abs.result c.args.g
     ∙ ap (λ x. gcd_of x c.args.g) (c.unsigned_abs.ensures.value ∙ ap nat_abs (to_z-of_z c.ranges.t))

@@ -12,7 +12,8 @@ pub signed_quotient-requires-clause-positive : goal.signed_quotient-requires-cla
 signed_quotient-requires-clause-positive c = gcd_positive _ _ c.gcd-g.ensures (reduced_den c.args.bn c.args.bd c.requires.b_lowest)
 
 pub signed_quotient-requires-clause-small : goal.signed_quotient-requires-clause-small
-signed_quotient-requires-clause-small c = gcd_small _ _ c.gcd-g.ensures (reduced_den c.args.bn c.args.bd c.requires.b_lowest) c.requires.b_den
+signed_quotient-requires-clause-small c = gcd_small _ _ c.gcd-g.ensures (reduced_den c.args.bn c.args.bd c.requires.b_lowest)
+    c.requires.b_den
 
 pub signed_quotient-requires-clause-divides : goal.signed_quotient-requires-clause-divides
 signed_quotient-requires-clause-divides c = subst (λ x. c.gcd-g.result ∣ x) c.unsigned_abs.ensures.value (gcd_left _ _ c.gcd-g.ensures)
@@ -21,7 +22,8 @@ pub signed_quotient-requires-2-clause-positive : goal.signed_quotient-requires-2
 signed_quotient-requires-2-clause-positive c = gcd_positive _ _ c.gcd-h.ensures (reduced_den c.args.an c.args.ad c.requires.a_lowest)
 
 pub signed_quotient-requires-2-clause-small : goal.signed_quotient-requires-2-clause-small
-signed_quotient-requires-2-clause-small c = gcd_small _ _ c.gcd-h.ensures (reduced_den c.args.an c.args.ad c.requires.a_lowest) c.requires.a_den
+signed_quotient-requires-2-clause-small c = gcd_small _ _ c.gcd-h.ensures (reduced_den c.args.an c.args.ad c.requires.a_lowest)
+    c.requires.a_den
 
 pub signed_quotient-requires-2-clause-divides : goal.signed_quotient-requires-2-clause-divides
 signed_quotient-requires-2-clause-divides c = subst (λ x. c.gcd-h.result ∣ x) c.unsigned_abs-2.ensures.value (gcd_left _ _ c.gcd-h.ensures)
@@ -38,10 +40,12 @@ quotient-requires-2-clause-positive c = gcd_positive _ _ c.gcd-g.ensures (reduce
 pub quotient-requires-2-clause-divides : goal.quotient-requires-2-clause-divides
 quotient-requires-2-clause-divides c = gcd_right _ _ c.gcd-g.ensures
 
-num_read : (c : goal.After-quotient-2) → to_z w128 (of_z w128 c.signed_product-num.result) ≡ c.signed_quotient.result *ℤ c.signed_quotient-2.result
+num_read : (c : goal.After-quotient-2) → to_z w128 (of_z w128 c.signed_product-num.result)
+    ≡ c.signed_quotient.result *ℤ c.signed_quotient-2.result
 num_read c =
     to_z-of_z w128 c.signed_product-num.result record { sfits = c.signed_product-num.type_inv } ∙ c.signed_product-num.ensures
-    ∙ ap₂ (λ x y. x *ℤ y) (to_z-of_z w64 c.signed_quotient.result record { sfits = c.signed_quotient.type_inv }) (to_z-of_z w64 c.signed_quotient-2.result record { sfits = c.signed_quotient-2.type_inv })
+    ∙ ap₂ (λ x y. x *ℤ y) (to_z-of_z w64 c.signed_quotient.result record { sfits = c.signed_quotient.type_inv })
+    (to_z-of_z w64 c.signed_quotient-2.result record { sfits = c.signed_quotient-2.type_inv })
 
 left_times : (c : goal.After-quotient-2) → c.signed_quotient.result *ℤ pos c.gcd-g.result ≡ c.args.an
 left_times c = c.signed_quotient.ensures.value ∙ to_z-of_z w64 c.args.an c.ranges.an
@@ -52,15 +56,19 @@ right_times c = c.signed_quotient-2.ensures.value ∙ to_z-of_z w64 c.args.bn c.
 pub returns-clause-product : goal.returns-clause-product
 returns-clause-product c =
     ap (λ z. ratio z (c.quotient.result * c.quotient-2.result)) (num_read c)
-    ∙ product_is c.args.an c.args.bn c.signed_quotient.result c.signed_quotient-2.result c.args.ad c.args.bd c.quotient.result c.quotient-2.result c.gcd-g.result c.gcd-h.result
+    ∙ product_is c.args.an c.args.bn c.signed_quotient.result c.signed_quotient-2.result c.args.ad c.args.bd c.quotient.result
+    c.quotient-2.result c.gcd-g.result c.gcd-h.result
     (left_times c) (right_times c) c.quotient.ensures.value c.quotient-2.ensures.value c.requires.a_lowest c.requires.b_lowest
 
 pub returns-clause-lowest : goal.returns-clause-lowest
 returns-clause-lowest c =
-    let left : c.unsigned_abs.result ≡ nat_abs c.args.an = c.unsigned_abs.ensures.value ∙ ap nat_abs (to_z-of_z w64 c.args.an c.ranges.an) in
-    let right : c.unsigned_abs-2.result ≡ nat_abs c.args.bn = c.unsigned_abs-2.ensures.value ∙ ap nat_abs (to_z-of_z w64 c.args.bn c.ranges.bn) in
+    let left : c.unsigned_abs.result ≡ nat_abs c.args.an = c.unsigned_abs.ensures.value
+    ∙ ap nat_abs (to_z-of_z w64 c.args.an c.ranges.an) in
+    let right : c.unsigned_abs-2.result ≡ nat_abs c.args.bn = c.unsigned_abs-2.ensures.value
+    ∙ ap nat_abs (to_z-of_z w64 c.args.bn c.ranges.bn) in
     subst (λ z. T (is_reduced z (c.quotient.result * c.quotient-2.result))) (sym (num_read c))
-    (product_reduced c.args.an c.args.bn c.signed_quotient.result c.signed_quotient-2.result c.args.ad c.args.bd c.quotient.result c.quotient-2.result c.gcd-g.result c.gcd-h.result
+    (product_reduced c.args.an c.args.bn c.signed_quotient.result c.signed_quotient-2.result c.args.ad c.args.bd c.quotient.result
+    c.quotient-2.result c.gcd-g.result c.gcd-h.result
     (left_times c) (right_times c) c.quotient.ensures.value c.quotient-2.ensures.value c.requires.a_lowest c.requires.b_lowest
     (c.gcd-g.ensures ∙ ap (λ x. gcd x c.args.bd) left) (c.gcd-h.ensures ∙ ap (λ x. gcd x c.args.ad) right))
 

@@ -9,4 +9,5 @@ use Rattle.cert_checker.proofs.combination.Multiples.{IsAdded}
 use Rattle.cert_checker.proofs.combination.row_side.Given as goal
 
 abbrev pub invariant-loop-r : goal.invariant-loop-r
-invariant-loop-r l = (z : Vector) → Stands (equations_of l.system) l.bounds z → IsAdded zero_ℚ l.rows (map (λ r. num (z l.point r)) (range_with_len 0 (length l.system.template))) l.r l.sum
+invariant-loop-r l = (z : Vector) → Stands (equations_of l.system) l.bounds z
+    → IsAdded zero_ℚ l.rows (map (λ r. num (z l.point r)) (range_with_len 0 (length l.system.template))) l.r l.sum

@@ -18,9 +18,12 @@ returns-in_err-sum c = λ z e h f.
     let S = equations_of c.args.system.now in
     let found = c.index-as_slice-edge.result in
     let here = get_or c.as_slice.result.now c.args.edge found in
-    let q : here ≡ e = ap (λ es. get_or es c.args.edge found) c.as_slice.ensures ∙ get_or_from_slice_get c.args.system.now.flow.edges c.args.edge e found f in
+    let q : here ≡ e = ap (λ es. get_or es c.args.edge found) c.as_slice.ensures
+    ∙ get_or_from_slice_get c.args.system.now.flow.edges c.args.edge e found f in
     let o = operation_of (λ q. q) c.in_err-sum.field-0.0 in
-    let w : first_wide long_limit (products zero_ℚ c.args.rows.now (row_numbers S z e)) ≡ Some o = subst (λ (x : Edge). first_wide long_limit (products zero_ℚ c.args.rows.now (row_numbers S z x)) ≡ Some o) q (c.in_err-sum.ensures z h) in
+    let w : first_wide long_limit (products zero_ℚ c.args.rows.now (row_numbers S z e)) ≡ Some o =
+    subst (λ (x : Edge). first_wide long_limit (products zero_ℚ c.args.rows.now (row_numbers S z x)) ≡ Some o) q
+    (c.in_err-sum.ensures z h) in
     rw (p.1, p.2) (side_refused S e c.args.rows.now c.args.guards.now z o w)
 
 pub guard_side-requires-clause-guards : goal.guard_side-requires-clause-guards
@@ -35,9 +38,13 @@ returns c = λ z e h f.
     let S = equations_of c.args.system.now in
     let found = c.index-as_slice-edge.result in
     let here = get_or c.as_slice.result.now c.args.edge found in
-    let q : here ≡ e = ap (λ es. get_or es c.args.edge found) c.as_slice.ensures ∙ get_or_from_slice_get c.args.system.now.flow.edges c.args.edge e found f in
+    let q : here ≡ e = ap (λ es. get_or es c.args.edge found) c.as_slice.ensures
+    ∙ get_or_from_slice_get c.args.system.now.flow.edges c.args.edge e found f in
     let sum = c.in_ok-sum.sum in
     let a = c.in_ok-sum.ensures z h in
-    let is : sum ≡ total zero_ℚ c.args.rows.now (row_numbers S z e) = subst (λ (x : Edge). sum ≡ total zero_ℚ c.args.rows.now (row_numbers S z x)) q a.0 in
-    let none : first_wide long_limit (products zero_ℚ c.args.rows.now (row_numbers S z e)) ≡ None = subst (λ (x : Edge). first_wide long_limit (products zero_ℚ c.args.rows.now (row_numbers S z x)) ≡ None) q a.1 in
-    side_answers S e c.args.rows.now c.args.guards.now c.args.paths.now c.requires.paths c.args.edge f c.requires.rows z sum is none c.guard_side.result c.guard_side.ensures
+    let is : sum ≡ total zero_ℚ c.args.rows.now (row_numbers S z e) = subst
+    (λ (x : Edge). sum ≡ total zero_ℚ c.args.rows.now (row_numbers S z x)) q a.0 in
+    let none : first_wide long_limit (products zero_ℚ c.args.rows.now (row_numbers S z e)) ≡ None =
+    subst (λ (x : Edge). first_wide long_limit (products zero_ℚ c.args.rows.now (row_numbers S z x)) ≡ None) q a.1 in
+    side_answers S e c.args.rows.now c.args.guards.now c.args.paths.now c.requires.paths c.args.edge f c.requires.rows z sum is none
+    c.guard_side.result c.guard_side.ensures

@@ -14,7 +14,8 @@ use Rattle.cert_checker.specs.Events.{fault_answer, wide_answer}
 use Rattle.cert_checker.specs.EvidenceEvents.{combination_events}
 use Rattle.cert_checker.proofs.combination.Forms.{no_edge, edge_there, row_count}
 use Rattle.cert_checker.proofs.uppers.Numbers.{bound_of}
-use Rattle.cert_checker.proofs.evidence.Events.{row_some, is_read, bound_infinite, bound_stops, bound_wide, bound_yes, bound_no, constant_added}
+use Rattle.cert_checker.proofs.evidence.Events.{row_some, is_read, bound_infinite, bound_stops, bound_wide, bound_yes, bound_no}
+use Rattle.cert_checker.proofs.evidence.Events.{constant_added}
 use Rattle.cert_checker.proofs.evidence.Sums.{found_none, found_some}
 use Rattle.cert_checker.proofs.evidence.bound_passes.Goals as goal
 
@@ -29,8 +30,10 @@ returns-in_default c = λ z e h f site fault.
     let S = equations_of c.args.system.now in
     let T = c.args.system.now.template in
     let r = c.args.unknown % length T in
-    let b : extended c.at.result ≡ z (c.args.unknown / length T) r = c.at.ensures ∙ bound_of S c.args.bounds.now z h c.args.unknown c.requires.unknown in
-    bound_infinite site fault S z e c.args.rows.now c.args.guards.now (get_or T r []) (z (c.args.unknown / length T) r) (λ k. unbound c.at.result c.in_default.not-Fin (k.0, b ∙ k.1))
+    let b : extended c.at.result ≡ z (c.args.unknown / length T) r = c.at.ensures
+    ∙ bound_of S c.args.bounds.now z h c.args.unknown c.requires.unknown in
+    bound_infinite site fault S z e c.args.rows.now c.args.guards.now (get_or T r []) (z (c.args.unknown / length T) r)
+    (λ k. unbound c.at.result c.in_default.not-Fin (k.0, b ∙ k.1))
 
 pub row-end-requires-clause-row : goal.row-end-requires-clause-row
 row-end-requires-clause-row c = λ forms at.
@@ -39,7 +42,8 @@ row-end-requires-clause-row c = λ forms at.
     let f = edge_there c.args.system.now.flow.edges c.args.edge c.requires.edge in
     let n : length c.as_slice.result.now ≡ length c.args.system.now.template = ap (λ rs. length rs) c.as_slice.ensures.rows in
     let k = row_count S c.args.paths.now c.requires.paths c.args.edge e f forms at in
-    let u : c.args.unknown < length c.args.system.now.flow.points * length c.args.system.now.template = subst (λ m. c.args.unknown < m) c.requires.bounds c.requires.unknown in
+    let u : c.args.unknown < length c.args.system.now.flow.points * length c.args.system.now.template =
+    subst (λ m. c.args.unknown < m) c.requires.bounds c.requires.unknown in
     let s = row_some c.args.unknown (length c.args.system.now.flow.points) (length c.args.system.now.template) u in
     omega (arith, n, k, s)
 
@@ -49,19 +53,28 @@ returns-in_err-value c = λ z e h f site fault.
     let S = equations_of c.args.system.now in
     let row = get_or c.args.system.now.template (c.args.unknown % length c.args.system.now.template) [] in
     let number = z (c.args.unknown / length c.args.system.now.template) (c.args.unknown % length c.args.system.now.template) in
-    let i = is_read site fault S c.args.paths.now c.requires.paths c.args.bounds.now z h c.args.edge e f c.args.rows.now c.args.guards.now c.args.unknown c.requires.unknown (extended c.at.result) c.at.ensures c.in-Fin.limit (ap extended c.in-Fin.is) (length c.as_slice.result.now) (ap (λ rs. length rs) c.as_slice.ensures.rows) c.row-end.result.now c.row-end.ensures c.as_slice-coeffs.result.now c.as_slice-coeffs.ensures in
+    let i = is_read site fault S c.args.paths.now c.requires.paths c.args.bounds.now z h c.args.edge e f c.args.rows.now c.args.guards.now
+    c.args.unknown c.requires.unknown (extended c.at.result) c.at.ensures c.in-Fin.limit (ap extended c.in-Fin.is)
+    (length c.as_slice.result.now) (ap (λ rs. length rs) c.as_slice.ensures.rows) c.row-end.result.now c.row-end.ensures
+    c.as_slice-coeffs.result.now c.as_slice-coeffs.ensures in
     let a = wide_answer site (operation_of (λ q. q) c.in_err-value.field-0.0) in
-    rw (p.1, p.2) (bound_stops site fault S z e c.args.rows.now c.args.guards.now row number c.in-Fin.limit i.finite c.as_slice-coeffs.result.now i.columns a (c.in_err-value.ensures z e h f site fault))
+    rw (p.1, p.2) (bound_stops site fault S z e c.args.rows.now c.args.guards.now row number c.in-Fin.limit i.finite
+    c.as_slice-coeffs.result.now i.columns a (c.in_err-value.ensures z e h f site fault))
 
 pub returns-in_default-2 : goal.returns-in_default-2
 returns-in_default-2 c = λ z e h f site fault.
     let S = equations_of c.args.system.now in
     let row = get_or c.args.system.now.template (c.args.unknown % length c.args.system.now.template) [] in
     let number = z (c.args.unknown / length c.args.system.now.template) (c.args.unknown % length c.args.system.now.template) in
-    let i = is_read site fault S c.args.paths.now c.requires.paths c.args.bounds.now z h c.args.edge e f c.args.rows.now c.args.guards.now c.args.unknown c.requires.unknown (extended c.at.result) c.at.ensures c.in-Fin.limit (ap extended c.in-Fin.is) (length c.as_slice.result.now) (ap (λ rs. length rs) c.as_slice.ensures.rows) c.row-end.result.now c.row-end.ensures c.as_slice-coeffs.result.now c.as_slice-coeffs.ensures in
+    let i = is_read site fault S c.args.paths.now c.requires.paths c.args.bounds.now z h c.args.edge e f c.args.rows.now c.args.guards.now
+    c.args.unknown c.requires.unknown (extended c.at.result) c.at.ensures c.in-Fin.limit (ap extended c.in-Fin.is)
+    (length c.as_slice.result.now) (ap (λ rs. length rs) c.as_slice.ensures.rows) c.row-end.result.now c.row-end.ensures
+    c.as_slice-coeffs.result.now c.as_slice-coeffs.ensures in
     let es = combination_events site fault S z e c.args.rows.now c.args.guards.now c.as_slice-coeffs.result.now in
-    let missed = found_none es fault (side S z e c.args.rows.now c.args.guards.now) c.in_ok-value.field-0 c.in_default-2.not-Some (c.in_ok-value.ensures z e h f site fault) in
-    bound_stops site fault S z e c.args.rows.now c.args.guards.now row number c.in-Fin.limit i.finite c.as_slice-coeffs.result.now i.columns (fault_answer fault) missed
+    let missed = found_none es fault (side S z e c.args.rows.now c.args.guards.now) c.in_ok-value.field-0 c.in_default-2.not-Some
+    (c.in_ok-value.ensures z e h f site fault) in
+    bound_stops site fault S z e c.args.rows.now c.args.guards.now row number c.in-Fin.limit i.finite c.as_slice-coeffs.result.now i.columns
+    (fault_answer fault) missed
 
 pub returns-in_err-most : goal.returns-in_err-most
 returns-in_err-most c = λ z e h f site fault.
@@ -69,30 +82,52 @@ returns-in_err-most c = λ z e h f site fault.
     let S = equations_of c.args.system.now in
     let row = get_or c.args.system.now.template (c.args.unknown % length c.args.system.now.template) [] in
     let number = z (c.args.unknown / length c.args.system.now.template) (c.args.unknown % length c.args.system.now.template) in
-    let i = is_read site fault S c.args.paths.now c.requires.paths c.args.bounds.now z h c.args.edge e f c.args.rows.now c.args.guards.now c.args.unknown c.requires.unknown (extended c.at.result) c.at.ensures c.in-Fin.limit (ap extended c.in-Fin.is) (length c.as_slice.result.now) (ap (λ rs. length rs) c.as_slice.ensures.rows) c.row-end.result.now c.row-end.ensures c.as_slice-coeffs.result.now c.as_slice-coeffs.ensures in
+    let i = is_read site fault S c.args.paths.now c.requires.paths c.args.bounds.now z h c.args.edge e f c.args.rows.now c.args.guards.now
+    c.args.unknown c.requires.unknown (extended c.at.result) c.at.ensures c.in-Fin.limit (ap extended c.in-Fin.is)
+    (length c.as_slice.result.now) (ap (λ rs. length rs) c.as_slice.ensures.rows) c.row-end.result.now c.row-end.ensures
+    c.as_slice-coeffs.result.now c.as_slice-coeffs.ensures in
     let es = combination_events site fault S z e c.args.rows.now c.args.guards.now c.as_slice-coeffs.result.now in
-    let found = found_some es fault (side S z e c.args.rows.now c.args.guards.now) c.in_ok-value.field-0 c.in-Some.value c.in-Some.is (c.in_ok-value.ensures z e h f site fault) in
-    let w = constant_added site fault S z e c.args.rows.now c.args.guards.now row number c.in-Some.value c.row-end.result.now.constant (Err c.in_err-most.field-0.0) found.0 i.constant c.in_err-most.ensures in
-    rw (p.1, p.2) (bound_wide site fault S z e c.args.rows.now c.args.guards.now row number c.in-Fin.limit i.finite c.as_slice-coeffs.result.now i.columns found.1 (operation_of (λ q. q) c.in_err-most.field-0.0) w)
+    let found = found_some es fault (side S z e c.args.rows.now c.args.guards.now) c.in_ok-value.field-0 c.in-Some.value c.in-Some.is
+    (c.in_ok-value.ensures z e h f site fault) in
+    let w = constant_added site fault S z e c.args.rows.now c.args.guards.now row number c.in-Some.value c.row-end.result.now.constant
+    (Err c.in_err-most.field-0.0) found.0 i.constant c.in_err-most.ensures in
+    rw (p.1, p.2) (bound_wide site fault S z e c.args.rows.now c.args.guards.now row number c.in-Fin.limit i.finite
+    c.as_slice-coeffs.result.now i.columns found.1 (operation_of (λ q. q) c.in_err-most.field-0.0) w)
 
 pub returns-then-le : goal.returns-then-le
 returns-then-le c = λ z e h f site fault.
     let S = equations_of c.args.system.now in
     let row = get_or c.args.system.now.template (c.args.unknown % length c.args.system.now.template) [] in
     let number = z (c.args.unknown / length c.args.system.now.template) (c.args.unknown % length c.args.system.now.template) in
-    let i = is_read site fault S c.args.paths.now c.requires.paths c.args.bounds.now z h c.args.edge e f c.args.rows.now c.args.guards.now c.args.unknown c.requires.unknown (extended c.at.result) c.at.ensures c.in-Fin.limit (ap extended c.in-Fin.is) (length c.as_slice.result.now) (ap (λ rs. length rs) c.as_slice.ensures.rows) c.row-end.result.now c.row-end.ensures c.as_slice-coeffs.result.now c.as_slice-coeffs.ensures in
-    let found = found_some (combination_events site fault S z e c.args.rows.now c.args.guards.now c.as_slice-coeffs.result.now) fault (side S z e c.args.rows.now c.args.guards.now) c.in_ok-value.field-0 c.in-Some.value c.in-Some.is (c.in_ok-value.ensures z e h f site fault) in
-    let w = constant_added site fault S z e c.args.rows.now c.args.guards.now row number c.in-Some.value c.row-end.result.now.constant (Ok c.in_ok-most.most) found.0 i.constant c.in_ok-most.ensures in
-    let t = test_le c.in_ok-most.most c.in-Fin.limit c.le.result c.le.ensures in
-    (tt, bound_yes site fault S z e c.args.rows.now c.args.guards.now row number c.in-Fin.limit i.finite c.as_slice-coeffs.result.now i.columns found.1 w.1 c.in_ok-most.most w.0 (t.0 c.if-le.true))
+    let i = is_read site fault S c.args.paths.now c.requires.paths c.args.bounds.now z h c.args.edge e f c.args.rows.now c.args.guards.now
+    c.args.unknown c.requires.unknown (extended c.at.result) c.at.ensures c.in-Fin.limit (ap extended c.in-Fin.is)
+    (length c.as_slice.result.now) (ap (λ rs. length rs) c.as_slice.ensures.rows) c.row-end.result.now c.row-end.ensures
+    c.as_slice-coeffs.result.now c.as_slice-coeffs.ensures in
+    let found = found_some (combination_events site fault S z e c.args.rows.now c.args.guards.now c.as_slice-coeffs.result.now) fault
+    (side S z e c.args.rows.now c.args.guards.now) c.in_ok-value.field-0 c.in-Some.value c.in-Some.is
+    (c.in_ok-value.ensures z e h f site fault) in
+    let w = constant_added site fault S z e c.args.rows.now c.args.guards.now row number c.in-Some.value c.row-end.result.now.constant
+    (Ok c.in_ok-most.most) found.0 i.constant c.in_ok-most.ensures in
+    let t = test_le c.in_ok-most.most c.in-Fin.limit c.le.result c.le.ensures in (
+      tt,
+      bound_yes site fault S z e c.args.rows.now c.args.guards.now row number c.in-Fin.limit i.finite c.as_slice-coeffs.result.now
+          i.columns found.1 w.1 c.in_ok-most.most w.0 (t.0 c.if-le.true),
+    )
 
 pub returns-else-le : goal.returns-else-le
 returns-else-le c = λ z e h f site fault.
     let S = equations_of c.args.system.now in
     let row = get_or c.args.system.now.template (c.args.unknown % length c.args.system.now.template) [] in
     let number = z (c.args.unknown / length c.args.system.now.template) (c.args.unknown % length c.args.system.now.template) in
-    let i = is_read site fault S c.args.paths.now c.requires.paths c.args.bounds.now z h c.args.edge e f c.args.rows.now c.args.guards.now c.args.unknown c.requires.unknown (extended c.at.result) c.at.ensures c.in-Fin.limit (ap extended c.in-Fin.is) (length c.as_slice.result.now) (ap (λ rs. length rs) c.as_slice.ensures.rows) c.row-end.result.now c.row-end.ensures c.as_slice-coeffs.result.now c.as_slice-coeffs.ensures in
-    let found = found_some (combination_events site fault S z e c.args.rows.now c.args.guards.now c.as_slice-coeffs.result.now) fault (side S z e c.args.rows.now c.args.guards.now) c.in_ok-value.field-0 c.in-Some.value c.in-Some.is (c.in_ok-value.ensures z e h f site fault) in
-    let w = constant_added site fault S z e c.args.rows.now c.args.guards.now row number c.in-Some.value c.row-end.result.now.constant (Ok c.in_ok-most.most) found.0 i.constant c.in_ok-most.ensures in
+    let i = is_read site fault S c.args.paths.now c.requires.paths c.args.bounds.now z h c.args.edge e f c.args.rows.now c.args.guards.now
+    c.args.unknown c.requires.unknown (extended c.at.result) c.at.ensures c.in-Fin.limit (ap extended c.in-Fin.is)
+    (length c.as_slice.result.now) (ap (λ rs. length rs) c.as_slice.ensures.rows) c.row-end.result.now c.row-end.ensures
+    c.as_slice-coeffs.result.now c.as_slice-coeffs.ensures in
+    let found = found_some (combination_events site fault S z e c.args.rows.now c.args.guards.now c.as_slice-coeffs.result.now) fault
+    (side S z e c.args.rows.now c.args.guards.now) c.in_ok-value.field-0 c.in-Some.value c.in-Some.is
+    (c.in_ok-value.ensures z e h f site fault) in
+    let w = constant_added site fault S z e c.args.rows.now c.args.guards.now row number c.in-Some.value c.row-end.result.now.constant
+    (Ok c.in_ok-most.most) found.0 i.constant c.in_ok-most.ensures in
     let t = test_le c.in_ok-most.most c.in-Fin.limit c.le.result c.le.ensures in
-    bound_no site fault S z e c.args.rows.now c.args.guards.now row number c.in-Fin.limit i.finite c.as_slice-coeffs.result.now i.columns found.1 w.1 c.in_ok-most.most w.0 (λ j. true≢false (sym (t.1 j) ∙ c.if-le.false))
+    bound_no site fault S z e c.args.rows.now c.args.guards.now row number c.in-Fin.limit i.finite c.as_slice-coeffs.result.now i.columns
+    found.1 w.1 c.in_ok-most.most w.0 (λ j. true≢false (sym (t.1 j) ∙ c.if-le.false))

@@ -15,7 +15,8 @@ returns-in_err-sum c = λ e f site fault.
     let S = equations_of c.args.system.now in
     let x = get_or (combination S e c.args.rows.now c.args.guards.now) c.args.column zero_ℚ in
     let y = get_or c.args.goal.now c.args.column zero_ℚ in
-    rw (p.1, p.2) (tested_wide (ℚ_discrete x y) site fault (column_operations S e c.args.rows.now c.args.guards.now c.args.column) (operation_of (λ q. q) c.in_err-sum.field-0.0) (c.in_err-sum.ensures e f))
+    rw (p.1, p.2) (tested_wide (ℚ_discrete x y) site fault (column_operations S e c.args.rows.now c.args.guards.now c.args.column)
+    (operation_of (λ q. q) c.in_err-sum.field-0.0) (c.in_err-sum.ensures e f))
 
 pub returns-then-eq : goal.returns-then-eq
 returns-then-eq c = λ e f site fault.
@@ -23,8 +24,11 @@ returns-then-eq c = λ e f site fault.
     let x = get_or (combination S e c.args.rows.now c.args.guards.now) c.args.column zero_ℚ in
     let y = get_or c.args.goal.now c.args.column zero_ℚ in
     let a = c.in_ok-sum.ensures e f in
-    let t = test_same c.in_ok-sum.sum c.coefficient.result c.eq.result c.eq.ensures in
-    (tt, tested_yes (ℚ_discrete x y) site fault (column_operations S e c.args.rows.now c.args.guards.now c.args.column) a.1 (sym a.0 ∙ t.0 c.if-eq.true ∙ c.coefficient.ensures))
+    let t = test_same c.in_ok-sum.sum c.coefficient.result c.eq.result c.eq.ensures in (
+      tt,
+      tested_yes (ℚ_discrete x y) site fault (column_operations S e c.args.rows.now c.args.guards.now c.args.column) a.1
+          (sym a.0 ∙ t.0 c.if-eq.true ∙ c.coefficient.ensures),
+    )
 
 pub returns-else-eq : goal.returns-else-eq
 returns-else-eq c = λ e f site fault.
@@ -33,4 +37,5 @@ returns-else-eq c = λ e f site fault.
     let y = get_or c.args.goal.now c.args.column zero_ℚ in
     let a = c.in_ok-sum.ensures e f in
     let t = test_same c.in_ok-sum.sum c.coefficient.result c.eq.result c.eq.ensures in
-    tested_no (ℚ_discrete x y) site fault (column_operations S e c.args.rows.now c.args.guards.now c.args.column) a.1 (λ q. true≢false (sym (t.1 (a.0 ∙ q ∙ sym c.coefficient.ensures)) ∙ c.if-eq.false))
+    tested_no (ℚ_discrete x y) site fault (column_operations S e c.args.rows.now c.args.guards.now c.args.column) a.1
+    (λ q. true≢false (sym (t.1 (a.0 ∙ q ∙ sym c.coefficient.ensures)) ∙ c.if-eq.false))

@@ -18,7 +18,8 @@ pub column_passes-requires-clause-column : goal.column_passes-requires-clause-co
 column_passes-requires-clause-column c = λ e f.
     let S = equations_of c.args.system.now in
     let n = ap (λ ns. length ns) c.as_slice.ensures in
-    let w = width_is S.variables c.frees.result e.actions (c.frees.ensures (edge_forms S.variables S.template e.actions) (forms_at S c.args.paths.now c.requires.paths c.args.edge e f)) in
+    let w = width_is S.variables c.frees.result e.actions (c.frees.ensures (edge_forms S.variables S.template e.actions)
+    (forms_at S c.args.paths.now c.requires.paths c.args.edge e f)) in
     omega (arith, n, w, c.loop-column-test.true)
 
 pub returns-in_err-column_passes : goal.returns-in_err-column_passes
@@ -26,35 +27,48 @@ returns-in_err-column_passes c = λ e f site fault.
     let p = err_from_is_err_and c.from_residual.result c.from_residual.ensures.1 in
     let S = equations_of c.args.system.now in
     let n = ap (λ ns. length ns) c.as_slice.ensures in
-    let w = width_is S.variables c.frees.result e.actions (c.frees.ensures (edge_forms S.variables S.template e.actions) (forms_at S c.args.paths.now c.requires.paths c.args.edge e f)) in
+    let w = width_is S.variables c.frees.result e.actions (c.frees.ensures (edge_forms S.variables S.template e.actions)
+    (forms_at S c.args.paths.now c.requires.paths c.args.edge e f)) in
     let l : c.loop-column.column < width S.variables e.actions = omega (arith, n, w, c.loop-column-test.true) in
     rw (p.1, p.2)
-    (columns_stop site fault S e c.args.rows.now c.args.guards.now c.args.goal.now c.loop-column.column (c.loop-column.invariant e f site fault) l (wide_answer site (operation_of (λ q. q) c.in_err-column_passes.field-0.0)) (c.in_err-column_passes.ensures e f site fault))
+    (columns_stop site fault S e c.args.rows.now c.args.guards.now c.args.goal.now c.loop-column.column
+    (c.loop-column.invariant e f site fault) l (wide_answer site (operation_of (λ q. q) c.in_err-column_passes.field-0.0))
+    (c.in_err-column_passes.ensures e f site fault))
 
 pub returns-then-is_none : goal.returns-then-is_none
 returns-then-is_none c = λ e f site fault.
     let S = equations_of c.args.system.now in
     let n = ap (λ ns. length ns) c.as_slice.ensures in
-    let w = width_is S.variables c.frees.result e.actions (c.frees.ensures (edge_forms S.variables S.template e.actions) (forms_at S c.args.paths.now c.requires.paths c.args.edge e f)) in
+    let w = width_is S.variables c.frees.result e.actions (c.frees.ensures (edge_forms S.variables S.template e.actions)
+    (forms_at S c.args.paths.now c.requires.paths c.args.edge e f)) in
     let l : c.loop-column.column < width S.variables e.actions = omega (arith, n, w, c.loop-column-test.true) in
     let es = At site fault S e c.args.rows.now c.args.guards.now c.args.goal.now c.loop-column.column in
-    columns_stop site fault S e c.args.rows.now c.args.guards.now c.args.goal.now c.loop-column.column (c.loop-column.invariant e f site fault) l (fault_answer fault)
-    (told_no es fault c.in_ok-column_passes.field-0 c.is_none.result c.is_none.ensures c.if-is_none.true (c.in_ok-column_passes.ensures e f site fault))
+    columns_stop site fault S e c.args.rows.now c.args.guards.now c.args.goal.now c.loop-column.column
+    (c.loop-column.invariant e f site fault) l (fault_answer fault)
+    (told_no es fault c.in_ok-column_passes.field-0 c.is_none.result c.is_none.ensures c.if-is_none.true
+    (c.in_ok-column_passes.ensures e f site fault))
 
 pub loop-column-preserved : goal.loop-column-preserved
 loop-column-preserved c = λ e f site fault.
     let S = equations_of c.args.system.now in
     let n = ap (λ ns. length ns) c.as_slice.ensures in
-    let w = width_is S.variables c.frees.result e.actions (c.frees.ensures (edge_forms S.variables S.template e.actions) (forms_at S c.args.paths.now c.requires.paths c.args.edge e f)) in
+    let w = width_is S.variables c.frees.result e.actions (c.frees.ensures (edge_forms S.variables S.template e.actions)
+    (forms_at S c.args.paths.now c.requires.paths c.args.edge e f)) in
     let l : c.loop-column.column < width S.variables e.actions = omega (arith, n, w, c.loop-column-test.true) in
     let es = At site fault S e c.args.rows.now c.args.guards.now c.args.goal.now c.loop-column.column in
-    columns_more site fault S e c.args.rows.now c.args.guards.now c.args.goal.now c.loop-column.column (c.loop-column.invariant e f site fault) l
-    (told_yes es fault c.in_ok-column_passes.field-0 c.is_none.result c.is_none.ensures c.if-is_none.false (c.in_ok-column_passes.ensures e f site fault))
+    columns_more site fault S e c.args.rows.now c.args.guards.now c.args.goal.now c.loop-column.column
+    (c.loop-column.invariant e f site fault) l
+    (told_yes es fault c.in_ok-column_passes.field-0 c.is_none.result c.is_none.ensures c.if-is_none.false
+    (c.in_ok-column_passes.ensures e f site fault))
 
 pub returns : goal.returns
 returns c = λ e f site fault.
     let S = equations_of c.args.system.now in
     let n = ap (λ ns. length ns) c.as_slice.ensures in
-    let w = width_is S.variables c.frees.result e.actions (c.frees.ensures (edge_forms S.variables S.template e.actions) (forms_at S c.args.paths.now c.requires.paths c.args.edge e f)) in
-    let l : width S.variables e.actions ≤ c.loop-column.column = omega (arith, n, w, c.loop-column-test.false) in
-    (tt, columns_all site fault S e c.args.rows.now c.args.guards.now c.args.goal.now c.loop-column.column (c.loop-column.invariant e f site fault) l)
+    let w = width_is S.variables c.frees.result e.actions (c.frees.ensures (edge_forms S.variables S.template e.actions)
+    (forms_at S c.args.paths.now c.requires.paths c.args.edge e f)) in
+    let l : width S.variables e.actions ≤ c.loop-column.column = omega (arith, n, w, c.loop-column-test.false) in (
+      tt,
+      columns_all site fault S e c.args.rows.now c.args.guards.now c.args.goal.now c.loop-column.column
+          (c.loop-column.invariant e f site fault) l,
+    )

@@ -10,4 +10,6 @@ use Rattle.cert_checker.proofs.evidence.columns_pass.Given as goal
 
 abbrev pub invariant-loop-column : goal.invariant-loop-column
 invariant-loop-column l = (e : Edge) → slice_get l.system.flow.edges l.edge ≡ Some e → (site : Site) (fault : Fault) →
-    first_stop (columns_events site fault (equations_of l.system) e l.rows l.guards l.goal (columns_of (equations_of l.system) e)) ≡ first_stop (columns_events site fault (equations_of l.system) e l.rows l.guards l.goal (drop l.column (columns_of (equations_of l.system) e)))
+    first_stop (columns_events site fault (equations_of l.system) e l.rows l.guards l.goal (columns_of (equations_of l.system) e))
+    ≡ first_stop (columns_events site fault (equations_of l.system) e l.rows l.guards l.goal
+    (drop l.column (columns_of (equations_of l.system) e)))

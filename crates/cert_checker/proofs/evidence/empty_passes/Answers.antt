@@ -20,7 +20,8 @@ returns-in_err-value c = λ z e row number h f site fault.
     let es = combination_events site fault S z e c.args.rows.now c.args.guards.now [] in
     let last = Test (decided (dec_lt_ℚ (side S z e c.args.rows.now c.args.guards.now) zero_ℚ)) fault ∷ [] in
     let a = wide_answer site (operation_of (λ q. q) c.in_err-value.field-0.0) in
-    rw (p.1, p.2) (empty_as site fault S z e c.args.rows.now c.args.guards.now row number ∙ stop_sooner es last a (c.in_err-value.ensures z e h f site fault))
+    rw (p.1, p.2) (empty_as site fault S z e c.args.rows.now c.args.guards.now row number
+    ∙ stop_sooner es last a (c.in_err-value.ensures z e h f site fault))
 
 pub returns-in_default : goal.returns-in_default
 returns-in_default c = λ z e row number h f site fault.
@@ -28,7 +29,8 @@ returns-in_default c = λ z e row number h f site fault.
     let value = side S z e c.args.rows.now c.args.guards.now in
     let es = combination_events site fault S z e c.args.rows.now c.args.guards.now [] in
     let missed = found_none es fault value c.in_ok-value.field-0 c.in_default.not-Some (c.in_ok-value.ensures z e h f site fault) in
-    empty_as site fault S z e c.args.rows.now c.args.guards.now row number ∙ stop_sooner es (Test (decided (dec_lt_ℚ value zero_ℚ)) fault ∷ []) (fault_answer fault) missed
+    empty_as site fault S z e c.args.rows.now c.args.guards.now row number
+    ∙ stop_sooner es (Test (decided (dec_lt_ℚ value zero_ℚ)) fault ∷ []) (fault_answer fault) missed
 
 pub returns-then-lt : goal.returns-then-lt
 returns-then-lt c = λ z e row number h f site fault.
@@ -37,8 +39,11 @@ returns-then-lt c = λ z e row number h f site fault.
     let last = dec_lt_ℚ value zero_ℚ in
     let es = combination_events site fault S z e c.args.rows.now c.args.guards.now [] in
     let found = found_some es fault value c.in_ok-value.field-0 c.in-Some.value c.in-Some.is (c.in_ok-value.ensures z e h f site fault) in
-    let t = test_less c.in-Some.value c.zero.result c.lt.result c.lt.ensures in
-    (tt, empty_as site fault S z e c.args.rows.now c.args.guards.now row number ∙ stop_later es (Test (decided last) fault ∷ []) found.1 ∙ alone_yes last fault (subst₂ (λ x y. x <ℚ y) found.0 c.zero.ensures.value (t.0 c.if-lt.true)))
+    let t = test_less c.in-Some.value c.zero.result c.lt.result c.lt.ensures in (
+      tt,
+      empty_as site fault S z e c.args.rows.now c.args.guards.now row number ∙ stop_later es (Test (decided last) fault ∷ []) found.1
+          ∙ alone_yes last fault (subst₂ (λ x y. x <ℚ y) found.0 c.zero.ensures.value (t.0 c.if-lt.true)),
+    )
 
 pub returns-else-lt : goal.returns-else-lt
 returns-else-lt c = λ z e row number h f site fault.
@@ -48,5 +53,7 @@ returns-else-lt c = λ z e row number h f site fault.
     let es = combination_events site fault S z e c.args.rows.now c.args.guards.now [] in
     let found = found_some es fault value c.in_ok-value.field-0 c.in-Some.value c.in-Some.is (c.in_ok-value.ensures z e h f site fault) in
     let t = test_less c.in-Some.value c.zero.result c.lt.result c.lt.ensures in
-    let no = λ (l : value <ℚ zero_ℚ). true≢false (sym (t.1 (subst₂ (λ x y. x <ℚ y) (sym found.0) (sym c.zero.ensures.value) l)) ∙ c.if-lt.false) in
-    empty_as site fault S z e c.args.rows.now c.args.guards.now row number ∙ stop_later es (Test (decided last) fault ∷ []) found.1 ∙ test_no last fault [] no
+    let no = λ (l : value <ℚ zero_ℚ). true≢false (sym (t.1 (subst₂ (λ x y. x <ℚ y) (sym found.0) (sym c.zero.ensures.value) l))
+    ∙ c.if-lt.false) in
+    empty_as site fault S z e c.args.rows.now c.args.guards.now row number ∙ stop_later es (Test (decided last) fault ∷ []) found.1
+    ∙ test_no last fault [] no

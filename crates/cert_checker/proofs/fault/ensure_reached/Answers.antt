@@ -15,7 +15,8 @@ use Rattle.cert_checker.proofs.fault.ensure_reached.Goals as goal
 
 -- what is told of the events by what was followed
 abbrev Told : ℚ → List Event → Site → Fault → Result (Option ℚ) (Wide ℚ) → Type 0
-Told x es site f r = MatchResult r (λ o. MatchOption o (first_stop es ≡ Some (fault_answer f)) (λ v. (v ≡ x) × (first_stop es ≡ None))) (λ w. first_stop es ≡ Some (wide_answer site (operation_of (λ q. q) w)))
+Told x es site f r = MatchResult r (λ o. MatchOption o (first_stop es ≡ Some (fault_answer f)) (λ v. (v ≡ x) × (first_stop es ≡ None)))
+    (λ w. first_stop es ≡ Some (wide_answer site (operation_of (λ q. q) w)))
 
 pub returns-in-Some : goal.returns-in-Some
 returns-in-Some c = λ x f events ans same.
@@ -25,7 +26,8 @@ returns-in-Some c = λ x f events ans same.
     let reaches = subst (λ y. IsTrue c.le.result ↔ (c.args.least ≤ℚ y)) told.0 (test_le c.args.least v c.le.result c.le.ensures) in
     let last = dec_le_ℚ c.args.least x in
     let missed = subst (λ (a : CheckFault). IfErr c.ensure.result (λ e. e ≡ a)) same c.ensure.ensures.fault in
-    run_after (λ u. Unit {0}) es (Test (decided last) f ∷ []) c.ensure.result told.1 (ensured last c.le.result f c.ensure.result reaches c.ensure.ensures.passed missed)
+    run_after (λ u. Unit {0}) es (Test (decided last) f ∷ []) c.ensure.result told.1
+    (ensured last c.le.result f c.ensure.result reaches c.ensure.ensures.passed missed)
 
 pub returns-in-None : goal.returns-in-None
 returns-in-None c = λ x f events ans same.

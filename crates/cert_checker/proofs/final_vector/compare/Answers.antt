@@ -14,27 +14,35 @@ pub loop-unknown-init : goal.loop-unknown-init
 loop-unknown-init c = λ system z ends h g. final_first system z ends
 
 -- an unknown's bounds in both vectors
-both_at : (system : Equations) (z ends : Vector) (xs ys : List Ext) → Stands system xs z → Stands system ys ends → (listed : List Bound) → map extended listed ≡ ys → (u : ℕ) → u < length listed →
-    (get_or xs u neg_inf ≡ z (u / length system.template) (u % length system.template)) × (get_or ys u neg_inf ≡ ends (u / length system.template) (u % length system.template))
+both_at : (system : Equations) (z ends : Vector) (xs ys : List Ext) → Stands system xs z → Stands system ys ends → (listed : List Bound)
+    → map extended listed ≡ ys → (u : ℕ) → u < length listed →
+    (get_or xs u neg_inf ≡ z (u / length system.template) (u % length system.template))
+    × (get_or ys u neg_inf ≡ ends (u / length system.template) (u % length system.template))
     × (u < system.points * length system.template)
 both_at system z ends xs ys h g listed e u l =
     let m = length-map listed extended in
     let b = ap (λ bs. length bs) e in
     let s = h.size in
-    let q = g.size in
-    (bound_of system xs z h u (omega (arith, m, b, l, s, q)), bound_of system ys ends g u (omega (arith, m, b, l)), omega (arith, m, b, l, q))
+    let q = g.size in (
+      bound_of system xs z h u (omega (arith, m, b, l, s, q)),
+      bound_of system ys ends g u (omega (arith, m, b, l)),
+      omega (arith, m, b, l, q),
+    )
 
 pub returns-then-ne : goal.returns-then-ne
 returns-then-ne c = λ system z ends h g.
     let u = c.loop-unknown.unknown in
-    let at = both_at system z ends c.args.reached.now c.args.bounds.now h g c.as_slice.result.now c.as_slice.ensures u c.loop-unknown-test.true in
+    let at = both_at system z ends c.args.reached.now c.args.bounds.now h g c.as_slice.result.now c.as_slice.ensures u
+    c.loop-unknown-test.true in
     final_stops system z ends u (c.loop-unknown.invariant system z ends h g) at.2
-    (λ e. differs c.at.result c.at-in-loop-unknown.result c.if-ne.ensures (c.at.ensures ∙ at.0 ∙ e ∙ sym (c.at-in-loop-unknown.ensures ∙ at.1)))
+    (λ e. differs c.at.result c.at-in-loop-unknown.result c.if-ne.ensures
+    (c.at.ensures ∙ at.0 ∙ e ∙ sym (c.at-in-loop-unknown.ensures ∙ at.1)))
 
 pub loop-unknown-preserved : goal.loop-unknown-preserved
 loop-unknown-preserved c = λ system z ends h g.
     let u = c.loop-unknown.unknown in
-    let at = both_at system z ends c.args.reached.now c.args.bounds.now h g c.as_slice.result.now c.as_slice.ensures u c.loop-unknown-test.true in
+    let at = both_at system z ends c.args.reached.now c.args.bounds.now h g c.as_slice.result.now c.as_slice.ensures u
+    c.loop-unknown-test.true in
     final_more system z ends u (c.loop-unknown.invariant system z ends h g) at.2
     (sym (c.at.ensures ∙ at.0) ∙ equals c.at.result c.at-in-loop-unknown.result c.if-ne.ensures ∙ (c.at-in-loop-unknown.ensures ∙ at.1))
 

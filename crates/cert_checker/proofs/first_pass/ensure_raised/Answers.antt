@@ -19,7 +19,8 @@ returns-in_err-value c = λ x events ans.
     let last = dec_raised (step_of 1 c.args.step.now).kind (extended c.args.bound) c.args.to x in
     let stopped = found_by x events c.args.followed c.item_site.result wrong (loses e) ans c.in_err-value.ensures in
     let at = subst (λ (s : Site). first_stop (events s wrong) ≡ Some e) c.item_site.ensures stopped in
-    rw (r.1, r.2) (stop_sooner (events (at_item c.args.number c.args.k) wrong) (Test (decided last) (LowFault c.args.number c.args.k) ∷ []) e at)
+    rw (r.1, r.2) (stop_sooner (events (at_item c.args.number c.args.k) wrong) (Test (decided last) (LowFault c.args.number c.args.k) ∷ [])
+    e at)
 
 pub returns : goal.returns
 returns c = λ x events ans.

@@ -12,7 +12,8 @@ returns-in_err-test_item c = λ z h.
     let theirs = step_of (length c.args.system.now.template) c.args.step.now in
     let e = items_count (length c.args.system.now.template) c.args.step.now in
     let l : c.loop-k.k < length theirs.items = omega (arith, e, c.loop-k-test.true, c.count-k-end.ensures) in
-    rw (p.1, p.2) (first_stops theirs.kind S z c.args.number theirs.items c.loop-k.k l (c.loop-k.invariant z h) c.in_err-test_item.field-0.0 (c.in_err-test_item.ensures z h))
+    rw (p.1, p.2) (first_stops theirs.kind S z c.args.number theirs.items c.loop-k.k l (c.loop-k.invariant z h) c.in_err-test_item.field-0.0
+    (c.in_err-test_item.ensures z h))
 
 pub loop-k-preserved : goal.loop-k-preserved
 loop-k-preserved c = λ z h.
@@ -26,8 +27,11 @@ pub returns : goal.returns
 returns c = λ z h.
     let S = equations_of c.args.system.now in
     let theirs = step_of (length c.args.system.now.template) c.args.step.now in
-    let e = items_count (length c.args.system.now.template) c.args.step.now in
-    (tt, first_all theirs.kind S z c.args.number theirs.items c.loop-k.k (let l = c.loop-k-test.false in omega (arith, e, l, c.count-k-end.ensures)) (c.loop-k.invariant z h))
+    let e = items_count (length c.args.system.now.template) c.args.step.now in (
+      tt,
+      first_all theirs.kind S z c.args.number theirs.items c.loop-k.k
+          (let l = c.loop-k-test.false in omega (arith, e, l, c.count-k-end.ensures)) (c.loop-k.invariant z h),
+    )
 
 pub loop-k-init : goal.loop-k-init
 loop-k-init c = λ z h.

@@ -23,7 +23,8 @@ returns-in_err-ensure c = λ z h.
     let wrong = TraceFault c.args.number c.args.k in
     let d = dec_named step.kind S (earlier_items step.items c.args.k) item in
     let e = c.in_err-ensure.field-0.0 in
-    rw (r.1, r.2) (stop_sooner (Test (decided d) wrong ∷ []) (low_events step.kind S z c.args.number c.args.k item) e (ensured d c.is_named.result wrong (ends_with e) c.is_named.ensures c.in_err-ensure.ensures.passed c.in_err-ensure.ensures.fault))
+    rw (r.1, r.2) (stop_sooner (Test (decided d) wrong ∷ []) (low_events step.kind S z c.args.number c.args.k item) e
+    (ensured d c.is_named.result wrong (ends_with e) c.is_named.ensures c.in_err-ensure.ensures.passed c.in_err-ensure.ensures.fault))
 
 pub returns : goal.returns
 unfolding first_events
@@ -34,4 +35,5 @@ returns c = λ z h.
     let wrong = TraceFault c.args.number c.args.k in
     let d = dec_named step.kind S (earlier_items step.items c.args.k) item in
     let passed = ensured d c.is_named.result wrong goes_on c.is_named.ensures c.in_ok-ensure.ensures.passed tt in
-    run_after (λ u. Unit {0}) (Test (decided d) wrong ∷ []) (low_events step.kind S z c.args.number c.args.k item) c.test_low.result passed.1 (c.test_low.ensures z h)
+    run_after (λ u. Unit {0}) (Test (decided d) wrong ∷ []) (low_events step.kind S z c.args.number c.args.k item) c.test_low.result
+    passed.1 (c.test_low.ensures z h)

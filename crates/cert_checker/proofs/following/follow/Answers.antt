@@ -21,7 +21,8 @@ use Rattle.cert_checker.proofs.following.Traces.{run_sooner, run_answers, carry_
 use Rattle.cert_checker.proofs.following.follow.Goals as goal
 
 -- a start that stops, whichever way is followed
-sooner : (way : Way) (site : Site) (f : Fault) (S : Equations) (z : Vector) (e : Edge) (cs : List ℤ) (t : Pieces) → length t.start ≡ S.variables → length t.free ≡ free_count e.actions →
+sooner : (way : Way) (site : Site) (f : Fault) (S : Equations) (z : Vector) (e : Edge) (cs : List ℤ) (t : Pieces)
+    → length t.start ≡ S.variables → length t.free ≡ free_count e.actions →
     (a : CheckFault) → first_stop (fit_events site f S z e.from t.start) ≡ Some a → first_stop (shown_events way site f S z e cs t) ≡ Some a
 sooner Trace = run_sooner
 sooner Direction = carry_sooner
@@ -32,26 +33,32 @@ returns-in_err-starts c = λ z e cs h f g site fault.
     let S = equations_of c.args.system.now in
     let wide = wide_answer site (operation_of (λ (q : ℚ). q) c.in_err-starts.field-0.0) in
     rw (p.1, p.2) (sooner c.args.way site fault S z e cs (pieces_of c.args.trace.now) c.requires.start (c.requires.free e f) wide
-    (subst (λ x. first_stop (fit_events site fault S z e.from x) ≡ Some wide) c.as_slice.ensures (c.in_err-starts.ensures z e h f site fault)))
+    (subst (λ x. first_stop (fit_events site fault S z e.from x) ≡ Some wide) c.as_slice.ensures
+    (c.in_err-starts.ensures z e h f site fault)))
 
 pub returns-then-not-branch : goal.returns-then-not-branch
 returns-then-not-branch c = λ z e cs h f g site fault.
     let S = equations_of c.args.system.now in
     let fitted = subst₂ (λ x b. Fitted S z e.from x b) c.as_slice.ensures c.if-not-branch.true (c.in_ok-starts.ensures z e h f) in
-    sooner c.args.way site fault S z e cs (pieces_of c.args.trace.now) c.requires.start (c.requires.free e f) (fault_answer fault) (fitted site fault)
+    sooner c.args.way site fault S z e cs (pieces_of c.args.trace.now) c.requires.start (c.requires.free e f) (fault_answer fault)
+    (fitted site fault)
 
 pub returns-in-Trace : goal.returns-in-Trace
 returns-in-Trace c = λ z e cs h f g.
     let S = equations_of c.args.system.now in
     let t = pieces_of c.args.trace.now in
     let fitted = subst₂ (λ x b. Fitted S z e.from x b) c.as_slice.ensures c.if-not-branch.false (c.in_ok-starts.ensures z e h f) in
-    subst (λ way. Answers (λ v. v ≡ shown way S e cs (word t)) (λ site fault. shown_events way site fault S z e cs t) c.trace_value.result) (sym c.in-Trace.is)
-    (λ site fault. run_answers site fault S z e cs t c.requires.start (c.requires.free e f) (fitted.1 site fault) fitted.0 c.trace_value.result (c.trace_value.ensures e cs f g))
+    subst (λ way. Answers (λ v. v ≡ shown way S e cs (word t)) (λ site fault. shown_events way site fault S z e cs t) c.trace_value.result)
+    (sym c.in-Trace.is)
+    (λ site fault. run_answers site fault S z e cs t c.requires.start (c.requires.free e f) (fitted.1 site fault) fitted.0
+    c.trace_value.result (c.trace_value.ensures e cs f g))
 
 pub returns-in-Direction : goal.returns-in-Direction
 returns-in-Direction c = λ z e cs h f g.
     let S = equations_of c.args.system.now in
     let t = pieces_of c.args.trace.now in
     let fitted = subst₂ (λ x b. Fitted S z e.from x b) c.as_slice.ensures c.if-not-branch.false (c.in_ok-starts.ensures z e h f) in
-    subst (λ way. Answers (λ v. v ≡ shown way S e cs (word t)) (λ site fault. shown_events way site fault S z e cs t) c.direction_value.result) (sym c.in-Direction.is)
-    (λ site fault. carry_answers site fault S z e cs t c.requires.start (c.requires.free e f) (fitted.1 site fault) c.direction_value.result (c.direction_value.ensures e cs f g))
+    subst (λ way. Answers (λ v. v ≡ shown way S e cs (word t)) (λ site fault. shown_events way site fault S z e cs t)
+    c.direction_value.result) (sym c.in-Direction.is)
+    (λ site fault. carry_answers site fault S z e cs t c.requires.start (c.requires.free e f) (fitted.1 site fault) c.direction_value.result
+    (c.direction_value.ensures e cs f g))

@@ -23,5 +23,7 @@ returns c = λ z t h same.
     let edge = edge_of S item in
     let row = row_of S item in
     let there = edge_at_place S item c.requires.placed c.edge_at.result (c.edge_at.ensures rows) in
-    let listed = row_at_place S item c.requires.placed c.unknown_at.result (length c.as_slice.result.now) (c.unknown_at.ensures.row rows) (ap (λ xs. length xs) c.as_slice.ensures.rows) in
-    subst (λ u. Answers (λ v. v ≡ shown c.args.way S edge row (word u)) (λ site fault. shown_events c.args.way site fault S z edge row u) c.follow.result) (sym same) (c.follow.ensures z edge row h there listed)
+    let listed = row_at_place S item c.requires.placed c.unknown_at.result (length c.as_slice.result.now) (c.unknown_at.ensures.row rows)
+    (ap (λ xs. length xs) c.as_slice.ensures.rows) in
+    subst (λ u. Answers (λ v. v ≡ shown c.args.way S edge row (word u)) (λ site fault. shown_events c.args.way site fault S z edge row u)
+    c.follow.result) (sym same) (c.follow.ensures z edge row h there listed)

@@ -7,4 +7,5 @@ use Rattle.cert_checker.specs.Stands.{Stands}
 use Rattle.cert_checker.proofs.multipliers.are_allowed.Given as goal
 
 abbrev pub invariant-loop-r : goal.invariant-loop-r
-invariant-loop-r l = (z : Vector) → Stands (equations_of l.system) l.bounds z → (r : ℕ) → r < l.r → NotFinite (z l.point r) → get_or l.rows r zero_ℚ ≡ zero_ℚ
+invariant-loop-r l = (z : Vector) → Stands (equations_of l.system) l.bounds z → (r : ℕ) → r < l.r → NotFinite (z l.point r)
+    → get_or l.rows r zero_ℚ ≡ zero_ℚ

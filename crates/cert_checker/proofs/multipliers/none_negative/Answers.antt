@@ -23,8 +23,13 @@ loop-multiplier-preserved c =
     let x = c.multiplier-item.result in
     let e : x ≡ get_or ms i zero_ℚ = get_or_read ms i x c.loop-multiplier-test.true c.multiplier-item.is zero_ℚ in
     let t = test_less x c.zero.result c.lt.result c.lt.ensures in
-    let l : zero_ℚ ≤ℚ get_or ms i zero_ℚ = subst₂ (λ a b. b ≤ℚ a) e c.zero.ensures.value (le_of_not_lt_ℚ (λ h. true≢false (sym (t.1 h) ∙ c.if-lt.false))) in
+    let l : zero_ℚ ≤ℚ get_or ms i zero_ℚ = subst₂ (λ a b. b ≤ℚ a) e c.zero.ensures.value
+    (le_of_not_lt_ℚ (λ h. true≢false (sym (t.1 h) ∙ c.if-lt.false))) in
     up_to_more {P = λ k. zero_ℚ ≤ℚ get_or ms k zero_ℚ} i c.loop-multiplier.invariant l
 
 pub returns : goal.returns
-returns c = ((λ t. nonneg_all c.args.multipliers.now (λ i l. c.loop-multiplier.invariant i (let n = c.loop-multiplier-test.false in omega (arith, l, n)))), (λ h. refl))
+returns c = (
+  (λ t. nonneg_all c.args.multipliers.now (λ i l. c.loop-multiplier.invariant i
+      (let n = c.loop-multiplier-test.false in omega (arith, l, n)))),
+  (λ h. refl),
+)

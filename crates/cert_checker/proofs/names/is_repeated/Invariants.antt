@@ -5,4 +5,5 @@ use Rattle.cert_checker.specs.Items.{item_at, earlier_items}
 use Rattle.cert_checker.proofs.names.is_repeated.Given as goal
 
 abbrev pub invariant-loop-j : goal.invariant-loop-j
-invariant-loop-j l = (rows : ℕ) → 0 < rows → Unnamed (earlier_items (step_of rows l.step).items l.j) (item_at rows l.step l.k).point (item_at rows l.step l.k).row
+invariant-loop-j l = (rows : ℕ) → 0 < rows → Unnamed (earlier_items (step_of rows l.step).items l.j) (item_at rows l.step l.k).point
+    (item_at rows l.step l.k).row

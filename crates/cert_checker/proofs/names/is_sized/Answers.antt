@@ -17,8 +17,10 @@ returns-then-as_slice c = λ item q.
     let is : e ≡ get_or es c.args.edge e = c.index-as_slice-edge.is ∙ ap (λ xs. get_or xs c.args.edge e) c.as_slice.ensures in
     let found : edge_of S item ≡ e = edge_is S item c.args.edge e q c.requires is in
     let count : c.frees.result ≡ free_count (edge_of S item).actions =
-    c.frees.ensures ∙ ap (λ xs. count_by is_havoc xs) c.as_slice-then-as_slice-2.ensures ∙ sym (free_count-is e.actions) ∙ count_same e.actions ∙ ap (λ x. free_count x.actions) (sym found) in
-    let start : length c.args.trace.now.start ≡ length c.args.system.now.flow.names = ap (λ x. length x) (sym c.as_slice-2.ensures) ∙ c.if-as_slice.true ∙ ap (λ x. length x) c.as_slice-3.ensures in
+    c.frees.ensures ∙ ap (λ xs. count_by is_havoc xs) c.as_slice-then-as_slice-2.ensures ∙ sym (free_count-is e.actions)
+    ∙ count_same e.actions ∙ ap (λ x. free_count x.actions) (sym found) in
+    let start : length c.args.trace.now.start ≡ length c.args.system.now.flow.names =
+    ap (λ x. length x) (sym c.as_slice-2.ensures) ∙ c.if-as_slice.true ∙ ap (λ x. length x) c.as_slice-3.ensures in
     let free = c.as_slice-then-as_slice.ensures in (
       (λ t. (start, ap (λ x. length x) (sym free) ∙ eqb_out (length c.as_slice-then-as_slice.result.now) c.frees.result t ∙ count)),
       (λ h. eq-eqb (length c.as_slice-then-as_slice.result.now) c.frees.result (ap (λ x. length x) free ∙ h.1 ∙ sym count)),

@@ -10,4 +10,5 @@ unfolding new_value
 returns-in-Ray c = rw c.in-Ray.is (λ rows. refl)
 
 pub returns-in_default : goal.returns-in_default
-returns-in_default c = λ rows. ap fin (sym (c.number_at.ensures rows)) ∙ sym (number_is c.args.step.now rows (item_at rows c.args.step.now c.args.k) c.in_default.not-Ray)
+returns-in_default c = λ rows. ap fin (sym (c.number_at.ensures rows))
+    ∙ sym (number_is c.args.step.now rows (item_at rows c.args.step.now c.args.k) c.in_default.not-Ray)

@@ -10,7 +10,9 @@ abbrev pub invariant-loop-k : goal.invariant-loop-k
 invariant-loop-k l = record {
   within : l.k ≤ item_count l.step;
   size : length l.bounds ≡ length l.initial.bounds;
-  settled : (system : Equations) (z : Vector) → Stands system l.initial.bounds z → Stands system l.bounds (put (new_value (step_of (length system.template) l.step).kind) (drop l.k (step_of (length system.template) l.step).items) z);
+  settled : (system : Equations) (z : Vector) → Stands system l.initial.bounds z
+      → Stands system l.bounds (put (new_value (step_of (length system.template) l.step).kind)
+      (drop l.k (step_of (length system.template) l.step).items) z);
 }
 
 abbrev pub decreases-loop-k : goal.decreases-loop-k

@@ -12,7 +12,9 @@ abbrev pub invariant-loop-k : goal.invariant-loop-k
 invariant-loop-k l = record {
   within : l.k ≤ item_count l.step;
   size : length l.rates ≡ length l.initial.rates;
-  settled : (system : Equations) (z : Vector) → Stands system l.base z → Stands system l.rates (put (λ i. fin i.number) (drop l.k (step_of (length system.template) l.step).items) (λ p r. allowance (z p r)));
+  settled : (system : Equations) (z : Vector) → Stands system l.base z
+      → Stands system l.rates (put (λ i. fin i.number) (drop l.k (step_of (length system.template) l.step).items)
+      (λ p r. allowance (z p r)));
 }
 
 abbrev pub decreases-loop-k : goal.decreases-loop-k

@@ -13,7 +13,8 @@ returns-in_err-test_jump_item c = λ z h g.
     let items = (step_of (length c.args.system.now.template) c.args.step.now).items in
     let e = items_count (length c.args.system.now.template) c.args.step.now in
     let l : c.loop-k.k < length items = omega (arith, e, c.loop-k-test.true, c.count-k-end.ensures) in
-    rw (p.1, p.2) (second_stops Kind.Jump S z c.args.number items c.loop-k.k l (c.loop-k.invariant z h g) c.in_err-test_jump_item.field-0.0 (c.in_err-test_jump_item.ensures z (put (new_value Kind.Jump) items z) h g))
+    rw (p.1, p.2) (second_stops Kind.Jump S z c.args.number items c.loop-k.k l (c.loop-k.invariant z h g) c.in_err-test_jump_item.field-0.0
+    (c.in_err-test_jump_item.ensures z (put (new_value Kind.Jump) items z) h g))
 
 pub loop-k-preserved : goal.loop-k-preserved
 loop-k-preserved c = λ z h g.
@@ -21,11 +22,15 @@ loop-k-preserved c = λ z h g.
     let items = (step_of (length c.args.system.now.template) c.args.step.now).items in
     let e = items_count (length c.args.system.now.template) c.args.step.now in
     let l : c.loop-k.k < length items = omega (arith, e, c.loop-k-test.true, c.count-k-end.ensures) in
-    second_more Kind.Jump S z c.args.number items c.loop-k.k l (c.loop-k.invariant z h g) (c.in_ok-test_jump_item.ensures z (put (new_value Kind.Jump) items z) h g).1
+    second_more Kind.Jump S z c.args.number items c.loop-k.k l (c.loop-k.invariant z h g)
+    (c.in_ok-test_jump_item.ensures z (put (new_value Kind.Jump) items z) h g).1
 
 pub returns : goal.returns
 returns c = λ z h g.
     let S = equations_of c.args.system.now in
     let items = (step_of (length c.args.system.now.template) c.args.step.now).items in
-    let e = items_count (length c.args.system.now.template) c.args.step.now in
-    (tt, second_all Kind.Jump S z c.args.number items c.loop-k.k (let l = c.loop-k-test.false in omega (arith, e, l, c.count-k-end.ensures)) (c.loop-k.invariant z h g))
+    let e = items_count (length c.args.system.now.template) c.args.step.now in (
+      tt,
+      second_all Kind.Jump S z c.args.number items c.loop-k.k (let l = c.loop-k-test.false in omega (arith, e, l, c.count-k-end.ensures))
+          (c.loop-k.invariant z h g),
+    )

@@ -25,13 +25,16 @@ returns-in_err-ensure c = λ z p h g.
     let rows = length S.template in
     let item = item_at rows c.args.step.now c.args.k in
     let fault = HighFault c.args.number c.args.k in
-    let b = c.at.ensures ∙ bound_is S c.args.base.now z h item c.unknown_at.result (c.unknown_at.ensures.point rows) (c.unknown_at.ensures.row rows) c.requires.usable.placed in
+    let b = c.at.ensures ∙ bound_is S c.args.base.now z h item c.unknown_at.result (c.unknown_at.ensures.point rows)
+    (c.unknown_at.ensures.row rows) c.requires.usable.placed in
     let told = subst₂ (λ v q. IsTrue c.is_at_most.result ↔ (v ≤ᴱ fin q)) b (sym (c.number_at-to.ensures rows)) c.is_at_most.ensures in
     let first = dec_leᴱ (bound_at z item) (fin item.number) in
     let last = dec_le_ℚ item.number (item_value S item (word item.second)) in
-    let rest = run_events (at_item c.args.number c.args.k) fault S p (edge_of S item) (row_of S item) item.second ++ Test (decided last) fault ∷ [] in
+    let rest = run_events (at_item c.args.number c.args.k) fault S p (edge_of S item) (row_of S item) item.second
+    ++ Test (decided last) fault ∷ [] in
     let e = c.in_err-ensure.field-0.0 in
-    rw (r.1, r.2) (stop_sooner (Test (decided first) fault ∷ []) rest e (ensured first c.is_at_most.result fault (ends_with e) told c.in_err-ensure.ensures.passed c.in_err-ensure.ensures.fault))
+    rw (r.1, r.2) (stop_sooner (Test (decided first) fault ∷ []) rest e
+    (ensured first c.is_at_most.result fault (ends_with e) told c.in_err-ensure.ensures.passed c.in_err-ensure.ensures.fault))
 
 pub returns : goal.returns
 unfolding landing_events
@@ -41,18 +44,23 @@ returns c = λ z p h g.
     let item = item_at rows c.args.step.now c.args.k in
     let fault = HighFault c.args.number c.args.k in
     let n = sym (c.number_at-to.ensures rows) in
-    let b = c.at.ensures ∙ bound_is S c.args.base.now z h item c.unknown_at.result (c.unknown_at.ensures.point rows) (c.unknown_at.ensures.row rows) c.requires.usable.placed in
+    let b = c.at.ensures ∙ bound_is S c.args.base.now z h item c.unknown_at.result (c.unknown_at.ensures.point rows)
+    (c.unknown_at.ensures.row rows) c.requires.usable.placed in
     let told = subst₂ (λ v q. IsTrue c.is_at_most.result ↔ (v ≤ᴱ fin q)) b n c.is_at_most.ensures in
     let first = dec_leᴱ (bound_at z item) (fin item.number) in
     let passed = ensured first c.is_at_most.result fault goes_on told c.in_ok-ensure.ensures.passed tt in
     let x = item_value S item (word item.second) in
     let events : Site → Fault → List Event = λ site fault. run_events site fault S p (edge_of S item) (row_of S item) item.second in
     let rest : Site → ℚ → List Event = λ site to. events site fault ++ Test (decided (dec_le_ℚ to x)) fault ∷ [] in
-    run_after (λ u. Unit {0}) (Test (decided first) fault ∷ []) (rest (at_item c.args.number c.args.k) item.number) c.ensure_reached.result passed.1
-    (subst₂ (λ s q. IsRun (λ u. Unit {0}) (rest s q) c.ensure_reached.result) c.item_site.ensures n (c.ensure_reached.ensures x fault events (c.follow_item.ensures p item.second g (c.second_at.ensures rows (jump_second rows c.args.step.now c.requires.jump))) refl))
+    run_after (λ u. Unit {0}) (Test (decided first) fault ∷ []) (rest (at_item c.args.number c.args.k) item.number) c.ensure_reached.result
+    passed.1
+    (subst₂ (λ s q. IsRun (λ u. Unit {0}) (rest s q) c.ensure_reached.result) c.item_site.ensures n
+    (c.ensure_reached.ensures x fault events (c.follow_item.ensures p item.second g
+    (c.second_at.ensures rows (jump_second rows c.args.step.now c.requires.jump))) refl))
 
 pub follow_item-requires-clause-sized : goal.follow_item-requires-clause-sized
 follow_item-requires-clause-sized c =
     let S = equations_of c.args.system.now in
     let rows = length S.template in
-    subst (Sized S (item_at rows c.args.step.now c.args.k)) (c.second_at.ensures rows (jump_second rows c.args.step.now c.requires.jump)) c.requires.usable.sized
+    subst (Sized S (item_at rows c.args.step.now c.args.k)) (c.second_at.ensures rows (jump_second rows c.args.step.now c.requires.jump))
+    c.requires.usable.sized

@@ -13,7 +13,8 @@ returns-in_err-test_ray_item c = λ z g.
     let items = (step_of (length c.args.system.now.template) c.args.step.now).items in
     let e = items_count (length c.args.system.now.template) c.args.step.now in
     let l : c.loop-k.k < length items = omega (arith, e, c.loop-k-test.true, c.count-k-end.ensures) in
-    rw (p.1, p.2) (second_stops Kind.Ray S z c.args.number items c.loop-k.k l (c.loop-k.invariant z g) c.in_err-test_ray_item.field-0.0 (c.in_err-test_ray_item.ensures z g))
+    rw (p.1, p.2) (second_stops Kind.Ray S z c.args.number items c.loop-k.k l (c.loop-k.invariant z g) c.in_err-test_ray_item.field-0.0
+    (c.in_err-test_ray_item.ensures z g))
 
 pub loop-k-preserved : goal.loop-k-preserved
 loop-k-preserved c = λ z g.
@@ -27,5 +28,8 @@ pub returns : goal.returns
 returns c = λ z g.
     let S = equations_of c.args.system.now in
     let items = (step_of (length c.args.system.now.template) c.args.step.now).items in
-    let e = items_count (length c.args.system.now.template) c.args.step.now in
-    (tt, second_all Kind.Ray S z c.args.number items c.loop-k.k (let l = c.loop-k-test.false in omega (arith, e, l, c.count-k-end.ensures)) (c.loop-k.invariant z g))
+    let e = items_count (length c.args.system.now.template) c.args.step.now in (
+      tt,
+      second_all Kind.Ray S z c.args.number items c.loop-k.k (let l = c.loop-k-test.false in omega (arith, e, l, c.count-k-end.ensures))
+          (c.loop-k.invariant z g),
+    )

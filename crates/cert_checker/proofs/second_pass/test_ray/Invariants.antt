@@ -9,4 +9,5 @@ use Rattle.cert_checker.proofs.names.Items.{SecondLeft}
 use Rattle.cert_checker.proofs.second_pass.test_ray.Given as goal
 
 abbrev pub invariant-loop-k : goal.invariant-loop-k
-invariant-loop-k l = (z : Vector) → Stands (equations_of l.system) l.rates (allowances (step_of (length l.system.template) l.step).items z) → SecondLeft Kind.Ray (equations_of l.system) z l.number (step_of (length l.system.template) l.step).items l.k
+invariant-loop-k l = (z : Vector) → Stands (equations_of l.system) l.rates (allowances (step_of (length l.system.template) l.step).items z)
+    → SecondLeft Kind.Ray (equations_of l.system) z l.number (step_of (length l.system.template) l.step).items l.k

@@ -27,12 +27,15 @@ returns-in_err-ensure c = λ z g.
     let rates = allowances (step_of rows c.args.step.now).items z in
     let item = item_at rows c.args.step.now c.args.k in
     let fault = RayFault c.args.number c.args.k in
-    let told = subst₂ (λ a b. IsTrue c.lt.result ↔ (a <ℚ b)) c.zero.ensures.value (sym (c.number_at-rate.ensures rows)) (test_less c.zero.result c.number_at-rate.result c.lt.result c.lt.ensures) in
+    let told = subst₂ (λ a b. IsTrue c.lt.result ↔ (a <ℚ b)) c.zero.ensures.value (sym (c.number_at-rate.ensures rows))
+    (test_less c.zero.result c.number_at-rate.result c.lt.result c.lt.ensures) in
     let first = dec_lt_ℚ zero_ℚ item.number in
     let last = dec_le_ℚ item.number (lin (end_form S.variables (edge_of S item).actions (row_of S item)) (word item.second)) in
-    let rest = carry_events (at_item c.args.number c.args.k) fault S rates (edge_of S item) (row_of S item) item.second ++ Test (decided last) fault ∷ [] in
+    let rest = carry_events (at_item c.args.number c.args.k) fault S rates (edge_of S item) (row_of S item) item.second
+    ++ Test (decided last) fault ∷ [] in
     let e = c.in_err-ensure.field-0.0 in
-    rw (r.1, r.2) (stop_sooner (Test (decided first) fault ∷ []) rest e (ensured first c.lt.result fault (ends_with e) told c.in_err-ensure.ensures.passed c.in_err-ensure.ensures.fault))
+    rw (r.1, r.2) (stop_sooner (Test (decided first) fault ∷ []) rest e
+    (ensured first c.lt.result fault (ends_with e) told c.in_err-ensure.ensures.passed c.in_err-ensure.ensures.fault))
 
 pub returns : goal.returns
 unfolding going_events
@@ -43,17 +46,22 @@ returns c = λ z g.
     let item = item_at rows c.args.step.now c.args.k in
     let fault = RayFault c.args.number c.args.k in
     let n = sym (c.number_at-rate.ensures rows) in
-    let told = subst₂ (λ a b. IsTrue c.lt.result ↔ (a <ℚ b)) c.zero.ensures.value n (test_less c.zero.result c.number_at-rate.result c.lt.result c.lt.ensures) in
+    let told = subst₂ (λ a b. IsTrue c.lt.result ↔ (a <ℚ b)) c.zero.ensures.value n
+    (test_less c.zero.result c.number_at-rate.result c.lt.result c.lt.ensures) in
     let first = dec_lt_ℚ zero_ℚ item.number in
     let passed = ensured first c.lt.result fault goes_on told c.in_ok-ensure.ensures.passed tt in
     let x = lin (end_form S.variables (edge_of S item).actions (row_of S item)) (word item.second) in
     let events : Site → Fault → List Event = λ site fault. carry_events site fault S rates (edge_of S item) (row_of S item) item.second in
     let rest : Site → ℚ → List Event = λ site to. events site fault ++ Test (decided (dec_le_ℚ to x)) fault ∷ [] in
-    run_after (λ u. Unit {0}) (Test (decided first) fault ∷ []) (rest (at_item c.args.number c.args.k) item.number) c.ensure_reached.result passed.1
-    (subst₂ (λ s q. IsRun (λ u. Unit {0}) (rest s q) c.ensure_reached.result) c.item_site.ensures n (c.ensure_reached.ensures x fault events (c.follow_item.ensures rates item.second g (c.second_at.ensures rows (ray_second rows c.args.step.now c.requires.ray))) refl))
+    run_after (λ u. Unit {0}) (Test (decided first) fault ∷ []) (rest (at_item c.args.number c.args.k) item.number) c.ensure_reached.result
+    passed.1
+    (subst₂ (λ s q. IsRun (λ u. Unit {0}) (rest s q) c.ensure_reached.result) c.item_site.ensures n
+    (c.ensure_reached.ensures x fault events (c.follow_item.ensures rates item.second g
+    (c.second_at.ensures rows (ray_second rows c.args.step.now c.requires.ray))) refl))
 
 pub follow_item-requires-clause-sized : goal.follow_item-requires-clause-sized
 follow_item-requires-clause-sized c =
     let S = equations_of c.args.system.now in
     let rows = length S.template in
-    subst (Sized S (item_at rows c.args.step.now c.args.k)) (c.second_at.ensures rows (ray_second rows c.args.step.now c.requires.ray)) c.requires.usable.sized
+    subst (Sized S (item_at rows c.args.step.now c.args.k)) (c.second_at.ensures rows (ray_second rows c.args.step.now c.requires.ray))
+    c.requires.usable.sized

@@ -20,7 +20,9 @@ returns-in_default c =
     let p = c.args.unknown / length c.args.system.now.template in
     let r = c.args.unknown % length c.args.system.now.template in
     record {
-      count = c.count_into.ensures.count r 0 ∙ ap (λ w. length (into_needs (c.args.unknown / w) r 0 c.as_slice-in_default.result.now)) rows ∙ ap (λ es. length (into_needs p r 0 es)) c.as_slice-in_default.ensures
+      count = c.count_into.ensures.count r 0 ∙ ap (λ w. length (into_needs (c.args.unknown / w) r 0 c.as_slice-in_default.result.now)) rows
+          ∙ ap (λ es. length (into_needs p r 0 es)) c.as_slice-in_default.ensures
           ∙ sym (ap (λ ns. length ns) (needs_finite S p r c.args.bound c.in_default.not-PosInf));
-      few = (let f = c.count_into.ensures.few in let e = ap (λ es. length es) c.as_slice-in_default.ensures in let l = few_edges c.args.system.now.flow in omega (arith, f, e, l));
+      few = (let f = c.count_into.ensures.few in let e = ap (λ es. length es) c.as_slice-in_default.ensures in
+          let l = few_edges c.args.system.now.flow in omega (arith, f, e, l));
     }

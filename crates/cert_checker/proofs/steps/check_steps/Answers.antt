@@ -14,7 +14,12 @@ loop-number-init c =
     let S = equations_of c.args.system.now in
     let rows : length c.as_slice.result.now ≡ length c.args.system.now.template = ap (λ xs. length xs) c.as_slice.ensures.rows in
     record {
-      room = record { base = c.restart.ensures.size ∙ c.requires.room.base; next = c.restart-2.ensures.size ∙ c.requires.room.next; rates = c.requires.room.rates };
+      room = record {
+        base = c.restart.ensures.size ∙ c.requires.room.base;
+        next = c.restart-2.ensures.size ∙ c.requires.room.next;
+        rates =
+            c.requires.room.rates;
+      };
       z = start_vector;
       base = c.restart.ensures.start S rows c.requires.room.base;
       next = c.restart-2.ensures.start S rows c.requires.room.next;
@@ -36,10 +41,16 @@ loop-number-preserved c =
     let steps = map (step_of (length S.template)) c.args.steps.now in
     let v = c.loop-number.invariant in
     let step = step_of (length S.template) c.index-steps-number.result in
-    let at = there (length S.template) c.args.steps.now c.loop-number.number c.index-steps-number.result c.loop-number-test.true c.index-steps-number.is in
+    let at = there (length S.template) c.args.steps.now c.loop-number.number c.index-steps-number.result c.loop-number-test.true
+    c.index-steps-number.is in
     let t = c.in_ok-take.ensures.taken v.z v.base v.next in
     record {
-      room = record { base = c.take.ensures.base ∙ v.room.base; next = c.take.ensures.next ∙ v.room.next; rates = c.take.ensures.rates ∙ v.room.rates };
+      room = record {
+        base = c.take.ensures.base ∙ v.room.base;
+        next = c.take.ensures.next ∙ v.room.next;
+        rates =
+            c.take.ensures.rates ∙ v.room.rates;
+      };
       z = after_step step v.z;
       base = t.0;
       next = t.1;
@@ -51,11 +62,18 @@ pub returns-in_err-take : goal.returns-in_err-take
 returns-in_err-take c =
     let S = equations_of c.args.system.now in
     let v = c.loop-number.invariant in
-    let at = there (length S.template) c.args.steps.now c.loop-number.number c.index-steps-number.result c.loop-number-test.true c.index-steps-number.is in
+    let at = there (length S.template) c.args.steps.now c.loop-number.number c.index-steps-number.result c.loop-number-test.true
+    c.index-steps-number.is in
     let p = err_from_is_err_and c.from_residual.result c.from_residual.ensures.1 in
     record {
-      room = record { base = c.take.ensures.base ∙ v.room.base; next = c.take.ensures.next ∙ v.room.next; rates = c.take.ensures.rates ∙ v.room.rates };
-      answer = rw (p.1, p.2) (steps_stop S (map (step_of (length S.template)) c.args.steps.now) c.loop-number.number v.z v.left v.leads (step_of (length S.template) c.index-steps-number.result)
+      room = record {
+        base = c.take.ensures.base ∙ v.room.base;
+        next = c.take.ensures.next ∙ v.room.next;
+        rates =
+            c.take.ensures.rates ∙ v.room.rates;
+      };
+      answer = rw (p.1, p.2) (steps_stop S (map (step_of (length S.template)) c.args.steps.now) c.loop-number.number v.z v.left v.leads
+          (step_of (length S.template) c.index-steps-number.result)
           at.0 at.1 c.in_err-take.field-0.0 (c.in_err-take.ensures.taken v.z v.base v.next));
     }
 
@@ -69,5 +87,8 @@ returns c =
     let l : length steps ≤ i = subst (λ n. n ≤ i) (sym (length-map c.args.steps.now (step_of rows))) c.loop-number-test.false in
     record {
       room = v.room;
-      answer = (subst (Stands S c.loop-number.scratch.base) (sym (led_all S steps i v.z v.left v.leads l)) v.base, steps_all S steps i v.z v.left v.leads l);
+      answer = (
+        subst (Stands S c.loop-number.scratch.base) (sym (led_all S steps i v.z v.left v.leads l)) v.base,
+        steps_all S steps i v.z v.left v.leads l,
+      );
     }

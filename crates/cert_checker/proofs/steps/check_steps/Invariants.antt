@@ -16,6 +16,8 @@ invariant-loop-number l = record {
   z : Vector;
   base : Stands (equations_of l.system) l.scratch.base z;
   next : Stands (equations_of l.system) l.scratch.next z;
-  leads : after_steps (map (step_of (length l.system.template)) l.steps) start_vector ≡ after_steps (drop l.number (map (step_of (length l.system.template)) l.steps)) z;
-  left : first_stop (steps_events (equations_of l.system) start_vector 0 (map (step_of (length l.system.template)) l.steps)) ≡ first_stop (steps_events (equations_of l.system) z l.number (drop l.number (map (step_of (length l.system.template)) l.steps)));
+  leads : after_steps (map (step_of (length l.system.template)) l.steps) start_vector
+      ≡ after_steps (drop l.number (map (step_of (length l.system.template)) l.steps)) z;
+  left : first_stop (steps_events (equations_of l.system) start_vector 0 (map (step_of (length l.system.template)) l.steps))
+      ≡ first_stop (steps_events (equations_of l.system) z l.number (drop l.number (map (step_of (length l.system.template)) l.steps)));
 }

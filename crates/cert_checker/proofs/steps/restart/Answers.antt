@@ -11,4 +11,5 @@ returns-clause-start c = λ system q e.
     let m = length-map c.as_slice.result.now extended in
     let s = c.loop-u.invariant.size in
     let l = c.loop-u-test.false in
-    starts system c.loop-u.bounds c.loop-u.u (omega (arith, a, m, s, l)) (λ j i. c.loop-u.invariant.start j i ∙ ap (λ r. start_at r j) q) (s ∙ e)
+    starts system c.loop-u.bounds c.loop-u.u (omega (arith, a, m, s, l)) (λ j i. c.loop-u.invariant.start j i ∙ ap (λ r. start_at r j) q)
+    (s ∙ e)

@@ -16,7 +16,8 @@ test_jump-requires-clause-jump c = ap (λ s. (step_of (length c.args.system.now.
 pub test_jump-requires-clause-usable : goal.test_jump-requires-clause-usable
 test_jump-requires-clause-usable c = λ k l.
     let rows = length c.args.system.now.template in
-    subst (λ kind. IsUsable kind (equations_of c.args.system.now) (item_at rows c.args.step.now k)) (ap (λ s. (step_of rows s).kind) c.in-Jump.is) (c.requires.usable k l)
+    subst (λ kind. IsUsable kind (equations_of c.args.system.now) (item_at rows c.args.step.now k))
+    (ap (λ s. (step_of rows s).kind) c.in-Jump.is) (c.requires.usable k l)
 
 pub test_ray-requires-clause-ray : goal.test_ray-requires-clause-ray
 test_ray-requires-clause-ray c = ap (λ s. (step_of (length c.args.system.now.template) s).kind) c.in-Ray.is
@@ -24,7 +25,8 @@ test_ray-requires-clause-ray c = ap (λ s. (step_of (length c.args.system.now.te
 pub test_ray-requires-clause-usable : goal.test_ray-requires-clause-usable
 test_ray-requires-clause-usable c = λ k l.
     let rows = length c.args.system.now.template in
-    subst (λ kind. IsUsable kind (equations_of c.args.system.now) (item_at rows c.args.step.now k)) (ap (λ s. (step_of rows s).kind) c.in-Ray.is) (c.requires.usable k l)
+    subst (λ kind. IsUsable kind (equations_of c.args.system.now) (item_at rows c.args.step.now k))
+    (ap (λ s. (step_of rows s).kind) c.in-Ray.is) (c.requires.usable k l)
 
 pub returns-in-Plain-clause-answer : goal.returns-in-Plain-clause-answer
 returns-in-Plain-clause-answer c = λ z h g.

@@ -10,6 +10,8 @@ abbrev pub invariant-loop-number : goal.invariant-loop-number
 invariant-loop-number l = record {
   within : l.next ≤ length l.uppers;
   left : (z : Vector) → Stands (equations_of l.system) l.bounds z →
-      IntoLeft (equations_of l.system) z (map evidence_of l.uppers) (l.unknown / length l.system.template) (l.unknown % length l.system.template) l.place l.system.flow.edges l.number l.next;
-  taken : (z : Vector) → IntoTaken (equations_of l.system) z (map evidence_of l.uppers) (l.unknown / length l.system.template) (l.unknown % length l.system.template) l.place l.system.flow.edges l.number l.next;
+      IntoLeft (equations_of l.system) z (map evidence_of l.uppers) (l.unknown / length l.system.template)
+      (l.unknown % length l.system.template) l.place l.system.flow.edges l.number l.next;
+  taken : (z : Vector) → IntoTaken (equations_of l.system) z (map evidence_of l.uppers) (l.unknown / length l.system.template)
+      (l.unknown % length l.system.template) l.place l.system.flow.edges l.number l.next;
 }

@@ -13,35 +13,55 @@ pub returns-then-place-uppers-clause-answer : goal.returns-then-place-uppers-cla
 returns-then-place-uppers-clause-answer c = λ z e h found to.
     let m = length-map c.args.uppers.now evidence_of in
     let t = c.if-place-uppers.true in
-    one_absent (equations_of c.args.system.now) z (map evidence_of c.args.uppers.now) c.args.place e c.args.edge c.args.unknown to (omega (arith, m, t))
+    one_absent (equations_of c.args.system.now) z (map evidence_of c.args.uppers.now) c.args.place e c.args.edge c.args.unknown to
+    (omega (arith, m, t))
 
 pub returns-in-Ok-Some-clause-answer : goal.returns-in-Ok-Some-clause-answer
 returns-in-Ok-Some-clause-answer c = λ z e h found to.
     let upper = c.index-uppers-place.result in
     let m = length-map c.args.uppers.now evidence_of in
     let l : c.args.place < length c.args.uppers.now = let t = c.if-place-uppers.false in omega (arith, t) in
-    let is : evidence_of upper ≡ get_or (map evidence_of c.args.uppers.now) c.args.place (evidence_of upper) = ap evidence_of c.index-uppers-place.is ∙ sym (get_or-map evidence_of c.args.uppers.now c.args.place upper (evidence_of upper) l) in
-    let same = one_given (equations_of c.args.system.now) z (map evidence_of c.args.uppers.now) c.args.place e c.args.edge c.args.unknown to (evidence_of upper) (omega (arith, m, l)) is in
+    let is : evidence_of upper ≡ get_or (map evidence_of c.args.uppers.now) c.args.place (evidence_of upper) =
+    ap evidence_of c.index-uppers-place.is ∙ sym (get_or-map evidence_of c.args.uppers.now c.args.place upper (evidence_of upper)
+    l) in
+    let same = one_given (equations_of c.args.system.now) z (map evidence_of c.args.uppers.now) c.args.place e c.args.edge c.args.unknown to
+    (evidence_of upper) (omega (arith, m, l)) is in
     let r = c.args.unknown % length c.args.system.now.template in
-    let events = evidence_events (UpperSite c.args.unknown c.args.edge) (UpperFault c.args.unknown c.args.edge) (equations_of c.args.system.now) z e (get_or c.args.system.now.template r []) (z (c.args.unknown / length c.args.system.now.template) r) (evidence_of upper) in
-    (tt, same ∙ told_passes events (UpperFault c.args.unknown c.args.edge) c.in-Ok-Some.field-0 c.in-Ok-Some.field-0-0 c.in-Ok-Some.field-0-is (c.in-Ok-Some.ensures z e h found (UpperSite c.args.unknown c.args.edge) (UpperFault c.args.unknown c.args.edge)))
+    let events = evidence_events (UpperSite c.args.unknown c.args.edge) (UpperFault c.args.unknown c.args.edge)
+    (equations_of c.args.system.now) z e (get_or c.args.system.now.template r [])
+    (z (c.args.unknown / length c.args.system.now.template) r) (evidence_of upper) in (
+      tt,
+      same ∙ told_passes events (UpperFault c.args.unknown c.args.edge) c.in-Ok-Some.field-0 c.in-Ok-Some.field-0-0
+          c.in-Ok-Some.field-0-is (c.in-Ok-Some.ensures z e h found (UpperSite c.args.unknown c.args.edge)
+          (UpperFault c.args.unknown c.args.edge)),
+    )
 
 pub returns-in-Ok-None-clause-answer : goal.returns-in-Ok-None-clause-answer
 returns-in-Ok-None-clause-answer c = λ z e h found to.
     let upper = c.index-uppers-place.result in
     let m = length-map c.args.uppers.now evidence_of in
     let l : c.args.place < length c.args.uppers.now = let t = c.if-place-uppers.false in omega (arith, t) in
-    let is : evidence_of upper ≡ get_or (map evidence_of c.args.uppers.now) c.args.place (evidence_of upper) = ap evidence_of c.index-uppers-place.is ∙ sym (get_or-map evidence_of c.args.uppers.now c.args.place upper (evidence_of upper) l) in
-    let same = one_given (equations_of c.args.system.now) z (map evidence_of c.args.uppers.now) c.args.place e c.args.edge c.args.unknown to (evidence_of upper) (omega (arith, m, l)) is in
+    let is : evidence_of upper ≡ get_or (map evidence_of c.args.uppers.now) c.args.place (evidence_of upper) =
+    ap evidence_of c.index-uppers-place.is ∙ sym (get_or-map evidence_of c.args.uppers.now c.args.place upper (evidence_of upper)
+    l) in
+    let same = one_given (equations_of c.args.system.now) z (map evidence_of c.args.uppers.now) c.args.place e c.args.edge c.args.unknown to
+    (evidence_of upper) (omega (arith, m, l)) is in
     let r = c.args.unknown % length c.args.system.now.template in
-    let events = evidence_events (UpperSite c.args.unknown c.args.edge) (UpperFault c.args.unknown c.args.edge) (equations_of c.args.system.now) z e (get_or c.args.system.now.template r []) (z (c.args.unknown / length c.args.system.now.template) r) (evidence_of upper) in
-    same ∙ told_fails events (UpperFault c.args.unknown c.args.edge) c.in-Ok-None.field-0 c.in-Ok-None.field-0-is (c.in-Ok-None.ensures z e h found (UpperSite c.args.unknown c.args.edge) (UpperFault c.args.unknown c.args.edge))
+    let events = evidence_events (UpperSite c.args.unknown c.args.edge) (UpperFault c.args.unknown c.args.edge)
+    (equations_of c.args.system.now) z e (get_or c.args.system.now.template r [])
+    (z (c.args.unknown / length c.args.system.now.template) r) (evidence_of upper) in
+    same ∙ told_fails events (UpperFault c.args.unknown c.args.edge) c.in-Ok-None.field-0 c.in-Ok-None.field-0-is
+    (c.in-Ok-None.ensures z e h found (UpperSite c.args.unknown c.args.edge) (UpperFault c.args.unknown c.args.edge))
 
 pub returns-in-Err-clause-answer : goal.returns-in-Err-clause-answer
 returns-in-Err-clause-answer c = λ z e h found to.
     let upper = c.index-uppers-place.result in
     let m = length-map c.args.uppers.now evidence_of in
     let l : c.args.place < length c.args.uppers.now = let t = c.if-place-uppers.false in omega (arith, t) in
-    let is : evidence_of upper ≡ get_or (map evidence_of c.args.uppers.now) c.args.place (evidence_of upper) = ap evidence_of c.index-uppers-place.is ∙ sym (get_or-map evidence_of c.args.uppers.now c.args.place upper (evidence_of upper) l) in
-    let same = one_given (equations_of c.args.system.now) z (map evidence_of c.args.uppers.now) c.args.place e c.args.edge c.args.unknown to (evidence_of upper) (omega (arith, m, l)) is in
-    same ∙ c.in-Err.ensures z e h found (UpperSite c.args.unknown c.args.edge) (UpperFault c.args.unknown c.args.edge) ∙ ap Some (sym c.wide_at.ensures)
+    let is : evidence_of upper ≡ get_or (map evidence_of c.args.uppers.now) c.args.place (evidence_of upper) =
+    ap evidence_of c.index-uppers-place.is ∙ sym (get_or-map evidence_of c.args.uppers.now c.args.place upper (evidence_of upper)
+    l) in
+    let same = one_given (equations_of c.args.system.now) z (map evidence_of c.args.uppers.now) c.args.place e c.args.edge c.args.unknown to
+    (evidence_of upper) (omega (arith, m, l)) is in
+    same ∙ c.in-Err.ensures z e h found (UpperSite c.args.unknown c.args.edge) (UpperFault c.args.unknown c.args.edge)
+    ∙ ap Some (sym c.wide_at.ensures)

@@ -9,5 +9,6 @@ use Rattle.cert_checker.proofs.uppers.check_uppers.Given as goal
 abbrev pub invariant-loop-unknown : goal.invariant-loop-unknown
 invariant-loop-unknown l = record {
   within : l.place ≤ length l.uppers;
-  left : (z : Vector) → Stands (equations_of l.system) l.bounds z → UnknownLeft (equations_of l.system) z (map evidence_of l.uppers) l.unknown l.place;
+  left : (z : Vector) → Stands (equations_of l.system) l.bounds z → UnknownLeft (equations_of l.system) z (map evidence_of l.uppers)
+      l.unknown l.place;
 }

@@ -10,5 +10,6 @@ loop-point-preserved c =
     let one : suc p ≡ p + 1 = omega arith in
     let width : p * rows + rows - p * rows ≡ rows = omega arith in
     c.in_ok-push.ensures.items
-    ∙ ap₂ (λ a b. a ++ b ∷ []) c.loop-point.invariant (c.in_ok-list.ensures.items_if_clones_equal (λ x y e. e) ∙ ap (λ n. take n (drop (p * rows) c.args.bounds.now)) width)
+    ∙ ap₂ (λ a b. a ++ b ∷ []) c.loop-point.invariant (c.in_ok-list.ensures.items_if_clones_equal (λ x y e. e)
+    ∙ ap (λ n. take n (drop (p * rows) c.args.bounds.now)) width)
     ∙ sym (lines_more rows p c.args.bounds.now) ∙ ap (λ n. lines_of rows n c.args.bounds.now) one

@@ -13,4 +13,5 @@ write_list-requires c = all_true c.as_slice.result.now
 pub returns-clause-shape : goal.returns-clause-shape
 returns-clause-shape c =
     IfOk-weaker c.write_list.result _ _ (λ _ h. ap₂ (λ a b. a && b)
-    (subst (λ xs. is_list is_text (ext_line_data xs) ≡ true) (c.as_slice.ensures.value ∙ c.line.view_is) h) (eq-eqb _ c.args.rows (items_len-items_data ext_data c.args.line.now ∙ c.requires))) c.write_list.ensures.shape
+    (subst (λ xs. is_list is_text (ext_line_data xs) ≡ true) (c.as_slice.ensures.value ∙ c.line.view_is) h)
+    (eq-eqb _ c.args.rows (items_len-items_data ext_data c.args.line.now ∙ c.requires))) c.write_list.ensures.shape

@@ -17,11 +17,16 @@ loop-element-preserved g c =
     let x = c.element-item.result in
     let more = one_more xs i x c.loop-element-test.true c.element-item.is in
     record {
-      data_is = data_more f c.loop-element.values.items c.push.new.self.items c.in_ok-write.field-0 (take i xs) x c.in_ok-push.ensures.items c.loop-element.invariant.data_is c.in_ok-write.ensures.value ∙ ap (items_data f) more;
-      shape = subst (λ ys. all_items test (items_data f ys) ≡ true) more (shape_more f test (take i xs) x c.loop-element.invariant.shape c.in_ok-write.ensures.shape);
-      back = subst (λ ys. items_in read (items_data f ys) ≡ Some ys) more (back_more f read (take i xs) x c.loop-element.invariant.back c.in_ok-write.ensures.back);
+      data_is = data_more f c.loop-element.values.items c.push.new.self.items c.in_ok-write.field-0 (take i xs) x c.in_ok-push.ensures.items
+          c.loop-element.invariant.data_is c.in_ok-write.ensures.value ∙ ap (items_data f) more;
+      shape = subst (λ ys. all_items test (items_data f ys) ≡ true) more
+          (shape_more f test (take i xs) x c.loop-element.invariant.shape c.in_ok-write.ensures.shape);
+      back = subst (λ ys. items_in read (items_data f ys) ≡ Some ys) more
+          (back_more f read (take i xs) x c.loop-element.invariant.back c.in_ok-write.ensures.back);
     }
 
 pub returns-clause-value : goal.returns-clause-value
 returns-clause-value g c =
-    view-Array c.loop-element.values ∙ ap array (c.loop-element.invariant.data_is ∙ ap (items_data (g.T.Entry.element_data c.args.rows c.args.names.now)) (take_all c.loop-element.element-index c.args.list.now c.loop-element-test.false))
+    view-Array c.loop-element.values ∙ ap array (c.loop-element.invariant.data_is
+    ∙ ap (items_data (g.T.Entry.element_data c.args.rows c.args.names.now))
+    (take_all c.loop-element.element-index c.args.list.now c.loop-element-test.false))

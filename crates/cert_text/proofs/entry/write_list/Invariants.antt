@@ -8,6 +8,8 @@ abbrev pub invariant-loop-element : goal.invariant-loop-element
 invariant-loop-element g l =
     record {
       data_is : items_view l.values.items ≡ items_data (g.T.Entry.element_data l.rows l.names) (take l.element-index l.list);
-      shape : all_items (g.T.Entry.shaped (listing l.rows l.names)) (items_data (g.T.Entry.element_data l.rows l.names) (take l.element-index l.list)) ≡ true;
-      back : items_in (g.T.Entry.element_in (listing l.rows l.names)) (items_data (g.T.Entry.element_data l.rows l.names) (take l.element-index l.list)) ≡ Some (take l.element-index l.list);
+      shape : all_items (g.T.Entry.shaped (listing l.rows l.names)) (items_data (g.T.Entry.element_data l.rows l.names)
+          (take l.element-index l.list)) ≡ true;
+      back : items_in (g.T.Entry.element_in (listing l.rows l.names)) (items_data (g.T.Entry.element_data l.rows l.names)
+          (take l.element-index l.list)) ≡ Some (take l.element-index l.list);
     }

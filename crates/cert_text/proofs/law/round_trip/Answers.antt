@@ -8,24 +8,30 @@ returns-clause-same c =
     let cert = c.args.cert.now in
     let bytes = c.as_slice.result.now in
     let k =
-    read_as cert bytes (subst (λ (b : List ℕ). IsWithin cert → SpellsCert b cert) (sym c.as_slice.ensures.value) c.in_ok-bytes.ensures.reads_back)
+    read_as cert bytes (subst (λ (b : List ℕ). IsWithin cert → SpellsCert b cert) (sym c.as_slice.ensures.value)
+    c.in_ok-bytes.ensures.reads_back)
     (subst (λ (b : List ℕ). IsBeyond cert → SpellsTooMany b) (sym c.as_slice.ensures.value) c.in_ok-bytes.ensures.expands) in
-    again_same cert c.read.result (one_answer bytes (read_again cert) k.0 k.1 k.2 c.read.result c.read.ensures.ok c.read.ensures.not_json c.read.ensures.refused)
+    again_same cert c.read.result (one_answer bytes (read_again cert) k.0 k.1 k.2 c.read.result c.read.ensures.ok c.read.ensures.not_json
+    c.read.ensures.refused)
 
 pub returns-clause-within : goal.returns-clause-within
 returns-clause-within c =
     let cert = c.args.cert.now in
     let bytes = c.as_slice.result.now in
     let k =
-    read_as cert bytes (subst (λ (b : List ℕ). IsWithin cert → SpellsCert b cert) (sym c.as_slice.ensures.value) c.in_ok-bytes.ensures.reads_back)
+    read_as cert bytes (subst (λ (b : List ℕ). IsWithin cert → SpellsCert b cert) (sym c.as_slice.ensures.value)
+    c.in_ok-bytes.ensures.reads_back)
     (subst (λ (b : List ℕ). IsBeyond cert → SpellsTooMany b) (sym c.as_slice.ensures.value) c.in_ok-bytes.ensures.expands) in
-    again_within cert c.read.result (one_answer bytes (read_again cert) k.0 k.1 k.2 c.read.result c.read.ensures.ok c.read.ensures.not_json c.read.ensures.refused)
+    again_within cert c.read.result (one_answer bytes (read_again cert) k.0 k.1 k.2 c.read.result c.read.ensures.ok c.read.ensures.not_json
+    c.read.ensures.refused)
 
 pub returns-clause-refused : goal.returns-clause-refused
 returns-clause-refused c =
     let cert = c.args.cert.now in
     let bytes = c.as_slice.result.now in
     let k =
-    read_as cert bytes (subst (λ (b : List ℕ). IsWithin cert → SpellsCert b cert) (sym c.as_slice.ensures.value) c.in_ok-bytes.ensures.reads_back)
+    read_as cert bytes (subst (λ (b : List ℕ). IsWithin cert → SpellsCert b cert) (sym c.as_slice.ensures.value)
+    c.in_ok-bytes.ensures.reads_back)
     (subst (λ (b : List ℕ). IsBeyond cert → SpellsTooMany b) (sym c.as_slice.ensures.value) c.in_ok-bytes.ensures.expands) in
-    again_refused cert c.read.result (one_answer bytes (read_again cert) k.0 k.1 k.2 c.read.result c.read.ensures.ok c.read.ensures.not_json c.read.ensures.refused)
+    again_refused cert c.read.result (one_answer bytes (read_again cert) k.0 k.1 k.2 c.read.result c.read.ensures.ok c.read.ensures.not_json
+    c.read.ensures.refused)

@@ -8,6 +8,8 @@ loop-value-preserved g c =
     let read = g.T.Entry.element_in (listing c.args.rows c.args.traces.now) in
     record {
       few = omega arith;
-      count = counted_more read g.T.Naming.traces_of c.args.values.now c.loop-value.value-index c.value-item.result c.in-Some.more c.loop-value.total c.min-total.result
-          (count_all read g.T.Naming.traces_of c.args.values.now) c.loop-value-test.true c.value-item.is (sym c.in-Some.is ∙ c.values.ensures.count) c.min-total.ensures c.loop-value.invariant.count;
+      count = counted_more read g.T.Naming.traces_of c.args.values.now c.loop-value.value-index c.value-item.result c.in-Some.more
+          c.loop-value.total c.min-total.result
+          (count_all read g.T.Naming.traces_of c.args.values.now) c.loop-value-test.true c.value-item.is
+          (sym c.in-Some.is ∙ c.values.ensures.count) c.min-total.ensures c.loop-value.invariant.count;
     }

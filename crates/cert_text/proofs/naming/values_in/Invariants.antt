@@ -10,5 +10,6 @@ invariant-loop-value g l =
     let read = g.T.Entry.element_in (listing l.rows l.traces) in
     record {
       few : l.total ≤ MOST_VALUES + 1;
-      count : count_all read g.T.Naming.traces_of l.values ≡ counted read g.T.Naming.traces_of l.total (left_to_read read l.values l.value-index);
+      count : count_all read g.T.Naming.traces_of l.values ≡ counted read g.T.Naming.traces_of l.total
+          (left_to_read read l.values l.value-index);
     }

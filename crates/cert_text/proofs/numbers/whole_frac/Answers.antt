@@ -7,11 +7,13 @@ use Rattle.cert_text.proofs.numbers.whole_frac.Goals as goal
 
 pub unwrap-requires : goal.unwrap-requires
 unwrap-requires c =
-    subst (λ o. IsSome o) (sym (whole_made c.args.number (to_z w64 (of_z w64 c.args.number)) c.make.result (to_z-of_z w64 c.args.number c.ranges.number) c.requires c.make.ensures)) refl
+    subst (λ o. IsSome o) (sym (whole_made c.args.number (to_z w64 (of_z w64 c.args.number)) c.make.result
+    (to_z-of_z w64 c.args.number c.ranges.number) c.requires c.make.ensures)) refl
 
 pub returns-clause-value : goal.returns-clause-value
 returns-clause-value c =
-    some_same (sym c.unwrap.ensures ∙ whole_made c.args.number (to_z w64 (of_z w64 c.args.number)) c.make.result (to_z-of_z w64 c.args.number c.ranges.number) c.requires c.make.ensures)
+    some_same (sym c.unwrap.ensures ∙ whole_made c.args.number (to_z w64 (of_z w64 c.args.number)) c.make.result
+    (to_z-of_z w64 c.args.number c.ranges.number) c.requires c.make.ensures)
 
 pub returns-clause-back : goal.returns-clause-back
 returns-clause-back c = whole_back c.args.number c.requires

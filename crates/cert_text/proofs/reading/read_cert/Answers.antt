@@ -16,7 +16,8 @@ returns-in_err-lines c =
     let rows = c.in_ok-rows.rows in
     let long : length rows.items ≡ c.len-count.result = omega (arith, rows.ok.0, c.len-count.ensures) in
     let h : c.in_err-lines.field-0.0 ≢ NoMemory → cert_in d ≡ Err c.in_err-lines.field-0.0 =
-    λ k. cert_no_lines d c.in_ok-test_format.field-0 rows.items c.len-count.result top (sym c.in_ok-test_format.ensures) c.in_ok-rows.ensures long c.in_err-lines.field-0.0 (c.in_err-lines.ensures k) in
+    λ k. cert_no_lines d c.in_ok-test_format.field-0 rows.items c.len-count.result top (sym c.in_ok-test_format.ensures)
+    c.in_ok-rows.ensures long c.in_err-lines.field-0.0 (c.in_err-lines.ensures k) in
     search (rules, h)
 
 pub returns-in_err-traces : goal.returns-in_err-traces
@@ -26,7 +27,8 @@ returns-in_err-traces c =
     let rows = c.in_ok-rows.rows in
     let long : length rows.items ≡ c.len-count.result = omega (arith, rows.ok.0, c.len-count.ensures) in
     let h : c.in_err-traces.field-0.0 ≢ NoMemory → cert_in d ≡ Err c.in_err-traces.field-0.0 =
-    λ k. cert_no_traces d c.in_ok-test_format.field-0 rows.items c.len-count.result top (sym c.in_ok-test_format.ensures) c.in_ok-rows.ensures long
+    λ k. cert_no_traces d c.in_ok-test_format.field-0 rows.items c.len-count.result top (sym c.in_ok-test_format.ensures)
+    c.in_ok-rows.ensures long
     c.in_ok-lines.lines.items c.in_ok-lines.ensures c.in_err-traces.field-0.0 (c.in_err-traces.ensures k) in
     search (rules, h)
 
@@ -37,8 +39,10 @@ returns-in_err-steps c =
     let rows = c.in_ok-rows.rows in
     let long : length rows.items ≡ c.len-count.result = omega (arith, rows.ok.0, c.len-count.ensures) in
     let h : c.in_err-steps.field-0.0 ≢ NoMemory → cert_in d ≡ Err c.in_err-steps.field-0.0 =
-    λ k. cert_no_rest d c.in_ok-test_format.field-0 rows.items c.len-count.result top (sym c.in_ok-test_format.ensures) c.in_ok-rows.ensures long
-    c.in_ok-lines.lines.items c.in_ok-lines.ensures c.in_ok-traces.traces c.in_ok-traces.ensures c.in_err-steps.field-0.0 (c.in_err-steps.ensures k) in
+    λ k. cert_no_rest d c.in_ok-test_format.field-0 rows.items c.len-count.result top (sym c.in_ok-test_format.ensures) c.in_ok-rows.ensures
+    long
+    c.in_ok-lines.lines.items c.in_ok-lines.ensures c.in_ok-traces.traces c.in_ok-traces.ensures c.in_err-steps.field-0.0
+    (c.in_err-steps.ensures k) in
     search (rules, h)
 
 pub returns : goal.returns
@@ -52,6 +56,7 @@ returns c =
     c.in_ok-lines.lines.items c.in_ok-lines.ensures c.in_ok-traces.traces c.in_ok-traces.ensures rest.steps.items rest.uppers.items
     c.new.result c.new-2.result c.new-3.result c.new-4.result c.in_ok-steps.ensures
     c.new.ensures
-    (c.new-2.ensures ∙ ap (λ (xs : List Ext). map extended xs) (c.in_ok-bounds.ensures ∙ ap (λ (xss : List (List Ext)). joined xss) c.as_slice.ensures.value))
+    (c.new-2.ensures ∙ ap (λ (xs : List Ext). map extended xs) (c.in_ok-bounds.ensures
+    ∙ ap (λ (xss : List (List Ext)). joined xss) c.as_slice.ensures.value))
     (search (rules, c.new-3.ensures, c.in_ok-steps.steps-is))
     (search (rules, c.new-4.ensures, c.in_ok-steps.uppers-is))

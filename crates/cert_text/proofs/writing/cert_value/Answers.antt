@@ -21,14 +21,16 @@ subst₃ : {A B C : Type 0} (P : A → B → C → Type 0) (a x : A) (b y : B) (
 subst₃ P a x b y c z e f g p = subst (λ w. P x y w) g (subst₂ (λ u v. P u v c) e f p)
 
 pub bounds_value-requires : goal.bounds_value-requires
-bounds_value-requires c = subst (λ (xs : List (List ℤ)). length c.args.cert.now.bounds / length xs * length xs ≡ length c.args.cert.now.bounds) (sym c.as_slice-count.ensures) (writable_whole c.args.cert.now c.requires)
+bounds_value-requires c = subst (λ (xs : List (List ℤ)). length c.args.cert.now.bounds / length xs * length xs
+    ≡ length c.args.cert.now.bounds) (sym c.as_slice-count.ensures) (writable_whole c.args.cert.now c.requires)
 
 pub write_list-requires : goal.write_list-requires
 write_list-requires c = all_true c.as_slice-2.result.now
 
 pub write_list-requires-2 : goal.write_list-requires-2
 write_list-requires-2 c =
-    written_steps c.args.cert.now c.as_slice-count.result.now c.in_ok-names.names c.as_slice-3.result.now c.requires c.as_slice-count.ensures
+    written_steps c.args.cert.now c.as_slice-count.result.now c.in_ok-names.names c.as_slice-3.result.now c.requires
+    c.as_slice-count.ensures
     (c.in_ok-names.ensures ∙ ap (λ (ss : List Step). with_traces [] (named_traces ss)) c.as_slice.ensures) c.as_slice-3.ensures
 
 pub write_list-requires-3 : goal.write_list-requires-3
@@ -41,10 +43,13 @@ pub returns-clause-value : goal.returns-clause-value
 returns-clause-value c =
     let n = ap (λ (xs : List (List ℤ)). length xs) c.as_slice-count.ensures in
     let names = c.in_ok-names.ensures ∙ ap (λ (ss : List Step). with_traces [] (named_traces ss)) c.as_slice.ensures in
-    IfOk-weaker c.cert_object.result _ _ (λ _ h. h ∙ cert_data_is c.args.cert.now (view c.in_ok-bounds.bounds) (view c.in_ok-rows.rows) (view c.in_ok-steps.steps) (view c.in_ok-traces.traces) (view c.in_ok-uppers.uppers)
+    IfOk-weaker c.cert_object.result _ _ (λ _ h. h ∙ cert_data_is c.args.cert.now (view c.in_ok-bounds.bounds) (view c.in_ok-rows.rows)
+    (view c.in_ok-steps.steps) (view c.in_ok-traces.traces) (view c.in_ok-uppers.uppers)
     (c.in_ok-bounds.ensures.value ∙ ap (λ k. bounds_data k c.args.cert.now.bounds) n)
     (c.in_ok-rows.ensures.value ∙ ap (λ (xs : List (List ℤ)). list_data row_data xs) c.as_slice-2.ensures)
-    (c.in_ok-steps.ensures.value ∙ ap₂ (λ k (ts : List Trace). list_data (step_data k ts) c.as_slice-3.result.now) n names ∙ ap (λ (xs : List Step). list_data (step_data (length c.args.cert.now.rows) (listed_traces c.args.cert.now)) xs) c.as_slice-3.ensures)
+    (c.in_ok-steps.ensures.value ∙ ap₂ (λ k (ts : List Trace). list_data (step_data k ts) c.as_slice-3.result.now) n names
+    ∙ ap (λ (xs : List Step). list_data (step_data (length c.args.cert.now.rows) (listed_traces c.args.cert.now)) xs)
+    c.as_slice-3.ensures)
     (c.in_ok-traces.ensures.value ∙ ap (λ (xs : List Trace). list_data trace_data xs) (c.as_slice-4.ensures ∙ names))
     (c.in_ok-uppers.ensures.value ∙ ap (λ (xs : List Upper). list_data upper_data xs) c.as_slice-5.ensures)) c.cert_object.ensures
 
@@ -61,10 +66,14 @@ returns-clause-back c =
     (subst (λ k. list_in line_in (bounds_data k bounds) ≡ Some back.0) n back.1)
     back.2
     (subst (λ (xs : List (List ℤ)). is_list are_texts (list_data row_data xs) ≡ true) c.as_slice-2.ensures c.in_ok-rows.ensures.shape)
-    (subst (λ (xs : List (List ℤ)). list_in (list_in whole_in) (list_data row_data xs) ≡ Some xs) c.as_slice-2.ensures c.in_ok-rows.ensures.back)
-    (subst₃ (λ k (ts : List Trace) (xs : List Step). is_list (is_step (listing k ts)) (list_data (step_data k ts) xs) ≡ true) _ _ _ _ _ _ n names c.as_slice-3.ensures c.in_ok-steps.ensures.shape)
-    (subst₃ (λ k (ts : List Trace) (xs : List Step). list_in (step_in (listing k ts)) (list_data (step_data k ts) xs) ≡ Some xs) _ _ _ _ _ _ n names c.as_slice-3.ensures c.in_ok-steps.ensures.back)
+    (subst (λ (xs : List (List ℤ)). list_in (list_in whole_in) (list_data row_data xs) ≡ Some xs) c.as_slice-2.ensures
+    c.in_ok-rows.ensures.back)
+    (subst₃ (λ k (ts : List Trace) (xs : List Step). is_list (is_step (listing k ts)) (list_data (step_data k ts) xs) ≡ true) _ _ _ _ _ _ n
+    names c.as_slice-3.ensures c.in_ok-steps.ensures.shape)
+    (subst₃ (λ k (ts : List Trace) (xs : List Step). list_in (step_in (listing k ts)) (list_data (step_data k ts) xs) ≡ Some xs) _ _ _ _ _ _
+    n names c.as_slice-3.ensures c.in_ok-steps.ensures.back)
     (subst (λ (xs : List Trace). is_list is_trace (list_data trace_data xs) ≡ true) traces c.in_ok-traces.ensures.shape)
     (subst (λ (xs : List Trace). list_in trace_in (list_data trace_data xs) ≡ Some xs) traces c.in_ok-traces.ensures.back)
     (subst (λ (xs : List Upper). is_list is_upper (list_data upper_data xs) ≡ true) c.as_slice-5.ensures c.in_ok-uppers.ensures.shape)
-    (subst (λ (xs : List Upper). list_in upper_in (list_data upper_data xs) ≡ Some xs) c.as_slice-5.ensures c.in_ok-uppers.ensures.back)) c.cert_object.ensures
+    (subst (λ (xs : List Upper). list_in upper_in (list_data upper_data xs) ≡ Some xs) c.as_slice-5.ensures c.in_ok-uppers.ensures.back))
+    c.cert_object.ensures

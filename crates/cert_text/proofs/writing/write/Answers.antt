@@ -11,8 +11,10 @@ returns-clause-text c =
     IfOk-weaker c.to_vec.result _ _ (λ b h. h (ap has_float is ∙ cert_whole c.args.cert.now) ∙ ap compact_text is) c.to_vec.ensures.text
 
 pub returns-clause-reads_back : goal.returns-clause-reads_back
-returns-clause-reads_back c = spelled c.to_vec.result (view c.in_ok-value.value) c.args.cert.now c.to_vec.ensures.utf8 c.to_vec.ensures.reads_back c.in_ok-value.ensures.value c.in_ok-value.ensures.back
+returns-clause-reads_back c = spelled c.to_vec.result (view c.in_ok-value.value) c.args.cert.now c.to_vec.ensures.utf8
+    c.to_vec.ensures.reads_back c.in_ok-value.ensures.value c.in_ok-value.ensures.back
 
 pub returns-clause-expands : goal.returns-clause-expands
 returns-clause-expands c =
-    spelled_beyond c.to_vec.result (view c.in_ok-value.value) c.args.cert.now c.to_vec.ensures.utf8 c.to_vec.ensures.reads_back c.in_ok-value.ensures.value c.in_ok-value.ensures.back
+    spelled_beyond c.to_vec.result (view c.in_ok-value.value) c.args.cert.now c.to_vec.ensures.utf8 c.to_vec.ensures.reads_back
+    c.in_ok-value.ensures.value c.in_ok-value.ensures.back

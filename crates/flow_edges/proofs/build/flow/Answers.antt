@@ -23,26 +23,31 @@ long_edge-requires c =
 pub returns-in-Some-long_edge-clause-fault : goal.returns-in-Some-long_edge-clause-fault
 returns-in-Some-long_edge-clause-fault c =
     let none = sym c.counted_fault.ensures ∙ c.in_default.is in
-    let found = ap (position is_long) (sym (c.deref.ensures.value ∙ c.in_ok-edges.ensures)) ∙ sym c.long_edge.ensures ∙ c.in-Some-long_edge.is in
+    let found = ap (position is_long) (sym (c.deref.ensures.value ∙ c.in_ok-edges.ensures)) ∙ sym c.long_edge.ensures
+    ∙ c.in-Some-long_edge.is in
     inr (long_faulted c.args.program.now.body c.in-Some-long_edge.edge none found)
 
 pub invariant_of-result : goal.invariant_of-result
 invariant_of-result c =
     let p = c.args.program.now in
     let none = sym c.counted_fault.ensures ∙ c.in_default.is in
-    let found = ap (position is_long) (sym (c.deref.ensures.value ∙ c.in_ok-edges.ensures)) ∙ sym c.long_edge.ensures ∙ c.in_default-long_edge.is in
+    let found = ap (position is_long) (sym (c.deref.ensures.value ∙ c.in_ok-edges.ensures)) ∙ sym c.long_edge.ensures
+    ∙ c.in_default-long_edge.is in
     let same = c.in_ok-names.ensures in
     record {
-      within_limits = rw same (flow_within p.names c.in_ok-points.points c.new.result p.body p.within_limits c.in_ok-points.ensures (c.new.ensures ∙ c.in_ok-edges.ensures) none found);
+      within_limits = rw same (flow_within p.names c.in_ok-points.points c.new.result p.body p.within_limits c.in_ok-points.ensures
+          (c.new.ensures ∙ c.in_ok-edges.ensures) none found);
     }
 
 pub returns-clause-edges : goal.returns-clause-edges
 returns-clause-edges c =
-    let found = ap (position is_long) (sym (c.deref.ensures.value ∙ c.in_ok-edges.ensures)) ∙ sym c.long_edge.ensures ∙ c.in_default-long_edge.is in
+    let found = ap (position is_long) (sym (c.deref.ensures.value ∙ c.in_ok-edges.ensures)) ∙ sym c.long_edge.ensures
+    ∙ c.in_default-long_edge.is in
     c.new.ensures ∙ c.in_ok-edges.ensures ∙ nothing_cut c.args.program.now.body found
 
 pub returns-clause-within : goal.returns-clause-within
 returns-clause-within c =
     let none = sym c.counted_fault.ensures ∙ c.in_default.is in
-    let found = ap (position is_long) (sym (c.deref.ensures.value ∙ c.in_ok-edges.ensures)) ∙ sym c.long_edge.ensures ∙ c.in_default-long_edge.is in
+    let found = ap (position is_long) (sym (c.deref.ensures.value ∙ c.in_ok-edges.ensures)) ∙ sym c.long_edge.ensures
+    ∙ c.in_default-long_edge.is in
     no_fault c.args.program.now.body none found

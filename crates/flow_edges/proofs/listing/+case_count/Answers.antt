@@ -9,7 +9,8 @@ returns-then-truth t c =
     let b = rw (c.if-truth.true, c.deref-in-Both-2.ensures) at c.case_count-b.ensures in
     let x = c.in-Both.first in
     let y = c.in-Both.second in
-    rw (c.in-Both.is, c.if-truth.true, condition-Both x y) (both_true (condition_of x.value) (condition_of y.value) _ _ _ a b c.product.ensures)
+    rw (c.in-Both.is, c.if-truth.true, condition-Both x y) (both_true (condition_of x.value) (condition_of y.value) _ _ _ a b
+    c.product.ensures)
 
 pub returns-else-truth : goal.returns-else-truth
 returns-else-truth t c =
@@ -17,7 +18,8 @@ returns-else-truth t c =
     let b = rw (c.if-truth.false, c.deref-in-Both-2.ensures) at c.case_count-b.ensures in
     let x = c.in-Both.first in
     let y = c.in-Both.second in
-    rw (c.in-Both.is, c.if-truth.false, condition-Both x y) (both_false (condition_of x.value) (condition_of y.value) _ _ _ a b c.sum.ensures)
+    rw (c.in-Both.is, c.if-truth.false, condition-Both x y) (both_false (condition_of x.value) (condition_of y.value) _ _ _ a b
+    c.sum.ensures)
 
 pub returns-then-truth-2 : goal.returns-then-truth-2
 returns-then-truth-2 t c =
@@ -25,7 +27,8 @@ returns-then-truth-2 t c =
     let b = rw (c.if-truth-2.true, c.deref-in-Either-2.ensures) at c.case_count-b-in-Either.ensures in
     let x = c.in-Either.first in
     let y = c.in-Either.second in
-    rw (c.in-Either.is, c.if-truth-2.true, condition-Either x y) (either_true (condition_of x.value) (condition_of y.value) _ _ _ a b c.sum-then-truth-2.ensures)
+    rw (c.in-Either.is, c.if-truth-2.true, condition-Either x y) (either_true (condition_of x.value) (condition_of y.value) _ _ _ a b
+    c.sum-then-truth-2.ensures)
 
 pub returns-else-truth-2 : goal.returns-else-truth-2
 returns-else-truth-2 t c =
@@ -33,4 +36,5 @@ returns-else-truth-2 t c =
     let b = rw (c.if-truth-2.false, c.deref-in-Either-2.ensures) at c.case_count-b-in-Either.ensures in
     let x = c.in-Either.first in
     let y = c.in-Either.second in
-    rw (c.in-Either.is, c.if-truth-2.false, condition-Either x y) (either_false (condition_of x.value) (condition_of y.value) _ _ _ a b c.product-else-truth-2.ensures)
+    rw (c.in-Either.is, c.if-truth-2.false, condition-Either x y) (either_false (condition_of x.value) (condition_of y.value) _ _ _ a b
+    c.product-else-truth-2.ensures)

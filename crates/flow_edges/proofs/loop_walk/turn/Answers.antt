@@ -12,6 +12,8 @@ returns c =
     let body = statements_of c.args.body.now in
     on_ok_weaker c.go_on_by_case.result
     (chosen c.args.edges.now.items c.walk_cases.new.edges.items _ (begun_at c.args.head) c.new-trail.result (condition_of c.args.cond.now)
-    c.in_ok-held.held c.in_ok-failed.failed (ways_in body (c.args.head + 1) jumps jumps.continued) jumps.broken _ _ c.new-trail.ensures c.in_ok-held.ensures c.in_ok-failed.ensures
-    (ap (λ edges. ways_in body (c.args.head + 1) jumps (walked edges)) c.as_slice.ensures) (ap walked c.as_slice-2.ensures) c.in_ok-walk_cases.ensures)
+    c.in_ok-held.held c.in_ok-failed.failed (ways_in body (c.args.head + 1) jumps jumps.continued) jumps.broken _ _ c.new-trail.ensures
+    c.in_ok-held.ensures c.in_ok-failed.ensures
+    (ap (λ edges. ways_in body (c.args.head + 1) jumps (walked edges)) c.as_slice.ensures) (ap walked c.as_slice-2.ensures)
+    c.in_ok-walk_cases.ensures)
     c.go_on_by_case.ensures

@@ -4,4 +4,5 @@ use Rattle.flow_edges.proofs.onward.go_on_by_case.Given as goal
 
 abbrev pub invariant-loop-case : goal.invariant-loop-case
 invariant-loop-case l =
-    l.edges.items ++ split l.trail (drop l.case-index l.case-items) (walked l.next) ≡ l.initial.edges.items ++ split l.trail l.cases (walked l.next)
+    l.edges.items ++ split l.trail (drop l.case-index l.case-items) (walked l.next)
+    ≡ l.initial.edges.items ++ split l.trail l.cases (walked l.next)

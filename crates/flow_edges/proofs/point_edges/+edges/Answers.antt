@@ -16,7 +16,8 @@ add_edges_in-returns-in_ok-broken-in-While t c =
     let along = λ (k : ℕ). ways_in (statements_of c.args.rest.now) (c.args.first + k) jumps (walked c.args.next.now) in
     let past = c.in_ok-broken-in-While.ensures ∙ ap (λ k. reached (begun_at c.args.first) (along k)) c.points_of.ensures in
     let by = λ (kind : LoopKind) (cond : Condition) (body : Statements) (line : ℕ) (e : s ≡ loop kind cond body line).
-    looped c.args.edges.now.items c.add_loop.new.edges.items s kind cond body line c.args.first jumps (along (points_of s)) c.in_ok-broken-in-While.broken e past in
+    looped c.args.edges.now.items c.add_loop.new.edges.items s kind cond body line c.args.first jumps (along (points_of s))
+    c.in_ok-broken-in-While.broken e past in
     on_ok_weaker c.add_loop.result
     (⊎_elim
     (λ h. by while_loop (condition_of h.0) h.1 h.2 (ap statement_of h.3))
@@ -31,6 +32,8 @@ add_loop-returns-in_ok-continued-in-Do t c =
     let jumps : JumpEdges = record { broken = c.args.broken; continued = c.in_ok-continued-in-Do.continued } in
     let cond = condition_of c.in-Do.cond in
     on_ok_weaker c.add_do.result
-    (do_edges c.args.edges.now.items c.add_do.new.edges.items (statement_of c.args.stmt.now) cond c.in-Do.body _ c.in-Do.line c.args.head jumps c.as_slice-in-Do-2.ensures (ap statement_of c.in-Do.is)
-    (c.in_ok-continued-in-Do.ensures ∙ ap (λ es. reached (begun_at c.args.head) (end_ways do_loop cond c.args.head (walked es))) c.as_slice-in-Do.ensures))
+    (do_edges c.args.edges.now.items c.add_do.new.edges.items (statement_of c.args.stmt.now) cond c.in-Do.body _ c.in-Do.line c.args.head
+    jumps c.as_slice-in-Do-2.ensures (ap statement_of c.in-Do.is)
+    (c.in_ok-continued-in-Do.ensures ∙ ap (λ es. reached (begun_at c.args.head) (end_ways do_loop cond c.args.head (walked es)))
+    c.as_slice-in-Do.ensures))
     c.add_do.ensures

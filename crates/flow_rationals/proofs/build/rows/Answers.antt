@@ -6,7 +6,8 @@ use Rattle.flow_rationals.proofs.build.rows.Goals as goal
 
 pub loop-name-preserved : goal.loop-name-preserved
 loop-name-preserved c =
-    ranged_more (multiple (c.args.names + 1) (pos 1)) c.loop-name.name _ _ _ c.loop-name.invariant c.in_ok-push.ensures.items c.in_ok-multiple.ensures
+    ranged_more (multiple (c.args.names + 1) (pos 1)) c.loop-name.name _ _ _ c.loop-name.invariant c.in_ok-push.ensures.items
+    c.in_ok-multiple.ensures
 
 pub new-requires : goal.new-requires
 new-requires c =

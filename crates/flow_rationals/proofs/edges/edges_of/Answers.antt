@@ -6,5 +6,6 @@ use Rattle.flow_rationals.proofs.edges.edges_of.Goals as goal
 pub loop-k-preserved : goal.loop-k-preserved
 loop-k-preserved c =
     let equations = c.args.equations.now in
-    joined_more (alternative_edges (length equations)) (start_edge equations ∷ []) _ _ _ equations c.loop-k.k c.index-equations-k.result c.loop-k-test.true c.index-equations-k.is
+    joined_more (alternative_edges (length equations)) (start_edge equations ∷ []) _ _ _ equations c.loop-k.k c.index-equations-k.result
+    c.loop-k-test.true c.index-equations-k.is
     c.loop-k.invariant c.in_ok-add_edges.ensures (ap (map (alternative_edge (length equations) c.loop-k.k)) c.as_slice.ensures)

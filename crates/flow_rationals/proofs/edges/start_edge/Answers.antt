@@ -7,5 +7,6 @@ use Rattle.flow_rationals.proofs.edges.start_edge.Goals as goal
 pub loop-k-preserved : goal.loop-k-preserved
 loop-k-preserved c =
     let equations = c.args.equations.now in
-    two_pushed (start_actions (length equations)) _ _ _ equations c.loop-k.k c.index-equations-k.result _ _ c.loop-k-test.true c.index-equations-k.is c.loop-k.invariant
+    two_pushed (start_actions (length equations)) _ _ _ equations c.loop-k.k c.index-equations-k.result _ _ c.loop-k-test.true
+    c.index-equations-k.is c.loop-k.invariant
     c.in_ok-push.ensures.items c.in_ok-push-2.ensures.items (ap (λ form. Havoc c.loop-k.k ∷ Guard form ∷ []) c.in_ok-start_form.ensures)

@@ -8,5 +8,6 @@ new-requires c =
     let items = c.as_slice-coeff-items in
     let whole = take_all c.loop-coeff.coeff-index items.result.now c.loop-coeff-test.false in
     let d = c.args.sum.now.den in
-    negated_pushed items.result.now _ _ _ d (c.loop-coeff.invariant ∙ ap (map neg_ℤ) whole) c.in_ok-push-2.ensures.items (number_same d c.requires.den)
+    negated_pushed items.result.now _ _ _ d (c.loop-coeff.invariant ∙ ap (map neg_ℤ) whole) c.in_ok-push-2.ensures.items
+    (number_same d c.requires.den)
     (rw (sym items.ensures.list) at items.ensures.numbers) c.requires.den

@@ -16,14 +16,16 @@ returns-in-Some-clause-alone c = λ wanted.
     (ap (λ es. slice_get (faults_of es) 0) (sym c.deref.ensures.value) ∙ c.in-Some.ensures)
 
 pub equations_of-requires-clause-some : goal.equations_of-requires-clause-some
-equations_of-requires-clause-some c = written_some c.args.text.now c.in_ok-list.list.items _ c.deref-in-None.ensures.value c.in_ok-list.ensures.reads
+equations_of-requires-clause-some c = written_some c.args.text.now c.in_ok-list.list.items _ c.deref-in-None.ensures.value
+    c.in_ok-list.ensures.reads
 
 pub equations_of-requires-clause-sound : goal.equations_of-requires-clause-sound
 equations_of-requires-clause-sound c = ap faults_of (c.deref-in-None.ensures.value ∙ sym c.deref.ensures.value) ∙ c.in-None.ensures
 
 pub returns-clause-equations : goal.returns-clause-equations
 returns-clause-equations c =
-    some_equations c.in_ok-list.list.items (ap Ok (c.in_ok-made-in-None.ensures ∙ ap equations_of c.deref-in-None.ensures.value)) c.in_ok-list.ensures.reads
+    some_equations c.in_ok-list.list.items (ap Ok (c.in_ok-made-in-None.ensures ∙ ap equations_of c.deref-in-None.ensures.value))
+    c.in_ok-list.ensures.reads
     (ap faults_of (sym c.deref.ensures.value) ∙ c.in-None.ensures)
 
 pub returns-clause-equations_alone : goal.returns-clause-equations_alone

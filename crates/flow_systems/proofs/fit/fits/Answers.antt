@@ -19,8 +19,11 @@ returns-in_err-is_at_most c =
     let row = c.index-rows-i.result in
     let bound = extended c.at-bound.result in
     rw (p.1, p.2)
-    (tested_wide t (vector_of (length t) c.args.bounds.now c.args.point) c.args.state.now i c.loop-i.invariant row (subst (λ rs. i < length rs) same c.loop-i-test.true)
-    (c.index-rows-i.is ∙ ap (λ rs. get_or rs i row) same) bound (c.at-bound.ensures ∙ ap (λ rs. get_or c.args.bounds.now (c.args.point * length rs + i) neg_inf) same) (operation_of (λ q. q) c.in_err-is_at_most.field-0.0)
+    (tested_wide t (vector_of (length t) c.args.bounds.now c.args.point) c.args.state.now i c.loop-i.invariant row
+    (subst (λ rs. i < length rs) same c.loop-i-test.true)
+    (c.index-rows-i.is ∙ ap (λ rs. get_or rs i row) same) bound (c.at-bound.ensures
+    ∙ ap (λ rs. get_or c.args.bounds.now (c.args.point * length rs + i) neg_inf) same)
+    (operation_of (λ q. q) c.in_err-is_at_most.field-0.0)
     (ap (λ r. first_wide long_limit (row_test r c.args.state.now bound)) (sym c.as_slice.ensures.list) ∙ c.in_err-is_at_most.ensures))
 
 pub returns-then-not-branch : goal.returns-then-not-branch
@@ -33,9 +36,16 @@ returns-then-not-branch c =
     let l = subst (λ rs. i < length rs) same c.loop-i-test.true in
     let e = c.index-rows-i.is ∙ ap (λ rs. get_or rs i row) same in
     let k = c.at-bound.ensures ∙ ap (λ rs. get_or c.args.bounds.now (c.args.point * length rs + i) neg_inf) same in
-    let n : ¬ (fin (dotℚ row c.args.state.now) ≤ᴱ bound) = λ h. true≢false (sym (c.in_ok-is_at_most.ensures.0.1 (subst (λ r. fin (dotℚ r c.args.state.now) ≤ᴱ bound) (sym c.as_slice.ensures.list) h)) ∙ c.if-not-branch.true) in
-    let f = ap (λ r. first_wide long_limit (row_test r c.args.state.now bound)) (sym c.as_slice.ensures.list) ∙ c.in_ok-is_at_most.ensures.1 in (
-      (λ x. absurd (true≢false (sym x)), λ h. absurd (fails_at t (vector_of (length t) c.args.bounds.now c.args.point) c.args.state.now i c.loop-i.invariant row l e bound k n h)),
+    let n : ¬ (fin (dotℚ row c.args.state.now) ≤ᴱ bound) = λ h. true≢false
+    (sym (c.in_ok-is_at_most.ensures.0.1 (subst (λ r. fin (dotℚ r c.args.state.now) ≤ᴱ bound) (sym c.as_slice.ensures.list) h))
+    ∙ c.if-not-branch.true) in
+    let f = ap (λ r. first_wide long_limit (row_test r c.args.state.now bound)) (sym c.as_slice.ensures.list)
+    ∙ c.in_ok-is_at_most.ensures.1 in (
+      (
+        λ x. absurd (true≢false (sym x)),
+        λ h. absurd (fails_at t (vector_of (length t) c.args.bounds.now c.args.point) c.args.state.now i
+            c.loop-i.invariant row l e bound k n h),
+      ),
       tested_fails t (vector_of (length t) c.args.bounds.now c.args.point) c.args.state.now i c.loop-i.invariant row l e bound k n f,
     )
 
@@ -49,12 +59,15 @@ loop-i-preserved c =
     let l = subst (λ rs. i < length rs) same c.loop-i-test.true in
     let e = c.index-rows-i.is ∙ ap (λ rs. get_or rs i row) same in
     let k = c.at-bound.ensures ∙ ap (λ rs. get_or c.args.bounds.now (c.args.point * length rs + i) neg_inf) same in
-    let b : fin (dotℚ row c.args.state.now) ≤ᴱ bound = subst (λ r. fin (dotℚ r c.args.state.now) ≤ᴱ bound) c.as_slice.ensures.list (c.in_ok-is_at_most.ensures.0.0 c.if-not-branch.false) in
-    let f = ap (λ r. first_wide long_limit (row_test r c.args.state.now bound)) (sym c.as_slice.ensures.list) ∙ c.in_ok-is_at_most.ensures.1 in
+    let b : fin (dotℚ row c.args.state.now) ≤ᴱ bound = subst (λ r. fin (dotℚ r c.args.state.now) ≤ᴱ bound) c.as_slice.ensures.list
+    (c.in_ok-is_at_most.ensures.0.0 c.if-not-branch.false) in
+    let f = ap (λ r. first_wide long_limit (row_test r c.args.state.now bound)) (sym c.as_slice.ensures.list)
+    ∙ c.in_ok-is_at_most.ensures.1 in
     tested_more t (vector_of (length t) c.args.bounds.now c.args.point) c.args.state.now i c.loop-i.invariant row l e bound k b f
 
 pub returns : goal.returns
 returns c =
     let t = c.args.system.now.template in
-    let a = tested_all t (vector_of (length t) c.args.bounds.now c.args.point) c.args.state.now c.loop-i.i (omega (arith, ap (λ rs. length rs) c.as_slice-rows.ensures.rows)) c.loop-i.invariant in
+    let a = tested_all t (vector_of (length t) c.args.bounds.now c.args.point) c.args.state.now c.loop-i.i
+    (omega (arith, ap (λ rs. length rs) c.as_slice-rows.ensures.rows)) c.loop-i.invariant in
     ((λ x. a.0, λ h. refl), a.1)

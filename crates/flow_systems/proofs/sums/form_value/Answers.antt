@@ -19,4 +19,5 @@ pub returns : goal.returns
 returns c =
     let form = form_with c.args.constants c.args.form.now in
     let same = c.as_slice.ensures.list ∙ sym (coeffs_same c.args.constants c.args.form.now) in
-    form_added form c.args.state.now c.as_slice.result.now c.in_ok-sum.sum c.constant.result c.plus.result same c.in_ok-sum.ensures.0 c.in_ok-sum.ensures.1 c.constant.ensures c.plus.ensures
+    form_added form c.args.state.now c.as_slice.result.now c.in_ok-sum.sum c.constant.result c.plus.result same c.in_ok-sum.ensures.0
+    c.in_ok-sum.ensures.1 c.constant.ensures c.plus.ensures

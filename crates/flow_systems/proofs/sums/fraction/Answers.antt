@@ -10,7 +10,9 @@ use Rattle.flow_systems.proofs.sums.fraction.Goals as goal
 
 pub unwrap-requires : goal.unwrap-requires
 unwrap-requires c =
-    number_made (to_z w64 (of_z w64 c.args.number)) c.make.result (subst (λ z. IsTrue (is_number z)) (sym (number_same c.args.number c.requires)) c.requires) c.make.ensures
+    number_made (to_z w64 (of_z w64 c.args.number)) c.make.result (subst (λ z. IsTrue (is_number z))
+    (sym (number_same c.args.number c.requires)) c.requires) c.make.ensures
 
 pub returns : goal.returns
-returns c = small_value long_limit (λ (q : ℚ). q) (to_z w64 (of_z w64 c.args.number)) c.make.result c.unwrap.ensures c.make.ensures ∙ ap whole (number_same c.args.number c.requires)
+returns c = small_value long_limit (λ (q : ℚ). q) (to_z w64 (of_z w64 c.args.number)) c.make.result c.unwrap.ensures c.make.ensures
+    ∙ ap whole (number_same c.args.number c.requires)

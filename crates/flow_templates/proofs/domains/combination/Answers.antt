@@ -9,8 +9,10 @@ loop-k-preserved c =
     terms_more _ _ _ _ c.loop-k.k c.loop-k.invariant c.in_ok-push.ensures.items
     (elim c.if-k-first.branch [
       | then-k-first w ↦ w.coefficient-is ∙ sym (terms_first _ _ c.args.first c.args.second _ c.requires.different w.if-k-first.true)
-      | else-k-first+then-k-second w ↦ w.coefficient-is ∙ sym (terms_second _ _ c.args.first c.args.second _ w.if-k-first.false w.if-k-second.true)
-      | else-k-first+else-k-second w ↦ w.coefficient-is ∙ sym (terms_third _ _ c.args.first c.args.second _ w.if-k-first.false w.if-k-second.false)
+      | else-k-first+then-k-second w ↦ w.coefficient-is ∙ sym (terms_second _ _ c.args.first c.args.second _ w.if-k-first.false
+          w.if-k-second.true)
+      | else-k-first+else-k-second w ↦ w.coefficient-is ∙ sym (terms_third _ _ c.args.first c.args.second _ w.if-k-first.false
+          w.if-k-second.false)
     ])
 
 pub new-requires : goal.new-requires

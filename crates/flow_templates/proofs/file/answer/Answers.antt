@@ -11,7 +11,8 @@ use Rattle.flow_templates.proofs.file.answer.Goals as goal
 
 pub rows_of-requires-clause-few : goal.rows_of-requires-clause-few
 rows_of-requires-clause-few c =
-    let few : length c.in_ok-lines.lines.items ≤ length c.args.text.now + 1 = pieces_few c.args.text.now c.in_ok-lines.lines.items c.in_ok-lines.ensures in
+    let few : length c.in_ok-lines.lines.items ≤ length c.args.text.now + 1 =
+    pieces_few c.args.text.now c.in_ok-lines.lines.items c.in_ok-lines.ensures in
     rw c.deref.ensures.value (omega (arith, few, c.requires))
 
 pub rows_of-requires-clause-short : goal.rows_of-requires-clause-short
@@ -23,14 +24,16 @@ returns-in_err-rows-clause-refused c =
     let p = err_from_is_err_and c.from_residual-in_err-rows.result c.from_residual-in_err-rows.ensures.1 in
     let lines : pieces c.deref.result.now ≡ lines_of c.args.text.now = ap pieces c.deref.ensures.value ∙ c.in_ok-lines.ensures in
     let fault = c.in_err-rows.field-0.0 in
-    rw (p.1, p.2) (λ wanted. a_fault fault refl (subst (λ ls. HasFault c.args.names.now ls fault) lines (c.in_err-rows.ensures.refused wanted)))
+    rw (p.1, p.2) (λ wanted. a_fault fault refl (subst (λ ls. HasFault c.args.names.now ls fault) lines
+    (c.in_err-rows.ensures.refused wanted)))
 
 pub returns-in-Some-clause-refused : goal.returns-in-Some-clause-refused
 returns-in-Some-clause-refused c = λ wanted.
     let lines : pieces c.deref.result.now ≡ lines_of c.args.text.now = ap pieces c.deref.ensures.value ∙ c.in_ok-lines.ensures in
     let rows = c.in_ok-rows.rows.items in
     let many : length c.as_slice.result.now ≡ length rows = ap length c.as_slice.ensures.value in
-    let fault : c.in-Some.fault ≡ Count (length c.as_slice.result.now) = count_is (length c.as_slice.result.now) c.in-Some.fault c.in-Some.ensures in
+    let fault : c.in-Some.fault ≡ Count (length c.as_slice.result.now) =
+    count_is (length c.as_slice.result.now) c.in-Some.fault c.in-Some.ensures in
     a_count (length c.as_slice.result.now) (ap Err fault) (record {
       rows = rows;
       read = subst (λ ls. LinesRead c.args.names.now ls rows) lines c.in_ok-rows.ensures.rows;
@@ -40,7 +43,8 @@ returns-in-Some-clause-refused c = λ wanted.
 pub new-requires : goal.new-requires
 new-requires c =
     let many : length c.as_slice.result.now ≡ length c.in_ok-rows.rows.items = ap length c.as_slice.ensures.value in
-    (template_from (length c.args.names.now) c.in_ok-rows.rows.items (rows_over c.args.names.now _ c.in_ok-rows.rows.items c.in_ok-rows.ensures.rows)
+    (template_from (length c.args.names.now) c.in_ok-rows.rows.items (rows_over c.args.names.now _ c.in_ok-rows.rows.items
+    c.in_ok-rows.ensures.rows)
     (count_within (length c.in_ok-rows.rows.items) (ap count_faults (sym many) ∙ sym c.in-None.ensures))).0
 
 pub returns-clause-template : goal.returns-clause-template
@@ -57,12 +61,14 @@ pub returns-clause-width : goal.returns-clause-width
 returns-clause-width c =
     let many : length c.as_slice.result.now ≡ length c.in_ok-rows.rows.items = ap length c.as_slice.ensures.value in
     ap width_of c.new.ensures
-    ∙ (template_from (length c.args.names.now) c.in_ok-rows.rows.items (rows_over c.args.names.now _ c.in_ok-rows.rows.items c.in_ok-rows.ensures.rows)
+    ∙ (template_from (length c.args.names.now) c.in_ok-rows.rows.items
+    (rows_over c.args.names.now _ c.in_ok-rows.rows.items c.in_ok-rows.ensures.rows)
     (count_within (length c.in_ok-rows.rows.items) (ap count_faults (sym many) ∙ sym c.in-None.ensures))).1
 
 pub overflow_cast-as_slice : goal.overflow_cast-as_slice
 overflow_cast-as_slice c =
-    let lines : length c.in_ok-lines.lines.items ≤ length c.args.text.now + 1 = pieces_few c.args.text.now c.in_ok-lines.lines.items c.in_ok-lines.ensures in
+    let lines : length c.in_ok-lines.lines.items ≤ length c.args.text.now + 1 =
+    pieces_few c.args.text.now c.in_ok-lines.lines.items c.in_ok-lines.ensures in
     let slice : length c.deref.result.now ≡ length c.in_ok-lines.lines.items = ap length c.deref.ensures.value in
     let rows : length c.as_slice.result.now ≡ length c.in_ok-rows.rows.items = ap length c.as_slice.ensures.value in
     omega (arith, lines, slice, rows, c.requires, c.in_ok-rows.ensures.few)

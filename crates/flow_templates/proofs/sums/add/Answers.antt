@@ -8,7 +8,8 @@ use Rattle.flow_templates.proofs.sums.add.Goals as goal
 pub returns-in_ok-insert-in-Some-clause-sums : goal.returns-in_ok-insert-in-Some-clause-sums
 returns-in_ok-insert-in-Some-clause-sums c = λ fits name.
     let sum = c.in-Some.sum in
-    let is : sum ≡ sum_at c.args.sums.now c.args.term.name.now +ℤ c.args.term.coefficient = grind (arith, to_z-of_z, c.in-Some.ensures, c.sum_of.ensures) in
+    let is : sum ≡ sum_at c.args.sums.now c.args.term.name.now +ℤ c.args.term.coefficient =
+    grind (arith, to_z-of_z, c.in-Some.ensures, c.sum_of.ensures) in
     let number = ap is_number c.in-Some.ensures.0 ∙ c.in-Some.ensures.1 in
     let same : to_z w64 (of_z w64 sum) ≡ sum = to_z-of_z w64 sum (number_fits sum number) in
     term_added c.args.sums.now c.insert.new.self c.args.term.name.now c.args.term.coefficient (to_z w64 (of_z w64 sum))

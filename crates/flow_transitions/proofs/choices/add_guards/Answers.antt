@@ -11,9 +11,11 @@ loop-form-init c = let xs = c.args.actions.now.items in sym (ap kept (append-nil
 
 pub add-requires : goal.add-requires
 add-requires c =
-    subst (λ z. length z ≤ 257) (sym c.loop-form.invariant) (kept_short (c.args.actions.now.items ++ guards (take c.loop-form.form-index c.args.forms.now)))
+    subst (λ z. length z ≤ 257) (sym c.loop-form.invariant) (kept_short
+    (c.args.actions.now.items ++ guards (take c.loop-form.form-index c.args.forms.now)))
 
 pub loop-form-preserved : goal.loop-form-preserved
 loop-form-preserved c =
-    guard_more c.args.actions.now.items c.loop-form.actions.items c.add.new.actions.items c.args.forms.now c.loop-form.form-index c.form-item.result _
+    guard_more c.args.actions.now.items c.loop-form.actions.items c.add.new.actions.items c.args.forms.now c.loop-form.form-index
+    c.form-item.result _
     c.loop-form-test.true c.form-item.is c.in_ok-again.ensures c.in_ok-add.ensures c.loop-form.invariant

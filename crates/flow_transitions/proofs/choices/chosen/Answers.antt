@@ -9,7 +9,8 @@ pub few_choices-requires : goal.few_choices-requires
 few_choices-requires c = room_at c.args.acts.now c.loop-act.act-index c.act-item.result c.loop-act-test.true c.act-item.is c.requires.room
 
 pub add_choice-requires-clause-room : goal.add_choice-requires-clause-room
-add_choice-requires-clause-room c = room_at c.args.acts.now c.loop-act.act-index c.act-item.result c.loop-act-test.true c.act-item.is c.requires.room
+add_choice-requires-clause-room c = room_at c.args.acts.now c.loop-act.act-index c.act-item.result c.loop-act-test.true c.act-item.is
+    c.requires.room
 
 pub nonzero_div-number : goal.nonzero_div-number
 nonzero_div-number c =
@@ -17,7 +18,8 @@ nonzero_div-number c =
     let i = c.loop-act.act-index in
     let now = subst (λ rest. IsChosen (statements_of acts) c.args.number rest c.loop-act.actions.items c.loop-act.left c.loop-act.number)
     (statements-drop acts i c.act-item.result c.loop-act-test.true c.act-item.is) c.loop-act.invariant in
-    (parts (statements_of acts) c.args.number (statement_of c.act-item.result) (statements_of (drop (i + 1) acts)) c.loop-act.actions.items c.loop-act.left c.loop-act.number _ c.in_ok-left.ensures now).later_some
+    (parts (statements_of acts) c.args.number (statement_of c.act-item.result) (statements_of (drop (i + 1) acts)) c.loop-act.actions.items
+    c.loop-act.left c.loop-act.number _ c.in_ok-left.ensures now).later_some
 
 pub nonzero_rem-number : goal.nonzero_rem-number
 nonzero_rem-number c =
@@ -25,7 +27,8 @@ nonzero_rem-number c =
     let i = c.loop-act.act-index in
     let now = subst (λ rest. IsChosen (statements_of acts) c.args.number rest c.loop-act.actions.items c.loop-act.left c.loop-act.number)
     (statements-drop acts i c.act-item.result c.loop-act-test.true c.act-item.is) c.loop-act.invariant in
-    (parts (statements_of acts) c.args.number (statement_of c.act-item.result) (statements_of (drop (i + 1) acts)) c.loop-act.actions.items c.loop-act.left c.loop-act.number _ c.in_ok-left.ensures now).later_some
+    (parts (statements_of acts) c.args.number (statement_of c.act-item.result) (statements_of (drop (i + 1) acts)) c.loop-act.actions.items
+    c.loop-act.left c.loop-act.number _ c.in_ok-left.ensures now).later_some
 
 pub add_choice-requires-clause-number : goal.add_choice-requires-clause-number
 add_choice-requires-clause-number c =
@@ -33,7 +36,8 @@ add_choice-requires-clause-number c =
     let i = c.loop-act.act-index in
     let now = subst (λ rest. IsChosen (statements_of acts) c.args.number rest c.loop-act.actions.items c.loop-act.left c.loop-act.number)
     (statements-drop acts i c.act-item.result c.loop-act-test.true c.act-item.is) c.loop-act.invariant in
-    let p = parts (statements_of acts) c.args.number (statement_of c.act-item.result) (statements_of (drop (i + 1) acts)) c.loop-act.actions.items c.loop-act.left c.loop-act.number _ c.in_ok-left.ensures now in
+    let p = parts (statements_of acts) c.args.number (statement_of c.act-item.result) (statements_of (drop (i + 1) acts))
+    c.loop-act.actions.items c.loop-act.left c.loop-act.number _ c.in_ok-left.ensures now in
     rw (← c.in_ok-left.ensures) p.first
 
 pub loop-act-preserved : goal.loop-act-preserved
@@ -42,7 +46,8 @@ loop-act-preserved c =
     let i = c.loop-act.act-index in
     let now = subst (λ rest. IsChosen (statements_of acts) c.args.number rest c.loop-act.actions.items c.loop-act.left c.loop-act.number)
     (statements-drop acts i c.act-item.result c.loop-act-test.true c.act-item.is) c.loop-act.invariant in
-    chosen_more (statements_of acts) c.args.number (statement_of c.act-item.result) (statements_of (drop (i + 1) acts)) c.loop-act.actions.items c.add_choice.new.actions.items
+    chosen_more (statements_of acts) c.args.number (statement_of c.act-item.result) (statements_of (drop (i + 1) acts))
+    c.loop-act.actions.items c.add_choice.new.actions.items
     c.loop-act.left c.loop-act.number _ c.in_ok-left.ensures now c.in_ok-add_choice.ensures
 
 pub returns : goal.returns

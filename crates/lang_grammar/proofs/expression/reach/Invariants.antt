@@ -4,4 +4,5 @@ use Rattle.lang_grammar.specs.View.{stack_of, plain_token}
 use Rattle.lang_grammar.proofs.expression.reach.Given as goal
 
 abbrev pub invariant-loop-count : goal.invariant-loop-count
-invariant-loop-count l = longer_by l.count (reach (stack_of l.stack.items) (map plain_token (drop l.count l.tokens))) ≡ reach expression_start (map plain_token l.tokens)
+invariant-loop-count l = longer_by l.count (reach (stack_of l.stack.items) (map plain_token (drop l.count l.tokens)))
+    ≡ reach expression_start (map plain_token l.tokens)

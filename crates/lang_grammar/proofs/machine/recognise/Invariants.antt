@@ -5,4 +5,5 @@ use Rattle.lang_grammar.specs.View.{stack_of, plain_token}
 use Rattle.lang_grammar.proofs.machine.recognise.Given as goal
 
 abbrev pub invariant-loop-token : goal.invariant-loop-token
-invariant-loop-token l = scan (stack_of l.stack.items) (map plain_token (drop l.token-index l.tokens)) ≡ scan start (map plain_token l.tokens)
+invariant-loop-token l = scan (stack_of l.stack.items) (map plain_token (drop l.token-index l.tokens))
+    ≡ scan start (map plain_token l.tokens)

@@ -10,13 +10,16 @@ use Rattle.lang_parser.proofs.alone.expression.Goals as goal
 
 pub returns-in_err-count-clause-exact : goal.returns-in_err-count-clause-exact
 returns-in_err-count-clause-exact c =
-    refused_exact c.args.text.now (tokens_of c.args.text.now c.args.tokens.now) c.args.from c.args.names.now c.in_err-count.field-0.0 c.from_residual.result
+    refused_exact c.args.text.now (tokens_of c.args.text.now c.args.tokens.now) c.args.from c.args.names.now c.in_err-count.field-0.0
+    c.from_residual.result
     c.from_residual.ensures.1 c.in_err-count.ensures.fault
 
 pub returns-in_err-count-clause-found : goal.returns-in_err-count-clause-found
 returns-in_err-count-clause-found c =
-    refused_found c.args.text.now (tokens_of c.args.text.now c.args.tokens.now) c.args.from c.args.names.now c.in_err-count.field-0.0 c.from_residual.result
-    c.from_residual.ensures.1 c.in_err-count.ensures.fault (ends_from c.args.text.now c.args.tokens.now c.args.from c.requires.tokens c.requires.from)
+    refused_found c.args.text.now (tokens_of c.args.text.now c.args.tokens.now) c.args.from c.args.names.now c.in_err-count.field-0.0
+    c.from_residual.result
+    c.from_residual.ensures.1 c.in_err-count.ensures.fault (ends_from c.args.text.now c.args.tokens.now c.args.from c.requires.tokens
+    c.requires.from)
 
 pub overflow_cast-end : goal.overflow_cast-end
 overflow_cast-end c =
@@ -29,21 +32,25 @@ overflow_cast-end c =
 
 pub read_tokens-requires-clause-proper : goal.read_tokens-requires-clause-proper
 read_tokens-requires-clause-proper c =
-    proper_range c.args.text.now c.args.tokens.now c.args.from (c.args.from + c.in_ok-count.count) (all_proper c.args.text.now c.args.tokens.now c.requires.tokens)
+    proper_range c.args.text.now c.args.tokens.now c.args.from (c.args.from + c.in_ok-count.count)
+    (all_proper c.args.text.now c.args.tokens.now c.requires.tokens)
 
 pub returns-clause-exact : goal.returns-clause-exact
 returns-clause-exact c =
-    reading_exact c.args.text.now c.args.tokens.now c.args.from c.in_ok-count.count _ c.args.names.now c.requires.from c.in_ok-count.ensures.read
+    reading_exact c.args.text.now c.args.tokens.now c.args.from c.in_ok-count.count _ c.args.names.now c.requires.from
+    c.in_ok-count.ensures.read
     c.read_tokens.result c.read_tokens.ensures.gives
 
 pub returns-clause-found : goal.returns-clause-found
 returns-clause-found c =
-    reading_found c.args.text.now c.args.tokens.now c.args.from c.in_ok-count.count _ c.args.names.now c.requires.from c.in_ok-count.ensures.read
+    reading_found c.args.text.now c.args.tokens.now c.args.from c.in_ok-count.count _ c.args.names.now c.requires.from
+    c.in_ok-count.ensures.read
     c.read_tokens.result c.read_tokens.ensures.gives
 
 pub returns-clause-fits : goal.returns-clause-fits
 returns-clause-fits c =
-    let f = reading_found c.args.text.now c.args.tokens.now c.args.from c.in_ok-count.count _ c.args.names.now c.requires.from c.in_ok-count.ensures.read
+    let f = reading_found c.args.text.now c.args.tokens.now c.args.from c.in_ok-count.count _ c.args.names.now c.requires.from
+    c.in_ok-count.ensures.read
     c.read_tokens.result c.read_tokens.ensures.gives in
     read_fits c.args.text.now (tokens_of c.args.text.now c.args.tokens.now) c.args.from c.args.names.now f.0 f.1 c.read_tokens.result f.2
 

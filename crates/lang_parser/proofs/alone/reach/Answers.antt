@@ -5,11 +5,13 @@ use Rattle.lang_parser.proofs.alone.reach.Goals as goal
 
 pub unreachable-requires : goal.unreachable-requires
 unreachable-requires c =
-    never_out (drop c.args.from (tokens_of c.args.text.now c.args.tokens.now)) (ends_from c.args.text.now c.args.tokens.now c.args.from c.requires.tokens c.requires.from)
+    never_out (drop c.args.from (tokens_of c.args.text.now c.args.tokens.now))
+    (ends_from c.args.text.now c.args.tokens.now c.args.from c.requires.tokens c.requires.from)
     (found_from c.args.text.now c.args.tokens.now c.args.from _ _ c.in-Short.is (c.in_ok-count.ensures.found c.args.text.now))
 
 pub returns-in-Reaches-clause-read : goal.returns-in-Reaches-clause-read
-returns-in-Reaches-clause-read c = found_from c.args.text.now c.args.tokens.now c.args.from _ _ c.in-Reaches.is (c.in_ok-count.ensures.found c.args.text.now)
+returns-in-Reaches-clause-read c = found_from c.args.text.now c.args.tokens.now c.args.from _ _ c.in-Reaches.is
+    (c.in_ok-count.ensures.found c.args.text.now)
 
 pub returns-in-Unexpected-clause-fault : goal.returns-in-Unexpected-clause-fault
 returns-in-Unexpected-clause-fault c =

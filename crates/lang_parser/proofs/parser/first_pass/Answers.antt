@@ -6,8 +6,10 @@ use Rattle.lang_feed.proofs.texts.Programs.{found_unexpected, found_nested, whol
 use Rattle.lang_parser.proofs.parser.first_pass.Goals as goal
 
 pub returns-in-Unexpected-clause-fault : goal.returns-in-Unexpected-clause-fault
-returns-in-Unexpected-clause-fault c = λ n. found_unexpected c.args.text.now c.in-Unexpected.at (tokens_of c.args.text.now c.args.tokens.now)
-    (subst (λ s. Finds (scan_of s) (tokens_of c.args.text.now c.args.tokens.now)) c.in-Unexpected.is (c.in_ok-at.ensures.found c.args.text.now))
+returns-in-Unexpected-clause-fault c = λ n. found_unexpected c.args.text.now c.in-Unexpected.at
+    (tokens_of c.args.text.now c.args.tokens.now)
+    (subst (λ s. Finds (scan_of s) (tokens_of c.args.text.now c.args.tokens.now)) c.in-Unexpected.is
+    (c.in_ok-at.ensures.found c.args.text.now))
 
 pub returns-in-Nested-clause-fault : goal.returns-in-Nested-clause-fault
 returns-in-Nested-clause-fault c =
@@ -19,5 +21,6 @@ returns-in-Whole-clause-read c = whole_is_read (tokens_of c.args.text.now c.args
     (subst (λ s. Finds (scan_of s) (tokens_of c.args.text.now c.args.tokens.now)) c.in-Whole.is (c.in_ok-at.ensures.found c.args.text.now))
 
 pub returns-in-Short-clause-read : goal.returns-in-Short-clause-read
-returns-in-Short-clause-read c = short_is_read (tokens_of c.args.text.now c.args.tokens.now) (ends_well c.args.text.now c.args.tokens.now c.requires)
+returns-in-Short-clause-read c = short_is_read (tokens_of c.args.text.now c.args.tokens.now)
+    (ends_well c.args.text.now c.args.tokens.now c.requires)
     (subst (λ s. Finds (scan_of s) (tokens_of c.args.text.now c.args.tokens.now)) c.in-Short.is (c.in_ok-at.ensures.found c.args.text.now))

@@ -17,7 +17,8 @@ returns-in_err-first_pass-clause-exact c =
 
 pub returns-in_err-first_pass-clause-found : goal.returns-in_err-first_pass-clause-found
 returns-in_err-first_pass-clause-found c =
-    let s = some_meaning c.args.text.now (tokens_of c.args.text.now c.args.tokens.now) (ends_well c.args.text.now c.args.tokens.now c.requires.tokens) in (
+    let s = some_meaning c.args.text.now (tokens_of c.args.text.now c.args.tokens.now)
+    (ends_well c.args.text.now c.args.tokens.now c.requires.tokens) in (
       s.0,
       s.1,
       handed_on _ _ c.in_err-first_pass.field-0.0 s.0 c.from_residual.ensures.1
@@ -31,7 +32,8 @@ walked-requires c = all_proper c.args.text.now c.args.tokens.now c.requires.toke
 pub returns-in_err-names-clause-exact : goal.returns-in_err-names-clause-exact
 returns-in_err-names-clause-exact c =
     let r = c.in_ok-first_pass.ensures.read in
-    let m = read_means c.args.text.now (tokens_of c.args.text.now c.args.tokens.now) c.width.result r (read_width c.args.text.now c.args.tokens.now c.width.result r c.width.ensures) in
+    let m = read_means c.args.text.now (tokens_of c.args.text.now c.args.tokens.now) c.width.result r
+    (read_width c.args.text.now c.args.tokens.now c.width.result r c.width.ensures) in
     λ w i. handed_on _ _ c.in_err-names.field-0.0 w c.from_residual-in_err-names.ensures.1
     (λ n. meant_fault c.args.text.now (tokens_of c.args.text.now c.args.tokens.now) w
     (reading (line_at c.args.text.now) c.width.result (tokens_of c.args.text.now c.args.tokens.now)) c.in_err-names.field-0.0 i m
@@ -40,7 +42,8 @@ returns-in_err-names-clause-exact c =
 pub returns-in_err-names-clause-found : goal.returns-in_err-names-clause-found
 returns-in_err-names-clause-found c =
     let r = c.in_ok-first_pass.ensures.read in
-    let m = read_means c.args.text.now (tokens_of c.args.text.now c.args.tokens.now) c.width.result r (read_width c.args.text.now c.args.tokens.now c.width.result r c.width.ensures) in (
+    let m = read_means c.args.text.now (tokens_of c.args.text.now c.args.tokens.now) c.width.result r
+    (read_width c.args.text.now c.args.tokens.now c.width.result r c.width.ensures) in (
       reading (line_at c.args.text.now) c.width.result (tokens_of c.args.text.now c.args.tokens.now),
       m,
       handed_on _ _ c.in_err-names.field-0.0 _
@@ -52,19 +55,23 @@ invariant_of-result c =
     let r = c.in_ok-first_pass.ensures.read in
     record {
       within_limits = given_fits (line_at c.args.text.now) (tokens_of c.args.text.now c.args.tokens.now) c.width.result r
-          (c.in_ok-names.names, c.in_ok-names.body) (read_width c.args.text.now c.args.tokens.now c.width.result r c.width.ensures) c.in_ok-names.ensures;
+          (c.in_ok-names.names, c.in_ok-names.body) (read_width c.args.text.now c.args.tokens.now c.width.result r c.width.ensures)
+          c.in_ok-names.ensures;
     }
 
 pub returns-clause-exact : goal.returns-clause-exact
 returns-clause-exact c =
     let r = c.in_ok-first_pass.ensures.read in
-    let m = read_means c.args.text.now (tokens_of c.args.text.now c.args.tokens.now) c.width.result r (read_width c.args.text.now c.args.tokens.now c.width.result r c.width.ensures) in
+    let m = read_means c.args.text.now (tokens_of c.args.text.now c.args.tokens.now) c.width.result r
+    (read_width c.args.text.now c.args.tokens.now c.width.result r c.width.ensures) in
     λ w i. meant_value c.args.text.now (tokens_of c.args.text.now c.args.tokens.now) w
-    (reading (line_at c.args.text.now) c.width.result (tokens_of c.args.text.now c.args.tokens.now)) (c.in_ok-names.names, c.in_ok-names.body) i
+    (reading (line_at c.args.text.now) c.width.result (tokens_of c.args.text.now c.args.tokens.now))
+    (c.in_ok-names.names, c.in_ok-names.body) i
     m c.in_ok-names.ensures
 
 pub returns-clause-found : goal.returns-clause-found
 returns-clause-found c =
     let r = c.in_ok-first_pass.ensures.read in
-    let m = read_means c.args.text.now (tokens_of c.args.text.now c.args.tokens.now) c.width.result r (read_width c.args.text.now c.args.tokens.now c.width.result r c.width.ensures) in
+    let m = read_means c.args.text.now (tokens_of c.args.text.now c.args.tokens.now) c.width.result r
+    (read_width c.args.text.now c.args.tokens.now c.width.result r c.width.ensures) in
     (reading (line_at c.args.text.now) c.width.result (tokens_of c.args.text.now c.args.tokens.now), m, c.in_ok-names.ensures)

@@ -13,7 +13,8 @@ returns-in_err-constant c =
     let v = c.ranges.constant in
     let w : FitsSigned w128 c.args.constant = search rules in
     handed_on _ _ c.in_err-constant.field-0.0 _ c.from_residual-in_err-constant.ensures.1
-    (λ n. let e : ranged_number c.args.at c.args.constant ≡ Err c.in_err-constant.field-0.0 = simp to_z-of_z at (c.in_err-constant.ensures n) in
+    (λ n. let e : ranged_number c.args.at c.args.constant ≡ Err c.in_err-constant.field-0.0 =
+    simp to_z-of_z at (c.in_err-constant.ensures n) in
     constant_ranged c.args.at c.args.width c.args.constant ∙ then_err (λ k. Ok (form_with (replicate c.args.width (pos 0)) k)) e)
 
 pub returns : goal.returns
@@ -24,4 +25,5 @@ returns c =
     let e : ranged_number c.args.at c.args.constant ≡ Ok c.in_ok-constant.constant = simp to_z-of_z at c.in_ok-constant.ensures in
     let g : (x : List ℤ) (y : ℤ) → Result Form ParseFault = λ x y. Ok (form_with x y) in
     constant_ranged c.args.at c.args.width c.args.constant
-    ∙ then_ok (λ y. g (replicate c.args.width (pos 0)) y) e (ap₂ g (sym (c.new.ensures ∙ c.in_ok-list.ensures.list)) (sym (to_z-of_z w64 c.in_ok-constant.constant k)))
+    ∙ then_ok (λ y. g (replicate c.args.width (pos 0)) y) e (ap₂ g (sym (c.new.ensures ∙ c.in_ok-list.ensures.list))
+    (sym (to_z-of_z w64 c.in_ok-constant.constant k)))

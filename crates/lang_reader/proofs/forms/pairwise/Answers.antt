@@ -18,13 +18,16 @@ loop-i-preserved c =
     let f : FitsSigned w64 (get_or c.args.left.now c.loop-i.i (pos 0)) = search rules in
     let g : FitsSigned w64 (get_or c.args.right.now c.loop-i.i (pos 0)) = search rules in
     let h : FitsSigned w64 c.in_ok-sum_or_difference.field-0 = search rules in
-    pairs_next _ _ _ _ _ c.loop-i.list.items c.push.new.self.items c.in_ok-sum_or_difference.field-0 _ _ c.loop-i.i (omega arith) (omega arith)
+    pairs_next _ _ _ _ _ c.loop-i.list.items c.push.new.self.items c.in_ok-sum_or_difference.field-0 _ _ c.loop-i.i (omega arith)
+    (omega arith)
     (to_z-of_z w64 _ f) (to_z-of_z w64 _ g) (c.in_ok-push.ensures.items ∙ ap (λ x. c.loop-i.list.items ++ x ∷ []) (to_z-of_z w64 _ h))
     c.in_ok-sum_or_difference.ensures c.loop-i.invariant
 
 pub returns-clause-list : goal.returns-clause-list
-returns-clause-list c = pairs_done c.args.at c.args.subtracts c.args.left.now c.args.right.now _ c.loop-i.list.items c.loop-i.i (omega arith) c.loop-i.invariant
+returns-clause-list c = pairs_done c.args.at c.args.subtracts c.args.left.now c.args.right.now _ c.loop-i.list.items c.loop-i.i
+    (omega arith) c.loop-i.invariant
 
 pub returns-clause-numbers : goal.returns-clause-numbers
 returns-clause-numbers c = ranged_are_numbers c.args.at (pairwise c.args.subtracts c.args.left.now c.args.right.now) c.loop-i.list.items
-    (pairs_done c.args.at c.args.subtracts c.args.left.now c.args.right.now _ c.loop-i.list.items c.loop-i.i (omega arith) c.loop-i.invariant)
+    (pairs_done c.args.at c.args.subtracts c.args.left.now c.args.right.now _ c.loop-i.list.items c.loop-i.i (omega arith)
+    c.loop-i.invariant)

@@ -21,7 +21,8 @@ loop-i-preserved c =
     ∙ ap (λ x. c.loop-i.list.items ++ x ∷ []) (to_z-of_z w64 _ h)) c.in_ok-times.ensures c.loop-i.invariant
 
 pub returns-clause-list : goal.returns-clause-list
-returns-clause-list c = products_done c.args.at c.args.factor _ (to_z-of_z w64 c.args.factor c.ranges.factor) c.args.numbers.now c.loop-i.list.items c.loop-i.i (omega arith) c.loop-i.invariant
+returns-clause-list c = products_done c.args.at c.args.factor _ (to_z-of_z w64 c.args.factor c.ranges.factor) c.args.numbers.now
+    c.loop-i.list.items c.loop-i.i (omega arith) c.loop-i.invariant
 
 pub returns-clause-numbers : goal.returns-clause-numbers
 returns-clause-numbers c = ranged_are_numbers c.args.at (products c.args.factor c.args.numbers.now) c.loop-i.list.items

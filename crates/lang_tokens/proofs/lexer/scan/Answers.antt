@@ -6,11 +6,13 @@ use Rattle.lang_tokens.proofs.lexer.scan.Goals.{in-Some+in_ok-push, in_default}
 
 pub loop-at-preserved : goal.loop-at-preserved
 loop-at-preserved c =
-    let items : c.match-found.tokens.items ≡ c.loop-at.tokens.items ++ found_tokens c.loop-at.at c.in_ok-found.found.kind c.in_ok-found.found.len = elim c.match-found.branch [
+    let items : c.match-found.tokens.items ≡ c.loop-at.tokens.items ++ found_tokens c.loop-at.at c.in_ok-found.found.kind
+    c.in_ok-found.found.len = elim c.match-found.branch [
       | in-Some+in_ok-push w ↦ rw (w.tokens-is, w.in-Some.is) w.in_ok-push.ensures.items
       | in_default w ↦ rw (w.tokens-is, w.in_default.is) (sym (append-nil c.loop-at.tokens.items))
     ] in
     record {
-      reads = reads_step c.args.text.now c.loop-at.at c.loop-at.tokens.items c.match-found.tokens.items c.in_ok-found.found c.loop-at.invariant.reads c.in_ok-found.ensures items;
+      reads = reads_step c.args.text.now c.loop-at.at c.loop-at.tokens.items c.match-found.tokens.items c.in_ok-found.found
+          c.loop-at.invariant.reads c.in_ok-found.ensures items;
       within = found_fits c.args.text.now c.loop-at.at c.in_ok-found.found c.loop-at.invariant.within c.in_ok-found.ensures;
     }

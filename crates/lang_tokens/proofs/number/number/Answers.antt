@@ -11,15 +11,19 @@ use Rattle.lang_tokens.proofs.words.Runs.{all_run}
 use Rattle.lang_tokens.proofs.number.Values.{value_back}
 use Rattle.lang_tokens.proofs.reading.Standing.{numeral_front, bad_number, long_number, token_stands}
 use Rattle.lang_tokens.proofs.number.number.Goals as goal
-use Rattle.lang_tokens.proofs.number.number.Goals.{then-is_padded-via-then-is_padded, then-is_padded-via-else-is_padded+then-starts_with_letter}
+use Rattle.lang_tokens.proofs.number.number.Goals.{then-is_padded-via-then-is_padded}
+use Rattle.lang_tokens.proofs.number.number.Goals.{then-is_padded-via-else-is_padded+then-starts_with_letter}
 
 pub returns-then-is_padded : goal.returns-then-is_padded
 returns-then-is_padded c =
     let rest = c.args.rest.now in
     let len = c.digits_len-len.result in
     let bad : is_bad (take len rest) (drop len rest) ≡ true = elim c.then-is_padded.branch [
-      | then-is_padded-via-then-is_padded w ↦ or_left (is_padded (take len rest)) (starts_with_letter (drop len rest)) (sym c.is_padded.ensures ∙ w.if-is_padded.true)
-      | then-is_padded-via-else-is_padded+then-starts_with_letter w ↦ or_right (is_padded (take len rest)) (starts_with_letter (drop len rest)) (rw (take_rest rest len) at (sym w.starts_with_letter.ensures ∙ w.if-starts_with_letter.true))
+      | then-is_padded-via-then-is_padded w ↦ or_left (is_padded (take len rest)) (starts_with_letter (drop len rest))
+          (sym c.is_padded.ensures ∙ w.if-is_padded.true)
+      | then-is_padded-via-else-is_padded+then-starts_with_letter w ↦ or_right (is_padded (take len rest))
+          (starts_with_letter (drop len rest)) (rw (take_rest rest len) at
+          (sym w.starts_with_letter.ensures ∙ w.if-starts_with_letter.true))
     ] in
     (refl, bad_number rest len (numeral_front rest len c.digits_len-len.ensures c.requires.some c.requires.digit) bad)
 
@@ -31,7 +35,8 @@ returns-in-Some c =
     let rest = c.args.rest.now in
     let len = c.digits_len-len.result in
     let front = numeral_front rest len c.digits_len-len.ensures c.requires.some c.requires.digit in
-    let apart : starts_with_letter (drop len rest) ≡ false = rw (take_rest rest len) at (sym c.starts_with_letter.ensures ∙ c.if-starts_with_letter.false) in
+    let apart : starts_with_letter (drop len rest) ≡ false = rw (take_rest rest len) at
+    (sym c.starts_with_letter.ensures ∙ c.if-starts_with_letter.false) in
     token_stands rest len (kind.Number (to_z w64 (of_z w64 c.in-Some.value))) front
     (record {
       digits = front.passes;
@@ -45,6 +50,8 @@ pub returns-in-None : goal.returns-in-None
 returns-in-None c =
     let rest = c.args.rest.now in
     let len = c.digits_len-len.result in
-    let apart : starts_with_letter (drop len rest) ≡ false = rw (take_rest rest len) at (sym c.starts_with_letter.ensures ∙ c.if-starts_with_letter.false) in
-    let good : is_bad (take len rest) (drop len rest) ≡ false = or_from (is_padded (take len rest)) (starts_with_letter (drop len rest)) (sym c.is_padded.ensures ∙ c.if-is_padded.false) apart in
+    let apart : starts_with_letter (drop len rest) ≡ false = rw (take_rest rest len) at
+    (sym c.starts_with_letter.ensures ∙ c.if-starts_with_letter.false) in
+    let good : is_bad (take len rest) (drop len rest) ≡ false = or_from (is_padded (take len rest)) (starts_with_letter (drop len rest))
+    (sym c.is_padded.ensures ∙ c.if-is_padded.false) apart in
     (refl, long_number rest len (numeral_front rest len c.digits_len-len.ensures c.requires.some c.requires.digit) good c.in-None.ensures)

@@ -9,4 +9,5 @@ returns g c =
     let m = g.F.OrderedField.meaning in
     c.in_ok-push_goals.ensures
     ∙ ap₂ (λ x y. x ++ goals_entries c.args.auxiliary (map m y)) c.in_ok-push_slacks.ensures c.deref-2.ensures.value
-    ∙ ap (λ x. slacks_entries c.args.auxiliary (map (λ (r : Row _). map m r.coeffs.items) x) (map (λ (r : Row _). m r.side) x) (length x) ++ goals_entries c.args.auxiliary (map m c.args.problem.now.goal.items)) c.deref.ensures.value
+    ∙ ap (λ x. slacks_entries c.args.auxiliary (map (λ (r : Row _). map m r.coeffs.items) x) (map (λ (r : Row _). m r.side) x) (length x)
+    ++ goals_entries c.args.auxiliary (map m c.args.problem.now.goal.items)) c.deref.ensures.value

@@ -9,13 +9,17 @@ use Rattle.lp_dictionary.proofs.build.push_slacks.Goals as goal
 pub loop-i-init : goal.loop-i-init
 loop-i-init g c =
     let m = g.F.OrderedField.meaning in
-    ap (map m) c.requires ∙ sym (slacks_none c.args.auxiliary (map (λ (r : Row _). map m r.coeffs.items) c.args.rows.now) (map (λ (r : Row _). m r.side) c.args.rows.now))
+    ap (map m) c.requires ∙ sym (slacks_none c.args.auxiliary (map (λ (r : Row _). map m r.coeffs.items) c.args.rows.now)
+    (map (λ (r : Row _). m r.side) c.args.rows.now))
 
 pub loop-i-preserved : goal.loop-i-preserved
 loop-i-preserved g c =
     let m = g.F.OrderedField.meaning in
     let r = c.index-rows-i.result in
     c.in_ok-push_slack.ensures ∙ ap (λ x. x ++ slack_entries c.args.auxiliary (map m r.coeffs.items) (m r.side)) c.loop-i.invariant
-    ∙ sym (slacks_more c.args.auxiliary (map (λ (r : Row _). map m r.coeffs.items) c.args.rows.now) (map (λ (r : Row _). m r.side) c.args.rows.now) c.loop-i.i (map m r.coeffs.items) (m r.side)
-    (get_or-map (λ (r : Row _). map m r.coeffs.items) c.args.rows.now c.loop-i.i r [] c.loop-i-test.true ∙ ap (λ (r : Row _). map m r.coeffs.items) (sym c.index-rows-i.is))
-    (get_or-map (λ (r : Row _). m r.side) c.args.rows.now c.loop-i.i r zero_ℚ c.loop-i-test.true ∙ ap (λ (r : Row _). m r.side) (sym c.index-rows-i.is)))
+    ∙ sym (slacks_more c.args.auxiliary (map (λ (r : Row _). map m r.coeffs.items) c.args.rows.now)
+    (map (λ (r : Row _). m r.side) c.args.rows.now) c.loop-i.i (map m r.coeffs.items) (m r.side)
+    (get_or-map (λ (r : Row _). map m r.coeffs.items) c.args.rows.now c.loop-i.i r [] c.loop-i-test.true
+    ∙ ap (λ (r : Row _). map m r.coeffs.items) (sym c.index-rows-i.is))
+    (get_or-map (λ (r : Row _). m r.side) c.args.rows.now c.loop-i.i r zero_ℚ c.loop-i-test.true
+    ∙ ap (λ (r : Row _). m r.side) (sym c.index-rows-i.is)))

@@ -4,7 +4,8 @@ use Rattle.lp_dictionary.proofs.Entries.{product_zero, product_made}
 use Rattle.lp_dictionary.proofs.formulas.product_of.Goals as goal
 
 pub returns-then-is_zero : goal.returns-then-is_zero
-returns-then-is_zero g c = product_zero g.F.OrderedField.LIMIT (g.F.OrderedField.meaning c.args.factor) (g.F.OrderedField.meaning c.args.above) (c.is_zero.ensures.0 c.if-is_zero.true)
+returns-then-is_zero g c = product_zero g.F.OrderedField.LIMIT (g.F.OrderedField.meaning c.args.factor)
+    (g.F.OrderedField.meaning c.args.above) (c.is_zero.ensures.0 c.if-is_zero.true)
 
 pub returns : goal.returns
 returns g c =

@@ -24,8 +24,10 @@ returns-in_err-entry-clause-wide g c =
     let below : c.args.start + c.loop-k.k < length c.loop-k.entries = omega arith in
     let above_below : c.args.above + c.loop-k.k < length c.loop-k.entries = omega arith in
     rw (p.1, p.2)
-    (added_stops m g.F.OrderedField.LIMIT c.args.entries.now c.loop-k.entries c.args.start c.args.above c.loop-k.k c.args.stride c.args.col c.index-entries-start.result c.index-entries-above.result (m c.args.factor) c.loop-k-test.true below above_below c.requires.apart
-    c.index-entries-start.is c.index-entries-above.is c.loop-k.invariant.row c.loop-k.invariant.fits (operation_of m c.in_err-entry.field-0.0) c.in_err-entry.ensures)
+    (added_stops m g.F.OrderedField.LIMIT c.args.entries.now c.loop-k.entries c.args.start c.args.above c.loop-k.k c.args.stride c.args.col
+    c.index-entries-start.result c.index-entries-above.result (m c.args.factor) c.loop-k-test.true below above_below c.requires.apart
+    c.index-entries-start.is c.index-entries-above.is c.loop-k.invariant.row c.loop-k.invariant.fits
+    (operation_of m c.in_err-entry.field-0.0) c.in_err-entry.ensures)
 
 pub loop-k-preserved : goal.loop-k-preserved
 loop-k-preserved g c =
@@ -33,6 +35,8 @@ loop-k-preserved g c =
     let below : c.args.start + c.loop-k.k < length c.loop-k.entries = omega arith in
     let above_below : c.args.above + c.loop-k.k < length c.loop-k.entries = omega arith in
     let both =
-    added_more m g.F.OrderedField.LIMIT c.args.entries.now c.loop-k.entries c.args.start c.args.above c.loop-k.k c.args.stride c.args.col c.index-entries-start.result c.index-entries-above.result (m c.args.factor) c.loop-k-test.true below above_below c.requires.apart
-    c.index-entries-start.is c.index-entries-above.is c.loop-k.invariant.row c.loop-k.invariant.fits c.in_ok-entry.entry c.in_ok-entry.ensures in
+    added_more m g.F.OrderedField.LIMIT c.args.entries.now c.loop-k.entries c.args.start c.args.above c.loop-k.k c.args.stride c.args.col
+    c.index-entries-start.result c.index-entries-above.result (m c.args.factor) c.loop-k-test.true below above_below c.requires.apart
+    c.index-entries-start.is c.index-entries-above.is c.loop-k.invariant.row c.loop-k.invariant.fits c.in_ok-entry.entry
+    c.in_ok-entry.ensures in
     record { row = both.0; fits = both.1 }

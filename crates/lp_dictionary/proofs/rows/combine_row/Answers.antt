@@ -6,7 +6,8 @@ use Rattle.lp_dictionary.specs.Formulas.{combined_row}
 use Rattle.lp_dictionary.specs.PivotOperations.{added_row_operations, combination_row_operations}
 use Rattle.lp_dictionary.specs.Cells.{row_from}
 use Rattle.lp_dictionary.proofs.cells.Cells.{cell_read, sets_none}
-use Rattle.lp_dictionary.proofs.pivot_operations.RowSteps.{combined_still, combination_still, combined_after, combined_later, combined_sooner}
+use Rattle.lp_dictionary.proofs.pivot_operations.RowSteps.{combined_still, combination_still, combined_after, combined_later}
+use Rattle.lp_dictionary.proofs.pivot_operations.RowSteps.{combined_sooner}
 use Rattle.lp_dictionary.proofs.rows.combine_row.Goals as goal
 
 pub returns-then-is_zero-clause-combined : goal.returns-then-is_zero-clause-combined
@@ -15,7 +16,8 @@ returns-then-is_zero-clause-combined g c =
     let a = row_from m c.args.entries.now c.args.start in
     let b = row_from m c.args.entries.now c.args.above in
     let c_below : c.args.start + c.args.col < length c.args.entries.now = omega arith in
-    let z = cell_read m c.args.entries.now (c.args.start + c.args.col) c.index-entries-start.result c_below c.index-entries-start.is ∙ c.is_zero.ensures.0 c.if-is_zero.true in
+    let z = cell_read m c.args.entries.now (c.args.start + c.args.col) c.index-entries-start.result c_below c.index-entries-start.is
+    ∙ c.is_zero.ensures.0 c.if-is_zero.true in
     record { inside = λ k l. sym (combined_still a b c.args.col k z); outside = λ p h. refl }
 
 pub returns-then-is_zero-clause-fits : goal.returns-then-is_zero-clause-fits
@@ -24,7 +26,8 @@ returns-then-is_zero-clause-fits g c =
     let a = row_from m c.args.entries.now c.args.start in
     let b = row_from m c.args.entries.now c.args.above in
     let c_below : c.args.start + c.args.col < length c.args.entries.now = omega arith in
-    let z = cell_read m c.args.entries.now (c.args.start + c.args.col) c.index-entries-start.result c_below c.index-entries-start.is ∙ c.is_zero.ensures.0 c.if-is_zero.true in
+    let z = cell_read m c.args.entries.now (c.args.start + c.args.col) c.index-entries-start.result c_below c.index-entries-start.is
+    ∙ c.is_zero.ensures.0 c.if-is_zero.true in
     combination_still g.F.OrderedField.LIMIT c.args.stride a b c.args.col z
 
 pub returns-in_err-product-clause-wide : goal.returns-in_err-product-clause-wide
@@ -35,8 +38,11 @@ returns-in_err-product-clause-wide g c =
     let c_below : c.args.start + c.args.col < length c.args.entries.now = omega arith in
     let a_below : c.args.above + c.args.col < length c.args.entries.now = omega arith in
     rw (p.1, p.2)
-    (combined_sooner g.F.OrderedField.LIMIT c.args.stride (row_from m xs c.args.start) (row_from m xs c.args.above) c.args.col (m c.index-entries-start.result) (m c.index-entries-above.result) (operation_of m c.in_err-product.field-0.0)
-    (sym (cell_read m xs (c.args.start + c.args.col) c.index-entries-start.result c_below c.index-entries-start.is)) (sym (cell_read m xs (c.args.above + c.args.col) c.index-entries-above.result a_below c.index-entries-above.is)) c.in_err-product.ensures)
+    (combined_sooner g.F.OrderedField.LIMIT c.args.stride (row_from m xs c.args.start) (row_from m xs c.args.above) c.args.col
+    (m c.index-entries-start.result) (m c.index-entries-above.result) (operation_of m c.in_err-product.field-0.0)
+    (sym (cell_read m xs (c.args.start + c.args.col) c.index-entries-start.result c_below c.index-entries-start.is))
+    (sym (cell_read m xs (c.args.above + c.args.col) c.index-entries-above.result a_below c.index-entries-above.is))
+    c.in_err-product.ensures)
 
 pub returns-clause-combined : goal.returns-clause-combined
 returns-clause-combined g c =
@@ -47,7 +53,9 @@ returns-clause-combined g c =
     let f_is = sym (cell_read m xs (c.args.start + c.args.col) c.index-entries-start.result c_below c.index-entries-start.is) in
     let x_is = sym (cell_read m xs (c.args.above + c.args.col) c.index-entries-above.result a_below c.index-entries-above.is) in
     on_ok_weaker c.add_row.result
-    (combined_after m g.F.OrderedField.LIMIT xs c.args.start c.args.above c.args.stride c.args.col c.in_ok-product.product c.requires.col c.requires.within c.requires.above_within c.requires.apart (m c.index-entries-start.result) c.add_row.new.entries f_is (c.in_ok-product.ensures.0 ∙ ap (λ t. m c.index-entries-start.result *ℚ t) x_is))
+    (combined_after m g.F.OrderedField.LIMIT xs c.args.start c.args.above c.args.stride c.args.col c.in_ok-product.product c.requires.col
+    c.requires.within c.requires.above_within c.requires.apart (m c.index-entries-start.result) c.add_row.new.entries f_is
+    (c.in_ok-product.ensures.0 ∙ ap (λ t. m c.index-entries-start.result *ℚ t) x_is))
     c.add_row.ensures.added
 
 pub returns-clause-fits : goal.returns-clause-fits
@@ -58,7 +66,9 @@ returns-clause-fits g c =
     let a_below : c.args.above + c.args.col < length c.args.entries.now = omega arith in
     let f_is = sym (cell_read m xs (c.args.start + c.args.col) c.index-entries-start.result c_below c.index-entries-start.is) in
     let x_is = sym (cell_read m xs (c.args.above + c.args.col) c.index-entries-above.result a_below c.index-entries-above.is) in
-    let later = combined_later m g.F.OrderedField.LIMIT xs c.args.start c.args.above c.args.stride c.args.col c.in_ok-product.product c.requires.col c.requires.within c.requires.above_within c.requires.apart (m c.index-entries-start.result) (m c.index-entries-above.result) f_is x_is c.in_ok-product.ensures.1 in
+    let later = combined_later m g.F.OrderedField.LIMIT xs c.args.start c.args.above c.args.stride c.args.col c.in_ok-product.product
+    c.requires.col c.requires.within c.requires.above_within c.requires.apart (m c.index-entries-start.result)
+    (m c.index-entries-above.result) f_is x_is c.in_ok-product.ensures.1 in
     on_ok_weaker c.add_row.result (λ e. later ∙ e) c.add_row.ensures.fits
 
 pub returns-clause-wide : goal.returns-clause-wide
@@ -69,8 +79,13 @@ returns-clause-wide g c =
     let a_below : c.args.above + c.args.col < length c.args.entries.now = omega arith in
     let f_is = sym (cell_read m xs (c.args.start + c.args.col) c.index-entries-start.result c_below c.index-entries-start.is) in
     let x_is = sym (cell_read m xs (c.args.above + c.args.col) c.index-entries-above.result a_below c.index-entries-above.is) in
-    let later = combined_later m g.F.OrderedField.LIMIT xs c.args.start c.args.above c.args.stride c.args.col c.in_ok-product.product c.requires.col c.requires.within c.requires.above_within c.requires.apart (m c.index-entries-start.result) (m c.index-entries-above.result) f_is x_is c.in_ok-product.ensures.1 in
+    let later = combined_later m g.F.OrderedField.LIMIT xs c.args.start c.args.above c.args.stride c.args.col c.in_ok-product.product
+    c.requires.col c.requires.within c.requires.above_within c.requires.apart (m c.index-entries-start.result)
+    (m c.index-entries-above.result) f_is x_is c.in_ok-product.ensures.1 in
     IfErr-weaker c.add_row.result
-    (λ w. first_wide g.F.OrderedField.LIMIT (added_row_operations c.args.stride (row_from m (set xs (c.args.start + c.args.col) c.in_ok-product.product) c.args.start) (m c.index-entries-start.result) (row_from m (set xs (c.args.start + c.args.col) c.in_ok-product.product) c.args.above) c.args.col) ≡ Some (operation_of m w))
-    (λ w. first_wide g.F.OrderedField.LIMIT (combination_row_operations c.args.stride (row_from m xs c.args.start) (row_from m xs c.args.above) c.args.col) ≡ Some (operation_of m w))
+    (λ w. first_wide g.F.OrderedField.LIMIT (added_row_operations c.args.stride
+    (row_from m (set xs (c.args.start + c.args.col) c.in_ok-product.product) c.args.start) (m c.index-entries-start.result)
+    (row_from m (set xs (c.args.start + c.args.col) c.in_ok-product.product) c.args.above) c.args.col) ≡ Some (operation_of m w))
+    (λ w. first_wide g.F.OrderedField.LIMIT (combination_row_operations c.args.stride (row_from m xs c.args.start)
+    (row_from m xs c.args.above) c.args.col) ≡ Some (operation_of m w))
     (λ w e. later ∙ e) c.add_row.ensures.wide

@@ -23,8 +23,10 @@ returns-in_err-entry-clause-wide g c =
     let below : c.args.start + c.loop-k.k < length c.loop-k.entries = omega arith in
     let c_below : c.args.start + c.args.col < length c.args.entries.now = omega arith in
     rw (p.1, p.2)
-    (division_refused m g.F.OrderedField.LIMIT c.args.entries.now c.loop-k.entries c.args.start c.loop-k.k c.args.col c.index-entries-start-in-loop-k.result c.index-entries-start.result below c_below
-    c.index-entries-start-in-loop-k.is c.index-entries-start.is c.args.stride (operation_of m c.in_err-entry.field-0.0) c.loop-k-test.true c.loop-k.invariant.row c.loop-k.invariant.fits c.in_err-entry.ensures)
+    (division_refused m g.F.OrderedField.LIMIT c.args.entries.now c.loop-k.entries c.args.start c.loop-k.k c.args.col
+    c.index-entries-start-in-loop-k.result c.index-entries-start.result below c_below
+    c.index-entries-start-in-loop-k.is c.index-entries-start.is c.args.stride (operation_of m c.in_err-entry.field-0.0) c.loop-k-test.true
+    c.loop-k.invariant.row c.loop-k.invariant.fits c.in_err-entry.ensures)
 
 pub loop-k-preserved : goal.loop-k-preserved
 loop-k-preserved g c =
@@ -32,6 +34,8 @@ loop-k-preserved g c =
     let below : c.args.start + c.loop-k.k < length c.loop-k.entries = omega arith in
     let c_below : c.args.start + c.args.col < length c.args.entries.now = omega arith in
     let both =
-    division_more m g.F.OrderedField.LIMIT c.args.entries.now c.loop-k.entries c.args.start c.loop-k.k c.args.col c.index-entries-start-in-loop-k.result c.index-entries-start.result below c_below
-    c.index-entries-start-in-loop-k.is c.index-entries-start.is c.in_ok-entry.entry c.loop-k.invariant.row c.loop-k.invariant.fits c.in_ok-entry.ensures in
+    division_more m g.F.OrderedField.LIMIT c.args.entries.now c.loop-k.entries c.args.start c.loop-k.k c.args.col
+    c.index-entries-start-in-loop-k.result c.index-entries-start.result below c_below
+    c.index-entries-start-in-loop-k.is c.index-entries-start.is c.in_ok-entry.entry c.loop-k.invariant.row c.loop-k.invariant.fits
+    c.in_ok-entry.ensures in
     record { row = both.0; fits = both.1 }

@@ -12,4 +12,5 @@ loop-k-preserved g c =
     ] in
     let most = skip_most c.args.col c.loop-k.k in
     let below : c.args.from + c.if-k-col.place < length c.loop-k.entries = omega (arith, e, most) in
-    shift_more g.F.OrderedField.meaning c.args.entries.now c.loop-k.entries c.args.from c.args.to c.loop-k.k c.args.col c.if-k-col.place c.index-entries-from.result c.loop-k.invariant c.requires.order e below c.index-entries-from.is
+    shift_more g.F.OrderedField.meaning c.args.entries.now c.loop-k.entries c.args.from c.args.to c.loop-k.k c.args.col c.if-k-col.place
+    c.index-entries-from.result c.loop-k.invariant c.requires.order e below c.index-entries-from.is

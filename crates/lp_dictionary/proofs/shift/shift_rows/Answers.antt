@@ -11,4 +11,5 @@ loop-i-preserved g c =
       | else-i-row w ↦ place_behind c.args.row c.loop-i.i c.if-i-row.place w.if-i-row.false w.place-is
     ] in
     let b : 0 < c.args.stride = omega arith in
-    rows_shift_more g.F.OrderedField.meaning c.args.entries.now c.loop-i.entries c.shift_row.new.entries c.loop-i.i c.args.row c.args.stride c.args.col c.if-i-row.place b c.loop-i.invariant e c.shift_row.ensures
+    rows_shift_more g.F.OrderedField.meaning c.args.entries.now c.loop-i.entries c.shift_row.new.entries c.loop-i.i c.args.row c.args.stride
+    c.args.col c.if-i-row.place b c.loop-i.invariant e c.shift_row.ensures

@@ -21,10 +21,12 @@ loop-i-preserved g c =
     elim c.if-lt.branch [
       | then-lt w ↦ rw (w.least-is, w.lowest-is)
           (least_found f c.loop-i.i (m c.loop-i.least) (m row.side) c.loop-i.lowest c.loop-i.invariant e
-          (test_lt m g.met.F.OrderedField.ordered g.met.F.Ord.matches_partial_cmp row.side c.loop-i.least c.lt.result c.lt.ensures w.if-lt.true))
+          (test_lt m g.met.F.OrderedField.ordered g.met.F.Ord.matches_partial_cmp row.side c.loop-i.least c.lt.result c.lt.ensures
+          w.if-lt.true))
       | else-lt w ↦ rw (w.least-is, w.lowest-is)
           (least_kept f c.loop-i.i (m c.loop-i.least) c.loop-i.lowest c.loop-i.invariant
-          (subst (λ x. m c.loop-i.least ≤ℚ x) (sym e) (test_not_lt m g.met.F.OrderedField.ordered g.met.F.Ord.matches_partial_cmp row.side c.loop-i.least c.lt.result c.lt.ensures w.if-lt.false)))
+          (subst (λ x. m c.loop-i.least ≤ℚ x) (sym e) (test_not_lt m g.met.F.OrderedField.ordered g.met.F.Ord.matches_partial_cmp row.side
+          c.loop-i.least c.lt.result c.lt.ensures w.if-lt.false)))
     ]
 
 pub returns : goal.returns
@@ -34,4 +36,5 @@ returns g c =
     let k = p.rows.ok.0 in
     let n = length-map p.rows.items (λ (r : Row _). m r.side) in
     let e : c.loop-i.i ≡ (exact m p).rows = omega arith in
-    least_lowest (exact m p) (m c.loop-i.least) c.loop-i.lowest (subst (λ x. IsLeastSoFar (exact m p).side x (m c.loop-i.least) c.loop-i.lowest) e c.loop-i.invariant)
+    least_lowest (exact m p) (m c.loop-i.least) c.loop-i.lowest (subst
+    (λ x. IsLeastSoFar (exact m p).side x (m c.loop-i.least) c.loop-i.lowest) e c.loop-i.invariant)

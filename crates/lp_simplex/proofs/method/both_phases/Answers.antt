@@ -17,7 +17,8 @@ use Rattle.lp_simplex.specs.Operations.{first_refused, whole_phase, run_operatio
 use Rattle.lp_simplex.specs.Outcomes.{IsOutcomeOf}
 use Rattle.lp_simplex.specs.Answers.{EndsPhase, EntersRefused, RefusesRun}
 use Rattle.lp_simplex.proofs.method.Begins.{first_pivot, begins_aux, two_goals, begins_main}
-use Rattle.lp_simplex.proofs.method.Ends.{shown_end, cols_apart_end, multipliers_end, lp_main_is, lp_empty_is, refused_first, refused_aux, refused_main, run_main, fits_empty, not_left, entered_agrees}
+use Rattle.lp_simplex.proofs.method.Ends.{shown_end, cols_apart_end, multipliers_end, lp_main_is, lp_empty_is, refused_first, refused_aux}
+use Rattle.lp_simplex.proofs.method.Ends.{refused_main, run_main, fits_empty, not_left, entered_agrees}
 use Rattle.lp_simplex.proofs.method.both_phases.Goals as goal
 
 pub enter_auxiliary-requires-clause-row : goal.enter_auxiliary-requires-clause-row
@@ -81,7 +82,9 @@ returns-in_err-enter_auxiliary-clause-refused g c =
     let T = g.T.Tableau.table c.args.tableau.now in
     let q = err_from_is_err_and c.from_residual.result c.from_residual.ensures.1 in
     rw (q.1, q.2)
-    (refused_first L P c.args.row c.requires.least l T c.requires.table m c.in_err-enter_auxiliary.field-0.0 (subst (λ x. EntersRefused m L (pivot_operations T c.args.row x) c.in_err-enter_auxiliary.field-0.0) cols c.in_err-enter_auxiliary.ensures.refused))
+    (refused_first L P c.args.row c.requires.least l T c.requires.table m c.in_err-enter_auxiliary.field-0.0
+    (subst (λ x. EntersRefused m L (pivot_operations T c.args.row x) c.in_err-enter_auxiliary.field-0.0) cols
+    c.in_err-enter_auxiliary.ensures.refused))
 
 pub run_phase-requires-clause-begins : goal.run_phase-requires-clause-begins
 run_phase-requires-clause-begins g c =
@@ -96,7 +99,9 @@ run_phase-requires-clause-begins g c =
     let cols : c.len-cols.result ≡ length p.goal.items = let f = c.len-cols.ensures in omega (arith, f, kg) in
     let l = (lowest_is P c.args.row c.requires.least).below in
     let T = g.T.Tableau.table c.args.tableau.now in
-    let entered = entered_agrees P c.args.row T (g.T.Tableau.table c.enter_auxiliary.new.tableau) l c.requires.table (subst (λ x. Agree (pivot_table T c.args.row x) (g.T.Tableau.table c.enter_auxiliary.new.tableau)) cols c.in_ok-enter_auxiliary.ensures.entered) in
+    let entered = entered_agrees P c.args.row T (g.T.Tableau.table c.enter_auxiliary.new.tableau) l c.requires.table
+    (subst (λ x. Agree (pivot_table T c.args.row x) (g.T.Tableau.table c.enter_auxiliary.new.tableau)) cols
+    c.in_ok-enter_auxiliary.ensures.entered) in
     let begins = begins_aux P c.args.row (g.T.Tableau.table c.enter_auxiliary.new.tableau) c.requires.least entered in
     begins
 
@@ -115,7 +120,8 @@ returns-in_err-ended-clause-refused g c =
     let T = g.T.Tableau.table c.args.tableau.now in
     let fits = subst (λ x. first_wide L (pivot_operations T c.args.row x) ≡ None) cols c.in_ok-enter_auxiliary.ensures.fits in
     let q = err_from_is_err_and c.from_residual-in_err-ended.result c.from_residual-in_err-ended.ensures.1 in
-    rw (q.1, q.2) (refused_aux L P c.args.row c.requires.least l T c.requires.table fits m c.in_err-ended.field-0.0 c.in_err-ended.ensures.refused)
+    rw (q.1, q.2) (refused_aux L P c.args.row c.requires.least l T c.requires.table fits m c.in_err-ended.field-0.0
+    c.in_err-ended.ensures.refused)
 
 pub leave_first-requires-clause-goals : goal.leave_first-requires-clause-goals
 leave_first-requires-clause-goals g c =
@@ -138,10 +144,14 @@ leave_first-requires-clause-auxiliary g c =
     let cols : c.len-cols.result ≡ length p.goal.items = let f = c.len-cols.ensures in omega (arith, f, kg) in
     let l = (lowest_is P c.args.row c.requires.least).below in
     let T = g.T.Tableau.table c.args.tableau.now in
-    let entered = entered_agrees P c.args.row T (g.T.Tableau.table c.enter_auxiliary.new.tableau) l c.requires.table (subst (λ x. Agree (pivot_table T c.args.row x) (g.T.Tableau.table c.enter_auxiliary.new.tableau)) cols c.in_ok-enter_auxiliary.ensures.entered) in
+    let entered = entered_agrees P c.args.row T (g.T.Tableau.table c.enter_auxiliary.new.tableau) l c.requires.table
+    (subst (λ x. Agree (pivot_table T c.args.row x) (g.T.Tableau.table c.enter_auxiliary.new.tableau)) cols
+    c.in_ok-enter_auxiliary.ensures.entered) in
     let begins = begins_aux P c.args.row (g.T.Tableau.table c.enter_auxiliary.new.tableau) c.requires.least entered in
-    let w = subst (λ x. EndsPhase L P true (g.T.Tableau.table c.run_phase.new.tableau) x c.in_ok-ended.ended.pivots) c.in-Left.is c.in_ok-ended.ensures.ends in
-    (shown_end L P true 1 (g.T.Tableau.table c.enter_auxiliary.new.tableau) (g.T.Tableau.table c.run_phase.new.tableau) Left c.in_ok-ended.ended.pivots begins w).all_cols 0 (omega arith) w.why
+    let w = subst (λ x. EndsPhase L P true (g.T.Tableau.table c.run_phase.new.tableau) x c.in_ok-ended.ended.pivots) c.in-Left.is
+    c.in_ok-ended.ensures.ends in
+    (shown_end L P true 1 (g.T.Tableau.table c.enter_auxiliary.new.tableau) (g.T.Tableau.table c.run_phase.new.tableau) Left
+    c.in_ok-ended.ended.pivots begins w).all_cols 0 (omega arith) w.why
 
 pub second_phase-requires-clause-begins : goal.second_phase-requires-clause-begins
 second_phase-requires-clause-begins g c =
@@ -156,8 +166,10 @@ second_phase-requires-clause-begins g c =
     let cols : c.len-cols.result ≡ length p.goal.items = let f = c.len-cols.ensures in omega (arith, f, kg) in
     let l = (lowest_is P c.args.row c.requires.least).below in
     let T = g.T.Tableau.table c.args.tableau.now in
-    let w = subst (λ x. EndsPhase L P true (g.T.Tableau.table c.run_phase.new.tableau) x c.in_ok-ended.ended.pivots) c.in-Left.is c.in_ok-ended.ensures.ends in
-    begins_main L P c.args.row (g.T.Tableau.table c.run_phase.new.tableau) (g.T.Tableau.table c.leave_first.new.self) c.in_ok-ended.ended.pivots c.requires.least w c.leave_first.ensures.left
+    let w = subst (λ x. EndsPhase L P true (g.T.Tableau.table c.run_phase.new.tableau) x c.in_ok-ended.ended.pivots) c.in-Left.is
+    c.in_ok-ended.ensures.ends in
+    begins_main L P c.args.row (g.T.Tableau.table c.run_phase.new.tableau) (g.T.Tableau.table c.leave_first.new.self)
+    c.in_ok-ended.ended.pivots c.requires.least w c.leave_first.ensures.left
 
 pub goal_multipliers-requires : goal.goal_multipliers-requires
 goal_multipliers-requires g c =
@@ -172,7 +184,9 @@ goal_multipliers-requires g c =
     let cols : c.len-cols.result ≡ length p.goal.items = let f = c.len-cols.ensures in omega (arith, f, kg) in
     let l = (lowest_is P c.args.row c.requires.least).below in
     let T = g.T.Tableau.table c.args.tableau.now in
-    let entered = entered_agrees P c.args.row T (g.T.Tableau.table c.enter_auxiliary.new.tableau) l c.requires.table (subst (λ x. Agree (pivot_table T c.args.row x) (g.T.Tableau.table c.enter_auxiliary.new.tableau)) cols c.in_ok-enter_auxiliary.ensures.entered) in
+    let entered = entered_agrees P c.args.row T (g.T.Tableau.table c.enter_auxiliary.new.tableau) l c.requires.table
+    (subst (λ x. Agree (pivot_table T c.args.row x) (g.T.Tableau.table c.enter_auxiliary.new.tableau)) cols
+    c.in_ok-enter_auxiliary.ensures.entered) in
     let begins = begins_aux P c.args.row (g.T.Tableau.table c.enter_auxiliary.new.tableau) c.requires.least entered in
     let e = c.in_ok-ended.ensures.ends in
     let r = e.rows in
@@ -182,7 +196,8 @@ goal_multipliers-requires g c =
     record {
       rows = omega (arith, rows, r, o);
       width = width;
-      apart = cols_apart_end L P true 1 (g.T.Tableau.table c.enter_auxiliary.new.tableau) (g.T.Tableau.table c.run_phase.new.tableau) c.in_ok-ended.ended.end c.in_ok-ended.ended.pivots begins e (c.len-cols.result + 1) width;
+      apart = cols_apart_end L P true 1 (g.T.Tableau.table c.enter_auxiliary.new.tableau) (g.T.Tableau.table c.run_phase.new.tableau)
+          c.in_ok-ended.ended.end c.in_ok-ended.ended.pivots begins e (c.len-cols.result + 1) width;
       fresh = c.in_ok-ended.ensures.fresh;
     }
 
@@ -199,8 +214,10 @@ returns-in-Left-clause-outcome g c =
     let cols : c.len-cols.result ≡ length p.goal.items = let f = c.len-cols.ensures in omega (arith, f, kg) in
     let l = (lowest_is P c.args.row c.requires.least).below in
     let T = g.T.Tableau.table c.args.tableau.now in
-    let w = subst (λ x. EndsPhase L P true (g.T.Tableau.table c.run_phase.new.tableau) x c.in_ok-ended.ended.pivots) c.in-Left.is c.in_ok-ended.ensures.ends in
-    subst (λ x. IfOk c.second_phase.result (λ o. IsOutcomeOf m P x o)) (sym (lp_main_is P c.args.row c.requires.least w.why)) c.second_phase.ensures.outcome
+    let w = subst (λ x. EndsPhase L P true (g.T.Tableau.table c.run_phase.new.tableau) x c.in_ok-ended.ended.pivots) c.in-Left.is
+    c.in_ok-ended.ensures.ends in
+    subst (λ x. IfOk c.second_phase.result (λ o. IsOutcomeOf m P x o)) (sym (lp_main_is P c.args.row c.requires.least w.why))
+    c.second_phase.ensures.outcome
 
 pub returns-in-Left-clause-fits : goal.returns-in-Left-clause-fits
 returns-in-Left-clause-fits g c =
@@ -216,8 +233,10 @@ returns-in-Left-clause-fits g c =
     let l = (lowest_is P c.args.row c.requires.least).below in
     let T = g.T.Tableau.table c.args.tableau.now in
     let fits = subst (λ x. first_wide L (pivot_operations T c.args.row x) ≡ None) cols c.in_ok-enter_auxiliary.ensures.fits in
-    let w = subst (λ x. EndsPhase L P true (g.T.Tableau.table c.run_phase.new.tableau) x c.in_ok-ended.ended.pivots) c.in-Left.is c.in_ok-ended.ensures.ends in
-    on_ok_weaker c.second_phase.result (λ q. run_main L P c.args.row c.requires.least l T c.requires.table fits w.fits w.why ∙ q) c.second_phase.ensures.fits
+    let w = subst (λ x. EndsPhase L P true (g.T.Tableau.table c.run_phase.new.tableau) x c.in_ok-ended.ended.pivots) c.in-Left.is
+    c.in_ok-ended.ensures.ends in
+    on_ok_weaker c.second_phase.result (λ q. run_main L P c.args.row c.requires.least l T c.requires.table fits w.fits w.why ∙ q)
+    c.second_phase.ensures.fits
 
 pub returns-in-Left-clause-refused : goal.returns-in-Left-clause-refused
 returns-in-Left-clause-refused g c =
@@ -233,7 +252,8 @@ returns-in-Left-clause-refused g c =
     let l = (lowest_is P c.args.row c.requires.least).below in
     let T = g.T.Tableau.table c.args.tableau.now in
     let fits = subst (λ x. first_wide L (pivot_operations T c.args.row x) ≡ None) cols c.in_ok-enter_auxiliary.ensures.fits in
-    let w = subst (λ x. EndsPhase L P true (g.T.Tableau.table c.run_phase.new.tableau) x c.in_ok-ended.ended.pivots) c.in-Left.is c.in_ok-ended.ensures.ends in
+    let w = subst (λ x. EndsPhase L P true (g.T.Tableau.table c.run_phase.new.tableau) x c.in_ok-ended.ended.pivots) c.in-Left.is
+    c.in_ok-ended.ensures.ends in
     IfErr-weaker c.second_phase.result (λ e. RefusesRun m L (whole_phase P (main_phase P)) e) (λ e. RefusesRun m L (run_operations P) e)
     (λ e q. refused_main L P c.args.row c.requires.least l T c.requires.table fits w.fits w.why m e q) c.second_phase.ensures.refused
 
@@ -251,15 +271,21 @@ returns-in_ok-goal_multipliers-in_default g c =
     let l = (lowest_is P c.args.row c.requires.least).below in
     let T = g.T.Tableau.table c.args.tableau.now in
     let fits = subst (λ x. first_wide L (pivot_operations T c.args.row x) ≡ None) cols c.in_ok-enter_auxiliary.ensures.fits in
-    let entered = entered_agrees P c.args.row T (g.T.Tableau.table c.enter_auxiliary.new.tableau) l c.requires.table (subst (λ x. Agree (pivot_table T c.args.row x) (g.T.Tableau.table c.enter_auxiliary.new.tableau)) cols c.in_ok-enter_auxiliary.ensures.entered) in
+    let entered = entered_agrees P c.args.row T (g.T.Tableau.table c.enter_auxiliary.new.tableau) l c.requires.table
+    (subst (λ x. Agree (pivot_table T c.args.row x) (g.T.Tableau.table c.enter_auxiliary.new.tableau)) cols
+    c.in_ok-enter_auxiliary.ensures.entered) in
     let begins = begins_aux P c.args.row (g.T.Tableau.table c.enter_auxiliary.new.tableau) c.requires.least entered in
     let e = c.in_ok-ended.ensures.ends in
     let v = e.width in
     let width : c.len-cols.result + 1 ≡ (g.T.Tableau.table c.run_phase.new.tableau).width = omega (arith, v, cols) in
-    let basic = not_left (names P) (aux_phase P) (g.T.Tableau.table c.run_phase.new.tableau) c.in_ok-ended.ended.end e.why c.in_default.not-Left in
+    let basic = not_left (names P) (aux_phase P) (g.T.Tableau.table c.run_phase.new.tableau) c.in_ok-ended.ended.end e.why
+    c.in_default.not-Left in
     record {
-      outcome = subst (λ x. IsOutcomeOf m P x (Empty c.in_ok-goal_multipliers-in_default.field-0)) (sym (lp_empty_is P c.args.row c.requires.least basic))
-          (multipliers_end L P true 1 (g.T.Tableau.table c.enter_auxiliary.new.tableau) (g.T.Tableau.table c.run_phase.new.tableau) c.in_ok-ended.ended.end c.in_ok-ended.ended.pivots begins e m c.len-rows.result c.len-cols.result (c.len-cols.result + 1) c.in_ok-goal_multipliers-in_default.field-0.items
+      outcome = subst (λ x. IsOutcomeOf m P x (Empty c.in_ok-goal_multipliers-in_default.field-0))
+          (sym (lp_empty_is P c.args.row c.requires.least basic))
+          (multipliers_end L P true 1 (g.T.Tableau.table c.enter_auxiliary.new.tableau) (g.T.Tableau.table c.run_phase.new.tableau)
+          c.in_ok-ended.ended.end c.in_ok-ended.ended.pivots begins e m c.len-rows.result c.len-cols.result (c.len-cols.result + 1)
+          c.in_ok-goal_multipliers-in_default.field-0.items
           rows cols width c.in_ok-goal_multipliers-in_default.ensures);
       fits = fits_empty L P c.args.row c.requires.least l T c.requires.table fits e.fits basic;
       refused = tt;

@@ -25,7 +25,8 @@ loop-col-init g c =
     let rows : c.len-rows.result ≡ (exact m p).rows = let f = c.len-rows.ensures in omega (arith, f, n, kr) in
     let cols : c.len.result ≡ length p.goal.items = let f = c.len.ensures in omega (arith, f, kg) in
     record {
-      stands = stands_first g.F.OrderedField.LIMIT (exact m p) c.args.auxiliary c.args.made (g.T.Tableau.table c.args.tableau.now) c.requires.begins;
+      stands = stands_first g.F.OrderedField.LIMIT (exact m p) c.args.auxiliary c.args.made (g.T.Tableau.table c.args.tableau.now)
+          c.requires.begins;
       fresh = c.requires.fresh;
       rows = rows;
       width = ap₂ (λ x y. x + y) cols c.from.ensures ∙ wide_by c.args.auxiliary (length p.goal.items);
@@ -40,9 +41,12 @@ returns-in_err-make_step-clause-refused g c =
     let s = i.stands in
     let T = g.T.Tableau.table c.loop-col.tableau in
     let q = err_from_is_err_and c.from_residual.result c.from_residual.ensures.1 in
-    let number = capped_next ((phase_of P c.args.auxiliary).made + s.j) c.loop-col.pivots c.saturating_add-number.result s.count c.saturating_add-number.ensures in
-    let r = subst₂ (λ x y. StepRefused m L T x y c.saturating_add-number.result c.in_err-make_step.field-0.0) (i.rows ∙ sym s.rows) (i.width ∙ sym s.width) c.in_err-make_step.ensures.refused in
-    rw (q.1, q.2) (refuses L P c.args.auxiliary c.requires.begins.phase T c.loop-col.pivots s m c.saturating_add-number.result c.in_err-make_step.field-0.0 number r)
+    let number = capped_next ((phase_of P c.args.auxiliary).made + s.j) c.loop-col.pivots c.saturating_add-number.result s.count
+    c.saturating_add-number.ensures in
+    let r = subst₂ (λ x y. StepRefused m L T x y c.saturating_add-number.result c.in_err-make_step.field-0.0) (i.rows ∙ sym s.rows)
+    (i.width ∙ sym s.width) c.in_err-make_step.ensures.refused in
+    rw (q.1, q.2) (refuses L P c.args.auxiliary c.requires.begins.phase T c.loop-col.pivots s m c.saturating_add-number.result
+    c.in_err-make_step.field-0.0 number r)
 
 pub returns-in-Optimal-clause-ends : goal.returns-in-Optimal-clause-ends
 returns-in-Optimal-clause-ends g c =
@@ -53,7 +57,8 @@ returns-in-Optimal-clause-ends g c =
     let s = i.stands in
     let T = g.T.Tableau.table c.loop-col.tableau in
     let U = g.T.Tableau.table c.make_step.new.tableau in
-    let a = subst₂ (λ x y. StepIs L T U x y c.in_ok-make_step.field-0) (i.rows ∙ sym s.rows) (i.width ∙ sym s.width) c.in_ok-make_step.ensures.made in
+    let a = subst₂ (λ x y. StepIs L T U x y c.in_ok-make_step.field-0) (i.rows ∙ sym s.rows) (i.width ∙ sym s.width)
+    c.in_ok-make_step.ensures.made in
     let b = subst (StepIs L T U T.rows T.width) c.in-Optimal.is a in
     ends_best L P c.args.auxiliary c.requires.begins.phase T c.loop-col.pivots s U b.0 b.1
 
@@ -66,7 +71,8 @@ returns-in-Ray-clause-ends g c =
     let s = i.stands in
     let T = g.T.Tableau.table c.loop-col.tableau in
     let U = g.T.Tableau.table c.make_step.new.tableau in
-    let a = subst₂ (λ x y. StepIs L T U x y c.in_ok-make_step.field-0) (i.rows ∙ sym s.rows) (i.width ∙ sym s.width) c.in_ok-make_step.ensures.made in
+    let a = subst₂ (λ x y. StepIs L T U x y c.in_ok-make_step.field-0) (i.rows ∙ sym s.rows) (i.width ∙ sym s.width)
+    c.in_ok-make_step.ensures.made in
     let b = subst (StepIs L T U T.rows T.width) c.in-Ray.is a in
     ends_ray L P c.args.auxiliary c.requires.begins.phase T c.loop-col.pivots s U c.in-Ray.col b.0 b.1 b.2
 
@@ -79,9 +85,11 @@ returns-then-name-eq0-clause-ends g c =
     let s = i.stands in
     let T = g.T.Tableau.table c.loop-col.tableau in
     let U = g.T.Tableau.table c.make_step.new.tableau in
-    let a = subst₂ (λ x y. StepIs L T U x y c.in_ok-make_step.field-0) (i.rows ∙ sym s.rows) (i.width ∙ sym s.width) c.in_ok-make_step.ensures.made in
+    let a = subst₂ (λ x y. StepIs L T U x y c.in_ok-make_step.field-0) (i.rows ∙ sym s.rows) (i.width ∙ sym s.width)
+    c.in_ok-make_step.ensures.made in
     let b = subst (StepIs L T U T.rows T.width) c.in-Pivot.is a in
-    ends_left L P c.args.auxiliary c.requires.begins.phase T c.loop-col.pivots s U c.in-Pivot.name b c.saturating_add-number.result c.saturating_add-number.ensures c.if-name-eq0.true
+    ends_left L P c.args.auxiliary c.requires.begins.phase T c.loop-col.pivots s U c.in-Pivot.name b c.saturating_add-number.result
+    c.saturating_add-number.ensures c.if-name-eq0.true
 
 pub loop-col-smaller : goal.loop-col-smaller
 loop-col-smaller g c =
@@ -92,7 +100,8 @@ loop-col-smaller g c =
     let s = i.stands in
     let T = g.T.Tableau.table c.loop-col.tableau in
     let U = g.T.Tableau.table c.make_step.new.tableau in
-    let a = subst₂ (λ x y. StepIs L T U x y c.in_ok-make_step.field-0) (i.rows ∙ sym s.rows) (i.width ∙ sym s.width) c.in_ok-make_step.ensures.made in
+    let a = subst₂ (λ x y. StepIs L T U x y c.in_ok-make_step.field-0) (i.rows ∙ sym s.rows) (i.width ∙ sym s.width)
+    c.in_ok-make_step.ensures.made in
     let b = subst (StepIs L T U T.rows T.width) c.in-Pivot.is a in
     stands_less L P c.args.auxiliary c.requires.begins.phase T c.loop-col.pivots s U c.in-Pivot.name b
 
@@ -105,10 +114,12 @@ loop-col-preserved g c =
     let s = i.stands in
     let T = g.T.Tableau.table c.loop-col.tableau in
     let U = g.T.Tableau.table c.make_step.new.tableau in
-    let a = subst₂ (λ x y. StepIs L T U x y c.in_ok-make_step.field-0) (i.rows ∙ sym s.rows) (i.width ∙ sym s.width) c.in_ok-make_step.ensures.made in
+    let a = subst₂ (λ x y. StepIs L T U x y c.in_ok-make_step.field-0) (i.rows ∙ sym s.rows) (i.width ∙ sym s.width)
+    c.in_ok-make_step.ensures.made in
     let b = subst (StepIs L T U T.rows T.width) c.in-Pivot.is a in
     record {
-      stands = stands_next L P c.args.auxiliary c.requires.begins.phase T c.loop-col.pivots s U c.in-Pivot.name b c.saturating_add-number.result c.saturating_add-number.ensures c.if-name-eq0.false;
+      stands = stands_next L P c.args.auxiliary c.requires.begins.phase T c.loop-col.pivots s U c.in-Pivot.name b
+          c.saturating_add-number.result c.saturating_add-number.ensures c.if-name-eq0.false;
       fresh = c.in_ok-make_step.ensures.fresh;
       rows = i.rows;
       width = i.width;

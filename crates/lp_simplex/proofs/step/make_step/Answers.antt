@@ -23,7 +23,8 @@ returns-in-Ok-pivot-clause-made g c =
       leaves = l;
       named = c.basic-name.ensures;
       table = c.in-Ok-pivot.ensures.exchanged;
-      fits = first_wide_later g.F.OrderedField.LIMIT (ratio_operations T c.in-Some.col) (pivot_operations T c.in-Some-leaving.row c.in-Some.col) c.in-Ok.ensures.1 ∙ c.in-Ok-pivot.ensures.fits;
+      fits = first_wide_later g.F.OrderedField.LIMIT (ratio_operations T c.in-Some.col)
+          (pivot_operations T c.in-Some-leaving.row c.in-Some.col) c.in-Ok.ensures.1 ∙ c.in-Ok-pivot.ensures.fits;
     }
 
 pub returns-in-Err-Wide-clause-refused : goal.returns-in-Err-Wide-clause-refused
@@ -35,6 +36,11 @@ returns-in-Err-Wide-clause-refused g c =
       record {
         col = c.in-Some.col;
         enters = c.in-Some.ensures;
-        wide = inr (c.in-Some-leaving.row, l, first_wide_later g.F.OrderedField.LIMIT (ratio_operations T c.in-Some.col) (pivot_operations T c.in-Some-leaving.row c.in-Some.col) c.in-Ok.ensures.1 ∙ r);
+        wide = inr (
+          c.in-Some-leaving.row,
+          l,
+          first_wide_later g.F.OrderedField.LIMIT (ratio_operations T c.in-Some.col)
+              (pivot_operations T c.in-Some-leaving.row c.in-Some.col) c.in-Ok.ensures.1 ∙ r,
+        );
       },
     )

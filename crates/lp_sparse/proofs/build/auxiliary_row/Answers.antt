@@ -13,4 +13,5 @@ returns g c =
     let w = c.args.cols in
     let pushed = c.in_ok-push_end.ensures ∙ ap (λ es. end_pushed m true es w c.negate.result c.zero.result) c.new-entries.ensures.items in
     subst (Lists m (auxiliary_entries w)) (sym pushed)
-    (lists_end m true (zeros w) [] w c.negate.result c.zero.result (neg_ℚ one_ℚ) zero_ℚ (lists_zeros m w) (sym (length-zeros w)) (c.negate.ensures.value ∙ ap neg_ℚ c.one.ensures.value) c.zero.ensures.value)
+    (lists_end m true (zeros w) [] w c.negate.result c.zero.result (neg_ℚ one_ℚ) zero_ℚ (lists_zeros m w) (sym (length-zeros w))
+    (c.negate.ensures.value ∙ ap neg_ℚ c.one.ensures.value) c.zero.ensures.value)

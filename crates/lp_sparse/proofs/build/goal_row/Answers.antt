@@ -12,4 +12,5 @@ returns g c =
     let u = map m c.args.goal.now in
     let kept = subst (λ xs. Lists m xs c.in_ok-entries.entries.items) (signed_none u) c.in_ok-entries.ensures in
     subst (Lists m (goal_entries c.args.auxiliary u)) (sym c.in_ok-push_end.ensures)
-    (lists_end m c.args.auxiliary u c.in_ok-entries.entries.items (length c.args.goal.now) c.zero.result c.zero-2.result zero_ℚ zero_ℚ kept (sym (length-map c.args.goal.now m)) c.zero.ensures.value c.zero-2.ensures.value)
+    (lists_end m c.args.auxiliary u c.in_ok-entries.entries.items (length c.args.goal.now) c.zero.result c.zero-2.result zero_ℚ zero_ℚ kept
+    (sym (length-map c.args.goal.now m)) c.zero.ensures.value c.zero-2.ensures.value)

@@ -14,6 +14,8 @@ returns g c =
     let kr = row.coeffs.ok.0 in
     let kept = subst (λ xs. Lists m (map neg_ℚ (map m xs)) c.in_ok-entries.entries.items) c.deref.ensures.value c.in_ok-entries.ensures in
     let long = length-map u neg_ℚ ∙ length-map row.coeffs.items m in
-    let cols : c.len-cols.result ≡ length (map neg_ℚ (map g.F.OrderedField.meaning c.args.row.now.coeffs.items)) = let e = c.len-cols.ensures in omega (arith, e, kr, long) in
+    let cols : c.len-cols.result ≡ length (map neg_ℚ (map g.F.OrderedField.meaning c.args.row.now.coeffs.items)) =
+    let e = c.len-cols.ensures in omega (arith, e, kr, long) in
     subst (Lists m (slack_entries c.args.auxiliary u (m row.side))) (sym c.in_ok-push_end.ensures)
-    (lists_end m c.args.auxiliary (map neg_ℚ u) c.in_ok-entries.entries.items c.len-cols.result c.one.result row.side one_ℚ (m row.side) kept cols c.one.ensures.value (λ _. m row.side))
+    (lists_end m c.args.auxiliary (map neg_ℚ u) c.in_ok-entries.entries.items c.len-cols.result c.one.result row.side one_ℚ (m row.side)
+    kept cols c.one.ensures.value (λ _. m row.side))

@@ -7,7 +7,8 @@ use Rattle.lp_sparse.proofs.formulas.Units.{unit_answer}
 use Rattle.lp_sparse.proofs.formulas.product_of.Goals as goal
 
 pub returns-then-is_zero : goal.returns-then-is_zero
-returns-then-is_zero g c = product_zero g.F.OrderedField.LIMIT (g.F.OrderedField.meaning c.args.factor) (g.F.OrderedField.meaning c.args.above) (c.is_zero.ensures.0 c.if-is_zero.true)
+returns-then-is_zero g c = product_zero g.F.OrderedField.LIMIT (g.F.OrderedField.meaning c.args.factor)
+    (g.F.OrderedField.meaning c.args.above) (c.is_zero.ensures.0 c.if-is_zero.true)
 
 pub returns-in-Some : goal.returns-in-Some
 returns-in-Some g c =
@@ -16,7 +17,8 @@ returns-in-Some g c =
     let f = m c.args.factor in
     let b = m c.args.above in
     let n : m c.args.above ≢ zero_ℚ = λ z. true≢false (sym (c.is_zero.ensures.1 z) ∙ c.if-is_zero.false) in
-    subst (λ os. Answers m L (f *ℚ b) os (Ok c.unit_product.result)) (sym (all_made L f b (record { op = Mul; left = f; right = b } ∷ []) c.requires.factor n))
+    subst (λ os. Answers m L (f *ℚ b) os (Ok c.unit_product.result)) (sym
+    (all_made L f b (record { op = Mul; left = f; right = b } ∷ []) c.requires.factor n))
     (unit_answer m L f b c.unit_product.result c.unit_product.ensures.value c.unit_product.ensures.fits)
 
 pub returns-in-None : goal.returns-in-None

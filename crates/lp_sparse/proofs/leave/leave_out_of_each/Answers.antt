@@ -15,7 +15,9 @@ loop-i-preserved g c =
       done = λ k b. ⊎_elim
           (λ a. row_kept rows i k row (λ q. omega (arith, q, a)) ∙ c.loop-i.invariant.done k a)
           (λ a. let q : k ≡ c.loop-i.i = omega (arith, a, b) in
-          ap (row_at (set rows i row)) q ∙ row_written rows i row l ∙ c.leave_out.ensures ∙ ap (left_out c.args.col) (sym (row_read rows i c.index-rows-i.result l) ∙ c.loop-i.invariant.later i (omega arith) ∙ ap (row_at c.args.rows.now) (sym q)))
+          ap (row_at (set rows i row)) q ∙ row_written rows i row l ∙ c.leave_out.ensures
+          ∙ ap (left_out c.args.col) (sym (row_read rows i c.index-rows-i.result l) ∙ c.loop-i.invariant.later i (omega arith)
+          ∙ ap (row_at c.args.rows.now) (sym q)))
           (cases_lt k i);
       later = λ k b. row_kept rows i k row (λ q. omega (arith, q, b)) ∙ c.loop-i.invariant.later k (omega (arith, b));
     }

@@ -30,7 +30,8 @@ loop-place-preserved g c =
           let k = subst (λ xs. Merging m L a b f c.args.col n d.0 xs db old) (drop_more es i c.index-entries-place.result l) d.1 in (
             e.col + 1,
             subst (Merging m L a b f c.args.col n (e.col + 1) (drop (i + 1) es) db) (sym new_is)
-                (merging_kept m L a b f c.args.col n f_is d.0 c.args.until e (drop (i + 1) es) db old k c.if-at-until.false s (m c.args.product) v p_is v_is),
+                (merging_kept m L a b f c.args.col n f_is d.0 c.args.until e (drop (i + 1) es) db old k c.if-at-until.false s
+                (m c.args.product) v p_is v_is),
           );
       no_zero = λ h. subst (HasNoZero m) (sym new_is) (no_zero_pushed m old e.col v (c.loop-place.invariant.no_zero h));
     }

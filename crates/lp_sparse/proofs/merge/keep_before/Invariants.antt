@@ -8,7 +8,8 @@ invariant-loop-place g l =
     let m = g.F.OrderedField.meaning in
     record {
       place : l.place ≤ length l.entries;
-      kept : MergesOn m g.F.OrderedField.LIMIT (m l.product) l.col l.until (drop l.i l.entries) (drop l.place l.entries) l.fn.merged.items l.merged.items;
+      kept : MergesOn m g.F.OrderedField.LIMIT (m l.product) l.col l.until (drop l.i l.entries) (drop l.place l.entries) l.fn.merged.items
+          l.merged.items;
       no_zero : HasNoZero m l.fn.merged.items → HasNoZero m l.merged.items;
     }
 

@@ -23,7 +23,8 @@ loop-j-init g c =
       merging = λ n r s. (
         0,
         subst (Merging m L (value_at m es) (value_at m bs) (m c.args.factor) c.args.col n 0 es bs) (sym c.clear.ensures.items)
-            (merging_none m L (value_at m es) (value_at m bs) (m c.args.factor) c.args.col n c.requires.factor es bs (left_all m n es r) (left_all m n bs s)),
+            (merging_none m L (value_at m es) (value_at m bs) (m c.args.factor) c.args.col n c.requires.factor es bs (left_all m n es r)
+            (left_all m n bs s)),
       );
     }
 
@@ -42,7 +43,8 @@ returns-in_err-i-clause-refused g c =
     let first = get_or bs j c.index-above-j.result in
     let first_is = get_or_default bs j c.index-above-j.result e l ∙ sym c.index-above-j-in-loop-j.is in
     let drop_is : drop j bs ≡ e ∷ drop (j + 1) bs = drop_more bs j e l ∙ ap (λ x. x ∷ drop (j + 1) bs) (sym c.index-above-j-in-loop-j.is) in
-    let starts = subst (StartsAt first.col) (sym drop_is) (let q : first.col ≤ e.col = subst (λ x. first.col ≤ x.col) first_is (omega arith) in q) in
+    let starts = subst (StartsAt first.col) (sym drop_is) (let q : first.col ≤ e.col =
+    subst (λ x. first.col ≤ x.col) first_is (omega arith) in q) in
     let da = drop c.in_ok-place.place es in
     let rest = subst (λ x. StartsAt x.col da) first_is c.in_ok-place.ensures.rest in
     let mid = c.keep_before.new.merged.items in
@@ -52,7 +54,8 @@ returns-in_err-i-clause-refused g c =
     let d = c.loop-j.invariant.merging n r s in
     let k = c.in_ok-place.ensures.kept a b f n d.0 (drop j bs) c.requires.factor c.requires.product starts d.1 in
     let h = subst (λ ys. Merging m L a b f c.args.col n k.0 da ys mid) drop_is k.1 in
-    fault_of_more m L (added_operations (head_value m da e.col) f (m e.value) (eqb e.col c.args.col)) (added_row_operations n a f b c.args.col) c.in_err-i.field-0.0
+    fault_of_more m L (added_operations (head_value m da e.col) f (m e.value) (eqb e.col c.args.col))
+    (added_row_operations n a f b c.args.col) c.in_err-i.field-0.0
     (λ o w. entry_refused m L a b f c.args.col n c.requires.factor k.0 e da (drop (j + 1) bs) mid h rest o w)
     c.in_err-i.ensures.refused)
 
@@ -71,22 +74,26 @@ loop-j-preserved g c =
     let first = get_or bs j c.index-above-j.result in
     let first_is = get_or_default bs j c.index-above-j.result e l ∙ sym c.index-above-j-in-loop-j.is in
     let drop_is : drop j bs ≡ e ∷ drop (j + 1) bs = drop_more bs j e l ∙ ap (λ x. x ∷ drop (j + 1) bs) (sym c.index-above-j-in-loop-j.is) in
-    let starts = subst (StartsAt first.col) (sym drop_is) (let q : first.col ≤ e.col = subst (λ x. first.col ≤ x.col) first_is (omega arith) in q) in
+    let starts = subst (StartsAt first.col) (sym drop_is) (let q : first.col ≤ e.col =
+    subst (λ x. first.col ≤ x.col) first_is (omega arith) in q) in
     let da = drop c.in_ok-place.place es in
     let rest = subst (λ x. StartsAt x.col da) first_is c.in_ok-place.ensures.rest in
     let mid = c.keep_before.new.merged.items in
     let v = c.in_ok-i.ensures.merged in
     record {
       place = c.in_ok-i.ensures.place;
-      no_zero = subst (HasNoZero m) (sym v.appended) (no_zero_pushed m mid e.col v.value (c.in_ok-place.ensures.no_zero c.loop-j.invariant.no_zero));
+      no_zero = subst (HasNoZero m) (sym v.appended) (no_zero_pushed m mid e.col v.value
+          (c.in_ok-place.ensures.no_zero c.loop-j.invariant.no_zero));
       merging = λ n r s.
           let d = c.loop-j.invariant.merging n r s in
           let k = c.in_ok-place.ensures.kept a b f n d.0 (drop j bs) c.requires.factor c.requires.product starts d.1 in
           let h = subst (λ ys. Merging m L a b f c.args.col n k.0 da ys mid) drop_is k.1 in
-          let more = merging_entry m L a b f c.args.col n c.requires.factor k.0 e da (drop (j + 1) bs) mid h rest (m c.args.product) v.value c.requires.product v.value_is v.fits in (
+          let more = merging_entry m L a b f c.args.col n c.requires.factor k.0 e da (drop (j + 1) bs) mid h rest (m c.args.product) v.value
+          c.requires.product v.value_is v.fits in (
             e.col + 1,
             subst (Merging m L a b f c.args.col n (e.col + 1) (drop c.in_ok-i.i es) (drop (j + 1) bs)) (sym v.appended)
-                (subst (λ xs. Merging m L a b f c.args.col n (e.col + 1) xs (drop (j + 1) bs) (pushed m mid e.col v.value)) (sym v.left) more),
+                (subst (λ xs. Merging m L a b f c.args.col n (e.col + 1) xs (drop (j + 1) bs) (pushed m mid e.col v.value)) (sym v.left)
+                more),
           );
     }
 
@@ -101,8 +108,10 @@ returns-clause-merged g c =
     let r = c.in_ok-keep_before.field-0 in
     λ n q s.
     let d = c.loop-j.invariant.merging n q s in
-    let k = c.in_ok-keep_before.ensures.kept (value_at m es) (value_at m bs) f n d.0 (drop c.loop-j.j bs) c.requires.factor c.requires.product (subst (StartsAt 4294967296) (sym none) tt) d.1 in
-    (merging_end m L (value_at m es) (value_at m bs) f c.args.col n c.requires.factor k.0 (drop r es) (drop c.loop-j.j bs) c.keep_before-2.new.merged.items k.1 (drop_all r es (c.in_ok-keep_before.ensures.all (omega arith))) none).0
+    let k = c.in_ok-keep_before.ensures.kept (value_at m es) (value_at m bs) f n d.0 (drop c.loop-j.j bs) c.requires.factor
+    c.requires.product (subst (StartsAt 4294967296) (sym none) tt) d.1 in
+    (merging_end m L (value_at m es) (value_at m bs) f c.args.col n c.requires.factor k.0 (drop r es) (drop c.loop-j.j bs)
+    c.keep_before-2.new.merged.items k.1 (drop_all r es (c.in_ok-keep_before.ensures.all (omega arith))) none).0
 
 pub returns-clause-fits : goal.returns-clause-fits
 returns-clause-fits g c =
@@ -115,5 +124,7 @@ returns-clause-fits g c =
     let r = c.in_ok-keep_before.field-0 in
     λ n q s.
     let d = c.loop-j.invariant.merging n q s in
-    let k = c.in_ok-keep_before.ensures.kept (value_at m es) (value_at m bs) f n d.0 (drop c.loop-j.j bs) c.requires.factor c.requires.product (subst (StartsAt 4294967296) (sym none) tt) d.1 in
-    (merging_end m L (value_at m es) (value_at m bs) f c.args.col n c.requires.factor k.0 (drop r es) (drop c.loop-j.j bs) c.keep_before-2.new.merged.items k.1 (drop_all r es (c.in_ok-keep_before.ensures.all (omega arith))) none).1
+    let k = c.in_ok-keep_before.ensures.kept (value_at m es) (value_at m bs) f n d.0 (drop c.loop-j.j bs) c.requires.factor
+    c.requires.product (subst (StartsAt 4294967296) (sym none) tt) d.1 in
+    (merging_end m L (value_at m es) (value_at m bs) f c.args.col n c.requires.factor k.0 (drop r es) (drop c.loop-j.j bs)
+    c.keep_before-2.new.merged.items k.1 (drop_all r es (c.in_ok-keep_before.ensures.all (omega arith))) none).1

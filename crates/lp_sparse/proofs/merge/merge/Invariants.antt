@@ -9,5 +9,7 @@ invariant-loop-j g l =
     record {
       place : l.i ≤ length l.entries;
       no_zero : HasNoZero m l.merged.items;
-      merging : (n : ℕ) → Rises 0 n l.entries → Rises 0 n l.above → (r : ℕ) × Merging m g.F.OrderedField.LIMIT (value_at m l.entries) (value_at m l.above) (m l.factor) l.col n r (drop l.i l.entries) (drop l.j l.above) l.merged.items;
+      merging : (n : ℕ) → Rises 0 n l.entries → Rises 0 n l.above → (r : ℕ)
+          × Merging m g.F.OrderedField.LIMIT (value_at m l.entries) (value_at m l.above) (m l.factor) l.col n r (drop l.i l.entries)
+          (drop l.j l.above) l.merged.items;
     }

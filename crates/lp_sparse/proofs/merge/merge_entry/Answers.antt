@@ -21,11 +21,13 @@ returns-clause-merged g c =
     let t = eqb c.args.entry.col c.args.col in
     let da = drop c.args.i c.args.entries.now in
     let z : (head_value m da k ≡ zero_ℚ) × (behind da k ≡ da) = elim c.else-i-entries.branch [
-      | else-i-entries-via-then-i-entries+else-entries-i w ↦ missed m c.args.entries.now c.args.i k w.index-entries-i.result w.if-i-entries.true w.if-entries-i.false
+      | else-i-entries-via-then-i-entries+else-entries-i w ↦ missed m c.args.entries.now c.args.i k w.index-entries-i.result
+          w.if-i-entries.true w.if-entries-i.false
       | else-i-entries-via-else-i-entries w ↦ missed_all m c.args.entries.now c.args.i k w.if-i-entries.false
     ] in
     let h = merged_term L m f b p t c.term_of-term.result c.term_of-term.ensures in
-    let v = pushed_value m L (merged zero_ℚ f b p t) (added_operations zero_ℚ f b t) c.args.merged.now.items c.push_answer-2.new.entries.items k c.term_of-term.result h c.in_ok-push_answer-2.ensures.pushed in
+    let v = pushed_value m L (merged zero_ℚ f b p t) (added_operations zero_ℚ f b t) c.args.merged.now.items
+    c.push_answer-2.new.entries.items k c.term_of-term.result h c.in_ok-push_answer-2.ensures.pushed in
     record {
       value = v.0;
       value_is = v.1 ∙ ap (λ x. merged x f b p t) (sym z.0);

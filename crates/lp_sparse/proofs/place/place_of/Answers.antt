@@ -17,7 +17,8 @@ loop-low-preserved-then-entries-middle g c =
       within = omega arith;
       before = λ k b. ⊎_elim
           (λ a. let r = cols_rise 0 c.requires.0 k j es c.requires.1 a l in omega (arith, r, at, small))
-          (λ a. let q : k ≡ c.loop-low.low + (c.loop-low.high - c.loop-low.low) / 2 = omega (arith, a, b) in let e = ap (col_at es) q in omega (arith, e, at, small))
+          (λ a. let q : k ≡ c.loop-low.low + (c.loop-low.high - c.loop-low.low) / 2 = omega (arith, a, b) in let e = ap (col_at es) q in
+          omega (arith, e, at, small))
           (cases_lt k j);
       behind = λ k b d. c.loop-low.invariant.behind k b d;
     }
@@ -35,6 +36,7 @@ loop-low-preserved g c =
       before = λ k b. c.loop-low.invariant.before k b;
       behind = λ k b d. ⊎_elim
           (λ a. let r = cols_rise 0 c.requires.0 j k es c.requires.1 a d in omega (arith, r, at, large))
-          (λ a. let q : k ≡ c.loop-low.low + (c.loop-low.high - c.loop-low.low) / 2 = omega (arith, a, b) in let e = ap (col_at es) q in omega (arith, e, at, large))
+          (λ a. let q : k ≡ c.loop-low.low + (c.loop-low.high - c.loop-low.low) / 2 = omega (arith, a, b) in let e = ap (col_at es) q in
+          omega (arith, e, at, large))
           (cases_lt j k);
     }

@@ -6,7 +6,8 @@ use Rattle.lp_sparse.specs.Entries.{col_at}
 use Rattle.lp_sparse.proofs.merge.Lists.{cols_rise, value_read, value_none}
 use Rattle.lp_sparse.proofs.place.RowsAt.{col_read}
 use Rattle.lp_sparse.proofs.place.value_in.Goals as goal
-use Rattle.lp_sparse.proofs.place.value_in.Goals.{else-place-entries-via-then-place-entries+else-entries-place, else-place-entries-via-else-place-entries}
+use Rattle.lp_sparse.proofs.place.value_in.Goals.{else-place-entries-via-then-place-entries+else-entries-place}
+use Rattle.lp_sparse.proofs.place.value_in.Goals.{else-place-entries-via-else-place-entries}
 
 pub returns-then-entries-place : goal.returns-then-entries-place
 returns-then-entries-place g c =
@@ -15,7 +16,8 @@ returns-then-entries-place g c =
     let p = c.place_of-place.result in
     let e = c.index-entries-place-then-entries-place.result in
     let l : c.place_of-place.result < length c.args.entries.now = omega arith in
-    sym (value_read m 0 c.requires.0 p c.args.col es e c.requires.1 l (ap (λ (x : Entry _). x.col) (get_or_default es p e c.index-entries-place.result l) ∙ c.if-entries-place.true))
+    sym (value_read m 0 c.requires.0 p c.args.col es e c.requires.1 l (ap (λ (x : Entry _). x.col)
+    (get_or_default es p e c.index-entries-place.result l) ∙ c.if-entries-place.true))
 
 pub returns-else-place-entries : goal.returns-else-place-entries
 returns-else-place-entries g c =

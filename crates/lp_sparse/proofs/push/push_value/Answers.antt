@@ -8,10 +8,12 @@ returns-in_ok-push g c =
     let m = g.F.OrderedField.meaning in
     let es = c.args.entries.now.items in
     let n : m c.args.value ≢ zero_ℚ = λ z. true≢false (sym (c.is_zero.ensures.1 z) ∙ c.if-not-is_zero.true) in
-    c.in_ok-push.ensures.items ∙ sym (ap (λ b. cond b es (es ++ record { col = c.args.col; value = c.args.value } ∷ [])) (is_zero_no (m c.args.value) n))
+    c.in_ok-push.ensures.items ∙ sym (ap (λ b. cond b es (es ++ record { col = c.args.col; value = c.args.value } ∷ []))
+    (is_zero_no (m c.args.value) n))
 
 pub returns-else-not-is_zero : goal.returns-else-not-is_zero
 returns-else-not-is_zero g c =
     let m = g.F.OrderedField.meaning in
     let es = c.args.entries.now.items in
-    sym (ap (λ b. cond b es (es ++ record { col = c.args.col; value = c.args.value } ∷ [])) (is_zero_yes (m c.args.value) (c.is_zero.ensures.0 c.if-not-is_zero.false)))
+    sym (ap (λ b. cond b es (es ++ record { col = c.args.col; value = c.args.value } ∷ []))
+    (is_zero_yes (m c.args.value) (c.is_zero.ensures.0 c.if-not-is_zero.false)))

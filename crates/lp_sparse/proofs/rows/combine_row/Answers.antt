@@ -18,7 +18,8 @@ returns-then-is_zero-clause-combined g c =
     let a = value_at m es in
     let b = value_at m c.args.above.now in
     let f_is = c.value_in-factor.ensures ∙ ap (λ xs. value_at m xs c.args.col) c.deref.ensures.value in
-    λ n r s. keeps_same m a (combined_row a b c.args.col) n es (keeps_itself m n es r) (λ k l. sym (combined_still a b c.args.col k (sym f_is ∙ c.is_zero.ensures.0 c.if-is_zero.true)))
+    λ n r s. keeps_same m a (combined_row a b c.args.col) n es (keeps_itself m n es r)
+    (λ k l. sym (combined_still a b c.args.col k (sym f_is ∙ c.is_zero.ensures.0 c.if-is_zero.true)))
 
 pub returns-then-is_zero-clause-fits : goal.returns-then-is_zero-clause-fits
 returns-then-is_zero-clause-fits g c =
@@ -49,7 +50,8 @@ returns-in_ok-merge-in-Ok-clause-combined g c =
     let es = c.args.row.now.entries.items in
     let b = value_at m c.args.above.now in
     λ n r s. subst (Keeps m (combined_row (value_at m es) b c.args.col) n) (sym c.replace.ensures)
-    (subst (λ xs. Keeps m (combined_row (value_at m xs) b c.args.col) n c.merge.new.merged.items) c.deref-in-Ok.ensures.value (c.in_ok-merge-in-Ok.ensures.merged n (subst (Rises 0 n) (sym c.deref-in-Ok.ensures.value) r) s))
+    (subst (λ xs. Keeps m (combined_row (value_at m xs) b c.args.col) n c.merge.new.merged.items) c.deref-in-Ok.ensures.value
+    (c.in_ok-merge-in-Ok.ensures.merged n (subst (Rises 0 n) (sym c.deref-in-Ok.ensures.value) r) s))
 
 pub returns-in_ok-merge-in-Ok-clause-fits : goal.returns-in_ok-merge-in-Ok-clause-fits
 returns-in_ok-merge-in-Ok-clause-fits g c =
@@ -69,4 +71,5 @@ returns-in-Err-clause-refused g c =
     let a = value_at m c.args.row.now.entries.items in
     let b = value_at m c.args.above.now in
     let f_is = c.value_in-factor.ensures ∙ ap (λ xs. value_at m xs c.args.col) c.deref.ensures.value in
-    λ n r s. combined_sooner g.F.OrderedField.LIMIT n a b c.args.col (m c.value_in-factor.result) (m c.args.inverse) (operation_of m c.in-Err.wide) f_is c.requires.inverse c.in-Err.ensures
+    λ n r s. combined_sooner g.F.OrderedField.LIMIT n a b c.args.col (m c.value_in-factor.result) (m c.args.inverse)
+    (operation_of m c.in-Err.wide) f_is c.requires.inverse c.in-Err.ensures

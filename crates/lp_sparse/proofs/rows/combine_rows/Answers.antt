@@ -26,8 +26,11 @@ loop-i-init g c =
 pub combine_row-requires-clause-rising : goal.combine_row-requires-clause-rising
 combine_row-requires-clause-rising g c =
     let rows = c.loop-i.rows in
-    let l : c.loop-i.i < length c.loop-i.rows = omega arith in
-    (c.requires.rising.0, subst (Rises 0 c.requires.rising.0) (sym (c.loop-i.invariant.later c.loop-i.i (omega arith)) ∙ row_read rows c.loop-i.i c.index-rows-i.result l) (c.requires.rising.1 c.loop-i.i))
+    let l : c.loop-i.i < length c.loop-i.rows = omega arith in (
+      c.requires.rising.0,
+      subst (Rises 0 c.requires.rising.0) (sym (c.loop-i.invariant.later c.loop-i.i (omega arith))
+          ∙ row_read rows c.loop-i.i c.index-rows-i.result l) (c.requires.rising.1 c.loop-i.i),
+    )
 
 pub returns-in_err-combine_row-clause-refused : goal.returns-in_err-combine_row-clause-refused
 returns-in_err-combine_row-clause-refused g c =
@@ -41,9 +44,12 @@ returns-in_err-combine_row-clause-refused g c =
     let p = err_from_is_err_and c.from_residual.result c.from_residual.ensures.1 in
     rw (p.1, p.2)
     (λ n r s.
-    fault_of_more m L (combination_row_operations n (numbers m old i) b c.args.col) (rows_operations (numbers m old) b (length old) c.args.row n c.args.col) c.in_err-combine_row.field-0.0
-    (λ o w. row_refused L (numbers m old) b c.args.row n c.args.col i (length old) o c.loop-i-test.true c.if-i-row.true (c.loop-i.invariant.fits n r s) w)
-    (subst (λ xs. Refuses m L (combination_row_operations n (value_at m xs) b c.args.col) c.in_err-combine_row.field-0.0) (sym e) (c.in_err-combine_row.ensures.refused n (subst (Rises 0 n) e (r i)) s)))
+    fault_of_more m L (combination_row_operations n (numbers m old i) b c.args.col)
+    (rows_operations (numbers m old) b (length old) c.args.row n c.args.col) c.in_err-combine_row.field-0.0
+    (λ o w. row_refused L (numbers m old) b c.args.row n c.args.col i (length old) o c.loop-i-test.true c.if-i-row.true
+    (c.loop-i.invariant.fits n r s) w)
+    (subst (λ xs. Refuses m L (combination_row_operations n (value_at m xs) b c.args.col) c.in_err-combine_row.field-0.0) (sym e)
+    (c.in_err-combine_row.ensures.refused n (subst (Rises 0 n) e (r i)) s)))
 
 pub loop-i-preserved : goal.loop-i-preserved
 loop-i-preserved g c =
@@ -63,10 +69,12 @@ loop-i-preserved g c =
           rw w.rows-is record {
             later = λ k d. row_kept rows i k row (λ q. omega (arith, q, d)) ∙ inv.later k (omega (arith, d));
             combined = λ n r s. rows_more m i c.args.row n c.args.col bs old rows row (inv.combined n r s) l
-                (subst (λ xs. Keeps m (combined_row (value_at m xs) b c.args.col) n row.entries.items) (sym e) (w.in_ok-combine_row.ensures.combined n (subst (Rises 0 n) e (r i)) s));
+                (subst (λ xs. Keeps m (combined_row (value_at m xs) b c.args.col) n row.entries.items) (sym e)
+                (w.in_ok-combine_row.ensures.combined n (subst (Rises 0 n) e (r i)) s));
             no_zero = λ h. no_zeros_more m i rows row (inv.no_zero h) l (w.in_ok-combine_row.ensures.no_zero (subst (HasNoZero m) e (h i)));
             fits = λ n r s. fits_more L (numbers m old) b c.args.row n c.args.col i w.if-i-row.true (inv.fits n r s)
-                (ap (λ xs. first_wide L (combination_row_operations n (value_at m xs) b c.args.col)) e ∙ w.in_ok-combine_row.ensures.fits n (subst (Rises 0 n) e (r i)) s);
+                (ap (λ xs. first_wide L (combination_row_operations n (value_at m xs) b c.args.col)) e
+                ∙ w.in_ok-combine_row.ensures.fits n (subst (Rises 0 n) e (r i)) s);
           }
       | else-i-row w ↦ rw w.rows-is record {
         later = λ k d. inv.later k (omega (arith, d));

@@ -11,5 +11,6 @@ invariant-loop-i g l =
       later : (k : ℕ) → l.i ≤ k → row_at l.rows k ≡ row_at l.fn.rows k;
       combined : (n : ℕ) → EachRises n l.fn.rows → Rises 0 n l.above → CombinesRows m l.i l.row n l.col l.above l.fn.rows l.rows;
       no_zero : NoZeros m l.fn.rows → NoZeros m l.rows;
-      fits : (n : ℕ) → EachRises n l.fn.rows → Rises 0 n l.above → first_wide g.F.OrderedField.LIMIT (rows_operations (numbers m l.fn.rows) (value_at m l.above) l.i l.row n l.col) ≡ None;
+      fits : (n : ℕ) → EachRises n l.fn.rows → Rises 0 n l.above → first_wide g.F.OrderedField.LIMIT
+          (rows_operations (numbers m l.fn.rows) (value_at m l.above) l.i l.row n l.col) ≡ None;
     }

@@ -19,7 +19,11 @@ loop-i-init g c =
     let es = c.args.entries.now in
     record {
       no_zero = subst (HasNoZero m) (sym c.clear.ensures.items) tt;
-      dividing = λ n r. (0, subst (Dividing m L (value_at m es) c.args.col n 0 es) (sym c.clear.ensures.items) (dividing_none m L (value_at m es) c.args.col n c.requires.pivot es (left_all m n es r)));
+      dividing = λ n r. (
+        0,
+        subst (Dividing m L (value_at m es) c.args.col n 0 es) (sym c.clear.ensures.items)
+            (dividing_none m L (value_at m es) c.args.col n c.requires.pivot es (left_all m n es r)),
+      );
     }
 
 pub returns-in_err-push_answer-clause-refused : goal.returns-in_err-push_answer-clause-refused
@@ -33,14 +37,19 @@ returns-in_err-push_answer-clause-refused g c =
     let p = err_from_is_err_and c.from_residual.result c.from_residual.ensures.1 in
     let same = get_or_default es i c.index-entries-i-in-loop-i.result c.index-entries-i.result l in
     let q = m c.value_in-pivot.result in
-    let answers = subst (λ (x : Entry _). Answers m L (divided (m x.value) q (eqb e.col c.args.col)) (divided_operations (m x.value) q (eqb e.col c.args.col)) c.divided_by.result) same c.divided_by.ensures in
+    let answers = subst (λ (x : Entry _). Answers m L (divided (m x.value) q (eqb e.col c.args.col))
+    (divided_operations (m x.value) q (eqb e.col c.args.col)) c.divided_by.result) same c.divided_by.ensures in
     rw (p.1, p.2)
     (λ n r.
     let d = c.loop-i.invariant.dividing n r in
-    let h = subst (λ xs. Dividing m L (value_at m es) c.args.col n d.0 xs c.loop-i.divided.items) (drop_more es i c.index-entries-i.result l) d.1 in
-    fault_of_more m L (divided_operations (m e.value) q (eqb e.col c.args.col)) (division_row_operations n (value_at m es) c.args.col) c.in_err-push_answer.field-0.0
-    (λ o w. dividing_refused m L (value_at m es) c.args.col n c.requires.pivot d.0 e (drop (i + 1) es) c.loop-i.divided.items h q o c.value_in-pivot.ensures w)
-    (passed_fault m L (divided (m e.value) q (eqb e.col c.args.col)) (divided_operations (m e.value) q (eqb e.col c.args.col)) c.divided_by.result c.in_err-push_answer.field-0.0 answers c.in_err-push_answer.ensures.refused))
+    let h = subst (λ xs. Dividing m L (value_at m es) c.args.col n d.0 xs c.loop-i.divided.items)
+    (drop_more es i c.index-entries-i.result l) d.1 in
+    fault_of_more m L (divided_operations (m e.value) q (eqb e.col c.args.col)) (division_row_operations n (value_at m es) c.args.col)
+    c.in_err-push_answer.field-0.0
+    (λ o w. dividing_refused m L (value_at m es) c.args.col n c.requires.pivot d.0 e (drop (i + 1) es) c.loop-i.divided.items h q o
+    c.value_in-pivot.ensures w)
+    (passed_fault m L (divided (m e.value) q (eqb e.col c.args.col)) (divided_operations (m e.value) q (eqb e.col c.args.col))
+    c.divided_by.result c.in_err-push_answer.field-0.0 answers c.in_err-push_answer.ensures.refused))
 
 pub loop-i-preserved : goal.loop-i-preserved
 loop-i-preserved g c =
@@ -54,14 +63,21 @@ loop-i-preserved g c =
     let q = m c.value_in-pivot.result in
     let old = c.loop-i.divided.items in
     let new = c.push_answer.new.entries.items in
-    let answers = subst (λ (x : Entry _). Answers m L (divided (m x.value) q (eqb e.col c.args.col)) (divided_operations (m x.value) q (eqb e.col c.args.col)) c.divided_by.result) same c.divided_by.ensures in
-    let v = pushed_value m L (divided (m e.value) q (eqb e.col c.args.col)) (divided_operations (m e.value) q (eqb e.col c.args.col)) old new e.col c.divided_by.result answers c.in_ok-push_answer.ensures.pushed in
+    let answers = subst (λ (x : Entry _). Answers m L (divided (m x.value) q (eqb e.col c.args.col))
+    (divided_operations (m x.value) q (eqb e.col c.args.col)) c.divided_by.result) same c.divided_by.ensures in
+    let v = pushed_value m L (divided (m e.value) q (eqb e.col c.args.col)) (divided_operations (m e.value) q (eqb e.col c.args.col)) old
+    new e.col c.divided_by.result answers c.in_ok-push_answer.ensures.pushed in
     record {
       no_zero = subst (HasNoZero m) (sym v.3) (no_zero_pushed m old e.col v.0 c.loop-i.invariant.no_zero);
       dividing = λ n r.
           let d = c.loop-i.invariant.dividing n r in
-          let h = subst (λ xs. Dividing m L (value_at m es) c.args.col n d.0 xs old) (drop_more es i c.index-entries-i.result l) d.1 in
-          (e.col + 1, subst (Dividing m L (value_at m es) c.args.col n (e.col + 1) (drop (i + 1) es)) (sym v.3) (dividing_more m L (value_at m es) c.args.col n c.requires.pivot d.0 e (drop (i + 1) es) old h q v.0 c.value_in-pivot.ensures v.1 v.2));
+          let h = subst (λ xs. Dividing m L (value_at m es) c.args.col n d.0 xs old) (drop_more es i c.index-entries-i.result l) d.1 in (
+            e.col + 1,
+            subst (Dividing m L (value_at m es) c.args.col n (e.col + 1) (drop (i + 1) es)) (sym v.3)
+                (dividing_more m L (value_at m es) c.args.col n c.requires.pivot d.0 e (drop (i + 1) es) old h q v.0
+                c.value_in-pivot.ensures
+                v.1 v.2),
+          );
     }
 
 pub returns-clause-divided : goal.returns-clause-divided
@@ -70,7 +86,8 @@ returns-clause-divided g c =
     let es = c.args.entries.now in
     λ n r.
     let d = c.loop-i.invariant.dividing n r in
-    (dividing_end m g.F.OrderedField.LIMIT (value_at m es) c.args.col n c.requires.pivot d.0 (drop c.loop-i.i es) c.loop-i.divided.items d.1 (drop_all c.loop-i.i es c.loop-i-test.false)).0
+    (dividing_end m g.F.OrderedField.LIMIT (value_at m es) c.args.col n c.requires.pivot d.0 (drop c.loop-i.i es) c.loop-i.divided.items d.1
+    (drop_all c.loop-i.i es c.loop-i-test.false)).0
 
 pub returns-clause-fits : goal.returns-clause-fits
 returns-clause-fits g c =
@@ -78,4 +95,5 @@ returns-clause-fits g c =
     let es = c.args.entries.now in
     λ n r.
     let d = c.loop-i.invariant.dividing n r in
-    (dividing_end m g.F.OrderedField.LIMIT (value_at m es) c.args.col n c.requires.pivot d.0 (drop c.loop-i.i es) c.loop-i.divided.items d.1 (drop_all c.loop-i.i es c.loop-i-test.false)).1
+    (dividing_end m g.F.OrderedField.LIMIT (value_at m es) c.args.col n c.requires.pivot d.0 (drop c.loop-i.i es) c.loop-i.divided.items d.1
+    (drop_all c.loop-i.i es c.loop-i-test.false)).1

@@ -8,5 +8,6 @@ invariant-loop-i g l =
     let m = g.F.OrderedField.meaning in
     record {
       no_zero : HasNoZero m l.divided.items;
-      dividing : (n : ℕ) → Rises 0 n l.entries → (r : ℕ) × Dividing m g.F.OrderedField.LIMIT (value_at m l.entries) l.col n r (drop l.i l.entries) l.divided.items;
+      dividing : (n : ℕ) → Rises 0 n l.entries → (r : ℕ) × Dividing m g.F.OrderedField.LIMIT (value_at m l.entries) l.col n r
+          (drop l.i l.entries) l.divided.items;
     }

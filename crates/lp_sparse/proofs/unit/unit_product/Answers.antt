@@ -6,7 +6,8 @@ use Rattle.lp_sparse.proofs.unit.unit_product.Goals as goal
 pub returns-then-negated-clause-value : goal.returns-then-negated-clause-value
 returns-then-negated-clause-value g c =
     let m = g.F.OrderedField.meaning in
-    c.negate.ensures.value ∙ times_negated (m c.args.factor) (m c.args.value) (subst (IsUnitBy (m c.args.factor)) c.if-negated.true c.requires)
+    c.negate.ensures.value ∙ times_negated (m c.args.factor) (m c.args.value)
+    (subst (IsUnitBy (m c.args.factor)) c.if-negated.true c.requires)
 
 pub returns-clause-value : goal.returns-clause-value
 returns-clause-value g c =

@@ -12,9 +12,12 @@ loop-number-init c = record { list = c.in_ok-list.ensures.items; first = refl }
 pub compose_edge-requires-clause-few : goal.compose_edge-requires-clause-few
 compose_edge-requires-clause-few c =
     subst (λ (xs : List Action). length xs ≤ 256) (sym c.as_slice.ensures)
-    (edge_fits c.args.system.now.flow c.as_slice-edges.result.now c.loop-number.number c.index-edges-number.result c.as_slice-edges.ensures c.loop-number-test.true c.index-edges-number.is).few
+    (edge_fits c.args.system.now.flow c.as_slice-edges.result.now c.loop-number.number c.index-edges-number.result c.as_slice-edges.ensures
+    c.loop-number-test.true c.index-edges-number.is).few
 
 pub compose_edge-requires-clause-actions : goal.compose_edge-requires-clause-actions
 compose_edge-requires-clause-actions c =
-    subst₂ (λ n (xs : List Action). IsTrue (list_all (is_action n) xs)) (ap (λ (ns : List (List ℕ)). length ns) (sym c.as_slice-variables.ensures)) (sym c.as_slice.ensures)
-    (edge_fits c.args.system.now.flow c.as_slice-edges.result.now c.loop-number.number c.index-edges-number.result c.as_slice-edges.ensures c.loop-number-test.true c.index-edges-number.is).actions_fit
+    subst₂ (λ n (xs : List Action). IsTrue (list_all (is_action n) xs))
+    (ap (λ (ns : List (List ℕ)). length ns) (sym c.as_slice-variables.ensures)) (sym c.as_slice.ensures)
+    (edge_fits c.args.system.now.flow c.as_slice-edges.result.now c.loop-number.number c.index-edges-number.result c.as_slice-edges.ensures
+    c.loop-number-test.true c.index-edges-number.is).actions_fit

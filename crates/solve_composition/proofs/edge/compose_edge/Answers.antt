@@ -12,17 +12,20 @@ use Rattle.solve_composition.proofs.edge.compose_edge.Goals as goal
 
 pub walk-requires-clause-actions : goal.walk-requires-clause-actions
 walk-requires-clause-actions c =
-    let size = start_size (c.args.variables + c.count_frees-frees.result) c.args.variables c.deref_mut.result.now (c.deref_mut.ensures.value ∙ c.in_ok-state.ensures) in
+    let size = start_size (c.args.variables + c.count_frees-frees.result) c.args.variables c.deref_mut.result.now
+    (c.deref_mut.ensures.value ∙ c.in_ok-state.ensures) in
     subst (λ n. IsTrue (list_all (is_action n) c.args.actions.now)) (sym size) c.requires.actions
 
 pub walk-requires-clause-width : goal.walk-requires-clause-width
 walk-requires-clause-width c =
-    let size = start_size (c.args.variables + c.count_frees-frees.result) c.args.variables c.deref_mut.result.now (c.deref_mut.ensures.value ∙ c.in_ok-state.ensures) in
+    let size = start_size (c.args.variables + c.count_frees-frees.result) c.args.variables c.deref_mut.result.now
+    (c.deref_mut.ensures.value ∙ c.in_ok-state.ensures) in
     let count = c.count_frees-frees.ensures.count in
     omega (arith, size, count)
 
 pub walk-requires-clause-state : goal.walk-requires-clause-state
-walk-requires-clause-state c = state_is c.deref_mut.result.now (c.args.variables + c.count_frees-frees.result) (columns c.args.variables) (c.deref_mut.ensures.value ∙ c.in_ok-state.ensures)
+walk-requires-clause-state c = state_is c.deref_mut.result.now (c.args.variables + c.count_frees-frees.result) (columns c.args.variables)
+    (c.deref_mut.ensures.value ∙ c.in_ok-state.ensures)
 
 pub returns-in_err-guards : goal.returns-in_err-guards
 returns-in_err-guards c =
@@ -30,12 +33,15 @@ returns-in_err-guards c =
     let start = c.deref_mut.ensures.value ∙ c.in_ok-state.ensures in
     let w = c.args.variables + c.count_frees-frees.result in
     rw (p.1, p.2)
-    (edge_refused c.args.variables w (length c.deref_mut.result.now) c.args.template.now c.args.actions.now (width_is c.args.variables c.count_frees-frees.result c.args.actions.now c.count_frees-frees.ensures.count)
-    (start_size w c.args.variables c.deref_mut.result.now start) c.in_err-guards.field-0.0 (c.in_err-guards.ensures (columns c.args.variables) start c.args.template.now))
+    (edge_refused c.args.variables w (length c.deref_mut.result.now) c.args.template.now c.args.actions.now
+    (width_is c.args.variables c.count_frees-frees.result c.args.actions.now c.count_frees-frees.ensures.count)
+    (start_size w c.args.variables c.deref_mut.result.now start) c.in_err-guards.field-0.0
+    (c.in_err-guards.ensures (columns c.args.variables) start c.args.template.now))
 
 pub compose_rows-requires-clause-template : goal.compose_rows-requires-clause-template
 compose_rows-requires-clause-template c =
-    let size = start_size (c.args.variables + c.count_frees-frees.result) c.args.variables c.deref_mut.result.now (c.deref_mut.ensures.value ∙ c.in_ok-state.ensures) in
+    let size = start_size (c.args.variables + c.count_frees-frees.result) c.args.variables c.deref_mut.result.now
+    (c.deref_mut.ensures.value ∙ c.in_ok-state.ensures) in
     let here = c.deref.ensures.len in
     let before = c.deref_mut.ensures.len in
     let same : c.args.variables ≡ length c.deref.result.now = omega (arith, size, here, before) in
@@ -46,8 +52,10 @@ compose_rows-requires-clause-state c =
     let start = c.deref_mut.ensures.value ∙ c.in_ok-state.ensures in
     let kept = c.walk.auto.state in
     let before = c.deref_mut.ensures.len in
-    let end = c.deref.ensures.value ∙ take_at c.walk.new.state (drop (length c.walk.new.state) c.in_ok-state.state.items) c.in_ok-state.state.len (omega (arith, kept, before)) in
-    state_is c.deref.result.now (c.args.variables + c.count_frees-frees.result) (ends_from (length c.deref_mut.result.now) (columns c.args.variables) c.args.actions.now)
+    let end = c.deref.ensures.value ∙ take_at c.walk.new.state (drop (length c.walk.new.state) c.in_ok-state.state.items)
+    c.in_ok-state.state.len (omega (arith, kept, before)) in
+    state_is c.deref.result.now (c.args.variables + c.count_frees-frees.result)
+    (ends_from (length c.deref_mut.result.now) (columns c.args.variables) c.args.actions.now)
     (end ∙ (c.in_ok-guards.ensures (columns c.args.variables) start).1)
 
 pub returns-in_err-rows : goal.returns-in_err-rows
@@ -56,27 +64,34 @@ returns-in_err-rows c =
     let start = c.deref_mut.ensures.value ∙ c.in_ok-state.ensures in
     let kept = c.walk.auto.state in
     let before = c.deref_mut.ensures.len in
-    let end = c.deref.ensures.value ∙ take_at c.walk.new.state (drop (length c.walk.new.state) c.in_ok-state.state.items) c.in_ok-state.state.len (omega (arith, kept, before)) in
+    let end = c.deref.ensures.value ∙ take_at c.walk.new.state (drop (length c.walk.new.state) c.in_ok-state.state.items)
+    c.in_ok-state.state.len (omega (arith, kept, before)) in
     let w = c.args.variables + c.count_frees-frees.result in
     let g = c.in_ok-guards.ensures (columns c.args.variables) start in
     rw (p.1, p.2)
-    (rows_refused c.args.variables w (length c.deref_mut.result.now) c.args.template.now c.args.actions.now (width_is c.args.variables c.count_frees-frees.result c.args.actions.now c.count_frees-frees.ensures.count)
-    (start_size w c.args.variables c.deref_mut.result.now start) (g.2 c.args.template.now) c.in_err-rows.field-0.0 (c.in_err-rows.ensures (ends_from (length c.deref_mut.result.now) (columns c.args.variables) c.args.actions.now) (end ∙ g.1)))
+    (rows_refused c.args.variables w (length c.deref_mut.result.now) c.args.template.now c.args.actions.now
+    (width_is c.args.variables c.count_frees-frees.result c.args.actions.now c.count_frees-frees.ensures.count)
+    (start_size w c.args.variables c.deref_mut.result.now start) (g.2 c.args.template.now) c.in_err-rows.field-0.0
+    (c.in_err-rows.ensures (ends_from (length c.deref_mut.result.now) (columns c.args.variables) c.args.actions.now) (end ∙ g.1)))
 
 pub invariant_of-result : goal.invariant_of-result
 invariant_of-result c =
     let start = c.deref_mut.ensures.value ∙ c.in_ok-state.ensures in
     let g = c.in_ok-guards.ensures (columns c.args.variables) start in
-    guards_within c.args.variables (length c.deref_mut.result.now) (c.args.variables + c.count_frees-frees.result) c.args.actions.now c.in_ok-guards.guards g.0 c.requires.few
+    guards_within c.args.variables (length c.deref_mut.result.now) (c.args.variables + c.count_frees-frees.result) c.args.actions.now
+    c.in_ok-guards.guards g.0 c.requires.few
 
 pub returns : goal.returns
 returns c =
     let start = c.deref_mut.ensures.value ∙ c.in_ok-state.ensures in
     let kept = c.walk.auto.state in
     let before = c.deref_mut.ensures.len in
-    let end = c.deref.ensures.value ∙ take_at c.walk.new.state (drop (length c.walk.new.state) c.in_ok-state.state.items) c.in_ok-state.state.len (omega (arith, kept, before)) in
+    let end = c.deref.ensures.value ∙ take_at c.walk.new.state (drop (length c.walk.new.state) c.in_ok-state.state.items)
+    c.in_ok-state.state.len (omega (arith, kept, before)) in
     let w = c.args.variables + c.count_frees-frees.result in
     let g = c.in_ok-guards.ensures (columns c.args.variables) start in
     let r = c.in_ok-rows.ensures (ends_from (length c.deref_mut.result.now) (columns c.args.variables) c.args.actions.now) (end ∙ g.1) in
-    edge_composed c.args.variables w (length c.deref_mut.result.now) c.args.template.now c.args.actions.now (width_is c.args.variables c.count_frees-frees.result c.args.actions.now c.count_frees-frees.ensures.count)
-    (start_size w c.args.variables c.deref_mut.result.now start) (g.2 c.args.template.now) c.count_frees-frees.result c.in_ok-guards.guards c.in_ok-rows.rows c.count_frees-frees.ensures.count g.0 r.0 r.1
+    edge_composed c.args.variables w (length c.deref_mut.result.now) c.args.template.now c.args.actions.now
+    (width_is c.args.variables c.count_frees-frees.result c.args.actions.now c.count_frees-frees.ensures.count)
+    (start_size w c.args.variables c.deref_mut.result.now start) (g.2 c.args.template.now) c.count_frees-frees.result c.in_ok-guards.guards
+    c.in_ok-rows.rows c.count_frees-frees.ensures.count g.0 r.0 r.1

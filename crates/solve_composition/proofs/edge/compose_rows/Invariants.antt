@@ -7,6 +7,7 @@ use Rattle.solve_composition.proofs.edge.compose_rows.Given as goal
 
 abbrev pub invariant-loop-row : goal.invariant-loop-row
 invariant-loop-row l = record {
-  list : (forms : List Form) → l.state ≡ map (dense l.width) forms → l.rows.items ≡ map (λ row. dense l.width (combined row forms)) (take l.row-index l.template);
+  list : (forms : List Form) → l.state ≡ map (dense l.width) forms → l.rows.items
+      ≡ map (λ row. dense l.width (combined row forms)) (take l.row-index l.template);
   passed : (forms : List Form) → l.state ≡ map (dense l.width) forms → IsPassed (row_composition l.width forms) l.template l.row-index;
 }

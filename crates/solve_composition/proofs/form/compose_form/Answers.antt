@@ -15,7 +15,9 @@ pub returns-in_err-row : goal.returns-in_err-row
 returns-in_err-row c = λ forms e.
     let p = err_from_is_err_and c.from_residual.result c.from_residual.ensures.1 in
     rw (p.1, p.2)
-    (form_refused c.args.width c.args.form.now forms c.in_err-row.field-0.0 (subst (λ (row : List ℤ). IsFaultOf (row_composition c.args.width forms row) c.in_err-row.field-0.0) c.as_slice.ensures.list (c.in_err-row.ensures forms e)))
+    (form_refused c.args.width c.args.form.now forms c.in_err-row.field-0.0
+    (subst (λ (row : List ℤ). IsFaultOf (row_composition c.args.width forms row) c.in_err-row.field-0.0) c.as_slice.ensures.list
+    (c.in_err-row.ensures forms e)))
 
 pub returns-in_err-constant : goal.returns-in_err-constant
 returns-in_err-constant c = λ forms e.
@@ -24,7 +26,8 @@ returns-in_err-constant c = λ forms e.
     rw (p.1, p.2)
     (last_refused c.args.width c.args.form.now forms c.in_ok-row.row c.fraction.result
     (row.0 ∙ ap (λ (cs : List ℤ). dense c.args.width (combined cs forms)) c.as_slice.ensures.list)
-    (c.fraction.ensures ∙ ap whole (number_same c.args.form.now.constant (constant_at (length c.args.state.now) c.args.form.now c.requires.form)))
+    (c.fraction.ensures ∙ ap whole (number_same c.args.form.now.constant
+    (constant_at (length c.args.state.now) c.args.form.now c.requires.form)))
     (ap (λ (cs : List ℤ). first_wide long_limit (row_composition c.args.width forms cs)) (sym c.as_slice.ensures.list) ∙ row.1)
     c.in_err-constant.field-0.0 c.in_err-constant.ensures)
 
@@ -33,6 +36,7 @@ returns c = λ forms e.
     let row = c.in_ok-row.ensures forms e in
     form_composed c.args.width c.args.form.now forms c.in_ok-row.row c.fraction.result
     (row.0 ∙ ap (λ (cs : List ℤ). dense c.args.width (combined cs forms)) c.as_slice.ensures.list)
-    (c.fraction.ensures ∙ ap whole (number_same c.args.form.now.constant (constant_at (length c.args.state.now) c.args.form.now c.requires.form)))
+    (c.fraction.ensures ∙ ap whole (number_same c.args.form.now.constant
+    (constant_at (length c.args.state.now) c.args.form.now c.requires.form)))
     (ap (λ (cs : List ℤ). first_wide long_limit (row_composition c.args.width forms cs)) (sym c.as_slice.ensures.list) ∙ row.1)
     c.in_ok-row.row.coeffs c.in_ok-constant.constant refl c.in_ok-constant.ensures

@@ -10,7 +10,11 @@ use Rattle.solve_composition.proofs.sums.Columns.{constant_read}
 use Rattle.solve_composition.proofs.sums.constant_sum.Goals as goal
 
 pub loop-i-init : goal.loop-i-init
-loop-i-init c = record { summed = summed_none c.args.coeffs.now (dense_constants c.args.state.now) c.zero-sum.result c.zero-sum.ensures.value; fits = c.zero-sum.ensures.fits }
+loop-i-init c = record {
+  summed = summed_none c.args.coeffs.now (dense_constants c.args.state.now) c.zero-sum.result
+      c.zero-sum.ensures.value;
+  fits = c.zero-sum.ensures.fits;
+}
 
 pub returns-in_err-sum : goal.returns-in_err-sum
 returns-in_err-sum c =
@@ -18,9 +22,11 @@ returns-in_err-sum c =
     let n = number_at c.args.coeffs.now c.loop-i.i c.requires.numbers c.loop-i-test.true in
     let size = length-map c.args.state.now (λ (f : Affine). f.constant) in
     rw (p.1, p.2)
-    (summed_wide c.args.coeffs.now (dense_constants c.args.state.now) c.loop-i.i c.loop-i.sum c.loop-i.invariant.summed c.loop-i-test.true (omega (arith, c.requires.size, size)) (to_z w64 (of_z w64 (get_or c.args.coeffs.now c.loop-i.i (pos 0))))
+    (summed_wide c.args.coeffs.now (dense_constants c.args.state.now) c.loop-i.i c.loop-i.sum c.loop-i.invariant.summed c.loop-i-test.true
+    (omega (arith, c.requires.size, size)) (to_z w64 (of_z w64 (get_or c.args.coeffs.now c.loop-i.i (pos 0))))
     (get_or c.args.state.now c.loop-i.i c.index-state-i.result).constant (number_same (get_or c.args.coeffs.now c.loop-i.i (pos 0)) n)
-    (constant_read c.args.state.now c.loop-i.i c.index-state-i.result (get_or c.args.state.now c.loop-i.i c.index-state-i.result).constant (omega (arith, c.requires.size)) refl)
+    (constant_read c.args.state.now c.loop-i.i c.index-state-i.result (get_or c.args.state.now c.loop-i.i c.index-state-i.result).constant
+    (omega (arith, c.requires.size)) refl)
     (operation_of (λ q. q) c.in_err-sum.field-0.0) c.in_err-sum.ensures)
 
 pub loop-i-preserved : goal.loop-i-preserved
@@ -28,14 +34,17 @@ loop-i-preserved c =
     let n = number_at c.args.coeffs.now c.loop-i.i c.requires.numbers c.loop-i-test.true in
     let size = length-map c.args.state.now (λ (f : Affine). f.constant) in
     record {
-      summed = summed_more c.args.coeffs.now (dense_constants c.args.state.now) c.loop-i.i c.loop-i.sum c.loop-i.invariant.summed c.loop-i-test.true (omega (arith, c.requires.size, size)) (to_z w64 (of_z w64 (get_or c.args.coeffs.now c.loop-i.i (pos 0))))
+      summed = summed_more c.args.coeffs.now (dense_constants c.args.state.now) c.loop-i.i c.loop-i.sum c.loop-i.invariant.summed
+          c.loop-i-test.true (omega (arith, c.requires.size, size)) (to_z w64 (of_z w64 (get_or c.args.coeffs.now c.loop-i.i (pos 0))))
           (get_or c.args.state.now c.loop-i.i c.index-state-i.result).constant (number_same (get_or c.args.coeffs.now c.loop-i.i (pos 0)) n)
-          (constant_read c.args.state.now c.loop-i.i c.index-state-i.result (get_or c.args.state.now c.loop-i.i c.index-state-i.result).constant (omega (arith, c.requires.size)) refl)
+          (constant_read c.args.state.now c.loop-i.i c.index-state-i.result
+          (get_or c.args.state.now c.loop-i.i c.index-state-i.result).constant (omega (arith, c.requires.size)) refl)
           c.in_ok-sum.sum c.in_ok-sum.ensures.0 c.in_ok-sum.ensures.1;
       fits = c.in_ok-sum.ensures.2;
     }
 
 pub returns : goal.returns
 returns c =
-    let s = summed_all c.args.coeffs.now (dense_constants c.args.state.now) c.loop-i.i c.loop-i.sum (omega arith) c.loop-i.invariant.summed in
+    let s = summed_all c.args.coeffs.now (dense_constants c.args.state.now) c.loop-i.i c.loop-i.sum (omega arith)
+    c.loop-i.invariant.summed in
     (s.0, s.1, c.loop-i.invariant.fits)

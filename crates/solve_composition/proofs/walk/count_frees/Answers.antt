@@ -21,4 +21,5 @@ loop-action-preserved c =
     ]
 
 pub returns-clause-count : goal.returns-clause-count
-returns-clause-count c = let end = frees_none c.args.actions.now c.loop-action.action-index c.loop-action-test.false in let all = c.loop-action.invariant.count in omega (arith, end, all)
+returns-clause-count c = let end = frees_none c.args.actions.now c.loop-action.action-index c.loop-action-test.false in
+    let all = c.loop-action.invariant.count in omega (arith, end, all)

@@ -8,7 +8,9 @@ use Rattle.solve_composition.proofs.walk.start_state.Goals as goal
 
 pub loop-variable-preserved : goal.loop-variable-preserved
 loop-variable-preserved c =
-    range_push (λ k. dense c.args.width (column k)) c.loop-variable.variable c.loop-variable.state.items c.in_ok-compose_column.field-0 c.push.new.self.items c.in_ok-push.ensures.items c.loop-variable.invariant c.in_ok-compose_column.ensures
+    range_push (λ k. dense c.args.width (column k)) c.loop-variable.variable c.loop-variable.state.items c.in_ok-compose_column.field-0
+    c.push.new.self.items c.in_ok-push.ensures.items c.loop-variable.invariant c.in_ok-compose_column.ensures
 
 pub returns : goal.returns
-returns c = c.loop-variable.invariant ∙ ap (λ n. map (λ k. dense c.args.width (column k)) (range_with_len 0 n)) (let e : c.loop-variable.variable ≡ c.args.variables = omega arith in e) ∙ start_is c.args.width c.args.variables
+returns c = c.loop-variable.invariant ∙ ap (λ n. map (λ k. dense c.args.width (column k)) (range_with_len 0 n))
+    (let e : c.loop-variable.variable ≡ c.args.variables = omega arith in e) ∙ start_is c.args.width c.args.variables

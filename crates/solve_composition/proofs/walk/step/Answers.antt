@@ -17,7 +17,8 @@ returns-in_ok-state-in-Assign c = λ forms e.
     let f = c.in_ok-state-in-Assign.ensures forms e in
     rw c.in-Assign.is (
       refl,
-      ap₂ (λ s x. slice_set s c.in-Assign.var x) e f.0 ∙ sym (map-set (dense c.args.width) forms c.in-Assign.var (composed c.in-Assign.form forms)),
+      ap₂ (λ s x. slice_set s c.in-Assign.var x) e f.0 ∙ sym (map-set (dense c.args.width) forms c.in-Assign.var
+          (composed c.in-Assign.form forms)),
       sym (append-nil c.args.guards.now.items),
       f.1,
     )
@@ -26,7 +27,8 @@ pub returns-in_ok-state-in-Havoc : goal.returns-in_ok-state-in-Havoc
 returns-in_ok-state-in-Havoc c = λ forms e.
     rw c.in-Havoc.is (
       omega arith,
-      ap₂ (λ s x. slice_set s c.in-Havoc.var x) e c.in_ok-state-in-Havoc.ensures ∙ sym (map-set (dense c.args.width) forms c.in-Havoc.var (column c.args.next)),
+      ap₂ (λ s x. slice_set s c.in-Havoc.var x) e c.in_ok-state-in-Havoc.ensures
+          ∙ sym (map-set (dense c.args.width) forms c.in-Havoc.var (column c.args.next)),
       sym (append-nil c.args.guards.now.items),
       refl,
     )

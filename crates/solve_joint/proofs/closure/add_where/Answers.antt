@@ -16,4 +16,5 @@ loop-i-preserved c =
     let k : i < length c.loop-i.rows = omega (arith, s, l) in
     let d = c.index-rows-i.result in
     write_more (stepped place middle rows) rows c.loop-i.rows i c.add_through.new.self e c.loop-i.invariant k
-    (c.add_through.ensures ∙ ap (joined place middle) (write_at (stepped place middle rows) rows c.loop-i.rows i d c.loop-i.invariant) ∙ sym (get_or-map (joined place middle) rows i d c.add_through.new.self l))
+    (c.add_through.ensures ∙ ap (joined place middle) (write_at (stepped place middle rows) rows c.loop-i.rows i d c.loop-i.invariant)
+    ∙ sym (get_or-map (joined place middle) rows i d c.add_through.new.self l))

@@ -24,7 +24,8 @@ loop-done-preserved c =
     let d : Node = record { unknown = 0; point = 0; source = 0 } in
     let test = c.loop-done-test.true in
     let l : k < length nodes = omega (arith, test) in
-    closed_more c.args.points nodes c.loop-done.done (get_or nodes k d) c.loop-done.rows.items c.go_through.new.rows.items test c.loop-done.invariant (sym (get_or_default nodes k (get_or nodes k d) d l)) c.in_ok-go_through.ensures
+    closed_more c.args.points nodes c.loop-done.done (get_or nodes k d) c.loop-done.rows.items c.go_through.new.rows.items test
+    c.loop-done.invariant (sym (get_or_default nodes k (get_or nodes k d) d l)) c.in_ok-go_through.ensures
 
 pub returns : goal.returns
 returns c = closed_all c.args.points c.args.nodes.now c.loop-done.done c.loop-done.rows.items c.loop-done-test.false c.loop-done.invariant

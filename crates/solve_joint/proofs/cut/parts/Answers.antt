@@ -13,7 +13,8 @@ pub reaching-requires : goal.reaching-requires
 reaching-requires c = λ k d l.
     let system = c.args.system.now in
     let points = ap length c.as_slice-points.ensures in
-    let within = source_at system c.args.pick.now c.args.list.now c.as_slice.result.now (c.as_slice.ensures.value ∙ c.in_ok-nodes.ensures) c.requires.picked k d l in
+    let within = source_at system c.args.pick.now c.args.list.now c.as_slice.result.now (c.as_slice.ensures.value ∙ c.in_ok-nodes.ensures)
+    c.requires.picked k d l in
     omega (arith, points, within)
 
 pub new-requires : goal.new-requires
@@ -34,9 +35,12 @@ returns c =
     let pick = c.args.pick.now in
     let list = c.args.list.now in
     let nodes = c.in_ok-nodes.nodes.items in
-    let rows = c.as_slice-2.ensures.value ∙ c.in_ok-rows.ensures ∙ ap₂ closed (ap length c.as_slice-points.ensures) c.as_slice.ensures.value in
+    let rows = c.as_slice-2.ensures.value ∙ c.in_ok-rows.ensures ∙ ap₂ closed (ap length c.as_slice-points.ensures)
+    c.as_slice.ensures.value in
     let e : c.new.result ≡ part_numbers system pick list =
-    c.new.ensures ∙ c.in_ok-lists.ensures ∙ ap (λ r. cut_from r (length nodes) nodes) rows ∙ ap (λ xs. cut_from (closed (length system.flow.points) xs) (length xs) xs) c.in_ok-nodes.ensures ∙ parts_shown system pick list c.requires.picked in
+    c.new.ensures ∙ c.in_ok-lists.ensures ∙ ap (λ r. cut_from r (length nodes) nodes) rows
+    ∙ ap (λ xs. cut_from (closed (length system.flow.points) xs) (length xs) xs) c.in_ok-nodes.ensures
+    ∙ parts_shown system pick list c.requires.picked in
     record {
       parts = e;
       rise = subst EachRises (sym e) (parts_rise system pick list c.requires.picked c.requires.rises);

@@ -8,4 +8,5 @@ unfolding ones
 loop-unknown-init c = c.in_ok-goal.ensures.items
 
 pub loop-unknown-preserved : goal.loop-unknown-preserved
-loop-unknown-preserved c = c.in_ok-push.ensures.items ∙ ap₂ (λ xs x. xs ++ x ∷ []) c.loop-unknown.invariant c.one.ensures.value ∙ sym (ones_more c.loop-unknown._unknown)
+loop-unknown-preserved c = c.in_ok-push.ensures.items ∙ ap₂ (λ xs x. xs ++ x ∷ []) c.loop-unknown.invariant c.one.ensures.value
+    ∙ sym (ones_more c.loop-unknown._unknown)

@@ -16,7 +16,8 @@ returns-clause-problem c =
     let more = split_columns c.args.system.now c.args.pick.now c.args.list.now in
     let cols = c.count_columns-cols.result in
     let left : cols - n ≡ more = omega (arith, c.count_columns-cols.ensures.count) in
-    made_problem c.args.system.now c.args.pick.now c.args.base.now c.args.list.now cols _ _ c.in_ok-goal.goal.items c.requires.rises c.requires.picked c.count_columns-cols.ensures.count c.in_ok-rows.ensures.0
+    made_problem c.args.system.now c.args.pick.now c.args.base.now c.args.list.now cols _ _ c.in_ok-goal.goal.items c.requires.rises
+    c.requires.picked c.count_columns-cols.ensures.count c.in_ok-rows.ensures.0
     (c.in_ok-goal.ensures ∙ ap (λ m. ones n ++ zeros m) left)
 
 pub returns-clause-shape : goal.returns-clause-shape

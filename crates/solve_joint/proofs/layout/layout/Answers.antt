@@ -18,7 +18,12 @@ word_width-width-requires-clause-edge c =
     edge_within c.args.system.now c.args.pick.now u c.picked_edge.result p c.picked_edge.ensures
 
 pub overflow_sub-width : goal.overflow_sub-width
-overflow_sub-width c = omega (arith, names_within c.args.system.now c.picked_edge.result, c.word_width-width.ensures.width, ap (λ xs. length xs) c.as_slice-names.ensures)
+overflow_sub-width c = omega (
+  arith,
+  names_within c.args.system.now c.picked_edge.result,
+  c.word_width-width.ensures.width,
+  ap (λ xs. length xs) c.as_slice-names.ensures,
+)
 
 pub loop-place-preserved : goal.loop-place-preserved
 loop-place-preserved c =
@@ -33,4 +38,5 @@ loop-place-preserved c =
     let next = ap (λ w. c.loop-place.offset + (w + w)) wide in
     rw c.in_ok-push.ensures.items
     (laid_more system pick list c.loop-place.rises.items c.loop-place.offset i _ _ c.loop-place.invariant c.loop-place-test.true
-    (rise_is system pick (length list) i c.loop-place.offset u c.as_slice-names.result.now c.word_width-width.result c.in_ok-starts.starts c.in_ok-frees.frees names wide c.in_ok-starts.ensures c.in_ok-frees.ensures) next)
+    (rise_is system pick (length list) i c.loop-place.offset u c.as_slice-names.result.now c.word_width-width.result c.in_ok-starts.starts
+    c.in_ok-frees.frees names wide c.in_ok-starts.ensures c.in_ok-frees.ensures) next)

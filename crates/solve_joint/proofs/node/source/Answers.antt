@@ -15,7 +15,9 @@ returns-in-Some c =
     let x = c.index-edges-edge.result in
     let edges = c.args.system.now.flow.edges in
     let empty : Edge = record { from = 0; to = 0; actions = [] } in
-    let s = same_edge (get_or c.args.pick.now c.args.unknown None) c.in-Some.edge c.requires.picked.edge c.in-Some.ensures c.requires.picked.picks in
+    let s = same_edge (get_or c.args.pick.now c.args.unknown None) c.in-Some.edge c.requires.picked.edge c.in-Some.ensures
+    c.requires.picked.picks in
     let l : c.in-Some.edge < length edges = subst (λ j. j < length edges) (sym s.1) c.requires.picked.is_edge in
     ap (λ (e : Edge). e.from)
-    (ap (λ es. get_or es c.in-Some.edge x) c.as_slice-edges.ensures ∙ get_or_default edges c.in-Some.edge x empty l ∙ ap (λ j. get_or edges j empty) (sym s.0))
+    (ap (λ es. get_or es c.in-Some.edge x) c.as_slice-edges.ensures ∙ get_or_default edges c.in-Some.edge x empty l
+    ∙ ap (λ j. get_or edges j empty) (sym s.0))

@@ -11,7 +11,8 @@ use Rattle.solve_joint.proofs.point.high_traces.Goals as goal
 pub trace-requires : goal.trace-requires
 trace-requires c =
     let x = c.rise-item.result in
-    subst (IsWithin (length c.args.point.now)) (sym c.rise-item.is) (within_at (length c.args.point.now) c.args.rises.now c.loop-rise.rise-index x c.requires c.loop-rise-test.true)
+    subst (IsWithin (length c.args.point.now)) (sym c.rise-item.is) (within_at (length c.args.point.now) c.args.rises.now
+    c.loop-rise.rise-index x c.requires c.loop-rise-test.true)
 
 pub returns-in_err-trace : goal.returns-in_err-trace
 returns-in_err-trace c =
@@ -21,7 +22,9 @@ returns-in_err-trace c =
     let x = c.rise-item.result in
     rw (q.1, q.2)
     (fault_of (direction_operations point x) (trace_operations point rises) c.in_err-trace.field-0.0
-    (λ o. read_wide (map (trace_at point)) (trace_operations point) rises c.loop-rise.rise-index c.loop-rise.list.items x c.loop-rise.invariant c.loop-rise-test.true c.rise-item.is (trace_at point x ∷ []) (direction_operations point x) (adds_trace point x (trace_at point x) refl) o)
+    (λ o. read_wide (map (trace_at point)) (trace_operations point) rises c.loop-rise.rise-index c.loop-rise.list.items x
+    c.loop-rise.invariant c.loop-rise-test.true c.rise-item.is (trace_at point x ∷ []) (direction_operations point x)
+    (adds_trace point x (trace_at point x) refl) o)
     c.in_err-trace.ensures)
 
 pub returns-in_err-append : goal.returns-in_err-append
@@ -35,11 +38,13 @@ loop-rise-preserved c =
     let rises = c.args.rises.now in
     let x = c.rise-item.result in
     rw c.in_ok-append.ensures
-    (read_more (map (trace_at point)) (trace_operations point) rises c.loop-rise.rise-index c.loop-rise.list.items x c.loop-rise.invariant c.loop-rise-test.true c.rise-item.is (c.in_ok-trace.trace ∷ []) (direction_operations point x)
+    (read_more (map (trace_at point)) (trace_operations point) rises c.loop-rise.rise-index c.loop-rise.list.items x c.loop-rise.invariant
+    c.loop-rise-test.true c.rise-item.is (c.in_ok-trace.trace ∷ []) (direction_operations point x)
     (adds_trace point x c.in_ok-trace.trace c.in_ok-trace.ensures.0) c.in_ok-trace.ensures.1)
 
 pub returns : goal.returns
 returns c =
     let point = c.args.point.now in
-    let a = read_all (map (trace_at point)) (trace_operations point) c.args.rises.now c.loop-rise.rise-index c.loop-rise.list.items refl refl (omega arith) c.loop-rise.invariant in
+    let a = read_all (map (trace_at point)) (trace_operations point) c.args.rises.now c.loop-rise.rise-index c.loop-rise.list.items refl
+    refl (omega arith) c.loop-rise.invariant in
     (c.new.ensures ∙ a.0, a.1)

@@ -22,7 +22,8 @@ push_guard-requires c =
     let forms = guard_forms (length system.flow.names) (edge_at system edge).actions in
     let count = guard_count system edge c.guards-g-end.result (c.guards-g-end.ensures ef p) in
     let empty : Affine = record { coeffs = []; constant = zero_ℚ } in
-    let f = guard_form system edge c.loop-g.g empty c.guard-guard.result.now (omega (arith, count, c.loop-g-test.true)) (c.guard-guard.ensures ef p) in
+    let f = guard_form system edge c.loop-g.g empty c.guard-guard.result.now (omega (arith, count, c.loop-g-test.true))
+    (c.guard-guard.ensures ef p) in
     let size = f.1 in
     omega (arith, ap (λ xs. length xs) c.as_slice.ensures, size, c.requires.fits)
 

@@ -19,7 +19,8 @@ returns-in_err-side-clause-refused c =
     let ef = edge_forms (length system.flow.names) system.template (edge_at system edge).actions in
     let f = end_form_at system edge c.args.row c.row-end.result.now c.requires.row (c.row-end.ensures ef p) in
     let bound = c.finite.ensures ∙ ap num c.at.ensures in
-    rw (q.1, q.2) (subst₂ (λ x y. IsSideFault (side_operation x y ∷ []) c.in_err-side.field-0.0) f.0.same_constant bound c.in_err-side.ensures)
+    rw (q.1, q.2) (subst₂ (λ x y. IsSideFault (side_operation x y ∷ []) c.in_err-side.field-0.0) f.0.same_constant bound
+    c.in_err-side.ensures)
 
 pub push_own_row-requires : goal.push_own_row-requires
 push_own_row-requires c =
@@ -41,7 +42,12 @@ returns-clause-stands c =
     let f = end_form_at system edge c.args.row c.row-end.result.now c.requires.row (c.row-end.ensures ef p) in
     let bound = c.finite.ensures ∙ ap num c.at.ensures in
     let side = c.in_ok-side.ensures.0 ∙ ap₂ (λ x y. x -ℚ y) f.0.same_constant bound in
-    let same : SameForm c.as_slice.result.now form.constant form = record { entries = λ k. ap (λ xs. get_or xs k Rattle.base_numbers.specs.Rational.zero_ℚ) c.as_slice.ensures ∙ f.0.entries k; same_constant = refl } in
+    let same : SameForm c.as_slice.result.now form.constant form = record {
+      entries =
+          λ k. ap (λ xs. get_or xs k Rattle.base_numbers.specs.Rational.zero_ℚ) c.as_slice.ensures ∙ f.0.entries k;
+      same_constant =
+          refl;
+    } in
     λ ls h. rw (sym side) (c.in_ok-push_own_row.ensures form ls same h)
 
 pub returns-clause-side : goal.returns-clause-side

@@ -11,7 +11,8 @@ unfolding width
 returns-clause-width c =
     let system = c.args.system.now in
     let p = path_at system c.args.paths.now c.args.edge c.requires.composed c.requires.edge in
-    ap₂ (λ x y. x + y) (ap (λ xs. length xs) c.as_slice.ensures) (c.frees.ensures (edge_forms (length system.flow.names) system.template (edge_at system c.args.edge).actions) p)
+    ap₂ (λ x y. x + y) (ap (λ xs. length xs) c.as_slice.ensures) (c.frees.ensures
+    (edge_forms (length system.flow.names) system.template (edge_at system c.args.edge).actions) p)
 
 pub returns-clause-few : goal.returns-clause-few
 returns-clause-few c = omega (arith, returns-clause-width c, few_columns c.args.system.now c.args.edge c.requires.edge)

@@ -12,5 +12,7 @@ pub loop-coefficient-preserved : goal.loop-coefficient-preserved
 loop-coefficient-preserved c =
     let i = c.loop-coefficient.coefficient-index in
     let coeffs = c.args.coeffs.now in
-    c.in_ok-push-2.ensures.items ∙ ap (λ xs. xs ++ c.negate.result ∷ []) (c.in_ok-push.ensures.items ∙ ap (λ xs. xs ++ c.coefficient-item.result ∷ []) c.loop-coefficient.invariant)
-    ∙ split_more coeffs i c.coefficient-item.result c.negate.result c.args.row.now.items c.loop-coefficient-test.true c.coefficient-item.is c.negate.ensures.value
+    c.in_ok-push-2.ensures.items ∙ ap (λ xs. xs ++ c.negate.result ∷ [])
+    (c.in_ok-push.ensures.items ∙ ap (λ xs. xs ++ c.coefficient-item.result ∷ []) c.loop-coefficient.invariant)
+    ∙ split_more coeffs i c.coefficient-item.result c.negate.result c.args.row.now.items c.loop-coefficient-test.true c.coefficient-item.is
+    c.negate.ensures.value

@@ -18,7 +18,8 @@ layout-requires-clause-few c = c.in_ok-problem.ensures.columns
 
 pub read-requires-clause-bounded : goal.read-requires-clause-bounded
 read-requires-clause-bounded c =
-    subst (AreBounded (length c.args.base.now)) (sym c.in-Ok.ensures) (layout_bounded c.args.system.now c.args.pick.now (length c.args.base.now) c.args.list.now c.requires.base c.requires.picked)
+    subst (AreBounded (length c.args.base.now)) (sym c.in-Ok.ensures) (layout_bounded c.args.system.now c.args.pick.now
+    (length c.args.base.now) c.args.list.now c.requires.base c.requires.picked)
 
 pub read-requires-clause-readable : goal.read-requires-clause-readable
 read-requires-clause-readable c =
@@ -27,9 +28,12 @@ read-requires-clause-readable c =
     let base = c.args.base.now in
     let list = c.args.list.now in
     let us = all_listed system pick list in
-    let out = subst (λ Q. IsOutcomeOf (λ q. q) Q (lp Q) c.in_ok-outcome.outcome) c.in_ok-problem.ensures.problem.same c.in_ok-outcome.ensures.0 in
-    let decided = joint_outcome (equations_of system) (vector_of (length system.template) base) us c.requires.rising (listed_distinct system pick 0 list c.requires.rises c.requires.picked) in
-    subst (λ rs. IsReadable rs c.in_ok-outcome.outcome) (sym c.in-Ok.ensures) (readable system pick base list c.requires.rises (lp (problem_of system pick base list)) c.in_ok-outcome.outcome out decided)
+    let out = subst (λ Q. IsOutcomeOf (λ q. q) Q (lp Q) c.in_ok-outcome.outcome) c.in_ok-problem.ensures.problem.same
+    c.in_ok-outcome.ensures.0 in
+    let decided = joint_outcome (equations_of system) (vector_of (length system.template) base) us c.requires.rising
+    (listed_distinct system pick 0 list c.requires.rises c.requires.picked) in
+    subst (λ rs. IsReadable rs c.in_ok-outcome.outcome) (sym c.in-Ok.ensures)
+    (readable system pick base list c.requires.rises (lp (problem_of system pick base list)) c.in_ok-outcome.outcome out decided)
 
 pub returns-in-Ok-clause-answer : goal.returns-in-Ok-clause-answer
 returns-in-Ok-clause-answer c =
@@ -42,9 +46,11 @@ returns-in-Ok-clause-answer c =
     let same = c.in_ok-problem.ensures.problem.same in
     let out = subst (λ Q. IsOutcomeOf (λ q. q) Q (lp Q) c.in_ok-outcome.outcome) same c.in_ok-outcome.ensures.0 in
     let fits = subst RunFits same c.in_ok-outcome.ensures.1 in
-    let decided = joint_outcome (equations_of system) (vector_of (length system.template) base) us c.requires.rising (listed_distinct system pick 0 list c.requires.rises c.requires.picked) in
+    let decided = joint_outcome (equations_of system) (vector_of (length system.template) base) us c.requires.rising
+    (listed_distinct system pick 0 list c.requires.rises c.requires.picked) in
     let reads = subst (λ rs. ReadsOutcome base rs c.in_ok-outcome.outcome c.read.result) c.in-Ok.ensures c.read.ensures in
-    MatchResult-weaker c.read.result (answered system pick base list c.requires.rises (lp P) c.in_ok-outcome.outcome c.read.result out decided reads)
+    MatchResult-weaker c.read.result (answered system pick base list c.requires.rises (lp P) c.in_ok-outcome.outcome c.read.result out
+    decided reads)
     (λ j h. (h.0, (c.in_ok-problem.ensures.sides, fits, h.1))) (λ f h. inr (inr (c.in_ok-problem.ensures.sides, fits, h)))
 
 pub returns-in-Ok-clause-means : goal.returns-in-Ok-clause-means
@@ -54,10 +60,17 @@ returns-in-Ok-clause-means c =
     let base = c.args.base.now in
     let list = c.args.list.now in
     let us = all_listed system pick list in
-    let decided = joint_outcome (equations_of system) (vector_of (length system.template) base) us c.requires.rising (listed_distinct system pick 0 list c.requires.rises c.requires.picked) in
-    MatchResult-weaker c.read.result (returns-in-Ok-clause-answer c) (λ j h. means_of system pick base list c.requires.rises c.requires.rising (listed_distinct system pick 0 list c.requires.rises c.requires.picked) (lp (problem_of system pick base list)) j decided h.0) (λ f h. tt)
+    let decided = joint_outcome (equations_of system) (vector_of (length system.template) base) us c.requires.rising
+    (listed_distinct system pick 0 list c.requires.rises c.requires.picked) in
+    MatchResult-weaker c.read.result (returns-in-Ok-clause-answer c) (λ j h. means_of system pick base list c.requires.rises
+    c.requires.rising (listed_distinct system pick 0 list c.requires.rises c.requires.picked) (lp (problem_of system pick base list)) j
+    decided h.0) (λ f h. tt)
 
 pub returns-in_err-outcome-clause-answer : goal.returns-in_err-outcome-clause-answer
 returns-in_err-outcome-clause-answer c =
     let q = err_from_is_err_and c.from_residual-in_err-outcome.result c.from_residual-in_err-outcome.ensures.1 in
-    rw (q.1, q.2) (inr (inl (c.in_ok-problem.ensures.sides, subst (λ P. IsRunFault P c.in_err-outcome.field-0.0) c.in_ok-problem.ensures.problem.same c.in_err-outcome.ensures)))
+    rw (q.1, q.2) (inr (inl (
+      c.in_ok-problem.ensures.sides,
+      subst (λ P. IsRunFault P c.in_err-outcome.field-0.0)
+          c.in_ok-problem.ensures.problem.same c.in_err-outcome.ensures,
+    )))

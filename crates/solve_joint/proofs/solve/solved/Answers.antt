@@ -12,7 +12,8 @@ pub solve-requires : goal.solve-requires
 solve-requires c =
     let rows = c.args.problem.now.rows.items in
     record {
-      rows = λ k d l. ap length (sym (get_or-map (λ r. r.coeffs.items) rows k d [] l)) ∙ c.requires.rows k (let m = length-map rows (λ r. r.coeffs.items) in omega (arith, l, m));
+      rows = λ k d l. ap length (sym (get_or-map (λ r. r.coeffs.items) rows k d [] l))
+          ∙ c.requires.rows k (let m = length-map rows (λ r. r.coeffs.items) in omega (arith, l, m));
       few = c.requires.few;
     }
 

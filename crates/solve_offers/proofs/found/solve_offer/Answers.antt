@@ -10,7 +10,8 @@ returns-in-Ok c =
     let system = c.args.system.now in
     record {
       value = c.supremum.ensures ∙ sym c.in-Ok.ensures.supremum;
-      upper = c.upper.ensures ∙ upper_is (equations_of system) (vector_at system c.args.bounds.now) (edge_at system c.args.edge) (row_at system c.args.row) _ c.in-Ok.ensures.value;
+      upper = c.upper.ensures ∙ upper_is (equations_of system) (vector_at system c.args.bounds.now) (edge_at system c.args.edge)
+          (row_at system c.args.row) _ c.in-Ok.ensures.value;
     }
 
 pub returns-in-Err-Wide : goal.returns-in-Err-Wide
@@ -20,6 +21,7 @@ returns-in-Err-Wide c =
       round = refl;
       part = c.in-Err-Wide.part;
       site = refl;
-      wide = subst (IsOperatorFault (equations_of system) (vector_at system c.args.bounds.now) (edge_at system c.args.edge) (row_at system c.args.row)) c.in-Err-Wide.field-0-is
+      wide = subst (IsOperatorFault (equations_of system) (vector_at system c.args.bounds.now) (edge_at system c.args.edge)
+          (row_at system c.args.row)) c.in-Err-Wide.field-0-is
           c.in-Err-Wide.ensures.refused;
     }

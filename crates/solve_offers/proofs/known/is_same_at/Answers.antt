@@ -14,7 +14,8 @@ returns-then-ne c =
     let right : extended c.at-in-loop-row.result ≡ vector_at c.args.system.now c.args.after.now c.args.point c.loop-row.row =
     c.at-in-loop-row.ensures ∙ ap (λ n. get_or c.args.after.now (c.args.point * n + c.loop-row.row) neg_inf) rows in (
       λ e. absurd (true≢false (sym e)),
-      λ same. absurd (differs c.at.result c.at-in-loop-row.result c.if-ne.ensures (left ∙ same c.loop-row.row (omega (arith, test, rows)) ∙ sym right)),
+      λ same. absurd (differs c.at.result c.at-in-loop-row.result c.if-ne.ensures
+          (left ∙ same c.loop-row.row (omega (arith, test, rows)) ∙ sym right)),
     )
 
 pub loop-row-preserved : goal.loop-row-preserved

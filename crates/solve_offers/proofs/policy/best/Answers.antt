@@ -16,16 +16,20 @@ loop-k-preserved c =
     let there = value_read xs c.loop-k.best c.index-values-best.result best_within c.index-values-best.is in
     elim c.if-exceeds.branch [
       | then-exceeds w ↦ subst (λ b. BestSoFar (value xs) b (c.loop-k.k + 1)) (sym w.best-is)
-          (best_moves (value xs) c.loop-k.best c.loop-k.k c.loop-k.invariant (subst₂ (λ a b. a <ᴱ b) (sym there) (sym here) (c.exceeds.ensures.0 w.if-exceeds.true)))
+          (best_moves (value xs) c.loop-k.best c.loop-k.k c.loop-k.invariant
+          (subst₂ (λ a b. a <ᴱ b) (sym there) (sym here) (c.exceeds.ensures.0 w.if-exceeds.true)))
       | else-exceeds w ↦ subst (λ b. BestSoFar (value xs) b (c.loop-k.k + 1)) (sym w.best-is)
-          (best_stays (value xs) c.loop-k.best c.loop-k.k c.loop-k.invariant (λ h. true≢false (sym (c.exceeds.ensures.1 (subst₂ (λ a b. a <ᴱ b) there here h)) ∙ w.if-exceeds.false)))
+          (best_stays (value xs) c.loop-k.best c.loop-k.k c.loop-k.invariant
+          (λ h. true≢false (sym (c.exceeds.ensures.1 (subst₂ (λ a b. a <ᴱ b) there here h)) ∙ w.if-exceeds.false)))
     ]
 
 pub returns : goal.returns
 returns c =
     let xs = c.as_slice-values.result.now in
     let bound = extended c.args.offer.now.bound in
-    let all : c.loop-k.k ≡ length (map extended xs) = (let n : length (map extended xs) ≡ length xs = length-map xs extended in let low = c.loop-k-test.false in let high = c.loop-k.auto.k-end in omega arith) in
+    let all : c.loop-k.k ≡ length (map extended xs) = (let n : length (map extended xs) ≡ length xs = length-map xs extended in
+    let low = c.loop-k-test.false in let high = c.loop-k.auto.k-end in omega arith) in
     subst (λ v. IsFirstGreatest v c.loop-k.best) c.as_slice-values.ensures
-    (best_is (map extended xs) c.loop-k.best bound c.requires.0 (subst (λ v. bound <ᴱ get_or v c.requires.0 neg_inf) (sym c.as_slice-values.ensures) c.requires.1)
+    (best_is (map extended xs) c.loop-k.best bound c.requires.0 (subst (λ v. bound <ᴱ get_or v c.requires.0 neg_inf)
+    (sym c.as_slice-values.ensures) c.requires.1)
     (subst (λ k. BestSoFar (value xs) c.loop-k.best k) all c.loop-k.invariant))

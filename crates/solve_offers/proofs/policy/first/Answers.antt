@@ -10,13 +10,16 @@ loop-k-preserved c =
     let here = value_read c.as_slice-values.result.now c.loop-k.k c.index-values-k.result c.loop-k-test.true c.index-values-k.is in
     below_more _ _ c.loop-k.invariant
     (subst (λ v. v ≤ᴱ extended c.args.offer.now.bound) (sym here)
-    (not_below (extended c.args.offer.now.bound) (extended c.index-values-k.result) (λ h. true≢false (sym (c.exceeds.ensures.1 h) ∙ c.if-exceeds.false))))
+    (not_below (extended c.args.offer.now.bound) (extended c.index-values-k.result)
+    (λ h. true≢false (sym (c.exceeds.ensures.1 h) ∙ c.if-exceeds.false))))
 
 pub unreachable-requires : goal.unreachable-requires
 unreachable-requires c =
     let xs = c.as_slice-values.result.now in
-    none_exceeds (map extended xs) (extended c.args.offer.now.bound) (λ j l. c.loop-k.invariant j (let n : length (map extended xs) ≡ length xs = length-map xs extended in let t = c.loop-k-test.false in omega arith))
-    c.requires.0 (subst (λ v. extended c.args.offer.now.bound <ᴱ get_or v c.requires.0 neg_inf) (sym c.as_slice-values.ensures) c.requires.1)
+    none_exceeds (map extended xs) (extended c.args.offer.now.bound) (λ j l. c.loop-k.invariant j
+    (let n : length (map extended xs) ≡ length xs = length-map xs extended in let t = c.loop-k-test.false in omega arith))
+    c.requires.0 (subst (λ v. extended c.args.offer.now.bound <ᴱ get_or v c.requires.0 neg_inf) (sym c.as_slice-values.ensures)
+    c.requires.1)
 
 pub returns-then-exceeds : goal.returns-then-exceeds
 returns-then-exceeds c =
@@ -24,6 +27,7 @@ returns-then-exceeds c =
     let bound = extended c.args.offer.now.bound in
     let here = value_read xs c.loop-k.k c.index-values-k.result c.loop-k-test.true c.index-values-k.is in
     record {
-      exceeds = subst (λ v. bound <ᴱ get_or v c.loop-k.k neg_inf) c.as_slice-values.ensures (subst (λ v. bound <ᴱ v) (sym here) (c.exceeds.ensures.0 c.if-exceeds.true));
+      exceeds = subst (λ v. bound <ᴱ get_or v c.loop-k.k neg_inf) c.as_slice-values.ensures
+          (subst (λ v. bound <ᴱ v) (sym here) (c.exceeds.ensures.0 c.if-exceeds.true));
       first = λ j l. subst (λ v. get_or v j neg_inf ≤ᴱ bound) c.as_slice-values.ensures (c.loop-k.invariant j l);
     }

@@ -25,13 +25,15 @@ moved-requires-clause-free c =
 pub returns-in_err-value-in-Fin : goal.returns-in_err-value-in-Fin
 returns-in_err-value-in-Fin c = λ e cs f g r.
     let p = err_from_is_err_and c.from_residual.result c.from_residual.ensures.1 in
-    rw (c.in-Fin.is, p.1, p.2) (value_wide (equations_of c.args.system.now) e cs c.in-Fin.limit c.args.trace c.args.direction.now (Wide c.in_err-value-in-Fin.field-0.0) (c.in_err-value-in-Fin.ensures e cs f g))
+    rw (c.in-Fin.is, p.1, p.2) (value_wide (equations_of c.args.system.now) e cs c.in-Fin.limit c.args.trace c.args.direction.now
+    (Wide c.in_err-value-in-Fin.field-0.0) (c.in_err-value-in-Fin.ensures e cs f g))
 
 pub returns-then-lt : goal.returns-then-lt
 returns-then-lt c = λ e cs f g r.
     let b = c.in-Fin.limit in
     let h = c.in_ok-value-in-Fin.ensures e cs f g in
-    rw c.in-Fin.is (kept (equations_of c.args.system.now) e cs b c.args.trace c.args.direction.now h.1 (ap (lt_ℚ b) (sym h.0) ∙ less_is b c.in_ok-value-in-Fin.value c.lt.result c.lt.ensures ∙ c.if-lt.true))
+    rw c.in-Fin.is (kept (equations_of c.args.system.now) e cs b c.args.trace c.args.direction.now h.1
+    (ap (lt_ℚ b) (sym h.0) ∙ less_is b c.in_ok-value-in-Fin.value c.lt.result c.lt.ensures ∙ c.if-lt.true))
 
 pub returns-in_err-times-in-Fin : goal.returns-in_err-times-in-Fin
 returns-in_err-times-in-Fin c = λ e cs f g r.
@@ -40,7 +42,8 @@ returns-in_err-times-in-Fin c = λ e cs f g r.
     let w = c.in_err-times-in-Fin.field-0.0 in
     let h = c.in_ok-value-in-Fin.ensures e cs f g in
     rw (c.in-Fin.is, p.1, p.2)
-    (multiple_wide (equations_of c.args.system.now) e cs b c.args.trace c.args.direction.now h.1 (ap (lt_ℚ b) (sym h.0) ∙ less_is b c.in_ok-value-in-Fin.value c.lt.result c.lt.ensures ∙ c.if-lt.false) (Wide w)
+    (multiple_wide (equations_of c.args.system.now) e cs b c.args.trace c.args.direction.now h.1
+    (ap (lt_ℚ b) (sym h.0) ∙ less_is b c.in_ok-value-in-Fin.value c.lt.result c.lt.ensures ∙ c.if-lt.false) (Wide w)
     (subst₂ (λ v d. IsFaultOf (multiple_operations b v d) (Wide w)) h.0 r c.in_err-times-in-Fin.ensures))
 
 pub returns-in_ok-times-in-Fin : goal.returns-in_ok-times-in-Fin
@@ -50,9 +53,11 @@ returns-in_ok-times-in-Fin c = λ e cs f g r.
     let t = c.args.trace in
     let d = c.args.direction.now in
     rw c.in-Fin.is
-    (low_answers (equations_of c.args.system.now) e cs b t d h.1 (ap (lt_ℚ b) (sym h.0) ∙ less_is b c.in_ok-value-in-Fin.value c.lt.result c.lt.ensures ∙ c.if-lt.false) c.moved.result
+    (low_answers (equations_of c.args.system.now) e cs b t d h.1 (ap (lt_ℚ b) (sym h.0)
+    ∙ less_is b c.in_ok-value-in-Fin.value c.lt.result c.lt.ensures ∙ c.if-lt.false) c.moved.result
     (subst₂ (λ v s. first_wide long_limit (multiple_operations b v s) ≡ None) h.0 r c.in_ok-times-in-Fin.ensures.1)
-    (subst (λ n. AnswersBy {A = Trace} (λ low. pieces_of low ≡ moved_pieces n t d) (moved_operations n t d) c.moved.result) (c.in_ok-times-in-Fin.ensures.0 ∙ ap₂ (multiple b) h.0 r) c.moved.ensures))
+    (subst (λ n. AnswersBy {A = Trace} (λ low. pieces_of low ≡ moved_pieces n t d) (moved_operations n t d) c.moved.result)
+    (c.in_ok-times-in-Fin.ensures.0 ∙ ap₂ (multiple b) h.0 r) c.moved.ensures))
 
 pub returns-in-NegInf : goal.returns-in-NegInf
 unfolding low_of low_operations

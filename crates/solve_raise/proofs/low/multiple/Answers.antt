@@ -11,8 +11,10 @@ pub returns-in_err-quotient : goal.returns-in_err-quotient
 returns-in_err-quotient c =
     let p = err_from_is_err_and c.from_residual-in_err-quotient.result c.from_residual-in_err-quotient.ensures.1 in
     rw (p.1, p.2)
-    (quotient_wide c.args.bound c.args.value c.args.rate c.in_ok-gap.gap c.in_ok-gap.ensures.0 c.in_ok-gap.ensures.1 c.in_err-quotient.field-0.0 c.in_err-quotient.ensures.0 c.in_err-quotient.ensures.1)
+    (quotient_wide c.args.bound c.args.value c.args.rate c.in_ok-gap.gap c.in_ok-gap.ensures.0 c.in_ok-gap.ensures.1
+    c.in_err-quotient.field-0.0 c.in_err-quotient.ensures.0 c.in_err-quotient.ensures.1)
 
 pub returns : goal.returns
 returns c =
-    multiple_answer c.args.bound c.args.value c.args.rate c.in_ok-gap.gap c.in_ok-gap.ensures.0 c.in_ok-gap.ensures.1 c.in_ok-quotient.quotient c.next_whole.result c.in_ok-quotient.ensures.0 c.in_ok-quotient.ensures.1 c.next_whole.ensures
+    multiple_answer c.args.bound c.args.value c.args.rate c.in_ok-gap.gap c.in_ok-gap.ensures.0 c.in_ok-gap.ensures.1
+    c.in_ok-quotient.quotient c.next_whole.result c.in_ok-quotient.ensures.0 c.in_ok-quotient.ensures.1 c.next_whole.ensures

@@ -10,16 +10,20 @@ use Rattle.solve_raise.proofs.number.Wholes.{floor_number, den_one, own_floor}
 use Rattle.solve_raise.proofs.number.floor_of.Goals as goal
 
 pub returns-then-den-eq1 : goal.returns-then-den-eq1
-returns-then-den-eq1 c = own_floor c.args.number (den_one c.args.number c.den.result c.den.ensures.fits c.den.ensures.value c.if-den-eq1.true)
+returns-then-den-eq1 c = own_floor c.args.number (den_one c.args.number c.den.result c.den.ensures.fits c.den.ensures.value
+    c.if-den-eq1.true)
 
 pub unwrap-requires : goal.unwrap-requires
 unwrap-requires c =
     let z = to_z w64 (of_z w64 c.floor.result) in
-    let n : IsTrue (is_number c.floor.result) = subst (λ y. IsTrue (is_number y)) (sym c.floor.ensures.value) (floor_number c.args.number c.den.ensures.fits) in
+    let n : IsTrue (is_number c.floor.result) = subst (λ y. IsTrue (is_number y)) (sym c.floor.ensures.value)
+    (floor_number c.args.number c.den.ensures.fits) in
     number_made z c.make.result (subst (λ y. IsTrue (is_number y)) (sym (number_same c.floor.result n)) n) c.make.ensures
 
 pub returns : goal.returns
 returns c =
     let z = to_z w64 (of_z w64 c.floor.result) in
-    let n : IsTrue (is_number c.floor.result) = subst (λ y. IsTrue (is_number y)) (sym c.floor.ensures.value) (floor_number c.args.number c.den.ensures.fits) in
-    small_value long_limit (λ (q : ℚ). q) z c.make.result c.unwrap.ensures c.make.ensures ∙ ap whole (number_same c.floor.result n ∙ c.floor.ensures.value)
+    let n : IsTrue (is_number c.floor.result) = subst (λ y. IsTrue (is_number y)) (sym c.floor.ensures.value)
+    (floor_number c.args.number c.den.ensures.fits) in
+    small_value long_limit (λ (q : ℚ). q) z c.make.result c.unwrap.ensures c.make.ensures
+    ∙ ap whole (number_same c.floor.result n ∙ c.floor.ensures.value)

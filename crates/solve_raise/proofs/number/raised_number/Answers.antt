@@ -10,7 +10,8 @@ use Rattle.solve_raise.proofs.number.raised_number.Goals as goal
 pub returns-in-NegInf : goal.returns-in-NegInf
 unfolding raised_to number_operations
 returns-in-NegInf c =
-    rw c.in-NegInf.is (subst (λ o. SumAnswers (c.args.value -ℚ o) (record { op = Sub; left = c.args.value; right = o } ∷ []) c.minus.result) c.one.ensures.value (one_answer Sub c.args.value c.one.result c.minus.result c.minus.ensures))
+    rw c.in-NegInf.is (subst (λ o. SumAnswers (c.args.value -ℚ o) (record { op = Sub; left = c.args.value; right = o } ∷ []) c.minus.result)
+    c.one.ensures.value (one_answer Sub c.args.value c.one.result c.minus.result c.minus.ensures))
 
 pub returns-in-Fin : goal.returns-in-Fin
 unfolding raised_to

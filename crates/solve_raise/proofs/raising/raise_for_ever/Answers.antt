@@ -12,20 +12,24 @@ use Rattle.solve_raise.proofs.raising.raise_for_ever.Goals as goal
 
 pub carried-requires-clause-free : goal.carried-requires-clause-free
 carried-requires-clause-free c = λ e f.
-    free_of (equations_of c.args.system.now) (length c.args.system.now.template) c.args.unknown c.args.edge (pieces_of c.args.direction) c.requires.sizes.1 e f
+    free_of (equations_of c.args.system.now) (length c.args.system.now.template) c.args.unknown c.args.edge (pieces_of c.args.direction)
+    c.requires.sizes.1 e f
 
 pub low-requires-clause-free : goal.low-requires-clause-free
 low-requires-clause-free c = λ e f.
     let S = equations_of c.args.system.now in
-    let n = length c.args.system.now.template in
-    (free_of S n c.args.unknown c.args.edge (pieces_of c.args.trace) c.requires.sizes.0 e f, free_of S n c.args.unknown c.args.edge (pieces_of c.args.direction) c.requires.sizes.1 e f)
+    let n = length c.args.system.now.template in (
+      free_of S n c.args.unknown c.args.edge (pieces_of c.args.trace) c.requires.sizes.0 e f,
+      free_of S n c.args.unknown c.args.edge (pieces_of c.args.direction) c.requires.sizes.1 e f,
+    )
 
 pub low-requires-clause-rate : goal.low-requires-clause-rate
 low-requires-clause-rate c = λ z.
     let S = equations_of c.args.system.now in
     let n = length c.args.system.now.template in
     let u = choice_of n c.args.unknown c.args.edge in
-    let g = row_read c.args.system.now.template c.as_slice.result.now c.args.unknown (length c.args.system.now.flow.points) (row_of S u) c.as_slice.ensures.rows c.requires.unknown (λ l. row_chosen S n c.args.unknown c.args.edge l) in
+    let g = row_read c.args.system.now.template c.as_slice.result.now c.args.unknown (length c.args.system.now.flow.points) (row_of S u)
+    c.as_slice.ensures.rows c.requires.unknown (λ l. row_chosen S n c.args.unknown c.args.edge l) in
     let h = c.in_ok-rate.ensures (edge_of S u) (row_of S u) (edge_chosen S n c.args.unknown c.args.edge c.requires.edge) g in
     ne_of_lt_ℚ c.requires.rises (sym z ∙ h.0)
 
@@ -35,9 +39,11 @@ returns-in_err-rate c =
     let S = equations_of c.args.system.now in
     let n = length c.args.system.now.template in
     let u = choice_of n c.args.unknown c.args.edge in
-    let g = row_read c.args.system.now.template c.as_slice.result.now c.args.unknown (length c.args.system.now.flow.points) (row_of S u) c.as_slice.ensures.rows c.requires.unknown (λ l. row_chosen S n c.args.unknown c.args.edge l) in
+    let g = row_read c.args.system.now.template c.as_slice.result.now c.args.unknown (length c.args.system.now.flow.points) (row_of S u)
+    c.as_slice.ensures.rows c.requires.unknown (λ l. row_chosen S n c.args.unknown c.args.edge l) in
     rw (p.1, p.2)
-    (rate_wide S n c.args.unknown c.args.edge (extended c.args.bound) c.args.trace c.args.direction (Wide c.in_err-rate.field-0.0) (c.in_err-rate.ensures (edge_of S u) (row_of S u) (edge_chosen S n c.args.unknown c.args.edge c.requires.edge) g))
+    (rate_wide S n c.args.unknown c.args.edge (extended c.args.bound) c.args.trace c.args.direction (Wide c.in_err-rate.field-0.0)
+    (c.in_err-rate.ensures (edge_of S u) (row_of S u) (edge_chosen S n c.args.unknown c.args.edge c.requires.edge) g))
 
 pub returns-in_err-low : goal.returns-in_err-low
 returns-in_err-low c =
@@ -46,9 +52,11 @@ returns-in_err-low c =
     let n = length c.args.system.now.template in
     let u = choice_of n c.args.unknown c.args.edge in
     let f = edge_chosen S n c.args.unknown c.args.edge c.requires.edge in
-    let g = row_read c.args.system.now.template c.as_slice.result.now c.args.unknown (length c.args.system.now.flow.points) (row_of S u) c.as_slice.ensures.rows c.requires.unknown (λ l. row_chosen S n c.args.unknown c.args.edge l) in
+    let g = row_read c.args.system.now.template c.as_slice.result.now c.args.unknown (length c.args.system.now.flow.points) (row_of S u)
+    c.as_slice.ensures.rows c.requires.unknown (λ l. row_chosen S n c.args.unknown c.args.edge l) in
     let h = c.in_ok-rate.ensures (edge_of S u) (row_of S u) f g in
-    rw (p.1, p.2) (low_wide S n c.args.unknown c.args.edge (extended c.args.bound) c.args.trace c.args.direction h.1 c.in_err-low.field-0.0 (c.in_err-low.ensures (edge_of S u) (row_of S u) f g h.0))
+    rw (p.1, p.2) (low_wide S n c.args.unknown c.args.edge (extended c.args.bound) c.args.trace c.args.direction h.1 c.in_err-low.field-0.0
+    (c.in_err-low.ensures (edge_of S u) (row_of S u) f g h.0))
 
 pub returns : goal.returns
 returns c =
@@ -56,7 +64,9 @@ returns c =
     let n = length c.args.system.now.template in
     let u = choice_of n c.args.unknown c.args.edge in
     let f = edge_chosen S n c.args.unknown c.args.edge c.requires.edge in
-    let g = row_read c.args.system.now.template c.as_slice.result.now c.args.unknown (length c.args.system.now.flow.points) (row_of S u) c.as_slice.ensures.rows c.requires.unknown (λ l. row_chosen S n c.args.unknown c.args.edge l) in
+    let g = row_read c.args.system.now.template c.as_slice.result.now c.args.unknown (length c.args.system.now.flow.points) (row_of S u)
+    c.as_slice.ensures.rows c.requires.unknown (λ l. row_chosen S n c.args.unknown c.args.edge l) in
     let h = c.in_ok-rate.ensures (edge_of S u) (row_of S u) f g in
     let k = c.in_ok-low.ensures (edge_of S u) (row_of S u) f g h.0 in
-    for_ever S n c.args.unknown c.args.edge (extended c.args.bound) c.args.trace c.args.direction h.1 c.in_ok-low.low c.in_ok-rate.rate c.ray.result k.0 k.1 h.0 c.ray.ensures
+    for_ever S n c.args.unknown c.args.edge (extended c.args.bound) c.args.trace c.args.direction h.1 c.in_ok-low.low c.in_ok-rate.rate
+    c.ray.result k.0 k.1 h.0 c.ray.ensures

@@ -18,7 +18,8 @@ returns-in_err-value c =
     let col = get_or cols i 0 in
     rw (p.1, p.2)
     (fault_of (subtraction ray col ∷ []) (subtractions ray cols) c.in_err-value.field-0.0
-    (λ o. read_wide (differences ray) (subtractions ray) cols i c.loop-col.list.items col c.loop-col.invariant c.loop-col-test.true (get_or_default cols i 0 col c.loop-col-test.true) _ (subtraction ray col ∷ []) (adds_entry ray col _ refl) o)
+    (λ o. read_wide (differences ray) (subtractions ray) cols i c.loop-col.list.items col c.loop-col.invariant c.loop-col-test.true
+    (get_or_default cols i 0 col c.loop-col-test.true) _ (subtraction ray col ∷ []) (adds_entry ray col _ refl) o)
     c.in_err-value.ensures)
 
 pub returns-in_err-append : goal.returns-in_err-append
@@ -33,11 +34,13 @@ loop-col-preserved c =
     let i = c.loop-col.col-index in
     let col = get_or cols i 0 in
     rw c.in_ok-append.ensures
-    (read_more (differences ray) (subtractions ray) cols i c.loop-col.list.items col c.loop-col.invariant c.loop-col-test.true (get_or_default cols i 0 col c.loop-col-test.true) (c.in_ok-value.value ∷ []) (subtraction ray col ∷ [])
+    (read_more (differences ray) (subtractions ray) cols i c.loop-col.list.items col c.loop-col.invariant c.loop-col-test.true
+    (get_or_default cols i 0 col c.loop-col-test.true) (c.in_ok-value.value ∷ []) (subtraction ray col ∷ [])
     (adds_entry ray col c.in_ok-value.value c.in_ok-value.ensures.0) c.in_ok-value.ensures.1)
 
 pub returns : goal.returns
 returns c =
     let ray = c.args.ray.now in
-    let a = read_all (differences ray) (subtractions ray) c.args.cols.now c.loop-col.col-index c.loop-col.list.items refl refl (omega arith) c.loop-col.invariant in
+    let a = read_all (differences ray) (subtractions ray) c.args.cols.now c.loop-col.col-index c.loop-col.list.items refl refl (omega arith)
+    c.loop-col.invariant in
     (c.new.ensures ∙ a.0, a.1)

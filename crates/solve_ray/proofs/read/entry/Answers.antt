@@ -8,7 +8,8 @@ pub returns-in-Ok : goal.returns-in-Ok
 returns-in-Ok c =
     let ray = c.args.ray.now in
     let col = c.args.col in
-    entry_read ray col c.index-ray-col.result c.index-ray-col-2.result c.in-Ok.value (get_or_read ray col c.index-ray-col.result (omega (arith, c.requires)) c.index-ray-col.is zero_ℚ)
+    entry_read ray col c.index-ray-col.result c.index-ray-col-2.result c.in-Ok.value
+    (get_or_read ray col c.index-ray-col.result (omega (arith, c.requires)) c.index-ray-col.is zero_ℚ)
     (get_or_read ray (col + 1) c.index-ray-col-2.result (omega (arith, c.requires)) c.index-ray-col-2.is zero_ℚ) c.in-Ok.ensures
 
 pub returns-in-Err : goal.returns-in-Err
@@ -16,6 +17,7 @@ returns-in-Err c =
     let ray = c.args.ray.now in
     let col = c.args.col in (
       refl,
-      entry_wide ray col c.index-ray-col.result c.index-ray-col-2.result c.in-Err.wide (get_or_read ray col c.index-ray-col.result (omega (arith, c.requires)) c.index-ray-col.is zero_ℚ)
+      entry_wide ray col c.index-ray-col.result c.index-ray-col-2.result c.in-Err.wide
+          (get_or_read ray col c.index-ray-col.result (omega (arith, c.requires)) c.index-ray-col.is zero_ℚ)
           (get_or_read ray (col + 1) c.index-ray-col-2.result (omega (arith, c.requires)) c.index-ray-col-2.is zero_ℚ) c.in-Err.ensures,
     )

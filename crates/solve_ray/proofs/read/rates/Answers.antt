@@ -15,7 +15,8 @@ add_rate-requires c =
     let i = c.loop-rise.rise-index in
     let width = length c.args.ray.now in
     let e = c.rise-item.is ∙ ap (λ rs. get_or rs i x) same in
-    subst (IsWithin width) (sym e) (within_at width c.args.layout.now.rises i x c.requires (subst (λ rs. i < length rs) same c.loop-rise-test.true))
+    subst (IsWithin width) (sym e) (within_at width c.args.layout.now.rises i x c.requires
+    (subst (λ rs. i < length rs) same c.loop-rise-test.true))
 
 pub returns-in_err-add_rate : goal.returns-in_err-add_rate
 returns-in_err-add_rate c =
@@ -27,7 +28,8 @@ returns-in_err-add_rate c =
     let i = c.loop-rise.rise-index in
     rw (p.1, p.2)
     (fault_of (named_operations ray (x ∷ [])) (named_operations ray rises) c.in_err-add_rate.field-0.0
-    (λ o. read_wide (named_rates ray) (named_operations ray) rises i c.loop-rise.list.items x c.loop-rise.invariant (subst (λ rs. i < length rs) same c.loop-rise-test.true) (c.rise-item.is ∙ ap (λ rs. get_or rs i x) same) (named_rates ray (x ∷ []))
+    (λ o. read_wide (named_rates ray) (named_operations ray) rises i c.loop-rise.list.items x c.loop-rise.invariant
+    (subst (λ rs. i < length rs) same c.loop-rise-test.true) (c.rise-item.is ∙ ap (λ rs. get_or rs i x) same) (named_rates ray (x ∷ []))
     (named_operations ray (x ∷ [])) (adds_rate ray x) o) c.in_err-add_rate.ensures)
 
 pub loop-rise-preserved : goal.loop-rise-preserved
@@ -39,13 +41,15 @@ loop-rise-preserved c =
     let i = c.loop-rise.rise-index in
     let e = c.in_ok-add_rate.ensures in
     subst (IsRead (named_rates ray) (named_operations ray) rises (i + 1)) (sym e.0)
-    (read_more (named_rates ray) (named_operations ray) rises i c.loop-rise.list.items x c.loop-rise.invariant (subst (λ rs. i < length rs) same c.loop-rise-test.true) (c.rise-item.is ∙ ap (λ rs. get_or rs i x) same) (named_rates ray (x ∷ []))
+    (read_more (named_rates ray) (named_operations ray) rises i c.loop-rise.list.items x c.loop-rise.invariant
+    (subst (λ rs. i < length rs) same c.loop-rise-test.true) (c.rise-item.is ∙ ap (λ rs. get_or rs i x) same) (named_rates ray (x ∷ []))
     (named_operations ray (x ∷ [])) (adds_rate ray x) e.1)
 
 pub returns : goal.returns
 returns c =
     let ray = c.args.ray.now in
     let rises = c.args.layout.now.rises in
-    let a = read_all (named_rates ray) (named_operations ray) rises c.loop-rise.rise-index c.loop-rise.list.items refl refl (subst (λ rs. length rs ≤ c.loop-rise.rise-index) c.as_slice-rise-items.ensures c.loop-rise-test.false) c.loop-rise.invariant in
+    let a = read_all (named_rates ray) (named_operations ray) rises c.loop-rise.rise-index c.loop-rise.list.items refl refl
+    (subst (λ rs. length rs ≤ c.loop-rise.rise-index) c.as_slice-rise-items.ensures c.loop-rise-test.false) c.loop-rise.invariant in
     let P : List RateOf → Rates = λ ys. record { list = ys } in
     (ap P (c.new.ensures ∙ a.0), a.1)

@@ -1,41 +1,53 @@
 use Rattle.std.proofs.Common.{◌∙◌, ◌≤◌, ap, length, subst, arith}
 use Rattle.std.proofs.lemmas.Result.{err_from_is_err_and}
-use Rattle.solve_rounds.proofs.evaluation.NextPart.{numbered, numbered_part, numbered_few, numbered_more, numbered_conditions, numbered_stop}
+use Rattle.solve_rounds.proofs.evaluation.NextPart.{numbered, numbered_part, numbered_few, numbered_more, numbered_conditions}
+use Rattle.solve_rounds.proofs.evaluation.NextPart.{numbered_stop}
 use Rattle.solve_rounds.proofs.evaluation.Partings.{partings_start, partings_end}
 use Rattle.solve_rounds.proofs.evaluation.turns.Goals as goal
 
 pub loop-number-init : goal.loop-number-init
-loop-number-init c = partings_start c.args.system.now c.args.pick.now c.args.raises.now c.args.places.now c.args.list.now c.args.turning.now c.requires.none
+loop-number-init c = partings_start c.args.system.now c.args.pick.now c.args.raises.now c.args.places.now c.args.list.now c.args.turning.now
+    c.requires.none
 
 pub part-requires-clause-few : goal.part-requires-clause-few
 part-requires-clause-few c =
-    let n = numbered c.args.system.now c.args.pick.now c.args.list.now c.in_ok-parts.ensures.parts c.count-number-end.ensures.count c.loop-number-test.true c.list.ensures in
-    let small = numbered_few c.args.system.now c.args.pick.now c.args.raises.now c.args.places.now c.args.list.now n c.requires.list c.in_ok-parts.ensures.parts c.in_ok-parts.ensures.rise in
+    let n = numbered c.args.system.now c.args.pick.now c.args.list.now c.in_ok-parts.ensures.parts c.count-number-end.ensures.count
+    c.loop-number-test.true c.list.ensures in
+    let small = numbered_few c.args.system.now c.args.pick.now c.args.raises.now c.args.places.now c.args.list.now n c.requires.list
+    c.in_ok-parts.ensures.parts c.in_ok-parts.ensures.rise in
     let few = c.loop-number.invariant.few in
     let count = c.count-number-end.ensures.few in
     omega arith
 
 pub part-requires-clause-part : goal.part-requires-clause-part
 part-requires-clause-part c =
-    let n = numbered c.args.system.now c.args.pick.now c.args.list.now c.in_ok-parts.ensures.parts c.count-number-end.ensures.count c.loop-number-test.true c.list.ensures in
-    numbered_part c.args.system.now c.args.pick.now c.args.raises.now c.args.places.now c.args.list.now n c.requires.list c.in_ok-parts.ensures.parts c.in_ok-parts.ensures.rise
+    let n = numbered c.args.system.now c.args.pick.now c.args.list.now c.in_ok-parts.ensures.parts c.count-number-end.ensures.count
+    c.loop-number-test.true c.list.ensures in
+    numbered_part c.args.system.now c.args.pick.now c.args.raises.now c.args.places.now c.args.list.now n c.requires.list
+    c.in_ok-parts.ensures.parts c.in_ok-parts.ensures.rise
 
 pub part-requires-clause-conditions : goal.part-requires-clause-conditions
 part-requires-clause-conditions c =
-    let n = numbered c.args.system.now c.args.pick.now c.args.list.now c.in_ok-parts.ensures.parts c.count-number-end.ensures.count c.loop-number-test.true c.list.ensures in
-    numbered_conditions c.args.system.now c.args.pick.now c.args.raises.now c.args.places.now c.args.list.now n c.args.turning.now c.loop-number.turning c.requires.chosen c.requires.conditions c.loop-number.invariant
+    let n = numbered c.args.system.now c.args.pick.now c.args.list.now c.in_ok-parts.ensures.parts c.count-number-end.ensures.count
+    c.loop-number-test.true c.list.ensures in
+    numbered_conditions c.args.system.now c.args.pick.now c.args.raises.now c.args.places.now c.args.list.now n c.args.turning.now
+    c.loop-number.turning c.requires.chosen c.requires.conditions c.loop-number.invariant
 
 pub returns-in_err-part-clause-stop : goal.returns-in_err-part-clause-stop
 returns-in_err-part-clause-stop c =
     let q = err_from_is_err_and c.from_residual-in_err-part.result c.from_residual-in_err-part.ensures.1 in
-    let n = numbered c.args.system.now c.args.pick.now c.args.list.now c.in_ok-parts.ensures.parts c.count-number-end.ensures.count c.loop-number-test.true c.list.ensures in
+    let n = numbered c.args.system.now c.args.pick.now c.args.list.now c.in_ok-parts.ensures.parts c.count-number-end.ensures.count
+    c.loop-number-test.true c.list.ensures in
     rw (q.1, q.2)
-    (numbered_stop c.args.system.now c.args.pick.now c.args.raises.now c.args.places.now c.args.list.now n c.args.turning.now c.loop-number.turning c.args.round c.in_err-part.field-0.0 c.loop-number.invariant c.in_err-part.ensures.stop)
+    (numbered_stop c.args.system.now c.args.pick.now c.args.raises.now c.args.places.now c.args.list.now n c.args.turning.now
+    c.loop-number.turning c.args.round c.in_err-part.field-0.0 c.loop-number.invariant c.in_err-part.ensures.stop)
 
 pub loop-number-preserved : goal.loop-number-preserved
 loop-number-preserved c =
-    let n = numbered c.args.system.now c.args.pick.now c.args.list.now c.in_ok-parts.ensures.parts c.count-number-end.ensures.count c.loop-number-test.true c.list.ensures in
-    numbered_more c.args.system.now c.args.pick.now c.args.raises.now c.args.places.now c.args.list.now n c.requires.list c.in_ok-parts.ensures.parts c.in_ok-parts.ensures.rise c.args.turning.now c.loop-number.turning c.part.new.turning
+    let n = numbered c.args.system.now c.args.pick.now c.args.list.now c.in_ok-parts.ensures.parts c.count-number-end.ensures.count
+    c.loop-number-test.true c.list.ensures in
+    numbered_more c.args.system.now c.args.pick.now c.args.raises.now c.args.places.now c.args.list.now n c.requires.list
+    c.in_ok-parts.ensures.parts c.in_ok-parts.ensures.rise c.args.turning.now c.loop-number.turning c.part.new.turning
     c.loop-number.invariant c.in_ok-part.ensures.done
 
 pub returns-clause-done : goal.returns-clause-done
@@ -45,4 +57,5 @@ returns-clause-done c =
     let list = c.args.list.now in
     let same = c.in_ok-parts.ensures.parts in
     let size = c.count-number-end.ensures.count ∙ ap length same in
-    partings_end system pick c.args.raises.now c.args.places.now list c.args.turning.now c.loop-number.number c.loop-number.turning (subst (λ n. n ≤ c.loop-number.number) size c.loop-number-test.false) c.loop-number.invariant
+    partings_end system pick c.args.raises.now c.args.places.now list c.args.turning.now c.loop-number.number c.loop-number.turning
+    (subst (λ n. n ≤ c.loop-number.number) size c.loop-number-test.false) c.loop-number.invariant

@@ -13,48 +13,65 @@ pub returns-then-index-clause-passed : goal.returns-then-index-clause-passed
 returns-then-index-clause-passed c z agrees =
     let system = c.args.system.now in
     passed_none system c.args.pick.now c.args.unknown z c.args.growing.now
-    (left_marked (length system.template) c.args.pick.now c.args.growing.now.raised.items c.args.unknown (mark_is c.args.growing.now.raised.items c.args.unknown c.index.result.now (let r = c.requires.kept.raised in let u = c.requires.unknown in omega arith) c.index.ensures ∙ c.if-index.true)) agrees
+    (left_marked (length system.template) c.args.pick.now c.args.growing.now.raised.items c.args.unknown
+    (mark_is c.args.growing.now.raised.items c.args.unknown c.index.result.now
+    (let r = c.requires.kept.raised in let u = c.requires.unknown in omega arith) c.index.ensures ∙ c.if-index.true)) agrees
 
 pub returns-then-index-2-clause-passed : goal.returns-then-index-2-clause-passed
 returns-then-index-2-clause-passed c z agrees =
     let system = c.args.system.now in
     quiet_passed system c.args.pick.now c.args.unknown c.requires.unknown z c.args.growing.now c.requires.kept c.requires.quiet agrees
-    (mark_is c.args.growing.now.quiet.items c.args.unknown c.index-2.result.now (let s = c.requires.quiet.size in let u = c.requires.unknown in omega arith) c.index-2.ensures ∙ c.if-index-2.true)
-    (mark_is c.args.growing.now.raised.items c.args.unknown c.index.result.now (let r = c.requires.kept.raised in let u = c.requires.unknown in omega arith) c.index.ensures ∙ c.if-index.false)
+    (mark_is c.args.growing.now.quiet.items c.args.unknown c.index-2.result.now
+    (let s = c.requires.quiet.size in let u = c.requires.unknown in omega arith) c.index-2.ensures ∙ c.if-index-2.true)
+    (mark_is c.args.growing.now.raised.items c.args.unknown c.index.result.now
+    (let r = c.requires.kept.raised in let u = c.requires.unknown in omega arith) c.index.ensures ∙ c.if-index.false)
 
 pub returns-then-is_unlimited-clause-passed : goal.returns-then-is_unlimited-clause-passed
 returns-then-is_unlimited-clause-passed c z agrees =
     let system = c.args.system.now in
     top_passed system c.args.pick.now c.args.unknown c.requires.unknown z c.args.growing.now c.requires.kept agrees
     (sym (sym c.if-is_unlimited.true ∙ c.is_unlimited.ensures ∙ ap is_top c.at.ensures))
-    (mark_is c.args.growing.now.raised.items c.args.unknown c.index.result.now (let r = c.requires.kept.raised in let u = c.requires.unknown in omega arith) c.index.ensures ∙ c.if-index.false)
+    (mark_is c.args.growing.now.raised.items c.args.unknown c.index.result.now
+    (let r = c.requires.kept.raised in let u = c.requires.unknown in omega arith) c.index.ensures ∙ c.if-index.false)
 
 pub returns-in-None-clause-passed : goal.returns-in-None-clause-passed
 returns-in-None-clause-passed c z agrees =
     let system = c.args.system.now in
     passed_none system c.args.pick.now c.args.unknown z c.args.growing.now
-    (left_unpicked (length system.template) c.args.pick.now c.args.growing.now.raised.items c.args.unknown (mark_is c.args.growing.now.raised.items c.args.unknown c.index.result.now (let r = c.requires.kept.raised in let u = c.requires.unknown in omega arith) c.index.ensures ∙ c.if-index.false) (sym c.at-2.ensures ∙ c.in-None.is)) agrees
+    (left_unpicked (length system.template) c.args.pick.now c.args.growing.now.raised.items c.args.unknown
+    (mark_is c.args.growing.now.raised.items c.args.unknown c.index.result.now
+    (let r = c.requires.kept.raised in let u = c.requires.unknown in omega arith) c.index.ensures ∙ c.if-index.false)
+    (sym c.at-2.ensures ∙ c.in-None.is)) agrees
 
 pub returns-in-Some-clause-others : goal.returns-in-Some-clause-others
 returns-in-Some-clause-others c =
     let system = c.args.system.now in
     let z = vector_at system c.args.growing.now.bounds in
-    IfOk-weaker c.test_picked.result _ _ (λ told h. others_stay system c.in-Some.edge c.args.unknown z c.args.growing.now c.test_picked.new.growing told (h z (λ p r l. refl))) c.test_picked.ensures.tested
+    IfOk-weaker c.test_picked.result _ _ (λ told h. others_stay system c.in-Some.edge c.args.unknown z c.args.growing.now
+    c.test_picked.new.growing told (h z (λ p r l. refl))) c.test_picked.ensures.tested
 
 pub returns-in-Some-clause-passed : goal.returns-in-Some-clause-passed
 returns-in-Some-clause-passed c =
     let system = c.args.system.now in
-    let within : c.args.unknown < length c.args.growing.now.raised.items = let r = c.requires.kept.raised in let u = c.requires.unknown in omega arith in
+    let within : c.args.unknown < length c.args.growing.now.raised.items =
+    let r = c.requires.kept.raised in let u = c.requires.unknown in omega arith in
     IfOk-weaker c.test_picked.result _ _
-    (λ told h z agrees. test_passed system c.args.pick.now c.args.unknown c.in-Some.edge z c.args.growing.now c.test_picked.new.growing agrees (mark_is c.args.growing.now.raised.items c.args.unknown c.index.result.now (let r = c.requires.kept.raised in let u = c.requires.unknown in omega arith) c.index.ensures ∙ c.if-index.false) (sym c.at-2.ensures ∙ c.in-Some.is) within told (h z agrees))
+    (λ told h z agrees. test_passed system c.args.pick.now c.args.unknown c.in-Some.edge z c.args.growing.now c.test_picked.new.growing
+    agrees (mark_is c.args.growing.now.raised.items c.args.unknown c.index.result.now
+    (let r = c.requires.kept.raised in let u = c.requires.unknown in omega arith) c.index.ensures ∙ c.if-index.false)
+    (sym c.at-2.ensures ∙ c.in-Some.is) within told (h z agrees))
     c.test_picked.ensures.tested
 
 pub returns-in-Some-clause-stop : goal.returns-in-Some-clause-stop
 returns-in-Some-clause-stop c =
     let system = c.args.system.now in
-    let within : c.args.unknown < length c.args.growing.now.raised.items = let r = c.requires.kept.raised in let u = c.requires.unknown in omega arith in
+    let within : c.args.unknown < length c.args.growing.now.raised.items =
+    let r = c.requires.kept.raised in let u = c.requires.unknown in omega arith in
     IfErr-weaker c.test_picked.result _ _
-    (λ stop h z agrees. test_stop system c.args.pick.now c.args.unknown c.in-Some.edge z c.args.growing.now c.test_picked.new.growing agrees (mark_is c.args.growing.now.raised.items c.args.unknown c.index.result.now (let r = c.requires.kept.raised in let u = c.requires.unknown in omega arith) c.index.ensures ∙ c.if-index.false) (sym c.at-2.ensures ∙ c.in-Some.is) within c.args.round stop (h z agrees))
+    (λ stop h z agrees. test_stop system c.args.pick.now c.args.unknown c.in-Some.edge z c.args.growing.now c.test_picked.new.growing agrees
+    (mark_is c.args.growing.now.raised.items c.args.unknown c.index.result.now
+    (let r = c.requires.kept.raised in let u = c.requires.unknown in omega arith) c.index.ensures ∙ c.if-index.false)
+    (sym c.at-2.ensures ∙ c.in-Some.is) within c.args.round stop (h z agrees))
     c.test_picked.ensures.stop
 
 pub test_picked-requires-clause-limited : goal.test_picked-requires-clause-limited

@@ -8,7 +8,8 @@ use Rattle.solve_composition.specs.Value.{number_of}
 use Rattle.solve_rounds.specs.Growing.{IsValueAt, IsValueStop, IsStepStop, NamesOne, bound_given, tested}
 use Rattle.solve_raise.specs.Raises.{raise_operations}
 use Rattle.solve_rounds.proofs.growing.Kept.{kept_more, few_steps, system_size}
-use Rattle.solve_rounds.proofs.growing.Tested.{stays_within, raised_names, has_item, stays, go_is, value_stop, step_stop, value_sizes, value_rises}
+use Rattle.solve_rounds.proofs.growing.Tested.{stays_within, raised_names, has_item, stays, go_is, value_stop, step_stop, value_sizes}
+use Rattle.solve_rounds.proofs.growing.Tested.{value_rises}
 use Rattle.solve_offers.specs.AtBounds.{vector_at, edge_at}
 use Rattle.solve_rounds.proofs.growing.Quiet.{quiet_more, quiet_raised}
 use Rattle.std.specs.Vec.{with_item, with_items}
@@ -29,16 +30,20 @@ returns-in_err-value-clause-stop c =
     rw (q.1, q.2)
     (λ z agrees. value_stop system c.args.growing.now.bounds c.args.unknown c.requires.unknown c.requires.kept.bounds z agrees c.args.edge
     c.requires.limited _ c.args.round c.in_err-value.field-0.0
-    (subst (λ n. IsValueStop system c.args.growing.now.bounds c.args.edge (c.args.unknown % n) c.args.round c.in_err-value.field-0.0) (ap (λ t. length t) c.as_slice.ensures.rows) c.in_err-value.ensures.stop))
+    (subst (λ n. IsValueStop system c.args.growing.now.bounds c.args.edge (c.args.unknown % n) c.args.round c.in_err-value.field-0.0)
+    (ap (λ t. length t) c.as_slice.ensures.rows) c.in_err-value.ensures.stop))
 
 pub returns-then-not-exceeds-clause-tested : goal.returns-then-not-exceeds-clause-tested
 returns-then-not-exceeds-clause-tested c z agrees =
     let system = c.args.system.now in
     let bounds = c.args.growing.now.bounds in
-    let value = subst (λ n. IsValueAt system bounds c.args.edge (c.args.unknown % n) c.in_ok-value.value) (ap (λ t. length t) c.as_slice.ensures.rows) c.in_ok-value.ensures.value in
+    let value = subst (λ n. IsValueAt system bounds c.args.edge (c.args.unknown % n) c.in_ok-value.value)
+    (ap (λ t. length t) c.as_slice.ensures.rows) c.in_ok-value.ensures.value in
     record {
-      within = stays system bounds c.args.unknown c.requires.unknown c.requires.kept.bounds z agrees c.args.edge c.in_ok-value.value value (extended c.at.result) c.at.ensures
-          (λ h. true≢false (sym (c.exceeds.ensures.1 (subst (λ v. extended c.at.result <ᴱ v) (sym c.supremum.ensures) h)) ∙ c.if-not-exceeds.true));
+      within = stays system bounds c.args.unknown c.requires.unknown c.requires.kept.bounds z agrees c.args.edge c.in_ok-value.value value
+          (extended c.at.result) c.at.ensures
+          (λ h. true≢false (sym (c.exceeds.ensures.1 (subst (λ v. extended c.at.result <ᴱ v) (sym c.supremum.ensures) h))
+          ∙ c.if-not-exceeds.true));
       bounds = refl;
       raised = refl;
       steps = refl;
@@ -48,12 +53,16 @@ pub returns-then-not-exceeds-clause-quiet : goal.returns-then-not-exceeds-clause
 returns-then-not-exceeds-clause-quiet c =
     let system = c.args.system.now in
     let bounds = c.args.growing.now.bounds in
-    let value = subst (λ n. IsValueAt system bounds c.args.edge (c.args.unknown % n) c.in_ok-value.value) (ap (λ t. length t) c.as_slice.ensures.rows) c.in_ok-value.ensures.value in
+    let value = subst (λ n. IsValueAt system bounds c.args.edge (c.args.unknown % n) c.in_ok-value.value)
+    (ap (λ t. length t) c.as_slice.ensures.rows) c.in_ok-value.ensures.value in
     let size = c.requires.quiet.size in
     let unknown = c.requires.unknown in
-    quiet_more system c.args.pick.now c.args.growing.now _ c.args.unknown c.requires.quiet c.args.edge c.requires.edge (omega (arith, size, unknown)) refl refl
-    (stays_within system bounds c.args.unknown c.requires.unknown c.requires.kept.bounds (vector_at system bounds) (λ p r l. refl) c.args.edge c.in_ok-value.value value (extended c.at.result) c.at.ensures
-    (λ h. true≢false (sym (c.exceeds.ensures.1 (subst (λ v. extended c.at.result <ᴱ v) (sym c.supremum.ensures) h)) ∙ c.if-not-exceeds.true)))
+    quiet_more system c.args.pick.now c.args.growing.now _ c.args.unknown c.requires.quiet c.args.edge c.requires.edge
+    (omega (arith, size, unknown)) refl refl
+    (stays_within system bounds c.args.unknown c.requires.unknown c.requires.kept.bounds (vector_at system bounds) (λ p r l. refl)
+    c.args.edge c.in_ok-value.value value (extended c.at.result) c.at.ensures
+    (λ h. true≢false (sym (c.exceeds.ensures.1 (subst (λ v. extended c.at.result <ᴱ v) (sym c.supremum.ensures) h))
+    ∙ c.if-not-exceeds.true)))
 
 pub returns-clause-quiet : goal.returns-clause-quiet
 returns-clause-quiet c =
@@ -61,68 +70,92 @@ returns-clause-quiet c =
     let value : c.deref_mut.result.now ≡ c.args.growing.now.quiet.items = c.deref_mut.ensures.value in
     let size : length c.wake.new.quiet ≡ length c.deref_mut.result.now = c.wake.ensures.size in
     let awake : (u : ℕ) → get_or c.wake.new.quiet u false ≡ true →
-    (get_or c.deref_mut.result.now u false ≡ true) × ((edge : ℕ) → get_or c.args.pick.now u None ≡ Some edge → (edge_at system edge).from ≡ c.args.unknown / length c.as_slice.result.now → ⊥) = c.wake.ensures.quiet in
+    (get_or c.deref_mut.result.now u false ≡ true) × ((edge : ℕ) → get_or c.args.pick.now u None ≡ Some edge
+    → (edge_at system edge).from ≡ c.args.unknown / length c.as_slice.result.now → ⊥) = c.wake.ensures.quiet in
     let items : (with_items c.args.growing.now.quiet c.wake.new.quiet).items ≡ c.wake.new.quiet =
     with_items_is c.args.growing.now.quiet c.wake.new.quiet (size ∙ ap (λ l. length l) value ∙ sym c.args.growing.now.quiet.ok.0) in
     quiet_raised system c.args.pick.now c.args.growing.now
-    (record { bounds = c.set.new.self; raised = with_item c.args.growing.now.raised c.args.unknown true; quiet = with_items c.args.growing.now.quiet c.wake.new.quiet; steps = c.push.new.self })
-    c.args.unknown c.requires.quiet (bound_given c.in_ok-step.step) c.requires.awake (c.set.ensures ∙ ap (slice_set c.args.growing.now.bounds c.args.unknown) c.new_bound.ensures) (ap (λ l. length l) items ∙ size ∙ ap (λ l. length l) value)
+    (record {
+      bounds = c.set.new.self;
+      raised = with_item c.args.growing.now.raised c.args.unknown true;
+      quiet =
+          with_items c.args.growing.now.quiet c.wake.new.quiet;
+      steps = c.push.new.self;
+    })
+    c.args.unknown c.requires.quiet (bound_given c.in_ok-step.step) c.requires.awake
+    (c.set.ensures ∙ ap (slice_set c.args.growing.now.bounds c.args.unknown) c.new_bound.ensures)
+    (ap (λ l. length l) items ∙ size ∙ ap (λ l. length l) value)
     (λ u m. (
       sym (ap (λ l. get_or l u false) value) ∙ (awake u (sym (ap (λ l. get_or l u false) items) ∙ m)).0,
-      λ edge e. subst (λ n. (edge_at system edge).from ≡ c.args.unknown / n → ⊥) (ap (λ t. length t) c.as_slice.ensures.rows) ((awake u (sym (ap (λ l. get_or l u false) items) ∙ m)).1 edge e),
+      λ edge e. subst (λ n. (edge_at system edge).from ≡ c.args.unknown / n → ⊥) (ap (λ t. length t) c.as_slice.ensures.rows)
+          ((awake u (sym (ap (λ l. get_or l u false) items) ∙ m)).1 edge e),
     ))
 
 pub raising_step-requires-clause-sizes : goal.raising_step-requires-clause-sizes
 raising_step-requires-clause-sizes c =
     let system = c.args.system.now in
     value_sizes system c.args.growing.now.bounds c.args.edge c.args.unknown c.in_ok-value.value
-    (subst (λ n. IsValueAt system c.args.growing.now.bounds c.args.edge (c.args.unknown % n) c.in_ok-value.value) (ap (λ t. length t) c.as_slice.ensures.rows) c.in_ok-value.ensures.value)
+    (subst (λ n. IsValueAt system c.args.growing.now.bounds c.args.edge (c.args.unknown % n) c.in_ok-value.value)
+    (ap (λ t. length t) c.as_slice.ensures.rows) c.in_ok-value.ensures.value)
 
 pub raising_step-requires-clause-rises : goal.raising_step-requires-clause-rises
 raising_step-requires-clause-rises c =
     let system = c.args.system.now in
     value_rises system c.args.growing.now.bounds c.args.edge c.args.unknown c.in_ok-value.value
-    (subst (λ n. IsValueAt system c.args.growing.now.bounds c.args.edge (c.args.unknown % n) c.in_ok-value.value) (ap (λ t. length t) c.as_slice.ensures.rows) c.in_ok-value.ensures.value)
+    (subst (λ n. IsValueAt system c.args.growing.now.bounds c.args.edge (c.args.unknown % n) c.in_ok-value.value)
+    (ap (λ t. length t) c.as_slice.ensures.rows) c.in_ok-value.ensures.value)
 
 pub returns-in_err-step-clause-stop : goal.returns-in_err-step-clause-stop
 returns-in_err-step-clause-stop c =
     let system = c.args.system.now in
     let bounds = c.args.growing.now.bounds in
-    let value = subst (λ n. IsValueAt system bounds c.args.edge (c.args.unknown % n) c.in_ok-value.value) (ap (λ t. length t) c.as_slice.ensures.rows) c.in_ok-value.ensures.value in
+    let value = subst (λ n. IsValueAt system bounds c.args.edge (c.args.unknown % n) c.in_ok-value.value)
+    (ap (λ t. length t) c.as_slice.ensures.rows) c.in_ok-value.ensures.value in
     let exceeds : extended c.at-bound.result <ᴱ number_of c.in_ok-value.value =
-    subst (λ b. b <ᴱ number_of c.in_ok-value.value) (c.at.ensures ∙ sym c.at-bound.ensures) (subst (λ v. extended c.at.result <ᴱ v) c.supremum.ensures (c.exceeds.ensures.0 c.if-not-exceeds.false)) in
+    subst (λ b. b <ᴱ number_of c.in_ok-value.value) (c.at.ensures ∙ sym c.at-bound.ensures)
+    (subst (λ v. extended c.at.result <ᴱ v) c.supremum.ensures (c.exceeds.ensures.0 c.if-not-exceeds.false)) in
     let q = err_from_is_err_and c.from_residual-in_err-step.result c.from_residual-in_err-step.ensures.1 in
     rw (q.1, q.2)
-    (λ z agrees. step_stop system bounds c.args.unknown c.requires.unknown c.requires.kept.bounds z agrees c.args.edge c.in_ok-value.value value (extended c.at-bound.result) c.at-bound.ensures exceeds (length c.args.growing.now.steps.items) c.args.round
+    (λ z agrees. step_stop system bounds c.args.unknown c.requires.unknown c.requires.kept.bounds z agrees c.args.edge c.in_ok-value.value
+    value (extended c.at-bound.result) c.at-bound.ensures exceeds (length c.args.growing.now.steps.items) c.args.round
     c.in_err-step.field-0.0
-    (subst (λ n. IsStepStop (raise_operations (equations_of system) (tested system c.args.edge c.args.unknown) (extended c.at-bound.result) c.in_ok-value.value) n c.args.round c.in_err-step.field-0.0) (c.len-raises.ensures ∙ c.args.growing.now.steps.ok.0)
+    (subst (λ n. IsStepStop (raise_operations (equations_of system) (tested system c.args.edge c.args.unknown) (extended c.at-bound.result)
+    c.in_ok-value.value) n c.args.round c.in_err-step.field-0.0) (c.len-raises.ensures ∙ c.args.growing.now.steps.ok.0)
     c.in_err-step.ensures.stop))
 
 pub new_bound-requires : goal.new_bound-requires
 new_bound-requires c =
     let system = c.args.system.now in
     let exceeds : extended c.at-bound.result <ᴱ number_of c.in_ok-value.value =
-    subst (λ b. b <ᴱ number_of c.in_ok-value.value) (c.at.ensures ∙ sym c.at-bound.ensures) (subst (λ v. extended c.at.result <ᴱ v) c.supremum.ensures (c.exceeds.ensures.0 c.if-not-exceeds.false)) in
+    subst (λ b. b <ᴱ number_of c.in_ok-value.value) (c.at.ensures ∙ sym c.at-bound.ensures)
+    (subst (λ v. extended c.at.result <ᴱ v) c.supremum.ensures (c.exceeds.ensures.0 c.if-not-exceeds.false)) in
     has_item (length system.template) c.args.unknown c.in_ok-step.step
     (subst (NamesOne (length system.template) c.args.unknown) (sym c.in_ok-step.ensures.step)
-    (raised_names (equations_of system) (length system.template) c.args.edge c.args.unknown (extended c.at-bound.result) c.in_ok-value.value exceeds))
+    (raised_names (equations_of system) (length system.template) c.args.edge c.args.unknown (extended c.at-bound.result) c.in_ok-value.value
+    exceeds))
 
 pub returns-clause-kept : goal.returns-clause-kept
 returns-clause-kept c =
     let system = c.args.system.now in
     let exceeds : extended c.at-bound.result <ᴱ number_of c.in_ok-value.value =
-    subst (λ b. b <ᴱ number_of c.in_ok-value.value) (c.at.ensures ∙ sym c.at-bound.ensures) (subst (λ v. extended c.at.result <ᴱ v) c.supremum.ensures (c.exceeds.ensures.0 c.if-not-exceeds.false)) in
+    subst (λ b. b <ᴱ number_of c.in_ok-value.value) (c.at.ensures ∙ sym c.at-bound.ensures)
+    (subst (λ v. extended c.at.result <ᴱ v) c.supremum.ensures (c.exceeds.ensures.0 c.if-not-exceeds.false)) in
     kept_more system c.args.growing.now _ c.args.unknown _ c.in_ok-step.step c.requires.kept c.requires.unknown c.requires.unraised
     (subst (NamesOne (length system.template) c.args.unknown) (sym c.in_ok-step.ensures.step)
-    (raised_names (equations_of system) (length system.template) c.args.edge c.args.unknown (extended c.at-bound.result) c.in_ok-value.value exceeds))
+    (raised_names (equations_of system) (length system.template) c.args.edge c.args.unknown (extended c.at-bound.result) c.in_ok-value.value
+    exceeds))
     c.set.ensures refl c.in_ok-push.ensures.items
 
 pub returns-clause-tested : goal.returns-clause-tested
 returns-clause-tested c z agrees =
     let system = c.args.system.now in
     let bounds = c.args.growing.now.bounds in
-    let value = subst (λ n. IsValueAt system bounds c.args.edge (c.args.unknown % n) c.in_ok-value.value) (ap (λ t. length t) c.as_slice.ensures.rows) c.in_ok-value.ensures.value in
+    let value = subst (λ n. IsValueAt system bounds c.args.edge (c.args.unknown % n) c.in_ok-value.value)
+    (ap (λ t. length t) c.as_slice.ensures.rows) c.in_ok-value.ensures.value in
     let exceeds : extended c.at-bound.result <ᴱ number_of c.in_ok-value.value =
-    subst (λ b. b <ᴱ number_of c.in_ok-value.value) (c.at.ensures ∙ sym c.at-bound.ensures) (subst (λ v. extended c.at.result <ᴱ v) c.supremum.ensures (c.exceeds.ensures.0 c.if-not-exceeds.false)) in
-    go_is system bounds c.args.unknown c.requires.unknown c.requires.kept.bounds z agrees c.args.edge c.in_ok-value.value value (extended c.at-bound.result) c.at-bound.ensures exceeds c.args.growing.now _
-    c.in_ok-step.step c.in_ok-step.ensures.step (c.set.ensures ∙ ap (slice_set bounds c.args.unknown) c.new_bound.ensures) refl c.in_ok-push.ensures.items
+    subst (λ b. b <ᴱ number_of c.in_ok-value.value) (c.at.ensures ∙ sym c.at-bound.ensures)
+    (subst (λ v. extended c.at.result <ᴱ v) c.supremum.ensures (c.exceeds.ensures.0 c.if-not-exceeds.false)) in
+    go_is system bounds c.args.unknown c.requires.unknown c.requires.kept.bounds z agrees c.args.edge c.in_ok-value.value value
+    (extended c.at-bound.result) c.at-bound.ensures exceeds c.args.growing.now _
+    c.in_ok-step.step c.in_ok-step.ensures.step (c.set.ensures ∙ ap (slice_set bounds c.args.unknown) c.new_bound.ensures) refl
+    c.in_ok-push.ensures.items

@@ -20,6 +20,7 @@ returns-in-Err-Wide-clause-stop c =
       round = refl;
       part = c.in-Err-Wide.part;
       site = refl;
-      wide = subst (IsOperatorFault (equations_of system) (vector_at system c.args.bounds.now) (edge_at system c.args.edge) (row_at system c.args.row)) c.in-Err-Wide.field-0-is
+      wide = subst (IsOperatorFault (equations_of system) (vector_at system c.args.bounds.now) (edge_at system c.args.edge)
+          (row_at system c.args.row)) c.in-Err-Wide.field-0-is
           c.in-Err-Wide.ensures.refused;
     }

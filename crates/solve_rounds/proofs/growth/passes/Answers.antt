@@ -8,21 +8,24 @@ use Rattle.solve_rounds.proofs.growth.GrownTo.{growing_start, next_told, next_en
 use Rattle.solve_rounds.proofs.growth.passes.Goals as goal
 
 pub loop-init : goal.loop-init
-loop-init c = growing_start c.args.system.now c.args.pick.now c.args.growing.now.bounds c.args.growing.now c.requires.unraised refl c.requires.kept c.requires.quiet
+loop-init c = growing_start c.args.system.now c.args.pick.now c.args.growing.now.bounds c.args.growing.now c.requires.unraised refl
+    c.requires.kept c.requires.quiet
 
 pub loop-preserved : goal.loop-preserved
 loop-preserved c =
     let system = c.args.system.now in
     let bounds = c.args.growing.now.bounds in
     next_told system c.args.pick.now bounds c.loop.growing c.pass.new.growing c.in_ok-pass.field-0 c.loop.invariant
-    (c.in_ok-pass.ensures.passed (after_steps (steps_so_far system c.loop.growing) (vector_at system bounds)) c.loop.invariant.agrees) c.in_ok-pass.ensures.kept c.in_ok-pass.ensures.quiet c.if-branch.true
+    (c.in_ok-pass.ensures.passed (after_steps (steps_so_far system c.loop.growing) (vector_at system bounds)) c.loop.invariant.agrees)
+    c.in_ok-pass.ensures.kept c.in_ok-pass.ensures.quiet c.if-branch.true
 
 pub loop-smaller : goal.loop-smaller
 loop-smaller c =
     let system = c.args.system.now in
     let bounds = c.args.growing.now.bounds in
     let more = more_steps system c.args.pick.now bounds c.loop.growing c.pass.new.growing c.in_ok-pass.field-0 c.loop.invariant
-    (c.in_ok-pass.ensures.passed (after_steps (steps_so_far system c.loop.growing) (vector_at system bounds)) c.loop.invariant.agrees) c.if-branch.true in
+    (c.in_ok-pass.ensures.passed (after_steps (steps_so_far system c.loop.growing) (vector_at system bounds)) c.loop.invariant.agrees)
+    c.if-branch.true in
     let few = few_steps system c.pass.new.growing c.in_ok-pass.ensures.kept in
     omega arith
 
@@ -30,11 +33,13 @@ pub returns-in_err-pass-clause-stop : goal.returns-in_err-pass-clause-stop
 returns-in_err-pass-clause-stop c =
     let q = err_from_is_err_and c.from_residual.result c.from_residual.ensures.1 in
     rw (q.1, q.2)
-    (pass_stop c.args.system.now c.args.pick.now c.args.growing.now.bounds c.loop.growing c.loop.invariant c.args.round c.in_err-pass.field-0.0 c.in_err-pass.ensures.stop)
+    (pass_stop c.args.system.now c.args.pick.now c.args.growing.now.bounds c.loop.growing c.loop.invariant c.args.round
+    c.in_err-pass.field-0.0 c.in_err-pass.ensures.stop)
 
 pub returns-clause-grown : goal.returns-clause-grown
 returns-clause-grown c =
     let system = c.args.system.now in
     let bounds = c.args.growing.now.bounds in
     next_ended system c.args.pick.now bounds c.loop.growing c.pass.new.growing c.in_ok-pass.field-0 c.loop.invariant
-    (c.in_ok-pass.ensures.passed (after_steps (steps_so_far system c.loop.growing) (vector_at system bounds)) c.loop.invariant.agrees) c.if-branch.false
+    (c.in_ok-pass.ensures.passed (after_steps (steps_so_far system c.loop.growing) (vector_at system bounds)) c.loop.invariant.agrees)
+    c.if-branch.false

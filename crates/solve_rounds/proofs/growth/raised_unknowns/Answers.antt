@@ -10,5 +10,6 @@ loop-unknown-preserved c =
           ap (λ v. v.items) w.list-is ∙ w.in_ok-push.ensures.items ∙ ap (λ ns. ns ++ c.loop-unknown.unknown ∷ []) c.loop-unknown.invariant
           ∙ sym (marked_yes c.args.raised.now c.loop-unknown.unknown w.if-is_raised.true)
       | else-is_raised w ↦
-          ap (λ v. v.items) w.list-is ∙ c.loop-unknown.invariant ∙ sym (marked_no c.args.raised.now c.loop-unknown.unknown w.if-is_raised.false)
+          ap (λ v. v.items) w.list-is ∙ c.loop-unknown.invariant ∙ sym
+          (marked_no c.args.raised.now c.loop-unknown.unknown w.if-is_raised.false)
     ]

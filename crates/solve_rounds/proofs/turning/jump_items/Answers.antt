@@ -17,5 +17,6 @@ loop-k-preserved c =
     let q = get_or_read to k c.index-to-k.result (subst (λ n. k < n) (sym c.requires.numbers) l) c.index-to-k.is zero_ℚ in
     let h = get_or_read highs k c.index-highs-k.result (subst (λ n. k < n) (sym c.requires.traces) l) c.index-highs-k.is no_trace in
     c.in_ok-push.ensures.items
-    ∙ ap₂ (λ xs x. xs ++ x ∷ []) c.loop-k.invariant (c.in_ok-item.ensures.item ∙ jump_item_here raises places list to highs k c.index-to-k.result c.index-highs-k.result q h)
+    ∙ ap₂ (λ xs x. xs ++ x ∷ []) c.loop-k.invariant (c.in_ok-item.ensures.item
+    ∙ jump_item_here raises places list to highs k c.index-to-k.result c.index-highs-k.result q h)
     ∙ sym (jump_items_more raises places list to highs k)

@@ -25,5 +25,6 @@ loop-k-preserved c =
     let k = c.loop-k.k in
     let list = map (λ rate. rate.unknown) rates in
     c.set.ensures
-    ∙ ap₂ (λ bs u. slice_set bs u pos_inf) c.loop-k.invariant (sym (get_or-map (λ rate. rate.unknown) rates k c.index-rates-k.result 0 c.loop-k-test.true))
+    ∙ ap₂ (λ bs u. slice_set bs u pos_inf) c.loop-k.invariant (sym (get_or-map (λ rate. rate.unknown) rates k c.index-rates-k.result 0
+    c.loop-k-test.true))
     ∙ sym (puts-more (λ k. pos_inf) list c.args.bounds.now k)

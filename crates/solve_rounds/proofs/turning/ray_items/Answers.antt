@@ -8,5 +8,6 @@ ray_item-requires c =
     let rates = c.args.rates.now in
     let i = c.loop-rate.rate-index in
     let l = c.loop-rate-test.true in
-    subst (IsRaised c.args.raises.now c.args.places.now) (get_or-map (λ rate. rate.unknown) rates i c.rate-item.result 0 l ∙ ap (λ rate. rate.unknown) (sym c.rate-item.is))
+    subst (IsRaised c.args.raises.now c.args.places.now) (get_or-map (λ rate. rate.unknown) rates i c.rate-item.result 0 l
+    ∙ ap (λ rate. rate.unknown) (sym c.rate-item.is))
     (c.requires i (subst (λ n. i < n) (sym (length-map rates (λ rate. rate.unknown))) l))

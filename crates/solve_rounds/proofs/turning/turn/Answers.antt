@@ -28,4 +28,5 @@ returns-clause-turned c =
     let old = c.args.turning.now in
     let new = c.take.new.turning in
     MatchResult-weaker c.take.result c.take.ensures.taken
-    (λ left t. turned_is system pick c.requires.chosen c.args.raises.now c.args.places.now c.args.list.now c.requires.part c.requires.some old new left.items c.requires.bounds c.requires.condition c.in_ok-outcome.outcome c.in_ok-outcome.ensures.joined t) (λ e h. tt)
+    (λ left t. turned_is system pick c.requires.chosen c.args.raises.now c.args.places.now c.args.list.now c.requires.part c.requires.some
+    old new left.items c.requires.bounds c.requires.condition c.in_ok-outcome.outcome c.in_ok-outcome.ensures.joined t) (λ e h. tt)

@@ -14,7 +14,9 @@ use Rattle.solve_rounds.proofs.uppers.push_into.Goals.{then-edge-point+in_ok-upp
 
 pub loop-number-init : goal.loop-number-init
 loop-number-init c = record {
-  uppers = sym (ap (λ s. map evidence_of c.args.uppers.now.items ++ s) (uppers_none (equations_of c.args.system.now) (vector_at c.args.system.now c.args.bounds.now) c.args.point c.args.row c.as_slice-edge-items.result.now)
+  uppers = sym (ap (λ s. map evidence_of c.args.uppers.now.items ++ s)
+      (uppers_none (equations_of c.args.system.now) (vector_at c.args.system.now c.args.bounds.now) c.args.point c.args.row
+      c.as_slice-edge-items.result.now)
       ∙ append-nil (map evidence_of c.args.uppers.now.items));
   known = c.requires.known;
 }
@@ -36,12 +38,14 @@ loop-number-preserved c =
         uppers = ap (λ v. map evidence_of v.items) w.uppers-is
             ∙ pushed c.loop-number.uppers.items _ _ old _ w.in_ok-push.ensures.items c.loop-number.invariant.uppers
             ∙ ap (λ s. old ++ s)
-            (ap (λ u. uppers_to E z p r es i ++ u ∷ []) (w.in_ok-upper.ensures.upper ∙ ap (λ e. exact_upper E z e (row_at system r)) (edge_here system es i edge c.as_slice-edge-items.ensures l c.edge-item.is))
+            (ap (λ u. uppers_to E z p r es i ++ u ∷ []) (w.in_ok-upper.ensures.upper
+            ∙ ap (λ e. exact_upper E z e (row_at system r)) (edge_here system es i edge c.as_slice-edge-items.ensures l c.edge-item.is))
             ∙ uppers_yes E z p r es i edge l c.edge-item.is w.if-edge-point.true);
         known = subst (AreKnown system c.args.bounds.now) (sym w.known-is) w.in_ok-upper.ensures.known;
       }
       | else-edge-point w ↦ record {
-        uppers = ap (λ v. map evidence_of v.items) w.uppers-is ∙ c.loop-number.invariant.uppers ∙ ap (λ s. old ++ s) (uppers_no E z p r es i edge l c.edge-item.is w.if-edge-point.false);
+        uppers = ap (λ v. map evidence_of v.items) w.uppers-is ∙ c.loop-number.invariant.uppers
+            ∙ ap (λ s. old ++ s) (uppers_no E z p r es i edge l c.edge-item.is w.if-edge-point.false);
         known = subst (AreKnown system c.args.bounds.now) (sym w.known-is) c.loop-number.invariant.known;
       }
     ]

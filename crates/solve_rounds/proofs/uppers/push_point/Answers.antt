@@ -20,7 +20,8 @@ loop-row-preserved c =
     let p = c.args.point in
     let r = c.loop-row.row in
     let old = map evidence_of c.args.uppers.now.items in
-    let bound = ap is_top (c.at.ensures ∙ ap (λ n. get_or c.args.bounds.now (p * n + r) neg_inf) (ap (λ (t : List _). length t) c.as_slice.ensures.rows)) in
+    let bound = ap is_top (c.at.ensures ∙ ap (λ n. get_or c.args.bounds.now (p * n + r) neg_inf)
+    (ap (λ (t : List _). length t) c.as_slice.ensures.rows)) in
     elim c.if-not-is_unlimited.branch [
       | then-not-is_unlimited+in_ok-push_into w ↦ record {
         uppers = ap (λ v. map evidence_of v.items) w.uppers-is

@@ -18,7 +18,8 @@ loop-point-preserved c =
       later = omega arith;
       uppers = c.in_ok-push_point.ensures.uppers
           ∙ ap (λ s. s ++ uppers_of_rows E z p (length system.template)) c.loop-point.invariant.uppers
-          ∙ ap (λ q. uppers_of_points E z (p - 1) ++ uppers_of_rows E z q (length system.template)) (let e : p ≡ 1 + (p - 1) = omega arith in e)
+          ∙ ap (λ q. uppers_of_points E z (p - 1) ++ uppers_of_rows E z q (length system.template))
+          (let e : p ≡ 1 + (p - 1) = omega arith in e)
           ∙ points_more E z (p - 1)
           ∙ ap (uppers_of_points E z) (let e : p - 1 + 1 ≡ p + 1 - 1 = omega arith in e);
       known = c.in_ok-push_point.ensures.known;
@@ -33,5 +34,6 @@ returns-clause-uppers c =
     let two = (flow_sizes system.flow).two_points in
     let all : length c.as_slice.result.now ≡ length system.flow.points = ap (λ (ps : List _). length ps) c.as_slice.ensures in
     ap (map evidence_of) c.new.ensures ∙ c.loop-point.invariant.uppers
-    ∙ ap (λ n. uppers_of_points E z n) (let e : c.loop-point.point - 1 ≡ length system.flow.points - 1 = omega (arith, two, all, c.loop-point-test.false, c.loop-point.auto.point-end) in e)
+    ∙ ap (λ n. uppers_of_points E z n) (let e : c.loop-point.point - 1 ≡ length system.flow.points - 1 =
+    omega (arith, two, all, c.loop-point-test.false, c.loop-point.auto.point-end) in e)
     ∙ all_points E z

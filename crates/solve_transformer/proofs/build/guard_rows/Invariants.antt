@@ -7,4 +7,5 @@ use Rattle.solve_transformer.proofs.build.guard_rows.Given as goal
 
 abbrev pub invariant-loop-guard : goal.invariant-loop-guard
 invariant-loop-guard l = (width : ℕ) (forms : List Form) → l.guards ≡ map (dense width) forms →
-    map limit_of l.rows.items ++ map (split_limit width) (guard_limits (λ u. u) (drop l.guard-index forms)) ≡ map limit_of l.fn.rows.items ++ map (split_limit width) (guard_limits (λ u. u) forms)
+    map limit_of l.rows.items ++ map (split_limit width) (guard_limits (λ u. u) (drop l.guard-index forms))
+    ≡ map limit_of l.fn.rows.items ++ map (split_limit width) (guard_limits (λ u. u) forms)

@@ -8,4 +8,5 @@ use Rattle.solve_transformer.proofs.build.source_rows.Given as goal
 
 abbrev pub invariant-loop-r : goal.invariant-loop-r
 invariant-loop-r l = (n : ℕ) → IsTrue (is_over n l.template) →
-    map limit_of l.rows.items ++ map (split_limit l.width) (limits_left n (bounds_at l.source) l.template l.r) ≡ map limit_of l.fn.rows.items ++ map (split_limit l.width) (source_limits (λ k u. u) n (bounds_at l.source) l.template)
+    map limit_of l.rows.items ++ map (split_limit l.width) (limits_left n (bounds_at l.source) l.template l.r)
+    ≡ map limit_of l.fn.rows.items ++ map (split_limit l.width) (source_limits (λ k u. u) n (bounds_at l.source) l.template)

@@ -12,13 +12,17 @@ loop-row-preserved c =
     let few = c.loop-row.invariant.few in
     let one = c.finite_rows-count.ensures.few in
     let l = c.loop-row-test.true in
-    let read = bound_read c.args.source.now c.loop-row.row c.index-source-row.result (omega (arith, c.requires.room, l)) c.index-source-row.is in
+    let read = bound_read c.args.source.now c.loop-row.row c.index-source-row.result (omega (arith, c.requires.room, l))
+    c.index-source-row.is in
     record {
       count = λ template e y.
-          skip_more (bounds_at c.args.source.now) template c.loop-row.row (omega (arith, l, e)) y c.loop-row.count c.finite_rows-count.result (c.finite_rows-count.ensures.count ∙ ap finite_one (sym read)) (c.loop-row.invariant.count template e y);
+          skip_more (bounds_at c.args.source.now) template c.loop-row.row (omega (arith, l, e)) y c.loop-row.count
+          c.finite_rows-count.result (c.finite_rows-count.ensures.count ∙ ap finite_one (sym read))
+          (c.loop-row.invariant.count template e y);
       few = omega (arith, few, one);
     }
 
 pub returns-clause-count : goal.returns-clause-count
 returns-clause-count c = λ template e y.
-    c.loop-row.invariant.count template e y ∙ skip_all (bounds_at c.args.source.now) template (onward y c.loop-row.count) c.loop-row.row (omega (arith, e, c.loop-row-test.false))
+    c.loop-row.invariant.count template e y ∙ skip_all (bounds_at c.args.source.now) template (onward y c.loop-row.count) c.loop-row.row
+    (omega (arith, e, c.loop-row-test.false))

@@ -7,6 +7,7 @@ use Rattle.solve_transformer.proofs.read.count_finite.Given as goal
 
 abbrev pub invariant-loop-row : goal.invariant-loop-row
 invariant-loop-row l = record {
-  count : (template : List (List ℤ)) → l.rows ≡ length template → (y : ℕ → ℚ) → skip (bounds_at l.source) template y ≡ skip (later (bounds_at l.source) l.row) (drop l.row template) (λ k. y (l.count + k));
+  count : (template : List (List ℤ)) → l.rows ≡ length template → (y : ℕ → ℚ)
+      → skip (bounds_at l.source) template y ≡ skip (later (bounds_at l.source) l.row) (drop l.row template) (λ k. y (l.count + k));
   few : l.count ≤ l.row;
 }

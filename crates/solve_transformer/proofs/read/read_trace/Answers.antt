@@ -19,7 +19,8 @@ returns-in_err-start c =
     let m = c.args.frees in
     rw (p.1, p.2)
     (subst (λ os. IsFaultOf os c.in_err-start.field-0.0) (joined_differences x n m)
-    (sooner (map (difference x) (range_with_len 0 n)) (map (difference x) (range_with_len n m)) c.in_err-start.field-0.0 c.in_err-start.ensures))
+    (sooner (map (difference x) (range_with_len 0 n)) (map (difference x) (range_with_len n m)) c.in_err-start.field-0.0
+    c.in_err-start.ensures))
 
 pub returns-in_err-free : goal.returns-in_err-free
 returns-in_err-free c =
@@ -29,7 +30,8 @@ returns-in_err-free c =
     let m = c.args.frees in
     rw (p.1, p.2)
     (subst (λ os. IsFaultOf os c.in_err-free.field-0.0) (joined_differences x n m)
-    (later (map (difference x) (range_with_len 0 n)) (map (difference x) (range_with_len n m)) c.in_err-free.field-0.0 c.in_ok-start.ensures.1 c.in_err-free.ensures))
+    (later (map (difference x) (range_with_len 0 n)) (map (difference x) (range_with_len n m)) c.in_err-free.field-0.0
+    c.in_ok-start.ensures.1 c.in_err-free.ensures))
 
 pub returns : goal.returns
 returns c =
@@ -40,5 +42,6 @@ returns c =
         size = values_length (unsplit x) 0 n c.in_ok-start.start c.in_ok-start.ensures.0;
         word = joined_values (unsplit x) n m c.in_ok-start.start c.in_ok-free.free c.in_ok-start.ensures.0 c.in_ok-free.ensures.0;
       },
-      ap (first_wide long_limit) (sym (joined_differences x n m)) ∙ first_wide_later long_limit (map (difference x) (range_with_len 0 n)) (map (difference x) (range_with_len n m)) c.in_ok-start.ensures.1 ∙ c.in_ok-free.ensures.1,
+      ap (first_wide long_limit) (sym (joined_differences x n m)) ∙ first_wide_later long_limit (map (difference x) (range_with_len 0 n))
+          (map (difference x) (range_with_len n m)) c.in_ok-start.ensures.1 ∙ c.in_ok-free.ensures.1,
     )

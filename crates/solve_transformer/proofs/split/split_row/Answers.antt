@@ -8,10 +8,13 @@ use Rattle.solve_transformer.proofs.split.split_row.Goals as goal
 
 pub loop-column-preserved : goal.loop-column-preserved
 loop-column-preserved c =
-    pairs_range (λ k. get_or (map whole c.args.row.now) k zero_ℚ) c.loop-column.column c.row_entry-coeff.result c.negate.result c.loop-column.list.items c.push.new.self.items c.push-in-loop-column.new.self.items c.loop-column.invariant c.row_entry-coeff.ensures
+    pairs_range (λ k. get_or (map whole c.args.row.now) k zero_ℚ) c.loop-column.column c.row_entry-coeff.result c.negate.result
+    c.loop-column.list.items c.push.new.self.items c.push-in-loop-column.new.self.items c.loop-column.invariant
+    c.row_entry-coeff.ensures
     c.in_ok-push.ensures.items c.negate.ensures.value c.in_ok-push-2.ensures.items
 
 pub returns : goal.returns
 returns c =
-    c.loop-column.invariant ∙ ap (λ n. pairs (map (λ k. get_or (map whole c.args.row.now) k zero_ℚ) (range_with_len 0 n))) (let e : c.loop-column.column ≡ c.args.width = omega arith in e)
+    c.loop-column.invariant ∙ ap (λ n. pairs (map (λ k. get_or (map whole c.args.row.now) k zero_ℚ) (range_with_len 0 n)))
+    (let e : c.loop-column.column ≡ c.args.width = omega arith in e)
     ∙ ap pairs (entries-first c.args.width (map whole c.args.row.now))

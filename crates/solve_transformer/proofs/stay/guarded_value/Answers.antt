@@ -13,8 +13,10 @@ returns-in-Some c =
     let z = vector_at s c.args.bounds.now in
     let p = c.args.point in
     let rows = ap length c.as_slice-rows.ensures.rows in
-    let source = source_taken c.as_slice.result.now c.args.bounds.now (length s.template) (length c.as_slice-rows.result.now) p p c.as_slice.ensures rows refl in
-    let all = answered_lost (equations_of s) z (guarded_edge p c.args.guards.now) [] c.in-Some.lost (subst₂ (λ B m. IsLowestLost B m c.in-Some.lost) source rows c.in-Some.ensures) in
+    let source = source_taken c.as_slice.result.now c.args.bounds.now (length s.template) (length c.as_slice-rows.result.now) p p
+    c.as_slice.ensures rows refl in
+    let all = answered_lost (equations_of s) z (guarded_edge p c.args.guards.now) [] c.in-Some.lost
+    (subst₂ (λ B m. IsLowestLost B m c.in-Some.lost) source rows c.in-Some.ensures) in
     record { value = all.value; evidence = all.evidence; fits = all.fits; refused = all.refused }
 
 pub returns-in-None : goal.returns-in-None
@@ -23,7 +25,9 @@ returns-in-None c =
     let z = vector_at s c.args.bounds.now in
     let p = c.args.point in
     let rows = ap length c.as_slice-rows.ensures.rows in
-    let source = source_taken c.as_slice.result.now c.args.bounds.now (length s.template) (length c.as_slice-rows.result.now) p p c.as_slice.ensures rows refl in
-    let reached = none_at (z p) s.template (λ k l. subst (λ B. neg_inf <ᴱ B k) source (c.in-None.ensures k (subst (λ m. k < m) (sym rows) l))) in
+    let source = source_taken c.as_slice.result.now c.args.bounds.now (length s.template) (length c.as_slice-rows.result.now) p p
+    c.as_slice.ensures rows refl in
+    let reached = none_at (z p) s.template (λ k l. subst (λ B. neg_inf <ᴱ B k) source
+    (c.in-None.ensures k (subst (λ m. k < m) (sym rows) l))) in
     let all = c.solve_guards.ensures z p source reached in
     record { value = all.value; evidence = all.evidence; fits = all.fits; refused = all.refused }

@@ -5,9 +5,11 @@ use Rattle.solve_transformer.specs.Stays.{nothing}
 use Rattle.solve_transformer.proofs.stay.no_form.Goals as goal
 
 pub columns-preserved : goal.columns-preserved
-columns-preserved c = zeros_push c.columns.counter c.columns.coeffs.items c.push.new.self.items c.zero.result c.columns.invariant c.in_ok-push.ensures.items c.zero.ensures.value
+columns-preserved c = zeros_push c.columns.counter c.columns.coeffs.items c.push.new.self.items c.zero.result c.columns.invariant
+    c.in_ok-push.ensures.items c.zero.ensures.value
 
 pub returns : goal.returns
 returns c =
     let all : c.columns.counter ≡ c.args.width = omega arith in
-    affine_same c.new.result (first_entries c.args.width []) c.zero-2.result nothing.constant (c.new.ensures ∙ c.columns.invariant ∙ ap (λ n. first_entries n []) all) c.zero-2.ensures.value
+    affine_same c.new.result (first_entries c.args.width []) c.zero-2.result nothing.constant
+    (c.new.ensures ∙ c.columns.invariant ∙ ap (λ n. first_entries n []) all) c.zero-2.ensures.value

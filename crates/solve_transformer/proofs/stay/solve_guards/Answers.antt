@@ -18,7 +18,8 @@ solve_forms-requires-clause-forms c =
       vector = z;
       edge = guarded_edge 0 c.args.guards.now;
       row = [];
-      is = stay_source (equations_of s) z 0 c.args.guards.now c.requires.forms s.template refl c.args.source.now refl c.deref.result.now (c.deref.ensures.value ∙ c.in_ok-forms.ensures) c.in_ok-form.form n c.in_ok-form.ensures (ap length c.as_slice.ensures);
+      is = stay_source (equations_of s) z 0 c.args.guards.now c.requires.forms s.template refl c.args.source.now refl c.deref.result.now
+          (c.deref.ensures.value ∙ c.in_ok-forms.ensures) c.in_ok-form.form n c.in_ok-form.ensures (ap length c.as_slice.ensures);
     }
 
 pub returns : goal.returns
@@ -26,4 +27,5 @@ returns c = λ z point b none.
     let s = c.args.system.now in
     let n = length c.as_slice.result.now in
     c.solve_forms.ensures z (guarded_edge point c.args.guards.now) []
-    (stay_source (equations_of s) z point c.args.guards.now c.requires.forms s.template refl c.args.source.now b c.deref.result.now (c.deref.ensures.value ∙ c.in_ok-forms.ensures) c.in_ok-form.form n c.in_ok-form.ensures (ap length c.as_slice.ensures)) none
+    (stay_source (equations_of s) z point c.args.guards.now c.requires.forms s.template refl c.args.source.now b c.deref.result.now
+    (c.deref.ensures.value ∙ c.in_ok-forms.ensures) c.in_ok-form.form n c.in_ok-form.ensures (ap length c.as_slice.ensures)) none

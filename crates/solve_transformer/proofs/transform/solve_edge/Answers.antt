@@ -14,7 +14,8 @@ bounds-as_slice-row c =
     let e = edge_at s c.args.edge in
     let i = slice_get-get_or s.flow.edges c.args.edge _ c.requires.edge in
     let inside : EdgeForms = record { frees = c.path.inside.frees; guards = c.path.inside.guards; rows = c.path.inside.rows } in
-    let count = rows_are (equations_of s) c.args.paths.now c.requires.paths c.args.edge c.path-path.result.now inside c.path.view_is c.path-path.ensures e i in
+    let count = rows_are (equations_of s) c.args.paths.now c.requires.paths c.args.edge c.path-path.result.now inside c.path.view_is
+    c.path-path.ensures e i in
     let list = ap length c.as_slice.ensures in
     let row = c.requires.row in
     omega (arith, count, list, row)
@@ -42,8 +43,10 @@ solve_forms-requires-clause-forms c =
       vector = z;
       edge = e;
       row = row_at s c.args.row;
-      is = source_from (equations_of s) c.args.paths.now c.requires.paths c.args.edge c.path-path.result.now inside c.path.view_is c.path-path.ensures e i z c.args.row (row_at s c.args.row) j (length s.flow.names + frees) columns s.template refl
-          c.args.source.now b c.as_slice-2.result.now c.as_slice.result.now c.as_slice-2.ensures c.as_slice.ensures c.index-as_slice-row.result c.index-as_slice-row.is;
+      is = source_from (equations_of s) c.args.paths.now c.requires.paths c.args.edge c.path-path.result.now inside c.path.view_is
+          c.path-path.ensures e i z c.args.row (row_at s c.args.row) j (length s.flow.names + frees) columns s.template refl
+          c.args.source.now b c.as_slice-2.result.now c.as_slice.result.now c.as_slice-2.ensures c.as_slice.ensures
+          c.index-as_slice-row.result c.index-as_slice-row.is;
     }
 
 pub returns : goal.returns
@@ -57,5 +60,7 @@ returns c = λ z b none.
     let frees = c.frees-frees.result in
     let columns = width_is (length s.flow.names) frees e.actions (c.frees-frees.ensures p.forms p.here ∙ p.frees) in
     c.solve_forms.ensures z e (row_at s c.args.row)
-    (source_from (equations_of s) c.args.paths.now c.requires.paths c.args.edge c.path-path.result.now inside c.path.view_is c.path-path.ensures e i z c.args.row (row_at s c.args.row) j (length s.flow.names + frees) columns s.template refl
-    c.args.source.now b c.as_slice-2.result.now c.as_slice.result.now c.as_slice-2.ensures c.as_slice.ensures c.index-as_slice-row.result c.index-as_slice-row.is) none
+    (source_from (equations_of s) c.args.paths.now c.requires.paths c.args.edge c.path-path.result.now inside c.path.view_is
+    c.path-path.ensures e i z c.args.row (row_at s c.args.row) j (length s.flow.names + frees) columns s.template refl
+    c.args.source.now b c.as_slice-2.result.now c.as_slice.result.now c.as_slice-2.ensures c.as_slice.ensures c.index-as_slice-row.result
+    c.index-as_slice-row.is) none

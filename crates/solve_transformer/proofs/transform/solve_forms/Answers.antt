@@ -15,7 +15,8 @@ solve_problem-requires-clause-shaped c =
     let n = length c.as_slice.result.now in
     let columns = ap (λ m. m + c.args.frees) (ap length c.as_slice.ensures) in
     let template = c.as_slice-template.result.now in
-    let source = source_moved system h.vector h.edge h.row (length s.flow.names + c.args.frees) (n + c.args.frees) s.template template c.args.source.now c.args.guards.now c.args.form.now columns c.as_slice-template.ensures.rows h.is in
+    let source = source_moved system h.vector h.edge h.row (length s.flow.names + c.args.frees) (n + c.args.frees) s.template template
+    c.args.source.now c.args.guards.now c.args.form.now columns c.as_slice-template.ensures.rows h.is in
     (c.in-Ok.ensures system h.vector h.edge h.row (template_over s) source).1
 
 pub returns-in-Ok : goal.returns-in-Ok
@@ -27,9 +28,12 @@ returns-in-Ok c = λ z edge row is none.
     let w = n + c.args.frees in
     let template = c.as_slice-template.result.now in
     let guards = c.args.guards.now in
-    let source = source_moved system z edge row (length s.flow.names + c.args.frees) w s.template template c.args.source.now guards c.args.form.now (ap (λ m. m + c.args.frees) same) c.as_slice-template.ensures.rows is in
+    let source = source_moved system z edge row (length s.flow.names + c.args.frees) w s.template template c.args.source.now guards
+    c.args.form.now (ap (λ m. m + c.args.frees) same) c.as_slice-template.ensures.rows is in
     let problem = c.in-Ok.ensures system z edge row (template_over s) source in
     let P = exact (λ (q : ℚ). q) c.in-Ok.problem in
     let has = sizes_for system z edge row w template c.args.source.now guards c.args.form.now source (length guards) refl P problem.0 in
-    answered_solved system z edge row w template c.args.source.now guards c.args.form.now source P problem.0 n same (length guards) refl none
-    c.solve_problem.result (c.solve_problem.ensures.value template refl has) c.solve_problem.ensures.pivots (c.solve_problem.ensures.reading template refl has) (c.solve_problem.ensures.refused template refl has)
+    answered_solved system z edge row w template c.args.source.now guards c.args.form.now source P problem.0 n same (length guards) refl
+    none
+    c.solve_problem.result (c.solve_problem.ensures.value template refl has) c.solve_problem.ensures.pivots
+    (c.solve_problem.ensures.reading template refl has) (c.solve_problem.ensures.refused template refl has)

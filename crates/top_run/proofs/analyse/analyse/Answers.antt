@@ -21,47 +21,72 @@ returns-in-Ok-clause-answer g c = texts_answer _ _ _ _ _ _ c.in-Ok.ensures.input
 
 pub returns-in-Ok-clause-held : goal.returns-in-Ok-clause-held
 returns-in-Ok-clause-held g c =
-    output_map (IsPutOf c.args.purpose c.in-Ok.inputs.text.items (domain_of c.in-Ok.inputs.rows) c.args.analysis.policy c.args.analysis.improvements)
+    output_map (IsPutOf c.args.purpose c.in-Ok.inputs.text.items (domain_of c.in-Ok.inputs.rows) c.args.analysis.policy
+    c.args.analysis.improvements)
     (IsReportOn (g.S.Shelf.files c.args.shelf.now) (Analyse c.args.purpose (analysis_text c.args.analysis))) _ _ _
     (λ bytes report. (c.in-Ok.inputs.text.items, domain_of c.in-Ok.inputs.rows, c.in-Ok.ensures.inputs, report)) c.answer.ensures.held
 
 pub returns-in-Ok-clause-line : goal.returns-in-Ok-clause-line
 returns-in-Ok-clause-line g c =
-    λ text told h. c.answer.ensures.line ∙ ap (λ t. line_in t c.answer.result.status) (content_once _ _ _ _ told c.in-Ok.ensures.inputs.program h)
+    λ text told h. c.answer.ensures.line ∙ ap (λ t. line_in t c.answer.result.status)
+    (content_once _ _ _ _ told c.in-Ok.ensures.inputs.program h)
 
 pub returns-in-Ok-clause-rows : goal.returns-in-Ok-clause-rows
 returns-in-Ok-clause-rows g c =
     λ text rows system told inputs is. c.answer.ensures.rows system
-    (subst (λ r. IsSolvedSystem c.in-Ok.inputs.text.items r system) (with_text_once _ _ _ _ told inputs.rows_are c.in-Ok.ensures.inputs.rows_are)
+    (subst (λ r. IsSolvedSystem c.in-Ok.inputs.text.items r system) (with_text_once _ _ _ _ told inputs.rows_are
+    c.in-Ok.ensures.inputs.rows_are)
     (subst (λ t. IsSolvedSystem t rows system) (content_once _ _ _ _ told inputs.program c.in-Ok.ensures.inputs.program) is))
 
 pub returns-in-Err-clause-answer : goal.returns-in-Err-clause-answer
 returns-in-Err-clause-answer g c =
-    subst (λ s. IsAnswerTo (g.S.Shelf.files c.args.shelf.now) (Analyse c.args.purpose (analysis_text c.args.analysis)) s) (sym c.plain_ending.ensures.status)
-    (unloaded_answer (g.S.Shelf.files c.args.shelf.now) (Analyse c.args.purpose (analysis_text c.args.analysis)) (g.S.Shelf.faults c.args.shelf.now) (g.S.Shelf.faults c.load.new.shelf) (g.S.Shelf.last_failed c.load.new.shelf) c.in-Err.status (c.in-Err.ensures.refused []))
+    subst (λ s. IsAnswerTo (g.S.Shelf.files c.args.shelf.now) (Analyse c.args.purpose (analysis_text c.args.analysis)) s)
+    (sym c.plain_ending.ensures.status)
+    (unloaded_answer (g.S.Shelf.files c.args.shelf.now) (Analyse c.args.purpose (analysis_text c.args.analysis))
+    (g.S.Shelf.faults c.args.shelf.now) (g.S.Shelf.faults c.load.new.shelf) (g.S.Shelf.last_failed c.load.new.shelf) c.in-Err.status
+    (c.in-Err.ensures.refused []))
 
 pub returns-in-Err-clause-failed : goal.returns-in-Err-clause-failed
 returns-in-Err-clause-failed g c =
-    subst (λ s. FailsOnlyIn (g.S.Shelf.files c.args.shelf.now) (g.S.Shelf.faults c.args.shelf.now) (g.S.Shelf.faults c.load.new.shelf) (g.S.Shelf.last_failed c.load.new.shelf)
+    subst (λ s. FailsOnlyIn (g.S.Shelf.files c.args.shelf.now) (g.S.Shelf.faults c.args.shelf.now) (g.S.Shelf.faults c.load.new.shelf)
+    (g.S.Shelf.last_failed c.load.new.shelf)
     (Analyse c.args.purpose (analysis_text c.args.analysis)) s) (sym c.plain_ending.ensures.status)
-    (unloaded_failed (g.S.Shelf.files c.args.shelf.now) (Analyse c.args.purpose (analysis_text c.args.analysis)) (g.S.Shelf.faults c.args.shelf.now) (g.S.Shelf.faults c.load.new.shelf) (g.S.Shelf.last_failed c.load.new.shelf) c.in-Err.status (c.in-Err.ensures.refused []))
+    (unloaded_failed (g.S.Shelf.files c.args.shelf.now) (Analyse c.args.purpose (analysis_text c.args.analysis))
+    (g.S.Shelf.faults c.args.shelf.now) (g.S.Shelf.faults c.load.new.shelf) (g.S.Shelf.last_failed c.load.new.shelf) c.in-Err.status
+    (c.in-Err.ensures.refused []))
 
 pub returns-in-Err-clause-held : goal.returns-in-Err-clause-held
 returns-in-Err-clause-held g c =
-    subst (λ s. OutputHolds (IsReportOn (g.S.Shelf.files c.args.shelf.now) (Analyse c.args.purpose (analysis_text c.args.analysis))) s (g.K.Sink.held c.args.out.now) (g.K.Sink.held c.args.out.now))
-    (sym c.plain_ending.ensures.status) (unloaded_held (IsReportOn (g.S.Shelf.files c.args.shelf.now) (Analyse c.args.purpose (analysis_text c.args.analysis))) (g.S.Shelf.files c.args.shelf.now) (files_of (Analyse c.args.purpose (analysis_text c.args.analysis))) (g.S.Shelf.faults c.args.shelf.now) (g.S.Shelf.faults c.load.new.shelf) (g.S.Shelf.last_failed c.load.new.shelf) c.in-Err.status (g.K.Sink.held c.args.out.now) (c.in-Err.ensures.refused []))
+    subst (λ s. OutputHolds (IsReportOn (g.S.Shelf.files c.args.shelf.now) (Analyse c.args.purpose (analysis_text c.args.analysis))) s
+    (g.K.Sink.held c.args.out.now) (g.K.Sink.held c.args.out.now))
+    (sym c.plain_ending.ensures.status) (unloaded_held (IsReportOn (g.S.Shelf.files c.args.shelf.now)
+    (Analyse c.args.purpose (analysis_text c.args.analysis))) (g.S.Shelf.files c.args.shelf.now)
+    (files_of (Analyse c.args.purpose (analysis_text c.args.analysis))) (g.S.Shelf.faults c.args.shelf.now)
+    (g.S.Shelf.faults c.load.new.shelf) (g.S.Shelf.last_failed c.load.new.shelf) c.in-Err.status (g.K.Sink.held c.args.out.now)
+    (c.in-Err.ensures.refused []))
 
 pub returns-in-Err-clause-pieces : goal.returns-in-Err-clause-pieces
-returns-in-Err-clause-pieces g c = λ d. absurd ((unloaded_undone (g.S.Shelf.files c.args.shelf.now) (files_of (Analyse c.args.purpose (analysis_text c.args.analysis))) (g.S.Shelf.faults c.args.shelf.now) (g.S.Shelf.faults c.load.new.shelf) (g.S.Shelf.last_failed c.load.new.shelf) c.in-Err.status (c.in-Err.ensures.refused [])).0 (sym c.plain_ending.ensures.status ∙ d))
+returns-in-Err-clause-pieces g c = λ d. absurd ((unloaded_undone (g.S.Shelf.files c.args.shelf.now)
+    (files_of (Analyse c.args.purpose (analysis_text c.args.analysis))) (g.S.Shelf.faults c.args.shelf.now)
+    (g.S.Shelf.faults c.load.new.shelf) (g.S.Shelf.last_failed c.load.new.shelf) c.in-Err.status (c.in-Err.ensures.refused [])).0
+    (sym c.plain_ending.ensures.status ∙ d))
 
 pub returns-in-Err-clause-write : goal.returns-in-Err-clause-write
-returns-in-Err-clause-write g c = λ w. absurd ((unloaded_undone (g.S.Shelf.files c.args.shelf.now) (files_of (Analyse c.args.purpose (analysis_text c.args.analysis))) (g.S.Shelf.faults c.args.shelf.now) (g.S.Shelf.faults c.load.new.shelf) (g.S.Shelf.last_failed c.load.new.shelf) c.in-Err.status (c.in-Err.ensures.refused [])).1 (sym c.plain_ending.ensures.status ∙ w))
+returns-in-Err-clause-write g c = λ w. absurd ((unloaded_undone (g.S.Shelf.files c.args.shelf.now)
+    (files_of (Analyse c.args.purpose (analysis_text c.args.analysis))) (g.S.Shelf.faults c.args.shelf.now)
+    (g.S.Shelf.faults c.load.new.shelf) (g.S.Shelf.last_failed c.load.new.shelf) c.in-Err.status (c.in-Err.ensures.refused [])).1
+    (sym c.plain_ending.ensures.status ∙ w))
 
 pub returns-in-Err-clause-line : goal.returns-in-Err-clause-line
 returns-in-Err-clause-line g c =
-    λ text told h. c.plain_ending.ensures.line ∙ unloaded_line text (g.S.Shelf.files c.args.shelf.now) (files_of (Analyse c.args.purpose (analysis_text c.args.analysis))) (g.S.Shelf.faults c.args.shelf.now) (g.S.Shelf.faults c.load.new.shelf) (g.S.Shelf.last_failed c.load.new.shelf) c.in-Err.status (c.in-Err.ensures.refused []) ∙ sym (ap (λ s. line_in text s) c.plain_ending.ensures.status)
+    λ text told h. c.plain_ending.ensures.line ∙ unloaded_line text (g.S.Shelf.files c.args.shelf.now)
+    (files_of (Analyse c.args.purpose (analysis_text c.args.analysis))) (g.S.Shelf.faults c.args.shelf.now)
+    (g.S.Shelf.faults c.load.new.shelf) (g.S.Shelf.last_failed c.load.new.shelf) c.in-Err.status (c.in-Err.ensures.refused [])
+    ∙ sym (ap (λ s. line_in text s) c.plain_ending.ensures.status)
 
 pub returns-in-Err-clause-rows : goal.returns-in-Err-clause-rows
 returns-in-Err-clause-rows g c =
-    λ text rows system told i is. c.plain_ending.ensures.rows ∙ unloaded_rows (length system.template) (g.S.Shelf.files c.args.shelf.now) (files_of (Analyse c.args.purpose (analysis_text c.args.analysis))) (g.S.Shelf.faults c.args.shelf.now) (g.S.Shelf.faults c.load.new.shelf) (g.S.Shelf.last_failed c.load.new.shelf) c.in-Err.status (c.in-Err.ensures.refused [])
+    λ text rows system told i is. c.plain_ending.ensures.rows ∙ unloaded_rows (length system.template) (g.S.Shelf.files c.args.shelf.now)
+    (files_of (Analyse c.args.purpose (analysis_text c.args.analysis))) (g.S.Shelf.faults c.args.shelf.now)
+    (g.S.Shelf.faults c.load.new.shelf) (g.S.Shelf.last_failed c.load.new.shelf) c.in-Err.status (c.in-Err.ensures.refused [])
     ∙ sym (ap (λ s. rows_of (length system.template) s) c.plain_ending.ensures.status)

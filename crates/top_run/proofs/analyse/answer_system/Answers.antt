@@ -12,13 +12,16 @@ returns-in-Err-clause-answer g c = halted_answer _ _ _ _ _ _ c.refused.ensures (
 
 pub returns-in-Err-certificate_of-clause-answer : goal.returns-in-Err-certificate_of-clause-answer
 returns-in-Err-certificate_of-clause-answer g c =
-    subst (λ p. IsAnswerToSystem p c.args.system.now c.args.policy c.args.limit c.refused-in-Err-certificate_of.result) (sym c.in-Certificate.is)
-    (halted_answer Certificate c.args.system.now c.args.policy c.args.limit c.in-Err-certificate_of.refusal c.refused-in-Err-certificate_of.result c.refused-in-Err-certificate_of.ensures c.in-Err-certificate_of.ensures.err)
+    subst (λ p. IsAnswerToSystem p c.args.system.now c.args.policy c.args.limit c.refused-in-Err-certificate_of.result)
+    (sym c.in-Certificate.is)
+    (halted_answer Certificate c.args.system.now c.args.policy c.args.limit c.in-Err-certificate_of.refusal
+    c.refused-in-Err-certificate_of.result c.refused-in-Err-certificate_of.ensures c.in-Err-certificate_of.ensures.err)
 
 pub returns-in-Ok-certificate_of-clause-answer : goal.returns-in-Ok-certificate_of-clause-answer
 returns-in-Ok-certificate_of-clause-answer g c =
     subst (λ p. IsAnswerToSystem p c.args.system.now c.args.policy c.args.limit c.put_certificate.result) (sym c.in-Certificate.is)
-    (put_system Certificate c.args.system.now c.args.policy c.args.limit _ _ c.put_certificate.result _ _ _ _ c.deref-in-Ok-certificate_of.ensures.value c.in-Ok-certificate_of.ensures.ok c.put_certificate.ensures.puts)
+    (put_system Certificate c.args.system.now c.args.policy c.args.limit _ _ c.put_certificate.result _ _ _ _
+    c.deref-in-Ok-certificate_of.ensures.value c.in-Ok-certificate_of.ensures.ok c.put_certificate.ensures.puts)
 
 pub returns-in-Err-clause-pieces : goal.returns-in-Err-clause-pieces
 returns-in-Err-clause-pieces g c = λ d. absurd (not_done _ _ c.refused.ensures d)
@@ -28,5 +31,6 @@ returns-in-Err-certificate_of-clause-pieces g c = λ d. absurd (not_done _ _ c.r
 
 pub returns-in-Ok-certificate_of-clause-pieces : goal.returns-in-Ok-certificate_of-clause-pieces
 returns-in-Ok-certificate_of-clause-pieces g c = λ d.
-    subst (λ p. IsTaken (pieces_by p) (g.K.Sink.held c.args.out.now) (g.K.Sink.held c.put_certificate.new.out) (g.K.Sink.taken c.args.out.now) (g.K.Sink.taken c.put_certificate.new.out))
+    subst (λ p. IsTaken (pieces_by p) (g.K.Sink.held c.args.out.now) (g.K.Sink.held c.put_certificate.new.out)
+    (g.K.Sink.taken c.args.out.now) (g.K.Sink.taken c.put_certificate.new.out))
     (sym c.in-Certificate.is) (c.put_certificate.ensures.pieces d)

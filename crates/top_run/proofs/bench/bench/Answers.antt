@@ -8,7 +8,8 @@ use Rattle.top_texts.proofs.bench.bench.Goals as goal
 
 pub returns-in-Ok-clause-answer : goal.returns-in-Ok-clause-answer
 returns-in-Ok-clause-answer g c =
-    put_answered (bench_question exact c.args.seed c.args.loops) _ _ _ _ _ _ (summary_ends c.args.seed c.args.loops _ c.in-Ok.ensures.ok) c.put_report.ensures.puts
+    put_answered (bench_question exact c.args.seed c.args.loops) _ _ _ _ _ _ (summary_ends c.args.seed c.args.loops _ c.in-Ok.ensures.ok)
+    c.put_report.ensures.puts
 
 pub returns-in-Err-clause-answer : goal.returns-in-Err-clause-answer
 returns-in-Err-clause-answer g c = unanswered (bench_question exact c.args.seed c.args.loops) _ _ c.refused.ensures c.in-Err.ensures.err

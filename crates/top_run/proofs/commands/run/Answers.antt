@@ -16,4 +16,5 @@ returns-clause-complete g c =
 
 pub returns-clause-message : goal.returns-clause-message
 returns-clause-message g c =
-    message_put _ _ _ c.obey-ending.result.line c.obey-ending.result.rows _ _ _ _ _ _ _ c.obey-ending.ensures.line c.obey-ending.ensures.rows c.tell.ensures.gets c.tell.ensures.piece
+    message_put _ _ _ c.obey-ending.result.line c.obey-ending.result.rows _ _ _ _ _ _ _ c.obey-ending.ensures.line
+    c.obey-ending.ensures.rows c.tell.ensures.gets c.tell.ensures.piece

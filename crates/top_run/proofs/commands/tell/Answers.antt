@@ -6,7 +6,8 @@ use Rattle.top_run.proofs.commands.tell.Goals as goal
 pub returns-then-ne-clause-gets : goal.returns-then-ne-clause-gets
 returns-then-ne-clause-gets g c =
     let other : c.args.ending.now.status ≢ Done = search rules in
-    told_by _ _ _ _ _ _ _ _ _ _ _ c.bytes.ensures.bytes c.make_message-message.ensures c.bytes.ensures.short other c.put.ensures.appends c.put.ensures.cause
+    told_by _ _ _ _ _ _ _ _ _ _ _ c.bytes.ensures.bytes c.make_message-message.ensures c.bytes.ensures.short other c.put.ensures.appends
+    c.put.ensures.cause
 
 pub returns-then-ne-clause-piece : goal.returns-then-ne-clause-piece
 returns-then-ne-clause-piece g c = one_piece _ _ _ _ _ _ _ _ c.bytes.ensures.bytes c.make_message-message.ensures c.put.ensures.takes

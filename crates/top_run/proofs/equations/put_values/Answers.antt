@@ -8,10 +8,12 @@ use Rattle.top_run.proofs.equations.put_values.Goals as goal
 
 pub returns-in-Ok-clause-answer : goal.returns-in-Ok-clause-answer
 returns-in-Ok-clause-answer g c =
-    put_answered (equations_question exact c.args.text.now c.args.policy c.args.limit) _ _ _ _ _ _ (values_end c.args.text.now c.args.policy c.args.limit _ c.in-Ok.ensures.ok) c.put_report.ensures.puts
+    put_answered (equations_question exact c.args.text.now c.args.policy c.args.limit) _ _ _ _ _ _
+    (values_end c.args.text.now c.args.policy c.args.limit _ c.in-Ok.ensures.ok) c.put_report.ensures.puts
 
 pub returns-in-Err-clause-answer : goal.returns-in-Err-clause-answer
-returns-in-Err-clause-answer g c = unanswered (equations_question exact c.args.text.now c.args.policy c.args.limit) _ _ c.refused.ensures c.in-Err.ensures.err
+returns-in-Err-clause-answer g c = unanswered (equations_question exact c.args.text.now c.args.policy c.args.limit) _ _ c.refused.ensures
+    c.in-Err.ensures.err
 
 pub returns-in-Err-clause-pieces : goal.returns-in-Err-clause-pieces
 returns-in-Err-clause-pieces g c = λ d. absurd (not_done _ _ c.refused.ensures d)

@@ -17,5 +17,6 @@ loop-rest-preserved g c =
     let line : lines_of c.loop-rest.rest.now ≡ c.split_at.result.0.now ∷ lines_of c.split_at.result.1.now =
     c.first_line.ensures.cut ∙ sym (ap₂ (λ a b. a ∷ lines_of b) c.split_at.ensures.front c.split_at.ensures.back) in (
       one_more _ _ _ _ _ _ _ _ _ _ _ _ _ c.loop-rest.invariant.0 cut c.in-Ok.ensures.appends c.in-Ok.ensures.cause c.in-Ok.ensures.spare,
-      next_taken _ _ _ _ _ _ _ c.loop-rest.invariant.1 line (let some = c.first_line.ensures.some in let same = c.split_at.ensures.front_len in omega arith) c.in-Ok.ensures.takes,
+      next_taken _ _ _ _ _ _ _ c.loop-rest.invariant.1 line (let some = c.first_line.ensures.some in
+          let same = c.split_at.ensures.front_len in omega arith) c.in-Ok.ensures.takes,
     )

@@ -13,7 +13,8 @@ returns-in-Ok-clause-answer g c =
     (report_end c.args.text.now (domain_of c.args.rows.now) c.args.policy c.args.limit _ c.in-Ok.ensures.ok) c.put_report.ensures.puts
 
 pub returns-in-Err-clause-answer : goal.returns-in-Err-clause-answer
-returns-in-Err-clause-answer g c = unanswered (transitions_question exact c.args.text.now (domain_of c.args.rows.now) c.args.policy c.args.limit) _ _ c.refused.ensures c.in-Err.ensures.err
+returns-in-Err-clause-answer g c = unanswered (transitions_question exact c.args.text.now (domain_of c.args.rows.now) c.args.policy
+    c.args.limit) _ _ c.refused.ensures c.in-Err.ensures.err
 
 pub returns-in-Err-clause-pieces : goal.returns-in-Err-clause-pieces
 returns-in-Err-clause-pieces g c = λ d. absurd (not_done _ _ c.refused.ensures d)

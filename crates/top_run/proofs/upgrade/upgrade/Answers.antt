@@ -22,6 +22,8 @@ returns-in-Ok-clause-held g c =
 pub returns-in-Err-clause-answer : goal.returns-in-Err-clause-answer
 returns-in-Err-clause-answer g c =
     subst (λ s. IsAnswerTo (g.S.Shelf.files c.args.shelf.now) (Upgrade c.args.certificate.now) s) (sym c.unloaded.ensures)
-    (unloaded_answer (g.S.Shelf.files c.args.shelf.now) (Upgrade c.args.certificate.now) (g.S.Shelf.faults c.args.shelf.now) (g.S.Shelf.faults c.load_file.new.shelf)
+    (unloaded_answer (g.S.Shelf.files c.args.shelf.now) (Upgrade c.args.certificate.now) (g.S.Shelf.faults c.args.shelf.now)
+    (g.S.Shelf.faults c.load_file.new.shelf)
     (g.S.Shelf.last_failed c.load_file.new.shelf) (unloaded which.Certificate c.in-Err.refusal)
-    (not_loaded _ (files_of (Upgrade c.args.certificate.now)) which.Certificate c.args.certificate.now _ _ _ c.in-Err.refusal (inl (refl, refl)) c.in-Err.ensures.refused))
+    (not_loaded _ (files_of (Upgrade c.args.certificate.now)) which.Certificate c.args.certificate.now _ _ _ c.in-Err.refusal
+    (inl (refl, refl)) c.in-Err.ensures.refused))

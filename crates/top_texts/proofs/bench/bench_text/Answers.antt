@@ -11,30 +11,36 @@ use Rattle.top_texts.proofs.bench.bench_text.Goals as goal
 
 pub system_on-requires-clause-short : goal.system_on-requires-clause-short
 system_on-requires-clause-short c =
-    subst (λ t. length t ≤ 65536) (sym (c.deref.ensures.value ∙ c.in_ok-text.ensures)) (c.generated_texts_read.ensures c.args.seed c.args.loops c.requires.few).short
+    subst (λ t. length t ≤ 65536) (sym (c.deref.ensures.value ∙ c.in_ok-text.ensures))
+    (c.generated_texts_read.ensures c.args.seed c.args.loops c.requires.few).short
 
 pub returns-in_err-system-clause-err : goal.returns-in_err-system-clause-err
 returns-in_err-system-clause-err c =
     let h : IsUnanswered (bench_question exact c.args.seed c.args.loops) c.in_err-system.field-0.0 =
     unread c.generated_texts_read.ensures c.args.seed c.args.loops c.requires.few _
-    (subst (λ t. IsRefusedBy t Intervals c.in_err-system.field-0.0) (c.deref.ensures.value ∙ c.in_ok-text.ensures) c.in_err-system.ensures.err) in
+    (subst (λ t. IsRefusedBy t Intervals c.in_err-system.field-0.0) (c.deref.ensures.value ∙ c.in_ok-text.ensures)
+    c.in_err-system.ensures.err) in
     search (rules, h)
 
 pub returns-in_err-solved-clause-err : goal.returns-in_err-solved-clause-err
 returns-in_err-solved-clause-err c =
     let h : IsUnanswered (bench_question exact c.args.seed c.args.loops) c.in_err-solved.field-0.0 =
     unended c.generated_texts_read.ensures c.args.seed c.args.loops c.requires.few c.in_ok-system.system _
-    (subst (λ t. IsSolvedSystem t Intervals c.in_ok-system.system) (c.deref.ensures.value ∙ c.in_ok-text.ensures) c.in_ok-system.ensures.ok) (c.in_err-solved.ensures.err Report) in
+    (subst (λ t. IsSolvedSystem t Intervals c.in_ok-system.system) (c.deref.ensures.value ∙ c.in_ok-text.ensures) c.in_ok-system.ensures.ok)
+    (c.in_err-solved.ensures.err Report) in
     search (rules, h)
 
 pub overflow_cast-as_slice : goal.overflow_cast-as_slice
 overflow_cast-as_slice c =
     let short = (c.generated_texts_read.ensures c.args.seed c.args.loops c.requires.few).short in
-    let size : length c.as_slice.result.now ≡ length (generated_text c.args.seed c.args.loops) = ap length (c.as_slice.ensures.value ∙ c.in_ok-text.ensures) in
+    let size : length c.as_slice.result.now ≡ length (generated_text c.args.seed c.args.loops) =
+    ap length (c.as_slice.ensures.value ∙ c.in_ok-text.ensures) in
     omega (arith, short, size)
 
 pub returns-clause-ok : goal.returns-clause-ok
 returns-clause-ok c =
-    summed c.generated_texts_read.ensures c.args.seed c.args.loops c.requires.few c.in_ok-system.system c.in_ok-solved.solved (length c.as_slice.result.now) c.in_ok-summary.field-0.items
+    summed c.generated_texts_read.ensures c.args.seed c.args.loops c.requires.few c.in_ok-system.system c.in_ok-solved.solved
+    (length c.as_slice.result.now) c.in_ok-summary.field-0.items
     (subst (λ t. IsSolvedSystem t Intervals c.in_ok-system.system) (c.deref.ensures.value ∙ c.in_ok-text.ensures) c.in_ok-system.ensures.ok)
-    c.in_ok-solved.ensures.solved c.in_ok-solved.ensures.least (ap length (c.as_slice.ensures.value ∙ c.in_ok-text.ensures)) c.in_ok-summary.ensures
+    c.in_ok-solved.ensures.solved c.in_ok-solved.ensures.least (ap length (c.as_slice.ensures.value ∙ c.in_ok-text.ensures))
+    c.in_ok-summary.ensures

@@ -8,19 +8,23 @@ use Rattle.top_texts.proofs.equations.equations_text.Goals as goal
 
 pub returns-in_err-equations-clause-err : goal.returns-in_err-equations-clause-err
 returns-in_err-equations-clause-err c =
-    let h : IsUnanswered (equations_question exact c.args.text.now c.args.policy c.args.limit) c.in_err-equations.field-0.0 = c.in_err-equations.ensures.err c.args.policy c.args.limit in
+    let h : IsUnanswered (equations_question exact c.args.text.now c.args.policy c.args.limit) c.in_err-equations.field-0.0 =
+    c.in_err-equations.ensures.err c.args.policy c.args.limit in
     search (rules, h)
 
 pub returns-in_err-solved-clause-err : goal.returns-in_err-solved-clause-err
 returns-in_err-solved-clause-err c =
     let h : IsUnanswered (equations_question exact c.args.text.now c.args.policy c.args.limit) c.in_err-solved.field-0.0 =
-    unsolved c.args.text.now c.args.policy c.args.limit c.in_ok-equations.equations c.in_ok-equations.ensures.ok c.in_ok-system.system c.in_ok-system.ensures.system _ (c.in_err-solved.ensures.err Report) in
+    unsolved c.args.text.now c.args.policy c.args.limit c.in_ok-equations.equations c.in_ok-equations.ensures.ok c.in_ok-system.system
+    c.in_ok-system.ensures.system _ (c.in_err-solved.ensures.err Report) in
     search (rules, h)
 
 pub returns-clause-ok : goal.returns-clause-ok
 returns-clause-ok c =
-    valued c.args.text.now c.args.policy c.args.limit c.in_ok-equations.equations c.in_ok-equations.ensures.ok c.in_ok-system.system c.in_ok-system.ensures.system
-    c.least_vectors_are_least_above.ensures.least c.least_above_equal_right_sides.ensures c.in_ok-equations.ensures.within c.in_ok-system.ensures.names
+    valued c.args.text.now c.args.policy c.args.limit c.in_ok-equations.equations c.in_ok-equations.ensures.ok c.in_ok-system.system
+    c.in_ok-system.ensures.system
+    c.least_vectors_are_least_above.ensures.least c.least_above_equal_right_sides.ensures c.in_ok-equations.ensures.within
+    c.in_ok-system.ensures.names
     c.in_ok-solved.solved c.in_ok-solved.ensures.solved c.in_ok-solved.ensures.least _ c.in_ok-lines_of.ensures
 
 pub lines_of-requires-clause-rows : goal.lines_of-requires-clause-rows

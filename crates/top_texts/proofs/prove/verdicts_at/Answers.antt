@@ -3,4 +3,5 @@ use Rattle.top_texts.proofs.prove.verdicts_at.Goals as goal
 
 pub returns-in-Err-clause-err : goal.returns-in-Err-clause-err
 returns-in-Err-clause-err c =
-    c.verdict_refusal.ensures (equations_of c.args.system.now) (vector_at c.args.system.now c.args.bounds.now) c.args.claims.now c.in-Err.ensures.refused
+    c.verdict_refusal.ensures (equations_of c.args.system.now) (vector_at c.args.system.now c.args.bounds.now) c.args.claims.now
+    c.in-Err.ensures.refused

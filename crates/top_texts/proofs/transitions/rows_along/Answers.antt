@@ -14,4 +14,9 @@ returns-in-Ok-clause-over c =
 pub returns-in-Err-clause-err : goal.returns-in-Err-clause-err
 returns-in-Err-clause-err c =
     λ text is. c.row_refusal.ensures text _
-    (λ other. (c.args.auto.now, is, subst (λ names. HasTemplate (domain_of c.args.rows.now) names (Err c.in-Err.fault)) c.as_slice.ensures (c.in-Err.ensures.refused other)))
+    (λ other. (
+      c.args.auto.now,
+      is,
+      subst (λ names. HasTemplate (domain_of c.args.rows.now) names (Err c.in-Err.fault)) c.as_slice.ensures
+          (c.in-Err.ensures.refused other),
+    ))

@@ -29,6 +29,8 @@ returns g c =
     let k : FitsSigned w128 c.sum_parts-n.result.0 = search rules in
     answered g.L.Limit.LIMIT _ c.answer.result
     (result_read c.sum_parts-n.result.0 c.sum_parts-n.result.1
-    (ratio (to_z w64 (of_z w64 c.self.inside.num)) c.self.inside.den +ℚ ratio (to_z w64 (of_z w64 c.right.inside.num)) c.right.inside.den) (c.args.self +ℚ c.args.right)
-    k c.sum_parts-n.ensures.sum (ap₂ (λ x y. x +ℚ y) (read_value c.self.invariant c.self.view_is f) (read_value c.right.invariant c.right.view_is h)))
+    (ratio (to_z w64 (of_z w64 c.self.inside.num)) c.self.inside.den +ℚ ratio (to_z w64 (of_z w64 c.right.inside.num)) c.right.inside.den)
+    (c.args.self +ℚ c.args.right)
+    k c.sum_parts-n.ensures.sum (ap₂ (λ x y. x +ℚ y) (read_value c.self.invariant c.self.view_is f)
+    (read_value c.right.invariant c.right.view_is h)))
     c.answer.ensures

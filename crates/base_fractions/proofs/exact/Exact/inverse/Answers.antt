@@ -6,10 +6,12 @@ pub invariant_of-result : goal.invariant_of-result
 invariant_of-result g c =
     let f : FitsSigned w64 c.self.inside.num = search rules in
     let k : FitsSigned w64 c.with_sign.result = search rules in
-    inv_kept g.L.Limit.limit_high c.self.invariant c.self.view_is f c.requires (inv_num g.L.Limit.limit_high c.self.invariant c.self.view_is f c.requires k c.with_sign.ensures) c.unsigned_abs.ensures.value
+    inv_kept g.L.Limit.limit_high c.self.invariant c.self.view_is f c.requires
+    (inv_num g.L.Limit.limit_high c.self.invariant c.self.view_is f c.requires k c.with_sign.ensures) c.unsigned_abs.ensures.value
 
 pub returns : goal.returns
 returns g c =
     let f : FitsSigned w64 c.self.inside.num = search rules in
     let k : FitsSigned w64 c.with_sign.result = search rules in
-    inv_made g.L.Limit.limit_high c.self.invariant c.self.view_is f c.requires (inv_num g.L.Limit.limit_high c.self.invariant c.self.view_is f c.requires k c.with_sign.ensures) c.unsigned_abs.ensures.value
+    inv_made g.L.Limit.limit_high c.self.invariant c.self.view_is f c.requires
+    (inv_num g.L.Limit.limit_high c.self.invariant c.self.view_is f c.requires k c.with_sign.ensures) c.unsigned_abs.ensures.value

@@ -16,4 +16,5 @@ returns-clause-value g c =
 pub returns-clause-fits : goal.returns-clause-fits
 returns-clause-fits g c =
     let f : FitsSigned w64 c.self.inside.num = search rules in
-    subst (λ q. Fits g.L.Limit.LIMIT q) (sym (neg_made g.L.Limit.limit_high c.self.invariant c.self.view_is f)) (neg_fits g.L.Limit.limit_high c.self.invariant c.self.view_is f)
+    subst (λ q. Fits g.L.Limit.LIMIT q) (sym (neg_made g.L.Limit.limit_high c.self.invariant c.self.view_is f))
+    (neg_fits g.L.Limit.limit_high c.self.invariant c.self.view_is f)

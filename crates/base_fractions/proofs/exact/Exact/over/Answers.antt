@@ -9,5 +9,8 @@ returns-in-Ok g c =
     (c.in-Ok.ensures.0 ∙ ap (λ x. c.args.self *ℚ x) c.inverse.ensures ∙ sym (div_ℚ_is c.args.self c.args.right), c.in-Ok.ensures.1)
 
 pub returns-in-Err : goal.returns-in-Err
-returns-in-Err g c =
-    (λ h. c.in-Err.ensures.0 (subst (λ q. Fits g.L.Limit.LIMIT q) (div_ℚ_is c.args.self c.args.right ∙ ap (λ x. c.args.self *ℚ x) (sym c.inverse.ensures)) h), refl)
+returns-in-Err g c = (
+  λ h. c.in-Err.ensures.0 (subst (λ q. Fits g.L.Limit.LIMIT q) (div_ℚ_is c.args.self c.args.right
+      ∙ ap (λ x. c.args.self *ℚ x) (sym c.inverse.ensures)) h),
+  refl,
+)

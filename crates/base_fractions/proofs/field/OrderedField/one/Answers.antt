@@ -5,7 +5,8 @@ use Rattle.base_fractions.proofs.field.OrderedField.one.Goals as goal
 
 pub unwrap-requires : goal.unwrap-requires
 unwrap-requires g c =
-    small_made g.Self.OrderedField.LIMIT g.Self.OrderedField.meaning (pos 1) c.make.result g.met.Self.OrderedField.limit_low (lit≤ tt) c.make.ensures
+    small_made g.Self.OrderedField.LIMIT g.Self.OrderedField.meaning (pos 1) c.make.result g.met.Self.OrderedField.limit_low (lit≤ tt)
+    c.make.ensures
 
 pub returns-clause-value : goal.returns-clause-value
 returns-clause-value g c =

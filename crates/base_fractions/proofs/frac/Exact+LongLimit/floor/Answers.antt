@@ -10,12 +10,14 @@ use Rattle.base_fractions.proofs.frac.Exact+LongLimit.floor.Goals as goal
 is_floor : (c : goal.After-div_euclid) → to_z w64 (of_z w64 c.div_euclid.result) ≡ floor c.args.self
 is_floor c =
     to_z-of_z w64 c.div_euclid.result record { sfits = c.div_euclid.type_inv } ∙ c.div_euclid.ensures
-    ∙ ap₂ int_div_euclid (to_z-of_z w64 c.num.result record { sfits = c.num.type_inv } ∙ c.num.ensures.value) (to_z-of_z w64 c.den.result record { sfits = c.den.type_inv } ∙ c.den.ensures.value)
+    ∙ ap₂ int_div_euclid (to_z-of_z w64 c.num.result record { sfits = c.num.type_inv } ∙ c.num.ensures.value)
+    (to_z-of_z w64 c.den.result record { sfits = c.den.type_inv } ∙ c.den.ensures.value)
     ∙ floor-euclid c.args.self
 
 pub div_euclid-requires-clause-nonzero : goal.div_euclid-requires-clause-nonzero
 div_euclid-requires-clause-nonzero c =
-    subst (λ z. 0 < of_z w64 z) (sym (to_z-of_z w64 c.den.result record { sfits = c.den.type_inv } ∙ c.den.ensures.value)) (den_pos c.args.self)
+    subst (λ z. 0 < of_z w64 z) (sym (to_z-of_z w64 c.den.result record { sfits = c.den.type_inv } ∙ c.den.ensures.value))
+    (den_pos c.args.self)
 
 pub returns-clause-value : goal.returns-clause-value
 returns-clause-value c = is_floor c

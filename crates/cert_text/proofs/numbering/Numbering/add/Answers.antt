@@ -17,7 +17,8 @@ on_err (Err f) e P h = tt
 pub returns-then-contains : goal.returns-then-contains
 returns-then-contains c =
     with_listed c.args.self.now c.args.trace.now
-    (sym (any_listed c.as_slice.result.now c.args.trace.now c.self.inside.texts.keys c.args.self.now (c.as_slice.ensures.value ∙ c.in_ok-text.ensures.text)
+    (sym (any_listed c.as_slice.result.now c.args.trace.now c.self.inside.texts.keys c.args.self.now
+    (c.as_slice.ensures.value ∙ c.in_ok-text.ensures.text)
     (c.self.invariant.0 ∙ ap (λ (ts : List Trace). map trace_text ts) c.self.view_is)) ∙ sym c.contains.ensures ∙ c.if-contains.true)
 
 pub invariant_of-self-in-Ok : goal.invariant_of-self-in-Ok
@@ -26,8 +27,10 @@ invariant_of-self-in-Ok c =
     let t = c.args.trace.now in
     let items : c.push.new.self.items ≡ ts ++ t ∷ [] = c.in_ok-push.ensures.items ∙ ap (λ (x : Trace). ts ++ x ∷ []) c.in_ok-copy.ensures in
     let new : is_listed ts t ≡ false =
-    sym (any_listed c.as_slice.result.now t c.self.inside.texts.keys ts (c.as_slice.ensures.value ∙ c.in_ok-text.ensures.text) c.self.invariant.0) ∙ sym c.contains.ensures ∙ c.if-contains.false in (
-      texts_more c.self.inside.texts.keys c.insert.new.self.keys c.in_ok-text.text ts t c.in_ok-text.ensures.text c.self.invariant.0 new c.in-Ok.ensures.keys ∙ ap (λ (xs : List Trace). map trace_text xs) (sym items),
+    sym (any_listed c.as_slice.result.now t c.self.inside.texts.keys ts (c.as_slice.ensures.value ∙ c.in_ok-text.ensures.text)
+    c.self.invariant.0) ∙ sym c.contains.ensures ∙ c.if-contains.false in (
+      texts_more c.self.inside.texts.keys c.insert.new.self.keys c.in_ok-text.text ts t c.in_ok-text.ensures.text c.self.invariant.0 new
+          c.in-Ok.ensures.keys ∙ ap (λ (xs : List Trace). map trace_text xs) (sym items),
       subst AreSpelt (sym items) (spelt_more ts t c.self.invariant.1 c.in_ok-text.ensures.spelt),
     )
 
@@ -37,8 +40,10 @@ returns c =
     let t = c.args.trace.now in
     let items : c.push.new.self.items ≡ ts ++ t ∷ [] = c.in_ok-push.ensures.items ∙ ap (λ (x : Trace). ts ++ x ∷ []) c.in_ok-copy.ensures in
     let new : is_listed ts t ≡ false =
-    sym (any_listed c.as_slice.result.now t c.self.inside.texts.keys ts (c.as_slice.ensures.value ∙ c.in_ok-text.ensures.text) c.self.invariant.0) ∙ sym c.contains.ensures ∙ c.if-contains.false in
+    sym (any_listed c.as_slice.result.now t c.self.inside.texts.keys ts (c.as_slice.ensures.value ∙ c.in_ok-text.ensures.text)
+    c.self.invariant.0) ∙ sym c.contains.ensures ∙ c.if-contains.false in
     elim c.match-insert.branch [
-      | in-Ok w ↦ on_any c.match-insert.result _ (w.self-is ∙ items ∙ with_new ts t new ∙ ap (λ (xs : List Trace). with_trace xs t) c.self.view_is)
+      | in-Ok w ↦ on_any c.match-insert.result _ (w.self-is ∙ items ∙ with_new ts t new
+          ∙ ap (λ (xs : List Trace). with_trace xs t) c.self.view_is)
       | in-Err w ↦ on_err c.match-insert.result _ _ w.result-is
     ]

@@ -10,4 +10,5 @@ use Rattle.cert_text.proofs.numbers.ExtNumeral.canonical.Goals as goal
 pub returns-in-Fin-clause-back : goal.returns-in-Fin-clause-back
 returns-in-Fin-clause-back c =
     let q = c.in-Fin.number in
-    subst (λ e. ext_of (bound_text (extended e)) ≡ Some e) (sym c.in-Fin.is) (fin_back q (frac_text_of (frac_text q) q c.canonical.ensures.back).1)
+    subst (λ e. ext_of (bound_text (extended e)) ≡ Some e) (sym c.in-Fin.is)
+    (fin_back q (frac_text_of (frac_text q) q c.canonical.ensures.back).1)

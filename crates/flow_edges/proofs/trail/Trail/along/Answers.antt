@@ -7,5 +7,6 @@ loop-action-init c = sym (followed_by_nothing c.in_ok-trail.trail (rw (← c.in_
 
 pub loop-action-preserved : goal.loop-action-preserved
 loop-action-preserved c =
-    followed_further _ _ _ c.as_slice-action-items.result.now c.loop-action.action-index c.action-item.result _ c.loop-action-test.true c.action-item.is
+    followed_further _ _ _ c.as_slice-action-items.result.now c.loop-action.action-index c.action-item.result _ c.loop-action-test.true
+    c.action-item.is
     c.in_ok-copy.ensures c.in_ok-add.ensures c.loop-action.invariant

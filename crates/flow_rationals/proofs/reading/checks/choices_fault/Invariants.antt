@@ -4,4 +4,5 @@ use Rattle.flow_rationals.specs.EquFaults.{choice_faults}
 use Rattle.flow_rationals.proofs.reading.checks.choices_fault.Given as goal
 
 abbrev pub invariant-loop-choice : goal.invariant-loop-choice
-invariant-loop-choice l = flat_map (choice_faults l.equations) l.choices ≡ flat_map (choice_faults l.equations) (drop l.choice-index l.choices)
+invariant-loop-choice l = flat_map (choice_faults l.equations) l.choices
+    ≡ flat_map (choice_faults l.equations) (drop l.choice-index l.choices)

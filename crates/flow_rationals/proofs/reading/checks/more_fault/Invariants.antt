@@ -5,4 +5,5 @@ use Rattle.flow_rationals.proofs.reading.checks.more_fault.Given as goal
 
 abbrev pub invariant-loop-i : goal.invariant-loop-i
 invariant-loop-i l =
-    flat_map (nth_sum_faults l.equations) (enumerate_from 1 l.sums) ≡ flat_map (nth_sum_faults l.equations) (enumerate_from (1 + l.i) (drop l.i l.sums))
+    flat_map (nth_sum_faults l.equations) (enumerate_from 1 l.sums) ≡ flat_map (nth_sum_faults l.equations)
+    (enumerate_from (1 + l.i) (drop l.i l.sums))

@@ -11,7 +11,8 @@ equation_of-requires-clause-few c = count_few c.args.equations.now c.requires.so
 
 pub equation_of-requires-clause-sound : goal.equation_of-requires-clause-sound
 equation_of-requires-clause-sound c =
-    flat_at (equation_faults c.args.equations.now) c.args.equations.now c.loop-equation.equation-index c.equation-item.result c.loop-equation-test.true
+    flat_at (equation_faults c.args.equations.now) c.args.equations.now c.loop-equation.equation-index c.equation-item.result
+    c.loop-equation-test.true
     c.equation-item.is (sides_sound c.args.equations.now c.requires.sound)
 
 pub new-requires : goal.new-requires

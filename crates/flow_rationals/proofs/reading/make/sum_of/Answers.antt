@@ -10,8 +10,10 @@ totals_of-totals-requires-clause-sound c = sound_zeros c.args.equations.now c.ar
 
 pub new-requires : goal.new-requires
 new-requires c =
-    let e : c.in_ok-coeffs.coeffs.items ≡ take (length c.args.equations.now) c.totals_of-totals.result = first_of (search rules, grind (arith, common_steps)) in
-    coefficients_numbers c.args.equations.now c.args.sum.now c.totals_of-totals.result c.in_ok-coeffs.coeffs.items c.requires.few c.requires.sound
+    let e : c.in_ok-coeffs.coeffs.items ≡ take (length c.args.equations.now) c.totals_of-totals.result =
+    first_of (search rules, grind (arith, common_steps)) in
+    coefficients_numbers c.args.equations.now c.args.sum.now c.totals_of-totals.result c.in_ok-coeffs.coeffs.items c.requires.few
+    c.requires.sound
     c.totals_of-totals.ensures e
 
 pub common_of-requires-clause-sound : goal.common_of-requires-clause-sound
@@ -19,8 +21,10 @@ common_of-requires-clause-sound c = sound_zeros c.args.equations.now c.args.sum.
 
 pub returns : goal.returns
 returns c =
-    let e : c.in_ok-coeffs.coeffs.items ≡ take (length c.args.equations.now) c.totals_of-totals.result = first_of (search rules, grind (arith, common_steps)) in
+    let e : c.in_ok-coeffs.coeffs.items ≡ take (length c.args.equations.now) c.totals_of-totals.result =
+    first_of (search rules, grind (arith, common_steps)) in
     let small = small_den c.args.equations.now c.args.sum.now (sound_small c.args.equations.now c.args.sum.now c.requires.sound) in
     let d : to_z w64 c.common_of.result ≡ pos (common_den (parts_of c.args.sum.now)) = omega (arith, ints, c.common_of.ensures, small) in
-    sum_made c.args.equations.now c.args.sum.now c.totals_of-totals.result c.new.result _ _ c.requires.few c.totals_of-totals.ensures (c.new.ensures ∙ e)
+    sum_made c.args.equations.now c.args.sum.now c.totals_of-totals.result c.new.result _ _ c.requires.few c.totals_of-totals.ensures
+    (c.new.ensures ∙ e)
     (search rules) d

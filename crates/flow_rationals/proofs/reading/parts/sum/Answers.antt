@@ -23,7 +23,8 @@ pub parts-preserved : goal.parts-preserved
 parts-preserved c = record {
   goes_on = λ s m h e.
       subst (λ (x : List Part). GoesOn c.in-Some.first x c.in-Some-part.after.now s m) (sym c.in_ok-push.ensures.items)
-      (sum_goes c.in-Some.first c.parts.more.items c.parts.rest.now c.in-Some-behind.others.now c.in-Some-part.after.now c.in-Some-part.next s m
+      (sum_goes c.in-Some.first c.parts.more.items c.parts.rest.now c.in-Some-behind.others.now c.in-Some-part.after.now c.in-Some-part.next
+      s m
       (c.parts.invariant.goes_on s m h e) h c.in-Some-behind.ensures c.in-Some-part.ensures.found);
   shorter = omega (arith, ap length c.in-Some-behind.ensures, c.in-Some-part.ensures.shorter, c.parts.invariant.shorter);
 }

@@ -4,4 +4,5 @@ use Rattle.flow_rationals.proofs.reading.scaled.quotient.Goals as goal
 
 pub unwrap-requires : goal.unwrap-requires
 unwrap-requires c =
-    made_some c.args.num c.args.den _ _ _ c.make.result (search rules) (search rules) c.requires.num c.requires.den c.requires.den_within c.make.ensures
+    made_some c.args.num c.args.den _ _ _ c.make.result (search rules) (search rules) c.requires.num c.requires.den c.requires.den_within
+    c.make.ensures

@@ -9,7 +9,8 @@ more_totals-requires-clause-start c = (c.in-Some.ensures [] c.none.ensures).1
 
 pub returns-in-Some : goal.returns-in-Some
 returns-in-Some c =
-    first_fits (λ (new : List ℤ). AreTotals new (map (amount c.args.equations.now c.args.common) (c.args.first.now ∷ c.args.more.now))) c.more_totals.result _ _
+    first_fits (λ (new : List ℤ). AreTotals new (map (amount c.args.equations.now c.args.common) (c.args.first.now ∷ c.args.more.now)))
+    c.more_totals.result _ _
     (c.in-Some.ensures [] c.none.ensures).0 c.more_totals.ensures
 
 pub returns-in-None : goal.returns-in-None

@@ -14,12 +14,14 @@ choices-preserved c = record {
       subst (λ (x : List Choice). ChoicesGoOn x c.in-Some-2.after.now cs m) (sym c.in_ok-push.ensures.items)
       (choices_go c.choices.choices.items c.choices.rest.now c.in-Some.others.now c.in-Some-2.after.now c.in-Some-2.next cs m
       (c.choices.invariant.go_on cs m e) c.in-Some.ensures (rw c.in-Some-2.is at c.in_ok-next.ensures.found));
-  shorter = let h = rw c.in-Some-2.is at c.in_ok-next.ensures.shorter in omega (arith, ap length c.in-Some.ensures, h, c.choices.invariant.shorter);
+  shorter = let h = rw c.in-Some-2.is at c.in_ok-next.ensures.shorter in
+      omega (arith, ap length c.in-Some.ensures, h, c.choices.invariant.shorter);
 }
 
 pub returns-in-Some-ending-clause-found : goal.returns-in-Some-ending-clause-found
 returns-in-Some-ending-clause-found c = λ cs m e.
-    choices_close c.choices.choices.items c.new.result c.choices.rest.now c.in-Some-ending.after.now cs m c.new.ensures (c.choices.invariant.go_on cs m e) c.in-Some-ending.ensures
+    choices_close c.choices.choices.items c.new.result c.choices.rest.now c.in-Some-ending.after.now cs m c.new.ensures
+    (c.choices.invariant.go_on cs m e) c.in-Some-ending.ensures
 
 pub returns-clause-found : goal.returns-clause-found
 returns-clause-found c = λ cs m e.

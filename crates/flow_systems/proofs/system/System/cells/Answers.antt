@@ -14,14 +14,18 @@ loop-point-preserved c =
     let reached = c.is_reached.ensures ∙ ap (λ es. list_any (λ e. e.to == p) es) c.as_slice-edges.ensures in
     elim c.if-is_reached.branch [
       | then-is_reached w ↦ record {
-        rows = w.rows-is ∙ ap₂ (λ x y. x + y) c.loop-point.invariant.rows w.sizes-height.ensures.rows ∙ sym (sum_yes system (unknown_rows system) p c.loop-point.auto.point (sym reached ∙ w.if-is_reached.true));
-        columns = w.columns-is ∙ ap₂ (λ x y. x + y) c.loop-point.invariant.columns w.sizes-height.ensures.columns ∙ sym (sum_yes system (unknown_columns system) p c.loop-point.auto.point (sym reached ∙ w.if-is_reached.true));
+        rows = w.rows-is ∙ ap₂ (λ x y. x + y) c.loop-point.invariant.rows w.sizes-height.ensures.rows
+            ∙ sym (sum_yes system (unknown_rows system) p c.loop-point.auto.point (sym reached ∙ w.if-is_reached.true));
+        columns = w.columns-is ∙ ap₂ (λ x y. x + y) c.loop-point.invariant.columns w.sizes-height.ensures.columns
+            ∙ sym (sum_yes system (unknown_columns system) p c.loop-point.auto.point (sym reached ∙ w.if-is_reached.true));
         few_rows = omega (arith, w.rows-is, c.loop-point.invariant.few_rows, w.sizes-height.ensures.few_rows);
         few_columns = omega (arith, w.columns-is, c.loop-point.invariant.few_columns, w.sizes-height.ensures.few_columns);
       }
       | else-is_reached w ↦ record {
-        rows = w.rows-is ∙ c.loop-point.invariant.rows ∙ sym (sum_no system (unknown_rows system) p c.loop-point.auto.point (sym reached ∙ w.if-is_reached.false));
-        columns = w.columns-is ∙ c.loop-point.invariant.columns ∙ sym (sum_no system (unknown_columns system) p c.loop-point.auto.point (sym reached ∙ w.if-is_reached.false));
+        rows = w.rows-is ∙ c.loop-point.invariant.rows ∙ sym (sum_no system (unknown_rows system) p c.loop-point.auto.point
+            (sym reached ∙ w.if-is_reached.false));
+        columns = w.columns-is ∙ c.loop-point.invariant.columns ∙ sym (sum_no system (unknown_columns system) p c.loop-point.auto.point
+            (sym reached ∙ w.if-is_reached.false));
         few_rows = omega (arith, w.rows-is, c.loop-point.invariant.few_rows);
         few_columns = omega (arith, w.columns-is, c.loop-point.invariant.few_columns);
       }

@@ -14,16 +14,21 @@ names_few : (c : goal.After-greatest-guards) → length c.as_slice-2.result.now 
 names_few c = omega (arith, ap (λ t. length t) c.as_slice-2.ensures, (flow_sizes c.args.self.now.flow).names)
 
 few_guards : (c : goal.After-greatest-guards) → c.greatest-guards.result.0 ≤ 256
-few_guards c = few_of guard_count guards_few c.args.self.now.flow c.as_slice-3.result.now c.args.point c.greatest-guards.result.0 c.as_slice-3.ensures c.greatest-guards.ensures.guards
+few_guards c = few_of guard_count guards_few c.args.self.now.flow c.as_slice-3.result.now c.args.point c.greatest-guards.result.0
+    c.as_slice-3.ensures c.greatest-guards.ensures.guards
 
 few_frees : (c : goal.After-greatest-guards) → c.greatest-guards.result.1 ≤ 256
-few_frees c = few_of free_count frees_few c.args.self.now.flow c.as_slice-3.result.now c.args.point c.greatest-guards.result.1 c.as_slice-3.ensures c.greatest-guards.ensures.frees
+few_frees c = few_of free_count frees_few c.args.self.now.flow c.as_slice-3.result.now c.args.point c.greatest-guards.result.1
+    c.as_slice-3.ensures c.greatest-guards.ensures.frees
 
-few_rows : (c : goal.After-greatest-guards) → length c.as_slice.result.now * (length c.as_slice.result.now + 1 + c.greatest-guards.result.0) ≤ MOST_ROWS * (MOST_ROWS + 257)
+few_rows : (c : goal.After-greatest-guards) → length c.as_slice.result.now * (length c.as_slice.result.now + 1 + c.greatest-guards.result.0)
+    ≤ MOST_ROWS * (MOST_ROWS + 257)
 few_rows c = rows_bound (length c.as_slice.result.now) c.greatest-guards.result.0 (rows_few c) (few_guards c)
 
-few_columns : (c : goal.After-greatest-guards) → length c.as_slice.result.now * (1 + 2 * (length c.as_slice-2.result.now + c.greatest-guards.result.1)) ≤ MOST_ROWS * (2 * MOST_VARIABLES + 513)
-few_columns c = columns_bound (length c.as_slice.result.now) (length c.as_slice-2.result.now) c.greatest-guards.result.1 (rows_few c) (names_few c) (few_frees c)
+few_columns : (c : goal.After-greatest-guards) → length c.as_slice.result.now
+    * (1 + 2 * (length c.as_slice-2.result.now + c.greatest-guards.result.1)) ≤ MOST_ROWS * (2 * MOST_VARIABLES + 513)
+few_columns c = columns_bound (length c.as_slice.result.now) (length c.as_slice-2.result.now) c.greatest-guards.result.1 (rows_few c)
+    (names_few c) (few_frees c)
 
 pub overflow_add-height-2 : goal.overflow_add-height-2
 overflow_add-height-2 c = omega (arith, rows_few c, few_guards c)

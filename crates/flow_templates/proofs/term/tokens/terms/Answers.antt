@@ -11,8 +11,10 @@ terms-preserved c =
     let before = c.terms.invariant in
     record {
       done = before.done ++ found.term ∷ [];
-      stand_for = kept_more before.done found.term c.terms.terms.items _ c.in-Some.term before.stand_for found.stands_for c.in_ok-push.ensures.items;
-      pending = pending_more _ before.done c.terms.negative c.in-Some-sign.next _ _ _ found.term before.pending found.sign found.spelled sign.spelled;
+      stand_for = kept_more before.done found.term c.terms.terms.items _ c.in-Some.term before.stand_for found.stands_for
+          c.in_ok-push.ensures.items;
+      pending = pending_more _ before.done c.terms.negative c.in-Some-sign.next _ _ _ found.term before.pending found.sign found.spelled
+          sign.spelled;
       fit = sign.fit;
     }
 
@@ -22,8 +24,10 @@ returns-then-is_end c =
     let before = c.terms.invariant in
     record {
       terms = before.done ++ found.term ∷ [];
-      spelled = pending_end _ before.done c.terms.negative _ _ found.term before.pending found.sign found.spelled (c.is_end.ensures.0 c.if-is_end.true);
-      stand_for = kept_more before.done found.term c.terms.terms.items _ c.in-Some.term before.stand_for found.stands_for c.in_ok-push.ensures.items;
+      spelled = pending_end _ before.done c.terms.negative _ _ found.term before.pending found.sign found.spelled
+          (c.is_end.ensures.0 c.if-is_end.true);
+      stand_for = kept_more before.done found.term c.terms.terms.items _ c.in-Some.term before.stand_for found.stands_for
+          c.in_ok-push.ensures.items;
     }
 
 pub returns-in_default-sign : goal.returns-in_default-sign

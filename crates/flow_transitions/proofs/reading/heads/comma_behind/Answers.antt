@@ -14,11 +14,13 @@ returns-in_err-comma-clause-reads c = λ variables points counted.
     let i = c.args.at in
     let f = c.in_err-comma.field-0.0 in
     passed_on text tokens r i c.from_residual.result _ _ f c.from_residual.ensures.1
-    (λ n. points_fail text tokens variables points i f c.in_err-comma.ensures.fault c.in_err-comma.ensures.no_comma c.in_err-comma.ensures.no_semicolon)
+    (λ n. points_fail text tokens variables points i f c.in_err-comma.ensures.fault c.in_err-comma.ensures.no_comma
+    c.in_err-comma.ensures.no_semicolon)
 
 pub returns-then-branch-clause-reads : goal.returns-then-branch-clause-reads
 returns-then-branch-clause-reads c = λ variables points counted.
-    more_points c.args.text.now c.args.tokens.now variables points c.args.at (c.in_ok-comma.ensures.symbol ∙ ap (λ b. cond b Comma Semicolon) c.if-branch.true)
+    more_points c.args.text.now c.args.tokens.now variables points c.args.at
+    (c.in_ok-comma.ensures.symbol ∙ ap (λ b. cond b Comma Semicolon) c.if-branch.true)
 
 pub returns-then-count-lt2-clause-reads : goal.returns-then-count-lt2-clause-reads
 returns-then-count-lt2-clause-reads c = λ variables points counted n.
@@ -34,7 +36,8 @@ returns-then-count-gt-MOST_POINTS-clause-reads c = λ variables points counted n
     let tokens = c.args.tokens.now in
     let i = c.args.at in
     let semicolon = c.in_ok-comma.ensures.symbol ∙ ap (λ b. cond b Comma Semicolon) c.if-branch.false in
-    many_points text tokens variables points i (fault.Points c.args.count) semicolon (omega arith) (omega arith) (ap (λ k. fault.Points k) (sym counted))
+    many_points text tokens variables points i (fault.Points c.args.count) semicolon (omega arith) (omega arith)
+    (ap (λ k. fault.Points k) (sym counted))
 
 pub returns-clause-reads : goal.returns-clause-reads
 returns-clause-reads c = λ variables points counted.

@@ -27,7 +27,8 @@ returns-in-Some-clause-reads c = λ variables n.
     let i = c.args.at in
     let x = c.in_ok-name.name in
     let placed = sym (ap (λ y. place_of y (names_of points)) c.in_ok-name.ensures.bytes) ∙ sym c.point_place.ensures.place ∙ c.in-Some.is in
-    point_twice text tokens variables points i c.in-Some.field-0 (fault.Parse (parse.NameTwice c.place.result)) c.in_ok-name.ensures.symbol placed (ap (λ k. fault.Parse (parse.NameTwice k)) c.place.ensures)
+    point_twice text tokens variables points i c.in-Some.field-0 (fault.Parse (parse.NameTwice c.place.result)) c.in_ok-name.ensures.symbol
+    placed (ap (λ k. fault.Parse (parse.NameTwice k)) c.place.ensures)
 
 pub returns-in_err-comma-clause-reads : goal.returns-in_err-comma-clause-reads
 returns-in_err-comma-clause-reads c = λ variables.
@@ -36,13 +37,16 @@ returns-in_err-comma-clause-reads c = λ variables.
     let points = c.args.points.now in
     let i = c.args.at in
     let x = c.in_ok-name.name in
-    let placed = sym (ap (λ y. place_of y (names_of points)) c.in_ok-name.ensures.bytes) ∙ sym c.point_place.ensures.place ∙ c.in_default.is in
+    let placed = sym (ap (λ y. place_of y (names_of points)) c.in_ok-name.ensures.bytes) ∙ sym c.point_place.ensures.place
+    ∙ c.in_default.is in
     let line = (seen_at text tokens i).line in
     let point : PointName = record { name = x; line = line } in
     let named = point_goes text tokens variables points i x line c.in_ok-name.ensures.bytes refl c.in_ok-name.ensures.symbol placed in
     let f = c.in_err-comma.field-0.0 in
-    passed_on text tokens (progress variables points [] at_point) i c.from_residual-in_err-comma.result _ _ f c.from_residual-in_err-comma.ensures.1
-    (λ n. named (Err f) (c.in_err-comma.ensures.reads variables (points ++ point ∷ []) (omega (arith, length-append points (point ∷ []))) n))
+    passed_on text tokens (progress variables points [] at_point) i c.from_residual-in_err-comma.result _ _ f
+    c.from_residual-in_err-comma.ensures.1
+    (λ n. named (Err f) (c.in_err-comma.ensures.reads variables (points ++ point ∷ []) (omega (arith, length-append points (point ∷ [])))
+    n))
 
 pub returns-clause-reads : goal.returns-clause-reads
 returns-clause-reads c = λ variables.
@@ -51,11 +55,14 @@ returns-clause-reads c = λ variables.
     let points = c.args.points.now in
     let i = c.args.at in
     let x = c.in_ok-name.name in
-    let placed = sym (ap (λ y. place_of y (names_of points)) c.in_ok-name.ensures.bytes) ∙ sym c.point_place.ensures.place ∙ c.in_default.is in
+    let placed = sym (ap (λ y. place_of y (names_of points)) c.in_ok-name.ensures.bytes) ∙ sym c.point_place.ensures.place
+    ∙ c.in_default.is in
     let line = c.line-line.result in
     let comma = c.in_ok-comma.comma in
     let point : PointName = record { name = x; line = line } in
-    let named = point_goes text tokens variables points i x line c.in_ok-name.ensures.bytes c.line-line.ensures c.in_ok-name.ensures.symbol placed in
+    let named = point_goes text tokens variables points i x line c.in_ok-name.ensures.bytes c.line-line.ensures c.in_ok-name.ensures.symbol
+    placed in
     let signed = c.in_ok-comma.ensures.reads variables (points ++ point ∷ []) (omega (arith, length-append points (point ∷ []))) in
-    moved text tokens (progress variables points [] at_point) (progress variables (points ++ point ∷ []) [] (cond comma at_point at_edge)) i (i + 1 + 1) (i + 2) (omega arith)
+    moved text tokens (progress variables points [] at_point) (progress variables (points ++ point ∷ []) [] (cond comma at_point at_edge)) i
+    (i + 1 + 1) (i + 2) (omega arith)
     (λ answer h. named answer (signed answer h))

@@ -9,7 +9,8 @@ returns-in_err-word-clause-reads c = λ variables.
     let tokens = c.args.tokens.now in
     let r = progress variables [] [] at_points in
     let f = c.in_err-word.field-0.0 in
-    passed_on text tokens r c.args.at c.from_residual.result _ _ f c.from_residual.ensures.1 (λ n. token_fails text tokens r c.args.at f refl (c.in_err-word.ensures.other r at_point))
+    passed_on text tokens r c.args.at c.from_residual.result _ _ f c.from_residual.ensures.1
+    (λ n. token_fails text tokens r c.args.at f refl (c.in_err-word.ensures.other r at_point))
 
 pub points-init : goal.points-init
 points-init c =
@@ -18,7 +19,8 @@ points-init c =
     record {
       goes = λ variables.
           let r = progress variables [] [] at_points in
-          subst (λ points. Goes text tokens r c.args.at (progress variables points [] at_point) (c.args.at + 1)) (sym c.new-points.ensures.items)
+          subst (λ points. Goes text tokens r c.args.at (progress variables points [] at_point) (c.args.at + 1))
+          (sym c.new-points.ensures.items)
           (token_goes text tokens r (progress variables [] [] at_point) c.args.at refl (c.in_ok-word.ensures.reads r at_point));
       within = c.in_ok-word.ensures.next;
       paced = omega arith;

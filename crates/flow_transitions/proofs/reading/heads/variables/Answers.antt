@@ -8,7 +8,8 @@ returns-in_err-word-clause-reads c =
     let text = c.args.text.now in
     let tokens = c.args.tokens.now in
     let f = c.in_err-word.field-0.0 in
-    passed_on text tokens start 0 c.from_residual.result _ _ f c.from_residual.ensures.1 (λ n. token_fails text tokens start 0 f refl (c.in_err-word.ensures.other start at_variable))
+    passed_on text tokens start 0 c.from_residual.result _ _ f c.from_residual.ensures.1
+    (λ n. token_fails text tokens start 0 f refl (c.in_err-word.ensures.other start at_variable))
 
 pub names-init : goal.names-init
 names-init c =

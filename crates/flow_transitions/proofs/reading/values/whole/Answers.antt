@@ -30,5 +30,9 @@ pub returns-in-Err-clause-refused : goal.returns-in-Err-clause-refused
 returns-in-Err-clause-refused c = λ n.
     let p = c.in-Err.fault in
     let told = fault_told p (λ e. n (c.refused.ensures ∙ e)) in
-    let h = c.in-Err.ensures.found in
-    (p, c.refused.ensures ∙ told.1, subst (ExpressionMeans c.args.text.now (tokens_of c.args.text.now c.args.tokens.now) c.args.at c.args.names.now) (h.2 told.0) h.1)
+    let h = c.in-Err.ensures.found in (
+      p,
+      c.refused.ensures ∙ told.1,
+      subst (ExpressionMeans c.args.text.now (tokens_of c.args.text.now c.args.tokens.now) c.args.at
+          c.args.names.now) (h.2 told.0) h.1,
+    )

@@ -10,5 +10,6 @@ returns g c =
     let s : c.len-width.result + 1 ≡ suc (length d.others.items) = omega arith in
     let b : c.len-width.result ≤ length d.others.items = omega arith in
     let e : c.len-width.result ≡ length d.others.items = omega arith in
-    placed_read g.F.OrderedField.meaning d.entries.items d.basics.items d.others.items d.goals c.args.row c.len-width.result (c.len-width.result + 1) c.index.result.now d.sized c.requires.row b s c.index.ensures
+    placed_read g.F.OrderedField.meaning d.entries.items d.basics.items d.others.items d.goals c.args.row c.len-width.result
+    (c.len-width.result + 1) c.index.result.now d.sized c.requires.row b s c.index.ensures
     ∙ ap (row_from g.F.OrderedField.meaning d.entries.items (c.args.row * suc (length d.others.items))) e

@@ -15,11 +15,16 @@ returns-in-Ok-clause-exchanged g c =
     let ke = d.entries.ok.0 in
     let n : c.len.result + d.goals ≡ length d.basics.items + d.goals = omega arith in
     let s : c.len-stride.result + 1 ≡ suc (length d.others.items) = omega arith in
-    let h = exchange_in m (c.len.result + d.goals) (length d.basics.items + d.goals) c.args.row (c.len-stride.result + 1) (suc (length d.others.items)) c.args.col c.deref_mut.result.now d.entries.items c.exchange.new.entries n s c.deref_mut.ensures.value c.in-Ok.ensures.exchanged in
+    let h = exchange_in m (c.len.result + d.goals) (length d.basics.items + d.goals) c.args.row (c.len-stride.result + 1)
+    (suc (length d.others.items)) c.args.col c.deref_mut.result.now d.entries.items c.exchange.new.entries n s
+    c.deref_mut.ensures.value c.in-Ok.ensures.exchanged in
     let l : length c.exchange.new.entries ≡ d.entries.len = omega arith in
-    subst (λ ys. Agree (pivot_table (cells_table m d.basics.items d.others.items d.goals d.entries.items) c.args.row c.args.col) (cells_table m (set d.basics.items c.args.row c.index.result.now) (set d.others.items c.args.col c.index-leaving.result.now) d.goals ys))
+    subst (λ ys. Agree (pivot_table (cells_table m d.basics.items d.others.items d.goals d.entries.items) c.args.row c.args.col)
+    (cells_table m (set d.basics.items c.args.row c.index.result.now) (set d.others.items c.args.col c.index-leaving.result.now) d.goals
+    ys))
     (sym (written_back d.entries.items c.exchange.new.entries d.entries.len l))
-    (pivot_agrees m d.basics.items d.others.items d.goals d.entries.items c.exchange.new.entries c.args.row c.args.col c.index.result.now c.index-leaving.result.now c.requires.row c.requires.col c.index.ensures c.index-leaving.ensures h)
+    (pivot_agrees m d.basics.items d.others.items d.goals d.entries.items c.exchange.new.entries c.args.row c.args.col c.index.result.now
+    c.index-leaving.result.now c.requires.row c.requires.col c.index.ensures c.index-leaving.ensures h)
 
 pub returns-in-Ok-clause-fits : goal.returns-in-Ok-clause-fits
 returns-in-Ok-clause-fits g c =
@@ -31,7 +36,8 @@ returns-in-Ok-clause-fits g c =
     let s : c.len-stride.result + 1 ≡ suc (length d.others.items) = omega arith in
     ap (first_wide g.F.OrderedField.LIMIT)
     (pivot_operations_are m d.basics.items d.others.items d.goals d.entries.items c.args.row c.args.col
-    ∙ sym (exchange_operations_in m (c.len.result + d.goals) (length d.basics.items + d.goals) c.args.row (c.len-stride.result + 1) (suc (length d.others.items)) c.args.col c.deref_mut.result.now d.entries.items n s c.deref_mut.ensures.value))
+    ∙ sym (exchange_operations_in m (c.len.result + d.goals) (length d.basics.items + d.goals) c.args.row (c.len-stride.result + 1)
+    (suc (length d.others.items)) c.args.col c.deref_mut.result.now d.entries.items n s c.deref_mut.ensures.value))
     ∙ c.in-Ok.ensures.fits
 
 pub returns-in-Err-clause-refused : goal.returns-in-Err-clause-refused
@@ -44,5 +50,6 @@ returns-in-Err-clause-refused g c =
     let s : c.len-stride.result + 1 ≡ suc (length d.others.items) = omega arith in
     ap (first_wide g.F.OrderedField.LIMIT)
     (pivot_operations_are m d.basics.items d.others.items d.goals d.entries.items c.args.row c.args.col
-    ∙ sym (exchange_operations_in m (c.len.result + d.goals) (length d.basics.items + d.goals) c.args.row (c.len-stride.result + 1) (suc (length d.others.items)) c.args.col c.deref_mut.result.now d.entries.items n s c.deref_mut.ensures.value))
+    ∙ sym (exchange_operations_in m (c.len.result + d.goals) (length d.basics.items + d.goals) c.args.row (c.len-stride.result + 1)
+    (suc (length d.others.items)) c.args.col c.deref_mut.result.now d.entries.items n s c.deref_mut.ensures.value))
     ∙ c.in-Err.ensures.wide

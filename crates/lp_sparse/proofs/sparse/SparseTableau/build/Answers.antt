@@ -38,17 +38,20 @@ invariant_of-result g c =
     let aux = c.is_some-auxiliary.result in
     let n = length-map p.rows.items (λ (r : Row _). m r.side) in
     let ns = c.in_ok-others.others.items in
-    let bs_long : length c.in_ok-basics.basics.items ≡ length (map (λ (r : Row _). m r.side) p.rows.items) = let e = c.in_ok-basics.ensures.0 in let f = c.len.ensures in omega (arith, e, f, n, kr) in
+    let bs_long : length c.in_ok-basics.basics.items ≡ length (map (λ (r : Row _). m r.side) p.rows.items) =
+    let e = c.in_ok-basics.ensures.0 in let f = c.len.ensures in omega (arith, e, f, n, kr) in
     let cols : c.len-cols.result ≡ length p.goal.items = let f = c.len-cols.ensures in omega (arith, f, kg) in
     let ns_long = subst (λ w. length c.in_ok-others.others.items ≡ width_of c.is_some-auxiliary.result w) cols c.in_ok-others.ensures.0 in
     let goals = c.goal_count.ensures in
     let count = c.in_ok-rows.ensures.count in
-    let sized : length c.in_ok-rows.rows.items ≡ length (map (λ (r : Row _). m r.side) p.rows.items) + goals_of c.is_some-auxiliary.result = omega (arith, count, n) in
+    let sized : length c.in_ok-rows.rows.items ≡ length (map (λ (r : Row _). m r.side) p.rows.items) + goals_of c.is_some-auxiliary.result =
+    omega (arith, count, n) in
     record {
       sized = omega (arith, sized, bs_long, goals);
       two = subst (λ q. q ≤ 2) (sym goals) (two_goals aux);
       few = subst (λ k. k < 4294967296) (sym ns_long) (few_columns aux W (omega (arith, few)));
-      rising = λ f. first_rises W A b (map m p.goal.items) (shaped_rows m W p.rows.items c.requires.rows) (length-map p.goal.items m) m c.in_ok-basics.basics.items ns c.in_ok-rows.rows.items aux bs_long ns_long c.in_ok-rows.ensures.rows sized;
+      rising = λ f. first_rises W A b (map m p.goal.items) (shaped_rows m W p.rows.items c.requires.rows) (length-map p.goal.items m) m
+          c.in_ok-basics.basics.items ns c.in_ok-rows.rows.items aux bs_long ns_long c.in_ok-rows.ensures.rows sized;
     }
 
 pub returns-clause-first : goal.returns-clause-first
@@ -65,10 +68,12 @@ returns-clause-first g c =
     let bs = c.in_ok-basics.basics.items in
     let ns = c.in_ok-others.others.items in
     let n = length-map p.rows.items (λ (r : Row _). m r.side) in
-    let bs_long : length c.in_ok-basics.basics.items ≡ length (map (λ (r : Row _). m r.side) p.rows.items) = let e = c.in_ok-basics.ensures.0 in let f = c.len.ensures in omega (arith, e, f, n, kr) in
+    let bs_long : length c.in_ok-basics.basics.items ≡ length (map (λ (r : Row _). m r.side) p.rows.items) =
+    let e = c.in_ok-basics.ensures.0 in let f = c.len.ensures in omega (arith, e, f, n, kr) in
     let cols : c.len-cols.result ≡ length p.goal.items = let f = c.len-cols.ensures in omega (arith, f, kg) in
     let ns_long = subst (λ w. length c.in_ok-others.others.items ≡ width_of c.is_some-auxiliary.result w) cols c.in_ok-others.ensures.0 in
-    let ns_are = subst (λ w. (k : ℕ) → k < width_of c.is_some-auxiliary.result w → get_or c.in_ok-others.others.items k 0 ≡ other_name w k) cols c.in_ok-others.ensures.1 in
+    let ns_are = subst (λ w. (k : ℕ) → k < width_of c.is_some-auxiliary.result w → get_or c.in_ok-others.others.items k 0 ≡ other_name w k)
+    cols c.in_ok-others.ensures.1 in
     let bs_are = λ (k : ℕ) (l : k < length (map (λ (r : Row _). m r.side) p.rows.items)).
     let q = c.len.ensures in
     let e = c.in_ok-basics.ensures.1 k (omega (arith, l, n, q, kr)) in
@@ -77,5 +82,7 @@ returns-clause-first g c =
     let shaped = shaped_rows m W p.rows.items c.requires.rows in
     let long = length-map p.goal.items m in
     subst (λ q. Agree (start_table (exact m p)) (named_table bs ns q (numbers m c.in_ok-rows.rows.items))) (sym c.goal_count.ensures)
-    (first_agrees W A b u shaped long m bs ns c.in_ok-rows.rows.items aux bs_long ns_long c.in_ok-rows.ensures.rows (start_table (exact m p))
-    (start_agrees W A b u shaped long (λ (q : ℚ). q) bs ns all bs_long bs_are aux c.lowest_side.result c.is_some-auxiliary.ensures c.lowest_side.ensures ns_long ns_are (map-id all)))
+    (first_agrees W A b u shaped long m bs ns c.in_ok-rows.rows.items aux bs_long ns_long c.in_ok-rows.ensures.rows
+    (start_table (exact m p))
+    (start_agrees W A b u shaped long (λ (q : ℚ). q) bs ns all bs_long bs_are aux c.lowest_side.result c.is_some-auxiliary.ensures
+    c.lowest_side.ensures ns_long ns_are (map-id all)))

@@ -5,10 +5,13 @@ use Rattle.solve_offers.proofs.at_bounds.KnownValues.{known_none}
 use Rattle.solve_offers.proofs.known.Known.none.Goals as goal
 
 pub loop-entry-preserved : goal.loop-entry-preserved
-loop-entry-preserved c = c.in_ok-push.ensures.items ∙ ap (λ xs. xs ++ None ∷ []) c.loop-entry.invariant ∙ replicate-append-replicate c.loop-entry._entry 1 None
+loop-entry-preserved c = c.in_ok-push.ensures.items ∙ ap (λ xs. xs ++ None ∷ []) c.loop-entry.invariant
+    ∙ replicate-append-replicate c.loop-entry._entry 1 None
 
 pub returns : goal.returns
 returns c bounds =
     let system = c.args.system.now in
-    let all : length c.as_slice-edges.result.now * length c.as_slice-rows.result.now ≡ length system.flow.edges * length system.template = ap₂ (λ a b. a * b) (ap (λ es. length es) c.as_slice-edges.ensures) (ap (λ t. length t) c.as_slice-rows.ensures.rows) in
-    known_none system _ (c.loop-entry.invariant ∙ ap (λ n. replicate n None) (omega (arith, all, c.loop-entry-test.false, c.loop-entry.auto._entry-end))) bounds
+    let all : length c.as_slice-edges.result.now * length c.as_slice-rows.result.now ≡ length system.flow.edges * length system.template =
+    ap₂ (λ a b. a * b) (ap (λ es. length es) c.as_slice-edges.ensures) (ap (λ t. length t) c.as_slice-rows.ensures.rows) in
+    known_none system _ (c.loop-entry.invariant ∙ ap (λ n. replicate n None)
+    (omega (arith, all, c.loop-entry-test.false, c.loop-entry.auto._entry-end))) bounds

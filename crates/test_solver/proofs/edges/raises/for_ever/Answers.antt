@@ -15,8 +15,10 @@ raise-requires-clause-sizes c =
     let S = equations_of c.in_ok-system.system in
     let n = length c.in_ok-system.system.template in
     let l : 0 < length c.in_ok-system.system.flow.edges = omega (arith, c.in_ok-system.ensures.edges) in (
-      sized S n 2 0 (pieces_of c.in_ok-trace.trace) l (c.in_ok-trace.ensures.0 ∙ sym c.in_ok-system.ensures.names) (λ e f. c.in_ok-trace.ensures.1 ∙ sym (c.in_ok-system.ensures.free e f)),
-      sized S n 2 0 (pieces_of c.in_ok-direction.direction) l (c.in_ok-direction.ensures.0 ∙ sym c.in_ok-system.ensures.names) (λ e f. c.in_ok-direction.ensures.1 ∙ sym (c.in_ok-system.ensures.free e f)),
+      sized S n 2 0 (pieces_of c.in_ok-trace.trace) l (c.in_ok-trace.ensures.0 ∙ sym c.in_ok-system.ensures.names)
+          (λ e f. c.in_ok-trace.ensures.1 ∙ sym (c.in_ok-system.ensures.free e f)),
+      sized S n 2 0 (pieces_of c.in_ok-direction.direction) l (c.in_ok-direction.ensures.0 ∙ sym c.in_ok-system.ensures.names)
+          (λ e f. c.in_ok-direction.ensures.1 ∙ sym (c.in_ok-system.ensures.free e f)),
     )
 
 pub raise-requires-clause-rises : goal.raise-requires-clause-rises
@@ -27,9 +29,11 @@ raise-requires-clause-rises c =
     let l : 0 < length c.in_ok-system.system.flow.edges = omega (arith, c.in_ok-system.ensures.edges) in
     let same : 2 % n ≡ 0 = ap (λ m. 2 % m) c.in_ok-system.ensures.rows in
     let k : 2 % n < n = subst (λ m. m < n) (sym same) (omega (arith, c.in_ok-system.ensures.rows)) in
-    let g : slice_get c.in_ok-system.system.template 0 ≡ Some (row_of S u) = subst (λ m. slice_get c.in_ok-system.system.template m ≡ Some (row_of S u)) same (row_chosen S n 2 0 k) in
+    let g : slice_get c.in_ok-system.system.template 0 ≡ Some (row_of S u) =
+    subst (λ m. slice_get c.in_ok-system.system.template m ≡ Some (row_of S u)) same (row_chosen S n 2 0 k) in
     let h = c.in-Ok.ensures (edge_of S u) (row_of S u) (edge_chosen S n 2 0 l) g in
     let t = test_le c.in-Ok.rate c.zero.result c.le.result c.le.ensures in
     let above : zero_ℚ <ℚ c.in-Ok.rate =
-    ⊎_elim (λ (i : c.in-Ok.rate ≤ℚ zero_ℚ). absurd (true≢false (sym (t.1 (subst (λ q. c.in-Ok.rate ≤ℚ q) (sym c.zero.ensures.value) i)) ∙ c.if-le.false))) (λ (i : zero_ℚ <ℚ c.in-Ok.rate). i) (le_or_lt c.in-Ok.rate zero_ℚ) in
+    ⊎_elim (λ (i : c.in-Ok.rate ≤ℚ zero_ℚ). absurd (true≢false (sym (t.1 (subst (λ q. c.in-Ok.rate ≤ℚ q) (sym c.zero.ensures.value) i))
+    ∙ c.if-le.false))) (λ (i : zero_ℚ <ℚ c.in-Ok.rate). i) (le_or_lt c.in-Ok.rate zero_ℚ) in
     subst (λ q. zero_ℚ <ℚ q) h.0 above

@@ -19,8 +19,10 @@ zones_are_over (suc (suc (suc n))) l h = absurd (omega (arith, h))
 
 pub returns-then-in_pairs : goal.returns-then-in_pairs
 returns-then-in_pairs c =
-    IfOk-weaker c.zones.result _ _ (λ rows e. subst (λ t. IsTrue (is_over c.args.count t)) (sym e) (zones_are_over c.args.count c.requires.some c.requires.few)) c.zones.ensures.rows
+    IfOk-weaker c.zones.result _ _ (λ rows e. subst (λ t. IsTrue (is_over c.args.count t)) (sym e)
+    (zones_are_over c.args.count c.requires.some c.requires.few)) c.zones.ensures.rows
 
 pub returns-else-in_pairs : goal.returns-else-in_pairs
 returns-else-in_pairs c =
-    IfOk-weaker c.intervals.result _ _ (λ rows e. subst (λ t. IsTrue (is_over c.args.count t)) (sym e) (intervals_are_over c.args.count c.requires.some c.requires.few)) c.intervals.ensures.rows
+    IfOk-weaker c.intervals.result _ _ (λ rows e. subst (λ t. IsTrue (is_over c.args.count t)) (sym e)
+    (intervals_are_over c.args.count c.requires.some c.requires.few)) c.intervals.ensures.rows

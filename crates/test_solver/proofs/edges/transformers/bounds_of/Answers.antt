@@ -15,4 +15,5 @@ length-start (suc p) rows l =
     ∙ (let e : rows + p * rows ≡ p * rows + rows = omega arith in e) ∙ sym (suc-mul p rows)
 
 pub loop-at-init : goal.loop-at-init
-loop-at-init c = ap (λ (bs : List Ext). length bs) c.in_ok-vector.ensures.list ∙ length-start (length c.args.system.now.flow.points) (length c.args.system.now.template) c.requires
+loop-at-init c = ap (λ (bs : List Ext). length bs) c.in_ok-vector.ensures.list
+    ∙ length-start (length c.args.system.now.flow.points) (length c.args.system.now.template) c.requires

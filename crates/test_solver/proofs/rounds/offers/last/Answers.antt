@@ -12,8 +12,10 @@ loop-k-preserved c j low =
     let k = c.loop-k.k - 1 in
     let within : k < length xs = (let a = c.loop-k-test.true in let b = c.loop-k.auto.k in omega arith) in
     let here = value_read xs k c.index-values-k.result within c.index-values-k.is in
-    let small : value xs k ≤ᴱ bound = subst (λ v. v ≤ᴱ bound) (sym here) (not_below bound (extended c.index-values-k.result) (λ h. true≢false (sym (c.exceeds.ensures.1 h) ∙ c.if-exceeds.false))) in
-    ⊎_elim (λ h. c.loop-k.invariant j (omega arith)) (λ h. let same : k ≡ j = omega arith in subst (λ i. value xs i ≤ᴱ bound) same small) (cases_lt k j)
+    let small : value xs k ≤ᴱ bound = subst (λ v. v ≤ᴱ bound) (sym here)
+    (not_below bound (extended c.index-values-k.result) (λ h. true≢false (sym (c.exceeds.ensures.1 h) ∙ c.if-exceeds.false))) in
+    ⊎_elim (λ h. c.loop-k.invariant j (omega arith)) (λ h. let same : k ≡ j = omega arith in subst (λ i. value xs i ≤ᴱ bound) same small)
+    (cases_lt k j)
 
 pub unreachable-requires : goal.unreachable-requires
 unreachable-requires c =

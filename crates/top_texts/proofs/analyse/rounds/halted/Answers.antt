@@ -6,4 +6,8 @@ use Rattle.top_texts.proofs.analyse.rounds.halted.Goals as goal
 
 pub returns-in-Spent : goal.returns-in-Spent
 returns-in-Spent c =
-    λ purpose policy system h. (runs_out system policy c.args.limit c.in-Spent._bounds (subst (λ x. IsHalt system (rule_of policy) c.args.limit x) c.in-Spent.is h), refl)
+    λ purpose policy system h. (
+      runs_out system policy c.args.limit c.in-Spent._bounds
+          (subst (λ x. IsHalt system (rule_of policy) c.args.limit x) c.in-Spent.is h),
+      refl,
+    )

@@ -14,4 +14,5 @@ returns-in-Ok-clause-over c =
 pub returns-in-Err-clause-err : goal.returns-in-Err-clause-err
 returns-in-Err-clause-err c =
     λ text analysed. c.row_refusal.ensures text _ _ _ analysed
-    (λ other. subst (λ names. HasTemplate (domain_of c.args.rows.now) names (Err c.in-Err.fault)) c.as_slice.ensures (c.in-Err.ensures.refused other))
+    (λ other. subst (λ names. HasTemplate (domain_of c.args.rows.now) names (Err c.in-Err.fault)) c.as_slice.ensures
+    (c.in-Err.ensures.refused other))

@@ -15,7 +15,8 @@ pub returns-in_err-template-clause-err : goal.returns-in_err-template-clause-err
 returns-in_err-template-clause-err c =
     let analysed : IsAnalysed c.args.text.now c.in_ok-program.program.names c.in_ok-program.program.body =
     record { reading = c.in_ok-program.ensures.ok; within = c.in_ok-flow.ensures.within } in
-    let h : IsRefusedBy c.args.text.now (domain_of c.args.rows.now) c.in_err-template.field-0.0 = c.in_err-template.ensures.err c.args.text.now analysed in
+    let h : IsRefusedBy c.args.text.now (domain_of c.args.rows.now) c.in_err-template.field-0.0 =
+    c.in_err-template.ensures.err c.args.text.now analysed in
     search (rules, h)
 
 pub returns-in_err-count_cells-clause-err : goal.returns-in_err-count_cells-clause-err
@@ -23,8 +24,10 @@ returns-in_err-count_cells-clause-err c =
     let flow = c.in_ok-flow.ensures in
     let made = c.in_ok-system.ensures in
     let h : IsRefusedBy c.args.text.now (domain_of c.args.rows.now) c.in_err-count_cells.field-0.0 =
-    too_many_cells c.args.text.now (domain_of c.args.rows.now) c.in_ok-program.program.names c.in_ok-program.program.body c.in_ok-flow.flow c.in_ok-template.template c.in_ok-system.system
-    (record { reading = c.in_ok-program.ensures.ok; within = flow.within }) flow.names flow.points flow.edges c.in_ok-template.ensures.template made.flow made.template made.within
+    too_many_cells c.args.text.now (domain_of c.args.rows.now) c.in_ok-program.program.names c.in_ok-program.program.body c.in_ok-flow.flow
+    c.in_ok-template.template c.in_ok-system.system
+    (record { reading = c.in_ok-program.ensures.ok; within = flow.within }) flow.names flow.points flow.edges
+    c.in_ok-template.ensures.template made.flow made.template made.within
     c.in_err-count_cells.ensures.above _ c.in_err-count_cells.ensures.count in
     search (rules, h)
 
@@ -32,6 +35,8 @@ pub returns-clause-ok : goal.returns-clause-ok
 returns-clause-ok c =
     let flow = c.in_ok-flow.ensures in
     let made = c.in_ok-system.ensures in
-    solved_system c.args.text.now (domain_of c.args.rows.now) c.in_ok-program.program.names c.in_ok-program.program.body c.in_ok-flow.flow c.in_ok-template.template c.in_ok-system.system
-    (record { reading = c.in_ok-program.ensures.ok; within = flow.within }) flow.names flow.points flow.edges c.in_ok-template.ensures.template made.flow made.template made.within
+    solved_system c.args.text.now (domain_of c.args.rows.now) c.in_ok-program.program.names c.in_ok-program.program.body c.in_ok-flow.flow
+    c.in_ok-template.template c.in_ok-system.system
+    (record { reading = c.in_ok-program.ensures.ok; within = flow.within }) flow.names flow.points flow.edges
+    c.in_ok-template.ensures.template made.flow made.template made.within
     c.in_ok-count_cells.ensures.within

@@ -8,5 +8,7 @@ use Rattle.top_texts.proofs.analyse.template.template_of.Goals as goal
 
 pub returns-in-Rows-clause-refused : goal.returns-in-Rows-clause-refused
 returns-in-Rows-clause-refused c =
-    subst (λ s. IfErr c.read_rows.result (λ fault. fault ≢ NoMemory → HasTemplate (domain_of s) c.args.names.now (Err fault))) (sym c.in-Rows.is)
-    (subst (λ t. IfErr c.read_rows.result (λ fault. fault ≢ NoMemory → Answers c.args.names.now t (Err fault))) c.deref.ensures.value c.read_rows.ensures.refused)
+    subst (λ s. IfErr c.read_rows.result (λ fault. fault ≢ NoMemory → HasTemplate (domain_of s) c.args.names.now (Err fault)))
+    (sym c.in-Rows.is)
+    (subst (λ t. IfErr c.read_rows.result (λ fault. fault ≢ NoMemory → Answers c.args.names.now t (Err fault))) c.deref.ensures.value
+    c.read_rows.ensures.refused)

@@ -13,4 +13,5 @@ returns-in-Ok-clause-over c =
 pub returns-in-Err-clause-err : goal.returns-in-Err-clause-err
 returns-in-Err-clause-err c =
     c.row_refusal.ensures c.args.program.now.names c.args.program.now.body c.args.cert.now
-    (λ other. subst₂ (λ names rows. slice_get (faults_of (length names) rows) 0 ≡ Some c.in-Err.fault) c.as_slice.ensures c.as_slice-2.ensures (c.in-Err.ensures.refused other))
+    (λ other. subst₂ (λ names rows. slice_get (faults_of (length names) rows) 0 ≡ Some c.in-Err.fault) c.as_slice.ensures
+    c.as_slice-2.ensures (c.in-Err.ensures.refused other))

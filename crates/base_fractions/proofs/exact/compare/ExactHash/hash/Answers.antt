@@ -7,5 +7,6 @@ pub returns : goal.returns
 returns g c =
     c.hash-2.ensures
     ∙ ap₂ (λ s (d : ℕ). g.H.Hasher.write s (le_bytes 8 d))
-    (c.hash.ensures ∙ ap (λ (z : ℤ). g.H.Hasher.write c.args.state.now (le_bytes 8 (of_z w64 z))) (sym (part_num c.self.invariant c.self.view_is)))
+    (c.hash.ensures ∙ ap (λ (z : ℤ). g.H.Hasher.write c.args.state.now (le_bytes 8 (of_z w64 z)))
+    (sym (part_num c.self.invariant c.self.view_is)))
     (sym (part_den c.self.invariant c.self.view_is))
