@@ -19,7 +19,7 @@ use Rattle.flow_edges.specs.declared.point.Point.{Point}
 use Rattle.lang_meaning.specs.declared.fault.Limit.TheVariants.{Nesting}
 use Rattle.lang_meaning.specs.declared.fault.ParseFault.{ParseFault}
 use Rattle.lang_meaning.specs.declared.fault.ParseFault.TheVariants as parse
-use Rattle.lang_parser.specs.Expressions.{as_truth, first_place, meant}
+use Rattle.lang_meaning.specs.Expressions.{as_truth, first_place, meant}
 use Rattle.lang_tree.specs.Cases.{cases_of}
 use Rattle.lang_tree.specs.Limits.{is_tested}
 use Rattle.lang_tree.specs.Tree.{Condition}

@@ -17,7 +17,7 @@ use Rattle.lang_meaning.specs.declared.fault.ParseFault.TheVariants as parse
 use Rattle.lang_meaning.specs.Names.{place_of}
 use Rattle.lang_meaning.specs.Results.{◌>>=◌}
 use Rattle.lang_meaning.specs.Walk.{assignment}
-use Rattle.lang_parser.specs.Expressions.{as_truth, first_place, meant}
+use Rattle.lang_meaning.specs.Expressions.{as_truth, first_place, meant}
 use Rattle.flow_transitions.specs.declared.auto_edge.AutoEdge.{AutoEdge}
 use Rattle.flow_transitions.specs.declared.fault.AutoFault.{AutoFault}
 use Rattle.flow_transitions.specs.declared.fault.AutoFault.TheVariants as fault

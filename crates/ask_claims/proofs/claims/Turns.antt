@@ -11,9 +11,9 @@ use Rattle.flow_edges.specs.declared.point.Point.{Point}
 use Rattle.lang_meaning.specs.declared.fault.Limit.TheVariants.{Nesting}
 use Rattle.lang_meaning.specs.declared.fault.ParseFault.{ParseFault}
 use Rattle.lang_meaning.specs.declared.fault.ParseFault.TheVariants as parse
-use Rattle.lang_parser.specs.Expressions.{ExpressionAnswer, ExpressionMeans, Meaning, as_truth, first_place, meant}
+use Rattle.lang_meaning.specs.Expressions.{ExpressionAnswer, ExpressionMeans, Meaning, as_truth, first_place, meant}
 use Rattle.lang_meaning.specs.Results as results
-use Rattle.lang_parser.proofs.meaning.OneExpression.{expression_once}
+use Rattle.lang_meaning.proofs.meaning.OneExpression.{expression_once}
 use Rattle.lang_tree.specs.Cases.{cases_of}
 use Rattle.lang_tree.specs.Tree.{Condition}
 use Rattle.ask_claims.specs.declared.fault.ClaimFault.{ClaimFault}
