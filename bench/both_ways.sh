@@ -92,7 +92,6 @@ expect 0 tmpl upgrade sum.cert
 expect 0 tmpl bench --seed 1 --loops 1
 expect 0 tmpl prove pair.c pair.claims --domain zones
 expect 4 tmpl prove pair.c bad.claims
-expect 0 tmpl points nested.c
 expect 0 tmpl transitions buffer.tsys
 expect 4 tmpl transitions sum.c
 expect 0 tmpl equations fair.equ
