@@ -4,7 +4,7 @@ use Rattle.top_texts.proofs.generated.Benched.{summary_ends}
 use Rattle.top_texts.proofs.checks.Refused.{not_done}
 use Rattle.top_run.proofs.endings.Answered.{put_answered}
 use Rattle.top_texts.proofs.questions.Answered.{unanswered}
-use Rattle.top_texts.proofs.bench.bench.Goals as goal
+use Rattle.top_run.proofs.bench.bench.Goals as goal
 
 pub returns-in-Ok-clause-answer : goal.returns-in-Ok-clause-answer
 returns-in-Ok-clause-answer g c =
