@@ -1,7 +1,7 @@
 //! What a shelf keeps of its failed loads.
 
 ghost use Rattle.std.specs.Prelude.{◌≡◌, ◌≤◌, [], Err, string_bytes};
-ghost use Rattle.base_files.specs.Loads.{CountsLoad, HasLoadCause};
+ghost use Rattle.base_files.specs.Loads.{HasLoadCause};
 
 use crate::count::Count;
 use crate::shelf::LoadFault;
@@ -31,7 +31,6 @@ impl Failures {
         ensures cause { HasLoadCause self.old.count.value self.new.count.value (string_bytes self.old.last)
             (string_bytes self.new.last) name.now (Err result) }
         ensures never_falls { self.old.count.value ≤ self.new.count.value }
-        ensures counts { CountsLoad self.old.count.value self.new.count.value (Err result) }
     {
         match String::from_str(alloc, name) {
             Ok(copy) => {

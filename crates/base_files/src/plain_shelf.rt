@@ -1,10 +1,11 @@
 //! Files in memory.
 
-ghost use Rattle.std.specs.Prelude.{◌≡◌, ◌≤◌, ◌<◌, [], IfOk, None, Some, option_map, string_bytes, take, vec_len};
+ghost use Rattle.std.specs.Prelude.{◌≡◌, ◌≤◌, ◌<◌, [], IfOk, None, Some, option_map, length, string_bytes, take};
 ghost use Rattle.base_files.specs.Files.{content_of};
-ghost use Rattle.base_files.specs.Loads.{CountsLoad, FailsIfAbsent, GivesIfTold, HasLoadCause};
+ghost use Rattle.base_files.specs.Loads.{FailsIfAbsent, HasLoadCause, IsFrontOf, LogsLoad, loaded_files, newest_bytes};
 
 use crate::failures::Failures;
+use crate::load::{Load, LoadLog};
 use crate::shelf::{LoadFault, Shelf};
 use std::alloc::{AllocError, Global};
 
@@ -15,6 +16,7 @@ use std::alloc::{AllocError, Global};
 pub struct PlainShelf {
     alloc: Global,
     files: Vec<(String, Vec<u8>)>,
+    log: LoadLog,
     failures: Failures,
     /// Once a load has failed, the last failed name has no file.
     pub ghost absent: { 0 < failures.count.value
@@ -25,12 +27,14 @@ impl PlainShelf {
     /// A shelf of these files, each a name and its content.
     pub fn new(alloc: Global, files: Vec<(String, Vec<u8>)>) -> PlainShelf
         ensures files { ⟦<PlainShelf as Shelf>⟧.files result ≡ Some (content_of files.items) }
+        ensures loads { ⟦<PlainShelf as Shelf>⟧.loads result ≡ [] }
         ensures faults { ⟦<PlainShelf as Shelf>⟧.faults result ≡ 0 }
         ensures last_failed { ⟦<PlainShelf as Shelf>⟧.last_failed result ≡ [] }
     {
         PlainShelf {
             alloc,
             files,
+            log: LoadLog::new(alloc),
             failures: Failures::new(alloc),
         }
     }
@@ -57,15 +61,20 @@ pub(crate) fn copy_front(alloc: Global, bytes: &[u8], most: usize) -> Result<Vec
 impl Shelf for PlainShelf {
     ghost files = { λ s. Some (content_of s.files.items) };
 
+    ghost loads = { λ s. s.log };
+
     ghost faults = { λ s. s.failures.count.value };
 
     ghost last_failed = { λ s. string_bytes s.failures.last };
 
     ghost bounded = { λ s. s.failures.count.bounded };
 
-    fn load(&mut self, name: &str, most: usize) -> Result<Vec<u8>, LoadFault>
-        ensures gives { GivesIfTold (⟦<PlainShelf as Shelf>⟧.files self.old) name.now most result }
-        ensures within { IfOk result (λ bytes. vec_len bytes ≤ most) }
+    fn load(&mut self, name: &str, most: usize) -> Result<(), LoadFault>
+        ensures logged { LogsLoad
+            (⟦<PlainShelf as Shelf>⟧.loads self.old) (⟦<PlainShelf as Shelf>⟧.loads self.new) name.now result }
+        ensures gives { IfOk result (λ _. IsFrontOf (⟦<PlainShelf as Shelf>⟧.files self.old) name.now most
+            (newest_bytes (⟦<PlainShelf as Shelf>⟧.loads self.new))) }
+        ensures within { IfOk result (λ _. length (newest_bytes (⟦<PlainShelf as Shelf>⟧.loads self.new)) ≤ most) }
         ensures kept { ⟦<PlainShelf as Shelf>⟧.files self.new ≡ ⟦<PlainShelf as Shelf>⟧.files self.old }
         ensures cause { HasLoadCause
             (⟦<PlainShelf as Shelf>⟧.faults self.old) (⟦<PlainShelf as Shelf>⟧.faults self.new)
@@ -74,12 +83,19 @@ impl Shelf for PlainShelf {
         ensures never_falls { ⟦<PlainShelf as Shelf>⟧.faults self.old
             ≤ ⟦<PlainShelf as Shelf>⟧.faults self.new }
         ensures fails { FailsIfAbsent (content_of self.old.files.items name.now) result }
-        ensures counts { CountsLoad
-            (⟦<PlainShelf as Shelf>⟧.faults self.old) (⟦<PlainShelf as Shelf>⟧.faults self.new) result }
     {
         match find_file(self.files.as_slice(), name) {
-            Some(bytes) => Ok(copy_front(self.alloc, bytes, most)?),
+            Some(bytes) => {
+                let front = copy_front(self.alloc, bytes, most)?;
+                Ok(self.log.push(self.alloc, name, front)?)
+            }
             None => Err(self.failures.record(self.alloc, name)),
         }
+    }
+
+    fn loaded(&self) -> &[Load]
+        ensures loads { loaded_files result.now ≡ ⟦<PlainShelf as Shelf>⟧.loads self.now }
+    {
+        self.log.as_slice()
     }
 }

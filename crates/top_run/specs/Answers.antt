@@ -18,11 +18,11 @@ use Rattle.top_texts.specs.Questions.{transitions_question}
 use Rattle.top_texts.specs.Texts.{IsRefusedProgram}
 use Rattle.top_status.specs.declared.status.CertCause.{CertCause}
 use Rattle.top_status.specs.declared.status.CertCause.TheVariants.{Form}
-use Rattle.top_status.specs.declared.status.ReadCause.TheVariants.{Failed, TooLong}
+use Rattle.ask_files.specs.declared.which.ReadCause.TheVariants.{Failed, TooLong}
 use Rattle.top_status.specs.declared.status.Status.{Status}
 use Rattle.top_status.specs.declared.status.Status.TheVariants.{Done, Certificate, Usage, Read, Text, Wide, Spent, Memory, Write}
 use Rattle.top_status.specs.declared.status.TextCause.{TextCause}
-use Rattle.top_status.specs.declared.status.Which.{Which}
+use Rattle.ask_files.specs.declared.which.Which.{Which}
 
 -- ---- the ending of words, where nothing fails outside, there is memory, and no operation of an analysis is too wide
 

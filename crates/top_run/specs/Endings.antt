@@ -10,7 +10,7 @@ use Rattle.top_texts.specs.Questions.{IsWideIn, QuestionEnds, analysis_question,
 use Rattle.top_texts.specs.Questions.{transitions_question}
 use Rattle.ask_words.specs.Request.{request_of}
 use Rattle.ask_words.specs.declared.request.Request.TheVariants.{Analyse, Check, Bench, Upgrade, Prove, Transitions, Equations}
-use Rattle.top_status.specs.declared.status.ReadCause.TheVariants.{Failed, TooLong}
+use Rattle.ask_files.specs.declared.which.ReadCause.TheVariants.{Failed, TooLong}
 use Rattle.top_status.specs.declared.status.Status.{Status}
 use Rattle.top_status.specs.declared.status.Status.TheVariants.{Done, Certificate, Usage, Read, Text, Wide, Spent, Memory, Write}
 use Rattle.top_texts.specs.Endings.{CheckEnd, UpgradeEnd}

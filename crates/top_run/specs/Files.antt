@@ -9,8 +9,8 @@ use Rattle.ask_words.specs.declared.request.Request.TheVariants.{Analyse, Check,
 use Rattle.top_status.specs.declared.status.Status.{Status}
 use Rattle.top_status.specs.declared.status.Status.TheVariants.{Text}
 use Rattle.top_status.specs.declared.status.TextCause.TheVariants.{Claims}
-use Rattle.top_status.specs.declared.status.Which.{Which}
-use Rattle.top_status.specs.declared.status.Which.TheVariants as which
+use Rattle.ask_files.specs.declared.which.Which.{Which}
+use Rattle.ask_files.specs.declared.which.Which.TheVariants as which
 use Rattle.top_texts.specs.Short.{IsShort, HasShortRows}
 
 -- an analysis of a program, the check of a certificate of a program, the analysis of a generated program, the upgrade of a certificate,

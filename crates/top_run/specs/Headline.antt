@@ -11,10 +11,10 @@ use Rattle.ask_words.specs.declared.request.Purpose.TheVariants.{Report}
 use Rattle.ask_words.specs.declared.request.Request.TheVariants.{Analyse}
 use Rattle.top_run.specs.Files.{AreInputs, IsTold}
 use Rattle.top_texts.specs.LeastReports.{IsReportOf}
-use Rattle.top_status.specs.declared.status.ReadCause.TheVariants.{Failed}
+use Rattle.ask_files.specs.declared.which.ReadCause.TheVariants.{Failed}
 use Rattle.top_status.specs.declared.status.Status.{Status}
 use Rattle.top_status.specs.declared.status.Status.TheVariants.{Done, Read, Wide, Memory, Write}
-use Rattle.top_status.specs.declared.status.Which.{Which}
+use Rattle.ask_files.specs.declared.which.Which.{Which}
 
 -- the words ask for the report of an analysis, and the shelf tells its files: this text, and this domain with the text of its rows
 pub record Asks (files : Option Contents) (words : List (List ℕ)) (analysis : Analysis (List ℕ)) (text : List ℕ) (rows : Domain (List ℕ)) :

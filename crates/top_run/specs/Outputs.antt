@@ -29,7 +29,7 @@ use Rattle.top_texts.specs.TransitionTexts.{IsAutoReport}
 use Rattle.cert_text.specs.declared.fault.FormFault.TheVariants.{Expanded}
 use Rattle.top_status.specs.declared.status.CertCause.TheVariants.{Form}
 use Rattle.top_status.specs.declared.status.Status.{Status}
-use Rattle.top_status.specs.declared.status.Which.{Which}
+use Rattle.ask_files.specs.declared.which.Which.{Which}
 use Rattle.top_status.specs.declared.status.Status.TheVariants.{Done, Memory, Write}
 
 -- ---- the outside

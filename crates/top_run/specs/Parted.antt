@@ -6,8 +6,8 @@ use Rattle.base_files.specs.Files.{Contents}
 use Rattle.ask_words.specs.declared.request.Domain.{Domain}
 use Rattle.ask_words.specs.declared.request.Domain.TheVariants as domain
 use Rattle.top_run.specs.Files.{HasContent, IsFirstLong, IsReachedIn, NamedFile}
-use Rattle.top_status.specs.declared.status.Which.{Which}
-use Rattle.top_status.specs.declared.status.ReadCause.TheVariants as read
+use Rattle.ask_files.specs.declared.which.Which.{Which}
+use Rattle.ask_files.specs.declared.which.ReadCause.TheVariants as read
 use Rattle.top_status.specs.declared.status.Status.{Status}
 use Rattle.top_status.specs.declared.status.Status.TheVariants as status
 use Rattle.top_run.specs.declared.files.LoadRefusal.{LoadRefusal}

@@ -13,7 +13,7 @@ use Rattle.ask_words.specs.Request.{request_of}
 use Rattle.top_texts.specs.Texts.{IsSolvedSystem}
 use Rattle.ask_words.specs.declared.request.Domain.{Domain}
 use Rattle.ask_words.specs.declared.request.Request.TheVariants.{Analyse, Check, Bench, Upgrade, Prove, Transitions, Equations}
-use Rattle.top_status.specs.declared.status.ReadCause.TheVariants.{Failed, TooLong}
+use Rattle.ask_files.specs.declared.which.ReadCause.TheVariants.{Failed, TooLong}
 use Rattle.top_status.specs.declared.status.Status.{Status}
 use Rattle.top_status.specs.declared.status.Status.TheVariants.{Done, Certificate, Usage, Read, Text, Wide, Spent, Memory, Write}
 

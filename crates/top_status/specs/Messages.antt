@@ -19,9 +19,9 @@ use Rattle.flow_transitions.specs.declared.fault.AutoFault.{AutoFault}
 use Rattle.flow_transitions.specs.declared.fault.AutoFault.TheVariants as auto
 use Rattle.ask_words.specs.Usage.{usage_text}
 use Rattle.top_status.specs.CheckMessages.{certificate_message, wide_message}
-use Rattle.top_status.specs.declared.status.Which.TheVariants as which
-use Rattle.top_status.specs.declared.status.ReadCause.{ReadCause}
-use Rattle.top_status.specs.declared.status.ReadCause.TheVariants.{Failed, TooLong}
+use Rattle.ask_files.specs.declared.which.Which.TheVariants as which
+use Rattle.ask_files.specs.declared.which.ReadCause.{ReadCause}
+use Rattle.ask_files.specs.declared.which.ReadCause.TheVariants.{Failed, TooLong}
 use Rattle.top_status.specs.declared.status.TextCause.{TextCause}
 use Rattle.top_status.specs.declared.status.TextCause.TheVariants.{Lex, Parse, Flow, Rows, Unknowns, Cells, Claims, Equ, Auto}
 use Rattle.top_status.specs.declared.status.Status.{Status}

@@ -8,4 +8,5 @@ mod status;
 pub use ending::{Ending, plain_ending};
 pub use message::place::{answer_line, answer_rows};
 pub use message::{Message, make_message};
-pub use status::{CertCause, ReadCause, Status, TextCause, Which};
+pub use ask_files::{ReadCause, Which};
+pub use status::{CertCause, Status, TextCause};

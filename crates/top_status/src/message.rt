@@ -9,7 +9,8 @@ ghost use Rattle.top_status.specs.Parts.{told};
 mod check;
 pub(crate) mod place;
 
-use crate::status::{ReadCause, Status, TextCause, Which};
+use crate::status::{Status, TextCause};
+use ask_files::{ReadCause, Which};
 use ask_claims::ClaimFault;
 use ask_words::usage_line;
 use check::{certificate_message, wide_message};

@@ -4,6 +4,7 @@ ghost use Rattle.std.specs.Prelude.{◌≡◌};
 ghost use Rattle.top_status.specs.Status.{code_of};
 
 use ask_claims::ClaimFault;
+use ask_files::ReadCause;
 use cert_checker::CheckFault;
 use cert_text::FormFault;
 use flow_edges::FlowFault;
@@ -13,30 +14,6 @@ use flow_templates::RowFault;
 use flow_transitions::AutoFault;
 use lang_meaning::ParseFault;
 use lang_tokens::LexFault;
-
-/// A file that the words name.
-#[derive(Clone, Copy, Debug, PartialEq, Eq)]
-pub enum Which {
-    Program,
-    /// The file of the template's rows.
-    Rows,
-    Certificate,
-    /// The file of claims.
-    Claims,
-    /// The file of a transition system.
-    System,
-    /// The file of equations.
-    Equations,
-}
-
-/// Why a named file isn't read.
-#[derive(Clone, Copy, Debug, PartialEq, Eq)]
-pub enum ReadCause {
-    /// The load of this file failed.
-    Failed(Which),
-    /// This file has more bytes than it may have.
-    TooLong(Which),
-}
 
 /// Why the texts of a program, of its rows and of claims about it, that of a transition system, or that of equations, are refused
 /// (docs/FORMATS.md,

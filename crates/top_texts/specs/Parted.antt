@@ -38,13 +38,6 @@ use Rattle.top_texts.specs.declared.refusal.Refusal.{Refusal}
 use Rattle.top_texts.specs.declared.refusal.Refusal.TheVariants.{Text, Certificate, Wide, Spent, NoMemory}
 use Rattle.flow_systems.specs.declared.limits.TheConstants.{MOST_UNKNOWNS}
 
--- the domain by the text of its rows
-abbrev pub domain_of : Domain (Vec ℕ Global) → Domain (List ℕ)
-domain_of domain.Intervals = domain.Intervals
-domain_of domain.Zones = domain.Zones
-domain_of domain.Octagons = domain.Octagons
-domain_of (domain.Rows text) = domain.Rows text.items
-
 -- the text of a program is refused by this cause; want of memory needs none
 abbrev pub IsUnread : List ℕ → Refusal → Type 0
 IsUnread text (Text cause) = IsRefusedProgram text cause

@@ -3,7 +3,8 @@
 ghost use Rattle.std.specs.Prelude.{◌≤◌, IfOk, IfErr, length};
 ghost use Rattle.ask_words.specs.declared.request.Purpose.TheVariants.{Report, Certificate};
 ghost use Rattle.top_texts.specs.Exact.{exact};
-ghost use Rattle.top_texts.specs.Parted.{IsUnanswered, domain_of};
+ghost use Rattle.ask_words.specs.Request.{domain_text};
+ghost use Rattle.top_texts.specs.Parted.{IsUnanswered};
 ghost use Rattle.top_texts.specs.Questions.{analysis_question};
 ghost use Rattle.top_texts.specs.Reports.{IsCertificateOf, IsReportOf};
 ghost use Rattle.top_texts.specs.Short.{HasShortRows};
@@ -31,15 +32,15 @@ use system::system_on;
 pub fn solve_text(
     alloc: Global,
     text: &[u8],
-    rows: &Domain<Vec<u8>>,
+    rows: Domain<&[u8]>,
     policy: Policy,
     limit: u32,
 ) -> Result<Vec<u8>, Refusal>
     requires short { length text.now ≤ 65536 }
-    requires short_rows { HasShortRows (domain_of rows.now) }
+    requires short_rows { HasShortRows (domain_text rows) }
     requires limit { limit ≤ 1000000 }
-    ensures ok { IfOk result (λ bytes. IsReportOf text.now (domain_of rows.now) policy limit bytes.items) }
-    ensures err { IfErr result (λ refusal. IsUnanswered (analysis_question exact Report text.now (domain_of rows.now) policy limit)
+    ensures ok { IfOk result (λ bytes. IsReportOf text.now (domain_text rows.entry) policy limit bytes.items) }
+    ensures err { IfErr result (λ refusal. IsUnanswered (analysis_question exact Report text.now (domain_text rows.entry) policy limit)
         refusal) }
 {
     let system = system_on(alloc, text, rows)?;
@@ -56,15 +57,15 @@ pub fn solve_text(
 pub fn certify_text(
     alloc: Global,
     text: &[u8],
-    rows: &Domain<Vec<u8>>,
+    rows: Domain<&[u8]>,
     policy: Policy,
     limit: u32,
 ) -> Result<Vec<u8>, Refusal>
     requires short { length text.now ≤ 65536 }
-    requires short_rows { HasShortRows (domain_of rows.now) }
+    requires short_rows { HasShortRows (domain_text rows) }
     requires limit { limit ≤ 1000000 }
-    ensures ok { IfOk result (λ bytes. IsCertificateOf text.now (domain_of rows.now) policy limit bytes.items) }
-    ensures err { IfErr result (λ refusal. IsUnanswered (analysis_question exact Certificate text.now (domain_of rows.now) policy limit)
+    ensures ok { IfOk result (λ bytes. IsCertificateOf text.now (domain_text rows.entry) policy limit bytes.items) }
+    ensures err { IfErr result (λ refusal. IsUnanswered (analysis_question exact Certificate text.now (domain_text rows.entry) policy limit)
         refusal) }
 {
     let system = system_on(alloc, text, rows)?;

@@ -30,7 +30,7 @@ pub fn bench_text(alloc: Global, seed: u32, loops: u32) -> Result<Vec<u8>, Refus
 {
     generated_texts_read();
     let text = generate(alloc, seed, loops)?;
-    let system = system_on(alloc, &text, &Domain::Intervals)?;
+    let system = system_on(alloc, &text, Domain::Intervals)?;
     let solved = solve(alloc, &system, Policy::Best, MOST_IMPROVEMENTS)?;
     Ok(summary(
         alloc,

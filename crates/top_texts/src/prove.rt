@@ -13,7 +13,8 @@ ghost use Rattle.ask_words.specs.declared.request.Policy.{Policy as PolicyValue}
 ghost use Rattle.top_texts.specs.ClaimTexts.{AreClaimsOf, AreVerdictsOf};
 ghost use Rattle.top_texts.specs.Exact.{exact};
 ghost use Rattle.top_texts.specs.Short.{HasShortRows};
-ghost use Rattle.top_texts.specs.Parted.{AreUnjudged, IsUnanswered, domain_of};
+ghost use Rattle.ask_words.specs.Request.{domain_text};
+ghost use Rattle.top_texts.specs.Parted.{AreUnjudged, IsUnanswered};
 ghost use Rattle.top_texts.specs.Questions.{claims_question};
 ghost use Rattle.top_texts.specs.Texts.{IsSolvedSystem};
 
@@ -103,17 +104,17 @@ fn verdicts_at(
 pub fn prove_text(
     alloc: Global,
     text: &[u8],
-    rows: &Domain<Vec<u8>>,
+    rows: Domain<&[u8]>,
     given: &[u8],
     policy: Policy,
     limit: u32,
 ) -> Result<Vec<u8>, Refusal>
     requires short { length text.now ≤ 65536 }
-    requires short_rows { HasShortRows (domain_of rows.now) }
+    requires short_rows { HasShortRows (domain_text rows) }
     requires short_claims { length given.now ≤ 65536 }
     requires limit { limit ≤ 1000000 }
-    ensures ok { IfOk result (λ bytes. AreVerdictsOf exact text.now (domain_of rows.now) given.now policy limit bytes.items) }
-    ensures err { IfErr result (λ refusal. IsUnanswered (claims_question exact text.now (domain_of rows.now) given.now policy limit)
+    ensures ok { IfOk result (λ bytes. AreVerdictsOf exact text.now (domain_text rows.entry) given.now policy limit bytes.items) }
+    ensures err { IfErr result (λ refusal. IsUnanswered (claims_question exact text.now (domain_text rows.entry) given.now policy limit)
         refusal) }
 {
     proved_verdicts_hold();

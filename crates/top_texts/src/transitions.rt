@@ -11,7 +11,8 @@ ghost use Rattle.flow_templates.specs.declared.fault.RowFault.TheVariants as row
 ghost use Rattle.ask_words.specs.declared.request.Domain.{Domain as DomainValue};
 ghost use Rattle.top_texts.specs.Exact.{exact};
 ghost use Rattle.top_texts.specs.Short.{HasShortRows};
-ghost use Rattle.top_texts.specs.Parted.{IsRefusedAlong, IsUnanswered, domain_of};
+ghost use Rattle.ask_words.specs.Request.{domain_text};
+ghost use Rattle.top_texts.specs.Parted.{IsRefusedAlong, IsUnanswered};
 ghost use Rattle.top_texts.specs.Questions.{transitions_question};
 ghost use Rattle.top_texts.specs.Texts.{HasTemplate};
 ghost use Rattle.top_texts.specs.TransitionTexts.{AreNoTransitions, IsAutoReport, IsAutoText, IsTransitionSystem};
@@ -78,11 +79,11 @@ fn flow_along(alloc: Global, auto: &Auto) -> Result<Flow, Refusal>
 }
 
 // The template over its variables.
-fn rows_along(alloc: Global, rows: &Domain<Vec<u8>>, auto: &Auto) -> Result<Template, Refusal>
-    requires { HasShortRows (domain_of rows.now) }
-    ensures template { IfOk result (λ template. HasTemplate (domain_of rows.now) auto.now.names (Ok template)) }
+fn rows_along(alloc: Global, rows: Domain<&[u8]>, auto: &Auto) -> Result<Template, Refusal>
+    requires { HasShortRows (domain_text rows) }
+    ensures template { IfOk result (λ template. HasTemplate (domain_text rows.entry) auto.now.names (Ok template)) }
     ensures over { IfOk result (λ template. IsTrue (is_over (length auto.now.names) template)) }
-    ensures err { IfErr result (λ refusal. (text : List ℕ) → IsAutoText text auto.now → IsRefusedAlong text (domain_of rows.now) refusal) }
+    ensures err { IfErr result (λ refusal. (text : List ℕ) → IsAutoText text auto.now → IsRefusedAlong text (domain_text rows.entry) refusal) }
 {
     match template_of(alloc, rows, auto.names.as_slice()) {
         Ok(template) => Ok(template),
@@ -91,12 +92,12 @@ fn rows_along(alloc: Global, rows: &Domain<Vec<u8>>, auto: &Auto) -> Result<Temp
 }
 
 // The system of these texts.
-fn system_along(alloc: Global, text: &[u8], rows: &Domain<Vec<u8>>) -> Result<System, Refusal>
+fn system_along(alloc: Global, text: &[u8], rows: Domain<&[u8]>) -> Result<System, Refusal>
     requires short { length text.now ≤ 65536 }
-    requires short_rows { HasShortRows (domain_of rows.now) }
-    ensures ok { IfOk result (λ system. IsTransitionSystem text.now (domain_of rows.now) system) }
+    requires short_rows { HasShortRows (domain_text rows) }
+    ensures ok { IfOk result (λ system. IsTransitionSystem text.now (domain_text rows.entry) system) }
     ensures cells { IfOk result (λ system. cells_of (equations_of system) ≤ 134217728) }
-    ensures err { IfErr result (λ refusal. IsRefusedAlong text.now (domain_of rows.now) refusal) }
+    ensures err { IfErr result (λ refusal. IsRefusedAlong text.now (domain_text rows.entry) refusal) }
 {
     let auto = auto_of(alloc, text)?;
     let flow = flow_along(alloc, &auto)?;
@@ -116,15 +117,15 @@ fn system_along(alloc: Global, text: &[u8], rows: &Domain<Vec<u8>>) -> Result<Sy
 pub fn transitions_text(
     alloc: Global,
     text: &[u8],
-    rows: &Domain<Vec<u8>>,
+    rows: Domain<&[u8]>,
     policy: Policy,
     limit: u32,
 ) -> Result<Vec<u8>, Refusal>
     requires short { length text.now ≤ 65536 }
-    requires short_rows { HasShortRows (domain_of rows.now) }
+    requires short_rows { HasShortRows (domain_text rows) }
     requires limit { limit ≤ 1000000 }
-    ensures ok { IfOk result (λ bytes. IsAutoReport text.now (domain_of rows.now) policy limit bytes.items) }
-    ensures err { IfErr result (λ refusal. IsUnanswered (transitions_question exact text.now (domain_of rows.now) policy limit) refusal) }
+    ensures ok { IfOk result (λ bytes. IsAutoReport text.now (domain_text rows.entry) policy limit bytes.items) }
+    ensures err { IfErr result (λ refusal. IsUnanswered (transitions_question exact text.now (domain_text rows.entry) policy limit) refusal) }
 {
     post_solutions_hold_along();
     let system = system_along(alloc, text, rows)?;

@@ -15,7 +15,7 @@ use Rattle.top_texts.specs.Exact.{exact}
 use Rattle.top_run.specs.Files.{Request}
 use Rattle.top_texts.specs.Questions.{analysis_question, bench_question, claims_question, equations_question, transitions_question}
 use Rattle.top_status.specs.declared.status.CertCause.TheVariants as cause
-use Rattle.top_status.specs.declared.status.ReadCause.TheVariants.{Failed, TooLong}
+use Rattle.ask_files.specs.declared.which.ReadCause.TheVariants.{Failed, TooLong}
 use Rattle.top_status.specs.declared.status.Status.{Status}
 use Rattle.top_status.specs.declared.status.Status.TheVariants.{Done, Certificate as Refused, Usage, Read, Text, Wide, Spent, Memory, Write}
 use Rattle.top_run.proofs.endings.OneEnding.{ends_once, question_end, spot_after}

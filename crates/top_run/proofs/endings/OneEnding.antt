@@ -22,11 +22,11 @@ use Rattle.top_texts.specs.Questions.{IsWideIn, Question, QuestionEnds, analysis
 use Rattle.top_texts.specs.Questions.{equations_question, transitions_question, is_refused, rounds_end, rounds_spent}
 use Rattle.top_run.specs.Reports.{IsReportOn}
 use Rattle.top_run.specs.Run.{OutputHolds}
-use Rattle.top_status.specs.declared.status.ReadCause.TheVariants.{Failed, TooLong}
+use Rattle.ask_files.specs.declared.which.ReadCause.TheVariants.{Failed, TooLong}
 use Rattle.top_status.specs.declared.status.Status.{Status}
 use Rattle.top_status.specs.declared.status.Status.TheVariants.{Done, Certificate as Refused, Usage, Read, Text, Wide, Spent, Memory, Write}
-use Rattle.top_status.specs.declared.status.Which.{Which}
-use Rattle.top_status.specs.declared.status.Which.TheVariants as which
+use Rattle.ask_files.specs.declared.which.Which.{Which}
+use Rattle.ask_files.specs.declared.which.Which.TheVariants as which
 use Rattle.top_texts.proofs.checks.CheckOnce.{CertEnds, CheckEnds, cert_ends_once, check_ends_once, check_staged, upgrade_staged}
 use Rattle.top_run.proofs.files.Loaded.{AllShort, content_once, first_long_once, none_long}
 use Rattle.top_texts.proofs.questions.OneEnd.{question_ends_once}

@@ -11,8 +11,8 @@ use Rattle.top_run.specs.Outputs.{HasFailed, IsTaken, pieces_of}
 use Rattle.top_run.specs.Reports.{IsReportFor, IsReportOn}
 use Rattle.top_run.specs.Run.{FailsOnlyIn, IsLine, IsRowCount, IsRowCountIn, OutputHolds}
 use Rattle.top_run.proofs.endings.OneEnding.{nothing_put, reported}
-use Rattle.top_status.specs.declared.status.Which.{Which}
-use Rattle.top_status.specs.declared.status.ReadCause.TheVariants.{Failed}
+use Rattle.ask_files.specs.declared.which.Which.{Which}
+use Rattle.ask_files.specs.declared.which.ReadCause.TheVariants.{Failed}
 use Rattle.top_status.specs.declared.status.Status.{Status}
 use Rattle.top_status.specs.declared.status.Status.TheVariants.{Done, Certificate, Usage, Read, Text, Wide, Spent, Memory, Write}
 

@@ -15,10 +15,10 @@ use Rattle.top_run.specs.Parted.{IsNotLoaded, IsUnloaded, unloaded}
 use Rattle.top_run.specs.Run.{FailsOnlyIn, OutputHolds}
 use Rattle.top_run.specs.declared.files.LoadRefusal.{LoadRefusal}
 use Rattle.top_run.specs.declared.files.LoadRefusal.TheVariants.{Failed, TooLong, NoMemory}
-use Rattle.top_status.specs.declared.status.ReadCause.TheVariants as read
+use Rattle.ask_files.specs.declared.which.ReadCause.TheVariants as read
 use Rattle.top_status.specs.declared.status.Status.{Status}
 use Rattle.top_status.specs.declared.status.Status.TheVariants.{Done, Certificate, Usage, Read, Text, Wide, Spent, Memory, Write}
-use Rattle.top_status.specs.declared.status.Which.{Which}
+use Rattle.ask_files.specs.declared.which.Which.{Which}
 
 loaded_whole : (most : ℕ) (text bytes : List ℕ) → bytes ≡ take (most + 1) text → length bytes ≤ most → bytes ≡ text
 loaded_whole most text bytes e h = e ∙ take_all (most + 1) text (omega (arith, ap length e, length-take (most + 1) text))

@@ -8,10 +8,10 @@ use Rattle.top_run.specs.Answers.{AnswersInMemory, Answers, WordsEnd}
 use Rattle.top_run.specs.Files.{Request, IsReached, files_of}
 use Rattle.top_texts.specs.Meanings.{Meanings}
 use Rattle.top_run.specs.Outputs.{HasFailed}
-use Rattle.top_status.specs.declared.status.ReadCause.TheVariants.{Failed}
+use Rattle.ask_files.specs.declared.which.ReadCause.TheVariants.{Failed}
 use Rattle.top_status.specs.declared.status.Status.{Status}
 use Rattle.top_status.specs.declared.status.Status.TheVariants.{Read, Write}
-use Rattle.top_status.specs.declared.status.Which.{Which}
+use Rattle.ask_files.specs.declared.which.Which.{Which}
 use Rattle.top_run.proofs.endings.OneEnding.{certificate_short, checked_short, inputs_short, inputs_short_along, inputs_short_with}
 use Rattle.top_run.proofs.endings.OneEnding.{short_text}
 use Rattle.top_run.proofs.files.Loaded.{AllShort, long_there, short_there}

@@ -18,10 +18,10 @@ use Rattle.top_texts.specs.Meanings.{Meanings}
 use Rattle.top_run.specs.Outputs as outputs
 use Rattle.top_run.specs.Outputs.{HasFailed, IsOutput, OutputGets}
 use Rattle.top_texts.specs.Texts.{IsSolvable}
-use Rattle.top_status.specs.declared.status.ReadCause.TheVariants.{Failed}
+use Rattle.ask_files.specs.declared.which.ReadCause.TheVariants.{Failed}
 use Rattle.top_status.specs.declared.status.Status.{Status}
 use Rattle.top_status.specs.declared.status.Status.TheVariants.{Done, Memory, Read, Write}
-use Rattle.top_status.specs.declared.status.Which.{Which}
+use Rattle.ask_files.specs.declared.which.Which.{Which}
 use Rattle.top_texts.specs.Questions.{rounds_end}
 use Rattle.top_run.proofs.endings.OneEnding.{with_text_once}
 use Rattle.top_run.proofs.files.Loaded.{content_once}

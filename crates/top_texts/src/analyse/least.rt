@@ -5,7 +5,7 @@ ghost use Rattle.flow_systems.specs.Cells.{cells_of};
 ghost use Rattle.flow_systems.specs.View.{equations_of};
 ghost use Rattle.top_texts.specs.Analyses.{IsFoundIn, IsHaltedEnding, IsRefusedText, IsSolvedBy};
 ghost use Rattle.top_texts.specs.Short.{HasShortRows};
-ghost use Rattle.top_texts.specs.Parted.{domain_of};
+ghost use Rattle.ask_words.specs.Request.{domain_text};
 
 use super::rounds::solve;
 use super::system::system_on;
@@ -57,15 +57,15 @@ fn least_of(
 pub fn least_on(
     alloc: Global,
     text: &[u8],
-    rows: &Domain<Vec<u8>>,
+    rows: Domain<&[u8]>,
     policy: Policy,
     limit: u32,
 ) -> Result<LeastBounds, Ending>
     requires short { length text.now ≤ 65536 }
-    requires short_rows { HasShortRows (domain_of rows.now) }
+    requires short_rows { HasShortRows (domain_text rows) }
     requires limit { limit ≤ 1000000 }
-    ensures ok { IfOk result (IsFoundIn text.now (domain_of rows.now) policy limit) }
-    ensures err { IfErr result (IsRefusedText text.now (domain_of rows.now) policy limit) }
+    ensures ok { IfOk result (IsFoundIn text.now (domain_text rows.entry) policy limit) }
+    ensures err { IfErr result (IsRefusedText text.now (domain_text rows.entry) policy limit) }
 {
     match system_on(alloc, text, rows) {
         Ok(system) => least_of(alloc, system, policy, limit),

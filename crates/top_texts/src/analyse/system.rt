@@ -9,7 +9,8 @@ ghost use Rattle.flow_systems.specs.View.{equations_of};
 ghost use Rattle.ask_words.specs.declared.request.Domain.{Domain as DomainValue};
 ghost use Rattle.top_status.specs.declared.status.TextCause.TheVariants.{Cells, Unknowns};
 ghost use Rattle.top_texts.specs.Short.{HasShortRows};
-ghost use Rattle.top_texts.specs.Parted.{IsRefusedBy, domain_of};
+ghost use Rattle.ask_words.specs.Request.{domain_text};
+ghost use Rattle.top_texts.specs.Parted.{IsRefusedBy};
 ghost use Rattle.top_texts.specs.Texts.{HasTemplate, IsAnalysed, IsSolvedSystem};
 ghost use Rattle.flow_systems.specs.declared.limits.TheConstants.{MOST_UNKNOWNS};
 
@@ -39,12 +40,12 @@ fn row_refusal(fault: RowFault) -> Refusal
 }
 
 // The template over the variables of a program.
-fn rows_of(alloc: Global, rows: &Domain<Vec<u8>>, program: &Program) -> Result<Template, Refusal>
-    requires { HasShortRows (domain_of rows.now) }
-    ensures template { IfOk result (λ template. HasTemplate (domain_of rows.now) program.now.names (Ok template)) }
+fn rows_of(alloc: Global, rows: Domain<&[u8]>, program: &Program) -> Result<Template, Refusal>
+    requires { HasShortRows (domain_text rows) }
+    ensures template { IfOk result (λ template. HasTemplate (domain_text rows.entry) program.now.names (Ok template)) }
     ensures over { IfOk result (λ template. IsTrue (is_over (length program.now.names) template)) }
     ensures err { IfErr result (λ refusal. (text : List ℕ)
-        → IsAnalysed text program.now.names program.now.body → IsRefusedBy text (domain_of rows.now) refusal) }
+        → IsAnalysed text program.now.names program.now.body → IsRefusedBy text (domain_text rows.entry) refusal) }
 {
     match template_of(alloc, rows, program.names.as_slice()) {
         Ok(template) => Ok(template),
@@ -85,12 +86,12 @@ pub(crate) fn count_cells(system: &System) -> Result<(), Refusal>
 /// # Errors
 ///
 /// The first cause that stands: a fault of the text or of the rows, or too many unknowns or cells; or want of memory.
-pub fn system_on(alloc: Global, text: &[u8], rows: &Domain<Vec<u8>>) -> Result<System, Refusal>
+pub fn system_on(alloc: Global, text: &[u8], rows: Domain<&[u8]>) -> Result<System, Refusal>
     requires short { length text.now ≤ 65536 }
-    requires short_rows { HasShortRows (domain_of rows.now) }
-    ensures ok { IfOk result (λ system. IsSolvedSystem text.now (domain_of rows.now) system) }
+    requires short_rows { HasShortRows (domain_text rows) }
+    ensures ok { IfOk result (λ system. IsSolvedSystem text.now (domain_text rows.entry) system) }
     ensures cells { IfOk result (λ system. cells_of (equations_of system) ≤ 134217728) }
-    ensures err { IfErr result (λ refusal. IsRefusedBy text.now (domain_of rows.now) refusal) }
+    ensures err { IfErr result (λ refusal. IsRefusedBy text.now (domain_text rows.entry) refusal) }
 {
     let program = program_of(alloc, text)?;
     let flow = flow_of(alloc, &program)?;

@@ -4,7 +4,7 @@ ghost use Rattle.std.specs.Prelude.{◌≡◌, ◌≤◌, ◌≢◌, IfOk, IfErr
 ghost use Rattle.flow_templates.specs.declared.fault.RowFault.TheVariants.{NoMemory};
 ghost use Rattle.flow_templates.specs.Rows.{width_of};
 ghost use Rattle.top_texts.specs.Short.{HasShortRows};
-ghost use Rattle.top_texts.specs.Parted.{domain_of};
+ghost use Rattle.ask_words.specs.Request.{domain_text};
 ghost use Rattle.top_texts.specs.Texts.{HasTemplate};
 ghost use Rattle.lang_tree.specs.declared.limits.TheConstants.{MOST_VARIABLES};
 
@@ -16,15 +16,15 @@ use std::alloc::Global;
 // The template over these variables.
 pub(crate) fn template_of(
     alloc: Global,
-    rows: &Domain<Vec<u8>>,
+    rows: Domain<&[u8]>,
     names: &[Name],
 ) -> Result<Template, RowFault>
     requires some { 1 ≤ length names.now }
     requires few { length names.now ≤ MOST_VARIABLES }
-    requires short { HasShortRows (domain_of rows.now) }
-    ensures template { IfOk result (λ template. HasTemplate (domain_of rows.now) names.now (Ok template)) }
+    requires short { HasShortRows (domain_text rows) }
+    ensures template { IfOk result (λ template. HasTemplate (domain_text rows.entry) names.now (Ok template)) }
     ensures width { IfOk result (λ template. width_of template ≡ length names.now) }
-    ensures refused { IfErr result (λ fault. fault ≢ NoMemory → HasTemplate (domain_of rows.now) names.now (Err fault)) }
+    ensures refused { IfErr result (λ fault. fault ≢ NoMemory → HasTemplate (domain_text rows.entry) names.now (Err fault)) }
 {
     let vars = names.len() as u32;
     match rows {

@@ -10,7 +10,7 @@ use Rattle.top_run.specs.Parted.{unloaded}
 use Rattle.top_texts.specs.Questions.{equations_question}
 use Rattle.top_run.specs.Reports.{IsReportOn}
 use Rattle.top_run.specs.Run.{FailsOnlyIn, OutputHolds}
-use Rattle.top_status.specs.declared.status.Which.TheVariants as which
+use Rattle.ask_files.specs.declared.which.Which.TheVariants as which
 use Rattle.top_run.proofs.endings.Worded.{output_map}
 use Rattle.top_run.proofs.endings.OneEnding.{equations_answer}
 use Rattle.top_run.proofs.files.Loaded.{content_once, not_loaded, unloaded_answer, unloaded_failed, unloaded_held, unloaded_line}

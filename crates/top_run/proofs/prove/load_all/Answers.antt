@@ -1,5 +1,5 @@
 use Rattle.std.proofs.Common.{[], ◌∷◌}
-use Rattle.top_status.specs.declared.status.Which.TheVariants as which
+use Rattle.ask_files.specs.declared.which.Which.TheVariants as which
 use Rattle.top_run.proofs.prove.load_all.Goals as goal
 
 pub returns-in-Err-clause-refused : goal.returns-in-Err-clause-refused

@@ -6,7 +6,7 @@ use Rattle.top_run.specs.Parted.{unloaded}
 use Rattle.top_run.specs.Reports.{IsReportOn}
 use Rattle.top_texts.specs.Upgrades.{IsUpgradeOf}
 use Rattle.top_run.proofs.endings.Worded.{output_map}
-use Rattle.top_status.specs.declared.status.Which.TheVariants as which
+use Rattle.ask_files.specs.declared.which.Which.TheVariants as which
 use Rattle.top_run.proofs.files.Loaded.{not_loaded, unloaded_answer}
 use Rattle.top_run.proofs.upgrade.upgrade.Goals as goal
 

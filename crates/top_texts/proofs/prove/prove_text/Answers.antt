@@ -6,23 +6,24 @@ use Rattle.ask_claims.specs.declared.claim.Claim.{Claim}
 use Rattle.ask_claims.specs.declared.outcome.Verdict.{Verdict}
 use Rattle.ask_words.specs.declared.request.Purpose.TheVariants.{Report}
 use Rattle.top_texts.specs.Exact.{exact}
-use Rattle.top_texts.specs.Parted.{AreUnjudged, IsUnanswered, domain_of}
+use Rattle.ask_words.specs.Request.{domain_text}
+use Rattle.top_texts.specs.Parted.{AreUnjudged, IsUnanswered}
 use Rattle.top_texts.specs.Questions.{claims_question}
 use Rattle.top_texts.proofs.claim_texts.Judged.{judged, unjudged, unsolved}
 use Rattle.top_texts.proofs.prove.prove_text.Goals as goal
 
 pub returns-in_err-claims-clause-err : goal.returns-in_err-claims-clause-err
 returns-in_err-claims-clause-err c =
-    let h : IsUnanswered (claims_question exact c.args.text.now (domain_of c.args.rows.now) c.args.given.now c.args.policy c.args.limit)
+    let h : IsUnanswered (claims_question exact c.args.text.now (domain_text c.args.rows) c.args.given.now c.args.policy c.args.limit)
     c.in_err-claims.field-0.0 =
-    c.in_err-claims.ensures.err c.args.text.now (domain_of c.args.rows.now) c.args.policy c.args.limit c.in_ok-system.ensures.ok in
+    c.in_err-claims.ensures.err c.args.text.now (domain_text c.args.rows) c.args.policy c.args.limit c.in_ok-system.ensures.ok in
     search (rules, h)
 
 pub returns-in_err-solved-clause-err : goal.returns-in_err-solved-clause-err
 returns-in_err-solved-clause-err c =
-    let h : IsUnanswered (claims_question exact c.args.text.now (domain_of c.args.rows.now) c.args.given.now c.args.policy c.args.limit)
+    let h : IsUnanswered (claims_question exact c.args.text.now (domain_text c.args.rows) c.args.given.now c.args.policy c.args.limit)
     c.in_err-solved.field-0.0 =
-    unsolved c.args.text.now (domain_of c.args.rows.now) c.args.given.now c.args.policy c.args.limit c.in_ok-system.system
+    unsolved c.args.text.now (domain_text c.args.rows) c.args.given.now c.args.policy c.args.limit c.in_ok-system.system
     c.in_ok-system.ensures.ok
     c.in_ok-claims.claims.items c.in_ok-claims.ensures.ok _ (c.in_err-solved.ensures.err Report) in
     search (rules, h)
@@ -30,9 +31,9 @@ returns-in_err-solved-clause-err c =
 pub returns-in_err-list-clause-err : goal.returns-in_err-list-clause-err
 returns-in_err-list-clause-err c =
     let s = c.in_ok-system.system in
-    let h : IsUnanswered (claims_question exact c.args.text.now (domain_of c.args.rows.now) c.args.given.now c.args.policy c.args.limit)
+    let h : IsUnanswered (claims_question exact c.args.text.now (domain_text c.args.rows) c.args.given.now c.args.policy c.args.limit)
     c.in_err-list.field-0.0 =
-    unjudged c.args.text.now (domain_of c.args.rows.now) c.args.given.now c.args.policy c.args.limit s c.in_ok-system.ensures.ok
+    unjudged c.args.text.now (domain_text c.args.rows) c.args.given.now c.args.policy c.args.limit s c.in_ok-system.ensures.ok
     c.in_ok-claims.claims.items c.in_ok-claims.ensures.ok c.in_ok-solved.solved c.in_ok-solved.ensures.solved _
     (subst (λ (claims : List Claim). AreUnjudged (equations_of s) (vector_at s c.in_ok-solved.solved.bounds) claims c.in_err-list.field-0.0)
     c.deref.ensures.value c.in_err-list.ensures.err) in
@@ -50,7 +51,7 @@ returns-clause-ok c =
     (subst (λ (cs : List Claim). bytes ≡ verdicts_text s.flow.names cs c.deref-3.result.now improvements) c.deref-2.ensures.value
     (subst (λ (names : List (List ℕ)). bytes ≡ verdicts_text names c.deref-2.result.now c.deref-3.result.now improvements)
     c.as_slice-names.ensures c.in_ok-verdicts_text.ensures)) in
-    judged c.args.text.now (domain_of c.args.rows.now) c.args.given.now c.args.policy c.args.limit s c.in_ok-system.ensures.ok
+    judged c.args.text.now (domain_text c.args.rows) c.args.given.now c.args.policy c.args.limit s c.in_ok-system.ensures.ok
     claims c.in_ok-claims.ensures.ok c.in_ok-solved.solved c.in_ok-solved.ensures.solved c.proved_verdicts_hold.ensures
     c.open_states_break.ensures c.in_ok-solved.ensures.least verdicts
     (subst (λ (cs : List Claim). AreVerdicts (equations_of s) (vector_at s c.in_ok-solved.solved.bounds) cs verdicts) c.deref.ensures.value

@@ -1,7 +1,7 @@
 use Rattle.std.proofs.Common.{length, subst, ◌∙◌, ap, rules}
 use Rattle.std.specs.Prelude.{Err, IsTrue}
 use Rattle.flow_templates.specs.Rows.{is_template}
-use Rattle.top_texts.specs.Parted.{domain_of}
+use Rattle.ask_words.specs.Request.{domain_text}
 use Rattle.top_texts.specs.Texts.{HasTemplate}
 use Rattle.top_texts.proofs.analyse.Solved.{template_over}
 use Rattle.top_texts.proofs.transitions.rows_along.Goals as goal
@@ -17,6 +17,6 @@ returns-in-Err-clause-err c =
     (λ other. (
       c.args.auto.now,
       is,
-      subst (λ names. HasTemplate (domain_of c.args.rows.now) names (Err c.in-Err.fault)) c.as_slice.ensures
+      subst (λ names. HasTemplate (domain_text c.args.rows) names (Err c.in-Err.fault)) c.as_slice.ensures
           (c.in-Err.ensures.refused other),
     ))

@@ -1,19 +1,20 @@
 use Rattle.std.proofs.Common.{rules}
-use Rattle.top_texts.specs.Parted.{IsRefusedAlong, domain_of}
+use Rattle.ask_words.specs.Request.{domain_text}
+use Rattle.top_texts.specs.Parted.{IsRefusedAlong}
 use Rattle.top_texts.specs.TransitionTexts.{IsAutoText}
 use Rattle.top_texts.proofs.transition_texts.Systems.{too_large, too_many, transition_system}
 use Rattle.top_texts.proofs.transitions.system_along.Goals as goal
 
 pub returns-in_err-auto-clause-err : goal.returns-in_err-auto-clause-err
 returns-in_err-auto-clause-err c =
-    let h : IsRefusedAlong c.args.text.now (domain_of c.args.rows.now) c.in_err-auto.field-0.0 =
-    c.in_err-auto.ensures.err (domain_of c.args.rows.now) in
+    let h : IsRefusedAlong c.args.text.now (domain_text c.args.rows) c.in_err-auto.field-0.0 =
+    c.in_err-auto.ensures.err (domain_text c.args.rows) in
     search (rules, h)
 
 pub returns-in_err-flow-clause-err : goal.returns-in_err-flow-clause-err
 returns-in_err-flow-clause-err c =
-    let h : IsRefusedAlong c.args.text.now (domain_of c.args.rows.now) c.in_err-flow.field-0.0 =
-    c.in_err-flow.ensures.err c.args.text.now (domain_of c.args.rows.now) c.in_ok-auto.ensures.ok in
+    let h : IsRefusedAlong c.args.text.now (domain_text c.args.rows) c.in_err-flow.field-0.0 =
+    c.in_err-flow.ensures.err c.args.text.now (domain_text c.args.rows) c.in_ok-auto.ensures.ok in
     search (rules, h)
 
 pub returns-in_err-template-clause-err : goal.returns-in_err-template-clause-err
@@ -23,15 +24,15 @@ returns-in_err-template-clause-err c =
       within =
           c.in_ok-flow.ensures.within;
     } in
-    let h : IsRefusedAlong c.args.text.now (domain_of c.args.rows.now) c.in_err-template.field-0.0 =
+    let h : IsRefusedAlong c.args.text.now (domain_text c.args.rows) c.in_err-template.field-0.0 =
     c.in_err-template.ensures.err c.args.text.now is in
     search (rules, h)
 
 pub returns-in_err-system-clause-err : goal.returns-in_err-system-clause-err
 returns-in_err-system-clause-err c =
     let flow = c.in_ok-flow.ensures in
-    let h : IsRefusedAlong c.args.text.now (domain_of c.args.rows.now) c.in_err-system.field-0.0 =
-    too_many c.args.text.now (domain_of c.args.rows.now) c.in_ok-auto.auto c.in_ok-flow.flow c.in_ok-template.template
+    let h : IsRefusedAlong c.args.text.now (domain_text c.args.rows) c.in_err-system.field-0.0 =
+    too_many c.args.text.now (domain_text c.args.rows) c.in_ok-auto.auto c.in_ok-flow.flow c.in_ok-template.template
     c.in_ok-auto.ensures.ok flow.within
     flow.names flow.points flow.edges c.in_ok-template.ensures.template c.in_err-system.ensures.above _ c.in_err-system.ensures.count in
     search (rules, h)
@@ -40,8 +41,8 @@ pub returns-in_err-count_cells-clause-err : goal.returns-in_err-count_cells-clau
 returns-in_err-count_cells-clause-err c =
     let flow = c.in_ok-flow.ensures in
     let made = c.in_ok-system.ensures in
-    let h : IsRefusedAlong c.args.text.now (domain_of c.args.rows.now) c.in_err-count_cells.field-0.0 =
-    too_large c.args.text.now (domain_of c.args.rows.now) c.in_ok-auto.auto c.in_ok-flow.flow c.in_ok-template.template
+    let h : IsRefusedAlong c.args.text.now (domain_text c.args.rows) c.in_err-count_cells.field-0.0 =
+    too_large c.args.text.now (domain_text c.args.rows) c.in_ok-auto.auto c.in_ok-flow.flow c.in_ok-template.template
     c.in_ok-auto.ensures.ok flow.within
     flow.names flow.points flow.edges c.in_ok-template.ensures.template c.in_ok-system.system made.flow made.template made.within
     c.in_err-count_cells.ensures.above _ c.in_err-count_cells.ensures.count in
@@ -51,7 +52,7 @@ pub returns-clause-ok : goal.returns-clause-ok
 returns-clause-ok c =
     let flow = c.in_ok-flow.ensures in
     let made = c.in_ok-system.ensures in
-    transition_system c.args.text.now (domain_of c.args.rows.now) c.in_ok-auto.auto c.in_ok-flow.flow c.in_ok-template.template
+    transition_system c.args.text.now (domain_text c.args.rows) c.in_ok-auto.auto c.in_ok-flow.flow c.in_ok-template.template
     c.in_ok-auto.ensures.ok flow.within
     flow.names flow.points flow.edges c.in_ok-template.ensures.template c.in_ok-system.system made.flow made.template made.within
     c.in_ok-count_cells.ensures.within

@@ -1,7 +1,7 @@
 use Rattle.std.proofs.Common.{length, subst, ◌∙◌, ap, rules}
 use Rattle.std.specs.Prelude.{Err, IsTrue}
 use Rattle.flow_templates.specs.Rows.{is_template}
-use Rattle.top_texts.specs.Parted.{domain_of}
+use Rattle.ask_words.specs.Request.{domain_text}
 use Rattle.top_texts.specs.Texts.{HasTemplate}
 use Rattle.top_texts.proofs.analyse.Solved.{template_over}
 use Rattle.top_texts.proofs.analyse.system.rows_of.Goals as goal
@@ -14,5 +14,5 @@ returns-in-Ok-clause-over c =
 pub returns-in-Err-clause-err : goal.returns-in-Err-clause-err
 returns-in-Err-clause-err c =
     λ text analysed. c.row_refusal.ensures text _ _ _ analysed
-    (λ other. subst (λ names. HasTemplate (domain_of c.args.rows.now) names (Err c.in-Err.fault)) c.as_slice.ensures
+    (λ other. subst (λ names. HasTemplate (domain_text c.args.rows) names (Err c.in-Err.fault)) c.as_slice.ensures
     (c.in-Err.ensures.refused other))

@@ -2,7 +2,7 @@ use Rattle.std.proofs.Common.{◌≢◌, sym, subst}
 use Rattle.std.specs.Prelude.{Err, IfErr}
 use Rattle.flow_templates.specs.declared.fault.RowFault.TheVariants.{NoMemory}
 use Rattle.flow_templates.specs.RowFiles.{Answers}
-use Rattle.top_texts.specs.Parted.{domain_of}
+use Rattle.ask_words.specs.Request.{domain_text}
 use Rattle.top_texts.specs.Texts.{HasTemplate}
 use Rattle.top_texts.proofs.analyse.template.template_of.Goals as goal
 

@@ -1,0 +1,52 @@
+-- The files of a request in the order of their loads, and which of them isn't read.
+use Rattle.std.specs.Prelude.{ℕ, List, [], ◌∷◌, Option, Some, None, length, nat_lt, if◌then◌else◌}
+use Rattle.ask_words.specs.declared.request.Domain.{Domain}
+use Rattle.ask_words.specs.declared.request.Domain.TheVariants.{Intervals, Zones, Octagons, Rows}
+use Rattle.ask_words.specs.declared.request.Request.{Request as RequestOf}
+use Rattle.ask_words.specs.declared.request.Request.TheVariants.{Analyse, Check, Bench, Upgrade, Prove, Transitions, Equations}
+use Rattle.ask_files.specs.declared.which.ReadCause.{ReadCause}
+use Rattle.ask_files.specs.declared.which.ReadCause.TheVariants.{Failed, TooLong}
+use Rattle.ask_files.specs.declared.which.Which.{Which}
+use Rattle.ask_files.specs.declared.which.Which.TheVariants as which
+
+-- a command, with the names of its files as texts; and the same command with what the files hold in place of their names
+abbrev pub Request : Type 0
+Request = RequestOf (List ℕ)
+
+-- what a file holds, and its name
+abbrev pub NamedFile : Type 0
+NamedFile = Which × List ℕ
+
+-- the file of a domain's rows, where it has one, before other files
+abbrev pub rows_before : Domain (List ℕ) → List NamedFile → List NamedFile
+rows_before (Rows file) rest = (which.Rows, file) ∷ rest
+rows_before Intervals rest = rest
+rows_before Zones rest = rest
+rows_before Octagons rest = rest
+
+-- the files of a request, in the order in which they are loaded
+abbrev pub files_of : Request → List NamedFile
+files_of (Analyse purpose analysis) = (which.Program, analysis.program) ∷ rows_before analysis.domain []
+files_of (Check program certificate) = (which.Program, program) ∷ (which.Certificate, certificate) ∷ []
+files_of (Bench seed loops) = []
+files_of (Upgrade certificate) = (which.Certificate, certificate) ∷ []
+files_of (Prove claims analysis) = (which.Program, analysis.program) ∷ rows_before analysis.domain ((which.Claims, claims) ∷ [])
+files_of (Transitions analysis) = (which.System, analysis.program) ∷ rows_before analysis.domain []
+files_of (Equations file improvements policy) = (which.Equations, file) ∷ []
+
+-- how many bytes a file may have: 65,536, and a certificate 16,777,216
+abbrev pub most_bytes : Which → ℕ
+most_bytes which.Certificate = 16777216
+most_bytes which.Program = 65536
+most_bytes which.Rows = 65536
+most_bytes which.Claims = 65536
+most_bytes which.System = 65536
+most_bytes which.Equations = 65536
+
+-- why the first of these files isn't read that isn't, where these texts are what they hold, in order: there is no text for it, since its
+-- load failed, or it has more bytes than such a file may have
+abbrev pub unread : List NamedFile → List (List ℕ) → Option ReadCause
+unread [] contents = None
+unread (file ∷ files) [] = Some (Failed file.0)
+unread (file ∷ files) (text ∷ contents) =
+    if nat_lt (most_bytes file.0) (length text) then Some (TooLong file.0) else unread files contents

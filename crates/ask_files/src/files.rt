@@ -1,0 +1,129 @@
+//! The files of a request in the order of their loads, and which of them isn't read.
+
+ghost use Rattle.std.specs.Prelude.{◌≡◌, ◌∷◌, [], IfOk, IsErrOf, None, Some, map, string_bytes};
+ghost use Rattle.ask_words.specs.Request.{analysis_text, domain_text, request_of, request_text};
+ghost use Rattle.ask_files.specs.Asked.{texts_of};
+ghost use Rattle.ask_files.specs.Files.{Request as NamedRequest, files_of, most_bytes, rows_before, unread};
+ghost use Rattle.ask_files.specs.Named.{name_of};
+ghost use Rattle.ask_files.specs.declared.which.Which.TheVariants.{Claims};
+
+use crate::which::{ReadCause, Which};
+use ask_words::{Analysis, Domain, Request, WordsFault, read_words};
+use std::alloc::{AllocError, Global};
+
+/// A file of a request.
+#[derive(Clone, Copy, Debug)]
+pub struct NamedFile<'a> {
+    /// What it holds.
+    pub which: Which,
+    pub name: &'a str,
+}
+
+/// How many bytes a file may have: 65,536, and a certificate 16,777,216.
+pub fn most_bytes(which: Which) -> usize
+    ensures { result ≡ most_bytes which }
+{
+    match which {
+        Which::Certificate => 16777216,
+        Which::Program | Which::Rows | Which::Claims | Which::System | Which::Equations => 65536,
+    }
+}
+
+// The file of this name, which holds this.
+fn named<'a>(which: Which, name: &'a str) -> NamedFile<'a>
+    ensures { name_of result ≡ (which, name.entry.now) }
+{
+    NamedFile { which, name }
+}
+
+// The files of an analysis, of which the first holds this.
+fn analysis_files<'a>(
+    alloc: Global,
+    which: Which,
+    analysis: Analysis<&'a str>,
+) -> Result<Vec<NamedFile<'a>>, AllocError>
+    ensures { IfOk result (λ files. map name_of files.items
+        ≡ (which, analysis.entry.program.now) ∷ rows_before (domain_text analysis.entry.domain) []) }
+{
+    let first = named(which, analysis.program);
+    match analysis.domain {
+        Domain::Intervals | Domain::Zones | Domain::Octagons => Ok(vec![in alloc; first]?),
+        Domain::Rows(rows) => Ok(vec![in alloc; first, named(Which::Rows, rows)]?),
+    }
+}
+
+// The files of a proof of claims.
+fn proof_files<'a>(
+    alloc: Global,
+    claims: &'a str,
+    analysis: Analysis<&'a str>,
+) -> Result<Vec<NamedFile<'a>>, AllocError>
+    ensures { IfOk result (λ files. map name_of files.items
+        ≡ (Which.Program, analysis.entry.program.now) ∷ rows_before (domain_text analysis.entry.domain) ((Claims, claims.entry.now) ∷ [])) }
+{
+    let first = named(Which::Program, analysis.program);
+    let last = named(Which::Claims, claims);
+    match analysis.domain {
+        Domain::Intervals | Domain::Zones | Domain::Octagons => Ok(vec![in alloc; first, last]?),
+        Domain::Rows(rows) => Ok(vec![in alloc; first, named(Which::Rows, rows), last]?),
+    }
+}
+
+// The files of a request.
+pub fn request_files<'a>(
+    alloc: Global,
+    request: Request<&'a str>,
+) -> Result<Vec<NamedFile<'a>>, AllocError>
+    ensures { IfOk result (λ files. map name_of files.items ≡ files_of (request_text request.entry)) }
+{
+    match request {
+        Request::Analyse { analysis, .. } => analysis_files(alloc, Which::Program, analysis),
+        Request::Check {
+            program,
+            certificate,
+        } => Ok(vec![in alloc;
+            named(Which::Program, program),
+            named(Which::Certificate, certificate),
+        ]?),
+        Request::Bench { .. } => Ok(Vec::new(alloc)),
+        Request::Upgrade { certificate } => Ok(vec![in alloc;
+            named(Which::Certificate, certificate),
+        ]?),
+        Request::Prove { claims, analysis } => proof_files(alloc, claims, analysis),
+        Request::Transitions { analysis } => analysis_files(alloc, Which::System, analysis),
+        Request::Equations { file, .. } => Ok(vec![in alloc; named(Which::Equations, file)]?),
+    }
+}
+
+/// The files that the words after the program's own name ask to load, in the order of their loads: the program, the transition
+/// system or the equations; then the file of rows or the certificate; then the claims.
+///
+/// # Errors
+///
+/// The words aren't a command, or there was no memory.
+pub fn files_of<'a>(alloc: Global, words: &'a [String]) -> Result<Vec<NamedFile<'a>>, WordsFault>
+    ensures ok { IfOk result (λ files. (request : NamedRequest) × (request_of (map string_bytes words.entry.now) ≡ Some request)
+        × (map name_of files.items ≡ files_of request)) }
+    ensures usage { IsErrOf result WordsFault.Usage → request_of (map string_bytes words.entry.now) ≡ None }
+{
+    let request = read_words(alloc, words)?;
+    Ok(request_files(alloc, request)?)
+}
+
+// Why the first of these files isn't read that isn't, where these are their contents.
+pub fn unread(files: &[NamedFile], contents: &[&[u8]]) -> Option<ReadCause>
+    ensures { result ≡ unread (map name_of files.now) (texts_of contents.now) }
+{
+    let mut number = 0;
+    while number < files.len() {
+        let which = files[number].which;
+        if number >= contents.len() {
+            return Some(ReadCause::Failed(which));
+        }
+        if contents[number].len() > most_bytes(which) {
+            return Some(ReadCause::TooLong(which));
+        }
+        number += 1;
+    }
+    None
+}

@@ -1,0 +1,10 @@
+//! The files of a request: their names in the order of their loads, their loads, and the request with what they hold in place of names.
+#![tactic(auto)]
+
+mod asked;
+mod files;
+mod which;
+
+pub use asked::with_texts;
+pub use files::{NamedFile, files_of, most_bytes, request_files, unread};
+pub use which::{ReadCause, Which};

@@ -1,0 +1,5 @@
+pub mod Endings
+pub mod Written
+pub mod Said
+pub mod Lawful
+pub mod Answered

@@ -1,0 +1,132 @@
+//! The answer to words and to the contents of the files that they name.
+
+ghost use Rattle.std.specs.Prelude.{◌≡◌, ℕ, List, [], IfOk, Some, None, map, string_bytes};
+ghost use Rattle.ask_words.specs.Request.{request_text};
+ghost use Rattle.top_answer.specs.Answers.{Answers, Ends, Holds, IsAnswer, IsMessage, IsOutput};
+ghost use Rattle.ask_files.specs.Asked.{texts_of};
+ghost use Rattle.top_answer.specs.Limits.{IsInLimits, IsInRange};
+ghost use Rattle.top_answer.specs.Commands.{command_of};
+ghost use Rattle.ask_files.specs.Files.{files_of, unread};
+ghost use Rattle.top_answer.specs.Parted.{AnswersRequest, AnswersWords, NamesPlace, Says};
+ghost use Rattle.top_status.specs.Messages.{message_of};
+ghost use Rattle.top_status.specs.declared.status.Status.{Status as StatusValue};
+ghost use Rattle.top_texts.specs.Exact.{exact};
+
+use crate::meaning::{Exact, Meaning};
+use crate::named::named_text;
+use crate::outcome::{Outcome, outcome_of, plain};
+use ask_files::{ReadCause, request_files, unread, with_texts};
+use ask_words::{Request, WordsFault, read_words};
+use std::alloc::{AllocError, Global};
+use top_status::{Message, Status, answer_line, make_message};
+
+/// What the program answers.
+#[derive(Drop)]
+pub struct Answer {
+    /// How it ends; its exit code is `status.code()`.
+    pub status: Status,
+    /// What is written to standard output: all of it where the status is `Done`, and else nothing.
+    pub bytes: Vec<u8>,
+    /// What is written to standard error where the status isn't `Done`: a line with its line feed.
+    pub message: Message,
+}
+
+// An outcome with its message, which names this line.
+fn with_line(outcome: Outcome, line: u32) -> Answer
+    ensures status { result.status ≡ outcome.status }
+    ensures bytes { result.bytes.items ≡ outcome.bytes.items }
+    ensures message { result.message ≡ message_of line outcome.rows outcome.status }
+{
+    let message = make_message(line, outcome.rows, &outcome.status);
+    Answer {
+        status: outcome.status,
+        bytes: outcome.bytes,
+        message,
+    }
+}
+
+// The answer of a status that has no bytes, and whose message names no place.
+fn plain_answer(alloc: Global, status: Status) -> Answer
+    ensures status { result.status ≡ status }
+    ensures bytes { result.bytes.items ≡ [] }
+    ensures message { result.message ≡ message_of 0 0 status }
+{
+    with_line(plain(alloc, status), 0)
+}
+
+// The answer to the texts of a command.
+fn answer_texts(alloc: Global, asked: Request<&[u8]>) -> Answer
+    requires { IsInLimits (request_text asked) }
+    ensures says { Says (command_of exact (request_text asked.entry)) result.status result.bytes.items }
+    ensures names { NamesPlace (request_text asked.entry) result.status result.message }
+{
+    let outcome = outcome_of(alloc, asked);
+    let line = answer_line(named_text(asked, &outcome.status), &outcome.status);
+    with_line(outcome, line)
+}
+
+// Why a file of the request isn't read, if there is one.
+fn cause_of(
+    alloc: Global,
+    request: Request<&str>,
+    contents: &[&[u8]],
+) -> Result<Option<ReadCause>, AllocError>
+    ensures { IfOk result (λ cause. cause ≡ unread (files_of (request_text request.entry)) (texts_of contents.now)) }
+{
+    let files = request_files(alloc, request)?;
+    Ok(unread(&files, contents))
+}
+
+// The answer to a request over the contents of its files.
+fn answer_request(alloc: Global, request: Request<&str>, contents: &[&[u8]]) -> Answer
+    requires { IsInRange (request_text request) }
+    ensures { AnswersRequest (command_of exact) (request_text request.entry) (texts_of contents.now) result.status result.bytes.items result.message }
+{
+    match cause_of(alloc, request, contents) {
+        Ok(None) => answer_texts(alloc, with_texts(request, contents)),
+        Ok(Some(cause)) => plain_answer(alloc, Status::Read(cause)),
+        Err(_) => plain_answer(alloc, Status::Memory),
+    }
+}
+
+// The answer to words and to the contents of the files that they name.
+fn answer_words(alloc: Global, words: &[String], contents: &[&[u8]]) -> Answer
+    ensures { AnswersWords (command_of exact) (map string_bytes words.now) (texts_of contents.now) result.status result.bytes.items result.message }
+{
+    match read_words(alloc, words) {
+        Ok(request) => answer_request(alloc, request, contents),
+        Err(WordsFault::Usage) => plain_answer(alloc, Status::Usage),
+        Err(WordsFault::NoMemory) => plain_answer(alloc, Status::Memory),
+    }
+}
+
+/// What the program answers to `words`, those after its own name, and to the contents of the files that they name, in the order in
+/// which `files_of` lists them. Where a file's load failed, the contents end before it; of a file that is too long, one byte more
+/// than `most_bytes` is enough. Further contents change nothing. Nothing is read, and nothing is written.
+///
+/// The first cause in this order decides: the words; the program's file, then the file of rows or the certificate, and then that of the
+/// claims; the tokens, the grammar, the points and edges. An analysis goes on with the rows, the unknowns, the cells, the composition of
+/// the edges, and the rounds; a check with the form of the certificate, its rows, the unknowns, the composition of the
+/// edges, and the tests; an upgrade reads no program, and has the form of the certificate alone; a proof of
+/// claims goes on from the cells with the faults of the claims, and from the rounds with the problems of the claims; a transition
+/// system has the faults of its text and of its edges, and goes on as an analysis does; equations have the faults of their text, the
+/// composition of the edges, and the rounds. `Memory` may come at any time, and takes the place of any other answer. A wide operation
+/// of an analysis or of a proof may take the place of a report and of improvements that are spent.
+pub fn answer(alloc: Global, words: &[String], contents: &[&[u8]]) -> Answer
+    // Sound: what is answered is so of the words and of these contents, and so is what is written. A report is
+    // that of the least vector, which holds in every run of the program or along the edges of the transition system, with the number of
+    // improvements by the policy. The values of equations equal their right sides, and are at most all values above the equations.
+    ensures answer { IsAnswer (command_of ⟦<Exact as Meaning>⟧.means) (map string_bytes words.now) (texts_of contents.now) result.status }
+    ensures output { Holds (IsOutput (command_of ⟦<Exact as Meaning>⟧.means) (map string_bytes words.now) (texts_of contents.now)) result.status
+        result.bytes.items }
+
+    // Complete: the ending that stands is answered, but for want of memory, or a wide operation that stands.
+    ensures complete { (ending : StatusValue) → Ends (command_of ⟦<Exact as Meaning>⟧.means) (map string_bytes words.now) (texts_of contents.now) ending
+        → Answers (command_of ⟦<Exact as Meaning>⟧.means) (map string_bytes words.now) (texts_of contents.now) ending result.status }
+
+    // The message names the line and the unknown of the cause.
+    ensures message { IsMessage ⟦<Exact as Meaning>⟧.means (map string_bytes words.now) (texts_of contents.now) result.status
+        result.message }
+{
+    answer_words(alloc, words, contents)
+}

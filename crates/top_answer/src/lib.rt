@@ -1,0 +1,11 @@
+//! From words and the contents of the files that they name to an answer: a pure function, with no file and no stream.
+#![tactic(auto)]
+
+mod answer;
+mod meaning;
+mod named;
+mod outcome;
+
+pub use answer::{Answer, answer};
+pub use ask_files::{NamedFile, files_of, most_bytes};
+pub use meaning::{Exact, Meaning};

@@ -1,0 +1,188 @@
+//! What the texts of a command come to: the bytes that are written, or the status of their refusal.
+
+ghost use Rattle.std.specs.Prelude.{◌≡◌, ◌≤◌, ℕ, IfOk, IfErr, length};
+ghost use Rattle.lang_tree.specs.Tree.{Statements};
+ghost use Rattle.flow_edges.specs.Edges.{edges_of_program};
+ghost use Rattle.flow_edges.specs.Points.{points_of_program};
+ghost use Rattle.flow_systems.specs.declared.system.System.{System as SystemValue};
+ghost use Rattle.flow_systems.specs.Cells.{cells_of};
+ghost use Rattle.flow_systems.specs.View.{equations_of};
+ghost use Rattle.ask_words.specs.Request.{analysis_text, request_text};
+ghost use Rattle.ask_words.specs.declared.request.Request.TheVariants.{Analyse, Check};
+ghost use Rattle.top_answer.specs.Limits.{IsInLimits, IsWithin};
+ghost use Rattle.top_answer.specs.Commands.{HasRows, command_of};
+ghost use Rattle.top_answer.specs.Parted.{HasOutcome, Says};
+ghost use Rattle.top_status.specs.CheckMessages.{rows_of};
+ghost use Rattle.top_texts.specs.Checks.{HasRowCount, IsSpelt};
+ghost use Rattle.top_texts.specs.Exact.{exact};
+ghost use Rattle.top_texts.specs.Parted.{IsHalted, IsOutputOf};
+ghost use Rattle.top_texts.specs.Texts.{IsSolvedSystem};
+
+use ask_words::{Analysis, Policy, Purpose, Request};
+use flow_systems::System;
+use std::alloc::Global;
+use top_status::{Status, answer_rows};
+use top_texts::{
+    Given, Refusal, bench_text, certificate_of, equations_text, prove_text, read_given, refused,
+    report_by, report_of, system_on, transitions_text, upgrade_text,
+};
+
+// What texts come to.
+#[derive(Drop)]
+pub(crate) struct Outcome {
+    pub status: Status,
+    /// What is written; nothing where the status isn't done.
+    pub bytes: Vec<u8>,
+    /// The number of rows by which the message numbers an unknown; 0 where it names none.
+    pub rows: usize,
+}
+
+// The outcome of a status that has no bytes and names no unknown.
+pub(crate) fn plain(alloc: Global, status: Status) -> Outcome
+    ensures status { result.status ≡ status }
+    ensures bytes { result.bytes.items ≡ [] }
+    ensures rows { result.rows ≡ 0 }
+{
+    Outcome {
+        status,
+        bytes: Vec::new(alloc),
+        rows: 0,
+    }
+}
+
+// The outcome of a result, whose message numbers unknowns by this number of rows, if it names one.
+fn outcome(alloc: Global, made: Result<Vec<u8>, Refusal>, rows: usize) -> Outcome
+    ensures is { HasOutcome made result.status result.bytes.items }
+    ensures rows { result.rows ≡ rows_of rows result.status }
+{
+    match made {
+        Ok(bytes) => Outcome {
+            status: Status::Done,
+            bytes,
+            rows: 0,
+        },
+        Err(refusal) => {
+            let status = refused(refusal);
+            let rows = answer_rows(rows, &status);
+            Outcome {
+                status,
+                bytes: Vec::new(alloc),
+                rows,
+            }
+        }
+    }
+}
+
+// The report of a system or its certificate.
+fn made_of(
+    alloc: Global,
+    purpose: Purpose,
+    system: &System,
+    policy: Policy,
+    limit: u32,
+) -> Result<Vec<u8>, Refusal>
+    requires limit { limit ≤ 1000000 }
+    requires cells { cells_of (equations_of system.now) ≤ 134217728 }
+    ensures ok { IfOk result (λ bytes. IsOutputOf purpose system.now policy limit bytes.items) }
+    ensures err { IfErr result (λ refusal. IsHalted purpose system.now policy limit refusal) }
+{
+    match purpose {
+        Purpose::Report => report_of(alloc, system, policy, limit),
+        Purpose::Certificate => certificate_of(alloc, system, policy, limit),
+    }
+}
+
+// The analysis of a program.
+fn analysed(alloc: Global, purpose: Purpose, analysis: Analysis<&[u8]>) -> Outcome
+    requires { IsWithin (analysis_text analysis) }
+    ensures says { Says (command_of exact (Analyse purpose (analysis_text analysis.entry))) result.status result.bytes.items }
+    ensures rows { (count : ℕ) → HasRows exact (Analyse purpose (analysis_text analysis.entry)) count
+        → result.rows ≡ rows_of count result.status }
+{
+    match system_on(alloc, analysis.program, analysis.domain) {
+        Ok(system) => {
+            let made = made_of(
+                alloc,
+                purpose,
+                &system,
+                analysis.policy,
+                analysis.improvements,
+            );
+            outcome(alloc, made, system.template.as_slice().len())
+        }
+        Err(refusal) => outcome(alloc, Err(refusal), 0),
+    }
+}
+
+// The report of a certificate of a program, where it is valid.
+fn accepted(alloc: Global, given: Given) -> Outcome
+    requires names { given.flow.names ≡ given.program.names }
+    requires points { given.flow.points ≡ points_of_program given.program.body }
+    requires edges { given.flow.edges ≡ edges_of_program given.program.body }
+    ensures says { (text bytes : List ℕ) → IsSpelt text bytes given.program.names given.program.body given.cert
+        → Says (command_of exact (Check text bytes)) result.status result.bytes.items }
+    ensures rows { result.rows ≡ rows_of (length given.cert.rows) result.status }
+{
+    let Given {
+        program,
+        flow,
+        cert,
+    } = given;
+    let made = report_by(alloc, &program, flow, &cert);
+    outcome(alloc, made, cert.rows.as_slice().len())
+}
+
+// The check of a certificate of a program.
+fn checked(alloc: Global, text: &[u8], certificate: &[u8]) -> Outcome
+    requires { length text.now ≤ 65536 }
+    ensures says { Says (command_of exact (Check text.now certificate.now)) result.status result.bytes.items }
+    ensures rows { (count : ℕ) → HasRowCount certificate.now count → result.rows ≡ rows_of count result.status }
+{
+    match read_given(alloc, text, certificate) {
+        Ok(given) => accepted(alloc, given),
+        Err(refusal) => outcome(alloc, Err(refusal), 0),
+    }
+}
+
+// What a command comes to, with its texts in place of the names of its files.
+pub(crate) fn outcome_of(alloc: Global, asked: Request<&[u8]>) -> Outcome
+    requires { IsInLimits (request_text asked) }
+    ensures says { Says (command_of exact (request_text asked.entry)) result.status result.bytes.items }
+    ensures rows { (count : ℕ) → HasRows exact (request_text asked.entry) count → result.rows ≡ rows_of count result.status }
+{
+    match asked {
+        Request::Analyse { purpose, analysis } => analysed(alloc, purpose, analysis),
+        Request::Check {
+            program,
+            certificate,
+        } => checked(alloc, program, certificate),
+        Request::Bench { seed, loops } => outcome(alloc, bench_text(alloc, seed, loops), 0),
+        Request::Upgrade { certificate } => outcome(alloc, upgrade_text(alloc, certificate), 0),
+        Request::Prove { claims, analysis } => {
+            let made = prove_text(
+                alloc,
+                analysis.program,
+                analysis.domain,
+                claims,
+                analysis.policy,
+                analysis.improvements,
+            );
+            outcome(alloc, made, 0)
+        }
+        Request::Transitions { analysis } => {
+            let made = transitions_text(
+                alloc,
+                analysis.program,
+                analysis.domain,
+                analysis.policy,
+                analysis.improvements,
+            );
+            outcome(alloc, made, 0)
+        }
+        Request::Equations {
+            file,
+            improvements,
+            policy,
+        } => outcome(alloc, equations_text(alloc, file, policy, improvements), 0),
+    }
+}
