@@ -5,6 +5,6 @@ mod asked;
 mod files;
 mod which;
 
-pub use asked::with_texts;
-pub use files::{NamedFile, files_of, most_bytes, request_files, unread};
+pub use asked::{analysis_with, with_texts};
+pub use files::{NamedFile, files_of, first_unread, most_bytes, request_files, unread};
 pub use which::{ReadCause, Which};

@@ -6,6 +6,6 @@ mod meaning;
 mod named;
 mod outcome;
 
-pub use answer::{Answer, answer};
+pub use answer::{Answer, answer, plain_answer};
 pub use ask_files::{NamedFile, files_of, most_bytes};
 pub use meaning::{Exact, Meaning};
