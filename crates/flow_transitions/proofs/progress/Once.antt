@@ -96,6 +96,7 @@ module _ (text : List ℕ) (tokens : List Token) where
       let faults : p ≡ q = cc in
       h ∙ ap (λ z. let answer : AutoAnswer = Err (fault.Parse z) in answer) faults ∙ sym k
 
+-- a text is read as one answer alone
 pub one_answer : (text : List ℕ) (a b : AutoAnswer) → IsAuto text a → IsAuto text b → a ≡ b
 one_answer text a b (no_tokens f h e) (no_tokens g k d) =
     e ∙ ap (λ z. let answer : AutoAnswer = Err (fault.Lex z) in answer) (one_text_fault text f g h k) ∙ sym d
@@ -109,6 +110,7 @@ memory_or : (f : AutoFault) → (f ≡ fault.NoMemory) ⊎ (f ≢ fault.NoMemory
 memory_or fault.NoMemory = inl refl
 memory_or f = inr (λ e. cc)
 
+-- where the result is what the text is, or memory was wanted, it is every answer that the text is
 pub gives : (text : List ℕ) (result : Result Auto AutoFault) → IfOk result (λ a. IsAuto text (Ok (content a)))
     → IfErr result (λ f. f ≢ fault.NoMemory → IsAuto text (Err f)) →
     (answer : AutoAnswer) → IsAuto text answer → GivesAuto result answer
@@ -121,6 +123,7 @@ pub answered : (text : List ℕ) (tokens ts : List Token) (result : Result Auto 
 answered text tokens ts (Ok a) e r h = by_tokens ts (subst (Reads text) (sym e) r) h
 answered text tokens ts (Err f) e r h = tt
 
+-- a fault that tokens read as is what the text is
 pub refused : (text : List ℕ) (tokens ts : List Token) (result : Result Auto AutoFault) → ts ≡ tokens → Reads text tokens →
     IfErr result (λ f. f ≢ fault.NoMemory → ReadsTo text ts (Ok start) 0 (Err f))
     → IfErr result (λ f. f ≢ fault.NoMemory → IsAuto text (Err f))
