@@ -1,9 +1,9 @@
 -- What the trees say is what the reading answers.
-use Rattle.std.proofs.Common.{◌≡◌, ◌∙◌, ◌+◌, ◌++◌, ◌<◌, ◌≤◌, ◌⊎◌, inl, inr, ⊎_elim, ℕ, Bool, true, false, List, [], ◌∷◌, length, map, drop}
-use Rattle.std.proofs.Common.{Option, Some, None, Result, Ok, Err, refl, sym, ap, subst, arith}
+use Rattle.std.proofs.Common.{◌≡◌, ◌∙◌, ◌+◌, ◌++◌, ◌<◌, ◌⊎◌, inl, inr, ⊎_elim, ℕ, Bool, true, false, List, [], ◌∷◌, length, map, drop}
+use Rattle.std.proofs.Common.{Some, None, Result, Ok, Err, refl, sym, ap, subst, arith}
 use Rattle.std.proofs.lemmas.Bool.{ltb-true, leb-true}
 use Rattle.std.proofs.lemmas.List.{length-append, length-map}
-use Rattle.std.specs.Prelude.{nat_lt, nat_le, if◌then◌else◌}
+use Rattle.std.specs.Prelude.{nat_lt, nat_le}
 use Rattle.lang_tokens.specs.declared.token.Token as lex_token
 use Rattle.lang_tokens.specs.Lines.{line_at}
 use Rattle.lang_grammar.specs.Expressions.{IsLongest, BeginsExpr, FindsExpr, stops_at, nests_at}
@@ -14,29 +14,30 @@ use Rattle.flow_edges.specs.declared.limits.TheConstants.{MOST_POINTS}
 use Rattle.lang_tree.specs.Tree.{Statement}
 use Rattle.lang_meaning.specs.declared.fault.ParseFault.{ParseFault}
 use Rattle.lang_meaning.specs.declared.fault.ParseFault.TheVariants as parse
-use Rattle.lang_meaning.specs.declared.fault.Limit.TheVariants.{Nesting}
+use Rattle.lang_meaning.specs.declared.fault.Limit.TheVariants.{Nesting, Variables}
 use Rattle.lang_meaning.specs.Names.{place_of}
 use Rattle.lang_meaning.specs.Results as results
-use Rattle.lang_meaning.specs.Expressions.{ExpressionMeans, Meaning, as_truth, first_place, meant}
-use Rattle.flow_transitions.specs.declared.auto_edge.AutoEdge.{AutoEdge}
+use Rattle.lang_meaning.specs.Expressions.{Meaning, as_truth, first_place, meant}
 use Rattle.flow_transitions.specs.declared.fault.AutoFault.{AutoFault}
 use Rattle.flow_transitions.specs.declared.fault.AutoFault.TheVariants as fault
 use Rattle.flow_transitions.specs.declared.reading.point_name.PointName.{PointName}
-use Rattle.flow_transitions.specs.AutoReading.{Stand, Progress, progress, start, Stepped, AutoAnswer, token_at, expression_at, unexpected_fault}
-use Rattle.flow_transitions.specs.AutoReading.{ReadsTo, ended, an_expression, wanted_at, names_of, point_or, not_first, from_then, to_then}
-use Rattle.flow_transitions.specs.AutoReading.{variable_if, point_if, counted_then, assigned_if, assumed, assigned, as_side, content_of}
-use Rattle.flow_transitions.specs.AutoReading.{at_variable, past_variable, at_points, at_point, past_point, at_edge, at_source, at_target}
+use Rattle.flow_transitions.specs.AutoContents.{AutoAnswer, as_side}
+use Rattle.flow_transitions.specs.AutoReading.{Stand, Progress, progress, start, Stepped, token_at, a_token}
+use Rattle.flow_transitions.specs.AutoReading.{ReadsTo, ended, wanted_at, point_or, not_first, from_then, to_then}
+use Rattle.flow_transitions.specs.AutoReading.{variable_if, point_if, counted_then, assigned_if, assumed, assigned}
+use Rattle.flow_transitions.specs.AutoReading.{at_variable, at_point, past_point, at_edge, at_source, at_target}
 use Rattle.flow_transitions.specs.AutoReading.{at_opening, at_act, at_paren, at_equal, past_condition, past_act, at_end, edge_to}
-use Rattle.flow_transitions.specs.AutoGrammar.{tokens_here, Spot, Written, Heads, System, heads_then, Frame, condition, side, frame_then}
+use Rattle.flow_transitions.specs.AutoGrammar.{tokens_here, Spot, Written, Heads, Frame, condition, side, frame_then}
 use Rattle.flow_transitions.specs.AutoGrammar.{Inside, inside_then, Begun, begun_then, no_token, some_variables, a_variable, all_variables}
 use Rattle.flow_transitions.specs.AutoGrammar.{some_points, a_point, some_edges, an_edge, a_source, a_target, some_acts, an_assume}
 use Rattle.flow_transitions.specs.AutoGrammar.{an_assigned, an_assumption, some_expression as begun_expression}
-use Rattle.flow_transitions.specs.AutoGrammar.{an_expression as whole_expression, IsUnexpected}
+use Rattle.flow_transitions.specs.AutoGrammar.{an_expression as whole_expression}
 use Rattle.flow_transitions.specs.AutoTrees.{names_in, spot_names, all_spots, point_here, Outer, Inner, FrameSays, FrameStands, FrameFault}
-use Rattle.flow_transitions.specs.AutoTrees.{Faultless, FirstFault, SystemMeans, IsSaid, no_tokens, by_tokens, HeadSays}
+use Rattle.flow_transitions.specs.AutoTrees.{Faultless, FirstFault, SystemMeans}
 use Rattle.flow_transitions.specs.AutoTrees.{unexpected as unexpected_token, variable_twice, many_variables, point_twice, point_count}
 use Rattle.flow_transitions.specs.AutoTrees.{no_source, no_target, into_entry, no_variable, too_deep, says_nothing}
-use Rattle.flow_transitions.specs.AutoTexts.{IsAuto, no_tokens as is_no_tokens, by_tokens as is_by_tokens}
+use Rattle.flow_transitions.specs.AutoReading.{IsRead, no_tokens as no_reading, some_tokens}
+use Rattle.flow_transitions.specs.AutoTexts.{IsAuto, no_tokens, by_tokens}
 use Rattle.flow_transitions.proofs.grammar.Accepts.{Accepts, ended_by, unexpected_stops}
 use Rattle.flow_transitions.proofs.progress.Steps.{Fails, refused_fails}
 use Rattle.flow_transitions.proofs.trees.Alike.{here_alike, stops_alike, nests_alike}
@@ -44,9 +45,10 @@ use Rattle.flow_transitions.proofs.trees.Has.{outside, inside, points_in, stand_
 use Rattle.flow_transitions.proofs.trees.Here.{seen_here}
 use Rattle.flow_transitions.proofs.trees.Leads.{Leads, Refuses, chain, chain_refuses, token_leads, token_refuses, meant_fails, use_fails}
 use Rattle.flow_transitions.proofs.trees.LeadsNames.{to_variables, to_variable, to_points_word, to_points, to_point, to_edges, edges_at}
-use Rattle.flow_transitions.proofs.trees.LeadsEdges.{stand_at, stand_wants, says_stands, edges_lead, head_leads, frame_leads, whole_leads}
+use Rattle.flow_transitions.proofs.trees.LeadsEdges.{stand_at, stand_wants, edges_lead, head_leads, frame_leads, whole_leads}
 use Rattle.flow_transitions.proofs.trees.LeadsEdges.{word_leads, source_leads, target_leads, assume_leads, variable_leads}
-use Rattle.flow_transitions.proofs.trees.Refused.{IsRefused, no_vars, no_variable as no_variable_name, no_variable_sign, no_points, no_point}
+use Rattle.flow_transitions.proofs.trees.Refused.{IsRefused, no_vars, no_variable as no_variable_name, no_variable_sign, no_points}
+use Rattle.flow_transitions.proofs.trees.Refused.{no_point}
 use Rattle.flow_transitions.proofs.trees.Refused.{no_point_sign, no_edge, no_source_name, no_target_name, no_opening, no_act, no_paren}
 use Rattle.flow_transitions.proofs.trees.Refused.{no_equal, no_closing, no_semicolon}
 
@@ -148,10 +150,11 @@ module _ (text : List ℕ) (tokens : List lex_token.Token) where
     abbrev unexpected_there : AutoFault
     unexpected_there = fault.Parse (parse.Unexpected a)
 
-    refused_at : (r : Progress) (xs : List Token) → wanted_at r.stand ≡ Rattle.flow_transitions.specs.AutoReading.a_token
+    refused_at : (r : Progress) (xs : List Token) → wanted_at r.stand ≡ a_token
         → From xs r (token k a ∷ ys) → IsRefused text r k a → Fault xs unexpected_there
     refused_at r xs w way is =
-        chain_refuses text tokens start r xs (token k a ∷ ys) unexpected_there way (token_refuses text tokens r k a ys w unexpected_there is)
+        chain_refuses text tokens start r xs (token k a ∷ ys) unexpected_there way
+        (token_refuses text tokens r k a ys w unexpected_there is)
 
     -- what stands behind a frame goes on to no expression
     stops : (i : Inside) (n : Inner text i) (f : Frame) (begun : List Token) (h : FrameStands (names_in i.heads.variables) f)
@@ -217,13 +220,13 @@ module _ (text : List ℕ) (tokens : List lex_token.Token) where
 
   too_many : (ss : List Spot) (x : List ℕ) (a : ℕ) → place_of x (spot_names ss) ≡ None → length ss ≡ MOST_VARIABLES
       → token_at at_variable (progress (spot_names ss) [] [] at_variable) (seen_here text (a_name x) a)
-      ≡ Err (fault.Parse (parse.Limit a Rattle.lang_meaning.specs.declared.fault.Limit.TheVariants.Variables))
+      ≡ Err (fault.Parse (parse.Limit a Variables))
   too_many ss x a new full =
       ap (λ o. variable_if o (progress (spot_names ss) [] [] at_variable) (seen_here text (a_name x) a)) new
       ∙ on (nat_lt (length (spot_names ss)) MOST_VARIABLES) refl where
         on : (t : Bool) → nat_lt (length (spot_names ss)) MOST_VARIABLES ≡ t
             → variable_if None (progress (spot_names ss) [] [] at_variable) (seen_here text (a_name x) a)
-            ≡ Err (fault.Parse (parse.Limit a Rattle.lang_meaning.specs.declared.fault.Limit.TheVariants.Variables))
+            ≡ Err (fault.Parse (parse.Limit a Variables))
         on true t =
             let l = ltb-true (length (spot_names ss)) MOST_VARIABLES t in
             let size = length-map ss (λ (s : Spot). s.name) in
@@ -338,7 +341,8 @@ module _ (text : List ℕ) (tokens : List lex_token.Token) where
       (token_refuses text tokens r (a_name x) a ys refl _
       (ap (λ o. assigned_if o n.edge r (seen_here text (a_name x) a)) place)))
   fault_said f (too_deep i g ys d split n h finds is) = by_fault _ f _ split is (deep_said i n g h ys d finds)
-  fault_said f (says_nothing i g ys l e p split n h longest wrong is) = by_fault _ f _ split is (nothing_said i n g h ys l e p longest wrong)
+  fault_said f (says_nothing i g ys l e p split n h longest wrong is) =
+      by_fault _ f _ split is (nothing_said i n g h ys l e p longest wrong)
 
   -- ---- the whole reading
   pub reads_said : (answer : AutoAnswer) → SystemMeans text Tokens answer → ReadsTo text tokens (Ok start) 0 answer
@@ -352,7 +356,7 @@ module _ (text : List ℕ) (tokens : List lex_token.Token) where
       q.2 (Ok c) (ended (Ok t) q.0 (Ok c) t refl refl (ap Ok same))
   reads_said (Err f) h = fault_said f h
 
--- what a text says, it is
-pub said_is : (text : List ℕ) (answer : AutoAnswer) → IsSaid text answer → IsAuto text answer
-said_is text answer (no_tokens f h e) = is_no_tokens f h e
-said_is text answer (by_tokens tokens h m) = is_by_tokens tokens h (reads_said text tokens answer m)
+-- what a text is, it is read as
+pub is_read : (text : List ℕ) (answer : AutoAnswer) → IsAuto text answer → IsRead text answer
+is_read text answer (no_tokens f h e) = no_reading f h e
+is_read text answer (by_tokens tokens h m) = some_tokens tokens h (reads_said text tokens answer m)

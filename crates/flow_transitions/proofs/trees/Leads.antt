@@ -1,6 +1,6 @@
 -- The reading from tokens on to later ones, one token or one expression at a time.
-use Rattle.std.proofs.Common.{◌≡◌, ◌∙◌, ◌+◌, ◌++◌, ◌<◌, ◌≤◌, inr, ⊎_elim, ℕ, List, [], ◌∷◌, length, map, drop, Result, Ok, Err}
-use Rattle.std.proofs.Common.{refl, sym, ap, ap₂, subst}
+use Rattle.std.proofs.Common.{◌≡◌, ◌∙◌, ◌+◌, ◌++◌, ◌<◌, ◌≤◌, inr, ⊎_elim, ℕ, List, [], ◌∷◌, length, map, drop, Ok, Err}
+use Rattle.std.proofs.Common.{refl, sym, ap, ap₂}
 use Rattle.std.proofs.Math.Seq.{drop-append_seam}
 use Rattle.std.proofs.lemmas.Bool.{cases_lt}
 use Rattle.std.proofs.lemmas.List.{drop-drop, drop-map, drop_all}
@@ -9,8 +9,7 @@ use Rattle.lang_grammar.specs.Expressions.{IsLongest, BeginsExpr, FineExpr}
 use Rattle.lang_grammar.specs.Grammar.{Kind, Token, token, Expr, spell_expr, Groups}
 use Rattle.lang_grammar.specs.View.{tokens_of}
 use Rattle.lang_meaning.specs.declared.fault.ParseFault.{ParseFault}
-use Rattle.lang_meaning.specs.Expressions.{ExpressionAnswer, ExpressionMeans, Meaning, first_place, meant}
-use Rattle.lang_meaning.specs.Results as results
+use Rattle.lang_meaning.specs.Expressions.{ExpressionMeans, Meaning, first_place, meant}
 use Rattle.flow_transitions.specs.declared.fault.AutoFault.{AutoFault}
 use Rattle.flow_transitions.specs.declared.fault.AutoFault.TheVariants as fault
 use Rattle.flow_transitions.specs.AutoSymbols.{seen_at}

@@ -1,29 +1,27 @@
 -- The reading along acts and edges.
-use Rattle.std.proofs.Common.{◌≡◌, ◌∙◌, ◌+◌, ◌++◌, ◌<◌, ℕ, zero, suc, List, [], ◌∷◌, map, Option, Some, None, Result, Ok, Err}
+use Rattle.std.proofs.Common.{◌≡◌, ◌∙◌, ◌++◌, ◌<◌, ℕ, zero, suc, List, [], ◌∷◌, Some, Result, Ok, Err}
 use Rattle.std.proofs.Common.{refl, sym, ap, ap₂, subst, arith, append_assoc}
 use Rattle.std.proofs.lemmas.List.{append-nil}
 use Rattle.std.specs.Prelude.{codes}
 use Rattle.lang_tokens.specs.declared.token.Token as lex_token
 use Rattle.lang_tokens.specs.Lines.{line_at}
 use Rattle.lang_grammar.specs.Expressions.{BeginsExpr, FineExpr}
-use Rattle.lang_grammar.specs.Grammar.{Kind, a_name, semicolon, left_brace, right_brace, left_paren, right_paren, change_sign}
+use Rattle.lang_grammar.specs.Grammar.{a_name, semicolon, left_brace, right_brace, left_paren, right_paren, change_sign}
 use Rattle.lang_grammar.specs.Grammar.{replaces, assume_word, Token, token, Expr, spell_expr, Groups}
-use Rattle.lang_tree.specs.declared.form.Form.{Form}
-use Rattle.lang_tree.specs.Tree.{Condition, Statement, Statements, assume, nil, cons}
+use Rattle.lang_tree.specs.Tree.{Statement, Statements, nil, cons}
 use Rattle.lang_meaning.specs.declared.fault.ParseFault.{ParseFault}
 use Rattle.lang_meaning.specs.Names.{place_of}
 use Rattle.lang_meaning.specs.Results as results
-use Rattle.lang_meaning.specs.Walk.{assignment}
 use Rattle.lang_meaning.specs.Expressions.{Meaning, as_truth, first_place, meant}
 use Rattle.flow_transitions.specs.declared.auto_edge.AutoEdge.{AutoEdge}
 use Rattle.flow_transitions.specs.declared.reading.point_name.PointName.{PointName}
-use Rattle.flow_transitions.specs.AutoReading.{Stand, Progress, progress, token_at, expression_at, wanted_at, an_expression, going}
+use Rattle.flow_transitions.specs.AutoReading.{Stand, Progress, progress, expression_at, wanted_at, an_expression, going}
 use Rattle.flow_transitions.specs.AutoReading.{names_of, point_or, not_first, from_then, to_then, assigned_if, assumed, assigned, as_side}
 use Rattle.flow_transitions.specs.AutoReading.{at_edge, at_source, at_target, at_opening, at_act, at_paren, at_condition, past_condition}
 use Rattle.flow_transitions.specs.AutoReading.{at_equal, at_right_side, past_act, edge_to, then_act, with_act}
-use Rattle.flow_transitions.specs.AutoGrammar.{Act, sets, assumes, act_then, acts_then, Head, head_then, Written, edge_then, edges_then}
-use Rattle.flow_transitions.specs.AutoGrammar.{Frame, condition, side, frame_then, closing}
-use Rattle.flow_transitions.specs.AutoTrees.{FrameSays, FrameStands, ActsSay, HeadSays, EdgesSay, frame_of, expr_in, truth_of, side_of}
+use Rattle.flow_transitions.specs.AutoGrammar.{Act, sets, assumes, act_then, acts_then, Head, head_then, Written, edges_then}
+use Rattle.flow_transitions.specs.AutoGrammar.{Frame, condition, side, frame_then}
+use Rattle.flow_transitions.specs.AutoTrees.{FrameSays, FrameStands, ActsSay, HeadSays, EdgesSay, frame_of, expr_in}
 use Rattle.flow_transitions.proofs.grammar.Accepts.{ended_by}
 use Rattle.flow_transitions.proofs.progress.Loops.{acted}
 use Rattle.flow_transitions.proofs.trees.Has.{stand_behind}

@@ -1,9 +1,9 @@
 -- The reading along the names of variables and points.
-use Rattle.std.proofs.Common.{◌≡◌, ◌∙◌, ◌+◌, ◌++◌, ◌<◌, ◌≤◌, ℕ, suc, Bool, true, false, List, [], ◌∷◌, length, map, Option, Some, None, Ok, Err}
+use Rattle.std.proofs.Common.{◌≡◌, ◌∙◌, ◌+◌, ◌++◌, ◌<◌, ◌≤◌, ℕ, Bool, true, false, List, [], ◌∷◌, length, map, None, Ok}
 use Rattle.std.proofs.Common.{refl, sym, ap, subst, arith, append_assoc}
 use Rattle.std.proofs.lemmas.Bool.{ltb-false, leb-false}
 use Rattle.std.proofs.lemmas.List.{append-nil, length-append, length-map}
-use Rattle.std.specs.Prelude.{codes, nat_lt, nat_le, if◌then◌else◌}
+use Rattle.std.specs.Prelude.{codes, nat_lt, nat_le}
 use Rattle.lang_tokens.specs.declared.token.Token as lex_token
 use Rattle.lang_tokens.specs.Lines.{line_at}
 use Rattle.lang_grammar.specs.Grammar.{a_name, comma, semicolon, Token, token}
@@ -11,7 +11,7 @@ use Rattle.lang_tree.specs.declared.limits.TheConstants.{MOST_VARIABLES}
 use Rattle.flow_edges.specs.declared.limits.TheConstants.{MOST_POINTS}
 use Rattle.lang_meaning.specs.Names.{place_of}
 use Rattle.flow_transitions.specs.declared.reading.point_name.PointName.{PointName}
-use Rattle.flow_transitions.specs.AutoReading.{Progress, progress, start, Stepped, token_at, variable_if, point_if, counted_then, names_of}
+use Rattle.flow_transitions.specs.AutoReading.{Progress, progress, start, Stepped, token_at, variable_if, point_if, counted_then}
 use Rattle.flow_transitions.specs.AutoReading.{at_variable, past_variable, at_points, at_point, past_point, at_edge}
 use Rattle.flow_transitions.specs.AutoGrammar.{Spot, Names, Heads, commas_then, names_then, vars_then, points_then, heads_then}
 use Rattle.flow_transitions.specs.AutoTrees.{spot_names, all_spots, names_in, point_here, AreNew, AreVariables, AreHeads}

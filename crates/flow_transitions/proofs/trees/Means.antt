@@ -47,8 +47,8 @@ use Rattle.flow_transitions.specs.AutoTrees.{unexpected as unexpected_token}
 use Rattle.flow_transitions.proofs.grammar.Accepts.{unexpected_by}
 use Rattle.flow_transitions.proofs.progress.Range.{not_last, some_token}
 use Rattle.lang_tokens.proofs.reading.Placed.{placed_tokens}
-use Rattle.flow_transitions.specs.AutoTexts.{IsAuto, no_tokens as is_no_tokens, by_tokens as is_by_tokens}
-use Rattle.flow_transitions.specs.AutoTrees.{IsSaid, no_tokens, by_tokens}
+use Rattle.flow_transitions.specs.AutoReading.{IsRead, no_tokens as no_reading, some_tokens}
+use Rattle.flow_transitions.specs.AutoTexts.{IsAuto, no_tokens, by_tokens}
 use Rattle.flow_transitions.proofs.trees.Alike.{alike_here, longest_there, stops_alike, nests_alike}
 use Rattle.flow_transitions.proofs.trees.AfterNames.{Ready, IsReady, After}
 use Rattle.flow_transitions.proofs.trees.After.{step}
@@ -452,8 +452,8 @@ module _ (text : List ℕ) (tokens : List lex_token.Token) (are : AreTokensOf te
     within = l;
   }))
 
--- what a text is, it says
-pub said : (text : List ℕ) (answer : AutoAnswer) → IsAuto text answer → IsSaid text answer
-said text answer (is_no_tokens f h e) = no_tokens f h e
-said text answer (is_by_tokens tokens h r) =
+-- what a text is read as, it is
+pub read_is : (text : List ℕ) (answer : AutoAnswer) → IsRead text answer → IsAuto text answer
+read_is text answer (no_reading f h e) = no_tokens f h e
+read_is text answer (some_tokens tokens h r) =
     by_tokens tokens h (means_of text tokens (placed_tokens text tokens h) answer (some_token text tokens (placed_tokens text tokens h)) r)

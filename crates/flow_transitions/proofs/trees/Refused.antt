@@ -1,6 +1,5 @@
 -- Tokens that cannot stand where the reading is.
-use Rattle.std.proofs.Common.{◌≡◌, ◌∙◌, ◌⊎◌, inl, inr, ℕ, Bool, true, false, List, [], ◌∷◌, Err, refl, ap}
-use Rattle.std.proofs.lemmas.Slice.Eq.{bytes_eq-Decides}
+use Rattle.std.proofs.Common.{◌≡◌, ◌⊎◌, inl, inr, ℕ, Bool, true, false, List, Err, refl, ap}
 use Rattle.std.specs.Prelude.{codes, if◌then◌else◌}
 use Rattle.std.specs.Str.{bytes_eq}
 use Rattle.lang_grammar.specs.Grammar.{Kind, a_name, comma, semicolon, left_brace, right_brace, left_paren, right_paren, change_sign}
@@ -8,7 +7,7 @@ use Rattle.lang_grammar.specs.Grammar.{replaces, assume_word, the_end}
 use Rattle.lang_tree.specs.Tree.{Statement}
 use Rattle.flow_transitions.specs.declared.auto_edge.AutoEdge.{AutoEdge}
 use Rattle.flow_transitions.specs.declared.reading.point_name.PointName.{PointName}
-use Rattle.flow_transitions.specs.AutoReading.{Stand, Progress, progress, Stepped, token_at, unexpected_fault, unexpected, going, word_then}
+use Rattle.flow_transitions.specs.AutoReading.{Stand, Progress, progress, token_at, unexpected_fault, unexpected, going, word_then}
 use Rattle.flow_transitions.specs.AutoReading.{at_vars, at_variable, past_variable, at_points, at_point, past_point, at_edge, at_source}
 use Rattle.flow_transitions.specs.AutoReading.{at_target, at_opening, at_act, at_paren, past_condition, at_equal, past_act}
 use Rattle.flow_transitions.proofs.grammar.Accepts.{IsName}
