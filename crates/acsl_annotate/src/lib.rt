@@ -1,10 +1,10 @@
 //! All that the program does that writes a program's text back with its least bounds as annotations in ACSL.
 #![tactic(auto)]
 
-mod top;
+mod answer;
 mod usage;
 mod words;
 mod write;
 
-pub use top::annotate;
+pub use answer::annotation;
 pub use usage::usage_line;

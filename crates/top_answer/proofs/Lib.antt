@@ -1,2 +1,2 @@
-mod requests
-mod answers
+pub mod requests
+pub mod answers

@@ -1,6 +1,6 @@
 //! The annotated text of a program, or why there is none: a pure function, with no file and no stream.
 
-ghost use Rattle.std.specs.Prelude.{◌≡◌, ◌≤◌, List, ℕ, [], length, map, string_bytes};
+ghost use Rattle.std.specs.Prelude.{◌≡◌, ◌≤◌, ◌⊎◌, List, ℕ, [], length, map, string_bytes};
 ghost use Rattle.ask_files.specs.Asked.{texts_of};
 ghost use Rattle.ask_words.specs.Request.{analysis_text};
 ghost use Rattle.ask_words.specs.declared.request.Domain.{Domain};
@@ -64,6 +64,7 @@ fn written(alloc: Global, text: &[u8], least: &LeastBounds) -> Answer
         → IsFoundIn analysis.program analysis.domain analysis.policy analysis.improvements least.now
         → Says (annotating exact (Analyse Report analysis)) result.status result.bytes.items }
     ensures message { result.message ≡ message_of 0 0 result.status }
+    ensures ends { (result.status ≡ Status.Done) ⊎ (result.status ≡ Status.Memory) }
 {
     match annotated_text(alloc, text, least) {
         Ok(bytes) => done_answer(bytes),
