@@ -1,6 +1,5 @@
 -- What is written: the text of a program with the annotations of its least vector.
-use Rattle.std.specs.Prelude.{◌≡◌, ℕ, ℤ, List, Option, Some, Ok, length, map}
-use Rattle.base_files.specs.Files.{Contents}
+use Rattle.std.specs.Prelude.{◌≡◌, ℕ, ℤ, List, Ok, length, map}
 use Rattle.lang_tokens.specs.Lines.{line_at}
 use Rattle.lang_tokens.specs.Reading as lex
 use Rattle.lang_tokens.specs.declared.token.Token as lex_token
@@ -18,12 +17,12 @@ use Rattle.acsl_anchors.specs.Anchors.{anchors_of}
 use Rattle.acsl_anchors.specs.Laws.{anchored, point_of}
 use Rattle.acsl_notes.specs.Laws.{SaysTruth}
 use Rattle.acsl_notes.specs.Texts.{annotated, comments_from}
-use Rattle.ask_words.specs.Request.{request_of}
-use Rattle.ask_words.specs.declared.request.Analysis.{Analysis}
 use Rattle.ask_words.specs.declared.request.Domain.{Domain}
 use Rattle.ask_words.specs.declared.request.Purpose.TheVariants.{Report}
 use Rattle.ask_words.specs.declared.request.Request.TheVariants.{Analyse}
-use Rattle.top_run.specs.Files.{AreInputs}
+use Rattle.top_answer.specs.Commands.{Commands, asking, command_of}
+use Rattle.top_texts.specs.Meanings.{Meanings}
+use Rattle.top_texts.specs.Questions.{analysis_question}
 use Rattle.top_texts.specs.Texts.{IsReady, IsSolvable}
 
 -- the tree of a program's text: that of its tokens, which means these names and statements
@@ -60,13 +59,8 @@ pub record IsAnnotatedOf (text : List ℕ) (rows : Domain (List ℕ)) (bytes : L
   pub least : Least (equations_of_program (length names) body template) vector
   pub annotated : IsTextWith text names body template vector bytes
 
--- they are that of what an analysis reads, whose improvements end within its limit
-abbrev pub IsAnnotatedOn : Option Contents → Analysis (List ℕ) → List ℕ → Type 0
-IsAnnotatedOn files analysis bytes =
-    (text : List ℕ) × (rows : Domain (List ℕ)) × AreInputs files analysis text rows
-    × IsSolvable text rows analysis.policy analysis.improvements × IsAnnotatedOf text rows bytes
-
--- they are that of the program that words of `solve` ask for
-abbrev pub IsAnnotated : Option Contents → List (List ℕ) → List ℕ → Type 0
-IsAnnotated files words bytes = (analysis : Analysis (List ℕ)) × (request_of words ≡ Some (Analyse Report analysis))
-    × IsAnnotatedOn files analysis bytes
+-- the commands of a program whose `solve` writes the text with the annotations of the least vector in place of its report
+abbrev pub annotating : Meanings → Commands
+annotating m (Analyse Report a) = asking (analysis_question m Report a.program a.domain a.policy a.improvements)
+    (λ bytes. IsSolvable a.program a.domain a.policy a.improvements × IsAnnotatedOf a.program a.domain bytes)
+annotating m asked = command_of m asked

@@ -1,4 +1,3 @@
 pub mod Words
 pub mod Annotated
 pub mod Messages
-pub mod Ends

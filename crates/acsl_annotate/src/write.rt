@@ -17,7 +17,7 @@ use flow_systems::{System, post_solutions_hold};
 use lang_tokens::{Token, lex, one_reading};
 use lang_tree::Name;
 use std::alloc::{AllocError, Global};
-use top_run::Found;
+use top_texts::LeastBounds;
 
 // The names are words.
 fn are_words(names: &[Name])
@@ -48,12 +48,15 @@ fn text_tokens(alloc: Global, text: &[u8]) -> Result<Vec<Token>, AllocError>
 }
 
 // The text with what its least bounds say.
-pub(crate) fn annotated_text(alloc: Global, found: &Found) -> Result<Vec<u8>, AllocError>
-    requires short { length found.now.text.items ≤ 65536 }
+pub(crate) fn annotated_text(alloc: Global,
+    text: &[u8],
+    least: &LeastBounds,
+) -> Result<Vec<u8>, AllocError>
+    requires short { length text.now ≤ 65536 }
     requires found { (rows : Domain (List ℕ)) × (policy : Policy) × (limit : ℕ)
-        × IsFoundIn found.now.text.items rows policy limit found.now.least }
-    ensures { (rows : Domain (List ℕ)) (policy : Policy) (limit : ℕ) → IsFoundIn found.now.text.items rows policy limit found.now.least
-        → IfOk result (λ bytes. IsAnnotatedOf found.now.text.items rows bytes.items) }
+        × IsFoundIn text.now rows policy limit least.now }
+    ensures { (rows : Domain (List ℕ)) (policy : Policy) (limit : ℕ) → IsFoundIn text.now rows policy limit least.now
+        → IfOk result (λ bytes. IsAnnotatedOf text.now rows bytes.items) }
 {
     anchors_are_points();
     comments_may_stand();
@@ -62,17 +65,17 @@ pub(crate) fn annotated_text(alloc: Global, found: &Found) -> Result<Vec<u8>, Al
     clauses_hold();
     post_solutions_hold();
     one_reading();
-    let system = &found.least.system;
+    let system = &least.system;
     are_words(system.flow.names.as_slice());
     has_rows(system);
-    let tokens = text_tokens(alloc, &found.text)?;
-    let places = anchors(alloc, &tokens, &found.text)?;
+    let tokens = text_tokens(alloc, text)?;
+    let places = anchors(alloc, &tokens, text)?;
     let list = comments(
         alloc,
-        &found.text,
+        text,
         &places,
         system,
-        &found.least.solved.bounds,
+        &least.solved.bounds,
     )?;
-    with_comments(alloc, &found.text, &list)
+    with_comments(alloc, text, &list)
 }

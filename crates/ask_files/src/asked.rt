@@ -38,8 +38,8 @@ fn rows_files(domain: Domain<&str>) -> usize
     }
 }
 
-// An analysis with its texts in place of names.
-fn analysis_with<'a>(analysis: Analysis<&str>, contents: &[&'a [u8]]) -> Analysis<&'a [u8]>
+/// An analysis with its texts in place of names.
+pub fn analysis_with<'a>(analysis: Analysis<&str>, contents: &[&'a [u8]]) -> Analysis<&'a [u8]>
     ensures { analysis_text result ≡ analysis_with (analysis_text analysis.entry) (texts_of contents.now) }
 {
     Analysis {
@@ -50,7 +50,7 @@ fn analysis_with<'a>(analysis: Analysis<&str>, contents: &[&'a [u8]]) -> Analysi
     }
 }
 
-// A request with these texts in place of its files' names, in the order of their loads.
+/// A request with these texts in place of its files' names, in the order of their loads.
 pub fn with_texts<'a>(request: Request<&str>, contents: &[&'a [u8]]) -> Request<&'a [u8]>
     ensures { request_text result ≡ with_texts (request_text request.entry) (texts_of contents.now) }
 {

@@ -69,7 +69,11 @@ fn proof_files<'a>(
     }
 }
 
-// The files of a request.
+/// The files of a request, in the order of their loads.
+///
+/// # Errors
+///
+/// There was no memory.
 pub fn request_files<'a>(
     alloc: Global,
     request: Request<&'a str>,
@@ -110,7 +114,7 @@ pub fn files_of<'a>(alloc: Global, words: &'a [String]) -> Result<Vec<NamedFile<
     Ok(request_files(alloc, request)?)
 }
 
-// Why the first of these files isn't read that isn't, where these are their contents.
+/// Why the first of these files isn't read that isn't, where these are their contents, in the same order.
 pub fn unread(files: &[NamedFile], contents: &[&[u8]]) -> Option<ReadCause>
     ensures { result ≡ unread (map name_of files.now) (texts_of contents.now) }
 {
@@ -126,4 +130,20 @@ pub fn unread(files: &[NamedFile], contents: &[&[u8]]) -> Option<ReadCause>
         number += 1;
     }
     None
+}
+
+/// Why the first file of a request isn't read that isn't, where these are the contents of its files, in the order of their loads.
+///
+/// # Errors
+///
+/// There was no memory.
+pub fn first_unread(
+    alloc: Global,
+    request: Request<&str>,
+    contents: &[&[u8]],
+) -> Result<Option<ReadCause>, AllocError>
+    ensures { IfOk result (λ cause. cause ≡ unread (files_of (request_text request.entry)) (texts_of contents.now)) }
+{
+    let files = request_files(alloc, request)?;
+    Ok(unread(&files, contents))
 }

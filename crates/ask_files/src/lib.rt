@@ -6,7 +6,7 @@ mod files;
 mod loading;
 mod which;
 
-pub use asked::with_texts;
-pub use files::{NamedFile, files_of, most_bytes, request_files, unread};
+pub use asked::{analysis_with, with_texts};
+pub use files::{NamedFile, files_of, first_unread, most_bytes, request_files, unread};
 pub use loading::load_files;
 pub use which::{ReadCause, Which};

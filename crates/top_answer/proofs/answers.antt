@@ -3,3 +3,4 @@ pub mod Written
 pub mod Said
 pub mod Lawful
 pub mod Answered
+pub mod OneEnding

@@ -1,12 +1,11 @@
 //! The answer to words and to the contents of the files that they name.
 
-ghost use Rattle.std.specs.Prelude.{◌≡◌, ℕ, List, [], IfOk, Some, None, map, string_bytes};
+ghost use Rattle.std.specs.Prelude.{◌≡◌, List, [], map, string_bytes};
 ghost use Rattle.ask_words.specs.Request.{request_text};
 ghost use Rattle.top_answer.specs.Answers.{Answers, Ends, Holds, IsAnswer, IsMessage, IsOutput};
 ghost use Rattle.ask_files.specs.Asked.{texts_of};
 ghost use Rattle.top_answer.specs.Limits.{IsInLimits, IsInRange};
 ghost use Rattle.top_answer.specs.Commands.{command_of};
-ghost use Rattle.ask_files.specs.Files.{files_of, unread};
 ghost use Rattle.top_answer.specs.Parted.{AnswersRequest, AnswersWords, NamesPlace, Says};
 ghost use Rattle.top_status.specs.Messages.{message_of};
 ghost use Rattle.top_status.specs.declared.status.Status.{Status as StatusValue};
@@ -15,9 +14,9 @@ ghost use Rattle.top_texts.specs.Exact.{exact};
 use crate::meaning::{Exact, Meaning};
 use crate::named::named_text;
 use crate::outcome::{Outcome, outcome_of, plain};
-use ask_files::{ReadCause, request_files, unread, with_texts};
+use ask_files::{first_unread, with_texts};
 use ask_words::{Request, WordsFault, read_words};
-use std::alloc::{AllocError, Global};
+use std::alloc::Global;
 use top_status::{Message, Status, answer_line, make_message};
 
 /// What the program answers.
@@ -45,8 +44,8 @@ fn with_line(outcome: Outcome, line: u32) -> Answer
     }
 }
 
-// The answer of a status that has no bytes, and whose message names no place.
-fn plain_answer(alloc: Global, status: Status) -> Answer
+/// The answer of a status that has no bytes, and whose message names no place.
+pub fn plain_answer(alloc: Global, status: Status) -> Answer
     ensures status { result.status ≡ status }
     ensures bytes { result.bytes.items ≡ [] }
     ensures message { result.message ≡ message_of 0 0 status }
@@ -65,24 +64,12 @@ fn answer_texts(alloc: Global, asked: Request<&[u8]>) -> Answer
     with_line(outcome, line)
 }
 
-// Why a file of the request isn't read, if there is one.
-fn cause_of(
-    alloc: Global,
-    request: Request<&str>,
-    contents: &[&[u8]],
-) -> Result<Option<ReadCause>, AllocError>
-    ensures { IfOk result (λ cause. cause ≡ unread (files_of (request_text request.entry)) (texts_of contents.now)) }
-{
-    let files = request_files(alloc, request)?;
-    Ok(unread(&files, contents))
-}
-
 // The answer to a request over the contents of its files.
 fn answer_request(alloc: Global, request: Request<&str>, contents: &[&[u8]]) -> Answer
     requires { IsInRange (request_text request) }
     ensures { AnswersRequest (command_of exact) (request_text request.entry) (texts_of contents.now) result.status result.bytes.items result.message }
 {
-    match cause_of(alloc, request, contents) {
+    match first_unread(alloc, request, contents) {
         Ok(None) => answer_texts(alloc, with_texts(request, contents)),
         Ok(Some(cause)) => plain_answer(alloc, Status::Read(cause)),
         Err(_) => plain_answer(alloc, Status::Memory),

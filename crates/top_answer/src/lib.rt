@@ -2,10 +2,15 @@
 #![tactic(auto)]
 
 mod answer;
+mod laws;
 mod meaning;
 mod named;
 mod outcome;
 
-pub use answer::{Answer, answer};
+pub use answer::{Answer, answer, plain_answer};
 pub use ask_files::{NamedFile, files_of, most_bytes};
+pub use laws::{
+    accepted_is_least, ending_is_one, spent_is_few, upgrade_is_one, values_are_one,
+    verdicts_are_one,
+};
 pub use meaning::{Exact, Meaning};

@@ -291,6 +291,16 @@ impl Message {
         self.len = end;
     }
 
+    /// The message of these bytes.
+    pub fn of(text: &[u8]) -> Message
+        requires { length text.now ≤ 512 }
+        ensures { result ≡ text.now }
+    {
+        let mut message = Message::new();
+        message.append(text);
+        message
+    }
+
     /// The bytes of the message.
     pub fn bytes(&self) -> &[u8]
         ensures bytes { result.now ≡ self.now }

@@ -6,7 +6,8 @@ use Rattle.base_files.specs.Faults.{next_count}
 use Rattle.base_files.specs.Files.{Contents}
 use Rattle.base_files.specs.Loads.{IsFrontOf, LoadedFile, newest_bytes}
 use Rattle.ask_files.specs.Files.{NamedFile, most_bytes}
-use Rattle.ask_files.specs.Loads.{AreRead, IsRead, LoadsEnd, LoadsNext, failed, has_failed, too_long, wants_memory, wanted_memory, was_long, was_read}
+use Rattle.ask_files.specs.Loads.{AreRead, IsRead, LoadsEnd, LoadsNext}
+use Rattle.ask_files.specs.Loads.{failed, has_failed, too_long, wants_memory, wanted_memory, was_long, was_read}
 
 -- ---- the load of one file
 

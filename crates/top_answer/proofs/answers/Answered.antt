@@ -18,16 +18,20 @@ use Rattle.top_status.specs.declared.status.Status.TheVariants.{Done, Certificat
 use Rattle.top_texts.specs.Exact.{exact}
 use Rattle.top_answer.proofs.answers.Lawful.{IsLawful}
 
-same_request : (o : Option Request) (a b : Request) → o ≡ Some a → o ≡ Some b → b ≡ a
+-- words ask for one request
+pub same_request : (o : Option Request) (a b : Request) → o ≡ Some a → o ≡ Some b → b ≡ a
 same_request o a b h k = cc
 
-no_request : (o : Option Request) (a : Request) → o ≡ None → o ≡ Some a → ⊥
+-- words that ask for nothing ask for no request
+pub no_request : (o : Option Request) (a : Request) → o ≡ None → o ≡ Some a → ⊥
 no_request o a h k = cc
 
-one_cause : (o : Option ReadCause) (a b : ReadCause) → o ≡ Some a → o ≡ Some b → a ≡ b
+-- a file has one cause for which it is not read
+pub one_cause : (o : Option ReadCause) (a b : ReadCause) → o ≡ Some a → o ≡ Some b → a ≡ b
 one_cause o a b h k = cc
 
-no_cause : (o : Option ReadCause) (a : ReadCause) → o ≡ None → o ≡ Some a → ⊥
+-- or none
+pub no_cause : (o : Option ReadCause) (a : ReadCause) → o ≡ None → o ≡ Some a → ⊥
 no_cause o a h k = cc
 
 module _ (commands : Commands) (law : IsLawful commands) (words contents : List (List ℕ)) (request : Request)

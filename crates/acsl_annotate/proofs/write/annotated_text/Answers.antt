@@ -9,8 +9,8 @@ use Rattle.acsl_annotate.proofs.write.annotated_text.Goals as goal
 
 pub with_comments-requires-clause-order : goal.with_comments-requires-clause-order
 with_comments-requires-clause-order c =
-    let text = c.args.found.now.text.items in
-    let bounds = c.args.found.now.least in
+    let text = c.args.text.now in
+    let bounds = c.args.least.now in
     let noted : IsNoted text bounds c.in_ok-tokens.tokens.items c.in_ok-places.places.items c.in_ok-list.list.items =
     noted_by text bounds c.in_ok-tokens.tokens.items c.deref-2.result.now c.in_ok-places.places.items c.deref-5.result.now
     c.in_ok-list.list.items
@@ -25,8 +25,8 @@ with_comments-requires-clause-order c =
 
 pub returns : goal.returns
 returns c = λ rows policy limit found.
-    let text = c.args.found.now.text.items in
-    let bounds = c.args.found.now.least in
+    let text = c.args.text.now in
+    let bounds = c.args.least.now in
     let list = c.in_ok-list.list.items in
     let noted : IsNoted text bounds c.in_ok-tokens.tokens.items c.in_ok-places.places.items list =
     noted_by text bounds c.in_ok-tokens.tokens.items c.deref-2.result.now c.in_ok-places.places.items c.deref-5.result.now list

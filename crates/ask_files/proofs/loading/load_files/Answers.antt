@@ -20,6 +20,7 @@ pub loop-number-preserved : goal.loop-number-preserved
 loop-number-preserved g c = (
   c.load_next.ensures.kept ∙ c.loop-number.invariant.0,
   goes_on _ _ c.loop-number.invariant.0 _ _ _ _ _ _ _ _ _ _ _ c.loop-number.invariant.1
-      (at_drop_more (map name_of) c.args.files.now c.loop-number.number _ c.loop-number-test.true) c.load_next.result c.load_next.ensures.next
+      (at_drop_more (map name_of) c.args.files.now c.loop-number.number _ c.loop-number-test.true)
+      c.load_next.result c.load_next.ensures.next
       (c.in_ok-load_next.was ∙ ap Ok c.if-not-branch.false),
 )

@@ -14,6 +14,7 @@ returns-in-Ok-clause-next g c =
     (sym c.most_bytes-most.ensures)
     (loaded _ (name_of c.args.file) _ _ _ _ _ c.newest_bytes.result.now (c.newest_bytes.ensures ∙ ap newest_bytes c.loaded.ensures.loads)
     c.in-Ok.ensures.logged
-    (subst (λ most. IsFrontOf (g.S.Shelf.files c.args.shelf.now) c.args.file.name.now (most + 1) (newest_bytes (g.S.Shelf.loads c.load.new.self)))
+    (subst (λ most. IsFrontOf (g.S.Shelf.files c.args.shelf.now) c.args.file.name.now (most + 1)
+    (newest_bytes (g.S.Shelf.loads c.load.new.self)))
     c.most_bytes-most.ensures c.in-Ok.ensures.gives)
     c.in-Ok.ensures.cause.0)

@@ -1,0 +1,172 @@
+//! The annotated text of a program, or why there is none: a pure function, with no file and no stream.
+
+ghost use Rattle.std.specs.Prelude.{◌≡◌, ◌≤◌, List, ℕ, [], length, map, string_bytes};
+ghost use Rattle.ask_files.specs.Asked.{texts_of};
+ghost use Rattle.ask_words.specs.Request.{analysis_text};
+ghost use Rattle.ask_words.specs.declared.request.Domain.{Domain};
+ghost use Rattle.ask_words.specs.declared.request.Policy.{Policy as PolicyValue};
+ghost use Rattle.ask_words.specs.declared.request.Purpose.TheVariants.{Report};
+ghost use Rattle.ask_words.specs.declared.request.Request.TheVariants.{Analyse};
+ghost use Rattle.top_answer.specs.Answers.{Answers, Ends, Holds, IsAnswer, IsOutput};
+ghost use Rattle.top_answer.specs.Limits.{IsWithin};
+ghost use Rattle.top_answer.specs.Parted.{AnswersRequest, AnswersWords, NamesPlace, Says};
+ghost use Rattle.top_status.specs.Messages.{message_of};
+ghost use Rattle.top_status.specs.declared.status.Status.{Status as StatusValue};
+ghost use Rattle.top_texts.specs.Analyses.{IsFoundIn};
+ghost use Rattle.top_texts.specs.Exact.{exact};
+ghost use Rattle.acsl_annotate.specs.Annotated.{annotating};
+ghost use Rattle.acsl_annotate.specs.Messages.{IsSaid, said_for};
+ghost use Rattle.acsl_annotate.specs.Words.{IsSolve, as_solve};
+
+use crate::usage::usage_line;
+use crate::words::{read_analysis, solve_words};
+use crate::write::annotated_text;
+use ask_files::{analysis_with, first_unread};
+use ask_words::{Analysis, Purpose, Request, WordsFault};
+use std::alloc::Global;
+use top_answer::{Answer, Exact, Meaning, plain_answer};
+use top_status::{Ending, Message, Status, make_message};
+use top_texts::{LeastBounds, least_on};
+
+// The answer of a text that was written.
+fn done_answer(bytes: Vec<u8>) -> Answer
+    ensures status { result.status ≡ Status.Done }
+    ensures bytes { result.bytes.items ≡ bytes.items }
+    ensures message { result.message ≡ message_of 0 0 Status.Done }
+{
+    let message = make_message(0, 0, &Status::Done);
+    Answer {
+        status: Status::Done,
+        bytes,
+        message,
+    }
+}
+
+// The answer of an ending that has no text.
+fn refused_answer(alloc: Global, ending: Ending) -> Answer
+    ensures status { result.status ≡ ending.status }
+    ensures bytes { result.bytes.items ≡ [] }
+    ensures message { result.message ≡ message_of ending.line ending.rows ending.status }
+{
+    let message = make_message(ending.line, ending.rows, &ending.status);
+    Answer {
+        status: ending.status,
+        bytes: Vec::new(alloc),
+        message,
+    }
+}
+
+// The annotated text of a program whose least bounds were found.
+fn written(alloc: Global, text: &[u8], least: &LeastBounds) -> Answer
+    requires short { length text.now ≤ 65536 }
+    requires found { (rows : Domain (List ℕ)) × (policy : PolicyValue) × (limit : ℕ) × IsFoundIn text.now rows policy limit least.now }
+    ensures says { (analysis : Analysis (List ℕ)) → analysis.program ≡ text.now
+        → IsFoundIn analysis.program analysis.domain analysis.policy analysis.improvements least.now
+        → Says (annotating exact (Analyse Report analysis)) result.status result.bytes.items }
+    ensures message { result.message ≡ message_of 0 0 result.status }
+{
+    match annotated_text(alloc, text, least) {
+        Ok(bytes) => done_answer(bytes),
+        Err(_) => plain_answer(alloc, Status::Memory),
+    }
+}
+
+// The annotated text of what an analysis reads.
+fn annotated(alloc: Global, analysis: Analysis<&[u8]>) -> Answer
+    requires { IsWithin (analysis_text analysis) }
+    ensures says { Says (annotating exact (Analyse Report (analysis_text analysis.entry))) result.status result.bytes.items }
+    ensures names { NamesPlace (Analyse Report (analysis_text analysis.entry)) result.status result.message }
+{
+    match least_on(
+        alloc,
+        analysis.program,
+        analysis.domain,
+        analysis.policy,
+        analysis.improvements,
+    ) {
+        Ok(least) => written(alloc, analysis.program, &least),
+        Err(ending) => refused_answer(alloc, ending),
+    }
+}
+
+// The answer to an analysis over the contents of its files.
+fn annotation_of(alloc: Global, analysis: Analysis<&str>, contents: &[&[u8]]) -> Answer
+    requires { analysis.improvements ≤ 1000000 }
+    ensures { AnswersRequest (annotating exact) (Analyse Report (analysis_text analysis.entry)) (texts_of contents.now) result.status
+        result.bytes.items result.message }
+{
+    let request = Request::Analyse {
+        purpose: Purpose::Report,
+        analysis,
+    };
+    match first_unread(alloc, request, contents) {
+        Ok(None) => annotated(alloc, analysis_with(analysis, contents)),
+        Ok(Some(cause)) => plain_answer(alloc, Status::Read(cause)),
+        Err(_) => plain_answer(alloc, Status::Memory),
+    }
+}
+
+// The answer to words that begin with `solve`.
+fn annotation_by(alloc: Global, words: &[String], contents: &[&[u8]]) -> Answer
+    requires { IsSolve (map string_bytes words.now) }
+    ensures { AnswersWords (annotating exact) (map string_bytes words.now) (texts_of contents.now) result.status
+        result.bytes.items result.message }
+{
+    match read_analysis(alloc, words) {
+        Ok(analysis) => annotation_of(alloc, analysis, contents),
+        Err(WordsFault::Usage) => plain_answer(alloc, Status::Usage),
+        Err(WordsFault::NoMemory) => plain_answer(alloc, Status::Memory),
+    }
+}
+
+// The answer to the words as those of `solve`.
+fn annotation_as_solve(alloc: Global, words: &[String], contents: &[&[u8]]) -> Answer
+    ensures { AnswersWords (annotating exact) (as_solve (map string_bytes words.now)) (texts_of contents.now) result.status
+        result.bytes.items result.message }
+{
+    match solve_words(alloc, words) {
+        Ok(all) => annotation_by(alloc, &all, contents),
+        Err(_) => plain_answer(alloc, Status::Memory),
+    }
+}
+
+// The same answer, but for the line that says which words are a program and its options.
+fn with_usage(answer: Answer) -> Answer
+    ensures status { result.status ≡ answer.status }
+    ensures bytes { result.bytes.items ≡ answer.bytes.items }
+    ensures message { result.message ≡ said_for answer.status answer.message }
+{
+    match answer.status {
+        Status::Usage => Answer {
+            status: answer.status,
+            bytes: answer.bytes,
+            message: Message::of(usage_line()),
+        },
+        _ => answer,
+    }
+}
+
+/// What the program answers to `words`, a program's name and the options of `solve`, and to the contents of the files that they name: those
+/// that `top_answer::answer` has for `solve`. Nothing is read, and nothing is written.
+///
+/// The causes, and their order, are those of `top_answer::answer` for `solve` and these words.
+pub fn annotation(alloc: Global, words: &[String], contents: &[&[u8]]) -> Answer
+    // Sound: what is answered is so, as an answer of `solve`. What is written is the program's text with the annotations of the least
+    // vector over the template; each is true in every run, and without them it is the text again.
+    ensures answer { IsAnswer (annotating ⟦<Exact as Meaning>⟧.means) (as_solve (map string_bytes words.now)) (texts_of contents.now)
+        result.status }
+    ensures output { Holds (IsOutput (annotating ⟦<Exact as Meaning>⟧.means) (as_solve (map string_bytes words.now))
+        (texts_of contents.now)) result.status result.bytes.items }
+
+    // Complete: the ending that `solve` has is answered, but for want of memory, or a wide operation that stands.
+    ensures complete { (ending : StatusValue) → Ends (annotating ⟦<Exact as Meaning>⟧.means) (as_solve (map string_bytes words.now))
+        (texts_of contents.now) ending
+        → Answers (annotating ⟦<Exact as Meaning>⟧.means) (as_solve (map string_bytes words.now)) (texts_of contents.now) ending
+        result.status }
+
+    // The message names the line and the unknown of the cause.
+    ensures message { IsSaid ⟦<Exact as Meaning>⟧.means (as_solve (map string_bytes words.now)) (texts_of contents.now) result.status
+        result.message }
+{
+    with_usage(annotation_as_solve(alloc, words, contents))
+}

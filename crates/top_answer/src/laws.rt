@@ -1,0 +1,56 @@
+//! Laws of what answers mean. Each function does nothing: its contract is the law.
+
+ghost use Rattle.std.specs.Prelude.{◌≡◌, ◌<◌, ℕ, ℤ, List, length};
+ghost use Rattle.lang_tree.specs.Tree.{Statements};
+ghost use Rattle.flow_systems.specs.declared.system.System.{System};
+ghost use Rattle.flow_systems.specs.Equations.{Least, Vector};
+ghost use Rattle.flow_systems.specs.Solutions.{equations_of_program};
+ghost use Rattle.flow_systems.specs.View.{equations_of};
+ghost use Rattle.theory_strategy.specs.PickCount.{pick_count};
+ghost use Rattle.ask_words.specs.declared.request.Domain.{Domain};
+ghost use Rattle.ask_words.specs.declared.request.Policy.{Policy};
+ghost use Rattle.top_answer.specs.Answers.{Ends};
+ghost use Rattle.top_answer.specs.Commands.{command_of};
+ghost use Rattle.top_texts.specs.ClaimTexts.{AreVerdictsOf};
+ghost use Rattle.top_texts.specs.EquationTexts.{AreValuesOf};
+ghost use Rattle.top_texts.specs.Rounds.{RunsOut};
+ghost use Rattle.top_status.specs.declared.status.Status.{Status};
+
+use crate::meaning::{Exact, Meaning};
+
+/// The bounds of a certificate that is accepted are the least vector, whoever made it.
+pub fn accepted_is_least()
+    ensures { (text bytes : List ℕ) (names : List (List ℕ)) (body : Statements) (rows : List (List ℤ)) (vector : Vector)
+        → (⟦<Exact as Meaning>⟧.means).accepts text bytes names body rows vector
+        → Least (equations_of_program (length names) body rows) vector }
+{}
+
+/// Words and contents have one ending: so each cause of a refusal excludes the others, and success.
+pub fn ending_is_one()
+    ensures { (words contents : List (List ℕ)) (one other : Status) → Ends (command_of ⟦<Exact as Meaning>⟧.means) words contents one
+        → Ends (command_of ⟦<Exact as Meaning>⟧.means) words contents other → one ≡ other }
+{}
+
+/// Bytes have one text as the certificate that they spell.
+pub fn upgrade_is_one()
+    ensures { (bytes one other : List ℕ) → (⟦<Exact as Meaning>⟧.means).upgrades bytes one
+        → (⟦<Exact as Meaning>⟧.means).upgrades bytes other → one ≡ other }
+{}
+
+/// A text of equations has one list of values.
+pub fn values_are_one()
+    ensures { (text : List ℕ) (policy : Policy) (limit : ℕ) (one other : List ℕ) → AreValuesOf text policy limit one
+        → AreValuesOf text policy limit other → one ≡ other }
+{}
+
+/// The texts of a program, of its rows and of claims have one list of verdicts.
+pub fn verdicts_are_one()
+    ensures { (text : List ℕ) (rows : Domain (List ℕ)) (given : List ℕ) (policy : Policy) (limit : ℕ) (one other : List ℕ)
+        → AreVerdictsOf ⟦<Exact as Meaning>⟧.means text rows given policy limit one
+        → AreVerdictsOf ⟦<Exact as Meaning>⟧.means text rows given policy limit other → one ≡ other }
+{}
+
+/// Improvements that are spent are fewer than the picks of the system: a limit of as many as the picks is never spent.
+pub fn spent_is_few()
+    ensures { (system : System) (policy : Policy) (number : ℕ) → RunsOut system policy number → number < pick_count (equations_of system) }
+{}
