@@ -25,7 +25,7 @@ pub record IsAnswerTo (commands : Commands) (m : Meanings) (words contents : Lis
   pub answer : IsAnswer commands words contents status
   pub output : Holds (IsOutput commands words contents) status bytes
   pub complete : (ending : Status) → Ends commands words contents ending → Answers commands words contents ending status
-  pub message : IsMessage m words contents status message
+  pub names : IsMessage m words contents status message
 
 -- the files of a request were loaded, up to the first that isn't read; where memory was wanted before, nothing was loaded
 pub record IsRequestLoaded (request : Request) (shelf shelf_now : ShelfSeen) (result : Result (Unit {0}) AllocError) : Type 0 where

@@ -8,7 +8,7 @@ ghost use Rattle.top_run.specs.Memory.{InMemory, contents_for};
 ghost use Rattle.top_run.specs.Seen.{sink_with};
 ghost use Rattle.top_status.specs.declared.status.Status.{Status as StatusValue};
 
-use crate::run::run;
+use crate::program::run;
 use base_files::{PlainShelf, PlainSink, Shelf, Sink};
 use std::alloc::Global;
 use top_answer::{Exact, Meaning};

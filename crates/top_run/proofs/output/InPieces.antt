@@ -6,7 +6,7 @@ use Rattle.std.proofs.KnownBytes.{Appends-nil, Appends-trans}
 use Rattle.std.proofs.lemmas.List.{take-append-le, take_min}
 use Rattle.std.proofs.Math.Seq.{take-append-add}
 use Rattle.base_files.specs.Puts.{AddsPieces, as_pieces}
-use Rattle.top_run.specs.Outputs.{lines_of}
+use Rattle.top_run.specs.Lines.{lines_of}
 
 -- what stands before the rest of the text was appended, and the sink kept its promises over it
 pub record HasPut (held now : Option (List ℕ)) (faults faults_now spare spare_now : ℕ) (text rest : List ℕ) : Type 0 where

@@ -8,7 +8,7 @@ ghost use Rattle.ask_words.specs.declared.request.Request.TheVariants.{Analyse};
 ghost use Rattle.top_run.specs.Headline.{IsHeadline};
 ghost use Rattle.top_run.specs.Seen.{shelf_with, sink_with};
 
-use crate::run::run;
+use crate::program::run;
 use base_files::{Shelf, Sink};
 use std::alloc::Global;
 use top_answer::{Exact, Meaning};
