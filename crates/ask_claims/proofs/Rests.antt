@@ -18,6 +18,7 @@ no_values : (before : List ℕ) (names : List (List ℕ)) → state_text before 
 no_values before [] = refl
 no_values before (name ∷ names) = refl
 
+-- behind the last name or the last value of a state nothing is written
 pub state_rest : (before : List ℕ) (names : List (List ℕ)) (xs : List ℚ) (i : ℕ) → min (length names) (length xs) ≤ i
     → state_text before (drop i names) (drop i xs) ≡ []
 state_rest before = rest_end (state_text before) (λ xs. refl) (no_values before)
@@ -26,6 +27,7 @@ no_verdicts : (names : List (List ℕ)) (k : ℕ) (claims : List Claim) → clai
 no_verdicts names k [] = refl
 no_verdicts names k (claim ∷ claims) = refl
 
+-- behind the last claim or the last verdict no line is written
 pub lines_rest : (names : List (List ℕ)) (k : ℕ) (claims : List Claim) (verdicts : List Verdict) (i : ℕ)
     → min (length claims) (length verdicts) ≤ i →
     claim_lines names k (drop i claims) (drop i verdicts) ≡ []

@@ -4,3 +4,8 @@ pub mod Has
 pub mod AfterNames
 pub mod After
 pub mod Means
+pub mod Leads
+pub mod LeadsNames
+pub mod LeadsEdges
+pub mod Refused
+pub mod Back

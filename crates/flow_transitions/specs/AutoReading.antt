@@ -1,8 +1,11 @@
--- How a transition system is read: token by token, and expression by expression, from place to place.
+-- How a transition system is read, as the code does: token by token, and expression by expression, from place to place.
 use Rattle.std.specs.Prelude.{◌≡◌, ◌+◌, ◌++◌, ℕ, zero, suc, Bool, true, if◌then◌else◌, List, [], ◌∷◌, length, map, codes, nat_le, nat_lt}
 use Rattle.std.specs.Prelude.{Option, Some, None, Result, Ok, Err}
 use Rattle.std.specs.Str.{bytes_eq}
 use Rattle.lang_tokens.specs.declared.token.Token.{Token}
+use Rattle.lang_tokens.specs.declared.fault.LexFault.{LexFault}
+use Rattle.lang_tokens.specs.Reading.{Reads}
+use Rattle.lang_tokens.specs.Faults.{HasFault}
 use Rattle.lang_grammar.specs.View.{tokens_of}
 use Rattle.lang_tree.specs.declared.limits.TheConstants.{MOST_VARIABLES}
 use Rattle.lang_tree.specs.declared.form.Form.{Form}
@@ -13,10 +16,8 @@ use Rattle.lang_meaning.specs.declared.fault.ParseFault.TheVariants as parse
 use Rattle.lang_meaning.specs.declared.fault.Limit.TheVariants.{Variables}
 use Rattle.lang_meaning.specs.Names.{place_of}
 use Rattle.lang_meaning.specs.Walk.{assignment}
-use Rattle.lang_meaning.specs.Expressions.{Meaning, a_number, a_condition, a_choice, ExpressionMeans, as_truth}
+use Rattle.lang_meaning.specs.Expressions.{Meaning, ExpressionMeans, as_truth}
 use Rattle.flow_edges.specs.declared.limits.TheConstants.{MOST_POINTS}
-use Rattle.flow_edges.specs.declared.point.Place.TheVariants as point
-use Rattle.flow_edges.specs.declared.point.Point.{Point}
 use Rattle.flow_transitions.specs.declared.auto_edge.AutoEdge.{AutoEdge}
 use Rattle.flow_transitions.specs.declared.fault.AutoFault.{AutoFault}
 use Rattle.flow_transitions.specs.declared.fault.AutoFault.TheVariants as fault
@@ -24,6 +25,7 @@ use Rattle.flow_transitions.specs.declared.reading.point_name.PointName.{PointNa
 use Rattle.flow_transitions.specs.declared.reading.symbol.Symbol.{Symbol}
 use Rattle.flow_transitions.specs.declared.reading.symbol.Symbol.TheVariants as symbol
 use Rattle.flow_transitions.specs.AutoSymbols.{Seen, seen_at}
+pub use Rattle.flow_transitions.specs.AutoContents.{Content, AutoAnswer, label_of, points_of, as_side}
 
 -- where the reading stands: what comes next
 pub data Stand : Type 0 where
@@ -199,12 +201,6 @@ token_at (at_target line from at) r s = to_then (target_at s r.points) line from
 token_at (at_act e) r s = act_or_end s.symbol e r s
 token_at stand r s = going_if r s (behind_sign s.at stand s.symbol)
 
--- the right side that an expression is for the `=` at this place: a form, or any value
-abbrev pub as_side : ℕ → Meaning → Result (Option Form) ParseFault
-as_side sign (a_number f) = Ok (Some f)
-as_side sign (a_condition c) = Err (parse.NotAffine sign)
-as_side sign a_choice = Ok None
-
 -- the condition of an assumption, and the right side of an assignment
 abbrev pub assumed : Result Condition ParseFault → AutoEdge → ℕ → Progress → Stepped
 assumed (Ok c) e line r = going r (past_condition e (assume c line))
@@ -232,26 +228,9 @@ expression_at (at_condition e line) first m r = assumed (as_truth first m) e lin
 expression_at (at_right_side e var line sign) first m r = assigned (as_side sign m) e var line r
 expression_at stand first m r = Ok r
 
--- the points: the first is the entry, each other one a label
-abbrev pub label_of : PointName → Point
-label_of p = record { place = point.Label p.name; line = p.line }
-
-abbrev pub points_of : List PointName → List Point
-points_of [] = []
-points_of (p ∷ ps) = record { place = point.Entry; line = 0 } ∷ map label_of ps
-
--- a transition system without its limits: its variables, its points and its edges
-pub record Content : Type 0 where
-  pub names : List (List ℕ)
-  pub points : List Point
-  pub edges : List AutoEdge
-
+-- the transition system that has been read so far
 abbrev pub content_of : Progress → Content
 content_of r = record { names = r.variables; points = points_of r.points; edges = r.edges }
-
--- a transition system, or why a text is none
-abbrev pub AutoAnswer : Type 0
-AutoAnswer = Result Content AutoFault
 
 -- From this step on the tokens from number i on read as the answer: a token or the longest expression at a time.
 pub data ReadsTo (text : List ℕ) (tokens : List Token) : Stepped → ℕ → AutoAnswer → Type 0 where
@@ -271,6 +250,11 @@ pub data ReadsTo (text : List ℕ) (tokens : List Token) : Stepped → ℕ → A
 -- before the first token
 abbrev pub start : Progress
 start = progress [] [] [] at_vars
+
+-- Token by token the text is read as this answer.
+pub data IsRead (text : List ℕ) (answer : AutoAnswer) : Type 0 where
+  no_tokens : (f : LexFault) → HasFault text f → answer ≡ Err (fault.Lex f) → IsRead text answer
+  some_tokens : (tokens : List Token) → Reads text tokens → ReadsTo text tokens (Ok start) 0 answer → IsRead text answer
 
 -- the form is over n variables, if there is one
 abbrev pub is_side : ℕ → Option Form → Bool

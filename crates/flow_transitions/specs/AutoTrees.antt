@@ -1,10 +1,6 @@
--- What a text says by its grammar: a transition system, or its first fault.
+-- What the tokens of a text say by its grammar: a transition system, or the first fault.
 use Rattle.std.specs.Prelude.{◌≡◌, ◌⊎◌, ◌+◌, ◌<◌, ◌≤◌, ◌++◌, ℕ, List, [], ◌∷◌, length, map, Option, Some, None, Result, Ok, Err}
-use Rattle.lang_tokens.specs.declared.token.Token as lex_token
-use Rattle.lang_tokens.specs.declared.fault.LexFault.{LexFault}
 use Rattle.lang_tokens.specs.Lines.{line_at}
-use Rattle.lang_tokens.specs.Reading.{Reads}
-use Rattle.lang_tokens.specs.Faults.{HasFault}
 use Rattle.lang_grammar.specs.Expressions.{IsLongest, FindsExpr, FineExpr, ReadsExpr, nests_at}
 use Rattle.lang_grammar.specs.Grammar.{Kind, a_name, semicolon, Token, token, Expr, spell_expr, Groups}
 use Rattle.lang_tree.specs.declared.form.Form.{Form}
@@ -22,8 +18,8 @@ use Rattle.flow_transitions.specs.declared.auto_edge.AutoEdge.{AutoEdge}
 use Rattle.flow_transitions.specs.declared.fault.AutoFault.{AutoFault}
 use Rattle.flow_transitions.specs.declared.fault.AutoFault.TheVariants as fault
 use Rattle.flow_transitions.specs.declared.reading.point_name.PointName.{PointName}
-use Rattle.flow_transitions.specs.AutoReading.{AutoAnswer, points_of, as_side}
-use Rattle.flow_transitions.specs.AutoGrammar.{tokens_here, Spot, Names, Act, sets, assumes, Head, Written, Heads, System, ReadsSystem}
+use Rattle.flow_transitions.specs.AutoContents.{AutoAnswer, points_of, as_side}
+use Rattle.flow_transitions.specs.AutoGrammar.{Spot, Names, Act, sets, assumes, Head, Written, Heads, System, ReadsSystem}
 use Rattle.flow_transitions.specs.AutoGrammar.{IsUnexpected}
 use Rattle.flow_transitions.specs.AutoGrammar.{Frame, condition, side, Inside, Begun, begun_then, no_token, some_variables, a_variable}
 use Rattle.flow_transitions.specs.AutoGrammar.{all_variables}
@@ -215,8 +211,3 @@ SystemMeans text tokens (Ok c) =
           outer.edges;
     }))
 SystemMeans text tokens (Err f) = FirstFault text tokens f
-
--- What a text says.
-pub data IsSaid (text : List ℕ) (answer : AutoAnswer) : Type 0 where
-  no_tokens : (f : LexFault) → HasFault text f → answer ≡ Err (fault.Lex f) → IsSaid text answer
-  by_tokens : (tokens : List lex_token.Token) → Reads text tokens → SystemMeans text (tokens_here text tokens) answer → IsSaid text answer

@@ -5,6 +5,7 @@ pub mod AutoFaults
 pub mod AutoRuns
 pub mod AutoLaws
 pub mod AutoSymbols
+pub mod AutoContents
 pub mod AutoReading
 pub mod AutoGrammar
 pub mod AutoTexts

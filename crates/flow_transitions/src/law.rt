@@ -1,9 +1,9 @@
 //! Laws of the definitions, each the contract of a function that does nothing.
 
-ghost use Rattle.std.specs.Prelude.{◌≡◌, ℕ, List};
-ghost use Rattle.flow_transitions.specs.AutoReading.{AutoAnswer};
+ghost use Rattle.std.specs.Prelude.{◌≡◌, ◌↔◌, ℕ, List};
+ghost use Rattle.flow_transitions.specs.AutoContents.{AutoAnswer};
+ghost use Rattle.flow_transitions.specs.AutoReading.{IsRead};
 ghost use Rattle.flow_transitions.specs.AutoTexts.{IsAuto};
-ghost use Rattle.flow_transitions.specs.AutoTrees.{IsSaid};
 ghost use Rattle.flow_transitions.specs.AutoLaws.{ChoicesAreActs, PostSolutionsHoldAlong};
 
 /// A text is one thing: one transition system, or one fault.
@@ -11,10 +11,10 @@ pub fn one_answer()
     ensures { (text : List ℕ) (a b : AutoAnswer) → IsAuto text a → IsAuto text b → a ≡ b }
 {}
 
-/// What a text is, it says by its grammar: its tokens spell a transition system without fault, and it is this one; or they have this fault
-/// first.
-pub fn answers_are_said()
-    ensures { (text : List ℕ) (answer : AutoAnswer) → IsAuto text answer → IsSaid text answer }
+/// What a text is by its grammar is what it is read as, token by token and expression by expression: the transition system that its tokens
+/// spell without fault, or their first fault.
+pub fn texts_are_read()
+    ensures { (text : List ℕ) (answer : AutoAnswer) → IsAuto text answer ↔ IsRead text answer }
 {}
 
 /// Acts lead from one integer state to another exactly where the actions of one of their choices do.

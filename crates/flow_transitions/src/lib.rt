@@ -19,5 +19,5 @@ pub use auto::Auto;
 pub use auto_edge::{AutoEdge, AutoEdges};
 pub use build::flow;
 pub use fault::AutoFault;
-pub use law::{answers_are_said, choices_are_acts, one_answer, post_solutions_hold_along};
+pub use law::{choices_are_acts, one_answer, post_solutions_hold_along, texts_are_read};
 pub use reading::read;

@@ -4,7 +4,8 @@ ghost use Rattle.std.specs.Prelude.{◌≡◌, ◌≢◌, ◌≤◌, Err, IfErr,
 ghost use Rattle.lang_tokens.specs.Reading.{Reads};
 ghost use Rattle.flow_transitions.specs.declared.fault.AutoFault.TheVariants.{NoMemory};
 ghost use Rattle.flow_transitions.specs.AutoSymbols.{IsSource};
-ghost use Rattle.flow_transitions.specs.AutoReading.{AutoAnswer, ReadsTo, label_of, points_of, start};
+ghost use Rattle.flow_transitions.specs.AutoContents.{AutoAnswer, label_of, points_of};
+ghost use Rattle.flow_transitions.specs.AutoReading.{IsRead, ReadsTo, start};
 ghost use Rattle.flow_transitions.specs.AutoTexts.{GivesAuto, IsAuto, content};
 
 use crate::auto::Auto;
@@ -44,11 +45,11 @@ pub fn read(alloc: Global, text: &[u8]) -> Result<Auto, AutoFault>
     answer(alloc, text)
 }
 
-/// What the text is.
+/// What the text is read as, token by token.
 fn answer(alloc: Global, text: &[u8]) -> Result<Auto, AutoFault>
     requires { length text.now ≤ 65536 }
-    ensures system { IfOk result (λ auto. IsAuto text.now (Ok (content auto))) }
-    ensures refused { IfErr result (λ fault. fault ≢ NoMemory → IsAuto text.now (Err fault)) }
+    ensures system { IfOk result (λ auto. IsRead text.now (Ok (content auto))) }
+    ensures refused { IfErr result (λ fault. fault ≢ NoMemory → IsRead text.now (Err fault)) }
 {
     let tokens = tokens_of(alloc, text)?;
     system_of(alloc, text, &tokens)
@@ -59,7 +60,7 @@ fn tokens_of(alloc: Global, text: &[u8]) -> Result<Vec<Token>, AutoFault>
     requires { length text.now ≤ 65536 }
     ensures reads { IfOk result (λ tokens. Reads text.now tokens.items) }
     ensures source { IfOk result (λ tokens. IsSource text.now tokens.items) }
-    ensures refused { IfErr result (λ fault. fault ≢ NoMemory → IsAuto text.now (Err fault)) }
+    ensures refused { IfErr result (λ fault. fault ≢ NoMemory → IsRead text.now (Err fault)) }
 {
     match lex(alloc, text) {
         Ok(tokens) => Ok(tokens),

@@ -1,13 +1,15 @@
 //! From words and the contents of the files that they name to an answer: a pure function, with no file and no stream.
 #![tactic(auto)]
 
-mod answer;
+mod answering;
 mod laws;
 mod meaning;
 mod named;
 mod outcome;
+mod reply;
 
-pub use answer::{Answer, answer, plain_answer};
+pub use answering::answer;
+pub use reply::{Answer, plain_answer};
 pub use ask_files::{NamedFile, files_of, most_bytes};
 pub use laws::{
     accepted_is_least, ending_is_one, spent_is_few, upgrade_is_one, values_are_one,

@@ -1,6 +1,6 @@
 //! What the texts of a command come to: the bytes that are written, or the status of their refusal.
 
-ghost use Rattle.std.specs.Prelude.{◌≡◌, ◌≤◌, ℕ, IfOk, IfErr, length};
+ghost use Rattle.std.specs.Prelude.{◌≡◌, ◌≤◌, ℕ, List, [], IfOk, IfErr, length};
 ghost use Rattle.lang_tree.specs.Tree.{Statements};
 ghost use Rattle.flow_edges.specs.Edges.{edges_of_program};
 ghost use Rattle.flow_edges.specs.Points.{points_of_program};
@@ -51,7 +51,7 @@ pub(crate) fn plain(alloc: Global, status: Status) -> Outcome
 }
 
 // The outcome of a result, whose message numbers unknowns by this number of rows, if it names one.
-fn outcome(alloc: Global, made: Result<Vec<u8>, Refusal>, rows: usize) -> Outcome
+fn outcome_from(alloc: Global, made: Result<Vec<u8>, Refusal>, rows: usize) -> Outcome
     ensures is { HasOutcome made result.status result.bytes.items }
     ensures rows { result.rows ≡ rows_of rows result.status }
 {
@@ -108,9 +108,9 @@ fn analysed(alloc: Global, purpose: Purpose, analysis: Analysis<&[u8]>) -> Outco
                 analysis.policy,
                 analysis.improvements,
             );
-            outcome(alloc, made, system.template.as_slice().len())
+            outcome_from(alloc, made, system.template.as_slice().len())
         }
-        Err(refusal) => outcome(alloc, Err(refusal), 0),
+        Err(refusal) => outcome_from(alloc, Err(refusal), 0),
     }
 }
 
@@ -129,7 +129,7 @@ fn accepted(alloc: Global, given: Given) -> Outcome
         cert,
     } = given;
     let made = report_by(alloc, &program, flow, &cert);
-    outcome(alloc, made, cert.rows.as_slice().len())
+    outcome_from(alloc, made, cert.rows.as_slice().len())
 }
 
 // The check of a certificate of a program.
@@ -140,7 +140,7 @@ fn checked(alloc: Global, text: &[u8], certificate: &[u8]) -> Outcome
 {
     match read_given(alloc, text, certificate) {
         Ok(given) => accepted(alloc, given),
-        Err(refusal) => outcome(alloc, Err(refusal), 0),
+        Err(refusal) => outcome_from(alloc, Err(refusal), 0),
     }
 }
 
@@ -156,8 +156,8 @@ pub(crate) fn outcome_of(alloc: Global, asked: Request<&[u8]>) -> Outcome
             program,
             certificate,
         } => checked(alloc, program, certificate),
-        Request::Bench { seed, loops } => outcome(alloc, bench_text(alloc, seed, loops), 0),
-        Request::Upgrade { certificate } => outcome(alloc, upgrade_text(alloc, certificate), 0),
+        Request::Bench { seed, loops } => outcome_from(alloc, bench_text(alloc, seed, loops), 0),
+        Request::Upgrade { certificate } => outcome_from(alloc, upgrade_text(alloc, certificate), 0),
         Request::Prove { claims, analysis } => {
             let made = prove_text(
                 alloc,
@@ -167,7 +167,7 @@ pub(crate) fn outcome_of(alloc: Global, asked: Request<&[u8]>) -> Outcome
                 analysis.policy,
                 analysis.improvements,
             );
-            outcome(alloc, made, 0)
+            outcome_from(alloc, made, 0)
         }
         Request::Transitions { analysis } => {
             let made = transitions_text(
@@ -177,12 +177,12 @@ pub(crate) fn outcome_of(alloc: Global, asked: Request<&[u8]>) -> Outcome
                 analysis.policy,
                 analysis.improvements,
             );
-            outcome(alloc, made, 0)
+            outcome_from(alloc, made, 0)
         }
         Request::Equations {
             file,
             improvements,
             policy,
-        } => outcome(alloc, equations_text(alloc, file, policy, improvements), 0),
+        } => outcome_from(alloc, equations_text(alloc, file, policy, improvements), 0),
     }
 }

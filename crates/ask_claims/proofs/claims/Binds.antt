@@ -8,5 +8,6 @@ pub then_ok : {A B : Type 0} {r : Result A ClaimFault} {x : A} (f : A → Result
     → r >>= f ≡ y
 then_ok f {y} e h = ap (λ z. z >>= f) e ∙ h
 
+-- a fault is handed on, whatever follows
 pub then_err : {A B : Type 0} {r : Result A ClaimFault} {e : ClaimFault} (f : A → Result B ClaimFault) → r ≡ Err e → r >>= f ≡ Err e
 then_err f h = ap (λ z. z >>= f) h

@@ -18,9 +18,11 @@ use Rattle.lang_tree.specs.Tree.{Condition, leaf_count}
 use Rattle.lang_tree.specs.declared.limits.TheConstants.{MOST_VARIABLES}
 use Rattle.ask_claims.specs.Steps.{is_end, is_colon, is_semicolon, token_at, IsEnded}
 
+-- the tokens of a text are some tokens and the end behind them
 pub ended : (text : List ℕ) (tokens : List Token) → AreTokensOf text tokens → IsEnded tokens
 ended text tokens h = (h.front, length text, h.ended)
 
+-- tokens with the end behind them are at least one
 pub some_token : (tokens : List Token) → IsEnded tokens → 0 < length tokens
 some_token tokens (front, a, e) = let size = ap length (sym e) ∙ length-append front (end_at a ∷ []) in omega (arith, size)
 
@@ -41,10 +43,12 @@ goes_on tokens i (front, a, e) h k = on (nat_lt i (length front)) refl where
       ∙ get_or-append_seam front (end_at a) [] (end_at 0) in
       let last : is_end (token_at tokens i).kind ≡ true = ap (λ (t : Token). is_end t.kind) there in absurd (cc)
 
+-- a `:` is not the end of the text
 pub colon_goes_on : (k : lex_kind.Kind) → IsTrue (is_colon k) → is_end k ≡ false
 colon_goes_on lex_kind.TheVariants.End h = cc
 colon_goes_on _ h = refl
 
+-- a `;` is not the end of the text
 pub semicolon_goes_on : (k : lex_kind.Kind) → IsTrue (is_semicolon k) → is_end k ≡ false
 semicolon_goes_on lex_kind.TheVariants.End h = cc
 semicolon_goes_on _ h = refl
@@ -54,9 +58,11 @@ pub few_points : (names : List (List ℕ)) (points : List Point) (edges : List E
     → length points ≤ MOST_POINTS
 few_points names points edges h = leb-true (length points) MOST_POINTS (and_split _ _ (and_split _ _ (and_split _ _ h).1).0).1
 
+-- a flow within the limits has at most as many variables as there may be
 pub few_names : (names : List (List ℕ)) (points : List Point) (edges : List Edge) → IsTrue (is_flow names points edges)
     → length names ≤ MOST_VARIABLES
 few_names names points edges h = leb-true (length names) MOST_VARIABLES (and_split _ _ (and_split _ _ h).0).1
 
+-- a condition that can be tested is over its variables
 pub is_over : (n : ℕ) (c : Condition) → IsTrue (is_tested n c) → IsTrue (is_condition n c)
 is_over n c h = (and_split (nat_le (leaf_count c) 64) (is_condition n c) h).1

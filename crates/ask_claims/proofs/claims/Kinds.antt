@@ -26,6 +26,7 @@ pub word_other : (w : lex_word.Word) → (names_claim (word_kind w) ≡ false) �
 word_other lex_word.TheVariants.Int = (refl, refl)
 word_other _ = (refl, refl)
 
+-- a sign neither begins a claim nor ends the text
 pub sign_other : (s : lex_sign.Sign) → (names_claim (sign_kind s) ≡ false) × (ends_text (sign_kind s) ≡ false)
 sign_other lex_sign.TheVariants.Colon = (refl, refl)
 sign_other _ = (refl, refl)
@@ -34,12 +35,14 @@ word_ends : (w : lex_word.Word) → (ends_name (word_kind w) ≡ false) × (ends
 word_ends lex_word.TheVariants.Int = (refl, refl)
 word_ends _ = (refl, refl)
 
+-- the grammar and the code take the same tokens for a `:`
 pub colon_same : (b : List ℕ) (k : lex_kind.Kind) → ends_name (kind_of b k) ≡ is_colon k
 colon_same b (lex_kind.TheVariants.Word w) = (word_ends w).0
 colon_same b (lex_kind.TheVariants.Sign lex_sign.TheVariants.Colon) = refl
 colon_same b (lex_kind.TheVariants.Sign _) = refl
 colon_same b _ = refl
 
+-- the grammar and the code take the same tokens for a `;`
 pub semicolon_same : (b : List ℕ) (k : lex_kind.Kind) → ends_claim (kind_of b k) ≡ is_semicolon k
 semicolon_same b (lex_kind.TheVariants.Word w) = (word_ends w).1
 semicolon_same b (lex_kind.TheVariants.Sign lex_sign.TheVariants.Semicolon) = refl
@@ -54,12 +57,15 @@ is_the_semicolon : (k : Kind) → ends_claim k ≡ true → k ≡ semicolon
 is_the_semicolon semicolon h = refl
 is_the_semicolon _ h = cc
 
+-- what the code takes for a `:` is one to the grammar
 pub colon_is : (b : List ℕ) (k : lex_kind.Kind) → is_colon k ≡ true → kind_of b k ≡ colon
 colon_is b k h = is_the_colon (kind_of b k) (colon_same b k ∙ h)
 
+-- what the code takes for a `;` is one to the grammar
 pub semicolon_is : (b : List ℕ) (k : lex_kind.Kind) → is_semicolon k ≡ true → kind_of b k ≡ semicolon
 semicolon_is b k h = is_the_semicolon (kind_of b k) (semicolon_same b k ∙ h)
 
+-- what the code takes for the end of the text is it to the grammar
 pub end_is : (b : List ℕ) (k : lex_kind.Kind) → is_end k ≡ true → kind_of b k ≡ the_end
 end_is b lex_kind.TheVariants.End h = refl
 end_is b _ h = cc
@@ -78,6 +84,7 @@ choice_kind b (lex_kind.TheVariants.Word w) = word_choice w
 choice_kind b (lex_kind.TheVariants.Sign s) = sym (sign_choice s)
 choice_kind b _ = refl
 
+-- the first `nondet` that the code finds is the first one to the grammar
 pub choice_same : (text : List ℕ) (ts : List lex_token.Token) → first_choice ts ≡ choice_at (tokens_of text ts)
 choice_same text [] = refl
 choice_same text (t ∷ ts) =
@@ -110,6 +117,7 @@ placed_goes text place [] i a h = absurd (omega arith)
 placed_goes text place (t ∷ ts) zero a h = kind_goes t.kind _ a.0.is_token
 placed_goes text place (t ∷ ts) (suc i) a h = placed_goes text (t.at + t.len) ts i a.1 (omega (arith, h))
 
+-- behind the end of the text no token follows
 pub end_last : (text : List ℕ) (ts : List lex_token.Token) (i : ℕ) → AreTokensOf text ts → is_end (token_at ts i).kind ≡ true
     → drop (i + 1) (tokens_of text ts) ≡ []
 end_last text ts i a h = drop-map (token_of text) (i + 1) ts ∙ ap (map (token_of text))

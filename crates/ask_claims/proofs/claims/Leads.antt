@@ -55,9 +55,11 @@ module _ (text : List ℕ) (names : List (List ℕ)) (points : List Point) where
         × AllSay text names points cs (map stated_of claims) × (length cs ≡ length claims) × (next < length tokens) × (length claims ≤ 64)
         × All (Stands names points) claims
 
+    -- before the first token no claim has been read
     pub begins : (claims : List Claim) → claims ≡ [] → 0 < length tokens → Keeps claims 0
     begins claims e h = subst (λ cs. Keeps cs 0) (sym e) ([], refl, tt, refl, h, omega arith, All-nil (Stands names points))
 
+    -- a claim that is read, and put behind fewer than 64 others, is one more of them
     pub keeps_on : (claims now : List Claim) (c : Claim) (next after : ℕ) → Keeps claims next → length claims < 64
         → BeginsClaim text names points tokens next (Ok (stated_of c, after)) → Stands names points c → after < length tokens
         → now ≡ claims ++ c ∷ [] → Keeps now after
@@ -76,6 +78,7 @@ module _ (text : List ℕ) (names : List (List ℕ)) (points : List Point) where
           All-push (Stands names points) claims c k.6 s,
         )
 
+    -- where the end of the text comes, the claims that were read are what the tokens mean
     pub lead_end : (claims : List Claim) (next : ℕ) → AreTokensOf text tokens → is_end (token_at tokens next).kind ≡ true
         → Keeps claims next
         → ClaimsMean text names points (tokens_of text tokens) (Ok (map stated_of claims))
@@ -92,6 +95,7 @@ module _ (text : List ℕ) (names : List (List ℕ)) (points : List Point) where
       let same = k.3 in let few = k.5 in omega (arith, same, few),
     )
 
+    -- where fewer than 64 claims have been read, the fault of the next one is what the tokens mean
     pub lead_fault : (claims : List Claim) (next : ℕ) (f : ClaimFault) → length claims < 64
         → BeginsClaim text names points tokens next (Err f) → Keeps claims next
         → ClaimsMean text names points (tokens_of text tokens) (Err f)
@@ -106,6 +110,7 @@ module _ (text : List ℕ) (names : List (List ℕ)) (points : List Point) where
           b k.0 (all_group text names points k.0 (map stated_of claims) k.2) (omega (arith, same, h)),
         )
 
+    -- behind 64 claims any token but the end makes one claim too many, or is unexpected
     pub lead_count : (claims : List Claim) (next : ℕ) → 64 ≤ length claims → is_end (token_at tokens next).kind ≡ false → Keeps claims next
         → ClaimsMean text names points (tokens_of text tokens) (Err (surplus (token_at tokens next).kind (token_at tokens next).at))
     lead_count claims next h goes k =

@@ -20,6 +20,7 @@ IsLast (claims s rest) = ⊥
 IsLast t = Unit {0}
 
 module _ (text : List ℕ) (names : List (List ℕ)) (points : List Point) where
+  -- the expressions of claims without fault group as they must
   pub all_group : (cs : List Written) (ss : List Stated) → AllSay text names points cs ss → AllGroup cs
   all_group [] ss h = tt
   all_group (c ∷ cs) (s ∷ ss) h = (h.0.good, all_group cs ss h.1)
@@ -100,6 +101,7 @@ module _ (text : List ℕ) (names : List (List ℕ)) (points : List Point) where
       (fault_turn text names points ds (all_group ds us also) more g again) tt tt in
       let i : fails f ≡ fails g = r.1 in let j : f ≡ g = cc in ap Err j
 
+  -- tokens mean one list of claims, or one fault
   pub file_once : (r s : StatedClaims) → FileMeans text names points r → FileMeans text names points s → r ≡ s
   file_once r s (inl (f, h, e)) (inl (g, i, k)) = e ∙ ap (λ x. Err (fault.Lex x)) (one_text_fault text f g h i) ∙ sym k
   file_once r s (inl (f, h, e)) (inr (tokens, i, m)) = absurd (no_fault text tokens f i h)

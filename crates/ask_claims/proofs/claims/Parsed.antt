@@ -65,9 +65,11 @@ module _ (text : List ℕ) (names : List (List ℕ)) (points : List Point) (toke
     pub goes_by : (r : Result (Stated × ℕ) ClaimFault) → r ≡ finished tokens i h w → ClaimMeans text names points tokens i r
     goes_by r e = subst (λ x. GoesOn text names tokens i x r) (sym (head_is ∙ head)) (w, means, e)
 
+    -- a fault of the claim's expression is that of the claim
     pub stopped_there : (f : ClaimFault) → parsed w ≡ Err f → ClaimMeans text names points tokens i (Err f)
     stopped_there f e = goes_by (Err f) (sym (then_err _ e))
 
+    -- what follows from the meaning of its expression is what the claim is, or its fault
     pub finished_there : {A : Type 0} (view : A → Stated × ℕ) (m : Meaning × ℕ) (result : Result A ClaimFault) → parsed w ≡ Ok m
         → Gives view result (finished tokens i h (Ok m))
         → Answers view (ClaimMeans text names points tokens i) result

@@ -262,5 +262,6 @@ module _ (text : List ℕ) (names : List (List ℕ)) (points : List Point) (toke
     by_kind (lex_kind.TheVariants.Number n) bytes a r o place starts is =
         no_name (lex_kind.TheVariants.Number n) bytes a r (refl, refl) starts is
 
+    -- what the code finds at a claim is what the grammar says of it
     pub tree_of : (r : Result (Stated × ℕ) ClaimFault) → ClaimMeans text names points tokens i r → Tree r
     tree_of r is = by_kind (token_at tokens i).kind (bytes_of text (token_at tokens i)) (token_at tokens i).at r goes refl two is

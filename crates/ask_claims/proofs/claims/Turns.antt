@@ -94,6 +94,7 @@ goes_once text names none t u e g = e ∙ sym g
 goes_once text names (faulty f) t u e g = e ∙ sym g
 goes_once text names (opened p x a ts) t u (w, m, e) (v, n, g) = e ∙ ap (closed p x a ts) (expression_once text ts 0 names w v m n) ∙ sym g
 
+-- one thing alone comes next at tokens
 pub turn_once : (text : List ℕ) (names : List (List ℕ)) (points : List Point) (few : Bool) (ts : List Token) (t u : Turn)
     → TurnIs text names points few ts t
     → TurnIs text names points few ts u → t ≡ u
@@ -115,6 +116,7 @@ shut e a b = on (spell_expr e) (begun_goes _ b) where
   on [] g = both_ways refl g.0
   on (token k c ∷ xs) g = on xs g.1
 
+-- an expression is the longest one where the token behind it goes on with none
 pub longest_by : (e : Expr) (t : Token) (rest : List Token) → Groups 0 e → FineExpr (spell_expr e)
     → (BeginsExpr (spell_expr e ++ t ∷ []) → ⊥)
     → IsLongest (spell_expr e ++ t ∷ rest) (length (spell_expr e)) e
@@ -185,6 +187,7 @@ module _ (text : List ℕ) (names : List (List ℕ)) (points : List Point) where
           on true e = absurd (let i = ltb-true 64 n e in omega arith)
           on false e = refl
 
+  -- at the end of the text the end comes next
   pub end_turn : (few : Bool) (a : ℕ) → TurnIs text names points few (token the_end a ∷ []) ends
   end_turn few a = refl
 
@@ -270,6 +273,7 @@ module _ (text : List ℕ) (names : List (List ℕ)) (points : List Point) where
       (sym (ap₂ (truth_end head.point x a) says (drop-append_seam (spell_expr f) (token k b ∷ rest))
       ∙ other_end head.point x a c k b rest i.0)))
 
+  -- where tokens behind whole claims have this fault first, it comes next
   pub fault_turn : (cs : List Written) (g : AllGroup cs) (ts : List Token) (f : ClaimFault) → FirstFault text names points cs ts f
       → TurnIs text names points (nat_lt (length cs) 64) ts (fails f)
   fault_turn cs g ts f (too_many x a rest e full is) =

@@ -11,14 +11,17 @@ claim_append c xs ys =
     ap (λ zs. token (a_name c.name) c.name_at ∷ token colon c.colon_at ∷ zs)
     (append_assoc (spell_expr c.expr) (token semicolon c.semicolon_at ∷ xs) ys)
 
+-- tokens behind claims and what follows them stand behind what follows
 pub claims_append : (cs : List Written) (xs ys : List Token) → claims_then cs xs ++ ys ≡ claims_then cs (xs ++ ys)
 claims_append [] xs ys = refl
 claims_append (c ∷ cs) xs ys = claim_append c (claims_then cs xs) ys ∙ ap (claim_then c) (claims_append cs xs ys)
 
+-- one claim more stands before what follows the others
 pub claims_more : (cs : List Written) (c : Written) (xs : List Token) → claims_then (cs ++ c ∷ []) xs ≡ claims_then cs (claim_then c xs)
 claims_more [] c xs = refl
 claims_more (d ∷ cs) c xs = ap (claim_then d) (claims_more cs c xs)
 
+-- claims that group as they must, with one that does behind them, group as they must
 pub group_more : (cs : List Written) (c : Written) → AllGroup cs → Groups 0 c.expr → AllGroup (cs ++ c ∷ [])
 group_more [] c g h = (h, tt)
 group_more (d ∷ cs) c g h = (g.0, group_more cs c g.1 h)
@@ -46,6 +49,7 @@ sign_goes negative = refl
 sign_goes positive = refl
 sign_goes negation = refl
 
+-- no token of an expression is a `;`
 pub expr_goes : (e : Expr) → GoesOn (spell_expr e)
 expr_goes (number n a) = (refl, tt)
 expr_goes (variable x a) = (refl, tt)
@@ -54,6 +58,7 @@ expr_goes (grouped a e b) = (refl, goes_append (spell_expr e) _ (expr_goes e) (r
 expr_goes (prefixed p a e) = (sign_goes p, expr_goes e)
 expr_goes (joined e o a f) = goes_append (spell_expr e) _ (expr_goes e) (refl, expr_goes f)
 
+-- no token of what begins an expression is a `;`
 pub begun_goes : (begun : List Token) → BeginsExpr begun → GoesOn begun
 begun_goes begun (e, rest, r) = let g : GoesOn (begun ++ rest) = subst GoesOn r.spelled (expr_goes e) in goes_front begun rest g
 

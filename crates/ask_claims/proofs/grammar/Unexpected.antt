@@ -20,6 +20,7 @@ abbrev pub ends_name : Kind → Bool
 ends_name colon = true
 ends_name _ = false
 
+-- nothing is both true and false
 pub both_ways : {b : Bool} → b ≡ true → b ≡ false → ⊥
 both_ways i j = let k : true ≡ false = sym i ∙ j in cc
 
@@ -88,6 +89,7 @@ module _ (cs : List Written) (g : AllGroup cs) where
     none [] rest e i o = let j : k ≡ the_end = cc in both_ways (ap ends_text j) f
     none (d ∷ ds) rest e i o = let j : k ≡ a_name d.name = cc in both_ways (ap names_claim j) n
 
+  -- a token that is unexpected behind whole claims is neither a name nor the end
   pub start_refused : (k : Kind) (a : ℕ) → IsUnexpected (claims_then cs []) (token k a) → (names_claim k ≡ false) × (ends_text k ≡ false)
   start_refused (a_name x) a u = absurd (taken cs [] (token (a_name x) a) u
       (begins_part cs (written x a 0 (number 0 0) 0) (token (a_name x) a ∷ []) _ g tt refl))
@@ -104,6 +106,7 @@ module _ (cs : List Written) (g : AllGroup cs) where
         none [] rest e i o = cc
         none (d ∷ ds) rest e i o = let j : k ≡ colon = cc in both_ways (ap ends_name j) n
 
+  -- a token that is unexpected behind a claim's name is no `:`
   pub colon_refused : (x : List ℕ) (a : ℕ) (k : Kind) (b : ℕ) → IsUnexpected (claims_then cs (token (a_name x) a ∷ [])) (token k b)
       → ends_name k ≡ false
   colon_refused x a colon b u =
@@ -151,6 +154,7 @@ module _ (cs : List Written) (g : AllGroup cs) where
           on (inl (f, p, r, j)) = unread f r
           on (inr j) = stops j
 
+    -- a token that is unexpected behind what begins an expression goes on with none
     pub within_refused : (begun : List Token) (t : Token) → IsUnexpected (claims_then cs (opened begun)) t → BeginsExpr (begun ++ t ∷ [])
         → ⊥
     within_refused begun t u h = taken cs (opened begun) t u (begins_with (begun ++ t ∷ []) h)
@@ -170,6 +174,7 @@ module _ (cs : List Written) (g : AllGroup cs) where
           on (inl (f, q, r, j)) = let i : k ≡ semicolon = cc in both_ways (ap ends_claim i) n
           on (inr j) = stops j
 
+    -- a token that is unexpected behind a whole expression is no `;`, and goes on with none
     pub semicolon_refused : (e : Expr) (k : Kind) (p : ℕ) → Groups 0 e → IsUnexpected (claims_then cs (opened (spell_expr e))) (token k p)
         → (ends_claim k ≡ false) × (BeginsExpr (spell_expr e ++ token k p ∷ []) → ⊥)
     semicolon_refused e k p good u = (on k u, within_refused (spell_expr e) (token k p) u) where

@@ -31,5 +31,6 @@ claims_same (c ∷ cs) (d ∷ ds) e f g h i =
     d.expr name name_at colon_at expr q.2)
     (claims_same cs ds e f g.1 h.1 q.1)
 
+-- tokens read as one list of claims alone
 pub reads_one : (tokens : List Token) (cs ds : List Written) → ReadsClaims tokens cs → ReadsClaims tokens ds → cs ≡ ds
 reads_one tokens cs ds r s = claims_same cs ds r.end_at s.end_at r.good s.good (r.spelled ∙ sym s.spelled)

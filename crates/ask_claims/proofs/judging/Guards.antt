@@ -80,12 +80,14 @@ cases_short false (either c d) =
 -- ---- the case of a number
 module _ (n : ℕ) (c : Condition) (tested : IsTrue (is_tested n c)) (cases : List (List Form)) (e : cases ≡ cases_of false c) (k : ℕ)
     (l : k < length cases) where
+  -- the guards of a case are forms over the variables
   pub case_forms : IsTrue (list_all (is_form n) (get_or cases k []))
   case_forms =
       let p = and_parts (nat_le (leaf_count c) 64) (is_condition n c) tested in
       let all = subst (Each (Each (IsForm n))) (sym e) (cases_forms n false c p.1) in
       each_passes (is_form n) (get_or cases k []) (each_at (Each (IsForm n)) cases k [] l all)
 
+  -- a case has at most 256 guards
   pub case_short : length (get_or cases k []) ≤ 256
   case_short =
       let p = and_parts (nat_le (leaf_count c) 64) (is_condition n c) tested in

@@ -18,7 +18,9 @@ zip_push R (v ∷ xs) (w ∷ ys) x y a h = (a.0, zip_push R xs ys x y a.1 h)
 
 -- the first i claims have these verdicts, and no operation for them is wide
 pub record AreJudged (system : Equations) (z : Vector) (claims : List Claim) (i : ℕ) (verdicts : List Verdict) : Type 0 where
+  -- these are the verdicts on them
   pub listed : AreVerdicts system z (take i claims) verdicts
+  -- no operation for one of them is wide
   pub fit : ClaimsFit system z (take i claims)
 
 module _ (system : Equations) (z : Vector) (claims : List Claim) (i : ℕ) (claim : Claim) (l : i < length claims)

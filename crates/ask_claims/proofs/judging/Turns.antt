@@ -11,7 +11,9 @@ use Rattle.ask_claims.specs.Verdicts.{FitsFor, AllFit}
 
 -- no state breaks one of the first i cases, and none of their problems has a wide operation
 pub record IsJudged (system : Equations) (z : Vector) (p : ℕ) (cases : List (List Form)) (i : ℕ) : Type 0 where
+  -- no state breaks one of these cases
   pub none : NoneOpen system z p cases i
+  -- no operation for one of them is wide
   pub fit : (k : ℕ) → k < i → FitsFor system z p (get_or cases k [])
 
 -- the case that an element of the list is
@@ -37,9 +39,11 @@ module _ (system : Equations) (z : Vector) (p : ℕ) (cases : List (List Form)) 
     breaks_here : Breaks system z p (get_or against i []) x
     breaks_here = subst (λ g. Breaks system z p g x) (e ∙ ap (λ (cs : List (List Form)). get_or cs i []) same) breaks
 
+    -- where a state breaks one of the cases, not all of them are unbroken
     pub open_somewhere : NoneOpen system z p against (length against) → ⊥
     open_somewhere none = none i (subst (λ (cs : List (List Form)). i < length cs) same within) x breaks_here
 
+    -- up to the first case that a state breaks no operation is wide
     pub open_fits : AllFit system z p against
     open_fits k l none =
         let all = below_more (λ j. FitsFor system z p (get_or cases j [])) i judged.fit fit_here in

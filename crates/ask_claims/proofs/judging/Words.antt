@@ -77,6 +77,7 @@ module _ (system : Equations) (z : Vector) (p : ℕ) (case : List Form) where
   unfolding lin end_form combined dot
   no_gain u = <ℚ_irrefl u.gains
 
+  -- the problem of a case is never unbounded
   pub never_unbounded : (v : Value) (trace direction : Trace) → v ≡ Unbounded trace direction → IsValue system z (guarded_edge p case) [] v
       → ⊥
   never_unbounded v trace direction e h =
@@ -122,6 +123,7 @@ module _ (system : Equations) (z : Vector) (p : ℕ) (case : List Form) where
         reads = start_is n w (unsplit (last_point o)) trace.start trace.free columns none read.word;
       }
 
+  -- where the problem of a case has a best value, the state at which it is reached breaks the case
   pub best_breaks : (v : Value) (value : ℚ) (trace : Trace) (rows multipliers : List ℚ) → v ≡ Best value trace rows multipliers
       → IsValue system z (guarded_edge p case) [] v →
       HasEvidence system z (guarded_edge p case) [] v → IsBreaking system z p case trace.start

@@ -75,6 +75,7 @@ held x (c ∷ cs) h =
     ⊎_elim (λ here. record { number = 0; within = omega arith; holds = here })
     (λ later. let r = held x cs later in let l = r.within in record { number = suc r.number; within = omega (arith, l); holds = r.holds }) h
 
+-- a condition none of whose opposite cases a state breaks is true at its point in every run
 pub claims_hold : ProvedClaimsHold
 claims_hold variables body template v p c post none run now is_run is_in is_at =
     let x = now.state in

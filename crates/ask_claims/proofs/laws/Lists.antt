@@ -58,6 +58,7 @@ same_verdicts system z (c ∷ cs) (v ∷ vs) [] a b = absurd b
 same_verdicts system z (c ∷ cs) (v ∷ vs) (w ∷ ws) a b = ap₂ (λ x xs. x ∷ xs) (same_verdict system z c v w a.0 b.0)
     (same_verdicts system z cs vs ws a.1 b.1)
 
+-- vectors with the same bounds give claims the same verdicts
 pub verdicts_are_one : VerdictsAreOne
 verdicts_are_one system z w claims verdicts again same points a b =
     same_verdicts system w claims verdicts again (verdicts_stay system z w claims verdicts same points a) b
@@ -73,10 +74,12 @@ verdict_at system z (c ∷ cs) (v ∷ vs) zero d w a e f = let g : c ≡ d = cc 
     subst (λ y. IsVerdict system z d y) h (subst (λ x. IsVerdict system z x v) g a.0)
 verdict_at system z (c ∷ cs) (v ∷ vs) (suc k) d w a e f = verdict_at system z cs vs k d w a.1 e f
 
+-- the state of an open claim breaks one of the cases against it
 pub open_breaks : OpenStatesBreak
 open_breaks system z claims verdicts k claim x a e f =
     breaks_some system z claim.point claim.against x (verdict_at system z claims verdicts k claim (Open x) a e f).state
 
+-- the condition of a proved claim is true at its point in every run
 pub proved_hold : ProvedVerdictsHold
 proved_hold variables body template v claims verdicts k claim post a e f against run now is_run is_in is_at =
     let system = equations_of_program variables body template in

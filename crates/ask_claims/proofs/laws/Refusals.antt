@@ -109,11 +109,13 @@ module _ (system : Equations) (z : Vector) (claims : List Claim) where
         let names = a.named_so ∙ ap capped same_place ∙ sym b.named_so in
         cc
 
+-- where a wide operation is named there is one
 pub wide_claims_dont_fit : WideClaimsDontFit
 wide_claims_dont_fit system z claims NoMemory n h fit = n refl
 wide_claims_dont_fit system z claims (WideClaim named case part wide) n h fit =
     case_apart system z h.claim.point h.claim.against case part wide h.wide (fits_there system z claims h.number h.claim h.listed fit)
 
+-- vectors with the same bounds name the same wide operation
 pub refusals_are_one : RefusalsAreOne
 refusals_are_one system z w claims NoMemory again same points n m h k = absurd (n refl)
 refusals_are_one system z w claims (WideClaim named case part wide) NoMemory same points n m h k = absurd (m refl)

@@ -123,6 +123,7 @@ module _ (system : Equations) (z w : Vector) where
     state = says_stays system z w claim.point same claim.against verdict h.state;
   }
 
+  -- verdicts by a vector are those by each vector with the same bounds
   pub verdicts_stay : (claims : List Claim) (verdicts : List Verdict) → IsSame system z w → AreAtPoints system claims
       → AreVerdicts system z claims verdicts →
       AreVerdicts system w claims verdicts
@@ -140,6 +141,7 @@ module _ (system : Equations) (z w : Vector) where
       let claim = get_or claims k d in
       all_fit_stays system z w claim.point (λ r m. same claim.point r (points k d l) m) claim.against (fit k d l)
 
+  -- the first wide operation by a vector is that by each vector with the same bounds
   pub refusal_stays : (claims : List Claim) (named case : ℕ) (part : Part) (wide : Wide ℚ) → IsSame system z w → AreAtPoints system claims →
       IsFirstWideClaim system z claims named (WideVerdict case part wide)
       → IsFirstWideClaim system w claims named (WideVerdict case part wide)

@@ -33,6 +33,7 @@ sizes n a (b ∷ cs) e f c m =
     let next = keeps_size step.item step.rest a.state b.work b.state step.does ∙ e in
     ⊎_elim (λ s. subst (λ (d : Configuration). length d.state ≡ n) s e) (λ h. sizes n b cs next f.1 c h) m
 
+-- the states of a run have a value for each variable
 pub run_size : (n : ℕ) (body : Statements) (run : List Configuration) (c : Configuration) → IsRun n body run → Contains run c
     → length c.state ≡ n
 run_size n body [] c h m = absurd h

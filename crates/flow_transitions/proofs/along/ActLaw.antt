@@ -91,5 +91,6 @@ acts_done n (cons s rest) x y h c =
     let q = acts_split r.0 t.0 x y (subst (λ a. Acts a x y) (sym t.2) c.2) in
     (q.0, act_done n s x q.0 p.0 (r.0, r.1, q.1), acts_done n rest q.0 y p.1 (t.0, t.1, q.2))
 
+-- acts lead from state to state exactly where the actions of one of their choices do
 pub choices_law : ChoicesAreActs
 choices_law n acts x y h = ((λ d. acts_chosen n acts x y h d), (λ c. acts_done n acts x y h c))

@@ -125,5 +125,6 @@ module _ (auto : Auto) (template : List (List ℤ)) (v : Vector) (post : PostSol
   holds [] c run m = absurd run
   holds (a ∷ cs) c run m = (all_known a cs run.2 (at_start a run.0 run.1) c (contains_in (a ∷ cs) c m)).fits
 
+-- what any post-solution says of a point is so at each configuration there, in every run
 pub soundness_along : PostSolutionsHoldAlong
 soundness_along auto template v post = holds auto template v post

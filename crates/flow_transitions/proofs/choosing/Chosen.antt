@@ -21,6 +21,7 @@ factor_some (suc a) b h = omega arith
 pub kept_short : (xs : List Action) → length (kept xs) ≤ 257
 kept_short xs = omega (arith, length-take 257 xs)
 
+-- of at most 257 actions all are kept
 pub kept_all : (xs : List Action) → length xs ≤ 257 → kept xs ≡ xs
 kept_all xs h = take_all 257 xs h
 
@@ -41,27 +42,38 @@ added xs a items h e =
     let one : List Action = a ∷ [] in
     e ∙ sym (kept_all (xs ++ one) (omega (arith, length-append xs one)))
 
+-- behind 257 actions one more is not kept
 pub left_out : (xs : List Action) (a : Action) → 257 ≤ length xs → length xs ≤ 257 → xs ≡ kept (xs ++ a ∷ [])
 left_out xs a h k = sym (take-append-le 257 xs (a ∷ []) h ∙ kept_all xs k)
 
 -- ---- a choice as far as its acts have been done: what is left of it has a number below the number of choices that are left
 pub record IsChosen (all : Statements) (whole : ℕ) (rest : Statements) (actions : List Action) (left number : ℕ) : Type 0 where
+  -- the choices that are left are those of the acts that are left
   pub count : left ≡ length (choices_in rest)
+  -- the number is that of one of them
   pub within : number < left
+  -- at most 257 actions have been done
   pub short : length actions ≤ 257
+  -- with the actions of what is left they are, as far as they are kept, those of the whole choice
   pub same : kept (actions ++ get_or (choices_in rest) number []) ≡ kept (get_or (choices_in all) whole [])
 
+-- before the first act the whole choice is left
 pub chosen_none : (all : Statements) (whole count : ℕ) → count ≡ length (choices_in all) → whole < count
     → IsChosen all whole all [] count whole
 chosen_none all whole count e l = record { count = e; within = l; short = omega arith; same = refl }
 
 -- what one act leaves of the choices
 pub record Parts (s : Statement) (rest : Statements) (left number n : ℕ) : Type 0 where
+  -- the act itself has a choice
   pub some : 0 < n
+  -- the quotient is the number of choices of the later acts
   pub later : left / n ≡ length (choices_in rest)
+  -- these have a choice
   pub later_some : 0 < left / n
+  -- the number of the act's own choice is within its choices
   pub first : number / (left / n) < n
 
+-- the number of choices that are left is the act's own number times that of the later acts, and none of the two is 0
 pub parts : (all : Statements) (whole : ℕ) (s : Statement) (rest : Statements) (actions : List Action) (left number n : ℕ)
     → n ≡ length (choices_of s) →
     IsChosen all whole (cons s rest) actions left number → Parts s rest left number n

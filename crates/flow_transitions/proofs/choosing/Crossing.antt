@@ -14,6 +14,7 @@ followed ys x = map (λ y. x ++ y) ys
 abbrev pub crossing : List (List Action) → List (List Action) → List (List Action)
 crossing xs ys = flat_map (followed ys) xs
 
+-- there are as many pairs as the product of the two numbers of lists
 pub length-crossing : (xs ys : List (List Action)) → length (crossing xs ys) ≡ length xs * length ys
 length-crossing [] ys = omega (arith, zero-mul (length ys))
 length-crossing (x ∷ xs) ys =

@@ -34,10 +34,14 @@ product_capped a b =
 -- ---- along acts
 -- choices that are counted so far, and what is left of the acts
 pub record AreCounted (all rest : Statements) (count : ℕ) : Type 0 where
+  -- the count stops at 257
   pub few : count ≤ 257
+  -- the count times the choices of what is left is the number of all choices, up to 257
   pub product : min (count * length (choices_in rest)) 257 ≡ min (length (choices_in all)) 257
+  -- no act that was counted is too wide
   pub wide : has_wide all ≡ has_wide rest
 
+-- before the first act the count is 1
 pub counted_none : (all : Statements) → AreCounted all all 1
 counted_none all = record {
   few = omega arith;
@@ -46,6 +50,7 @@ counted_none all = record {
   wide = refl;
 }
 
+-- an act that isn't too wide multiplies the count by the number of its choices
 pub counted_more : (all : Statements) (s : Statement) (rest : Statements) (count n after : ℕ) → n ≡ length (choices_of s)
     → is_wide_act s ≡ false → after ≡ min (count * n) 257 →
     AreCounted all (cons s rest) count → AreCounted all rest after
@@ -60,20 +65,26 @@ counted_more all s rest count n after e w f c =
       wide = c.wide ∙ ap (λ b. b || has_wide rest) w;
     }
 
+-- behind the last act the count is the number of choices, up to 257, and no act is too wide
 pub counted_all : (all : Statements) (count : ℕ) → AreCounted all nil count
     → (count ≡ min (length (choices_in all)) 257) × (has_wide all ≡ false)
 counted_all all count c = ((let p = c.product in let f = c.few in omega (arith, mul-one count)), c.wide)
 
+-- an act that is too wide makes all acts have one
 pub counted_wide : (all : Statements) (s : Statement) (rest : Statements) (count : ℕ) → is_wide_act s ≡ true
     → AreCounted all (cons s rest) count → has_wide all ≡ true
 counted_wide all s rest count w c = c.wide ∙ ap (λ b. b || has_wide rest) w
 
 -- ---- along all edges of the text
 pub record AreSummed (all rest : List AutoEdge) (count : ℕ) : Type 0 where
+  -- the count stops at 257
   pub few : count ≤ 257
+  -- the count with the choices along the edges that are left is the number along all edges, up to 257
   pub sum : min (count + sum_by way_count rest) 257 ≡ min (sum_by way_count all) 257
+  -- no edge that was counted has a fault
   pub wide : cases_fault all ≡ cases_fault rest
 
+-- before the first edge the count is 0
 pub summed_none : (all : List AutoEdge) → AreSummed all all 0
 summed_none all = record {
   few = omega arith;
@@ -85,6 +96,7 @@ summed_none all = record {
 abbrev found : Bool → AutoEdge → List AutoEdge → Option AutoFault
 found b e rest = option_map (λ (x : AutoEdge). Cases x.at) (cond b (Some e) (find (λ x. has_wide x.acts) rest))
 
+-- an edge with no act too wide adds the number of choices along it to the count
 pub summed_more : (all : List AutoEdge) (e : AutoEdge) (rest : List AutoEdge) (count n after : ℕ) → n ≡ min (way_count e) 257
     → has_wide e.acts ≡ false → after ≡ min (count + n) 257 →
     AreSummed all (e ∷ rest) count → AreSummed all rest after
@@ -94,10 +106,12 @@ summed_more all e rest count n after f w g c = record {
   wide = c.wide ∙ ap (λ b. found b e rest) w;
 }
 
+-- behind the last edge the count is the number of choices along all of them, up to 257, and none has a fault
 pub summed_all : (all : List AutoEdge) (count : ℕ) → AreSummed all [] count
     → (count ≡ min (sum_by way_count all) 257) × (cases_fault all ≡ None)
 summed_all all count c = ((let s = c.sum in let f = c.few in omega arith), c.wide)
 
+-- an edge with an act too wide, behind edges without one, has the fault
 pub summed_wide : (all : List AutoEdge) (e : AutoEdge) (rest : List AutoEdge) (count : ℕ) → has_wide e.acts ≡ true
     → AreSummed all (e ∷ rest) count → cases_fault all ≡ Some (Cases e.at)
 summed_wide all e rest count w c = c.wide ∙ ap (λ b. found b e rest) w

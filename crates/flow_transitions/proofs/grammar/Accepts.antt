@@ -140,6 +140,7 @@ edge_done : (c : Heads) (es : List Written) (e : Written) → heads_then c (edge
     ≡ system_then (whole c (es ++ e ∷ [])) over
 edge_done c es e = ap (heads_then c) (sym (edges_more es e over))
 
+-- a beginning with a token that may stand behind it begins a text
 pub accepted_begins : (b : Begun) (k : Kind) (a : ℕ) → Good b → Accepts b k a → Begins (begun_then b (token k a ∷ []))
 accepted_begins b k a g h = on b g h where
   by : (b : Begun) (l : Kind) (more : List Token) (s : System) → k ≡ l → GoodEdges s.edges
@@ -264,6 +265,7 @@ next_there (an_assumption i b c e d) g = (semicolon, 0, refl)
 shorter : (xs ys : List Token) → Begins (xs ++ ys) → Begins xs
 shorter xs ys (s, rest, r) = (s, ys ++ rest, record { end_at = r.end_at; spelled = r.spelled ∙ append_assoc xs ys rest; good = r.good })
 
+-- a beginning begins a text
 pub front_begins : (b : Begun) → Good b → Begins (begun_then b [])
 front_begins b g =
     let n = next_there b g in
@@ -310,6 +312,7 @@ within i xs s p g h e =
           let r = cancel_acts i.acts f.acts xs f.closing_at (edges_then fs (token the_end p ∷ [])) g.1 k.0 j in
           (r.0, f.closing_at, edges_then fs (token the_end p ∷ []), r.1, r.2)
 
+-- behind a whole expression no sign but an infix one goes on with it
 pub ended_by : (e : Expr) (k : Kind) (a : ℕ) → Groups 0 e → is_infix k ≡ false → BeginsExpr (spell_expr e ++ token k a ∷ []) → ⊥
 ended_by e k a g n b = ends_there (spell_expr e) k a (reads_run (spell_expr e) e (record { spelled = refl; good = g })) n b
 
@@ -377,6 +380,7 @@ frame_next (side x d l) begun k a rest (sets y p q e s ∷ hs) c tail b g i =
 begins_by : (e : Expr) → Groups 0 e → BeginsExpr (spell_expr e)
 begins_by e g = (e, [], record { spelled = sym (append-nil (spell_expr e)); good = g })
 
+-- where a beginning with a token begins a text, the token may stand there
 pub begins_accepted : (b : Begun) (k : Kind) (a : ℕ) → Good b → Begins (begun_then b (token k a ∷ [])) → Accepts b k a
 begins_accepted b k a g (s, rest, r) = on b g (sym (begun_append b (token k a ∷ []) rest) ∙ sym r.spelled) where
   on : (b : Begun) → Good b → begun_then b (token k a ∷ rest) ≡ system_then s (token the_end r.end_at ∷ []) → Accepts b k a
@@ -479,5 +483,6 @@ begins_accepted b k a g (s, rest, r) = on b g (sym (begun_append b (token k a �
 pub unexpected_by : (b : Begun) (k : Kind) (a : ℕ) → Good b → (Accepts b k a → ⊥) → IsUnexpected (begun_then b []) (token k a)
 unexpected_by b k a g h = (front_begins b g, λ s. h (begins_accepted b k a g (subst Begins (begun_append b [] (token k a ∷ [])) s)))
 
+-- a token that is unexpected behind a beginning may not stand there
 pub unexpected_stops : (b : Begun) (k : Kind) (a : ℕ) → Good b → IsUnexpected (begun_then b []) (token k a) → Accepts b k a → ⊥
 unexpected_stops b k a g u h = u.1 (subst Begins (sym (begun_append b [] (token k a ∷ []))) (accepted_begins b k a g h))

@@ -20,6 +20,7 @@ pub commas_append : (ss : List Spot) (xs ys : List Token) → commas_then ss xs 
 commas_append [] xs ys = refl
 commas_append (s ∷ ss) xs ys = ap (λ z. token (a_name s.name) s.at ∷ token comma s.sign_at ∷ z) (commas_append ss xs ys)
 
+-- tokens behind names and what follows them stand behind what follows
 pub names_append : (ns : Names) (xs ys : List Token) → names_then ns xs ++ ys ≡ names_then ns (xs ++ ys)
 names_append ns xs ys = commas_append ns.first_ones _ ys
 
@@ -27,6 +28,7 @@ act_append : (a : Act) (xs ys : List Token) → act_then a xs ++ ys ≡ act_then
 act_append (sets x a b e s) xs ys = ap (λ z. token (a_name x) a ∷ token (change_sign replaces) b ∷ z) (append_assoc (spell_expr e) _ ys)
 act_append (assumes a b e c s) xs ys = ap (λ z. token assume_word a ∷ token left_paren b ∷ z) (append_assoc (spell_expr e) _ ys)
 
+-- tokens behind acts and what follows them stand behind what follows
 pub acts_append : (hs : List Act) (xs ys : List Token) → acts_then hs xs ++ ys ≡ acts_then hs (xs ++ ys)
 acts_append [] xs ys = refl
 acts_append (a ∷ hs) xs ys = act_append a (acts_then hs xs) ys ∙ ap (act_then a) (acts_append hs xs ys)
@@ -37,15 +39,18 @@ head_append h xs ys = refl
 edge_append : (e : Written) (xs ys : List Token) → edge_then e xs ++ ys ≡ edge_then e (xs ++ ys)
 edge_append e xs ys = ap (head_then e.head) (acts_append e.acts (token right_brace e.closing_at ∷ xs) ys)
 
+-- tokens behind edges and what follows them stand behind what follows
 pub edges_append : (es : List Written) (xs ys : List Token) → edges_then es xs ++ ys ≡ edges_then es (xs ++ ys)
 edges_append [] xs ys = refl
 edges_append (e ∷ es) xs ys = edge_append e (edges_then es xs) ys ∙ ap (edge_then e) (edges_append es xs ys)
 
+-- tokens behind the heads and what follows them stand behind what follows
 pub heads_append : (h : Heads) (xs ys : List Token) → heads_then h xs ++ ys ≡ heads_then h (xs ++ ys)
 heads_append h xs ys =
     ap (vars_then h.vars_at) (names_append h.variables _ ys ∙ ap (λ z. names_then h.variables (points_then h.points_at z))
     (names_append h.points xs ys))
 
+-- tokens behind the inside of an edge and what follows it stand behind what follows
 pub inside_append : (i : Inside) (xs ys : List Token) → inside_then i xs ++ ys ≡ inside_then i (xs ++ ys)
 inside_append i xs ys =
     heads_append i.heads _ ys ∙ ap (heads_then i.heads) (edges_append i.edges _ ys
@@ -55,6 +60,7 @@ frame_append : (f : Frame) (xs ys : List Token) → frame_then f xs ++ ys ≡ fr
 frame_append (condition a b) xs ys = refl
 frame_append (side x a b) xs ys = refl
 
+-- tokens behind a beginning and what follows it stand behind what follows
 pub begun_append : (b : Begun) (xs ys : List Token) → begun_then b xs ++ ys ≡ begun_then b (xs ++ ys)
 begun_append no_token xs ys = refl
 begun_append (some_variables v ss) xs ys = ap (vars_then v) (commas_append ss xs ys)
@@ -86,18 +92,22 @@ pub commas_more : (ss : List Spot) (s : Spot) (xs : List Token) → commas_then 
 commas_more [] s xs = refl
 commas_more (t ∷ ss) s xs = ap (λ z. token (a_name t.name) t.at ∷ token comma t.sign_at ∷ z) (commas_more ss s xs)
 
+-- one act more stands before what follows the others
 pub acts_more : (hs : List Act) (a : Act) (xs : List Token) → acts_then (hs ++ a ∷ []) xs ≡ acts_then hs (act_then a xs)
 acts_more [] a xs = refl
 acts_more (b ∷ hs) a xs = ap (act_then b) (acts_more hs a xs)
 
+-- one edge more stands before what follows the others
 pub edges_more : (es : List Written) (e : Written) (xs : List Token) → edges_then (es ++ e ∷ []) xs ≡ edges_then es (edge_then e xs)
 edges_more [] e xs = refl
 edges_more (d ∷ es) e xs = ap (edge_then d) (edges_more es e xs)
 
+-- good acts with a good one behind them are good
 pub good_more : (hs : List Act) (a : Act) → GoodActs hs → GoodAct a → GoodActs (hs ++ a ∷ [])
 good_more [] a g h = (h, tt)
 good_more (b ∷ hs) a g h = (g.0, good_more hs a g.1 h)
 
+-- good edges with one of good acts behind them are good
 pub all_good_more : (es : List Written) (e : Written) → GoodEdges es → GoodActs e.acts → GoodEdges (es ++ e ∷ [])
 all_good_more [] e g h = (h, tt)
 all_good_more (d ∷ es) e g h = (g.0, all_good_more es e g.1 h)
@@ -110,6 +120,7 @@ cancel_commas [] ds l xs tail e = (record { first_ones = ds; last = l }, e)
 cancel_commas (s ∷ ss) [] l xs tail e = cc
 cancel_commas (s ∷ ss) (d ∷ ds) l xs tail e = cancel_commas ss ds l xs tail (cc)
 
+-- names with the same tokens at the front have the same ones behind them
 pub cancel_names : (ss ds : List Spot) (k l : Spot) (xs tail : List Token)
     → commas_then ss (token (a_name k.name) k.at ∷ token semicolon k.sign_at ∷ xs)
     ≡ commas_then ds (token (a_name l.name) l.at ∷ token semicolon l.sign_at ∷ tail) → xs ≡ tail
@@ -124,6 +135,7 @@ cut e f a b xs ys g h i =
     let q = (unique_expr (suc (weight e)) (unique (suc (weight e))) e f (token semicolon a) (token semicolon b) xs ys (omega arith) g h tt
     tt i).1 in cc
 
+-- expressions with a `)` behind them and the same tokens have the same ones behind the `)`
 pub cut_paren : (e f : Expr) (a b : ℕ) (xs ys : List Token) → Groups 0 e → Groups 0 f
     → spell_expr e ++ token right_paren a ∷ xs ≡ spell_expr f ++ token right_paren b ∷ ys → xs ≡ ys
 cut_paren e f a b xs ys g h i =
@@ -142,6 +154,7 @@ act_open : (a : Act) (xs ys : List Token) (c : ℕ) → act_then a xs ≡ token 
 act_open (sets x a b e s) xs ys c i = cc
 act_open (assumes a b e d s) xs ys c i = cc
 
+-- where acts begin whole acts with their `}`, what follows is acts with this `}`
 pub cancel_acts : (hs bs : List Act) (xs : List Token) (c : ℕ) (tail : List Token) → GoodActs hs → GoodActs bs
     → acts_then hs xs ≡ acts_then bs (token right_brace c ∷ tail) → (cs : List Act) × (xs ≡ acts_then cs (token right_brace c ∷ tail))
     × GoodActs cs
@@ -156,6 +169,7 @@ pub acts_over : (bs : List Act) (xs : List Token) (d c : ℕ) (tail : List Token
 acts_over [] xs d c tail e = cc
 acts_over (b ∷ bs) xs d c tail e = absurd (act_open b (acts_then bs (token right_brace c ∷ tail)) xs d (sym e))
 
+-- where edges begin the edges of a text, what follows is edges with the end behind them
 pub cancel_edges : (es ds : List Written) (xs : List Token) (p : ℕ) → GoodEdges es → GoodEdges ds
     → edges_then es xs ≡ edges_then ds (token the_end p ∷ [])
     → (fs : List Written) × (xs ≡ edges_then fs (token the_end p ∷ [])) × GoodEdges fs

@@ -30,6 +30,7 @@ short_from i (e ∷ es) h =
     let p = none_first (is_long e) i (position_from is_long (i + 1) es) h in
     (ltb-false 256 (length e.actions) p.0, short_from (i + 1) es p.1)
 
+-- where no edge has a position as one with too many actions, each is short
 pub none_long : (es : List Edge) → position is_long es ≡ None → Each IsShort es
 none_long es h = short_from 0 es (sym (position_from-zero is_long es) ∙ h)
 
@@ -49,9 +50,11 @@ after_cases points edges o = fault_or o (fault_or (edges_fault (edges_of points 
 abbrev after_edges : List Edge → Bool → Option AutoFault
 after_edges es b = fault_or (if b then Some Edges else None) (actions_fault es)
 
+-- the first edge with too many cases is the first fault
 pub wide_first : (points : ℕ) (edges : List AutoEdge) (f : AutoFault) → cases_fault edges ≡ Some f → fault_of points edges ≡ Some f
 wide_first points edges f h = ap (after_cases points edges) h
 
+-- where no edge has too many cases, more than 256 edges are the first fault
 pub many_edges : (points : ℕ) (edges : List AutoEdge) → cases_fault edges ≡ None → 256 < length (edges_of points edges)
     → fault_of points edges ≡ Some Edges
 many_edges points edges h l = ap (after_cases points edges) h ∙ ap (after_edges (edges_of points edges))
@@ -62,11 +65,13 @@ few : (points : ℕ) (edges : List AutoEdge) → cases_fault edges ≡ None → 
 few points edges h l = ap (after_cases points edges) h ∙ ap (after_edges (edges_of points edges))
     (le-ltb 256 (length (edges_of points edges)) l)
 
+-- where neither is so, the first edge whose kept actions are too many is the fault
 pub long_edge : (points : ℕ) (edges : List AutoEdge) (k : ℕ) → cases_fault edges ≡ None → length (edges_of points edges) ≤ 256 →
     position is_long (map kept_edge (edges_of points edges)) ≡ Some k → fault_of points edges ≡ Some (Actions k)
 long_edge points edges k h l p =
     few points edges h l ∙ ap (option_map (λ e. Actions e)) (sym (long_place-kept (edges_of points edges)) ∙ p)
 
+-- where no edge has too many cases or kept actions, and there are at most 256 of them, there is no fault
 pub no_fault : (points : ℕ) (edges : List AutoEdge) → cases_fault edges ≡ None → length (edges_of points edges) ≤ 256 →
     position is_long (map kept_edge (edges_of points edges)) ≡ None → fault_of points edges ≡ None
 no_fault points edges h l p =

@@ -81,6 +81,7 @@ edges_of-more edges p =
     ∙ flat_map-append (edges_at edges) (range_with_len 0 p) (range_with_len (0 + p) 1)
     ∙ ap (λ z. edges_of p edges ++ z) (append-nil (edges_at edges (0 + p)) ∙ ap (edges_at edges) next)
 
+-- the edges of the points up to one, and those at this point, are the edges of the points up to the next
 pub point_more : (before after : List Edge) (edges : List AutoEdge) (p : ℕ) → after ≡ before ++ map kept_edge (edges_at edges p)
     → before ≡ map kept_edge (edges_of p edges) →
     after ≡ map kept_edge (edges_of (p + 1) edges)

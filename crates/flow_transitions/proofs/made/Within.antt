@@ -29,13 +29,20 @@ use Rattle.flow_transitions.proofs.made.Faulted.{IsShort, none_long}
 
 -- ---- the limits of a transition system
 pub record AutoLimits (names : List (List ℕ)) (points : List Point) (edges : List AutoEdge) : Type 0 where
+  -- there is a variable
   pub some_name : 1 ≤ length names
+  -- there are not too many variables
   pub few_names : length names ≤ MOST_VARIABLES
+  -- there are at least two points
   pub two_points : 2 ≤ length points
+  -- there are not too many points
   pub few_points : length points ≤ MOST_POINTS
+  -- the first point is the entry, and each later one a label
   pub labels : IsTrue (are_labels points)
+  -- each edge is within the limits
   pub along : IsTrue (list_all (is_auto_edge (length names) (length points)) edges)
 
+-- a transition system within the limits keeps to each of them
 pub limits : (names : List (List ℕ)) (points : List Point) (edges : List AutoEdge) → IsTrue (is_auto names points edges)
     → AutoLimits names points edges
 limits names points edges h =
@@ -58,11 +65,16 @@ limits names points edges h =
 
 -- an edge of the text
 pub record EdgeLimits (n m : ℕ) (e : AutoEdge) : Type 0 where
+  -- it starts at a point
   pub from : e.from < m
+  -- it doesn't end at the first point
   pub later : 0 < e.to
+  -- it ends at a point
   pub to : e.to < m
+  -- its acts are within the limits
   pub acts : IsTrue (are_acts n e.acts)
 
+-- an edge within the limits keeps to each of them
 pub edge_limits : (n m : ℕ) (e : AutoEdge) → IsTrue (is_auto_edge n m e) → EdgeLimits n m e
 edge_limits n m e h =
     let p = and_parts (nat_lt e.from m) (nat_lt 0 e.to && (nat_lt e.to m && are_acts n e.acts)) h in
@@ -88,6 +100,7 @@ acts_room n nil h = refl
 acts_room n (cons s rest) h =
     let p = and_parts (is_act n s) (are_acts n rest) h in and_from (has_rooms s) (have_rooms rest) (act_room n s p.0) (acts_room n rest p.1)
 
+-- edges within the limits leave room for their guards
 pub edges_room : (n m : ℕ) (edges : List AutoEdge) → IsTrue (list_all (is_auto_edge n m) edges) → IsTrue (have_room_along edges)
 edges_room n m [] h = refl
 edges_room n m (e ∷ edges) h =

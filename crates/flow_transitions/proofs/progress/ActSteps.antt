@@ -39,15 +39,18 @@ module _ (text : List ℕ) (tokens : List Token) (names : List (List ℕ)) (poin
       token_goes text tokens (at (at_act e)) (at (at_paren e line)) i refl
       (ap (λ y. act_or_end y e (at (at_act e)) (there i)) w ∙ ap (λ n. going (at (at_act e)) (at_paren e n)) (sym l))
 
+  -- behind `assume` a `(` leads on to the condition
   pub paren_goes : (i line : ℕ) → (there i).symbol ≡ symbol.LeftParen →
       Goes text tokens (at (at_paren e line)) i (at (at_condition e line)) (i + 1)
   paren_goes i line w = sign_goes text tokens (at (at_paren e line)) i symbol.LeftParen (at_condition e line) refl (λ y. refl) w refl
 
+  -- behind `assume` any other token is unexpected
   pub paren_fails : (i line : ℕ) (f : AutoFault) → f ≡ unexpected_fault (there i) → ((there i).symbol ≡ symbol.LeftParen → ⊥)
       → Fails text tokens (at (at_paren e line)) i f
   paren_fails i line f h n = sign_fails text tokens (at (at_paren e line)) i f refl (λ y. refl) h
       (no_paren (there i).at e line (there i).symbol n)
 
+  -- an expression that is a condition leads on to what stands behind it
   pub condition_goes : (i line next : ℕ) (m : Meaning) (c : Condition) → ExpressionMeans text (tokens_of text tokens) i names (Ok (m, next))
       →
       assumed (as_truth (there i).at m) e line (at (at_condition e line))
@@ -56,20 +59,24 @@ module _ (text : List ℕ) (tokens : List Token) (names : List (List ℕ)) (poin
   condition_goes i line next m c h k = expression_goes text tokens (at (at_condition e line)) (at (past_condition e (assume c line))) i next
       m refl h k
 
+  -- a fault of the condition's expression is the answer
   pub condition_refused : (i line : ℕ) (p : ParseFault) (f : AutoFault) → ExpressionMeans text (tokens_of text tokens) i names (Err p)
       → f ≡ fault.Parse p →
       Fails text tokens (at (at_condition e line)) i f
   condition_refused i line p f h k = refused_fails text tokens (at (at_condition e line)) i p f refl h k
 
+  -- an expression that is no condition is refused with its fault
   pub condition_fails : (i line next : ℕ) (m : Meaning) (f : AutoFault)
       → ExpressionMeans text (tokens_of text tokens) i names (Ok (m, next)) →
       assumed (as_truth (there i).at m) e line (at (at_condition e line)) ≡ Err f → Fails text tokens (at (at_condition e line)) i f
   condition_fails i line next m f h k = expression_fails text tokens (at (at_condition e line)) i next m f refl h k
 
+  -- behind the condition a `)` leads on to the end of the act
   pub closing_goes : (i : ℕ) (act : Statement) → (there i).symbol ≡ symbol.RightParen
       → Goes text tokens (at (past_condition e act)) i (at (past_act e act)) (i + 1)
   closing_goes i act w = sign_goes text tokens (at (past_condition e act)) i symbol.RightParen (past_act e act) refl (λ y. refl) w refl
 
+  -- behind the condition any other token is unexpected
   pub closing_fails : (i : ℕ) (act : Statement) (f : AutoFault) → f ≡ unexpected_fault (there i)
       → ((there i).symbol ≡ symbol.RightParen → ⊥) → Fails text tokens (at (past_condition e act)) i f
   closing_fails i act f h n = sign_fails text tokens (at (past_condition e act)) i f refl (λ y. refl) h
@@ -80,6 +87,7 @@ module _ (text : List ℕ) (tokens : List Token) (names : List (List ℕ)) (poin
       → Goes text tokens (at (past_act e act)) i (at (at_act (with_act e act))) (i + 1)
   end_goes i act w = sign_goes text tokens (at (past_act e act)) i symbol.Semicolon (at_act (with_act e act)) refl (λ y. refl) w refl
 
+  -- where an act ends any token but `;` is unexpected
   pub end_fails : (i : ℕ) (act : Statement) (f : AutoFault) → f ≡ unexpected_fault (there i) → ((there i).symbol ≡ symbol.Semicolon → ⊥)
       → Fails text tokens (at (past_act e act)) i f
   end_fails i act f h n = sign_fails text tokens (at (past_act e act)) i f refl (λ y. refl) h
@@ -94,6 +102,7 @@ module _ (text : List ℕ) (tokens : List Token) (names : List (List ℕ)) (poin
       (ap (λ y. act_or_end y e (at (at_act e)) (there i)) w ∙ ap (λ o. assigned_if o e (at (at_act e)) (there i)) p
       ∙ ap (λ n. going (at (at_act e)) (at_equal e var n)) (sym l))
 
+  -- a name that is assigned and is no variable is unknown
   pub variable_fails : (i : ℕ) (f : AutoFault) → (there i).symbol ≡ symbol.Name → place_of (there i).bytes names ≡ None
       → f ≡ fault.Parse (parse.UnknownName (there i).at) →
       Fails text tokens (at (at_act e)) i f
@@ -101,17 +110,20 @@ module _ (text : List ℕ) (tokens : List Token) (names : List (List ℕ)) (poin
       token_fails text tokens (at (at_act e)) i f refl
       (ap (λ y. act_or_end y e (at (at_act e)) (there i)) w ∙ ap (λ o. assigned_if o e (at (at_act e)) (there i)) p ∙ ap Err (sym h))
 
+  -- behind a variable a `=` leads on to the right side, and keeps its place
   pub equal_goes : (i var line sign : ℕ) → (there i).symbol ≡ symbol.Equal → sign ≡ (there i).at
       → Goes text tokens (at (at_equal e var line)) i (at (at_right_side e var line sign)) (i + 1)
   equal_goes i var line sign w s =
       sign_goes text tokens (at (at_equal e var line)) i symbol.Equal (at_right_side e var line sign) refl (λ y. refl) w
       (ap (λ n. Some (at_right_side e var line n)) (sym s))
 
+  -- behind a variable any other token is unexpected
   pub equal_fails : (i var line : ℕ) (f : AutoFault) → f ≡ unexpected_fault (there i) → ((there i).symbol ≡ symbol.Equal → ⊥)
       → Fails text tokens (at (at_equal e var line)) i f
   equal_fails i var line f h n = sign_fails text tokens (at (at_equal e var line)) i f refl (λ y. refl) h
       (no_equal (there i).at e var line (there i).symbol n)
 
+  -- an expression that is a right side leads on to the end of the assignment
   pub side_goes : (i var line sign next : ℕ) (m : Meaning) (side : Option Form)
       → ExpressionMeans text (tokens_of text tokens) i names (Ok (m, next)) →
       assigned (as_side sign m) e var line (at (at_right_side e var line sign))
@@ -120,11 +132,13 @@ module _ (text : List ℕ) (tokens : List Token) (names : List (List ℕ)) (poin
   side_goes i var line sign next m side h k =
       expression_goes text tokens (at (at_right_side e var line sign)) (at (past_act e (assignment var side line))) i next m refl h k
 
+  -- a fault of the right side's expression is the answer
   pub side_refused : (i var line sign : ℕ) (p : ParseFault) (f : AutoFault) → ExpressionMeans text (tokens_of text tokens) i names (Err p)
       → f ≡ fault.Parse p →
       Fails text tokens (at (at_right_side e var line sign)) i f
   side_refused i var line sign p f h k = refused_fails text tokens (at (at_right_side e var line sign)) i p f refl h k
 
+  -- an expression that is no right side is refused with its fault
   pub side_fails : (i var line sign next : ℕ) (m : Meaning) (f : AutoFault)
       → ExpressionMeans text (tokens_of text tokens) i names (Ok (m, next)) →
       assigned (as_side sign m) e var line (at (at_right_side e var line sign)) ≡ Err f
@@ -139,11 +153,13 @@ module _ (text : List ℕ) (tokens : List Token) (names : List (List ℕ)) (poin
   no_act i symbol.Name h k l = absurd (l refl)
   no_act i s h k l = refl
 
+  -- where an act may begin, a token that is no `}`, `assume` or name is unexpected
   pub act_fails : (i : ℕ) (f : AutoFault) → f ≡ unexpected_fault (there i) → ((there i).symbol ≡ symbol.RightBrace → ⊥)
       → ((there i).symbol ≡ symbol.Assume → ⊥) →
       ((there i).symbol ≡ symbol.Name → ⊥) → Fails text tokens (at (at_act e)) i f
   act_fails i f h k l m = token_fails text tokens (at (at_act e)) i f refl (no_act i (there i).symbol k l m ∙ ap Err (sym h))
 
+  -- a `}` ends the edge, and puts it behind the others
   pub brace_goes : (i : ℕ) → (there i).symbol ≡ symbol.RightBrace → Goes text tokens (at (at_act e)) i
       (progress names points (edges ++ e ∷ []) at_edge) (i + 1)
   brace_goes i w =

@@ -21,6 +21,7 @@ use Rattle.flow_transitions.specs.AutoReading.{behind_point}
 use Rattle.flow_transitions.proofs.progress.Steps.{Goes, Fails, token_goes, token_fails, sign_goes, sign_fails}
 use Rattle.flow_transitions.proofs.progress.Signs.{no_comma}
 
+-- where the symbol is no name, the other result is taken
 pub not_name : (s : Symbol) (here other : Stepped) → (s ≡ symbol.Name → ⊥) → if_name s here other ≡ other
 not_name symbol.Name here other h = absurd (h refl)
 not_name s here other h = refl
@@ -41,6 +42,7 @@ module _ (text : List ℕ) (tokens : List Token) where
     abbrev at : List (List ℕ) → Stand → Progress
     at known stand = progress known [] [] stand
 
+    -- where a variable has to stand, a token that is no name is unexpected
     pub variable_unnamed : (f : AutoFault) → f ≡ unexpected_fault (there i) → ((there i).symbol ≡ symbol.Name → ⊥)
         → Fails text tokens (at names at_variable) i f
     variable_unnamed f h n =
@@ -53,6 +55,7 @@ module _ (text : List ℕ) (tokens : List Token) where
         ≡ variable_if (place_of (there i).bytes names) (at names at_variable) (there i)
     named w = ap (λ y. if_name y (variable_if (place_of (there i).bytes names) (at names at_variable) (there i)) (unexpected (there i))) w
 
+    -- a variable whose name stands before it is refused
     pub variable_twice : (k : ℕ) (f : AutoFault) → (there i).symbol ≡ symbol.Name → place_of (there i).bytes names ≡ Some k
         → f ≡ fault.Parse (parse.NameTwice (there i).at) →
         Fails text tokens (at names at_variable) i f
@@ -60,6 +63,7 @@ module _ (text : List ℕ) (tokens : List Token) where
         token_fails text tokens (at names at_variable) i f refl (named w ∙ ap (λ o. variable_if o (at names at_variable) (there i)) p
         ∙ ap Err (sym h))
 
+    -- a variable more than there may be is refused
     pub variable_limit : (f : AutoFault) → (there i).symbol ≡ symbol.Name → place_of (there i).bytes names ≡ None
         → MOST_VARIABLES ≤ length names →
         f ≡ fault.Parse (parse.Limit (there i).at Variables) → Fails text tokens (at names at_variable) i f
@@ -70,6 +74,7 @@ module _ (text : List ℕ) (tokens : List Token) where
         (Err (fault.Parse (parse.Limit (there i).at Variables))) (le-ltb (length names) MOST_VARIABLES l)
         ∙ ap Err (sym h))
 
+    -- a new variable, where there is room for it, is put behind the others
     pub variable_goes : (x : List ℕ) → x ≡ (there i).bytes → (there i).symbol ≡ symbol.Name → place_of (there i).bytes names ≡ None
         → length names < MOST_VARIABLES →
         Goes text tokens (at names at_variable) i (at (names ++ x ∷ []) past_variable) (i + 1)
@@ -86,6 +91,7 @@ module _ (text : List ℕ) (tokens : List Token) where
     comma_goes true w = sign_goes text tokens (at names past_variable) i symbol.Comma at_variable refl (λ y. refl) w refl
     comma_goes false w = sign_goes text tokens (at names past_variable) i symbol.Semicolon at_points refl (λ y. refl) w refl
 
+    -- behind a variable a token that is neither `,` nor `;` is unexpected
     pub comma_fails : (f : AutoFault) → f ≡ unexpected_fault (there i) → ((there i).symbol ≡ symbol.Comma → ⊥)
         → ((there i).symbol ≡ symbol.Semicolon → ⊥) → Fails text tokens (at names past_variable) i f
     comma_fails f h k l = sign_fails text tokens (at names past_variable) i f refl (λ y. refl) h
@@ -96,6 +102,7 @@ module _ (text : List ℕ) (tokens : List Token) where
     abbrev on : List PointName → Stand → Progress
     on known stand = progress variables known [] stand
 
+    -- where a point has to stand, a token that is no name is unexpected
     pub point_unnamed : (f : AutoFault) → f ≡ unexpected_fault (there i) → ((there i).symbol ≡ symbol.Name → ⊥)
         → Fails text tokens (on points at_point) i f
     point_unnamed f h n =
@@ -109,6 +116,7 @@ module _ (text : List ℕ) (tokens : List Token) where
     point_named w = ap (λ y. if_name y (point_if (place_of (there i).bytes (names_of points)) (on points at_point) (there i))
         (unexpected (there i))) w
 
+    -- a point whose name stands before it is refused
     pub point_twice : (k : ℕ) (f : AutoFault) → (there i).symbol ≡ symbol.Name → place_of (there i).bytes (names_of points) ≡ Some k
         → f ≡ fault.Parse (parse.NameTwice (there i).at) →
         Fails text tokens (on points at_point) i f
@@ -116,6 +124,7 @@ module _ (text : List ℕ) (tokens : List Token) where
         token_fails text tokens (on points at_point) i f refl (point_named w ∙ ap (λ o. point_if o (on points at_point) (there i)) p
         ∙ ap Err (sym h))
 
+    -- a new point is put behind the others, with its line
     pub point_goes : (x : List ℕ) (line : ℕ) → x ≡ (there i).bytes → line ≡ (there i).line → (there i).symbol ≡ symbol.Name
         → place_of (there i).bytes (names_of points) ≡ None →
         Goes text tokens (on points at_point) i (on (points ++ record { name = x; line = line } ∷ []) past_point) (i + 1)
@@ -138,6 +147,7 @@ module _ (text : List ℕ) (tokens : List Token) where
     no_more symbol.Semicolon h k = absurd (k refl)
     no_more s h k = refl
 
+    -- behind a point a token that is neither `,` nor `;` is unexpected
     pub points_fail : (f : AutoFault) → f ≡ unexpected_fault (there i) → ((there i).symbol ≡ symbol.Comma → ⊥)
         → ((there i).symbol ≡ symbol.Semicolon → ⊥) → Fails text tokens (on points past_point) i f
     points_fail f h k l = token_fails text tokens (on points past_point) i f refl (no_more (there i).symbol k l ∙ ap Err (sym h))
@@ -146,6 +156,7 @@ module _ (text : List ℕ) (tokens : List Token) where
         ≡ counted_then (length points) (going (on points past_point) at_edge)
     counted w = ap (λ y. behind_point y (on points past_point) (there i)) w
 
+    -- a `;` behind as many points as there may be leads on to the edges
     pub points_counted : (there i).symbol ≡ symbol.Semicolon → 2 ≤ length points → length points ≤ MOST_POINTS
         → Goes text tokens (on points past_point) i (on points at_edge) (i + 1)
     points_counted w h k =
@@ -156,6 +167,7 @@ module _ (text : List ℕ) (tokens : List Token) where
         (le-leb 2 (length points) h)
         ∙ chosen (nat_le (length points) MOST_POINTS) next refused (le-leb (length points) MOST_POINTS k))
 
+    -- a `;` behind fewer than two points is refused with their number
     pub few_points : (f : AutoFault) → (there i).symbol ≡ symbol.Semicolon → length points < 2 → f ≡ fault.Points (length points)
         → Fails text tokens (on points past_point) i f
     few_points f w h e =
@@ -165,6 +177,7 @@ module _ (text : List ℕ) (tokens : List Token) where
         (counted w ∙ passed (nat_le 2 (length points)) (cond (nat_le (length points) MOST_POINTS) next refused) refused
         (lt-leb 2 (length points) h) ∙ ap Err (sym e))
 
+    -- a `;` behind too many points is refused with their number
     pub many_points : (f : AutoFault) → (there i).symbol ≡ symbol.Semicolon → 2 ≤ length points → MOST_POINTS < length points
         → f ≡ fault.Points (length points) → Fails text tokens (on points past_point) i f
     many_points f w l h e =

@@ -23,17 +23,25 @@ use Rattle.flow_transitions.proofs.progress.Steps.{Goes}
 
 -- ---- variables
 pub record ReadVariables (text : List ℕ) (tokens : List Token) (names : List (List ℕ)) (at : ℕ) (more : Bool) : Type 0 where
+  -- the reading has come from its start to these variables
   pub goes : Goes text tokens start 0 (progress names [] [] (cond more at_variable at_points)) at
+  -- it stands at a token
   pub within : at < length tokens
+  -- there are not too many
   pub few : length names ≤ MOST_VARIABLES
+  -- where no more follow there is one
   pub some : more ≡ false → 1 ≤ length names
 
 -- ---- points
 pub record ReadPoints (text : List ℕ) (tokens : List Token) (begin : ℕ) (points : List PointName) (at : ℕ) (more : Bool) : Type 0 where
+  -- the reading has come from the word `points` to these points
   pub goes : (variables : List (List ℕ)) → Goes text tokens (progress variables [] [] at_points) begin
       (progress variables points [] (cond more at_point at_edge)) at
+  -- it stands at a token
   pub within : at < length tokens
+  -- there are no more points than tokens before it
   pub paced : length points ≤ at
+  -- where no more follow, there are as many as there may be
   pub counted : more ≡ false → (2 ≤ length points) × (length points ≤ MOST_POINTS)
 
 -- ---- acts
@@ -41,13 +49,18 @@ abbrev pub acted : ℕ → ℕ → ℕ → ℕ → Statements → AutoEdge
 acted line from place to acts = record (edge_to line from place to) { acts = acts }
 
 pub record ReadActs (text : List ℕ) (tokens : List Token) (names : List (List ℕ)) (begin : ℕ) (acts : List Stmt) (at : ℕ) : Type 0 where
+  -- the reading has come from the edge's first act to behind these
   pub goes : (points : List PointName) (edges : List AutoEdge) (line from place to : ℕ) →
       Goes text tokens (progress names points edges (at_act (edge_to line from place to))) begin
       (progress names points edges (at_act (acted line from place to (statements_of acts)))) at
+  -- it stands at a token
   pub within : at < length tokens
+  -- not before the first one
   pub later : begin ≤ at
+  -- the acts are within the limits
   pub fit : IsTrue (are_acts (length names) (statements_of acts))
 
+-- the statements of a list with one behind it are those of the list with that one behind
 pub statements_push : (ss : List Stmt) (s : Stmt) → statements_of (ss ++ s ∷ []) ≡ then_act (statements_of ss) (statement_of s)
 statements_push [] s = refl
 statements_push (x ∷ ss) s = ap (cons (statement_of x)) (statements_push ss s)
@@ -59,6 +72,7 @@ acts_push n (cons t rest) s h k =
     let p = and_parts (is_act n t) (are_acts n rest) h in and_from (is_act n t) (are_acts n (then_act rest s)) p.0
     (acts_push n rest s p.1 k)
 
+-- an act that is read, and put behind the others, is one more of them
 pub acts_more : (text : List ℕ) (tokens : List Token) (names : List (List ℕ)) (begin : ℕ) (acts after : List Stmt) (s : Stmt) (at next : ℕ)
     →
     ReadActs text tokens names begin acts at → after ≡ acts ++ s ∷ [] →
@@ -83,8 +97,11 @@ acts_more text tokens names begin acts after s at next r e g l k f =
 -- ---- edges
 pub record ReadEdges (text : List ℕ) (tokens : List Token) (names : List (List ℕ)) (points : List PointName) (begin : ℕ)
     (edges : List AutoEdge) (at : ℕ) : Type 0 where
+  -- the reading has come from the first edge to behind these
   pub goes : Goes text tokens (progress names points [] at_edge) begin (progress names points edges at_edge) at
+  -- it stands at a token
   pub within : at < length tokens
+  -- the edges are within the limits
   pub fit : IsTrue (list_all (is_auto_edge (length names) (length points)) edges)
 
 all_push : {A : Type 0} (p : A → Bool) (xs : List A) (x : A) → IsTrue (list_all p xs) → IsTrue (p x) → IsTrue (list_all p (xs ++ x ∷ []))
@@ -92,6 +109,7 @@ all_push p [] x h k = and_from (p x) true k refl
 all_push p (y ∷ xs) x h k = let q = and_parts (p y) (list_all p xs) h in
     and_from (p y) (list_all p (xs ++ x ∷ [])) q.0 (all_push p xs x q.1 k)
 
+-- an edge that is read, and put behind the others, is one more of them
 pub edges_more : (text : List ℕ) (tokens : List Token) (names : List (List ℕ)) (points : List PointName) (begin : ℕ)
     (edges after : List AutoEdge) (e : AutoEdge) (at next : ℕ) →
     ReadEdges text tokens names points begin edges at → after ≡ edges ++ e ∷ []
@@ -125,6 +143,7 @@ labels : (points : List PointName) → 2 ≤ length points → IsTrue (are_label
 labels [] h = absurd (omega arith)
 labels (p ∷ ps) h = all_labels ps
 
+-- as many variables and points as there may be, and edges within the limits, make a transition system within them
 pub auto_within : (names : List (List ℕ)) (points : List PointName) (edges : List AutoEdge) → 1 ≤ length names
     → length names ≤ MOST_VARIABLES → 2 ≤ length points → length points ≤ MOST_POINTS →
     IsTrue (list_all (is_auto_edge (length names) (length points)) edges) → IsTrue (is_auto names (points_of points) edges)

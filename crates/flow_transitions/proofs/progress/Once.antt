@@ -15,7 +15,10 @@ use Rattle.flow_transitions.specs.AutoReading.{Progress, Stepped, Wanted, a_toke
 use Rattle.flow_transitions.specs.AutoReading.{expression_at, content_of, AutoAnswer}
 use Rattle.flow_transitions.specs.AutoReading.{ReadsTo, failed, ended, by_token, by_expression, no_expression, start}
 use Rattle.flow_transitions.proofs.progress.Expressions.{meaning_in, next_in}
-use Rattle.flow_transitions.specs.AutoTexts.{content, IsAuto, no_tokens, by_tokens, GivesAuto}
+use Rattle.flow_transitions.specs.AutoReading.{IsRead, no_tokens, some_tokens}
+use Rattle.flow_transitions.specs.AutoTexts.{content, IsAuto, GivesAuto}
+use Rattle.flow_transitions.proofs.trees.Means.{read_is}
+use Rattle.flow_transitions.proofs.trees.Back.{is_read}
 
 -- the same progress wants one thing
 other_want : (r s : Progress) (v w : Wanted) → r ≡ s → wanted_at r.stand ≡ v → wanted_at s.stand ≡ w → v ≡ w
@@ -96,33 +99,53 @@ module _ (text : List ℕ) (tokens : List Token) where
       let faults : p ≡ q = cc in
       h ∙ ap (λ z. let answer : AutoAnswer = Err (fault.Parse z) in answer) faults ∙ sym k
 
-pub one_answer : (text : List ℕ) (a b : AutoAnswer) → IsAuto text a → IsAuto text b → a ≡ b
-one_answer text a b (no_tokens f h e) (no_tokens g k d) =
+-- a text is read as one answer alone
+read_once : (text : List ℕ) (a b : AutoAnswer) → IsRead text a → IsRead text b → a ≡ b
+read_once text a b (no_tokens f h e) (no_tokens g k d) =
     e ∙ ap (λ z. let answer : AutoAnswer = Err (fault.Lex z) in answer) (one_text_fault text f g h k) ∙ sym d
-one_answer text a b (no_tokens f h e) (by_tokens tokens k r) = absurd (no_fault text tokens f k h)
-one_answer text a b (by_tokens tokens h r) (no_tokens f k d) = absurd (no_fault text tokens f h k)
-one_answer text a b (by_tokens tokens h r) (by_tokens others k s) =
+read_once text a b (no_tokens f h e) (some_tokens tokens k r) = absurd (no_fault text tokens f k h)
+read_once text a b (some_tokens tokens h r) (no_tokens f k d) = absurd (no_fault text tokens f h k)
+read_once text a b (some_tokens tokens h r) (some_tokens others k s) =
     once text tokens (Ok start) 0 a b r (subst (λ ts. ReadsTo text ts (Ok start) 0 b) (one_token_list text others tokens k h) s)
+
+-- a text has one answer alone
+pub one_answer : (text : List ℕ) (a b : AutoAnswer) → IsAuto text a → IsAuto text b → a ≡ b
+one_answer text a b h k = read_once text a b (is_read text a h) (is_read text b k)
 
 -- memory is wanted, or not
 memory_or : (f : AutoFault) → (f ≡ fault.NoMemory) ⊎ (f ≢ fault.NoMemory)
 memory_or fault.NoMemory = inl refl
 memory_or f = inr (λ e. cc)
 
-pub gives : (text : List ℕ) (result : Result Auto AutoFault) → IfOk result (λ a. IsAuto text (Ok (content a)))
-    → IfErr result (λ f. f ≢ fault.NoMemory → IsAuto text (Err f)) →
-    (answer : AutoAnswer) → IsAuto text answer → GivesAuto result answer
-gives text (Ok a) h k answer is = one_answer text answer (Ok (content a)) is h
-gives text (Err f) h k answer is = ⊎_elim (λ e. inl e) (λ n. inr (one_answer text answer (Err f) is (k n))) (memory_or f)
+-- a transition system that is read is what the text is
+pub system_is : (text : List ℕ) (result : Result Auto AutoFault) → IfOk result (λ a. IsRead text (Ok (content a)))
+    → IfOk result (λ a. IsAuto text (Ok (content a)))
+system_is text (Ok a) h = read_is text (Ok (content a)) h
+system_is text (Err f) h = tt
 
--- what tokens read as is what the text is
+-- a fault that is read is what the text is
+pub fault_is : (text : List ℕ) (result : Result Auto AutoFault) → IfErr result (λ f. f ≢ fault.NoMemory → IsRead text (Err f))
+    → IfErr result (λ f. f ≢ fault.NoMemory → IsAuto text (Err f))
+fault_is text (Ok a) h = tt
+fault_is text (Err f) h = λ n. read_is text (Err f) (h n)
+
+-- where the result is what is read of the text, or memory was wanted, it is every answer that the text is
+pub gives : (text : List ℕ) (result : Result Auto AutoFault) → IfOk result (λ a. IsRead text (Ok (content a)))
+    → IfErr result (λ f. f ≢ fault.NoMemory → IsRead text (Err f)) →
+    (answer : AutoAnswer) → IsAuto text answer → GivesAuto result answer
+gives text (Ok a) h k answer is = read_once text answer (Ok (content a)) (is_read text answer is) h
+gives text (Err f) h k answer is =
+    ⊎_elim (λ e. inl e) (λ n. inr (read_once text answer (Err f) (is_read text answer is) (k n))) (memory_or f)
+
+-- what tokens read as is what the text is read as
 pub answered : (text : List ℕ) (tokens ts : List Token) (result : Result Auto AutoFault) → ts ≡ tokens → Reads text tokens →
-    IfOk result (λ a. ReadsTo text ts (Ok start) 0 (Ok (content a))) → IfOk result (λ a. IsAuto text (Ok (content a)))
-answered text tokens ts (Ok a) e r h = by_tokens ts (subst (Reads text) (sym e) r) h
+    IfOk result (λ a. ReadsTo text ts (Ok start) 0 (Ok (content a))) → IfOk result (λ a. IsRead text (Ok (content a)))
+answered text tokens ts (Ok a) e r h = some_tokens ts (subst (Reads text) (sym e) r) h
 answered text tokens ts (Err f) e r h = tt
 
+-- a fault that tokens read as is what the text is read as
 pub refused : (text : List ℕ) (tokens ts : List Token) (result : Result Auto AutoFault) → ts ≡ tokens → Reads text tokens →
     IfErr result (λ f. f ≢ fault.NoMemory → ReadsTo text ts (Ok start) 0 (Err f))
-    → IfErr result (λ f. f ≢ fault.NoMemory → IsAuto text (Err f))
+    → IfErr result (λ f. f ≢ fault.NoMemory → IsRead text (Err f))
 refused text tokens ts (Ok a) e r h = tt
-refused text tokens ts (Err f) e r h = λ n. by_tokens ts (subst (Reads text) (sym e) r) (h n)
+refused text tokens ts (Err f) e r h = λ n. some_tokens ts (subst (Reads text) (sym e) r) (h n)

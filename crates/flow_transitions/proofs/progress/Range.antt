@@ -24,6 +24,7 @@ front_few : (text : List ℕ) (place : ℕ) (ts : List Token) → place ≤ leng
 front_few text place [] l h = omega (arith, l)
 front_few text place (t ∷ ts) l h = omega (arith, h.0.after, h.0.some, h.0.within, front_few text (t.at + t.len) ts h.0.within h.1)
 
+-- the tokens of a text of at most 65,536 bytes are at most 65,537
 pub source_of : (text : List ℕ) (tokens : List Token) → length text ≤ 65536 → AreTokensOf text tokens → IsSource text tokens
 source_of text tokens short h = record {
   size = short;
@@ -47,6 +48,7 @@ last_end [] e (suc i) h = absurd (omega arith)
 last_end (t ∷ ts) e zero h = absurd (omega arith)
 last_end (t ∷ ts) e (suc i) h = last_end ts e i (omega arith)
 
+-- behind a token that isn't the end there is another one
 pub not_last : (text : List ℕ) (tokens : List Token) (i : ℕ) → AreTokensOf text tokens → i < length tokens
     → ((seen_at text tokens i).symbol ≡ End → ⊥) → i + 1 < length tokens
 not_last text tokens i h l n =
@@ -87,6 +89,7 @@ proper_of text [] i t e p = absurd cc
 proper_of text (u ∷ ts) zero t e p = subst (IsProper text) (let same : u ≡ t = cc in same) p.0
 proper_of text (u ∷ ts) (suc i) t e p = proper_of text ts i t e p.1
 
+-- a name's bytes stand in the text and make a word
 pub name_proper : (text : List ℕ) (tokens : List Token) (i : ℕ) (t : Token) → AreTokensOf text tokens → slice_get tokens i ≡ Some t
     → (seen_at text tokens i).symbol ≡ Name →
     (t.at + t.len ≤ length text) × IsTrue (is_word (slice_range text t.at (t.at + t.len)))

@@ -45,33 +45,47 @@ IsReady b = (k : Kind) (a : ℕ) → Ready b k a
 
 -- the reading goes on behind a longer beginning
 pub record Moves (text : List ℕ) (b : Begun) (k : Kind) (a : ℕ) (r : Progress) : Type 0 where
+  -- the longer beginning
   pub now : Begun
+  -- the reading stands behind it
   pub has : Has text now r
+  -- it is the shorter one with the token behind it
   pub grown : (ts : List Token) → begun_then b (token k a ∷ ts) ≡ begun_then now ts
+  -- any token may follow it
   pub ready : IsReady now
+  -- the token isn't the end
   pub more : k ≡ the_end → ⊥
 
 -- the text ends
 pub record Ends (text : List ℕ) (b : Begun) (k : Kind) (r : Progress) : Type 0 where
+  -- the heads of the text
   pub heads : Heads
+  -- its edges
   pub edges : List Written
+  -- they are without fault
   pub outer : Outer text heads edges
+  -- the beginning is these heads and edges
   pub place : b ≡ some_edges heads edges
+  -- the token is the end
   pub kind : k ≡ the_end
+  -- the reading is over, with what they say
   pub there : r ≡ outside text heads edges outer at_end
 
 abbrev pub After : List ℕ → Begun → Kind → ℕ → Stepped → Type 0
 After text b k a (Ok r) = Moves text b k a r ⊎ Ends text b k r
 After text b k a (Err f) = (ts : List Token) → FirstFault text (begun_then b (token k a ∷ ts)) f
 
-bytes_same : (x y : List ℕ) → bytes_eq x y ≡ true → x ≡ y
+-- bytes that compare as equal are equal
+pub bytes_same : (x y : List ℕ) → bytes_eq x y ≡ true → x ≡ y
 bytes_same x y e = (bytes_eq-Decides x y).0 e
 
+-- what refutes each of two refutes that one of them holds
 pub neither : (k : Kind) {A B : Type 0} → (A → ⊥) → (B → ⊥) → A ⊎ B → ⊥
 neither k f g (inl h) = f h
 neither k f g (inr h) = g h
 
 module _ (text : List ℕ) where
+  -- a token that may not stand behind a beginning without fault is the first fault there
   pub refuse : (b : Begun) (k : Kind) (a : ℕ) → Faultless text b → (Accepts b k a → ⊥)
       → After text b k a (Err (unexpected_fault (seen_here text k a)))
   refuse b k a f n = λ ts. unexpected_token b k a ts refl (unexpected_by b k a (good_of text b f) n) f refl
@@ -122,12 +136,14 @@ module _ (text : List ℕ) where
     on false t = λ ts. many_variables v ss x a ts refl h e (let l = ltb-false (length (spot_names ss)) MOST_VARIABLES t in let m = h.1 in
         omega (arith, l, m, size)) refl
 
+  -- one token on where a variable's name has to stand
   pub step_variables : (v : ℕ) (ss : List Spot) (k : Kind) (a : ℕ) → AreVariables ss
       → After text (some_variables v ss) k a (token_at at_variable (progress (spot_names ss) [] [] at_variable) (seen_here text k a))
   step_variables v ss (a_name x) a h = variable_by v ss x a h (place_of x (spot_names ss)) refl
   step_variables v ss (change_sign replaces) a h = refuse (some_variables v ss) (change_sign replaces) a h (λ n. let e = n.1 in cc)
   step_variables v ss _ a h = refuse (some_variables v ss) _ a h (λ n. let e = n.1 in cc)
 
+  -- one token on behind a variable's name
   pub step_variable : (v : ℕ) (ss : List Spot) (x : List ℕ) (b : ℕ) (k : Kind) (a : ℕ)
       → AreVariables ss × (place_of x (spot_names ss) ≡ None) × (length ss < MOST_VARIABLES)
       → After text (a_variable v ss x b) k a (token_at past_variable (progress (spot_names ss ++ x ∷ []) [] [] past_variable)
@@ -184,6 +200,7 @@ module _ (text : List ℕ) where
     more = λ h. cc;
   })
 
+  -- one token on where a point's name has to stand
   pub step_points : (v : ℕ) (ns : Names) (p : ℕ) (ss : List Spot) (k : Kind) (a : ℕ) → AreVariables (all_spots ns) × AreNew [] ss
       → After text (some_points v ns p ss) k a (token_at at_point (progress (names_in ns) (map (point_here text) ss) [] at_point)
       (seen_here text k a))
@@ -252,6 +269,7 @@ module _ (text : List ℕ) where
     by_count true false e f = counted (inr (let l = leb-false (length (pointed ss x b)) MOST_POINTS f in omega (arith, l, size)))
     by_count false u e f = counted (inl (let l = leb-false 2 (length (pointed ss x b)) e in omega (arith, l, size)))
 
+  -- one token on behind a point's name
   pub step_point : (v : ℕ) (ns : Names) (p : ℕ) (ss : List Spot) (x : List ℕ) (b : ℕ) (k : Kind) (a : ℕ)
       → AreVariables (all_spots ns) × AreNew [] ss × (place_of x (spot_names ss) ≡ None)
       → After text (a_point v ns p ss x b) k a (token_at past_point (progress (names_in ns) (pointed ss x b) [] past_point)

@@ -88,6 +88,7 @@ same_next : (front : List Token) (k l : Kind) (a : ℕ) → Same k l → BeginsE
 same_next front k l a (inl e) b = sym e
 same_next front k l a (inr (e, f)) b = absurd (both_ways e (own_next front k a (begun_own _ b)))
 
+-- tokens that are alike have the same longest expression at their front
 pub longest_there : (xs ys : List Token) (n : ℕ) (e : Expr) → Alike xs ys → IsLongest xs n e → IsLongest ys n e
 longest_there xs ys n e h l = on l.next l.split l.ends where
   own : AllOwn l.front
@@ -107,11 +108,13 @@ longest_there xs ys n e h l = on l.next l.split l.ends where
         fine = l.fine;
       }
 
+-- tokens that are alike have the first unexpected one of their expression at the same place
 pub stops_alike : (xs ys : List Token) (a : ℕ) → Alike xs ys → FindsExpr (stops_at a) xs → FindsExpr (stops_at a) ys
 stops_alike xs ys a h (front, k, rest, split, fine, unread, stops) =
     let q = split_there front k a rest ys (begun_own front fine.0) (subst (λ z. Alike z ys) split h) in
     (front, q.0, q.1, q.2, fine, unread, stops_there front k q.0 a q.3 stops)
 
+-- tokens that are alike have the first of an expression that is too deep at the same place
 pub nests_alike : (xs ys : List Token) (a : ℕ) → Alike xs ys → FindsExpr (nests_at a) xs → FindsExpr (nests_at a) ys
 nests_alike xs ys a h (front, k, rest, split, fine, begins, deep) =
     let q = split_there front k a rest ys (begun_own front fine.0) (subst (λ z. Alike z ys) split h) in
@@ -129,12 +132,14 @@ alike_back b (lex_kind.TheVariants.Word word.VerifierAssume) = inr (refl, refl)
 alike_back b (lex_kind.TheVariants.Word _) = inl refl
 alike_back b _ = inl refl
 
+-- the tokens of a text are alike to the language's grammar and to that of transition systems
 pub alike_here : (text : List ℕ) (ts : List lex_token.Token) (i : ℕ) → Alike (drop i (tokens_of text ts)) (drop i (tokens_here text ts))
 alike_here text [] zero = tt
 alike_here text [] (suc i) = tt
 alike_here text (t ∷ ts) zero = (alike_kind _ t.kind, refl, alike_here text ts zero)
 alike_here text (t ∷ ts) (suc i) = alike_here text ts i
 
+-- the same the other way round
 pub here_alike : (text : List ℕ) (ts : List lex_token.Token) (i : ℕ) → Alike (drop i (tokens_here text ts)) (drop i (tokens_of text ts))
 here_alike text [] zero = tt
 here_alike text [] (suc i) = tt

@@ -38,17 +38,21 @@ new_more before (t ∷ ss) s h n = (
       (sym (append_assoc before (t.name ∷ []) (spot_names ss))) n),
 )
 
+-- variables with a new one behind them, where there is room for it, are variables
 pub variables_more : (ss : List Spot) (s : Spot) → AreVariables ss → place_of s.name (spot_names ss) ≡ None → length ss < MOST_VARIABLES
     → AreVariables (ss ++ s ∷ [])
 variables_more ss s h n l = (new_more [] ss s h.0 n, let size = length-append ss (s ∷ []) in omega (arith, size, l))
 
+-- the names of places with one more behind them
 pub names_more : (ss : List Spot) (s : Spot) → spot_names (ss ++ s ∷ []) ≡ spot_names ss ++ s.name ∷ []
 names_more ss s = map-append (λ (t : Spot). t.name) ss (s ∷ [])
 
+-- the points of places with one more behind them
 pub points_more : (text : List ℕ) (ss : List Spot) (s : Spot) → map (point_here text) (ss ++ s ∷ [])
     ≡ map (point_here text) ss ++ point_here text s ∷ []
 points_more text ss s = map-append (point_here text) ss (s ∷ [])
 
+-- the names of the points are those of their places
 pub names_back : (text : List ℕ) (ss : List Spot) → names_of (map (point_here text) ss) ≡ spot_names ss
 names_back text [] = refl
 names_back text (s ∷ ss) = ap (λ z. s.name ∷ z) (names_back text ss)
@@ -62,6 +66,7 @@ acts_say_more text names (b ∷ hs) (cons t ss) a s h k = (h.0, acts_say_more te
 acts_say_more text names [] (cons t ss) a s h k = absurd h
 acts_say_more text names (b ∷ hs) nil a s h k = absurd h
 
+-- edges without fault with one of such head and acts behind them are without fault
 pub edges_say_more : (text : List ℕ) (names points : List (List ℕ)) (ws : List Written) (es : List AutoEdge) (w : Written) (e : AutoEdge)
     → EdgesSay text names points ws es → HeadSays text points w.head e → ActsSay text names w.acts e.acts
     → EdgesSay text names points (ws ++ w ∷ []) (es ++ e ∷ [])
@@ -92,12 +97,15 @@ edges_good text names points (w ∷ ws) (e ∷ es) h = (acts_good text names w.a
 edges_good text names points [] (e ∷ es) h = absurd h
 edges_good text names points (w ∷ ws) [] h = absurd h
 
+-- the expressions of whole edges without fault group as they must
 pub outer_good : (text : List ℕ) (h : Heads) (ws : List Written) → Outer text h ws → GoodEdges ws
 outer_good text h ws o = edges_good text (names_in h.variables) (names_in h.points) ws o.edges o.say
 
+-- the expressions within an edge without fault group as they must
 pub inner_good : (text : List ℕ) (i : Inside) → Inner text i → GoodInside i
 inner_good text i n = (outer_good text i.heads i.edges n.outer, acts_good text (names_in i.heads.variables) i.acts n.edge.acts n.acts)
 
+-- the expressions of a beginning without fault group as they must
 pub good_of : (text : List ℕ) (b : Begun) → Faultless text b → Good b
 good_of text no_token f = tt
 good_of text (some_variables v ss) f = tt

@@ -108,6 +108,7 @@ module _ (text : List ℕ) (tokens : List lex_token.Token) where
   abbrev pub kind_at : ℕ → Kind
   kind_at i = kind_here (slice_range text (there i).at ((there i).at + (there i).len)) (there i).kind
 
+  -- the tokens from number i on begin with the token of this number
   pub drop_here : (i : ℕ) → i < length tokens → drop i (tokens_here text tokens)
       ≡ token (kind_at i) (there i).at ∷ drop (i + 1) (tokens_here text tokens)
   drop_here i h =
@@ -117,12 +118,15 @@ module _ (text : List ℕ) (tokens : List lex_token.Token) where
   seen_is : (i : ℕ) → i < length tokens → seen_at text tokens i ≡ seen text (there i)
   seen_is i h = ap (seen_or_end text) (slice_get-get_or tokens i (end_at 0) h)
 
+  -- the reading steps with a token as with its kind and place
   pub token_seen : (i : ℕ) (stand : Stand) (r : Progress) → i < length tokens
       → token_at stand r (seen_at text tokens i) ≡ token_at stand r (seen_here text (kind_at i) (there i).at)
   token_seen i stand r h = ap (token_at stand r) (seen_is i h) ∙ kind_seen text _ (there i).at stand r (there i).kind
 
+  -- the reading sees a token in its place
   pub place_seen : (i : ℕ) → i < length tokens → (seen_at text tokens i).at ≡ (there i).at
   place_seen i h = ap (λ (s : Seen). s.at) (seen_is i h)
 
+  -- the reading sees the symbol of the token's kind
   pub symbol_there : (i : ℕ) → i < length tokens → (seen_at text tokens i).symbol ≡ symbol_here (kind_at i)
   symbol_there i h = ap (λ (s : Seen). s.symbol) (seen_is i h) ∙ symbol_seen _ (there i).kind

@@ -47,8 +47,8 @@ use Rattle.flow_transitions.specs.AutoTrees.{unexpected as unexpected_token}
 use Rattle.flow_transitions.proofs.grammar.Accepts.{unexpected_by}
 use Rattle.flow_transitions.proofs.progress.Range.{not_last, some_token}
 use Rattle.lang_tokens.proofs.reading.Placed.{placed_tokens}
-use Rattle.flow_transitions.specs.AutoTexts.{IsAuto, no_tokens as is_no_tokens, by_tokens as is_by_tokens}
-use Rattle.flow_transitions.specs.AutoTrees.{IsSaid, no_tokens, by_tokens}
+use Rattle.flow_transitions.specs.AutoReading.{IsRead, no_tokens as no_reading, some_tokens}
+use Rattle.flow_transitions.specs.AutoTexts.{IsAuto, no_tokens, by_tokens}
 use Rattle.flow_transitions.proofs.trees.Alike.{alike_here, longest_there, stops_alike, nests_alike}
 use Rattle.flow_transitions.proofs.trees.AfterNames.{Ready, IsReady, After}
 use Rattle.flow_transitions.proofs.trees.After.{step}
@@ -69,6 +69,7 @@ behind_wants : (f : Frame) (e : AutoEdge) (s : Rattle.lang_tree.specs.Tree.State
 behind_wants (condition a b) e s = refl
 behind_wants (side x a b) e s = refl
 
+-- behind a beginning the reading wants an expression where one has to stand, and else a token
 pub wanted_has : (text : List ℕ) (b : Begun) (r : Progress) → Has text b r → wanted_at r.stand ≡ want_of b
 wanted_has text b r h = on b h where
   by : {s : Progress} → r ≡ s → wanted_at r.stand ≡ wanted_at s.stand
@@ -94,12 +95,19 @@ wanted_has text b r h = on b h where
 
 -- only behind a frame an expression comes
 pub record BeforeExpression (text : List ℕ) (b : Begun) (r : Progress) : Type 0 where
+  -- the inside of the edge
   pub i : Inside
+  -- the frame before the expression
   pub f : Frame
+  -- what stands within the edge is without fault
   pub n : Inner text i
+  -- where the reading stands
   pub stand : Stand
+  -- the beginning is this inside and this frame
   pub place : b ≡ begun_expression i f []
+  -- the reading stands behind the frame
   pub stands : StandsBefore text i n f stand
+  -- what the reading has of the text is what stands within the edge says
   pub there : r ≡ inside text i n stand
 
 before_expression : (text : List ℕ) (b : Begun) (r : Progress) → Has text b r → wanted_at r.stand ≡ an_expression
@@ -190,18 +198,29 @@ module _ (text : List ℕ) (tokens : List lex_token.Token) (are : AreTokensOf te
 
   -- where the reading stands in the text
   pub record Stays (r : Progress) (i : ℕ) : Type 0 where
+    -- the beginning
     pub b : Begun
+    -- the reading stands behind it
     pub has : Has text b r
+    -- the tokens are it and those that are left
     pub split : tokens_here text tokens ≡ begun_then b (rest i)
+    -- the next token may follow it
     pub ready : ReadyAt b (rest i)
+    -- there is a next token
     pub within : i < length tokens
 
   pub record Done (r : Progress) : Type 0 where
+    -- the heads of the text
     pub heads : Heads
+    -- its edges
     pub edges : List Written
+    -- they are without fault
     pub outer : Outer text heads edges
+    -- the place of the end
     pub end_at : ℕ
+    -- the reading is over, with what they say
     pub is : r ≡ outside text heads edges outer at_end
+    -- the tokens spell them, with the end behind them
     pub whole : tokens_here text tokens ≡ system_then (record { heads = heads; edges = edges }) (token the_end end_at ∷ [])
 
   abbrev Inv : Stepped → ℕ → Type 0
@@ -422,6 +441,7 @@ module _ (text : List ℕ) (tokens : List lex_token.Token) (are : AreTokensOf te
       means_from (expression_at r.stand (seen_at text tokens i).at m r) next answer h (by_read r i m next w g (subst (λ z. Inv z i) e v))
   means_from x i answer (no_expression _ _ _ r f e w g q) v = subst Says (sym q) (by_refused r i f w g (subst (λ z. Inv z i) e v))
 
+  -- what tokens read as is what they mean
   pub means_of : (answer : AutoAnswer) → 0 < length tokens → ReadsTo text tokens (Ok start) 0 answer → Says answer
   means_of answer l h = means_from (Ok start) 0 answer h (inl (record {
     b = no_token;
@@ -432,8 +452,8 @@ module _ (text : List ℕ) (tokens : List lex_token.Token) (are : AreTokensOf te
     within = l;
   }))
 
--- what a text is, it says
-pub said : (text : List ℕ) (answer : AutoAnswer) → IsAuto text answer → IsSaid text answer
-said text answer (is_no_tokens f h e) = no_tokens f h e
-said text answer (is_by_tokens tokens h r) =
+-- what a text is read as, it is
+pub read_is : (text : List ℕ) (answer : AutoAnswer) → IsRead text answer → IsAuto text answer
+read_is text answer (no_reading f h e) = no_tokens f h e
+read_is text answer (some_tokens tokens h r) =
     by_tokens tokens h (means_of text tokens (placed_tokens text tokens h) answer (some_token text tokens (placed_tokens text tokens h)) r)

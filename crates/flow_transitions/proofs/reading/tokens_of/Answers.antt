@@ -1,5 +1,5 @@
 use Rattle.std.proofs.Common.{⊎_elim, refl}
-use Rattle.flow_transitions.specs.AutoTexts.{no_tokens}
+use Rattle.flow_transitions.specs.AutoReading.{no_tokens}
 use Rattle.flow_transitions.proofs.progress.Range.{source_of}
 use Rattle.flow_transitions.proofs.reading.tokens_of.Goals as goal
 

@@ -1,14 +1,11 @@
 use Rattle.std.proofs.Common.{◌≢◌, sym, subst}
 use Rattle.std.specs.Prelude.{Err, IfErr}
-use Rattle.flow_templates.specs.declared.fault.RowFault.TheVariants.{NoMemory}
-use Rattle.flow_templates.specs.RowFiles.{Answers}
 use Rattle.ask_words.specs.Request.{domain_text}
+use Rattle.flow_templates.specs.declared.fault.RowFault.TheVariants.{NoMemory}
 use Rattle.top_texts.specs.Texts.{HasTemplate}
 use Rattle.top_texts.proofs.analyse.template.template_of.Goals as goal
 
 pub returns-in-Rows-clause-refused : goal.returns-in-Rows-clause-refused
 returns-in-Rows-clause-refused c =
-    subst (λ s. IfErr c.read_rows.result (λ fault. fault ≢ NoMemory → HasTemplate (domain_of s) c.args.names.now (Err fault)))
-    (sym c.in-Rows.is)
-    (subst (λ t. IfErr c.read_rows.result (λ fault. fault ≢ NoMemory → Answers c.args.names.now t (Err fault))) c.deref.ensures.value
-    c.read_rows.ensures.refused)
+    subst (λ s. IfErr c.read_rows.result (λ fault. fault ≢ NoMemory → HasTemplate (domain_text s) c.args.names.now (Err fault)))
+    (sym c.in-Rows.is) c.read_rows.ensures.refused

@@ -1,57 +1,23 @@
 //! The answer to words and to the contents of the files that they name.
 
-ghost use Rattle.std.specs.Prelude.{◌≡◌, List, [], map, string_bytes};
+ghost use Rattle.std.specs.Prelude.{List, map, string_bytes};
 ghost use Rattle.ask_words.specs.Request.{request_text};
 ghost use Rattle.top_answer.specs.Answers.{Answers, Ends, Holds, IsAnswer, IsMessage, IsOutput};
 ghost use Rattle.ask_files.specs.Asked.{texts_of};
 ghost use Rattle.top_answer.specs.Limits.{IsInLimits, IsInRange};
 ghost use Rattle.top_answer.specs.Commands.{command_of};
 ghost use Rattle.top_answer.specs.Parted.{AnswersRequest, AnswersWords, NamesPlace, Says};
-ghost use Rattle.top_status.specs.Messages.{message_of};
 ghost use Rattle.top_status.specs.declared.status.Status.{Status as StatusValue};
 ghost use Rattle.top_texts.specs.Exact.{exact};
 
 use crate::meaning::{Exact, Meaning};
 use crate::named::named_text;
-use crate::outcome::{Outcome, outcome_of, plain};
+use crate::outcome::outcome_of;
+use crate::reply::{Answer, plain_answer, with_line};
 use ask_files::{first_unread, with_texts};
 use ask_words::{Request, WordsFault, read_words};
 use std::alloc::Global;
-use top_status::{Message, Status, answer_line, make_message};
-
-/// What the program answers.
-#[derive(Drop)]
-pub struct Answer {
-    /// How it ends; its exit code is `status.code()`.
-    pub status: Status,
-    /// What is written to standard output: all of it where the status is `Done`, and else nothing.
-    pub bytes: Vec<u8>,
-    /// What is written to standard error where the status isn't `Done`: a line with its line feed.
-    pub message: Message,
-}
-
-// An outcome with its message, which names this line.
-fn with_line(outcome: Outcome, line: u32) -> Answer
-    ensures status { result.status ≡ outcome.status }
-    ensures bytes { result.bytes.items ≡ outcome.bytes.items }
-    ensures message { result.message ≡ message_of line outcome.rows outcome.status }
-{
-    let message = make_message(line, outcome.rows, &outcome.status);
-    Answer {
-        status: outcome.status,
-        bytes: outcome.bytes,
-        message,
-    }
-}
-
-/// The answer of a status that has no bytes, and whose message names no place.
-pub fn plain_answer(alloc: Global, status: Status) -> Answer
-    ensures status { result.status ≡ status }
-    ensures bytes { result.bytes.items ≡ [] }
-    ensures message { result.message ≡ message_of 0 0 status }
-{
-    with_line(plain(alloc, status), 0)
-}
+use top_status::{Status, answer_line};
 
 // The answer to the texts of a command.
 fn answer_texts(alloc: Global, asked: Request<&[u8]>) -> Answer

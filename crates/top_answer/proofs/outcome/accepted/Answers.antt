@@ -1,0 +1,6 @@
+use Rattle.top_answer.proofs.answers.Said.{reported}
+use Rattle.top_answer.proofs.outcome.accepted.Goals as goal
+
+pub returns-clause-says : goal.returns-clause-says
+returns-clause-says c = λ text bytes spelt. reported text bytes _ _ _ _ _ _ spelt c.report_by-made.ensures.ok c.report_by-made.ensures.err
+    c.outcome_from.ensures.is
