@@ -29,7 +29,8 @@ pub fn run_in_memory<L: Sink>(
         ending result }
     ensures output { (files : Contents) → ⟦<PlainShelf as Shelf>⟧.files shelf.old ≡ Some files
         → InMemory (IsOutput (command_of ⟦<Exact as Meaning>⟧.means) (map string_bytes words.now)
-        (contents_for files (map string_bytes words.now))) result (⟦<PlainSink as Sink>⟧.held out.old) (⟦<PlainSink as Sink>⟧.held out.new) }
+        (contents_for files (map string_bytes words.now))) result
+        (⟦<PlainSink as Sink>⟧.held out.old) (⟦<PlainSink as Sink>⟧.held out.new) }
 {
     run(alloc, words, shelf, out, err)
 }

@@ -33,7 +33,8 @@ memory_not_done e = cc
 usage_not_done : Usage ≡ Done → ⊥
 usage_not_done e = cc
 
-memory_itself : (commands : Commands) (words contents : List (List ℕ)) (bytes message : List ℕ) → bytes ≡ [] → message ≡ message_of 0 0 Memory
+memory_itself : (commands : Commands) (words contents : List (List ℕ)) (bytes message : List ℕ) → bytes ≡ []
+    → message ≡ message_of 0 0 Memory
     → IsAnswerTo commands exact words contents Memory bytes message
 memory_itself commands words contents bytes message none is = record {
   answer = answers.is_memory refl;

@@ -201,7 +201,8 @@ pub is_run : (commands : Commands) → IsLawful commands → (words : List (List
     → GetsMessage status_now told err.held err_now.held err.faults err_now.faults err.spare
     → IsInOnePiece told err.taken err_now.taken → IsRun commands exact words shelf now out out_now err err_now status_now
 is_run commands lawful words shelf now out out_now err err_now pieces status bytes message s told a piecewise puts gets piece =
-    let e = ended commands lawful words a.made shelf now out out_now pieces status bytes message a.loads a.is_answer piecewise s told puts in
+    let e = ended commands lawful words a.made shelf now out out_now pieces status bytes message a.loads a.is_answer piecewise
+    s told puts in
     record {
       made = a.made;
       log = a.log;

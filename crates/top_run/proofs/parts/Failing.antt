@@ -53,7 +53,8 @@ module _ (words : List (List ℕ)) (made : List LoadedFile) (shelf now : ShelfSe
       → LoadsEnd shelf.files (files_of request) made shelf.faults now.faults now.last_failed result
       → HasFailed words made which shelf now
   in_loads request result asked un memory (loads.all_read r calm ok) =
-      absurd (none_some (unread (files_of request) (contents_of made)) (Failed which) (unread_none shelf.files (files_of request) made r) un)
+      absurd (none_some (unread (files_of request) (contents_of made)) (Failed which)
+      (unread_none shelf.files (files_of request) made r) un)
   in_loads request result asked un memory (loads.failed file left r count last ok) = record {
     request = request;
     asked = asked;

@@ -68,7 +68,8 @@ module _ (m : Meanings) (words : List (List ℕ)) (shelf now : ShelfSeen) (out o
 
   -- ---- where a file isn't read
 
-  given_read : (cause : ReadCause) → run.IsGiven (command_of m) words contents (Read cause) status → (status ≡ Read cause) ⊎ (status ≡ Memory)
+  given_read : (cause : ReadCause) → run.IsGiven (command_of m) words contents (Read cause) status
+      → (status ≡ Read cause) ⊎ (status ≡ Memory)
   given_read cause (run.answered (answers.given e)) = inl e
   given_read cause (run.answered (answers.no_memory e)) = inr e
   given_read cause (run.answered (answers.too_wide spot e w of_rounds)) = absurd (read_not_of_rounds cause of_rounds)

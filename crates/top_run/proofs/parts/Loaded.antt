@@ -35,7 +35,8 @@ length_files (load ∷ kept) = ap suc (length_files kept)
 pub behind : (kept kept_now : List Load) (before now made : List LoadedFile) → loaded_files kept ≡ before → loaded_files kept_now ≡ now
     → now ≡ before ++ made → loaded_files (take (length kept_now - length kept) (drop (length kept) kept_now)) ≡ made
 behind kept kept_now before now made is is_now log =
-    ap loaded_files (take_rest kept_now (length kept)) ∙ drop_files (length kept) kept_now ∙ ap (λ n. drop n (loaded_files kept_now)) (length_files kept ∙ ap length is)
+    ap loaded_files (take_rest kept_now (length kept)) ∙ drop_files (length kept) kept_now
+    ∙ ap (λ n. drop n (loaded_files kept_now)) (length_files kept ∙ ap length is)
     ∙ ap (drop (length before)) (is_now ∙ log) ∙ drop-append_seam before made
 
 -- ---- the answer over them

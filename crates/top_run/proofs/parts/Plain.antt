@@ -1,6 +1,6 @@
 -- Over files and an output in memory nothing fails outside: what is loaded is what the files are.
-use Rattle.std.proofs.Common.{◌≡◌, ◌∙◌, ◌⊎◌, inl, inr, ⊎_elim, ◌<◌, ◌≤◌, ◌+◌, ◌++◌, ◌∷◌, ℕ, List, [], Bool, true, false, refl, sym, ap, subst}
-use Rattle.std.proofs.Common.{length, take, min, arith, append-nil, if◌then◌else◌}
+use Rattle.std.proofs.Common.{◌≡◌, ◌∙◌, ◌⊎◌, inl, inr, ⊎_elim, ◌<◌, ◌≤◌, ◌+◌, ◌++◌, ◌∷◌, ℕ, List, []}
+use Rattle.std.proofs.Common.{Bool, true, false, refl, sym, ap, subst, length, take, min, arith, append-nil, if◌then◌else◌}
 use Rattle.std.proofs.lemmas.List.{length-take}
 use Rattle.std.specs.Prelude.{Some, None, Option, Result, IsErr, nat_lt, option_map}
 use Rattle.std.specs.declared.alloc.AllocError.{AllocError}
@@ -41,7 +41,8 @@ some_inside a b e = cc
 
 not_over : (most : ℕ) (content text : List ℕ) → take (most + 1) content ≡ text → length text ≤ most → nat_lt most (length content) ≡ false
 not_over most content text e h =
-    let l : min (most + 1) (length content) ≤ most = subst (λ n. n ≤ most) (length-take (most + 1) content) (subst (λ t. length t ≤ most) (sym e) h) in
+    let l : min (most + 1) (length content) ≤ most = subst (λ n. n ≤ most) (length-take (most + 1) content)
+    (subst (λ t. length t ≤ most) (sym e) h) in
     grind arith
 
 over : (most : ℕ) (content text : List ℕ) → take (most + 1) content ≡ text → most < length text → nat_lt most (length content) ≡ true

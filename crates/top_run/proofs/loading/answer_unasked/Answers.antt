@@ -8,4 +8,5 @@ returns-in-Usage-clause-answer c =
 
 pub returns-in-NoMemory-clause-answer : goal.returns-in-NoMemory-clause-answer
 returns-in-NoMemory-clause-answer c =
-    for_memory _ _ _ _ _ _ c.plain_answer-in-NoMemory.ensures.status c.plain_answer-in-NoMemory.ensures.bytes c.plain_answer-in-NoMemory.ensures.message
+    for_memory _ _ _ _ _ _ c.plain_answer-in-NoMemory.ensures.status c.plain_answer-in-NoMemory.ensures.bytes
+    c.plain_answer-in-NoMemory.ensures.message
