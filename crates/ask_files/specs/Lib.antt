@@ -1,3 +1,4 @@
 pub mod Files
 pub mod Asked
 pub mod Named
+pub mod Loads

@@ -1,1 +1,1 @@
-pub mod endings
+pub mod parts

@@ -1,39 +1,65 @@
--- What is asked of an analysis, and what is given: the words of the headline.
-use Rattle.std.specs.Prelude.{◌≡◌, ℕ, List, Option, Some}
+-- What is given of an analysis: the words of the headline.
+use Rattle.std.specs.Prelude.{◌≡◌, ◌++◌, ◌⊎◌, ℕ, List, [], ◌∷◌}
 use Rattle.std.specs.Io.KnownBytes.{Appends}
-use Rattle.base_files.specs.Faults.{Rose}
-use Rattle.base_files.specs.Files.{Contents}
-use Rattle.flow_systems.specs.declared.spot.Spot.{Spot}
-use Rattle.ask_words.specs.Request.{request_of}
+use Rattle.ask_files.specs.Asked.{analysis_with}
+use Rattle.ask_files.specs.Files.{NamedFile, files_of}
+use Rattle.ask_files.specs.Loads.{AreRead, IsLong, contents_of}
+use Rattle.ask_files.specs.declared.which.ReadCause.TheVariants.{Failed, TooLong}
 use Rattle.ask_words.specs.declared.request.Analysis.{Analysis}
-use Rattle.ask_words.specs.declared.request.Domain.{Domain}
 use Rattle.ask_words.specs.declared.request.Purpose.TheVariants.{Report}
 use Rattle.ask_words.specs.declared.request.Request.TheVariants.{Analyse}
-use Rattle.top_run.specs.Files.{AreInputs, IsTold}
-use Rattle.top_texts.specs.LeastReports.{IsReportOf}
-use Rattle.ask_files.specs.declared.which.ReadCause.TheVariants.{Failed}
+use Rattle.base_files.specs.Faults.{Rose, next_count}
+use Rattle.base_files.specs.Loads.{LoadedFile}
+use Rattle.flow_systems.specs.declared.spot.Spot.{Spot}
+use Rattle.top_run.specs.Seen.{ShelfSeen, SinkSeen}
 use Rattle.top_status.specs.declared.status.Status.{Status}
-use Rattle.top_status.specs.declared.status.Status.TheVariants.{Done, Read, Wide, Memory, Write}
-use Rattle.ask_files.specs.declared.which.Which.{Which}
+use Rattle.top_status.specs.declared.status.Status.TheVariants.{Done, Memory, Read, Wide, Write}
+use Rattle.top_texts.specs.LeastReports.{IsReportOf}
+use Rattle.top_texts.specs.Meanings.{Meanings}
+use Rattle.top_texts.specs.Questions.{IsWideIn, analysis_question}
+use Rattle.top_texts.specs.Texts.{IsSolvable}
 
--- the words ask for the report of an analysis, and the shelf tells its files: this text, and this domain with the text of its rows
-pub record Asks (files : Option Contents) (words : List (List ℕ)) (analysis : Analysis (List ℕ)) (text : List ℕ) (rows : Domain (List ℕ)) :
-    Type 0 where
-  pub told : IsTold files
-  pub request : request_of words ≡ Some (Analyse Report analysis)
-  pub inputs : AreInputs files analysis text rows
-
--- the output gets the whole report of the least vector
-pub record Prints (analysis : Analysis (List ℕ)) (text : List ℕ) (rows : Domain (List ℕ)) (held now : Option (List ℕ)) : Type 0 where
+-- the output gets the whole report of the least vector of these texts
+pub record Prints (texts : Analysis (List ℕ)) (out out_now : SinkSeen) : Type 0 where
   pub bytes : List ℕ
-  pub is_report : IsReportOf text rows analysis.policy analysis.improvements bytes
-  pub appended : Appends held now bytes
+  pub is_report : IsReportOf texts.program texts.domain texts.policy texts.improvements bytes
+  pub appended : Appends out.held out_now.held bytes
 
--- what may come of a program whose improvements end within the limit: its report, or want of memory, a wide operation, or a fault outside
-pub data IsGiven (status : Status) (files_before files_now output_before output_now : ℕ) : Type 0 where
-  done : status ≡ Done → IsGiven status files_before files_now output_before output_now
-  no_memory : status ≡ Memory → IsGiven status files_before files_now output_before output_now
-  too_wide : (spot : Spot) → status ≡ Wide spot → IsGiven status files_before files_now output_before output_now
-  unread : (which : Which) → status ≡ Read (Failed which) → Rose files_before files_now
-      → IsGiven status files_before files_now output_before output_now
-  unwritten : status ≡ Write → Rose output_before output_now → IsGiven status files_before files_now output_before output_now
+-- an operation of their analysis is too wide
+abbrev pub IsWideAt : Meanings → Analysis (List ℕ) → Spot → Type 0
+IsWideAt m texts spot = IsWideIn (analysis_question m Report texts.program texts.domain texts.policy texts.improvements) spot
+
+-- what may come of texts whose improvements end within the limit: their report, or want of memory, an operation that is too wide, or an
+-- output that failed in this call
+pub data IsGiven (m : Meanings) (texts : Analysis (List ℕ)) (out out_now : SinkSeen) (status : Status) : Type 0 where
+  done : status ≡ Done → IsGiven m texts out out_now status
+  no_memory : status ≡ Memory → IsGiven m texts out out_now status
+  too_wide : (spot : Spot) → status ≡ Wide spot → IsWideAt m texts spot → IsGiven m texts out out_now status
+  unwritten : status ≡ Write → Rose out.faults out_now.faults → IsGiven m texts out out_now status
+
+-- the answer to the texts of an analysis: it is sound and complete
+pub record IsAnalysed (m : Meanings) (texts : Analysis (List ℕ)) (out out_now : SinkSeen) (status : Status) : Type 0 where
+  pub sound : status ≡ Done → Prints texts out out_now
+  pub complete : IsSolvable texts.program texts.domain texts.policy texts.improvements → IsGiven m texts out out_now status
+
+-- what comes of the loads of the files of an analysis: all were read, and their contents are answered; or, after those that were, one
+-- failed in this call, or is too long; or memory was wanted
+pub data Comes (m : Meanings) (analysis : Analysis (List ℕ)) (made : List LoadedFile) (shelf shelf_now : ShelfSeen)
+    (out out_now : SinkSeen) (status : Status) : Type 0 where
+  is_read : AreRead shelf.files (files_of (Analyse Report analysis)) made []
+      → IsAnalysed m (analysis_with analysis (contents_of made)) out out_now status
+      → Comes m analysis made shelf shelf_now out out_now status
+  has_failed : (file : NamedFile) (left : List NamedFile) → AreRead shelf.files (files_of (Analyse Report analysis)) made (file ∷ left)
+      → shelf_now.faults ≡ next_count shelf.faults → shelf_now.last_failed ≡ file.1 → (status ≡ Read (Failed file.0)) ⊎ (status ≡ Memory)
+      → Comes m analysis made shelf shelf_now out out_now status
+  is_long : (before : List LoadedFile) (long : LoadedFile) (file : NamedFile) (left : List NamedFile) → made ≡ before ++ long ∷ []
+      → AreRead shelf.files (files_of (Analyse Report analysis)) before (file ∷ left) → IsLong shelf.files file long
+      → (status ≡ Read (TooLong file.0)) ⊎ (status ≡ Memory) → Comes m analysis made shelf shelf_now out out_now status
+  wants_memory : status ≡ Memory → Comes m analysis made shelf shelf_now out out_now status
+
+-- a run of an analysis: the loads of this call, behind those before, and what comes of them
+pub record IsHeadline (m : Meanings) (analysis : Analysis (List ℕ)) (shelf shelf_now : ShelfSeen) (out out_now : SinkSeen)
+    (status : Status) : Type 0 where
+  pub made : List LoadedFile
+  pub log : shelf_now.loads ≡ shelf.loads ++ made
+  pub comes : Comes m analysis made shelf shelf_now out out_now status

@@ -1,9 +1,9 @@
-pub mod Files
-pub mod Reports
-pub mod Endings
-pub mod Parted
+pub mod Seen
+pub mod Lines
+pub mod Loading
+pub mod Outputs
+pub mod Messages
+pub mod Parts
 pub mod Run
 pub mod Headline
-pub mod Answers
-pub mod Outputs
-pub mod Analyses
+pub mod Memory

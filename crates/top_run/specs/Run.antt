@@ -1,81 +1,56 @@
--- What a run does to its shelf and its streams.
-use Rattle.std.specs.Prelude.{◌≡◌, ◌⊎◌, ℕ, List, Option, Some, length, take}
-use Rattle.std.specs.Io.KnownBytes.{Appends}
-use Rattle.base_files.specs.Files.{Contents}
-use Rattle.flow_systems.specs.declared.system.System.{System}
-use Rattle.cert_types.specs.declared.cert.Cert.{Cert}
-use Rattle.cert_text.specs.Certificates.{SpellsCert}
-use Rattle.top_run.specs.Files.{AreInputs, HasContent, HasText, IsReached, IsTold, Request}
-use Rattle.top_status.specs.CheckMessages.{rows_in, rows_of}
-use Rattle.top_status.specs.Messages.{line_in}
-use Rattle.base_files.specs.Faults.{Rose}
-use Rattle.ask_words.specs.Request.{request_of}
-use Rattle.top_texts.specs.Texts.{IsSolvedSystem}
-use Rattle.ask_words.specs.declared.request.Domain.{Domain}
-use Rattle.ask_words.specs.declared.request.Request.TheVariants.{Analyse, Check, Bench, Upgrade, Prove, Transitions, Equations}
-use Rattle.ask_files.specs.declared.which.ReadCause.TheVariants.{Failed, TooLong}
+-- What a run promises.
+use Rattle.std.specs.Prelude.{◌≡◌, ◌++◌, List, ℕ}
+use Rattle.ask_files.specs.Loads.{contents_of}
+use Rattle.ask_files.specs.declared.which.ReadCause.TheVariants.{Failed}
+use Rattle.ask_files.specs.declared.which.Which.{Which}
+use Rattle.base_files.specs.Loads.{LoadedFile}
+use Rattle.top_answer.specs.Answers.{Answers, Ends, IsAnswer, IsMessage, IsOutput}
+use Rattle.top_answer.specs.Commands.{Commands}
+use Rattle.top_run.specs.Loading.{HasFailed, IsLoading}
+use Rattle.top_run.specs.Messages.{GetsMessage, IsInOnePiece}
+use Rattle.top_run.specs.Outputs.{OutputGets}
+use Rattle.top_run.specs.Seen.{ShelfSeen, SinkSeen}
 use Rattle.top_status.specs.declared.status.Status.{Status}
-use Rattle.top_status.specs.declared.status.Status.TheVariants.{Done, Certificate, Usage, Read, Text, Wide, Spent, Memory, Write}
+use Rattle.top_status.specs.declared.status.Status.TheVariants.{Done, Read, Write}
+use Rattle.top_texts.specs.Meanings.{Meanings}
 
--- ---- the outside
+-- the run ends with an answer to the words over these contents; or a put of its output failed, where there is one
+pub data IsEnding (commands : Commands) (words contents : List (List ℕ)) (status : Status) : Type 0 where
+  is_answer : IsAnswer commands words contents status → IsEnding commands words contents status
+  is_unwritten : status ≡ Write → Ends commands words contents Done → IsEnding commands words contents status
 
--- an answer to a request that a file failed comes only where it did
-abbrev pub FailsOnlyIn : Option Contents → (faults faults_now : ℕ) → (last : List ℕ) → Request → Status → Type 0
-FailsOnlyIn files faults faults_now last request Done = Unit {0}
-FailsOnlyIn files faults faults_now last request (Certificate cause) = Unit {0}
-FailsOnlyIn files faults faults_now last request Usage = Unit {0}
-FailsOnlyIn files faults faults_now last request (Read (Failed which)) = Rose faults faults_now × IsReached files request which last
-FailsOnlyIn files faults faults_now last request (Read (TooLong which)) = Unit {0}
-FailsOnlyIn files faults faults_now last request (Text cause) = Unit {0}
-FailsOnlyIn files faults faults_now last request (Wide spot) = Unit {0}
-FailsOnlyIn files faults faults_now last request (Spent number) = Unit {0}
-FailsOnlyIn files faults faults_now last request Memory = Unit {0}
-FailsOnlyIn files faults faults_now last request Write = Unit {0}
+-- the ending that stands is given, or an answer in its place; or the output failed where the run would be done
+pub data IsGiven (commands : Commands) (words contents : List (List ℕ)) (ending status : Status) : Type 0 where
+  answered : Answers commands words contents ending status → IsGiven commands words contents ending status
+  unwritten : status ≡ Write → ending ≡ Done → IsGiven commands words contents ending status
 
--- ---- the output
+-- this is so where an ending stands: it is given, and where it is a refusal, the output is as it was
+pub record Gives (commands : Commands) (words contents : List (List ℕ)) (ending status : Status) (out out_now : SinkSeen) : Type 0 where
+  pub given : IsGiven commands words contents ending status
+  pub unchanged : (ending ≡ Done → ⊥) → out_now ≡ out
 
--- it gets the first bytes of a report, or none
-abbrev pub GetsPart : (List ℕ → Type 0) → Option (List ℕ) → Option (List ℕ) → Type 0
-GetsPart IsReport held now = (bytes : List ℕ) × (n : ℕ) × IsReport bytes × Appends held now (take n bytes)
+-- the stream of messages gets this message of the ending
+pub record IsTold (m : Meanings) (words contents : List (List ℕ)) (status : Status) (err err_now : SinkSeen) : Type 0 where
+  pub message : List ℕ
+  pub is_message : IsMessage m words contents status message
+  pub gets : GetsMessage status message err.held err_now.held err.faults err_now.faults err.spare
+  pub piece : IsInOnePiece message err.taken err_now.taken
 
--- what the output holds after a run: the whole report where it is done, nothing new where the run is refused
-abbrev pub OutputHolds : (List ℕ → Type 0) → Status → Option (List ℕ) → Option (List ℕ) → Type 0
-OutputHolds IsReport Done held now = (bytes : List ℕ) × IsReport bytes × Appends held now bytes
-OutputHolds IsReport (Certificate cause) held now = now ≡ held
-OutputHolds IsReport Usage held now = now ≡ held
-OutputHolds IsReport (Read cause) held now = now ≡ held
-OutputHolds IsReport (Text cause) held now = now ≡ held
-OutputHolds IsReport (Wide spot) held now = now ≡ held
-OutputHolds IsReport (Spent number) held now = now ≡ held
-OutputHolds IsReport Memory held now = (now ≡ held) ⊎ GetsPart IsReport held now
-OutputHolds IsReport Write held now = GetsPart IsReport held now
-
--- ---- the messages
-
--- this is the text in which the message of an ending names a line, that of a file that the words name
-abbrev pub IsNamedText : Option Contents → List (List ℕ) → Status → List ℕ → Type 0
-IsNamedText files words status text = (request : Request) × (request_of words ≡ Some request) × HasText files request status text
-
--- this is the line that the message names, where the shelf tells its files
-abbrev pub IsLine : Option Contents → List (List ℕ) → Status → ℕ → Type 0
-IsLine files words status line = (text : List ℕ) → IsTold files → IsNamedText files words status text → line ≡ line_in text status
-
--- so many rows each point has by which the message of a request numbers an unknown, where the shelf tells its files: those of the template
--- of an analysis,
--- or of the certificate that is checked
-abbrev pub IsRowCountIn : Option Contents → Request → Status → ℕ → Type 0
-IsRowCountIn files (Analyse purpose analysis) status rows =
-    (text : List ℕ) (domain : Domain (List ℕ)) (system : System) → IsTold files → AreInputs files analysis text domain
-    → IsSolvedSystem text domain system
-    → rows ≡ rows_of (length system.template) status
-IsRowCountIn files (Check program certificate) status rows =
-    (bytes : List ℕ) (cert : Cert) → IsTold files → HasContent files certificate bytes → SpellsCert bytes cert → rows ≡ rows_in cert status
-IsRowCountIn files (Bench seed loops) status rows = Unit {0}
-IsRowCountIn files (Upgrade certificate) status rows = Unit {0}
-IsRowCountIn files (Prove claims analysis) status rows = Unit {0}
-IsRowCountIn files (Transitions analysis) status rows = Unit {0}
-IsRowCountIn files (Equations file improvements policy) status rows = Unit {0}
-
--- so many that of the request which the words ask for
-abbrev pub IsRowCount : Option Contents → List (List ℕ) → Status → ℕ → Type 0
-IsRowCount files words status rows = (request : Request) → request_of words ≡ Some request → IsRowCountIn files request status rows
+-- a run over words, a shelf, an output and a stream of messages: what it loads, what it answers to the contents of these loads, and what it
+-- puts
+pub record IsRun (commands : Commands) (m : Meanings) (words : List (List ℕ)) (shelf shelf_now : ShelfSeen)
+    (out out_now err err_now : SinkSeen) (status : Status) : Type 0 where
+  -- The loads of this run, behind those before. They are of the files that the words name; what the shelf tells of its files stays.
+  pub made : List LoadedFile
+  pub log : shelf_now.loads ≡ shelf.loads ++ made
+  pub loads : IsLoading words made shelf shelf_now status
+  pub kept : shelf_now.files ≡ shelf.files
+  -- Sound: what is answered is so of the words and of the contents of these loads, and so is what is put.
+  pub answer : IsEnding commands words (contents_of made) status
+  pub output : OutputGets (IsOutput commands words (contents_of made)) words status out out_now
+  -- Complete: the ending that stands is given, but for want of memory, a wide operation that stands, or a put that failed.
+  pub complete : (ending : Status) → Ends commands words (contents_of made) ending
+      → Gives commands words (contents_of made) ending status out out_now
+  -- A file that wasn't read failed in this run; the message names the cause.
+  pub read : (which : Which) → status ≡ Read (Failed which) → HasFailed words made which shelf shelf_now
+  pub message : IsTold m words (contents_of made) status err err_now

@@ -1,13 +1,50 @@
-//! What a command puts: a report or a summary one line at a time, a certificate in one piece.
+//! How a run puts its output: a report or a summary one line at a time, a certificate in one piece.
 
 ghost use Rattle.std.specs.Prelude.{◌≡◌, ◌==◌, ◌∷◌, ◌≤◌, ◌<◌, ◌+◌, IfOk, drop, length, take};
 ghost use Rattle.std.specs.List.{position};
+ghost use Rattle.ask_words.specs.Request.{request_text};
 ghost use Rattle.base_files.specs.Puts.{AddsPieces, HasPutCause, Puts, as_pieces};
-ghost use Rattle.top_run.specs.Outputs.{IsTaken, lines_of};
-ghost use Rattle.top_run.specs.Parted.{PutsReport};
+ghost use Rattle.top_run.specs.Lines.{cut_by, lines_of, pieces_by, pieces_of};
+ghost use Rattle.top_run.specs.Parts.{IsPutBy, status_of};
+ghost use Rattle.top_run.specs.Seen.{sink_with};
 
+use ask_words::{Purpose, Request};
 use base_files::{PutFault, Sink};
 use top_status::Status;
+
+/// In which pieces bytes are put.
+#[derive(Clone, Copy, Debug)]
+pub(crate) enum Pieces {
+    /// Each line with its line feed.
+    Lines,
+    /// All in one.
+    Whole,
+}
+
+// The pieces of what an analysis puts.
+fn pieces_by(purpose: Purpose) -> Pieces
+    ensures { result ≡ pieces_by purpose }
+{
+    match purpose {
+        Purpose::Report => Pieces::Lines,
+        Purpose::Certificate => Pieces::Whole,
+    }
+}
+
+// The pieces of what a request puts.
+pub(crate) fn pieces_of(request: Request<&str>) -> Pieces
+    ensures { result ≡ pieces_of (request_text request.entry) }
+{
+    match request {
+        Request::Analyse { purpose, .. } => pieces_by(purpose),
+        Request::Upgrade { .. } => Pieces::Whole,
+        Request::Check { .. }
+        | Request::Bench { .. }
+        | Request::Prove { .. }
+        | Request::Transitions { .. }
+        | Request::Equations { .. } => Pieces::Lines,
+    }
+}
 
 // The place of the first line feed.
 fn line_feed(text: &[u8]) -> Option<usize>
@@ -26,6 +63,17 @@ fn first_line(text: &[u8]) -> usize
     match line_feed(text) {
         Some(place) => place + 1,
         None => text.len(),
+    }
+}
+
+// How a put ends.
+fn put_status(made: Result<(), PutFault>) -> Status
+    ensures { result ≡ status_of made }
+{
+    match made {
+        Ok(()) => Status::Done,
+        Err(PutFault::Failed) => Status::Write,
+        Err(PutFault::NoMemory) => Status::Memory,
     }
 }
 
@@ -52,24 +100,28 @@ fn put_lines<K: Sink>(out: &mut K, text: &[u8]) -> Result<(), PutFault>
 
 /// Puts a report, a summary or an annotated text, line by line.
 pub fn put_report<K: Sink>(bytes: &[u8], out: &mut K) -> Status
-    ensures pieces { result ≡ Status.Done → IsTaken lines_of (K.held out.old) (K.held out.new) (K.taken out.old) (K.taken out.new) }
-    ensures puts { PutsReport bytes.now result (K.held out.old) (K.held out.new) (K.faults out.old) (K.faults out.new) }
+    ensures { IsPutBy lines_of bytes.now result (sink_with (K.held out.old) (K.taken out.old) (K.faults out.old) (K.spare out.old))
+        (sink_with (K.held out.new) (K.taken out.new) (K.faults out.new) (K.spare out.new)) }
 {
-    match put_lines(out, bytes) {
-        Ok(()) => Status::Done,
-        Err(PutFault::Failed) => Status::Write,
-        Err(PutFault::NoMemory) => Status::Memory,
-    }
+    put_status(put_lines(out, bytes))
 }
 
 // Puts a certificate in one piece.
-pub(crate) fn put_certificate<K: Sink>(bytes: &[u8], out: &mut K) -> Status
-    ensures pieces { result ≡ Status.Done → IsTaken as_pieces (K.held out.old) (K.held out.new) (K.taken out.old) (K.taken out.new) }
-    ensures puts { PutsReport bytes.now result (K.held out.old) (K.held out.new) (K.faults out.old) (K.faults out.new) }
+fn put_certificate<K: Sink>(bytes: &[u8], out: &mut K) -> Status
+    ensures { IsPutBy as_pieces bytes.now result (sink_with (K.held out.old) (K.taken out.old) (K.faults out.old) (K.spare out.old))
+        (sink_with (K.held out.new) (K.taken out.new) (K.faults out.new) (K.spare out.new)) }
 {
-    match out.put(bytes) {
-        Ok(()) => Status::Done,
-        Err(PutFault::Failed) => Status::Write,
-        Err(PutFault::NoMemory) => Status::Memory,
+    put_status(out.put(bytes))
+}
+
+// Puts bytes in these pieces.
+pub(crate) fn put_pieces<K: Sink>(pieces: Pieces, bytes: &[u8], out: &mut K) -> Status
+    ensures { IsPutBy (cut_by pieces) bytes.now result
+        (sink_with (K.held out.old) (K.taken out.old) (K.faults out.old) (K.spare out.old))
+        (sink_with (K.held out.new) (K.taken out.new) (K.faults out.new) (K.spare out.new)) }
+{
+    match pieces {
+        Pieces::Lines => put_report(bytes, out),
+        Pieces::Whole => put_certificate(bytes, out),
     }
 }

@@ -1,22 +1,26 @@
-//! What the program promises, in one contract that names no method.
+//! What the program promises of an analysis, in one contract that names no method.
 
-ghost use Rattle.std.specs.Prelude.{◌≡◌, ℕ, List, map, string_bytes};
+ghost use Rattle.std.specs.Prelude.{◌≡◌, ℕ, List, Some, map, string_bytes};
+ghost use Rattle.ask_words.specs.Request.{request_of};
 ghost use Rattle.ask_words.specs.declared.request.Analysis.{Analysis};
-ghost use Rattle.ask_words.specs.declared.request.Domain.{Domain};
-ghost use Rattle.top_run.specs.Headline.{Asks, IsGiven, Prints};
-ghost use Rattle.top_texts.specs.Texts.{IsSolvable};
+ghost use Rattle.ask_words.specs.declared.request.Purpose.TheVariants.{Report};
+ghost use Rattle.ask_words.specs.declared.request.Request.TheVariants.{Analyse};
+ghost use Rattle.top_run.specs.Headline.{IsHeadline};
+ghost use Rattle.top_run.specs.Seen.{shelf_with, sink_with};
 
-use crate::commands::run;
+use crate::program::run;
 use base_files::{Shelf, Sink};
 use std::alloc::Global;
+use top_answer::{Exact, Meaning};
 use top_status::Status;
 
 /// The headline: `run` where the words ask for the report of a program. It does nothing else than `run`, whose contract says this
 /// and more; here stand the definitions alone, of programs, their runs, and least vectors.
 ///
-/// Where it is done, the output gets the report of the least vector over the template, which every run of the program keeps to,
-/// with the number of improvements by the policy. Where the improvements end within the limit, it is done, but for want of memory,
-/// a fraction that is too wide, or a fault of a file or of the output in this call.
+/// The files are loaded in this call. Where all are read, these are the texts: where it is done, the output gets the report of the least
+/// vector over the template, which every run of the program keeps to, with the number of improvements by the policy. Where the
+/// improvements end within the limit, it is done, but for want of memory, a fraction that is too wide, or an output that failed in this
+/// call. Where they aren't all read, a file failed in this call or is too long, or memory was wanted.
 pub fn headline<S: Shelf, K: Sink, L: Sink>(
     alloc: Global,
     words: &[String],
@@ -24,13 +28,12 @@ pub fn headline<S: Shelf, K: Sink, L: Sink>(
     out: &mut K,
     err: &mut L,
 ) -> Status
-    ensures sound { (analysis : Analysis (List ℕ)) (text : List ℕ) (rows : Domain (List ℕ))
-        → Asks (S.files shelf.old) (map string_bytes words.now) analysis text rows → result ≡ Status.Done
-        → Prints analysis text rows (K.held out.old) (K.held out.new) }
-    ensures complete { (analysis : Analysis (List ℕ)) (text : List ℕ) (rows : Domain (List ℕ))
-        → Asks (S.files shelf.old) (map string_bytes words.now) analysis text rows
-        → IsSolvable text rows analysis.policy analysis.improvements
-        → IsGiven result (S.faults shelf.old) (S.faults shelf.new) (K.faults out.old) (K.faults out.new) }
+    ensures { (analysis : Analysis (List ℕ)) → request_of (map string_bytes words.now) ≡ Some (Analyse Report analysis)
+        → IsHeadline ⟦<Exact as Meaning>⟧.means analysis
+        (shelf_with (S.files shelf.old) (S.loads shelf.old) (S.faults shelf.old) (S.last_failed shelf.old))
+        (shelf_with (S.files shelf.new) (S.loads shelf.new) (S.faults shelf.new) (S.last_failed shelf.new))
+        (sink_with (K.held out.old) (K.taken out.old) (K.faults out.old) (K.spare out.old))
+        (sink_with (K.held out.new) (K.taken out.new) (K.faults out.new) (K.spare out.new)) result }
 {
     run(alloc, words, shelf, out, err)
 }

@@ -5,7 +5,7 @@ use Rattle.std.specs.Prelude.{nat_lt}
 use Rattle.std.specs.List.{position, position_or_len}
 use Rattle.std.proofs.lemmas.Bool.{ltb-true}
 use Rattle.std.proofs.Math.Seq.{take-length}
-use Rattle.top_run.specs.Outputs.{lines_of, onto_first}
+use Rattle.top_run.specs.Lines.{lines_of, onto_first}
 
 -- the number of bytes before the first line feed, or of all bytes
 abbrev before : List ℕ → ℕ

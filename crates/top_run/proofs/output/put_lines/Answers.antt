@@ -1,7 +1,7 @@
 use Rattle.std.proofs.Common.{◌≡◌, ◌++◌, ◌∷◌, sym, ap₂, ◌∙◌, arith}
 use Rattle.std.proofs.lemmas.List.{take-append-drop}
-use Rattle.top_run.specs.Outputs.{lines_of}
-use Rattle.top_run.proofs.output.Pieces.{next_taken, one_more, part_put}
+use Rattle.top_run.specs.Lines.{lines_of}
+use Rattle.top_run.proofs.output.InPieces.{next_taken, one_more, part_put}
 use Rattle.top_run.proofs.output.put_lines.Goals as goal
 
 pub returns-in-Err-clause-appends : goal.returns-in-Err-clause-appends

@@ -1,5 +1,5 @@
 use Rattle.std.proofs.Common.{length}
-use Rattle.top_run.proofs.output.Pieces.{HasPut, HasTaken}
+use Rattle.top_run.proofs.output.InPieces.{HasPut, HasTaken}
 use Rattle.top_run.proofs.output.put_lines.Given as goal
 
 abbrev pub invariant-loop-rest : goal.invariant-loop-rest

@@ -1,9 +1,0 @@
-pub mod Putting
-pub mod Answered
-pub mod OfRounds
-pub mod OneEnding
-pub mod Worded
-pub mod Meant
-pub mod Put
-pub mod Messages
-pub mod Ranges

@@ -1,5 +1,0 @@
-use Rattle.top_run.proofs.laws.Lawful.{accepted_least}
-use Rattle.top_run.proofs.laws.accepted_is_least.Goals as goal
-
-pub returns : goal.returns
-returns c = accepted_least

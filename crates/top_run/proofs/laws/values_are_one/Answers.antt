@@ -1,5 +1,0 @@
-use Rattle.top_texts.proofs.equation_texts.OneText.{values_once}
-use Rattle.top_run.proofs.laws.values_are_one.Goals as goal
-
-pub returns : goal.returns
-returns c = values_once

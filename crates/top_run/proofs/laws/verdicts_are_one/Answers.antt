@@ -1,5 +1,0 @@
-use Rattle.top_texts.proofs.claim_texts.OneText.{verdicts_once}
-use Rattle.top_run.proofs.laws.verdicts_are_one.Goals as goal
-
-pub returns : goal.returns
-returns c = verdicts_once

@@ -1,0 +1,7 @@
+pub mod Answering
+pub mod Loaded
+pub mod Lawful
+pub mod Failing
+pub mod Ended
+pub mod Headlined
+pub mod Plain

@@ -1,0 +1,216 @@
+-- From an answer, its put and its message to what a run promises.
+use Rattle.std.proofs.Common.{◌≡◌, ◌∙◌, ℕ, List, [], refl, sym, subst, subst₂, ap}
+use Rattle.std.specs.Prelude.{◌<◌, Some, Option, length, take}
+use Rattle.std.specs.Io.KnownBytes.{Appends}
+use Rattle.ask_files.specs.Files.{Request}
+use Rattle.ask_files.specs.Loads.{contents_of}
+use Rattle.ask_files.specs.declared.which.ReadCause.TheVariants.{Failed}
+use Rattle.ask_files.specs.declared.which.Which.{Which}
+use Rattle.ask_words.specs.Request.{request_of}
+use Rattle.base_files.specs.Faults.{Rose}
+use Rattle.base_files.specs.Loads.{LoadedFile}
+use Rattle.base_files.specs.Puts.{AddsPieces}
+use Rattle.flow_systems.specs.declared.spot.Spot.{Spot}
+use Rattle.top_answer.specs.Answers as answers
+use Rattle.top_answer.specs.Answers.{Answers, Ends, Holds, IsAnswer, IsMessage, IsOutput}
+use Rattle.top_answer.specs.Commands.{Commands}
+use Rattle.top_run.proofs.parts.Answering.{placeless}
+use Rattle.top_run.proofs.parts.Failing.{failed_in}
+use Rattle.top_run.proofs.parts.Lawful.{IsLawful}
+use Rattle.top_run.specs.Lines.{cut_by, pieces_of}
+use Rattle.top_run.specs.Loading as loading
+use Rattle.top_run.specs.Loading.{HasFailed, IsLoading}
+use Rattle.top_run.specs.Messages.{GetsMessage, IsInOnePiece}
+use Rattle.top_run.specs.Outputs as outputs
+use Rattle.top_run.specs.Outputs.{OutputGets}
+use Rattle.top_run.specs.Parts as parts
+use Rattle.top_run.specs.Parts.{IsAnswerOver, IsAnswerTo, IsPutBy, PutsAnswer}
+use Rattle.top_run.specs.Run.{Gives, IsEnding, IsRun, answered, is_answer, is_unwritten, unwritten}
+use Rattle.top_run.specs.Seen.{ShelfSeen, SinkSeen}
+use Rattle.top_run.specs.declared.output.Pieces.{Pieces}
+use Rattle.top_status.specs.Messages.{message_of}
+use Rattle.top_status.specs.declared.status.Status.{Status}
+use Rattle.top_status.specs.declared.status.Status.TheVariants.{Done, Memory, Read, Usage, Wide, Write}
+use Rattle.top_texts.specs.Exact.{exact}
+
+-- ---- statuses differ
+
+memory_done : (s : Status) → s ≡ Memory → s ≡ Done → ⊥
+memory_done s h k = cc
+
+wide_done : (s : Status) (spot : Spot) → s ≡ Wide spot → s ≡ Done → ⊥
+wide_done s spot h k = cc
+
+write_done : (s : Status) → s ≡ Write → s ≡ Done → ⊥
+write_done s h k = cc
+
+memory_write : (s : Status) → s ≡ Memory → s ≡ Write → ⊥
+memory_write s h k = cc
+
+wide_write : (s : Status) (spot : Spot) → s ≡ Wide spot → s ≡ Write → ⊥
+wide_write s spot h k = cc
+
+usage_write : (s : Status) → s ≡ Usage → s ≡ Write → ⊥
+usage_write s h k = cc
+
+read_write : (s : Status) (cause : _) → s ≡ Read cause → s ≡ Write → ⊥
+read_write s cause h k = cc
+
+read_memory : (s : Status) (cause : _) → s ≡ Read cause → s ≡ Memory → ⊥
+read_memory s cause h k = cc
+
+read_done : (s : Status) (cause : _) → s ≡ Read cause → s ≡ Done → ⊥
+read_done s cause h k = cc
+
+module _ (commands : Commands) (lawful : IsLawful commands) (words : List (List ℕ)) (made : List LoadedFile) where
+  -- ---- what an answer's status says
+
+  not_write : (status : Status) → IsAnswer commands words (contents_of made) status → status ≡ Write → ⊥
+  not_write status (answers.is_ending (answers.unasked none u)) w = usage_write status u w
+  not_write status (answers.is_ending (answers.not_read request cause asked un u)) w = read_write status cause u w
+  not_write status (answers.is_ending (answers.decided asked asks ends)) w =
+      lawful.writes asked (subst (λ s. (commands asked).ends s) w ends)
+  not_write status (answers.is_wide spot e h) w = wide_write status spot e w
+  not_write status (answers.is_memory e) w = memory_write status e w
+
+  done_ends : (status : Status) → status ≡ Done → IsAnswer commands words (contents_of made) status
+      → Ends commands words (contents_of made) Done
+  done_ends status d (answers.is_ending h) = subst (λ s. Ends commands words (contents_of made) s) d h
+  done_ends status d (answers.is_wide spot e h) = absurd (wide_done status spot e d)
+  done_ends status d (answers.is_memory e) = absurd (memory_done status e d)
+
+  done_is : (ending status : Status) → status ≡ Done → Answers commands words (contents_of made) ending status → ending ≡ Done
+  done_is ending status d (answers.given e) = sym e ∙ d
+  done_is ending status d (answers.no_memory e) = absurd (memory_done status e d)
+  done_is ending status d (answers.too_wide spot e w r) = absurd (wide_done status spot e d)
+
+  done_has : (status : Status) (bytes : List ℕ) → status ≡ Done → Holds (IsOutput commands words (contents_of made)) status bytes
+      → IsOutput commands words (contents_of made) bytes
+  done_has status bytes d (answers.whole e is) = is
+  done_has status bytes d (answers.nothing other e) = absurd (other d)
+
+  loading_done : (shelf now : ShelfSeen) (status other : Status) → status ≡ Done → IsLoading words made shelf now status
+      → IsLoading words made shelf now other
+  loading_done shelf now status other d (loading.asks_nothing none e calm) = loading.asks_nothing none e calm
+  loading_done shelf now status other d (loading.loads request result asked ends memory) =
+      loading.loads request result asked ends (λ err. absurd (memory_done status (memory err) d))
+  loading_done shelf now status other d (loading.loads_nothing e calm memory) = absurd (memory_done status memory d)
+
+  -- ---- what a run says but of its message's put
+
+  pub record Ended (shelf now : ShelfSeen) (out out_now : SinkSeen) (status : Status) (message : List ℕ) : Type 0 where
+    pub loads : IsLoading words made shelf now status
+    pub answer : IsEnding commands words (contents_of made) status
+    pub output : OutputGets (IsOutput commands words (contents_of made)) words status out out_now
+    pub complete : (ending : Status) → Ends commands words (contents_of made) ending
+        → Gives commands words (contents_of made) ending status out out_now
+    pub read : (which : Which) → status ≡ Read (Failed which) → HasFailed words made which shelf now
+    pub names : IsMessage exact words (contents_of made) status message
+
+  module _ (shelf now : ShelfSeen) (out out_now : SinkSeen) (pieces : Pieces) (status : Status) (bytes message : List ℕ)
+      (loads : IsLoading words made shelf now status) (a : IsAnswerTo commands exact words (contents_of made) status bytes message)
+      (piecewise : (request : Request) → request_of words ≡ Some request → status ≡ Done → pieces ≡ pieces_of request) where
+    kept : (status ≡ Done → ⊥) → out_now ≡ out → Ended shelf now out out_now status message
+    kept other same = record {
+      loads = loads;
+      answer = is_answer a.answer;
+      output = outputs.gets_nothing other (not_write status a.answer) same;
+      complete = λ ending h. record { given = answered (a.complete ending h); unchanged = λ refused. same };
+      read = λ which e. failed_in words made shelf now status which e commands lawful a.answer loads;
+      names = a.names;
+    }
+
+    put : status ≡ Done → Appends out.held out_now.held bytes → AddsPieces out.taken out_now.taken (cut_by pieces bytes)
+        → out_now.faults ≡ out.faults → Ended shelf now out out_now status message
+    put d appended takes calm = record {
+      loads = loads;
+      answer = is_answer a.answer;
+      output = outputs.gets_whole bytes d (done_has status bytes d a.output) (record {
+        appended = appended;
+        pieces = λ request asked. subst (λ p. AddsPieces out.taken out_now.taken (cut_by p bytes)) (piecewise request asked d) takes;
+        calm = calm;
+      });
+      complete = λ ending h. record {
+        given = answered (a.complete ending h);
+        unchanged = λ refused. absurd (refused (done_is ending status d (a.complete ending h)));
+      };
+      read = λ which e. absurd (read_done status (Failed which) e d);
+      names = a.names;
+    }
+
+    failed : status ≡ Done → (n : ℕ) → Appends out.held out_now.held (take n bytes) → Rose out.faults out_now.faults
+        → (told : List ℕ) → told ≡ message_of 0 0 Write → Ended shelf now out out_now Write told
+    failed d n appended rose told is = record {
+      loads = loading_done shelf now status Write d loads;
+      answer = is_unwritten refl (done_ends status d a.answer);
+      output = outputs.gets_part bytes n refl (done_has status bytes d a.output) appended rose;
+      complete = λ ending h. record {
+        given = unwritten refl (done_is ending status d (a.complete ending h));
+        unchanged = λ refused. absurd (refused (done_is ending status d (a.complete ending h)));
+      };
+      read = λ which e. absurd (read_write Write (Failed which) e refl);
+      names = placeless words (contents_of made) Write told is (λ text. refl) (λ count. refl);
+    }
+
+    wanting : status ≡ Done → (n : ℕ) → Appends out.held out_now.held (take n bytes) → out.spare < length bytes
+        → out_now.faults ≡ out.faults → (told : List ℕ) → told ≡ message_of 0 0 Memory → Ended shelf now out out_now Memory told
+    wanting d n appended long calm told is = record {
+      loads = loading_done shelf now status Memory d loads;
+      answer = is_answer (answers.is_memory refl);
+      output = outputs.gets_fitting bytes n refl (done_has status bytes d a.output) appended long calm;
+      complete = λ ending h. record {
+        given = answered (answers.no_memory refl);
+        unchanged = λ refused. absurd (refused (done_is ending status d (a.complete ending h)));
+      };
+      read = λ which e. absurd (read_memory Memory (Failed which) e refl);
+      names = placeless words (contents_of made) Memory told is (λ text. refl) (λ count. refl);
+    }
+
+    -- a status by another name
+    named : (s t : Status) (told : List ℕ) → t ≡ s → Ended shelf now out out_now s told → Ended shelf now out out_now t told
+    named s t told e h = subst (λ x. Ended shelf now out out_now x told) (sym e) h
+
+    by_put : (status_now : Status) (told : List ℕ) → status ≡ Done → (status_now ≡ Done → ⊥) → told ≡ message_of 0 0 status_now
+        → IsPutBy (cut_by pieces) bytes status_now out out_now → Ended shelf now out out_now status_now told
+    by_put s told d other is (parts.whole e appended takes calm) = absurd (other e)
+    by_put s told d other is (parts.failed e n appended rose) =
+        named Write s told e (failed d n appended rose told (subst (λ x. told ≡ message_of 0 0 x) e is))
+    by_put s told d other is (parts.wanting e n appended long calm) =
+        named Memory s told e (wanting d n appended long calm told (subst (λ x. told ≡ message_of 0 0 x) e is))
+
+    by_whole : (status_now : Status) → status ≡ Done → status_now ≡ Done → IsPutBy (cut_by pieces) bytes status_now out out_now
+        → Ended shelf now out out_now status message
+    by_whole s d e (parts.whole i appended takes calm) = put d appended takes calm
+    by_whole s d e (parts.failed i n appended rose) = absurd (write_done s i e)
+    by_whole s d e (parts.wanting i n appended long calm) = absurd (memory_done s i e)
+
+    -- whatever comes of the put
+    pub ended : (status_now : Status) (told : List ℕ) → PutsAnswer pieces status bytes message out out_now status_now told
+        → Ended shelf now out out_now status_now told
+    ended s told (parts.is_kept other e is same) = subst₂ (λ x t. Ended shelf now out out_now x t) (sym e) (sym is) (kept other same)
+    ended s told (parts.is_put d e is h) =
+        subst₂ (λ x t. Ended shelf now out out_now x t) (d ∙ sym e) (sym is) (by_whole s d e h)
+    ended s told (parts.is_not_put d other is h) = by_put s told d other is h
+
+-- an answer over the files of the words, whose bytes were put, and whose message was told, is a run
+pub is_run : (commands : Commands) → IsLawful commands → (words : List (List ℕ)) (shelf now : ShelfSeen)
+    (out out_now err err_now : SinkSeen) (pieces : Pieces) (status : Status) (bytes message : List ℕ) (status_now : Status) (told : List ℕ)
+    → IsAnswerOver commands exact words shelf now status bytes message
+    → ((request : Request) → request_of words ≡ Some request → status ≡ Done → pieces ≡ pieces_of request)
+    → PutsAnswer pieces status bytes message out out_now status_now told
+    → GetsMessage status_now told err.held err_now.held err.faults err_now.faults err.spare
+    → IsInOnePiece told err.taken err_now.taken → IsRun commands exact words shelf now out out_now err err_now status_now
+is_run commands lawful words shelf now out out_now err err_now pieces status bytes message s told a piecewise puts gets piece =
+    let e = ended commands lawful words a.made shelf now out out_now pieces status bytes message a.loads a.is_answer piecewise
+    s told puts in
+    record {
+      made = a.made;
+      log = a.log;
+      loads = e.loads;
+      kept = a.kept;
+      answer = e.answer;
+      output = e.output;
+      complete = e.complete;
+      read = e.read;
+      message = record { message = told; is_message = e.names; gets = gets; piece = piece };
+    }

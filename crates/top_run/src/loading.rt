@@ -1,0 +1,95 @@
+//! The answer to words over the files that they name, as they are loaded.
+
+ghost use Rattle.std.specs.Prelude.{◌≡◌, ◌⊎◌, [], IfOk, Some, None, map, string_bytes};
+ghost use Rattle.ask_files.specs.Asked.{texts_of};
+ghost use Rattle.ask_files.specs.Loads.{contents_of};
+ghost use Rattle.ask_words.specs.Request.{request_of, request_text};
+ghost use Rattle.base_files.specs.Loads.{loaded_files};
+ghost use Rattle.top_answer.specs.Commands.{command_of};
+ghost use Rattle.top_run.specs.Parts.{IsAnswerOver, IsAnswerTo, IsRequestLoaded};
+ghost use Rattle.top_run.specs.Seen.{shelf_with};
+
+use ask_files::{load_files, request_files};
+use ask_words::{Request, WordsFault};
+use base_files::{Load, Shelf};
+use std::alloc::{AllocError, Global};
+use top_answer::{Answer, Exact, Meaning, answer, plain_answer};
+use top_status::Status;
+
+// What these loads gave.
+fn contents_of<'a>(alloc: Global, loads: &'a [Load]) -> Result<Vec<&'a [u8]>, AllocError>
+    ensures { IfOk result (λ contents. texts_of contents.items ≡ contents_of (loaded_files loads.entry.now)) }
+{
+    let mut contents = Vec::new(alloc);
+    for load in loads {
+        contents.push(load.bytes.as_slice())?;
+    }
+    Ok(contents)
+}
+
+// The answer for want of memory.
+fn answer_memory(alloc: Global, words: &[String], loads: &[Load]) -> Answer
+    ensures status { result.status ≡ Status.Memory }
+    ensures answer { IsAnswerTo (command_of ⟦<Exact as Meaning>⟧.means) ⟦<Exact as Meaning>⟧.means (map string_bytes words.now)
+        (contents_of (loaded_files loads.now)) result.status result.bytes.items result.message }
+{
+    plain_answer(alloc, Status::Memory)
+}
+
+// The answer to words over these loads.
+fn answer_loads(alloc: Global, words: &[String], loads: &[Load]) -> Answer
+    ensures { IsAnswerTo (command_of ⟦<Exact as Meaning>⟧.means) ⟦<Exact as Meaning>⟧.means (map string_bytes words.now)
+        (contents_of (loaded_files loads.now)) result.status result.bytes.items result.message }
+{
+    match contents_of(alloc, loads) {
+        Ok(contents) => answer(alloc, words, &contents),
+        Err(_) => answer_memory(alloc, words, loads),
+    }
+}
+
+// Loads the files of a request.
+fn load_request<S: Shelf>(
+    alloc: Global,
+    request: Request<&str>,
+    shelf: &mut S,
+) -> Result<(), AllocError>
+    ensures { IsRequestLoaded (request_text request.entry)
+        (shelf_with (S.files shelf.old) (S.loads shelf.old) (S.faults shelf.old) (S.last_failed shelf.old))
+        (shelf_with (S.files shelf.new) (S.loads shelf.new) (S.faults shelf.new) (S.last_failed shelf.new)) result }
+{
+    let files = request_files(alloc, request)?;
+    load_files(shelf, &files)
+}
+
+// The answer to the request of the words over its files, as they are loaded.
+pub(crate) fn answer_request<S: Shelf>(
+    alloc: Global,
+    words: &[String],
+    request: Request<&str>,
+    shelf: &mut S,
+) -> Answer
+    requires { request_of (map string_bytes words.now) ≡ Some (request_text request) }
+    ensures { IsAnswerOver (command_of ⟦<Exact as Meaning>⟧.means) ⟦<Exact as Meaning>⟧.means (map string_bytes words.now)
+        (shelf_with (S.files shelf.old) (S.loads shelf.old) (S.faults shelf.old) (S.last_failed shelf.old))
+        (shelf_with (S.files shelf.new) (S.loads shelf.new) (S.faults shelf.new) (S.last_failed shelf.new))
+        result.status result.bytes.items result.message }
+{
+    let before = shelf.loaded().len();
+    match load_request(alloc, request, shelf) {
+        Ok(()) => answer_loads(alloc, words, &shelf.loaded()[before..]),
+        Err(_) => answer_memory(alloc, words, &shelf.loaded()[before..]),
+    }
+}
+
+// The answer to words whose request isn't read.
+pub(crate) fn answer_unasked(alloc: Global, words: &[String], fault: WordsFault) -> Answer
+    requires { fault ≡ WordsFault.Usage → request_of (map string_bytes words.now) ≡ None }
+    ensures cause { (request_of (map string_bytes words.now) ≡ None) ⊎ (result.status ≡ Status.Memory) }
+    ensures answer { IsAnswerTo (command_of ⟦<Exact as Meaning>⟧.means) ⟦<Exact as Meaning>⟧.means (map string_bytes words.now) []
+        result.status result.bytes.items result.message }
+{
+    match fault {
+        WordsFault::Usage => plain_answer(alloc, Status::Usage),
+        WordsFault::NoMemory => plain_answer(alloc, Status::Memory),
+    }
+}

@@ -1,0 +1,90 @@
+//! The top call.
+
+ghost use Rattle.std.specs.Prelude.{◌≡◌, Some, map, string_bytes};
+ghost use Rattle.ask_files.specs.Files.{Request as NamedRequest};
+ghost use Rattle.ask_words.specs.Request.{request_of};
+ghost use Rattle.top_answer.specs.Commands.{command_of};
+ghost use Rattle.top_run.specs.Lines.{pieces_of};
+ghost use Rattle.top_run.specs.Parts.{IsAnswerOver, PutsAnswer};
+ghost use Rattle.top_run.specs.Run.{IsRun};
+ghost use Rattle.top_run.specs.Seen.{shelf_with, sink_with};
+
+use crate::loading::{answer_request, answer_unasked};
+use crate::messages::tell;
+use crate::output::{Pieces, pieces_of, put_pieces};
+use ask_words::read_words;
+use base_files::{Shelf, Sink};
+use std::alloc::Global;
+use top_answer::{Answer, Exact, Meaning, plain_answer};
+use top_status::Status;
+
+// An answer, and the pieces in which its bytes are put.
+#[derive(Drop)]
+struct Piecewise {
+    answer: Answer,
+    pieces: Pieces,
+}
+
+// The answer to the words over the files that they name, as they are loaded.
+fn answer_words<S: Shelf>(alloc: Global, words: &[String], shelf: &mut S) -> Piecewise
+    ensures answer { IsAnswerOver (command_of ⟦<Exact as Meaning>⟧.means) ⟦<Exact as Meaning>⟧.means (map string_bytes words.now)
+        (shelf_with (S.files shelf.old) (S.loads shelf.old) (S.faults shelf.old) (S.last_failed shelf.old))
+        (shelf_with (S.files shelf.new) (S.loads shelf.new) (S.faults shelf.new) (S.last_failed shelf.new))
+        result.answer.status result.answer.bytes.items result.answer.message }
+    ensures pieces { (request : NamedRequest) → request_of (map string_bytes words.now) ≡ Some request
+        → result.answer.status ≡ Status.Done → result.pieces ≡ pieces_of request }
+{
+    match read_words(alloc, words) {
+        Ok(request) => Piecewise {
+            answer: answer_request(alloc, words, request, shelf),
+            pieces: pieces_of(request),
+        },
+        Err(fault) => Piecewise {
+            answer: answer_unasked(alloc, words, fault),
+            pieces: Pieces::Lines,
+        },
+    }
+}
+
+// Puts the bytes of an answer that is done, and gives the answer that a run ends with: another one where they aren't put.
+fn put_answer<K: Sink>(alloc: Global, given: Piecewise, out: &mut K) -> Answer
+    ensures { PutsAnswer given.pieces given.answer.status given.answer.bytes.items given.answer.message
+        (sink_with (K.held out.old) (K.taken out.old) (K.faults out.old) (K.spare out.old))
+        (sink_with (K.held out.new) (K.taken out.new) (K.faults out.new) (K.spare out.new)) result.status result.message }
+{
+    let Piecewise { answer, pieces } = given;
+    if answer.status != Status::Done {
+        return answer;
+    }
+    match put_pieces(pieces, &answer.bytes, out) {
+        Status::Done => answer,
+        status => plain_answer(alloc, status),
+    }
+}
+
+/// Does all that the program does, and says how it ended. `words` are those after the program's own name. The files that they name are
+/// loaded, each once, up to the first that isn't read; their contents are answered as `answer` says; a report, a certificate or a summary
+/// goes to `out`, and the message of every other ending to `err` (docs/FORMATS.md, "Messages").
+///
+/// The order of causes is that of `answer`. `Memory` may come at any time, and takes the place of any other answer; `Write` takes that of
+/// `Done`.
+pub fn run<S: Shelf, K: Sink, L: Sink>(
+    alloc: Global,
+    words: &[String],
+    shelf: &mut S,
+    out: &mut K,
+    err: &mut L,
+) -> Status
+    ensures { IsRun (command_of ⟦<Exact as Meaning>⟧.means) ⟦<Exact as Meaning>⟧.means (map string_bytes words.now)
+        (shelf_with (S.files shelf.old) (S.loads shelf.old) (S.faults shelf.old) (S.last_failed shelf.old))
+        (shelf_with (S.files shelf.new) (S.loads shelf.new) (S.faults shelf.new) (S.last_failed shelf.new))
+        (sink_with (K.held out.old) (K.taken out.old) (K.faults out.old) (K.spare out.old))
+        (sink_with (K.held out.new) (K.taken out.new) (K.faults out.new) (K.spare out.new))
+        (sink_with (L.held err.old) (L.taken err.old) (L.faults err.old) (L.spare err.old))
+        (sink_with (L.held err.new) (L.taken err.new) (L.faults err.new) (L.spare err.new)) result }
+{
+    let answered = answer_words(alloc, words, shelf);
+    let ended = put_answer(alloc, answered, out);
+    tell(&ended.status, &ended.message, err);
+    ended.status
+}
