@@ -37,6 +37,14 @@ def copy_of_tree(to):
             shutil.copytree(f"{folder}/out/rlib", f"{to}/crates/{name}/out/rlib", copy_function=os.link)
 
 
+def forget(crate, folder):
+    """Leaves the check of the crate nothing to begin with. Its kept work goes behind a link, since rt gives no link what another checkout kept."""
+    shutil.rmtree(f"{folder}/crates/{crate}/out", ignore_errors=True)
+    os.mkdir(f"{folder}/{crate}-kept")
+    os.mkdir(f"{folder}/crates/{crate}/out")
+    os.symlink(f"{folder}/{crate}-kept", f"{folder}/crates/{crate}/out/incremental")
+
+
 def children_of(number):
     try:
         with open(f"/proc/{number}/task/{number}/children", encoding="utf-8") as file:
@@ -95,7 +103,7 @@ def main():
     with tempfile.TemporaryDirectory(prefix="slow_functions-") as folder:
         copy_of_tree(folder)
         for crate in given.crates:
-            shutil.rmtree(f"{folder}/crates/{crate}/out", ignore_errors=True)
+            forget(crate, folder)
             found, rest, whole, is_proved = times_of(crate, folder, given.live)
             slowest = sorted(found, reverse=True)
             for seconds, name in [it for it in slowest if it[0] > given.above] if given.above is not None else slowest[: given.most]:
