@@ -3,7 +3,7 @@
 ghost use Rattle.std.specs.Prelude.{◌≡◌, ◌≤◌, ◌+◌, [], ◌∷◌, IfOk, IfSome, OnOk, codes, option_and_then, option_map};
 ghost use Rattle.serde_json.specs.Data.{member, no_members, object};
 ghost use Rattle.serde_json.specs.Find.{get};
-ghost use Rattle.serde_json.specs.View.{view};
+ghost use Rattle.serde_json.specs.View.{members_view, view};
 ghost use Rattle.cert_text.specs.Keys.{index_data, passes_at};
 ghost use Rattle.cert_text.specs.Numbers.{frac_in, is_text};
 ghost use Rattle.cert_text.specs.Naming.{capped, values_of, with_traces};
@@ -13,6 +13,7 @@ ghost use Rattle.cert_text.specs.Traces.{listing};
 use crate::entry::Entry;
 use crate::keys::{index_at, is_index_at, is_unknown_at, member_count, unknown_at, unknown_value};
 use crate::limits::MOST_VALUES;
+use crate::members::with;
 use crate::naming::Naming;
 use crate::numbering::Numbering;
 use crate::numbers::{is_text, number_value, read_number};
@@ -21,7 +22,7 @@ use crate::trace::{is_trace_at, named_at, trace_at, trace_values};
 use base_fractions::Frac;
 use cert_types::{Item, JumpItem, RayItem};
 use flow_systems::Trace;
-use serde_json::{Value, json};
+use serde_json::{Map, Value};
 use std::alloc::{AllocError, Global};
 
 // Whether the member of this key is there and a text.
@@ -73,6 +74,33 @@ fn has_two_traces(setting: &Setting, value: &Value, second: &str, number: &str) 
         && is_text_at(value, number)
 }
 
+// The parts of an item whose edge and traces are known, where its number and its unknown are there.
+fn two_traces_of(
+    edge: u32,
+    low: Trace,
+    second: Trace,
+    number: Option<Frac>,
+    unknown: Option<u32>,
+) -> Option<TwoTraces>
+    ensures { result ≡ option_and_then (λ amount. option_map (λ place. record {
+      unknown = place;
+      edge = edge;
+      low = low;
+      second = second;
+      number = amount;
+    }) unknown) number }
+{
+    let number = number?;
+    let unknown = unknown?;
+    Some(TwoTraces {
+        unknown,
+        edge,
+        low,
+        second,
+        number,
+    })
+}
+
 // The parts of an item with a second trace and a number at these keys.
 fn read_two_traces(
     alloc: Global,
@@ -92,19 +120,39 @@ fn read_two_traces(
     let Some(second) = trace_at(alloc, setting, value, second)? else {
         return Ok(None);
     };
-    let Some(number) = frac_at(value, number) else {
-        return Ok(None);
-    };
-    let Some(unknown) = unknown_at(setting.rows, value) else {
-        return Ok(None);
-    };
-    Ok(Some(TwoTraces {
-        unknown,
-        edge,
-        low,
-        second,
-        number,
-    }))
+    let number = frac_at(value, number);
+    let unknown = unknown_at(setting.rows, value);
+    Ok(two_traces_of(edge, low, second, number, unknown))
+}
+
+// The last members of an item with a number at `to`.
+fn ending_to(
+    alloc: Global,
+    low: usize,
+    to: Value,
+    unknown: Value,
+) -> Result<Map<String, Value>, AllocError>
+    ensures { IfOk result (λ m. members_view m.entries ≡ member (codes "low") (index_data low) (member (codes "to") (view to)
+        (member (codes "unknown") (view unknown) no_members))) }
+{
+    let members = with(alloc, Map::new(alloc), "unknown", unknown)?;
+    let members = with(alloc, members, "to", to)?;
+    with(alloc, members, "low", Value::from(low))
+}
+
+// The last members of an item with a number at `rate`.
+fn ending_rate(
+    alloc: Global,
+    low: usize,
+    rate: Value,
+    unknown: Value,
+) -> Result<Map<String, Value>, AllocError>
+    ensures { IfOk result (λ m. members_view m.entries ≡ member (codes "low") (index_data low) (member (codes "rate") (view rate)
+        (member (codes "unknown") (view unknown) no_members))) }
+{
+    let members = with(alloc, Map::new(alloc), "unknown", unknown)?;
+    let members = with(alloc, members, "rate", rate)?;
+    with(alloc, members, "low", Value::from(low))
 }
 
 // The members of an item of a plain step as a value.
@@ -119,7 +167,9 @@ fn plain_item_object(
         (member (codes "low") (index_data low) (member (codes "to") (view to)
         (member (codes "unknown") (view unknown) no_members))))) }
 {
-    json!(in alloc; {"edge": edge, "low": low, "to": to, "unknown": unknown})
+    let members = ending_to(alloc, low, to, unknown)?;
+    let members = with(alloc, members, "edge", Value::from(edge))?;
+    Ok(Value::Object(members))
 }
 
 // The members of an item of a jump as a value.
@@ -135,7 +185,10 @@ fn jump_item_object(
         (member (codes "high") (index_data high) (member (codes "low")
         (index_data low) (member (codes "to") (view to) (member (codes "unknown") (view unknown) no_members)))))) }
 {
-    json!(in alloc; {"edge": edge, "high": high, "low": low, "to": to, "unknown": unknown})
+    let members = ending_to(alloc, low, to, unknown)?;
+    let members = with(alloc, members, "high", Value::from(high))?;
+    let members = with(alloc, members, "edge", Value::from(edge))?;
+    Ok(Value::Object(members))
 }
 
 // The members of an item of a ray as a value.
@@ -151,7 +204,10 @@ fn ray_item_object(
         (member (codes "low") (index_data low) (member (codes "rate") (view rate)
         (member (codes "unknown") (view unknown) no_members)))))) }
 {
-    json!(in alloc; {"direction": direction, "edge": edge, "low": low, "rate": rate, "unknown": unknown})
+    let members = ending_rate(alloc, low, rate, unknown)?;
+    let members = with(alloc, members, "edge", Value::from(edge))?;
+    let members = with(alloc, members, "direction", Value::from(direction))?;
+    Ok(Value::Object(members))
 }
 
 impl Entry for Item {

@@ -8,6 +8,7 @@ mod items;
 mod keys;
 mod law;
 mod limits;
+mod members;
 mod naming;
 mod numbering;
 mod numbers;

@@ -13,12 +13,13 @@ ghost use Rattle.cert_text.specs.Traces.{listing};
 use crate::entry::{Entry, is_list, read_list, write_list};
 use crate::keys::{is_kind, item_count, member_count};
 use crate::limits::MOST_VALUES;
+use crate::members::with;
 use crate::naming::{Naming, list_values, number_all};
 use crate::numbering::Numbering;
 use crate::setting::Setting;
 use cert_types::{Item, Items, JumpItem, JumpItems, RayItem, RayItems, Step};
 use flow_systems::Trace;
-use serde_json::{Value, json};
+use serde_json::{Map, Value};
 use std::alloc::{AllocError, Global};
 
 // Whether the value has this kind, and the member `items` is a list of one item or more of the shape of such items.
@@ -104,7 +105,10 @@ fn read_step(alloc: Global, setting: &Setting, value: &Value) -> Result<Option<S
 fn step_object(alloc: Global, items: Value, kind: &str) -> Result<Value, AllocError>
     ensures { IfOk result (λ v. view v ≡ step_object (view items) kind.now) }
 {
-    json!(in alloc; {"items": items, "kind": kind})
+    let kind = Value::try_from_str(alloc, kind)?;
+    let members = with(alloc, Map::new(alloc), "kind", kind)?;
+    let members = with(alloc, members, "items", items)?;
+    Ok(Value::Object(members))
 }
 
 // The step as a value.

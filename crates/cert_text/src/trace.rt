@@ -22,11 +22,12 @@ ghost use Rattle.cert_text.specs.Naming.{capped};
 use crate::entry::{Entry, is_list, read_list, write_list};
 use crate::keys::member_count;
 use crate::limits::MOST_VALUES;
+use crate::members::with;
 use crate::numbering::Numbering;
 use crate::setting::Setting;
 use base_fractions::Frac;
 use flow_systems::{Fracs, Trace};
-use serde_json::{Value, json};
+use serde_json::{Map, Value};
 use std::alloc::{AllocError, Global};
 
 /// Whether the member of this key is there and a list of texts.
@@ -96,7 +97,9 @@ fn trace(alloc: Global, setting: &Setting, value: &Value) -> Result<Option<Trace
 fn trace_object(alloc: Global, free: Value, start: Value) -> Result<Value, AllocError>
     ensures { IfOk result (λ v. view v ≡ object (member (codes "free") (view free) (member (codes "start") (view start) no_members))) }
 {
-    json!(in alloc; {"free": free, "start": start})
+    let members = with(alloc, Map::new(alloc), "start", start)?;
+    let members = with(alloc, members, "free", free)?;
+    Ok(Value::Object(members))
 }
 
 /// The trace as a value.

@@ -8,12 +8,13 @@ ghost use Rattle.cert_text.specs.Traces.{are_texts, fracs_data, fracs_in};
 
 use crate::entry::Entry;
 use crate::keys::{index_at, is_index_at, is_kind, member_count};
+use crate::members::with;
 use crate::numbering::Numbering;
 use crate::setting::Setting;
 use crate::trace::{are_texts_at, fracs_at, fracs_value};
 use cert_types::Upper;
 use flow_systems::Fracs;
-use serde_json::{Value, json};
+use serde_json::{Map, Value};
 use std::alloc::{AllocError, Global};
 
 // Whether the value has the shape of evidence by a row at `-inf`.
@@ -92,7 +93,10 @@ fn read_upper(alloc: Global, setting: &Setting, value: &Value) -> Result<Option<
 fn unreached_value(alloc: Global, row: u32) -> Result<Value, AllocError>
     ensures { IfOk result (λ v. view v ≡ unreached_data row) }
 {
-    json!(in alloc; {"kind": "unreached", "row": row})
+    let kind = Value::try_from_str(alloc, "unreached")?;
+    let members = with(alloc, Map::new(alloc), "row", Value::from(row))?;
+    let members = with(alloc, members, "kind", kind)?;
+    Ok(Value::Object(members))
 }
 
 // The members of evidence by multipliers as a value.
@@ -104,7 +108,11 @@ fn weights_object(
 ) -> Result<Value, AllocError>
     ensures { IfOk result (λ v. view v ≡ weights_object (view guards) kind.now (view rows)) }
 {
-    json!(in alloc; {"guards": guards, "kind": kind, "rows": rows})
+    let kind = Value::try_from_str(alloc, kind)?;
+    let members = with(alloc, Map::new(alloc), "rows", rows)?;
+    let members = with(alloc, members, "kind", kind)?;
+    let members = with(alloc, members, "guards", guards)?;
+    Ok(Value::Object(members))
 }
 
 // Evidence of this kind by multipliers as a value.

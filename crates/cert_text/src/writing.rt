@@ -1,7 +1,8 @@
 //! Writing a certificate.
 
-ghost use Rattle.std.specs.Prelude.{◌≡◌, [], IfOk};
-ghost use Rattle.serde_json.specs.View.{view};
+ghost use Rattle.std.specs.Prelude.{◌≡◌, [], IfOk, codes};
+ghost use Rattle.serde_json.specs.Data.{member, no_members};
+ghost use Rattle.serde_json.specs.View.{members_view, view};
 ghost use Rattle.serde_json.specs.Written.{compact_text};
 ghost use Rattle.cert_text.specs.Naming.{named_traces, with_traces};
 ghost use Rattle.cert_text.specs.Certificates.{
@@ -18,11 +19,27 @@ ghost use Rattle.cert_text.specs.Certificates.{
 
 use crate::bounds::bounds_value;
 use crate::entry::write_list;
+use crate::members::with;
 use crate::naming::number_all;
 use crate::numbering::Numbering;
 use cert_types::{Cert, Step};
-use serde_json::{Value, json};
+use serde_json::{Map, Value};
 use std::alloc::{AllocError, Global};
+
+// The last fields as members.
+fn last_fields(
+    alloc: Global,
+    steps: Value,
+    traces: Value,
+    uppers: Value,
+) -> Result<Map<String, Value>, AllocError>
+    ensures { IfOk result (λ m. members_view m.entries ≡ member (codes "steps") (view steps) (member (codes "traces") (view traces)
+        (member (codes "uppers") (view uppers) no_members))) }
+{
+    let members = with(alloc, Map::new(alloc), "uppers", uppers)?;
+    let members = with(alloc, members, "traces", traces)?;
+    with(alloc, members, "steps", steps)
+}
 
 // The fields and the format as a value.
 fn cert_object(
@@ -35,7 +52,11 @@ fn cert_object(
 ) -> Result<Value, AllocError>
     ensures { IfOk result (λ v. view v ≡ cert_object (view bounds) (view rows) (view steps) (view traces) (view uppers)) }
 {
-    json!(in alloc; {"bounds": bounds, "format": 2u32, "rows": rows, "steps": steps, "traces": traces, "uppers": uppers})
+    let members = last_fields(alloc, steps, traces, uppers)?;
+    let members = with(alloc, members, "rows", rows)?;
+    let members = with(alloc, members, "format", Value::from(2u32))?;
+    let members = with(alloc, members, "bounds", bounds)?;
+    Ok(Value::Object(members))
 }
 
 // The numbers of the traces that the steps name.
