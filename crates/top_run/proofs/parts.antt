@@ -1,6 +1,5 @@
 pub mod Answering
 pub mod Loaded
-pub mod Lawful
 pub mod Failing
 pub mod Ended
 pub mod Headlined

@@ -7,3 +7,5 @@ pub mod Parts
 pub mod Run
 pub mod Headline
 pub mod Memory
+pub mod Programs
+pub mod Lawful

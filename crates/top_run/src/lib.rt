@@ -1,6 +1,7 @@
 //! All that the program does, over its words, its files and its streams.
 #![tactic(auto)]
 
+mod interface;
 mod loading;
 mod memory;
 mod messages;
@@ -8,11 +9,12 @@ mod output;
 mod program;
 mod promise;
 
+pub use interface::{Program, Tmpl};
 pub use memory::run_in_memory;
 pub use messages::tell;
 pub use out_workload::generate;
 pub use output::put_report;
-pub use program::run;
+pub use program::{run, run_as};
 pub use promise::headline;
 pub use top_answer::{Answer, Exact, Meaning, answer};
 pub use top_status::{CertCause, ReadCause, Status, TextCause, Which};

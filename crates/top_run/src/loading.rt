@@ -5,15 +5,15 @@ ghost use Rattle.ask_files.specs.Asked.{texts_of};
 ghost use Rattle.ask_files.specs.Loads.{contents_of};
 ghost use Rattle.ask_words.specs.Request.{request_of, request_text};
 ghost use Rattle.base_files.specs.Loads.{loaded_files};
-ghost use Rattle.top_answer.specs.Commands.{command_of};
 ghost use Rattle.top_run.specs.Parts.{IsAnswerOver, IsAnswerTo, IsRequestLoaded};
 ghost use Rattle.top_run.specs.Seen.{shelf_with};
 
+use crate::interface::Program;
 use ask_files::{load_files, request_files};
 use ask_words::{Request, WordsFault};
 use base_files::{Load, Shelf};
 use std::alloc::{AllocError, Global};
-use top_answer::{Answer, Exact, Meaning, answer, plain_answer};
+use top_answer::{Answer, plain_answer};
 use top_status::Status;
 
 // What these loads gave.
@@ -28,22 +28,22 @@ fn contents_of<'a>(alloc: Global, loads: &'a [Load]) -> Result<Vec<&'a [u8]>, Al
 }
 
 // The answer for want of memory.
-fn answer_memory(alloc: Global, words: &[String], loads: &[Load]) -> Answer
+fn answer_memory<P: Program>(alloc: Global, words: &[String], loads: &[Load]) -> Answer
     ensures status { result.status ≡ Status.Memory }
-    ensures answer { IsAnswerTo (command_of ⟦<Exact as Meaning>⟧.means) ⟦<Exact as Meaning>⟧.means (map string_bytes words.now)
+    ensures answer { IsAnswerTo P.commands P.means (map string_bytes words.now)
         (contents_of (loaded_files loads.now)) result.status result.bytes.items result.message }
 {
     plain_answer(alloc, Status::Memory)
 }
 
 // The answer to words over these loads.
-fn answer_loads(alloc: Global, words: &[String], loads: &[Load]) -> Answer
-    ensures { IsAnswerTo (command_of ⟦<Exact as Meaning>⟧.means) ⟦<Exact as Meaning>⟧.means (map string_bytes words.now)
+fn answer_loads<P: Program>(alloc: Global, words: &[String], loads: &[Load]) -> Answer
+    ensures { IsAnswerTo P.commands P.means (map string_bytes words.now)
         (contents_of (loaded_files loads.now)) result.status result.bytes.items result.message }
 {
     match contents_of(alloc, loads) {
-        Ok(contents) => answer(alloc, words, &contents),
-        Err(_) => answer_memory(alloc, words, loads),
+        Ok(contents) => P::answer(alloc, words, &contents),
+        Err(_) => answer_memory::<P>(alloc, words, loads),
     }
 }
 
@@ -62,34 +62,38 @@ fn load_request<S: Shelf>(
 }
 
 // The answer to the request of the words over its files, as they are loaded.
-pub(crate) fn answer_request<S: Shelf>(
+pub(crate) fn answer_request<P: Program, S: Shelf>(
     alloc: Global,
     words: &[String],
     request: Request<&str>,
     shelf: &mut S,
 ) -> Answer
     requires { request_of (map string_bytes words.now) ≡ Some (request_text request) }
-    ensures { IsAnswerOver (command_of ⟦<Exact as Meaning>⟧.means) ⟦<Exact as Meaning>⟧.means (map string_bytes words.now)
+    ensures { IsAnswerOver P.commands P.means (map string_bytes words.now)
         (shelf_with (S.files shelf.old) (S.loads shelf.old) (S.faults shelf.old) (S.last_failed shelf.old))
         (shelf_with (S.files shelf.new) (S.loads shelf.new) (S.faults shelf.new) (S.last_failed shelf.new))
         result.status result.bytes.items result.message }
 {
     let before = shelf.loaded().len();
     match load_request(alloc, request, shelf) {
-        Ok(()) => answer_loads(alloc, words, &shelf.loaded()[before..]),
-        Err(_) => answer_memory(alloc, words, &shelf.loaded()[before..]),
+        Ok(()) => answer_loads::<P>(alloc, words, &shelf.loaded()[before..]),
+        Err(_) => answer_memory::<P>(alloc, words, &shelf.loaded()[before..]),
     }
 }
 
 // The answer to words whose request isn't read.
-pub(crate) fn answer_unasked(alloc: Global, words: &[String], fault: WordsFault) -> Answer
+pub(crate) fn answer_unasked<P: Program>(
+    alloc: Global,
+    words: &[String],
+    fault: WordsFault,
+) -> Answer
     requires { fault ≡ WordsFault.Usage → request_of (map string_bytes words.now) ≡ None }
     ensures cause { (request_of (map string_bytes words.now) ≡ None) ⊎ (result.status ≡ Status.Memory) }
-    ensures answer { IsAnswerTo (command_of ⟦<Exact as Meaning>⟧.means) ⟦<Exact as Meaning>⟧.means (map string_bytes words.now) []
+    ensures answer { IsAnswerTo P.commands P.means (map string_bytes words.now) []
         result.status result.bytes.items result.message }
 {
     match fault {
-        WordsFault::Usage => plain_answer(alloc, Status::Usage),
+        WordsFault::Usage => P::answer(alloc, words, &[]),
         WordsFault::NoMemory => plain_answer(alloc, Status::Memory),
     }
 }

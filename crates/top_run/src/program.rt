@@ -9,6 +9,7 @@ ghost use Rattle.top_run.specs.Parts.{IsAnswerOver, PutsAnswer};
 ghost use Rattle.top_run.specs.Run.{IsRun};
 ghost use Rattle.top_run.specs.Seen.{shelf_with, sink_with};
 
+use crate::interface::{Program, Tmpl};
 use crate::loading::{answer_request, answer_unasked};
 use crate::messages::tell;
 use crate::output::{Pieces, pieces_of, put_pieces};
@@ -26,8 +27,8 @@ struct Piecewise {
 }
 
 // The answer to the words over the files that they name, as they are loaded.
-fn answer_words<S: Shelf>(alloc: Global, words: &[String], shelf: &mut S) -> Piecewise
-    ensures answer { IsAnswerOver (command_of ⟦<Exact as Meaning>⟧.means) ⟦<Exact as Meaning>⟧.means (map string_bytes words.now)
+fn answer_words<P: Program, S: Shelf>(alloc: Global, words: &[String], shelf: &mut S) -> Piecewise
+    ensures answer { IsAnswerOver P.commands P.means (map string_bytes words.now)
         (shelf_with (S.files shelf.old) (S.loads shelf.old) (S.faults shelf.old) (S.last_failed shelf.old))
         (shelf_with (S.files shelf.new) (S.loads shelf.new) (S.faults shelf.new) (S.last_failed shelf.new))
         result.answer.status result.answer.bytes.items result.answer.message }
@@ -36,11 +37,11 @@ fn answer_words<S: Shelf>(alloc: Global, words: &[String], shelf: &mut S) -> Pie
 {
     match read_words(alloc, words) {
         Ok(request) => Piecewise {
-            answer: answer_request(alloc, words, request, shelf),
+            answer: answer_request::<P, S>(alloc, words, request, shelf),
             pieces: pieces_of(request),
         },
         Err(fault) => Piecewise {
-            answer: answer_unasked(alloc, words, fault),
+            answer: answer_unasked::<P>(alloc, words, fault),
             pieces: Pieces::Lines,
         },
     }
@@ -60,6 +61,33 @@ fn put_answer<K: Sink>(alloc: Global, given: Piecewise, out: &mut K) -> Answer
         Status::Done => answer,
         status => plain_answer(alloc, status),
     }
+}
+
+/// Does all that a program does, and says how it ended. `words` are those after the program's own name. The files that they name are
+/// loaded, each once, up to the first that isn't read; their contents are answered as the program answers them; what is written goes to
+/// `out`, and the message of every other ending to `err`.
+///
+/// The order of causes is that of the answer. `Memory` may come at any time, and takes the place of any other answer; `Write` takes that of
+/// `Done`.
+pub fn run_as<P: Program, S: Shelf, K: Sink, L: Sink>(
+    alloc: Global,
+    words: &[String],
+    shelf: &mut S,
+    out: &mut K,
+    err: &mut L,
+) -> Status
+    ensures { IsRun P.commands P.means (map string_bytes words.now)
+        (shelf_with (S.files shelf.old) (S.loads shelf.old) (S.faults shelf.old) (S.last_failed shelf.old))
+        (shelf_with (S.files shelf.new) (S.loads shelf.new) (S.faults shelf.new) (S.last_failed shelf.new))
+        (sink_with (K.held out.old) (K.taken out.old) (K.faults out.old) (K.spare out.old))
+        (sink_with (K.held out.new) (K.taken out.new) (K.faults out.new) (K.spare out.new))
+        (sink_with (L.held err.old) (L.taken err.old) (L.faults err.old) (L.spare err.old))
+        (sink_with (L.held err.new) (L.taken err.new) (L.faults err.new) (L.spare err.new)) result }
+{
+    let answered = answer_words::<P, S>(alloc, words, shelf);
+    let ended = put_answer(alloc, answered, out);
+    tell(&ended.status, &ended.message, err);
+    ended.status
 }
 
 /// Does all that the program does, and says how it ended. `words` are those after the program's own name. The files that they name are
@@ -83,8 +111,5 @@ pub fn run<S: Shelf, K: Sink, L: Sink>(
         (sink_with (L.held err.old) (L.taken err.old) (L.faults err.old) (L.spare err.old))
         (sink_with (L.held err.new) (L.taken err.new) (L.faults err.new) (L.spare err.new)) result }
 {
-    let answered = answer_words(alloc, words, shelf);
-    let ended = put_answer(alloc, answered, out);
-    tell(&ended.status, &ended.message, err);
-    ended.status
+    run_as::<Tmpl, S, K, L>(alloc, words, shelf, out, err)
 }

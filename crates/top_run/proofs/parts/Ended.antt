@@ -16,7 +16,6 @@ use Rattle.top_answer.specs.Answers.{Answers, Ends, Holds, IsAnswer, IsMessage, 
 use Rattle.top_answer.specs.Commands.{Commands}
 use Rattle.top_run.proofs.parts.Answering.{placeless}
 use Rattle.top_run.proofs.parts.Failing.{failed_in}
-use Rattle.top_run.proofs.parts.Lawful.{IsLawful}
 use Rattle.top_run.specs.Lines.{cut_by, pieces_of}
 use Rattle.top_run.specs.Loading as loading
 use Rattle.top_run.specs.Loading.{HasFailed, IsLoading}
@@ -25,13 +24,14 @@ use Rattle.top_run.specs.Outputs as outputs
 use Rattle.top_run.specs.Outputs.{OutputGets}
 use Rattle.top_run.specs.Parts as parts
 use Rattle.top_run.specs.Parts.{IsAnswerOver, IsAnswerTo, IsPutBy, PutsAnswer}
+use Rattle.top_run.specs.Programs.{IsLawful, IsPlain}
 use Rattle.top_run.specs.Run.{Gives, IsEnding, IsRun, answered, is_answer, is_unwritten, unwritten}
 use Rattle.top_run.specs.Seen.{ShelfSeen, SinkSeen}
 use Rattle.top_run.specs.declared.output.Pieces.{Pieces}
 use Rattle.top_status.specs.Messages.{message_of}
 use Rattle.top_status.specs.declared.status.Status.{Status}
 use Rattle.top_status.specs.declared.status.Status.TheVariants.{Done, Memory, Read, Usage, Wide, Write}
-use Rattle.top_texts.specs.Exact.{exact}
+use Rattle.top_texts.specs.Meanings.{Meanings}
 
 -- ---- statuses differ
 
@@ -62,7 +62,7 @@ read_memory s cause h k = cc
 read_done : (s : Status) (cause : _) → s ≡ Read cause → s ≡ Done → ⊥
 read_done s cause h k = cc
 
-module _ (commands : Commands) (lawful : IsLawful commands) (words : List (List ℕ)) (made : List LoadedFile) where
+module _ (commands : Commands) (lawful : IsLawful commands) (m : Meanings) (plain : IsPlain m) (words : List (List ℕ)) (made : List LoadedFile) where
   -- ---- what an answer's status says
 
   not_write : (status : Status) → IsAnswer commands words (contents_of made) status → status ≡ Write → ⊥
@@ -105,10 +105,10 @@ module _ (commands : Commands) (lawful : IsLawful commands) (words : List (List 
     pub complete : (ending : Status) → Ends commands words (contents_of made) ending
         → Gives commands words (contents_of made) ending status out out_now
     pub read : (which : Which) → status ≡ Read (Failed which) → HasFailed words made which shelf now
-    pub names : IsMessage exact words (contents_of made) status message
+    pub names : IsMessage m words (contents_of made) status message
 
   module _ (shelf now : ShelfSeen) (out out_now : SinkSeen) (pieces : Pieces) (status : Status) (bytes message : List ℕ)
-      (loads : IsLoading words made shelf now status) (a : IsAnswerTo commands exact words (contents_of made) status bytes message)
+      (loads : IsLoading words made shelf now status) (a : IsAnswerTo commands m words (contents_of made) status bytes message)
       (piecewise : (request : Request) → request_of words ≡ Some request → status ≡ Done → pieces ≡ pieces_of request) where
     kept : (status ≡ Done → ⊥) → out_now ≡ out → Ended shelf now out out_now status message
     kept other same = record {
@@ -149,7 +149,7 @@ module _ (commands : Commands) (lawful : IsLawful commands) (words : List (List 
         unchanged = λ refused. absurd (refused (done_is ending status d (a.complete ending h)));
       };
       read = λ which e. absurd (read_write Write (Failed which) e refl);
-      names = placeless words (contents_of made) Write told is (λ text. refl) (λ count. refl);
+      names = placeless m words (contents_of made) Write told plain.write is;
     }
 
     wanting : status ≡ Done → (n : ℕ) → Appends out.held out_now.held (take n bytes) → out.spare < length bytes
@@ -163,7 +163,7 @@ module _ (commands : Commands) (lawful : IsLawful commands) (words : List (List 
         unchanged = λ refused. absurd (refused (done_is ending status d (a.complete ending h)));
       };
       read = λ which e. absurd (read_memory Memory (Failed which) e refl);
-      names = placeless words (contents_of made) Memory told is (λ text. refl) (λ count. refl);
+      names = placeless m words (contents_of made) Memory told plain.memory is;
     }
 
     -- a status by another name
@@ -193,15 +193,15 @@ module _ (commands : Commands) (lawful : IsLawful commands) (words : List (List 
     ended s told (parts.is_not_put d other is h) = by_put s told d other is h
 
 -- an answer over the files of the words, whose bytes were put, and whose message was told, is a run
-pub is_run : (commands : Commands) → IsLawful commands → (words : List (List ℕ)) (shelf now : ShelfSeen)
+pub is_run : (commands : Commands) → IsLawful commands → (m : Meanings) → IsPlain m → (words : List (List ℕ)) (shelf now : ShelfSeen)
     (out out_now err err_now : SinkSeen) (pieces : Pieces) (status : Status) (bytes message : List ℕ) (status_now : Status) (told : List ℕ)
-    → IsAnswerOver commands exact words shelf now status bytes message
+    → IsAnswerOver commands m words shelf now status bytes message
     → ((request : Request) → request_of words ≡ Some request → status ≡ Done → pieces ≡ pieces_of request)
     → PutsAnswer pieces status bytes message out out_now status_now told
     → GetsMessage status_now told err.held err_now.held err.faults err_now.faults err.spare
-    → IsInOnePiece told err.taken err_now.taken → IsRun commands exact words shelf now out out_now err err_now status_now
-is_run commands lawful words shelf now out out_now err err_now pieces status bytes message s told a piecewise puts gets piece =
-    let e = ended commands lawful words a.made shelf now out out_now pieces status bytes message a.loads a.is_answer piecewise
+    → IsInOnePiece told err.taken err_now.taken → IsRun commands m words shelf now out out_now err err_now status_now
+is_run commands lawful m plain words shelf now out out_now err err_now pieces status bytes message s told a piecewise puts gets piece =
+    let e = ended commands lawful m plain words a.made shelf now out out_now pieces status bytes message a.loads a.is_answer piecewise
     s told puts in
     record {
       made = a.made;

@@ -1,20 +1,17 @@
--- No command ends in a failed read or in a failed put: these are causes of the run.
-use Rattle.std.proofs.Common.{◌≡◌}
+-- No command ends in a failed read or in a failed put: these are causes of the run. It is shown here, since a program cites it.
+use Rattle.std.proofs.Common.{◌≡◌, refl}
 use Rattle.ask_files.specs.Files.{Request}
 use Rattle.ask_files.specs.declared.which.ReadCause.{ReadCause}
 use Rattle.ask_words.specs.declared.request.Purpose.TheVariants.{Report, Certificate as AsCertificate}
 use Rattle.ask_words.specs.declared.request.Request.TheVariants.{Analyse, Check, Bench, Upgrade, Prove, Transitions, Equations}
-use Rattle.top_answer.specs.Commands.{Commands, CheckEnds, UpgradeEnds, command_of}
+use Rattle.top_answer.specs.Commands.{CheckEnds, UpgradeEnds, command_of}
 use Rattle.top_answer.specs.Commands as commands
 use Rattle.top_status.specs.declared.status.Status.{Status}
 use Rattle.top_status.specs.declared.status.Status.TheVariants.{Read, Write}
+use Rattle.top_run.specs.Programs.{IsLawful, IsPlain}
+use Rattle.top_texts.specs.Exact.{exact}
 use Rattle.top_texts.specs.Meanings.{Meanings}
 use Rattle.top_texts.specs.Questions.{Question, QuestionEnds, is_refused, rounds_end, rounds_spent}
-
--- what endings of commands never are
-pub record IsLawful (commands : Commands) : Type 0 where
-  pub writes : (asked : Request) → (commands asked).ends Write → ⊥
-  pub reads : (asked : Request) (cause : ReadCause) → (commands asked).ends (Read cause) → ⊥
 
 question_writes : (question : Question) → QuestionEnds question Write → ⊥
 question_writes question (is_refused cause e h) = cc
@@ -70,3 +67,10 @@ module _ (m : Meanings) where
   -- the commands of the program are so
   pub lawful : IsLawful (command_of m)
   lawful = record { writes = command_writes; reads = command_reads }
+
+-- the messages of the program name no place where memory is wanted or the output failed
+pub plain : IsPlain exact
+plain = record {
+  memory = record { message = refl; line = λ text. refl; rows = λ count. refl };
+  write = record { message = refl; line = λ text. refl; rows = λ count. refl };
+}

@@ -1,9 +1,0 @@
-use Rattle.top_run.proofs.parts.Ended.{is_run}
-use Rattle.top_run.proofs.parts.Lawful.{lawful}
-use Rattle.top_texts.specs.Exact.{exact}
-use Rattle.top_run.proofs.program.run.Goals as goal
-
-pub returns : goal.returns
-returns g c =
-    is_run _ (lawful exact) _ _ _ _ _ _ _ _ _ _ _ _ _ c.answer_words-answered.ensures.answer c.answer_words-answered.ensures.pieces
-    c.put_answer-ended.ensures c.tell.ensures.gets c.tell.ensures.piece
