@@ -1,6 +1,7 @@
 //! All that the program does, over its words, its files and its streams.
 #![tactic(auto)]
 
+mod laws;
 mod loading;
 mod memory;
 mod messages;
@@ -8,6 +9,7 @@ mod output;
 mod program;
 mod promise;
 
+pub use laws::read_is_whole;
 pub use memory::run_in_memory;
 pub use messages::tell;
 pub use out_workload::generate;
