@@ -2,6 +2,7 @@
 #![tactic(auto)]
 
 mod interface;
+mod laws;
 mod loading;
 mod memory;
 mod messages;
@@ -10,6 +11,7 @@ mod program;
 mod promise;
 
 pub use interface::{Program, Tmpl};
+pub use laws::read_is_whole;
 pub use memory::run_in_memory;
 pub use messages::tell;
 pub use out_workload::generate;

@@ -2,10 +2,9 @@
 
 ghost use Rattle.std.specs.Prelude.{◌≡◌, Some, map, string_bytes};
 ghost use Rattle.base_files.specs.Files.{Contents};
-ghost use Rattle.top_answer.specs.Answers.{Answers, Ends, IsOutput};
+ghost use Rattle.top_answer.specs.Answers.{Answers, Ends, IsAnswer, IsOutput};
 ghost use Rattle.top_answer.specs.Commands.{command_of};
 ghost use Rattle.top_run.specs.Memory.{InMemory, contents_for};
-ghost use Rattle.top_run.specs.Seen.{sink_with};
 ghost use Rattle.top_status.specs.declared.status.Status.{Status as StatusValue};
 
 use crate::program::run;
@@ -23,14 +22,20 @@ pub fn run_in_memory<L: Sink>(
     out: &mut PlainSink,
     err: &mut L,
 ) -> Status
-    ensures complete { (files : Contents) (ending : StatusValue) → ⟦<PlainShelf as Shelf>⟧.files shelf.old ≡ Some files
-        → Ends (command_of ⟦<Exact as Meaning>⟧.means) (map string_bytes words.now) (contents_for files (map string_bytes words.now)) ending
-        → Answers (command_of ⟦<Exact as Meaning>⟧.means) (map string_bytes words.now) (contents_for files (map string_bytes words.now))
-        ending result }
+    // Sound: the answer is one to the words and to the contents of these files, and so is what is put.
+    ensures answer { (files : Contents) → ⟦<PlainShelf as Shelf>⟧.files shelf.old ≡ Some files
+        → IsAnswer (command_of ⟦<Exact as Meaning>⟧.means) (map string_bytes words.now) (contents_for files (map string_bytes words.now))
+        result }
     ensures output { (files : Contents) → ⟦<PlainShelf as Shelf>⟧.files shelf.old ≡ Some files
         → InMemory (IsOutput (command_of ⟦<Exact as Meaning>⟧.means) (map string_bytes words.now)
         (contents_for files (map string_bytes words.now))) result
         (⟦<PlainSink as Sink>⟧.held out.old) (⟦<PlainSink as Sink>⟧.held out.new) }
+
+    // Complete: the ending that stands is answered, but for want of memory, or a wide operation that stands.
+    ensures complete { (files : Contents) (ending : StatusValue) → ⟦<PlainShelf as Shelf>⟧.files shelf.old ≡ Some files
+        → Ends (command_of ⟦<Exact as Meaning>⟧.means) (map string_bytes words.now) (contents_for files (map string_bytes words.now)) ending
+        → Answers (command_of ⟦<Exact as Meaning>⟧.means) (map string_bytes words.now) (contents_for files (map string_bytes words.now))
+        ending result }
 {
     run(alloc, words, shelf, out, err)
 }

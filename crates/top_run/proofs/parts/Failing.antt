@@ -15,7 +15,7 @@ use Rattle.base_files.specs.Loads.{LoadedFile}
 use Rattle.top_answer.specs.Answers as answers
 use Rattle.top_answer.specs.Answers.{Ends, IsAnswer}
 use Rattle.top_answer.specs.Commands.{Commands}
-use Rattle.top_run.proofs.parts.Lawful.{IsLawful}
+use Rattle.top_run.specs.Programs.{IsLawful}
 use Rattle.top_run.specs.Loading as loading
 use Rattle.top_run.specs.Loading.{HasFailed, IsLoading}
 use Rattle.top_run.specs.Seen.{ShelfSeen}

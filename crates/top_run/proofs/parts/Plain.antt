@@ -1,7 +1,8 @@
 -- Over files and an output in memory nothing fails outside: what is loaded is what the files are.
 use Rattle.std.proofs.Common.{◌≡◌, ◌∙◌, ◌⊎◌, inl, inr, ⊎_elim, ◌<◌, ◌≤◌, ◌+◌, ◌++◌, ◌∷◌, ℕ, List, []}
 use Rattle.std.proofs.Common.{Bool, true, false, refl, sym, ap, subst, length, take, min, arith, append-nil, if◌then◌else◌}
-use Rattle.std.proofs.lemmas.List.{length-take}
+use Rattle.std.proofs.Math.Seq.{take-length}
+use Rattle.std.proofs.lemmas.List.{length-take, take_min}
 use Rattle.std.specs.Prelude.{Some, None, Option, Result, IsErr, nat_lt, option_map}
 use Rattle.std.specs.declared.alloc.AllocError.{AllocError}
 use Rattle.ask_files.proofs.loads.Unread.{unread_failed}
@@ -13,7 +14,7 @@ use Rattle.base_files.specs.Faults.{Rose, next_count}
 use Rattle.base_files.specs.Files.{Contents}
 use Rattle.base_files.specs.Loads.{LoadedFile}
 use Rattle.top_answer.specs.Answers as answers
-use Rattle.top_answer.specs.Answers.{Answers, Ends, IsOutput}
+use Rattle.top_answer.specs.Answers.{Answers, Ends, IsAnswer, IsOutput}
 use Rattle.top_answer.specs.Commands.{Commands}
 use Rattle.top_run.specs.Loading as loading
 use Rattle.top_run.specs.Loading.{IsLoading}
@@ -45,6 +46,17 @@ not_over most content text e h =
     (subst (λ t. length t ≤ most) (sym e) h) in
     grind arith
 
+not_over_le : (most : ℕ) (content text : List ℕ) → take (most + 1) content ≡ text → length text ≤ most → length content ≤ most + 1
+not_over_le most content text e h =
+    let l : min (most + 1) (length content) ≤ most = subst (λ n. n ≤ most) (length-take (most + 1) content)
+    (subst (λ t. length t ≤ most) (sym e) h) in
+    grind arith
+
+take_all : (n : ℕ) (xs : List ℕ) → length xs ≤ n → take n xs ≡ xs
+take_all n xs h =
+    let short : min n (length xs) ≡ length xs = grind arith in
+    sym (take_min n xs) ∙ ap (λ k. take k xs) short ∙ take-length xs
+
 over : (most : ℕ) (content text : List ℕ) → take (most + 1) content ≡ text → most < length text → nat_lt most (length content) ≡ true
 over most content text e h =
     let l : most < min (most + 1) (length content) =
@@ -60,6 +72,18 @@ module _ (files : Contents) where
       let same = some_inside (front_of file content) load.1 front in
       ap (λ b. front_of file content ∷ (if b then [] else others)) (not_over (most_bytes file.0) content load.1 same within)
       ∙ ap (λ text. text ∷ others) same
+
+  whole_by : (file : NamedFile) (load : LoadedFile) (o : Option (List ℕ)) → files file.1 ≡ o
+      → option_map (take (most_bytes file.0 + 1)) o ≡ Some load.1 → length load.1 ≤ most_bytes file.0 → files file.1 ≡ Some load.1
+  whole_by file load None e front within = let f : ⊥ = cc in absurd f
+  whole_by file load (Some content) e front within =
+      let same = some_inside (front_of file content) load.1 front in
+      e ∙ ap Some (sym (take_all (most_bytes file.0 + 1) content
+      (not_over_le (most_bytes file.0) content load.1 same within)) ∙ same)
+
+  -- what is read of a file is its content
+  pub whole : (file : NamedFile) (load : LoadedFile) → IsRead (Some files) file load → files file.1 ≡ Some load.1
+  whole file load h = whole_by file load (files file.1) refl h.is_load.front h.within
 
   by_long : (file : NamedFile) (load : LoadedFile) (others : List (List ℕ)) (o : Option (List ℕ)) → files file.1 ≡ o
       → option_map (take (most_bytes file.0 + 1)) o ≡ Some load.1 → most_bytes file.0 < length load.1
@@ -112,6 +136,12 @@ absent_in now before files name kept told none =
 -- a count that stays at 0 doesn't rise
 pub stays : Rose 0 0 → ⊥
 stays rose = omega arith
+
+done_write : (s : Status) → s ≡ Done → s ≡ Write → ⊥
+done_write s h k = cc
+
+memory_write : (s : Status) → s ≡ Memory → s ≡ Write → ⊥
+memory_write s h k = cc
 
 done_memory : (s : Status) → s ≡ Done → s ≡ Memory → ⊥
 done_memory s h k = cc
@@ -166,18 +196,25 @@ module _ (commands : Commands) (m : Meanings) (words : List (List ℕ)) (shelf n
 
   -- ---- what is promised over these contents
 
+  written : OutputGets (IsOutput commands words (contents_of r.made)) words status out out_now → status ≡ Write → ⊥
+  written (outputs.gets_whole bytes d is put) w = done_write status d w
+  written (outputs.gets_part bytes n e is appended rises) w = never rises
+  written (outputs.gets_fitting bytes n e is appended long calm) w = memory_write status e w
+  written (outputs.gets_nothing other no_write same) w = no_write w
+
+  is_answer : run.IsEnding commands words (contents_of r.made) status → IsAnswer commands words (contents_of r.made) status
+  is_answer (run.is_answer a) = a
+  is_answer (run.is_unwritten w h) = absurd (written r.output w)
+
+  -- what is answered is so of the words and of these files
+  pub answer : IsAnswer commands words (contents_for files words) status
+  answer = ⊎_elim (λ same. subst (λ texts. IsAnswer commands words texts status) same (is_answer r.answer))
+      (λ wanting. answers.is_memory wanting.0) (by_loading r.made r.loads)
+
   answers_given : (ending : Status) → run.IsGiven commands words (contents_of r.made) ending status
-      → OutputGets (IsOutput commands words (contents_of r.made)) words status out out_now
       → Answers commands words (contents_of r.made) ending status
-  answers_given ending (run.answered a) o = a
-  answers_given ending (run.unwritten w d) o = absurd (never (rose o w))
-    where
-      rose : OutputGets (IsOutput commands words (contents_of r.made)) words status out out_now → status ≡ Write
-          → Rose out.faults out_now.faults
-      rose (outputs.gets_whole bytes d is put) w = let f : ⊥ = cc in absurd f
-      rose (outputs.gets_part bytes n e is appended rises) w = rises
-      rose (outputs.gets_fitting bytes n memory is appended long calm) w = let f : ⊥ = cc in absurd f
-      rose (outputs.gets_nothing other written same) w = absurd (written w)
+  answers_given ending (run.answered a) = a
+  answers_given ending (run.unwritten w d) = absurd (written r.output w)
 
   -- each ending of the words over these files is answered
   pub complete : (ending : Status) → Ends commands words (contents_for files words) ending
@@ -185,7 +222,7 @@ module _ (commands : Commands) (m : Meanings) (words : List (List ℕ)) (shelf n
   complete ending h = ⊎_elim
       (λ same. subst (λ texts. Answers commands words texts ending status) same
       (let back = subst (λ texts. Ends commands words texts ending) (sym same) h in
-      answers_given ending (r.complete ending back).given r.output))
+      answers_given ending (r.complete ending back).given))
       (λ wanting. answers.no_memory wanting.0) (by_loading r.made r.loads)
 
   gets : ((bytes : List ℕ) → IsOutput commands words (contents_of r.made) bytes → status ≡ Memory
