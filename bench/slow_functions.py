@@ -6,12 +6,15 @@
     bench/slow_functions.py --above 10 CRATE..    those that take more than ten seconds
     bench/slow_functions.py --live CRATE..        prints each as it is checked, besides
 
-Runs `rt check --jobs 1` from nothing in a copy of the tree that is removed in the end, so that no work kept of the crate shortens the check. The
-copy has the libraries that are built in the tree; a library below the crate that is not built there, or of another text, is built first by rt and
-counts nothing. A function's seconds are those that the checker's process spent on the processor between the line that says that the function
-before was checked and its own, so that other work on the machine hardly counts; they hold the lemma files that the function is the first to need.
-The first line's seconds hold the loading of the libraries, and what is spent behind the last function is given apart. The order of the lines is
-the checker's. This is for those who work on proofs, and no part of the gate.
+Runs `rt check --jobs 1` from nothing in a copy of the tree that is removed in the end. A line is added to the crate's root file there,
+since rt would else begin with what was kept of the same text elsewhere on this machine. The copy has the libraries that are built in the
+tree; a library below the crate that is not built there, or of another text, is built first by rt and counts nothing.
+
+A function's seconds are those that the checker's processes spent on the processor between the line that says that the function before was
+checked and its own: they hold the lemma files and the types that it is the first to need, so that a short function with many seconds
+tells of those. The first line's seconds hold the loading of the libraries; what is spent behind the last function is given apart. Other
+work on the machine lengthens them by a fifth or so, where processors share a core. This is for those who work on proofs, and no part of
+the gate.
 """
 import argparse
 import os
@@ -38,11 +41,13 @@ def copy_of_tree(to):
 
 
 def forget(crate, folder):
-    """Leaves the check of the crate nothing to begin with. Its kept work goes behind a link, since rt gives no link what another checkout kept."""
-    shutil.rmtree(f"{folder}/crates/{crate}/out", ignore_errors=True)
-    os.mkdir(f"{folder}/{crate}-kept")
-    os.mkdir(f"{folder}/crates/{crate}/out")
-    os.symlink(f"{folder}/{crate}-kept", f"{folder}/crates/{crate}/out/incremental")
+    """Leaves the check of the crate nothing to begin with: rt would else take what was kept of the same text elsewhere on this machine."""
+    top = f"{folder}/crates/{crate}"
+    shutil.rmtree(f"{top}/out", ignore_errors=True)
+    os.makedirs(f"{top}/out/incremental")
+    root = next(it for it in (f"{top}/src/lib.rt", f"{top}/src/main.rt") if os.path.isfile(it))
+    with open(root, "a", encoding="utf-8") as file:
+        file.write(f"\n// {folder}\n")
 
 
 def children_of(number):
@@ -71,9 +76,10 @@ def processor_seconds(number, crate):
 
 
 def times_of(crate, folder, is_live):
-    """The functions with their seconds, the seconds behind the last, all user seconds of the command, and whether the crate is proved."""
+    """The functions with their seconds, the seconds behind the last, those of the whole check, and whether the crate is proved."""
     command = ["rt", "check", "--jobs", "1"]
-    running = subprocess.Popen(command, cwd=f"{folder}/crates/{crate}", stdout=subprocess.PIPE, stderr=subprocess.STDOUT, text=True)
+    how = {"cwd": f"{folder}/crates/{crate}", "stdout": subprocess.PIPE, "stderr": subprocess.STDOUT, "text": True}
+    running = subprocess.Popen(command, **how)
     found, before, is_proved, latest = [], 0.0, False, 0.0
     for line in running.stdout:
         latest = max(latest, processor_seconds(running.pid, crate))
@@ -106,9 +112,11 @@ def main():
             forget(crate, folder)
             found, rest, whole, is_proved = times_of(crate, folder, given.live)
             slowest = sorted(found, reverse=True)
-            for seconds, name in [it for it in slowest if it[0] > given.above] if given.above is not None else slowest[: given.most]:
+            chosen = slowest[: given.most] if given.above is None else [it for it in slowest if it[0] > given.above]
+            for seconds, name in chosen:
                 print(f"{seconds:7.1f}  {name}")
-            print(f"{whole:7.1f}  {crate}, {len(found)} functions, {rest:.1f} behind the last" + ("" if is_proved else ", not proved"), flush=True)
+            ending = "" if is_proved else ", not proved"
+            print(f"{whole:7.1f}  {crate}, {len(found)} functions, {rest:.1f} behind the last{ending}", flush=True)
             status |= not is_proved
     return status
 

@@ -48,7 +48,8 @@ fn text_tokens(alloc: Global, text: &[u8]) -> Result<Vec<Token>, AllocError>
 }
 
 // The text with what its least bounds say.
-pub(crate) fn annotated_text(alloc: Global,
+pub(crate) fn annotated_text(
+    alloc: Global,
     text: &[u8],
     least: &LeastBounds,
 ) -> Result<Vec<u8>, AllocError>
@@ -70,12 +71,6 @@ pub(crate) fn annotated_text(alloc: Global,
     has_rows(system);
     let tokens = text_tokens(alloc, text)?;
     let places = anchors(alloc, &tokens, text)?;
-    let list = comments(
-        alloc,
-        text,
-        &places,
-        system,
-        &least.solved.bounds,
-    )?;
+    let list = comments(alloc, text, &places, system, &least.solved.bounds)?;
     with_comments(alloc, text, &list)
 }

@@ -1,6 +1,6 @@
 //! What a program is whose runs load, answer and put.
 
-ghost use Rattle.std.specs.Prelude.{map, string_bytes};
+ghost use Rattle.std.specs.Prelude.{List, ℕ, map, string_bytes};
 ghost use Rattle.ask_files.specs.Asked.{texts_of};
 ghost use Rattle.top_answer.specs.Answers.{Answers, Ends, Holds, IsAnswer, IsMessage, IsOutput};
 ghost use Rattle.top_answer.specs.Commands.{Commands};
@@ -19,8 +19,12 @@ pub trait Program {
     /// What its parts mean, and how its messages read.
     ghost means: { Meanings };
 
+    /// The words that it may be asked with.
+    ghost takes: { List (List ℕ) → Type 0 };
+
     /// The answer to words and to contents in the order of `ask_files::files_of`, as `top_answer::answer` promises it.
     fn answer(alloc: Global, words: &[String], contents: &[&[u8]]) -> Answer
+        requires { takes (map string_bytes words.now) }
         ensures answer { IsAnswer commands (map string_bytes words.now) (texts_of contents.now) result.status }
         ensures output { Holds (IsOutput commands (map string_bytes words.now) (texts_of contents.now)) result.status result.bytes.items }
         ensures complete { (ending : StatusValue) → Ends commands (map string_bytes words.now) (texts_of contents.now) ending
@@ -47,6 +51,8 @@ impl Program for Tmpl {
     ghost commands = { command_of exact };
 
     ghost means = { exact };
+
+    ghost takes = { λ _. Unit {0} };
 
     ghost lawful = { commands_lawful exact };
 

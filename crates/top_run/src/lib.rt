@@ -16,7 +16,7 @@ pub use memory::run_in_memory;
 pub use messages::tell;
 pub use out_workload::generate;
 pub use output::put_report;
-pub use program::{run, run_as};
+pub use program::{run, run_as, run_without_words};
 pub use promise::headline;
 pub use top_answer::{Answer, Exact, Meaning, answer};
 pub use top_status::{CertCause, ReadCause, Status, TextCause, Which};

@@ -38,6 +38,7 @@ fn answer_memory<P: Program>(alloc: Global, words: &[String], loads: &[Load]) ->
 
 // The answer to words over these loads.
 fn answer_loads<P: Program>(alloc: Global, words: &[String], loads: &[Load]) -> Answer
+    requires { P.takes (map string_bytes words.now) }
     ensures { IsAnswerTo P.commands P.means (map string_bytes words.now)
         (contents_of (loaded_files loads.now)) result.status result.bytes.items result.message }
 {
@@ -68,7 +69,8 @@ pub(crate) fn answer_request<P: Program, S: Shelf>(
     request: Request<&str>,
     shelf: &mut S,
 ) -> Answer
-    requires { request_of (map string_bytes words.now) ≡ Some (request_text request) }
+    requires takes { P.takes (map string_bytes words.now) }
+    requires asked { request_of (map string_bytes words.now) ≡ Some (request_text request) }
     ensures { IsAnswerOver P.commands P.means (map string_bytes words.now)
         (shelf_with (S.files shelf.old) (S.loads shelf.old) (S.faults shelf.old) (S.last_failed shelf.old))
         (shelf_with (S.files shelf.new) (S.loads shelf.new) (S.faults shelf.new) (S.last_failed shelf.new))
@@ -87,7 +89,8 @@ pub(crate) fn answer_unasked<P: Program>(
     words: &[String],
     fault: WordsFault,
 ) -> Answer
-    requires { fault ≡ WordsFault.Usage → request_of (map string_bytes words.now) ≡ None }
+    requires takes { P.takes (map string_bytes words.now) }
+    requires unasked { fault ≡ WordsFault.Usage → request_of (map string_bytes words.now) ≡ None }
     ensures cause { (request_of (map string_bytes words.now) ≡ None) ⊎ (result.status ≡ Status.Memory) }
     ensures answer { IsAnswerTo P.commands P.means (map string_bytes words.now) []
         result.status result.bytes.items result.message }

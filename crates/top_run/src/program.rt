@@ -1,6 +1,6 @@
 //! The top call.
 
-ghost use Rattle.std.specs.Prelude.{◌≡◌, Some, map, string_bytes};
+ghost use Rattle.std.specs.Prelude.{◌≡◌, List, ℕ, Some, map, string_bytes};
 ghost use Rattle.ask_files.specs.Files.{Request as NamedRequest};
 ghost use Rattle.ask_words.specs.Request.{request_of};
 ghost use Rattle.top_answer.specs.Commands.{command_of};
@@ -28,6 +28,7 @@ struct Piecewise {
 
 // The answer to the words over the files that they name, as they are loaded.
 fn answer_words<P: Program, S: Shelf>(alloc: Global, words: &[String], shelf: &mut S) -> Piecewise
+    requires { P.takes (map string_bytes words.now) }
     ensures answer { IsAnswerOver P.commands P.means (map string_bytes words.now)
         (shelf_with (S.files shelf.old) (S.loads shelf.old) (S.faults shelf.old) (S.last_failed shelf.old))
         (shelf_with (S.files shelf.new) (S.loads shelf.new) (S.faults shelf.new) (S.last_failed shelf.new))
@@ -76,6 +77,7 @@ pub fn run_as<P: Program, S: Shelf, K: Sink, L: Sink>(
     out: &mut K,
     err: &mut L,
 ) -> Status
+    requires { P.takes (map string_bytes words.now) }
     ensures { IsRun P.commands P.means (map string_bytes words.now)
         (shelf_with (S.files shelf.old) (S.loads shelf.old) (S.faults shelf.old) (S.last_failed shelf.old))
         (shelf_with (S.files shelf.new) (S.loads shelf.new) (S.faults shelf.new) (S.last_failed shelf.new))
@@ -88,6 +90,26 @@ pub fn run_as<P: Program, S: Shelf, K: Sink, L: Sink>(
     let ended = put_answer(alloc, answered, out);
     tell(&ended.status, &ended.message, err);
     ended.status
+}
+
+/// What a run of a program is where there is no memory for its words: nothing is loaded and nothing is put, but for the message.
+pub fn run_without_words<P: Program, S: Shelf, K: Sink, L: Sink>(
+    alloc: Global,
+    _shelf: &mut S,
+    _out: &mut K,
+    err: &mut L,
+) -> Status
+    ensures { (words : List (List ℕ)) → IsRun P.commands P.means words
+        (shelf_with (S.files _shelf.old) (S.loads _shelf.old) (S.faults _shelf.old) (S.last_failed _shelf.old))
+        (shelf_with (S.files _shelf.new) (S.loads _shelf.new) (S.faults _shelf.new) (S.last_failed _shelf.new))
+        (sink_with (K.held _out.old) (K.taken _out.old) (K.faults _out.old) (K.spare _out.old))
+        (sink_with (K.held _out.new) (K.taken _out.new) (K.faults _out.new) (K.spare _out.new))
+        (sink_with (L.held err.old) (L.taken err.old) (L.faults err.old) (L.spare err.old))
+        (sink_with (L.held err.new) (L.taken err.new) (L.faults err.new) (L.spare err.new)) result }
+{
+    let answer = plain_answer(alloc, Status::Memory);
+    tell(&answer.status, &answer.message, err);
+    answer.status
 }
 
 /// Does all that the program does, and says how it ended. `words` are those after the program's own name. The files that they name are

@@ -5,8 +5,8 @@ mod ending;
 mod message;
 mod status;
 
+pub use ask_files::{ReadCause, Which};
 pub use ending::{Ending, plain_ending};
 pub use message::place::{answer_line, answer_rows};
 pub use message::{Message, make_message};
-pub use ask_files::{ReadCause, Which};
 pub use status::{CertCause, Status, TextCause};

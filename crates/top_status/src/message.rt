@@ -10,8 +10,8 @@ mod check;
 pub(crate) mod place;
 
 use crate::status::{Status, TextCause};
-use ask_files::{ReadCause, Which};
 use ask_claims::ClaimFault;
+use ask_files::{ReadCause, Which};
 use ask_words::usage_line;
 use check::{certificate_message, wide_message};
 use flow_edges::FlowFault;

@@ -45,10 +45,11 @@ pub annotated_says : (a : Analysis (List ℕ)) (text : List ℕ) (bounds : Least
     → IsFoundIn a.program a.domain a.policy a.improvements bounds
     → ((rows : Domain (List ℕ)) (policy : Policy) (limit : ℕ) → IsFoundIn text rows policy limit bounds → IsAnnotatedOf text rows bytes)
     → Says (annotating exact (Analyse Report a)) Done bytes
-annotated_says a text bounds bytes e found annotated =
-    (solvable a.program a.domain a.policy a.improvements bounds found,
-    subst (λ t. IsAnnotatedOf t a.domain bytes) (sym e)
-    (annotated a.domain a.policy a.improvements (subst (λ t. IsFoundIn t a.domain a.policy a.improvements bounds) e found)))
+annotated_says a text bounds bytes e found annotated = (
+  solvable a.program a.domain a.policy a.improvements bounds found,
+  subst (λ t. IsAnnotatedOf t a.domain bytes) (sym e)
+      (annotated a.domain a.policy a.improvements (subst (λ t. IsFoundIn t a.domain a.policy a.improvements bounds) e found)),
+)
 
 -- an ending that has a status alone names no place
 pub plain_names : (a : Analysis (List ℕ)) (s : Status) (message : List ℕ) → message ≡ message_of 0 0 s → (s ≡ Done) ⊎ (s ≡ Memory)

@@ -22,7 +22,8 @@ placeless m words contents status message plain is = record {
   rows_are = λ asked count asks has. plain.rows count;
 }
 
-memory_not_done : Memory ≡ Done → ⊥
+-- want of memory is no success
+pub memory_not_done : Memory ≡ Done → ⊥
 memory_not_done e = cc
 
 memory_itself : (commands : Commands) (m : Meanings) → NamesNoPlace m Memory → (words contents : List (List ℕ)) (bytes message : List ℕ)

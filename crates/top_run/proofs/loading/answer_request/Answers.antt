@@ -3,14 +3,14 @@ use Rattle.top_run.proofs.loading.answer_request.Goals as goal
 
 pub returns-in-Ok : goal.returns-in-Ok
 returns-in-Ok g c =
-    over _ _ _ _ _ _ c.load_request.result _ _ _ _ c.requires c.load_request.ensures (λ e. absurd (not_err _ _ c.in-Ok.is e))
+    over _ _ _ _ _ _ c.load_request.result _ _ _ _ c.requires.asked c.load_request.ensures (λ e. absurd (not_err _ _ c.in-Ok.is e))
     (behind c.loaded-before.result.now c.loaded.result.now _ _ _ c.loaded-before.ensures.loads c.loaded.ensures.loads
     c.load_request.ensures.log)
     c.answer_loads.ensures
 
 pub returns-in-Err : goal.returns-in-Err
 returns-in-Err g c =
-    over _ _ _ _ _ _ c.load_request.result _ _ _ _ c.requires c.load_request.ensures (λ e. c.answer_memory.ensures.status)
+    over _ _ _ _ _ _ c.load_request.result _ _ _ _ c.requires.asked c.load_request.ensures (λ e. c.answer_memory.ensures.status)
     (behind c.loaded-before.result.now c.loaded-in-Err.result.now _ _ _ c.loaded-before.ensures.loads c.loaded-in-Err.ensures.loads
     c.load_request.ensures.log)
     c.answer_memory.ensures.answer
