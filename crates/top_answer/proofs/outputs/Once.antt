@@ -1,7 +1,7 @@
 -- Words and contents have one output, unless they ask for a certificate.
 use Rattle.std.proofs.Common.{◌≡◌, ◌≢◌, ◌∙◌, ℕ, List, refl, sym, ap, subst}
-use Rattle.std.specs.Prelude.{Option, Some}
-use Rattle.ask_files.specs.Asked.{analysis_with, with_texts}
+use Rattle.std.specs.Prelude.{Some}
+use Rattle.ask_files.specs.Asked.{with_texts}
 use Rattle.ask_files.specs.Files.{Request}
 use Rattle.ask_words.specs.Request.{request_of}
 use Rattle.ask_words.specs.declared.request.Analysis.{Analysis}
@@ -10,7 +10,7 @@ use Rattle.ask_words.specs.declared.request.Request.TheVariants.{Analyse, Check,
 use Rattle.top_texts.specs.Exact.{exact}
 use Rattle.top_texts.proofs.claim_texts.OneText.{verdicts_once}
 use Rattle.top_texts.proofs.equation_texts.OneText.{values_once}
-use Rattle.top_answer.specs.Answers.{Asks, IsOutput}
+use Rattle.top_answer.specs.Answers.{IsOutput}
 use Rattle.top_answer.specs.Commands.{command_of}
 use Rattle.top_answer.proofs.answers.OneEnding.{one_asked}
 use Rattle.top_answer.proofs.laws.Lawful.{one_upgrade}

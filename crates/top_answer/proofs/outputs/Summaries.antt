@@ -1,7 +1,6 @@
 -- A generated program has one summary.
 use Rattle.std.proofs.Common.{◌≡◌, ◌∙◌, ◌++◌, ◌*◌, ◌-◌, ◌<◌, ℕ, List, length, sym, ap, ap₂, subst, arith}
-use Rattle.std.specs.Prelude.{ℤ, codes, decimal}
-use Rattle.flow_edges.specs.Points.{points_of_program}
+use Rattle.std.specs.Prelude.{ℤ, codes}
 use Rattle.flow_edges.specs.declared.point.Point.{Point}
 use Rattle.flow_templates.specs.Domains.{intervals_of}
 use Rattle.flow_systems.specs.declared.system.System.{System}

@@ -1,16 +1,15 @@
 -- The template of texts has a row.
-use Rattle.std.proofs.Common.{◌≡◌, ◌++◌, ◌<◌, ℕ, zero, suc, List, [], ◌∷◌, length, ap, sym, subst, arith, inl, inr, length-append}
-use Rattle.std.specs.Prelude.{ℤ, Result, Ok, Err, map}
-use Rattle.std.specs.List.{flat_map, range_with_len}
+use Rattle.std.proofs.Common.{◌≡◌, ◌++◌, ◌<◌, ℕ, zero, suc, List, [], ◌∷◌, length, sym, subst, arith, inl, inr, length-append}
+use Rattle.std.specs.Prelude.{ℤ, Result, Ok, Err}
 use Rattle.std.proofs.lemmas.List.{length-map}
-use Rattle.lang_grammar.specs.Grammar.{Program, program}
+use Rattle.lang_grammar.specs.Grammar.{program}
 use Rattle.lang_meaning.specs.Meaning.{Answer}
 use Rattle.lang_meaning.specs.Results.{◌>>=◌}
 use Rattle.lang_meaning.specs.Walk.{State, program_of}
 use Rattle.lang_meaning.specs.declared.fault.ParseFault.{ParseFault}
 use Rattle.lang_meaning.specs.declared.fault.ParseFault.TheVariants.{NoVariables}
 use Rattle.lang_tree.specs.Tree.{Statements}
-use Rattle.flow_templates.specs.Domains.{difference, intervals_of, octagons_of, signed_sums, zones_of}
+use Rattle.flow_templates.specs.Domains.{intervals_of, octagons_of, zones_of}
 use Rattle.flow_templates.specs.RowFaults.{count_faults}
 use Rattle.flow_templates.specs.RowFiles.{Answers, a_count, a_fault, a_template}
 use Rattle.flow_templates.specs.declared.fault.RowFault.{RowFault}
