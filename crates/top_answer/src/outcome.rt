@@ -157,7 +157,11 @@ pub(crate) fn outcome_of(alloc: Global, asked: Request<&[u8]>) -> Outcome
             certificate,
         } => checked(alloc, program, certificate),
         Request::Bench { seed, loops } => outcome_from(alloc, bench_text(alloc, seed, loops), 0),
-        Request::Upgrade { certificate } => outcome_from(alloc, upgrade_text(alloc, certificate), 0),
+        Request::Upgrade { certificate } => outcome_from(
+            alloc,
+            upgrade_text(alloc, certificate),
+            0,
+        ),
         Request::Prove { claims, analysis } => {
             let made = prove_text(
                 alloc,
