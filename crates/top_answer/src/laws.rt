@@ -35,7 +35,8 @@ pub fn ending_is_one()
         → Ends (command_of ⟦<Exact as Meaning>⟧.means) words contents other → one ≡ other }
 {}
 
-/// Words and contents have one output: what is written is determined by them. A certificate is one of several, and isn't said to be.
+/// Words and contents have one output, for every command but `certify`: what is written is determined by them. Of a certificate it isn't
+/// said.
 pub fn output_is_one()
     ensures { (words contents : List (List ℕ)) (one other : List ℕ)
         → ((analysis : Analysis (List ℕ)) → request_of words ≢ Some (Analyse Certificate analysis))

@@ -72,12 +72,14 @@ report_once text rows policy limit one other a b =
 
 -- ---- of a transition system
 
+-- an answer, named so that equations between answers have their type
 abbrev answered : AutoAnswer → AutoAnswer
 answered answer = answer
 
 same_content : (c d : Content) → answered (Ok c) ≡ answered (Ok d) → c ≡ d
 same_content c d e = cc
 
+-- the equation system of a transition system and a template
 abbrev along : Content → List (List ℤ) → Equations
 along c template = record {
   variables = length c.names;

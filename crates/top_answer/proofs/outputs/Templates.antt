@@ -34,6 +34,7 @@ counted_rows : (rows : List (List ℤ)) → count_faults (length rows) ≡ [] �
 counted_rows [] e = absurd cc
 counted_rows (row ∷ rows) e = omega arith
 
+-- what a file of rows is, named so that equations between answers have their type
 abbrev rows_answer : Result (List (List ℤ)) RowFault → Result (List (List ℤ)) RowFault
 rows_answer answer = answer
 
@@ -64,6 +65,7 @@ some_row (Rows text) names template some h = file_row names text template h
 
 -- ---- texts have at least one variable
 
+-- the same of what tokens mean
 abbrev answered : Answer → Answer
 answered answer = answer
 
@@ -92,6 +94,7 @@ program_names text names body (tokens, reads, inr (inr (program a b c ps d f is 
 spots_some : (names : Names) → 0 < length (names_in names)
 spots_some names = omega (arith, length-append names.first_ones (names.last ∷ []), length-map (all_spots names) (λ (s : Spot). s.name))
 
+-- and of what the text of a transition system is
 abbrev auto_answered : AutoAnswer → AutoAnswer
 auto_answered answer = answer
 
