@@ -1,15 +1,19 @@
 //! Laws of what answers mean. Each function does nothing: its contract is the law.
 
-ghost use Rattle.std.specs.Prelude.{◌≡◌, ◌<◌, ℕ, ℤ, List, length};
+ghost use Rattle.std.specs.Prelude.{◌≡◌, ◌≢◌, ◌<◌, ℕ, ℤ, List, Some, length};
 ghost use Rattle.lang_tree.specs.Tree.{Statements};
 ghost use Rattle.flow_systems.specs.declared.system.System.{System};
 ghost use Rattle.flow_systems.specs.Equations.{Least, Vector};
 ghost use Rattle.flow_systems.specs.Solutions.{equations_of_program};
 ghost use Rattle.flow_systems.specs.View.{equations_of};
 ghost use Rattle.theory_strategy.specs.PickCount.{pick_count};
+ghost use Rattle.ask_words.specs.Request.{request_of};
+ghost use Rattle.ask_words.specs.declared.request.Analysis.{Analysis};
 ghost use Rattle.ask_words.specs.declared.request.Domain.{Domain};
 ghost use Rattle.ask_words.specs.declared.request.Policy.{Policy};
-ghost use Rattle.top_answer.specs.Answers.{Ends};
+ghost use Rattle.ask_words.specs.declared.request.Purpose.TheVariants.{Certificate};
+ghost use Rattle.ask_words.specs.declared.request.Request.TheVariants.{Analyse};
+ghost use Rattle.top_answer.specs.Answers.{Ends, IsOutput};
 ghost use Rattle.top_answer.specs.Commands.{command_of};
 ghost use Rattle.top_texts.specs.ClaimTexts.{AreVerdictsOf};
 ghost use Rattle.top_texts.specs.EquationTexts.{AreValuesOf};
@@ -29,6 +33,15 @@ pub fn accepted_is_least()
 pub fn ending_is_one()
     ensures { (words contents : List (List ℕ)) (one other : Status) → Ends (command_of ⟦<Exact as Meaning>⟧.means) words contents one
         → Ends (command_of ⟦<Exact as Meaning>⟧.means) words contents other → one ≡ other }
+{}
+
+/// Words and contents have one output, for every command but `certify`: what is written is determined by them. Of a certificate it isn't
+/// said.
+pub fn output_is_one()
+    ensures { (words contents : List (List ℕ)) (one other : List ℕ)
+        → ((analysis : Analysis (List ℕ)) → request_of words ≢ Some (Analyse Certificate analysis))
+        → IsOutput (command_of ⟦<Exact as Meaning>⟧.means) words contents one
+        → IsOutput (command_of ⟦<Exact as Meaning>⟧.means) words contents other → one ≡ other }
 {}
 
 /// Bytes have one text as the certificate that they spell.

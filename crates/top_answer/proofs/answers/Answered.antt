@@ -1,5 +1,5 @@
 -- From what the parts of an answer say to its public clauses.
-use Rattle.std.proofs.Common.{◌≡◌, ◌∙◌, ◌⊎◌, ⊎_elim, ℕ, List, [], refl, sym, ap, subst}
+use Rattle.std.proofs.Common.{◌≡◌, ◌∙◌, ⊎_elim, ℕ, List, [], refl, sym, ap, subst}
 use Rattle.std.specs.Prelude.{Option, Some, None}
 use Rattle.ask_words.specs.Request.{request_of}
 use Rattle.top_answer.specs.Answers as public

@@ -1,5 +1,5 @@
 -- The texts of a command have one ending, and where an operation is too wide, improvements decide it.
-use Rattle.std.proofs.Common.{◌≡◌, ◌∙◌, ℕ, List, refl, sym, subst}
+use Rattle.std.proofs.Common.{◌≡◌, ℕ, List, refl, sym, subst}
 use Rattle.flow_systems.specs.declared.spot.Spot.{Spot}
 use Rattle.theory_validity.specs.Certificates.{bounds_vector}
 use Rattle.ask_words.specs.declared.request.Purpose.TheVariants.{Report, Certificate as AsCertificate}
@@ -8,7 +8,6 @@ use Rattle.top_answer.specs.Answers.{IsOfRounds, of_ended, of_spent}
 use Rattle.top_answer.specs.Commands as commands
 use Rattle.top_answer.specs.Commands.{CheckEnds, UpgradeEnds, command_of}
 use Rattle.ask_files.specs.Files.{Request}
-use Rattle.top_status.specs.declared.status.CertCause.TheVariants as cause
 use Rattle.top_status.specs.declared.status.Status.{Status}
 use Rattle.top_status.specs.declared.status.Status.TheVariants.{Done, Certificate as Refused, Usage, Read, Text, Wide, Spent, Memory, Write}
 use Rattle.top_texts.specs.Checks.{system_with}

@@ -1,6 +1,6 @@
 -- Words and contents have one ending.
 use Rattle.std.proofs.Common.{◌≡◌, ◌∙◌, ℕ, List, ap, subst, sym}
-use Rattle.std.specs.Prelude.{Option, Some, None}
+use Rattle.std.specs.Prelude.{Some, None}
 use Rattle.ask_files.specs.Asked.{with_texts}
 use Rattle.ask_files.specs.Files.{Request, files_of, unread}
 use Rattle.ask_files.specs.declared.which.ReadCause.{ReadCause}

@@ -1,5 +1,5 @@
 -- What results of texts say of a command.
-use Rattle.std.proofs.Common.{◌≡◌, ◌⊎◌, inl, inr, ℕ, List, [], refl, sym, subst, subst₂}
+use Rattle.std.proofs.Common.{◌≡◌, inl, inr, ℕ, List, [], refl, sym, subst₂}
 use Rattle.std.specs.Prelude.{IfOk, IfErr, Result, Ok, Err, Vec}
 use Rattle.std.specs.declared.alloc.Global.{Global}
 use Rattle.flow_systems.specs.declared.system.System.{System}
@@ -11,11 +11,11 @@ use Rattle.top_answer.specs.Commands.{Command, asking, command_of, form_refused}
 use Rattle.top_answer.specs.Parted.{HasOutcome, Says}
 use Rattle.top_status.specs.declared.status.CertCause.TheVariants as cause
 use Rattle.top_status.specs.declared.status.Status.{Status}
-use Rattle.top_status.specs.declared.status.Status.TheVariants.{Done, Certificate as Refused, Text as TextStatus, Wide as WideStatus}
+use Rattle.top_status.specs.declared.status.Status.TheVariants.{Certificate as Refused, Text as TextStatus, Wide as WideStatus}
 use Rattle.top_texts.specs.Checks.{IsSpelt}
 use Rattle.top_texts.specs.Exact.{exact}
 use Rattle.top_texts.specs.Parted.{GetsNoReport, IsAnswerToCheck, IsHalted, IsMisspelt, IsOutputOf, IsRefusedBy, IsUnanswered, refused}
-use Rattle.top_texts.specs.Questions.{Question, QuestionEnds, analysis_question, bench_question, is_refused}
+use Rattle.top_texts.specs.Questions.{Question, analysis_question, bench_question, is_refused}
 use Rattle.top_texts.specs.Reports.{IsReportBy, IsSummaryOf}
 use Rattle.top_texts.specs.Texts.{IsSolvedSystem}
 use Rattle.top_texts.specs.Upgrades.{IsUpgradeOf}

@@ -1,5 +1,5 @@
 -- What is written of the texts of a command, by the exact meanings; where it is, the command is done.
-use Rattle.std.proofs.Common.{◌≡◌, ◌∙◌, ◌⊎◌, ◌≤◌, ◌<◌, arith, ⊎_elim, ℕ, List, length, refl, sym, ap, subst}
+use Rattle.std.proofs.Common.{◌∙◌, ◌⊎◌, ◌≤◌, ◌<◌, arith, ⊎_elim, ℕ, List, length, refl, sym, ap, subst}
 use Rattle.flow_templates.specs.Domains.{intervals_of}
 use Rattle.flow_systems.specs.Equations.{Equations as Equations_of, Least}
 use Rattle.flow_systems.specs.View.{vector_of}

@@ -1,5 +1,5 @@
 -- Where the files of a request are read, its texts are within their limits.
-use Rattle.std.proofs.Common.{◌≡◌, ◌≤◌, ◌<◌, ◌+◌, ℕ, Bool, true, false, List, [], ◌∷◌, length, refl, sym, subst, arith, if◌then◌else◌}
+use Rattle.std.proofs.Common.{◌≡◌, ◌≤◌, ◌+◌, ℕ, Bool, true, false, List, [], ◌∷◌, length, refl, sym, subst, arith, if◌then◌else◌}
 use Rattle.std.specs.Prelude.{Option, Some, None, nat_lt}
 use Rattle.ask_words.specs.declared.request.Analysis.{Analysis}
 use Rattle.ask_words.specs.declared.request.Domain.{Domain}
@@ -9,7 +9,6 @@ use Rattle.ask_files.specs.Asked.{analysis_with, domain_with, rows_files, text_a
 use Rattle.top_answer.specs.Limits.{IsInLimits, IsInRange, IsWithin}
 use Rattle.ask_files.specs.Files.{NamedFile, Request, files_of, most_bytes, rows_before, unread}
 use Rattle.ask_files.specs.declared.which.ReadCause.{ReadCause}
-use Rattle.ask_files.specs.declared.which.Which.{Which}
 use Rattle.ask_files.specs.declared.which.Which.TheVariants as which
 use Rattle.top_texts.specs.Short.{HasShortRows, IsShort}
 

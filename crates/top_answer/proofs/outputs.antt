@@ -1,0 +1,5 @@
+pub mod Vectors
+pub mod Templates
+pub mod Reports
+pub mod Summaries
+pub mod Once
