@@ -1,7 +1,6 @@
 -- The message of an ending.
-use Rattle.std.specs.Prelude.{◌≡◌, ◌++◌, ◌∷◌, [], ℕ, List, codes}
+use Rattle.std.specs.Prelude.{◌++◌, ◌∷◌, [], ℕ, List, codes}
 use Rattle.top_texts.specs.Meanings.{Meanings}
-use Rattle.top_answer.specs.Answers.{IsMessage}
 use Rattle.top_status.specs.declared.status.Status.{Status}
 use Rattle.top_status.specs.declared.status.Status.TheVariants.{Usage}
 
@@ -14,7 +13,6 @@ abbrev pub said_for : Status → List ℕ → List ℕ
 said_for Usage message = usage_text
 said_for status message = message
 
--- this is the message of an ending: the usage has a line of its own, and every other ending the message of `solve`
-pub record IsSaid (m : Meanings) (words contents : List (List ℕ)) (status : Status) (message : List ℕ) : Type 0 where
-  pub usage : status ≡ Usage → message ≡ usage_text
-  pub other : (status ≡ Usage → ⊥) → IsMessage m words contents status message
+-- what the parts mean, where the usage has a line of its own
+abbrev pub saying : Meanings → Meanings
+saying m = record m { message = λ line rows status. said_for status (m.message line rows status) }

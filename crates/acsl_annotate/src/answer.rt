@@ -7,7 +7,7 @@ ghost use Rattle.ask_words.specs.declared.request.Domain.{Domain};
 ghost use Rattle.ask_words.specs.declared.request.Policy.{Policy as PolicyValue};
 ghost use Rattle.ask_words.specs.declared.request.Purpose.TheVariants.{Report};
 ghost use Rattle.ask_words.specs.declared.request.Request.TheVariants.{Analyse};
-ghost use Rattle.top_answer.specs.Answers.{Answers, Ends, Holds, IsAnswer, IsOutput};
+ghost use Rattle.top_answer.specs.Answers.{Answers, Ends, Holds, IsAnswer, IsMessage, IsOutput};
 ghost use Rattle.top_answer.specs.Limits.{IsWithin};
 ghost use Rattle.top_answer.specs.Parted.{AnswersRequest, AnswersWords, NamesPlace, Says};
 ghost use Rattle.top_status.specs.Messages.{message_of};
@@ -15,7 +15,7 @@ ghost use Rattle.top_status.specs.declared.status.Status.{Status as StatusValue}
 ghost use Rattle.top_texts.specs.Analyses.{IsFoundIn};
 ghost use Rattle.top_texts.specs.Exact.{exact};
 ghost use Rattle.acsl_annotate.specs.Annotated.{annotating};
-ghost use Rattle.acsl_annotate.specs.Messages.{IsSaid, said_for};
+ghost use Rattle.acsl_annotate.specs.Messages.{said_for, saying};
 ghost use Rattle.acsl_annotate.specs.Words.{IsSolve, as_solve};
 
 use crate::usage::usage_line;
@@ -107,7 +107,7 @@ fn annotation_of(alloc: Global, analysis: Analysis<&str>, contents: &[&[u8]]) ->
     }
 }
 
-// The answer to words that begin with `solve`.
+// The answer to words that begin with `solve`, with the usage line of the program that reports.
 fn annotation_by(alloc: Global, words: &[String], contents: &[&[u8]]) -> Answer
     requires { IsSolve (map string_bytes words.now) }
     ensures { AnswersWords (annotating exact) (map string_bytes words.now) (texts_of contents.now) result.status
@@ -117,17 +117,6 @@ fn annotation_by(alloc: Global, words: &[String], contents: &[&[u8]]) -> Answer
         Ok(analysis) => annotation_of(alloc, analysis, contents),
         Err(WordsFault::Usage) => plain_answer(alloc, Status::Usage),
         Err(WordsFault::NoMemory) => plain_answer(alloc, Status::Memory),
-    }
-}
-
-// The answer to the words as those of `solve`.
-fn annotation_as_solve(alloc: Global, words: &[String], contents: &[&[u8]]) -> Answer
-    ensures { AnswersWords (annotating exact) (as_solve (map string_bytes words.now)) (texts_of contents.now) result.status
-        result.bytes.items result.message }
-{
-    match solve_words(alloc, words) {
-        Ok(all) => annotation_by(alloc, &all, contents),
-        Err(_) => plain_answer(alloc, Status::Memory),
     }
 }
 
@@ -145,6 +134,21 @@ fn with_usage(answer: Answer) -> Answer
         },
         _ => answer,
     }
+}
+
+/// The answer to words that begin with `solve`.
+pub(crate) fn annotation_as_solve(alloc: Global, words: &[String], contents: &[&[u8]]) -> Answer
+    requires { IsSolve (map string_bytes words.now) }
+    ensures answer { IsAnswer (annotating ⟦<Exact as Meaning>⟧.means) (map string_bytes words.now) (texts_of contents.now) result.status }
+    ensures output { Holds (IsOutput (annotating ⟦<Exact as Meaning>⟧.means) (map string_bytes words.now) (texts_of contents.now))
+        result.status result.bytes.items }
+    ensures complete { (ending : StatusValue) → Ends (annotating ⟦<Exact as Meaning>⟧.means) (map string_bytes words.now)
+        (texts_of contents.now) ending
+        → Answers (annotating ⟦<Exact as Meaning>⟧.means) (map string_bytes words.now) (texts_of contents.now) ending result.status }
+    ensures message { IsMessage (saying ⟦<Exact as Meaning>⟧.means) (map string_bytes words.now) (texts_of contents.now) result.status
+        result.message }
+{
+    with_usage(annotation_by(alloc, words, contents))
 }
 
 /// What the program answers to `words`, a program's name and the options of `solve`, and to the contents of the files that they name: those
@@ -166,8 +170,11 @@ pub fn annotation(alloc: Global, words: &[String], contents: &[&[u8]]) -> Answer
         result.status }
 
     // The message names the line and the unknown of the cause.
-    ensures message { IsSaid ⟦<Exact as Meaning>⟧.means (as_solve (map string_bytes words.now)) (texts_of contents.now) result.status
-        result.message }
+    ensures message { IsMessage (saying ⟦<Exact as Meaning>⟧.means) (as_solve (map string_bytes words.now)) (texts_of contents.now)
+        result.status result.message }
 {
-    with_usage(annotation_as_solve(alloc, words, contents))
+    match solve_words(alloc, words) {
+        Ok(all) => annotation_as_solve(alloc, &all, contents),
+        Err(_) => plain_answer(alloc, Status::Memory),
+    }
 }

@@ -2,9 +2,13 @@
 #![tactic(auto)]
 
 mod answer;
+mod program;
+mod run;
 mod usage;
 mod words;
 mod write;
 
 pub use answer::annotation;
+pub use program::Annotating;
+pub use run::annotate;
 pub use usage::usage_line;

@@ -3,10 +3,11 @@
 
 ghost use Rattle.std.specs.Prelude.{◌≡◌, map, string_bytes};
 ghost use Rattle.std.specs.Process.{exit_status};
-ghost use Rattle.acsl_annotate.specs.Annotated.{IsAnnotated};
+ghost use Rattle.acsl_annotate.specs.Annotated.{annotating};
+ghost use Rattle.acsl_annotate.specs.Messages.{saying};
 ghost use Rattle.acsl_annotate.specs.Words.{as_solve};
-ghost use Rattle.top_run.specs.Answers.{IsAnswer};
-ghost use Rattle.top_run.specs.Outputs.{OutputGets};
+ghost use Rattle.top_run.specs.Run.{IsRun};
+ghost use Rattle.top_run.specs.Seen.{shelf_with, sink_with};
 ghost use Rattle.top_status.specs.Status.{code_of};
 ghost use Rattle.top_status.specs.declared.status.Status.{Status};
 
@@ -29,7 +30,8 @@ fn words(rt: &(impl Env + Alloc<A = Global>)) -> io::Result<Vec<String>> {
     Ok(env::args(rt)?.skip(1).collect(rt.alloc())?)
 }
 
-/// Does all that the program does, and gives the exit code of how that ended.
+/// Does all that the program does, and gives the exit code of how that ended: all that `annotate` promises of its status holds of the one
+/// with this code.
 fn exit_of<S: Shelf, K: Sink, L: Sink>(
     alloc: Global,
     words: &[String],
@@ -37,8 +39,14 @@ fn exit_of<S: Shelf, K: Sink, L: Sink>(
     out: &mut K,
     err: &mut L,
 ) -> ExitCode
-    ensures { (status : Status) × IsAnswer ⟦<Exact as Meaning>⟧.means (S.files shelf.old) (as_solve (map string_bytes words.now)) status
-        × OutputGets (IsAnnotated (S.files shelf.old) (as_solve (map string_bytes words.now))) status (K.held out.old) (K.held out.new)
+    ensures { (status : Status) × IsRun (annotating ⟦<Exact as Meaning>⟧.means) (saying ⟦<Exact as Meaning>⟧.means)
+        (as_solve (map string_bytes words.now))
+        (shelf_with (S.files shelf.old) (S.loads shelf.old) (S.faults shelf.old) (S.last_failed shelf.old))
+        (shelf_with (S.files shelf.new) (S.loads shelf.new) (S.faults shelf.new) (S.last_failed shelf.new))
+        (sink_with (K.held out.old) (K.taken out.old) (K.faults out.old) (K.spare out.old))
+        (sink_with (K.held out.new) (K.taken out.new) (K.faults out.new) (K.spare out.new))
+        (sink_with (L.held err.old) (L.taken err.old) (L.faults err.old) (L.spare err.old))
+        (sink_with (L.held err.new) (L.taken err.new) (L.faults err.new) (L.spare err.new)) status
         × (exit_status result ≡ code_of status) }
 {
     let status = annotate(alloc, words, shelf, out, err);

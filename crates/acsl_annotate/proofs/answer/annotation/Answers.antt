@@ -1,32 +1,37 @@
-use Rattle.std.proofs.Common.{map, string_bytes, subst, subst₂, sym}
+use Rattle.std.proofs.Common.{◌∙◌, ◌≡◌, ap, map, string_bytes, subst}
 use Rattle.ask_files.specs.Asked.{texts_of}
-use Rattle.top_answer.specs.Answers.{Answers, Holds, IsAnswer, IsOutput}
-use Rattle.top_answer.proofs.answers.Answered.{complete, holds, is_answer, message_is}
+use Rattle.top_answer.specs.Answers.{Answers, Ends, Holds, IsAnswer, IsMessage, IsOutput}
 use Rattle.top_texts.specs.Exact.{exact}
 use Rattle.acsl_annotate.specs.Annotated.{annotating}
+use Rattle.acsl_annotate.specs.Messages.{saying}
 use Rattle.acsl_annotate.specs.Words.{as_solve}
-use Rattle.acsl_annotate.proofs.answer.Lawful.{annotating_lawful}
-use Rattle.acsl_annotate.proofs.answer.Said.{is_said}
 use Rattle.acsl_annotate.proofs.answer.annotation.Goals as goal
 
-pub returns-clause-answer : goal.returns-clause-answer
-returns-clause-answer c =
-    subst (λ s. IsAnswer (annotating exact) (as_solve (map string_bytes c.args.words.now)) (texts_of c.args.contents.now) s)
-    (sym c.with_usage.ensures.status)
-    (is_answer (annotating exact) annotating_lawful _ _ _ _ _ c.annotation_as_solve.ensures)
+pub returns-in-Ok-clause-answer : goal.returns-in-Ok-clause-answer
+returns-in-Ok-clause-answer c =
+    let all : map string_bytes c.deref.result.now ≡ as_solve (map string_bytes c.args.words.now) =
+    ap (λ xs. map string_bytes xs) c.deref.ensures.value ∙ c.in-Ok.ensures in
+    subst (λ ws. IsAnswer (annotating exact) ws (texts_of c.args.contents.now) c.annotation_as_solve.result.status) all
+    c.annotation_as_solve.ensures.answer
 
-pub returns-clause-output : goal.returns-clause-output
-returns-clause-output c =
-    subst₂ (λ s bytes. Holds (IsOutput (annotating exact) (as_solve (map string_bytes c.args.words.now)) (texts_of c.args.contents.now)) s
-    bytes) (sym c.with_usage.ensures.status) (sym c.with_usage.ensures.bytes)
-    (holds (annotating exact) annotating_lawful _ _ _ _ _ c.annotation_as_solve.ensures)
+pub returns-in-Ok-clause-output : goal.returns-in-Ok-clause-output
+returns-in-Ok-clause-output c =
+    let all : map string_bytes c.deref.result.now ≡ as_solve (map string_bytes c.args.words.now) =
+    ap (λ xs. map string_bytes xs) c.deref.ensures.value ∙ c.in-Ok.ensures in
+    subst (λ ws. Holds (IsOutput (annotating exact) ws (texts_of c.args.contents.now)) c.annotation_as_solve.result.status
+    c.annotation_as_solve.result.bytes.items) all c.annotation_as_solve.ensures.output
 
-pub returns-clause-complete : goal.returns-clause-complete
-returns-clause-complete c = λ ending h.
-    subst (λ s. Answers (annotating exact) (as_solve (map string_bytes c.args.words.now)) (texts_of c.args.contents.now) ending s)
-    (sym c.with_usage.ensures.status)
-    (complete (annotating exact) annotating_lawful _ _ _ _ _ c.annotation_as_solve.ensures ending h)
+pub returns-in-Ok-clause-complete : goal.returns-in-Ok-clause-complete
+returns-in-Ok-clause-complete c = λ ending h.
+    let all : map string_bytes c.deref.result.now ≡ as_solve (map string_bytes c.args.words.now) =
+    ap (λ xs. map string_bytes xs) c.deref.ensures.value ∙ c.in-Ok.ensures in
+    subst (λ ws. Ends (annotating exact) ws (texts_of c.args.contents.now) ending
+    → Answers (annotating exact) ws (texts_of c.args.contents.now) ending c.annotation_as_solve.result.status) all
+    (c.annotation_as_solve.ensures.complete ending) h
 
-pub returns-clause-message : goal.returns-clause-message
-returns-clause-message c = is_said _ _ _ _ _ _ c.with_usage.ensures.status c.with_usage.ensures.message
-    (message_is (annotating exact) annotating_lawful _ _ _ _ _ c.annotation_as_solve.ensures)
+pub returns-in-Ok-clause-message : goal.returns-in-Ok-clause-message
+returns-in-Ok-clause-message c =
+    let all : map string_bytes c.deref.result.now ≡ as_solve (map string_bytes c.args.words.now) =
+    ap (λ xs. map string_bytes xs) c.deref.ensures.value ∙ c.in-Ok.ensures in
+    subst (λ ws. IsMessage (saying exact) ws (texts_of c.args.contents.now) c.annotation_as_solve.result.status
+    c.annotation_as_solve.result.message) all c.annotation_as_solve.ensures.message
