@@ -1,10 +1,5 @@
-use Rattle.std.proofs.Common.{◌≡◌, ◌∙◌}
+use Rattle.std.proofs.Common.{◌∙◌}
 use Rattle.tmpl_acsl.proofs.exit_of.Goals as goal
 
 pub returns : goal.returns
-returns g c = (
-  c.annotate-status.result,
-  c.annotate-status.ensures.answer,
-  c.annotate-status.ensures.output,
-  c.from.ensures ∙ c.code.ensures,
-)
+returns g c = (c.annotate-status.result, c.annotate-status.ensures, c.from.ensures ∙ c.code.ensures)
