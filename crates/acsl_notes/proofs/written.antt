@@ -1,5 +1,7 @@
 pub mod Forms
 pub mod Lexed
 pub mod Rows
+pub mod Says
 pub mod Spelled
 pub mod Terms
+pub mod Values

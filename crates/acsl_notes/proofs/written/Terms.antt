@@ -26,7 +26,7 @@ use Rattle.acsl_notes.proofs.written.Lexed.{Lexed, beside, a_space, a_mark, noth
 use Rattle.acsl_notes.proofs.written.Spelled.{Spelled, number_spelled, name_spelled, negated, joins, word_plain, numeral_plain}
 
 -- ---- what signs make of sums
-form_is : (cs ds : List ℤ) (c d : ℤ) → cs ≡ ds → c ≡ d → form_of cs c ≡ form_of ds d
+pub form_is : (cs ds : List ℤ) (c d : ℤ) → cs ≡ ds → c ≡ d → form_of cs c ≡ form_of ds d
 form_is cs ds c d e f = rw (e, f) refl
 
 ranged_is : (a : ℕ) (f : Form) (ds : List ℤ) → f.coeffs ≡ ds → f.constant ≡ pos 0 → IsTrue (are_numbers ds) → ranged a f ≡ Ok (sum_of ds)
@@ -64,6 +64,23 @@ pub spaced : (p : ℕ) (s : Sign) → ((rest : List ℕ) → heads nothing rest 
     → Lexed p (32 ∷ (sign_bytes s ++ 32 ∷ [])) (g.token (sign_kind s) (p + 1) ∷ []) nothing
 spaced p s h = beside (a_space p) (beside (a_mark (p + 1) s) (a_space (p + 1 + length (sign_bytes s))) (λ rest none. refl)) h
 
+minus_is : (n : ℕ) → negsuc 0 *ℤ pos (suc n) ≡ negsuc n
+minus_is n = omega (arith, ints)
+
+-- a number with `-` before it
+pub negative_number : {all : List (List ℕ)} {l depth : ℕ} (at n : ℕ) → depth ≤ 64 → suc n ≤ greatest_literal
+    → Spelled all at (45 ∷ decimal (suc n)) is_word_byte l depth (a_form (form_of (zeros (length all)) (negsuc n)) at)
+negative_number {all} {l} {depth} at n d h =
+    let small : IsTrue (is_number (negsuc n)) = le-leb (suc n) 9223372036854775807 h in
+    let minus : Spelled all at (45 ∷ decimal (suc n)) is_word_byte l depth
+    (a_form (scaled (negsuc 0) (form_of (zeros (length all)) (pos (suc n)))) at) =
+    negated at (number_spelled (at + 1) (suc n) h) d (λ rest. numeral_plain (decimal (suc n)) rest (decimal_numeral (suc n) (omega arith)))
+    (subst (λ (cs : List ℤ). IsTrue (are_numbers cs)) (sym (products_zeros (negsuc 0) (length all))) (zeros_fit (length all)))
+    (subst (λ (c : ℤ). IsTrue (is_number c)) (sym (minus_is n)) small) in
+    subst (λ (f : Form). Spelled all at (45 ∷ decimal (suc n)) is_word_byte l depth (a_form f at))
+    (form_is (products (negsuc 0) (zeros (length all))) (zeros (length all)) (negsuc 0 *ℤ pos (suc n)) (negsuc n)
+    (products_zeros (negsuc 0) (length all)) (minus_is n)) minus
+
 module _ {all : List (List ℕ)} (name : List ℕ) (i k : ℕ) (placed : IsPlaced all name i k) where
   alone : {l depth : ℕ} (at : ℕ) → Spelled all at name is_word_byte l depth (a_form (sum_of (one_at i (pos 1) k)) at)
   alone at = name_spelled at name i k placed.named placed.place placed.size
@@ -89,9 +106,6 @@ module _ {all : List (List ℕ)} (name : List ℕ) (i k : ℕ) (placed : IsPlace
       → Spelled all at (term_text n name) is_word_byte 5 depth (a_form (sum_of (one_at i (pos n) k)) at)
   unsigned_term at n h = unsigned_by (n == 1) at n refl h
 
-  minus_is : (n : ℕ) → negsuc 0 *ℤ pos (suc n) ≡ negsuc n
-  minus_is n = omega (arith, ints)
-
   negative_by : {depth : ℕ} (t : Bool) (at n : ℕ) → depth ≤ 64 → (suc n == 1) ≡ t → suc n ≤ greatest_literal
       → Spelled all at (45 ∷ (if t then name else decimal (suc n) ++ 42 ∷ name)) is_word_byte 5 depth
       (a_form (sum_of (one_at i (negsuc n) k)) at)
@@ -104,15 +118,7 @@ module _ {all : List (List ℕ)} (name : List ℕ) (i k : ℕ) (placed : IsPlace
       (negated at (alone (at + 1)) d (λ rest. word_plain name rest placed.named.word)
       (subst (λ (cs : List ℤ). IsTrue (are_numbers cs)) (sym (products_one (negsuc 0) (pos 1) i k)) (one_fits i (negsuc 0) k refl)) refl)
   negative_by {depth} false at n d e h =
-      let small : IsTrue (is_number (negsuc n)) = le-leb (suc n) 9223372036854775807 h in
-      let minus : Spelled all at (45 ∷ decimal (suc n)) is_word_byte 6 depth
-      (a_form (scaled (negsuc 0) (form_of (zeros (length all)) (pos (suc n)))) at) =
-      negated at (number_spelled (at + 1) (suc n) h) d (λ rest. numeral_plain (decimal (suc n)) rest (decimal_numeral (suc n) (omega arith)))
-      (subst (λ (cs : List ℤ). IsTrue (are_numbers cs)) (sym (products_zeros (negsuc 0) (length all))) (zeros_fit (length all)))
-      (subst (λ (c : ℤ). IsTrue (is_number c)) (sym (minus_is n)) small) in
-      multiple at (negsuc n) (subst (λ (f : Form). Spelled all at (45 ∷ decimal (suc n)) is_word_byte 6 depth (a_form f at))
-      (form_is (products (negsuc 0) (zeros (length all))) (zeros (length all)) (negsuc 0 *ℤ pos (suc n)) (negsuc n)
-      (products_zeros (negsuc 0) (length all)) (minus_is n)) minus) small (omega (arith, ints))
+      multiple at (negsuc n) (negative_number at n d h) (le-leb (suc n) 9223372036854775807 h) (omega (arith, ints))
 
   -- the first term of a row
   pub first_term : {depth : ℕ} (at : ℕ) (c : ℤ) → depth ≤ 64 → nat_abs c ≤ greatest_literal
