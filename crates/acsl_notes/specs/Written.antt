@@ -1,5 +1,5 @@
 -- What the conditions of annotations are in the language: their bytes read as its tokens, which are an expression of it.
-use Rattle.std.specs.Prelude.{◌≡◌, ◌↔◌, ◌==◌, ◌<◌, ◌+◌, ℕ, ℤ, pos, Bool, true, false, not, IsTrue, List, length, Option, Some, Ok, nat_abs}
+use Rattle.std.specs.Prelude.{◌≡◌, ◌↔◌, ◌==◌, ◌<◌, ◌+◌, ℕ, ℤ, pos, true, false, not, IsTrue, List, length, Some, Ok, nat_abs}
 use Rattle.std.specs.List.{All, list_any, slice_get}
 use Rattle.lang_tokens.specs.Lexemes.{IsName, greatest_literal}
 use Rattle.lang_tokens.specs.Reading as lex

@@ -1,16 +1,14 @@
 -- The forms that written terms are, and their sums.
-use Rattle.std.proofs.Common.{◌≡◌, ◌≤◌, ◌<◌, ◌+◌, ◌+ℤ◌, ◌*ℤ◌, ◌&&◌, ℕ, zero, suc, ℤ, pos, negsuc, neg_ℤ, nat_abs, Bool, true, false, IsTrue}
-use Rattle.std.proofs.Common.{List, [], ◌∷◌, ◌++◌, length, replicate, Ok, refl, sym, ap, ap₂, ◌∙◌, subst, arith}
+use Rattle.std.proofs.Common.{◌≡◌, ◌+◌, ◌*ℤ◌, ℕ, zero, suc, ℤ, pos, Bool, true, false, IsTrue}
+use Rattle.std.proofs.Common.{List, [], ◌∷◌, ◌++◌, length, replicate, Ok, refl, ap, ap₂, arith}
 use Rattle.std.proofs.lemmas.Int.{ints}
-use Rattle.std.specs.Prelude.{◌-ℤ◌, slice_set}
+use Rattle.std.specs.Prelude.{slice_set}
 use Rattle.std.specs.List.{list_all}
 use Rattle.std.specs.Ordering.{int_eq}
 use Rattle.lang_tree.specs.declared.form.Form.{Form}
 use Rattle.lang_tree.specs.Numbers.{is_number, are_numbers}
-use Rattle.lang_meaning.specs.declared.fault.ParseFault.{ParseFault}
-use Rattle.lang_meaning.specs.Results.{◌>>=◌}
 use Rattle.lang_meaning.specs.Walk.{ranged, ranged_number, ranged_numbers}
-use Rattle.lang_meaning.specs.Forms.{constant_form, variable_form, plus, minus, scaled, is_constant, pairwise, products, sum_or_difference}
+use Rattle.lang_meaning.specs.Forms.{pairwise, products, sum_or_difference}
 use Rattle.lang_meaning.proofs.forms.Ranges.{and_split, both_true, zeros_fit}
 
 -- a form by its parts

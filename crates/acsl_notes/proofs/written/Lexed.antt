@@ -1,9 +1,8 @@
 -- Bytes that read as tokens wherever they stand.
-use Rattle.std.proofs.Common.{◌≡◌, ◌≤◌, ◌<◌, ◌+◌, ◌-◌, ◌*◌, ◌/◌, ◌%◌, ◌^◌, ◌&&◌, ◌||◌, ℕ, zero, suc, pos, Bool, true, false, eqb, List, [], ◌∷◌, ◌++◌}
-use Rattle.std.proofs.Common.{length, take, map, refl, sym, ap, ap₂, ◌∙◌, subst, arith}
+use Rattle.std.proofs.Common.{◌≡◌, ◌≤◌, ◌<◌, ◌+◌, ◌-◌, ◌%◌, ◌^◌, ◌||◌, ℕ, zero, suc, pos, Bool, true, false, eqb, List, [], ◌∷◌, ◌++◌}
+use Rattle.std.proofs.Common.{length, take, refl, sym, ap, ap₂, ◌∙◌, subst, arith}
 use Rattle.std.specs.Prelude.{◌==◌, decimal, nat_le, get_or}
 use Rattle.std.specs.List.{slice_range, list_all}
-use Rattle.std.specs.Str.Parse.{digits_value}
 use Rattle.std.proofs.lemmas.Bool.{and_parts, and_from, le-leb, eqb-true}
 use Rattle.std.proofs.lemmas.List.{append_assoc, append-nil, length-append, map-append, take_at, drop_at}
 use Rattle.std.proofs.lemmas.Fmt.{decimal_is_IsNumeral, decimal_by_steps, decimal_digit, first_decimal}
@@ -199,5 +198,5 @@ pub a_number_of : (at n : ℕ) → n ≤ greatest_literal → Lexed at (decimal 
 a_number_of at n h =
     let small : n < 2 ^ 64 = omega arith in
     one at (kind.Number (pos n)) (decimal n) is_word_byte (λ rest none. let apart = no_word_byte rest none in
-        a_whole_number n (decimal n) rest (decimal_numeral n small) (decimal_plain n small) (decimal_is_IsNumeral n small).1 h
-        apart.0 apart.1)
+    a_whole_number n (decimal n) rest (decimal_numeral n small) (decimal_plain n small) (decimal_is_IsNumeral n small).1 h
+    apart.0 apart.1)

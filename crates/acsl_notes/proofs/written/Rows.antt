@@ -1,15 +1,14 @@
 -- The text of a row, as a sum with its value.
-use Rattle.std.proofs.Common.{◌≡◌, ◌==◌, ◌≤◌, ◌<◌, ◌+◌, ◌||◌, ◌+ℤ◌, ℕ, zero, suc, ℤ, pos, negsuc, nat_abs, Bool, true, false, not, IsTrue, List, []}
-use Rattle.std.proofs.Common.{◌∷◌, ◌++◌, length, replicate, Some, Ok, refl, sym, ap, ap₂, ◌∙◌, subst, arith}
-use Rattle.std.specs.Prelude.{◌-ℤ◌, if◌then◌else◌}
+use Rattle.std.proofs.Common.{◌≡◌, ◌==◌, ◌≤◌, ◌+◌, ℕ, zero, suc, ℤ, pos, negsuc, nat_abs, Bool, true, false, not, IsTrue, List, []}
+use Rattle.std.proofs.Common.{◌∷◌, ◌++◌, length, Some, refl, sym, ap, ◌∙◌, subst, arith}
+use Rattle.std.specs.Prelude.{if◌then◌else◌}
 use Rattle.std.specs.List.{list_any, slice_get}
 use Rattle.std.proofs.lemmas.Int.{ints}
 use Rattle.std.proofs.lemmas.Bool.{leb-true, eqb-true}
 use Rattle.std.proofs.lemmas.List.{append_assoc, append-nil, length-append, length-replicate}
 use Rattle.lang_tokens.specs.declared.sign.Sign.TheVariants.{Plus, Minus}
 use Rattle.lang_tokens.specs.Bytes.{is_word_byte}
-use Rattle.lang_tokens.specs.Lexemes.{IsName, greatest_literal}
-use Rattle.lang_tokens.proofs.lexemes.Heads.{heads}
+use Rattle.lang_tokens.specs.Lexemes.{IsName}
 use Rattle.lang_grammar.specs.Grammar as g
 use Rattle.lang_tree.specs.Numbers.{is_number, are_numbers}
 use Rattle.lang_meaning.specs.Names.{place_of}
@@ -18,7 +17,7 @@ use Rattle.lang_meaning.specs.Walk.{a_form}
 use Rattle.lang_meaning.proofs.forms.Ranges.{and_split, zeros_fit, both_true}
 use Rattle.flow_systems.specs.Report.{term_text, first_sign, later_sign, later_terms, row_text}
 use Rattle.acsl_notes.proofs.written.Forms.{sum_of, zeros, one_at, append_fits, pairwise_one}
-use Rattle.acsl_notes.proofs.written.Lexed.{nothing, nothing_heads}
+use Rattle.acsl_notes.proofs.written.Lexed.{nothing_heads}
 use Rattle.acsl_notes.proofs.written.Spelled.{Spelled, joins, loosened}
 use Rattle.acsl_notes.proofs.written.Terms.{IsPlaced, first_term, unsigned_term, spaced, sum_value, difference_value}
 

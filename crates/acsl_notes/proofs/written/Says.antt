@@ -1,6 +1,6 @@
 -- The texts of clauses are conditions that say them.
-use Rattle.std.proofs.Common.{◌≡◌, ◌↔◌, ◌⊎◌, inl, inr, ◌==◌, ◌≤◌, ◌<◌, ◌+◌, ◌+ℤ◌, ◌*ℤ◌, ◌≤ℤ◌, ℕ, zero, suc, ℤ, pos, negsuc, nat_abs, Bool, true, false}
-use Rattle.std.proofs.Common.{IsTrue, List, [], ◌∷◌, ◌++◌, length, map, Some, Ok, refl, sym, ap, ap₂, ◌∙◌, subst, zero-add, arith}
+use Rattle.std.proofs.Common.{◌≡◌, ◌↔◌, inr, ◌==◌, ◌<◌, ◌+◌, ◌*ℤ◌, ℕ, zero, suc, ℤ, pos, negsuc, nat_abs, Bool, true, false}
+use Rattle.std.proofs.Common.{IsTrue, List, [], ◌∷◌, ◌++◌, length, Some, Ok, refl, sym, ap, ◌∙◌, subst, zero-add, arith}
 use Rattle.std.specs.Prelude.{◌-ℤ◌, codes, decimal, if◌then◌else◌}
 use Rattle.std.specs.Fmt.{signed_decimal}
 use Rattle.std.specs.List.{All, slice_get}
@@ -31,20 +31,19 @@ use Rattle.lang_tree.specs.declared.cond.Rel.TheVariants.{Eq, Le}
 use Rattle.lang_tree.specs.Numbers.{is_number, are_numbers}
 use Rattle.lang_tree.specs.Meaning.{State, MayBe, dot}
 use Rattle.lang_tree.specs.Tree as tree
-use Rattle.lang_meaning.specs.Names.{place_of}
-use Rattle.lang_meaning.specs.Forms.{minus, pairwise, products, is_comparable}
+use Rattle.lang_meaning.specs.Forms.{pairwise, products, is_comparable}
 use Rattle.lang_meaning.specs.Results.{◌>>=◌}
-use Rattle.lang_meaning.specs.Walk.{Value, a_form, a_truth, compared, ranged, rel_of, walk_expr}
-use Rattle.lang_meaning.specs.Expressions.{ExpressionMeans, Meaning, a_condition, first_place, knowing, meant}
+use Rattle.lang_meaning.specs.Walk.{Value, a_form, a_truth, compared, rel_of}
+use Rattle.lang_meaning.specs.Expressions.{ExpressionMeans, Meaning, a_condition, first_place, meant}
 use Rattle.out_workload.proofs.bodies.WholeTokens.{is_second}
 use Rattle.acsl_notes.specs.Clauses.{Clause, never, at_most, equals, IsTrueAt}
 use Rattle.acsl_notes.specs.Texts.{side_text, clause_text}
-use Rattle.acsl_notes.specs.Written.{AreNames, IsWritableRow, IsWritable, SaysClause, WrittenClausesMean}
+use Rattle.acsl_notes.specs.Written.{AreNames, IsWritableRow, SaysClause, WrittenClausesMean}
 use Rattle.flow_systems.specs.Report.{row_text}
 use Rattle.acsl_notes.proofs.written.Forms.{form_of, sum_of, zeros, ranged_ok, pairwise_zeros}
-use Rattle.acsl_notes.proofs.written.Lexed.{Lexed, nothing_heads}
+use Rattle.acsl_notes.proofs.written.Lexed.{nothing_heads}
 use Rattle.acsl_notes.proofs.written.Spelled.{Spelled, number_spelled, in_parentheses, joins, loosened}
-use Rattle.acsl_notes.proofs.written.Terms.{spaced, times_value, negative_number, form_is}
+use Rattle.acsl_notes.proofs.written.Terms.{spaced, times_value, negative_number}
 use Rattle.acsl_notes.proofs.written.Rows.{AreFrom, row_spelled}
 use Rattle.acsl_notes.proofs.written.Values.{dot_products, at_most_zero, equals_zero}
 
@@ -136,7 +135,7 @@ module _ (all : List (List ℕ)) (from : AreFrom all all 0) where
       → Side all (decimal factor ++ codes " * (" ++ row_text all row ++ codes ")") (products (pos factor) row)
   multiplied factor row w =
       let same : decimal factor ++ codes " * (" ++ row_text all row ++ codes ")"
-          ≡ decimal factor ++ (codes " * (" ++ (row_text all row ++ codes ")")) =
+      ≡ decimal factor ++ (codes " * (" ++ (row_text all row ++ codes ")")) =
       append_assoc (decimal factor ++ codes " * (") (row_text all row) (codes ")")
       ∙ append_assoc (decimal factor) (codes " * (") (row_text all row ++ codes ")") in
       record {

@@ -1,10 +1,9 @@
 -- Bytes that are an expression wherever they stand, and how it is put together.
-use Rattle.std.proofs.Common.{◌≡◌, ◌≤◌, ◌<◌, ◌+◌, ◌&&◌, ◌||◌, ℕ, zero, suc, ℤ, pos, negsuc, nat_abs, Bool, true, false, eqb, IsTrue, List, [], ◌∷◌, ◌++◌}
-use Rattle.std.proofs.Common.{length, replicate, Option, Some, None, Ok, refl, sym, ap, ap₂, ◌∙◌, subst, arith}
-use Rattle.std.specs.Prelude.{decimal, nat_eq, nat_le}
+use Rattle.std.proofs.Common.{◌≡◌, ◌≤◌, ◌<◌, ◌+◌, ◌||◌, ℕ, zero, suc, ℤ, pos, negsuc, Bool, true, false, IsTrue, List, [], ◌∷◌, ◌++◌}
+use Rattle.std.proofs.Common.{length, Option, Some, None, Ok, refl, ap, arith}
+use Rattle.std.specs.Prelude.{decimal, nat_eq}
 use Rattle.std.specs.List.{list_all, list_any}
-use Rattle.std.proofs.lemmas.Bool.{and_parts, or_left, or_right, le-leb, leb-true, eqb-true}
-use Rattle.std.proofs.lemmas.List.{append_assoc}
+use Rattle.std.proofs.lemmas.Bool.{and_parts, le-leb, leb-true, eqb-true}
 use Rattle.lang_tokens.specs.declared.sign.Sign.TheVariants.{Minus, RightParen}
 use Rattle.lang_tokens.specs.Bytes.{is_letter, is_digit, is_word_byte}
 use Rattle.lang_tokens.specs.Lexemes.{is_word, is_numeral, IsName, greatest_literal}
@@ -16,13 +15,12 @@ use Rattle.lang_grammar.specs.Faults.{AllShallow}
 use Rattle.lang_tree.specs.declared.form.Form.{Form}
 use Rattle.lang_tree.specs.Numbers.{is_number, are_numbers}
 use Rattle.lang_meaning.specs.Names.{place_of}
-use Rattle.lang_meaning.specs.Forms.{constant_form, variable_form, scaled}
-use Rattle.lang_meaning.specs.Results.{◌>>=◌}
+use Rattle.lang_meaning.specs.Forms.{constant_form, scaled}
 use Rattle.lang_meaning.specs.Walk.{Value, a_form, combined, regarded, walk_expr}
 use Rattle.lang_meaning.specs.Expressions.{knowing, numbers_from}
 use Rattle.lang_meaning.proofs.forms.Ranges.{zeros_fit}
 use Rattle.out_workload.proofs.bodies.WholeTokens.{is_second}
-use Rattle.acsl_notes.proofs.written.Forms.{sum_of, zeros, one_at, ranged_ok, set_zeros}
+use Rattle.acsl_notes.proofs.written.Forms.{sum_of, one_at, ranged_ok, set_zeros}
 use Rattle.acsl_notes.proofs.written.Lexed.{Lexed, beside, a_mark, an_opening, nothing_heads, a_word_of, a_number_of}
 
 -- Bytes at a place that are an expression of this level and value over these names, where nothing follows that goes on with them. It may

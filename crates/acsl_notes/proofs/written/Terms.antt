@@ -1,11 +1,11 @@
 -- The terms of a row, as expressions with a value.
-use Rattle.std.proofs.Common.{◌≡◌, ◌==◌, ◌≤◌, ◌<◌, ◌+◌, ◌*ℤ◌, ◌+ℤ◌, ℕ, zero, suc, ℤ, pos, negsuc, nat_abs, Bool, true, false, IsTrue, List, [], ◌∷◌}
-use Rattle.std.proofs.Common.{◌++◌, length, replicate, Some, Ok, refl, sym, ap, ap₂, ◌∙◌, subst, arith}
-use Rattle.std.specs.Prelude.{◌-ℤ◌, codes, decimal, if◌then◌else◌}
+use Rattle.std.proofs.Common.{◌≡◌, ◌==◌, ◌≤◌, ◌+◌, ◌*ℤ◌, ◌+ℤ◌, ℕ, suc, ℤ, pos, negsuc, nat_abs, Bool, true, false, IsTrue, List, [], ◌∷◌}
+use Rattle.std.proofs.Common.{◌++◌, length, Some, Ok, refl, sym, ap, ◌∙◌, subst, arith}
+use Rattle.std.specs.Prelude.{◌-ℤ◌, decimal, if◌then◌else◌}
 use Rattle.std.proofs.lemmas.Int.{ints}
 use Rattle.std.proofs.lemmas.Bool.{le-leb, eqb-true}
 use Rattle.lang_tokens.specs.declared.sign.Sign.{Sign}
-use Rattle.lang_tokens.specs.declared.sign.Sign.TheVariants.{Star, Plus, Minus}
+use Rattle.lang_tokens.specs.declared.sign.Sign.TheVariants.{Star}
 use Rattle.lang_tokens.specs.Bytes.{is_word_byte}
 use Rattle.lang_tokens.specs.Signs.{sign_bytes}
 use Rattle.lang_tokens.specs.Lexemes.{IsName, greatest_literal}
@@ -16,13 +16,11 @@ use Rattle.lang_tree.specs.declared.form.Form.{Form}
 use Rattle.lang_tree.specs.Numbers.{is_number, are_numbers}
 use Rattle.lang_meaning.specs.Names.{place_of}
 use Rattle.lang_meaning.specs.Forms.{scaled, pairwise, products}
-use Rattle.lang_meaning.specs.Results.{◌>>=◌}
-use Rattle.lang_meaning.specs.Walk.{Value, a_form, combined, ranged}
+use Rattle.lang_meaning.specs.Walk.{a_form, combined, ranged}
 use Rattle.lang_meaning.proofs.forms.Ranges.{zeros_fit}
-use Rattle.flow_systems.specs.Report.{term_text, first_sign, later_sign}
-use Rattle.out_workload.proofs.bodies.WholeTokens.{is_second}
-use Rattle.acsl_notes.proofs.written.Forms.{form_of, sum_of, zeros, one_at, ranged_ok, zeros_constant, products_zeros, products_one, one_fits, pairwise_one}
-use Rattle.acsl_notes.proofs.written.Lexed.{Lexed, beside, a_space, a_mark, nothing, nothing_heads, decimal_numeral}
+use Rattle.flow_systems.specs.Report.{term_text, first_sign}
+use Rattle.acsl_notes.proofs.written.Forms.{form_of, sum_of, zeros, one_at, ranged_ok, zeros_constant, products_zeros, products_one, one_fits}
+use Rattle.acsl_notes.proofs.written.Lexed.{Lexed, beside, a_space, a_mark, nothing, decimal_numeral}
 use Rattle.acsl_notes.proofs.written.Spelled.{Spelled, number_spelled, name_spelled, negated, joins, word_plain, numeral_plain}
 
 -- ---- what signs make of sums
