@@ -1,5 +1,6 @@
 pub mod Forms
 pub mod Lexed
+pub mod Names
 pub mod Rows
 pub mod Says
 pub mod Spelled

@@ -7,17 +7,22 @@ use Rattle.lang_tokens.specs.declared.token.Token as lex_token
 use Rattle.lang_grammar.specs.View.{tokens_of}
 use Rattle.lang_tree.specs.Meaning.{State, MayBe}
 use Rattle.lang_tree.specs.Numbers.{is_number, are_numbers}
-use Rattle.lang_tree.specs.Tree.{Condition}
-use Rattle.lang_meaning.specs.Names.{place_of}
+use Rattle.lang_tree.specs.Tree.{Condition, Statements}
 use Rattle.lang_meaning.specs.Forms.{products}
+use Rattle.lang_meaning.specs.Meaning.{Means}
 use Rattle.lang_meaning.specs.Expressions.{ExpressionMeans, a_condition}
 use Rattle.acsl_notes.specs.Clauses.{Clause, never, at_most, equals, IsTrueAt}
 use Rattle.acsl_notes.specs.Texts.{clause_text}
 
--- Each is a name of the language, and stands once: its first place is its own.
+-- Each is a name of the language, and stands once.
 pub record AreNames (names : List (List ℕ)) : Type 0 where
   pub each : All IsName names
-  pub once : (i : ℕ) (name : List ℕ) → slice_get names i ≡ Some name → place_of name names ≡ Some i
+  pub once : (i j : ℕ) (name : List ℕ) → slice_get names i ≡ Some name → slice_get names j ≡ Some name → i ≡ j
+
+-- The names of a program that a text means are such names.
+abbrev pub ProgramNamesAreNames : Type 0
+ProgramNamesAreNames = (text : List ℕ) (tokens : List lex_token.Token) (names : List (List ℕ)) (body : Statements) → lex.Reads text tokens
+    → Means text (tokens_of text tokens) (Ok (names, body)) → AreNames names
 
 -- A row with a coefficient for each name, of which one isn't 0; its numbers, the factor and their products are numbers of the language.
 pub record IsWritableRow (names : List (List ℕ)) (factor : ℕ) (row : List ℤ) : Type 0 where

@@ -1,7 +1,7 @@
 //! Laws of the definitions, each the contract of a function that does nothing.
 
 ghost use Rattle.acsl_notes.specs.Laws.{ClausesHold, CommentsMayStand};
-ghost use Rattle.acsl_notes.specs.Written.{WrittenClausesMean};
+ghost use Rattle.acsl_notes.specs.Written.{ProgramNamesAreNames, WrittenClausesMean};
 
 use acsl_anchors::anchors_stand;
 
@@ -23,4 +23,9 @@ pub fn comments_may_stand()
 /// those of the language.
 pub fn written_clauses_mean()
     ensures { WrittenClausesMean }
+{}
+
+/// The names of a program that a text means are names of the language, each of which stands once, as that law asks of them.
+pub fn program_names_are_names()
+    ensures { ProgramNamesAreNames }
 {}

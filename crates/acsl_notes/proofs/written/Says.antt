@@ -44,6 +44,7 @@ use Rattle.acsl_notes.proofs.written.Forms.{form_of, sum_of, zeros, ranged_ok, p
 use Rattle.acsl_notes.proofs.written.Lexed.{nothing_heads}
 use Rattle.acsl_notes.proofs.written.Spelled.{Spelled, number_spelled, in_parentheses, joins, loosened}
 use Rattle.acsl_notes.proofs.written.Terms.{spaced, times_value, negative_number}
+use Rattle.acsl_notes.proofs.written.Names.{own_place}
 use Rattle.acsl_notes.proofs.written.Rows.{AreFrom, row_spelled}
 use Rattle.acsl_notes.proofs.written.Values.{dot_products, at_most_zero, equals_zero}
 
@@ -264,7 +265,7 @@ says names clause r f e exact = record {
 -- the names of a program are all from the first one on
 all_from : (names : List (List ℕ)) → AreNames names → AreFrom names names 0
 all_from names h = record {
-  named = λ j name e. (named names h.each j name e, h.once j name e ∙ ap Some (sym (zero-add j)));
+  named = λ j name e. (named names h.each j name e, own_place names j name h e ∙ ap Some (sym (zero-add j)));
   size = sym (zero-add (length names));
 }
   where
