@@ -42,13 +42,16 @@ pub ranged_ok : (a : ℕ) (f : Form) → IsTrue (are_numbers f.coeffs) → IsTru
 ranged_ok a f h k = rw (all_ranged a f.coeffs h, one_ranged a f.constant k) refl
 
 -- ---- numbers
+-- a multiple of 0 is 0
 pub times_zero : (z : ℤ) → z *ℤ pos 0 ≡ pos 0
 times_zero z = omega (arith, ints)
 
+-- multiples of zeros are zeros
 pub products_zeros : (z : ℤ) (n : ℕ) → products z (zeros n) ≡ zeros n
 products_zeros z zero = refl
 products_zeros z (suc n) = ap₂ (λ (x : ℤ) (xs : List ℤ). x ∷ xs) (times_zero z) (products_zeros z n)
 
+-- a multiple of one number among zeros
 pub products_one : (z c : ℤ) (i k : ℕ) → products z (one_at i c k) ≡ one_at i (z *ℤ c) k
 products_one z c zero k = ap (λ (xs : List ℤ). (z *ℤ c) ∷ xs) (products_zeros z k)
 products_one z c (suc i) k = ap₂ (λ (x : ℤ) (xs : List ℤ). x ∷ xs) (times_zero z) (products_one z c i k)
@@ -69,6 +72,7 @@ pub one_fits : (i : ℕ) (c : ℤ) (k : ℕ) → IsTrue (is_number c) → IsTrue
 one_fits zero c k h = both_true (is_number c) (are_numbers (zeros k)) h (zeros_fit k)
 one_fits (suc i) c k h = one_fits i c k h
 
+-- numbers in their range, and others behind them
 pub append_fits : (xs ys : List ℤ) → IsTrue (are_numbers xs) → IsTrue (are_numbers ys) → IsTrue (are_numbers (xs ++ ys))
 append_fits [] ys h k = k
 append_fits (x ∷ xs) ys h k = let both = and_split (is_number x) (are_numbers xs) h in
@@ -79,6 +83,7 @@ without : (b : Bool) (x : ℤ) → sum_or_difference b x (pos 0) ≡ x
 without true x = omega (arith, ints)
 without false x = omega (arith, ints)
 
+-- zeros change nothing
 pub pairwise_zeros : (b : Bool) (xs : List ℤ) → pairwise b xs (zeros (length xs)) ≡ xs
 pairwise_zeros b [] = refl
 pairwise_zeros b (x ∷ xs) = ap₂ (λ (y : ℤ) (ys : List ℤ). y ∷ ys) (without b x) (pairwise_zeros b xs)

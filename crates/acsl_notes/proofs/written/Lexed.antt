@@ -24,6 +24,7 @@ use Rattle.out_workload.proofs.bodies.WholeTokens.{is_second, word_passes, a_who
 
 -- Bytes that read as these tokens at this place, where what follows doesn't begin with a byte that would go on with the last.
 pub record Lexed (at : ℕ) (bytes : List ℕ) (tokens : List g.Token) (goes_on : ℕ → Bool) : Type 0 where
+  -- what they are made of
   pub pieces : List Piece
   -- the pieces are the bytes
   pub spelled : spelling pieces ≡ bytes
@@ -91,6 +92,7 @@ one at k bytes p whole = record {
 abbrev pub nothing : ℕ → Bool
 nothing b = false
 
+-- nothing goes on with a blank
 pub nothing_heads : (rest : List ℕ) → heads nothing rest ≡ false
 nothing_heads [] = refl
 nothing_heads (b ∷ bs) = refl

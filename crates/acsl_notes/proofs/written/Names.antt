@@ -1,11 +1,10 @@
 -- The names of a program are names of the language, and each stands once.
-use Rattle.std.proofs.Common.{◌≡◌, ◌⊎◌, inl, inr, ⊎_elim, ◌≤◌, ◌<◌, ◌+◌, ◌++◌, ℕ, zero, suc, Bool, true, false, cond, List, [], ◌∷◌, length, map, drop}
-use Rattle.std.proofs.Common.{Result, Ok, Err, Option, Some, None, refl, sym, ap, ◌∙◌, subst, nat_lt, min, arith}
+use Rattle.std.proofs.Common.{◌≡◌, ◌⊎◌, inl, inr, ⊎_elim, ◌≤◌, ◌<◌, ◌+◌, ◌++◌, ℕ, zero, suc, Bool, true, false, cond, List, []}
+use Rattle.std.proofs.Common.{◌∷◌, length, Result, Ok, Err, Option, Some, None, refl, sym, ap, ◌∙◌, subst, nat_lt, min, arith}
 use Rattle.std.specs.Prelude.{get_or, slice_range}
-use Rattle.std.specs.List.{All, slice_get, position, position_or_len}
+use Rattle.std.specs.List.{slice_get, position_or_len}
 use Rattle.std.specs.Str.{bytes_eq}
 use Rattle.std.proofs.lemmas.Bool.{ltb-false}
-use Rattle.std.proofs.lemmas.List.{map-append}
 use Rattle.std.proofs.lemmas.List.Elements.{All-nil, All-push}
 use Rattle.std.proofs.lemmas.List.Sums.{fails_before_first}
 use Rattle.std.proofs.lemmas.List.Quantifiers.{position-Some}
@@ -26,7 +25,8 @@ use Rattle.lang_tokens.proofs.reading.Placed.{placed_tokens}
 use Rattle.lang_grammar.specs.Grammar.{Kind, a_name, comma, right_paren, right_brace, left_brace, else_word, the_end, Token, token, Expr}
 use Rattle.lang_grammar.specs.Grammar.{spell_expr, Declarator, bare, given, Declarators, declares, declares_more, spell_declarator}
 use Rattle.lang_grammar.specs.Grammar.{spell_declarators, Update, set, step_after, step_before, ForFirst, no_first, declared_first}
-use Rattle.lang_grammar.specs.Grammar.{updated_first, spell_first, spell_test, ForLast, no_last, updated_last, spell_last, Core, empty, block}
+use Rattle.lang_grammar.specs.Grammar.{updated_first, spell_first, spell_test, ForLast, no_last, updated_last, spell_last, Core, empty}
+use Rattle.lang_grammar.specs.Grammar.{block}
 use Rattle.lang_grammar.specs.Grammar.{if_alone, if_else, repeat, repeat_after, repeat_for, jumps, assumed, updates, Sub, labelled, plain}
 use Rattle.lang_grammar.specs.Grammar.{Items, no_items, label, declaration, item, spell_core, spell_sub, spell_items, spell_parameters}
 use Rattle.lang_grammar.specs.Grammar.{spell_return, Program, program, spell}
@@ -40,9 +40,10 @@ use Rattle.lang_meaning.specs.declared.fault.ParseFault.TheVariants as fault
 use Rattle.lang_meaning.specs.declared.fault.Limit.TheVariants as limit
 use Rattle.lang_meaning.specs.Names.{place_of}
 use Rattle.lang_meaning.specs.Results.{◌>>=◌}
-use Rattle.lang_meaning.specs.Meaning.{Answer, Means}
-use Rattle.lang_meaning.specs.Walk.{State, Value, start_state, counted, labelled_by, known_number, jumped, tested, right_side, assigned, assignment}
-use Rattle.lang_meaning.specs.Walk.{declared_by, walk_expr, walk_declarator, walk_declarators, walk_update, walk_first, walk_test, walk_last}
+use Rattle.lang_meaning.specs.Meaning.{Answer}
+use Rattle.lang_meaning.specs.Walk.{State, start_state, counted, labelled_by, known_number, jumped, tested, right_side, assigned}
+use Rattle.lang_meaning.specs.Walk.{assignment, declared_by, walk_expr, walk_declarator, walk_declarators, walk_update, walk_first}
+use Rattle.lang_meaning.specs.Walk.{walk_test, walk_last}
 use Rattle.lang_meaning.specs.Walk.{walk_core, walk_sub, walk_items, walk, program_of, declared_items}
 use Rattle.lang_meaning.proofs.limits.Values.{OnValue, on_bind, on_cond}
 use Rattle.acsl_notes.specs.Written.{AreNames, ProgramNamesAreNames}
@@ -68,7 +69,7 @@ nowhere names x i e h = by (nat_lt (position_or_len (bytes_eq x) names) (length 
         let within : i < length names = slice_get_within names i x h in
         let fails : bytes_eq x (get_or names i []) ≡ false = fails_before_first (bytes_eq x) names i [] (omega (arith, far, within)) in
         let passes : bytes_eq x (get_or names i []) ≡ true = (bytes_eq-Decides x (get_or names i [])).1
-            (sym (get_or_from_slice_get names i x [] h)) in cc
+        (sym (get_or_from_slice_get names i x [] h)) in cc
 
 -- the number of a name that stands once is its place
 pub own_place : (names : List (List ℕ)) (i : ℕ) (name : List ℕ) → AreNames names → slice_get names i ≡ Some name
@@ -182,7 +183,8 @@ module _ (line : ℕ → ℕ) (N : ℕ) where
           (elim p as (λ z. Result (State × Statement) ParseFault) [
             | Some i ↦ Err (fault.NameTwice a)
             | None ↦ cond (nat_lt (length st.names) MOST_VARIABLES)
-                (counted a (with_name x st) >>= λ then. Ok (then, assignment (length st.names) o (line a))) (Err (fault.Limit a limit.Variables))
+                (counted a (with_name x st) >>= λ then. Ok (then, assignment (length st.names) o (line a)))
+                (Err (fault.Limit a limit.Variables))
           ])
       by (Some i) e = tt
       by None e = on_cond (KeptWith {A = Statement}) (nat_lt (length st.names) MOST_VARIABLES) _ _
@@ -317,7 +319,8 @@ ended_named (st, ns) h = by st.names refl
 walk_named : (line : ℕ → ℕ) (p : Program) → AllNamed (spell p) → OnValue Named (walk line p)
 walk_named line (program a b c ps d e is r f g) n =
     let front = named_split (spell_parameters ps)
-        (token right_paren d ∷ token left_brace e ∷ (spell_items is ++ (spell_return r ++ token right_brace f ∷ token the_end g ∷ []))) n.1.1.1 in
+    (token right_paren d ∷ token left_brace e ∷ (spell_items is ++ (spell_return r ++ token right_brace f ∷ token the_end g ∷ [])))
+    n.1.1.1 in
     let body = named_split (spell_items is) (spell_return r ++ token right_brace f ∷ token the_end g ∷ []) front.1.1.1 in
     on_bind (KeptWith {A = Statements}) Named (walk_items line (min MOST_VARIABLES (declared_items is)) false is start_state) _
     (items_kept line (min MOST_VARIABLES (declared_items is)) false is start_state body.0 start_kept) (λ q h. ended_named q h)

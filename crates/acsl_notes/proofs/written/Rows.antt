@@ -23,10 +23,13 @@ use Rattle.acsl_notes.proofs.written.Terms.{IsPlaced, first_term, unsigned_term,
 
 -- these names are all from the number i on
 pub record AreFrom (all names : List (List ℕ)) (i : ℕ) : Type 0 where
+  -- each is a name of the language whose number is its place
   pub named : (j : ℕ) (name : List ℕ) → slice_get names j ≡ Some name → IsName name × (place_of name all ≡ Some (i + j))
+  -- they are the last of all
   pub size : length all ≡ i + length names
 
-next_names : {all : List (List ℕ)} {name : List ℕ} {names : List (List ℕ)} {i : ℕ} → AreFrom all (name ∷ names) i → AreFrom all names (suc i)
+next_names : {all : List (List ℕ)} {name : List ℕ} {names : List (List ℕ)} {i : ℕ} → AreFrom all (name ∷ names) i
+    → AreFrom all names (suc i)
 next_names {all} {name} {names} {i} h = record {
   named = λ j other e. let one = h.named (suc j) other e in let same : i + suc j ≡ suc i + j = omega arith in
       (one.0, one.1 ∙ ap Some same);
@@ -64,8 +67,8 @@ module _ (all : List (List ℕ)) (at depth : ℕ) where
   abbrev IsSum : List ℕ → List ℤ → Type 0
   IsSum bytes cs = Spelled all at bytes is_word_byte 4 depth (a_form (sum_of cs) at)
 
-  module _ (bytes : List ℕ) (done : List ℤ) (name : List ℕ) (i k : ℕ) (so_far : IsSum bytes (done ++ zeros (suc k))) (size : length done ≡ i)
-      (placed : IsPlaced all name i k) (fits : IsTrue (are_numbers done)) where
+  module _ (bytes : List ℕ) (done : List ℤ) (name : List ℕ) (i k : ℕ) (so_far : IsSum bytes (done ++ zeros (suc k)))
+      (size : length done ≡ i) (placed : IsPlaced all name i k) (fits : IsTrue (are_numbers done)) where
     ended : (c : ℤ) → IsTrue (is_number c) → IsTrue (are_numbers (done ++ c ∷ zeros k))
     ended c h = append_fits done (c ∷ zeros k) fits (both_true (is_number c) (are_numbers (zeros k)) h (zeros_fit k))
 
@@ -78,8 +81,8 @@ module _ (all : List (List ℕ)) (at depth : ℕ) where
     term_more : (c : ℤ) → IsTrue (is_number c) → IsSum (bytes ++ (later_sign c ++ term_text (nat_abs c) name)) (done ++ c ∷ zeros k)
     term_more (pos n) h =
         joins {m = 5} g.plus_op (at + length bytes + 1) so_far (spaced (at + length bytes) Plus (λ rest none. refl))
-        (unsigned_term name i k placed (at + length bytes + 3) n (leb-true n 9223372036854775807 h)) (omega arith) (omega arith) (λ rest. refl)
-        (λ rest. nothing_heads (term_text n name ++ rest)) (a_form (sum_of (done ++ pos n ∷ zeros k)) at)
+        (unsigned_term name i k placed (at + length bytes + 3) n (leb-true n 9223372036854775807 h)) (omega arith) (omega arith)
+        (λ rest. refl) (λ rest. nothing_heads (term_text n name ++ rest)) (a_form (sum_of (done ++ pos n ∷ zeros k)) at)
         (sum_value (at + length bytes + 1) at (at + length bytes + 3) (done ++ zeros (suc k)) (one_at i (pos n) k) (done ++ pos n ∷ zeros k)
         (paired false (pos n) (pos n) (omega (arith, ints))) (ended (pos n) h))
     term_more (negsuc n) h =
@@ -132,7 +135,8 @@ module _ (all : List (List ℕ)) (at depth : ℕ) where
       let bytes = first_sign c ++ term_text (nat_abs c) name in
       let first : IsSum bytes ((zeros i ++ c ∷ []) ++ zeros (length names)) =
       subst (λ (xs : List ℤ). IsSum bytes xs) (one_is i c (length names))
-      (loosened 5 4 (omega arith) (first_term name i (length names) (first_placed from) at c deep (leb-true (nat_abs c) 9223372036854775807 h))) in
+      (loosened 5 4 (omega arith) (first_term name i (length names) (first_placed from) at c deep
+      (leb-true (nat_abs c) 9223372036854775807 h))) in
       subst (λ (xs : List ℤ). IsSum (bytes ++ later_terms names cs) xs) (sym (done_more (zeros i) c cs))
       (later_spelled names cs bytes (zeros i ++ c ∷ []) (suc i) (next_names from) same
       (omega (arith, length-append (zeros i) (c ∷ []), length-replicate i (pos 0)))

@@ -50,10 +50,13 @@ use Rattle.acsl_notes.proofs.written.Values.{dot_products, at_most_zero, equals_
 
 -- ---- a text that is an expression
 -- the tokens of a text
-abbrev pub tokens_in : {all : List (List ℕ)} {bytes : List ℕ} {q : ℕ → Bool} {v : Value} → Spelled all 0 bytes q 0 1 v → List lex_token.Token
+abbrev pub tokens_in : {all : List (List ℕ)} {bytes : List ℕ} {q : ℕ → Bool} {v : Value} → Spelled all 0 bytes q 0 1 v
+    → List lex_token.Token
 tokens_in {bytes = bytes} e = tokens_from 0 e.lexed.pieces ++ end_at (length bytes) ∷ []
 
-module _ {all : List (List ℕ)} {bytes : List ℕ} {q : ℕ → Bool} {v : Value} (e : Spelled all 0 bytes q 0 1 v) (last : heads q [] ≡ false) where
+module _ {all : List (List ℕ)} {bytes : List ℕ} {q : ℕ → Bool} {v : Value} (e : Spelled all 0 bytes q 0 1 v)
+    (last : heads q [] ≡ false) where
+  -- the text reads as these tokens
   pub text_reads : Reads bytes (tokens_in e)
   text_reads = record {
     front = tokens_from 0 e.lexed.pieces;
@@ -74,6 +77,7 @@ module _ {all : List (List ℕ)} {bytes : List ℕ} {q : ℕ → Bool} {v : Valu
   tokens_are = map-append (token_of bytes) (tokens_from 0 e.lexed.pieces) (end_at (length bytes) ∷ [])
       ∙ ap (λ (ts : List g.Token). ts ++ behind) (e.lexed.told bytes [] [] (append-nil bytes) refl)
 
+  -- they are those of the expression and the end
   pub tokens_count : length (tokens_in e) ≡ length (spell_expr e.expr) + 1
   tokens_count = sym (length-map (tokens_in e) (token_of bytes)) ∙ ap length tokens_are ∙ length-append (spell_expr e.expr) behind
 
@@ -100,7 +104,12 @@ module _ {all : List (List ℕ)} {bytes : List ℕ} {q : ℕ → Bool} {v : Valu
       → ExpressionMeans bytes (tokens_of bytes (tokens_in e)) 0 all (Ok (a_condition (tree.compare r f), length (spell_expr e.expr)))
   text_means r f same =
       subst (λ (ts : List g.Token). ExpressionMeans bytes ts 0 all (Ok (a_condition (tree.compare r f), length (spell_expr e.expr))))
-      (sym tokens_are) (inr (inr (e.expr, length (spell_expr e.expr), is_longest, sym (walked (first_place (spell_expr e.expr ++ behind))))))
+      (sym tokens_are) (inr (inr (
+        e.expr,
+        length (spell_expr e.expr),
+        is_longest,
+        sym (walked (first_place (spell_expr e.expr ++ behind))),
+      )))
     where
       walked : (a : ℕ) → ◌>>=◌ {B = Meaning × ℕ} (meant bytes all a e.expr) (λ m. Ok (m, 0 + length (spell_expr e.expr)))
           ≡ Ok (a_condition (tree.compare r f), length (spell_expr e.expr))
@@ -109,8 +118,11 @@ module _ {all : List (List ℕ)} {bytes : List ℕ} {q : ℕ → Bool} {v : Valu
 -- ---- the sides of a comparison
 -- the bytes are a sum with these coefficients, before a blank
 pub record Side (all : List (List ℕ)) (bytes : List ℕ) (cs : List ℤ) : Type 0 where
+  -- a byte that would go on with the last one
   pub goes_on : ℕ → Bool
+  -- the sum
   pub spelled : Spelled all 0 bytes goes_on 4 1 (a_form (sum_of cs) 0)
+  -- a blank ends it
   pub blank : goes_on 32 ≡ false
 
 -- the coefficients of a row with a factor
@@ -230,7 +242,8 @@ module _ (names : List (List ℕ)) (from : AreFrom names names 0) (factor : ℕ)
   at_most_spelled : Spelled names 0 (clause_text names (at_most factor row n)) is_word_byte 0 1 (a_truth (condition_of Le))
   at_most_spelled =
       let left = side_spelled names from factor row w in
-      parted (codes " <= ") (a_truth (condition_of Le)) (loosened 3 0 (omega arith) (joins {m = 4} (g.compare_op g.at_most) (place + 1) left.spelled
+      parted (codes " <= ") (a_truth (condition_of Le)) (loosened 3 0 (omega arith)
+      (joins {m = 4} (g.compare_op g.at_most) (place + 1) left.spelled
       (spaced place LessEqual (λ rest none. refl)) (bound_spelled names from (place + 4) n small) (omega arith) (omega arith)
       (λ rest. left.blank) (λ rest. nothing_heads (signed_decimal n ++ rest)) (a_truth (condition_of Le))
       (compared_is g.at_most (place + 1) side (length names) n side_size side_fits small)))
@@ -238,7 +251,8 @@ module _ (names : List (List ℕ)) (from : AreFrom names names 0) (factor : ℕ)
   equals_spelled : Spelled names 0 (clause_text names (equals factor row n)) is_word_byte 0 1 (a_truth (condition_of Eq))
   equals_spelled =
       let left = side_spelled names from factor row w in
-      parted (codes " == ") (a_truth (condition_of Eq)) (loosened 2 0 (omega arith) (joins {m = 4} (g.compare_op g.equal) (place + 1) left.spelled
+      parted (codes " == ") (a_truth (condition_of Eq)) (loosened 2 0 (omega arith)
+      (joins {m = 4} (g.compare_op g.equal) (place + 1) left.spelled
       (spaced place EqualEqual (λ rest none. refl)) (bound_spelled names from (place + 4) n small) (omega arith) (omega arith)
       (λ rest. left.blank) (λ rest. nothing_heads (signed_decimal n ++ rest)) (a_truth (condition_of Eq))
       (compared_is g.equal (place + 1) side (length names) n side_size side_fits small)))

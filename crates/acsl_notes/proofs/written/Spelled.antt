@@ -26,10 +26,15 @@ use Rattle.acsl_notes.proofs.written.Lexed.{Lexed, beside, a_mark, an_opening, n
 -- Bytes at a place that are an expression of this level and value over these names, where nothing follows that goes on with them. It may
 -- stand within so many constructs that the innermost has a number below the depth.
 pub record Spelled (all : List (List ℕ)) (at : ℕ) (bytes : List ℕ) (goes_on : ℕ → Bool) (l depth : ℕ) (v : Value) : Type 0 where
+  -- the expression
   pub expr : Expr
+  -- the bytes read as its tokens
   pub lexed : Lexed at bytes (spell_expr expr) goes_on
+  -- it groups as the level asks
   pub groups : Groups l expr
+  -- it opens no construct too many
   pub shallow : (d : ℕ) → d < depth → AllShallow (opens_expr d expr)
+  -- its value
   pub walks : (line : ℕ → ℕ) → walk_expr line (length all) (knowing all) expr ≡ Ok v
 
 -- ---- what bytes begin with

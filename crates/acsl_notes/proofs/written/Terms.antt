@@ -19,7 +19,8 @@ use Rattle.lang_meaning.specs.Forms.{scaled, pairwise, products}
 use Rattle.lang_meaning.specs.Walk.{a_form, combined, ranged}
 use Rattle.lang_meaning.proofs.forms.Ranges.{zeros_fit}
 use Rattle.flow_systems.specs.Report.{term_text, first_sign}
-use Rattle.acsl_notes.proofs.written.Forms.{form_of, sum_of, zeros, one_at, ranged_ok, zeros_constant, products_zeros, products_one, one_fits}
+use Rattle.acsl_notes.proofs.written.Forms.{form_of, sum_of, zeros, one_at, ranged_ok, zeros_constant}
+use Rattle.acsl_notes.proofs.written.Forms.{products_zeros, products_one, one_fits}
 use Rattle.acsl_notes.proofs.written.Lexed.{Lexed, beside, a_space, a_mark, nothing, decimal_numeral}
 use Rattle.acsl_notes.proofs.written.Spelled.{Spelled, number_spelled, name_spelled, negated, joins, word_plain, numeral_plain}
 
@@ -53,8 +54,11 @@ difference_value a at b xs ys zs e fits =
 -- ---- terms
 -- a name with its number, i names before it and k behind it
 pub record IsPlaced (all : List (List ℕ)) (name : List ℕ) (i k : ℕ) : Type 0 where
+  -- it is a name of the language
   pub named : IsName name
+  -- its number is its place
   pub place : place_of name all ≡ Some i
+  -- there are the names before it, itself and those behind it
   pub size : length all ≡ i + suc k
 
 -- a sign with a space on both sides
@@ -88,7 +92,8 @@ module _ {all : List (List ℕ)} (name : List ℕ) (i k : ℕ) (placed : IsPlace
       → Spelled all at bytes is_word_byte 6 depth (a_form (form_of (zeros (length all)) (z)) at) → IsTrue (is_number z)
       → z *ℤ pos 1 ≡ z → Spelled all at (bytes ++ 42 ∷ name) is_word_byte 5 depth (a_form (sum_of (one_at i z k)) at)
   multiple {bytes = bytes} at z e fits same =
-      joins {m = 6} g.times_op (at + length bytes) e (a_mark (at + length bytes) Star) (alone (at + length bytes + 1)) (omega arith) (omega arith)
+      joins {m = 6} g.times_op (at + length bytes) e (a_mark (at + length bytes) Star) (alone (at + length bytes + 1))
+      (omega arith) (omega arith)
       (λ rest. refl) (λ rest. word_plain name rest placed.named.word) (a_form (sum_of (one_at i z k)) at)
       (times_value (length all) (at + length bytes) at (at + length bytes + 1) z (one_at i (pos 1) k) (one_at i z k)
       (products_one z (pos 1) i k ∙ ap (λ (c : ℤ). one_at i c k) same) (one_fits i z k fits))
