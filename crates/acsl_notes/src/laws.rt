@@ -1,6 +1,7 @@
 //! Laws of the definitions, each the contract of a function that does nothing.
 
 ghost use Rattle.acsl_notes.specs.Laws.{ClausesHold, CommentsMayStand};
+ghost use Rattle.acsl_notes.specs.Written.{ProgramNamesAreNames, WrittenClausesMean};
 
 use acsl_anchors::anchors_stand;
 
@@ -16,3 +17,15 @@ pub fn comments_may_stand()
 {
     anchors_stand();
 }
+
+/// The text of a condition reads as tokens of the language, which are an expression over the names. It is true exactly where the
+/// condition is. This is so of each condition that the language can say: `\false` isn't one, and names and numbers have to be within
+/// those of the language.
+pub fn written_clauses_mean()
+    ensures { WrittenClausesMean }
+{}
+
+/// The names of a program that a text means are names of the language, each of which stands once, as that law asks of them.
+pub fn program_names_are_names()
+    ensures { ProgramNamesAreNames }
+{}
