@@ -1,4 +1,4 @@
 pub mod Words
 pub mod Annotated
 pub mod Messages
-pub mod Lawful
+pub mod Inside

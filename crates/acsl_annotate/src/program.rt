@@ -14,7 +14,7 @@ pub struct Annotating;
 impl Program for Annotating {
     ghost use Rattle.top_texts.specs.Exact.{exact};
     ghost use Rattle.acsl_annotate.specs.Annotated.{annotating};
-    ghost use Rattle.acsl_annotate.specs.Lawful.{annotating_lawful, annotating_plain};
+    ghost use Rattle.acsl_annotate.specs.Inside.{annotating_inside, annotating_plain};
     ghost use Rattle.acsl_annotate.specs.Messages.{saying};
     ghost use Rattle.acsl_annotate.specs.Words.{IsSolve};
 
@@ -24,7 +24,7 @@ impl Program for Annotating {
 
     ghost takes = { λ words. IsSolve words };
 
-    ghost lawful = { annotating_lawful };
+    ghost inside = { annotating_inside };
 
     ghost plain = { annotating_plain };
 

@@ -44,7 +44,8 @@ pub data AnswersRequest (commands : Commands) (request : Request) (contents : Li
       → message ≡ message_of 0 0 status → AnswersRequest commands request contents status bytes message
   answers_texts : unread (files_of request) contents ≡ None → Says (commands (with_texts request contents)) status bytes
       → NamesPlace (with_texts request contents) status message → AnswersRequest commands request contents status bytes message
-  wants_memory : status ≡ Memory → bytes ≡ [] → message ≡ message_of 0 0 status → AnswersRequest commands request contents status bytes message
+  wants_memory : status ≡ Memory → bytes ≡ [] → message ≡ message_of 0 0 status
+      → AnswersRequest commands request contents status bytes message
 
 -- what an answer says of words and of the contents of the files that they name
 pub data AnswersWords (commands : Commands) (words contents : List (List ℕ)) (status : Status) (bytes message : List ℕ) : Type 0 where

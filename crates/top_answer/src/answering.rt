@@ -33,7 +33,8 @@ fn answer_texts(alloc: Global, asked: Request<&[u8]>) -> Answer
 // The answer to a request over the contents of its files.
 fn answer_request(alloc: Global, request: Request<&str>, contents: &[&[u8]]) -> Answer
     requires { IsInRange (request_text request) }
-    ensures { AnswersRequest (command_of exact) (request_text request.entry) (texts_of contents.now) result.status result.bytes.items result.message }
+    ensures { AnswersRequest (command_of exact) (request_text request.entry) (texts_of contents.now) result.status result.bytes.items
+        result.message }
 {
     match first_unread(alloc, request, contents) {
         Ok(None) => answer_texts(alloc, with_texts(request, contents)),
@@ -44,7 +45,8 @@ fn answer_request(alloc: Global, request: Request<&str>, contents: &[&[u8]]) -> 
 
 // The answer to words and to the contents of the files that they name.
 fn answer_words(alloc: Global, words: &[String], contents: &[&[u8]]) -> Answer
-    ensures { AnswersWords (command_of exact) (map string_bytes words.now) (texts_of contents.now) result.status result.bytes.items result.message }
+    ensures { AnswersWords (command_of exact) (map string_bytes words.now) (texts_of contents.now) result.status result.bytes.items
+        result.message }
 {
     match read_words(alloc, words) {
         Ok(request) => answer_request(alloc, request, contents),
@@ -70,11 +72,13 @@ pub fn answer(alloc: Global, words: &[String], contents: &[&[u8]]) -> Answer
     // that of the least vector, which holds in every run of the program or along the edges of the transition system, with the number of
     // improvements by the policy. The values of equations equal their right sides, and are at most all values above the equations.
     ensures answer { IsAnswer (command_of ⟦<Exact as Meaning>⟧.means) (map string_bytes words.now) (texts_of contents.now) result.status }
-    ensures output { Holds (IsOutput (command_of ⟦<Exact as Meaning>⟧.means) (map string_bytes words.now) (texts_of contents.now)) result.status
+    ensures output { Holds (IsOutput (command_of ⟦<Exact as Meaning>⟧.means) (map string_bytes words.now) (texts_of contents.now))
+        result.status
         result.bytes.items }
 
     // Complete: the ending that stands is answered, but for want of memory, or a wide operation that stands.
-    ensures complete { (ending : StatusValue) → Ends (command_of ⟦<Exact as Meaning>⟧.means) (map string_bytes words.now) (texts_of contents.now) ending
+    ensures complete { (ending : StatusValue)
+        → Ends (command_of ⟦<Exact as Meaning>⟧.means) (map string_bytes words.now) (texts_of contents.now) ending
         → Answers (command_of ⟦<Exact as Meaning>⟧.means) (map string_bytes words.now) (texts_of contents.now) ending result.status }
 
     // The message names the line and the unknown of the cause.

@@ -8,4 +8,4 @@ pub mod Run
 pub mod Headline
 pub mod Memory
 pub mod Programs
-pub mod Lawful
+pub mod Inside

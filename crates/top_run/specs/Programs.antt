@@ -8,8 +8,8 @@ use Rattle.top_status.specs.declared.status.Status.{Status}
 use Rattle.top_status.specs.declared.status.Status.TheVariants.{Memory, Read, Write}
 use Rattle.top_texts.specs.Meanings.{Meanings}
 
--- what endings of commands never are
-pub record IsLawful (commands : Commands) : Type 0 where
+-- commands end by what their texts are: never by a put or a read that failed, which are causes of the run
+pub record EndsInside (commands : Commands) : Type 0 where
   pub writes : (asked : Request) → (commands asked).ends Write → ⊥
   pub reads : (asked : Request) (cause : ReadCause) → (commands asked).ends (Read cause) → ⊥
 

@@ -4,7 +4,7 @@ ghost use Rattle.std.specs.Prelude.{List, ℕ, map, string_bytes};
 ghost use Rattle.ask_files.specs.Asked.{texts_of};
 ghost use Rattle.top_answer.specs.Answers.{Answers, Ends, Holds, IsAnswer, IsMessage, IsOutput};
 ghost use Rattle.top_answer.specs.Commands.{Commands};
-ghost use Rattle.top_run.specs.Programs.{IsLawful, IsPlain};
+ghost use Rattle.top_run.specs.Programs.{EndsInside, IsPlain};
 ghost use Rattle.top_status.specs.declared.status.Status.{Status as StatusValue};
 ghost use Rattle.top_texts.specs.Meanings.{Meanings};
 
@@ -32,7 +32,7 @@ pub trait Program {
         ensures message { IsMessage means (map string_bytes words.now) (texts_of contents.now) result.status result.message };
 
     /// No command ends in a read or in a put that failed.
-    ghost lawful: { IsLawful commands };
+    ghost inside: { EndsInside commands };
 
     /// The messages of want of memory and of an output that failed name no place.
     ghost plain: { IsPlain means };
@@ -45,7 +45,7 @@ pub struct Tmpl;
 impl Program for Tmpl {
     ghost use Rattle.std.specs.Prelude.{refl};
     ghost use Rattle.top_answer.specs.Commands.{command_of};
-    ghost use Rattle.top_run.specs.Lawful.{lawful as commands_lawful, plain as plainly};
+    ghost use Rattle.top_run.specs.Inside.{inside as commands_inside, plain as plainly};
     ghost use Rattle.top_texts.specs.Exact.{exact};
 
     ghost commands = { command_of exact };
@@ -54,7 +54,7 @@ impl Program for Tmpl {
 
     ghost takes = { λ _. Unit {0} };
 
-    ghost lawful = { commands_lawful exact };
+    ghost inside = { commands_inside exact };
 
     ghost plain = { plainly };
 

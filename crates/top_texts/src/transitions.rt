@@ -83,7 +83,8 @@ fn rows_along(alloc: Global, rows: Domain<&[u8]>, auto: &Auto) -> Result<Templat
     requires { HasShortRows (domain_text rows) }
     ensures template { IfOk result (λ template. HasTemplate (domain_text rows.entry) auto.now.names (Ok template)) }
     ensures over { IfOk result (λ template. IsTrue (is_over (length auto.now.names) template)) }
-    ensures err { IfErr result (λ refusal. (text : List ℕ) → IsAutoText text auto.now → IsRefusedAlong text (domain_text rows.entry) refusal) }
+    ensures err { IfErr result (λ refusal. (text : List ℕ) → IsAutoText text auto.now
+        → IsRefusedAlong text (domain_text rows.entry) refusal) }
 {
     match template_of(alloc, rows, auto.names.as_slice()) {
         Ok(template) => Ok(template),
@@ -125,7 +126,8 @@ pub fn transitions_text(
     requires short_rows { HasShortRows (domain_text rows) }
     requires limit { limit ≤ 1000000 }
     ensures ok { IfOk result (λ bytes. IsAutoReport text.now (domain_text rows.entry) policy limit bytes.items) }
-    ensures err { IfErr result (λ refusal. IsUnanswered (transitions_question exact text.now (domain_text rows.entry) policy limit) refusal) }
+    ensures err { IfErr result (λ refusal. IsUnanswered (transitions_question exact text.now (domain_text rows.entry) policy limit)
+        refusal) }
 {
     post_solutions_hold_along();
     let system = system_along(alloc, text, rows)?;

@@ -59,7 +59,8 @@ plain_names a s message m h = record {
   rows = 0;
   is_message = m;
   line_is = ⊎_elim (λ e. subst (λ x. 0 ≡ line_in a.program x) (sym e) refl) (λ e. subst (λ x. 0 ≡ line_in a.program x) (sym e) refl) h;
-  rows_are = λ count has. ⊎_elim (λ e. subst (λ x. 0 ≡ rows_of count x) (sym e) refl) (λ e. subst (λ x. 0 ≡ rows_of count x) (sym e) refl) h;
+  rows_are = λ count has. ⊎_elim (λ e. subst (λ x. 0 ≡ rows_of count x) (sym e) refl)
+      (λ e. subst (λ x. 0 ≡ rows_of count x) (sym e) refl) h;
 }
 
 -- the ending of texts without least bounds names its place

@@ -9,6 +9,7 @@ use Rattle.top_texts.specs.Meanings.{Meanings}
 -- a run over words, by another name for them
 pub by_words : (commands : Commands) (m : Meanings) (words others : List (List ℕ)) (shelf shelf_now : ShelfSeen)
     (out out_now err err_now : SinkSeen) (status : Status) → words ≡ others
-    → IsRun commands m words shelf shelf_now out out_now err err_now status → IsRun commands m others shelf shelf_now out out_now err err_now status
+    → IsRun commands m words shelf shelf_now out out_now err err_now status
+    → IsRun commands m others shelf shelf_now out out_now err err_now status
 by_words commands m words others shelf shelf_now out out_now err err_now status e h =
     subst (λ ws. IsRun commands m ws shelf shelf_now out out_now err err_now status) e h

@@ -145,7 +145,8 @@ module _ (commands : Commands) (law : IsLawful commands) (words contents : List 
 
 -- ---- want of memory
 
-module _ (commands : Commands) (words contents : List (List ℕ)) (status : Status) (bytes message : List ℕ) (e : status ≡ Memory) (empty : bytes ≡ [])
+module _ (commands : Commands) (words contents : List (List ℕ)) (status : Status) (bytes message : List ℕ) (e : status ≡ Memory)
+    (empty : bytes ≡ [])
     (plain : message ≡ message_of 0 0 status) where
   memory_holds : Holds (IsOutput commands words contents) status bytes
   memory_holds = public.nothing (λ d. undone (sym e ∙ d)) empty
@@ -223,4 +224,5 @@ module _ (commands : Commands) (law : IsLawful commands) where
     line_is = λ asked a. absurd (no_request (request_of words) a.request n a.request_is);
     rows_are = λ asked count a has. absurd (no_request (request_of words) a.request n a.request_is);
   }
-  message_is words contents status bytes message (parted.no_memory e b m) = memory_message commands words contents status bytes message e b m
+  message_is words contents status bytes message (parted.no_memory e b m) =
+      memory_message commands words contents status bytes message e b m

@@ -10,10 +10,13 @@ use Rattle.top_texts.specs.Exact.{exact}
 use Rattle.top_answer.proofs.answers.Endings as endings
 use Rattle.top_answer.proofs.answers.Written as written
 
--- texts have one ending; improvements decide it where an operation is too wide; and it is success where something is written
+-- commands whose answers are determined by what stands
 pub record IsLawful (commands : Commands) : Type 0 where
+  -- texts have one ending
   pub ends_once : (asked : Request) (s t : Status) → (commands asked).ends s → (commands asked).ends t → s ≡ t
+  -- improvements decide it where an operation is too wide
   pub wide_ends : (asked : Request) (spot : Spot) (s : Status) → (commands asked).too_wide spot → (commands asked).ends s → IsOfRounds s
+  -- it is success where something is written
   pub written_ends : (asked : Request) (bytes : List ℕ) → (commands asked).writes bytes → (commands asked).ends Done
 
 -- the commands of the program are such

@@ -24,7 +24,7 @@ use Rattle.top_run.specs.Outputs as outputs
 use Rattle.top_run.specs.Outputs.{OutputGets}
 use Rattle.top_run.specs.Parts as parts
 use Rattle.top_run.specs.Parts.{IsAnswerOver, IsAnswerTo, IsPutBy, PutsAnswer}
-use Rattle.top_run.specs.Programs.{IsLawful, IsPlain}
+use Rattle.top_run.specs.Programs.{EndsInside, IsPlain}
 use Rattle.top_run.specs.Run.{Gives, IsEnding, IsRun, answered, is_answer, is_unwritten, unwritten}
 use Rattle.top_run.specs.Seen.{ShelfSeen, SinkSeen}
 use Rattle.top_run.specs.declared.output.Pieces.{Pieces}
@@ -62,7 +62,8 @@ read_memory s cause h k = cc
 read_done : (s : Status) (cause : _) → s ≡ Read cause → s ≡ Done → ⊥
 read_done s cause h k = cc
 
-module _ (commands : Commands) (lawful : IsLawful commands) (m : Meanings) (plain : IsPlain m) (words : List (List ℕ)) (made : List LoadedFile) where
+module _ (commands : Commands) (lawful : EndsInside commands) (m : Meanings) (plain : IsPlain m) (words : List (List ℕ))
+    (made : List LoadedFile) where
   -- ---- what an answer's status says
 
   not_write : (status : Status) → IsAnswer commands words (contents_of made) status → status ≡ Write → ⊥
@@ -98,13 +99,20 @@ module _ (commands : Commands) (lawful : IsLawful commands) (m : Meanings) (plai
 
   -- ---- what a run says but of its message's put
 
+  -- all that a run promises, but that the message was put
   pub record Ended (shelf now : ShelfSeen) (out out_now : SinkSeen) (status : Status) (message : List ℕ) : Type 0 where
+    -- what was loaded
     pub loads : IsLoading words made shelf now status
+    -- what is answered
     pub answer : IsEnding commands words (contents_of made) status
+    -- what the output got
     pub output : OutputGets (IsOutput commands words (contents_of made)) words status out out_now
+    -- what stands is given
     pub complete : (ending : Status) → Ends commands words (contents_of made) ending
         → Gives commands words (contents_of made) ending status out out_now
+    -- a file that is not read failed
     pub read : (which : Which) → status ≡ Read (Failed which) → HasFailed words made which shelf now
+    -- the message names the cause
     pub names : IsMessage m words (contents_of made) status message
 
   module _ (shelf now : ShelfSeen) (out out_now : SinkSeen) (pieces : Pieces) (status : Status) (bytes message : List ℕ)
@@ -193,7 +201,7 @@ module _ (commands : Commands) (lawful : IsLawful commands) (m : Meanings) (plai
     ended s told (parts.is_not_put d other is h) = by_put s told d other is h
 
 -- an answer over the files of the words, whose bytes were put, and whose message was told, is a run
-pub is_run : (commands : Commands) → IsLawful commands → (m : Meanings) → IsPlain m → (words : List (List ℕ)) (shelf now : ShelfSeen)
+pub is_run : (commands : Commands) → EndsInside commands → (m : Meanings) → IsPlain m → (words : List (List ℕ)) (shelf now : ShelfSeen)
     (out out_now err err_now : SinkSeen) (pieces : Pieces) (status : Status) (bytes message : List ℕ) (status_now : Status) (told : List ℕ)
     → IsAnswerOver commands m words shelf now status bytes message
     → ((request : Request) → request_of words ≡ Some request → status ≡ Done → pieces ≡ pieces_of request)

@@ -15,7 +15,7 @@ use Rattle.base_files.specs.Loads.{LoadedFile}
 use Rattle.top_answer.specs.Answers as answers
 use Rattle.top_answer.specs.Answers.{Ends, IsAnswer}
 use Rattle.top_answer.specs.Commands.{Commands}
-use Rattle.top_run.specs.Programs.{IsLawful}
+use Rattle.top_run.specs.Programs.{EndsInside}
 use Rattle.top_run.specs.Loading as loading
 use Rattle.top_run.specs.Loading.{HasFailed, IsLoading}
 use Rattle.top_run.specs.Seen.{ShelfSeen}
@@ -83,7 +83,7 @@ module _ (words : List (List ℕ)) (made : List LoadedFile) (shelf now : ShelfSe
   in_loading request asked un (loading.loads_nothing e calm memory) = absurd (read_memory status (Failed which) is memory)
 
   -- a file that isn't read, as the answer says, failed in this run
-  pub failed_in : (commands : Commands) → IsLawful commands → IsAnswer commands words (contents_of made) status
+  pub failed_in : (commands : Commands) → EndsInside commands → IsAnswer commands words (contents_of made) status
       → IsLoading words made shelf now status → HasFailed words made which shelf now
   failed_in commands lawful (answers.is_ending (answers.unasked none u)) l = absurd (read_usage status (Failed which) is u)
   failed_in commands lawful (answers.is_ending (answers.not_read request cause asked un u)) l =

@@ -13,7 +13,8 @@ returns-in-Ok-clause-says c = solved (analysis_text c.args.analysis) c.in-Ok.sys
 pub returns-in-Ok-clause-rows : goal.returns-in-Ok-clause-rows
 returns-in-Ok-clause-rows c = λ count has.
     system_rows _ _ _ has.0 _ _ c.in-Ok.ensures.ok
-    (c.outcome_from.ensures.rows ∙ ap (λ (rs : List (List ℤ)). rows_of (length rs) c.outcome_from.result.status) c.as_slice.ensures.rows) has.1
+    (c.outcome_from.ensures.rows
+    ∙ ap (λ (rs : List (List ℤ)). rows_of (length rs) c.outcome_from.result.status) c.as_slice.ensures.rows) has.1
     ∙ sym (ap (λ n. rows_of n c.outcome_from.result.status) has.2)
 
 pub returns-in-Err-clause-says : goal.returns-in-Err-clause-says

@@ -17,7 +17,8 @@ returns-in-Bench-clause-says c =
 
 pub returns-in-Upgrade-clause-says : goal.returns-in-Upgrade-clause-says
 returns-in-Upgrade-clause-says c =
-    subst (λ r. Says (command_of exact (request_text r)) c.outcome_from-in-Upgrade.result.status c.outcome_from-in-Upgrade.result.bytes.items)
+    subst (λ r. Says (command_of exact (request_text r)) c.outcome_from-in-Upgrade.result.status
+    c.outcome_from-in-Upgrade.result.bytes.items)
     (sym c.in-Upgrade.is)
     (upgraded c.in-Upgrade.certificate.now _ _ _ c.upgrade_text.ensures.ok c.upgrade_text.ensures.err c.outcome_from-in-Upgrade.ensures.is)
 

@@ -8,7 +8,7 @@ use Rattle.top_run.proofs.program.run_without_words.Goals as goal
 
 pub returns : goal.returns
 returns g c = λ words.
-    is_run _ g.met.P.Program.lawful _ g.met.P.Program.plain words _ _ _ _ _ _ Lines _ _ _ _ _
+    is_run _ g.met.P.Program.inside _ g.met.P.Program.plain words _ _ _ _ _ _ Lines _ _ _ _ _
     (unloaded _ _ words _ _ _ _ (inr c.plain_answer-answer.ensures.status)
     (for_memory _ _ g.met.P.Program.plain.memory words [] _ _ _ c.plain_answer-answer.ensures.status c.plain_answer-answer.ensures.bytes
     c.plain_answer-answer.ensures.message))

@@ -8,7 +8,7 @@ use Rattle.top_answer.specs.Commands.{CheckEnds, UpgradeEnds, command_of}
 use Rattle.top_answer.specs.Commands as commands
 use Rattle.top_status.specs.declared.status.Status.{Status}
 use Rattle.top_status.specs.declared.status.Status.TheVariants.{Read, Write}
-use Rattle.top_run.specs.Programs.{IsLawful, IsPlain}
+use Rattle.top_run.specs.Programs.{EndsInside, IsPlain}
 use Rattle.top_texts.specs.Exact.{exact}
 use Rattle.top_texts.specs.Meanings.{Meanings}
 use Rattle.top_texts.specs.Questions.{Question, QuestionEnds, is_refused, rounds_end, rounds_spent}
@@ -64,9 +64,9 @@ module _ (m : Meanings) where
   command_reads (Transitions a) cause h = question_reads _ cause h
   command_reads (Equations text limit policy) cause h = question_reads _ cause h
 
-  -- the commands of the program are so
-  pub lawful : IsLawful (command_of m)
-  lawful = record { writes = command_writes; reads = command_reads }
+  -- the commands of the program end so
+  pub inside : EndsInside (command_of m)
+  inside = record { writes = command_writes; reads = command_reads }
 
 -- the messages of the program name no place where memory is wanted or the output failed
 pub plain : IsPlain exact
