@@ -1,12 +1,11 @@
 -- No command ends in a failed read or in a failed put: these are causes of the run. It is shown here, since a program cites it.
-use Rattle.std.proofs.Common.{◌≡◌, refl}
+use Rattle.std.proofs.Common.{refl}
 use Rattle.ask_files.specs.Files.{Request}
 use Rattle.ask_files.specs.declared.which.ReadCause.{ReadCause}
 use Rattle.ask_words.specs.declared.request.Purpose.TheVariants.{Report, Certificate as AsCertificate}
 use Rattle.ask_words.specs.declared.request.Request.TheVariants.{Analyse, Check, Bench, Upgrade, Prove, Transitions, Equations}
 use Rattle.top_answer.specs.Commands.{CheckEnds, UpgradeEnds, command_of}
 use Rattle.top_answer.specs.Commands as commands
-use Rattle.top_status.specs.declared.status.Status.{Status}
 use Rattle.top_status.specs.declared.status.Status.TheVariants.{Read, Write}
 use Rattle.top_run.specs.Programs.{EndsInside, IsPlain}
 use Rattle.top_texts.specs.Exact.{exact}

@@ -1,5 +1,5 @@
 -- What a run loads.
-use Rattle.std.specs.Prelude.{◌≡◌, ℕ, List, [], ◌∷◌, Option, Some, None, Result, IsErr}
+use Rattle.std.specs.Prelude.{◌≡◌, ℕ, List, [], ◌∷◌, Some, None, Result, IsErr}
 use Rattle.std.specs.declared.alloc.AllocError.{AllocError}
 use Rattle.ask_files.specs.Files.{NamedFile, Request, files_of}
 use Rattle.ask_files.specs.Loads.{AreRead, LoadsEnd}

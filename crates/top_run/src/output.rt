@@ -98,8 +98,8 @@ fn put_lines<K: Sink>(out: &mut K, text: &[u8]) -> Result<(), PutFault>
     Ok(())
 }
 
-/// Puts a report, a summary or an annotated text, line by line.
-pub fn put_report<K: Sink>(bytes: &[u8], out: &mut K) -> Status
+// Puts a report, a summary or an annotated text, line by line.
+pub(crate) fn put_report<K: Sink>(bytes: &[u8], out: &mut K) -> Status
     ensures { IsPutBy lines_of bytes.now result (sink_with (K.held out.old) (K.taken out.old) (K.faults out.old) (K.spare out.old))
         (sink_with (K.held out.new) (K.taken out.new) (K.faults out.new) (K.spare out.new)) }
 {

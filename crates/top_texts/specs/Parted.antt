@@ -1,6 +1,5 @@
 -- What the parts of an answer to loaded texts say to one another.
-use Rattle.std.specs.Prelude.{◌≡◌, ◌≤◌, ◌<◌, ◌⊎◌, ℕ, List, [], IsTrue, Some, length, slice_get, Vec}
-use Rattle.std.specs.declared.alloc.Global.{Global}
+use Rattle.std.specs.Prelude.{◌≡◌, ◌≤◌, ◌<◌, ◌⊎◌, ℕ, List, [], IsTrue, Some, length, slice_get}
 use Rattle.lang_tree.specs.Tree.{Statements}
 use Rattle.flow_templates.specs.RowFaults.{faults_of}
 use Rattle.flow_templates.specs.Rows.{is_template}
@@ -18,7 +17,6 @@ use Rattle.solve_rounds.specs.declared.solution.Solved.{Solved}
 use Rattle.solve_rounds.specs.Solutions.{IsSolved, cert_with, made_certificate}
 use Rattle.ask_claims.specs.declared.claim.Claim.{Claim}
 use Rattle.ask_words.specs.declared.request.Domain.{Domain}
-use Rattle.ask_words.specs.declared.request.Domain.TheVariants as domain
 use Rattle.ask_words.specs.declared.request.Policy.{Policy}
 use Rattle.top_texts.specs.Checks.{IsCheckSpot, IsCompositionSpot, IsFormFault, IsRefusedCertificate, NoneIsWide, IsStopped, system_with}
 use Rattle.top_texts.specs.Checks.{theirs}

@@ -13,16 +13,14 @@ mod refusal;
 mod transitions;
 mod upgrade;
 
-// One call for each command.
-pub use analyse::{certify_text, solve_text};
+// One call for each command that is asked of texts alone.
 pub use bench::bench_text;
-pub use check::check_text;
 pub use equations::equations_text;
 pub use prove::prove_text;
 pub use transitions::transitions_text;
 pub use upgrade::upgrade_text;
 
-// The parts of an analysis and of a check, for other outputs and for messages.
+// The parts of an analysis and of a check, whose messages name rows.
 pub use analyse::certify::certificate_of;
 pub use analyse::least::{LeastBounds, least_on};
 pub use analyse::rounds::report_of;

@@ -1,6 +1,6 @@
 -- From an answer, its put and its message to what a run promises.
-use Rattle.std.proofs.Common.{◌≡◌, ◌∙◌, ℕ, List, [], refl, sym, subst, subst₂, ap}
-use Rattle.std.specs.Prelude.{◌<◌, Some, Option, length, take}
+use Rattle.std.proofs.Common.{◌≡◌, ◌∙◌, ℕ, List, refl, sym, subst, subst₂}
+use Rattle.std.specs.Prelude.{◌<◌, Some, length, take}
 use Rattle.std.specs.Io.KnownBytes.{Appends}
 use Rattle.ask_files.specs.Files.{Request}
 use Rattle.ask_files.specs.Loads.{contents_of}

@@ -1,5 +1,5 @@
 -- The headline, from what a run promises.
-use Rattle.std.proofs.Common.{◌≡◌, ◌∙◌, ◌⊎◌, inl, inr, ◌∷◌, ℕ, List, [], refl, sym, ap, subst}
+use Rattle.std.proofs.Common.{◌≡◌, ◌∙◌, ◌⊎◌, inl, inr, ℕ, List, [], refl, ap, subst}
 use Rattle.std.specs.Prelude.{Some, None, Option, Result, IsErr}
 use Rattle.std.specs.declared.alloc.AllocError.{AllocError}
 use Rattle.ask_files.proofs.loads.Unread.{unread_failed, unread_long, unread_none}
@@ -14,7 +14,6 @@ use Rattle.ask_words.specs.declared.request.Analysis.{Analysis}
 use Rattle.ask_words.specs.declared.request.Purpose.TheVariants.{Report}
 use Rattle.ask_words.specs.declared.request.Request.TheVariants.{Analyse}
 use Rattle.base_files.specs.Faults.{Rose}
-use Rattle.base_files.specs.Loads.{LoadedFile}
 use Rattle.flow_systems.specs.declared.spot.Spot.{Spot}
 use Rattle.top_answer.specs.Answers as answers
 use Rattle.top_answer.specs.Answers.{Answers, Asks, Ends, IsOfRounds, IsOutput, IsTooWide}
@@ -29,11 +28,10 @@ use Rattle.top_run.specs.Run as run
 use Rattle.top_run.specs.Run.{IsRun}
 use Rattle.top_run.specs.Seen.{ShelfSeen, SinkSeen}
 use Rattle.top_status.specs.declared.status.Status.{Status}
-use Rattle.top_status.specs.declared.status.Status.TheVariants.{Done, Memory, Read, Spent, Write}
+use Rattle.top_status.specs.declared.status.Status.TheVariants.{Done, Memory, Read, Write}
 use Rattle.top_texts.specs.LeastReports.{IsReportOf}
 use Rattle.top_texts.specs.Meanings.{Meanings}
 use Rattle.top_texts.specs.Questions.{rounds_end}
-use Rattle.top_texts.specs.Texts.{IsSolvable}
 
 none_some : {A : Type 0} (o : Option A) (a : A) → o ≡ None → o ≡ Some a → ⊥
 none_some o a h k = cc

@@ -3,7 +3,7 @@ use Rattle.std.proofs.Common.{◌≡◌, ◌∙◌, ◌++◌, ⊎_elim, ℕ, Lis
 use Rattle.std.proofs.Common.{append-nil, Option}
 use Rattle.std.proofs.Math.Seq.{drop-append_seam}
 use Rattle.std.proofs.lemmas.List.{take_rest}
-use Rattle.std.specs.Prelude.{Some, None, Result, Ok, Err, IsErr, map}
+use Rattle.std.specs.Prelude.{Some, None, Result, Ok, IsErr}
 use Rattle.std.specs.declared.alloc.AllocError.{AllocError}
 use Rattle.ask_files.specs.Files.{Request}
 use Rattle.ask_files.specs.Loads.{contents_of}

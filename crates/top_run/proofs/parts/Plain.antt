@@ -1,6 +1,6 @@
 -- Over files and an output in memory nothing fails outside: what is loaded is what the files are.
 use Rattle.std.proofs.Common.{◌≡◌, ◌∙◌, ◌⊎◌, inl, inr, ⊎_elim, ◌<◌, ◌≤◌, ◌+◌, ◌++◌, ◌∷◌, ℕ, List, []}
-use Rattle.std.proofs.Common.{Bool, true, false, refl, sym, ap, subst, length, take, min, arith, append-nil, if◌then◌else◌}
+use Rattle.std.proofs.Common.{true, false, refl, sym, ap, subst, length, take, min, arith, append-nil, if◌then◌else◌}
 use Rattle.std.proofs.Math.Seq.{take-length}
 use Rattle.std.proofs.lemmas.List.{length-take, take_min}
 use Rattle.std.specs.Prelude.{Some, None, Option, Result, IsErr, nat_lt, option_map}

@@ -17,7 +17,6 @@ use Rattle.top_status.specs.declared.ending.Ending.{Ending}
 use Rattle.top_texts.specs.declared.refusal.Refusal.{Refusal}
 use Rattle.top_texts.specs.declared.refusal.Refusal.TheVariants as refusal
 use Rattle.top_status.specs.declared.status.Status.{Status}
-use Rattle.top_status.specs.declared.status.Status.TheVariants.{Certificate, Text, Wide, Spent}
 use Rattle.top_texts.proofs.analyses.Analysed.{system_line, system_rows, system_texts}
 use Rattle.top_texts.proofs.rounds.OneChain.{solved_rounds}
 

@@ -1,5 +1,5 @@
 use Rattle.std.proofs.Common.{◌∙◌, ap, length, map, refl, subst, sym}
-use Rattle.std.specs.Prelude.{◌≡◌, List, ℕ}
+use Rattle.std.specs.Prelude.{◌≡◌, List}
 use Rattle.acsl_comments.specs.Places.{Ascend}
 use Rattle.acsl_comments.specs.Texts.{with_comments}
 use Rattle.acsl_comments.specs.declared.comment.Comment.{Comment}
