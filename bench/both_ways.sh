@@ -96,6 +96,8 @@ expect 0 tmpl transitions buffer.tsys
 expect 4 tmpl transitions sum.c
 expect 0 tmpl equations fair.equ
 expect 4 tmpl equations sum.c
+expect 0 tmpl points sum.c
+expect 4 tmpl points unknown.c
 in_folder=below
 expect 0 tmpl solve ../sum.c --domain octagons
 expect 0 tmpl_acsl ../sum.c --domain octagons

@@ -9,6 +9,7 @@
 - A number that limits something stands in one constant, and nowhere else in src/ and specs/.
 - Each path and each name of code that a page of docs/ or the README cites exists.
 - Each rule of docs/FORMATS.md that has a name (in bold) names the file that has it.
+- Each crate that crates.txt names below another is cited there: a crate more is one more to be proved before it.
 - The tables of crates and of edits are those of crates.txt, of the crates' first lines and of must-fail/.
 """
 import collections
@@ -94,7 +95,8 @@ def check_limits():
             continue
         for number, line in enumerate(lines_of(file), 1):
             text = re.sub(r'"[^"]*"|//.*|--.*', "", line)
-            for literal in re.findall(r"(?<![\w.])\d[\d_]*(?![\w.])", text):
+            # A divisor is no limit.
+            for literal in re.findall(r"(?<![\w.])(?<!/ )\d[\d_]*(?![\w.])", text):
                 value = int(literal.replace("_", ""))
                 if value in numbers:
                     say(f"{file}:{number}", f"{literal} is {numbers[value][1]} of {numbers[value][0]}")
@@ -142,6 +144,16 @@ def crates_listed():
         if re.match(r"[a-z]", line):
             head, _, below = line.partition(":")
             yield head.split()[0], below.split()
+
+
+def check_crates():
+    texts = collections.defaultdict(str)
+    for file in code_files():
+        texts[file.split("/")[1]] += "\n".join(re.sub(r"^\s*(//|--).*", "", line) for line in lines_of(file)) + "\n"
+    for crate, below in crates_listed():
+        for name in below:
+            if not re.search(rf"\b{name}::|\bRattle\.{name}\.", texts[crate]):
+                say("crates.txt", f"{crate} cites nothing of {name}")
 
 
 def first_sentences(crate):
@@ -212,7 +224,7 @@ def main():
     if sys.argv[1:]:
         print(__doc__, file=sys.stderr)
         return 2
-    for check in (check_shape, check_heads, check_limits, check_pages, check_tables, check_rules):
+    for check in (check_shape, check_heads, check_limits, check_pages, check_crates, check_tables, check_rules):
         check()
     for line in found:
         print(line)

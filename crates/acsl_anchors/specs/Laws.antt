@@ -1,7 +1,7 @@
 -- What anchors are to a program's points, to its text and to its names.
 use Rattle.std.specs.Prelude.{◌≡◌, ℕ, Bool, true, false, List, [], ◌∷◌, Ok, if◌then◌else◌, length, map}
 use Rattle.std.specs.List.{All}
-use Rattle.lang_grammar.specs.Grammar.{Items, Program, Reads}
+use Rattle.lang_grammar.specs.Grammar.{ForFirst, Items, Program, Reads}
 use Rattle.lang_grammar.specs.View.{tokens_of}
 use Rattle.lang_tokens.specs.Reading as lex
 use Rattle.lang_tokens.specs.declared.token.Token as lex_token
@@ -10,9 +10,9 @@ use Rattle.flow_edges.specs.declared.point.Place.{Place}
 use Rattle.flow_edges.specs.declared.point.Place.TheVariants.{Entry, Loop, Label, Join, Assume, Exit}
 use Rattle.flow_edges.specs.declared.point.Point.{Point}
 use Rattle.lang_tree.specs.Tree.{Statements}
-use Rattle.lang_meaning.specs.Walk.{State, walk, walk_items}
+use Rattle.lang_meaning.specs.Walk.{State, walk, walk_first, walk_items}
 use Rattle.acsl_comments.specs.Places.{Ascend, IsEdge}
-use Rattle.acsl_anchors.specs.Anchors.{Anchor, Scope, What, a_loop, a_label, anchors_of, scope_items, the_end}
+use Rattle.acsl_anchors.specs.Anchors.{Anchor, Scope, What, a_loop, a_label, anchors_of, scope_first, scope_items, the_end}
 
 -- the point of an anchor, where each place has this line
 abbrev pub what_point : (ℕ → ℕ) → What → ℕ → Point
@@ -61,3 +61,8 @@ scope_of state = record { declared = length state.names; known = state.known }
 abbrev pub ScopesAreWalked : Type 0
 ScopesAreWalked = (line : ℕ → ℕ) (width : ℕ) (inside : Bool) (items : Items) (before behind : State) (body : Statements)
     → walk_items line width inside items before ≡ Ok (behind, body) → scope_items items (scope_of before) ≡ scope_of behind
+
+-- So is what is known behind the first part of a `for`'s head, where the invariants of its loop are said.
+abbrev pub HeadsAreWalked : Type 0
+HeadsAreWalked = (line : ℕ → ℕ) (width : ℕ) (first : ForFirst) (before behind : State) (nodes : Statements)
+    → walk_first line width first before ≡ Ok (behind, nodes) → scope_first first (scope_of before) ≡ scope_of behind

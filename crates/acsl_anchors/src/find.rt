@@ -1,6 +1,7 @@
 //! The anchors of a text.
 
 ghost use Rattle.std.specs.Prelude.{◌≡◌, ◌≤◌, IfOk, length};
+ghost use Rattle.base_limits.specs.declared.limits.TheConstants.{MOST_TEXT_BYTES};
 ghost use Rattle.lang_grammar.specs.Grammar.{Program, Reads};
 ghost use Rattle.lang_grammar.specs.View.{tokens_of};
 ghost use Rattle.lang_tokens.specs.TokenLists.{AreTokensOf};
@@ -18,7 +19,7 @@ use std::alloc::{AllocError, Global};
 ///
 /// Where the tokens read as no program, the answer says nothing.
 pub fn anchors(alloc: Global, tokens: &[Token], text: &[u8]) -> Result<Vec<Anchor>, AllocError>
-    requires size { length text.now ≤ 65536 }
+    requires size { length text.now ≤ MOST_TEXT_BYTES }
     requires tokens { AreTokensOf text.now tokens.now }
     ensures { (p : Program) → Reads (tokens_of text.now tokens.now) p →
         IfOk result (λ anchors. anchors.items ≡ plain_anchors (anchors_of p)) }

@@ -1,6 +1,6 @@
 //! Laws of the definitions, each the contract of a function that does nothing.
 
-ghost use Rattle.acsl_anchors.specs.Laws.{AnchorsArePoints, AnchorsStand, ScopesAreWalked};
+ghost use Rattle.acsl_anchors.specs.Laws.{AnchorsArePoints, AnchorsStand, HeadsAreWalked, ScopesAreWalked};
 
 /// The anchors of a program are its points that have one, in their order, each with what it is, its line and its name.
 pub fn anchors_are_points()
@@ -15,4 +15,9 @@ pub fn anchors_stand()
 /// What is known behind statements is what the language's rule on names says there.
 pub fn scopes_are_walked()
     ensures { ScopesAreWalked }
+{}
+
+/// So is what is known behind the first part of a `for`'s head, where the invariants of its loop are said.
+pub fn heads_are_walked()
+    ensures { HeadsAreWalked }
 {}

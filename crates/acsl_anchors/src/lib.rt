@@ -10,4 +10,4 @@ mod search;
 
 pub use anchor::{Anchor, Known, What};
 pub use find::anchors;
-pub use laws::{anchors_are_points, anchors_stand, scopes_are_walked};
+pub use laws::{anchors_are_points, anchors_stand, heads_are_walked, scopes_are_walked};

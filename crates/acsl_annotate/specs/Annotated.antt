@@ -17,12 +17,12 @@ use Rattle.acsl_anchors.specs.Anchors.{anchors_of}
 use Rattle.acsl_anchors.specs.Laws.{anchored, point_of}
 use Rattle.acsl_notes.specs.Laws.{SaysTruth}
 use Rattle.acsl_notes.specs.Texts.{annotated, comments_from}
+use Rattle.ask_files.specs.Files.{Request}
 use Rattle.ask_words.specs.declared.request.Domain.{Domain}
 use Rattle.ask_words.specs.declared.request.Purpose.TheVariants.{Report}
 use Rattle.ask_words.specs.declared.request.Request.TheVariants.{Analyse}
-use Rattle.top_answer.specs.Commands.{Commands, asking, command_of}
+use Rattle.top_answer.specs.Commands.{Commands, command_of}
 use Rattle.top_texts.specs.Meanings.{Meanings}
-use Rattle.top_texts.specs.Questions.{analysis_question}
 use Rattle.top_texts.specs.Texts.{IsReady, IsSolvable}
 
 -- the tree of a program's text: that of its tokens, which means these names and statements
@@ -59,8 +59,11 @@ pub record IsAnnotatedOf (text : List ℕ) (rows : Domain (List ℕ)) (bytes : L
   pub least : Least (equations_of_program (length names) body template) vector
   pub annotated : IsTextWith text names body template vector bytes
 
--- the commands of a program whose `solve` writes the text with the annotations of the least vector in place of its report
+-- what is written for a request by a program whose `solve` writes the text with the annotations of the least vector in place of its report
+abbrev pub writes_noted : Meanings → Request → List ℕ → Type 0
+writes_noted m (Analyse Report a) bytes = IsSolvable a.program a.domain a.policy a.improvements × IsAnnotatedOf a.program a.domain bytes
+writes_noted m asked bytes = (command_of m asked).writes bytes
+
+-- the commands of that program: their endings and wide operations are those of the commands of `tmpl`
 abbrev pub annotating : Meanings → Commands
-annotating m (Analyse Report a) = asking (analysis_question m Report a.program a.domain a.policy a.improvements)
-    (λ bytes. IsSolvable a.program a.domain a.policy a.improvements × IsAnnotatedOf a.program a.domain bytes)
-annotating m asked = command_of m asked
+annotating m asked = record (command_of m asked) { writes = λ bytes. writes_noted m asked bytes }

@@ -1,15 +1,16 @@
 //! The annotated text of a program, or why there is none: a pure function, with no file and no stream.
 
 ghost use Rattle.std.specs.Prelude.{◌≡◌, ◌≤◌, ◌⊎◌, List, ℕ, [], length, map, string_bytes};
+ghost use Rattle.base_limits.specs.declared.limits.TheConstants.{MOST_IMPROVEMENTS, MOST_TEXT_BYTES};
 ghost use Rattle.ask_files.specs.Asked.{texts_of};
 ghost use Rattle.ask_words.specs.Request.{analysis_text};
 ghost use Rattle.ask_words.specs.declared.request.Domain.{Domain};
 ghost use Rattle.ask_words.specs.declared.request.Policy.{Policy as PolicyValue};
 ghost use Rattle.ask_words.specs.declared.request.Purpose.TheVariants.{Report};
 ghost use Rattle.ask_words.specs.declared.request.Request.TheVariants.{Analyse};
-ghost use Rattle.top_answer.specs.Answers.{Answers, Ends, Holds, IsAnswer, IsMessage, IsOutput};
+ghost use Rattle.top_answer.specs.Answers.{IsAnsweredBy, Ends, Holds, IsAnswer, IsMessage, IsOutput};
 ghost use Rattle.top_answer.specs.Limits.{IsWithin};
-ghost use Rattle.top_answer.specs.Parted.{AnswersRequest, AnswersWords, NamesPlace, Says};
+ghost use Rattle.top_answer.specs.Outcomes.{AnswersRequest, AnswersWords, NamesPlace, Says};
 ghost use Rattle.top_status.specs.Messages.{message_of};
 ghost use Rattle.top_status.specs.declared.status.Status.{Status as StatusValue};
 ghost use Rattle.top_texts.specs.Analyses.{IsFoundIn};
@@ -23,6 +24,7 @@ use crate::words::{read_analysis, solve_words};
 use crate::write::annotated_text;
 use ask_files::{analysis_with, first_unread};
 use ask_words::{Analysis, Purpose, Request, WordsFault};
+use base_watch::Watch;
 use std::alloc::Global;
 use top_answer::{Answer, Exact, Meaning, plain_answer};
 use top_status::{Ending, Message, Status, make_message};
@@ -58,7 +60,7 @@ fn refused_answer(alloc: Global, ending: Ending) -> Answer
 
 // The annotated text of a program whose least bounds were found.
 fn written(alloc: Global, text: &[u8], least: &LeastBounds) -> Answer
-    requires short { length text.now ≤ 65536 }
+    requires short { length text.now ≤ MOST_TEXT_BYTES }
     requires found { (rows : Domain (List ℕ)) × (policy : PolicyValue) × (limit : ℕ) × IsFoundIn text.now rows policy limit least.now }
     ensures says { (analysis : Analysis (List ℕ)) → analysis.program ≡ text.now
         → IsFoundIn analysis.program analysis.domain analysis.policy analysis.improvements least.now
@@ -73,7 +75,7 @@ fn written(alloc: Global, text: &[u8], least: &LeastBounds) -> Answer
 }
 
 // The annotated text of what an analysis reads.
-fn annotated(alloc: Global, analysis: Analysis<&[u8]>) -> Answer
+fn annotated<W: Watch>(alloc: Global, analysis: Analysis<&[u8]>, watch: &mut W) -> Answer
     requires { IsWithin (analysis_text analysis) }
     ensures says { Says (annotating exact (Analyse Report (analysis_text analysis.entry))) result.status result.bytes.items }
     ensures names { NamesPlace (Analyse Report (analysis_text analysis.entry)) result.status result.message }
@@ -84,6 +86,7 @@ fn annotated(alloc: Global, analysis: Analysis<&[u8]>) -> Answer
         analysis.domain,
         analysis.policy,
         analysis.improvements,
+        watch,
     ) {
         Ok(least) => written(alloc, analysis.program, &least),
         Err(ending) => refused_answer(alloc, ending),
@@ -91,8 +94,13 @@ fn annotated(alloc: Global, analysis: Analysis<&[u8]>) -> Answer
 }
 
 // The answer to an analysis over the contents of its files.
-fn annotation_of(alloc: Global, analysis: Analysis<&str>, contents: &[&[u8]]) -> Answer
-    requires { analysis.improvements ≤ 1000000 }
+fn annotation_of<W: Watch>(
+    alloc: Global,
+    analysis: Analysis<&str>,
+    contents: &[&[u8]],
+    watch: &mut W,
+) -> Answer
+    requires { analysis.improvements ≤ MOST_IMPROVEMENTS }
     ensures { AnswersRequest (annotating exact) (Analyse Report (analysis_text analysis.entry)) (texts_of contents.now) result.status
         result.bytes.items result.message }
 {
@@ -101,20 +109,25 @@ fn annotation_of(alloc: Global, analysis: Analysis<&str>, contents: &[&[u8]]) ->
         analysis,
     };
     match first_unread(alloc, request, contents) {
-        Ok(None) => annotated(alloc, analysis_with(analysis, contents)),
+        Ok(None) => annotated(alloc, analysis_with(analysis, contents), watch),
         Ok(Some(cause)) => plain_answer(alloc, Status::Read(cause)),
         Err(_) => plain_answer(alloc, Status::Memory),
     }
 }
 
 // The answer to words that begin with `solve`, with the usage line of the program that reports.
-fn annotation_by(alloc: Global, words: &[String], contents: &[&[u8]]) -> Answer
+fn annotation_by<W: Watch>(
+    alloc: Global,
+    words: &[String],
+    contents: &[&[u8]],
+    watch: &mut W,
+) -> Answer
     requires { IsSolve (map string_bytes words.now) }
     ensures { AnswersWords (annotating exact) (map string_bytes words.now) (texts_of contents.now) result.status
         result.bytes.items result.message }
 {
     match read_analysis(alloc, words) {
-        Ok(analysis) => annotation_of(alloc, analysis, contents),
+        Ok(analysis) => annotation_of(alloc, analysis, contents, watch),
         Err(WordsFault::Usage) => plain_answer(alloc, Status::Usage),
         Err(WordsFault::NoMemory) => plain_answer(alloc, Status::Memory),
     }
@@ -137,25 +150,36 @@ fn with_usage(answer: Answer) -> Answer
 }
 
 /// The answer to words that begin with `solve`.
-pub(crate) fn annotation_as_solve(alloc: Global, words: &[String], contents: &[&[u8]]) -> Answer
+pub(crate) fn annotation_as_solve<W: Watch>(
+    alloc: Global,
+    words: &[String],
+    contents: &[&[u8]],
+    watch: &mut W,
+) -> Answer
     requires { IsSolve (map string_bytes words.now) }
     ensures answer { IsAnswer (annotating ⟦<Exact as Meaning>⟧.means) (map string_bytes words.now) (texts_of contents.now) result.status }
     ensures output { Holds (IsOutput (annotating ⟦<Exact as Meaning>⟧.means) (map string_bytes words.now) (texts_of contents.now))
         result.status result.bytes.items }
     ensures complete { (ending : StatusValue) → Ends (annotating ⟦<Exact as Meaning>⟧.means) (map string_bytes words.now)
         (texts_of contents.now) ending
-        → Answers (annotating ⟦<Exact as Meaning>⟧.means) (map string_bytes words.now) (texts_of contents.now) ending result.status }
+        → IsAnsweredBy (annotating ⟦<Exact as Meaning>⟧.means) (map string_bytes words.now) (texts_of contents.now) ending result.status }
     ensures message { IsMessage (saying ⟦<Exact as Meaning>⟧.means) (map string_bytes words.now) (texts_of contents.now) result.status
         result.message }
 {
-    with_usage(annotation_by(alloc, words, contents))
+    with_usage(annotation_by(alloc, words, contents, watch))
 }
 
 /// What the program answers to `words`, a program's name and the options of `solve`, and to the contents of the files that they name: those
 /// that `top_answer::answer` has for `solve`. Nothing is read, and nothing is written.
 ///
-/// The causes, and their order, are those of `top_answer::answer` for `solve` and these words.
-pub fn annotation(alloc: Global, words: &[String], contents: &[&[u8]]) -> Answer
+/// The causes, and their order, are those of `top_answer::answer` for `solve` and these words. `watch` is told as there, and no clause
+/// mentions it.
+pub fn annotation<W: Watch>(
+    alloc: Global,
+    words: &[String],
+    contents: &[&[u8]],
+    watch: &mut W,
+) -> Answer
     // Sound: what is answered is so, as an answer of `solve`. What is written is the program's text with the annotations of the least
     // vector over the template; each is true in every run, and without them it is the text again.
     ensures answer { IsAnswer (annotating ⟦<Exact as Meaning>⟧.means) (as_solve (map string_bytes words.now)) (texts_of contents.now)
@@ -166,7 +190,7 @@ pub fn annotation(alloc: Global, words: &[String], contents: &[&[u8]]) -> Answer
     // Complete: the ending that `solve` has is answered, but for want of memory, or a wide operation that stands.
     ensures complete { (ending : StatusValue) → Ends (annotating ⟦<Exact as Meaning>⟧.means) (as_solve (map string_bytes words.now))
         (texts_of contents.now) ending
-        → Answers (annotating ⟦<Exact as Meaning>⟧.means) (as_solve (map string_bytes words.now)) (texts_of contents.now) ending
+        → IsAnsweredBy (annotating ⟦<Exact as Meaning>⟧.means) (as_solve (map string_bytes words.now)) (texts_of contents.now) ending
         result.status }
 
     // The message names the line and the unknown of the cause.
@@ -174,7 +198,7 @@ pub fn annotation(alloc: Global, words: &[String], contents: &[&[u8]]) -> Answer
         result.status result.message }
 {
     match solve_words(alloc, words) {
-        Ok(all) => annotation_as_solve(alloc, &all, contents),
+        Ok(all) => annotation_as_solve(alloc, &all, contents, watch),
         Err(_) => plain_answer(alloc, Status::Memory),
     }
 }

@@ -2,6 +2,7 @@
 #![tactic(auto)]
 
 mod answer;
+mod laws;
 mod program;
 mod run;
 mod usage;
@@ -9,6 +10,7 @@ mod words;
 mod write;
 
 pub use answer::annotation;
+pub use laws::annotated_is_one;
 pub use program::Annotating;
 pub use run::annotate;
 pub use usage::usage_line;

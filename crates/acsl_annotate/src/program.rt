@@ -3,6 +3,7 @@
 ghost use Rattle.std.specs.Prelude.{map, string_bytes};
 
 use crate::answer::annotation_as_solve;
+use base_watch::Watch;
 use std::alloc::Global;
 use top_answer::Answer;
 use top_run::Program;
@@ -28,7 +29,12 @@ impl Program for Annotating {
 
     ghost plain = { annotating_plain };
 
-    fn answer(alloc: Global, words: &[String], contents: &[&[u8]]) -> Answer {
-        annotation_as_solve(alloc, words, contents)
+    fn answer<W: Watch>(
+        alloc: Global,
+        words: &[String],
+        contents: &[&[u8]],
+        watch: &mut W,
+    ) -> Answer {
+        annotation_as_solve(alloc, words, contents, watch)
     }
 }

@@ -2,6 +2,7 @@
 
 ghost use Rattle.std.specs.Prelude.{◌≡◌, ◌≤◌, ◌<◌, IfOk, IsTrue, List, ℕ, length};
 ghost use Rattle.std.specs.List.{All};
+ghost use Rattle.base_limits.specs.declared.limits.TheConstants.{MOST_TEXT_BYTES};
 ghost use Rattle.lang_tokens.specs.Reading.{Reads};
 ghost use Rattle.lang_tokens.specs.TokenLists.{AreTokensOf};
 ghost use Rattle.lang_tree.specs.Word.{is_word};
@@ -37,7 +38,7 @@ fn has_rows(system: &System)
 
 // The tokens of a text. One that was read as a program has some.
 fn text_tokens(alloc: Global, text: &[u8]) -> Result<Vec<Token>, AllocError>
-    requires { length text.now ≤ 65536 }
+    requires { length text.now ≤ MOST_TEXT_BYTES }
     ensures reads { IfOk result (λ tokens. Reads text.now tokens.items) }
     ensures placed { IfOk result (λ tokens. AreTokensOf text.now tokens.items) }
 {
@@ -53,7 +54,7 @@ pub(crate) fn annotated_text(
     text: &[u8],
     least: &LeastBounds,
 ) -> Result<Vec<u8>, AllocError>
-    requires short { length text.now ≤ 65536 }
+    requires short { length text.now ≤ MOST_TEXT_BYTES }
     requires found { (rows : Domain (List ℕ)) × (policy : Policy) × (limit : ℕ)
         × IsFoundIn text.now rows policy limit least.now }
     ensures { (rows : Domain (List ℕ)) (policy : Policy) (limit : ℕ) → IsFoundIn text.now rows policy limit least.now

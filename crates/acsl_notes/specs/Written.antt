@@ -10,7 +10,8 @@ use Rattle.lang_tree.specs.Numbers.{is_number, are_numbers}
 use Rattle.lang_tree.specs.Tree.{Condition, Statements}
 use Rattle.lang_meaning.specs.Forms.{products}
 use Rattle.lang_meaning.specs.Meaning.{Means}
-use Rattle.lang_meaning.specs.Expressions.{ExpressionMeans, a_condition}
+use Rattle.lang_meaning.specs.Expressions.{a_condition}
+use Rattle.lang_meaning.specs.ExpressionAnswers.{ExpressionMeans}
 use Rattle.acsl_notes.specs.Clauses.{Clause, never, at_most, equals, IsTrueAt}
 use Rattle.acsl_notes.specs.Texts.{clause_text}
 

@@ -10,7 +10,8 @@ use Rattle.lang_tokens.specs.declared.token.Token.{Token}
 use Rattle.lang_grammar.specs.View.{tokens_of}
 use Rattle.flow_edges.specs.declared.point.Point.{Point}
 use Rattle.lang_meaning.specs.declared.fault.ParseFault.TheVariants as parse
-use Rattle.lang_meaning.specs.Expressions.{ExpressionAnswer, as_truth}
+use Rattle.lang_meaning.specs.Expressions.{as_truth}
+use Rattle.lang_meaning.specs.ExpressionAnswers.{ExpressionAnswer}
 use Rattle.lang_tree.specs.Cases.{cases_of}
 use Rattle.lang_tree.specs.Tree.{Condition}
 use Rattle.ask_claims.specs.Claims.{Stated, ◌>>=◌, parsed, point_of, decided, Says, FirstFault}

@@ -2,11 +2,13 @@
 #![tactic(auto, using(crate::proofs::claims::Binds::then_ok, crate::proofs::claims::Binds::then_err))]
 
 ghost use Rattle.std.specs.Prelude.{◌≡◌, map, ◌≤◌, ◌<◌, ◌+◌, ℕ, false, length, get_or, All, IfOk, IfSome, IsTrue, slice_range};
+ghost use Rattle.base_limits.specs.declared.limits.TheConstants.{MOST_TEXT_BYTES};
 ghost use Rattle.flow_edges.specs.declared.limits.TheConstants.{MOST_POINTS};
 ghost use Rattle.lang_tokens.specs.Reading.{end_at};
 ghost use Rattle.lang_tokens.specs.TokenLists.{AreTokensOf};
 ghost use Rattle.lang_grammar.specs.View.{tokens_of};
-ghost use Rattle.lang_meaning.specs.Expressions.{ExpressionAnswer, ExpressionMeans, MeaningFits, as_truth};
+ghost use Rattle.lang_meaning.specs.Expressions.{as_truth};
+ghost use Rattle.lang_meaning.specs.ExpressionAnswers.{ExpressionAnswer, ExpressionMeans, MeaningFits};
 ghost use Rattle.lang_parser.specs.Expressions.{expr_of, read_of};
 ghost use Rattle.lang_meaning.specs.Proper.{IsProper};
 ghost use Rattle.flow_edges.specs.Constants.{have_room};
@@ -258,7 +260,7 @@ fn read_expression(
     flow: &Flow,
     from: usize,
 ) -> Result<Read, ClaimFault>
-    requires size { length text.now ≤ 65536 }
+    requires size { length text.now ≤ MOST_TEXT_BYTES }
     requires tokens { AreTokensOf text.now tokens.now }
     requires from { from < length tokens.now }
     ensures found { (w : ExpressionAnswer) × ExpressionMeans text.now (tokens_of text.now tokens.now) from flow.now.names w
@@ -277,7 +279,7 @@ fn read_claim(
     flow: &Flow,
     from: usize,
 ) -> Result<(Claim, usize), ClaimFault>
-    requires size { length text.now ≤ 65536 }
+    requires size { length text.now ≤ MOST_TEXT_BYTES }
     requires tokens { AreTokensOf text.now tokens.now }
     requires from { from < length tokens.now }
     requires goes_on { is_end (token_at tokens.now from).kind ≡ false }
@@ -299,7 +301,7 @@ fn claims_of(
     text: &[u8],
     flow: &Flow,
 ) -> Result<Vec<Claim>, ClaimFault>
-    requires size { length text.now ≤ 65536 }
+    requires size { length text.now ≤ MOST_TEXT_BYTES }
     requires tokens { AreTokensOf text.now tokens.now }
     ensures found { Answers (λ claims. map stated_of claims.items) (ClaimsMean text.now flow.now.names flow.now.points
         (tokens_of text.now tokens.now)) result }
@@ -320,7 +322,7 @@ fn claims_of(
 
 // Reads a text.
 fn file(alloc: Global, text: &[u8], flow: &Flow) -> Result<Vec<Claim>, ClaimFault>
-    requires { length text.now ≤ 65536 }
+    requires { length text.now ≤ MOST_TEXT_BYTES }
     ensures found { Answers (λ claims. map stated_of claims.items) (FileMeans text.now flow.now.names flow.now.points) result }
     ensures stands { IfOk result (λ claims. All (Stands flow.now.names flow.now.points) claims.items) }
 {
@@ -340,7 +342,7 @@ fn file(alloc: Global, text: &[u8], flow: &Flow) -> Result<Vec<Claim>, ClaimFaul
 /// `BigNumber` for a number that can't be a condition, `NondetHere`, the semicolon, `Cases`. The first token with which the tokens
 /// begin no file of claims is `Unexpected`.
 pub fn read_claims(alloc: Global, text: &[u8], flow: &Flow) -> Result<Vec<Claim>, ClaimFault>
-    requires { length text.now ≤ 65536 }
+    requires { length text.now ≤ MOST_TEXT_BYTES }
     // What is answered is meant.
     ensures found { Answers (λ claims. map stated_of claims.items) (FileMeans text.now flow.now.names flow.now.points) result }
     // What is meant is answered.

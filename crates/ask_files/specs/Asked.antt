@@ -4,7 +4,7 @@ use Rattle.std.specs.Borrow.{Bor}
 use Rattle.ask_words.specs.declared.request.Analysis.{Analysis}
 use Rattle.ask_words.specs.declared.request.Domain.{Domain}
 use Rattle.ask_words.specs.declared.request.Domain.TheVariants.{Intervals, Zones, Octagons, Rows}
-use Rattle.ask_words.specs.declared.request.Request.TheVariants.{Analyse, Check, Bench, Upgrade, Prove, Transitions, Equations}
+use Rattle.ask_words.specs.declared.request.Request.TheVariants.{Analyse, Check, Bench, Upgrade, Prove, Transitions, Equations, Points}
 use Rattle.ask_files.specs.Files.{Request}
 
 -- contents as lists of bytes
@@ -47,3 +47,4 @@ with_texts (Upgrade certificate) contents = Upgrade (text_at contents 0)
 with_texts (Prove claims analysis) contents = Prove (text_at contents (1 + rows_files analysis.domain)) (analysis_with analysis contents)
 with_texts (Transitions analysis) contents = Transitions (analysis_with analysis contents)
 with_texts (Equations file improvements policy) contents = Equations (text_at contents 0) improvements policy
+with_texts (Points program) contents = Points (text_at contents 0)

@@ -1,9 +1,10 @@
 -- The files of a request in the order of their loads, and which of them isn't read.
 use Rattle.std.specs.Prelude.{ℕ, List, [], ◌∷◌, Option, Some, None, length, nat_lt, if◌then◌else◌}
+use Rattle.base_limits.specs.declared.limits.TheConstants.{MOST_CERTIFICATE_BYTES, MOST_TEXT_BYTES}
 use Rattle.ask_words.specs.declared.request.Domain.{Domain}
 use Rattle.ask_words.specs.declared.request.Domain.TheVariants.{Intervals, Zones, Octagons, Rows}
 use Rattle.ask_words.specs.declared.request.Request.{Request as RequestOf}
-use Rattle.ask_words.specs.declared.request.Request.TheVariants.{Analyse, Check, Bench, Upgrade, Prove, Transitions, Equations}
+use Rattle.ask_words.specs.declared.request.Request.TheVariants.{Analyse, Check, Bench, Upgrade, Prove, Transitions, Equations, Points}
 use Rattle.ask_files.specs.declared.which.ReadCause.{ReadCause}
 use Rattle.ask_files.specs.declared.which.ReadCause.TheVariants.{Failed, TooLong}
 use Rattle.ask_files.specs.declared.which.Which.{Which}
@@ -33,15 +34,16 @@ files_of (Upgrade certificate) = (which.Certificate, certificate) ∷ []
 files_of (Prove claims analysis) = (which.Program, analysis.program) ∷ rows_before analysis.domain ((which.Claims, claims) ∷ [])
 files_of (Transitions analysis) = (which.System, analysis.program) ∷ rows_before analysis.domain []
 files_of (Equations file improvements policy) = (which.Equations, file) ∷ []
+files_of (Points program) = (which.Program, program) ∷ []
 
 -- how many bytes a file may have: 65,536, and a certificate 16,777,216
 abbrev pub most_bytes : Which → ℕ
-most_bytes which.Certificate = 16777216
-most_bytes which.Program = 65536
-most_bytes which.Rows = 65536
-most_bytes which.Claims = 65536
-most_bytes which.System = 65536
-most_bytes which.Equations = 65536
+most_bytes which.Certificate = MOST_CERTIFICATE_BYTES
+most_bytes which.Program = MOST_TEXT_BYTES
+most_bytes which.Rows = MOST_TEXT_BYTES
+most_bytes which.Claims = MOST_TEXT_BYTES
+most_bytes which.System = MOST_TEXT_BYTES
+most_bytes which.Equations = MOST_TEXT_BYTES
 
 -- why the first of these files isn't read that isn't, where these texts are what they hold, in order: there is no text for it, since its
 -- load failed, or it has more bytes than such a file may have

@@ -83,5 +83,8 @@ pub fn with_texts<'a>(request: Request<&str>, contents: &[&'a [u8]]) -> Request<
             improvements,
             policy,
         },
+        Request::Points { .. } => Request::Points {
+            program: text_at(contents, 0),
+        },
     }
 }

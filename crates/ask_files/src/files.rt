@@ -9,6 +9,7 @@ ghost use Rattle.ask_files.specs.declared.which.Which.TheVariants.{Claims};
 
 use crate::which::{ReadCause, Which};
 use ask_words::{Analysis, Domain, Request, WordsFault, read_words};
+use base_limits::{MOST_CERTIFICATE_BYTES, MOST_TEXT_BYTES};
 use std::alloc::{AllocError, Global};
 
 /// A file of a request.
@@ -24,8 +25,10 @@ pub fn most_bytes(which: Which) -> usize
     ensures { result ≡ most_bytes which }
 {
     match which {
-        Which::Certificate => 16777216,
-        Which::Program | Which::Rows | Which::Claims | Which::System | Which::Equations => 65536,
+        Which::Certificate => MOST_CERTIFICATE_BYTES,
+        Which::Program | Which::Rows | Which::Claims | Which::System | Which::Equations => {
+            MOST_TEXT_BYTES
+        }
     }
 }
 
@@ -96,6 +99,7 @@ pub fn request_files<'a>(
         Request::Prove { claims, analysis } => proof_files(alloc, claims, analysis),
         Request::Transitions { analysis } => analysis_files(alloc, Which::System, analysis),
         Request::Equations { file, .. } => Ok(vec![in alloc; named(Which::Equations, file)]?),
+        Request::Points { program } => Ok(vec![in alloc; named(Which::Program, program)]?),
     }
 }
 

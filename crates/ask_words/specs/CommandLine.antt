@@ -1,4 +1,4 @@
--- The command line as `clap` sees it: one simple command with eight subcommands.
+-- The command line as `clap` sees it: one simple command with nine subcommands.
 use Rattle.std.specs.Prelude.{Some, codes, true}
 use Rattle.clap.specs.Words.{App, Rule, Text, new_app, new_rule, with_rule, with_subcommand}
 use Rattle.clap.specs.Simple.{on_top}
@@ -41,6 +41,10 @@ abbrev pub equations_app : App
 equations_app = with_rule (with_rule (with_rule (new_app (codes "equations")) (word_rule (codes "file")))
     (option_rule (codes "improvements"))) (option_rule (codes "policy"))
 
+-- `points PROGRAM`
+abbrev pub points_app : App
+points_app = with_rule (new_app (codes "points")) (word_rule (codes "program"))
+
 -- the program's own name isn't among the words, and one of the commands has to be
 abbrev pub top_app : App
 top_app = on_top (λ s. record s { no_binary_name = true; subcommand_required = true })
@@ -49,5 +53,5 @@ top_app = on_top (λ s. record s { no_binary_name = true; subcommand_required = 
 -- the whole command line
 abbrev pub tmpl_app : App
 tmpl_app = with_subcommand (with_subcommand (with_subcommand (with_subcommand (with_subcommand (with_subcommand (with_subcommand
-    (with_subcommand top_app (analysis_app (codes "solve")).top) (analysis_app (codes "certify")).top) check_app.top) bench_app.top)
-    upgrade_app.top) prove_app.top) (analysis_app (codes "transitions")).top) equations_app.top
+    (with_subcommand (with_subcommand top_app (analysis_app (codes "solve")).top) (analysis_app (codes "certify")).top) check_app.top)
+    bench_app.top) upgrade_app.top) prove_app.top) (analysis_app (codes "transitions")).top) equations_app.top) points_app.top

@@ -2,6 +2,7 @@
 use Rattle.std.specs.Prelude.{ℕ, List, [], ◌∷◌, Option, None, codes, option_and_then, option_map, unwrap_or, if◌then◌else◌}
 use Rattle.std.specs.Str.{bytes_eq}
 use Rattle.std.specs.Borrow.{Bor}
+use Rattle.base_limits.specs.declared.limits.TheConstants.{MOST_IMPROVEMENTS}
 use Rattle.clap.specs.Words.{Kinds, Row, Text, fault_of, first_of, subcommand_of}
 use Rattle.ask_words.specs.CommandLine.{tmpl_app}
 use Rattle.ask_words.specs.Values.{domain_in, meaning_in, number_in, policies}
@@ -10,7 +11,7 @@ use Rattle.ask_words.specs.declared.request.Domain.{Domain}
 use Rattle.ask_words.specs.declared.request.Domain.TheVariants.{Intervals, Zones, Octagons, Rows}
 use Rattle.ask_words.specs.declared.request.Request.{Request}
 use Rattle.ask_words.specs.declared.request.Policy.{Policy}
-use Rattle.ask_words.specs.declared.request.Request.TheVariants.{Analyse, Check, Bench, Upgrade, Prove, Transitions, Equations}
+use Rattle.ask_words.specs.declared.request.Request.TheVariants.{Analyse, Check, Bench, Upgrade, Prove, Transitions, Equations, Points}
 use Rattle.ask_words.specs.declared.request.Purpose.{Purpose}
 use Rattle.ask_words.specs.declared.request.Purpose.TheVariants.{Report, Certificate}
 
@@ -41,12 +42,13 @@ request_text (Upgrade certificate) = Upgrade certificate.now
 request_text (Prove claims a) = Prove claims.now (analysis_text a)
 request_text (Transitions a) = Transitions (analysis_text a)
 request_text (Equations file improvements policy) = Equations file.now improvements policy
+request_text (Points program) = Points program.now
 
 -- ---- commands, by the words and options that were given
 
 -- how many improvements are made at most
 abbrev pub improvements_in : List Row → Option ℕ
-improvements_in given = number_in 0 1000000 (unwrap_or (first_of (codes "improvements") given) (codes "1000"))
+improvements_in given = number_in 0 MOST_IMPROVEMENTS (unwrap_or (first_of (codes "improvements") given) (codes "1000"))
 
 -- by which rule an edge is picked
 abbrev pub policy_in : List Row → Option Policy
@@ -104,6 +106,10 @@ equations_in given =
     (improvements_in given))
     (first_of (codes "file") given)
 
+-- `points`: a program
+abbrev pub points_in : List Row → Option (Request Text)
+points_in given = option_map (λ program. Points program) (first_of (codes "program") given)
+
 -- the request of a command by its name
 abbrev pub command_in : Text × List Row → Option (Request Text)
 command_in (name, given) = if bytes_eq name (codes "solve") then analyse_in Report given
@@ -113,7 +119,8 @@ command_in (name, given) = if bytes_eq name (codes "solve") then analyse_in Repo
     else (if bytes_eq name (codes "upgrade") then upgrade_in given
     else (if bytes_eq name (codes "prove") then prove_in given
     else (if bytes_eq name (codes "transitions") then transitions_in given
-    else (if bytes_eq name (codes "equations") then equations_in given else None)))))))
+    else (if bytes_eq name (codes "equations") then equations_in given
+    else (if bytes_eq name (codes "points") then points_in given else None))))))))
 
 -- what is asked, where `clap` finds no fault
 abbrev pub unless_fault : Kinds → Option (Request Text) → Option (Request Text)

@@ -7,4 +7,4 @@ abbrev pub usage_text : Text
 usage_text = codes "usage: tmpl solve PROGRAM [--domain D] [--rows FILE] [--improvements N] [--policy P] | certify (the same)"
     ++ codes " | check PROGRAM CERT | bench --seed N --loops K | upgrade CERT"
     ++ codes " | prove PROGRAM CLAIMS (the options of solve) | transitions FILE (the options of solve)"
-    ++ codes " | equations FILE [--improvements N] [--policy P]\n"
+    ++ codes " | equations FILE [--improvements N] [--policy P] | points PROGRAM\n"

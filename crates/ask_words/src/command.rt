@@ -3,8 +3,17 @@
 ghost use Rattle.std.specs.Prelude.{◌≡◌, IfOk, false};
 ghost use Rattle.clap.specs.Words.{app_of, rule_of};
 ghost use Rattle.clap.specs.declared.Command.TheViews.{out-Command};
-ghost use Rattle.ask_words.specs.CommandLine.{analysis_app, bench_app, check_app, equations_app, option_rule, prove_app, tmpl_app, top_app};
-ghost use Rattle.ask_words.specs.CommandLine.{upgrade_app, word_rule};
+ghost use Rattle.ask_words.specs.CommandLine.{
+  analysis_app,
+  bench_app,
+  check_app,
+  equations_app,
+  option_rule,
+  points_app,
+  prove_app,
+  tmpl_app,
+};
+ghost use Rattle.ask_words.specs.CommandLine.{top_app, upgrade_app, word_rule};
 
 use clap::{Arg, Command};
 use std::alloc::{AllocError, Global};
@@ -20,7 +29,8 @@ pub(crate) fn command_line<'a>(alloc: Global) -> Result<Command<'a>, AllocError>
     let upgrade = bench.subcommand(upgrade_command(alloc)?)?;
     let prove = upgrade.subcommand(prove_command(alloc)?)?;
     let transitions = prove.subcommand(analysis_command(alloc, "transitions")?)?;
-    Ok(transitions.subcommand(equations_command(alloc)?)?)
+    let equations = transitions.subcommand(equations_command(alloc)?)?;
+    Ok(equations.subcommand(points_command(alloc)?)?)
 }
 
 // The program, whose own name isn't among the words; one of the commands has to be.
@@ -81,6 +91,13 @@ fn equations_command<'a>(alloc: Global) -> Result<Command<'a>, AllocError>
     let file = Command::new(alloc, "equations").arg(word(alloc, "file"))?;
     let improvements = file.arg(option(alloc, "improvements"))?;
     Ok(improvements.arg(option(alloc, "policy"))?)
+}
+
+fn points_command<'a>(alloc: Global) -> Result<Command<'a>, AllocError>
+    ensures app { IfOk result (λ command. app_of command ≡ points_app) }
+    ensures local { IfOk result (λ command. (out-Command command).has_globals ≡ false) }
+{
+    Ok(Command::new(alloc, "points").arg(word(alloc, "program"))?)
 }
 
 // A positional word that has to be there.

@@ -3,10 +3,11 @@
 ghost use Rattle.std.specs.Prelude.{◌≡◌, option_and_then, option_map, unwrap_or};
 ghost use Rattle.clap.specs.Words.{first_of, found_of, rows_of, subcommand_rows_of};
 ghost use Rattle.ask_words.specs.Request.{analyse_in, analysis_in, analysis_text, bench_in, check_in, command_in, equations_in};
-ghost use Rattle.ask_words.specs.Request.{improvements_in, policy_in, prove_in, request_text, transitions_in, upgrade_in};
+ghost use Rattle.ask_words.specs.Request.{improvements_in, points_in, policy_in, prove_in, request_text, transitions_in, upgrade_in};
 
 use crate::request::{Analysis, Policy, Purpose, Request};
 use crate::values::{domain, number, policy as policy_named};
+use base_limits::MOST_IMPROVEMENTS;
 use clap::ArgMatches;
 
 /// The request that these matches make.
@@ -38,6 +39,8 @@ fn command<'a>(name: &str, given: &ArgMatches<'a>) -> Option<Request<&'a str>>
         transitions(given)
     } else if name == "equations" {
         equations(given)
+    } else if name == "points" {
+        points(given)
     } else {
         None
     }
@@ -121,11 +124,22 @@ fn equations<'a>(given: &ArgMatches<'a>) -> Option<Request<&'a str>>
     })
 }
 
+fn points<'a>(given: &ArgMatches<'a>) -> Option<Request<&'a str>>
+    ensures { option_map request_text result ≡ points_in (rows_of (found_of given.now)) }
+{
+    let program = value(given, "program")?;
+    Some(Request::Points { program })
+}
+
 // How many improvements are made at most.
 fn improvements(given: &ArgMatches<'_>) -> Option<u32>
     ensures { result ≡ improvements_in (rows_of (found_of given.now)) }
 {
-    number(value_or(given, "improvements", "1000"), 0, 1_000_000)
+    number(
+        value_or(given, "improvements", "1000"),
+        0,
+        MOST_IMPROVEMENTS,
+    )
 }
 
 // By which rule an edge is picked.

@@ -6,7 +6,7 @@ ghost use Rattle.ask_words.specs.Request.{request_of};
 ghost use Rattle.ask_words.specs.declared.request.Domain.TheVariants.{Intervals, Zones};
 ghost use Rattle.ask_words.specs.declared.request.Policy.TheVariants.{First};
 ghost use Rattle.ask_words.specs.declared.request.Purpose.TheVariants.{Report};
-ghost use Rattle.ask_words.specs.declared.request.Request.TheVariants.{Analyse, Equations, Prove, Transitions, Upgrade};
+ghost use Rattle.ask_words.specs.declared.request.Request.TheVariants.{Analyse, Equations, Points, Prove, Transitions, Upgrade};
 
 /// Nothing happens here: the clauses are the laws.
 pub fn request_laws()
@@ -39,6 +39,9 @@ pub fn request_laws()
     // Equations are solved by the policy that is named, and by 1,000 improvements where none are.
     ensures equations { request_of (codes "equations" ∷ codes "e" ∷ codes "--policy=first" ∷ [])
         ≡ Some (Equations (codes "e") 1000 First) }
+
+    // The program alone has its points written.
+    ensures points { request_of (codes "points" ∷ codes "p" ∷ []) ≡ Some (Points (codes "p")) }
 
     // No option is given twice, and no word makes no command.
     ensures repeated { request_of (codes "solve" ∷ codes "p" ∷ codes "--policy=best"

@@ -75,4 +75,8 @@ pub enum Request<T> {
         improvements: u32,
         policy: Policy,
     },
+    /// Write the points of a program.
+    Points {
+        program: T,
+    },
 }

@@ -58,5 +58,5 @@ pub fn usage_line() -> &'static [u8]
     b"usage: tmpl solve PROGRAM [--domain D] [--rows FILE] [--improvements N] [--policy P] | certify (the same) \
       | check PROGRAM CERT | bench --seed N --loops K | upgrade CERT \
       | prove PROGRAM CLAIMS (the options of solve) | transitions FILE (the options of solve) \
-      | equations FILE [--improvements N] [--policy P]\n"
+      | equations FILE [--improvements N] [--policy P] | points PROGRAM\n"
 }

@@ -1,7 +1,7 @@
 -- A certificate as JSON.
 use Rattle.std.specs.Prelude.{◌≡◌, ◌≤◌, ◌<◌, ◌&&◌, ◌||◌, ◌==◌, ◌⊎◌, ℕ, ℤ, Bool, false, List, [], Option}
 use Rattle.std.specs.Prelude.{Some, None, Result, Ok, Err, IsUtf8, if◌then◌else◌, is_some, length, map, nat_lt, option_and_then, codes, ⊤}
-use Rattle.serde_json.specs.Data.{Data, member, no_members, object}
+use Rattle.serde_json.specs.Data.{Data, Members, member, no_members, object}
 use Rattle.serde_json.specs.Find.{as_i64, as_number, as_u64, get}
 use Rattle.serde_json.specs.Read.{read}
 use Rattle.base_fractions.specs.Extended.{extended}
@@ -129,6 +129,12 @@ abbrev pub cert_object : (bounds rows steps traces uppers : Data) → Data
 cert_object bounds rows steps traces uppers =
     object (member (codes "bounds") bounds (member (codes "format") (index_data 2) (member (codes "rows") rows (member (codes "steps") steps
     (member (codes "traces") traces (member (codes "uppers") uppers no_members))))))
+
+-- steps, the traces that they name and evidence as the last fields of a certificate of n rows
+abbrev pub last_data : ℕ → List Trace → List Step → List Trace → List Upper → Members
+last_data n names steps traces uppers =
+    member (codes "steps") (list_data (step_data n names) steps) (member (codes "traces") (list_data trace_data traces)
+    (member (codes "uppers") (list_data upper_data uppers) no_members))
 
 -- the traces that are written: those that the items name, each once, in the order in which they are named first
 abbrev pub listed_traces : Cert → List Trace

@@ -1,10 +1,17 @@
 //! Writing a certificate.
 
-ghost use Rattle.std.specs.Prelude.{◌≡◌, [], IfOk, codes};
-ghost use Rattle.serde_json.specs.Data.{member, no_members};
+ghost use Rattle.std.specs.Prelude.{◌≡◌, ◌&&◌, [], IfOk, IsTrue, Some, codes, nat_lt, true};
+ghost use Rattle.std.specs.List.{list_all};
+ghost use Rattle.serde_json.specs.Data.{member, no_members, object, put};
 ghost use Rattle.serde_json.specs.View.{members_view, view};
 ghost use Rattle.serde_json.specs.Written.{compact_text};
-ghost use Rattle.cert_text.specs.Naming.{named_traces, with_traces};
+ghost use Rattle.cert_types.specs.Shaped.{has_item};
+ghost use Rattle.cert_text.specs.Keys.{index_data};
+ghost use Rattle.cert_text.specs.Lists.{is_list, list_data, list_in};
+ghost use Rattle.cert_text.specs.Traces.{is_trace, listing, trace_data, trace_in};
+ghost use Rattle.cert_text.specs.Naming.{is_listed, named_traces, step_traces, with_traces};
+ghost use Rattle.cert_text.specs.StepForms.{is_step, step_data, step_in};
+ghost use Rattle.cert_text.specs.Evidence.{is_upper, upper_data, upper_in};
 ghost use Rattle.cert_text.specs.Certificates.{
   IsBeyond,
   IsWithin,
@@ -13,7 +20,8 @@ ghost use Rattle.cert_text.specs.Certificates.{
   SpellsTooMany,
   cert_data,
   cert_in,
-  cert_object,
+  last_data,
+  listed_traces,
   read_again,
 };
 
@@ -22,7 +30,8 @@ use crate::entry::write_list;
 use crate::members::with;
 use crate::naming::number_all;
 use crate::numbering::Numbering;
-use cert_types::{Cert, Step};
+use cert_types::{Cert, Step, Upper};
+use flow_systems::Trace;
 use serde_json::{Map, Value};
 use std::alloc::{AllocError, Global};
 
@@ -41,19 +50,43 @@ fn last_fields(
     with(alloc, members, "steps", steps)
 }
 
-// The fields and the format as a value.
+// Steps, the traces that they name and evidence as the last fields of a certificate of `count` rows.
+fn last_members(
+    alloc: Global,
+    count: usize,
+    names: &Numbering,
+    steps: &[Step],
+    traces: &[Trace],
+    uppers: &[Upper],
+) -> Result<Map<String, Value>, AllocError>
+    requires { IsTrue (list_all (λ s. nat_lt 0 count && has_item s && list_all (is_listed names.now) (step_traces s)) steps.now) }
+    ensures members { IfOk result (λ m. members_view m.entries ≡ last_data count names.now steps.now traces.now uppers.now) }
+    ensures steps_shape { IfOk result (λ _. is_list (is_step (listing count names.now)) (list_data (step_data count names.now) steps.now)
+        ≡ true) }
+    ensures steps_back { IfOk result (λ _. list_in (step_in (listing count names.now)) (list_data (step_data count names.now) steps.now)
+        ≡ Some steps.now) }
+    ensures traces_shape { IfOk result (λ _. is_list is_trace (list_data trace_data traces.now) ≡ true) }
+    ensures traces_back { IfOk result (λ _. list_in trace_in (list_data trace_data traces.now) ≡ Some traces.now) }
+    ensures uppers_shape { IfOk result (λ _. is_list is_upper (list_data upper_data uppers.now) ≡ true) }
+    ensures uppers_back { IfOk result (λ _. list_in upper_in (list_data upper_data uppers.now) ≡ Some uppers.now) }
+{
+    let steps = write_list(alloc, count, names, steps)?;
+    let traces = write_list(alloc, count, names, traces)?;
+    let uppers = write_list(alloc, count, names, uppers)?;
+    last_fields(alloc, steps, traces, uppers)
+}
+
+// The last fields with the others and the format as a value.
 fn cert_object(
     alloc: Global,
     bounds: Value,
     rows: Value,
-    steps: Value,
-    traces: Value,
-    uppers: Value,
+    last: Map<String, Value>,
 ) -> Result<Value, AllocError>
-    ensures { IfOk result (λ v. view v ≡ cert_object (view bounds) (view rows) (view steps) (view traces) (view uppers)) }
+    ensures { IfOk result (λ v. view v ≡ object (put (codes "bounds") (view bounds) (put (codes "format") (index_data 2)
+        (put (codes "rows") (view rows) (members_view last.entries))))) }
 {
-    let members = last_fields(alloc, steps, traces, uppers)?;
-    let members = with(alloc, members, "rows", rows)?;
+    let members = with(alloc, last, "rows", rows)?;
     let members = with(alloc, members, "format", Value::from(2u32))?;
     let members = with(alloc, members, "bounds", bounds)?;
     Ok(Value::Object(members))
@@ -68,20 +101,35 @@ fn numbering_of(alloc: Global, steps: &[Step]) -> Result<Numbering, AllocError>
     Ok(names)
 }
 
+// The certificate as a value, where these are the numbers of its traces.
+fn named_value(alloc: Global, cert: &Cert, names: &Numbering) -> Result<Value, AllocError>
+    requires writable { IsWritable cert.now }
+    requires names { names.now ≡ listed_traces cert.now }
+    ensures value { IfOk result (λ v. view v ≡ cert_data cert.now) }
+    ensures back { IfOk result (λ _. cert_in (cert_data cert.now) ≡ read_again cert.now) }
+{
+    let count = cert.rows.as_slice().len();
+    let bounds = bounds_value(alloc, count, names, &cert.bounds)?;
+    let rows = write_list(alloc, count, names, cert.rows.as_slice())?;
+    let last = last_members(
+        alloc,
+        count,
+        names,
+        cert.steps.as_slice(),
+        names.as_slice(),
+        cert.uppers.as_slice(),
+    )?;
+    cert_object(alloc, bounds, rows, last)
+}
+
 // The certificate as a value.
 fn cert_value(alloc: Global, cert: &Cert) -> Result<Value, AllocError>
     requires { IsWritable cert.now }
     ensures value { IfOk result (λ v. view v ≡ cert_data cert.now) }
     ensures back { IfOk result (λ _. cert_in (cert_data cert.now) ≡ read_again cert.now) }
 {
-    let count = cert.rows.as_slice().len();
     let names = numbering_of(alloc, cert.steps.as_slice())?;
-    let bounds = bounds_value(alloc, count, &names, &cert.bounds)?;
-    let rows = write_list(alloc, count, &names, cert.rows.as_slice())?;
-    let steps = write_list(alloc, count, &names, cert.steps.as_slice())?;
-    let traces = write_list(alloc, count, &names, names.as_slice())?;
-    let uppers = write_list(alloc, count, &names, cert.uppers.as_slice())?;
-    cert_object(alloc, bounds, rows, steps, traces, uppers)
+    named_value(alloc, cert, &names)
 }
 
 /// The certificate in format 2: JSON with no space, the keys of each object in the order of their bytes. Each trace is

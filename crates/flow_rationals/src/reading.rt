@@ -1,6 +1,7 @@
 //! Reading equations from a text.
 
 ghost use Rattle.std.specs.Prelude.{◌≡◌, ◌≢◌, ◌≤◌, ◌+◌, List, Result, length, IfOk, IfErr, Ok, Err};
+ghost use Rattle.base_limits.specs.declared.limits.TheConstants.{MOST_TEXT_BYTES};
 ghost use Rattle.lang_tokens.specs.Reading.{Reads};
 ghost use Rattle.flow_rationals.specs.declared.fault.EquFault.{EquFault};
 ghost use Rattle.flow_rationals.specs.declared.fault.EquFault.TheVariants.{NoMemory};
@@ -36,7 +37,7 @@ use written::Written;
 
 // The tokens of a text.
 fn tokens_of(alloc: Global, text: &[u8]) -> Result<Vec<Token>, EquFault>
-    requires { length text.now ≤ 65536 }
+    requires { length text.now ≤ MOST_TEXT_BYTES }
     ensures reads { IfOk result (λ tokens. Reads text.now tokens.items) }
     ensures within { IfOk result (λ tokens. AllWithin text.now tokens.items) }
     ensures few { IfOk result (λ tokens. length tokens.items ≤ 65537) }
@@ -55,7 +56,7 @@ fn tokens_of(alloc: Global, text: &[u8]) -> Result<Vec<Token>, EquFault>
 
 // The equations that are written, whatever they are.
 fn spelled(alloc: Global, text: &[u8]) -> Result<Vec<Written>, EquFault>
-    requires { length text.now ≤ 65536 }
+    requires { length text.now ≤ MOST_TEXT_BYTES }
     ensures reads { IfOk result (λ es. ReadsWritten text.now es.items) }
     ensures only { IfOk result (λ es. (other : List Written) → ReadsWritten text.now other → es.items ≡ other) }
     ensures few { IfOk result (λ es. length es.items + choice_count es.items ≤ 65537) }
@@ -78,7 +79,7 @@ fn spelled(alloc: Global, text: &[u8]) -> Result<Vec<Written>, EquFault>
 
 // What the text is.
 fn answer(alloc: Global, text: &[u8]) -> Result<Equations, EquFault>
-    requires { length text.now ≤ 65536 }
+    requires { length text.now ≤ MOST_TEXT_BYTES }
     ensures equations { IfOk result (λ equations. Answers text.now (Ok equations)) }
     ensures equations_alone { IfOk result (λ equations. (right : Result (List Equation) EquFault) → Answers text.now right
         → right ≡ Ok equations) }
@@ -100,7 +101,7 @@ fn answer(alloc: Global, text: &[u8]) -> Result<Equations, EquFault>
 ///
 /// `1:2` is one half. `docs/FORMATS.md` has the grammar, and `EquFault` the order of the faults.
 pub fn read(alloc: Global, text: &[u8]) -> Result<Equations, EquFault>
-    requires { length text.now ≤ 65536 }
+    requires { length text.now ≤ MOST_TEXT_BYTES }
 
     // What is answered is so.
     ensures equations { IfOk result (λ equations. Answers text.now (Ok equations)) }

@@ -3,6 +3,7 @@
 ghost use Rattle.std.specs.Prelude.{◌≡◌, ◌≢◌, ◌≤◌, ◌++◌, ℤ, List, Result, length, map, nat_le, option_to_list, OnOk, IfOk, IfErr, IsTrue};
 ghost use Rattle.std.specs.Prelude.{Ok, Err};
 ghost use Rattle.std.specs.List.{list_all};
+ghost use Rattle.base_limits.specs.declared.limits.TheConstants.{MOST_TEXT_BYTES};
 ghost use Rattle.flow_templates.specs.declared.fault.RowFault.{RowFault};
 ghost use Rattle.flow_templates.specs.declared.fault.RowFault.TheVariants.{NoMemory};
 ghost use Rattle.flow_templates.specs.Rows.{width_of};
@@ -35,7 +36,7 @@ fn add(rows: &mut Vec<Coeffs>, read: Option<Coeffs>) -> Result<(), AllocError>
 // The rows of the lines.
 fn rows_of(alloc: Global, lines: &[&[u8]], names: &[Name]) -> Result<Vec<Coeffs>, RowFault>
     requires few { length lines.now ≤ 65537 }
-    requires short { IsTrue (list_all (λ line. nat_le (length line.now) 65536) lines.now) }
+    requires short { IsTrue (list_all (λ line. nat_le (length line.now) MOST_TEXT_BYTES) lines.now) }
     ensures rows { IfOk result (λ rows. LinesRead names.now (map (λ line. line.now) lines.now) rows.items) }
     ensures few { IfOk result (λ rows. length rows.items ≤ length lines.now) }
     ensures refused { IfErr result (λ fault. fault ≢ NoMemory → HasFault names.now (map (λ line. line.now) lines.now) fault) }
@@ -50,7 +51,7 @@ fn rows_of(alloc: Global, lines: &[&[u8]], names: &[Name]) -> Result<Vec<Coeffs>
 
 // What the file is.
 fn answer(alloc: Global, text: &[u8], names: &[Name]) -> Result<Template, RowFault>
-    requires { length text.now ≤ 65536 }
+    requires { length text.now ≤ MOST_TEXT_BYTES }
     ensures template { IfOk result (λ template. Answers names.now text.now (Ok template)) }
     ensures width { IfOk result (λ template. width_of template ≡ length names.now) }
     ensures refused { IfErr result (λ fault. fault ≢ NoMemory → Answers names.now text.now (Err fault)) }
@@ -70,7 +71,7 @@ fn answer(alloc: Global, text: &[u8], names: &[Name]) -> Result<Template, RowFau
 /// in a line `BadRow` comes before `UnknownName` and that before `ZeroRow`; `Count` comes where no line is faulty.
 /// `docs/FORMATS.md` has the grammar.
 pub fn read_rows(alloc: Global, text: &[u8], names: &[Name]) -> Result<Template, RowFault>
-    requires { length text.now ≤ 65536 }
+    requires { length text.now ≤ MOST_TEXT_BYTES }
 
     // What is answered is so.
     ensures template { IfOk result (λ template. Answers names.now text.now (Ok template)) }

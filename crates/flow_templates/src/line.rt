@@ -1,6 +1,7 @@
 //! Lines of a row file.
 
 ghost use Rattle.std.specs.Prelude.{◌≡◌, ◌≢◌, ◌≤◌, ℕ, List, find, not, length, map, IfOk, IfErr, IsTrue, MatchOption, MatchResult};
+ghost use Rattle.base_limits.specs.declared.limits.TheConstants.{MOST_TEXT_BYTES};
 ghost use Rattle.lang_tokens.specs.declared.token.Token.{Token};
 ghost use Rattle.lang_tokens.specs.Reading.{Reads};
 ghost use Rattle.flow_templates.specs.declared.fault.RowFault.TheVariants.{NoMemory};
@@ -43,7 +44,7 @@ fn is_skipped(line: &[u8]) -> bool
 
 // The tokens of the line, if it has no fault.
 fn tokens_of(alloc: Global, line: &[u8]) -> Result<Option<Vec<Token>>, RowFault>
-    requires { length line.now ≤ 65536 }
+    requires { length line.now ≤ MOST_TEXT_BYTES }
     ensures { MatchResult result
         (λ found. MatchOption found ((tokens : List Token) → Reads line.now tokens → ⊥)
         (λ tokens. Reads line.now tokens.items × AllFit line.now tokens.items))
@@ -60,7 +61,7 @@ fn tokens_of(alloc: Global, line: &[u8]) -> Result<Option<Vec<Token>>, RowFault>
 
 // The terms that the line reads as, if it is a row.
 fn terms_of<'a>(alloc: Global, line: &'a [u8]) -> Result<Option<Vec<Term<'a>>>, RowFault>
-    requires { length line.now ≤ 65536 }
+    requires { length line.now ≤ MOST_TEXT_BYTES }
     ensures { MatchResult result
         (λ found. MatchOption found ((amounts : List Amount) → ReadsTerms line.now amounts → ⊥)
         (λ terms. ReadsKept line.now terms.items))
@@ -82,7 +83,7 @@ pub(crate) fn read_line(
     names: &[Name],
     number: u32,
 ) -> Result<Option<Coeffs>, RowFault>
-    requires { length line.now ≤ 65536 }
+    requires { length line.now ≤ MOST_TEXT_BYTES }
     ensures read { IfOk result (λ read. LineReads names.now line.now read) }
     ensures refused { IfErr result (λ fault. fault ≢ NoMemory → FaultAt names.now line.now number fault) }
 {

@@ -16,7 +16,8 @@ use Rattle.lang_meaning.specs.declared.fault.ParseFault.TheVariants as parse
 use Rattle.lang_meaning.specs.declared.fault.Limit.TheVariants.{Variables}
 use Rattle.lang_meaning.specs.Names.{place_of}
 use Rattle.lang_meaning.specs.Walk.{assignment}
-use Rattle.lang_meaning.specs.Expressions.{Meaning, ExpressionMeans, as_truth}
+use Rattle.lang_meaning.specs.Expressions.{Meaning, as_truth}
+use Rattle.lang_meaning.specs.ExpressionAnswers.{ExpressionMeans}
 use Rattle.flow_edges.specs.declared.limits.TheConstants.{MOST_POINTS}
 use Rattle.flow_transitions.specs.declared.auto_edge.AutoEdge.{AutoEdge}
 use Rattle.flow_transitions.specs.declared.fault.AutoFault.{AutoFault}

@@ -1,5 +1,6 @@
 -- What the reading of a transition system sees of tokens.
 use Rattle.std.specs.Prelude.{◌+◌, ◌≤◌, ℕ, List, [], length, slice_range, slice_get, Option, Some, None}
+use Rattle.base_limits.specs.declared.limits.TheConstants.{MOST_TEXT_BYTES}
 use Rattle.lang_tokens.specs.declared.token.Token.{Token}
 use Rattle.lang_tokens.specs.declared.token.Kind.{Kind}
 use Rattle.lang_tokens.specs.declared.token.Kind.TheVariants as kind
@@ -57,6 +58,6 @@ seen_at text tokens i = seen_or_end text (slice_get tokens i)
 
 -- a text that isn't too long, and its tokens
 pub record IsSource (text : List ℕ) (tokens : List Token) : Type 0 where
-  pub size : length text ≤ 65536
+  pub size : length text ≤ MOST_TEXT_BYTES
   pub tokens_of : AreTokensOf text tokens
   pub few : length tokens ≤ 65537

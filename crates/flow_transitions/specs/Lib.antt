@@ -3,6 +3,7 @@ pub mod Choices
 pub mod Counted
 pub mod AutoFaults
 pub mod AutoRuns
+pub mod AutoSystem
 pub mod AutoLaws
 pub mod AutoSymbols
 pub mod AutoContents

@@ -1,6 +1,7 @@
 //! Reading a transition system from a text.
 
 ghost use Rattle.std.specs.Prelude.{◌≡◌, ◌≢◌, ◌≤◌, Err, IfErr, IfOk, Ok, length};
+ghost use Rattle.base_limits.specs.declared.limits.TheConstants.{MOST_TEXT_BYTES};
 ghost use Rattle.lang_tokens.specs.Reading.{Reads};
 ghost use Rattle.flow_transitions.specs.declared.fault.AutoFault.TheVariants.{NoMemory};
 ghost use Rattle.flow_transitions.specs.AutoSymbols.{IsSource};
@@ -33,7 +34,7 @@ use point_name::PointName;
 ///
 /// `docs/FORMATS.md`, "Transition systems", has the grammar, and `AutoFault` the order of the faults.
 pub fn read(alloc: Global, text: &[u8]) -> Result<Auto, AutoFault>
-    requires { length text.now ≤ 65536 }
+    requires { length text.now ≤ MOST_TEXT_BYTES }
 
     // What is answered is so.
     ensures system { IfOk result (λ auto. IsAuto text.now (Ok (content auto))) }
@@ -47,7 +48,7 @@ pub fn read(alloc: Global, text: &[u8]) -> Result<Auto, AutoFault>
 
 /// What the text is read as, token by token.
 fn answer(alloc: Global, text: &[u8]) -> Result<Auto, AutoFault>
-    requires { length text.now ≤ 65536 }
+    requires { length text.now ≤ MOST_TEXT_BYTES }
     ensures system { IfOk result (λ auto. IsRead text.now (Ok (content auto))) }
     ensures refused { IfErr result (λ fault. fault ≢ NoMemory → IsRead text.now (Err fault)) }
 {
@@ -57,7 +58,7 @@ fn answer(alloc: Global, text: &[u8]) -> Result<Auto, AutoFault>
 
 /// The tokens of a text.
 fn tokens_of(alloc: Global, text: &[u8]) -> Result<Vec<Token>, AutoFault>
-    requires { length text.now ≤ 65536 }
+    requires { length text.now ≤ MOST_TEXT_BYTES }
     ensures reads { IfOk result (λ tokens. Reads text.now tokens.items) }
     ensures source { IfOk result (λ tokens. IsSource text.now tokens.items) }
     ensures refused { IfErr result (λ fault. fault ≢ NoMemory → IsRead text.now (Err fault)) }

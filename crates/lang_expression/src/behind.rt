@@ -1,7 +1,7 @@
 //! What follows a value, and what comes of an expression that ends.
 #![tactic(auto, using(lang_meaning::proofs::results::Binds::then_ok, lang_meaning::proofs::results::Binds::then_err))]
 
-ghost use Rattle.lang_grammar.specs.View.{change_of};
+ghost use Rattle.lang_grammar.specs.Symbols.{change_of};
 ghost use Rattle.lang_tokens.specs.Lines.{line_at};
 ghost use Rattle.lang_tree.specs.View.{condition_of};
 ghost use Rattle.lang_meaning.specs.Walk.{assigned};

@@ -2,7 +2,7 @@
 #![tactic(auto, using(lang_meaning::proofs::results::Binds::then_ok, lang_meaning::proofs::results::Binds::then_err))]
 
 ghost use Rattle.std.specs.Prelude.{◌≡◌, IfOk};
-ghost use Rattle.lang_grammar.specs.View.{symbol_kind};
+ghost use Rattle.lang_grammar.specs.Symbols.{symbol_kind};
 ghost use Rattle.lang_tokens.specs.Lines.{line_at};
 ghost use Rattle.lang_meaning.specs.Feed.{signed, wanted};
 ghost use Rattle.lang_meaning.specs.Gives.{Gives};

@@ -2,7 +2,7 @@
 #![tactic(auto, using(lang_meaning::proofs::results::Binds::then_ok, lang_meaning::proofs::results::Binds::then_err))]
 
 ghost use Rattle.std.specs.Prelude.{◌≡◌};
-ghost use Rattle.lang_grammar.specs.View.{change_of};
+ghost use Rattle.lang_grammar.specs.Symbols.{change_of};
 ghost use Rattle.lang_meaning.specs.Walk.{right_side, assigned};
 ghost use Rattle.lang_meaning.specs.Gives.{Gives};
 ghost use Rattle.lang_reader.specs.Values.{value_of};

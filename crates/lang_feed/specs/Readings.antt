@@ -7,7 +7,8 @@ use Rattle.lang_meaning.specs.declared.fault.ParseFault.TheVariants as fault
 use Rattle.lang_meaning.specs.Results.{◌>>=◌}
 use Rattle.lang_meaning.specs.Walk.{Value, State}
 use Rattle.lang_meaning.specs.Feed.{wants, has, Machine, at, feed, feed_one}
-use Rattle.lang_meaning.specs.Expressions.{Meaning, ExpressionAnswer, knowing, meaning_of}
+use Rattle.lang_meaning.specs.Expressions.{Meaning, knowing, meaning_of}
+use Rattle.lang_meaning.specs.ExpressionAnswers.{ExpressionAnswer}
 
 -- the value that is there
 abbrev pub value_there : ℕ → Machine → Result Value ParseFault

@@ -1,18 +1,11 @@
 -- Which tokens open a construct, and how many are open there.
-use Rattle.std.specs.Prelude.{◌++◌, true, false, nat_lt, ℕ, suc, List, [], ◌∷◌, Option, Some, None}
-use Rattle.lang_grammar.specs.Grammar.{Kind, infix_sign, bang, left_paren, left_brace, if_word, while_word, do_word, for_word, Token, token}
-use Rattle.lang_grammar.specs.Grammar.{Expr, number, variable, free, grouped}
-use Rattle.lang_grammar.specs.Grammar.{prefixed, joined, Declarator, bare, given, Declarators, declares, declares_more, Core, empty, block}
-use Rattle.lang_grammar.specs.Grammar.{if_alone, if_else}
-use Rattle.lang_grammar.specs.Grammar.{Update, set, step_after, step_before, ForFirst, no_first, declared_first, updated_first, ForTest}
-use Rattle.lang_grammar.specs.Grammar.{no_test, given_test}
-use Rattle.lang_grammar.specs.Grammar.{ForLast, no_last, updated_last, repeat, repeat_after, repeat_for, jumps, assumed, updates, Sub}
-use Rattle.lang_grammar.specs.Grammar.{labelled, plain, Items, no_items, label, declaration, item, Parameters}
-use Rattle.lang_grammar.specs.Grammar.{nothing, void_at, Return, no_return, returns, returns_minus, Program, program}
-use Rattle.lang_grammar.specs.Machine.{Goal, operand, more, statement, after_name, maybe_else, condition, do_end, header, declarator}
-use Rattle.lang_grammar.specs.Machine.{declared, some_name, parameters, returned}
-use Rattle.lang_grammar.specs.Machine.{header_first, header_test, header_last, updating, some_number, only, step, entry, takes, skips}
-use Rattle.lang_grammar.specs.Machine.{stops}
+use Rattle.std.specs.Prelude.{◌++◌, ℕ, suc, List, [], ◌∷◌, Option, Some, None}
+use Rattle.lang_grammar.specs.Grammar.{Expr, number, variable, free, grouped, prefixed, joined, Declarator, bare, given, Declarators}
+use Rattle.lang_grammar.specs.Grammar.{declares, declares_more, Core, empty, block, if_alone, if_else, Update, set, step_after, step_before}
+use Rattle.lang_grammar.specs.Grammar.{ForFirst, no_first, declared_first, updated_first, ForTest, no_test, given_test, ForLast, no_last}
+use Rattle.lang_grammar.specs.Grammar.{updated_last, repeat, repeat_after, repeat_for, jumps, assumed, updates, Sub, labelled, plain, Items}
+use Rattle.lang_grammar.specs.Grammar.{no_items, label, declaration, item, Parameters, nothing, void_at, Return, no_return, returns}
+use Rattle.lang_grammar.specs.Grammar.{returns_minus, Program, program}
 
 -- For each token of the spelling: whether it opens a construct, and how many are open at it.
 abbrev pub opens_expr : ℕ → Expr → List (Option ℕ)
@@ -98,84 +91,3 @@ opens_return (returns_minus a b n c d) = None ∷ None ∷ None ∷ None ∷ []
 abbrev pub opens : Program → List (Option ℕ)
 opens (program a b c ps d e is r f g) = None ∷ None ∷ None ∷ (opens_parameters ps ++ None ∷ None
     ∷ (opens_items 0 is ++ (opens_return r ++ None ∷ None ∷ [])))
-
--- the same, told by the machine
-abbrev pub opened_operand : ℕ → Kind → Option ℕ
-opened_operand d (infix_sign o) = Some d
-opened_operand d bang = Some d
-opened_operand d left_paren = Some d
-opened_operand d _ = None
-
--- what a token opens where a statement has to come
-abbrev pub opened_core : ℕ → Kind → Option ℕ
-opened_core d left_brace = Some d
-opened_core d if_word = Some d
-opened_core d while_word = Some d
-opened_core d do_word = Some d
-opened_core d for_word = Some d
-opened_core d _ = None
-
--- what a token opens that a goal takes
-abbrev pub opened_by : Goal → Kind → Option ℕ
-opened_by (operand d) k = opened_operand d k
-opened_by (more e d) k = None
-opened_by (statement p d) k = opened_core d k
-opened_by (after_name p d) k = None
-opened_by (maybe_else d) k = None
-opened_by (condition d) k = None
-opened_by (do_end d) k = None
-opened_by (header d) k = None
-opened_by (header_first d) k = None
-opened_by (header_test d) k = opened_operand d k
-opened_by (header_last d) k = None
-opened_by (updating e d) k = None
-opened_by (declarator d) k = None
-opened_by (declared d) k = None
-opened_by some_name k = None
-opened_by parameters k = None
-opened_by returned k = None
-opened_by some_number k = None
-opened_by (only m) k = None
-
--- what a token opens at a stack
-abbrev pub opened : List Goal → Kind → Option ℕ
-opened [] k = None
-opened (g ∷ gs) k = elim (entry g k) [ takes next ↦ opened_by g k | skips ↦ opened gs k | stops ↦ None ]
-
--- what each token of a text opens at a stack
-abbrev pub trace : List Goal → List Token → List (Option ℕ)
-trace gs [] = []
-trace gs (token k a ∷ ts) = opened gs k ∷ elim (step gs k) [ None ↦ [] | Some next ↦ trace next ts ]
-
--- what becomes of a token
-pub data Verdict : Type 0 where
-  goes : List Goal → Verdict
-  refused : Verdict
-  too_deep : Verdict
-
--- a token is refused, opens one construct too many, or the machine goes on
-abbrev pub judged : Option (List Goal) → Option ℕ → Verdict
-judged None depth = refused
-judged (Some next) None = goes next
-judged (Some next) (Some d) = elim (nat_lt d 64) [ true ↦ goes next | false ↦ too_deep ]
-
--- what becomes of a token at a stack
-abbrev pub verdict : List Goal → Kind → Verdict
-verdict gs k = judged (step gs k) (opened gs k)
-
--- what becomes of a text: it is a sentence, it ends too early, or the token at this place is the first at fault
-pub data Scan : Type 0 where
-  whole : Scan
-  short : Scan
-  unexpected : ℕ → Scan
-  nested : ℕ → Scan
-
--- a text ends well where nothing has to come, and else too early
-abbrev pub end_of : List Goal → Scan
-end_of [] = whole
-end_of (g ∷ gs) = short
-
--- what becomes of a text at a stack
-abbrev pub scan : List Goal → List Token → Scan
-scan gs [] = end_of gs
-scan gs (token k a ∷ ts) = elim (verdict gs k) [ goes next ↦ scan next ts | refused ↦ unexpected a | too_deep ↦ nested a ]

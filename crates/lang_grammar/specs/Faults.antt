@@ -1,7 +1,14 @@
 -- The faults of a text's grammar, told by trees alone.
 use Rattle.std.specs.Prelude.{◌≡◌, ◌≤◌, ◌<◌, ◌++◌, length, ℕ, List, [], ◌∷◌, Option, Some, None}
 use Rattle.lang_grammar.specs.Grammar.{Kind, Token, token, Program, Reads, Begins, IsUnexpected}
-use Rattle.lang_grammar.specs.Depth.{opens, Scan, whole, short, unexpected, nested}
+use Rattle.lang_grammar.specs.Depth.{opens}
+
+-- what becomes of a text: it is a sentence, it ends too early, or the token at this place is the first at fault
+pub data Scan : Type 0 where
+  whole : Scan
+  short : Scan
+  unexpected : ℕ → Scan
+  nested : ℕ → Scan
 
 -- None of these opens one construct too many.
 abbrev pub AllShallow : List (Option ℕ) → Type 0

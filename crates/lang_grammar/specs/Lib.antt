@@ -1,6 +1,10 @@
 pub mod Grammar
-pub mod Machine
 pub mod Depth
 pub mod Faults
 pub mod Expressions
 pub mod View
+pub mod Symbols
+pub mod Machine
+pub mod Verdicts
+pub mod Reaches
+pub mod Goals

@@ -1,8 +1,10 @@
 //! How far an expression reaches, by the machine of programs.
 
 ghost use Rattle.std.specs.Prelude.{◌≡◌, IfOk, List, ℕ, map};
-ghost use Rattle.lang_grammar.specs.Expressions.{Reach, runs_out, FindsExpr, expression_start, ends_before, reach, reach_of};
-ghost use Rattle.lang_grammar.specs.View.{plain_kind, stack_of, plain_token, tokens_of};
+ghost use Rattle.lang_grammar.specs.Expressions.{Reach, runs_out, FindsExpr};
+ghost use Rattle.lang_grammar.specs.Reaches.{expression_start, ends_before, reach, reach_of};
+ghost use Rattle.lang_grammar.specs.View.{plain_kind, plain_token, tokens_of};
+ghost use Rattle.lang_grammar.specs.Goals.{stack_of};
 
 use crate::goal::{Ender, Goal};
 use crate::machine::{Outcome, advance};

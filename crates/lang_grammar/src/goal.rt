@@ -6,7 +6,8 @@ ghost use Rattle.lang_grammar.specs.declared.goal.Goal.TheVariants.{Operand, Mor
 ghost use Rattle.lang_grammar.specs.declared.goal.Goal.TheVariants.{Header, HeaderFirst};
 ghost use Rattle.lang_grammar.specs.declared.goal.Goal.TheVariants.{HeaderTest, HeaderLast, Updating, Declarator, Declared, SomeName};
 ghost use Rattle.lang_grammar.specs.declared.goal.Goal.TheVariants.{Parameters, Returned, SomeNumber, Only};
-ghost use Rattle.lang_grammar.specs.View.{goal_of, place_of, mark_of, ender_of, symbol_kind, Enters, Entered};
+ghost use Rattle.lang_grammar.specs.Goals.{goal_of, place_of, mark_of, ender_of, Enters, Entered};
+ghost use Rattle.lang_grammar.specs.Symbols.{symbol_kind};
 
 use crate::symbol::{Change, Op, Symbol};
 

@@ -2,9 +2,10 @@
 
 ghost use Rattle.std.specs.Prelude.{◌≡◌, OnOk, IfOk, List, ℕ, map};
 ghost use Rattle.lang_grammar.specs.Machine.{start};
-ghost use Rattle.lang_grammar.specs.Depth.{Scan, scan, short, verdict};
-ghost use Rattle.lang_grammar.specs.Faults.{Finds};
-ghost use Rattle.lang_grammar.specs.View.{plain_kind, entry_of, stack_of, added, Advances, plain_token, tokens_of, scan_of};
+ghost use Rattle.lang_grammar.specs.Faults.{Scan, short, Finds};
+ghost use Rattle.lang_grammar.specs.Verdicts.{scan, verdict};
+ghost use Rattle.lang_grammar.specs.View.{plain_kind, plain_token, tokens_of};
+ghost use Rattle.lang_grammar.specs.Goals.{entry_of, stack_of, added, Advances, scan_of};
 
 use crate::goal::{Entry, Goal, Mark, Place, enter};
 use crate::symbol::symbol_of;

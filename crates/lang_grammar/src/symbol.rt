@@ -1,7 +1,8 @@
 //! What the grammar sees of a token.
 
 ghost use Rattle.std.specs.Prelude.{◌≡◌};
-ghost use Rattle.lang_grammar.specs.View.{plain_kind, symbol_kind};
+ghost use Rattle.lang_grammar.specs.View.{plain_kind};
+ghost use Rattle.lang_grammar.specs.Symbols.{symbol_kind};
 
 use lang_tokens::{Kind, Sign, Word};
 

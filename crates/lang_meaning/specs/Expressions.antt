@@ -1,14 +1,10 @@
--- What an expression by itself means: a number, a condition or `nondet()`, with the token behind it, or the first fault.
-use Rattle.std.specs.Prelude.{◌≡◌, ◌⊎◌, ◌+◌, ℕ, suc, zero, List, [], ◌∷◌, drop, length, Result, Ok, Err, IsTrue}
+-- What an expression by itself means: a number, a condition or `nondet()`, or its first fault.
+use Rattle.std.specs.Prelude.{ℕ, suc, zero, List, [], ◌∷◌, length, Result, Ok}
 use Rattle.lang_grammar.specs.Grammar.{Token, token, Expr}
-use Rattle.lang_grammar.specs.Expressions.{IsLongest, FindsExpr, stops_at, nests_at}
 use Rattle.lang_tokens.specs.Lines.{line_at}
 use Rattle.lang_tree.specs.declared.form.Form.{Form}
-use Rattle.lang_tree.specs.Limits.{is_form, is_tested}
 use Rattle.lang_tree.specs.Tree.{Condition, free}
 use Rattle.lang_meaning.specs.declared.fault.ParseFault.{ParseFault}
-use Rattle.lang_meaning.specs.declared.fault.ParseFault.TheVariants as fault
-use Rattle.lang_meaning.specs.declared.fault.Limit.TheVariants.{Nesting}
 use Rattle.lang_meaning.specs.Results.{◌>>=◌}
 use Rattle.lang_meaning.specs.Walk.{Value, a_form, a_truth, a_nondet, State, as_condition, few_leaves, walk_expr}
 
@@ -17,10 +13,6 @@ pub data Meaning : Type 0 where
   a_number : Form → Meaning
   a_condition : Condition → Meaning
   a_choice : Meaning
-
--- what it is, and the number of the token behind it
-abbrev pub ExpressionAnswer : Type 0
-ExpressionAnswer = Result (Meaning × ℕ) ParseFault
 
 -- the numbers from one on, so many
 abbrev pub numbers_from : ℕ → ℕ → List ℕ
@@ -46,32 +38,8 @@ first_place (token k a ∷ ts) = a
 abbrev pub meant : List ℕ → List (List ℕ) → ℕ → Expr → Result Meaning ParseFault
 meant text names a e = walk_expr (line_at text) (length names) (knowing names) e >>= λ v. meaning_of a v
 
--- The tokens from this one on begin with an expression. The first that is unexpected or opens one construct too many is the fault; else the
--- walk
--- of the longest expression decides.
-abbrev pub ExpressionMeans : List ℕ → List Token → ℕ → List (List ℕ) → ExpressionAnswer → Type 0
-ExpressionMeans text tokens from names r =
-    ((a : ℕ) × FindsExpr (stops_at a) (drop from tokens) × (r ≡ Err (fault.Unexpected a)))
-    ⊎ (((a : ℕ) × FindsExpr (nests_at a) (drop from tokens) × (r ≡ Err (fault.Limit a Nesting)))
-    ⊎ ((e : Expr) × (n : ℕ) × IsLongest (drop from tokens) n e × (r ≡ meant text names (first_place (drop from tokens)) e
-    >>= λ m. Ok (m, from + n))))
-
--- an expression over n variables: its numbers are within their ranges, and a condition has at most 64 leaves
-abbrev pub MeaningFits : ℕ → Meaning → Type 0
-MeaningFits n (a_number f) = IsTrue (is_form n f)
-MeaningFits n (a_condition c) = IsTrue (is_tested n c)
-MeaningFits n a_choice = Unit {0}
-
 -- an expression that begins at this place, as a condition
 abbrev pub as_truth : ℕ → Meaning → Result Condition ParseFault
 as_truth a (a_number f) = as_condition (a_form f a)
 as_truth a (a_condition c) = Ok c
 as_truth a a_choice = Ok free
-
--- what they have: the longest expression has n of these tokens
-abbrev pub HasLongest : List Token → ℕ → Type 0
-HasLongest ts n = (e : Expr) × IsLongest ts n e
-
--- the tokens are refused with this fault, whatever the names
-abbrev pub IsRefused : List ℕ → List Token → ℕ → ParseFault → Type 0
-IsRefused text tokens from f = (names : List (List ℕ)) → ExpressionMeans text tokens from names (Err f)

@@ -4,6 +4,7 @@ pub mod Names
 pub mod Walk
 pub mod Meaning
 pub mod Expressions
+pub mod ExpressionAnswers
 pub mod Feed
 pub mod Gives
 pub mod Proper

@@ -1,8 +1,7 @@
 -- What the tokens of a text mean: a program, or the first fault.
 use Rattle.std.specs.Prelude.{◌≡◌, ◌⊎◌, ℕ, List, Result, Err}
 use Rattle.lang_grammar.specs.Grammar.{Token, Program, Reads}
-use Rattle.lang_grammar.specs.Depth.{unexpected, nested}
-use Rattle.lang_grammar.specs.Faults.{Fine, Finds}
+use Rattle.lang_grammar.specs.Faults.{unexpected, nested, Fine, Finds}
 use Rattle.lang_tokens.specs.Lines.{line_at}
 use Rattle.lang_tree.specs.Tree.{Statements}
 use Rattle.lang_meaning.specs.declared.fault.ParseFault.{ParseFault}

@@ -3,7 +3,8 @@
 ghost use Rattle.std.specs.Prelude.{◌≡◌, ℕ, List, Ok, IsTrue, length};
 ghost use Rattle.lang_grammar.specs.Grammar.{Token};
 ghost use Rattle.lang_meaning.specs.Meaning.{Answer, Means};
-ghost use Rattle.lang_meaning.specs.Expressions.{Meaning, ExpressionAnswer, ExpressionMeans, MeaningFits};
+ghost use Rattle.lang_meaning.specs.Expressions.{Meaning};
+ghost use Rattle.lang_meaning.specs.ExpressionAnswers.{ExpressionAnswer, ExpressionMeans, MeaningFits};
 ghost use Rattle.lang_tree.specs.Limits.{is_program};
 ghost use Rattle.lang_tree.specs.Tree.{Statements};
 

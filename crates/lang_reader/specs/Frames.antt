@@ -1,7 +1,7 @@
 -- What the frames of the second pass stand for.
 use Rattle.std.specs.Prelude.{List, map}
 use Rattle.lang_grammar.specs.Grammar.{Prefix, negative, positive, negation}
-use Rattle.lang_grammar.specs.View.{op_of, change_of}
+use Rattle.lang_grammar.specs.Symbols.{op_of, change_of}
 use Rattle.lang_tree.specs.View.{condition_of, statements_of}
 use Rattle.lang_meaning.specs.Feed.{Test, of_if, of_while, of_do, of_assume, Within, of_items, of_branch, of_other, of_loop, of_body}
 use Rattle.lang_meaning.specs.Feed.{of_for, Frame, side, before}

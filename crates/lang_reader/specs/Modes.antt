@@ -1,7 +1,8 @@
 -- What the tokens, the modes and the reader of the second pass stand for.
 use Rattle.std.specs.Prelude.{List}
 use Rattle.lang_grammar.specs.Grammar.{Kind, a_name, a_number, other_word}
-use Rattle.lang_grammar.specs.View.{symbol_kind, direction_of, literal}
+use Rattle.lang_grammar.specs.View.{literal}
+use Rattle.lang_grammar.specs.Symbols.{symbol_kind, direction_of}
 use Rattle.lang_tree.specs.View.{statements_of}
 use Rattle.lang_meaning.specs.Walk.{State}
 use Rattle.lang_meaning.specs.Feed.{Frame, Machine, at}

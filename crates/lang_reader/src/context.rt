@@ -1,6 +1,7 @@
 //! What has been met so far: variables, labels and the number of statements.
 
 ghost use Rattle.std.specs.Prelude.{◌≡◌, ◌≤◌, length, IfOk};
+ghost use Rattle.base_limits.specs.declared.limits.TheConstants.{MOST_TEXT_BYTES};
 ghost use Rattle.lang_tokens.specs.Lines.{line_at};
 ghost use Rattle.lang_tree.specs.View.{statement_of};
 ghost use Rattle.lang_meaning.specs.Expressions.{knowing};
@@ -119,7 +120,7 @@ impl Context {
         at: u32,
         form: Option<Form>,
     ) -> Result<Stmt, ParseFault>
-        requires { length text.now ≤ 65536 }
+        requires { length text.now ≤ MOST_TEXT_BYTES }
         ensures { Gives (λ s. (state_of self.new, statement_of s)) result
             (declared_by (line_at text.now) name.now at form (state_of self.old)) }
     {

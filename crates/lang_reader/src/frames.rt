@@ -3,7 +3,7 @@
 
 ghost use Rattle.std.specs.Prelude.{◌≡◌, [], ◌∷◌, OnOk, MatchOption};
 ghost use Rattle.lang_grammar.specs.Grammar.{level};
-ghost use Rattle.lang_grammar.specs.View.{op_of};
+ghost use Rattle.lang_grammar.specs.Symbols.{op_of};
 ghost use Rattle.lang_tree.specs.View.{statement_of};
 ghost use Rattle.lang_meaning.specs.Walk.{prefix_value, regarded};
 ghost use Rattle.lang_meaning.specs.Feed.{complete, join_tighter, pushed, is_body, is_inside, next_mode};

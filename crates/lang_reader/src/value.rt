@@ -5,7 +5,7 @@ ghost use Rattle.std.specs.Prelude.{◌≡◌, ◌≤◌, ◌+◌, min};
 ghost use Rattle.lang_tree.specs.Tree.{leaf_count};
 ghost use Rattle.lang_tree.specs.View.{condition_of};
 ghost use Rattle.lang_grammar.specs.Grammar.{or_op, and_op};
-ghost use Rattle.lang_grammar.specs.View.{relation_of, op_of};
+ghost use Rattle.lang_grammar.specs.Symbols.{relation_of, op_of};
 ghost use Rattle.lang_meaning.specs.Walk.{number_of, as_condition, first_of, rel_of, compared, product, tested};
 ghost use Rattle.lang_meaning.specs.Feed.{combined_small};
 ghost use Rattle.lang_meaning.specs.Gives.{Gives};

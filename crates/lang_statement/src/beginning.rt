@@ -1,7 +1,7 @@
 //! How statements begin.
 #![tactic(auto, using(lang_meaning::proofs::results::Binds::then_ok, lang_meaning::proofs::results::Binds::then_err))]
 
-ghost use Rattle.lang_grammar.specs.View.{symbol_kind};
+ghost use Rattle.lang_grammar.specs.Symbols.{symbol_kind};
 ghost use Rattle.lang_tokens.specs.Lines.{line_at};
 ghost use Rattle.lang_meaning.specs.Feed.{begun};
 ghost use Rattle.lang_meaning.specs.Gives.{Gives};

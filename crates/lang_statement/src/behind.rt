@@ -2,7 +2,7 @@
 #![tactic(auto, using(lang_meaning::proofs::results::Binds::then_ok, lang_meaning::proofs::results::Binds::then_err))]
 
 ghost use Rattle.std.specs.Prelude.{◌≡◌};
-ghost use Rattle.lang_grammar.specs.View.{direction_of};
+ghost use Rattle.lang_grammar.specs.Symbols.{direction_of};
 ghost use Rattle.lang_tokens.specs.Lines.{line_at};
 ghost use Rattle.lang_tree.specs.View.{statements_of};
 ghost use Rattle.lang_meaning.specs.Feed.{behind_name, behind_step, is_else, behind_closed, behind_statement, behind_declarator};

@@ -2,7 +2,7 @@
 #![tactic(auto, using(lang_meaning::proofs::results::Binds::then_ok, lang_meaning::proofs::results::Binds::then_err))]
 
 ghost use Rattle.std.specs.Prelude.{◌≡◌, IfOk};
-ghost use Rattle.lang_grammar.specs.View.{direction_of, jump_of};
+ghost use Rattle.lang_grammar.specs.Symbols.{direction_of, jump_of};
 ghost use Rattle.lang_tokens.specs.Lines.{line_at};
 ghost use Rattle.lang_tree.specs.Tree.{jump};
 ghost use Rattle.lang_tree.specs.View.{statement_of, statements_of};

@@ -20,3 +20,7 @@ is_word_byte b = is_letter b || is_digit b
 -- what stands on the line of a line comment
 abbrev pub is_on_line : ℕ → Bool
 is_on_line b = not (b == 10)
+
+-- space, tab, carriage return, form feed and vertical tab: what a C compiler skips between a backslash and the end of its line
+abbrev pub is_line_blank : ℕ → Bool
+is_line_blank b = (b == 32) || (b == 9) || (b == 13) || (b == 12) || (b == 11)

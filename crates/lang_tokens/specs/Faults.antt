@@ -1,12 +1,13 @@
 -- The fault of a text: where its reading goes on no further, and why.
-use Rattle.std.specs.Prelude.{◌≡◌, ◌<◌, ◌++◌, ℕ, Bool, ◌||◌, IsTrue, IsFalse, List, ◌∷◌, length}
+use Rattle.std.specs.Prelude.{◌≡◌, ◌<◌, ◌+◌, ◌++◌, ◌⊎◌, ℕ, Bool, ◌||◌, IsTrue, IsFalse, List, ◌∷◌, length}
+use Rattle.std.specs.List.{list_all}
 use Rattle.std.specs.Str.Parse.{digits_value}
 use Rattle.lang_tokens.specs.declared.token.Token.{Token}
 use Rattle.lang_tokens.specs.declared.fault.LexFault.{LexFault}
 use Rattle.lang_tokens.specs.declared.fault.LexFault.TheVariants.{BadByte, OpenComment, LongNumber, LongName, BadNumber, NoMemory}
-use Rattle.lang_tokens.specs.Bytes.{is_blank}
+use Rattle.lang_tokens.specs.Bytes.{is_blank, is_on_line}
 use Rattle.lang_tokens.specs.Lexemes.{IsLexeme, is_word, is_numeral, is_padded, longest_word, greatest_literal}
-use Rattle.lang_tokens.specs.Reading.{IsLongest, starts_with_letter, ReadsUpTo}
+use Rattle.lang_tokens.specs.Reading.{IsLongest, EndsInBackslash, starts_with_letter, ReadsUpTo}
 
 -- There is a byte, and no blank, comment or token starts with it.
 pub record NothingStarts (rest : List ℕ) : Type 0 where
@@ -17,6 +18,14 @@ pub record NothingStarts (rest : List ℕ) : Type 0 where
   pub no_line_comment : (after : List ℕ) → 47 ∷ 47 ∷ after ≡ rest → ⊥
   pub no_block_comment : (after : List ℕ) → 47 ∷ 42 ∷ after ≡ rest → ⊥
   pub no_token : (bytes after : List ℕ) → bytes ++ after ≡ rest → IsLexeme bytes → ⊥
+
+-- A line comment ends in a backslash at this place of its body, and a line feed follows: C joins its line with the next.
+pub record IsJoined (rest : List ℕ) (backslash : ℕ) : Type 0 where
+  pub body : List ℕ
+  pub more : List ℕ
+  pub split : 47 ∷ 47 ∷ (body ++ 10 ∷ more) ≡ rest
+  pub on_line : IsTrue (list_all is_on_line body)
+  pub ends : EndsInBackslash body backslash
 
 -- A comment starts with `/*`, and no `*/` follows.
 pub record IsOpen (rest : List ℕ) : Type 0 where
@@ -56,9 +65,14 @@ pub record IsLongName (rest : List ℕ) : Type 0 where
   pub word : IsTrue (is_word bytes)
   pub long : longest_word < length bytes
 
+-- A byte is bad where nothing starts with it, or where it is the backslash that a line comment ends in.
+abbrev pub IsBadByte : ℕ → ℕ → List ℕ → Type 0
+IsBadByte at place rest =
+    ((at ≡ place) × NothingStarts rest) ⊎ ((backslash : ℕ) × (at ≡ place + 2 + backslash) × IsJoined rest backslash)
+
 -- The fault stands at this place, where the text goes on with this rest.
 abbrev pub Stands : LexFault → ℕ → List ℕ → Type 0
-Stands (BadByte at) place rest = (at ≡ place) × NothingStarts rest
+Stands (BadByte at) place rest = IsBadByte at place rest
 Stands (OpenComment at) place rest = (at ≡ place) × IsOpen rest
 Stands (LongNumber at) place rest = (at ≡ place) × IsLongNumber rest
 Stands (LongName at) place rest = (at ≡ place) × IsLongName rest

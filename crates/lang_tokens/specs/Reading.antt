@@ -1,10 +1,10 @@
 -- A text as blanks, comments and tokens.
-use Rattle.std.specs.Prelude.{◌≡◌, ◌≤◌, ◌+◌, ◌++◌, ℕ, Bool, false, true, ◌==◌, IsTrue, IsFalse, List, [], ◌∷◌, length}
+use Rattle.std.specs.Prelude.{◌≡◌, ◌≤◌, ◌<◌, ◌+◌, ◌++◌, ℕ, Bool, false, true, ◌==◌, IsTrue, IsFalse, List, [], ◌∷◌, length, slice_index}
 use Rattle.std.specs.List.{list_all}
 use Rattle.lang_tokens.specs.declared.token.Kind.{Kind}
 use Rattle.lang_tokens.specs.declared.token.Kind.TheVariants as kind
 use Rattle.lang_tokens.specs.declared.token.Token.{Token}
-use Rattle.lang_tokens.specs.Bytes.{is_blank, is_letter, is_on_line}
+use Rattle.lang_tokens.specs.Bytes.{is_blank, is_letter, is_on_line, is_line_blank}
 use Rattle.lang_tokens.specs.Lexemes.{IsLexeme, IsToken}
 
 -- a piece of a text
@@ -40,6 +40,15 @@ abbrev pub ends_line : List ℕ → Bool
 ends_line [] = true
 ends_line (b ∷ bs) = b == 10
 
+-- A line ends in the backslash at this place: behind it stand blanks alone.
+pub record EndsInBackslash (line : List ℕ) (place : ℕ) : Type 0 where
+  pub backslash : slice_index line place ≡ 92
+  pub blank : (other : ℕ) → place < other → other < length line → IsTrue (is_line_blank (slice_index line other))
+
+-- C joins a line that ends in a backslash with the next one, so nothing follows a line that does.
+abbrev pub IsUnjoined : List ℕ → List ℕ → Type 0
+IsUnjoined line rest = (place : ℕ) → EndsInBackslash line place → rest ≡ []
+
 -- a letter or `_` at once
 abbrev pub starts_with_letter : List ℕ → Bool
 starts_with_letter [] = false
@@ -59,7 +68,7 @@ pub record IsWholeToken (kind : Kind) (bytes rest : List ℕ) : Type 0 where
 -- The piece is one where this rest of the text follows it.
 abbrev pub Fits : Piece → List ℕ → Type 0
 Fits (blank b) rest = IsTrue (is_blank b)
-Fits (line_comment body) rest = IsTrue (list_all is_on_line body) × IsTrue (ends_line rest)
+Fits (line_comment body) rest = IsTrue (list_all is_on_line body) × IsTrue (ends_line rest) × IsUnjoined body rest
 Fits (block_comment body) rest = IsClosed body rest
 Fits (token kind bytes) rest = IsWholeToken kind bytes rest
 

@@ -5,7 +5,7 @@ use Rattle.lang_tokens.specs.declared.sign.Sign.{Sign}
 use Rattle.lang_tokens.specs.declared.fault.LexFault.{LexFault}
 use Rattle.lang_tokens.specs.declared.found.Found.{Found}
 use Rattle.lang_tokens.specs.Signs.{sign_bytes}
-use Rattle.lang_tokens.specs.Reading.{Piece, blank, line_comment, block_comment, token, piece_bytes, Fits}
+use Rattle.lang_tokens.specs.Reading.{Piece, blank, line_comment, block_comment, token, piece_bytes, Fits, EndsInBackslash}
 use Rattle.lang_tokens.specs.Faults.{Stands}
 
 -- the kind of a piece that is a token
@@ -36,6 +36,11 @@ ClosesAt text place = (slice_index text place ≡ 42) × (slice_index text (plac
 abbrev pub IsFirstClose : List ℕ → Option ℕ → Type 0
 IsFirstClose text None = (place : ℕ) → ClosesAt text place → ⊥
 IsFirstClose text (Some place) = ClosesAt text place × ((other : ℕ) → other < place → ClosesAt text other → ⊥)
+
+-- the place of the backslash that a line ends in, or none
+abbrev pub IsLastBackslash : List ℕ → Option ℕ → Type 0
+IsLastBackslash line None = (place : ℕ) → EndsInBackslash line place → ⊥
+IsLastBackslash line (Some place) = EndsInBackslash line place
 
 -- These bytes start with the first byte of a text and its second one, if there is one.
 abbrev pub StartWith : List ℕ → ℕ → Option ℕ → Type 0

@@ -1,13 +1,20 @@
 //! Classes of bytes.
 
 ghost use Rattle.std.specs.Prelude.{◌≡◌};
-ghost use Rattle.lang_tokens.specs.Bytes.{is_blank, is_letter, is_digit, is_word_byte};
+ghost use Rattle.lang_tokens.specs.Bytes.{is_blank, is_line_blank, is_letter, is_digit, is_word_byte};
 
 /// Space, tab, carriage return and line feed.
 pub fn is_blank(byte: u8) -> bool
     ensures { result ≡ is_blank byte }
 {
     matches!(byte, b' ' | b'\t' | b'\r' | b'\n')
+}
+
+/// Space, tab, carriage return, form feed and vertical tab.
+pub fn is_line_blank(byte: u8) -> bool
+    ensures { result ≡ is_line_blank byte }
+{
+    matches!(byte, b' ' | b'\t' | b'\r' | b'\x0c' | b'\x0b')
 }
 
 /// `A` to `Z`, `a` to `z` and `_`.

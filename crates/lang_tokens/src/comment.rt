@@ -1,10 +1,12 @@
 //! Comments.
 
-ghost use Rattle.std.specs.Prelude.{◌≡◌, ◌≤◌, length, slice_index};
+ghost use Rattle.std.specs.Prelude.{◌≡◌, ◌≤◌, ◌<◌, ◌+◌, ◌∷◌, length, slice_index, IfSome};
 ghost use Rattle.std.specs.List.{prefix_len};
+ghost use Rattle.base_limits.specs.declared.limits.TheConstants.{MOST_TEXT_BYTES};
 ghost use Rattle.lang_tokens.specs.Bytes.{is_on_line};
-ghost use Rattle.lang_tokens.specs.Steps.{IsFirstClose, Finds};
+ghost use Rattle.lang_tokens.specs.Steps.{IsFirstClose, IsLastBackslash, Finds};
 
+use crate::byte::is_line_blank;
 use crate::fault::LexFault;
 use crate::found::Found;
 
@@ -14,6 +16,45 @@ fn line_len(rest: &[u8]) -> usize
     ensures within { result ≤ length rest.now }
 {
     rest.iter().take_while(|byte| **byte != b'\n').count()
+}
+
+// Where the backslash stands that a line ends in, with blanks at most behind it.
+fn last_backslash(line: &[u8]) -> Option<usize>
+    ensures place { IsLastBackslash line.now result }
+    ensures within { IfSome result (λ place. place < length line.now) }
+{
+    for place in (0..line.len()).rev() {
+        if line[place] == b'\\' {
+            return Some(place);
+        }
+        if !is_line_blank(line[place]) {
+            return None;
+        }
+    }
+    None
+}
+
+// The line comment of this body, with what follows it; `at` is the place of its `//`.
+fn line_comment(body: &[u8], at: u32) -> Result<Found, LexFault>
+    requires { at + 2 + length body.now ≤ MOST_TEXT_BYTES }
+    ensures { Finds (47 ∷ 47 ∷ body.now) at result }
+{
+    let len = line_len(body);
+    if len == body.len() {
+        return Ok(Found {
+            kind: None,
+            len: 2 + len,
+        });
+    }
+    match last_backslash(&body[..len]) {
+        Some(place) => Err(LexFault::BadByte {
+            at: at + 2 + place as u32,
+        }),
+        None => Ok(Found {
+            kind: None,
+            len: 2 + len,
+        }),
+    }
 }
 
 // Where the first `*/` stands.
@@ -32,13 +73,11 @@ fn first_close(body: &[u8]) -> Option<usize>
 pub fn comment(rest: &[u8], at: u32) -> Result<Found, LexFault>
     requires some { 1 ≤ length rest.now }
     requires slash { slice_index rest.now 0 ≡ 47 }
+    requires within { at + length rest.now ≤ MOST_TEXT_BYTES }
     ensures { Finds rest.now at result }
 {
     match rest {
-        [_, b'/', body @ ..] => Ok(Found {
-            kind: None,
-            len: 2 + line_len(body),
-        }),
+        [_, b'/', body @ ..] => line_comment(body, at),
         [_, b'*', body @ ..] => match first_close(body) {
             Some(place) => Ok(Found {
                 kind: None,

@@ -1,6 +1,7 @@
 //! The lexer.
 
 ghost use Rattle.std.specs.Prelude.{◌≡◌, ◌⊎◌, ◌≤◌, length, List, IfOk, IfErr, IsErrAnd, MatchResult};
+ghost use Rattle.base_limits.specs.declared.limits.TheConstants.{MOST_TEXT_BYTES};
 ghost use Rattle.lang_tokens.specs.declared.token.Token.{Token};
 ghost use Rattle.lang_tokens.specs.declared.fault.LexFault.{LexFault};
 ghost use Rattle.lang_tokens.specs.declared.fault.LexFault.TheVariants.{NoMemory};
@@ -15,7 +16,7 @@ use std::alloc::Global;
 
 // Reads a text piece by piece.
 fn scan(alloc: Global, text: &[u8]) -> Result<Vec<Token>, LexFault>
-    requires { length text.now ≤ 65536 }
+    requires { length text.now ≤ MOST_TEXT_BYTES }
     ensures { MatchResult result (λ tokens. Reads text.now tokens.items) (λ fault. HasFault text.now fault ⊎ (fault ≡ NoMemory)) }
 {
     let mut tokens = Vec::new(alloc);
@@ -42,7 +43,7 @@ fn scan(alloc: Global, text: &[u8]) -> Result<Vec<Token>, LexFault>
 /// The tokens of a text and a token `End` behind its last byte, or its first fault
 /// (docs/FORMATS.md, "Tokens"). Lines are told by `line_of`.
 pub fn lex(alloc: Global, text: &[u8]) -> Result<Vec<Token>, LexFault>
-    requires { length text.now ≤ 65536 }
+    requires { length text.now ≤ MOST_TEXT_BYTES }
 
     // What is answered is so.
     ensures ok { IfOk result (λ tokens. Reads text.now tokens.items) }

@@ -1,6 +1,7 @@
 //! Pieces of a text.
 
-ghost use Rattle.std.specs.Prelude.{◌≤◌, length};
+ghost use Rattle.std.specs.Prelude.{◌≤◌, ◌+◌, length};
+ghost use Rattle.base_limits.specs.declared.limits.TheConstants.{MOST_TEXT_BYTES};
 ghost use Rattle.lang_tokens.specs.Steps.{Finds};
 
 use crate::byte::{is_blank, is_digit, is_letter};
@@ -13,7 +14,8 @@ use crate::words::word;
 
 /// The piece that stands first; `at` is its place.
 pub fn piece(rest: &[u8], at: u32) -> Result<Found, LexFault>
-    requires { 1 ≤ length rest.now }
+    requires some { 1 ≤ length rest.now }
+    requires within { at + length rest.now ≤ MOST_TEXT_BYTES }
     ensures { Finds rest.now at result }
 {
     match rest[0] {

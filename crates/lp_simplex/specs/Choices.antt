@@ -1,5 +1,5 @@
 -- What the scans of a table find.
-use Rattle.std.specs.Prelude.{◌≡◌, ℕ, ◌+◌, ◌<◌, ◌≤◌, ◌++◌, ◌⊎◌, ℤ, Option, Some, None}
+use Rattle.std.specs.Prelude.{◌≡◌, ℕ, ◌<◌, ◌≤◌, ◌++◌, ◌⊎◌, ℤ, Option, Some, None}
 use Rattle.base_numbers.specs.Rational.{ℚ, zero_ℚ, neg_ℚ, ◌/ℚ◌, ◌≤ℚ◌, ◌<ℚ◌}
 use Rattle.lp_theory.specs.Table.{Table, Agree, pivot_table}
 use Rattle.base_fractions.specs.Operation.{Operation, first_wide, operation_of}

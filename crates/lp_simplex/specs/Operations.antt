@@ -1,6 +1,6 @@
 -- The operations of the exact run, each with the number of its pivot, in the order in which they are made.
 use Rattle.std.specs.Prelude.{ℕ, suc, ◌+◌, ℤ, Bool, true, false, cond, ltb, List, [], ◌∷◌, ◌++◌, map, Option, find}
-use Rattle.base_numbers.specs.Rational.{ℚ, zero_ℚ, neg_ℚ, lt_ℚ}
+use Rattle.base_numbers.specs.Rational.{zero_ℚ, neg_ℚ, lt_ℚ}
 use Rattle.base_fractions.specs.declared.wide.Op.TheVariants.{Div}
 use Rattle.lp_theory.specs.Problem.{Problem}
 use Rattle.lp_theory.specs.Search.{Search, none, found}

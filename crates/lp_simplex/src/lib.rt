@@ -9,5 +9,5 @@ mod scan;
 mod step;
 
 pub use lp_dictionary::{Problem, Row, Tableau};
-pub use method::solve;
+pub use method::{solve, solve_watched};
 pub use outcome::{Outcome, SolveFault};

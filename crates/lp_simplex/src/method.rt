@@ -17,6 +17,7 @@ use crate::outcome::{Outcome, SolveFault};
 use crate::phase::{End, run_phase};
 use crate::read::{basic_values, entering_values, goal_multipliers};
 use base_fractions::OrderedField;
+use base_watch::{Unwatched, Watch};
 use lp_dictionary::{PivotFault, Problem, Tableau, lowest_side};
 use std::alloc::{AllocError, Global};
 
@@ -87,11 +88,12 @@ fn unbounded<F: OrderedField, T: Tableau<F>>(
 }
 
 /// The second phase after `made` pivots, and its outcome.
-fn second_phase<F: OrderedField, T: Tableau<F>>(
+fn second_phase<F: OrderedField, T: Tableau<F>, W: Watch>(
     alloc: Global,
     problem: &Problem<F>,
     tableau: &mut T,
     made: u32,
+    watch: &mut W,
 ) -> Result<Outcome<F>, SolveFault<F>>
     requires shaped { IsShaped problem.now }
     requires begins { BeginsPhase (exact F.meaning problem.now) false made (T.table tableau.old) }
@@ -105,7 +107,7 @@ fn second_phase<F: OrderedField, T: Tableau<F>>(
 {
     let rows = problem.rows.len() as u32;
     let cols = problem.goal.len() as u32;
-    let ended = run_phase(problem, false, tableau, made)?;
+    let ended = run_phase(problem, false, tableau, made, watch)?;
     match ended.end {
         End::AtBest => Ok(best(alloc, tableau, rows, cols)?),
         End::AtRay(col) => Ok(unbounded(alloc, tableau, rows, cols, col)?),
@@ -114,11 +116,12 @@ fn second_phase<F: OrderedField, T: Tableau<F>>(
 }
 
 /// The first phase, where the row of the least side has a side below 0, and then the second.
-fn both_phases<F: OrderedField, T: Tableau<F>>(
+fn both_phases<F: OrderedField, T: Tableau<F>, W: Watch>(
     alloc: Global,
     problem: &Problem<F>,
     tableau: &mut T,
     row: u32,
+    watch: &mut W,
 ) -> Result<Outcome<F>, SolveFault<F>>
     requires shaped { IsShaped problem.now }
     requires least { lowest (exact F.meaning problem.now) ≡ found row }
@@ -131,11 +134,11 @@ fn both_phases<F: OrderedField, T: Tableau<F>>(
     let rows = problem.rows.len() as u32;
     let cols = problem.goal.len() as u32;
     enter_auxiliary(tableau, row, cols)?;
-    let ended = run_phase(problem, true, tableau, 1)?;
+    let ended = run_phase(problem, true, tableau, 1, watch)?;
     match ended.end {
         End::Left => {
             tableau.leave_first();
-            second_phase(alloc, problem, tableau, ended.pivots)
+            second_phase(alloc, problem, tableau, ended.pivots, watch)
         }
         _ => Ok(Outcome::Empty {
             multipliers: goal_multipliers(alloc, tableau, rows, cols, cols + 1)?,
@@ -147,7 +150,28 @@ fn both_phases<F: OrderedField, T: Tableau<F>>(
 ///
 /// `Best`, `Unbounded` and `Empty` come exactly as the supremum is attained, absent or over no point. Their numbers are those of
 /// the last dictionary of the exact run. `Wide` comes exactly where an operation of that run is wide, and names the first with
-/// the number of its pivot, at most 4294967295.
+/// the number of its pivot, at most 4294967295. `watch` is told the number of pivots of both phases at each further thousand;
+/// what is answered doesn't depend on it.
+pub fn solve_watched<F: OrderedField, T: Tableau<F>, W: Watch>(
+    alloc: Global,
+    problem: &Problem<F>,
+    watch: &mut W,
+) -> Result<Outcome<F>, SolveFault<F>>
+    requires { IsShaped problem.now }
+    ensures outcome { IfOk result (λ o. IsOutcomeOf F.meaning (exact F.meaning problem.now) (lp (exact F.meaning problem.now)) o) }
+    ensures evidence { IfOk result (λ o. HasEvidence F.meaning (exact F.meaning problem.now) o) }
+    ensures supremum { IfOk result (λ o. SaysSupremum F.meaning (exact F.meaning problem.now) o) }
+    ensures fits { OnOk result (first_refused F.LIMIT (run_operations (exact F.meaning problem.now)) ≡ None) }
+    ensures refused { IfErr result (λ e. RefusesRun F.meaning F.LIMIT (run_operations (exact F.meaning problem.now)) e) }
+{
+    let mut tableau = T::build(alloc, problem)?;
+    match lowest_side(problem) {
+        None => second_phase(alloc, problem, &mut tableau, 0, watch),
+        Some(row) => both_phases(alloc, problem, &mut tableau, row, watch),
+    }
+}
+
+/// What `solve_watched` answers, unwatched.
 pub fn solve<F: OrderedField, T: Tableau<F>>(
     alloc: Global,
     problem: &Problem<F>,
@@ -159,9 +183,5 @@ pub fn solve<F: OrderedField, T: Tableau<F>>(
     ensures fits { OnOk result (first_refused F.LIMIT (run_operations (exact F.meaning problem.now)) ≡ None) }
     ensures refused { IfErr result (λ e. RefusesRun F.meaning F.LIMIT (run_operations (exact F.meaning problem.now)) e) }
 {
-    let mut tableau = T::build(alloc, problem)?;
-    match lowest_side(problem) {
-        None => second_phase(alloc, problem, &mut tableau, 0),
-        Some(row) => both_phases(alloc, problem, &mut tableau, row),
-    }
+    solve_watched::<F, T, Unwatched>(alloc, problem, &mut Unwatched)
 }

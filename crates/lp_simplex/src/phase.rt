@@ -8,6 +8,7 @@ ghost use Rattle.lp_simplex.specs.Answers.{BeginsPhase, EndsPhase, RefusesRun};
 use crate::outcome::SolveFault;
 use crate::step::{Step, make_step};
 use base_fractions::OrderedField;
+use base_watch::Watch;
 use lp_dictionary::{Problem, Tableau};
 
 /// Why a phase ended: no column enters, no row leaves for a column, or the auxiliary variable has left.
@@ -25,13 +26,24 @@ pub struct Ended {
     pub pivots: u32,
 }
 
+/// How many pivots there are between two tellings.
+const TOLD_EACH: u32 = 1_000;
+
+/// Tells how many pivots have been made, at each further thousand.
+fn tell_pivots<W: Watch>(watch: &mut W, made: u32) {
+    if made % TOLD_EACH == 0 {
+        watch.pivots(made);
+    }
+}
+
 /// Makes the pivots of a phase after `made` pivots, with the goal in the row after the basic variables: the first phase where
 /// there is an auxiliary variable, else the second.
-pub fn run_phase<F: OrderedField, T: Tableau<F>>(
+pub fn run_phase<F: OrderedField, T: Tableau<F>, W: Watch>(
     problem: &Problem<F>,
     auxiliary: bool,
     tableau: &mut T,
     made: u32,
+    watch: &mut W,
 ) -> Result<Ended, SolveFault<F>>
     requires shaped { IsShaped problem.now }
     requires begins { BeginsPhase (exact F.meaning problem.now) auxiliary made (T.table tableau.old) }
@@ -61,6 +73,7 @@ pub fn run_phase<F: OrderedField, T: Tableau<F>>(
             }
             Step::Pivot(name) => {
                 pivots = number;
+                tell_pivots(watch, pivots);
                 if name == 0 {
                     return Ok(Ended {
                         end: End::Left,

@@ -1,5 +1,5 @@
 -- Rows as lists of entries that are not zero, rising by column.
-use Rattle.std.specs.Prelude.{◌≢◌, ℕ, suc, ◌-◌, ◌<◌, ◌≤◌, cond, eqb, ltb, List, [], ◌∷◌, ◌++◌, map, get_or}
+use Rattle.std.specs.Prelude.{◌≢◌, ℕ, suc, ◌-◌, ◌<◌, ◌≤◌, cond, eqb, ltb, List, [], ◌∷◌, ◌++◌, Option, Some, None, map, get_or}
 use Rattle.base_numbers.specs.Rational.{ℚ, zero_ℚ}
 use Rattle.lp_dictionary.specs.Formulas.{is_zero}
 use Rattle.lp_sparse.specs.declared.entry.Entry.{Entry}
@@ -26,6 +26,11 @@ HasNoZero m (e ∷ es) = (m e.value ≢ zero_ℚ) × HasNoZero m es
 -- the column of the entry at a place
 abbrev pub col_at : {F : Type 0} → List (Entry F) → ℕ → ℕ
 col_at es i = get_or (map (λ e. e.col) es) i 0
+
+-- the number of a value that may be missing: 0 where it is
+abbrev pub or_zero : {F : Type 0} → (F → ℚ) → Option F → ℚ
+or_zero m None = zero_ℚ
+or_zero m (Some x) = m x
 
 -- the number of the first entry if it stands at the column, else 0
 abbrev pub head_value : {F : Type 0} → (F → ℚ) → List (Entry F) → ℕ → ℚ

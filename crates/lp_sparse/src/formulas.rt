@@ -3,6 +3,7 @@ ghost use Rattle.std.specs.Prelude.{◌≢◌, ◌≡◌};
 ghost use Rattle.base_numbers.specs.Rational.{zero_ℚ, ◌*ℚ◌};
 ghost use Rattle.base_fractions.specs.Operation.{Answers};
 ghost use Rattle.lp_dictionary.specs.Formulas.{product_operations, added_operations};
+ghost use Rattle.lp_sparse.specs.Entries.{or_zero};
 ghost use Rattle.lp_sparse.specs.Rows.{merged};
 ghost use Rattle.lp_sparse.specs.Merge.{kept, term, term_operations};
 ghost use Rattle.lp_sparse.specs.Units.{IsUnit};
@@ -51,6 +52,26 @@ pub fn merged_of<F: OrderedField>(
     match unit {
         Some(negated) => entry.plus(unit_product(factor, above, negated)),
         None => entry.add_product(factor, above),
+    }
+}
+
+/// The same where the row may have no entry at the column.
+pub fn sum_of<F: OrderedField>(
+    entry: Option<F>,
+    factor: F,
+    above: F,
+    product: F,
+    at_pivot: bool,
+    unit: Option<bool>,
+) -> Result<F, Wide<F>>
+    requires factor { F.meaning factor ≢ zero_ℚ }
+    requires unit { IsUnit (F.meaning factor) unit }
+    ensures { Answers F.meaning F.LIMIT (merged (or_zero F.meaning entry) (F.meaning factor) (F.meaning above) (F.meaning product) at_pivot)
+        (added_operations (or_zero F.meaning entry) (F.meaning factor) (F.meaning above) at_pivot) result }
+{
+    match entry {
+        Some(entry) => merged_of(entry, factor, above, product, at_pivot, unit),
+        None => term_of(factor, above, product, at_pivot, unit),
     }
 }
 

@@ -5,13 +5,13 @@ ghost use Rattle.base_fractions.specs.Operation.{first_wide};
 ghost use Rattle.lp_dictionary.specs.Formulas.{combined_row, added_operations};
 ghost use Rattle.lp_dictionary.specs.PivotOperations.{added_row_operations};
 ghost use Rattle.lp_dictionary.specs.Faults.{Refuses};
-ghost use Rattle.lp_sparse.specs.Entries.{value_at, Rises, HasNoZero, head_value};
+ghost use Rattle.lp_sparse.specs.Entries.{value_at, Rises, HasNoZero, or_zero, head_value, behind};
 ghost use Rattle.lp_sparse.specs.Keeps.{Keeps};
 ghost use Rattle.lp_sparse.specs.Merge.{StartsAt, MergesOn, MergesEntry};
 ghost use Rattle.lp_sparse.specs.Units.{IsUnit};
 
 use crate::entry::Entry;
-use crate::formulas::{kept_of, merged_of, term_of};
+use crate::formulas::{kept_of, sum_of};
 use crate::push::push_answer;
 use crate::unit::unit_of;
 use base_fractions::OrderedField;
@@ -49,6 +49,24 @@ fn keep_before<F: OrderedField>(
     Ok(place)
 }
 
+/// The value of the entry at a column, where it stands at the place `i`, and the place from which on entries stand behind that column.
+fn value_from<F: OrderedField>(entries: &[Entry<F>], i: usize, col: u32) -> (Option<F>, usize)
+    requires within { i ≤ length entries.now }
+    ensures value { or_zero F.meaning result.0 ≡ head_value F.meaning (drop i entries.now) col }
+    ensures rest { drop result.1 entries.now ≡ behind (drop i entries.now) col }
+    ensures place { result.1 ≤ length entries.now }
+{
+    if i >= entries.len() {
+        return (None, i);
+    }
+    let entry = entries[i];
+    if entry.col == col {
+        (Some(entry.value), i + 1)
+    } else {
+        (None, i)
+    }
+}
+
 /// Appends what formulas 3 and 4 make of an entry of the pivot's row and of the row's entry at its column, which is none or stands at the
 /// place `i`, and answers the place after that column.
 fn merge_entry<F: OrderedField>(
@@ -72,21 +90,10 @@ fn merge_entry<F: OrderedField>(
         (eqb entry.col col))) }
 {
     let at = entry.col;
-    if i < entries.len() && entries[i].col == at {
-        let sum = merged_of(
-            entries[i].value,
-            factor,
-            entry.value,
-            product,
-            at == col,
-            unit,
-        );
-        push_answer(merged, at, sum)?;
-        return Ok(i + 1);
-    }
-    let term = term_of(factor, entry.value, product, at == col, unit);
-    push_answer(merged, at, term)?;
-    Ok(i)
+    let (value, place) = value_from(entries, i, at);
+    let sum = sum_of(value, factor, entry.value, product, at == col, unit);
+    push_answer(merged, at, sum)?;
+    Ok(place)
 }
 
 /// Adds `factor` times the entries of `above` to those of a row, outside the pivot's column, where `product` stands.

@@ -1,3 +1,4 @@
 pub mod Terms
 pub mod Points
 pub mod Values
+pub mod Heads

@@ -1,14 +1,15 @@
-//! The heads of points, and the first and the last line.
+//! The heads of points, alone and in a report, and a report's first and last line.
 
 ghost use Rattle.std.specs.Prelude.{◌≡◌, ◌++◌, ◌∷◌, IfOk, codes, decimal};
 ghost use Rattle.std.specs.List.{flat_map};
 ghost use Rattle.flow_systems.specs.Report.{footer_line, head_line, line, place_text, variables_line};
+ghost use Rattle.out_report.specs.Heads.{head_lines};
 
 use crate::rows::push_number;
-use flow_edges::{Place, Point};
+use flow_edges::{Flow, Place, Point};
 use flow_systems::Footer;
 use lang_tree::Name;
-use std::alloc::AllocError;
+use std::alloc::{AllocError, Global};
 
 /// Appends what is told of a place.
 fn push_place(text: &mut Vec<u8>, place: &Place, line: u32) -> Result<(), AllocError>
@@ -47,6 +48,25 @@ pub(crate) fn push_head(text: &mut Vec<u8>, number: usize, point: &Point) -> Res
     push_place(text, &point.place, point.line)?;
     text.extend_from_slice(b"\n")?;
     Ok(())
+}
+
+/// Appends the heads of all points.
+fn push_heads(text: &mut Vec<u8>, points: &[Point]) -> Result<(), AllocError>
+    ensures { IfOk result (λ _. text.new.items ≡ text.old.items ++ head_lines 0 points.now) }
+{
+    for number in 0..points.len() {
+        push_head(text, number, &points[number])?;
+    }
+    Ok(())
+}
+
+/// The heads of a flow's points in their order, each as the report has it (docs/FORMATS.md, "The points of a program").
+pub fn point_heads(alloc: Global, flow: &Flow) -> Result<Vec<u8>, AllocError>
+    ensures { IfOk result (λ text. text.items ≡ head_lines 0 flow.now.points) }
+{
+    let mut text = Vec::new(alloc);
+    push_heads(&mut text, flow.points.as_slice())?;
+    Ok(text)
 }
 
 /// Appends the names of the variables, each after a space.

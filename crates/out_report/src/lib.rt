@@ -1,4 +1,4 @@
-//! The report of a system's bounds as bytes (docs/FORMATS.md, "The report"), and the values of names.
+//! The report of a system's bounds as bytes (docs/FORMATS.md, "The report"), the heads of points alone, and the values of names.
 #![tactic(auto)]
 
 mod heads;
@@ -6,6 +6,7 @@ mod rows;
 mod valuation;
 mod whole;
 
+pub use heads::point_heads;
 pub use valuation::values;
 pub use whole::{point_text, report};
 

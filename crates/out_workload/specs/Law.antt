@@ -1,5 +1,6 @@
 -- Every generated text reads, as a program within the limits.
 use Rattle.std.specs.Prelude.{◌≡◌, ◌≤◌, ◌+◌, ◌*◌, ℕ, List, length, None, Ok}
+use Rattle.base_limits.specs.declared.limits.TheConstants.{MOST_CELLS, MOST_TEXT_BYTES}
 use Rattle.lang_tokens.specs.declared.token.Token.{Token}
 use Rattle.lang_tokens.specs.Reading.{Reads}
 use Rattle.lang_grammar.specs.View.{tokens_of}
@@ -27,14 +28,14 @@ generated_equations seed loops = record {
 -- and joint problems within them.
 pub record IsSolvable (seed loops : ℕ) : Type 0 where
   pub tokens : List Token
-  pub short : length (generated_text seed loops) ≤ 65536
+  pub short : length (generated_text seed loops) ≤ MOST_TEXT_BYTES
   pub reads : Reads (generated_text seed loops) tokens
   pub means : Means (generated_text seed loops) (tokens_of (generated_text seed loops) tokens)
       (Ok (generated_names, generated_body seed loops))
   pub within : fault_of_program (generated_body seed loops) ≡ None
   pub points : length (points_of_program (generated_body seed loops)) ≡ loops + 2
   pub unknowns : length (points_of_program (generated_body seed loops)) * length (intervals_of 3) ≤ 288
-  pub cells : cells_of (generated_equations seed loops) ≤ 134217728
+  pub cells : cells_of (generated_equations seed loops) ≤ MOST_CELLS
 
 -- each text of at most 46 loops
 abbrev pub GeneratedTextsRead : Type 0

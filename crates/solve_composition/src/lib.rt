@@ -12,8 +12,6 @@ mod form;
 mod law;
 mod paths;
 mod sums;
-#[cfg(test)]
-mod tests;
 mod value;
 mod walk;
 

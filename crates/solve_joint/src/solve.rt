@@ -19,8 +19,9 @@ use crate::joint_problem::joint_problem;
 use crate::layout::layout;
 use crate::read::read;
 use base_fractions::Frac;
+use base_watch::Watch;
 use flow_systems::{Bounds, Part, PartFault, Pick, System};
-use lp_simplex::{Outcome, Problem, SolveFault, solve};
+use lp_simplex::{Outcome, Problem, SolveFault, solve_watched};
 use lp_sparse::Sparse;
 use solve_composition::Paths;
 use std::alloc::Global;
@@ -39,7 +40,11 @@ fn run_fault(fault: SolveFault<Frac>) -> PartFault
 }
 
 // The outcome of a problem.
-fn solved(alloc: Global, problem: &Problem<Frac>) -> Result<Outcome<Frac>, PartFault>
+fn solved<W: Watch>(
+    alloc: Global,
+    problem: &Problem<Frac>,
+    watch: &mut W,
+) -> Result<Outcome<Frac>, PartFault>
     requires rows { (r : ℕ) → r < length (map (λ r. r.coeffs.items) problem.now.rows.items) →
         length (get_or (map (λ r. r.coeffs.items) problem.now.rows.items) r []) ≡ length problem.now.goal.items }
     requires few { length problem.now.rows.items + length problem.now.goal.items < 4294967295 }
@@ -53,7 +58,7 @@ fn solved(alloc: Global, problem: &Problem<Frac>) -> Result<Outcome<Frac>, PartF
         (λ f. IsRunFault (list_problem (length problem.now.goal.items) (map (λ r. r.coeffs.items) problem.now.rows.items)
         (map (λ r. r.side) problem.now.rows.items) problem.now.goal.items) f) }
 {
-    match solve::<Frac, Sparse<Frac>>(alloc, problem) {
+    match solve_watched::<Frac, Sparse<Frac>, W>(alloc, problem, watch) {
         Ok(outcome) => Ok(outcome),
         Err(fault) => Err(run_fault(fault)),
     }
@@ -63,20 +68,21 @@ fn solved(alloc: Global, problem: &Problem<Frac>) -> Result<Outcome<Frac>, PartF
 /// and that each picked edge's transformer exceeds there; or, exactly where there is no greatest one, the unknowns that grow
 /// without end, with their rates and directions. The answer is read from the exact outcome of the joint problem: the number of
 /// an unknown is base plus rise, and an entry of a trace or of a direction is the positive column minus the negative one. The
-/// empty list gives a point with two empty lists. `docs/METHOD.md` has the joint problem.
+/// empty list gives a point with two empty lists. `docs/METHOD.md` has the joint problem. The watch is told of its pivots.
 ///
 /// # Errors
 ///
 /// `Wide` exactly where an operation is wide, with the first of them: in the part `Side` the end value's constant minus the
 /// bound, in the order of the list; in the part `Pivot` those of the exact run; in the part `Reading` the numbers of the list
 /// first and then the traces, and of a ray only the directions of unknowns with a rate above 0. `NoMemory`.
-pub fn joint(
+pub fn joint<W: Watch>(
     alloc: Global,
     system: &System,
     paths: &Paths,
     base: &Bounds,
     pick: &Pick,
     list: &[u32],
+    watch: &mut W,
 ) -> Result<Joined, PartFault>
     requires composed { AreComposed (equations_of system.now) paths.now }
     requires base { length base.now ≡ length system.now.flow.points * length system.now.template }
@@ -89,7 +95,7 @@ pub fn joint(
     ensures means { IfOk result (λ j. JoinedMeans system.now pick.now base.now list.now j) }
 {
     let problem = joint_problem(alloc, system, paths, base, pick, list)?;
-    let outcome = solved(alloc, &problem)?;
+    let outcome = solved(alloc, &problem, watch)?;
     match layout(alloc, system, paths, pick, list) {
         Ok(rises) => read(alloc, base, rises, outcome),
         Err(_) => Err(PartFault::NoMemory),

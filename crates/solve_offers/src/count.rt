@@ -2,16 +2,15 @@
 
 ghost use Rattle.std.specs.Prelude.{◌≡◌, ◌+◌, ◌*◌, ◌^◌, ◌<◌, ◌≤◌, IfSome, length};
 ghost use Rattle.std.specs.Option.{SomeIff};
+ghost use Rattle.base_limits.specs.declared.limits.TheConstants.{MOST_IMPROVEMENTS};
 ghost use Rattle.flow_systems.specs.View.{equations_of};
 ghost use Rattle.theory_validity.specs.Certificates.{edges_into};
 ghost use Rattle.theory_strategy.specs.PickCount.{pick_count};
 ghost use Rattle.solve_offers.specs.PickLimit.{RoundsAreFewer};
 
+use base_limits::MOST_IMPROVEMENTS;
 use flow_edges::Edge;
 use flow_systems::System;
-
-// The greatest number of picks that is told.
-const MOST_PICKS: u32 = 1_000_000;
 
 // How many edges end at the point.
 fn count_into(edges: &[Edge], point: u32) -> usize
@@ -21,17 +20,17 @@ fn count_into(edges: &[Edge], point: u32) -> usize
     edges.iter().filter(|edge| edge.to == point).count()
 }
 
-// The product with the factor, so many times, unless it passes a million.
+// The product with the factor, so many times, unless it passes the greatest number of improvements.
 fn times(product: u32, factor: u32, count: usize) -> Option<u32>
-    requires product { product ≤ 1000000 }
+    requires product { product ≤ MOST_IMPROVEMENTS }
     requires positive { 0 < factor }
     requires factor { factor ≤ 257 }
-    ensures { SomeIff result (product * factor ^ count ≤ 1000000) (product * factor ^ count) }
+    ensures { SomeIff result (product * factor ^ count ≤ MOST_IMPROVEMENTS) (product * factor ^ count) }
 {
     let mut total = product;
     'times: for _k in 0..count {
         total *= factor;
-        if total > MOST_PICKS {
+        if total > MOST_IMPROVEMENTS {
             return None;
         }
     }
@@ -39,9 +38,10 @@ fn times(product: u32, factor: u32, count: usize) -> Option<u32>
 }
 
 /// How many picks a system has: the product, over all unknowns, of one more than the number of edges into the unknown's point.
-/// It is `None` exactly where this is above 1,000,000. No chain of rounds is as long, whatever the policy. Takes no memory.
+/// It is `None` exactly where this is above the greatest number of improvements. No chain of rounds is as long, whatever the policy.
+/// Takes no memory.
 pub fn picks(system: &System) -> Option<u32>
-    ensures count { SomeIff result (pick_count (equations_of system.now) ≤ 1000000) (pick_count (equations_of system.now)) }
+    ensures count { SomeIff result (pick_count (equations_of system.now) ≤ MOST_IMPROVEMENTS) (pick_count (equations_of system.now)) }
     ensures rounds { IfSome result (RoundsAreFewer (equations_of system.now)) }
 {
     let edges = system.flow.edges.as_slice();

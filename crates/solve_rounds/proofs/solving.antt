@@ -1,3 +1,4 @@
+pub mod BoundCounts
 pub mod Counting
 pub mod Outcomes
 pub mod RoundCounts

@@ -6,7 +6,8 @@ use Rattle.flow_systems.specs.View.{equations_of, bounds_of}
 use Rattle.flow_systems.specs.declared.system.System.{System}
 use Rattle.theory_strategy.specs.Solve.{State}
 use Rattle.theory_validity.specs.Steps.{Step}
-use Rattle.theory_rounds.specs.Rounds.{Choice, TakesOne, Goes, exact_state, exact_steps}
+use Rattle.theory_rounds.specs.Rounds.{Choice, TakesOne, Goes, exact_state}
+use Rattle.theory_rounds.specs.RoundSteps.{AreStepsOf}
 use Rattle.solve_raise.specs.Numbers.{fitting}
 use Rattle.solve_offers.specs.declared.offer.Offer.{Offer}
 use Rattle.solve_offers.specs.AtBounds.{transformers}
@@ -20,9 +21,9 @@ state_at system choose k = exact_state fitting (equations_of system) choose k
 abbrev pub bounds_after : System → (ℕ → Choice) → ℕ → List Extended
 bounds_after system choose k = bounds_of (length system.flow.points) (length system.template) (state_at system choose k).vector
 
--- the steps of these rounds, in order
-abbrev pub steps_after : System → (ℕ → Choice) → ℕ → List Step
-steps_after system choose k = exact_steps fitting (equations_of system) choose k
+-- these are the steps of the rounds, in order: of each its growth's, and one for each turn, made by some outcome that has its facts
+abbrev pub AreStepsAfter : System → (ℕ → Choice) → ℕ → List Step → Type 0
+AreStepsAfter system choose k steps = AreStepsOf fitting (equations_of system) choose k steps
 
 -- n rounds are made, each by a choice that the policy may answer at the vector before it; later choices are free
 pub record IsChain (system : System) (policy : Offer → ℕ → Type 0) (n : ℕ) (choose : ℕ → Choice) : Type 0 where

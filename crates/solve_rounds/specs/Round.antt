@@ -1,19 +1,21 @@
 -- What a round answers at the bounds that the code has.
 use Rattle.std.specs.Prelude.{◌≡◌, ◌⊎◌, ℕ, ◌+◌, ◌*◌, ◌<◌, List, length, map, Option}
-use Rattle.base_facts.specs.Elements.{In}
 use Rattle.base_numbers.specs.Extended.{Ext as Extended}
 use Rattle.flow_systems.specs.Equations.{Vector}
-use Rattle.flow_systems.specs.View.{equations_of, bounds_of}
+use Rattle.flow_systems.specs.View.{equations_of}
 use Rattle.flow_systems.specs.declared.system.System.{System}
 use Rattle.flow_systems.specs.declared.spot.Part.{Part}
 use Rattle.flow_systems.specs.declared.spot.PartFault.TheVariants.{Wide as WideIn}
 use Rattle.flow_systems.specs.declared.spot.Spot.{Spot}
 use Rattle.flow_systems.specs.declared.spot.Site.TheVariants.{Joint}
-use Rattle.theory_validity.specs.Steps.{Item, Step}
+use Rattle.theory_validity.specs.Steps.{Below, Item, Step}
 use Rattle.theory_validity.specs.Certificates.{ValidSteps}
 use Rattle.theory_strategy.specs.Picks.{Above}
-use Rattle.theory_rounds.specs.Rounds.{exact_round, exact_round_steps}
-use Rattle.theory_rounds.specs.Turns.{Turn, exact_turns}
+use Rattle.theory_strategy.specs.Round.{ListCondition}
+use Rattle.theory_rounds.specs.ComingTurns.{ComesUp}
+use Rattle.theory_rounds.specs.Cut.{exact_cut}
+use Rattle.theory_rounds.specs.Rounds.{exact_grown, exact_round}
+use Rattle.theory_rounds.specs.RoundSteps.{IsRoundBy}
 use Rattle.solve_joint.specs.Joints.{IsJointFault}
 use Rattle.solve_raise.specs.Numbers.{fitting}
 use Rattle.flow_systems.specs.declared.fault.Fault.{Fault}
@@ -22,18 +24,23 @@ use Rattle.solve_offers.specs.AtBounds.{transformers, vector_at}
 use Rattle.solve_offers.specs.Improvement.{pick_of}
 use Rattle.solve_rounds.specs.Growth.{IsGrowthStop}
 
--- the steps of the round by a pick from bounds: those of the growth, and then one for each turn
-abbrev pub round_at : System → List Extended → List (Option ℕ) → List Step
-round_at system bounds pick = exact_round_steps fitting (equations_of system) (vector_at system bounds)
-    (pick_of (length system.template) pick)
+-- these are the steps of a round by a pick from bounds: those of the growth, and then one for each turn, made by some outcome of its joint
+-- problem that has its facts
+abbrev pub IsRoundAt : System → List Extended → List (Option ℕ) → List Step → Type 0
+IsRoundAt system bounds pick steps = IsRoundBy fitting (equations_of system) (vector_at system bounds)
+    (pick_of (length system.template) pick) steps
 
--- the vector to which it leads
+-- the vector to which the round leads, whichever outcomes its turns are made by
 abbrev pub rounded_at : System → List Extended → List (Option ℕ) → Vector
 rounded_at system bounds pick = exact_round fitting (equations_of system) (vector_at system bounds) (pick_of (length system.template) pick)
 
--- its turns
-abbrev pub turns_at : System → List Extended → List (Option ℕ) → List Turn
-turns_at system bounds pick = exact_turns fitting (equations_of system) (vector_at system bounds) (pick_of (length system.template) pick)
+-- the vector after its growth
+abbrev pub grown_at : System → List Extended → List (Option ℕ) → Vector
+grown_at system bounds pick = exact_grown fitting (equations_of system) (vector_at system bounds) (pick_of (length system.template) pick)
+
+-- the parts of the unknowns that the growth raised to fractions
+abbrev pub cut_at : System → List Extended → List (Option ℕ) → List (List Item)
+cut_at system bounds pick = exact_cut fitting (equations_of system) (vector_at system bounds) (pick_of (length system.template) pick)
 
 -- bounds are a vector's at every unknown
 abbrev pub AreBoundsOf : System → Vector → List Extended → Type 0
@@ -53,22 +60,34 @@ AreValidFrom system bounds steps = ValidSteps (equations_of system) (vector_at s
 abbrev pub numbers_of : ℕ → List Item → List ℕ
 numbers_of rows items = map (λ u. u.point * rows + u.row) items
 
--- the first wide operation of a part of the joint problem of one of these turns, in this round
-pub record IsTurnSpot (system : System) (pick : List (Option ℕ)) (turns : List Turn) (number : ℕ) (spot : Spot) : Type 0 where
-  pub round : spot.round ≡ number
-  pub turn : Turn
-  pub listed : In turns turn
+-- a turn comes up in the round by a pick from bounds: so many turns before it, made by outcomes that have their facts, lead to this vector
+-- and leave this list, which meets the list condition there, between the vectors after the growth and after the round
+pub record IsTurnOf (system : System) (bounds : List Extended) (pick : List (Option ℕ)) (number : ℕ) (vector : Vector) (list : List Item) :
+    Type 0 where
+  pub comes : ComesUp (equations_of system) (grown_at system bounds pick) (cut_at system bounds pick) number vector list
+  pub condition : ListCondition (equations_of system) (transformers system) (pick_of (length system.template) pick) vector list
+  pub over : Below (equations_of system) (grown_at system bounds pick) vector
+  pub under : Below (equations_of system) vector (rounded_at system bounds pick)
+
+-- a turn comes up, and an operation of a part of its list's joint problem at its bounds is the first that is wide
+pub record IsTurnSpot (system : System) (pick : List (Option ℕ)) (comes : ℕ → Vector → List Item → Type 0) (round : ℕ) (spot : Spot) :
+    Type 0 where
+  pub round_is : spot.round ≡ round
+  pub number : ℕ
+  pub bounds : List Extended
+  pub size : length bounds ≡ length system.flow.points * length system.template
+  pub list : List Item
+  pub turn : comes number (vector_at system bounds) list
   pub part : Part
-  pub site : spot.site ≡ Joint turn.number part
-  pub wide : IsJointFault system pick (bounds_of (length system.flow.points) (length system.template) turn.vector)
-      (numbers_of (length system.template) turn.list) (WideIn part spot.wide)
+  pub site : spot.site ≡ Joint number part
+  pub wide : IsJointFault system pick bounds (numbers_of (length system.template) list) (WideIn part spot.wide)
 
 -- such a spot, or want of memory
-abbrev pub IsTurnStop : System → List (Option ℕ) → List Turn → ℕ → Fault Spot → Type 0
-IsTurnStop system pick turns round (Wide spot) = IsTurnSpot system pick turns round spot
-IsTurnStop system pick turns round NoMemory = Unit {0}
+abbrev pub IsTurnStop : System → List (Option ℕ) → (ℕ → Vector → List Item → Type 0) → ℕ → Fault Spot → Type 0
+IsTurnStop system pick comes round (Wide spot) = IsTurnSpot system pick comes round spot
+IsTurnStop system pick comes round NoMemory = Unit {0}
 
 -- a wide operation of the round's growth or of one of its turns, or want of memory
 abbrev pub IsRoundStop : System → List Extended → List (Option ℕ) → ℕ → Fault Spot → Type 0
 IsRoundStop system bounds pick round stop = IsGrowthStop system bounds pick round stop
-    ⊎ IsTurnStop system pick (turns_at system bounds pick) round stop
+    ⊎ IsTurnStop system pick (IsTurnOf system bounds pick) round stop

@@ -14,7 +14,7 @@ use Rattle.theory_rounds.specs.Made.{exact_uppers}
 use Rattle.solve_offers.specs.declared.offer.Offer.{Offer}
 use Rattle.solve_rounds.specs.declared.solution.Solved.{Solved}
 use Rattle.solve_offers.specs.AtBounds.{vector_at}
-use Rattle.solve_rounds.specs.Chains.{bounds_after, steps_after, IsChain, IsEnded}
+use Rattle.solve_rounds.specs.Chains.{bounds_after, AreStepsAfter, IsChain, IsEnded}
 
 -- a chain of rounds by the policy that ends within the limit and before there are as many rounds as picks: the bounds after it,
 -- how many rounds, their steps, and the evidence that is read from the outcomes at the bounds
@@ -25,7 +25,7 @@ pub record IsSolved (system : System) (policy : Offer → ℕ → Type 0) (limit
   pub within : solved.improvements ≤ limit
   pub few : solved.improvements < pick_count (equations_of system)
   pub bounds : solved.bounds ≡ bounds_after system choose solved.improvements
-  pub steps : map (step_of (length system.template)) solved.steps ≡ steps_after system choose solved.improvements
+  pub steps : AreStepsAfter system choose solved.improvements (map (step_of (length system.template)) solved.steps)
   pub uppers : map evidence_of solved.uppers ≡ exact_uppers (equations_of system) (vector_at system solved.bounds)
 
 -- the certificate that is made of the template's rows and a solution

@@ -12,7 +12,7 @@ use Rattle.flow_systems.specs.declared.spot.Part.{Part}
 use Rattle.flow_systems.specs.declared.spot.PartFault.TheVariants.{Wide as WideIn}
 use Rattle.flow_systems.specs.declared.spot.Spot.{Spot}
 use Rattle.flow_systems.specs.declared.spot.Site.TheVariants.{Joint}
-use Rattle.theory_validity.specs.Steps.{Item, Step, Jump as JumpKind, Ray as RayKind, after_step}
+use Rattle.theory_validity.specs.Steps.{Item, Step, after_step}
 use Rattle.theory_validity.specs.Certificates.{after_steps}
 use Rattle.cert_types.specs.declared.step.Step.{Step as CodeStep}
 use Rattle.cert_types.specs.declared.step.Step.TheVariants.{Jump as JumpStep, Ray as RayStep}
@@ -21,9 +21,9 @@ use Rattle.cert_types.specs.declared.step.RayItem.{RayItem}
 use Rattle.cert_types.specs.Certificates.{step_of}
 use Rattle.solve_ray.specs.declared.rate.RateOf.{RateOf}
 use Rattle.theory_strategy.specs.Picks.{IsPick}
-use Rattle.theory_strategy.specs.Round.{Outcome, Point as PointOutcome, Rays, ListCondition, without, part, turns}
-use Rattle.theory_rounds.specs.JointItems.{exact_joint}
-use Rattle.theory_rounds.specs.Turns.{Turn, part_turns, parts_turns}
+use Rattle.theory_strategy.specs.Round.{Outcome, OutcomeFacts, ListCondition}
+use Rattle.theory_strategy.specs.Turns.{step_by, left_by, Leaves, AreTurnsOf, AreWaiting, PartsAreWaiting}
+use Rattle.theory_rounds.specs.ComingTurns.{ComesInPart, ComesUp}
 use Rattle.solve_joint.specs.Joints.{IsJointFault}
 use Rattle.solve_joint.specs.Numbers.{ArePicked, Rises}
 use Rattle.solve_joint.specs.PartLists.{part_numbers}
@@ -76,10 +76,6 @@ ray_item_of raises places rate = record {
 abbrev pub turns_so_far : System → Turning → List Step
 turns_so_far system turning = map (step_of (length system.template)) turning.steps.items
 
--- the exact joint problems of a pick
-abbrev pub joint_of : System → List (Option ℕ) → Vector → List Item → Outcome
-joint_of system pick = exact_joint (equations_of system) (pick_of (length system.template) pick)
-
 -- each picked edge of the system ends at its unknown's point, none at the entry
 abbrev pub IsPickAt : System → List (Option ℕ) → Type 0
 IsPickAt system pick = IsPick (equations_of system) (pick_of (length system.template) pick)
@@ -90,11 +86,21 @@ MeetsCondition system pick raises places list bounds =
     ListCondition (equations_of system) (transformers system) (pick_of (length system.template) pick) (vector_at system bounds)
     (items_at (length system.template) raises places list)
 
--- the list condition at every turn of these
-abbrev pub HaveConditions : System → List (Option ℕ) → List Turn → Type 0
-HaveConditions system pick turns =
-    (t : Turn) → In turns t → ListCondition (equations_of system) (transformers system) (pick_of (length system.template) pick) t.vector
-    t.list
+-- a list's unknowns wait for their turn since some growth, and no turn has moved their bounds
+abbrev pub IsWaiting : System → List (Option ℕ) → List CodeStep → List ℕ → List ℕ → List Extended → Type 0
+IsWaiting system pick raises places list bounds =
+    (grown : Vector) × AreWaiting (equations_of system) (pick_of (length system.template) pick) grown (vector_at system bounds)
+    (items_at (length system.template) raises places list)
+
+-- the items of the parts of a list's raises
+abbrev pub parts_at : System → List (Option ℕ) → List CodeStep → List ℕ → List ℕ → List (List Item)
+parts_at system pick raises places list = map (items_at (length system.template) raises places) (part_numbers system pick list)
+
+-- the unknowns of a list's parts wait for their turns
+abbrev pub PartsWait : System → List (Option ℕ) → List CodeStep → List ℕ → List ℕ → List Extended → Type 0
+PartsWait system pick raises places list bounds =
+    (grown : Vector) × PartsAreWaiting (equations_of system) (pick_of (length system.template) pick) grown (vector_at system bounds)
+    (parts_at system pick raises places list)
 
 -- the first wide operation of the joint problem of a list at bounds, after so many turns
 pub record IsJoinedSpot (system : System) (pick : List (Option ℕ)) (bounds : List Extended) (list : List ℕ) (turn number : ℕ)
@@ -116,62 +122,55 @@ pub record IsPart (system : System) (pick : List (Option ℕ)) (raises : List Co
   pub raised : AreRaised raises places list
   pub edges : ArePickedRaises pick raises places list
 
--- what a turn makes of the bounds, the steps and the list, by its outcome
-module _ (system : System) (raises : List CodeStep) (places : List ℕ) where
-  abbrev pub IsTurnedBy : Outcome → List ℕ → Turning → Turning → List ℕ → Type 0
-  IsTurnedBy (PointOutcome items) list old new left =
-      (turns_so_far system new ≡ turns_so_far system old ++ record { kind = JumpKind; items = items } ∷ []) × (left ≡ [])
-      × Agrees system (after_step (record { kind = JumpKind; items = items }) (vector_at system old.bounds)) new.bounds
-  IsTurnedBy (Rays items) list old new left =
-      (turns_so_far system new ≡ turns_so_far system old ++ record { kind = RayKind; items = items } ∷ [])
-      × (items_at (length system.template) raises places left ≡ without items (items_at (length system.template) raises places list))
-      × Agrees system (after_step (record { kind = RayKind; items = items }) (vector_at system old.bounds)) new.bounds
-
--- one turn of a list
+-- one turn of a list: by some outcome of its joint problem that has its facts at the bounds, one step is made, and what the outcome leaves
+-- is left
 pub record IsTurned (system : System) (pick : List (Option ℕ)) (raises : List CodeStep) (places : List ℕ) (list : List ℕ)
     (old new : Turning)
     (left : List ℕ) : Type 0 where
   pub size : length new.bounds ≡ length old.bounds
-  pub turned : IsTurnedBy system raises places
-      (joint_of system pick (vector_at system old.bounds) (items_at (length system.template) raises places list)) list old new left
+  pub outcome : Outcome
+  pub facts : OutcomeFacts (equations_of system) (transformers system) (vector_at system old.bounds)
+      (items_at (length system.template) raises places list) outcome
+  pub steps : turns_so_far system new ≡ turns_so_far system old ++ step_by outcome ∷ []
+  pub left_is : items_at (length system.template) raises places left
+      ≡ left_by outcome (items_at (length system.template) raises places list)
+  pub agrees : Agrees system (after_step (step_by outcome) (vector_at system old.bounds)) new.bounds
   pub part : IsPart system pick raises places left
   pub fewer : length left < length list
   pub one : length new.steps.items ≡ length old.steps.items + 1
 
--- the turns of a part
+-- the turns of a part, each by some outcome that has its facts: nothing of it is left
 pub record IsDone (system : System) (pick : List (Option ℕ)) (raises : List CodeStep) (places : List ℕ) (list : List ℕ)
     (old new : Turning) : Type 0 where
   pub size : length new.bounds ≡ length old.bounds
-  pub steps : turns_so_far system new ≡ turns_so_far system old
-      ++ part (joint_of system pick) (length list) (vector_at system old.bounds) (items_at (length system.template) raises places list)
-  pub agrees : Agrees system (after_steps
-      (part (joint_of system pick) (length list) (vector_at system old.bounds) (items_at (length system.template) raises places list))
-      (vector_at system old.bounds)) new.bounds
+  pub made : List Step
+  pub leaves : Leaves (equations_of system) (transformers system) (vector_at system old.bounds)
+      (items_at (length system.template) raises places list) made []
+  pub steps : turns_so_far system new ≡ turns_so_far system old ++ made
+  pub agrees : Agrees system (after_steps made (vector_at system old.bounds)) new.bounds
   pub few : length new.steps.items ≤ length old.steps.items + length list
-
--- the turns of a part, as a list
-abbrev pub turns_of_part : System → List (Option ℕ) → List CodeStep → List ℕ → List ℕ → Turning → List Turn
-turns_of_part system pick raises places list old =
-    part_turns (joint_of system pick) (length list) (length old.steps.items) (vector_at system old.bounds)
-    (items_at (length system.template) raises places list)
-
--- the turns of the parts of a list
-abbrev pub turns_of_parts : System → List (Option ℕ) → List CodeStep → List ℕ → List ℕ → Turning → List Turn
-turns_of_parts system pick raises places list old =
-    parts_turns (joint_of system pick) (length old.steps.items) (vector_at system old.bounds)
-    (map (items_at (length system.template) raises places) (part_numbers system pick list))
 
 -- all turns of the parts of a list
 pub record AreAllDone (system : System) (pick : List (Option ℕ)) (raises : List CodeStep) (places : List ℕ) (list : List ℕ)
     (old new : Turning) : Type 0 where
   pub size : length new.bounds ≡ length old.bounds
-  pub steps : turns_so_far system new ≡ turns_so_far system old
-      ++ turns (joint_of system pick) (vector_at system old.bounds) (map (items_at (length system.template) raises places)
-      (part_numbers system pick list))
-  pub agrees : Agrees system (after_steps
-      (turns (joint_of system pick) (vector_at system old.bounds) (map (items_at (length system.template) raises places)
-      (part_numbers system pick list)))
-      (vector_at system old.bounds)) new.bounds
+  pub made : List Step
+  pub turns : AreTurnsOf (equations_of system) (transformers system) (vector_at system old.bounds)
+      (parts_at system pick raises places list) made
+  pub steps : turns_so_far system new ≡ turns_so_far system old ++ made
+  pub agrees : Agrees system (after_steps made (vector_at system old.bounds)) new.bounds
+
+-- a turn of a part comes up after so many turns of the round
+abbrev pub ComesAfter : System → List CodeStep → List ℕ → List ℕ → Turning → ℕ → Vector → List Item → Type 0
+ComesAfter system raises places list old number vector left =
+    (more : ℕ) × (number ≡ length old.steps.items + more)
+    × ComesInPart (equations_of system) (vector_at system old.bounds) (items_at (length system.template) raises places list) more vector
+    left
+
+-- a turn of the parts of a list does
+abbrev pub ComesAmong : System → List (Option ℕ) → List CodeStep → List ℕ → List ℕ → List Extended → ℕ → Vector → List Item → Type 0
+ComesAmong system pick raises places list bounds number vector left =
+    ComesUp (equations_of system) (vector_at system bounds) (parts_at system pick raises places list) number vector left
 
 -- a point has a number and a trace for each unknown of the list, and a ray's rates are of unknowns of the list
 abbrev pub HasSizes : List ℕ → Joined → Type 0

@@ -7,12 +7,13 @@ ghost use Rattle.solve_composition.specs.Composed.{AreComposed};
 ghost use Rattle.solve_offers.specs.AtBounds.{IsSupportedPick, IsTightPick};
 ghost use Rattle.solve_offers.specs.Known.{AreKnown};
 ghost use Rattle.solve_rounds.specs.Growth.{growth_at, named_at};
-ghost use Rattle.solve_rounds.specs.Round.{round_at, rounded_at, AreBoundsOf, AreAbove, AreValidFrom, IsRoundStop, IsTurnStop};
-ghost use Rattle.solve_rounds.specs.Turning.{HaveConditions, IsPickAt, IsPart, IsDone, AreAllDone, turns_of_part, turns_of_parts};
+ghost use Rattle.solve_rounds.specs.Round.{IsRoundAt, rounded_at, AreBoundsOf, AreAbove, AreValidFrom, IsRoundStop, IsTurnStop};
+ghost use Rattle.solve_rounds.specs.Turning.{AreAllDone, ComesAfter, ComesAmong, IsDone, IsPart, IsPickAt, IsWaiting, PartsWait};
 
 use crate::growth::{Grown, grow_from};
 use crate::lows::places;
 use crate::turning::{Turning, finite, own, turn};
+use base_watch::Watch;
 use cert_types::{Step, Steps};
 use flow_systems::{Bounds, Pick, System};
 use solve_joint::parts;
@@ -21,7 +22,7 @@ use solve_transformer::Paths;
 use std::alloc::Global;
 
 // The turns of one part: of the whole list first, and then of what each ray leaves.
-fn part(
+fn part<W: Watch>(
     alloc: Global,
     system: &System,
     paths: &Paths,
@@ -31,6 +32,7 @@ fn part(
     places: &[u32],
     list: &[u32],
     turning: &mut Turning,
+    watch: &mut W,
 ) -> Result<(), Stop>
     requires composed { AreComposed (equations_of system.now) paths.now }
     requires bounds { length turning.old.bounds ≡ length system.now.flow.points * length system.now.template }
@@ -38,11 +40,10 @@ fn part(
     requires chosen { IsPickAt system.now pick.now }
     requires few { length turning.old.steps.items + length list.now < 4294967296 }
     requires part { IsPart system.now pick.now raises.now places.now list.now }
-    requires conditions { HaveConditions system.now pick.now (turns_of_part system.now pick.now raises.now places.now list.now
-        turning.old) }
+    requires waiting { IsWaiting system.now pick.now raises.now places.now list.now turning.old.bounds }
     ensures done { IfOk result (λ done. IsDone system.now pick.now raises.now places.now list.now turning.old turning.new) }
-    ensures stop { IfErr result (IsTurnStop system.now pick.now (turns_of_part system.now pick.now raises.now places.now list.now
-        turning.old) round) }
+    ensures stop { IfErr result (IsTurnStop system.now pick.now (ComesAfter system.now raises.now places.now list.now turning.old)
+        round) }
 {
     let mut left = own(alloc, list)?;
     while !left.is_empty() {
@@ -56,13 +57,14 @@ fn part(
             places,
             left.as_slice(),
             turning,
+            watch,
         )?;
     }
     Ok(())
 }
 
 // The turns of the parts of a list, in order.
-fn turns(
+fn turns<W: Watch>(
     alloc: Global,
     system: &System,
     paths: &Paths,
@@ -72,6 +74,7 @@ fn turns(
     places: &[u32],
     list: &[u32],
     turning: &mut Turning,
+    watch: &mut W,
 ) -> Result<(), Stop>
     requires composed { AreComposed (equations_of system.now) paths.now }
     requires bounds { length turning.old.bounds ≡ length system.now.flow.points * length system.now.template }
@@ -79,11 +82,10 @@ fn turns(
     requires chosen { IsPickAt system.now pick.now }
     requires none { length turning.old.steps.items ≡ 0 }
     requires list { IsPart system.now pick.now raises.now places.now list.now }
-    requires conditions { HaveConditions system.now pick.now (turns_of_parts system.now pick.now raises.now places.now list.now
-        turning.old) }
+    requires waiting { PartsWait system.now pick.now raises.now places.now list.now turning.old.bounds }
     ensures done { IfOk result (λ done. AreAllDone system.now pick.now raises.now places.now list.now turning.old turning.new) }
-    ensures stop { IfErr result (IsTurnStop system.now pick.now (turns_of_parts system.now pick.now raises.now places.now list.now
-        turning.old) round) }
+    ensures stop { IfErr result (IsTurnStop system.now pick.now (ComesAmong system.now pick.now raises.now places.now list.now
+        turning.old.bounds) round) }
 {
     let parts = parts(alloc, system, pick, list)?;
     for number in 0..parts.count() {
@@ -97,6 +99,7 @@ fn turns(
             places,
             parts.list(number),
             turning,
+            watch,
         )?;
     }
     Ok(())
@@ -112,7 +115,7 @@ fn turns(
 ///
 /// `Wide` only where an operation of this round's growth or of one of its turns is too wide for a fraction: at the sites of the
 /// growth, or at that of the turn, which are numbered from 0 through the round, with the part of its joint problem. `NoMemory`.
-pub(crate) fn round_from(
+pub(crate) fn round_from<W: Watch>(
     alloc: Global,
     system: &System,
     paths: &Paths,
@@ -120,14 +123,15 @@ pub(crate) fn round_from(
     pick: &Pick,
     round: u32,
     known: &Known,
+    watch: &mut W,
 ) -> Result<Grown, Stop>
     requires composed { AreComposed (equations_of system.now) paths.now }
     requires bounds { length bounds.now ≡ length system.now.flow.points * length system.now.template }
     requires pick { length pick.now ≡ length system.now.flow.points * length system.now.template }
     requires supported { IsSupportedPick system.now bounds.now pick.now }
     requires known { AreKnown system.now bounds.now known.now }
-    ensures steps { IfOk result (λ grown. map (step_of (length system.now.template)) grown.steps
-        ≡ round_at system.now bounds.now pick.now) }
+    ensures steps { IfOk result (λ grown. IsRoundAt system.now bounds.now pick.now
+        (map (step_of (length system.now.template)) grown.steps)) }
     ensures bounds { IfOk result (λ grown. AreBoundsOf system.now (rounded_at system.now bounds.now pick.now) grown.bounds) }
     ensures size { IfOk result (λ grown. length grown.bounds ≡ length bounds.now) }
     ensures above { IfOk result (λ grown. AreAbove system.now bounds.now pick.now grown.bounds) }
@@ -155,6 +159,7 @@ pub(crate) fn round_from(
         places.as_slice(),
         list.as_slice(),
         &mut turning,
+        watch,
     )?;
     steps.append(&mut turning.steps)?;
     Ok(Grown {

@@ -1,7 +1,8 @@
 //! The rounds, to their end.
 
-ghost use Rattle.std.specs.Prelude.{◌≡◌, ◌≤◌, ◌+◌, ◌*◌, length, map, IfOk, IfErr, IsTrue};
+ghost use Rattle.std.specs.Prelude.{◌≡◌, ◌≤◌, ◌+◌, ◌*◌, length, map, count_by, drop, IfOk, IfErr, IsTrue};
 ghost use Rattle.std.specs.List.{list_all};
+ghost use Rattle.base_limits.specs.declared.limits.TheConstants.{MOST_CELLS, MOST_IMPROVEMENTS};
 ghost use Rattle.lang_tree.specs.Numbers.{are_numbers};
 ghost use Rattle.flow_templates.specs.Rows.{is_template};
 ghost use Rattle.flow_systems.specs.Equations.{Least};
@@ -18,12 +19,15 @@ ghost use Rattle.solve_rounds.specs.Round.{IsRoundStop};
 ghost use Rattle.solve_rounds.specs.Halts.{IsHalt};
 ghost use Rattle.solve_offers.specs.Known.{AreKnown};
 ghost use Rattle.solve_rounds.specs.Solutions.{IsSolved, AreNumbered, cert_with, made_certificate};
-ghost use Rattle.solve_rounds.specs.Solving.{IsBegun, IsAdvanced, IsFinished};
+ghost use Rattle.base_fractions.specs.Extended.{extended};
+ghost use Rattle.solve_rounds.specs.Solving.{IsBegun, IsAdvanced, IsFinished, is_above_bottom};
 
 use crate::evaluation::round_from;
 use crate::halt::Halt;
 use crate::solution::Solved;
 use crate::uppers::uppers_at;
+use base_fractions::Ext;
+use base_watch::Watch;
 use cert_types::{Step, Steps};
 use flow_systems::{Bounds, Pick, System};
 use solve_offers::{Chooser, Known, Policy, Stop, forget, improve_from};
@@ -54,13 +58,14 @@ fn begin(alloc: Global, system: &System) -> Result<Progress, Stop>
 }
 
 // Makes a round by a pick.
-fn advance(
+fn advance<W: Watch>(
     alloc: Global,
     system: &System,
     paths: &Paths,
     better: Pick,
     number: u32,
     progress: &mut Progress,
+    watch: &mut W,
 ) -> Result<(), Stop>
     requires composed { AreComposed (equations_of system.now) paths.now }
     requires bounds { length progress.old.bounds ≡ length system.now.flow.points * length system.now.template }
@@ -79,6 +84,7 @@ fn advance(
         &better,
         number,
         &progress.known,
+        watch,
     )?;
     let mut steps = grown.steps.into_list();
     progress.steps.append(&mut steps)?;
@@ -98,7 +104,7 @@ fn finish(
 ) -> Result<Solved, Stop>
     requires composed { AreComposed (equations_of system.now) paths.now }
     requires bounds { length progress.bounds ≡ length system.now.flow.points * length system.now.template }
-    requires made { made ≤ 1000000 }
+    requires made { made ≤ MOST_IMPROVEMENTS }
     requires known { AreKnown system.now progress.bounds progress.known }
     ensures finished { IfOk result (IsFinished system.now progress made) }
     ensures stop { IfErr result (IsOfferStop system.now progress.bounds (made + 1)) }
@@ -111,6 +117,36 @@ fn finish(
         steps: Steps::new(progress.steps),
         uppers,
     })
+}
+
+// Whether a bound is above `-inf`.
+fn is_raised(bound: Ext) -> bool
+    ensures { result ≡ is_above_bottom (extended bound) }
+{
+    match bound {
+        Ext::NegInf => false,
+        Ext::Fin(_) => true,
+        Ext::PosInf => true,
+    }
+}
+
+// How many of these bounds behind the first ones are above `-inf`.
+fn count_raised(bounds: &[Ext], first: usize) -> usize
+    ensures { result ≡ count_by (λ bound. is_above_bottom (extended bound)) (drop first bounds.now) }
+{
+    bounds
+        .iter()
+        .skip(first)
+        .filter(|bound| is_raised(**bound))
+        .count()
+}
+
+// How many unknowns behind the entry's rows have a bound above `-inf`.
+fn raised(system: &System, bounds: &Bounds) -> u32
+    requires { length bounds.now ≡ length system.now.flow.points * length system.now.template }
+    ensures { result ≡ count_by is_above_bottom (drop (length system.now.template) bounds.now) }
+{
+    count_raised(bounds.as_slice(), system.template.as_slice().len()) as u32
 }
 
 // The template has a row, and its coefficients are within 2^63 - 1: each row knows it of itself.
@@ -126,16 +162,23 @@ fn look_at_rows(system: &System)
 /// The least bounds of a system, by rounds of policy iteration: from `+inf` at the entry and `-inf` elsewhere, each round takes
 /// the next pick by the chooser's function and leads to the least bounds above that are closed under it. The rounds end where no
 /// transformer exceeds its bound, before there are as many rounds as picks; at most `limit` of them are made.
-/// `docs/METHOD.md` has rounds, picks and certificates.
+/// `docs/METHOD.md` has rounds, picks and certificates. The watch is told of each round, turn and thousand of pivots; what is
+/// answered doesn't depend on it.
 ///
 /// # Errors
 ///
 /// `Spent` with the bounds after `limit` rounds, only where these are no post-solution; the limit is then below the number of
 /// picks. `Wide` only where its operation is too wide for a fraction: one of the composition, in round 0, of an offer at the
 /// bounds after the rounds made, in the round that would be next, or of a round made. `NoMemory`.
-pub fn least(alloc: Global, system: &System, limit: u32, chooser: &Chooser) -> Result<Solved, Halt>
-    requires limit { limit ≤ 1000000 }
-    requires cells { cells_of (equations_of system.now) ≤ 134217728 }
+pub fn least<W: Watch>(
+    alloc: Global,
+    system: &System,
+    limit: u32,
+    chooser: &Chooser,
+    watch: &mut W,
+) -> Result<Solved, Halt>
+    requires limit { limit ≤ MOST_IMPROVEMENTS }
+    requires cells { cells_of (equations_of system.now) ≤ MOST_CELLS }
     ensures solved { IfOk result (IsSolved system.now (λ offer k. (shown : _) × Policy.post chooser.now.policy shown k
         × (shown.now ≡ offer)) limit) }
     ensures least { IfOk result (λ solved. Least (equations_of system.now) (vector_at system.now solved.bounds)) }
@@ -164,7 +207,16 @@ pub fn least(alloc: Global, system: &System, limit: u32, chooser: &Chooser) -> R
                 if made == limit {
                     return Err(Halt::Spent(progress.bounds));
                 }
-                advance(alloc, system, &paths, better, made + 1, &mut progress)?;
+                watch.round(made + 1, raised(system, &progress.bounds));
+                advance(
+                    alloc,
+                    system,
+                    &paths,
+                    better,
+                    made + 1,
+                    &mut progress,
+                    watch,
+                )?;
             }
         }
     }

@@ -1,6 +1,7 @@
 //! The rounds by the two policies.
 
 ghost use Rattle.std.specs.Prelude.{◌≤◌, IfOk, IfErr};
+ghost use Rattle.base_limits.specs.declared.limits.TheConstants.{MOST_CELLS, MOST_IMPROVEMENTS};
 ghost use Rattle.flow_systems.specs.Equations.{Least};
 ghost use Rattle.flow_systems.specs.Cells.{cells_of};
 ghost use Rattle.flow_systems.specs.View.{equations_of};
@@ -14,6 +15,7 @@ ghost use Rattle.solve_rounds.specs.Solutions.{IsSolved, AreNumbered, cert_with,
 use crate::halt::Halt;
 use crate::solution::Solved;
 use crate::solving::least;
+use base_watch::Watch;
 use flow_systems::System;
 use solve_offers::{Chooser, best, first};
 use std::alloc::Global;
@@ -24,9 +26,14 @@ use std::alloc::Global;
 ///
 /// As `least`.
 #[tactic(auto, using(solve_offers::proofs::offers::Offered::best_exceeds))]
-pub fn least_by_best(alloc: Global, system: &System, limit: u32) -> Result<Solved, Halt>
-    requires limit { limit ≤ 1000000 }
-    requires cells { cells_of (equations_of system.now) ≤ 134217728 }
+pub fn least_by_best<W: Watch>(
+    alloc: Global,
+    system: &System,
+    limit: u32,
+    watch: &mut W,
+) -> Result<Solved, Halt>
+    requires limit { limit ≤ MOST_IMPROVEMENTS }
+    requires cells { cells_of (equations_of system.now) ≤ MOST_CELLS }
     ensures solved { IfOk result (IsSolved system.now by_best limit) }
     ensures least { IfOk result (λ solved. Least (equations_of system.now) (vector_at system.now solved.bounds)) }
     ensures valid { IfOk result (λ solved. ValidCertificate (equations_of system.now) (made_certificate system.now solved)) }
@@ -34,7 +41,7 @@ pub fn least_by_best(alloc: Global, system: &System, limit: u32) -> Result<Solve
     ensures numbered { IfOk result (λ solved. AreNumbered system.now solved.steps) }
     ensures halt { IfErr result (IsHalt system.now by_best limit) }
 {
-    least(alloc, system, limit, &Chooser::new(best))
+    least(alloc, system, limit, &Chooser::new(best), watch)
 }
 
 /// The least bounds of a system as `least` finds them, each unknown taking the first edge whose transformer exceeds its bound.
@@ -42,9 +49,14 @@ pub fn least_by_best(alloc: Global, system: &System, limit: u32) -> Result<Solve
 /// # Errors
 ///
 /// As `least`.
-pub fn least_by_first(alloc: Global, system: &System, limit: u32) -> Result<Solved, Halt>
-    requires limit { limit ≤ 1000000 }
-    requires cells { cells_of (equations_of system.now) ≤ 134217728 }
+pub fn least_by_first<W: Watch>(
+    alloc: Global,
+    system: &System,
+    limit: u32,
+    watch: &mut W,
+) -> Result<Solved, Halt>
+    requires limit { limit ≤ MOST_IMPROVEMENTS }
+    requires cells { cells_of (equations_of system.now) ≤ MOST_CELLS }
     ensures solved { IfOk result (IsSolved system.now by_first limit) }
     ensures least { IfOk result (λ solved. Least (equations_of system.now) (vector_at system.now solved.bounds)) }
     ensures valid { IfOk result (λ solved. ValidCertificate (equations_of system.now) (made_certificate system.now solved)) }
@@ -52,5 +64,5 @@ pub fn least_by_first(alloc: Global, system: &System, limit: u32) -> Result<Solv
     ensures numbered { IfOk result (λ solved. AreNumbered system.now solved.steps) }
     ensures halt { IfErr result (IsHalt system.now by_first limit) }
 {
-    least(alloc, system, limit, &Chooser::new(first))
+    least(alloc, system, limit, &Chooser::new(first), watch)
 }

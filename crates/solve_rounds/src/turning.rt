@@ -31,6 +31,7 @@ ghost use Rattle.solve_rounds.specs.Turning.{
 
 use crate::lows::{copied, edge_of, low_of};
 use base_fractions::{Ext, Frac};
+use base_watch::Watch;
 use cert_types::{JumpItem, JumpItems, RayItem, RayItems, Step};
 use flow_systems::{Bounds, PartFault, Pick, Site, Spot, System, Trace};
 use solve_joint::{Joined, joint};
@@ -188,7 +189,7 @@ fn ray_items(
 }
 
 // The outcome of the joint problem of a list at the bounds, after so many turns.
-fn joined(
+fn joined<W: Watch>(
     alloc: Global,
     system: &System,
     paths: &Paths,
@@ -197,6 +198,7 @@ fn joined(
     list: &[u32],
     turn: u32,
     round: u32,
+    watch: &mut W,
 ) -> Result<Joined, Stop>
     requires composed { AreComposed (equations_of system.now) paths.now }
     requires bounds { length bounds.now ≡ length system.now.flow.points * length system.now.template }
@@ -209,7 +211,7 @@ fn joined(
         (lp (problem_of system.now pick.now bounds.now list.now))) }
     ensures stop { IfErr result (IsJoinedStop system.now pick.now bounds.now list.now turn round) }
 {
-    match joint(alloc, system, paths, bounds, pick, list) {
+    match joint(alloc, system, paths, bounds, pick, list, watch) {
         Ok(joined) => Ok(joined),
         Err(PartFault::Wide { part, wide }) => Err(Stop::Wide(Spot {
             round,
@@ -253,8 +255,8 @@ fn take(
 }
 
 /// A turn of a list of unknowns that were raised: a point sets them to their numbers, and nothing is left; a ray sets those
-/// with a rate above 0 to `+inf`, and the others are left.
-pub(crate) fn turn(
+/// with a rate above 0 to `+inf`, and the others are left. The watch is told its number.
+pub(crate) fn turn<W: Watch>(
     alloc: Global,
     system: &System,
     paths: &Paths,
@@ -264,6 +266,7 @@ pub(crate) fn turn(
     places: &[u32],
     list: &[u32],
     turning: &mut Turning,
+    watch: &mut W,
 ) -> Result<Vec<u32>, Stop>
     requires composed { AreComposed (equations_of system.now) paths.now }
     requires bounds { length turning.old.bounds ≡ length system.now.flow.points * length system.now.template }
@@ -277,6 +280,7 @@ pub(crate) fn turn(
     ensures stop { IfErr result (IsJoinedStop system.now pick.now turning.old.bounds list.now (length turning.old.steps.items) round) }
 {
     let number = turning.steps.len() as u32;
+    watch.turn(number);
     let outcome = joined(
         alloc,
         system,
@@ -286,6 +290,7 @@ pub(crate) fn turn(
         list,
         number,
         round,
+        watch,
     )?;
     take(alloc, raises, places, list, outcome, turning)
 }

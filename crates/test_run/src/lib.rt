@@ -21,6 +21,8 @@ mod generated;
 #[cfg(test)]
 mod loops;
 #[cfg(test)]
+mod points;
+#[cfg(test)]
 mod refusals;
 #[cfg(test)]
 mod reports;

@@ -8,7 +8,7 @@ pub(crate) const USAGE: &[u8] =
     b"usage: tmpl solve PROGRAM [--domain D] [--rows FILE] [--improvements N] [--policy P] | certify (the same) \
       | check PROGRAM CERT | bench --seed N --loops K | upgrade CERT \
       | prove PROGRAM CLAIMS (the options of solve) | transitions FILE (the options of solve) \
-      | equations FILE [--improvements N] [--policy P]\n";
+      | equations FILE [--improvements N] [--policy P] | points PROGRAM\n";
 
 const NO_REQUEST: Ending = Ending::Refused(2, USAGE);
 
@@ -158,6 +158,12 @@ const PROGRAMS: &[(&str, &[u8], &[u8], Ending)] = &[
         b"int main() {\n\n int x = 1 @ 2; }",
         b"",
         Ending::Refused(4, b"program refused: bad byte at line 3\n"),
+    ),
+    (
+        "solve p",
+        b"int main() {\n int x = 1; // C joins this line \\ \r\n x = 2; }",
+        b"",
+        Ending::Refused(4, b"program refused: bad byte at line 2\n"),
     ),
     (
         "solve p",

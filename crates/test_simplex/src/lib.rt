@@ -7,3 +7,5 @@ mod cases;
 mod generated;
 #[cfg(test)]
 mod problems;
+#[cfg(test)]
+mod watched;

@@ -49,8 +49,8 @@ fn add_row<F: OrderedField>(problem: &mut Problem<F>, coeffs: Vec<F>, side: F) -
     Ok(())
 }
 
-// The problem of the goal's numbers, and then each row's coefficients and side.
-fn problem_of<F: OrderedField>(
+/// The problem of the goal's numbers, and then each row's coefficients and side.
+pub fn problem_of<F: OrderedField>(
     alloc: Global,
     cols: usize,
     numbers: &[Number],
@@ -76,7 +76,8 @@ fn problem_of<F: OrderedField>(
     Ok(problem)
 }
 
-fn equals<F: OrderedField>(value: F, expected: Number) -> bool {
+/// Whether the value is the one that the number writes.
+pub fn equals<F: OrderedField>(value: F, expected: Number) -> bool {
     F::make(expected.0, expected.1) == Some(value)
 }
 

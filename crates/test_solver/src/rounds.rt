@@ -5,3 +5,4 @@ mod offers;
 mod solved;
 mod steps;
 mod systems;
+mod watched;

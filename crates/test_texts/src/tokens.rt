@@ -193,6 +193,25 @@ const TEXTS: &[(&[u8], &[Token])] = &[
             },
         ],
     ),
+    // A backslash in the middle of a line, at the end of the text, and in the other kind of comment.
+    (
+        b"// \\ x\na",
+        &[Token {
+            kind: Kind::Name,
+            at: 7,
+            len: 1,
+        }],
+    ),
+    (b"a//\\", &[NAME]),
+    (b"a// \\ \t", &[NAME]),
+    (
+        b"/*\\\n*/a",
+        &[Token {
+            kind: Kind::Name,
+            at: 6,
+            len: 1,
+        }],
+    ),
     (
         b"/*/ \n\xff ***/a",
         &[Token {
@@ -269,6 +288,14 @@ const FAULTS: &[(&[u8], LexFault)] = &[
     (b"a|b", LexFault::BadByte { at: 1 }),
     (b"x\x80", LexFault::BadByte { at: 1 }),
     (b"\0", LexFault::BadByte { at: 0 }),
+    (b"a\\\nb", LexFault::BadByte { at: 1 }),
+    // Lines that C joins with the next one: the backslash alone, with a carriage return, with each blank behind it, the last of two,
+    // and in a later line.
+    (b"x // \\\ny", LexFault::BadByte { at: 5 }),
+    (b"//\\\r\n", LexFault::BadByte { at: 2 }),
+    (b"a//b\\ \t\r\x0b\x0c\n#", LexFault::BadByte { at: 4 }),
+    (b"//\\\\\n", LexFault::BadByte { at: 3 }),
+    (b"\n// a\n//\\ \n07", LexFault::BadByte { at: 8 }),
     (b"x /* *", LexFault::OpenComment { at: 2 }),
     (b"/*/", LexFault::OpenComment { at: 0 }),
     (b"9223372036854775808", LexFault::LongNumber { at: 0 }),

@@ -183,6 +183,8 @@ const OTHERS: &[(&str, Request<&str>)] = &[
             policy: Policy::First,
         },
     ),
+    ("points p", Request::Points { program: "p" }),
+    ("points -- -p", Request::Points { program: "-p" }),
 ];
 
 #[test]
@@ -235,6 +237,9 @@ const REFUSED: &[&str] = &[
     "equations e f",
     "equations e --domain zones",
     "equations e --improvements 1000001",
+    "points",
+    "points p q",
+    "points p --domain zones",
     "--help",
     "help",
     "solve p -h",
@@ -250,5 +255,5 @@ fn other_words_ask_for_nothing(rt: HostRuntime) {
 #[test]
 fn usage(rt: HostRuntime) {
     assert!(rt; usage_line().starts_with(b"usage: tmpl solve PROGRAM [--domain D]"));
-    assert!(rt; usage_line().len() == 306);
+    assert!(rt; usage_line().len() == 323);
 }

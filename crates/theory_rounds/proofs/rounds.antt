@@ -10,3 +10,5 @@ pub mod Linked
 pub mod Clamped
 pub mod Retraced
 pub mod Existing
+pub mod RoundBy
+pub mod StepsMade

@@ -1,2 +1,2 @@
-pub mod TurnConditions
-pub mod TurnsAgree
+pub mod FactsAgree
+pub mod Coming

@@ -5,7 +5,8 @@ pub mod Cut
 pub mod Rounds
 pub mod Agreement
 pub mod Made
-pub mod Turns
 pub mod EvidenceLaws
 pub mod RoundLaws
 pub mod ChainLaws
+pub mod ComingTurns
+pub mod RoundSteps

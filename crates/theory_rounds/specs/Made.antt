@@ -6,6 +6,7 @@ use Rattle.flow_edges.specs.declared.edge.Edge.{Edge}
 use Rattle.flow_systems.specs.Equations.{Equations, Vector}
 use Rattle.flow_systems.specs.View.{bounds_of}
 use Rattle.theory_validity.specs.Words.{guard_forms}
+use Rattle.theory_validity.specs.Steps.{Step}
 use Rattle.theory_validity.specs.Certificates.{Evidence, Bound, Empty, Unreached, Need, needs, Certificate, bounds_vector}
 use Rattle.lp_theory.specs.Problem.{Outcome, best, unbounded, empty}
 use Rattle.lp_theory.specs.Simplex.{lp}
@@ -52,8 +53,12 @@ exact_uppers system z = uppers_for system z (needs system z)
 abbrev pub listed_bounds : Equations → Vector → List Ext
 listed_bounds system z = bounds_of system.points (length system.template) z
 
--- the certificate of so many rounds
-unfoldable pub exact_certificate : (ℚ → Bool) → Equations → (ℕ → Choice) → ℕ → Certificate
-exact_certificate fitting system choose n =
+-- the certificate of so many rounds that made these steps
+unfoldable pub certificate_with : (ℚ → Bool) → Equations → (ℕ → Choice) → ℕ → List Step → Certificate
+certificate_with fitting system choose n steps =
     let bounds = listed_bounds system (exact_state fitting system choose n).vector in
-    record { bounds = bounds; steps = exact_steps fitting system choose n; uppers = exact_uppers system (bounds_vector system bounds) }
+    record { bounds = bounds; steps = steps; uppers = exact_uppers system (bounds_vector system bounds) }
+
+-- the certificate of so many rounds by the exact joint problems
+unfoldable pub exact_certificate : (ℚ → Bool) → Equations → (ℕ → Choice) → ℕ → Certificate
+exact_certificate fitting system choose n = certificate_with fitting system choose n (exact_steps fitting system choose n)

@@ -13,13 +13,17 @@ ghost use Rattle.theory_rounds.specs.ChainLaws.{
 };
 ghost use Rattle.theory_rounds.specs.EvidenceLaws.{EvidenceIsRead, EvidenceIsSized, RaisesAreRead};
 ghost use Rattle.theory_rounds.specs.RoundLaws.{
+  AnyOutcomesDo,
+  AnyStepsDo,
   ChainsAreExact,
   CutsAreExact,
   GrowthsAreExact,
   RoundsAreExact,
   RoundsEnd,
   RowsDecide,
+  SomeOutcomesDo,
   TurnsAreExact,
+  TurnsComeUp,
 };
 
 /// The evidence of an exact transformer has the words of the outcome of its problem: the word of a best point, or the word and
@@ -59,6 +63,29 @@ pub fn cuts_are_exact()
 /// pick is tight.
 pub fn rounds_are_exact()
     ensures { RoundsAreExact }
+{}
+
+/// Whichever outcomes with their facts the turns of a round by a supported pick are made by, the round makes valid steps to the
+/// least closed vector that is at least the first. That is one vector, at the template's rows, and the pick is tight there.
+pub fn any_outcomes_do()
+    ensures { AnyOutcomesDo }
+{}
+
+/// There are such outcomes: those of the exact joint problems.
+pub fn some_outcomes_do()
+    ensures { SomeOutcomesDo }
+{}
+
+/// Each turn that comes up in the round by a supported pick has a list that meets the list condition, at a vector that is at
+/// least that after the growth and at most that after the round.
+pub fn turns_come_up()
+    ensures { TurnsComeUp }
+{}
+
+/// The steps of rounds, whichever outcomes their turns were made by, are valid and lead to the vector after the rounds. Where no
+/// transformer exceeds its bound there, they are the steps of a valid certificate.
+pub fn any_steps_do()
+    ensures { AnyStepsDo }
 {}
 
 /// After so many rounds, by any choices among the edges whose transformers exceed the bound, the pick is tight, the vector is at

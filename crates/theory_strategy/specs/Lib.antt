@@ -3,6 +3,7 @@ pub mod RoundFacts
 pub mod PickCount
 pub mod Growth
 pub mod Round
+pub mod Turns
 pub mod Solve
 pub mod Policy
 pub mod Rounds

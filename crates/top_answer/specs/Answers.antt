@@ -49,11 +49,11 @@ pub data IsOfRounds (ending : Status) : Type 0 where
   of_spent : (number : ℕ) → ending ≡ Spent number → IsOfRounds ending
 
 -- the ending is answered; or, in its place, want of memory, or for an ending that improvements decide an operation that is too wide
-pub data Answers (commands : Commands) (words contents : List (List ℕ)) (ending status : Status) : Type 0 where
-  given : status ≡ ending → Answers commands words contents ending status
-  no_memory : status ≡ Memory → Answers commands words contents ending status
+pub data IsAnsweredBy (commands : Commands) (words contents : List (List ℕ)) (ending status : Status) : Type 0 where
+  given : status ≡ ending → IsAnsweredBy commands words contents ending status
+  no_memory : status ≡ Memory → IsAnsweredBy commands words contents ending status
   too_wide : (spot : Spot) → status ≡ Wide spot → IsTooWide commands words contents spot → IsOfRounds ending
-      → Answers commands words contents ending status
+      → IsAnsweredBy commands words contents ending status
 
 -- ---- the bytes
 

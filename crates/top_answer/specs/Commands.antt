@@ -12,7 +12,7 @@ use Rattle.ask_words.specs.declared.request.Domain.{Domain}
 use Rattle.ask_words.specs.declared.request.Policy.{Policy}
 use Rattle.ask_words.specs.declared.request.Policy.TheVariants.{Best}
 use Rattle.ask_words.specs.declared.request.Purpose.TheVariants.{Report, Certificate as AsCertificate}
-use Rattle.ask_words.specs.declared.request.Request.TheVariants.{Analyse, Check, Bench, Upgrade, Prove, Transitions, Equations}
+use Rattle.ask_words.specs.declared.request.Request.TheVariants.{Analyse, Check, Bench, Upgrade, Prove, Transitions, Equations, Points}
 use Rattle.cert_text.specs.declared.fault.FormFault.{FormFault}
 use Rattle.cert_text.specs.declared.fault.FormFault.TheVariants.{Expanded}
 use Rattle.ask_files.specs.Files.{Request}
@@ -25,10 +25,11 @@ use Rattle.top_texts.specs.ClaimTexts.{AreVerdictsOf}
 use Rattle.top_texts.specs.EquationTexts.{AreValuesOf}
 use Rattle.top_texts.specs.LeastReports.{IsLeastReport, IsReportOf}
 use Rattle.top_texts.specs.Meanings.{Meanings}
+use Rattle.top_texts.specs.PointTexts.{ArePointsOf}
 use Rattle.top_texts.specs.Questions.{IsWideIn, Question, QuestionEnds, analysis_question, bench_question, claims_question}
 use Rattle.top_texts.specs.Questions.{equations_question, transitions_question}
 use Rattle.top_texts.specs.Rounds.{HasRounds}
-use Rattle.top_texts.specs.Texts.{IsReady, IsRefusedProgram, IsSolvedSystem}
+use Rattle.top_texts.specs.Texts.{IsAnalysed, IsReady, IsRefusedProgram, IsSolvedSystem}
 use Rattle.top_texts.specs.TransitionTexts.{IsAutoReport}
 
 -- ---- endings that no question has
@@ -48,6 +49,11 @@ pub data CheckEnds (m : Meanings) (text bytes : List ℕ) (ending : Status) : Ty
 pub data UpgradeEnds (m : Meanings) (bytes : List ℕ) (ending : Status) : Type 0 where
   form_refused : (fault : FormFault) → ending ≡ Certificate (Form fault) → m.misspells bytes fault → UpgradeEnds m bytes ending
   rewritten : (written : List ℕ) → ending ≡ Done → m.upgrades bytes written → UpgradeEnds m bytes ending
+
+-- the text of a program is refused by a cause, or its points are written
+pub data PointsEnd (text : List ℕ) (ending : Status) : Type 0 where
+  text_refused : (cause : TextCause) → ending ≡ Text cause → IsRefusedProgram text cause → PointsEnd text ending
+  listed : (names : List (List ℕ)) (body : Statements) → ending ≡ Done → IsAnalysed text names body → PointsEnd text ending
 
 -- ---- what is written
 
@@ -127,6 +133,11 @@ command_of m (Prove given a) = asking (claims_question m a.program a.domain give
 command_of m (Transitions a) = asking (transitions_question m a.program a.domain a.policy a.improvements)
     (λ bytes. IsAutoReport a.program a.domain a.policy a.improvements bytes)
 command_of m (Equations text limit policy) = asking (equations_question m text policy limit) (λ bytes. AreValuesOf text policy limit bytes)
+command_of m (Points text) = record {
+  ends = λ status. PointsEnd text status;
+  too_wide = λ spot. ⊥;
+  writes = λ bytes. ArePointsOf text bytes;
+}
 
 -- each point has this number of rows: of the template of an analysis, or of the certificate that is checked
 abbrev pub HasRows : Meanings → Request → ℕ → Type 0

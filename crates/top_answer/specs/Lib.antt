@@ -1,4 +1,4 @@
 pub mod Limits
 pub mod Commands
 pub mod Answers
-pub mod Parted
+pub mod Outcomes

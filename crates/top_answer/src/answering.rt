@@ -2,11 +2,11 @@
 
 ghost use Rattle.std.specs.Prelude.{List, map, string_bytes};
 ghost use Rattle.ask_words.specs.Request.{request_text};
-ghost use Rattle.top_answer.specs.Answers.{Answers, Ends, Holds, IsAnswer, IsMessage, IsOutput};
+ghost use Rattle.top_answer.specs.Answers.{IsAnsweredBy, Ends, Holds, IsAnswer, IsMessage, IsOutput};
 ghost use Rattle.ask_files.specs.Asked.{texts_of};
 ghost use Rattle.top_answer.specs.Limits.{IsInLimits, IsInRange};
 ghost use Rattle.top_answer.specs.Commands.{command_of};
-ghost use Rattle.top_answer.specs.Parted.{AnswersRequest, AnswersWords, NamesPlace, Says};
+ghost use Rattle.top_answer.specs.Outcomes.{AnswersRequest, AnswersWords, NamesPlace, Says};
 ghost use Rattle.top_status.specs.declared.status.Status.{Status as StatusValue};
 ghost use Rattle.top_texts.specs.Exact.{exact};
 
@@ -16,40 +16,51 @@ use crate::outcome::outcome_of;
 use crate::reply::{Answer, plain_answer, with_line};
 use ask_files::{first_unread, with_texts};
 use ask_words::{Request, WordsFault, read_words};
+use base_watch::Watch;
 use std::alloc::Global;
 use top_status::{Status, answer_line};
 
 // The answer to the texts of a command.
-fn answer_texts(alloc: Global, asked: Request<&[u8]>) -> Answer
+fn answer_texts<W: Watch>(alloc: Global, asked: Request<&[u8]>, watch: &mut W) -> Answer
     requires { IsInLimits (request_text asked) }
     ensures says { Says (command_of exact (request_text asked.entry)) result.status result.bytes.items }
     ensures names { NamesPlace (request_text asked.entry) result.status result.message }
 {
-    let outcome = outcome_of(alloc, asked);
+    let outcome = outcome_of(alloc, asked, watch);
     let line = answer_line(named_text(asked, &outcome.status), &outcome.status);
     with_line(outcome, line)
 }
 
 // The answer to a request over the contents of its files.
-fn answer_request(alloc: Global, request: Request<&str>, contents: &[&[u8]]) -> Answer
+fn answer_request<W: Watch>(
+    alloc: Global,
+    request: Request<&str>,
+    contents: &[&[u8]],
+    watch: &mut W,
+) -> Answer
     requires { IsInRange (request_text request) }
     ensures { AnswersRequest (command_of exact) (request_text request.entry) (texts_of contents.now) result.status result.bytes.items
         result.message }
 {
     match first_unread(alloc, request, contents) {
-        Ok(None) => answer_texts(alloc, with_texts(request, contents)),
+        Ok(None) => answer_texts(alloc, with_texts(request, contents), watch),
         Ok(Some(cause)) => plain_answer(alloc, Status::Read(cause)),
         Err(_) => plain_answer(alloc, Status::Memory),
     }
 }
 
 // The answer to words and to the contents of the files that they name.
-fn answer_words(alloc: Global, words: &[String], contents: &[&[u8]]) -> Answer
+fn answer_words<W: Watch>(
+    alloc: Global,
+    words: &[String],
+    contents: &[&[u8]],
+    watch: &mut W,
+) -> Answer
     ensures { AnswersWords (command_of exact) (map string_bytes words.now) (texts_of contents.now) result.status result.bytes.items
         result.message }
 {
     match read_words(alloc, words) {
-        Ok(request) => answer_request(alloc, request, contents),
+        Ok(request) => answer_request(alloc, request, contents, watch),
         Err(WordsFault::Usage) => plain_answer(alloc, Status::Usage),
         Err(WordsFault::NoMemory) => plain_answer(alloc, Status::Memory),
     }
@@ -65,9 +76,18 @@ fn answer_words(alloc: Global, words: &[String], contents: &[&[u8]]) -> Answer
 /// edges, and the tests; an upgrade reads no program, and has the form of the certificate alone; a proof of
 /// claims goes on from the cells with the faults of the claims, and from the rounds with the problems of the claims; a transition
 /// system has the faults of its text and of its edges, and goes on as an analysis does; equations have the faults of their text, the
-/// composition of the edges, and the rounds. `Memory` may come at any time, and takes the place of any other answer. A wide operation
-/// of an analysis or of a proof may take the place of a report and of improvements that are spent.
-pub fn answer(alloc: Global, words: &[String], contents: &[&[u8]]) -> Answer
+/// composition of the edges, and the rounds; the points of a program end with its edges. `Memory` may come at any time, and takes the
+/// place of any other answer. A wide operation of an analysis or of a proof may take the place of a report and of improvements that are
+/// spent.
+///
+/// While it works, `watch` is told of rounds, turns and pivots. No clause mentions it: what is answered is said of the words and the
+/// contents alone, and `ending_is_one` and `output_is_one`, by which there is one ending and one output, speak of no watch.
+pub fn answer<W: Watch>(
+    alloc: Global,
+    words: &[String],
+    contents: &[&[u8]],
+    watch: &mut W,
+) -> Answer
     // Sound: what is answered is so of the words and of these contents, and so is what is written. A report is
     // that of the least vector, which holds in every run of the program or along the edges of the transition system, with the number of
     // improvements by the policy. The values of equations equal their right sides, and are at most all values above the equations.
@@ -79,11 +99,11 @@ pub fn answer(alloc: Global, words: &[String], contents: &[&[u8]]) -> Answer
     // Complete: the ending that stands is answered, but for want of memory, or a wide operation that stands.
     ensures complete { (ending : StatusValue)
         → Ends (command_of ⟦<Exact as Meaning>⟧.means) (map string_bytes words.now) (texts_of contents.now) ending
-        → Answers (command_of ⟦<Exact as Meaning>⟧.means) (map string_bytes words.now) (texts_of contents.now) ending result.status }
+        → IsAnsweredBy (command_of ⟦<Exact as Meaning>⟧.means) (map string_bytes words.now) (texts_of contents.now) ending result.status }
 
     // The message names the line and the unknown of the cause.
     ensures message { IsMessage ⟦<Exact as Meaning>⟧.means (map string_bytes words.now) (texts_of contents.now) result.status
         result.message }
 {
-    answer_words(alloc, words, contents)
+    answer_words(alloc, words, contents, watch)
 }

@@ -1,6 +1,7 @@
 //! The text in which a message names a line.
 
 ghost use Rattle.std.specs.Prelude.{◌≡◌, ◌≤◌, length};
+ghost use Rattle.base_limits.specs.declared.limits.TheConstants.{MOST_TEXT_BYTES};
 ghost use Rattle.ask_words.specs.Request.{request_text};
 ghost use Rattle.top_answer.specs.Limits.{IsInLimits, named_text, text_of_proof};
 
@@ -21,7 +22,7 @@ fn text_of_proof<'a>(program: &'a [u8], claims: &'a [u8], status: &Status) -> &'
 pub(crate) fn named_text<'a>(asked: Request<&'a [u8]>, status: &Status) -> &'a [u8]
     requires { IsInLimits (request_text asked) }
     ensures text { result.now ≡ named_text (request_text asked.entry) status.now }
-    ensures short { length result.now ≤ 65536 }
+    ensures short { length result.now ≤ MOST_TEXT_BYTES }
 {
     match asked {
         Request::Analyse { analysis, .. } => analysis.program,
@@ -30,5 +31,6 @@ pub(crate) fn named_text<'a>(asked: Request<&'a [u8]>, status: &Status) -> &'a [
         Request::Prove { claims, analysis } => text_of_proof(analysis.program, claims, status),
         Request::Transitions { analysis } => analysis.program,
         Request::Equations { file, .. } => file,
+        Request::Points { program } => program,
     }
 }

@@ -1,6 +1,7 @@
 //! What the texts of a command come to: the bytes that are written, or the status of their refusal.
 
 ghost use Rattle.std.specs.Prelude.{◌≡◌, ◌≤◌, ℕ, List, [], IfOk, IfErr, length};
+ghost use Rattle.base_limits.specs.declared.limits.TheConstants.{MOST_CELLS, MOST_IMPROVEMENTS, MOST_TEXT_BYTES};
 ghost use Rattle.lang_tree.specs.Tree.{Statements};
 ghost use Rattle.flow_edges.specs.Edges.{edges_of_program};
 ghost use Rattle.flow_edges.specs.Points.{points_of_program};
@@ -11,20 +12,21 @@ ghost use Rattle.ask_words.specs.Request.{analysis_text, request_text};
 ghost use Rattle.ask_words.specs.declared.request.Request.TheVariants.{Analyse, Check};
 ghost use Rattle.top_answer.specs.Limits.{IsInLimits, IsWithin};
 ghost use Rattle.top_answer.specs.Commands.{HasRows, command_of};
-ghost use Rattle.top_answer.specs.Parted.{HasOutcome, Says};
+ghost use Rattle.top_answer.specs.Outcomes.{HasOutcome, Says};
 ghost use Rattle.top_status.specs.CheckMessages.{rows_of};
 ghost use Rattle.top_texts.specs.Checks.{HasRowCount, IsSpelt};
 ghost use Rattle.top_texts.specs.Exact.{exact};
-ghost use Rattle.top_texts.specs.Parted.{IsHalted, IsOutputOf};
+ghost use Rattle.top_texts.specs.Outcomes.{IsHalted, IsOutputOf};
 ghost use Rattle.top_texts.specs.Texts.{IsSolvedSystem};
 
 use ask_words::{Analysis, Policy, Purpose, Request};
+use base_watch::Watch;
 use flow_systems::System;
 use std::alloc::Global;
 use top_status::{Status, answer_rows};
 use top_texts::{
-    Given, Refusal, bench_text, certificate_of, equations_text, prove_text, read_given, refused,
-    report_by, report_of, system_on, transitions_text, upgrade_text,
+    Given, Refusal, bench_text, certificate_of, equations_text, points_text, prove_text,
+    read_given, refused, report_by, report_of, system_on, transitions_text, upgrade_text,
 };
 
 // What texts come to.
@@ -74,26 +76,32 @@ fn outcome_from(alloc: Global, made: Result<Vec<u8>, Refusal>, rows: usize) -> O
 }
 
 // The report of a system or its certificate.
-fn made_of(
+fn made_of<W: Watch>(
     alloc: Global,
     purpose: Purpose,
     system: &System,
     policy: Policy,
     limit: u32,
+    watch: &mut W,
 ) -> Result<Vec<u8>, Refusal>
-    requires limit { limit ≤ 1000000 }
-    requires cells { cells_of (equations_of system.now) ≤ 134217728 }
+    requires limit { limit ≤ MOST_IMPROVEMENTS }
+    requires cells { cells_of (equations_of system.now) ≤ MOST_CELLS }
     ensures ok { IfOk result (λ bytes. IsOutputOf purpose system.now policy limit bytes.items) }
     ensures err { IfErr result (λ refusal. IsHalted purpose system.now policy limit refusal) }
 {
     match purpose {
-        Purpose::Report => report_of(alloc, system, policy, limit),
-        Purpose::Certificate => certificate_of(alloc, system, policy, limit),
+        Purpose::Report => report_of(alloc, system, policy, limit, watch),
+        Purpose::Certificate => certificate_of(alloc, system, policy, limit, watch),
     }
 }
 
 // The analysis of a program.
-fn analysed(alloc: Global, purpose: Purpose, analysis: Analysis<&[u8]>) -> Outcome
+fn analysed<W: Watch>(
+    alloc: Global,
+    purpose: Purpose,
+    analysis: Analysis<&[u8]>,
+    watch: &mut W,
+) -> Outcome
     requires { IsWithin (analysis_text analysis) }
     ensures says { Says (command_of exact (Analyse purpose (analysis_text analysis.entry))) result.status result.bytes.items }
     ensures rows { (count : ℕ) → HasRows exact (Analyse purpose (analysis_text analysis.entry)) count
@@ -107,6 +115,7 @@ fn analysed(alloc: Global, purpose: Purpose, analysis: Analysis<&[u8]>) -> Outco
                 &system,
                 analysis.policy,
                 analysis.improvements,
+                watch,
             );
             outcome_from(alloc, made, system.template.as_slice().len())
         }
@@ -134,7 +143,7 @@ fn accepted(alloc: Global, given: Given) -> Outcome
 
 // The check of a certificate of a program.
 fn checked(alloc: Global, text: &[u8], certificate: &[u8]) -> Outcome
-    requires { length text.now ≤ 65536 }
+    requires { length text.now ≤ MOST_TEXT_BYTES }
     ensures says { Says (command_of exact (Check text.now certificate.now)) result.status result.bytes.items }
     ensures rows { (count : ℕ) → HasRowCount certificate.now count → result.rows ≡ rows_of count result.status }
 {
@@ -145,18 +154,22 @@ fn checked(alloc: Global, text: &[u8], certificate: &[u8]) -> Outcome
 }
 
 // What a command comes to, with its texts in place of the names of its files.
-pub(crate) fn outcome_of(alloc: Global, asked: Request<&[u8]>) -> Outcome
+pub(crate) fn outcome_of<W: Watch>(alloc: Global, asked: Request<&[u8]>, watch: &mut W) -> Outcome
     requires { IsInLimits (request_text asked) }
     ensures says { Says (command_of exact (request_text asked.entry)) result.status result.bytes.items }
     ensures rows { (count : ℕ) → HasRows exact (request_text asked.entry) count → result.rows ≡ rows_of count result.status }
 {
     match asked {
-        Request::Analyse { purpose, analysis } => analysed(alloc, purpose, analysis),
+        Request::Analyse { purpose, analysis } => analysed(alloc, purpose, analysis, watch),
         Request::Check {
             program,
             certificate,
         } => checked(alloc, program, certificate),
-        Request::Bench { seed, loops } => outcome_from(alloc, bench_text(alloc, seed, loops), 0),
+        Request::Bench { seed, loops } => outcome_from(
+            alloc,
+            bench_text(alloc, seed, loops, watch),
+            0,
+        ),
         Request::Upgrade { certificate } => outcome_from(
             alloc,
             upgrade_text(alloc, certificate),
@@ -170,6 +183,7 @@ pub(crate) fn outcome_of(alloc: Global, asked: Request<&[u8]>) -> Outcome
                 claims,
                 analysis.policy,
                 analysis.improvements,
+                watch,
             );
             outcome_from(alloc, made, 0)
         }
@@ -180,6 +194,7 @@ pub(crate) fn outcome_of(alloc: Global, asked: Request<&[u8]>) -> Outcome
                 analysis.domain,
                 analysis.policy,
                 analysis.improvements,
+                watch,
             );
             outcome_from(alloc, made, 0)
         }
@@ -187,6 +202,11 @@ pub(crate) fn outcome_of(alloc: Global, asked: Request<&[u8]>) -> Outcome
             file,
             improvements,
             policy,
-        } => outcome_from(alloc, equations_text(alloc, file, policy, improvements), 0),
+        } => outcome_from(
+            alloc,
+            equations_text(alloc, file, policy, improvements, watch),
+            0,
+        ),
+        Request::Points { program } => outcome_from(alloc, points_text(alloc, program), 0),
     }
 }

@@ -3,8 +3,8 @@ use Rattle.std.proofs.Common.{refl}
 use Rattle.ask_files.specs.Files.{Request}
 use Rattle.ask_files.specs.declared.which.ReadCause.{ReadCause}
 use Rattle.ask_words.specs.declared.request.Purpose.TheVariants.{Report, Certificate as AsCertificate}
-use Rattle.ask_words.specs.declared.request.Request.TheVariants.{Analyse, Check, Bench, Upgrade, Prove, Transitions, Equations}
-use Rattle.top_answer.specs.Commands.{CheckEnds, UpgradeEnds, command_of}
+use Rattle.ask_words.specs.declared.request.Request.TheVariants.{Analyse, Check, Bench, Upgrade, Prove, Transitions, Equations, Points}
+use Rattle.top_answer.specs.Commands.{CheckEnds, PointsEnd, UpgradeEnds, command_of}
 use Rattle.top_answer.specs.Commands as commands
 use Rattle.top_status.specs.declared.status.Status.TheVariants.{Read, Write}
 use Rattle.top_run.specs.Programs.{EndsInside, IsPlain}
@@ -42,6 +42,14 @@ upgrade_reads : (m : Meanings) (bytes : _) (read : ReadCause) → UpgradeEnds m 
 upgrade_reads m bytes read (commands.form_refused fault e h) = cc
 upgrade_reads m bytes read (commands.rewritten written e h) = cc
 
+points_writes : (text : _) → PointsEnd text Write → ⊥
+points_writes text (commands.text_refused cause e h) = cc
+points_writes text (commands.listed names body e h) = cc
+
+points_reads : (text : _) (read : ReadCause) → PointsEnd text (Read read) → ⊥
+points_reads text read (commands.text_refused cause e h) = cc
+points_reads text read (commands.listed names body e h) = cc
+
 module _ (m : Meanings) where
   command_writes : (asked : Request) → (command_of m asked).ends Write → ⊥
   command_writes (Analyse Report a) h = question_writes _ h
@@ -52,6 +60,7 @@ module _ (m : Meanings) where
   command_writes (Prove given a) h = question_writes _ h
   command_writes (Transitions a) h = question_writes _ h
   command_writes (Equations text limit policy) h = question_writes _ h
+  command_writes (Points text) h = points_writes text h
 
   command_reads : (asked : Request) (cause : ReadCause) → (command_of m asked).ends (Read cause) → ⊥
   command_reads (Analyse Report a) cause h = question_reads _ cause h
@@ -62,6 +71,7 @@ module _ (m : Meanings) where
   command_reads (Prove given a) cause h = question_reads _ cause h
   command_reads (Transitions a) cause h = question_reads _ cause h
   command_reads (Equations text limit policy) cause h = question_reads _ cause h
+  command_reads (Points text) cause h = points_reads text cause h
 
   -- the commands of the program end so
   pub inside : EndsInside (command_of m)

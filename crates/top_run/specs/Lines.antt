@@ -4,7 +4,7 @@ use Rattle.base_files.specs.Puts.{as_pieces}
 use Rattle.ask_files.specs.Files.{Request}
 use Rattle.ask_words.specs.declared.request.Purpose.{Purpose}
 use Rattle.ask_words.specs.declared.request.Purpose.TheVariants.{Report, Certificate as AsCertificate}
-use Rattle.ask_words.specs.declared.request.Request.TheVariants.{Analyse, Check, Bench, Upgrade, Prove, Transitions, Equations}
+use Rattle.ask_words.specs.declared.request.Request.TheVariants.{Analyse, Check, Bench, Upgrade, Prove, Transitions, Equations, Points}
 use Rattle.top_run.specs.declared.output.Pieces.{Pieces}
 use Rattle.top_run.specs.declared.output.Pieces.TheVariants.{Lines, Whole}
 
@@ -37,3 +37,4 @@ pieces_of (Upgrade certificate) = Whole
 pieces_of (Prove claims analysis) = Lines
 pieces_of (Transitions analysis) = Lines
 pieces_of (Equations file improvements policy) = Lines
+pieces_of (Points program) = Lines

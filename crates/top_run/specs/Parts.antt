@@ -8,7 +8,7 @@ use Rattle.base_files.specs.Faults.{Rose}
 use Rattle.base_files.specs.Loads.{LoadedFile}
 use Rattle.base_files.specs.Puts.{AddsPieces, Put}
 use Rattle.base_files.specs.declared.sink.PutFault.TheVariants.{Failed, NoMemory}
-use Rattle.top_answer.specs.Answers.{Answers, Ends, Holds, IsAnswer, IsMessage, IsOutput}
+use Rattle.top_answer.specs.Answers.{IsAnsweredBy, Ends, Holds, IsAnswer, IsMessage, IsOutput}
 use Rattle.top_answer.specs.Commands.{Commands}
 use Rattle.top_run.specs.Lines.{cut_by}
 use Rattle.top_run.specs.Loading.{IsLoading}
@@ -24,7 +24,7 @@ pub record IsAnswerTo (commands : Commands) (m : Meanings) (words contents : Lis
     Type 0 where
   pub answer : IsAnswer commands words contents status
   pub output : Holds (IsOutput commands words contents) status bytes
-  pub complete : (ending : Status) → Ends commands words contents ending → Answers commands words contents ending status
+  pub complete : (ending : Status) → Ends commands words contents ending → IsAnsweredBy commands words contents ending status
   pub names : IsMessage m words contents status message
 
 -- the files of a request were loaded, up to the first that isn't read; where memory was wanted before, nothing was loaded

@@ -4,7 +4,7 @@ use Rattle.ask_files.specs.Loads.{contents_of}
 use Rattle.ask_files.specs.declared.which.ReadCause.TheVariants.{Failed}
 use Rattle.ask_files.specs.declared.which.Which.{Which}
 use Rattle.base_files.specs.Loads.{LoadedFile}
-use Rattle.top_answer.specs.Answers.{Answers, Ends, IsAnswer, IsMessage, IsOutput}
+use Rattle.top_answer.specs.Answers.{IsAnsweredBy, Ends, IsAnswer, IsMessage, IsOutput}
 use Rattle.top_answer.specs.Commands.{Commands}
 use Rattle.top_run.specs.Loading.{HasFailed, IsLoading}
 use Rattle.top_run.specs.Messages.{GetsMessage, IsInOnePiece}
@@ -21,7 +21,7 @@ pub data IsEnding (commands : Commands) (words contents : List (List ℕ)) (stat
 
 -- the ending that stands is given, or an answer in its place; or the output failed where the run would be done
 pub data IsGiven (commands : Commands) (words contents : List (List ℕ)) (ending status : Status) : Type 0 where
-  answered : Answers commands words contents ending status → IsGiven commands words contents ending status
+  answered : IsAnsweredBy commands words contents ending status → IsGiven commands words contents ending status
   unwritten : status ≡ Write → ending ≡ Done → IsGiven commands words contents ending status
 
 -- this is so where an ending stands: it is given, and where it is a refusal, the output is as it was

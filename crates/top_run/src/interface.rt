@@ -2,12 +2,13 @@
 
 ghost use Rattle.std.specs.Prelude.{List, ℕ, map, string_bytes};
 ghost use Rattle.ask_files.specs.Asked.{texts_of};
-ghost use Rattle.top_answer.specs.Answers.{Answers, Ends, Holds, IsAnswer, IsMessage, IsOutput};
+ghost use Rattle.top_answer.specs.Answers.{IsAnsweredBy, Ends, Holds, IsAnswer, IsMessage, IsOutput};
 ghost use Rattle.top_answer.specs.Commands.{Commands};
 ghost use Rattle.top_run.specs.Programs.{EndsInside, IsPlain};
 ghost use Rattle.top_status.specs.declared.status.Status.{Status as StatusValue};
 ghost use Rattle.top_texts.specs.Meanings.{Meanings};
 
+use base_watch::Watch;
 use std::alloc::Global;
 use top_answer::{Answer, answer};
 
@@ -22,13 +23,19 @@ pub trait Program {
     /// The words that it may be asked with.
     ghost takes: { List (List ℕ) → Type 0 };
 
-    /// The answer to words and to contents in the order of `ask_files::files_of`, as `top_answer::answer` promises it.
-    fn answer(alloc: Global, words: &[String], contents: &[&[u8]]) -> Answer
+    /// The answer to words and to contents in the order of `ask_files::files_of`, as `top_answer::answer` promises it, whatever
+    /// watch is told.
+    fn answer<W: Watch>(
+        alloc: Global,
+        words: &[String],
+        contents: &[&[u8]],
+        watch: &mut W,
+    ) -> Answer
         requires { takes (map string_bytes words.now) }
         ensures answer { IsAnswer commands (map string_bytes words.now) (texts_of contents.now) result.status }
         ensures output { Holds (IsOutput commands (map string_bytes words.now) (texts_of contents.now)) result.status result.bytes.items }
         ensures complete { (ending : StatusValue) → Ends commands (map string_bytes words.now) (texts_of contents.now) ending
-            → Answers commands (map string_bytes words.now) (texts_of contents.now) ending result.status }
+            → IsAnsweredBy commands (map string_bytes words.now) (texts_of contents.now) ending result.status }
         ensures message { IsMessage means (map string_bytes words.now) (texts_of contents.now) result.status result.message };
 
     /// No command ends in a read or in a put that failed.
@@ -58,7 +65,12 @@ impl Program for Tmpl {
 
     ghost plain = { plainly };
 
-    fn answer(alloc: Global, words: &[String], contents: &[&[u8]]) -> Answer {
-        answer(alloc, words, contents)
+    fn answer<W: Watch>(
+        alloc: Global,
+        words: &[String],
+        contents: &[&[u8]],
+        watch: &mut W,
+    ) -> Answer {
+        answer(alloc, words, contents, watch)
     }
 }

@@ -12,6 +12,7 @@ use crate::interface::Program;
 use ask_files::{load_files, request_files};
 use ask_words::{Request, WordsFault};
 use base_files::{Load, Shelf};
+use base_watch::Unwatched;
 use std::alloc::{AllocError, Global};
 use top_answer::{Answer, plain_answer};
 use top_status::Status;
@@ -43,7 +44,7 @@ fn answer_loads<P: Program>(alloc: Global, words: &[String], loads: &[Load]) -> 
         (contents_of (loaded_files loads.now)) result.status result.bytes.items result.message }
 {
     match contents_of(alloc, loads) {
-        Ok(contents) => P::answer(alloc, words, &contents),
+        Ok(contents) => P::answer(alloc, words, &contents, &mut Unwatched),
         Err(_) => answer_memory::<P>(alloc, words, loads),
     }
 }
@@ -96,7 +97,7 @@ pub(crate) fn answer_unasked<P: Program>(
         result.status result.bytes.items result.message }
 {
     match fault {
-        WordsFault::Usage => P::answer(alloc, words, &[]),
+        WordsFault::Usage => P::answer(alloc, words, &[], &mut Unwatched),
         WordsFault::NoMemory => plain_answer(alloc, Status::Memory),
     }
 }

@@ -2,7 +2,7 @@
 
 ghost use Rattle.std.specs.Prelude.{◌≡◌, Some, map, string_bytes};
 ghost use Rattle.base_files.specs.Files.{Contents};
-ghost use Rattle.top_answer.specs.Answers.{Answers, Ends, IsAnswer, IsOutput};
+ghost use Rattle.top_answer.specs.Answers.{IsAnsweredBy, Ends, IsAnswer, IsOutput};
 ghost use Rattle.top_answer.specs.Commands.{command_of};
 ghost use Rattle.top_run.specs.Memory.{InMemory, contents_for};
 ghost use Rattle.top_status.specs.declared.status.Status.{Status as StatusValue};
@@ -34,7 +34,8 @@ pub fn run_in_memory<L: Sink>(
     // Complete: the ending that stands is answered, but for want of memory, or a wide operation that stands.
     ensures complete { (files : Contents) (ending : StatusValue) → ⟦<PlainShelf as Shelf>⟧.files shelf.old ≡ Some files
         → Ends (command_of ⟦<Exact as Meaning>⟧.means) (map string_bytes words.now) (contents_for files (map string_bytes words.now)) ending
-        → Answers (command_of ⟦<Exact as Meaning>⟧.means) (map string_bytes words.now) (contents_for files (map string_bytes words.now))
+        → IsAnsweredBy (command_of ⟦<Exact as Meaning>⟧.means) (map string_bytes words.now)
+        (contents_for files (map string_bytes words.now))
         ending result }
 {
     run(alloc, words, shelf, out, err)

@@ -42,7 +42,8 @@ pub(crate) fn pieces_of(request: Request<&str>) -> Pieces
         | Request::Bench { .. }
         | Request::Prove { .. }
         | Request::Transitions { .. }
-        | Request::Equations { .. } => Pieces::Lines,
+        | Request::Equations { .. }
+        | Request::Points { .. } => Pieces::Lines,
     }
 }
 

@@ -9,7 +9,7 @@ use Rattle.ask_words.specs.declared.request.Purpose.TheVariants.{Report}
 use Rattle.top_status.specs.CheckMessages.{rows_of}
 use Rattle.top_texts.specs.Exact.{exact}
 use Rattle.top_status.specs.Messages.{line_in}
-use Rattle.top_texts.specs.Parted.{IsAnswerToSystem, QuestionAnswer}
+use Rattle.top_texts.specs.Outcomes.{IsAnswerToSystem, QuestionAnswer}
 use Rattle.top_texts.specs.Questions.{analysis_question}
 use Rattle.top_texts.specs.Rounds.{HasRounds}
 use Rattle.top_texts.specs.Texts.{IsSolvedSystem}

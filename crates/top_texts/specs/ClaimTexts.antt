@@ -45,8 +45,7 @@ AreNoClaims text rows given (Cells count) = IsRefused text rows (Cells count)
 AreNoClaims text rows given (Claims fault) =
     (names : List (List ℕ)) × (body : Statements) × (template : List (List ℤ)) × IsReady text rows names body template
     × FileMeans given names (points_of_program body) (Err fault)
-AreNoClaims text rows given (Equ fault) = ⊥
-AreNoClaims text rows given (Auto fault) = ⊥
+AreNoClaims text rows given _ = ⊥
 
 -- a text states these claims over a program's variables and points: each condition is decided, and comes with the cases in which it may be
 -- false

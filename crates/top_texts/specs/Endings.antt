@@ -11,25 +11,12 @@ use Rattle.top_status.specs.declared.status.Status.TheVariants.{Done, Certificat
 abbrev pub CheckEnd : List ℕ → List ℕ → Status → Type 0
 CheckEnd text bytes Done = IsAccepted text bytes
 CheckEnd text bytes (Certificate cause) = IsRefusedCertificate text bytes cause
-CheckEnd text bytes Usage = ⊥
-CheckEnd text bytes (Read cause) = ⊥
 CheckEnd text bytes (Text cause) = IsRefusedProgram text cause
 CheckEnd text bytes (Wide spot) = IsWideAt text bytes spot
-CheckEnd text bytes (Spent number) = ⊥
-CheckEnd text bytes Memory = ⊥
-CheckEnd text bytes Write = ⊥
+CheckEnd text bytes _ = ⊥
 
 -- this is the ending that the bytes of a certificate have which are upgraded
 abbrev pub UpgradeEnd : List ℕ → Status → Type 0
 UpgradeEnd bytes Done = (written : List ℕ) × IsUpgradeOf bytes written
 UpgradeEnd bytes (Certificate (Form fault)) = IsFormFault bytes fault
-UpgradeEnd bytes (Certificate (Rows fault)) = ⊥
-UpgradeEnd bytes (Certificate (Unknowns count)) = ⊥
-UpgradeEnd bytes (Certificate (CheckCause fault)) = ⊥
-UpgradeEnd bytes Usage = ⊥
-UpgradeEnd bytes (Read cause) = ⊥
-UpgradeEnd bytes (Text cause) = ⊥
-UpgradeEnd bytes (Wide spot) = ⊥
-UpgradeEnd bytes (Spent number) = ⊥
-UpgradeEnd bytes Memory = ⊥
-UpgradeEnd bytes Write = ⊥
+UpgradeEnd bytes _ = ⊥

@@ -23,15 +23,8 @@ pub record IsEquationSystem (text : List ℕ) (system : System) : Type 0 where
 
 -- the text is refused by this cause
 abbrev pub IsNoEquations : List ℕ → TextCause → Type 0
-IsNoEquations text (Lex fault) = ⊥
-IsNoEquations text (Parse fault) = ⊥
-IsNoEquations text (Flow fault) = ⊥
-IsNoEquations text (Rows fault) = ⊥
-IsNoEquations text (Unknowns count) = ⊥
-IsNoEquations text (Cells count) = ⊥
-IsNoEquations text (Claims fault) = ⊥
 IsNoEquations text (Equ fault) = Answers text (Err fault)
-IsNoEquations text (Auto fault) = ⊥
+IsNoEquations text _ = ⊥
 
 -- so many improvements by the policy are made over the system of equations
 abbrev pub HasImprovements : List Equation → Policy → ℕ → Type 0

@@ -7,6 +7,7 @@ pub mod Upgrades
 pub mod Meanings
 pub mod ClaimTexts
 pub mod EquationTexts
+pub mod PointTexts
 pub mod TransitionTexts
 pub mod Generated
 pub mod Questions
@@ -16,5 +17,5 @@ pub mod MadeCertificates
 pub mod Exact
 pub mod Reports
 pub mod Endings
-pub mod Parted
+pub mod Outcomes
 pub mod Analyses

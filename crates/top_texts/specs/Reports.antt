@@ -8,23 +8,25 @@ use Rattle.flow_systems.specs.Equations.{Least, Vector}
 use Rattle.flow_systems.specs.Solutions.{equations_of_program}
 use Rattle.theory_validity.specs.Certificates.{bounds_vector}
 use Rattle.cert_types.specs.declared.cert.Cert.{Cert}
-use Rattle.out_workload.specs.Bodies.{generated_body, generated_names}
+use Rattle.out_workload.specs.Bodies.{generated_body}
 use Rattle.out_workload.specs.Summaries.{summary_of}
 use Rattle.out_workload.specs.Texts.{generated_text}
 use Rattle.ask_words.specs.declared.request.Domain.{Domain}
 use Rattle.ask_words.specs.declared.request.Policy.{Policy}
 use Rattle.ask_words.specs.declared.request.Policy.TheVariants.{Best}
 use Rattle.top_texts.specs.Checks.{IsValidFor, NoneIsWide, system_with, theirs}
+use Rattle.top_texts.specs.Generated.{IsGenerated}
 pub use Rattle.top_texts.specs.LeastReports.{IsLeastReport, IsReportOf}
 pub use Rattle.top_texts.specs.MadeCertificates.{IsCertificateOf}
-use Rattle.top_texts.specs.Rounds.{HasRounds, IsSystemFor}
+use Rattle.top_texts.specs.Rounds.{HasRounds}
 use Rattle.ask_words.specs.declared.request.Purpose.{Purpose}
 use Rattle.ask_words.specs.declared.request.Purpose.TheVariants.{Report, Certificate}
 
--- the bytes are the summary of a generated program: of its least vector over intervals, with the number of improvements by `best`
+-- the bytes are the summary of a generated program, whose text means it: of its least vector over intervals, with the number of
+-- improvements by `best`
 pub record IsSummaryOf (seed loops : ℕ) (bytes : List ℕ) : Type 0 where
   pub system : System
-  pub system_for : IsSystemFor generated_names (generated_body seed loops) (intervals_of 3) system
+  pub generated : IsGenerated seed loops system
   pub rounds : ℕ
   pub within : rounds ≤ 1000
   pub vector : Vector

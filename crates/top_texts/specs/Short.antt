@@ -1,11 +1,12 @@
 -- How long texts may be.
 use Rattle.std.specs.Prelude.{◌≤◌, ℕ, List, length}
+use Rattle.base_limits.specs.declared.limits.TheConstants.{MOST_TEXT_BYTES}
 use Rattle.ask_words.specs.declared.request.Domain.{Domain}
 use Rattle.ask_words.specs.declared.request.Domain.TheVariants.{Intervals, Zones, Octagons, Rows}
 
 -- a text of at most 65,536 bytes
 abbrev pub IsShort : List ℕ → Type 0
-IsShort text = length text ≤ 65536
+IsShort text = length text ≤ MOST_TEXT_BYTES
 
 -- the text of its rows is short
 abbrev pub HasShortRows : Domain (List ℕ) → Type 0

@@ -1,6 +1,7 @@
 -- What texts are: a system to be solved, or refused by a cause. Tokens come first, then the program, its points and edges, the template,
 -- and the unknowns.
 use Rattle.std.specs.Prelude.{◌≡◌, ◌*◌, ◌≤◌, ◌<◌, ℕ, ℤ, List, Result, Ok, Err, Some, None, length}
+use Rattle.base_limits.specs.declared.limits.TheConstants.{MOST_CELLS}
 use Rattle.lang_tokens.specs.declared.token.Token.{Token}
 use Rattle.lang_tokens.specs.Reading.{Reads}
 use Rattle.lang_tokens.specs.Faults.{HasFault}
@@ -58,7 +59,7 @@ pub record IsReady (text : List ℕ) (rows : Domain (List ℕ)) (names : List (L
     Type 0 where
   pub system : IsSystemOf text rows names body template
   pub within : unknowns body template ≤ MOST_UNKNOWNS
-  pub cells_within : cells names body template ≤ 134217728
+  pub cells_within : cells names body template ≤ MOST_CELLS
 
 -- the system of these texts, which is solved
 pub record IsSolvedSystem (text : List ℕ) (rows : Domain (List ℕ)) (system : System) : Type 0 where
@@ -74,12 +75,7 @@ IsRefusedProgram text (Lex fault) = HasFault text fault
 IsRefusedProgram text (Parse fault) = Reading text (Err fault)
 IsRefusedProgram text (Flow fault) =
     (names : List (List ℕ)) × (body : Statements) × Reading text (Ok (names, body)) × (fault_of_program body ≡ Some fault)
-IsRefusedProgram text (Rows fault) = ⊥
-IsRefusedProgram text (Unknowns count) = ⊥
-IsRefusedProgram text (Cells count) = ⊥
-IsRefusedProgram text (Claims fault) = ⊥
-IsRefusedProgram text (Equ fault) = ⊥
-IsRefusedProgram text (Auto fault) = ⊥
+IsRefusedProgram text _ = ⊥
 
 -- the texts are refused by this cause
 abbrev pub IsRefused : List ℕ → Domain (List ℕ) → TextCause → Type 0
@@ -93,10 +89,8 @@ IsRefused text rows (Unknowns count) =
     × (MOST_UNKNOWNS < unknowns body template) × (count ≡ unknowns body template)
 IsRefused text rows (Cells count) =
     (names : List (List ℕ)) × (body : Statements) × (template : List (List ℤ)) × IsSystemOf text rows names body template
-    × (unknowns body template ≤ MOST_UNKNOWNS) × (134217728 < cells names body template) × (count ≡ cells names body template)
-IsRefused text rows (Claims fault) = ⊥
-IsRefused text rows (Equ fault) = ⊥
-IsRefused text rows (Auto fault) = ⊥
+    × (unknowns body template ≤ MOST_UNKNOWNS) × (MOST_CELLS < cells names body template) × (count ≡ cells names body template)
+IsRefused text rows _ = ⊥
 
 -- the texts are a system whose rounds end within the limit
 abbrev pub IsSolvable : List ℕ → Domain (List ℕ) → Policy → ℕ → Type 0

@@ -1,8 +1,9 @@
 -- What texts of transition systems are, and what is written of them.
 use Rattle.std.specs.Prelude.{◌≡◌, ◌⊎◌, ◌*◌, ◌≤◌, ◌<◌, ℕ, ℤ, List, Ok, Err, Some, None, length}
+use Rattle.base_limits.specs.declared.limits.TheConstants.{MOST_CELLS}
 use Rattle.flow_transitions.specs.declared.auto.Auto.{Auto}
 use Rattle.flow_transitions.specs.AutoFaults.{fault_of}
-use Rattle.flow_transitions.specs.AutoLaws.{HoldsAlong, equations_of_auto}
+use Rattle.flow_transitions.specs.AutoSystem.{HoldsAlong, equations_of_auto}
 use Rattle.flow_transitions.specs.AutoTexts.{IsAuto, content}
 use Rattle.flow_transitions.specs.Choices.{edges_of}
 use Rattle.flow_systems.specs.declared.footer.Footer.TheVariants.{Improvements}
@@ -34,7 +35,7 @@ pub record IsTransitionSystem (text : List ℕ) (rows : Domain (List ℕ)) (syst
   pub template : List (List ℤ)
   pub over : IsAutoOver text rows auto template
   pub within : length auto.points * length template ≤ MOST_UNKNOWNS
-  pub cells_within : cells_of (equations_of_auto auto template) ≤ 134217728
+  pub cells_within : cells_of (equations_of_auto auto template) ≤ MOST_CELLS
   pub names_are : system.flow.names ≡ auto.names
   pub points_are : system.flow.points ≡ auto.points
   pub edges_are : system.flow.edges ≡ edges_of (length auto.points) auto.edges
@@ -42,9 +43,6 @@ pub record IsTransitionSystem (text : List ℕ) (rows : Domain (List ℕ)) (syst
 
 -- the texts are refused by this cause
 abbrev pub AreNoTransitions : List ℕ → Domain (List ℕ) → TextCause → Type 0
-AreNoTransitions text rows (Lex fault) = ⊥
-AreNoTransitions text rows (Parse fault) = ⊥
-AreNoTransitions text rows (Flow fault) = ⊥
 AreNoTransitions text rows (AutoCause fault) =
     IsAuto text (Err fault) ⊎ ((auto : Auto) × IsAuto text (Ok (content auto)) × (fault_of (length auto.points) auto.edges ≡ Some fault))
 AreNoTransitions text rows (Rows fault) = (auto : Auto) × IsAutoText text auto × HasTemplate rows auto.names (Err fault)
@@ -53,10 +51,9 @@ AreNoTransitions text rows (Unknowns count) =
     × (MOST_UNKNOWNS < length auto.points * length template) × (count ≡ length auto.points * length template)
 AreNoTransitions text rows (Cells count) =
     (auto : Auto) × (template : List (List ℤ)) × IsAutoOver text rows auto template
-    × (length auto.points * length template ≤ MOST_UNKNOWNS) × (134217728 < cells_of (equations_of_auto auto template))
+    × (length auto.points * length template ≤ MOST_UNKNOWNS) × (MOST_CELLS < cells_of (equations_of_auto auto template))
     × (count ≡ cells_of (equations_of_auto auto template))
-AreNoTransitions text rows (Claims fault) = ⊥
-AreNoTransitions text rows (Equ fault) = ⊥
+AreNoTransitions text rows _ = ⊥
 
 -- the bytes are the report of the least vector of the system of these texts, which holds at every configuration of every run along the
 -- edges of the text,

@@ -2,7 +2,7 @@
 
 ghost use Rattle.std.specs.Prelude.{◌≤◌, ◌<◌, IfOk, IfErr};
 ghost use Rattle.top_texts.specs.Exact.{exact};
-ghost use Rattle.top_texts.specs.Parted.{IsUnanswered};
+ghost use Rattle.top_texts.specs.Outcomes.{IsUnanswered};
 ghost use Rattle.top_texts.specs.Questions.{bench_question};
 ghost use Rattle.top_texts.specs.Reports.{IsSummaryOf};
 
@@ -10,6 +10,7 @@ use crate::analyse::rounds::solve;
 use crate::analyse::system::system_on;
 use crate::refusal::Refusal;
 use ask_words::{Domain, Policy};
+use base_watch::Watch;
 use out_workload::{generate, generated_texts_read, summary};
 use std::alloc::Global;
 
@@ -21,7 +22,12 @@ const MOST_IMPROVEMENTS: u32 = 1000;
 /// # Errors
 ///
 /// 1,000 improvements by `best` that are spent, a wide operation, or want of memory.
-pub fn bench_text(alloc: Global, seed: u32, loops: u32) -> Result<Vec<u8>, Refusal>
+pub fn bench_text<W: Watch>(
+    alloc: Global,
+    seed: u32,
+    loops: u32,
+    watch: &mut W,
+) -> Result<Vec<u8>, Refusal>
     requires seed { seed < 2147483648 }
     requires some { 1 ≤ loops }
     requires few { loops ≤ 46 }
@@ -31,7 +37,7 @@ pub fn bench_text(alloc: Global, seed: u32, loops: u32) -> Result<Vec<u8>, Refus
     generated_texts_read();
     let text = generate(alloc, seed, loops)?;
     let system = system_on(alloc, &text, Domain::Intervals)?;
-    let solved = solve(alloc, &system, Policy::Best, MOST_IMPROVEMENTS)?;
+    let solved = solve(alloc, &system, Policy::Best, MOST_IMPROVEMENTS, watch)?;
     Ok(summary(
         alloc,
         seed,

@@ -1,6 +1,7 @@
 //! The values of a text's equations.
 
 ghost use Rattle.std.specs.Prelude.{◌≡◌, ◌≢◌, ◌*◌, ◌+◌, ◌≤◌, ℕ, List, IfOk, IfErr, IsTrue, Ok, Err, length, take};
+ghost use Rattle.base_limits.specs.declared.limits.TheConstants.{MOST_IMPROVEMENTS, MOST_TEXT_BYTES};
 ghost use Rattle.flow_systems.specs.declared.footer.Footer.TheVariants.{Improvements};
 ghost use Rattle.flow_systems.specs.View.{vector_of};
 ghost use Rattle.flow_rationals.specs.EquationTexts.{Answers};
@@ -9,12 +10,13 @@ ghost use Rattle.out_report.specs.Values.{values_text};
 ghost use Rattle.ask_words.specs.declared.request.Policy.{Policy as PolicyValue};
 ghost use Rattle.top_texts.specs.EquationTexts.{AreValuesOf};
 ghost use Rattle.top_texts.specs.Exact.{exact};
-ghost use Rattle.top_texts.specs.Parted.{IsUnanswered};
+ghost use Rattle.top_texts.specs.Outcomes.{IsUnanswered};
 ghost use Rattle.top_texts.specs.Questions.{equations_question};
 
 use crate::analyse::rounds::solve;
 use crate::refusal::Refusal;
 use ask_words::Policy;
+use base_watch::Watch;
 use flow_rationals::{
     EquFault, Equations, least_above_equal_right_sides, least_vectors_are_least_above, read, system,
 };
@@ -36,7 +38,7 @@ fn equation_refusal(fault: EquFault) -> Refusal
 
 // The equations that the text reads as.
 fn equations_of(alloc: Global, text: &[u8]) -> Result<Equations, Refusal>
-    requires { length text.now ≤ 65536 }
+    requires { length text.now ≤ MOST_TEXT_BYTES }
     ensures ok { IfOk result (λ equations. Answers text.now (Ok equations)) }
     ensures within { IfOk result (λ equations. IsTrue (are_equations equations)) }
     ensures err { IfErr result (λ refusal. (policy : PolicyValue) (limit : ℕ)
@@ -71,14 +73,15 @@ fn lines_of(
 /// # Errors
 ///
 /// The first cause that stands: a fault of the text, or improvements that are spent; or a wide operation, or want of memory.
-pub fn equations_text(
+pub fn equations_text<W: Watch>(
     alloc: Global,
     text: &[u8],
     policy: Policy,
     limit: u32,
+    watch: &mut W,
 ) -> Result<Vec<u8>, Refusal>
-    requires short { length text.now ≤ 65536 }
-    requires limit { limit ≤ 1000000 }
+    requires short { length text.now ≤ MOST_TEXT_BYTES }
+    requires limit { limit ≤ MOST_IMPROVEMENTS }
     ensures ok { IfOk result (λ bytes. AreValuesOf text.now policy limit bytes.items) }
     ensures err { IfErr result (λ refusal. IsUnanswered (equations_question exact text.now policy limit) refusal) }
 {
@@ -86,6 +89,6 @@ pub fn equations_text(
     least_above_equal_right_sides();
     let equations = equations_of(alloc, text)?;
     let system = system(alloc, &equations)?;
-    let solved = solve(alloc, &system, policy, limit)?;
+    let solved = solve(alloc, &system, policy, limit, watch)?;
     Ok(lines_of(alloc, &system, &solved.bounds, solved.improvements)?)
 }

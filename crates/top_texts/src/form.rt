@@ -3,7 +3,7 @@
 ghost use Rattle.std.specs.Prelude.{◌≡◌, ◌≢◌, ℕ, List, IfOk, IfErr};
 ghost use Rattle.cert_text.specs.Certificates.{IsWritable, SpellsCert};
 ghost use Rattle.top_texts.specs.Checks.{IsFormFault};
-ghost use Rattle.top_texts.specs.Parted.{IsMisspelt};
+ghost use Rattle.top_texts.specs.Outcomes.{IsMisspelt};
 
 use crate::refusal::Refusal;
 use cert_text::{FormFault, read};

@@ -7,6 +7,7 @@ mod bench;
 mod check;
 mod equations;
 mod form;
+mod points;
 mod program;
 mod prove;
 mod refusal;
@@ -16,6 +17,7 @@ mod upgrade;
 // One call for each command that is asked of texts alone.
 pub use bench::bench_text;
 pub use equations::equations_text;
+pub use points::points_text;
 pub use prove::prove_text;
 pub use transitions::transitions_text;
 pub use upgrade::upgrade_text;

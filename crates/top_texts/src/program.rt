@@ -1,13 +1,14 @@
 //! From the text of a program to its points and edges, or the cause for which it is refused.
 
 ghost use Rattle.std.specs.Prelude.{◌≡◌, ◌≤◌, ◌⊎◌, ℕ, List, IfOk, IfErr, Ok, Err, None, Some, length};
+ghost use Rattle.base_limits.specs.declared.limits.TheConstants.{MOST_TEXT_BYTES};
 ghost use Rattle.lang_tokens.specs.Faults.{HasFault};
 ghost use Rattle.lang_meaning.specs.Meaning.{Answer};
 ghost use Rattle.lang_tree.specs.Tree.{Statements};
 ghost use Rattle.flow_edges.specs.Edges.{edges_of_program};
 ghost use Rattle.flow_edges.specs.Faults.{fault_of_program};
 ghost use Rattle.flow_edges.specs.Points.{points_of_program};
-ghost use Rattle.top_texts.specs.Parted.{IsUnread};
+ghost use Rattle.top_texts.specs.Outcomes.{IsUnread};
 ghost use Rattle.top_texts.specs.Texts.{Reading};
 
 use crate::refusal::Refusal;
@@ -52,7 +53,7 @@ fn flow_refusal(fault: FlowFault) -> Refusal
 
 // The program that the text reads as.
 pub(crate) fn program_of(alloc: Global, text: &[u8]) -> Result<Program, Refusal>
-    requires { length text.now ≤ 65536 }
+    requires { length text.now ≤ MOST_TEXT_BYTES }
     ensures ok { IfOk result (λ program. Reading text.now (Ok (program.names, program.body))) }
     ensures err { IfErr result (λ refusal. IsUnread text.now refusal) }
 {

@@ -2,6 +2,7 @@
 
 ghost use Rattle.std.specs.Prelude.{◌≡◌, ◌≢◌, ◌≤◌, ℕ, List, IfOk, IfErr, Err, length};
 ghost use Rattle.std.specs.List.{All};
+ghost use Rattle.base_limits.specs.declared.limits.TheConstants.{MOST_IMPROVEMENTS, MOST_TEXT_BYTES};
 ghost use Rattle.flow_systems.specs.Equations.{Equations, Vector};
 ghost use Rattle.flow_systems.specs.View.{equations_of, vector_at, IsVectorOf};
 ghost use Rattle.flow_systems.specs.declared.system.System.{System as SystemValue};
@@ -14,7 +15,7 @@ ghost use Rattle.top_texts.specs.ClaimTexts.{AreClaimsOf, AreVerdictsOf};
 ghost use Rattle.top_texts.specs.Exact.{exact};
 ghost use Rattle.top_texts.specs.Short.{HasShortRows};
 ghost use Rattle.ask_words.specs.Request.{domain_text};
-ghost use Rattle.top_texts.specs.Parted.{AreUnjudged, IsUnanswered};
+ghost use Rattle.top_texts.specs.Outcomes.{AreUnjudged, IsUnanswered};
 ghost use Rattle.top_texts.specs.Questions.{claims_question};
 ghost use Rattle.top_texts.specs.Texts.{IsSolvedSystem};
 
@@ -26,6 +27,7 @@ use ask_claims::{
     verdicts, verdicts_text,
 };
 use ask_words::{Domain, Policy};
+use base_watch::Watch;
 use flow_systems::{Bounds, Site, Spot, System};
 use std::alloc::Global;
 use top_status::TextCause;
@@ -45,7 +47,7 @@ fn claim_refusal(fault: ClaimFault) -> Refusal
 
 // The claims that a text states over a system's names and points.
 fn claims_of(alloc: Global, given: &[u8], system: &System) -> Result<Vec<Claim>, Refusal>
-    requires { length given.now ≤ 65536 }
+    requires { length given.now ≤ MOST_TEXT_BYTES }
     ensures ok { IfOk result (λ claims. AreClaimsOf given.now system.now.flow.names system.now.flow.points claims.items) }
     ensures err { IfErr result (λ refusal. (text : List ℕ) (rows : DomainValue (List ℕ)) (policy : PolicyValue) (limit : ℕ)
         → IsSolvedSystem text rows system.now → IsUnanswered (claims_question exact text rows given.now policy limit) refusal) }
@@ -101,18 +103,19 @@ fn verdicts_at(
 ///
 /// The first cause that stands: one of the analysis, a fault of the claims, or improvements that are spent; or a wide operation,
 /// or want of memory.
-pub fn prove_text(
+pub fn prove_text<W: Watch>(
     alloc: Global,
     text: &[u8],
     rows: Domain<&[u8]>,
     given: &[u8],
     policy: Policy,
     limit: u32,
+    watch: &mut W,
 ) -> Result<Vec<u8>, Refusal>
-    requires short { length text.now ≤ 65536 }
+    requires short { length text.now ≤ MOST_TEXT_BYTES }
     requires short_rows { HasShortRows (domain_text rows) }
-    requires short_claims { length given.now ≤ 65536 }
-    requires limit { limit ≤ 1000000 }
+    requires short_claims { length given.now ≤ MOST_TEXT_BYTES }
+    requires limit { limit ≤ MOST_IMPROVEMENTS }
     ensures ok { IfOk result (λ bytes. AreVerdictsOf exact text.now (domain_text rows.entry) given.now policy limit bytes.items) }
     ensures err { IfErr result (λ refusal. IsUnanswered (claims_question exact text.now (domain_text rows.entry) given.now policy limit)
         refusal) }
@@ -121,7 +124,7 @@ pub fn prove_text(
     open_states_break();
     let system = system_on(alloc, text, rows)?;
     let claims = claims_of(alloc, given, &system)?;
-    let solved = solve(alloc, &system, policy, limit)?;
+    let solved = solve(alloc, &system, policy, limit, watch)?;
     let list = verdicts_at(alloc, &system, &solved.bounds, &claims)?;
     let names = system.flow.names.as_slice();
     Ok(verdicts_text(alloc, names, &claims, &list, solved.improvements)?)

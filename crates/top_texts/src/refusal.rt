@@ -1,7 +1,7 @@
 //! Why the texts of files have no report.
 
 ghost use Rattle.std.specs.Prelude.{◌≡◌};
-ghost use Rattle.top_texts.specs.Parted.{refused};
+ghost use Rattle.top_texts.specs.Outcomes.{refused};
 
 use flow_systems::Spot;
 use std::alloc::AllocError;

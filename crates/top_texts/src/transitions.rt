@@ -1,6 +1,7 @@
 //! The system of the texts of a transition system and of its rows, and the report of its least bounds.
 
 ghost use Rattle.std.specs.Prelude.{◌≡◌, ◌≢◌, ◌≤◌, ℕ, List, IfOk, IfErr, IsTrue, None, Ok, Err, length};
+ghost use Rattle.base_limits.specs.declared.limits.TheConstants.{MOST_CELLS, MOST_IMPROVEMENTS, MOST_TEXT_BYTES};
 ghost use Rattle.flow_transitions.specs.AutoFaults.{fault_of};
 ghost use Rattle.flow_transitions.specs.AutoTexts.{IsAuto, content};
 ghost use Rattle.flow_transitions.specs.Choices.{edges_of};
@@ -12,7 +13,7 @@ ghost use Rattle.ask_words.specs.declared.request.Domain.{Domain as DomainValue}
 ghost use Rattle.top_texts.specs.Exact.{exact};
 ghost use Rattle.top_texts.specs.Short.{HasShortRows};
 ghost use Rattle.ask_words.specs.Request.{domain_text};
-ghost use Rattle.top_texts.specs.Parted.{IsRefusedAlong, IsUnanswered};
+ghost use Rattle.top_texts.specs.Outcomes.{IsRefusedAlong, IsUnanswered};
 ghost use Rattle.top_texts.specs.Questions.{transitions_question};
 ghost use Rattle.top_texts.specs.Texts.{HasTemplate};
 ghost use Rattle.top_texts.specs.TransitionTexts.{AreNoTransitions, IsAutoReport, IsAutoText, IsTransitionSystem};
@@ -22,6 +23,7 @@ use crate::analyse::system::{count_cells, system_of};
 use crate::analyse::template::template_of;
 use crate::refusal::Refusal;
 use ask_words::{Domain, Policy};
+use base_watch::Watch;
 use flow_edges::Flow;
 use flow_systems::System;
 use flow_templates::{RowFault, Template};
@@ -53,7 +55,7 @@ fn row_refusal(fault: RowFault) -> Refusal
 
 // The transition system that the text reads as.
 fn auto_of(alloc: Global, text: &[u8]) -> Result<Auto, Refusal>
-    requires { length text.now ≤ 65536 }
+    requires { length text.now ≤ MOST_TEXT_BYTES }
     ensures ok { IfOk result (λ auto. IsAuto text.now (Ok (content auto))) }
     ensures err { IfErr result (λ refusal. (rows : DomainValue (List ℕ)) → IsRefusedAlong text.now rows refusal) }
 {
@@ -94,10 +96,10 @@ fn rows_along(alloc: Global, rows: Domain<&[u8]>, auto: &Auto) -> Result<Templat
 
 // The system of these texts.
 fn system_along(alloc: Global, text: &[u8], rows: Domain<&[u8]>) -> Result<System, Refusal>
-    requires short { length text.now ≤ 65536 }
+    requires short { length text.now ≤ MOST_TEXT_BYTES }
     requires short_rows { HasShortRows (domain_text rows) }
     ensures ok { IfOk result (λ system. IsTransitionSystem text.now (domain_text rows.entry) system) }
-    ensures cells { IfOk result (λ system. cells_of (equations_of system) ≤ 134217728) }
+    ensures cells { IfOk result (λ system. cells_of (equations_of system) ≤ MOST_CELLS) }
     ensures err { IfErr result (λ refusal. IsRefusedAlong text.now (domain_text rows.entry) refusal) }
 {
     let auto = auto_of(alloc, text)?;
@@ -115,22 +117,23 @@ fn system_along(alloc: Global, text: &[u8], rows: Domain<&[u8]>) -> Result<Syste
 ///
 /// The first cause that stands: a fault of the text, of its edges or of the rows, too many unknowns or cells, or improvements that
 /// are spent; or a wide operation, or want of memory.
-pub fn transitions_text(
+pub fn transitions_text<W: Watch>(
     alloc: Global,
     text: &[u8],
     rows: Domain<&[u8]>,
     policy: Policy,
     limit: u32,
+    watch: &mut W,
 ) -> Result<Vec<u8>, Refusal>
-    requires short { length text.now ≤ 65536 }
+    requires short { length text.now ≤ MOST_TEXT_BYTES }
     requires short_rows { HasShortRows (domain_text rows) }
-    requires limit { limit ≤ 1000000 }
+    requires limit { limit ≤ MOST_IMPROVEMENTS }
     ensures ok { IfOk result (λ bytes. IsAutoReport text.now (domain_text rows.entry) policy limit bytes.items) }
     ensures err { IfErr result (λ refusal. IsUnanswered (transitions_question exact text.now (domain_text rows.entry) policy limit)
         refusal) }
 {
     post_solutions_hold_along();
     let system = system_along(alloc, text, rows)?;
-    let bytes = report_of(alloc, &system, policy, limit)?;
+    let bytes = report_of(alloc, &system, policy, limit, watch)?;
     Ok(bytes)
 }

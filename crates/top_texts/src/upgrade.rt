@@ -1,7 +1,7 @@
 //! A certificate is read, in whichever of the formats it is, and written as certificates are written now.
 
 ghost use Rattle.std.specs.Prelude.{IfOk, IfErr};
-ghost use Rattle.top_texts.specs.Parted.{IsMisspelt};
+ghost use Rattle.top_texts.specs.Outcomes.{IsMisspelt};
 ghost use Rattle.top_texts.specs.Upgrades.{IsUpgradeOf};
 
 use crate::form::cert_of;

@@ -1,5 +1,6 @@
 -- How many tokens a text has, and where they begin.
 use Rattle.std.proofs.Common.{◌≤◌, ◌<◌, ◌+◌, ◌-◌, ◌^◌, ◌++◌, ◌∷◌, ℕ, zero, suc, List, [], length, get_or, subst, arith}
+use Rattle.base_limits.specs.declared.limits.TheConstants.{MOST_TEXT_BYTES}
 use Rattle.lang_tokens.specs.declared.token.Token.{Token}
 use Rattle.lang_tokens.specs.Reading.{end_at}
 use Rattle.lang_tokens.specs.TokenLists.{AreTokensAfter, AreTokensOf}
@@ -31,5 +32,5 @@ within_text text ts tokens = let P : List Token → Type 0 = λ l. (k : ℕ) (d 
     subst P tokens.ended (within_after text 0 tokens.front tokens.placed)
 
 -- a place of a text is a number of the code, and so is the next one
-pub fits_code : (n m : ℕ) → n ≤ m → m ≤ 65536 → n < 2 ^ 32 - 1
+pub fits_code : (n m : ℕ) → n ≤ m → m ≤ MOST_TEXT_BYTES → n < 2 ^ 32 - 1
 fits_code n m h i = omega arith

@@ -6,7 +6,7 @@ use Rattle.ask_words.specs.declared.request.Domain.{Domain}
 use Rattle.ask_words.specs.declared.request.Policy.{Policy}
 use Rattle.ask_words.specs.declared.request.Purpose.TheVariants.{Report}
 use Rattle.ask_words.specs.declared.request.Request.TheVariants.{Analyse}
-use Rattle.top_answer.specs.Parted.{NamesPlace, Says}
+use Rattle.top_answer.specs.Outcomes.{NamesPlace, Says}
 use Rattle.top_status.specs.CheckMessages.{rows_of}
 use Rattle.top_status.specs.Messages.{line_in, message_of}
 use Rattle.top_status.specs.declared.ending.Ending.{Ending}
@@ -14,7 +14,7 @@ use Rattle.top_status.specs.declared.status.Status.{Status}
 use Rattle.top_status.specs.declared.status.Status.TheVariants.{Done, Certificate, Usage, Read, Text, Wide, Spent, Memory, Write}
 use Rattle.top_texts.specs.Analyses.{IsFoundIn, IsRefusedText, IsUnput}
 use Rattle.top_texts.specs.Exact.{exact}
-use Rattle.top_texts.specs.Parted.{QuestionAnswer}
+use Rattle.top_texts.specs.Outcomes.{QuestionAnswer}
 use Rattle.top_texts.specs.Questions.{analysis_question, is_refused}
 use Rattle.top_texts.specs.Texts.{IsSolvable}
 use Rattle.top_texts.specs.declared.analyse.least.LeastBounds.{LeastBounds}

@@ -84,6 +84,13 @@ line_still_ends at to (b ∷ rest) (c ∷ cs) order e none h =
     (λ (l : c.place ≤ at). absurd (none.0 (omega (arith, order.0)))) (cases_lt at c.place) in
     ends_more (c.place - at) b rest _ later h
 
+-- nothing follows the last line still, where no comment stands right behind it
+line_still_last : (at to : ℕ) (rest : List ℕ) (comments : List Comment) → Ascend at to (places comments) → at + length rest ≡ to
+    → AllByRecursion (λ c. c.place ≡ at → ⊥) comments → rest ≡ [] → with_comments at rest comments ≡ []
+line_still_last at to rest [] order e none h = h
+line_still_last at to rest (c ∷ cs) order e none h =
+    absurd (none.0 (omega (arith, order.0, ascend_within c.place to (places cs) order.1, ap length h)))
+
 -- no comment stands right behind a line comment
 none_held : (at : ℕ) (pieces : List Piece) (comments : List Comment) → AllFit pieces [] → ends_line (spelling pieces ++ []) ≡ true
     → AllByRecursion (λ c. MayHold false at pieces c.place) comments → AllByRecursion (λ c. c.place ≡ at → ⊥) comments
@@ -105,9 +112,13 @@ still_fits at to (token kind bytes) pieces comments stand e fit fits =
     (meets_comments at (spelling pieces) comments stand.gaps) (rw (append-nil (spelling pieces)) at fits)
 still_fits at to (line_comment body) pieces comments stand e fit fits = (
   fits.0,
-  line_still_ends at to (spelling pieces) comments stand.order e (none_held at pieces comments fit fits.1 stand.held)
-      (rw (append-nil (spelling pieces)) at fits.1),
+  line_still_ends at to (spelling pieces) comments stand.order e none (rw (append-nil (spelling pieces)) at fits.1),
+  λ place ends. line_still_last at to (spelling pieces) comments stand.order e none
+      (rw (append-nil (spelling pieces)) at (fits.2 place ends)),
 )
+  where
+    none : AllByRecursion (λ c. c.place ≡ at → ⊥) comments
+    none = none_held at pieces comments fit fits.1 stand.held
 
 -- the token of a piece at another place
 piece_moved : (at here : ℕ) (to : ℕ → ℕ) (piece : Piece) → to at ≡ here

@@ -19,9 +19,11 @@ use Rattle.lang_grammar.specs.Grammar as g
 use Rattle.lang_grammar.specs.Grammar.{Expr, spell_expr, Relation}
 use Rattle.lang_grammar.specs.View.{token_of, tokens_of}
 use Rattle.lang_grammar.specs.Machine.{run}
-use Rattle.lang_grammar.specs.Depth.{opens_expr, trace}
+use Rattle.lang_grammar.specs.Depth.{opens_expr}
+use Rattle.lang_grammar.specs.Verdicts.{trace}
 use Rattle.lang_grammar.specs.Faults.{AllShallow}
-use Rattle.lang_grammar.specs.Expressions.{IsLongest, ReadsExpr, expression_start}
+use Rattle.lang_grammar.specs.Expressions.{IsLongest, ReadsExpr}
+use Rattle.lang_grammar.specs.Reaches.{expression_start}
 use Rattle.lang_grammar.proofs.depth.Deep.{expr_trace}
 use Rattle.lang_grammar.proofs.phrase.Starts.{at_end, reads_run, fine_expr}
 use Rattle.lang_grammar.proofs.phrase.Found.{ends_there}
@@ -34,7 +36,8 @@ use Rattle.lang_tree.specs.Tree as tree
 use Rattle.lang_meaning.specs.Forms.{pairwise, products, is_comparable}
 use Rattle.lang_meaning.specs.Results.{◌>>=◌}
 use Rattle.lang_meaning.specs.Walk.{Value, a_form, a_truth, compared, rel_of}
-use Rattle.lang_meaning.specs.Expressions.{ExpressionMeans, Meaning, a_condition, first_place, meant}
+use Rattle.lang_meaning.specs.Expressions.{Meaning, a_condition, first_place, meant}
+use Rattle.lang_meaning.specs.ExpressionAnswers.{ExpressionMeans}
 use Rattle.out_workload.proofs.bodies.WholeTokens.{is_second}
 use Rattle.acsl_notes.specs.Clauses.{Clause, never, at_most, equals, IsTrueAt}
 use Rattle.acsl_notes.specs.Texts.{side_text, clause_text}

@@ -3,7 +3,7 @@ use Rattle.std.proofs.Common.{◌≡◌, ◌∙◌, ◌++◌, ℕ, List, [], ◌
 use Rattle.std.proofs.lemmas.List.{append-nil}
 use Rattle.lang_grammar.specs.Grammar.{Token, token, Program, Reads}
 use Rattle.lang_grammar.specs.Machine.{Goal, step, run, start}
-use Rattle.lang_grammar.specs.Depth.{opened, trace}
+use Rattle.lang_grammar.specs.Verdicts.{opened, trace}
 use Rattle.lang_grammar.specs.Faults.{AllShallow, Fine}
 use Rattle.lang_grammar.proofs.grammar.Complete.{accepted}
 use Rattle.lang_grammar.proofs.faults.Scanned.{opens_front}

@@ -5,7 +5,8 @@ use Rattle.std.specs.Result.{IsErrAnd, IfOk}
 use Rattle.lang_grammar.specs.View.{tokens_of}
 use Rattle.flow_edges.specs.declared.point.Point.{Point}
 use Rattle.lang_tokens.specs.declared.token.Token.{Token}
-use Rattle.lang_meaning.specs.Expressions.{ExpressionAnswer, ExpressionMeans, Meaning}
+use Rattle.lang_meaning.specs.Expressions.{Meaning}
+use Rattle.lang_meaning.specs.ExpressionAnswers.{ExpressionAnswer, ExpressionMeans}
 use Rattle.lang_meaning.specs.declared.fault.ParseFault.{ParseFault}
 use Rattle.lang_meaning.specs.declared.fault.ParseFault.TheVariants as parse
 use Rattle.lang_tree.specs.Cases.{cases_of}

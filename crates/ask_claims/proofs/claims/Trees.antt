@@ -14,7 +14,8 @@ use Rattle.lang_tokens.specs.declared.token.Kind as lex_kind
 use Rattle.lang_tokens.specs.declared.token.Token as lex_token
 use Rattle.lang_meaning.specs.declared.fault.ParseFault.{ParseFault}
 use Rattle.lang_meaning.specs.declared.fault.ParseFault.TheVariants as parse
-use Rattle.lang_meaning.specs.Expressions.{ExpressionAnswer, ExpressionMeans, Meaning, as_truth, first_place, meant}
+use Rattle.lang_meaning.specs.Expressions.{Meaning, as_truth, first_place, meant}
+use Rattle.lang_meaning.specs.ExpressionAnswers.{ExpressionAnswer, ExpressionMeans}
 use Rattle.lang_meaning.specs.Results as results
 use Rattle.lang_feed.proofs.texts.Expressions.{longest_within}
 use Rattle.lang_tree.specs.Cases.{cases_of}

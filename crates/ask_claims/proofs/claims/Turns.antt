@@ -11,7 +11,8 @@ use Rattle.flow_edges.specs.declared.point.Point.{Point}
 use Rattle.lang_meaning.specs.declared.fault.Limit.TheVariants.{Nesting}
 use Rattle.lang_meaning.specs.declared.fault.ParseFault.{ParseFault}
 use Rattle.lang_meaning.specs.declared.fault.ParseFault.TheVariants as parse
-use Rattle.lang_meaning.specs.Expressions.{ExpressionAnswer, ExpressionMeans, Meaning, as_truth, first_place, meant}
+use Rattle.lang_meaning.specs.Expressions.{Meaning, as_truth, first_place, meant}
+use Rattle.lang_meaning.specs.ExpressionAnswers.{ExpressionAnswer, ExpressionMeans}
 use Rattle.lang_meaning.specs.Results as results
 use Rattle.lang_meaning.proofs.meaning.OneExpression.{expression_once}
 use Rattle.lang_tree.specs.Cases.{cases_of}

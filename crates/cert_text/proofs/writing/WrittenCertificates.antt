@@ -1,13 +1,13 @@
 -- A certificate that is written: no deeper than JSON's reader goes, without floats, and read back.
 use Rattle.std.proofs.Common.{◌≡◌, ⊎_elim, ◌*◌, ◌/◌, ◌%◌, ◌<◌, ◌≤◌, ◌&&◌, ◌||◌, ℕ, Bool, true, false, List, [], ◌∷◌, length, map, Option}
-use Rattle.std.proofs.Common.{Some, ℤ, refl, sym, ap, ap₂, ◌∙◌, arith, Vec, Global, Result, Ok, Err, IfOk, subst}
+use Rattle.std.proofs.Common.{Some, ℤ, codes, refl, sym, ap, ap₂, ◌∙◌, arith, Vec, Global, Result, Ok, Err, IfOk, subst}
 use Rattle.std.specs.Prelude.{IsUtf8, nat_lt, option_and_then, if◌then◌else◌}
 use Rattle.std.specs.List.{list_all}
 use Rattle.std.specs.declared.alloc.AllocError.{AllocError}
 use Rattle.std.proofs.Math.Nat.{div-add-mod', zero-div}
 use Rattle.std.proofs.lemmas.Bool.{lt-ltb}
 use Rattle.serde_json.specs.Read.{read}
-use Rattle.serde_json.specs.Data.{Data, depth, items_depth}
+use Rattle.serde_json.specs.Data.{Data, Members, depth, items_depth, object, put}
 use Rattle.serde_json.specs.Written.{compact_text, has_float, items_have_float}
 use Rattle.base_numbers.specs.Rational.{ℚ}
 use Rattle.base_numbers.specs.Extended.{Ext as Extended}
@@ -29,6 +29,7 @@ use Rattle.cert_text.specs.declared.fault.FormFault.{FormFault}
 use Rattle.cert_text.specs.declared.fault.FormFault.TheVariants.{Expanded, Shape}
 use Rattle.cert_text.specs.declared.limits.TheConstants.{MOST_VALUES}
 use Rattle.cert_text.specs.declared.setting.Setting.{Setting}
+use Rattle.cert_text.specs.Keys.{index_data}
 use Rattle.cert_text.specs.Lists.{is_list, items_data, list_data, list_in}
 use Rattle.cert_text.specs.Numbers.{bound_data, frac_data, whole_data, whole_in}
 use Rattle.cert_text.specs.Traces.{are_texts, fracs_data, is_trace, listing, trace_data, trace_in}
@@ -40,7 +41,7 @@ use Rattle.cert_text.specs.BoundLines.{bounds_data, is_line, joined, line_data, 
 use Rattle.cert_text.proofs.naming.Listed.{steps_listed}
 use Rattle.cert_text.proofs.reading.ReadRests.{then_ok}
 use Rattle.cert_text.specs.Certificates.{IsBeyond, IsEmpty, IsWithin, IsWritable, SpellsCert, SpellsTooMany, and_then, bounds_in, cert_data}
-use Rattle.cert_text.specs.Certificates.{cert_in, cert_object, is_over, list_from, listed_traces, or_number, read_again, rest_in, row_data}
+use Rattle.cert_text.specs.Certificates.{cert_in, is_over, last_data, list_from, listed_traces, or_number, read_again, rest_in, row_data}
 use Rattle.cert_text.specs.Certificates.{rows_in, steps_in, traces_in, uppers_in}
 
 -- ---- depth and floats of lists
@@ -206,15 +207,15 @@ module _ (c : Cert) where
       (nat_lt MOST_VALUES (values_of (named_traces c.steps)))
       (ap (λ (b : List Extended). let r : Cert = record { rows = c.rows; bounds = b; steps = c.steps; uppers = c.uppers } in r) be))))
 
--- the value with the values of a certificate's parts is the value of the certificate
-pub cert_data_is : (c : Cert) (b r s t u : Data) → b ≡ bounds_data (length c.rows) c.bounds → r ≡ list_data row_data c.rows
-    → s ≡ list_data (step_data (length c.rows) (listed_traces c)) c.steps
-    → t ≡ list_data trace_data (listed_traces c) → u ≡ list_data upper_data c.uppers → cert_object b r s t u ≡ cert_data c
-cert_data_is c b r s t u eb er es et eu =
-    let n = length c.rows in
-    ap₂ (λ x y. cert_object x y s t u) eb er ∙ ap₂ (λ x y. cert_object (bounds_data n c.bounds) (list_data row_data c.rows) x y u) es et
-    ∙ ap (cert_object (bounds_data n c.bounds) (list_data row_data c.rows) (list_data (step_data n (listed_traces c)) c.steps)
-    (list_data trace_data (listed_traces c))) eu
+-- the value with the first fields of a certificate put to the last ones
+abbrev put_first : Data → Data → Members → Data
+put_first b r last = object (put (codes "bounds") b (put (codes "format") (index_data 2) (put (codes "rows") r last)))
+
+-- with the values of a certificate's parts it is the value of the certificate
+pub cert_data_is : (c : Cert) (b r : Data) (last : Members) → b ≡ bounds_data (length c.rows) c.bounds → r ≡ list_data row_data c.rows
+    → last ≡ last_data (length c.rows) (listed_traces c) c.steps (listed_traces c) c.uppers → put_first b r last ≡ cert_data c
+cert_data_is c b r last eb er el =
+    ap₂ (λ x y. put_first x y last) eb er ∙ ap (put_first (bounds_data (length c.rows) c.bounds) (list_data row_data c.rows)) el
 
 -- ---- what is asked of a certificate that is written
 

@@ -2,6 +2,7 @@
 use Rattle.std.proofs.Common.{◌≡◌, ◌∙◌, ◌++◌, ◌+◌, ◌<◌, ◌≤◌, ℕ, zero, suc, List, [], ◌∷◌, length, take, drop, get_or, Option, Some, None}
 use Rattle.std.proofs.Common.{option_and_then, refl, sym, ap, subst, append_assoc, arith}
 use Rattle.std.proofs.lemmas.List.{map-append, length-append, length-map, take-map, take_more, take-append-drop}
+use Rattle.base_limits.specs.declared.limits.TheConstants.{MOST_TEXT_BYTES}
 use Rattle.lang_tokens.specs.declared.token.Token.{Token}
 use Rattle.lang_tokens.specs.Reading.{Reads, end_at}
 use Rattle.lang_tokens.specs.TokenLists.{AreTokensAfter, AreTokensOf}
@@ -44,7 +45,7 @@ front_few text place [] l h = omega arith
 front_few text place (t ∷ ts) l h = omega (arith, h.0.after, h.0.some, h.0.within, front_few text (t.at + t.len) ts h.0.within h.1)
 
 -- a text of at most 65536 bytes has at most 65537 tokens
-pub tokens_few : (text : List ℕ) (tokens : List Token) → length text ≤ 65536 → AreTokensOf text tokens → length tokens ≤ 65537
+pub tokens_few : (text : List ℕ) (tokens : List Token) → length text ≤ MOST_TEXT_BYTES → AreTokensOf text tokens → length tokens ≤ 65537
 tokens_few text tokens short h = omega (
   arith,
   ap length h.ended,

@@ -24,7 +24,8 @@ use Rattle.flow_transitions.specs.declared.auto_edge.AutoEdge.{AutoEdge}
 use Rattle.flow_transitions.specs.AutoLimits.{is_auto_edge}
 use Rattle.flow_transitions.specs.Choices.{choices_in, edge_by, edges_along, starts_at, edges_at, edges_of}
 use Rattle.flow_transitions.specs.AutoRuns.{AutoConfiguration, AutoStep, AutoFollows}
-use Rattle.flow_transitions.specs.AutoLaws.{equations_of_auto, HoldsAlong, PostSolutionsHoldAlong}
+use Rattle.flow_transitions.specs.AutoLaws.{PostSolutionsHoldAlong}
+use Rattle.flow_transitions.specs.AutoSystem.{equations_of_auto, HoldsAlong}
 use Rattle.flow_transitions.proofs.made.Within.{limits, edge_limits}
 use Rattle.flow_transitions.proofs.along.ActLaw.{choices_law}
 

@@ -3,7 +3,8 @@ use Rattle.std.proofs.Common.{◌≡◌, ◌∙◌, ◌++◌, ◌⊎◌, inl, in
 use Rattle.std.proofs.Common.{append_assoc}
 use Rattle.std.proofs.lemmas.List.{append-nil}
 use Rattle.std.specs.Prelude.{codes}
-use Rattle.lang_grammar.specs.Expressions.{ReadsExpr, BeginsExpr, is_infix}
+use Rattle.lang_grammar.specs.Expressions.{ReadsExpr, BeginsExpr}
+use Rattle.lang_grammar.specs.Reaches.{is_infix}
 use Rattle.lang_grammar.specs.Grammar.{Kind, a_name, comma, semicolon, left_brace, right_brace, left_paren, right_paren, change_sign}
 use Rattle.lang_grammar.specs.Grammar.{replaces}
 use Rattle.lang_grammar.specs.Grammar.{assume_word, the_end, Token, token, Expr, number, spell_expr, Groups}

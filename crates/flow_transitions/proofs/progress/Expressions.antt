@@ -7,7 +7,8 @@ use Rattle.lang_grammar.specs.View.{token_of, tokens_of}
 use Rattle.lang_meaning.specs.declared.fault.ParseFault.{ParseFault}
 use Rattle.lang_meaning.specs.declared.fault.ParseFault.TheVariants as parse
 use Rattle.lang_meaning.specs.Results.{◌>>=◌}
-use Rattle.lang_meaning.specs.Expressions.{Meaning, ExpressionAnswer, ExpressionMeans, first_place, meant}
+use Rattle.lang_meaning.specs.Expressions.{Meaning, first_place, meant}
+use Rattle.lang_meaning.specs.ExpressionAnswers.{ExpressionAnswer, ExpressionMeans}
 use Rattle.flow_transitions.specs.declared.fault.AutoFault.TheVariants as fault
 use Rattle.flow_transitions.specs.AutoReading.{parse_fault}
 

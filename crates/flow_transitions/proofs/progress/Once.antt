@@ -5,7 +5,7 @@ use Rattle.lang_tokens.specs.declared.token.Token.{Token}
 use Rattle.lang_tokens.specs.Reading.{Reads}
 use Rattle.lang_tokens.proofs.reading.Once.{one_token_list, one_text_fault, no_fault}
 use Rattle.lang_grammar.specs.View.{tokens_of}
-use Rattle.lang_meaning.specs.Expressions.{ExpressionAnswer, ExpressionMeans}
+use Rattle.lang_meaning.specs.ExpressionAnswers.{ExpressionAnswer, ExpressionMeans}
 use Rattle.lang_meaning.proofs.meaning.OneExpression.{expression_once}
 use Rattle.flow_transitions.specs.declared.auto.Auto.{Auto}
 use Rattle.flow_transitions.specs.declared.fault.AutoFault.{AutoFault}

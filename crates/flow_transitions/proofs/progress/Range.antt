@@ -3,6 +3,7 @@ use Rattle.std.proofs.Common.{◌≡◌, ◌∙◌, ℕ, zero, suc, ◌+◌, ◌
 use Rattle.std.proofs.Common.{length-append}
 use Rattle.std.specs.Prelude.{IsTrue, slice_get, slice_range, Some}
 use Rattle.std.proofs.lemmas.Bool.{cases_lt}
+use Rattle.base_limits.specs.declared.limits.TheConstants.{MOST_TEXT_BYTES}
 use Rattle.lang_tokens.specs.declared.token.Token.{Token}
 use Rattle.lang_tokens.specs.declared.token.Kind.{Kind}
 use Rattle.lang_tokens.specs.declared.token.Kind.TheVariants as kind
@@ -25,7 +26,7 @@ front_few text place [] l h = omega (arith, l)
 front_few text place (t ∷ ts) l h = omega (arith, h.0.after, h.0.some, h.0.within, front_few text (t.at + t.len) ts h.0.within h.1)
 
 -- the tokens of a text of at most 65,536 bytes are at most 65,537
-pub source_of : (text : List ℕ) (tokens : List Token) → length text ≤ 65536 → AreTokensOf text tokens → IsSource text tokens
+pub source_of : (text : List ℕ) (tokens : List Token) → length text ≤ MOST_TEXT_BYTES → AreTokensOf text tokens → IsSource text tokens
 source_of text tokens short h = record {
   size = short;
   tokens_of = h;

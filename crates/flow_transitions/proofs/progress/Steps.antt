@@ -4,7 +4,8 @@ use Rattle.std.specs.Prelude.{Some, None, IsErrAnd}
 use Rattle.lang_tokens.specs.declared.token.Token.{Token}
 use Rattle.lang_grammar.specs.View.{tokens_of}
 use Rattle.lang_meaning.specs.declared.fault.ParseFault.{ParseFault}
-use Rattle.lang_meaning.specs.Expressions.{Meaning, ExpressionMeans}
+use Rattle.lang_meaning.specs.Expressions.{Meaning}
+use Rattle.lang_meaning.specs.ExpressionAnswers.{ExpressionMeans}
 use Rattle.flow_transitions.specs.declared.fault.AutoFault.{AutoFault}
 use Rattle.flow_transitions.specs.declared.fault.AutoFault.TheVariants as fault
 use Rattle.flow_transitions.specs.declared.reading.symbol.Symbol.{Symbol}

@@ -9,7 +9,8 @@ use Rattle.lang_grammar.specs.Expressions.{IsLongest, BeginsExpr, FineExpr}
 use Rattle.lang_grammar.specs.Grammar.{Kind, Token, token, Expr, spell_expr, Groups}
 use Rattle.lang_grammar.specs.View.{tokens_of}
 use Rattle.lang_meaning.specs.declared.fault.ParseFault.{ParseFault}
-use Rattle.lang_meaning.specs.Expressions.{ExpressionMeans, Meaning, first_place, meant}
+use Rattle.lang_meaning.specs.Expressions.{Meaning, first_place, meant}
+use Rattle.lang_meaning.specs.ExpressionAnswers.{ExpressionMeans}
 use Rattle.flow_transitions.specs.declared.fault.AutoFault.{AutoFault}
 use Rattle.flow_transitions.specs.declared.fault.AutoFault.TheVariants as fault
 use Rattle.flow_transitions.specs.AutoSymbols.{seen_at}

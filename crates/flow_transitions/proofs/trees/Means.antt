@@ -22,7 +22,8 @@ use Rattle.lang_meaning.specs.declared.fault.ParseFault.TheVariants as parse
 use Rattle.lang_meaning.specs.declared.fault.Limit.TheVariants.{Nesting}
 use Rattle.lang_meaning.specs.Results as results
 use Rattle.lang_meaning.specs.Walk.{assignment}
-use Rattle.lang_meaning.specs.Expressions.{ExpressionAnswer, ExpressionMeans, Meaning, as_truth, first_place, meant}
+use Rattle.lang_meaning.specs.Expressions.{Meaning, as_truth, first_place, meant}
+use Rattle.lang_meaning.specs.ExpressionAnswers.{ExpressionAnswer, ExpressionMeans}
 use Rattle.lang_feed.proofs.texts.Expressions.{longest_within}
 use Rattle.flow_transitions.specs.declared.auto_edge.AutoEdge.{AutoEdge}
 use Rattle.flow_transitions.specs.declared.fault.AutoFault.TheVariants as fault

@@ -20,6 +20,7 @@ use Rattle.lang_grammar.specs.Grammar.{spell_parameters, Return, no_return, retu
 use Rattle.lang_meaning.specs.Walk.{declared_in, declared_before, declared_core, declared_sub, declared_items}
 use Rattle.lang_feed.specs.Width.{total}
 
+-- two lists of tokens in a row count what the first one counts and what the second one counts
 pub total_append : (f : Kind → ℕ) (xs ys : List Token) → total f (xs ++ ys) ≡ total f xs + total f ys
 total_append f [] ys = omega arith
 total_append f (token k a ∷ xs) ys = omega (arith, total_append f xs ys)
@@ -47,6 +48,7 @@ module _ (f : Kind → ℕ) (w : ℕ) (none : (k : Kind) → IsPlain k → f k �
   sign_none positive = none _ tt
   sign_none negation = none _ tt
 
+  -- an expression counts nothing
   pub expr_total : (e : Expr) → total f (spell_expr e) ≡ 0
   expr_total (number n a) = omega (arith, none (a_number n) tt)
   expr_total (variable x a) = omega (arith, none (a_name x) tt)
@@ -221,6 +223,7 @@ module _ (f : Kind → ℕ) (w : ℕ) (none : (k : Kind) → IsPlain k → f k �
   front a b c ps d e is r g = token int_word a ∷ token main_word b ∷ token left_paren c ∷
       (spell_parameters ps ++ token right_paren d ∷ token left_brace e ∷ (spell_items is ++ (spell_return r ++ token right_brace g ∷ [])))
 
+  -- all of a program but its end counts w, and w more for each variable that it declares
   pub front_total : (a b c : ℕ) (ps : Parameters) (d e : ℕ) (is : Items) (r : Return) (g : ℕ)
       → total f (front a b c ps d e is r g) ≡ w + times (declared_items is) w
   front_total a b c ps d e is r g =

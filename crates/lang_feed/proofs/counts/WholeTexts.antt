@@ -22,6 +22,7 @@ abbrev pub ending : Kind → ℕ
 ending the_end = 1
 ending _ = 0
 
+-- a plain kind of token is not the end of a text
 pub ending_none : (k : Kind) → IsPlain k → ending k ≡ 0
 ending_none comma h = absurd h
 ending_none int_word h = absurd h
@@ -69,6 +70,7 @@ ends_there (x ∷ xs) (token k c ∷ ys) rest a b z e = ends_there xs ys rest a 
 abbrev pub EndsWell : List Token → Type 0
 EndsWell ts = (xs : List Token) × (a : ℕ) × (ts ≡ xs ++ token the_end a ∷ [])
 
+-- tokens that begin a program, and whose last is the end of a text, are a whole program
 pub begun_is_whole : (ts : List Token) → EndsWell ts → Begins ts → (p : Program) × Reads ts p
 begun_is_whole ts (xs, a, e) (program i j c ps d f is r g h, rest, k) = (
   program i j c ps d f is r g h,

@@ -149,6 +149,7 @@ module _ (line : ℕ → ℕ) (width : ℕ) where
       (join_none (level o) (level o) fs v b (omega arith))
 
   mutual
+    -- The tokens of an operand give its value; the signs before it are applied, and the tokens behind it go on from there.
     pub fed_operand : (st : State) (e : Expr) (fs : List Frame) (w : List Token) → Groups 6 e → FedOperand st e fs w
     fed_operand st (number n a) fs w g = op_number st n a fs w
     fed_operand st (variable x a) fs w g = op_variable st x a fs w

@@ -197,12 +197,14 @@ module _ (line : ℕ → ℕ) (width : ℕ) where
   small_then st e f g h = ap (λ (r : Result _ ParseFault). r >>= g) (sym
       (bind_alike (walk_expr line width st e) (walk_small line width st e) f (small_alike st e) h))
 
+  -- two conditions that are the same, or both have more than 64 leaves, are as conditions of a statement the same, or the same fault
   pub few_same : (a : ℕ) (c d : Condition) → SameCondition c d → few_leaves a c ≡ few_leaves a d
   few_same a c d (inl e) = ap (few_leaves a) e
   few_same a c d (inr h) = too_many a c h.0 ∙ sym (too_many a d h.1) where
     too_many : (a : ℕ) (c : Condition) → 64 < leaf_count c → few_leaves a c ≡ Err (fault.Limit a Leaves)
     too_many a c h = ap (λ (b : Bool). cond b (Err (fault.Limit a Leaves)) (Ok c)) (lt-ltb 64 (leaf_count c) h)
 
+  -- two values that are the same, or conditions that both have too many leaves, make the same condition of a statement, or the same fault
   pub tested_same : (a : ℕ) (v w : Value) → Same v w → tested a v ≡ tested a w
   tested_same a v w h = by_alike (as_condition v) (as_condition w) (condition_alike v w h) where
     by_alike : (r s : Result Condition ParseFault) → Alike SameCondition r s → r >>= (λ c. few_leaves a c) ≡ s >>= (λ c. few_leaves a c)
@@ -229,9 +231,11 @@ module _ (line : ℕ → ℕ) (width : ℕ) where
   pub test_respects : {B : Type 0} (a : ℕ) (g : Condition → Result B ParseFault) → Respects (λ v. tested a v >>= λ x. g x)
   test_respects a g v w h = ap (λ (r : Result Condition ParseFault). r >>= λ x. g x) (tested_same a v w h)
 
+  -- nor does what is made of it as the right side of `=`
   pub side_respects : {B : Type 0} (s : ℕ) (g : Option Form → Result B ParseFault) → Respects (λ v. right_side s v >>= λ o. g o)
   side_respects s g v w h = ap (λ (r : Result (Option Form) ParseFault). r >>= λ o. g o) (side_same s v w h)
 
+  -- nor does what is made of an assignment of it
   pub assigned_respects : {B : Type 0} (c : Change) (i s : ℕ) (g : Option Form → Result B ParseFault)
       → Respects (λ v. assigned width c i s v >>= λ o. g o)
   assigned_respects c i s g v w h = ap (λ (r : Result (Option Form) ParseFault). r >>= λ o. g o) (assigned_same c i s v w h)

@@ -6,8 +6,8 @@ use Rattle.std.proofs.Math.Seq.{take-append_seam}
 use Rattle.std.proofs.lemmas.List.{drop-map, drop_more, length-append, length-drop, length-map, take_rest}
 use Rattle.std.specs.Prelude.{slice_range}
 use Rattle.lang_grammar.specs.Grammar.{the_end, semicolon, Token, token, Expr, spell_expr, Groups}
-use Rattle.lang_grammar.specs.Expressions.{IsLongest, Reach, reaches, runs_out, stops_at, nests_at, FindsExpr, expression_start, reach}
-use Rattle.lang_grammar.specs.Expressions.{reach_of}
+use Rattle.lang_grammar.specs.Expressions.{IsLongest, Reach, reaches, runs_out, stops_at, nests_at, FindsExpr}
+use Rattle.lang_grammar.specs.Reaches.{expression_start, reach, reach_of}
 use Rattle.lang_grammar.specs.declared.expression.Extent as code_extent
 use Rattle.lang_grammar.specs.View.{token_of, tokens_of}
 use Rattle.lang_grammar.proofs.phrase.Found.{reach_finds}
@@ -18,8 +18,8 @@ use Rattle.lang_tokens.specs.declared.token.Token as lex_token
 use Rattle.lang_meaning.specs.declared.fault.ParseFault.{ParseFault}
 use Rattle.lang_meaning.specs.declared.fault.ParseFault.TheVariants as fault
 use Rattle.lang_meaning.specs.declared.fault.Limit.TheVariants.{Nesting}
-use Rattle.lang_meaning.specs.Expressions.{ExpressionAnswer, ExpressionMeans, HasLongest, IsRefused, Meaning, knowing, meaning_of}
-use Rattle.lang_meaning.specs.Expressions.{first_place, meant}
+use Rattle.lang_meaning.specs.Expressions.{Meaning, knowing, meaning_of, first_place, meant}
+use Rattle.lang_meaning.specs.ExpressionAnswers.{ExpressionAnswer, ExpressionMeans, HasLongest, IsRefused}
 use Rattle.lang_feed.specs.Readings.{value_there, valued, reading_of}
 use Rattle.lang_meaning.specs.Feed.{wants, has, Machine, at, Outcome, feed, feed_one}
 use Rattle.lang_meaning.specs.Results.{◌>>=◌}
@@ -44,10 +44,12 @@ ends_behind ts from (xs, a, e) h =
 tokens_length : (text : List ℕ) (ts : List lex_token.Token) (from : ℕ) → from < length ts → from < length (tokens_of text ts)
 tokens_length text ts from h = let i = length-map ts (token_of text) in omega (arith, h, i)
 
+-- from any of its tokens on, the last of a text's tokens is its end
 pub ends_from : (text : List ℕ) (ts : List lex_token.Token) (from : ℕ) → AreTokensOf text ts → from < length ts
     → EndsWell (drop from (tokens_of text ts))
 ends_from text ts from a h = ends_behind (tokens_of text ts) from (ends_well text ts a) (tokens_length text ts from h)
 
+-- tokens whose last is the end of a text do not run out within an expression
 pub never_out : (ts : List Token) → EndsWell ts → FindsExpr runs_out ts → ⊥
 never_out ts (xs, a, e) ((p, rest, r), f) =
     let i : spell_expr p ≡ xs ++ token the_end a ∷ rest = r.spelled ∙ ap (λ x. x ++ rest) e ∙ append_assoc xs (token the_end a ∷ []) rest in
@@ -75,10 +77,12 @@ some_meaning text ts from names w = by_reach (reach expression_start (drop from 
   by_reach (stops_at a) f = (Err (fault.Unexpected a), inl (a, f, refl))
   by_reach (nests_at a) f = (Err (fault.Limit a Nesting), inr (inl (a, f, refl)))
 
+-- where the token at place a is found to be unexpected in an expression, the tokens are refused with that fault, whatever the names
 pub refused_stops : (text : List ℕ) (ts : List Token) (from a : ℕ) → FindsExpr (stops_at a) (drop from ts)
     → IsRefused text ts from (fault.Unexpected a)
 refused_stops text ts from a f = λ names. inl (a, f, refl)
 
+-- where the token at place a is found to open one construct too many, the tokens are refused with that fault, whatever the names
 pub refused_nests : (text : List ℕ) (ts : List Token) (from a : ℕ) → FindsExpr (nests_at a) (drop from ts)
     → IsRefused text ts from (fault.Limit a Nesting)
 refused_nests text ts from a f = λ names. inr (inl (a, f, refl))
@@ -118,6 +122,7 @@ meaning_respects line width a (a_truth c) (a_truth d) e = ap (λ r. r >>= λ x. 
 meaning_respects line width a (a_truth c) (a_form f b) e = absurd e
 meaning_respects line width a (a_truth c) (a_nondet b) e = absurd e
 
+-- The second pass over the tokens of an expression gives what the expression means, with the number of the token behind it.
 pub reading_is : (text : List ℕ) (names : List (List ℕ)) (a : ℕ) (e : Expr) (next : ℕ) → Groups 0 e
     → reading_of text names a (spell_expr e) next ≡ meant text names a e >>= λ m. Ok (m, next)
 reading_is text names a e next g =
@@ -166,11 +171,13 @@ few_after text place [] p h = omega arith
 few_after text place (t ∷ ts) p h =
     let i = few_after text (t.at + t.len) ts h.0.within h.1 in let j = h.0.after in let k = h.0.some in omega (arith, i, j, k)
 
+-- a text has at most one token more than it has bytes
 pub few_tokens : (text : List ℕ) (ts : List lex_token.Token) → AreTokensOf text ts → length ts ≤ length text + 1
 few_tokens text ts h =
     let i = few_after text 0 h.front (omega arith) h.placed in
     let j = ap length (sym h.ended) ∙ length-append h.front (end_at (length text) ∷ []) in omega (arith, i, j)
 
+-- behind the longest expression there is a token
 pub longest_within : (text : List ℕ) (ts : List lex_token.Token) (from n : ℕ) → from < length ts
     → HasLongest (drop from (tokens_of text ts)) n → from + n < length ts
 longest_within text ts from n h (e, l) =

@@ -19,7 +19,8 @@ use Rattle.lang_grammar.specs.Machine.{operand, more, statement}
 use Rattle.lang_grammar.specs.Machine.{do_end, header_first, header_test, header_last, maybe_else, declarator, only, statement_end}
 use Rattle.lang_grammar.specs.Machine.{text_end, start}
 use Rattle.lang_grammar.specs.Depth.{opens_expr, opens_first, opens_test, opens_last, opens_declarators, opens_core, opens_sub, opens_items}
-use Rattle.lang_grammar.specs.Depth.{opens_return, opens, opened, trace}
+use Rattle.lang_grammar.specs.Depth.{opens_return, opens}
+use Rattle.lang_grammar.specs.Verdicts.{opened, trace}
 use Rattle.lang_grammar.proofs.grammar.Complete.{pending_core, pending_sub, none_sub, NotElse, pass_core, pass_sub, GoesOn, items_head}
 use Rattle.lang_grammar.proofs.grammar.Complete.{IsMany, return_head}
 use Rattle.lang_grammar.proofs.grammar.Sound.{below_six}

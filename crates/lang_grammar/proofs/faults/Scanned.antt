@@ -4,8 +4,8 @@ use Rattle.std.proofs.Common.{false, nat_lt, subst}
 use Rattle.std.proofs.lemmas.Bool.{ltb-true, ltb-false}
 use Rattle.lang_grammar.specs.Grammar.{Kind, Token, token}
 use Rattle.lang_grammar.specs.Machine.{Goal, step, run, start}
-use Rattle.lang_grammar.specs.Depth.{opened, trace, judged, Verdict, goes, refused, too_deep, Scan, whole, short, unexpected, nested, scan}
-use Rattle.lang_grammar.specs.Faults.{AllShallow, Opens, Fine, Finds}
+use Rattle.lang_grammar.specs.Verdicts.{opened, trace, judged, Verdict, goes, refused, too_deep, scan}
+use Rattle.lang_grammar.specs.Faults.{Scan, whole, short, unexpected, nested, AllShallow, Opens, Fine, Finds}
 use Rattle.lang_grammar.proofs.machine.Finish.{run_front}
 use Rattle.lang_grammar.proofs.depth.Deep.{traced}
 use Rattle.lang_grammar.proofs.machine.Meaning.{accepts_law, alive_begins, unexpected_law}

@@ -16,10 +16,15 @@ use Rattle.lang_grammar.proofs.grammar.Unique.{weight, IsEnd, unique, unique_exp
 
 -- two conditions in parentheses are the same, and so is what follows them
 pub record Cond (a b : ℕ) (e : Expr) (c a2 b2 : ℕ) (f : Expr) (c2 : ℕ) (y z : List Token) : Type 0 where
+  -- their first tokens stand at the same place
   pub one : a ≡ a2
+  -- so do their second tokens
   pub two : b ≡ b2
+  -- the expressions are the same
   pub same : e ≡ f
+  -- the tokens behind the expressions stand at the same place
   pub three : c ≡ c2
+  -- what follows is the same
   pub rest : y ≡ z
 
 -- a word, `(`, an expression and `)`
@@ -195,10 +200,15 @@ pub declaration_same : (a b : ℕ) (xs ys : Declarators) (is js : Items) → tok
 declaration_same a b xs ys is js h i j = cc
 
 record Given (x : List ℕ) (a b : ℕ) (e : Expr) (y : List ℕ) (c d : ℕ) (f : Expr) (t s : Token) (u v : List Token) : Type 0 where
+  -- the names are the same
   pub name : x ≡ y
+  -- they stand at the same place
   pub one : a ≡ c
+  -- so do the signs behind them
   pub two : b ≡ d
+  -- the expressions are the same
   pub same : e ≡ f
+  -- the next token is the same, and so is what follows it
   pub rest : t ∷ u ≡ s ∷ v
 
 given_once : (x : List ℕ) (a b : ℕ) (e : Expr) (y : List ℕ) (c d : ℕ) (f : Expr) (t s : Token) (u v : List Token) → IsEnd t → IsEnd s

@@ -3,11 +3,10 @@ use Rattle.std.proofs.Common.{◌≡◌, ◌∙◌, ◌++◌, ◌≤◌, ◌<◌
 use Rattle.std.proofs.lemmas.Bool.{lt-ltb, le-ltb}
 use Rattle.lang_grammar.specs.Grammar.{Kind}
 use Rattle.lang_grammar.specs.Machine.{Goal, Entry, takes, skips, stops, step, entry}
-use Rattle.lang_grammar.specs.Depth.{opened, opened_by, judged, verdict, Verdict, goes, too_deep}
-use Rattle.lang_grammar.specs.View.{entry_of, Entered, IsTaken, IsShallow, added}
+use Rattle.lang_grammar.specs.Verdicts.{opened, opened_by, judged, verdict, Verdict, goes, too_deep}
+use Rattle.lang_grammar.specs.Goals.{entry_of, Entered, IsTaken, IsShallow, added, stack_of, goal_of}
 use Rattle.std.proofs.Common.{map}
 use Rattle.std.proofs.lemmas.List.{reverse-append}
-use Rattle.lang_grammar.specs.View.{stack_of, goal_of}
 use Rattle.lang_grammar.specs.declared.goal.Goal as code_goal
 use Rattle.lang_grammar.specs.declared.goal.Entry as code_entry
 use Rattle.lang_grammar.specs.declared.goal.Entry.TheVariants as variant

@@ -5,11 +5,11 @@ use Rattle.std.proofs.Common.{false}
 use Rattle.std.proofs.lemmas.Bool.{lt-ltb, le-ltb}
 use Rattle.lang_grammar.specs.Grammar.{Kind, Token, token, Expr}
 use Rattle.lang_grammar.specs.Machine.{Goal, step, run}
-use Rattle.lang_grammar.specs.Depth.{opened, trace, judged, verdict, Verdict, goes, refused, too_deep}
+use Rattle.lang_grammar.specs.Verdicts.{opened, trace, judged, verdict, Verdict, goes, refused, too_deep}
 use Rattle.lang_grammar.specs.Faults.{AllShallow}
 use Rattle.lang_grammar.specs.Expressions.{ReadsExpr, BeginsExpr, OpensExpr, FineExpr, IsLongest, Reach, reaches, runs_out, stops_at}
 use Rattle.lang_grammar.specs.Expressions.{nests_at, FindsExpr}
-use Rattle.lang_grammar.specs.Expressions.{expression_start, is_infix, ends_before, longer, longer_by, reach}
+use Rattle.lang_grammar.specs.Reaches.{expression_start, is_infix, ends_before, longer, longer_by, reach}
 use Rattle.lang_grammar.proofs.faults.Exact.{last_same, opened_last}
 use Rattle.lang_grammar.proofs.faults.Scanned.{run_one, trace_front}
 use Rattle.lang_grammar.proofs.machine.Finish.{run_front}

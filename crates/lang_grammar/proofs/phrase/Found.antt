@@ -5,11 +5,11 @@ use Rattle.std.proofs.Common.{false, nat_lt}
 use Rattle.std.proofs.lemmas.Bool.{ltb-true, ltb-false}
 use Rattle.lang_grammar.specs.Grammar.{Kind, Token, token, Expr}
 use Rattle.lang_grammar.specs.Machine.{Goal, step, run}
-use Rattle.lang_grammar.specs.Depth.{opened, trace, judged, verdict, Verdict, goes, refused, too_deep}
+use Rattle.lang_grammar.specs.Verdicts.{opened, trace, judged, verdict, Verdict, goes, refused, too_deep}
 use Rattle.lang_grammar.specs.Faults.{AllShallow}
 use Rattle.lang_grammar.specs.Expressions.{ReadsExpr, BeginsExpr, OpensExpr, FineExpr, Reach, reaches, runs_out, stops_at, nests_at}
 use Rattle.lang_grammar.specs.Expressions.{FindsExpr}
-use Rattle.lang_grammar.specs.Expressions.{expression_start, is_infix, ends_before, longer, reach}
+use Rattle.lang_grammar.specs.Reaches.{expression_start, is_infix, ends_before, longer, reach}
 use Rattle.lang_grammar.proofs.faults.Scanned.{run_one, trace_one, trace_front, trace_low, Low}
 use Rattle.lang_grammar.proofs.machine.Finish.{run_front}
 use Rattle.lang_grammar.proofs.phrase.Stacks.{IsPending, end_step, sign_steps, pending_step, start_pending}

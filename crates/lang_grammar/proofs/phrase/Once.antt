@@ -1,7 +1,8 @@
 -- Tokens have one longest expression.
 use Rattle.std.proofs.Common.{◌≡◌, ◌∙◌, ◌++◌, ℕ, suc, List, [], ◌∷◌, length, refl, sym, ap, arith}
 use Rattle.lang_grammar.specs.Grammar.{semicolon, Token, token, Expr}
-use Rattle.lang_grammar.specs.Expressions.{ReadsExpr, IsLongest, Reach, reaches, runs_out, FindsExpr, expression_start, reach}
+use Rattle.lang_grammar.specs.Expressions.{ReadsExpr, IsLongest, Reach, reaches, runs_out, FindsExpr}
+use Rattle.lang_grammar.specs.Reaches.{expression_start, reach}
 use Rattle.lang_grammar.proofs.grammar.Unique.{weight, unique, unique_expr}
 use Rattle.lang_grammar.proofs.phrase.Exact.{exact_by}
 

@@ -3,8 +3,9 @@ use Rattle.std.specs.Prelude.{slice_range, not}
 use Rattle.std.proofs.Common.{◌≡◌, ◌∙◌, ◌+◌, ℕ, List, [], ◌∷◌, refl, ap, map, Bool, true, false}
 use Rattle.lang_grammar.specs.Grammar.{Kind}
 use Rattle.lang_grammar.specs.Machine.{Goal}
-use Rattle.lang_grammar.specs.Depth.{verdict, Verdict, goes, refused, too_deep}
-use Rattle.lang_grammar.specs.Expressions.{Reach, reaches, stops_at, nests_at, is_infix, ends_before, longer, reach}
+use Rattle.lang_grammar.specs.Verdicts.{verdict, Verdict, goes, refused, too_deep}
+use Rattle.lang_grammar.specs.Expressions.{Reach, reaches, stops_at, nests_at}
+use Rattle.lang_grammar.specs.Reaches.{is_infix, ends_before, longer, reach}
 use Rattle.lang_grammar.specs.View.{kind_of, plain_kind, tokens_of, plain_token}
 use Rattle.lang_grammar.proofs.view.Plain.{plain_verdict}
 use Rattle.lang_tokens.specs.declared.token.Kind as lex_kind

@@ -2,8 +2,9 @@
 use Rattle.std.proofs.Common.{◌≡◌, ◌∙◌, ◌+◌, ℕ, zero, suc, List, ◌∷◌, refl, ap, arith, Bool, true, false}
 use Rattle.lang_grammar.specs.Grammar.{Kind, Token, token}
 use Rattle.lang_grammar.specs.Machine.{Goal}
-use Rattle.lang_grammar.specs.Depth.{verdict, Verdict, goes, refused, too_deep}
-use Rattle.lang_grammar.specs.Expressions.{Reach, reaches, runs_out, stops_at, nests_at, ends_before, longer, longer_by, reach}
+use Rattle.lang_grammar.specs.Verdicts.{verdict, Verdict, goes, refused, too_deep}
+use Rattle.lang_grammar.specs.Expressions.{Reach, reaches, runs_out, stops_at, nests_at}
+use Rattle.lang_grammar.specs.Reaches.{ends_before, longer, longer_by, reach}
 
 -- one token more at the last is one token more at first
 pub longer_last : (n : ℕ) (x : Reach) → longer (longer_by n x) ≡ longer_by n (longer x)

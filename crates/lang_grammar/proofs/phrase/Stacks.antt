@@ -6,7 +6,7 @@ use Rattle.lang_grammar.specs.Grammar.{nondet_word}
 use Rattle.lang_grammar.specs.Machine.{until_paren, until_semicolon, opening, closing, Goal, operand, more, only, Entry, takes, skips}
 use Rattle.lang_grammar.specs.Machine.{stops, prefix_entry}
 use Rattle.lang_grammar.specs.Machine.{operand_entry, more_entry, only_entry, entry, step}
-use Rattle.lang_grammar.specs.Expressions.{expression_start, is_infix, ends_before}
+use Rattle.lang_grammar.specs.Reaches.{expression_start, is_infix, ends_before}
 
 -- a part of an operand
 abbrev pub IsInner : Goal → Type 0

@@ -3,9 +3,11 @@ use Rattle.std.proofs.Common.{◌≡◌, ◌∙◌, ◌++◌, ◌⊎◌, inl, in
 use Rattle.std.proofs.lemmas.List.{append-nil}
 use Rattle.lang_grammar.specs.Grammar.{semicolon, Token, token, Expr, spell_expr, Groups}
 use Rattle.lang_grammar.specs.Machine.{until_semicolon, Goal, more, run}
-use Rattle.lang_grammar.specs.Depth.{opens_expr, trace}
+use Rattle.lang_grammar.specs.Depth.{opens_expr}
+use Rattle.lang_grammar.specs.Verdicts.{trace}
 use Rattle.lang_grammar.specs.Faults.{AllShallow}
-use Rattle.lang_grammar.specs.Expressions.{ReadsExpr, BeginsExpr, OpensExpr, FineExpr, expression_start}
+use Rattle.lang_grammar.specs.Expressions.{ReadsExpr, BeginsExpr, OpensExpr, FineExpr}
+use Rattle.lang_grammar.specs.Reaches.{expression_start}
 use Rattle.lang_grammar.proofs.depth.Deep.{expr_trace}
 use Rattle.lang_grammar.proofs.faults.Exact.{append_same}
 use Rattle.lang_grammar.proofs.faults.Scanned.{trace_front, trace_length}

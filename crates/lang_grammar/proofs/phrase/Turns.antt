@@ -3,9 +3,11 @@ use Rattle.std.proofs.Common.{◌≡◌, ◌∙◌, ◌<◌, ◌≤◌, ℕ, Lis
 use Rattle.std.proofs.Math.ListN.{drop_of_length-le}
 use Rattle.std.proofs.lemmas.List.{at_drop_more}
 use Rattle.lang_grammar.specs.Machine.{Goal}
-use Rattle.lang_grammar.specs.Depth.{verdict}
-use Rattle.lang_grammar.specs.Expressions.{reaches, runs_out, stops_at, nests_at, ends_before, longer_by, reach}
-use Rattle.lang_grammar.specs.View.{plain_kind, plain_token, stack_of, Advances}
+use Rattle.lang_grammar.specs.Verdicts.{verdict}
+use Rattle.lang_grammar.specs.Expressions.{reaches, runs_out, stops_at, nests_at}
+use Rattle.lang_grammar.specs.Reaches.{ends_before, longer_by, reach}
+use Rattle.lang_grammar.specs.View.{plain_kind, plain_token}
+use Rattle.lang_grammar.specs.Goals.{stack_of, Advances}
 use Rattle.lang_grammar.specs.declared.goal.Goal as code_goal
 use Rattle.lang_grammar.specs.declared.machine.Outcome as code_outcome
 use Rattle.lang_grammar.proofs.phrase.Reached.{reaches_by, out_by, stops_by, nests_by, reach_ends, reach_stops, reach_nests}

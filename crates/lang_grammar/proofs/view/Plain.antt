@@ -5,7 +5,8 @@ use Rattle.lang_grammar.specs.Grammar.{a_name, a_number, Kind}
 use Rattle.lang_grammar.specs.Machine.{Goal, operand, more}
 use Rattle.lang_grammar.specs.Machine.{only, opening}
 use Rattle.lang_grammar.specs.Machine.{until_paren, Entry, takes, skips, stops, entry, step}
-use Rattle.lang_grammar.specs.Depth.{opened, opened_by, verdict, judged, Verdict, goes, refused, too_deep, Scan, unexpected, nested, scan}
+use Rattle.lang_grammar.specs.Verdicts.{opened, opened_by, verdict, judged, Verdict, goes, refused, too_deep, scan}
+use Rattle.lang_grammar.specs.Faults.{Scan, unexpected, nested}
 use Rattle.lang_grammar.specs.View.{literal, kind_of, plain_kind, tokens_of, plain_token}
 use Rattle.lang_tokens.specs.declared.token.Kind as lex_kind
 use Rattle.lang_tokens.specs.declared.token.Token as lex_token

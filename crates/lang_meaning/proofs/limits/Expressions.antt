@@ -3,8 +3,8 @@ use Rattle.std.proofs.Common.{◌+◌, inl, inr, ℕ, List, length, drop, Ok, sy
 use Rattle.lang_grammar.specs.Grammar.{Token, Expr}
 use Rattle.lang_tokens.specs.Lines.{line_at}
 use Rattle.lang_meaning.specs.Walk.{Value, a_form, a_truth, a_nondet, few_leaves, walk_expr}
-use Rattle.lang_meaning.specs.Expressions.{a_condition, ExpressionAnswer, ExpressionMeans, MeaningFits, knowing, meaning_of, meant}
-use Rattle.lang_meaning.specs.Expressions.{first_place}
+use Rattle.lang_meaning.specs.Expressions.{a_condition, knowing, meaning_of, meant, first_place}
+use Rattle.lang_meaning.specs.ExpressionAnswers.{ExpressionAnswer, ExpressionMeans, MeaningFits}
 use Rattle.lang_meaning.proofs.limits.Values.{OnValue, on_bind, ValueFits, TestFits, tested_fits}
 use Rattle.lang_meaning.proofs.limits.Programs.{expr_fits}
 

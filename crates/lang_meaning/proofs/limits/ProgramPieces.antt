@@ -42,14 +42,20 @@ known_below x a st = by_place (place_of x st.names) refl where
 
 -- a state within the limits
 pub record Fits (st : State) : Type 0 where
+  -- there are no more names than there may be variables
   pub few_names : length st.names ≤ MOST_VARIABLES
+  -- there are at most 512 nodes
   pub few_nodes : st.count ≤ 512
 
 -- what comes of nodes: so many more names and nodes, and each node is one over at least as many variables as are named then
 pub record Grows (N : ℕ) (inside : Bool) (before : State) (declared : ℕ) (r : State × Statements) : Type 0 where
+  -- the state after them is within the limits
   pub fits : Fits r.0
+  -- it has so many names more
   pub names : length r.0.names ≡ length before.names + declared
+  -- it counts as many nodes more as there are
   pub nodes : r.0.count ≡ before.count + nodes_in r.1
+  -- where it has at most N names, the nodes are statements over N variables within the limits
   pub good : length r.0.names ≤ N → IsTrue (are_statements N inside r.1)
 
 -- one node more is counted

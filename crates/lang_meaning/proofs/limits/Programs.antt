@@ -45,6 +45,7 @@ use Rattle.lang_meaning.proofs.limits.ProgramPieces.{follow_count, one_good, ass
 use Rattle.lang_meaning.proofs.limits.ProgramPieces.{change_nodes_good, change_nodes_count, label_fits}
 
 module _ (line : ℕ → ℕ) (N : ℕ) where
+  -- what the walk of an expression gives, unless it is a fault, is a value over N variables with its numbers in their range
   pub expr_fits : (st : State) (e : Expr) → OnValue (ValueFits N) (walk_expr line N st e)
   expr_fits st (number n a) = on_bind (FormFits N) (ValueFits N) (ranged a (constant_form N (pos n))) _
       (ranged_fits N a (constant_form N (pos n)) (constant_length N (pos n))) (λ f h. h)
@@ -415,6 +416,7 @@ last_fits N d (x ∷ xs) q k h e =
     (le-leb (length (x ∷ xs)) MOST_VARIABLES (omega (arith, l, h.fits.few_names)))
     (both_true (nat_le (nodes_in q.1) 512) (are_statements (length (x ∷ xs)) false q.1) (le-leb (nodes_in q.1) 512 c) g))
 
+-- what the walk of a program's items gives, at the width of their declarations, is a program within the limits, or a fault
 pub program_fits : (line : ℕ → ℕ) (is : Items) → OnValue IsProgram (walk_items line (min MOST_VARIABLES (declared_items is)) false is
     start_state >>= λ q. program_of q)
 program_fits line is = on_bind (Grows (min MOST_VARIABLES (declared_items is)) false start_state (declared_items is)) IsProgram
@@ -422,9 +424,11 @@ program_fits line is = on_bind (Grows (min MOST_VARIABLES (declared_items is)) f
     (items_fit line (min MOST_VARIABLES (declared_items is)) false is start_state start_fits)
     (λ q h. last_fits (min MOST_VARIABLES (declared_items is)) (declared_items is) q.0.names q refl h refl)
 
+-- what the walk of a program gives is a program within the limits, or a fault
 pub walk_fits : (line : ℕ → ℕ) (p : Program) → OnValue IsProgram (walk line p)
 walk_fits line (program a b c ps d e is r g h) = program_fits line is
 
+-- an answer that is within the limits or a fault, and is no fault, is within the limits
 pub ok_fits : (r : Answer) (x : List (List ℕ) × Statements) → OnValue IsProgram r → r ≡ Ok x → IsProgram x
 ok_fits (Ok y) x h e = let k : y ≡ x = cc in subst IsProgram k h
 ok_fits (Err f) x h e = cc

@@ -28,11 +28,13 @@ abbrev pub OnValue : {A : Type 0} → (A → Type 0) → Result A ParseFault →
 OnValue P (Ok x) = P x
 OnValue P (Err e) = Unit {0}
 
+-- where P holds of a result's value, and Q of what is made of each value with P, Q holds of what is made of the result
 pub on_bind : {A B : Type 0} (P : A → Type 0) (Q : B → Type 0) (r : Result A ParseFault) (f : A → Result B ParseFault) → OnValue P r
     → ((x : A) → P x → OnValue Q (f x)) → OnValue Q (r >>= f)
 on_bind P Q (Ok x) f h g = g x h
 on_bind P Q (Err e) f h g = tt
 
+-- P holds of what a test chooses where it holds of the first choice if the test is true, and of the second one
 pub on_cond : {A : Type 0} (P : A → Type 0) (b : Bool) (x y : Result A ParseFault) → (IsTrue b → OnValue P x) → OnValue P y
     → OnValue P (cond b x y)
 on_cond P true x y f h = f refl
@@ -70,6 +72,7 @@ products_length z (x ∷ xs) = ap suc (products_length z xs)
 abbrev pub FormFits : ℕ → Form → Type 0
 FormFits n f = IsTrue (is_form n f)
 
+-- n coefficients and a constant, all in their range, are a form over n variables
 pub form_fits : (n : ℕ) (cs : List ℤ) (c : ℤ) → length cs ≡ n → IsTrue (are_numbers cs) → IsTrue (is_number c)
     → FormFits n (record { coeffs = cs; constant = c })
 form_fits n cs c l h i = both_true (length cs == n) (are_numbers cs && is_number c) (eq-eqb (length cs) n l)
@@ -78,6 +81,7 @@ form_fits n cs c l h i = both_true (length cs == n) (are_numbers cs && is_number
 form_length : (n : ℕ) (f : Form) → FormFits n f → length f.coeffs ≡ n
 form_length n f h = eqb-true (length f.coeffs) n (and_split (length f.coeffs == n) (are_numbers f.coeffs && is_number f.constant) h).0
 
+-- a form of n coefficients that is let through is one over n variables with its numbers in their range
 pub ranged_fits : (n a : ℕ) (f : Form) → length f.coeffs ≡ n → OnValue (FormFits n) (ranged a f)
 ranged_fits n a f l = on_bind (λ cs. (length cs ≡ length f.coeffs) × IsTrue (are_numbers cs)) (FormFits n) (ranged_numbers a f.coeffs) _
     (both_told _ _ (ranged_numbers a f.coeffs) (numbers_length a f.coeffs)
@@ -85,9 +89,11 @@ ranged_fits n a f l = on_bind (λ cs. (length cs ≡ length f.coeffs) × IsTrue 
     (λ cs h. on_bind (λ c. IsTrue (is_number c)) (FormFits n) (ranged_number a f.constant) _
     (told _ (ranged_number a f.constant) (λ c e. ranged_is_number a f.constant c e)) (λ c i. form_fits n cs c (h.0 ∙ l) h.1 i))
 
+-- a constant form over n variables has n coefficients
 pub constant_length : (n : ℕ) (z : ℤ) → length (constant_form n z).coeffs ≡ n
 constant_length n z = length-replicate n (pos 0)
 
+-- a variable plus a number in its range is a form over n variables with its numbers in their range
 pub variable_fits : (n i : ℕ) (z : ℤ) → IsTrue (is_number z) → FormFits n (variable_form n i z)
 variable_fits n i z h = form_fits n (set (replicate n (pos 0)) i (pos 1)) z
     (length-set (replicate n (pos 0)) i (pos 1) ∙ length-replicate n (pos 0)) (set_fits (replicate n (pos 0)) i (zeros_fit n)) h
@@ -103,9 +109,11 @@ number_fits n sign (a_form f first) h = h
 number_fits n sign (a_truth c) h = tt
 number_fits n sign (a_nondet a) h = tt
 
+-- a form over n variables whose constant lets it be compared is one that is compared
 pub compared_fits : (n : ℕ) (f : Form) → FormFits n f → IsTrue (is_comparable f) → IsTrue (is_compared n f)
 compared_fits n f h i = both_true (is_form n f) (is_comparable f) h i
 
+-- a value over n variables is a condition over n variables, or a fault
 pub condition_fits : (n : ℕ) (v : Value) → ValueFits n v → OnValue (λ c. IsTrue (is_condition n c)) (as_condition v)
 condition_fits n (a_form f first) h = on_cond (λ c. IsTrue (is_condition n c)) (is_comparable f) _ _ (λ i. compared_fits n f h i) tt
 condition_fits n (a_truth c) h = h
@@ -137,6 +145,7 @@ comparison_fits : (n : ℕ) (r : Relation) (a : ℕ) (f g : Form) → FormFits n
 comparison_fits n r a f g h i = on_bind (FormFits n) (ValueFits n) (ranged a (minus f g)) _ (together_fits n a true f g h i)
     (λ k l. on_cond (ValueFits n) (is_comparable k) _ _ (λ t. compared_fits n k l t) tt)
 
+-- what a sign makes of two values over n variables is one over n variables, or a fault
 pub combined_fits : (n : ℕ) (o : Op) (a : ℕ) (v w : Value) → ValueFits n v → ValueFits n w → OnValue (ValueFits n) (combined o a v w)
 combined_fits n or_op a v w h i = on_bind _ (ValueFits n) (two_conditions v w) _ (conditions_fit n v w h i)
     (λ p k. both_true (is_condition n p.0) (is_condition n p.1) k.0 k.1)
@@ -154,12 +163,14 @@ combined_fits n times_op a v w h i =
     on_bind _ (ValueFits n) (two_numbers a v w) _ (numbers_fit n a v w h i)
     (λ p k. on_bind (FormFits n) (ValueFits n) (product a p.0 p.1) _ (product_fits n a p.0 p.1 k.0 k.1) (λ f l. l))
 
+-- what a sign before a value over n variables makes of it is one over n variables, or a fault
 pub prefix_fits : (n : ℕ) (p : Prefix) (a : ℕ) (v : Value) → ValueFits n v → OnValue (ValueFits n) (prefix_value p a v)
 prefix_fits n negative a v h = on_bind (FormFits n) (ValueFits n) (number_of a v) _ (number_fits n a v h)
     (λ f i. on_bind (FormFits n) (ValueFits n) (ranged a (scaled (negsuc 0) f)) _ (scaled_fits n a (negsuc 0) f i) (λ g k. k))
 prefix_fits n positive a v h = on_bind (FormFits n) (ValueFits n) (number_of a v) _ (number_fits n a v h) (λ f i. i)
 prefix_fits n negation a v h = on_bind (λ c. IsTrue (is_condition n c)) (ValueFits n) (as_condition v) _ (condition_fits n v h) (λ c i. i)
 
+-- in parentheses a value over n variables is one over n variables
 pub regarded_fits : (n a : ℕ) (v : Value) → ValueFits n v → ValueFits n (regarded a v)
 regarded_fits n a (a_form f first) h = h
 regarded_fits n a (a_truth c) h = h
@@ -168,6 +179,7 @@ regarded_fits n a (a_nondet b) h = tt
 abbrev pub TestFits : ℕ → Condition → Type 0
 TestFits n c = IsTrue (is_tested n c)
 
+-- the condition of a statement that a value over n variables gives is one over n variables with at most 64 leaves, or a fault
 pub tested_fits : (n a : ℕ) (v : Value) → ValueFits n v → OnValue (TestFits n) (tested a v)
 tested_fits n a v h = on_bind (λ c. IsTrue (is_condition n c)) (TestFits n) (as_condition v) _ (condition_fits n v h)
     (λ c i. few n a c i) where
@@ -182,11 +194,13 @@ abbrev pub SideFits : ℕ → Option Form → Type 0
 SideFits n (Some f) = FormFits n f
 SideFits n None = Unit {0}
 
+-- the right side of `=` that a value over n variables gives is a form over n variables, any value, or a fault
 pub side_fits : (n sign : ℕ) (v : Value) → ValueFits n v → OnValue (SideFits n) (right_side sign v)
 side_fits n sign (a_form f first) h = h
 side_fits n sign (a_truth c) h = tt
 side_fits n sign (a_nondet a) h = tt
 
+-- what a variable takes by an assignment of a value over n variables is a form over n variables, any value, or a fault
 pub assigned_fits : (n : ℕ) (g : Assigning) (i sign : ℕ) (v : Value) → ValueFits n v → OnValue (SideFits n) (assigned n g i sign v)
 assigned_fits n replaces i sign v h = side_fits n sign v h
 assigned_fits n adds i sign v h =

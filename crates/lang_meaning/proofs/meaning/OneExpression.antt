@@ -6,7 +6,8 @@ use Rattle.lang_grammar.proofs.phrase.Once.{found_is, longest_size, longest_once
 use Rattle.lang_meaning.specs.declared.fault.ParseFault.TheVariants as fault
 use Rattle.lang_meaning.specs.declared.fault.Limit.TheVariants.{Nesting}
 use Rattle.lang_meaning.specs.Results.{◌>>=◌}
-use Rattle.lang_meaning.specs.Expressions.{ExpressionAnswer, ExpressionMeans, first_place, meant}
+use Rattle.lang_meaning.specs.Expressions.{first_place, meant}
+use Rattle.lang_meaning.specs.ExpressionAnswers.{ExpressionAnswer, ExpressionMeans}
 
 two_stops : (a b : ℕ) (ts : List Token) → FindsExpr (stops_at a) ts → FindsExpr (stops_at b) ts → a ≡ b
 two_stops a b ts f g = let h = sym (found_is (stops_at a) ts (λ e. cc) f) ∙ found_is (stops_at b) ts (λ e. cc) g in cc

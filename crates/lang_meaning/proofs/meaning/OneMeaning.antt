@@ -2,8 +2,8 @@
 use Rattle.std.proofs.Common.{◌≡◌, ◌∙◌, inl, inr, ℕ, List, Ok, Err, refl, sym, ap}
 use Rattle.lang_grammar.specs.Grammar.{Token, Program, Reads}
 use Rattle.lang_grammar.specs.Machine.{start}
-use Rattle.lang_grammar.specs.Depth.{Scan, whole, short, unexpected, nested, scan}
-use Rattle.lang_grammar.specs.Faults.{Fine, Finds}
+use Rattle.lang_grammar.specs.Faults.{Scan, whole, short, unexpected, nested, Fine, Finds}
+use Rattle.lang_grammar.specs.Verdicts.{scan}
 use Rattle.lang_grammar.proofs.faults.Exact.{exact_by}
 use Rattle.lang_grammar.proofs.grammar.Once.{reads_once}
 use Rattle.lang_tokens.specs.Lines.{line_at}
@@ -51,6 +51,7 @@ pub meant_value : (text : List ℕ) (ts : List Token) (wanted r : Answer) (x : L
     → Means text ts r → r ≡ Ok x → wanted ≡ Ok x
 meant_value text ts wanted r x m n e = means_once text ts wanted r m n ∙ e
 
+-- where one answer that is meant is a fault, another one is the same fault
 pub meant_fault : (text : List ℕ) (ts : List Token) (wanted r : Answer) (e : ParseFault) → Means text ts wanted → Means text ts r
     → r ≡ Err e → wanted ≡ Err e
 meant_fault text ts wanted r e m n h = means_once text ts wanted r m n ∙ h

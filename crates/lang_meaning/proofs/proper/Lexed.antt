@@ -43,9 +43,11 @@ front_proper : (text : List ℕ) (place : ℕ) (front : List Token) (n : ℕ) �
 front_proper text place [] n h = (tt, tt)
 front_proper text place (t ∷ ts) n h = (kind_proper t.kind text t h.0.within h.0.is_token, front_proper text (t.at + t.len) ts n h.1)
 
+-- the names among the tokens of a text are words of it
 pub all_proper : (text : List ℕ) (ts : List Token) → AreTokensOf text ts → AllProper text ts
 all_proper text ts h = subst (AllProper text) h.ended (front_proper text 0 h.front (length text) h.placed)
 
+-- where all tokens are proper, the one of each number is
 pub proper_at : (text : List ℕ) (ts : List Token) (i : ℕ) (d : Token) → i < length ts → AllProper text ts → IsProper text (get_or ts i d)
 proper_at text [] i d h p = absurd (omega arith)
 proper_at text (t ∷ ts) zero d h p = p.0

@@ -8,7 +8,7 @@ use Rattle.lang_tokens.specs.declared.token.Token as lex_token
 use Rattle.lang_parser.specs.declared.alone.Read.{Read}
 use Rattle.lang_meaning.specs.declared.fault.ParseFault.{ParseFault}
 use Rattle.lang_meaning.specs.declared.fault.ParseFault.TheVariants.{NoMemory}
-use Rattle.lang_meaning.specs.Expressions.{ExpressionAnswer, ExpressionMeans, HasLongest, IsRefused, MeaningFits}
+use Rattle.lang_meaning.specs.ExpressionAnswers.{ExpressionAnswer, ExpressionMeans, HasLongest, IsRefused, MeaningFits}
 use Rattle.lang_feed.specs.Readings.{reading_of}
 use Rattle.lang_parser.specs.Expressions.{read_of, expr_of}
 use Rattle.lang_meaning.specs.Gives.{Gives}
@@ -29,9 +29,11 @@ module _ (text : List ℕ) (ts : List lex_token.Token) (from n : ℕ) (d : lex_t
     (longest : HasLongest (drop from (tokens_of text ts)) n) (result : Result Read ParseFault)
     (gives : Gives read_of result (reading_of text names (get_or ts from d).at (tokens_of text (slice_range ts from (from + n)))
     (from + n))) where
+  -- the tokens mean something, and that is the answer, unless it is want of memory
   pub reading_found : Found text (tokens_of text ts) from names result
   reading_found = (_, reading_means text ts from n d names within longest, gives)
 
+  -- whatever the tokens mean is the answer, unless it is want of memory
   pub reading_exact : Exact text (tokens_of text ts) from names result
   reading_exact = λ w m. subst (λ (x : ExpressionAnswer). Gives read_of result x)
       (expression_once text (tokens_of text ts) from names _ w (reading_means text ts from n d names within longest) m) gives
@@ -40,9 +42,11 @@ module _ (text : List ℕ) (ts : List lex_token.Token) (from n : ℕ) (d : lex_t
 module _ (text : List ℕ) (ts : List Token) (from : ℕ) (names : List (List ℕ)) (f : ParseFault) (result : Result Read ParseFault)
     (handed : IsErrAnd result (λ y. y ≡ f))
     (refused : (f ≡ NoMemory → ⊥) → IsRefused text ts from f) where
+  -- whatever the tokens mean is the fault that is answered, unless it is want of memory
   pub refused_exact : Exact text ts from names result
   refused_exact = λ w m. handed_on read_of result f w handed (λ n. expression_once text ts from names w (Err f) m (refused n names))
 
+  -- tokens whose last is the end of a text mean something, and that is the fault that is answered, unless it is want of memory
   pub refused_found : EndsWell (drop from ts) → Found text ts from names result
   refused_found e = let s = some_meaning text ts from names e in (s.0, s.1, refused_exact s.0 s.1)
 

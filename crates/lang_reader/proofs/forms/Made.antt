@@ -19,6 +19,7 @@ numbers_ok a (z ∷ zs) h = let p = and_split (is_number z) (are_numbers zs) h i
     z} (λ y. ranged_numbers a zs >>= λ ys. Ok (y ∷ ys)) (ap (λ (b : Bool). cond b (Ok z) (Err (BigNumber a))) p.0)
     (then_ok {r = ranged_numbers a zs} {x = zs} (λ ys. Ok (z ∷ ys)) (numbers_ok a zs p.1) refl)
 
+-- a list of zeros is let through as it is
 pub zeros_ranged : (a n : ℕ) → ranged_numbers a (replicate n (pos 0)) ≡ Ok (replicate n (pos 0))
 zeros_ranged a n = numbers_ok a (replicate n (pos 0)) (zeros_fit n)
 
@@ -67,18 +68,21 @@ module _ (a : ℕ) (z y : ℤ) (same : y ≡ z) (xs : List ℤ) where
   wanted : (r : Result (List ℤ) ParseFault) → ranged_numbers a (products y xs) ≡ r → ranged_numbers a (products z xs) ≡ r
   wanted r e = ap (λ q. ranged_numbers a (products q xs)) (sym same) ∙ e
 
+  -- where the next product is in its range, it stands behind those so far, and the products of the numbers behind it are left
   pub products_next : (list now : List ℤ) (n x : ℤ) (i : ℕ) → i < length xs → x ≡ get_or xs i (pos 0) → now ≡ list ++ n ∷ []
       → ranged_number a (y *ℤ x) ≡ Ok n → ranged_numbers a (products y xs) ≡ with_rest a list (products y (drop i xs))
       → ranged_numbers a (products y xs) ≡ with_rest a now (products y (drop (i + 1) xs))
   products_next list now n x i h g e f k = rw (e, add-one) (k ∙ ap (with_rest a list) (times_at i x h g)
       ∙ next_ok a list (y *ℤ x) n (products y (drop (suc i) xs)) f)
 
+  -- where the next product gives a fault, the whole list of products gives it
   pub products_stop : (list : List ℤ) (e : ParseFault) (x : ℤ) (i : ℕ) → i < length xs → x ≡ get_or xs i (pos 0)
       → ranged_number a (y *ℤ x) ≡ Err e
       → ranged_numbers a (products y xs) ≡ with_rest a list (products y (drop i xs)) → ranged_numbers a (products z xs) ≡ Err e
   products_stop list e x i h g f k = wanted (Err e) (k ∙ ap (with_rest a list) (times_at i x h g)
       ∙ next_err a list (y *ℤ x) e (products y (drop (suc i) xs)) f)
 
+  -- behind the last number, the products so far are the whole list
   pub products_done : (list : List ℤ) (i : ℕ) → length xs ≤ i → ranged_numbers a (products y xs) ≡ with_rest a list (products y (drop i xs))
       → ranged_numbers a (products z xs) ≡ Ok list
   products_done list i h e = wanted (Ok list) (e ∙ done a list _ (ap (products y) (drop-past xs i h)))
@@ -91,6 +95,7 @@ module _ (a : ℕ) (b : Bool) (xs ys : List ℤ) (whole : Result (List ℤ) Pars
       ∙ ap (λ z. sum_or_difference b z (get_or ys i (pos 0)) ∷ pairwise b (drop (suc i) xs) (drop (suc i) ys)) (sym e)
       ∙ ap (λ z. sum_or_difference b x z ∷ pairwise b (drop (suc i) xs) (drop (suc i) ys)) (sym f)
 
+  -- where the next sum or difference is in its range, it stands behind those so far, and the pairs behind it are left
   pub pairs_next : (list now : List ℤ) (n x y : ℤ) (i : ℕ) → i < length xs → i < length ys → x ≡ get_or xs i (pos 0)
       → y ≡ get_or ys i (pos 0)
       → now ≡ list ++ n ∷ [] → ranged_number a (sum_or_difference b x y) ≡ Ok n
@@ -100,6 +105,7 @@ module _ (a : ℕ) (b : Bool) (xs ys : List ℤ) (whole : Result (List ℤ) Pars
       rw (g, add-one) (w ∙ ap (with_rest a list) (pair_at i x y h k e f)
       ∙ next_ok a list (sum_or_difference b x y) n (pairwise b (drop (suc i) xs) (drop (suc i) ys)) m)
 
+  -- where the next sum or difference gives a fault, the whole list gives it
   pub pairs_stop : (list : List ℤ) (z : ParseFault) (x y : ℤ) (i : ℕ) → i < length xs → i < length ys → x ≡ get_or xs i (pos 0)
       → y ≡ get_or ys i (pos 0) → ranged_number a (sum_or_difference b x y) ≡ Err z
       → whole ≡ with_rest a list (pairwise b (drop i xs) (drop i ys))
@@ -107,6 +113,7 @@ module _ (a : ℕ) (b : Bool) (xs ys : List ℤ) (whole : Result (List ℤ) Pars
   pairs_stop list z x y i h k e f m w = w ∙ ap (with_rest a list) (pair_at i x y h k e f)
       ∙ next_err a list (sum_or_difference b x y) z (pairwise b (drop (suc i) xs) (drop (suc i) ys)) m
 
+  -- where one of the two lists has ended, the numbers so far are the whole list
   pub pairs_done : (list : List ℤ) (i : ℕ) → min (length xs) (length ys) ≤ i → whole ≡ with_rest a list (pairwise b (drop i xs) (drop i ys))
       → whole ≡ Ok list
   pairs_done list i h e = e ∙ done a list _ (pairs_none b xs ys i h)

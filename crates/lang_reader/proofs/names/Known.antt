@@ -14,6 +14,7 @@ numbers_more i (suc n) = let e : suc i + n ≡ i + suc n = omega arith in
 abbrev pub knowing_first : ℕ → List (List ℕ) → State
 knowing_first n all = record { names = take n all; known = numbers_from 0 n; labels = []; count = 0 }
 
+-- where the first n names are known, with their numbers, the next name and the number n make it the first n + 1
 pub known_more : (old : State) (all : List (List ℕ)) (n : ℕ) (x : List ℕ) (names : List (List ℕ)) (known : List ℕ) → n < length all
     → old ≡ knowing_first n all
     → x ≡ get_or all n x → names ≡ old.names ++ x ∷ [] → known ≡ old.known ++ n ∷ []
@@ -30,6 +31,7 @@ known_more old all n x names known w e i f g =
     ∙ ap₂ (λ x y. record { names = take (n + 1) all; known = numbers_from 0 (n + 1); labels = x; count = y })
     (ap (λ (s : State). s.labels) e) (ap (λ (s : State). s.count) e)
 
+-- where n is the number of all names, to know the first n is to know all
 pub known_all : (all : List (List ℕ)) (n : ℕ) → n ≡ length all → knowing_first n all ≡ knowing all
 known_all all n e = ap (λ k. knowing_first k all) e ∙ ap (λ x. record {
   names = x;

@@ -1,20 +1,22 @@
 -- Where comments end.
 use Rattle.std.proofs.Common.{◌≡◌, ◌≤◌, ◌<◌, ◌+◌, ◌-◌, ℕ, suc, zero, true, not, eqb, List, [], ◌∷◌, ◌++◌, length, take, drop, get_or, refl}
 use Rattle.std.proofs.Common.{ap, subst, ◌∙◌}
-use Rattle.std.proofs.Common.{arith, None, Some, ⊎_elim}
+use Rattle.std.proofs.Common.{arith, None, Some, ⊎_elim, Result}
 use Rattle.std.proofs.lemmas.List.{take-append-drop, length-take-le, length-take, length-append, take_rest, get_or_at, append_assoc}
-use Rattle.std.proofs.lemmas.List.{get_or_past}
+use Rattle.std.proofs.lemmas.List.{get_or_past, length-drop, drop_all}
 use Rattle.std.proofs.lemmas.List.Sums.{prefix_len-le-length}
-use Rattle.std.proofs.lemmas.Bool.{not-true, not-false, cases_lt}
+use Rattle.std.proofs.lemmas.Bool.{not-true, not-false, cases_lt, eqb-true}
 use Rattle.std.specs.List.{prefix_len}
 use Rattle.lang_tokens.specs.Bytes.{is_on_line}
-use Rattle.lang_tokens.specs.Reading.{line_comment, block_comment, IsClosed, ends_line}
-use Rattle.lang_tokens.specs.Faults.{IsOpen}
-use Rattle.lang_tokens.specs.Steps.{StandsFirst, ClosesAt, IsFirstClose}
+use Rattle.lang_tokens.specs.declared.fault.LexFault.{LexFault}
+use Rattle.lang_tokens.specs.declared.found.Found.{Found}
+use Rattle.lang_tokens.specs.Reading.{line_comment, block_comment, IsClosed, ends_line, EndsInBackslash, IsUnjoined}
+use Rattle.lang_tokens.specs.Faults.{IsOpen, IsJoined}
+use Rattle.lang_tokens.specs.Steps.{StandsFirst, Finds, ClosesAt, IsFirstClose, IsLastBackslash}
 use Rattle.lang_tokens.proofs.words.Runs.{stops, all_run, stops_run}
 
 -- a text by its first two bytes
-first_two : (rest : List ℕ) (a b : ℕ) → 2 ≤ length rest → get_or rest 0 0 ≡ a → get_or rest 1 0 ≡ b → a ∷ b ∷ drop 2 rest ≡ rest
+pub first_two : (rest : List ℕ) (a b : ℕ) → 2 ≤ length rest → get_or rest 0 0 ≡ a → get_or rest 1 0 ≡ b → a ∷ b ∷ drop 2 rest ≡ rest
 first_two [] a b some e f = absurd (omega arith)
 first_two (x ∷ []) a b some e f = absurd (omega arith)
 first_two (x ∷ y ∷ rest) a b some e f = cc
@@ -23,23 +25,52 @@ ends_from_stops : (xs : List ℕ) → stops is_on_line xs ≡ true → ends_line
 ends_from_stops [] h = refl
 ends_from_stops (x ∷ xs) h = not-false (eqb x 10) (not-true (not (eqb x 10)) h)
 
-line_comment_from : (body : List ℕ) (n : ℕ) → n ≡ prefix_len is_on_line body
+-- what follows `//` up to the next line feed is a line comment, where nothing follows that it would be joined with
+line_comment_from : (body : List ℕ) (n : ℕ) → n ≡ prefix_len is_on_line body → IsUnjoined (take n body) (drop n body)
     → StandsFirst (47 ∷ 47 ∷ body) (record { kind = None; len = 2 + n })
-line_comment_from body n e = rw e record {
-  piece = line_comment (take (prefix_len is_on_line body) body);
-  after = drop (prefix_len is_on_line body) body;
-  split = ap (λ (xs : List ℕ). 47 ∷ 47 ∷ xs) (take-append-drop (prefix_len is_on_line body) body);
-  fits = (all_run is_on_line body, ends_from_stops (drop (prefix_len is_on_line body) body) (stops_run is_on_line body));
-  length_is = omega (arith, length-take-le _ body (prefix_len-le-length is_on_line body));
+line_comment_from body n e unjoined = record {
+  piece = line_comment (take n body);
+  after = drop n body;
+  split = ap (λ (xs : List ℕ). 47 ∷ 47 ∷ xs) (take-append-drop n body);
+  fits = (rw e (all_run is_on_line body), ends_from_stops (drop n body) (rw e (stops_run is_on_line body)), unjoined);
+  length_is = rw e (omega (arith, length-take-le _ body (prefix_len-le-length is_on_line body)));
   kind_is = refl;
 }
 
--- a text that starts with `//` has a line comment first, up to the next line feed
-pub line_comment_stands : (rest : List ℕ) (n : ℕ) → 2 ≤ length rest → get_or rest 0 0 ≡ 47 → get_or rest 1 0 ≡ 47
-    → n ≡ prefix_len is_on_line (take (length rest - 2) (drop 2 rest)) → StandsFirst rest (record { kind = None; len = 2 + n })
-line_comment_stands rest n some e f h =
-    subst (λ (r : List ℕ). StandsFirst r (record { kind = None; len = 2 + n })) (first_two rest 47 47 some e f)
-    (line_comment_from (drop 2 rest) n (rw (take_rest rest 2) at h))
+-- what follows `//` is a line comment to the end of the text, where no line feed comes
+pub last_line_comment : (body : List ℕ) (n : ℕ) → n ≡ prefix_len is_on_line body → n ≡ length body
+    → StandsFirst (47 ∷ 47 ∷ body) (record { kind = None; len = 2 + n })
+last_line_comment body n e end = line_comment_from body n e (λ place ends. drop_all n body (omega (arith, end)))
+
+-- what follows `//` is a line comment up to the next line feed, where it ends in no backslash
+pub plain_line_comment : (body : List ℕ) (n : ℕ) → n ≡ prefix_len is_on_line body → IsLastBackslash (take n body) None
+    → StandsFirst (47 ∷ 47 ∷ body) (record { kind = None; len = 2 + n })
+plain_line_comment body n e none = line_comment_from body n e (λ place ends. absurd (none place ends))
+
+first_feed : (xs : List ℕ) → ends_line xs ≡ true → 0 < length xs → 10 ∷ drop 1 xs ≡ xs
+first_feed [] h some = absurd (omega (arith, some))
+first_feed (x ∷ xs) h some = let feed : x ≡ 10 = eqb-true x 10 h in cc
+
+-- what follows `//` up to the next line feed is joined with what comes behind, where it ends in a backslash
+pub joined_line_comment : (body : List ℕ) (n place : ℕ) → n ≡ prefix_len is_on_line body → n < length body
+    → EndsInBackslash (take n body) place → IsJoined (47 ∷ 47 ∷ body) place
+joined_line_comment body n place e more ends = record {
+  body = take n body;
+  more = drop 1 (drop n body);
+  split = ap (λ (xs : List ℕ). 47 ∷ 47 ∷ xs) (ap (λ (xs : List ℕ). take n body ++ xs) feed ∙ take-append-drop n body);
+  on_line = rw e (all_run is_on_line body);
+  ends = ends;
+}
+  where
+    feed : 10 ∷ drop 1 (drop n body) ≡ drop n body
+    feed = first_feed (drop n body) (ends_from_stops (drop n body) (rw e (stops_run is_on_line body)))
+        (omega (arith, length-drop n body, more))
+
+-- what is found where the text after `//` starts is found where the text starts
+pub line_comment_finds : (rest : List ℕ) (place : ℕ) (result : Result Found LexFault) → 2 ≤ length rest → get_or rest 0 0 ≡ 47
+    → get_or rest 1 0 ≡ 47 → Finds (47 ∷ 47 ∷ take (length rest - 2) (drop 2 rest)) place result → Finds rest place result
+line_comment_finds rest place result some e f h =
+    subst (λ (r : List ℕ). Finds r place result) (first_two rest 47 47 some e f) (rw (take_rest rest 2) at h)
 
 -- where `*/` is written it stands
 close_at : (front after text : List ℕ) → front ++ 42 ∷ 47 ∷ after ≡ text → ClosesAt text (length front)

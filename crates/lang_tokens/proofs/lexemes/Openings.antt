@@ -1,5 +1,5 @@
 -- What starts at a place, by the first two bytes.
-use Rattle.std.proofs.Common.{◌≡◌, ℕ, true, false, cond, eqb, List, [], ◌∷◌, ◌++◌, refl, sym, ap, ◌∙◌, arith}
+use Rattle.std.proofs.Common.{◌≡◌, ℕ, true, false, cond, eqb, List, [], ◌∷◌, ◌++◌, refl, sym, ap, ◌∙◌, inl, inr, arith}
 use Rattle.std.proofs.lemmas.Bool.{cond_both, false_from_ne_true, leb-true, eqb-true}
 use Rattle.lang_tokens.specs.Bytes.{is_blank, is_letter, is_digit}
 use Rattle.lang_tokens.specs.declared.fault.LexFault.{LexFault}
@@ -33,9 +33,11 @@ piece_opening (block_comment body) = a_block_comment
 piece_opening (token kind bytes) = another
 
 -- the opening of a text that starts with this fault
-abbrev pub fault_opening : LexFault → Opening
-fault_opening (OpenComment at) = a_block_comment
-fault_opening fault = another
+abbrev pub fault_opening : (fault : LexFault) (place : ℕ) (rest : List ℕ) → Stands fault place rest → Opening
+fault_opening (BadByte at) place rest (inl s) = another
+fault_opening (BadByte at) place rest (inr s) = a_line_comment
+fault_opening (OpenComment at) place rest s = a_block_comment
+fault_opening fault place rest s = another
 
 letter_no_blank : (b : ℕ) → is_letter b ≡ true → is_blank b ≡ true → ⊥
 letter_no_blank b l k = grind (arith, leb-true, eqb-true)
@@ -84,8 +86,10 @@ nothing_opening (b ∷ bs) n =
     (λ h. second_none (b ∷ bs) bs b refl n (eqb-true b 47 h)) (λ h. refl))
 
 -- a text that starts with a fault has the opening of that fault
-pub opening_of_fault : (fault : LexFault) (place : ℕ) (rest : List ℕ) → Stands fault place rest → opening rest ≡ fault_opening fault
-opening_of_fault (BadByte at) place rest s = nothing_opening rest s.1
+pub opening_of_fault : (fault : LexFault) (place : ℕ) (rest : List ℕ) (stands : Stands fault place rest)
+    → opening rest ≡ fault_opening fault place rest stands
+opening_of_fault (BadByte at) place rest (inl s) = nothing_opening rest s.1
+opening_of_fault (BadByte at) place rest (inr s) = rw (← s.2.split) refl
 opening_of_fault (OpenComment at) place rest s = rw (← s.1.split) refl
 opening_of_fault (LongNumber at) place rest s = lexeme_opening rest s.1.bytes s.1.after s.1.split s.1.longest.lexeme
 opening_of_fault (LongName at) place rest s = lexeme_opening rest s.1.bytes s.1.after s.1.split s.1.longest.lexeme

@@ -1,5 +1,6 @@
 -- At one place at most one piece stands, or one fault and no piece; so a text has one reading or one fault.
-use Rattle.std.proofs.Common.{◌≡◌, ◌≤◌, ℕ, Bool, true, false, not, eqb, List, [], ◌∷◌, ◌++◌, length, take, refl, sym, ap, subst, ◌∙◌, arith}
+use Rattle.std.proofs.Common.{◌≡◌, ◌≤◌, ℕ, Bool, true, false, not, eqb, List, [], ◌∷◌, ◌++◌, length, take, refl, sym, ap, subst, ◌∙◌}
+use Rattle.std.proofs.Common.{inl, inr, arith}
 use Rattle.std.proofs.lemmas.List.{take_at, append_assoc, append_cancel_left, length-append}
 use Rattle.std.proofs.lemmas.Bool.{and_parts, not_from_true, not_from_false}
 use Rattle.std.specs.List.{list_all}
@@ -12,13 +13,15 @@ use Rattle.lang_tokens.specs.declared.fault.LexFault.TheVariants.{BadByte, OpenC
 use Rattle.lang_tokens.specs.Reading.{Piece, blank, line_comment, block_comment, token, piece_bytes, spelling, ends_line, IsClosed}
 use Rattle.lang_tokens.specs.Reading.{IsLongest, IsWholeToken, Fits}
 use Rattle.lang_tokens.specs.Reading.{AllFit, tokens_from, ReadsUpTo, end_at, Reads}
-use Rattle.lang_tokens.specs.Faults.{NothingStarts, IsOpen, IsLongNumber, IsLongName, IsBadNumber, Stands, HasFault}
+use Rattle.lang_tokens.specs.Faults.{NothingStarts, IsJoined, IsOpen, IsLongNumber, IsLongName, IsBadNumber, IsBadByte, Stands, HasFault}
 use Rattle.lang_tokens.proofs.words.Runs.{stops}
+use Rattle.lang_tokens.proofs.comment.Backslashes.{one_backslash}
 use Rattle.lang_tokens.proofs.reading.Growth.{piece_some, lexeme_some}
 use Rattle.lang_tokens.proofs.lexemes.Grades.{Grade, short_word, long_word, good_number, bad_number, great_number, plain_sign, grade}
 use Rattle.lang_tokens.proofs.lexemes.Grades.{kind_grade, token_grade, one_kind}
 use Rattle.lang_tokens.proofs.lexemes.Grades.{one_longest, one_rest, long_word_grade, great_number_grade, bad_number_grade}
-use Rattle.lang_tokens.proofs.lexemes.Openings.{opening, piece_opening, fault_opening, opening_of_piece, opening_of_fault}
+use Rattle.lang_tokens.proofs.lexemes.Openings.{a_line_comment, another, opening, piece_opening, fault_opening}
+use Rattle.lang_tokens.proofs.lexemes.Openings.{opening_of_piece, opening_of_fault}
 
 one_run : (p : ℕ → Bool) (xs r ys s : List ℕ) → list_all p xs ≡ true → stops p r ≡ true → list_all p ys ≡ true → stops p s ≡ true
     → xs ++ r ≡ ys ++ s → xs ≡ ys
@@ -146,35 +149,82 @@ closed_or_open body rest o =
     cc in
     o.unclosed body rest (sym (closed_text body rest) ∙ sym more)
 
+-- what stands behind `//`
+joined_text : (body r : List ℕ) (backslash : ℕ) (j : IsJoined (47 ∷ 47 ∷ (body ++ r)) backslash) → j.body ++ 10 ∷ j.more ≡ body ++ r
+joined_text body r backslash j = let e : 47 ∷ 47 ∷ (j.body ++ 10 ∷ j.more) ≡ 47 ∷ 47 ∷ (body ++ r) = j.split in cc
+
+-- a joined comment has the body that any comment at its place has
+joined_body : (body r : List ℕ) (backslash : ℕ) (j : IsJoined (47 ∷ 47 ∷ (body ++ r)) backslash) → list_all is_on_line body ≡ true
+    → stops is_on_line r ≡ true → j.body ≡ body
+joined_body body r backslash j line stop =
+    one_run is_on_line j.body (10 ∷ j.more) body r j.on_line refl line stop (joined_text body r backslash j)
+
+-- a line comment is not joined with the next line
+comment_or_joined : (body r : List ℕ) (backslash : ℕ) → Fits (line_comment body) r → IsJoined (47 ∷ 47 ∷ (body ++ r)) backslash → ⊥
+comment_or_joined body r backslash f j =
+    let same : j.body ≡ body = joined_body body r backslash j f.0 (stops_from_ends r f.1) in
+    let end : r ≡ [] = f.2 backslash (rw same at j.ends) in
+    let feed : 10 ∷ j.more ≡ r = append_cancel_left body (10 ∷ j.more) r (rw same at (joined_text body r backslash j)) in
+    cc
+
+-- a joined comment ends in one backslash
+one_joined : (rest : List ℕ) (place other : ℕ) → IsJoined rest place → IsJoined rest other → place ≡ other
+one_joined rest place other a b =
+    let j : IsJoined (47 ∷ 47 ∷ (b.body ++ 10 ∷ b.more)) place = rw b.split a in
+    let same : j.body ≡ b.body = joined_body b.body (10 ∷ b.more) place j b.on_line refl in
+    one_backslash b.body place other (rw same at j.ends) b.ends
+
+-- no piece stands where a byte is bad
+no_bad_byte : (p : Piece) (r : List ℕ) (at place : ℕ) → Fits p r → IsBadByte at place (piece_bytes p ++ r) → ⊥
+no_bad_byte (line_comment body) r at place f (inr s) = comment_or_joined body r s.0 f s.2
+no_bad_byte (token k a) r at place f (inl s) = s.1.no_token a r refl f.longest.lexeme
+no_bad_byte p r at place f (inl s) = let same : piece_opening p ≡ another =
+    sym (opening_of_piece p r f) ∙ opening_of_fault (BadByte at) place (piece_bytes p ++ r) (inl s) in cc
+no_bad_byte p r at place f (inr s) = let same : piece_opening p ≡ a_line_comment =
+    sym (opening_of_piece p r f) ∙ opening_of_fault (BadByte at) place (piece_bytes p ++ r) (inr s) in cc
+
 -- no piece stands where a fault does
 no_piece : (p : Piece) (r : List ℕ) (fault : LexFault) (place : ℕ) → Fits p r → Stands fault place (piece_bytes p ++ r) → ⊥
 no_piece p r NoMemory place f s = s
 no_piece (block_comment body) r (OpenComment at) place f s = closed_or_open body r s.1
-no_piece (token k a) r (BadByte at) place f s = s.1.no_token a r refl f.longest.lexeme
+no_piece p r (BadByte at) place f s = no_bad_byte p r at place f s
 no_piece (token k a) r (LongNumber at) place f s = let no : is_kind_grade great_number ≡ true =
     token_no_fault k a r great_number f (long_number_graded (a ++ r) s.1) in cc
 no_piece (token k a) r (LongName at) place f s = let no : is_kind_grade long_word ≡ true =
     token_no_fault k a r long_word f (long_name_graded (a ++ r) s.1) in cc
 no_piece (token k a) r (BadNumber at) place f s = let no : is_kind_grade bad_number ≡ true =
     token_no_fault k a r bad_number f (bad_number_graded (a ++ r) s.1) in cc
-no_piece p r fault place f s = let same : piece_opening p ≡ fault_opening fault =
+no_piece p r fault place f s = let same : piece_opening p ≡ fault_opening fault place (piece_bytes p ++ r) s =
     sym (opening_of_piece p r f) ∙ opening_of_fault fault place (piece_bytes p ++ r) s in cc
+
+-- no other fault stands where a byte is bad
+one_bad_byte : (x : ℕ) (g : LexFault) (place : ℕ) (rest : List ℕ) → IsBadByte x place rest → Stands g place rest → BadByte x ≡ g
+one_bad_byte x NoMemory place rest s t = absurd t
+one_bad_byte x (BadByte y) place rest (inl s) (inl t) = ap BadByte (s.0 ∙ sym t.0)
+one_bad_byte x (BadByte y) place rest (inr s) (inr t) =
+    let same : s.0 ≡ t.0 = one_joined rest s.0 t.0 s.2 t.2 in ap BadByte (omega (arith, s.1, t.1, same))
+one_bad_byte x (BadByte y) place rest (inl s) (inr t) = let same : another ≡ a_line_comment =
+    sym (opening_of_fault (BadByte x) place rest (inl s)) ∙ opening_of_fault (BadByte y) place rest (inr t) in cc
+one_bad_byte x (BadByte y) place rest (inr s) (inl t) = let same : a_line_comment ≡ another =
+    sym (opening_of_fault (BadByte x) place rest (inr s)) ∙ opening_of_fault (BadByte y) place rest (inl t) in cc
+one_bad_byte x (LongNumber y) place rest (inl s) t = absurd (nothing_graded rest great_number s.1 (long_number_graded rest t.1))
+one_bad_byte x (LongName y) place rest (inl s) t = absurd (nothing_graded rest long_word s.1 (long_name_graded rest t.1))
+one_bad_byte x (BadNumber y) place rest (inl s) t = absurd (nothing_graded rest bad_number s.1 (bad_number_graded rest t.1))
+one_bad_byte x g place rest (inl s) t = let same : another ≡ fault_opening g place rest t =
+    sym (opening_of_fault (BadByte x) place rest (inl s)) ∙ opening_of_fault g place rest t in cc
+one_bad_byte x g place rest (inr s) t = let same : a_line_comment ≡ fault_opening g place rest t =
+    sym (opening_of_fault (BadByte x) place rest (inr s)) ∙ opening_of_fault g place rest t in cc
 
 -- one fault stands at a place
 one_fault : (f g : LexFault) (place : ℕ) (rest : List ℕ) → Stands f place rest → Stands g place rest → f ≡ g
 one_fault NoMemory g place rest s t = absurd s
 one_fault f NoMemory place rest s t = absurd t
-one_fault (BadByte x) (BadByte y) place rest s t = ap BadByte (s.0 ∙ sym t.0)
+one_fault (BadByte x) g place rest s t = one_bad_byte x g place rest s t
+one_fault f (BadByte y) place rest s t = sym (one_bad_byte y f place rest t s)
 one_fault (OpenComment x) (OpenComment y) place rest s t = ap OpenComment (s.0 ∙ sym t.0)
 one_fault (LongNumber x) (LongNumber y) place rest s t = ap LongNumber (s.0 ∙ sym t.0)
 one_fault (LongName x) (LongName y) place rest s t = ap LongName (s.0 ∙ sym t.0)
 one_fault (BadNumber x) (BadNumber y) place rest s t = ap BadNumber (s.0 ∙ sym t.0)
-one_fault (BadByte x) (LongNumber y) place rest s t = absurd (nothing_graded rest great_number s.1 (long_number_graded rest t.1))
-one_fault (BadByte x) (LongName y) place rest s t = absurd (nothing_graded rest long_word s.1 (long_name_graded rest t.1))
-one_fault (BadByte x) (BadNumber y) place rest s t = absurd (nothing_graded rest bad_number s.1 (bad_number_graded rest t.1))
-one_fault (LongNumber x) (BadByte y) place rest s t = absurd (nothing_graded rest great_number t.1 (long_number_graded rest s.1))
-one_fault (LongName x) (BadByte y) place rest s t = absurd (nothing_graded rest long_word t.1 (long_name_graded rest s.1))
-one_fault (BadNumber x) (BadByte y) place rest s t = absurd (nothing_graded rest bad_number t.1 (bad_number_graded rest s.1))
 one_fault (LongNumber x) (LongName y) place rest s t = let no = one_grade rest great_number long_word (long_number_graded rest s.1)
     (long_name_graded rest t.1) in cc
 one_fault (LongNumber x) (BadNumber y) place rest s t = let no = one_grade rest great_number bad_number (long_number_graded rest s.1)
@@ -187,7 +237,7 @@ one_fault (BadNumber x) (LongNumber y) place rest s t = let no = one_grade rest 
     (long_number_graded rest t.1) in cc
 one_fault (BadNumber x) (LongName y) place rest s t = let no = one_grade rest bad_number long_word (bad_number_graded rest s.1)
     (long_name_graded rest t.1) in cc
-one_fault f g place rest s t = let same : fault_opening f ≡ fault_opening g =
+one_fault f g place rest s t = let same : fault_opening f place rest s ≡ fault_opening g place rest t =
     sym (opening_of_fault f place rest s) ∙ opening_of_fault g place rest t in cc
 
 -- no piece starts here
@@ -252,7 +302,8 @@ lexeme_at_end bytes after e l = let none : length (bytes ++ after) ≡ 0 = ap le
     omega (arith, lexeme_some bytes l.lexeme, length-append bytes after)
 
 nothing_at_end : (fault : LexFault) (place : ℕ) → Stands fault place [] → ⊥
-nothing_at_end (BadByte at) place s = let e : s.1.first ∷ s.1.more ≡ [] = s.1.split in cc
+nothing_at_end (BadByte at) place (inl s) = let e : s.1.first ∷ s.1.more ≡ [] = s.1.split in cc
+nothing_at_end (BadByte at) place (inr s) = let e : 47 ∷ 47 ∷ (s.2.body ++ 10 ∷ s.2.more) ≡ [] = s.2.split in cc
 nothing_at_end (OpenComment at) place s = let e : 47 ∷ 42 ∷ s.1.more ≡ [] = s.1.split in cc
 nothing_at_end (LongNumber at) place s = lexeme_at_end s.1.bytes s.1.after s.1.split s.1.longest
 nothing_at_end (LongName at) place s = lexeme_at_end s.1.bytes s.1.after s.1.split s.1.longest

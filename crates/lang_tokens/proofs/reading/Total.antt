@@ -4,6 +4,7 @@ use Rattle.std.proofs.Common.{get_or, refl, sym}
 use Rattle.std.proofs.Common.{ap, subst, arith, Option, Some, None, ◌-◌, pos, inl, inr, ⊎_elim}
 use Rattle.std.proofs.lemmas.Bool.{cases_eq, cases_lt, cases_Bool, and_parts, or_parts, leb-true}
 use Rattle.std.proofs.lemmas.List.{length-append, length-drop}
+use Rattle.std.proofs.lemmas.List.Sums.{prefix_len-le-length}
 use Rattle.std.specs.List.{list_all, prefix_len}
 use Rattle.std.specs.Str.Parse.{digits_value}
 use Rattle.lang_tokens.specs.declared.sign.Sign.{Sign}
@@ -13,7 +14,7 @@ use Rattle.lang_tokens.specs.declared.sign.Sign.TheVariants.{MinusAssign, Increm
 use Rattle.lang_tokens.specs.declared.sign.Sign.TheVariants.{Greater, GreaterEqual}
 use Rattle.lang_tokens.specs.declared.sign.Sign.TheVariants.{EqualEqual, BangEqual, AndAnd, OrOr}
 use Rattle.lang_tokens.specs.Signs.{sign_bytes}
-use Rattle.lang_tokens.specs.Bytes.{is_blank, is_letter, is_digit, is_word_byte}
+use Rattle.lang_tokens.specs.Bytes.{is_blank, is_on_line, is_letter, is_digit, is_word_byte}
 use Rattle.lang_tokens.specs.declared.fault.LexFault.{LexFault}
 use Rattle.lang_tokens.specs.declared.fault.LexFault.TheVariants.{BadByte, OpenComment, LongNumber, LongName, BadNumber}
 use Rattle.lang_tokens.specs.declared.found.Found.{Found}
@@ -22,11 +23,13 @@ use Rattle.lang_tokens.specs.declared.token.Token.{Token}
 use Rattle.lang_tokens.specs.Lexemes.{IsReserved, is_word, is_numeral, is_padded, longest_word, greatest_literal}
 use Rattle.lang_tokens.specs.Reading.{spelling, starts_with_letter, ReadsUpTo, Reads, end_at}
 use Rattle.lang_tokens.specs.Faults.{NothingStarts, is_bad, Stands, HasFault}
-use Rattle.lang_tokens.specs.Steps.{ClosesAt, IsFirstClose, StartWith, IsLongestSign, StandsFirst}
+use Rattle.lang_tokens.specs.Steps.{ClosesAt, IsFirstClose, IsLastBackslash, StartWith, IsLongestSign, StandsFirst}
 use Rattle.lang_tokens.proofs.lexemes.Longest.{leads}
 use Rattle.lang_tokens.proofs.lexemes.Openings.{lead_plain}
 use Rattle.lang_tokens.proofs.lexemes.Spellings.{reserved_or_not}
-use Rattle.lang_tokens.proofs.comment.Ends.{line_comment_stands, block_comment_stands, open_comment_stands}
+use Rattle.lang_tokens.proofs.comment.Ends.{first_two, last_line_comment, plain_line_comment, joined_line_comment, block_comment_stands}
+use Rattle.lang_tokens.proofs.comment.Ends.{open_comment_stands}
+use Rattle.lang_tokens.proofs.comment.Backslashes.{LastBackslash, last_backslash}
 use Rattle.lang_tokens.proofs.reading.Standing.{IsLongestFront, word_front, numeral_front, token_stands, long_name, bad_number, long_number}
 use Rattle.lang_tokens.proofs.reading.Standing.{blank_stands}
 use Rattle.lang_tokens.proofs.signs.Longest.{sign_short, second_of, sign_stands, nothing_stands}
@@ -203,12 +206,29 @@ slash_alone bs no_slash no_star = record {
   no_token = λ bytes after e lexeme. let plain : eqb 47 47 ≡ false = (lead_plain 47 (leads bytes after bs 47 e lexeme)).1 in cc;
 }
 
+at_line : (place : ℕ) (body : List ℕ) → AtPlace place (47 ∷ 47 ∷ body)
+at_line place body = ⊎_elim
+    (λ (more : len < length body). from more (last_backslash (take len body)))
+    (λ (end : length body ≤ len). a_piece _ (last_line_comment body len refl (omega (arith, end, prefix_len-le-length is_on_line body))))
+    (cases_lt len (length body))
+  where
+    len : ℕ
+    len = prefix_len is_on_line body
+
+    by_answer : len < length body → (o : Option ℕ) → IsLastBackslash (take len body) o → AtPlace place (47 ∷ 47 ∷ body)
+    by_answer more (Some k) h = a_fault (BadByte (place + 2 + k)) (inr (k, refl, joined_line_comment body len k refl more h))
+    by_answer more None h = a_piece _ (plain_line_comment body len refl h)
+
+    from : len < length body → LastBackslash (take len body) → AtPlace place (47 ∷ 47 ∷ body)
+    from more last = by_answer more last.answer last.last
+
 at_slash : (place : ℕ) (bs : List ℕ) → AtPlace place (47 ∷ bs)
 at_slash place bs = ⊎_elim
-    (λ (e : get_or bs 0 0 ≡ 47). a_piece _ (line_comment_stands (47 ∷ bs) _ (two_long 47 bs 46 e) refl e refl))
+    (λ (e : get_or bs 0 0 ≡ 47). subst (AtPlace place) (first_two (47 ∷ bs) 47 47 (two_long 47 bs 46 e) refl e)
+    (at_line place (drop 2 (47 ∷ bs))))
     (λ (no_slash : get_or bs 0 0 ≡ 47 → ⊥). ⊎_elim
     (λ (e : get_or bs 0 0 ≡ 42). block (two_long 47 bs 41 e) e (first_close (take (length (47 ∷ bs) - 2) (drop 2 (47 ∷ bs)))))
-    (λ (no_star : get_or bs 0 0 ≡ 42 → ⊥). a_fault (BadByte place) (refl, slash_alone bs no_slash no_star))
+    (λ (no_star : get_or bs 0 0 ≡ 42 → ⊥). a_fault (BadByte place) (inl (refl, slash_alone bs no_slash no_star)))
     (cases_eq (get_or bs 0 0) 42))
     (cases_eq (get_or bs 0 0) 47)
   where
@@ -273,7 +293,7 @@ at_other place b bs no_blank no_slash no_letter no_digit = from (longest_sign b 
   where
     by_answer : (o : Option Sign) → IsLongestSign b (second_of (b ∷ bs)) o → AtPlace place (b ∷ bs)
     by_answer (Some sign) h = a_piece _ (sign_stands (b ∷ bs) sign (length (sign_bytes sign)) (omega arith) no_letter no_digit h refl)
-    by_answer None h = a_fault (BadByte place) (refl, nothing_stands (b ∷ bs) (omega arith) no_blank no_slash no_letter no_digit h)
+    by_answer None h = a_fault (BadByte place) (inl (refl, nothing_stands (b ∷ bs) (omega arith) no_blank no_slash no_letter no_digit h))
 
     from : LongestSign b (second_of (b ∷ bs)) → AtPlace place (b ∷ bs)
     from s = by_answer s.answer s.longest

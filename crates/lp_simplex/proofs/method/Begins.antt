@@ -1,26 +1,26 @@
 -- How the phases begin.
-use Rattle.std.proofs.Common.{◌≡◌, ◌≢◌, ℕ, zero, suc, ◌+◌, ◌-◌, ◌<◌, ◌≤◌, ⊎_elim, Bool, true, false, cond, eqb, ltb, ℤ, Option, None, refl}
-use Rattle.std.proofs.Common.{ap, ap₂, sym, ◌∙◌, subst, subst₂, arith, true≢false}
-use Rattle.std.proofs.lemmas.Bool.{ne_eqb, eq-eqb, lt-ltb, le-ltb}
-use Rattle.base_numbers.specs.Rational.{ℚ, zero_ℚ, one_ℚ, neg_ℚ}
+use Rattle.std.proofs.Common.{◌≡◌, ◌≢◌, ℕ, suc, ◌+◌, ◌-◌, ◌<◌, ◌≤◌, true, false, cond, eqb, ltb, ℤ, refl}
+use Rattle.std.proofs.Common.{ap, sym, ◌∙◌, subst, arith, true≢false}
+use Rattle.std.proofs.lemmas.Bool.{ne_eqb, eq-eqb, le-ltb}
+use Rattle.base_numbers.specs.Rational.{zero_ℚ, one_ℚ, neg_ℚ}
 use Rattle.base_numbers.proofs.rational.Laws.{one_ne_zero}
 use Rattle.lp_theory.specs.Problem as lp
 use Rattle.lp_theory.specs.Dictionary.{drop_zero}
-use Rattle.lp_theory.specs.Search.{Search, none, found}
+use Rattle.lp_theory.specs.Search.{none, found}
 use Rattle.lp_theory.specs.Bland.{after, index_of}
-use Rattle.lp_theory.specs.Simplex.{names, main_row, aux_row, slack_name, first_dict, entered, lowest, phase_one_index, last_of_one}
-use Rattle.lp_theory.specs.Table.{Table, Agree, skip, drop_table, pivot_table}
-use Rattle.lp_theory.specs.FirstTable.{first_entry, first_table, plain_table}
+use Rattle.lp_theory.specs.Simplex.{names, main_row, aux_row, slack_name, entered, lowest, phase_one_index, last_of_one}
+use Rattle.lp_theory.specs.Table.{Table, Agree, drop_table, pivot_table}
+use Rattle.lp_theory.specs.FirstTable.{first_table, plain_table}
 use Rattle.lp_theory.specs.HasRows.{HasRows}
-use Rattle.lp_theory.specs.Run.{leave_table, Phase, phase_dict, phase_table, IsPhase, aux_phase, main_start, main_table, main_made}
-use Rattle.lp_theory.specs.Run.{main_phase, phase_of}
+use Rattle.lp_theory.specs.Run.{leave_table, phase_dict, phase_table, aux_phase, main_start, main_table, main_made}
+use Rattle.lp_theory.specs.Run.{main_phase}
 use Rattle.lp_theory.proofs.TableDrops.{skip_above}
 use Rattle.lp_theory.proofs.first_table.FirstTables.{entry_slack}
 use Rattle.lp_theory.proofs.run.Agrees.{agree_trans, agree_leave}
 use Rattle.lp_theory.proofs.run.HasRows.{has_entered, has_plain, has_left, has_phase}
-use Rattle.lp_theory.proofs.run.Phases.{tables_after-zero, phase_shows}
+use Rattle.lp_theory.proofs.run.Phases.{tables_after-zero}
 use Rattle.lp_theory.proofs.run.PhaseRuns.{lowest_is, aux_is_phase, plain_is_phase, main_is_phase, goals_after, goal_names_after}
-use Rattle.lp_theory.proofs.run.PhaseRuns.{rows_after, plain_stays, main_stays}
+use Rattle.lp_theory.proofs.run.PhaseRuns.{plain_stays, main_stays}
 use Rattle.lp_simplex.specs.Operations.{capped}
 use Rattle.lp_simplex.specs.Answers.{BeginsPhase, EndsPhase}
 use Rattle.lp_simplex.specs.declared.phase.End.{End}

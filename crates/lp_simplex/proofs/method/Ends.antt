@@ -1,23 +1,23 @@
 -- What the ends of the phases give.
-use Rattle.std.proofs.Common.{◌≡◌, ◌≢◌, ℕ, zero, suc, ◌+◌, ◌<◌, ◌≤◌, ⊎_elim, Bool, true, false, ℤ, List, [], ◌++◌, Option, Some, None, refl}
-use Rattle.std.proofs.Common.{ap, ap₂, sym, ◌∙◌, subst, subst₂, arith, true≢false}
+use Rattle.std.proofs.Common.{◌≡◌, ℕ, ◌<◌, Bool, true, false, ℤ, List, ◌++◌, Some, None, refl}
+use Rattle.std.proofs.Common.{ap, sym, ◌∙◌, subst, subst₂, arith}
 use Rattle.base_numbers.specs.Rational.{ℚ, neg_ℚ}
 use Rattle.lp_theory.specs.Problem as lp
-use Rattle.lp_theory.specs.Dictionary.{Dict, IsDict, drop_zero}
-use Rattle.lp_theory.specs.Search.{Search, none, found}
-use Rattle.lp_theory.specs.Bland.{Choice, optimal, ray, choose, after, stop_index, index_of}
-use Rattle.lp_theory.specs.Simplex.{names, main_row, aux_row, first_dict, entered, lowest, phase_one_index, last_of, last_of_one}
+use Rattle.lp_theory.specs.Dictionary.{IsDict}
+use Rattle.lp_theory.specs.Search.{none, found}
+use Rattle.lp_theory.specs.Bland.{choose, after, stop_index, index_of}
+use Rattle.lp_theory.specs.Simplex.{names, main_row, aux_row, entered, lowest, phase_one_index, last_of, last_of_one}
 use Rattle.lp_theory.specs.Simplex.{multipliers, point_of, ray_of, outcome_at, after_one, phase_one, phase_two, lp_from, lp as lp_of}
 use Rattle.lp_theory.specs.Table.{Table, Shows, Agree, pivot_table}
 use Rattle.lp_theory.specs.FirstTable.{first_table, plain_table}
 use Rattle.lp_theory.specs.HasRows.{HasRows}
-use Rattle.lp_theory.specs.Run.{Phase, phase_dict, phase_table, IsPhase, aux_phase, main_start, main_phase, phase_of}
+use Rattle.lp_theory.specs.Run.{Phase, phase_dict, phase_table, aux_phase, main_start, main_phase, phase_of}
 use Rattle.lp_theory.proofs.first_table.FirstTables.{shows_agree}
 use Rattle.lp_theory.proofs.run.HasRows.{has_agree, has_phase}
 use Rattle.lp_theory.proofs.run.Agrees.{agree_trans, agree_pivot}
 use Rattle.lp_theory.proofs.run.Phases.{phase_shows, phase_good}
 use Rattle.lp_dictionary.specs.Exact.{start_from, start_table}
-use Rattle.base_fractions.specs.Operation.{Operation, first_wide, operation_of}
+use Rattle.base_fractions.specs.Operation.{first_wide, operation_of}
 use Rattle.lp_dictionary.specs.PivotOperations.{pivot_operations}
 use Rattle.lp_simplex.specs.declared.outcome.Outcome.{Outcome}
 use Rattle.lp_simplex.specs.declared.outcome.Outcome.TheVariants.{Best, Unbounded, Empty}
@@ -25,7 +25,7 @@ use Rattle.lp_simplex.specs.declared.outcome.SolveFault.{SolveFault}
 use Rattle.lp_simplex.specs.declared.outcome.SolveFault.TheVariants.{Wide, NoMemory}
 use Rattle.lp_simplex.specs.declared.phase.End.{End}
 use Rattle.lp_simplex.specs.declared.phase.End.TheVariants.{AtBest, AtRay, Left}
-use Rattle.lp_simplex.specs.Operations.{Numbered, numbered, first_refused, whole_phase, then_main, run_from, run_operations, capped}
+use Rattle.lp_simplex.specs.Operations.{Numbered, numbered, first_refused, whole_phase, then_main, run_from, run_operations}
 use Rattle.lp_simplex.specs.Placed.{IsPlaced}
 use Rattle.lp_simplex.specs.Outcomes.{IsListed, IsOutcomeOf}
 use Rattle.lp_simplex.specs.Answers.{RefusesRun, BeginsPhase, EndOf, EndsPhase, EntersRefused, IsDirection, ReadsBest, ReadsRay}

@@ -1,14 +1,13 @@
 -- The numbers of an outcome carry its evidence.
-use Rattle.std.proofs.Common.{◌≡◌, ℕ, ◌<◌, List, map, ap, sym, ◌∙◌, subst, subst₂}
+use Rattle.std.proofs.Common.{◌≡◌, ℕ, ◌<◌, map, ap, sym, ◌∙◌, subst}
 use Rattle.base_numbers.specs.Rational.{ℚ, zero_ℚ, ◌*ℚ◌, ◌≤ℚ◌, ◌<ℚ◌}
-use Rattle.base_numbers.specs.Vector.{sum_to}
 use Rattle.lp_theory.specs.Problem as lp
 use Rattle.lp_theory.specs.Listed.{at}
 use Rattle.base_numbers.proofs.vector.Vectors.{sum_to_same}
 use Rattle.lp_theory.proofs.Evidence.{weak_best, weak_empty, ray_exceeds}
 use Rattle.lp_simplex.specs.declared.outcome.Outcome.{Outcome}
 use Rattle.lp_simplex.specs.declared.outcome.Outcome.TheVariants.{Best, Unbounded, Empty}
-use Rattle.lp_simplex.specs.Outcomes.{IsListed, IsOutcomeOf, HasEvidence, SaysSupremum}
+use Rattle.lp_simplex.specs.Outcomes.{IsOutcomeOf, HasEvidence, SaysSupremum}
 
 module _ (P : lp.Problem) where
   -- values that agree on the columns

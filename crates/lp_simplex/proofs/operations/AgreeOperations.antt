@@ -1,10 +1,9 @@
 -- Tables that are the same within their bounds make the same operations.
-use Rattle.std.proofs.Common.{◌≡◌, ℕ, suc, ◌+◌, ◌<◌, ◌≤◌, Bool, true, false, cond, eqb, List, [], ◌∷◌, ◌++◌, refl, ap, ap₂, sym, ◌∙◌, subst}
+use Rattle.std.proofs.Common.{◌≡◌, ℕ, suc, ◌+◌, ◌<◌, cond, eqb, [], ◌∷◌, ◌++◌, ap, ap₂, ◌∙◌}
 use Rattle.std.proofs.Common.{arith}
-use Rattle.base_numbers.specs.Rational.{ℚ, zero_ℚ, neg_ℚ, lt_ℚ}
+use Rattle.base_numbers.specs.Rational.{zero_ℚ, neg_ℚ, lt_ℚ}
 use Rattle.base_fractions.specs.declared.wide.Op.TheVariants.{Div}
 use Rattle.lp_theory.specs.Table.{Table, Agree}
-use Rattle.base_fractions.specs.Operation.{Operation}
 use Rattle.lp_dictionary.specs.Listed.{joined}
 use Rattle.lp_dictionary.specs.Formulas.{divided, divided_row}
 use Rattle.lp_dictionary.specs.PivotOperations.{division_row_operations, combination_row_operations, other_row_operations, pivot_operations}

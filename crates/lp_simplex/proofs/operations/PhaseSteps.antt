@@ -1,15 +1,13 @@
 -- What a step of the code is in the exact run.
-use Rattle.std.proofs.Common.{◌≡◌, ◌≢◌, ℕ, zero, suc, ◌+◌, ◌<◌, ◌≤◌, ◌⊎◌, inl, inr, ⊎_elim, Bool, true, false, cond, eqb, ltb, ℤ, List, []}
-use Rattle.std.proofs.Common.{◌++◌, Option, Some, None, refl, ap, ap₂, sym, ◌∙◌, subst, subst₂, arith, true≢false}
-use Rattle.std.proofs.lemmas.Bool.{cases_lt, eqb-true, ne_eqb, lt-ltb, le-ltb, cases_Bool}
-use Rattle.base_numbers.specs.Rational.{ℚ, zero_ℚ, ◌≤ℚ◌, ◌<ℚ◌}
+use Rattle.std.proofs.Common.{◌≡◌, ◌≢◌, ℕ, suc, ◌+◌, ◌<◌, ⊎_elim, true, false, ℤ}
+use Rattle.std.proofs.Common.{◌++◌, Some, None, refl, ap, ap₂, sym, ◌∙◌, subst, arith}
+use Rattle.std.proofs.lemmas.Bool.{cases_Bool}
+use Rattle.base_numbers.specs.Rational.{zero_ℚ, ◌≤ℚ◌}
 use Rattle.base_numbers.proofs.rational.Laws.{not_le_of_lt}
-use Rattle.lp_theory.specs.Problem as lp
 use Rattle.lp_theory.specs.Dictionary.{Dict, IsDict, pivot}
-use Rattle.lp_theory.specs.Bland.{Enters, Leaves, Choice, optimal, ray, step, choose, next, take_step, after, is_stop, stops, ChoiceIs}
-use Rattle.lp_theory.specs.Simplex.{names}
+use Rattle.lp_theory.specs.Bland.{Enters, Leaves, Choice, optimal, ray, step, choose, take_step, is_stop, stops, ChoiceIs}
 use Rattle.lp_theory.specs.Table.{Table, Shows, Agree, pivot_table}
-use Rattle.lp_theory.specs.Run.{row_place, col_place, Phase, phase_dict, phase_table, IsPhase, phase_of}
+use Rattle.lp_theory.specs.Run.{row_place, col_place, Phase, phase_dict, phase_table, IsPhase}
 use Rattle.lp_theory.proofs.search.Steps.{choose_is, enters_only}
 use Rattle.lp_theory.proofs.NoRepeat.{turned_free}
 use Rattle.lp_theory.proofs.search.Stops.{after-suc}
@@ -20,13 +18,11 @@ use Rattle.lp_theory.proofs.run.Agrees.{agree_trans, agree_pivot}
 use Rattle.lp_theory.proofs.run.Phases.{phase_shows, phase_good, phase_next, next-is}
 use Rattle.base_fractions.specs.Operation.{Operation, first_wide}
 use Rattle.lp_dictionary.specs.PivotOperations.{pivot_operations}
-use Rattle.lp_dictionary.proofs.Widths.{first_wide_later, first_wide_sooner}
+use Rattle.lp_dictionary.proofs.Widths.{first_wide_sooner}
 use Rattle.lp_dictionary.proofs.listed.Joins.{joined_fits_each}
-use Rattle.lp_simplex.specs.Operations.{Numbered, numbered, first_refused, ratio_operation, ratio_operations, step_operations}
-use Rattle.lp_simplex.specs.Operations.{pivot_of_phase, phase_operations, capped}
-use Rattle.lp_simplex.specs.Choices.{EntersAt, LeavesAt, LeavesOf, PivotMade, StepWide}
+use Rattle.lp_simplex.specs.Operations.{ratio_operation, ratio_operations, step_operations}
+use Rattle.lp_simplex.specs.Choices.{EntersAt, LeavesAt, LeavesOf, StepWide}
 use Rattle.lp_simplex.proofs.operations.AgreeOperations.{agree_ratios, agree_pivots}
-use Rattle.lp_simplex.proofs.operations.Numbering.{numbered_none, numbered_some, run_fits_more, run_wide_at, run_fits_none}
 use Rattle.lp_simplex.proofs.scan.Scans.{ratio_none}
 
 none_not_some : {A : Type 0} {o : A} → None ≡ Some o → ⊥

@@ -1,14 +1,14 @@
 -- From one turn of a phase's loop to the next, and to its end.
-use Rattle.std.proofs.Common.{◌≡◌, ◌≢◌, ℕ, zero, suc, ◌+◌, ◌-◌, ◌<◌, ◌≤◌, ◌⊎◌, inl, inr, ⊎_elim, Bool, true, false, cond, eqb, ltb, min, ℤ}
-use Rattle.std.proofs.Common.{List, [], ◌++◌, Option, Some, None, refl, ap, ap₂, sym, ◌∙◌, subst, subst₂, arith, true≢false}
+use Rattle.std.proofs.Common.{◌≡◌, ◌≢◌, ℕ, suc, ◌+◌, ◌<◌, ◌≤◌, ⊎_elim, Bool, true, false, cond, min, ℤ}
+use Rattle.std.proofs.Common.{Some, None, ap, sym, ◌∙◌, subst, arith, true≢false}
 use Rattle.std.proofs.lemmas.Bool.{cases_lt, ne_eqb, lt-ltb, le-ltb}
 use Rattle.base_numbers.specs.Rational.{ℚ}
 use Rattle.lp_theory.specs.Problem as lp
 use Rattle.lp_theory.specs.Dictionary.{pivot}
-use Rattle.lp_theory.specs.Bland.{optimal, ray, choose, is_stop, stops}
+use Rattle.lp_theory.specs.Bland.{ray, choose, is_stop, stops}
 use Rattle.lp_theory.specs.Simplex.{names}
 use Rattle.lp_theory.specs.Table.{Table, Agree, pivot_table}
-use Rattle.lp_theory.specs.Run.{Phase, phase_dict, phase_table, IsPhase, phase_of}
+use Rattle.lp_theory.specs.Run.{phase_dict, phase_table, IsPhase, phase_of}
 use Rattle.lp_theory.proofs.Pivots.{pivot_leaves}
 use Rattle.lp_theory.proofs.run.Agrees.{agree_trans}
 use Rattle.lp_theory.proofs.search.PhasePlaces.{pivots_left, pivots_fall}
@@ -16,16 +16,16 @@ use Rattle.lp_theory.proofs.search.Steps.{enters_free, leaves_basic}
 use Rattle.lp_theory.proofs.search.Programs.{after-zero}
 use Rattle.lp_theory.proofs.run.Phases.{phase_good}
 use Rattle.lp_dictionary.specs.Build.{width_of}
-use Rattle.base_fractions.specs.Operation.{Operation, first_wide, operation_of}
+use Rattle.base_fractions.specs.Operation.{operation_of}
 use Rattle.lp_simplex.specs.declared.phase.End.TheVariants.{AtBest, AtRay, Left}
 use Rattle.lp_simplex.specs.declared.outcome.SolveFault.{SolveFault}
 use Rattle.lp_simplex.specs.declared.outcome.SolveFault.TheVariants.{Wide, NoMemory}
-use Rattle.lp_simplex.specs.Operations.{Numbered, numbered, first_refused, step_operations, pivot_of_phase, phase_operations, whole_phase}
+use Rattle.lp_simplex.specs.Operations.{first_refused, step_operations, pivot_of_phase, phase_operations, whole_phase}
 use Rattle.lp_simplex.specs.Operations.{capped}
-use Rattle.lp_simplex.specs.Choices.{EntersAt, LeavesAt, LeavesOf, PivotMade, StepWide, StepRefused}
-use Rattle.lp_simplex.specs.Answers.{RefusesRun, BeginsPhase, EndOf, EndsPhase}
+use Rattle.lp_simplex.specs.Choices.{EntersAt, LeavesOf, PivotMade, StepRefused}
+use Rattle.lp_simplex.specs.Answers.{RefusesRun, BeginsPhase, EndsPhase}
 use Rattle.lp_simplex.proofs.operations.Numbering.{numbered_none, numbered_some, run_fits_more, run_wide_at, run_fits_none}
-use Rattle.lp_simplex.proofs.operations.PhaseSteps.{shown, enters_in, leaves_in, optimal_in, ray_in, pivot_in, dict_in, stays_in, goes_in}
+use Rattle.lp_simplex.proofs.operations.PhaseSteps.{enters_in, leaves_in, optimal_in, ray_in, pivot_in, dict_in, stays_in, goes_in}
 use Rattle.lp_simplex.proofs.operations.PhaseSteps.{wide_in, fits_in}
 use Rattle.lp_simplex.proofs.phase.PhaseLoops.{Stands}
 

@@ -1,5 +1,5 @@
 -- Where the loop of a phase stands.
-use Rattle.std.proofs.Common.{◌≡◌, ℕ, ◌+◌, ◌<◌, ◌≤◌, Bool, true, false, ℤ, Option, None}
+use Rattle.std.proofs.Common.{◌≡◌, ℕ, ◌+◌, ◌<◌, ◌≤◌, Bool, true, ℤ, None}
 use Rattle.lp_theory.specs.Problem as lp
 use Rattle.lp_theory.specs.Simplex.{names}
 use Rattle.lp_theory.specs.Table.{Table, Agree}

@@ -1,8 +1,8 @@
 -- What is read from a table is what the dictionary says.
-use Rattle.std.proofs.Common.{◌≡◌, ◌≢◌, ℕ, zero, suc, ◌+◌, ◌<◌, ◌≤◌, ⊎_elim, Bool, true, false, List, length, refl, ap, ap₂, sym, ◌∙◌}
-use Rattle.std.proofs.Common.{subst, arith, true≢false}
+use Rattle.std.proofs.Common.{◌≡◌, ◌≢◌, ℕ, suc, ◌+◌, ◌<◌, ⊎_elim, false, List, ap, ap₂, sym, ◌∙◌}
+use Rattle.std.proofs.Common.{arith, true≢false}
 use Rattle.std.proofs.lemmas.Bool.{cases_eq, cases_Bool}
-use Rattle.base_numbers.specs.Rational.{ℚ, zero_ℚ, one_ℚ, neg_ℚ}
+use Rattle.base_numbers.specs.Rational.{ℚ, neg_ℚ}
 use Rattle.base_numbers.proofs.rational.Laws.{neg_ℚ-zero}
 use Rattle.lp_theory.specs.Problem as lp
 use Rattle.lp_theory.specs.Dictionary.{delta, Dict, IsDict}
@@ -10,8 +10,7 @@ use Rattle.lp_theory.specs.Simplex.{names, slack_name, multipliers, point_of, ra
 use Rattle.lp_theory.specs.Table.{Table, Shows}
 use Rattle.lp_theory.specs.HasRows.{HasRows}
 use Rattle.lp_theory.proofs.Sums.{delta_same, delta_other}
-use Rattle.lp_dictionary.specs.Cells.{cell}
-use Rattle.lp_simplex.specs.Placed.{IsPlaced, Places}
+use Rattle.lp_simplex.specs.Placed.{IsPlaced}
 use Rattle.lp_simplex.specs.Outcomes.{IsListed}
 use Rattle.lp_simplex.specs.Answers.{IsDirection}
 

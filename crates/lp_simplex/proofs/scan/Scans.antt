@@ -1,26 +1,26 @@
 -- One more column, or one more row, in the scans of a table.
-use Rattle.std.proofs.Common.{◌≡◌, ◌≢◌, ℕ, suc, ◌+◌, ◌<◌, ◌≤◌, ◌⊎◌, inl, inr, ⊎_elim, Bool, true, false, cond, ltb, Ordering, Less, Equal}
-use Rattle.std.proofs.Common.{Greater, ℤ, List, [], ◌∷◌, Option, Some, None, Result, MatchResult, refl, ap, ap₂, sym, ◌∙◌, subst, subst₂}
-use Rattle.std.proofs.Common.{arith, true≢false}
+use Rattle.std.proofs.Common.{◌≡◌, ◌≢◌, ℕ, ◌+◌, ◌<◌, ◌≤◌, inl, inr, ⊎_elim, Bool, true, false, cond, ltb, Less, Equal}
+use Rattle.std.proofs.Common.{Greater, ℤ, [], ◌∷◌, Option, Some, None, Result, MatchResult, refl, ap, sym, ◌∙◌, subst, subst₂}
+use Rattle.std.proofs.Common.{arith}
 use Rattle.std.specs.Prelude.{MatchBool}
 use Rattle.std.proofs.lemmas.Bool.{cases_lt, ltb-true, ltb-false}
 use Rattle.base_numbers.specs.Compare.{cmp_ℚ}
 use Rattle.base_numbers.proofs.compare.Compared.{cmp-less, cmp-equal, cmp-greater}
 use Rattle.base_numbers.specs.Rational.{ℚ, zero_ℚ, neg_ℚ, ◌/ℚ◌, lt_ℚ, ◌≤ℚ◌, ◌<ℚ◌}
 use Rattle.base_numbers.proofs.rational.Laws.{≤ℚ_refl, ≤ℚ_trans, ≤ℚ_antisymm, le_or_lt, le_of_lt_ℚ, le_of_eq_ℚ, not_le_of_lt, <ℚ_irrefl}
-use Rattle.base_numbers.proofs.rational.Laws.{lt_of_lt_of_le_ℚ, lt_of_le_of_lt_ℚ, ne_of_lt_ℚ, neg_ℚ-neg_ℚ, neg_ℚ-zero}
+use Rattle.base_numbers.proofs.rational.Laws.{lt_of_lt_of_le_ℚ, ne_of_lt_ℚ, neg_ℚ-neg_ℚ, neg_ℚ-zero}
 use Rattle.base_fractions.specs.Fits.{Fits}
 use Rattle.base_fractions.specs.declared.wide.Op.TheVariants.{Div}
 use Rattle.base_fractions.specs.declared.wide.Wide.{Wide}
 use Rattle.lp_theory.specs.Table.{Table}
-use Rattle.lp_theory.proofs.search.Searches.{lt_yes, lt_no, lt_does}
-use Rattle.base_fractions.specs.Operation.{Operation, first_wide, operation_of, Answers}
+use Rattle.lp_theory.proofs.search.Searches.{lt_yes, lt_does}
+use Rattle.base_fractions.specs.Operation.{Operation, first_wide, Answers}
 use Rattle.lp_dictionary.specs.Listed.{joined}
 use Rattle.lp_dictionary.proofs.Widths.{one_answer}
 use Rattle.lp_dictionary.proofs.listed.Joins.{joined_wide_at}
 use Rattle.lp_simplex.specs.declared.scan.Candidate.{Candidate}
 use Rattle.lp_simplex.specs.Operations.{ratio_operation, ratio_operations}
-use Rattle.lp_simplex.specs.Choices.{EntersAt, ratio_at, RatioAt, LeavesAt, CandidateOf, IsBefore}
+use Rattle.lp_simplex.specs.Choices.{EntersAt, ratio_at, LeavesAt, CandidateOf, IsBefore}
 
 module _ (T : Table) (g n : ℕ) where
   -- the next column has no positive entry

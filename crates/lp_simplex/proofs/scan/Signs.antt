@@ -1,5 +1,5 @@
 -- The sign of a number by its numerator.
-use Rattle.std.proofs.Common.{◌≡◌, ◌<◌, ◌^◌, T, Bool, true, false, ℤ, pos, ◌*ℤ◌, ◌≤ℤ◌, FitsSigned, to_z, of_z, ⊎_elim, refl, sym, ap, ap₂}
+use Rattle.std.proofs.Common.{◌≡◌, ◌<◌, ◌^◌, T, Bool, true, false, ℤ, pos, ◌*ℤ◌, ◌≤ℤ◌, FitsSigned, to_z, of_z, ⊎_elim, refl, sym, ap}
 use Rattle.std.proofs.Common.{◌∙◌, subst, subst₂, arith, true≢false}
 use mir.Syntax.{w64}
 use lib.Signed.{mag, le_z, lt_z, ◌<ℤ◌}

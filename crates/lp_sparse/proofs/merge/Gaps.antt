@@ -1,8 +1,7 @@
 -- What is left of a row from a column on, and operations of columns that are passed over.
-use Rattle.std.proofs.Common.{◌≡◌, ◌≢◌, ℕ, zero, suc, drop, get_or, ◌+◌, ◌<◌, ◌≤◌, ⊎_elim, cond, eqb, ℤ, List, [], ◌∷◌, length, None, refl}
+use Rattle.std.proofs.Common.{◌≡◌, ℕ, zero, suc, ◌+◌, ◌<◌, ◌≤◌, ⊎_elim, cond, eqb, ℤ, List, [], ◌∷◌, None, refl}
 use Rattle.std.proofs.Common.{ap, sym, ◌∙◌, subst, arith, add-one}
 use Rattle.std.proofs.lemmas.Bool.{cases_lt, cases_eq, eq-eqb, ne_eqb}
-use Rattle.std.proofs.lemmas.List.{drop_more, drop_all}
 use Rattle.base_numbers.specs.Rational.{ℚ, zero_ℚ}
 use Rattle.base_fractions.specs.Operation.{Operation, first_wide}
 use Rattle.lp_dictionary.specs.Listed.{joined}
@@ -77,16 +76,3 @@ starts_behind u k (e ∷ es) s l = ap (λ b. cond b es (e ∷ es)) (ne_eqb e.col
 pub starts_before : {F : Type 0} (u k : ℕ) (es : List (Entry F)) → StartsAt u es → k ≤ u → StartsAt k es
 starts_before u k [] s l = tt
 starts_before u k (e ∷ es) s l = omega (arith, s, l)
-
--- an entry at the place is passed over that stands at another column
-pub missed : {F : Type 0} (m : F → ℚ) (es : List (Entry F)) (i k : ℕ) (x : Entry F) → i < length es → (get_or es i x).col ≢ k
-    → (head_value m (drop i es) k ≡ zero_ℚ) × (behind (drop i es) k ≡ drop i es)
-missed m es i k x l d =
-    let off = ne_eqb (get_or es i x).col k d in
-    subst (λ xs. (head_value m xs k ≡ zero_ℚ) × (behind xs k ≡ xs)) (sym (drop_more es i x l))
-    (ap (λ b. cond b (m (get_or es i x).value) zero_ℚ) off, ap (λ b. cond b (drop (i + 1) es) (get_or es i x ∷ drop (i + 1) es)) off)
-
--- and so is the end
-pub missed_all : {F : Type 0} (m : F → ℚ) (es : List (Entry F)) (i k : ℕ) → length es ≤ i
-    → (head_value m (drop i es) k ≡ zero_ℚ) × (behind (drop i es) k ≡ drop i es)
-missed_all m es i k l = subst (λ xs. (head_value m xs k ≡ zero_ℚ) × (behind xs k ≡ xs)) (sym (drop_all i es l)) (refl, refl)

@@ -7,7 +7,7 @@ use Rattle.std.proofs.lemmas.List.Edits.{length-remove}
 use Rattle.base_numbers.specs.Rational.{ℚ, zero_ℚ, one_ℚ, inv_ℚ, turned, neg_ℚ, ◌+ℚ◌, ◌*ℚ◌}
 use Rattle.base_numbers.proofs.rational.Laws.{div_ℚ_is, zero-*ℚ, *ℚ-zero, neg_ℚ-zero, +ℚ_idr}
 use Rattle.base_numbers.proofs.rational.Quotients.{zero_by_num}
-use Rattle.lp_theory.specs.Table.{Table, Agree, skip, pivot_row_entry, pivot_other_entry, pivot_table, drop_table}
+use Rattle.lp_theory.specs.Table.{Agree, skip, pivot_row_entry, pivot_other_entry, pivot_table, drop_table}
 use Rattle.lp_theory.specs.Run.{place_of, leave_table}
 use Rattle.lp_dictionary.specs.Formulas.{divided, combined}
 use Rattle.lp_dictionary.specs.PivotOperations.{pivot_operations}

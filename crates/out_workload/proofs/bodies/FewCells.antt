@@ -4,6 +4,7 @@ use Rattle.std.specs.List.{filter, list_any, sum_by, range_with_len}
 use Rattle.std.proofs.lemmas.Nat.{mul-le}
 use Rattle.std.proofs.lemmas.List.FromFn.{length-range_with_len}
 use Rattle.std.proofs.lemmas.List.Sums.{sum_by-cons, length-filter, count_by-le-length}
+use Rattle.base_limits.specs.declared.limits.TheConstants.{MOST_CELLS}
 use Rattle.flow_edges.specs.declared.edge.Action.{Action}
 use Rattle.flow_edges.specs.declared.edge.Edge.{Edge}
 use Rattle.flow_edges.specs.Edges.{edges_of_program}
@@ -52,7 +53,7 @@ sum_bound system size m h k =
     )
 
 -- the joint problems of a generated program with at most 46 loops have at most 134217728 cells
-pub generated_cells : (seed loops : ℕ) → loops ≤ 46 → cells_of (generated_equations seed loops) ≤ 134217728
+pub generated_cells : (seed loops : ℕ) → loops ≤ 46 → cells_of (generated_equations seed loops) ≤ MOST_CELLS
 generated_cells seed loops h =
     let system = generated_equations seed loops in
     let edges = edges_of_program (generated_body seed loops) in

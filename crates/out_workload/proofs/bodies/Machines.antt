@@ -8,7 +8,8 @@ use Rattle.std.proofs.lemmas.List.{append_assoc, length-append}
 use Rattle.lang_tokens.specs.Lines.{line_at}
 use Rattle.lang_grammar.specs.Grammar as g
 use Rattle.lang_grammar.specs.Machine.{Goal, statement, in_main, only, text_end, start}
-use Rattle.lang_grammar.specs.Depth.{scan, whole}
+use Rattle.lang_grammar.specs.Verdicts.{scan}
+use Rattle.lang_grammar.specs.Faults.{whole}
 use Rattle.lang_tree.specs.declared.cond.Rel.TheVariants.{Lt}
 use Rattle.lang_tree.specs.Tree.{Statements, compare, while_loop, set, loop, nil, cons}
 use Rattle.lang_meaning.specs.Forms.{constant_form, variable_form}

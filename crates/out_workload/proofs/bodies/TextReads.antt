@@ -2,13 +2,15 @@
 use Rattle.std.proofs.Common.{◌≡◌, ◌≤◌, ◌+◌, ◌-◌, ◌*◌, ℕ, List, [], ◌∷◌, ◌++◌, length, map, min, None, Ok, refl, sym, ap, ◌∙◌, subst, arith}
 use Rattle.std.specs.Prelude.{decimal}
 use Rattle.std.proofs.lemmas.List.{append_assoc, append-nil, length-append, map-append}
+use Rattle.base_limits.specs.declared.limits.TheConstants.{MOST_TEXT_BYTES}
 use Rattle.lang_tokens.specs.declared.token.Token as lex_token
 use Rattle.lang_tokens.specs.Lines.{line_at}
 use Rattle.lang_tokens.specs.Reading.{spelling, tokens_from, end_at, Reads, piece_bytes}
 use Rattle.lang_grammar.specs.Grammar as g
 use Rattle.lang_grammar.specs.View.{tokens_of, token_of, plain_token, word_kind, sign_kind}
 use Rattle.lang_grammar.specs.Machine.{start}
-use Rattle.lang_grammar.specs.Depth.{scan, whole}
+use Rattle.lang_grammar.specs.Verdicts.{scan}
+use Rattle.lang_grammar.specs.Faults.{whole}
 use Rattle.lang_grammar.proofs.faults.Scanned.{found_by}
 use Rattle.lang_meaning.specs.Feed.{Outcome, feed, begin, result_of}
 use Rattle.lang_meaning.specs.Walk.{followed_by}
@@ -201,7 +203,7 @@ loops_length (l ∷ ls) d = omega (
 )
 
 -- a generated text with at most 46 loops has at most 65536 bytes
-pub generated_short : (seed loops : ℕ) → loops ≤ 46 → length (generated_text seed loops) ≤ 65536
+pub generated_short : (seed loops : ℕ) → loops ≤ 46 → length (generated_text seed loops) ≤ MOST_TEXT_BYTES
 generated_short seed loops h =
     let ls = loops_from seed loops in
     let front : length (spelled front_parts) ≡ 40 = refl in

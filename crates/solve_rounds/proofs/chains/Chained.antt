@@ -7,6 +7,7 @@ use Rattle.flow_systems.specs.Equations.{Equations, Vector, PostSolution}
 use Rattle.flow_systems.specs.View.{equations_of, bounds_of}
 use Rattle.flow_systems.specs.declared.system.System.{System}
 use Rattle.flow_systems.proofs.view.Listed.{listed_law}
+use Rattle.theory_validity.specs.Steps.{Step}
 use Rattle.theory_validity.specs.Certificates.{bounds_vector}
 use Rattle.theory_validity.proofs.steps.CertificateLaw.{upper_of_post}
 use Rattle.theory_validity.proofs.words.TransformerLaw.{reach_least}
@@ -16,18 +17,21 @@ use Rattle.theory_strategy.specs.Picks.{Pick, IsPick, Tight}
 use Rattle.theory_strategy.specs.PickCount.{pick_count}
 use Rattle.theory_strategy.specs.Solve.{State, next, state}
 use Rattle.theory_rounds.specs.Agreement.{Agree}
-use Rattle.theory_rounds.specs.Rounds.{Choice, Goes, exact_next, exact_round, exact_round_steps, exact_steps, first_choice, with_choice}
+use Rattle.theory_rounds.specs.Rounds.{Choice, Goes, exact_next, exact_round, first_choice, with_choice}
+use Rattle.theory_rounds.specs.RoundSteps.{IsRoundBy}
 use Rattle.theory_rounds.proofs.rounds.ExactChain.{state_tight, state_few, state_least, round_made}
-use Rattle.theory_rounds.proofs.rounds.ExactEnd.{state_same, steps_same, state_after, with_choice-at, with_choice-before, with_choice_takes}
+use Rattle.theory_rounds.proofs.rounds.ExactEnd.{state_same, steps_of_same, state_after, with_choice-at, with_choice-before}
+use Rattle.theory_rounds.proofs.rounds.ExactEnd.{with_choice_takes}
 use Rattle.theory_rounds.proofs.rounds.MadeCertificate.{last_listed, none_agrees}
 use Rattle.theory_rounds.proofs.rounds.NextAgrees.{exact_next_agrees}
-use Rattle.theory_rounds.proofs.joint_items.RoundAgrees.{round_agrees, round_steps_agree}
+use Rattle.theory_rounds.proofs.joint_items.RoundAgrees.{round_agrees}
+use Rattle.theory_rounds.proofs.rounds.RoundBy.{round_by_agrees}
 use Rattle.solve_raise.specs.Numbers.{fitting}
 use Rattle.solve_offers.specs.declared.offer.Offer.{Offer}
 use Rattle.solve_offers.specs.AtBounds.{transformers, vector_at, NothingExceeds}
 use Rattle.solve_offers.specs.Improvement.{IsChoice, IsNext, NoneExceeds}
 use Rattle.solve_rounds.specs.Round.{AreBoundsOf}
-use Rattle.solve_rounds.specs.Chains.{state_at, bounds_after, steps_after, IsChain, IsEnded}
+use Rattle.solve_rounds.specs.Chains.{state_at, bounds_after, AreStepsAfter, IsChain, IsEnded}
 use Rattle.solve_offers.proofs.at_bounds.Ranges.{points_in_range}
 use Rattle.solve_rounds.proofs.chains.Listing.{bounds_same, start_listed}
 use Rattle.solve_rounds.proofs.chains.ChoicesAgree.{choice_agrees, tight_agrees}
@@ -167,14 +171,19 @@ module _ (system : System) (policy : Offer → ℕ → Type 0) (n : ℕ) (choose
         (λ p r h l. same p r h l ∙ round_agrees fitting E better is_pick z (state_at system choose n).vector bounds_agree p r l
         ∙ sym (ap (λ v. v p r) vector_next))
 
-    -- and its steps come behind the others
-    pub steps_next : steps_after system choose n ++ exact_round_steps fitting (equations_of system)
-        (vector_at system (bounds_after system choose n)) better ≡ steps_after system more (suc n)
-    unfolding exact_steps more
-    steps_next =
-        ap (λ s. s ++ exact_round_steps fitting E z better) (steps_same fitting E choose more n
-        (λ j h. sym (with_choice-before choose n following.choose j h)))
-        ∙ ap (λ s. exact_steps fitting E more n ++ s)
-        (round_steps_agree fitting E better is_pick z (state_at system choose n).vector bounds_agree
-        ∙ ap (λ (s : State). exact_round_steps fitting E s.vector better) (same_until n (omega arith))
-        ∙ ap (λ p. exact_round_steps fitting E (state_at system more n).vector p) (sym pick_next))
+    -- and with its steps behind the others these are the steps of one round more
+    pub steps_next : (before last : List Step) → AreStepsAfter system choose n before
+        → IsRoundBy fitting (equations_of system) (vector_at system (bounds_after system choose n)) better last
+        → AreStepsAfter system more (suc n) (before ++ last)
+    unfolding more
+    steps_next before last h k = (
+      before,
+      steps_of_same fitting E choose more n (λ j l. sym (with_choice-before choose n following.choose j l)) before h,
+      (
+        last,
+        subst (λ p. IsRoundBy fitting E (state_at system more n).vector p last) (sym pick_next)
+            (subst (λ (s : State). IsRoundBy fitting E s.vector better last) (same_until n (omega arith))
+            (round_by_agrees fitting E z (state_at system choose n).vector better last is_pick bounds_agree k)),
+        refl,
+      ),
+    )

@@ -8,10 +8,10 @@ use Rattle.cert_types.specs.declared.step.Step.{Step as CodeStep}
 use Rattle.solve_joint.specs.PartLists.{EachRises, part_numbers}
 use Rattle.solve_rounds.specs.declared.turning.Turning.{Turning}
 use Rattle.solve_rounds.specs.Round.{IsTurnStop}
-use Rattle.solve_rounds.specs.Turning.{IsPickAt, HaveConditions, IsPart, IsDone, turns_of_part, turns_of_parts}
+use Rattle.solve_rounds.specs.Turning.{IsPickAt, IsWaiting, IsPart, IsDone, ComesAfter, ComesAmong}
 use Rattle.solve_rounds.proofs.growing.Kept.{system_size}
 use Rattle.solve_rounds.proofs.evaluation.EachPart.{each_part, part_few}
-use Rattle.solve_rounds.proofs.evaluation.Partings.{ArePartings, partings_more, next_like, conditions_like}
+use Rattle.solve_rounds.proofs.evaluation.Partings.{ArePartings, partings_more, next_waits, next_comes}
 use Rattle.solve_rounds.proofs.evaluation.TurnStops.{turn_stop_more}
 use Rattle.flow_systems.specs.declared.limits.TheConstants.{MOST_UNKNOWNS}
 
@@ -47,31 +47,28 @@ module _ (system : System) (pick : List (Option ℕ)) (raises : List CodeStep) (
         (subst EachRises same rise) number n.within)
 
     -- after its turns
-    pub numbered_more : (old now after : Turning) → ArePartings system pick raises places list old number now
+    pub numbered_more : (old now after : Turning) → IsPickAt system pick → ArePartings system pick raises places list old number now
         → IsDone system pick raises places p now after → ArePartings system pick raises places list old (number + 1) after
-    numbered_more old now after h done =
-        partings_more system pick raises places list old number now after n.within
+    numbered_more old now after chosen h done =
+        partings_more system pick raises places list old number now after chosen n.within
         (each_part system pick raises places list whole (subst EachRises same rise))
         (part_few system pick raises places list whole (system_size system) (subst EachRises same rise) number n.within) h
         (subst (λ q. IsDone system pick raises places q now after) n.is done)
 
-  -- its turns have the list condition where those of all parts do
-  pub numbered_conditions : (old now : Turning) → IsPickAt system pick
-      → HaveConditions system pick (turns_of_parts system pick raises places list old)
-      → ArePartings system pick raises places list old number now →
-      HaveConditions system pick (turns_of_part system pick raises places p now)
-  numbered_conditions old now chosen conditions h =
-      subst (λ q. HaveConditions system pick (turns_of_part system pick raises places q now)) (sym n.is)
-      (conditions_like system pick (turns_of_part system pick raises places (get_or (part_numbers system pick list) number []) now)
-      (turns_of_parts system pick raises places list old) chosen conditions
-      (next_like system pick raises places list old number now n.within h))
+  -- its unknowns wait for their turn
+  pub numbered_waits : (old now : Turning) → IsPickAt system pick → ArePartings system pick raises places list old number now
+      → IsWaiting system pick raises places p now.bounds
+  numbered_waits old now chosen h =
+      subst (λ q. IsWaiting system pick raises places q now.bounds) (sym n.is)
+      (next_waits system pick raises places list old number now chosen n.within h)
 
   -- a stop of one of its turns is one of the turns of all parts
-  pub numbered_stop : (old now : Turning) (round : ℕ) (stop : Fault Spot) → ArePartings system pick raises places list old number now
-      → IsTurnStop system pick (turns_of_part system pick raises places p now) round stop →
-      IsTurnStop system pick (turns_of_parts system pick raises places list old) round stop
-  numbered_stop old now round stop h s =
-      turn_stop_more system pick (turns_of_part system pick raises places (get_or (part_numbers system pick list) number []) now)
-      (turns_of_parts system pick raises places list old) round
-      (next_like system pick raises places list old number now n.within h) stop
-      (subst (λ q. IsTurnStop system pick (turns_of_part system pick raises places q now) round stop) n.is s)
+  pub numbered_stop : (old now : Turning) (round : ℕ) (stop : Fault Spot) → length old.steps.items ≡ 0
+      → ArePartings system pick raises places list old number now
+      → IsTurnStop system pick (ComesAfter system raises places p now) round stop →
+      IsTurnStop system pick (ComesAmong system pick raises places list old.bounds) round stop
+  numbered_stop old now round stop none h s =
+      turn_stop_more system pick (ComesAfter system raises places (get_or (part_numbers system pick list) number []) now)
+      (ComesAmong system pick raises places list old.bounds) round
+      (next_comes system pick raises places list old number now none n.within h) stop
+      (subst (λ q. IsTurnStop system pick (ComesAfter system raises places q now) round stop) n.is s)

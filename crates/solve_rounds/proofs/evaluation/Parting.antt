@@ -1,33 +1,39 @@
 -- The turns of a part, one after the other.
-use Rattle.std.proofs.Common.{◌==◌, true≢false, true, false, ◌≡◌, ◌∙◌, inl, inr, ⊎_elim, ℕ, zero, suc, ◌+◌, ◌<◌, ◌≤◌, List, [], ◌∷◌, ◌++◌}
-use Rattle.std.proofs.Common.{append_assoc, append-nil, length, get_or, map, refl, sym, ap, subst, arith}
+use Rattle.std.proofs.Common.{◌==◌, true≢false, true, false, ◌≡◌, ◌∙◌, inl, inr, ⊎_elim, ℕ, zero, suc, ◌+◌, ◌*◌, ◌<◌, ◌≤◌, List, [], ◌∷◌}
+use Rattle.std.proofs.Common.{◌++◌, append_assoc, append-nil, length, length-append, get_or, map, refl, sym, ap, subst, arith}
 use Rattle.std.specs.Prelude.{Option}
 use Rattle.std.proofs.lemmas.Bool.{eqb-true}
+use Rattle.std.proofs.lemmas.List.{length-map}
 use Rattle.base_facts.specs.Elements.{In}
 use Rattle.flow_systems.specs.Equations.{Equations, Vector}
 use Rattle.flow_systems.specs.View.{equations_of}
+use Rattle.flow_systems.specs.declared.fault.Fault.{Fault}
+use Rattle.flow_systems.specs.declared.spot.Spot.{Spot}
 use Rattle.flow_systems.specs.declared.system.System.{System}
-use Rattle.theory_validity.specs.Steps.{Item, Step, Jump as JumpKind, Ray as RayKind, after_step}
+use Rattle.theory_validity.specs.Steps.{Item, Step, after_step}
 use Rattle.theory_validity.specs.Certificates.{after_steps}
 use Rattle.cert_types.specs.declared.step.Step.{Step as CodeStep}
-use Rattle.theory_strategy.specs.Round.{Outcome, Point, Rays, ListCondition, without, turn, part}
+use Rattle.cert_types.specs.Certificates.{step_of}
+use Rattle.theory_strategy.specs.Turns.{step_by, Leaves, AreWaiting}
 use Rattle.theory_strategy.proofs.growth.GrowthLaw.{led-append}
+use Rattle.theory_strategy.proofs.round.PartLaw.{waiting_condition, leaves_append, leaves_waiting}
+use Rattle.theory_rounds.specs.Evidence.{exact_evidence}
 use Rattle.theory_rounds.specs.Agreement.{HaveRows}
-use Rattle.theory_rounds.specs.Turns.{Turn, later_turns, part_turns}
 use Rattle.theory_rounds.proofs.raises.ProblemsAgree.{after_agrees}
-use Rattle.theory_rounds.proofs.joint_items.RoundAgrees.{part_agrees}
-use Rattle.theory_rounds.proofs.turns.TurnsAgree.{Like, like_trans, LikeOne, condition_agrees, part_turns_agree}
+use Rattle.theory_rounds.proofs.turns.FactsAgree.{agree_back, facts_agree, waiting_agrees}
 use Rattle.solve_rounds.specs.declared.turning.Turning.{Turning}
 use Rattle.solve_offers.specs.AtBounds.{vector_at, transformers}
 use Rattle.solve_offers.specs.Improvement.{pick_of}
 use Rattle.solve_rounds.specs.Growing.{Agrees}
 use Rattle.solve_rounds.specs.Lows.{raise_at, item_in, items_at}
-use Rattle.solve_rounds.specs.Turning.{turns_so_far, joint_of, HaveConditions, MeetsCondition, IsPart, IsTurned, IsTurnedBy, IsDone}
-use Rattle.solve_rounds.specs.Turning.{turns_of_part}
+use Rattle.solve_rounds.specs.Round.{IsTurnStop}
+use Rattle.solve_rounds.specs.Turning.{turns_so_far, IsPickAt, MeetsCondition, IsWaiting, IsPart, IsTurned, IsDone, ComesAfter}
+use Rattle.solve_rounds.specs.Turning.{IsJoinedStop}
 use Rattle.solve_rounds.proofs.turning.TurnItems.{place_of}
 use Rattle.solve_rounds.proofs.lows.ListedLows.{raised_item}
 use Rattle.solve_offers.proofs.offers.Unknowns.{row_within}
 use Rattle.solve_rounds.proofs.turning.Turned.{picked_in}
+use Rattle.solve_rounds.proofs.evaluation.TurnStops.{joined_stop}
 
 -- a mapped element is the image of one
 pub of_map : {A B : Type 0} (f : A → B) (xs : List A) (y : B) → In (map f xs) y → (x : A) × In xs x × (f x ≡ y)
@@ -60,6 +66,10 @@ pub no_element : {A : Type 0} (xs : List A) → length xs ≡ 0 → xs ≡ []
 no_element [] e = refl
 no_element (x ∷ xs) e = absurd (omega arith)
 
+-- a list with an element has a length
+some_items : {A B : Type 0} (f : A → B) (xs : List A) → 0 < length xs → 0 < length (map f xs)
+some_items f xs l = subst (λ n. 0 < n) (sym (length-map xs f)) l
+
 module _ (system : System) (pick : List (Option ℕ)) (raises : List CodeStep) (places list : List ℕ) (old : Turning) where
   abbrev rows : ℕ
   rows = length system.template
@@ -67,8 +77,8 @@ module _ (system : System) (pick : List (Option ℕ)) (raises : List CodeStep) (
   abbrev eqs : Equations
   eqs = equations_of system
 
-  abbrev joint : Vector → List Item → Outcome
-  joint = joint_of system pick
+  abbrev V : Vector
+  V = vector_at system old.bounds
 
   abbrev items : List ℕ → List Item
   items l = items_at rows raises places l
@@ -81,25 +91,14 @@ module _ (system : System) (pick : List (Option ℕ)) (raises : List CodeStep) (
     pub size : length now.bounds ≡ length old.bounds
     -- the steps of the turns so far
     pub made : List Step
-    -- how many turns there may still be
-    pub fuel : ℕ
-    -- there may be a turn for each unknown left
-    pub enough : length left ≤ fuel
+    -- they leave the unknowns that are left
+    pub leaves : Leaves eqs (transformers system) V (items list) made (items left)
     -- the steps now are those before and those of the turns so far
     pub steps : turns_so_far system now ≡ turns_so_far system old ++ made
-    -- the steps of the whole part are those so far, and then those of the unknowns left
-    pub whole : part joint (length list) (vector_at system old.bounds) (items list)
-        ≡ made ++ part joint fuel (vector_at system now.bounds) (items left)
     -- the bounds are those after the steps so far
-    pub agrees : Agrees system (after_steps made (vector_at system old.bounds)) now.bounds
+    pub agrees : Agrees system (after_steps made V) now.bounds
     -- each step takes an unknown from those left
     pub few : length now.steps.items + length left ≤ length old.steps.items + length list
-    -- the turns left are turns of the whole part
-    pub turns : (t : Turn) → In (part_turns joint fuel (length now.steps.items) (vector_at system now.bounds) (items left)) t
-        → LikeOne eqs (turns_of_part system pick raises places list old) t
-
-  like_itself : (t : Turn) → Like eqs t t
-  like_itself t = record { vector = λ p r l. refl; list = refl; number = refl }
 
   -- at first
   pub parting_starts : IsPart system pick raises places list → IsParting list old
@@ -108,168 +107,93 @@ module _ (system : System) (pick : List (Option ℕ)) (raises : List CodeStep) (
     part_left = h;
     size = refl;
     made = [];
-    fuel = length list;
-    enough = omega arith;
+    leaves = refl;
     steps = sym (append-nil (turns_so_far system old));
-    whole = refl;
     agrees = λ p r l. refl;
     few = omega arith;
-    turns = λ t m. (t, m, like_itself t);
   }
-
-  nothing_more : (n : ℕ) (b : Vector) → part joint n b [] ≡ []
-  unfolding part
-  nothing_more zero b = refl
-  nothing_more (suc n) b = refl
-
-  no_turns : (n k : ℕ) (b : Vector) (t : Turn) → In (part_turns joint n k b []) t → ⊥
-  unfolding part_turns
-  no_turns zero k b t m = m
-  no_turns (suc n) k b t m = m
 
   -- at the end
   pub parting_ends : (left : List ℕ) (now : Turning) → left ≡ [] → IsParting left now → IsDone system pick raises places list old now
-  parting_ends left now e h =
-      let none : part joint h.fuel (vector_at system now.bounds) (items left) ≡ [] =
-      ap (λ l. part joint h.fuel (vector_at system now.bounds) (items l)) e ∙ nothing_more h.fuel (vector_at system now.bounds) in
-      let all : part joint (length list) (vector_at system old.bounds) (items list) ≡ h.made =
-      h.whole ∙ ap (λ s. h.made ++ s) none ∙ append-nil h.made in
-      record {
-        size = h.size;
-        steps = h.steps ∙ ap (λ s. turns_so_far system old ++ s) (sym all);
-        agrees = subst (λ s. Agrees system (after_steps s (vector_at system old.bounds)) now.bounds) (sym all) h.agrees;
-        few = (let f = h.few in omega arith);
-      }
+  parting_ends left now e h = record {
+    size = h.size;
+    made = h.made;
+    leaves = subst (λ l. Leaves eqs (transformers system) V (items list) h.made (items l)) e h.leaves;
+    steps = h.steps;
+    agrees = h.agrees;
+    few = (let f = h.few in omega arith);
+  }
 
-  -- the list condition at the next turn, and a turn of the part that is like it
-  pub parting_turn : (u : ℕ) (us : List ℕ) (now : Turning) → IsParting (u ∷ us) now
-      → LikeOne eqs (turns_of_part system pick raises places list old)
-      (record { vector = vector_at system now.bounds; list = items (u ∷ us); number = length now.steps.items })
-  unfolding part_turns
-  parting_turn u us now h = by h.fuel h.enough h.turns
-    where
-      by : (n : ℕ) → length (u ∷ us) ≤ n → ((t : Turn) → In (part_turns joint n (length now.steps.items) (vector_at system now.bounds)
-          (items (u ∷ us))) t → LikeOne eqs (turns_of_part system pick raises places list old) t) →
-          LikeOne eqs (turns_of_part system pick raises places list old)
-          (record { vector = vector_at system now.bounds; list = items (u ∷ us); number = length now.steps.items })
-      by zero l f = absurd (omega arith)
-      by (suc n) l f = f (record { vector = vector_at system now.bounds; list = items (u ∷ us); number = length now.steps.items })
-          (inl refl)
-
-  -- the turn at hand meets its condition where all turns of the part do
-  parting_condition : (u : ℕ) (us : List ℕ) (now : Turning) → HaveConditions system pick (turns_of_part system pick raises places list old)
-      → IsParting (u ∷ us) now → MeetsCondition system pick raises places (u ∷ us) now.bounds
-  parting_condition u us now conditions h =
-      let s = parting_turn u us now h in
-      condition_agrees eqs (pick_of rows pick) s.0.vector (vector_at system now.bounds) (items (u ∷ us)) (λ p r l. sym (s.2.vector p r l))
-      (part_rows system pick raises places (u ∷ us) h.part_left)
-      (subst (λ l. ListCondition eqs (transformers system) (pick_of rows pick) s.0.vector l) (sym s.2.list) (conditions s.0 s.1))
+  -- there is a step for each turn so far
+  made_count : (left : List ℕ) (now : Turning) → (h : IsParting left now) → length now.steps.items ≡ length old.steps.items + length h.made
+  made_count left now h =
+      sym (length-map now.steps.items (step_of rows)) ∙ ap length h.steps ∙ length-append (turns_so_far system old) h.made
+      ∙ ap (λ n. n + length h.made) (length-map old.steps.items (step_of rows))
 
   -- a step after others
   led_one : (made : List Step) (step : Step) (z : Vector) → after_steps (made ++ step ∷ []) z ≡ after_step step (after_steps made z)
   unfolding after_steps
   led_one made step z = led-append made (step ∷ []) z
 
-  -- what is known after one more turn, whose outcome makes one step and leaves these
-  record Goes (u : ℕ) (us left : List ℕ) (now new : Turning) (n : ℕ) : Type 0 where
-    step : Step
-    one_step : turns_so_far system new ≡ turns_so_far system now ++ step ∷ []
-    rest_steps : part joint (suc n) (vector_at system now.bounds) (items (u ∷ us))
-        ≡ step ∷ part joint n (vector_at system new.bounds) (items left)
-    new_agrees : Agrees system (after_step step (vector_at system now.bounds)) new.bounds
-    new_turns : (t : Turn) → In (part_turns joint n (length new.steps.items) (vector_at system new.bounds) (items left)) t →
-        LikeOne eqs (part_turns joint (suc n) (length now.steps.items) (vector_at system now.bounds) (items (u ∷ us))) t
-
-  goes_by : (u : ℕ) (us left : List ℕ) (now new : Turning) (n : ℕ) → IsPart system pick raises places left
-      → length new.steps.items ≡ length now.steps.items + 1 → (o : Outcome) → joint (vector_at system now.bounds) (items (u ∷ us)) ≡ o →
-      IsTurnedBy system raises places o (u ∷ us) now new left → Goes u us left now new n
-  unfolding part turn part_turns later_turns
-  goes_by u us left now new n kept one (Point its) e t =
-      let step : Step = record { kind = JumpKind; items = its } in
-      record {
-        step = step;
-        one_step = t.0;
-        rest_steps = ap (λ o. turn o (vector_at system now.bounds) (items (u ∷ us)) (λ c rest. part joint n c rest)) e
-            ∙ ap (λ s. step ∷ s) (sym (ap (λ l. part joint n (vector_at system new.bounds) (items l)) t.1
-            ∙ nothing_more n (vector_at system new.bounds)));
-        new_agrees = t.2;
-        new_turns = λ s m. absurd (no_turns n (length new.steps.items) (vector_at system new.bounds) s
-            (subst (λ l. In (part_turns joint n (length new.steps.items) (vector_at system new.bounds) (items l)) s) t.1 m));
-      }
-  goes_by u us left now new n kept one (Rays its) e t =
-      let step : Step = record { kind = RayKind; items = its } in
-      let c = after_step step (vector_at system now.bounds) in
-      let rows_left = part_rows system pick raises places left kept in
-      let number : length new.steps.items ≡ suc (length now.steps.items) = omega arith in
-      record {
-        step = step;
-        one_step = t.0;
-        rest_steps = ap (λ o. turn o (vector_at system now.bounds) (items (u ∷ us)) (λ c rest. part joint n c rest)) e
-            ∙ ap (λ s. step ∷ s) (ap (part joint n c) (sym t.1) ∙ part_agrees eqs (pick_of rows pick) n c (vector_at system new.bounds)
-            (items left) t.2 rows_left);
-        new_agrees = t.2;
-        new_turns = λ s m.
-            let r = part_turns_agree eqs (pick_of rows pick) n (length new.steps.items) (vector_at system new.bounds) c (items left)
-            (λ p r l. sym (t.2 p r l)) rows_left s m in (
-              r.0,
-              inr (subst (λ o. In (later_turns o (length now.steps.items) (vector_at system now.bounds) (items (u ∷ us))
-                  (λ j d rest. part_turns joint n j d rest)) r.0) (sym e)
-                  (subst (λ k. In (part_turns joint n k c (without its (items (u ∷ us)))) r.0) number
-                  (subst (λ l. In (part_turns joint n (length new.steps.items) c l) r.0) t.1 r.1))),
-              r.2,
-            );
-      }
-
-  like_one : (turns : List Turn) (t s : Turn) → Like eqs t s → LikeOne eqs turns s → LikeOne eqs turns t
-  like_one turns t s a r = (r.0, r.1, like_trans eqs t s r.0 a r.2)
-
-  -- after one more turn
-  pub parting_more : (u : ℕ) (us left : List ℕ) (now new : Turning) → IsParting (u ∷ us) now
-      → IsTurned system pick raises places (u ∷ us) now new left → IsParting left new
-  parting_more u us left now new h t = by h.fuel h.enough h.whole h.turns
-    where
-      by : (n : ℕ) → length (u ∷ us) ≤ n → part joint (length list) (vector_at system old.bounds) (items list)
-          ≡ h.made ++ part joint n (vector_at system now.bounds) (items (u ∷ us)) →
-          ((s : Turn) → In (part_turns joint n (length now.steps.items) (vector_at system now.bounds) (items (u ∷ us))) s
-          → LikeOne eqs (turns_of_part system pick raises places list old) s) → IsParting left new
-      by zero l w f = absurd (omega arith)
-      by (suc n) l w f =
-          let g = goes_by u us left now new n t.part t.one (joint (vector_at system now.bounds) (items (u ∷ us))) refl t.turned in
-          let fewer = t.fewer in
-          let one = t.one in
-          let few = h.few in
-          record {
-            part_left = t.part;
-            size = t.size ∙ h.size;
-            made = h.made ++ g.step ∷ [];
-            fuel = n;
-            enough = omega arith;
-            steps = g.one_step ∙ ap (λ s. s ++ g.step ∷ []) h.steps ∙ append_assoc (turns_so_far system old) h.made (g.step ∷ []);
-            whole = w ∙ ap (λ s. h.made ++ s) g.rest_steps ∙ sym (append_assoc h.made (g.step ∷ [])
-                (part joint n (vector_at system new.bounds) (items left)));
-            agrees = λ p r m. ap (λ z. z p r) (led_one h.made g.step (vector_at system old.bounds))
-                ∙ after_agrees eqs g.step (after_steps h.made (vector_at system old.bounds)) (vector_at system now.bounds) h.agrees p r m
-                ∙ g.new_agrees p r m;
-            few = omega arith;
-            turns = λ s m. let r = g.new_turns s m in like_one (turns_of_part system pick raises places list old) s r.0 r.2 (f r.0 r.1);
-          }
-
-  -- the same where something is left
-  pub left_turn : (left : List ℕ) (now : Turning) → 0 < length left → IsParting left now
-      → LikeOne eqs (turns_of_part system pick raises places list old)
-      (record { vector = vector_at system now.bounds; list = items left; number = length now.steps.items })
-  left_turn [] now l h = absurd (omega arith)
-  left_turn (u ∷ us) now l h = parting_turn u us now h
-
-  -- the unknowns left meet the condition of their turn
-  pub left_condition : (left : List ℕ) (now : Turning) → 0 < length left
-      → HaveConditions system pick (turns_of_part system pick raises places list old) → IsParting left now
-      → MeetsCondition system pick raises places left now.bounds
-  left_condition [] now l conditions h = absurd (omega arith)
-  left_condition (u ∷ us) now l conditions h = parting_condition u us now conditions h
-
   -- one turn more takes the part one turn further
   pub left_more : (left more : List ℕ) (now new : Turning) → 0 < length left → IsParting left now
       → IsTurned system pick raises places left now new more → IsParting more new
-  left_more [] more now new l h t = absurd (omega arith)
-  left_more (u ∷ us) more now new l h t = parting_more u us more now new h t
+  left_more left more now new some h t =
+      let step = step_by t.outcome in
+      let before = after_steps h.made V in
+      let here = facts_agree eqs (vector_at system now.bounds) before (agree_back eqs before (vector_at system now.bounds) h.agrees)
+      (items left) (part_rows system pick raises places left h.part_left) t.outcome t.facts in
+      let few = h.few in
+      let fewer = t.fewer in
+      let one = t.one in
+      record {
+        part_left = t.part;
+        size = t.size ∙ h.size;
+        made = h.made ++ step ∷ [];
+        leaves = leaves_append eqs (transformers system) h.made (step ∷ []) V (items list) (items left) (items more) h.leaves
+            (t.outcome, here, refl, some_items (λ u. item_in rows (raise_at raises places u)) left some, t.left_is);
+        steps = t.steps ∙ ap (λ s. s ++ step ∷ []) h.steps ∙ append_assoc (turns_so_far system old) h.made (step ∷ []);
+        agrees = λ p r m. ap (λ z. z p r) (led_one h.made step V)
+            ∙ after_agrees eqs step before (vector_at system now.bounds) h.agrees p r m ∙ t.agrees p r m;
+        few = omega arith;
+      }
+
+  -- the unknowns left wait for their turn
+  left_waiting : (left : List ℕ) (now : Turning) → IsPickAt system pick → (w : IsWaiting system pick raises places list old.bounds)
+      → IsParting left now → AreWaiting eqs (pick_of rows pick) w.0 (vector_at system now.bounds) (items left)
+  left_waiting left now chosen w h =
+      waiting_agrees eqs (pick_of rows pick) w.0 (after_steps h.made V) (vector_at system now.bounds) (items left) h.agrees
+      (part_rows system pick raises places left h.part_left)
+      (leaves_waiting eqs (transformers system) (exact_evidence eqs) (pick_of rows pick) chosen w.0 h.made V (items list) (items left) w.1
+      h.leaves)
+
+  -- and so they meet the condition of their turn
+  pub left_condition : (left : List ℕ) (now : Turning) → IsPickAt system pick → IsWaiting system pick raises places list old.bounds
+      → IsParting left now → MeetsCondition system pick raises places left now.bounds
+  left_condition left now chosen w h =
+      waiting_condition eqs (transformers system) (exact_evidence eqs) (pick_of rows pick) chosen w.0 (vector_at system now.bounds)
+      (items left) (left_waiting left now chosen w h)
+
+  -- the next turn comes up
+  left_comes : (left : List ℕ) (now : Turning) → 0 < length left → IsParting left now
+      → ComesAfter system raises places list old (length now.steps.items) (vector_at system now.bounds) (items left)
+  left_comes left now some h = (
+    length h.made,
+    made_count left now h,
+    record {
+      made = h.made;
+      leaves = h.leaves;
+      some = some_items (λ u. item_in rows (raise_at raises places u)) left some;
+      number_is = refl;
+      agrees = h.agrees;
+    },
+  )
+
+  -- so where it stops, a turn of the part does
+  pub left_stop : (left : List ℕ) (now : Turning) (round : ℕ) (stop : Fault Spot)
+      → length old.bounds ≡ length system.flow.points * length system.template → 0 < length left → IsParting left now
+      → IsJoinedStop system pick now.bounds left (length now.steps.items) round stop
+      → IsTurnStop system pick (ComesAfter system raises places list old) round stop
+  left_stop left now round stop size some h s =
+      joined_stop system pick raises places left now.bounds (length now.steps.items) round (ComesAfter system raises places list old)
+      (h.size ∙ size) h.part_left.raised (left_comes left now some h) stop s

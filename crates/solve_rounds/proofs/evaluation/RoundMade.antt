@@ -18,8 +18,9 @@ use Rattle.cert_types.specs.declared.step.Step.{Step as CodeStep}
 use Rattle.cert_types.specs.Certificates.{step_of}
 use Rattle.theory_strategy.specs.Picks.{Pick, Tight, Above}
 use Rattle.theory_strategy.specs.Growth.{items_of}
-use Rattle.theory_strategy.specs.Round.{turns, members, round, round_steps}
-use Rattle.theory_strategy.proofs.round.RoundLaw.{RoundDone}
+use Rattle.theory_strategy.specs.Round.{members}
+use Rattle.theory_strategy.specs.Turns.{AreTurnsOf, PartsAreWaiting}
+use Rattle.theory_strategy.proofs.growth.GrowthLaw.{led-append}
 use Rattle.theory_transformers.specs.JointProblems.{Listed}
 use Rattle.theory_transformers.specs.Parts.{InSome, parts}
 use Rattle.theory_transformers.proofs.parts.PartsLaw.{parts_sound}
@@ -31,15 +32,15 @@ use Rattle.theory_rounds.specs.Agreement.{Agree, HaveRows}
 use Rattle.theory_rounds.specs.JointItems.{listed_item, listed_items}
 use Rattle.theory_rounds.specs.Cut.{in_order, item_for, items_for, items_of_parts, cut_items, exact_cut}
 use Rattle.theory_rounds.specs.Rounds.{exact_grown, exact_rising}
-use Rattle.theory_rounds.specs.Turns.{Turn, parts_turns, exact_turns}
+use Rattle.theory_rounds.specs.ComingTurns.{ComesUp}
 use Rattle.theory_rounds.proofs.joint_items.ListedItems.{distinct_items}
 use Rattle.theory_rounds.proofs.cut.CutItems.{item_for_is}
 use Rattle.theory_rounds.proofs.rounds.ExactRound.{rising_ordered, exact_cuts, exact_round_is}
 use Rattle.theory_rounds.proofs.rounds.GrowthAgrees.{rising_rows}
 use Rattle.theory_rounds.proofs.raises.ProblemsAgree.{transformer_agrees, led_agrees}
-use Rattle.theory_rounds.proofs.joint_items.RoundAgrees.{turns_agree}
-use Rattle.theory_rounds.proofs.turns.TurnsAgree.{LikeOne, parts_turns_agree}
-use Rattle.theory_rounds.proofs.turns.TurnConditions.{turn_condition}
+use Rattle.theory_rounds.proofs.turns.FactsAgree.{agree_back, turns_of_agree, comes_agrees, parts_waiting_agree}
+use Rattle.theory_rounds.proofs.turns.Coming.{round_waiting, turn_comes}
+use Rattle.theory_rounds.proofs.rounds.RoundBy.{round_by_is, round_by_same}
 use Rattle.solve_raise.specs.Numbers.{fitting}
 use Rattle.solve_rounds.specs.declared.turning.Turning.{Turning}
 use Rattle.solve_offers.specs.AtBounds.{transformers, vector_at, EdgesAreThere, IsTightPick, IsSupportedPick}
@@ -48,15 +49,14 @@ use Rattle.solve_rounds.specs.Growing.{Agrees}
 use Rattle.solve_rounds.specs.Growth.{growth_at, named_at, AreLed}
 use Rattle.solve_rounds.specs.GrowthTests.{is_named}
 use Rattle.solve_rounds.specs.Lows.{item_in, ArePlaces, raise_at, items_at}
-use Rattle.solve_rounds.specs.Turning.{finite_in, joint_of, IsPickAt, IsPart, HaveConditions, AreAllDone, turns_so_far, turns_of_parts}
-use Rattle.solve_rounds.specs.Round.{round_at, rounded_at, turns_at, AreAbove}
+use Rattle.solve_rounds.specs.Turning.{finite_in, IsPickAt, IsPart, PartsWait, AreAllDone, ComesAmong}
+use Rattle.solve_rounds.specs.Round.{IsRoundAt, IsTurnOf, rounded_at, AreAbove, AreValidFrom}
 use Rattle.solve_rounds.proofs.lows.ListedLows.{listed_here, listed_same}
 use Rattle.solve_offers.proofs.offers.Unknowns.{row_within}
 use Rattle.solve_rounds.proofs.turning.TurnItems.{place_of, in_place}
 use Rattle.solve_rounds.proofs.lows.LeftOver.{of_filter}
 use Rattle.solve_rounds.proofs.lows.RaiseList.{of_range}
 use Rattle.solve_rounds.proofs.evaluation.Parting.{of_map}
-use Rattle.solve_rounds.proofs.evaluation.Partings.{conditions_like}
 use Rattle.solve_rounds.proofs.evaluation.RoundRaises.{list_is, list_items}
 
 -- what was grown, where its raises stand, and the list of the unknowns that it raised to fractions
@@ -174,62 +174,63 @@ module _ (system : System) (bounds : List Extended) (pick : List (Option ℕ)) (
       ∙ parts_here (listed_parts system pick list) (λ w m. parts_sound eqs (all_listed system pick list) w m)
 
   -- ---- the turns
+  -- the unknowns of the cut stand at rows of the template
   cut_rows : HaveRows eqs (members cut)
   cut_rows u m = rising_rows fitting eqs p chosen d u ((exact_cuts fitting eqs d p chosen).from u m)
 
-  abbrev made : List Step
-  made = turns (joint_of system pick) (vector_at system grown) (map items numbers)
+  module _ (supported : IsSupportedPick system bounds pick) where
+    -- the unknowns of the parts wait for their turns
+    pub setting_waits : PartsWait system pick raises places list grown
+    setting_waits = (
+      at_grown,
+      subst (PartsAreWaiting eqs p at_grown (vector_at system grown)) cut_same
+          (parts_waiting_agree eqs p at_grown at_grown (vector_at system grown) cut is.agrees cut_rows
+          (round_waiting fitting eqs d p supported)),
+    )
 
-  made_same : turns (joint_of system pick) at_grown cut ≡ made
-  made_same = turns_agree eqs p cut at_grown (vector_at system grown) is.agrees cut_rows
-      ∙ ap (turns (joint_of system pick) (vector_at system grown)) cut_same
+    -- the turns that come up among them come up in the round
+    pub setting_comes : (number : ℕ) (v : Vector) (left : List Item) → ComesAmong system pick raises places list grown number v left
+        → IsTurnOf system bounds pick number v left
+    setting_comes number v left c =
+        let comes = comes_agrees eqs cut (vector_at system grown) at_grown number v left
+        (agree_back eqs at_grown (vector_at system grown) is.agrees) cut_rows
+        (subst (λ ls. ComesUp eqs (vector_at system grown) ls number v left) (sym cut_same) c) in
+        let known = turn_comes fitting eqs d p supported number v left comes in
+        record { comes = comes; condition = known.condition; over = known.over; under = known.under }
 
-  -- the turns of the list's parts are turns of the round
-  pub turns_like : (old : Turning) → old.bounds ≡ grown → length old.steps.items ≡ 0 → (t : Turn)
-      → In (turns_of_parts system pick raises places list old) t → LikeOne eqs (turns_at system bounds pick) t
-  unfolding exact_turns
-  turns_like old e none t m =
-      parts_turns_agree eqs p cut 0 (vector_at system grown) at_grown (λ q r l. sym (is.agrees q r l)) cut_rows t
-      (subst (λ ls. In (parts_turns (joint_of system pick) 0 (vector_at system grown) ls) t) (sym cut_same)
-      (subst₂ (λ n b. In (parts_turns (joint_of system pick) n (vector_at system b) (map items numbers)) t) none e m))
-
-  -- the turns of the list's parts have their conditions
-  pub setting_conditions : (old : Turning) → old.bounds ≡ grown → length old.steps.items ≡ 0
-      → HaveConditions system pick (turns_of_parts system pick raises places list old)
-  setting_conditions old e none = conditions_like system pick (turns_of_parts system pick raises places list old)
-      (turns_at system bounds pick) chosen (λ t m. turn_condition fitting eqs d p chosen t m) (turns_like old e none)
-
-  -- ---- the steps and the bounds
-  steps_same : growth_at system bounds pick ++ made ≡ round_at system bounds pick
-  unfolding round_steps
-  steps_same = ap (λ s. growth_at system bounds pick ++ s) (sym made_same)
-
-  done_made : (old new : Turning) → old.bounds ≡ grown → old.steps.items ≡ [] → AreAllDone system pick raises places list old new
-      → turns_so_far system new ≡ made
-  done_made old new e none done = done.steps ∙ ap₂ (λ s b. map (step_of rows) s
-      ++ turns (joint_of system pick) (vector_at system b) (map items numbers)) none e
-
-  -- the growth's raises and the turns' steps are the steps of the round
-  pub setting_steps : (old new : Turning) (steps : List CodeStep) → old.bounds ≡ grown → old.steps.items ≡ []
-      → AreAllDone system pick raises places list old new → steps ≡ raises ++ new.steps.items →
-      map (step_of rows) steps ≡ round_at system bounds pick
-  setting_steps old new steps e none done appended =
-      ap (map (step_of rows)) appended ∙ map_both raises new.steps.items ∙ ap₂ (λ x y. x ++ y) is.same (done_made old new e none done)
-      ∙ steps_same
-    where
+    module _ (old new : Turning) (steps : List CodeStep) (e : old.bounds ≡ grown) (none : old.steps.items ≡ [])
+        (done : AreAllDone system pick raises places list old new) (appended : steps ≡ raises ++ new.steps.items) where
       map_both : (xs ys : List CodeStep) → map (step_of rows) (xs ++ ys) ≡ map (step_of rows) xs ++ map (step_of rows) ys
       map_both [] ys = refl
       map_both (x ∷ xs) ys = ap (λ s. step_of rows x ∷ s) (map_both xs ys)
 
-  -- the bounds after all parts are those of the round
-  pub setting_bounds : (old new : Turning) → old.bounds ≡ grown → AreAllDone system pick raises places list old new
-      → Agrees system (rounded_at system bounds pick) new.bounds
-  unfolding round
-  setting_bounds old new e done q r l =
-      led_agrees eqs (turns (joint_of system pick) at_grown cut) at_grown (vector_at system grown) is.agrees q r l
-      ∙ ap (λ s. after_steps s (vector_at system grown) q r) made_same
-      ∙ subst (λ b. Agrees system (after_steps (turns (joint_of system pick) (vector_at system b) (map items numbers)) (vector_at system b))
-      new.bounds) e done.agrees q r l
+      all_steps : map (step_of rows) steps ≡ growth_at system bounds pick ++ done.made
+      all_steps =
+          ap (map (step_of rows)) appended ∙ map_both raises new.steps.items
+          ∙ ap₂ (λ x y. x ++ y) is.same (done.steps ∙ ap (λ s. map (step_of rows) s ++ done.made) none)
+
+      -- the growth's raises and the turns' steps are the steps of a round
+      pub setting_round : IsRoundAt system bounds pick (map (step_of rows) steps)
+      setting_round = record {
+        turns = done.made;
+        made = turns_of_agree eqs cut (vector_at system grown) at_grown done.made
+            (agree_back eqs at_grown (vector_at system grown) is.agrees) cut_rows
+            (subst (λ ls. AreTurnsOf eqs (transformers system) (vector_at system grown) ls done.made) (sym cut_same)
+            (subst (λ b. AreTurnsOf eqs (transformers system) (vector_at system b) (map items numbers) done.made) e done.turns));
+        same = all_steps;
+      }
+
+      -- the bounds after all parts are those to which it leads
+      pub setting_bounds : Agrees system (rounded_at system bounds pick) new.bounds
+      setting_bounds q r l =
+          sym (round_by_same fitting eqs d p (map (step_of rows) steps) supported setting_round q r l)
+          ∙ ap (λ s. after_steps s d q r) all_steps ∙ ap (λ z. z q r) (led-append (growth_at system bounds pick) done.made d)
+          ∙ led_agrees eqs done.made at_grown (vector_at system grown) is.agrees q r l
+          ∙ subst (λ b. Agrees system (after_steps done.made (vector_at system b)) new.bounds) e done.agrees q r l
+
+      -- and its steps are valid
+      pub setting_valid : AreValidFrom system bounds (map (step_of rows) steps)
+      setting_valid = (round_by_is fitting eqs d p (map (step_of rows) steps) supported setting_round).valid
 
 -- ---- what holds of the vector of a round holds of the bounds
 module _ (system : System) (pick : List (Option ℕ)) (z : Vector) (new : List Extended)
@@ -262,13 +263,14 @@ module _ (system : System) (pick : List (Option ℕ)) (z : Vector) (new : List E
     same = λ u m. sym (value_same u) ∙ h.same u m ∙ agree u.point u.row (chosen u m).row_within;
   }
 
--- ---- a round by a supported pick
+-- ---- a round by a supported pick leads to the vector above the bounds, where the pick is tight
 pub round_done : (system : System) (bounds : List Extended) (pick : List (Option ℕ)) → IsSupportedPick system bounds pick →
-    RoundDone (equations_of system) (transformers system) (vector_at system bounds)
-    (exact_grown fitting (equations_of system) (vector_at system bounds) (pick_of (length system.template) pick))
-    (pick_of (length system.template) pick) (growth_at system bounds pick) (round_at system bounds pick) (rounded_at system bounds pick)
-round_done system bounds pick supported = exact_round_is fitting (equations_of system) (vector_at system bounds)
-    (pick_of (length system.template) pick) supported
+    Above (equations_of system) (transformers system) (vector_at system bounds) (pick_of (length system.template) pick)
+    (rounded_at system bounds pick)
+    × Tight (equations_of system) (transformers system) (rounded_at system bounds pick) (pick_of (length system.template) pick)
+round_done system bounds pick supported =
+    let done = exact_round_is fitting (equations_of system) (vector_at system bounds) (pick_of (length system.template) pick) supported in
+    (done.above, done.tight)
 
 -- ---- what the parts of a round need
 past : (xs : List (Option ℕ)) (u : ℕ) → length xs ≤ u → get_or xs u None ≡ None

@@ -1,18 +1,20 @@
 -- What the rounds have come to, and what they end with.
-use Rattle.std.proofs.Common.{◌≡◌, ◌∙◌, inl, inr, ℕ, suc, ◌+◌, ◌*◌, ◌<◌, ◌≤◌, List, ◌++◌, length, map, sym, ap, subst, subst₂, arith}
+use Rattle.std.proofs.Common.{◌≡◌, ◌∙◌, inl, inr, ℕ, suc, ◌+◌, ◌*◌, ◌<◌, ◌≤◌, List, length, map, sym, ap, subst, subst₂, arith}
 use Rattle.std.specs.Prelude.{Option, Some, None}
 use Rattle.flow_systems.specs.Equations.{Least}
 use Rattle.flow_systems.specs.View.{equations_of, vector_of, bounds_of}
 use Rattle.flow_systems.specs.declared.system.System.{System}
 use Rattle.flow_systems.proofs.view.Listed.{listed_law}
+use Rattle.theory_validity.specs.Steps.{Step}
 use Rattle.theory_validity.specs.Certificates.{bounds_vector, ValidCertificate}
 use Rattle.theory_validity.proofs.steps.CertificateLaw.{certificate_least, least_unique}
 use Rattle.cert_types.specs.Certificates.{step_of, evidence_of}
 use Rattle.theory_strategy.specs.Picks.{Tight}
 use Rattle.theory_strategy.specs.PickCount.{pick_count}
-use Rattle.theory_rounds.specs.Rounds.{Choice, first_choice, exact_steps}
-use Rattle.theory_rounds.specs.Made.{exact_uppers, exact_certificate}
-use Rattle.theory_rounds.proofs.rounds.MadeCertificate.{made_valid}
+use Rattle.theory_rounds.specs.Rounds.{Choice, first_choice}
+use Rattle.theory_rounds.specs.Made.{exact_uppers, certificate_with}
+use Rattle.theory_rounds.proofs.rounds.MadeCertificate.{made_with}
+use Rattle.theory_rounds.proofs.rounds.StepsMade.{steps_lead}
 use Rattle.solve_raise.specs.Numbers.{fitting}
 use Rattle.theory_strategy.specs.Solve.{state}
 use Rattle.solve_composition.specs.Faults.{IsPathFault}
@@ -27,8 +29,8 @@ use Rattle.solve_rounds.specs.declared.solving.Progress.{Progress}
 use Rattle.solve_offers.specs.AtBounds.{transformers, vector_at, IsTightPick, IsNextPick, NothingExceeds}
 use Rattle.solve_offers.specs.Stops.{IsOfferStop}
 use Rattle.solve_offers.specs.Improvement.{pick_of, IsNext}
-use Rattle.solve_rounds.specs.Round.{IsRoundStop, AreBoundsOf, round_at, rounded_at}
-use Rattle.solve_rounds.specs.Chains.{state_at, bounds_after, steps_after, IsChain, IsEnded}
+use Rattle.solve_rounds.specs.Round.{IsRoundStop, AreBoundsOf, IsRoundAt, rounded_at}
+use Rattle.solve_rounds.specs.Chains.{state_at, bounds_after, AreStepsAfter, IsChain, IsEnded}
 use Rattle.solve_rounds.specs.HaltOf.{halt_of}
 use Rattle.solve_rounds.specs.Halts.{IsHalt}
 use Rattle.solve_rounds.specs.Solutions.{IsSolved, made_certificate}
@@ -42,7 +44,7 @@ use Rattle.solve_rounds.proofs.chains.Chained.{same_bounds, extended, pick_next,
 -- before the first round
 pub after_none : (system : System) (policy : Offer → ℕ → Type 0) (progress : Progress) → IsBegun system progress
     → IsAfter system policy 0 progress
-unfolding state exact_steps
+unfolding state
 after_none system policy progress b = record {
   choose = λ k. first_choice;
   chain = no_rounds system policy;
@@ -98,7 +100,8 @@ module _ (system : System) (policy : Offer → ℕ → Type 0) (made : ℕ) (pro
     within = subst (λ n. n ≤ limit) (sym f.improvements) within;
     few = subst (λ n. n < pick_count (equations_of system)) (sym f.improvements) (few_after system policy made a.choose a.chain);
     bounds = f.bounds ∙ a.bounds ∙ ap (bounds_after system a.choose) (sym f.improvements);
-    steps = ap (map (step_of (length system.template))) f.steps ∙ a.steps ∙ ap (steps_after system a.choose) (sym f.improvements);
+    steps = subst₂ (λ n s. AreStepsAfter system a.choose n (map (step_of (length system.template)) s)) (sym f.improvements) (sym f.steps)
+        a.steps;
     uppers = f.uppers ∙ ap (λ b. exact_uppers (equations_of system) (vector_at system b)) (sym f.bounds);
   }
 
@@ -156,9 +159,10 @@ module _ (system : System) (policy : Offer → ℕ → Type 0) (made : ℕ) (pro
       size = ap (λ l. length l) h.pick ∙ size;
       pick = ap (pick_of (length system.template)) h.pick ∙ sym (pick_next system policy made a.choose a.chain
           (pick_of (length system.template) better) next_one);
-      steps = h.steps ∙ ap (λ s. s ++ round_at system progress.bounds better) a.steps
-          ∙ ap (λ b. steps_after system a.choose made ++ round_at system b better) a.bounds
-          ∙ steps_next system policy made a.choose a.chain (pick_of (length system.template) better) next_one;
+      steps = subst (AreStepsAfter system others (suc made)) (sym h.steps)
+          (steps_next system policy made a.choose a.chain (pick_of (length system.template) better) next_one
+          (map (step_of (length system.template)) progress.steps.items) h.made a.steps
+          (subst (λ b. IsRoundAt system b better h.made) a.bounds h.round));
     }
 
     -- a round that advances leads to the progress after one round more
@@ -168,28 +172,25 @@ module _ (system : System) (policy : Offer → ℕ → Type 0) (made : ℕ) (pro
         (after_next new size h)
 
 module _ (system : System) (policy : Offer → ℕ → Type 0) (limit : ℕ) (solved : Solved) (s : IsSolved system policy limit solved) where
-  -- the certificate is the one that the rounds make
-  pub solved_certificate : made_certificate system solved ≡ exact_certificate fitting (equations_of system) s.choose solved.improvements
-  unfolding exact_certificate bounds_vector
+  abbrev all : List Step
+  all = map (step_of (length system.template)) solved.steps
+
+  -- the certificate is the one of the rounds with the solution's steps
+  pub solved_certificate : made_certificate system solved
+      ≡ certificate_with fitting (equations_of system) s.choose solved.improvements (map (step_of (length system.template)) solved.steps)
+  unfolding certificate_with bounds_vector
   solved_certificate =
-      ap (λ b. record { bounds = b; steps = map (step_of (length system.template)) solved.steps; uppers = map evidence_of solved.uppers })
-      s.bounds
-      ∙ ap (λ t. record { bounds = bounds_after system s.choose solved.improvements; steps = t; uppers = map evidence_of solved.uppers })
-      s.steps
-      ∙ ap (λ u. record {
-        bounds = bounds_after system s.choose solved.improvements;
-        steps =
-            steps_after system s.choose solved.improvements;
-        uppers = u;
-      })
+      ap (λ b. record { bounds = b; steps = all; uppers = map evidence_of solved.uppers }) s.bounds
+      ∙ ap (λ u. record { bounds = bounds_after system s.choose solved.improvements; steps = all; uppers = u })
       (s.uppers ∙ ap (λ b. exact_uppers (equations_of system) (vector_at system b)) s.bounds)
 
   -- it is valid
   pub solved_valid : ValidCertificate (equations_of system) (made_certificate system solved)
   solved_valid =
       subst (ValidCertificate (equations_of system)) (sym solved_certificate)
-      (made_valid fitting (equations_of system) (points_in_range system) s.choose s.chain.among solved.improvements s.chain.made
-      s.ended.none)
+      (made_with fitting (equations_of system) (points_in_range system) s.choose s.chain.among solved.improvements s.chain.made all
+      (steps_lead fitting (equations_of system) (points_in_range system) s.choose s.chain.among solved.improvements s.chain.made
+      solved.improvements (omega arith) all s.steps) s.ended.none)
 
   -- and so the bounds are least
   pub solved_least : Least (equations_of system) (vector_at system solved.bounds)

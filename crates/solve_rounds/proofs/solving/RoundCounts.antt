@@ -1,28 +1,27 @@
 -- The steps of a round: at most two for each unknown, and each has an item.
-use Rattle.std.proofs.Common.{◌≡◌, ◌∙◌, inl, inr, ⊎_elim, Bool, ℕ, zero, suc, ◌+◌, ◌*◌, ◌≤◌, List, [], ◌∷◌, ◌++◌, length, length-append}
-use Rattle.std.proofs.Common.{refl, sym, ap, subst, arith}
+use Rattle.std.proofs.Common.{◌≡◌, ◌∙◌, inl, ⊎_elim, Bool, ◌+◌, ◌*◌, ◌<◌, ◌≤◌, List, [], ◌∷◌, ◌++◌, length}
+use Rattle.std.proofs.Common.{length-append, refl, sym, ap, subst, arith}
 use Rattle.base_facts.proofs.elements.Membership.{of_append}
 use Rattle.base_facts.specs.Elements.{In}
 use Rattle.base_numbers.specs.Rational.{ℚ}
 use Rattle.flow_systems.specs.Equations.{Equations, Vector}
-use Rattle.theory_validity.specs.Steps.{Item, Step, Ray, after_step, Distinct}
+use Rattle.theory_validity.specs.Steps.{Item, Step, after_step, Distinct}
 use Rattle.theory_validity.specs.Certificates.{after_steps}
 use Rattle.theory_transformers.specs.EdgeProblems.{transformer}
 use Rattle.theory_strategy.specs.Picks.{Pick, Transformer, IsPick, choices}
 use Rattle.theory_strategy.specs.Growth.{passes, growth, grow}
-use Rattle.theory_strategy.specs.Round.{Outcome, Point, Rays, OutcomeFacts, without, turn, part, turns, members, Admissible, round_steps}
+use Rattle.theory_strategy.specs.Round.{Outcome, Point, Rays, OutcomeFacts, members, Admissible}
+use Rattle.theory_strategy.specs.Turns.{step_by, left_by, Leaves, AreTurnsOf}
 use Rattle.theory_strategy.proofs.growth.GrowthLaw.{Raises}
 use Rattle.theory_strategy.proofs.growth.PassLaw.{passes_done, PassesDone}
 use Rattle.theory_strategy.proofs.round.Choices.{choices_picked}
 use Rattle.theory_strategy.proofs.round.WholeCut.{cut_is}
 use Rattle.theory_rounds.specs.Evidence.{exact_evidence}
-use Rattle.theory_rounds.specs.JointItems.{exact_joint}
 use Rattle.theory_rounds.specs.Cut.{exact_cut}
-use Rattle.theory_rounds.specs.Turns.{Turn, later_turns, part_turns, parts_turns, exact_turns}
-use Rattle.theory_rounds.specs.Rounds.{exact_grow, exact_grown, exact_round_steps}
-use Rattle.theory_rounds.proofs.joint_items.Joined.{exact_joined}
+use Rattle.theory_rounds.specs.Rounds.{exact_grow, exact_grown}
+use Rattle.theory_rounds.specs.RoundSteps.{IsRoundBy}
+use Rattle.theory_strategy.proofs.round.PartLaw.{turn_fewer}
 use Rattle.theory_rounds.proofs.rounds.ExactRound.{exact_sizes, exact_cuts}
-use Rattle.theory_rounds.proofs.turns.TurnConditions.{turn_condition}
 use Rattle.solve_rounds.proofs.solving.Counting.{count_choices, distinct_few, distinct_append}
 
 -- a step has an item
@@ -53,129 +52,64 @@ module _ (fitting : ℚ → Bool) (system : Equations) (d : Vector) (pick : Pick
       (length (choices system pick)) d (choices system pick)).steps d done.logged.raises
 
 -- ---- turns
-part_few : (joint : Vector → List Item → Outcome) (n : ℕ) (b : Vector) (list : List Item) → length (part joint n b list) ≤ n
-unfolding part turn
-part_few joint zero b list = omega arith
-part_few joint (suc n) b [] = omega arith
-part_few joint (suc n) b (u ∷ us) = by (joint b (u ∷ us)) (λ c rest. part_few joint n c rest)
-  where
-    by : (o : Outcome) → ((c : Vector) (rest : List Item) → length (part joint n c rest) ≤ n)
-        → length (turn o b (u ∷ us) (λ c rest. part joint n c rest)) ≤ suc n
-    by (Point items) rec = omega arith
-    by (Rays items) rec = let r = rec (after_step (record { kind = Ray; items = items }) b) (without items (u ∷ us)) in omega arith
+head_of : (list : List Item) → 0 < length list → (u : Item) × In list u
+head_of [] l = absurd (omega arith)
+head_of (u ∷ list) l = (u, inl refl)
 
-turns_few : (joint : Vector → List Item → Outcome) (lists : List (List Item)) (b : Vector)
-    → length (turns joint b lists) ≤ length (members lists)
-unfolding turns members
-turns_few joint [] b = omega arith
-turns_few joint (list ∷ lists) b =
-    let s = part joint (length list) b list in
-    let a = length-append s (turns joint (after_steps s b) lists) in
-    let m = length-append list (members lists) in
-    let p = part_few joint (length list) b list in
-    let t = turns_few joint lists (after_steps s b) in
-    omega arith
+-- the step of an outcome with its facts has an item
+outcome_filled : (system : Equations) (b : Vector) (list : List Item) (o : Outcome) → OutcomeFacts system (transformer system) b list o
+    → 0 < length list → Filled (step_by o)
+unfolding step_by
+outcome_filled system b list (Point items) facts l = let u = head_of list l in let c = facts.covers u.0 u.1 in (c.0, c.1)
+outcome_filled system b list (Rays items) facts l = (facts.first, facts.some)
+
+leaves_filled : (system : Equations) (steps : List Step) (b : Vector) (list left : List Item)
+    → Leaves system (transformer system) b list steps left → (s : Step) → In steps s → Filled s
+leaves_filled system [] b list left h s m = absurd m
+leaves_filled system (step ∷ steps) b list left h s m =
+    ⊎_elim (λ e. subst Filled (sym h.2 ∙ e) (outcome_filled system b list h.0 h.1 h.3))
+    (λ j. leaves_filled system steps (after_step step b) (left_by h.0 list) left h.4 s j) m
+
+turns_filled : (system : Equations) (lists : List (List Item)) (b : Vector) (steps : List Step)
+    → AreTurnsOf system (transformer system) b lists steps → (s : Step) → In steps s → Filled s
+turns_filled system [] b steps h s m = absurd (subst (λ l. In l s) h m)
+turns_filled system (list ∷ lists) b steps h s m =
+    ⊎_elim (λ j. leaves_filled system h.0 b list [] h.1 s j) (λ j. turns_filled system lists (after_steps h.0 b) h.2.0 h.2.1 s j)
+    (of_append h.0 h.2.0 s (subst (λ l. In l s) h.2.2 m))
 
 members_distinct : (system : Equations) (lists : List (List Item)) → Admissible system lists → Distinct (members lists)
 unfolding members
 members_distinct system [] h = tt
 members_distinct system (list ∷ lists) h = distinct_append list (members lists) h.0 (members_distinct system lists h.3) h.1
 
--- the items of an outcome
-abbrev items_in : Outcome → List Item
-items_in (Point items) = items
-items_in (Rays items) = items
-
--- the outcome of one of these turns gives the step's items
-record OfTurn (joint : Vector → List Item → Outcome) (turns : List Turn) (s : Step) : Type 0 where
-  at : Turn
-  listed : In turns at
-  head : Item
-  some : In at.list head
-  same : s.items ≡ items_in (joint at.vector at.list)
-
-later_of : (joint : Vector → List Item → Outcome) (xs ys : List Turn) (s : Step) → ((t : Turn) → In xs t → In ys t) → OfTurn joint xs s
-    → OfTurn joint ys s
-later_of joint xs ys s h o = record { at = o.at; listed = h o.at o.listed; head = o.head; some = o.some; same = o.same }
-
-part_of : (joint : Vector → List Item → Outcome) (n k : ℕ) (b : Vector) (list : List Item) (s : Step) → In (part joint n b list) s
-    → OfTurn joint (part_turns joint n k b list) s
-unfolding part turn part_turns later_turns
-part_of joint zero k b list s m = absurd m
-part_of joint (suc n) k b [] s m = absurd m
-part_of joint (suc n) k b (u ∷ us) s m = by (joint b (u ∷ us)) refl m (λ c rest j. part_of joint n (suc k) c rest s j)
-  where
-    by : (o : Outcome) → joint b (u ∷ us) ≡ o → In (turn o b (u ∷ us) (λ c rest. part joint n c rest)) s →
-        ((c : Vector) (rest : List Item) → In (part joint n c rest) s → OfTurn joint (part_turns joint n (suc k) c rest) s) →
-        OfTurn joint (record { vector = b; list = u ∷ us; number = k }
-        ∷ later_turns o k b (u ∷ us) (λ j c rest. part_turns joint n j c rest)) s
-    by (Point items) e j rec =
-        ⊎_elim (λ f. record {
-          at = record { vector = b; list = u ∷ us; number = k };
-          listed = inl refl;
-          head = u;
-          some = inl refl;
-          same =
-              sym (ap (λ (t : Step). t.items) f) ∙ ap items_in (sym e);
-        }) (λ f. absurd f) j
-    by (Rays items) e j rec =
-        ⊎_elim (λ f. record {
-          at = record { vector = b; list = u ∷ us; number = k };
-          listed = inl refl;
-          head = u;
-          some = inl refl;
-          same =
-              sym (ap (λ (t : Step). t.items) f) ∙ ap items_in (sym e);
-        })
-        (λ f. let c = after_step (record { kind = Ray; items = items }) b in
-        later_of joint (part_turns joint n (suc k) c (without items (u ∷ us)))
-        (record { vector = b; list = u ∷ us; number = k } ∷ part_turns joint n (suc k) c (without items (u ∷ us))) s (λ t h. inr h)
-        (rec c (without items (u ∷ us)) f)) j
-
-turns_of : (joint : Vector → List Item → Outcome) (lists : List (List Item)) (k : ℕ) (b : Vector) (s : Step) → In (turns joint b lists) s
-    → OfTurn joint (parts_turns joint k b lists) s
-unfolding turns parts_turns
-turns_of joint [] k b s m = absurd m
-turns_of joint (list ∷ lists) k b s m =
-    let p = part joint (length list) b list in
-    let mine = part_turns joint (length list) k b list in
-    let others = parts_turns joint (k + length p) (after_steps p b) lists in
-    ⊎_elim (λ j. later_of joint mine (mine ++ others) s (λ t h. left mine others t h) (part_of joint (length list) k b list s j))
-    (λ j. later_of joint others (mine ++ others) s (λ t h. right mine others t h)
-    (turns_of joint lists (k + length p) (after_steps p b) s j))
-    (of_append p (turns joint (after_steps p b) lists) s m)
-  where
-    left : (xs ys : List Turn) (t : Turn) → In xs t → In (xs ++ ys) t
-    left [] ys t m = absurd m
-    left (x ∷ xs) ys t m = ⊎_elim (λ e. inl e) (λ j. inr (left xs ys t j)) m
-
-    right : (xs ys : List Turn) (t : Turn) → In ys t → In (xs ++ ys) t
-    right [] ys t m = m
-    right (x ∷ xs) ys t m = inr (right xs ys t m)
-
-outcome_filled : (system : Equations) (b : Vector) (list : List Item) (o : Outcome) (u : Item)
-    → OutcomeFacts system (transformer system) b list o → In list u → (item : Item) × In (items_in o) item
-outcome_filled system b list (Point items) u facts m = let c = facts.covers u m in (c.0, c.1)
-outcome_filled system b list (Rays items) u facts m = (facts.first, facts.some)
-
 module _ (fitting : ℚ → Bool) (system : Equations) (d : Vector) (pick : Pick) (is_pick : IsPick system pick) where
-  turn_filled : (s : Step) → In (turns (exact_joint system pick) (exact_grown fitting system d pick) (exact_cut fitting system d pick)) s
-      → Filled s
-  unfolding exact_turns
-  turn_filled s m =
-      let o = turns_of (exact_joint system pick) (exact_cut fitting system d pick) 0 (exact_grown fitting system d pick) s m in
-      let t = o.at in
-      let f = outcome_filled system t.vector t.list (exact_joint system pick t.vector t.list) o.head
-      (exact_joined system pick is_pick t.vector t.list (turn_condition fitting system d pick is_pick t o.listed)) o.some in
-      (f.0, subst (λ l. In l f.0) (sym o.same) f.1)
+  -- each turn leaves fewer unknowns
+  leaves_few : (steps : List Step) (b : Vector) (list left : List Item) → Leaves system (transformer system) b list steps left
+      → length steps + length left ≤ length list
+  leaves_few [] b list left h = let e : length left ≡ length list = ap (λ l. length l) h in omega arith
+  leaves_few (step ∷ steps) b list left h =
+      let rest = leaves_few steps (after_step step b) (left_by h.0 list) left h.4 in
+      let fewer = turn_fewer system (transformer system) b list h.0 h.3 h.1 in
+      omega arith
 
-  -- each step of the round has an item
-  pub round_filled : (s : Step) → In (exact_round_steps fitting system d pick) s → Filled s
-  unfolding round_steps
-  round_filled s m =
-      ⊎_elim (λ j. grow_filled fitting system d pick is_pick s j) (λ j. turn_filled s j)
-      (of_append (exact_grow fitting system d pick) (turns (exact_joint system pick) (exact_grown fitting system d pick)
-      (exact_cut fitting system d pick)) s m)
+  turns_few : (lists : List (List Item)) (b : Vector) (steps : List Step) → AreTurnsOf system (transformer system) b lists steps
+      → length steps ≤ length (members lists)
+  unfolding members
+  turns_few [] b steps h = let e : length steps ≡ 0 = ap (λ s. length s) h in omega arith
+  turns_few (list ∷ lists) b steps h =
+      let s = ap (λ l. length l) h.2.2 in
+      let a = length-append h.0 h.2.0 in
+      let m = length-append list (members lists) in
+      let p = leaves_few h.0 b list [] h.1 in
+      let t = turns_few lists (after_steps h.0 b) h.2.0 h.2.1 in
+      omega arith
+
+  -- each step of a round has an item
+  pub round_filled : (steps : List Step) → IsRoundBy fitting system d pick steps → (s : Step) → In steps s → Filled s
+  round_filled steps h s m =
+      ⊎_elim (λ j. grow_filled fitting system d pick is_pick s j)
+      (λ j. turns_filled system (exact_cut fitting system d pick) (exact_grown fitting system d pick) h.turns h.made s j)
+      (of_append (exact_grow fitting system d pick) h.turns s (subst (λ l. In l s) h.same m))
 
   members_few : length (members (exact_cut fitting system d pick)) ≤ system.points * length system.template
   members_few =
@@ -186,13 +120,12 @@ module _ (fitting : ℚ → Bool) (system : Equations) (d : Vector) (pick : Pick
       (λ u m. let p = is_pick u (cut.listed u m).picked in (p.point_within, p.row_within))
 
   -- and there are at most two for each unknown
-  pub round_few : length (exact_round_steps fitting system d pick) ≤ system.points * length system.template + system.points
-      * length system.template
-  unfolding round_steps
-  round_few =
-      let a = length-append (exact_grow fitting system d pick) (turns (exact_joint system pick) (exact_grown fitting system d pick)
-      (exact_cut fitting system d pick)) in
+  pub round_few : (steps : List Step) → IsRoundBy fitting system d pick steps
+      → length steps ≤ system.points * length system.template + system.points * length system.template
+  round_few steps h =
+      let all : length steps ≡ length (exact_grow fitting system d pick ++ h.turns) = ap (λ l. length l) h.same in
+      let a = length-append (exact_grow fitting system d pick) h.turns in
       let g = grow_few fitting system d pick is_pick in
-      let t = turns_few (exact_joint system pick) (exact_cut fitting system d pick) (exact_grown fitting system d pick) in
+      let t = turns_few (exact_cut fitting system d pick) (exact_grown fitting system d pick) h.turns h.made in
       let m = members_few in
       omega arith

@@ -1,11 +1,12 @@
 -- The steps of a chain of rounds as the code has them: their number, and the numbers of their items.
 use Rattle.std.proofs.Common.{◌≡◌, ◌∙◌, inl, inr, ⊎_elim, Bool, true, false, ◌&&◌, ℕ, zero, suc, ◌+◌, ◌*◌, ◌%◌, ◌<◌, ◌≤◌, List, [], ◌∷◌}
-use Rattle.std.proofs.Common.{length, length-append, map, refl, sym, ap, subst, arith}
+use Rattle.std.proofs.Common.{◌++◌, length, length-append, map, refl, ap, subst, arith}
 use Rattle.std.specs.Prelude.{IsTrue, nat_le, ℤ}
 use Rattle.std.specs.List.{list_all}
 use Rattle.std.proofs.lemmas.Bool.{le-leb, leb-true}
 use Rattle.std.proofs.lemmas.List.{length-map}
 use Rattle.std.proofs.lemmas.Nat.{mod-mul-add}
+use Rattle.base_limits.specs.declared.limits.TheConstants.{MOST_IMPROVEMENTS}
 use Rattle.base_facts.proofs.elements.Membership.{in_map, of_append}
 use Rattle.base_facts.specs.Elements.{In}
 use Rattle.flow_systems.specs.Equations.{Equations, Vector}
@@ -21,12 +22,12 @@ use Rattle.cert_types.specs.declared.step.Step.{Step as CodeStep}
 use Rattle.cert_types.specs.declared.step.Step.TheVariants.{Plain, Jump, Ray}
 use Rattle.cert_types.specs.Certificates.{step_of, plain_item, jump_item, ray_item}
 use Rattle.cert_types.specs.Shaped.{has_some, has_item, IsShaped}
-use Rattle.theory_rounds.specs.Rounds.{Choice, exact_round_steps, exact_steps}
+use Rattle.theory_rounds.specs.Rounds.{Choice}
 use Rattle.theory_rounds.proofs.rounds.ExactChain.{round_made}
 use Rattle.solve_raise.specs.Numbers.{fitting}
 use Rattle.solve_offers.specs.declared.offer.Offer.{Offer}
 use Rattle.solve_rounds.specs.declared.solution.Solved.{Solved}
-use Rattle.solve_rounds.specs.Chains.{state_at, steps_after, IsChain}
+use Rattle.solve_rounds.specs.Chains.{state_at, AreStepsAfter, IsChain}
 use Rattle.solve_rounds.specs.Solutions.{IsSolved, AreNumbered, has_most, cert_with}
 use Rattle.solve_offers.proofs.at_bounds.Ranges.{points_in_range}
 use Rattle.solve_rounds.proofs.solving.Counting.{distinct_few}
@@ -40,26 +41,23 @@ module _ (system : System) (policy : Offer → ℕ → Type 0) (n : ℕ) (choose
   abbrev E : Equations
   E = equations_of system
 
-  steps_filled : (k : ℕ) → k ≤ n → (s : Step) → In (exact_steps fitting (equations_of system) choose k) s → Filled s
-  unfolding exact_steps
-  steps_filled zero l s m = absurd m
-  steps_filled (suc k) l s m =
-      ⊎_elim (λ j. steps_filled k (omega arith) s j)
+  steps_filled : (k : ℕ) → k ≤ n → (steps : List Step) → AreStepsAfter system choose k steps → (s : Step) → In steps s → Filled s
+  steps_filled zero l steps h s m = absurd (subst (λ l. In l s) h m)
+  steps_filled (suc k) l steps h s m =
+      ⊎_elim (λ j. steps_filled k (omega arith) h.0 h.1 s j)
       (λ j. round_filled fitting E (state_at system choose k).vector (state_at system choose (suc k)).pick
-      (round_made fitting E (points_in_range system) choose chain.among n chain.made k (omega arith)).better.is_pick s j)
-      (of_append (exact_steps fitting E choose k) (exact_round_steps fitting E (state_at system choose k).vector
-      (state_at system choose (suc k)).pick) s m)
+      (round_made fitting E (points_in_range system) choose chain.among n chain.made k (omega arith)).better.is_pick h.2.0 h.2.1 s j)
+      (of_append h.0 h.2.0 s (subst (λ l. In l s) h.2.2 m))
 
-  steps_few : length system.flow.points * length system.template ≤ MOST_UNKNOWNS → (k : ℕ) → k ≤ n
-      → length (exact_steps fitting (equations_of system) choose k) ≤ k * (2 * MOST_UNKNOWNS)
-  unfolding exact_steps
-  steps_few limit zero l = omega arith
-  steps_few limit (suc k) l =
-      let a = length-append (exact_steps fitting E choose k) (exact_round_steps fitting E (state_at system choose k).vector
-      (state_at system choose (suc k)).pick) in
+  steps_few : length system.flow.points * length system.template ≤ MOST_UNKNOWNS → (k : ℕ) → k ≤ n → (steps : List Step)
+      → AreStepsAfter system choose k steps → length steps ≤ k * (2 * MOST_UNKNOWNS)
+  steps_few limit zero l steps h = let none : length steps ≡ 0 = ap (λ s. length s) h in omega arith
+  steps_few limit (suc k) l steps h =
+      let a = length-append h.0 h.2.0 in
       let r = round_few fitting E (state_at system choose k).vector (state_at system choose (suc k)).pick
-      (round_made fitting E (points_in_range system) choose chain.among n chain.made k (omega arith)).better.is_pick in
-      let before = steps_few limit k (omega arith) in
+      (round_made fitting E (points_in_range system) choose chain.among n chain.made k (omega arith)).better.is_pick h.2.0 h.2.1 in
+      let before = steps_few limit k (omega arith) h.0 h.1 in
+      let all : length steps ≡ length (h.0 ++ h.2.0) = ap (λ s. length s) h.2.2 in
       omega arith
 
 -- a template has a row
@@ -108,11 +106,11 @@ module _ (system : System) (policy : Offer → ℕ → Type 0) (limit : ℕ) (so
       system.within_limits).1
 
   -- the steps and their items can be numbered
-  pub solved_numbered : limit ≤ 1000000 → AreNumbered system solved.steps
+  pub solved_numbered : limit ≤ MOST_IMPROVEMENTS → AreNumbered system solved.steps
   solved_numbered few = record {
-    few = (let c = steps_few system policy solved.improvements s.choose s.chain unknowns_few solved.improvements (omega arith) in
-        let m : length solved.steps ≡ length (steps_after system s.choose solved.improvements) =
-        sym (length-map solved.steps (step_of (length system.template))) ∙ ap (λ l. length l) s.steps in
+    few = (let c = steps_few system policy solved.improvements s.choose s.chain unknowns_few solved.improvements (omega arith)
+        (map (step_of (length system.template)) solved.steps) s.steps in
+        let m = length-map solved.steps (step_of (length system.template)) in
         let w = s.within in omega arith);
     short = all_in (has_most (length system.flow.points * length system.template)) solved.steps
         (λ step m.
@@ -137,7 +135,6 @@ module _ (system : System) (policy : Offer → ℕ → Type 0) (limit : ℕ) (so
     items = all_in has_item solved.steps
         (λ step m. filled_item (length system.template) step
         (steps_filled system policy solved.improvements s.choose s.chain solved.improvements (omega arith)
-        (step_of (length system.template) step)
-        (subst (λ l. In l (step_of (length system.template) step)) s.steps
-        (in_map (step_of (length system.template)) solved.steps step m))));
+        (map (step_of (length system.template)) solved.steps) s.steps (step_of (length system.template) step)
+        (in_map (step_of (length system.template)) solved.steps step m)));
   }

@@ -1,4 +1,4 @@
--- What one turn of the code makes of the bounds, the steps and the list is what the theory makes of them.
+-- What one turn of the code makes of the bounds, the steps and the list is what an outcome with its facts makes of them.
 use Rattle.std.proofs.Common.{◌≡◌, ◌∙◌, ℕ, ◌+◌, ◌*◌, ◌/◌, ◌%◌, ◌<◌, Bool, true, false, List, [], ◌∷◌, ◌++◌, length, get_or, map, sym, ap}
 use Rattle.std.proofs.Common.{ap₂, subst, subst₂, arith, length-append}
 use Rattle.std.specs.Prelude.{Option, Some, None}
@@ -24,6 +24,7 @@ use Rattle.lp_theory.specs.Simplex.{lp}
 use Rattle.theory_transformers.specs.JointProblems.{rise_at, raised, joint_problem, joint_words}
 use Rattle.theory_strategy.specs.Picks.{IsPick}
 use Rattle.theory_strategy.specs.Round.{Outcome, Point, Rays, ListCondition, PointFacts, RayFacts, OutcomeFacts, without}
+use Rattle.theory_strategy.specs.Turns.{step_by, left_by}
 use Rattle.theory_strategy.proofs.round.TurnLaw.{fewer_without}
 use Rattle.solve_joint.specs.Joints.{IsReadFrom}
 use Rattle.solve_joint.specs.Problems.{problem_of}
@@ -36,7 +37,7 @@ use Rattle.solve_offers.specs.AtBounds.{vector_at, transformers}
 use Rattle.solve_offers.specs.Improvement.{pick_of}
 use Rattle.solve_rounds.specs.Growing.{Agrees}
 use Rattle.solve_rounds.specs.Lows.{edge_in, raise_at, item_in, IsRaised, items_at}
-use Rattle.solve_rounds.specs.Turning.{is_finite, jump_items_at, ray_item_of, turns_so_far, IsPart, IsTurned, IsTurnedBy, IsTaken}
+use Rattle.solve_rounds.specs.Turning.{is_finite, jump_items_at, ray_item_of, turns_so_far, IsPart, IsTurned, IsTaken}
 use Rattle.solve_rounds.proofs.turning.Putting.{length-puts}
 use Rattle.solve_rounds.proofs.turning.TurnItems.{in_place}
 use Rattle.solve_rounds.proofs.lows.ListedLows.{raised_item}
@@ -118,8 +119,13 @@ module _ (system : System) (pick : List (Option ℕ)) (is_pick : IsPick (equatio
   record TurnedAs (o : Outcome) : Type 0 where
     -- the bounds keep their number
     pub size_kept : length new.bounds ≡ length old.bounds
-    -- the turn is one by the outcome of the joint problem
-    pub turned : IsTurnedBy system raises places o list old new left
+    -- the turn makes the outcome's step
+    pub step_more : turns_so_far system new ≡ turns_so_far system old ++ step_by o ∷ []
+    -- what the outcome leaves is left
+    pub leaves : items_at (length system.template) raises places left
+        ≡ left_by o (items_at (length system.template) raises places list)
+    -- the bounds are those after the step
+    pub led : Agrees system (after_step (step_by o) (vector_at system old.bounds)) new.bounds
     -- the unknowns left are a part
     pub kept : IsPart system pick raises places left
     -- fewer unknowns are left than before
@@ -133,6 +139,7 @@ module _ (system : System) (pick : List (Option ℕ)) (is_pick : IsPick (equatio
       IsReadFrom system pick old.bounds list (best x v y) (PointRead to highs)
       → IsTaken raises places list (PointRead to highs) old new left →
       TurnedAs (Point (point_items eqs.variables (raised (listed_items items) x V) items (joint_words eqs (listed_items items) x)))
+  unfolding step_by left_by
   by_point x v y to highs facts read t =
       let e = point_same system pick raises places list part old.bounds size condition x v y to highs read in
       let step = one_more (JumpStep (jump_items_at raises places list to highs)) t.0 in
@@ -140,12 +147,10 @@ module _ (system : System) (pick : List (Option ℕ)) (is_pick : IsPick (equatio
       (subst Distinct (sym e) facts.distinct) in
       record {
         size_kept = ap length t.1 ∙ length-puts (λ k. fin (get_or to k zero_ℚ)) list old.bounds (length list);
-        turned = (
-          step.0 ∙ ap (λ i. turns_so_far system old ++ record { kind = JumpKind; items = i } ∷ []) e,
-          t.2,
-          subst (λ i. Agrees system (after_step (record { kind = JumpKind; items = i }) V) new.bounds) e
-              (λ p r l. agrees p r l ∙ ap (λ bs. vector_of rows bs p r) (sym t.1)),
-        );
+        step_more = step.0 ∙ ap (λ i. turns_so_far system old ++ record { kind = JumpKind; items = i } ∷ []) e;
+        leaves = ap (items_at rows raises places) t.2;
+        led = subst (λ i. Agrees system (after_step (record { kind = JumpKind; items = i }) V) new.bounds) e
+            (λ p r l. agrees p r l ∙ ap (λ bs. vector_of rows bs p r) (sym t.1));
         kept = subst (IsPart system pick raises places) (sym t.2) none_left;
         fewer = subst (λ l. length l < length list) (sym t.2) some;
         one = step.1;
@@ -155,10 +160,13 @@ module _ (system : System) (pick : List (Option ℕ)) (is_pick : IsPick (equatio
       (joint_words eqs (listed_items items) d)) →
       IsReadFrom system pick old.bounds list (unbounded x d) (RayRead rates) → IsTaken raises places list (RayRead rates) old new left →
       TurnedAs (Rays (rate_items eqs.variables (rise_at (listed_items items) d) items (joint_words eqs (listed_items items) d)))
+  unfolding step_by left_by
   by_ray x d rates facts read t = record {
     size_kept = ap length t.1 ∙ length-puts (λ k. pos_inf) (map (λ (rate : RateOf). rate.unknown) rates.list) old.bounds
         (length rates.list);
-    turned = (step.0 ∙ ap (λ i. turns_so_far system old ++ record { kind = RayKind; items = i } ∷ []) e, left_items, agrees);
+    step_more = step.0 ∙ ap (λ i. turns_so_far system old ++ record { kind = RayKind; items = i } ∷ []) e;
+    leaves = left_items;
+    led = agrees;
     kept = subst (IsPart system pick raises places) (sym t.2) (record {
       rises = kept_rises test 0 list part.rises;
       picked = kept_picked system pick test list part.picked;
@@ -214,7 +222,7 @@ module _ (system : System) (pick : List (Option ℕ)) (is_pick : IsPick (equatio
   by_outcome (unbounded x d) facts (RayRead rates) read t = by_ray x d rates facts read t
   by_outcome (empty y) facts j read t = absurd read
 
-  -- the turn of a list is the theory's
+  -- the turn of a list is one by the outcome of the exact joint problem, which has its facts
   pub turned_is : (j : Joined) → IsReadFrom system pick old.bounds list (lp (problem_of system pick old.bounds list)) j
       → IsTaken raises places list j old new left → IsTurned system pick raises places list old new left
   unfolding exact_joint
@@ -222,6 +230,16 @@ module _ (system : System) (pick : List (Option ℕ)) (is_pick : IsPick (equatio
       let us = same system pick raises places list part old.bounds size condition in
       let as_theirs : IsReadFrom system pick old.bounds list (lp (joint_problem eqs V (listed_items items))) j =
       subst (λ l. IsReadFrom system pick old.bounds list (lp (joint_problem eqs V l)) j) (sym us) read in
-      let h = by_outcome (lp (joint_problem eqs V (listed_items items))) (exact_joined eqs (pick_of rows pick) is_pick V items condition) j
-      as_theirs t in
-      record { size = h.size_kept; turned = h.turned; part = h.kept; fewer = h.fewer; one = h.one }
+      let facts = exact_joined eqs (pick_of rows pick) is_pick V items condition in
+      let h = by_outcome (lp (joint_problem eqs V (listed_items items))) facts j as_theirs t in
+      record {
+        size = h.size_kept;
+        outcome = outcome_items eqs V items (lp (joint_problem eqs V (listed_items items)));
+        facts = facts;
+        steps = h.step_more;
+        left_is = h.leaves;
+        agrees = h.led;
+        part = h.kept;
+        fewer = h.fewer;
+        one = h.one;
+      }

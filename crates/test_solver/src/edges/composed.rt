@@ -5,6 +5,7 @@ ghost use Rattle.std.specs.Prelude.{◌<◌, length};
 use crate::cases::{Case, Fail, first_wrong};
 use crate::edges::lines::{add_fractions, add_number};
 use crate::edges::systems::system_of;
+use base_fractions::Op;
 use flow_systems::Site;
 use solve_composition::{Affine, PathFault, Paths, compose_all};
 use std::alloc::{AllocError, Global};
@@ -30,14 +31,26 @@ fn add_edge(line: &mut Vec<u8>, paths: &Paths, edge: u32) -> Result<(), AllocErr
     Ok(())
 }
 
-// Appends the edge and the operands of the operation that is too wide.
+// The word of an operation's result.
+fn word_of(op: Op) -> &'static [u8] {
+    match op {
+        Op::Add => b" sum of",
+        Op::Sub => b" difference of",
+        Op::Mul => b" product of",
+        Op::Div => b" quotient of",
+    }
+}
+
+// Appends the round, the edge and the operands of the operation that is too wide.
 fn add_fault(line: &mut Vec<u8>, fault: PathFault) -> Result<(), Fail> {
     match fault {
         PathFault::Wide(spot) => {
+            add_number(line, b"wide in round ", spot.round)?;
             if let Site::Compose { edge } = spot.site {
-                add_number(line, b"wide at edge ", edge)?;
+                add_number(line, b" at edge ", edge)?;
             }
-            add_fractions(line, b" of", [spot.wide.left, spot.wide.right].as_slice())?;
+            let operands = [spot.wide.left, spot.wide.right];
+            add_fractions(line, word_of(spot.wide.op), operands.as_slice())?;
             Ok(())
         }
         PathFault::NoMemory => Err("ample memory".into()),
@@ -93,7 +106,7 @@ const EDGES: &[(&[u8], u32, &[u8])] = &[
     (
         b"int main() { int x = nondet(); x = 31833193*x; x = 11777599*x; x = 24602*x; }",
         0,
-        b"wide at edge 0 of 24602 374918582043607",
+        b"wide in round 0 at edge 0 product of 24602 374918582043607",
     ),
 ];
 

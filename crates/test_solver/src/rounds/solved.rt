@@ -8,6 +8,7 @@ use crate::cases::{Case, Fail, first_wrong};
 use crate::rounds::lines::{add_bounds, add_number};
 use crate::rounds::offers::last;
 use crate::rounds::systems::{CASES, COUNTER, Domain, ENDLESS, IDLE, TOGETHER, system_of};
+use base_watch::{Unwatched, Watch};
 use flow_systems::System;
 use solve_offers::{Chooser, picks};
 use solve_rounds::{Halt, Solved, least, least_by_best, least_by_first};
@@ -17,23 +18,29 @@ use std::alloc::Global;
 const NESTED: &[u8] =
     b"int main() { int i = 0, j = 0, k = 0; while (i < 10) { j = 0; while (j < i) { j++; k += 1; } i++; } }";
 
-// Which calls solve a system.
+/// Which calls solve a system.
 #[derive(Clone, Copy, PartialEq, Eq, Drop)]
-enum By {
+pub(crate) enum By {
     Best,
     First,
     Last,
 }
 
-// What the rounds of a policy end with.
-fn solve(alloc: Global, system: &System, by: By, limit: u32) -> Result<Solved, Halt>
+/// What the rounds of a policy end with.
+pub(crate) fn solve<W: Watch>(
+    alloc: Global,
+    system: &System,
+    by: By,
+    limit: u32,
+    watch: &mut W,
+) -> Result<Solved, Halt>
     requires limit { limit ≤ 1000000 }
     requires cells { cells_of (equations_of system.now) ≤ 134217728 }
 {
     match by {
-        By::Best => least_by_best(alloc, system, limit),
-        By::First => least_by_first(alloc, system, limit),
-        By::Last => least(alloc, system, limit, &Chooser::new(last)),
+        By::Best => least_by_best(alloc, system, limit, watch),
+        By::First => least_by_first(alloc, system, limit, watch),
+        By::Last => least(alloc, system, limit, &Chooser::new(last), watch),
     }
 }
 
@@ -73,7 +80,7 @@ fn solved_line(
     if system.cells() > 134_217_728 || limit > 1_000_000 {
         return Err("a small system and a small limit".into());
     }
-    line_of(alloc, solve(alloc, &system, by, limit))
+    line_of(alloc, solve(alloc, &system, by, limit, &mut Unwatched))
 }
 
 /// A text, its domain, the policy, the limit of its rounds, and the start of the line, or all of it.

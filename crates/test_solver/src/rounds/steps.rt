@@ -3,6 +3,7 @@
 use crate::cases::{Case, Fail, first_wrong};
 use crate::rounds::lines::add_step;
 use crate::rounds::systems::{COUNTER, Domain, ENDLESS, TOGETHER, system_of};
+use base_watch::Unwatched;
 use solve_rounds::{Solved, least_by_first};
 use std::alloc::Global;
 
@@ -12,7 +13,7 @@ fn solved_by_first(alloc: Global, text: &[u8], domain: Domain) -> Result<Solved,
     if system.cells() > 134_217_728 {
         return Err("a small system".into());
     }
-    match least_by_first(alloc, &system, 9) {
+    match least_by_first(alloc, &system, 9, &mut Unwatched) {
         Ok(solved) => Ok(solved),
         Err(_) => Err("small numbers and few rounds".into()),
     }

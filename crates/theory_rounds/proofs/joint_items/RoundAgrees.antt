@@ -134,7 +134,8 @@ module _ (system : Equations) (pick : Pick) where
 
 module _ (fitting : ℚ → Bool) (system : Equations) (pick : Pick) (is_pick : IsPick system pick) (d e : Vector)
     (agree : Agree system d e) where
-  cut_rows : HaveRows system (members (exact_cut fitting system e pick))
+  -- the unknowns of the parts stand at rows of the template
+  pub cut_rows : HaveRows system (members (exact_cut fitting system e pick))
   cut_rows u m = rising_rows fitting system pick is_pick e u ((exact_cuts fitting system e pick is_pick).from u m)
 
   -- the vectors after the growth agree

@@ -1,6 +1,6 @@
 -- The state after rounds depends on their choices alone; and with any choices the rounds end.
-use Rattle.std.proofs.Common.{◌≡◌, ◌∙◌, ◌⊎◌, inl, inr, ⊎_elim, Bool, true, false, ℕ, zero, suc, eqb, ◌<◌, ◌++◌, refl, ap, subst, arith}
-use Rattle.std.proofs.Common.{if◌then◌else◌}
+use Rattle.std.proofs.Common.{◌≡◌, ◌∙◌, ◌⊎◌, inl, inr, ⊎_elim, Bool, true, false, ℕ, zero, suc, eqb, ◌<◌, refl, ap, subst, subst₂}
+use Rattle.std.proofs.Common.{List, arith, if◌then◌else◌}
 use Rattle.std.specs.Prelude.{Option, Some, None}
 use Rattle.std.proofs.lemmas.Bool.{cases_lt}
 use Rattle.std.proofs.lemmas.Bool.Decides.{eqb_tells}
@@ -14,7 +14,9 @@ use Rattle.theory_strategy.specs.Solve.{State, next, state}
 use Rattle.theory_rounds.specs.Evidence.{exact_evidence}
 use Rattle.theory_rounds.specs.JointItems.{exact_joint}
 use Rattle.theory_rounds.specs.Cut.{exact_cut}
-use Rattle.theory_rounds.specs.Rounds.{Choice, exact_next, exact_state, exact_steps, exact_round_steps, Goes, TakesOne, with_choice}
+use Rattle.theory_rounds.specs.Rounds.{Choice, exact_next, exact_state, Goes, TakesOne, with_choice}
+use Rattle.theory_validity.specs.Steps.{Step}
+use Rattle.theory_rounds.specs.RoundSteps.{IsRoundBy, AreStepsOf}
 use Rattle.theory_rounds.proofs.rounds.ExactChain.{state_few}
 
 module _ (fitting : ℚ → Bool) (system : Equations) where
@@ -30,18 +32,20 @@ module _ (fitting : ℚ → Bool) (system : Equations) where
       (exact_next system c (exact_state fitting system other n).vector (exact_state fitting system other n).pick)
       (exact_state fitting system other n)) (same n (omega arith))
 
-  -- and the steps
-  pub steps_same : (choose other : ℕ → Choice) (n : ℕ) → ((k : ℕ) → k < n → choose k ≡ other k)
-      → exact_steps fitting system choose n ≡ exact_steps fitting system other n
-  unfolding exact_steps
-  steps_same choose other zero same = refl
-  steps_same choose other (suc n) same =
-      ap (λ s. s ++ exact_round_steps fitting system (exact_state fitting system choose n).vector
-      (exact_state fitting system choose (suc n)).pick) (steps_same choose other n (λ k l. same k (omega arith)))
-      ∙ ap (λ (s : State). exact_steps fitting system other n ++ exact_round_steps fitting system s.vector
-      (exact_state fitting system choose (suc n)).pick) (state_same choose other n (λ k l. same k (omega arith)))
-      ∙ ap (λ (s : State). exact_steps fitting system other n ++ exact_round_steps fitting system
-      (exact_state fitting system other n).vector s.pick) (state_same choose other (suc n) same)
+  -- steps of rounds are those of rounds with the same choices
+  pub steps_of_same : (choose other : ℕ → Choice) (n : ℕ) → ((k : ℕ) → k < n → choose k ≡ other k) → (steps : List Step)
+      → AreStepsOf fitting system choose n steps → AreStepsOf fitting system other n steps
+  steps_of_same choose other zero same steps h = h
+  steps_of_same choose other (suc n) same steps h = (
+    h.0,
+    steps_of_same choose other n (λ k l. same k (omega arith)) h.0 h.1,
+    (
+      h.2.0,
+      subst₂ (λ (s t : State). IsRoundBy fitting system s.vector t.pick h.2.0) (state_same choose other n (λ k l. same k (omega arith)))
+          (state_same choose other (suc n) same) h.2.1,
+      h.2.2,
+    ),
+  )
 
   -- a round that is made
   pub state_after : (choose : ℕ → Choice) (n : ℕ) (better : Pick) → exact_next system (choose n)

@@ -16,9 +16,10 @@ use Rattle.theory_strategy.proofs.round.Chain.{NoneExceeds, start_later}
 use Rattle.theory_strategy.proofs.round.TurnLaw.{unnamed_by_all}
 use Rattle.theory_rounds.specs.Agreement.{Agree}
 use Rattle.theory_rounds.specs.Rounds.{Choice, exact_state, exact_steps, Goes, TakesOne}
-use Rattle.theory_rounds.specs.Made.{listed_bounds, exact_certificate}
+use Rattle.theory_rounds.specs.Made.{listed_bounds, certificate_with, exact_certificate}
 use Rattle.theory_rounds.proofs.raises.ProblemsAgree.{transformer_agrees}
 use Rattle.theory_rounds.proofs.rounds.ExactChain.{state_valid, state_leads}
+use Rattle.theory_rounds.proofs.rounds.StepsMade.{LeadTo}
 use Rattle.theory_rounds.proofs.made.MadeNeeds.{exact_uppers_pass}
 
 -- steps name no unknown past the points
@@ -68,17 +69,28 @@ module _ (fitting : ℚ → Bool) (system : Equations) (range : PointsInRange sy
   last_listed = listed_agrees system (exact_steps fitting system choose n) (exact_state fitting system choose n).vector range.entry
       (state_valid fitting system range choose among n goes) (state_leads fitting system range choose among n goes)
 
-  -- the certificate of the rounds is valid
-  pub made_valid : NoneExceeds system (transformer system) (exact_state fitting system choose n).vector
-      → ValidCertificate system (exact_certificate fitting system choose n)
-  unfolding exact_certificate
-  made_valid none =
+  -- the certificate of rounds that made steps to the last vector is valid
+  pub made_with : (steps : List Step) → LeadTo system (exact_state fitting system choose n).vector steps
+      → NoneExceeds system (transformer system) (exact_state fitting system choose n).vector
+      → ValidCertificate system (certificate_with fitting system choose n steps)
+  unfolding certificate_with
+  made_with steps made none =
       let z = (exact_state fitting system choose n).vector in
       let bounds = listed_bounds system z in
       record {
         size = (listed_law system.points (length system.template)).count z;
-        steps = state_valid fitting system range choose among n goes;
-        final = λ p r h l. ap (λ v. v p r) (state_leads fitting system range choose among n goes) ∙ sym (last_listed p r l);
+        steps = made.0;
+        final = λ p r h l. made.1 p r l ∙ sym (last_listed p r l);
         uppers = exact_uppers_pass system (bounds_vector system bounds)
             (none_agrees system z (bounds_vector system bounds) (λ p r l. sym (last_listed p r l)) none);
       }
+
+  -- so is that by the exact joint problems
+  pub made_valid : NoneExceeds system (transformer system) (exact_state fitting system choose n).vector
+      → ValidCertificate system (exact_certificate fitting system choose n)
+  unfolding exact_certificate
+  made_valid none =
+      made_with (exact_steps fitting system choose n) (
+        state_valid fitting system range choose among n goes,
+        λ p r l. ap (λ v. v p r) (state_leads fitting system range choose among n goes),
+      ) none

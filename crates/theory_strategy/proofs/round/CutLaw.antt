@@ -14,12 +14,14 @@ use Rattle.theory_validity.proofs.words.TransformerLaw.{reach_is, transformer_lo
 use Rattle.theory_strategy.specs.Picks.{Pick, Transformer, value_at, Picks, IsPick, Closed}
 use Rattle.theory_strategy.specs.RoundFacts.{Listed}
 use Rattle.theory_strategy.specs.Growth.{Evident, items_of}
-use Rattle.theory_strategy.specs.Round.{Outcome, part, turns, members, Admissible}
+use Rattle.theory_strategy.specs.Round.{Outcome, part, turns, members}
+use Rattle.theory_strategy.specs.Turns.{step_by, left_by, Leaves, AreTurnsOf, AreWaiting, PartsAreWaiting}
 use Rattle.theory_strategy.proofs.picks.Picks.{value_upper}
 use Rattle.theory_strategy.proofs.growth.RaiseStep.{SameChoice}
 use Rattle.theory_strategy.proofs.growth.GrowthLaw.{led_unnamed, led-append}
 use Rattle.theory_strategy.proofs.round.TurnLaw.{unnamed_by_all}
-use Rattle.theory_strategy.proofs.round.PartLaw.{Joined, PartDone, part_done}
+use Rattle.theory_strategy.proofs.round.PartLaw.{Joined, PartDone, turn_valid, turn_waiting, turn_picked}
+use Rattle.theory_strategy.proofs.round.PartLaw.{leaves_done, part_leaves}
 
 -- an item of steps is one of a step
 pub of_items : (steps : List Step) (v : Item) → In (items_of steps) v → (s : Step) × In steps s × In s.items v
@@ -65,7 +67,7 @@ module _ (system : Equations) (T : Transformer) (reaches : Evident system T) (pi
       transformer_local system z q edge row (T z edge row) (T q edge row) same
       (reach_is system z edge row (T z edge row) (reaches z edge row)) (reach_is system q edge row (T q edge row) (reaches q edge row))
 
-  module _ (joint : Vector → List Item → Outcome) (joined : Joined system T pick joint) (z : Vector) where
+  module _ (z : Vector) where
     more_done : (b : Vector) (list : List Item) (lists : List (List Item)) (s t : List Step)
         → ((u : Item) → In list u → Listed system pick z u) →
         ((u : Item) → In list u → Unnamed (members lists) u.point u.row)
@@ -101,27 +103,80 @@ module _ (system : Equations) (T : Transformer) (reaches : Evident system T) (pi
         same u m = value_local f c u (λ r l. kept (edge_of system u).from r (sources u m r l)) ∙ first.same u m
             ∙ sym (kept u.point u.row (apart u m))
 
+    -- turns of unknowns that wait for them lead to at most every closed vector that is at least the first
+    pub leaves_below : (steps : List Step) (b q : Vector) (list left : List Item) → AreWaiting system pick z b list
+        → Leaves system T b list steps left → Closed system T q pick → Below system b q → Below system (after_steps steps b) q
+    unfolding after_steps
+    leaves_below [] b q list left w h closed below = below
+    leaves_below (step ∷ steps) b q list left w h closed below =
+        leaves_below steps (after_step step b) q (left_by h.0 list) left
+        (subst (λ s. AreWaiting system pick z (after_step s b) (left_by h.0 list)) (sym h.2)
+        (turn_waiting system T reaches pick is_pick z b list h.0 w h.1)) h.4 closed
+        (subst (λ s. Below system (after_step s b) q) (sym h.2)
+        (step_below system b q (step_by h.0) (turn_valid system T reaches pick is_pick z b list h.0 w h.1) below
+        (λ v m. value_upper system T reaches q v (q v.point v.row)
+        (closed v (turn_picked system T reaches pick is_pick z b list h.0 w h.1 v m)))))
+
+    -- ---- parts that wait for their turns
+    -- the first of them
+    pub first_waiting : (b : Vector) (list : List Item) (lists : List (List Item)) → PartsAreWaiting system pick z b (list ∷ lists)
+        → AreWaiting system pick z b list
+    unfolding members
+    first_waiting b list lists w = record {
+      over = w.over;
+      distinct = w.admissible.0;
+      listed = λ u m. w.listed u (in_left list (members lists) u m);
+      kept = λ u m. w.kept u (in_left list (members lists) u m);
+    }
+
+    -- and those after it, once it is done
+    pub later_waiting : (b : Vector) (list : List Item) (lists : List (List Item)) (s : List Step)
+        → PartsAreWaiting system pick z b (list ∷ lists) → PartDone system T z b list s
+        → PartsAreWaiting system pick z (after_steps s b) lists
+    unfolding members
+    later_waiting b list lists s w first = record {
+      over = below_trans system z b (after_steps s b) w.over (led_up system s b first.valid);
+      admissible = w.admissible.3;
+      listed = λ u m. w.listed u (in_right list (members lists) u m);
+      kept = λ u m. led_unnamed s b u.point u.row (unnamed_items list s first.items u.point u.row
+          (unnamed_by_all list u.point u.row (λ v k e f.
+          not_unnamed (members lists) u m (subst₂ (λ p r. Unnamed (members lists) p r) e f (w.admissible.1 v k)))))
+          ∙ w.kept u (in_right list (members lists) u m);
+    }
+
     -- the turns over an admissible cut
-    pub turns_done : (lists : List (List Item)) (b : Vector) → Below system z b → Admissible system lists
-        → ((u : Item) → In (members lists) u → Listed system pick z u) →
-        ((u : Item) → In (members lists) u → b u.point u.row ≡ z u.point u.row)
-        → PartDone system T z b (members lists) (turns joint b lists)
-    unfolding turns members
-    turns_done [] b over admissible listed base = record {
+    pub turns_done : (lists : List (List Item)) (b : Vector) (steps : List Step) → PartsAreWaiting system pick z b lists
+        → AreTurnsOf system T b lists steps → PartDone system T z b (members lists) steps
+    unfolding members
+    turns_done [] b steps w h = subst (PartDone system T z b []) (sym h) (record {
       valid = tt;
       items = λ s m v k. absurd m;
       risen = λ u m. absurd m;
-      same =
-          λ u m. absurd m;
-    }
-    turns_done (list ∷ lists) b over admissible listed base =
+      same = λ u m. absurd m;
+    })
+    turns_done (list ∷ lists) b steps w h =
+        let s = h.0 in
+        let t = h.2.0 in
+        let first = leaves_done system T reaches pick is_pick z s b list (first_waiting b list lists w) h.1 in
+        let later = turns_done lists (after_steps s b) t (later_waiting b list lists s w first) h.2.1 in
+        subst (PartDone system T z b (list ++ members lists)) (sym h.2.2)
+        (more_done b list lists s t (λ u m. w.listed u (in_left list (members lists) u m)) w.admissible.1 w.admissible.2 first later)
+
+    -- the turns by a function for the outcomes are some
+    pub turns_are : (joint : Vector → List Item → Outcome) → Joined system T pick joint → (lists : List (List Item)) (b : Vector)
+        → PartsAreWaiting system pick z b lists → AreTurnsOf system T b lists (turns joint b lists)
+    unfolding turns
+    turns_are joint joined [] b w = refl
+    turns_are joint joined (list ∷ lists) b w =
         let s = part joint (length list) b list in
-        let mine : (u : Item) → In list u → Listed system pick z u = λ u m. listed u (in_left list (members lists) u m) in
-        let first = part_done system T reaches pick is_pick joint joined z (length list) list b (omega arith) over admissible.0 mine
-        (λ u m. base u (in_left list (members lists) u m)) in
-        let later = turns_done lists (after_steps s b) (below_trans system z b (after_steps s b) over (led_up system s b first.valid))
-        admissible.3 (λ u m. listed u (in_right list (members lists) u m))
-        (λ u m. led_unnamed s b u.point u.row (unnamed_items list s first.items u.point u.row (unnamed_by_all list u.point u.row (λ v k e f.
-        not_unnamed (members lists) u m (subst₂ (λ p r. Unnamed (members lists) p r) e f (admissible.1 v k)))))
-        ∙ base u (in_right list (members lists) u m)) in
-        more_done b list lists s (turns joint (after_steps s b) lists) mine admissible.1 admissible.2 first later
+        let waiting = first_waiting b list lists w in
+        let leaves = part_leaves system T reaches pick is_pick z joint joined (length list) list b (omega arith) waiting in (
+          s,
+          leaves,
+          (
+            turns joint (after_steps s b) lists,
+            turns_are joint joined lists (after_steps s b)
+                (later_waiting b list lists s w (leaves_done system T reaches pick is_pick z s b list waiting leaves)),
+            refl,
+          ),
+        )

@@ -1,5 +1,6 @@
 -- The turns of a part: valid steps, after which each of its unknowns has risen to its transformer.
-use Rattle.std.proofs.Common.{◌≡◌, ◌∙◌, inl, inr, ⊎_elim, ℕ, zero, suc, ◌≤◌, List, [], ◌∷◌, length, refl, sym, subst, subst₂, arith}
+use Rattle.std.proofs.Common.{◌≡◌, ◌∙◌, inl, inr, ⊎_elim, ℕ, zero, suc, ◌<◌, ◌≤◌, List, [], ◌∷◌, ◌++◌, length, refl, sym, subst}
+use Rattle.std.proofs.Common.{subst₂, arith}
 use Rattle.std.specs.Prelude.{ℤ}
 use Rattle.base_numbers.proofs.extended.ExtendedLaws.{ext_lt_of_lt_of_le, ext_le_of_eq, top_from_le}
 use Rattle.base_facts.specs.Elements.{In}
@@ -10,7 +11,7 @@ use Rattle.flow_edges.specs.declared.edge.Edge.{Edge}
 use Rattle.flow_systems.specs.Equations.{Equations, Vector}
 use Rattle.theory_validity.specs.Words.{lin, end_form, moved}
 use Rattle.theory_validity.specs.Steps.{Below, Runs, end_value, Item, Step, Jump, Ray, edge_of, row_of, put, new_value, after_step}
-use Rattle.theory_validity.specs.Steps.{Distinct, JumpItem, RayItem, ValidStep, item_value, word}
+use Rattle.theory_validity.specs.Steps.{JumpItem, RayItem, ValidStep, item_value, word}
 use Rattle.theory_validity.specs.Certificates.{ValidSteps, after_steps}
 use Rattle.theory_validity.proofs.steps.Puts.{named_or_not, put-unnamed, put-named, below_trans, runs_below}
 use Rattle.theory_validity.proofs.steps.StepLaw.{step_up}
@@ -23,6 +24,7 @@ use Rattle.theory_strategy.specs.RoundFacts.{Listed}
 use Rattle.theory_strategy.specs.Growth.{Evident}
 use Rattle.theory_strategy.specs.Round.{SameItem, ListCondition, Outcome, Point, Rays, PointFacts, RayFacts, OutcomeFacts, without, turn}
 use Rattle.theory_strategy.specs.Round.{part}
+use Rattle.theory_strategy.specs.Turns.{step_by, left_by, Leaves, AreWaiting}
 use Rattle.theory_strategy.proofs.picks.Picks.{picks_same, value_mono}
 use Rattle.theory_strategy.proofs.growth.RaiseStep.{SameChoice, value_same, at_same}
 use Rattle.theory_strategy.proofs.round.TurnLaw.{choice_of, listed_same, in_without, of_without, distinct_without, fewer_without}
@@ -43,24 +45,44 @@ pub record PartDone (system : Equations) (T : Transformer) (z b : Vector) (list 
   -- each unknown's transformer is its bound
   pub same : (u : Item) → In list u → value_at system T (after_steps steps b) u ≡ after_steps steps b u.point u.row
 
-module _ (system : Equations) (T : Transformer) (reaches : Evident system T) (pick : Pick) (is_pick : IsPick system pick)
-    (joint : Vector → List Item → Outcome) (joined : Joined system T pick joint) (z : Vector) where
-  -- the list condition of a part's rest
-  pub list_condition : (b : Vector) (list : List Item) → Below system z b → Distinct list
-      → ((u : Item) → In list u → Listed system pick z u) →
-      ((u : Item) → In list u → b u.point u.row ≡ z u.point u.row) → ListCondition system T pick b list
-  list_condition b list over distinct listed base =
+-- a turn leaves fewer unknowns
+pub turn_fewer : (system : Equations) (T : Transformer) (b : Vector) (list : List Item) (o : Outcome) → 0 < length list
+    → OutcomeFacts system T b list o → length (left_by o list) < length list
+unfolding left_by
+turn_fewer system T b list (Point items) some facts = some
+turn_fewer system T b list (Rays items) some facts =
+    let first = facts.listed facts.first facts.some in
+    fewer_without items list first.0 facts.first first.1 facts.some (sym first.2.point) (sym first.2.row)
+
+-- turns of what some turns leave come behind those
+pub leaves_append : (system : Equations) (T : Transformer) (first second : List Step) (b : Vector) (list mid left : List Item)
+    → Leaves system T b list first mid → Leaves system T (after_steps first b) mid second left
+    → Leaves system T b list (first ++ second) left
+unfolding after_steps
+leaves_append system T [] second b list mid left h k = subst (λ l. Leaves system T b l second left) h k
+leaves_append system T (step ∷ first) second b list mid left h k = (
+  h.0,
+  h.1,
+  h.2,
+  h.3,
+  leaves_append system T first second (after_step step b) (left_by h.0 list) mid left h.4 k,
+)
+
+module _ (system : Equations) (T : Transformer) (reaches : Evident system T) (pick : Pick) (is_pick : IsPick system pick) (z : Vector) where
+  -- unknowns that wait for their turn meet the list condition
+  pub waiting_condition : (b : Vector) (list : List Item) → AreWaiting system pick z b list → ListCondition system T pick b list
+  waiting_condition b list w =
       record {
-        distinct = distinct;
-        picked = λ u m. (listed u m).picked;
-        finite = λ u m. let h = listed u m in (h.bound, base u m ∙ h.finite);
+        distinct = w.distinct;
+        picked = λ u m. (w.listed u m).picked;
+        finite = λ u m. let h = w.listed u m in (h.bound, w.kept u m ∙ h.finite);
         exceeds = λ u m.
-            let h = listed u m in
-            subst (λ v. v <ᴱ value_at system T b u) (sym (base u m ∙ h.finite))
+            let h = w.listed u m in
+            subst (λ v. v <ᴱ value_at system T b u) (sym (w.kept u m ∙ h.finite))
             (ext_lt_of_lt_of_le (fin h.bound) (fin (item_value system u (word u.low))) (value_at system T b u) h.exceeds
             (reach_upper system b (edge_of system u) (row_of system u) (value_at system T b u)
             (reaches b (edge_of system u) (row_of system u)) (word u.low)
-            (runs_below system z b (edge_of system u) (word u.low) over h.runs)));
+            (runs_below system z b (edge_of system u) (word u.low) w.over h.runs)));
       }
 
   base_of : (b : Vector) (u v : Item) → SameItem u v → b u.point u.row ≡ z u.point u.row → b v.point v.row ≡ z v.point v.row
@@ -248,48 +270,105 @@ module _ (system : Equations) (T : Transformer) (reaches : Evident system T) (pi
           let s : SameChoice v u = record { point = e; row = g; edge = picks_same pick v u e g (picked v k) (listed u m).picked } in
           sym (value_same system T f v u s) ∙ value_later v k ∙ sym (subst₂ (λ p r. f p r ≡ pos_inf) e g (top_later v k))
 
-  -- ---- a part
-  -- enough turns of a part lead by valid steps to where each of its unknowns has risen to its transformer
-  pub part_done : (n : ℕ) (list : List Item) (b : Vector) → length list ≤ n → Below system z b → Distinct list
-      → ((u : Item) → In list u → Listed system pick z u) →
-      ((u : Item) → In list u → b u.point u.row ≡ z u.point u.row) → PartDone system T z b list (part joint n b list)
-  unfolding part turn after_step
-  part_done zero [] b h over distinct listed base = record {
-    valid = tt;
-    items = λ s m v k. absurd m;
-    risen = λ u m. absurd m;
-    same =
-        λ u m. absurd m;
-  }
-  part_done zero (u ∷ us) b h over distinct listed base = absurd (omega arith)
-  part_done (suc n) [] b h over distinct listed base = record {
-    valid = tt;
-    items = λ s m v k. absurd m;
-    risen = λ u m. absurd m;
-    same =
-        λ u m. absurd m;
-  }
-  part_done (suc n) (u ∷ us) b h over distinct listed base =
-      by (joint b (u ∷ us)) (joined b (u ∷ us) (list_condition b (u ∷ us) over distinct listed base))
-      (λ rest c l o d li ba. part_done n rest c l o d li ba)
-    where
-      list : List Item
-      list = u ∷ us
+  -- ---- a turn by an outcome with its facts
+  -- its step is valid
+  pub turn_valid : (b : Vector) (list : List Item) (o : Outcome) → AreWaiting system pick z b list → OutcomeFacts system T b list o
+      → ValidStep system b (step_by o)
+  unfolding step_by
+  turn_valid b list (Point items) w facts = jump_valid b list items w.over w.listed w.kept facts
+  turn_valid b list (Rays items) w facts = ray_valid b list items w.over w.listed w.kept facts
 
-      by : (o : Outcome) → OutcomeFacts system T b list o →
-          ((rest : List Item) (c : Vector) → length rest ≤ n → Below system z c → Distinct rest
-          → ((v : Item) → In rest v → Listed system pick z v) →
-          ((v : Item) → In rest v → c v.point v.row ≡ z v.point v.row) → PartDone system T z c rest (part joint n c rest)) →
-          PartDone system T z b list (turn o b list (λ c rest. part joint n c rest))
-      by (Point items) facts rec = point_done b list items over listed base facts
-      by (Rays items) facts rec =
+  -- what it leaves waits for the next turn
+  pub turn_waiting : (b : Vector) (list : List Item) (o : Outcome) → AreWaiting system pick z b list → OutcomeFacts system T b list o
+      → AreWaiting system pick z (after_step (step_by o) b) (left_by o list)
+  unfolding step_by left_by after_step
+  turn_waiting b list (Point items) w facts = record {
+    over = below_trans system z b (put (new_value Jump) items b) w.over
+        (step_up system b (record { kind = Jump; items = items }) (jump_valid b list items w.over w.listed w.kept facts));
+    distinct = tt;
+    listed = λ u m. absurd m;
+    kept = λ u m. absurd m;
+  }
+  turn_waiting b list (Rays items) w facts = record {
+    over = below_trans system z b (put (new_value Ray) items b) w.over
+        (step_up system b (record { kind = Ray; items = items }) (ray_valid b list items w.over w.listed w.kept facts));
+    distinct = distinct_without items list w.distinct;
+    listed = λ u m. w.listed u (of_without items list u m).0;
+    kept = λ u m. let o = of_without items list u m in put-unnamed (new_value Ray) items b u.point u.row o.1 ∙ w.kept u o.0;
+  }
+
+  -- its items are picked
+  pub turn_picked : (b : Vector) (list : List Item) (o : Outcome) → AreWaiting system pick z b list → OutcomeFacts system T b list o
+      → (v : Item) → In (step_by o).items v → Picks pick v
+  unfolding step_by
+  turn_picked b list (Point items) w facts v m = let u = facts.listed v m in (listed_same system pick z u.0 v u.2 (w.listed u.0 u.1)).picked
+  turn_picked b list (Rays items) w facts v m = let u = facts.listed v m in (listed_same system pick z u.0 v u.2 (w.listed u.0 u.1)).picked
+
+  -- ---- the turns of a part
+  -- what some turns leave waits for the next one
+  pub leaves_waiting : (steps : List Step) (b : Vector) (list left : List Item) → AreWaiting system pick z b list
+      → Leaves system T b list steps left → AreWaiting system pick z (after_steps steps b) left
+  unfolding after_steps
+  leaves_waiting [] b list left w h = subst (AreWaiting system pick z b) (sym h) w
+  leaves_waiting (step ∷ steps) b list left w h =
+      leaves_waiting steps (after_step step b) (left_by h.0 list) left
+      (subst (λ s. AreWaiting system pick z (after_step s b) (left_by h.0 list)) (sym h.2) (turn_waiting b list h.0 w h.1)) h.4
+
+  -- nothing comes after the last turn
+  nothing_after : (b : Vector) (steps : List Step) (left : List Item) → Leaves system T b [] steps left → steps ≡ []
+  nothing_after b [] left h = refl
+  nothing_after b (step ∷ steps) left h = absurd (omega (arith, h.3))
+
+  no_turn_done : (b : Vector) → PartDone system T z b [] []
+  no_turn_done b = record { valid = tt; items = λ s m v k. absurd m; risen = λ u m. absurd m; same = λ u m. absurd m }
+
+  -- turns of a part that leave nothing of it lead by valid steps to where each of its unknowns has risen to its transformer
+  pub leaves_done : (steps : List Step) (b : Vector) (list : List Item) → AreWaiting system pick z b list → Leaves system T b list steps []
+      → PartDone system T z b list steps
+  unfolding step_by left_by
+  leaves_done [] b list w h = subst (λ l. PartDone system T z b l []) h (no_turn_done b)
+  leaves_done (step ∷ steps) b list w h = by h.0 h.1 h.2 h.4 (λ c rest v k. leaves_done steps c rest v k)
+    where
+      by : (o : Outcome) → OutcomeFacts system T b list o → step ≡ step_by o
+          → Leaves system T (after_step step b) (left_by o list) steps [] →
+          ((c : Vector) (rest : List Item) → AreWaiting system pick z c rest → Leaves system T c rest steps []
+          → PartDone system T z c rest steps) → PartDone system T z b list (step ∷ steps)
+      by (Point items) facts e rest rec =
+          subst₂ (λ s t. PartDone system T z b list (s ∷ t)) (sym e) (sym (nothing_after (after_step step b) steps [] rest))
+          (point_done b list items w.over w.listed w.kept facts)
+      by (Rays items) facts e rest rec =
           let c = after_step (record { kind = Ray; items = items }) b in
-          let first = facts.listed facts.first facts.some in
-          let l = fewer_without items list first.0 facts.first first.1 facts.some (sym first.2.point) (sym first.2.row) in
-          ray_done b list items (part joint n c (without items list)) over listed base facts
-          (rec (without items list) c (omega arith)
-          (below_trans system z b c over (step_up system b (record { kind = Ray; items = items })
-          (ray_valid b list items over listed base facts)))
-          (distinct_without items list distinct)
-          (λ v m. listed v (of_without items list v m).0)
-          (λ v m. put-unnamed (new_value Ray) items b v.point v.row (of_without items list v m).1 ∙ base v (of_without items list v m).0))
+          subst (λ s. PartDone system T z b list (s ∷ steps)) (sym e)
+          (ray_done b list items steps w.over w.listed w.kept facts
+          (rec c (without items list) (turn_waiting b list (Rays items) w facts)
+          (subst (λ s. Leaves system T (after_step s b) (without items list) steps []) e rest)))
+
+  -- ---- turns by a function for the outcomes
+  module _ (joint : Vector → List Item → Outcome) (joined : Joined system T pick joint) where
+    -- its turns of a part leave nothing of it
+    pub part_leaves : (n : ℕ) (list : List Item) (b : Vector) → length list ≤ n → AreWaiting system pick z b list
+        → Leaves system T b list (part joint n b list) []
+    unfolding part turn step_by left_by
+    part_leaves zero [] b h w = refl
+    part_leaves zero (u ∷ us) b h w = absurd (omega arith)
+    part_leaves (suc n) [] b h w = refl
+    part_leaves (suc n) (u ∷ us) b h w = by (joint b (u ∷ us)) (joined b (u ∷ us) (waiting_condition b (u ∷ us) w))
+        (λ rest c l v. part_leaves n rest c l v)
+      where
+        list : List Item
+        list = u ∷ us
+
+        by : (o : Outcome) → OutcomeFacts system T b list o →
+            ((rest : List Item) (c : Vector) → length rest ≤ n → AreWaiting system pick z c rest
+            → Leaves system T c rest (part joint n c rest) []) →
+            Leaves system T b list (turn o b list (λ c rest. part joint n c rest)) []
+        by (Point items) facts rec = (Point items, facts, refl, (omega arith), refl)
+        by (Rays items) facts rec =
+            let c = after_step (record { kind = Ray; items = items }) b in
+            let fewer = turn_fewer system T b list (Rays items) (omega arith) facts in (
+              Rays items,
+              facts,
+              refl,
+              (omega arith),
+              rec (without items list) c (omega arith) (turn_waiting b list (Rays items) w facts),
+            )

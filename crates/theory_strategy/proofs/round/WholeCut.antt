@@ -14,7 +14,9 @@ use Rattle.theory_validity.proofs.steps.CertificateLaw.{led_up}
 use Rattle.theory_strategy.specs.Picks.{Pick, Transformer, IsPick, Supported, choices}
 use Rattle.theory_strategy.specs.RoundFacts.{Listed}
 use Rattle.theory_strategy.specs.Growth.{Evident, Sizes, growth, items_of, grow}
-use Rattle.theory_strategy.specs.Round.{Outcome, members, Admissible, keep, finite_items, rising, round, round_steps}
+use Rattle.theory_strategy.specs.Round.{Outcome, turns, members, Admissible, keep, finite_items, rising, round, round_steps}
+use Rattle.theory_strategy.specs.Turns.{AreTurnsOf, PartsAreWaiting}
+use Rattle.theory_strategy.proofs.round.CutLaw.{turns_are}
 use Rattle.theory_strategy.proofs.round.Choices.{choices_picked}
 use Rattle.theory_strategy.proofs.growth.RaiseStep.{Raise}
 use Rattle.theory_strategy.proofs.growth.GrowthLaw.{Raises, raises_valid, led_unnamed}
@@ -22,7 +24,7 @@ use Rattle.theory_strategy.proofs.growth.PassLaw.{passes_done}
 use Rattle.theory_strategy.proofs.growth.Grown.{grow_is}
 use Rattle.theory_strategy.proofs.round.TurnLaw.{unnamed_by_all}
 use Rattle.theory_strategy.proofs.round.PartLaw.{Joined}
-use Rattle.theory_strategy.proofs.round.RoundLaw.{IsCut, RoundDone, round_done}
+use Rattle.theory_strategy.proofs.round.RoundLaw.{IsCut, RoundDone, cut_waiting, round_done}
 use Rattle.theory_strategy.proofs.growth.ApartLaw.{choices_distinct, passes_apart}
 
 -- the items at fractions
@@ -181,16 +183,45 @@ module _ (fitting : ℚ → Bool) (system : Equations) (T : Transformer) (reache
         all = λ u m. subst (λ l. In l u) (sym (append-nil (rising fitting system T reaches d pick))) m;
       }
 
+  -- the unknowns of a cut wait for their turns after the growth
+  pub cuts_waiting : (d : Vector) (pick : Pick) (lists : List (List Item)) → Supported system T d pick → Cuts d pick lists →
+      PartsAreWaiting system pick (after_steps (grow fitting system T reaches d pick) d)
+      (after_steps (grow fitting system T reaches d pick) d) lists
+  cuts_waiting d pick lists supported cuts =
+      let steps = grow fitting system T reaches d pick in
+      cut_waiting system T reaches pick d (after_steps steps d) steps supported (grow_is fitting system T reaches sizes d pick supported)
+      lists
+      (cut_is d pick lists supported.is_pick cuts)
+
+  -- a round by a supported pick leads to the vector above d by the pick, whichever outcomes its turns are made by
+  pub round_by : (d : Vector) (pick : Pick) (lists : List (List Item)) (made : List Step) → Supported system T d pick → Cuts d pick lists →
+      AreTurnsOf system T (after_steps (grow fitting system T reaches d pick) d) lists made →
+      RoundDone system T d (after_steps (grow fitting system T reaches d pick) d) pick (grow fitting system T reaches d pick)
+      (grow fitting system T reaches d pick ++ made) (after_steps made (after_steps (grow fitting system T reaches d pick) d))
+  round_by d pick lists made supported cuts turned =
+      let steps = grow fitting system T reaches d pick in
+      round_done system T reaches pick d (after_steps steps d) steps supported (grow_is fitting system T reaches sizes d pick supported)
+      lists
+      (cut_is d pick lists supported.is_pick cuts) made turned
+
   module _ (joint : Pick → Vector → List Item → Outcome) (joined : (pick : Pick) → IsPick system pick → Joined system T pick (joint pick))
       (cut : Vector → Pick → List (List Item))
       (cuts : (d : Vector) (pick : Pick) → IsPick system pick → Cuts d pick (cut d pick)) where
-    -- the round by a supported pick leads to the vector above d by the pick
+    -- the turns by a function for the outcomes are some
+    pub turns_by : (d : Vector) (pick : Pick) → Supported system T d pick →
+        AreTurnsOf system T (after_steps (grow fitting system T reaches d pick) d) (cut d pick)
+        (turns (joint pick) (after_steps (grow fitting system T reaches d pick) d) (cut d pick))
+    turns_by d pick supported =
+        let z = after_steps (grow fitting system T reaches d pick) d in
+        turns_are system T reaches pick supported.is_pick z (joint pick) (joined pick supported.is_pick) (cut d pick) z
+        (cuts_waiting d pick (cut d pick) supported (cuts d pick supported.is_pick))
+
+    -- so a round by them does
     pub round_is : (d : Vector) (pick : Pick) → Supported system T d pick →
         RoundDone system T d (after_steps (grow fitting system T reaches d pick) d) pick (grow fitting system T reaches d pick)
         (round_steps fitting system T reaches joint cut d pick) (round fitting system T reaches joint cut d pick)
     unfolding round round_steps
     round_is d pick supported =
-        let steps = grow fitting system T reaches d pick in
-        round_done system T reaches pick (joint pick) (joined pick supported.is_pick) d (after_steps steps d) steps supported
-        (grow_is fitting system T reaches sizes d pick supported) (cut d pick)
-        (cut_is d pick (cut d pick) supported.is_pick (cuts d pick supported.is_pick))
+        let z = after_steps (grow fitting system T reaches d pick) d in
+        round_by d pick (cut d pick) (turns (joint pick) z (cut d pick)) supported (cuts d pick supported.is_pick)
+        (turns_by d pick supported)

@@ -3,13 +3,13 @@ use Rattle.std.proofs.Common.{◌≡◌, ◌∙◌, ⊎_elim, ℕ, List, [], ref
 use Rattle.std.specs.Prelude.{Option, Some, None}
 use Rattle.ask_words.specs.Request.{request_of}
 use Rattle.top_answer.specs.Answers as public
-use Rattle.top_answer.specs.Answers.{Answers, Asks, Ends, Holds, IsAnswer, IsMessage, IsOutput}
+use Rattle.top_answer.specs.Answers.{IsAnsweredBy, Asks, Ends, Holds, IsAnswer, IsMessage, IsOutput}
 use Rattle.ask_files.specs.Asked.{with_texts}
 use Rattle.top_answer.specs.Limits.{named_text}
 use Rattle.top_answer.specs.Commands.{Commands, HasRows}
 use Rattle.ask_files.specs.Files.{Request, files_of, unread}
-use Rattle.top_answer.specs.Parted as parted
-use Rattle.top_answer.specs.Parted.{AnswersRequest, AnswersWords, NamesPlace, Says}
+use Rattle.top_answer.specs.Outcomes as parted
+use Rattle.top_answer.specs.Outcomes.{AnswersRequest, AnswersWords, NamesPlace, Says}
 use Rattle.top_status.specs.CheckMessages.{rows_of}
 use Rattle.top_status.specs.Messages.{line_in, message_of}
 use Rattle.ask_files.specs.declared.which.ReadCause.{ReadCause}
@@ -58,7 +58,7 @@ module _ (commands : Commands) (law : IsLawful commands) (words contents : List 
         undone : Read cause ≡ Done → ⊥
         undone d = cc
 
-    unread_complete : (ending : Status) → Ends commands words contents ending → Answers commands words contents ending status
+    unread_complete : (ending : Status) → Ends commands words contents ending → IsAnsweredBy commands words contents ending status
     unread_complete ending (public.unasked n u) = absurd (no_request (request_of words) request n is)
     unread_complete ending (public.not_read r c i k u) =
         public.given (e ∙ ap (λ x. Read x) (one_cause (unread (files_of request) contents) cause c is_unread
@@ -109,7 +109,7 @@ module _ (commands : Commands) (law : IsLawful commands) (words contents : List 
     texts_hold Write bytes h = public.nothing (λ e. cc) h.1
 
     decided_once : (status : Status) (bytes : List ℕ) (ending : Status) → Says (commands (with_texts request contents)) status bytes
-        → (commands (with_texts request contents)).ends ending → Answers commands words contents ending status
+        → (commands (with_texts request contents)).ends ending → IsAnsweredBy commands words contents ending status
     decided_once Done bytes ending h k =
         public.given (law.ends_once (with_texts request contents) Done ending (law.written_ends (with_texts request contents) bytes h) k)
     decided_once (Certificate c) bytes ending h k = public.given (law.ends_once (with_texts request contents) (Certificate c) ending h.0 k)
@@ -125,7 +125,7 @@ module _ (commands : Commands) (law : IsLawful commands) (words contents : List 
     decided_once Write bytes ending h k = public.given (law.ends_once (with_texts request contents) Write ending h.0 k)
 
     texts_complete : (status : Status) (bytes : List ℕ) → Says (commands (with_texts request contents)) status bytes
-        → (ending : Status) → Ends commands words contents ending → Answers commands words contents ending status
+        → (ending : Status) → Ends commands words contents ending → IsAnsweredBy commands words contents ending status
     texts_complete status bytes h ending (public.unasked n u) = absurd (no_request (request_of words) request n is)
     texts_complete status bytes h ending (public.not_read r c i k u) =
         absurd (no_cause (unread (files_of request) contents) c all
@@ -195,7 +195,7 @@ module _ (commands : Commands) (law : IsLawful commands) where
   -- the ending that stands is answered
   pub complete : (words contents : List (List ℕ)) (status : Status) (bytes message : List ℕ)
       → AnswersWords commands words contents status bytes message → (ending : Status) → Ends commands words contents ending
-      → Answers commands words contents ending status
+      → IsAnsweredBy commands words contents ending status
   complete words contents status bytes message (parted.asked r is (parted.not_read c u e b m)) ending k =
       unread_complete commands law words contents r is c u status bytes message e b m ending k
   complete words contents status bytes message (parted.asked r is (parted.answers_texts all h n)) ending k =

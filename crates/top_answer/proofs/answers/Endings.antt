@@ -1,12 +1,12 @@
 -- The texts of a command have one ending, and where an operation is too wide, improvements decide it.
-use Rattle.std.proofs.Common.{◌≡◌, ℕ, List, refl, sym, subst}
+use Rattle.std.proofs.Common.{◌≡◌, ◌∙◌, ℕ, List, refl, sym, ap, subst}
 use Rattle.flow_systems.specs.declared.spot.Spot.{Spot}
 use Rattle.theory_validity.specs.Certificates.{bounds_vector}
 use Rattle.ask_words.specs.declared.request.Purpose.TheVariants.{Report, Certificate as AsCertificate}
-use Rattle.ask_words.specs.declared.request.Request.TheVariants.{Analyse, Check, Bench, Upgrade, Prove, Transitions, Equations}
+use Rattle.ask_words.specs.declared.request.Request.TheVariants.{Analyse, Check, Bench, Upgrade, Prove, Transitions, Equations, Points}
 use Rattle.top_answer.specs.Answers.{IsOfRounds, of_ended, of_spent}
 use Rattle.top_answer.specs.Commands as commands
-use Rattle.top_answer.specs.Commands.{CheckEnds, UpgradeEnds, command_of}
+use Rattle.top_answer.specs.Commands.{CheckEnds, PointsEnd, UpgradeEnds, command_of}
 use Rattle.ask_files.specs.Files.{Request}
 use Rattle.top_status.specs.declared.status.Status.{Status}
 use Rattle.top_status.specs.declared.status.Status.TheVariants.{Done, Certificate as Refused, Usage, Read, Text, Wide, Spent, Memory, Write}
@@ -18,6 +18,7 @@ use Rattle.top_texts.specs.Questions.{equations_question, transitions_question, 
 use Rattle.top_texts.proofs.checks.CheckOnce.{cert_ends_once, check_ends_once, check_staged, upgrade_staged}
 use Rattle.top_texts.proofs.questions.OneEnd.{HasOneMeaning, question_ends_once}
 use Rattle.top_texts.proofs.questions.OneMeaning.{analysis_once, bench_once, claims_once, solution_once, transitions_once}
+use Rattle.top_texts.proofs.texts.Once.{analysed_unrefused, program_refused_once}
 
 -- ---- endings of a check and of an upgrade, from the words of their own to those of the exact meanings, and back
 
@@ -48,6 +49,16 @@ upgrade_end_back bytes s (commands.rewritten written e u) = subst (λ x. Upgrade
 
 -- ---- one ending
 
+-- the text of a program whose points are asked for has one ending
+points_end_once : (text : List ℕ) (s t : Status) → PointsEnd text s → PointsEnd text t → s ≡ t
+points_end_once text s t (commands.text_refused c e h) (commands.text_refused d i k) =
+    e ∙ ap (λ x. Text x) (program_refused_once text c d h k) ∙ sym i
+points_end_once text s t (commands.text_refused c e h) (commands.listed names body i a) =
+    absurd (analysed_unrefused text names body c h a)
+points_end_once text s t (commands.listed names body e a) (commands.text_refused c i k) =
+    absurd (analysed_unrefused text names body c k a)
+points_end_once text s t (commands.listed names body e a) (commands.listed others other i b) = e ∙ sym i
+
 -- the texts of a command have one ending
 pub ends_once : (asked : Request) (s t : Status) → (command_of exact asked).ends s → (command_of exact asked).ends t → s ≡ t
 ends_once (Analyse Report a) s t h k = question_ends_once (analysis_question exact Report a.program a.domain a.policy a.improvements)
@@ -66,6 +77,7 @@ ends_once (Transitions a) s t h k = question_ends_once (transitions_question exa
     (transitions_once a.program a.domain a.policy a.improvements) s t h k
 ends_once (Equations text limit policy) s t h k = question_ends_once (equations_question exact text policy limit)
     (solution_once text policy limit) s t h k
+ends_once (Points text) s t h k = points_end_once text s t h k
 
 -- ---- operations that are too wide
 
@@ -92,3 +104,4 @@ wide_ends (Transitions a) spot s w h = wide_of_rounds (transitions_question exac
     (transitions_once a.program a.domain a.policy a.improvements) spot s w h
 wide_ends (Equations text limit policy) spot s w h = wide_of_rounds (equations_question exact text policy limit)
     (solution_once text policy limit) spot s w h
+wide_ends (Points text) spot s w h = absurd w

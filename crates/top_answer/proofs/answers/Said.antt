@@ -6,15 +6,17 @@ use Rattle.flow_systems.specs.declared.system.System.{System}
 use Rattle.ask_words.specs.declared.request.Analysis.{Analysis}
 use Rattle.ask_words.specs.declared.request.Purpose.{Purpose}
 use Rattle.ask_words.specs.declared.request.Purpose.TheVariants.{Report, Certificate as AsCertificate}
-use Rattle.ask_words.specs.declared.request.Request.TheVariants.{Analyse, Check, Bench, Upgrade}
-use Rattle.top_answer.specs.Commands.{Command, asking, command_of, form_refused}
-use Rattle.top_answer.specs.Parted.{HasOutcome, Says}
+use Rattle.ask_words.specs.declared.request.Request.TheVariants.{Analyse, Check, Bench, Upgrade, Points}
+use Rattle.top_answer.specs.Commands.{Command, asking, command_of, form_refused, text_refused}
+use Rattle.top_answer.specs.Outcomes.{HasOutcome, Says}
 use Rattle.top_status.specs.declared.status.CertCause.TheVariants as cause
 use Rattle.top_status.specs.declared.status.Status.{Status}
 use Rattle.top_status.specs.declared.status.Status.TheVariants.{Certificate as Refused, Text as TextStatus, Wide as WideStatus}
 use Rattle.top_texts.specs.Checks.{IsSpelt}
 use Rattle.top_texts.specs.Exact.{exact}
-use Rattle.top_texts.specs.Parted.{GetsNoReport, IsAnswerToCheck, IsHalted, IsMisspelt, IsOutputOf, IsRefusedBy, IsUnanswered, refused}
+use Rattle.top_texts.specs.Outcomes.{GetsNoReport, IsAnswerToCheck, IsHalted, IsMisspelt, IsOutputOf, IsRefusedBy, IsUnanswered, refused}
+use Rattle.top_texts.specs.Outcomes.{IsUnread}
+use Rattle.top_texts.specs.PointTexts.{ArePointsOf}
 use Rattle.top_texts.specs.Questions.{Question, analysis_question, bench_question, is_refused}
 use Rattle.top_texts.specs.Reports.{IsReportBy, IsSummaryOf}
 use Rattle.top_texts.specs.Texts.{IsSolvedSystem}
@@ -24,7 +26,7 @@ use Rattle.top_texts.specs.declared.refusal.Refusal.TheVariants as refusal
 use Rattle.top_texts.proofs.analyses.Analysed.{output_put}
 use Rattle.top_texts.proofs.analyses.Unanswered.{unsolved, unsystematic}
 use Rattle.top_texts.proofs.checks.Refused.{unreported_answers, unspelt_answers}
-use Rattle.top_texts.specs.Parted.{IsUnspelt}
+use Rattle.top_texts.specs.Outcomes.{IsUnspelt}
 use Rattle.top_answer.proofs.answers.Endings.{check_end}
 use Rattle.top_answer.proofs.answers.Written.{certificate, checked, summary}
 
@@ -141,3 +143,19 @@ pub upgraded : (given : List ℕ) (r : Result (Vec ℕ Global) Refusal) (s : Sta
     → Says (command_of exact (Upgrade given)) s bytes
 upgraded given r s bytes ok err h = outcome_says (command_of exact (Upgrade given)) r s bytes ok
     (err_map (λ x. IsMisspelt given x) _ (misspelt_says given) r err) h
+
+-- ---- points
+
+unread_says : (text : List ℕ) (x : Refusal) → IsUnread text x → Says (command_of exact (Points text)) (refused x) []
+unread_says text (refusal.Text cause) h = (text_refused cause refl h, refl)
+unread_says text (refusal.Certificate cause) h = absurd h
+unread_says text (refusal.Wide spot) h = absurd h
+unread_says text (refusal.Spent n) h = absurd h
+unread_says text refusal.NoMemory h = refl
+
+-- the points of a text's program, or why there are none
+pub pointed : (text : List ℕ) (r : Result (Vec ℕ Global) Refusal) (s : Status) (bytes : List ℕ)
+    → IfOk r (λ made. ArePointsOf text made.items) → IfErr r (λ x. IsUnread text x) → HasOutcome r s bytes
+    → Says (command_of exact (Points text)) s bytes
+pointed text r s bytes ok err h = outcome_says (command_of exact (Points text)) r s bytes ok
+    (err_map (λ x. IsUnread text x) _ (unread_says text) r err) h

@@ -12,7 +12,7 @@ use Rattle.out_workload.specs.Bodies.{generated_body, generated_names}
 use Rattle.ask_words.specs.declared.request.Domain.{Domain}
 use Rattle.ask_words.specs.declared.request.Policy.{Policy}
 use Rattle.ask_words.specs.declared.request.Purpose.TheVariants.{Report, Certificate as AsCertificate}
-use Rattle.ask_words.specs.declared.request.Request.TheVariants.{Analyse, Check, Bench, Upgrade, Prove, Transitions, Equations}
+use Rattle.ask_words.specs.declared.request.Request.TheVariants.{Analyse, Check, Bench, Upgrade, Prove, Transitions, Equations, Points}
 use Rattle.top_answer.specs.Commands as commands
 use Rattle.top_answer.specs.Commands.{IsCertificate, IsChecked, IsSummary, command_of}
 use Rattle.ask_files.specs.Files.{Request}
@@ -69,13 +69,13 @@ checked text given bytes r = record {
 pub summary : (seed loops : ℕ) (bytes : List ℕ) → IsSummaryOf seed loops bytes → IsSummary exact seed loops bytes
 summary seed loops bytes s = record {
   system = s.system;
-  generated = s.system_for;
+  generated = s.generated;
   rounds = s.rounds;
   within = s.within;
   vector = s.vector;
   has_rounds = s.has_rounds;
   least = subst (λ (q : Equations_of). Least q s.vector) (sym (equations_are generated_names (generated_body seed loops) (intervals_of 3)
-      s.system s.system_for)) s.least;
+      s.system s.generated.system_for)) s.least;
   summary = s.summary;
 }
 
@@ -96,3 +96,4 @@ written_ends (Equations text limit policy) bytes v =
     let made = v.improvements in
     rounds_end made.0 refl (record { equations = v.equations; reading = v.reading; system_is = made.1 })
     (v.rounds, v.within, made.2, made.3)
+written_ends (Points text) bytes p = commands.listed p.names p.body refl p.analysed

@@ -6,10 +6,11 @@ use Rattle.ask_files.specs.Files.{Request}
 use Rattle.ask_words.specs.Request.{request_of}
 use Rattle.ask_words.specs.declared.request.Analysis.{Analysis}
 use Rattle.ask_words.specs.declared.request.Purpose.TheVariants.{Report, Certificate}
-use Rattle.ask_words.specs.declared.request.Request.TheVariants.{Analyse, Check, Bench, Upgrade, Prove, Transitions, Equations}
+use Rattle.ask_words.specs.declared.request.Request.TheVariants.{Analyse, Check, Bench, Upgrade, Prove, Transitions, Equations, Points}
 use Rattle.top_texts.specs.Exact.{exact}
 use Rattle.top_texts.proofs.claim_texts.OneText.{verdicts_once}
 use Rattle.top_texts.proofs.equation_texts.OneText.{values_once}
+use Rattle.top_texts.proofs.texts.Once.{points_once}
 use Rattle.top_answer.specs.Answers.{IsOutput}
 use Rattle.top_answer.specs.Commands.{command_of}
 use Rattle.top_answer.proofs.answers.OneEnding.{one_asked}
@@ -32,6 +33,7 @@ writes_once (Upgrade given) none one other h k = one_upgrade given one other h k
 writes_once (Prove given a) none one other h k = verdicts_once a.program a.domain given a.policy a.improvements one other h k
 writes_once (Transitions a) none one other h k = auto_report_once a.program a.domain a.policy a.improvements one other h k
 writes_once (Equations text limit policy) none one other h k = values_once text policy limit one other h k
+writes_once (Points text) none one other h k = points_once text one other h k
 
 -- contents in place of names leave what is asked for
 none_with : (request : Request) (contents : List (List ℕ)) → IsForNone request → IsForNone (with_texts request contents)
@@ -43,6 +45,7 @@ none_with (Upgrade given) contents none analysis e = cc
 none_with (Prove given a) contents none analysis e = cc
 none_with (Transitions a) contents none analysis e = cc
 none_with (Equations text limit policy) contents none analysis e = cc
+none_with (Points text) contents none analysis e = cc
 
 -- words that ask for no certificate have one output over contents
 pub one_output : (words contents : List (List ℕ)) (one other : List ℕ)

@@ -47,8 +47,8 @@ module _ (s t : System) (names : s.flow.names ≡ t.flow.names) (points : s.flow
 pub summary_once : (seed loops : ℕ) (one other : List ℕ) → IsSummary exact seed loops one → IsSummary exact seed loops other → one ≡ other
 summary_once seed loops one other a b =
     let body = generated_body seed loops in
-    let p : IsSystemFor generated_names body (intervals_of 3) a.system = a.generated in
-    let q : IsSystemFor generated_names body (intervals_of 3) b.system = b.generated in
+    let p : IsSystemFor generated_names body (intervals_of 3) a.system = a.generated.system_for in
+    let q : IsSystemFor generated_names body (intervals_of 3) b.system = b.generated.system_for in
     let same : equations_of a.system ≡ equations_of b.system =
     equations_are generated_names body (intervals_of 3) a.system p ∙ sym (equations_are generated_names body (intervals_of 3) b.system q) in
     let some_point : 0 < length b.system.flow.points =

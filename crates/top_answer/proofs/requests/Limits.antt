@@ -1,10 +1,11 @@
 -- Where the files of a request are read, its texts are within their limits.
 use Rattle.std.proofs.Common.{◌≡◌, ◌≤◌, ◌+◌, ℕ, Bool, true, false, List, [], ◌∷◌, length, refl, sym, subst, arith, if◌then◌else◌}
 use Rattle.std.specs.Prelude.{Option, Some, None, nat_lt}
+use Rattle.base_limits.specs.declared.limits.TheConstants.{MOST_IMPROVEMENTS, MOST_TEXT_BYTES}
 use Rattle.ask_words.specs.declared.request.Analysis.{Analysis}
 use Rattle.ask_words.specs.declared.request.Domain.{Domain}
 use Rattle.ask_words.specs.declared.request.Domain.TheVariants.{Intervals, Zones, Octagons, Rows}
-use Rattle.ask_words.specs.declared.request.Request.TheVariants.{Analyse, Check, Bench, Upgrade, Prove, Transitions, Equations}
+use Rattle.ask_words.specs.declared.request.Request.TheVariants.{Analyse, Check, Bench, Upgrade, Prove, Transitions, Equations, Points}
 use Rattle.ask_files.specs.Asked.{analysis_with, domain_with, rows_files, text_at, with_texts}
 use Rattle.top_answer.specs.Limits.{IsInLimits, IsInRange, IsWithin}
 use Rattle.ask_files.specs.Files.{NamedFile, Request, files_of, most_bytes, rows_before, unread}
@@ -56,20 +57,20 @@ claims_short (Rows file) claims text rest e =
 
 -- the texts of an analysis are within their limits
 within : (file : NamedFile) (analysis : Analysis (List ℕ)) (later : List NamedFile) (contents : List (List ℕ))
-    → most_bytes file.0 ≡ 65536 → analysis.improvements ≤ 1000000 → unread (file ∷ rows_before analysis.domain later) contents ≡ None
-    → IsWithin (analysis_with analysis contents)
+    → most_bytes file.0 ≡ MOST_TEXT_BYTES → analysis.improvements ≤ MOST_IMPROVEMENTS
+    → unread (file ∷ rows_before analysis.domain later) contents ≡ None → IsWithin (analysis_with analysis contents)
 within file analysis later contents most limit e =
     let read = read_first file (rows_before analysis.domain later) contents e in
-    let short : length read.0 ≤ 65536 = subst (λ n. length read.0 ≤ n) most read.3 in
+    let short : length read.0 ≤ MOST_TEXT_BYTES = subst (λ n. length read.0 ≤ n) most read.3 in
     subst (λ c. IsWithin (analysis_with analysis c)) (sym read.2)
     (record { short = short; short_rows = rows_short analysis.domain later read.0 read.1 read.4; limit = limit })
 
 -- a text that is read alone is within its limit
-first_short : (file : NamedFile) (later : List NamedFile) (contents : List (List ℕ)) → most_bytes file.0 ≡ 65536
+first_short : (file : NamedFile) (later : List NamedFile) (contents : List (List ℕ)) → most_bytes file.0 ≡ MOST_TEXT_BYTES
     → unread (file ∷ later) contents ≡ None → IsShort (text_at contents 0)
 first_short file later contents most e =
     let read = read_first file later contents e in
-    let short : length read.0 ≤ 65536 = subst (λ n. length read.0 ≤ n) most read.3 in
+    let short : length read.0 ≤ MOST_TEXT_BYTES = subst (λ n. length read.0 ≤ n) most read.3 in
     subst (λ c. IsShort (text_at c 0)) (sym read.2) short
 
 -- the texts of a request whose files are read are within their limits
@@ -86,3 +87,4 @@ in_limits (Prove claims a) contents range e =
     )
 in_limits (Transitions a) contents range e = within (which.System, a.program) a [] contents refl range e
 in_limits (Equations file limit policy) contents range e = (first_short (which.Equations, file) [] contents refl e, range)
+in_limits (Points p) contents range e = first_short (which.Program, p) [] contents refl e

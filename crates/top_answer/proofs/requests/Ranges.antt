@@ -5,16 +5,17 @@ use Rattle.std.specs.Char.{is_ascii_digit}
 use Rattle.std.specs.List.{list_all}
 use Rattle.std.specs.Str.{bytes_eq}
 use Rattle.std.specs.Str.Parse.{digits_value}
+use Rattle.base_limits.specs.declared.limits.TheConstants.{MOST_IMPROVEMENTS}
 use Rattle.clap.specs.Words.{Kinds, Row, Text, fault_of, first_of, subcommand_of}
 use Rattle.ask_words.specs.CommandLine.{tmpl_app}
 use Rattle.ask_words.specs.Request.{analyse_in, analysis_in, bench_in, check_in, command_in, equations_in, improvements_in, policy_in}
-use Rattle.ask_words.specs.Request.{prove_in, request_of, transitions_in, unless_fault, upgrade_in}
+use Rattle.ask_words.specs.Request.{points_in, prove_in, request_of, transitions_in, unless_fault, upgrade_in}
 use Rattle.ask_words.specs.Values.{domain_in, number_in}
 use Rattle.ask_words.specs.declared.request.Analysis.{Analysis}
 use Rattle.ask_words.specs.declared.request.Domain.{Domain}
 use Rattle.ask_words.specs.declared.request.Policy.{Policy}
 use Rattle.ask_words.specs.declared.request.Request.{Request}
-use Rattle.ask_words.specs.declared.request.Request.TheVariants.{Analyse, Check, Bench, Upgrade, Prove, Transitions, Equations}
+use Rattle.ask_words.specs.declared.request.Request.TheVariants.{Analyse, Check, Bench, Upgrade, Prove, Transitions, Equations, Points}
 use Rattle.ask_words.specs.declared.request.Purpose.{Purpose}
 use Rattle.ask_words.specs.declared.request.Purpose.TheVariants.{Report, Certificate}
 use Rattle.top_answer.specs.Limits.{IsInRange}
@@ -88,10 +89,10 @@ with_limit given program domain = option_and_then (with_policy given program dom
 with_domain : List Row → Text → Option (Analysis Text)
 with_domain given program = option_and_then (with_limit given program) (rows_in given)
 
-improvements_bound : (given : List Row) (n : ℕ) → improvements_in given ≡ Some n → n ≤ 1000000
-improvements_bound given n e = (number_bounds 0 1000000 (unwrap_or (first_of (codes "improvements") given) (codes "1000")) n e).1
+improvements_bound : (given : List Row) (n : ℕ) → improvements_in given ≡ Some n → n ≤ MOST_IMPROVEMENTS
+improvements_bound given n e = (number_bounds 0 MOST_IMPROVEMENTS (unwrap_or (first_of (codes "improvements") given) (codes "1000")) n e).1
 
-analysis_bounds : (given : List Row) (a : Analysis Text) → analysis_in given ≡ Some a → a.improvements ≤ 1000000
+analysis_bounds : (given : List Row) (a : Analysis Text) → analysis_in given ≡ Some a → a.improvements ≤ MOST_IMPROVEMENTS
 unfolding with_domain with_limit with_policy rows_in
 analysis_bounds given a e =
     let program = and_then_some (with_domain given) (first_of (codes "program") given) a e in
@@ -105,7 +106,7 @@ analysis_bounds given a e =
           policy;
     } in
     let policy = map_some made (policy_in given) a improvements.2 in
-    subst (λ (x : Analysis Text). x.improvements ≤ 1000000) policy.2
+    subst (λ (x : Analysis Text). x.improvements ≤ MOST_IMPROVEMENTS) policy.2
     (improvements_bound given improvements.0 improvements.1)
 
 -- ---- the commands
@@ -180,6 +181,12 @@ equations_range given r e =
     let policy = map_some made (policy_in given) r improvements.2 in
     subst (λ r. IsInRange r) policy.2 (improvements_bound given improvements.0 improvements.1)
 
+points_range : (given : List Row) (r : Request Text) → points_in given ≡ Some r → IsInRange r
+points_range given r e =
+    let made : Text → Request Text = λ program. Points program in
+    let p = map_some made (first_of (codes "program") given) r e in
+    subst (λ r. IsInRange r) p.2 tt
+
 if_range : (b : Bool) (x y : Option (Request Text)) (r : Request Text) → (x ≡ Some r → IsInRange r) → (y ≡ Some r → IsInRange r)
     → (if b then x else y) ≡ Some r → IsInRange r
 if_range true x y r h k e = h e
@@ -194,7 +201,8 @@ command_range (name, given) r e =
     (if_range (bytes_eq name (codes "upgrade")) (upgrade_in given) _ r (upgrade_range given r)
     (if_range (bytes_eq name (codes "prove")) (prove_in given) _ r (prove_range given r)
     (if_range (bytes_eq name (codes "transitions")) (transitions_in given) _ r (transitions_range given r)
-    (if_range (bytes_eq name (codes "equations")) (equations_in given) None r (equations_range given r) (λ h. absurd (none_some r h)))))))))
+    (if_range (bytes_eq name (codes "equations")) (equations_in given) _ r (equations_range given r)
+    (if_range (bytes_eq name (codes "points")) (points_in given) None r (points_range given r) (λ h. absurd (none_some r h))))))))))
     e
 
 unfaulted : (kinds : Kinds) (o : Option (Request Text)) (r : Request Text) → unless_fault kinds o ≡ Some r → o ≡ Some r

@@ -1,7 +1,7 @@
 -- Answers for want of memory, and answers over contents by another name.
 use Rattle.std.proofs.Common.{◌≡◌, ◌∙◌, ℕ, List, [], refl, sym, subst}
 use Rattle.top_answer.specs.Answers as answers
-use Rattle.top_answer.specs.Answers.{Answers, Ends, Holds, IsAnswer, IsMessage, IsOutput}
+use Rattle.top_answer.specs.Answers.{IsAnsweredBy, Ends, Holds, IsAnswer, IsMessage, IsOutput}
 use Rattle.top_answer.specs.Commands.{Commands}
 use Rattle.top_answer.specs.Limits.{named_text}
 use Rattle.top_run.specs.Parts.{IsAnswerTo}
@@ -48,7 +48,7 @@ for_memory commands m plain words contents status bytes message e none is =
 -- an answer over contents, by another name for them
 pub same_contents : (commands : Commands) (m : Meanings) (words contents others : List (List ℕ)) (status : Status) (bytes message : List ℕ)
     → contents ≡ others → IsAnswer commands words contents status → Holds (IsOutput commands words contents) status bytes
-    → ((ending : Status) → Ends commands words contents ending → Answers commands words contents ending status)
+    → ((ending : Status) → Ends commands words contents ending → IsAnsweredBy commands words contents ending status)
     → IsMessage m words contents status message → IsAnswerTo commands m words others status bytes message
 same_contents commands m words contents others status bytes message same answer output complete names =
     subst (λ texts. IsAnswerTo commands m words texts status bytes message) same

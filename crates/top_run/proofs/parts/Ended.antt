@@ -12,7 +12,7 @@ use Rattle.base_files.specs.Loads.{LoadedFile}
 use Rattle.base_files.specs.Puts.{AddsPieces}
 use Rattle.flow_systems.specs.declared.spot.Spot.{Spot}
 use Rattle.top_answer.specs.Answers as answers
-use Rattle.top_answer.specs.Answers.{Answers, Ends, Holds, IsAnswer, IsMessage, IsOutput}
+use Rattle.top_answer.specs.Answers.{IsAnsweredBy, Ends, Holds, IsAnswer, IsMessage, IsOutput}
 use Rattle.top_answer.specs.Commands.{Commands}
 use Rattle.top_run.proofs.parts.Answering.{placeless}
 use Rattle.top_run.proofs.parts.Failing.{failed_in}
@@ -80,7 +80,7 @@ module _ (commands : Commands) (lawful : EndsInside commands) (m : Meanings) (pl
   done_ends status d (answers.is_wide spot e h) = absurd (wide_done status spot e d)
   done_ends status d (answers.is_memory e) = absurd (memory_done status e d)
 
-  done_is : (ending status : Status) → status ≡ Done → Answers commands words (contents_of made) ending status → ending ≡ Done
+  done_is : (ending status : Status) → status ≡ Done → IsAnsweredBy commands words (contents_of made) ending status → ending ≡ Done
   done_is ending status d (answers.given e) = sym e ∙ d
   done_is ending status d (answers.no_memory e) = absurd (memory_done status e d)
   done_is ending status d (answers.too_wide spot e w r) = absurd (wide_done status spot e d)

@@ -16,7 +16,7 @@ use Rattle.ask_words.specs.declared.request.Request.TheVariants.{Analyse}
 use Rattle.base_files.specs.Faults.{Rose}
 use Rattle.flow_systems.specs.declared.spot.Spot.{Spot}
 use Rattle.top_answer.specs.Answers as answers
-use Rattle.top_answer.specs.Answers.{Answers, Asks, Ends, IsOfRounds, IsOutput, IsTooWide}
+use Rattle.top_answer.specs.Answers.{IsAnsweredBy, Asks, Ends, IsOfRounds, IsOutput, IsTooWide}
 use Rattle.top_answer.specs.Commands.{command_of}
 use Rattle.top_run.specs.Headline as headline
 use Rattle.top_run.specs.Headline.{Comes, IsAnalysed, IsGiven, IsHeadline, IsWideAt, Prints}

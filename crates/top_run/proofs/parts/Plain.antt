@@ -14,7 +14,7 @@ use Rattle.base_files.specs.Faults.{Rose, next_count}
 use Rattle.base_files.specs.Files.{Contents}
 use Rattle.base_files.specs.Loads.{LoadedFile}
 use Rattle.top_answer.specs.Answers as answers
-use Rattle.top_answer.specs.Answers.{Answers, Ends, IsAnswer, IsOutput}
+use Rattle.top_answer.specs.Answers.{IsAnsweredBy, Ends, IsAnswer, IsOutput}
 use Rattle.top_answer.specs.Commands.{Commands}
 use Rattle.top_run.specs.Loading as loading
 use Rattle.top_run.specs.Loading.{IsLoading}
@@ -212,15 +212,15 @@ module _ (commands : Commands) (m : Meanings) (words : List (List ℕ)) (shelf n
       (λ wanting. answers.is_memory wanting.0) (by_loading r.made r.loads)
 
   answers_given : (ending : Status) → run.IsGiven commands words (contents_of r.made) ending status
-      → Answers commands words (contents_of r.made) ending status
+      → IsAnsweredBy commands words (contents_of r.made) ending status
   answers_given ending (run.answered a) = a
   answers_given ending (run.unwritten w d) = absurd (written r.output w)
 
   -- each ending of the words over these files is answered
   pub complete : (ending : Status) → Ends commands words (contents_for files words) ending
-      → Answers commands words (contents_for files words) ending status
+      → IsAnsweredBy commands words (contents_for files words) ending status
   complete ending h = ⊎_elim
-      (λ same. subst (λ texts. Answers commands words texts ending status) same
+      (λ same. subst (λ texts. IsAnsweredBy commands words texts ending status) same
       (let back = subst (λ texts. Ends commands words texts ending) (sym same) h in
       answers_given ending (r.complete ending back).given))
       (λ wanting. answers.no_memory wanting.0) (by_loading r.made r.loads)

@@ -10,7 +10,7 @@ use Rattle.theory_chains.specs.Offers.{Best as MeantBest, First as MeantFirst}
 use Rattle.solve_rounds.proofs.chains.Improvements.{best_means, first_means, spent_law}
 use Rattle.solve_offers.specs.Policies.{by_best, by_first}
 use Rattle.top_texts.specs.Policies.{rule_of}
-use Rattle.top_texts.specs.Parted.{IsHalted}
+use Rattle.top_texts.specs.Outcomes.{IsHalted}
 use Rattle.top_texts.specs.Rounds.{RunsOut}
 use Rattle.top_texts.specs.Spots.{HasSpot}
 use Rattle.ask_words.specs.declared.request.Purpose.{Purpose}

@@ -25,7 +25,7 @@ use Rattle.solve_rounds.specs.declared.solution.Solved.{Solved}
 use Rattle.solve_rounds.specs.Solutions.{AreNumbered, IsSolved, cert_with, has_most, made_certificate}
 use Rattle.ask_words.specs.declared.request.Policy.{Policy}
 use Rattle.top_texts.specs.Checks.{IsCheckSpot, IsCompositionSpot, IsStopped, NoneIsWide, theirs}
-use Rattle.top_texts.specs.Parted.{IsHalted, IsRoundsCertificate, IsUnaccepted}
+use Rattle.top_texts.specs.Outcomes.{IsHalted, IsRoundsCertificate, IsUnaccepted}
 use Rattle.top_texts.specs.Policies.{rule_of}
 use Rattle.top_texts.specs.Spots.{HasSpot}
 use Rattle.ask_words.specs.declared.request.Purpose.TheVariants.{Certificate as AsCertificate}

@@ -1,6 +1,7 @@
 -- The system that is made of the flow of a program and of a template is theirs.
 use Rattle.std.proofs.Common.{◌≡◌, ◌∙◌, ◌*◌, ◌≤◌, ◌<◌, ℕ, List, length, sym, ap, subst}
 use Rattle.std.specs.Prelude.{ℤ, Ok}
+use Rattle.base_limits.specs.declared.limits.TheConstants.{MOST_CELLS}
 use Rattle.lang_tree.specs.Tree.{Statements}
 use Rattle.flow_edges.specs.Edges.{edges_of_program}
 use Rattle.flow_edges.specs.Points.{points_of_program}
@@ -9,7 +10,7 @@ use Rattle.flow_systems.specs.Cells.{cells_of}
 use Rattle.flow_systems.specs.View.{equations_of}
 use Rattle.flow_systems.specs.declared.system.System.{System}
 use Rattle.ask_words.specs.declared.request.Domain.{Domain}
-use Rattle.top_texts.specs.Parted.{IsRefusedBy}
+use Rattle.top_texts.specs.Outcomes.{IsRefusedBy}
 use Rattle.top_texts.specs.Rounds.{IsSystemFor}
 use Rattle.top_texts.specs.Texts.{HasTemplate, IsAnalysed, IsSolvedSystem, IsSystemOf, unknowns}
 use Rattle.top_texts.specs.declared.refusal.Refusal.{Refusal}
@@ -40,7 +41,7 @@ module _ (text : List ℕ) (rows : Domain (List ℕ)) (names : List (List ℕ)) 
   few = subst (λ ps. length ps * length template ≤ MOST_UNKNOWNS) points_are within
 
   -- a system with few enough cells is the solved system of the texts
-  pub solved_system : cells_of (equations_of s) ≤ 134217728 → IsSolvedSystem text rows s
+  pub solved_system : cells_of (equations_of s) ≤ MOST_CELLS → IsSolvedSystem text rows s
   solved_system h = record {
     names = names;
     body = body;
@@ -48,16 +49,16 @@ module _ (text : List ℕ) (rows : Domain (List ℕ)) (names : List (List ℕ)) 
     ready = record {
       system = system_of;
       within = few;
-      cells_within = subst (λ q. cells_of q ≤ 134217728)
+      cells_within = subst (λ q. cells_of q ≤ MOST_CELLS)
           (equations_are names body template s system_for) h;
     };
     system_for = system_for;
   }
 
   -- a system with too many cells is refused by their number
-  pub too_many_cells : 134217728 < cells_of (equations_of s) → (r : Refusal) → r ≡ refusal.Text (Cells (cells_of (equations_of s)))
+  pub too_many_cells : MOST_CELLS < cells_of (equations_of s) → (r : Refusal) → r ≡ refusal.Text (Cells (cells_of (equations_of s)))
       → IsRefusedBy text rows r
   too_many_cells h r e =
       let same = equations_are names body template s system_for in
       subst (λ x. IsRefusedBy text rows x) (sym e)
-      (names, body, template, system_of, few, subst (λ q. 134217728 < cells_of q) same h, ap cells_of same)
+      (names, body, template, system_of, few, subst (λ q. MOST_CELLS < cells_of q) same h, ap cells_of same)

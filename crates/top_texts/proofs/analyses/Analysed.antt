@@ -20,8 +20,9 @@ use Rattle.top_status.specs.CheckMessages.{rows_of}
 use Rattle.top_texts.specs.Checks.{NoneIsWide, system_with}
 use Rattle.top_texts.specs.Exact.{exact}
 use Rattle.top_status.specs.Messages.{line_in}
-use Rattle.top_texts.specs.Parted.{IsAnswerToSystem, IsHalted, IsOutputOf, IsRefusedBy, IsRoundsCertificate, IsRoundsReport, QuestionAnswer}
-use Rattle.top_texts.specs.Parted.{refused}
+use Rattle.top_texts.specs.Outcomes.{IsAnswerToSystem, IsHalted, IsOutputOf}
+use Rattle.top_texts.specs.Outcomes.{IsRefusedBy, IsRoundsCertificate, IsRoundsReport, QuestionAnswer}
+use Rattle.top_texts.specs.Outcomes.{refused}
 use Rattle.top_texts.specs.Questions.{analysis_question, rounds_end, rounds_spent}
 use Rattle.top_texts.specs.Reports.{IsCertificateOf, IsLeastReport, IsPutOf, IsReportOf}
 use Rattle.top_texts.specs.Rounds.{EndsWithin}

@@ -9,7 +9,7 @@ use Rattle.ask_words.specs.declared.request.Policy.{Policy}
 use Rattle.ask_words.specs.declared.request.Purpose.TheVariants.{Report}
 use Rattle.solve_rounds.specs.Solutions.{IsSolved}
 use Rattle.top_texts.specs.Analyses.{IsFoundIn, IsHaltedEnding, IsRefusedText, IsSolvedBy, IsUnput}
-use Rattle.top_texts.specs.Parted.{refused}
+use Rattle.top_texts.specs.Outcomes.{refused}
 use Rattle.top_texts.specs.Policies.{rule_of}
 use Rattle.top_texts.specs.Texts.{IsSolvedSystem}
 use Rattle.top_texts.specs.declared.analyse.least.LeastBounds.{LeastBounds}

@@ -5,7 +5,7 @@ use Rattle.ask_words.specs.declared.request.Domain.{Domain}
 use Rattle.ask_words.specs.declared.request.Policy.{Policy}
 use Rattle.ask_words.specs.declared.request.Purpose.{Purpose}
 use Rattle.top_texts.specs.Exact.{exact}
-use Rattle.top_texts.specs.Parted.{IsHalted, IsRefusedBy, IsUnanswered}
+use Rattle.top_texts.specs.Outcomes.{IsHalted, IsRefusedBy, IsUnanswered}
 use Rattle.top_texts.specs.Questions.{analysis_question}
 use Rattle.top_texts.specs.Texts.{IsSolvedSystem}
 use Rattle.top_texts.specs.declared.refusal.Refusal.{Refusal}

@@ -1,6 +1,7 @@
 -- The text of a generated program is its system, and is refused by no cause.
 use Rattle.std.proofs.Common.{◌≡◌, ◌∙◌, ℕ, ◌≤◌, List, length, refl, sym, ap, subst, arith}
 use Rattle.std.specs.Prelude.{ℤ, Ok, Result}
+use Rattle.base_limits.specs.declared.limits.TheConstants.{MOST_CELLS}
 use Rattle.lang_tree.specs.Tree.{Statements}
 use Rattle.flow_edges.specs.Edges.{edges_of_program}
 use Rattle.flow_edges.proofs.points.Numbering.{numbering}
@@ -20,7 +21,7 @@ use Rattle.out_workload.specs.Texts.{generated_text}
 use Rattle.ask_words.specs.declared.request.Domain.TheVariants.{Intervals}
 use Rattle.ask_words.specs.declared.request.Policy.TheVariants.{Best}
 use Rattle.top_texts.specs.Generated.{IsGenerated}
-use Rattle.top_texts.specs.Parted.{IsHalted, IsRefusedBy, IsUnanswered}
+use Rattle.top_texts.specs.Outcomes.{IsHalted, IsRefusedBy, IsUnanswered}
 use Rattle.top_texts.specs.Exact.{exact}
 use Rattle.top_texts.specs.Policies.{rule_of}
 use Rattle.top_texts.specs.Questions.{bench_question}
@@ -69,7 +70,7 @@ module _ (law : GeneratedTextsRead) (seed loops : ℕ) (few : loops ≤ 46) wher
       record {
         system = record { analysed = record { reading = reading; within = l.within }; template_is = refl };
         within = (let u = l.unknowns in omega arith);
-        cells_within = subst (λ n. n ≤ 134217728) cells_are l.cells;
+        cells_within = subst (λ n. n ≤ MOST_CELLS) cells_are l.cells;
       }
 
   -- the system of the text is that of the generated program
@@ -79,8 +80,11 @@ module _ (law : GeneratedTextsRead) (seed loops : ℕ) (few : loops ≤ 46) wher
       is.ready.system.analysed.reading reading in
       let rows : is.template ≡ intervals_of 3 = same_rows is.template (intervals_of 3)
       (is.ready.system.template_is ∙ ap (λ (p : List (List ℕ) × Statements). given (Ok (intervals_of (length p.0)))) same) in
-      subst (λ t. IsSystemFor generated_names (generated_body seed loops) t system) rows
-      (subst (λ (p : List (List ℕ) × Statements). IsSystemFor p.0 p.1 is.template system) same is.system_for)
+      record {
+        reading = reading;
+        system_for = subst (λ t. IsSystemFor generated_names (generated_body seed loops) t system) rows
+            (subst (λ (p : List (List ℕ) × Statements). IsSystemFor p.0 p.1 is.template system) same is.system_for);
+      }
 
   -- and the text is refused by no cause
   unrefused : (cause : TextCause) → IsRefused (generated_text seed loops) Intervals cause → ⊥
@@ -110,13 +114,13 @@ module _ (law : GeneratedTextsRead) (seed loops : ℕ) (few : loops ≤ 46) wher
       let made = generated system is in
       record {
         system = system;
-        system_for = made;
+        generated = made;
         rounds = solved.improvements;
         within = solution.within;
         has_rounds = solved_rounds system Best 1000 solved solution;
         vector = vector_of (length system.template) solved.bounds;
         least = subst (λ q. Least q (vector_of (length system.template) solved.bounds))
-            (equations_are generated_names (generated_body seed loops) (intervals_of 3) system made) least;
+            (equations_are generated_names (generated_body seed loops) (intervals_of 3) system made.system_for) least;
         summary = subst (λ n. bytes ≡ summary_of seed loops n system (vector_of (length system.template) solved.bounds) solved.improvements)
             size written;
       }

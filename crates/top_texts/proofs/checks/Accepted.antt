@@ -14,7 +14,7 @@ use Rattle.flow_systems.specs.View.{equations_of, vector_of}
 use Rattle.theory_validity.specs.Certificates.{ValidCertificate, bounds_vector}
 use Rattle.cert_types.specs.declared.cert.Cert.{Cert}
 use Rattle.top_texts.specs.Checks.{IsSpelt, NoneIsWide, system_with, theirs}
-use Rattle.top_texts.specs.Parted.{FitsProgram, IsUnaccepted}
+use Rattle.top_texts.specs.Outcomes.{FitsProgram, IsUnaccepted}
 use Rattle.top_texts.specs.Reports.{IsLeastReport, IsReportBy}
 use Rattle.top_texts.proofs.analyse.Solved.{least_report, same_equations}
 use Rattle.top_texts.specs.declared.refusal.Refusal.{Refusal}

@@ -17,8 +17,8 @@ use Rattle.ask_words.specs.declared.request.Domain.{Domain}
 use Rattle.top_texts.specs.Checks.{IsSpelt, IsSystemWith, system_with, theirs}
 use Rattle.top_status.specs.CheckMessages.{rows_in}
 use Rattle.top_status.specs.Messages.{line_in}
-use Rattle.top_texts.specs.Parted.{GetsNoReport, IsAnswerToCheck, IsMisspelt, IsNoSystem, IsRefusedBy, IsUnaccepted, IsUnread, IsUnspelt}
-use Rattle.top_texts.specs.Parted.{refused}
+use Rattle.top_texts.specs.Outcomes.{GetsNoReport, IsAnswerToCheck, IsMisspelt, IsNoSystem, IsRefusedBy, IsUnaccepted, IsUnread, IsUnspelt}
+use Rattle.top_texts.specs.Outcomes.{refused}
 use Rattle.top_texts.specs.Texts.{IsAnalysed}
 use Rattle.top_texts.specs.declared.refusal.Refusal.{Refusal}
 use Rattle.top_texts.specs.declared.refusal.Refusal.TheVariants as refusal

@@ -26,7 +26,7 @@ use Rattle.ask_words.specs.declared.request.Policy.{Policy}
 use Rattle.ask_words.specs.declared.request.Purpose.TheVariants.{Report}
 use Rattle.top_texts.specs.ClaimTexts.{AreClaimsOf, AreNoClaims, AreVerdictsOf, IsClaimedSystem}
 use Rattle.top_texts.specs.Exact.{exact}
-use Rattle.top_texts.specs.Parted.{AreUnjudged, IsHalted, IsRefusedBy, IsUnanswered}
+use Rattle.top_texts.specs.Outcomes.{AreUnjudged, IsHalted, IsRefusedBy, IsUnanswered}
 use Rattle.top_texts.specs.Policies.{rule_of}
 use Rattle.top_texts.specs.Questions.{QuestionEnds, claims_question, rounds_end}
 use Rattle.top_texts.specs.Texts.{IsRefused, IsSolvedSystem}

@@ -20,7 +20,7 @@ use Rattle.solve_rounds.specs.declared.solution.Solved.{Solved}
 use Rattle.ask_words.specs.declared.request.Policy.{Policy}
 use Rattle.ask_words.specs.declared.request.Purpose.TheVariants.{Report}
 use Rattle.top_texts.specs.EquationTexts.{AreValuesOf, IsEquationSystem}
-use Rattle.top_texts.specs.Parted.{IsHalted, IsUnanswered}
+use Rattle.top_texts.specs.Outcomes.{IsHalted, IsUnanswered}
 use Rattle.top_texts.specs.Exact.{exact}
 use Rattle.top_texts.specs.Policies.{rule_of}
 use Rattle.top_texts.specs.Questions.{QuestionEnds, equations_question, rounds_end}

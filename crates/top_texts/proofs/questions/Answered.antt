@@ -3,7 +3,7 @@ use Rattle.std.proofs.Common.{◌≡◌, sym, ap, subst}
 use Rattle.flow_systems.specs.declared.spot.Spot.{Spot}
 use Rattle.flow_systems.specs.declared.system.System.{System}
 use Rattle.ask_words.specs.declared.request.Purpose.{Purpose}
-use Rattle.top_texts.specs.Parted.{IsHalted, IsUnanswered, QuestionAnswer, refused}
+use Rattle.top_texts.specs.Outcomes.{IsHalted, IsUnanswered, QuestionAnswer, refused}
 use Rattle.top_texts.specs.Questions.{Question, rounds_spent}
 use Rattle.top_texts.specs.Spots.{HasSpot}
 use Rattle.top_texts.specs.declared.refusal.Refusal.{Refusal}

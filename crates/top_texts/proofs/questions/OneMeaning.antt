@@ -28,8 +28,8 @@ analysis_once purpose text rows policy limit = record {
 -- the systems of a generated program have the same equations
 generated_once : (seed loops : ℕ) (s t : System) → IsGenerated seed loops s → IsGenerated seed loops t → equations_of s ≡ equations_of t
 generated_once seed loops s t is js =
-    equations_are generated_names (generated_body seed loops) (intervals_of 3) s is
-    ∙ sym (equations_are generated_names (generated_body seed loops) (intervals_of 3) t js)
+    equations_are generated_names (generated_body seed loops) (intervals_of 3) s is.system_for
+    ∙ sym (equations_are generated_names (generated_body seed loops) (intervals_of 3) t js.system_for)
 
 -- the question of a generated program has one meaning
 pub bench_once : (seed loops : ℕ) → HasOneMeaning (bench_question exact seed loops)

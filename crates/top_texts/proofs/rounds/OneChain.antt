@@ -19,7 +19,7 @@ use Rattle.solve_rounds.specs.Solutions.{IsSolved}
 use Rattle.solve_rounds.specs.declared.solution.Solved.{Solved}
 use Rattle.ask_words.specs.declared.request.Policy.{Policy}
 use Rattle.ask_words.specs.declared.request.Policy.TheVariants.{Best, First}
-use Rattle.top_texts.specs.Parted.{IsRoundsReport}
+use Rattle.top_texts.specs.Outcomes.{IsRoundsReport}
 use Rattle.top_texts.specs.Policies.{rule_of}
 use Rattle.top_texts.specs.Rounds.{EndsWithin, HasRounds, RunsOut, chosen_by}
 

@@ -1,6 +1,8 @@
--- Texts are refused by one cause, or mean a system: by stages, each of which has one cause or goes on to the next.
+-- Texts are refused by one cause, or mean a system: by stages, each of which has one cause or goes on to the next. The text of a program
+-- alone is refused by one cause, or has one list of points.
 use Rattle.std.proofs.Common.{◌≡◌, ◌≤◌, ◌<◌, ℕ, List, length, refl, sym, ap, ◌∙◌, subst, arith}
 use Rattle.std.specs.Prelude.{ℤ, Option, Ok, Err, Some, None}
+use Rattle.base_limits.specs.declared.limits.TheConstants.{MOST_CELLS}
 use Rattle.lang_tokens.specs.declared.fault.LexFault.{LexFault}
 use Rattle.lang_tokens.specs.Faults.{HasFault}
 use Rattle.lang_tokens.proofs.reading.Once.{one_text_fault, no_fault}
@@ -8,14 +10,18 @@ use Rattle.lang_meaning.specs.declared.fault.ParseFault.{ParseFault}
 use Rattle.lang_tree.specs.Tree.{Statements}
 use Rattle.flow_edges.specs.declared.fault.FlowFault.{FlowFault}
 use Rattle.flow_edges.specs.Faults.{fault_of_program}
+use Rattle.flow_edges.specs.Points.{points_of_program}
 use Rattle.flow_templates.specs.declared.fault.RowFault.{RowFault}
 use Rattle.flow_systems.specs.declared.system.System.{System}
 use Rattle.flow_systems.specs.Solutions.{equations_of_program}
 use Rattle.flow_systems.specs.View.{equations_of}
+use Rattle.out_report.specs.Heads.{head_lines}
 use Rattle.ask_words.specs.declared.request.Domain.{Domain}
+use Rattle.ask_words.specs.declared.request.Domain.TheVariants.{Intervals}
+use Rattle.top_texts.specs.PointTexts.{ArePointsOf}
 use Rattle.top_texts.specs.Rounds.{IsSystemFor}
 use Rattle.top_texts.proofs.analyse.Solved.{same_equations}
-use Rattle.top_texts.specs.Texts.{HasTemplate, IsReady, IsRefused, IsSolvedSystem, Reading, cells, unknowns}
+use Rattle.top_texts.specs.Texts.{HasTemplate, IsAnalysed, IsReady, IsRefused, IsRefusedProgram, IsSolvedSystem, Reading, cells, unknowns}
 use Rattle.top_texts.proofs.texts.Readings.{program_once, fault_once, not_both, rows_once, row_fault_once, not_rows}
 use Rattle.top_status.specs.declared.status.TextCause.{TextCause}
 use Rattle.top_status.specs.declared.status.TextCause.TheVariants.{Lex, Parse, Flow, Rows, Unknowns, Cells, Claims, Equ, Auto}
@@ -32,9 +38,9 @@ equations_are names body template s is =
 
 data LastStage (names : List (List ℕ)) (body : Statements) (template : List (List ℤ)) (o : Option TextCause) : Type 0 where
   many : MOST_UNKNOWNS < unknowns body template → o ≡ Some (Unknowns (unknowns body template)) → LastStage names body template o
-  big : unknowns body template ≤ MOST_UNKNOWNS → 134217728 < cells names body template → o ≡ Some (Cells (cells names body template))
+  big : unknowns body template ≤ MOST_UNKNOWNS → MOST_CELLS < cells names body template → o ≡ Some (Cells (cells names body template))
       → LastStage names body template o
-  few : unknowns body template ≤ MOST_UNKNOWNS → cells names body template ≤ 134217728 → o ≡ None → LastStage names body template o
+  few : unknowns body template ≤ MOST_UNKNOWNS → cells names body template ≤ MOST_CELLS → o ≡ None → LastStage names body template o
 
 last_once : (names : List (List ℕ)) (body : Statements) (template : List (List ℤ)) (o p : Option TextCause)
     → LastStage names body template o → LastStage names body template p → o ≡ p
@@ -151,3 +157,43 @@ solved_once text rows s t a b =
     ∙ ap (λ (p : List (List ℕ) × Statements). equations_of_program (length p.0) p.1 a.template) same
     ∙ ap (λ r. equations_of_program (length b.names) b.body r) template
     ∙ sym (equations_are b.names b.body b.template t b.system_for)
+
+-- ---- the text of a program alone
+
+-- what refuses the text of a program refuses it over every template
+refused_over : (text : List ℕ) (rows : Domain (List ℕ)) (c : TextCause) → IsRefusedProgram text c → IsRefused text rows c
+refused_over text rows (Lex f) h = h
+refused_over text rows (Parse f) h = h
+refused_over text rows (Flow f) h = h
+refused_over text rows (Rows f) h = absurd h
+refused_over text rows (Unknowns count) h = absurd h
+refused_over text rows (Cells count) h = absurd h
+refused_over text rows (Claims f) h = absurd h
+refused_over text rows (Equ f) h = absurd h
+refused_over text rows (Auto f) h = absurd h
+
+-- the text of a program is refused by one cause
+pub program_refused_once : (text : List ℕ) (c d : TextCause) → IsRefusedProgram text c → IsRefusedProgram text d → c ≡ d
+program_refused_once text c d h k = refused_once text Intervals c d (refused_over text Intervals c h) (refused_over text Intervals d k)
+
+-- a text that is a program within the limits isn't refused
+pub analysed_unrefused : (text : List ℕ) (names : List (List ℕ)) (body : Statements) (c : TextCause) → IsRefusedProgram text c
+    → IsAnalysed text names body → ⊥
+analysed_unrefused text names body (Lex f) h a = let (ts, r, m) = a.reading in no_fault text ts f r h
+analysed_unrefused text names body (Parse f) h a = not_both text f (names, body) h a.reading
+analysed_unrefused text names body (Flow f) (others, other, h, e) a =
+    some_none f (fault_of_program body)
+    (subst (λ (p : List (List ℕ) × Statements). fault_of_program p.1 ≡ Some f)
+    (program_once text (others, other) (names, body) h a.reading) e) a.within
+analysed_unrefused text names body (Rows f) h a = absurd h
+analysed_unrefused text names body (Unknowns count) h a = absurd h
+analysed_unrefused text names body (Cells count) h a = absurd h
+analysed_unrefused text names body (Claims f) h a = absurd h
+analysed_unrefused text names body (Equ f) h a = absurd h
+analysed_unrefused text names body (Auto f) h a = absurd h
+
+-- a text has one list of points
+pub points_once : (text one other : List ℕ) → ArePointsOf text one → ArePointsOf text other → one ≡ other
+points_once text one other a b =
+    a.heads ∙ ap (λ (p : List (List ℕ) × Statements). head_lines 0 (points_of_program p.1))
+    (program_once text (a.names, a.body) (b.names, b.body) a.analysed.reading b.analysed.reading) ∙ sym b.heads

@@ -1,6 +1,7 @@
 -- The texts of a transition system and of its rows are refused by one cause, or mean systems with the same equations.
 use Rattle.std.proofs.Common.{◌≡◌, ◌∙◌, ◌≤◌, ◌<◌, ◌*◌, inl, inr, ℕ, List, length, refl, sym, ap, subst, arith}
 use Rattle.std.specs.Prelude.{ℤ, Option, Some, None, Ok, Err}
+use Rattle.base_limits.specs.declared.limits.TheConstants.{MOST_CELLS}
 use Rattle.flow_transitions.specs.declared.fault.AutoFault.{AutoFault}
 use Rattle.flow_transitions.specs.AutoFaults.{fault_of}
 use Rattle.flow_transitions.specs.AutoReading.{AutoAnswer, Content}
@@ -39,9 +40,9 @@ cells_along c template = cells_of (along c template)
 data LastStage (c : Content) (template : List (List ℤ)) (o : Option TextCause) : Type 0 where
   many : MOST_UNKNOWNS < length c.points * length template → o ≡ Some (Unknowns (length c.points * length template))
       → LastStage c template o
-  big : length c.points * length template ≤ MOST_UNKNOWNS → 134217728 < cells_along c template → o ≡ Some (Cells (cells_along c template))
+  big : length c.points * length template ≤ MOST_UNKNOWNS → MOST_CELLS < cells_along c template → o ≡ Some (Cells (cells_along c template))
       → LastStage c template o
-  few : length c.points * length template ≤ MOST_UNKNOWNS → cells_along c template ≤ 134217728 → o ≡ None → LastStage c template o
+  few : length c.points * length template ≤ MOST_UNKNOWNS → cells_along c template ≤ MOST_CELLS → o ≡ None → LastStage c template o
 
 above_and_below : (n most : ℕ) → most < n → n ≤ most → ⊥
 above_and_below n most h k = omega arith

@@ -1,9 +1,11 @@
 -- The system that is made of the flow of a transition system and of a template is theirs, and so is its report.
 use Rattle.std.proofs.Common.{◌≡◌, ◌∙◌, ◌*◌, ◌≤◌, ◌<◌, ℕ, List, length, refl, sym, ap, subst}
 use Rattle.std.specs.Prelude.{ℤ, None, Ok}
+use Rattle.base_limits.specs.declared.limits.TheConstants.{MOST_CELLS}
 use Rattle.flow_transitions.specs.declared.auto.Auto.{Auto}
 use Rattle.flow_transitions.specs.AutoFaults.{fault_of}
-use Rattle.flow_transitions.specs.AutoLaws.{PostSolutionsHoldAlong, equations_of_auto}
+use Rattle.flow_transitions.specs.AutoLaws.{PostSolutionsHoldAlong}
+use Rattle.flow_transitions.specs.AutoSystem.{equations_of_auto}
 use Rattle.flow_transitions.specs.AutoTexts.{IsAuto, content}
 use Rattle.flow_transitions.specs.Choices.{edges_of}
 use Rattle.flow_edges.specs.declared.edge.Edge.{Edge}
@@ -19,7 +21,7 @@ use Rattle.flow_systems.specs.declared.system.System.{System}
 use Rattle.ask_words.specs.declared.request.Domain.{Domain}
 use Rattle.ask_words.specs.declared.request.Policy.{Policy}
 use Rattle.top_texts.specs.Exact.{exact}
-use Rattle.top_texts.specs.Parted.{IsRefusedAlong, IsRoundsReport, IsUnanswered}
+use Rattle.top_texts.specs.Outcomes.{IsRefusedAlong, IsRoundsReport, IsUnanswered}
 use Rattle.top_texts.specs.Questions.{QuestionEnds, rounds_end, transitions_question}
 use Rattle.top_texts.specs.Texts.{HasTemplate}
 use Rattle.top_texts.specs.TransitionTexts.{IsAutoOver, IsAutoReport, IsAutoText, IsTransitionSystem}
@@ -76,13 +78,13 @@ module _ (text : List ℕ) (rows : Domain (List ℕ)) (auto : Auto) (flow : Flow
     few_points = subst (λ ps. length ps * length template ≤ MOST_UNKNOWNS) points_are few
 
     -- a system with few enough cells is that of the texts
-    pub transition_system : cells_of (equations_of s) ≤ 134217728 → IsTransitionSystem text rows s
+    pub transition_system : cells_of (equations_of s) ≤ MOST_CELLS → IsTransitionSystem text rows s
     transition_system h = record {
       auto = auto;
       template = template;
       over = over;
       within = few_points;
-      cells_within = subst (λ q. cells_of q ≤ 134217728) same h;
+      cells_within = subst (λ q. cells_of q ≤ MOST_CELLS) same h;
       names_are = ap (λ (f : Flow). f.names) flow_is ∙ names_are;
       points_are = ap (λ (f : Flow). f.points) flow_is ∙ points_are;
       edges_are = ap (λ (f : Flow). f.edges) flow_is ∙ edges_are;
@@ -90,11 +92,11 @@ module _ (text : List ℕ) (rows : Domain (List ℕ)) (auto : Auto) (flow : Flow
     }
 
     -- a system with too many cells is refused by their number
-    pub too_large : 134217728 < cells_of (equations_of s) → (r : Refusal) → r ≡ refusal.Text (Cells (cells_of (equations_of s)))
+    pub too_large : MOST_CELLS < cells_of (equations_of s) → (r : Refusal) → r ≡ refusal.Text (Cells (cells_of (equations_of s)))
         → IsRefusedAlong text rows r
     too_large h r e =
         subst (λ x. IsRefusedAlong text rows x) (sym e)
-        (auto, template, over, few_points, subst (λ q. 134217728 < cells_of q) same h, ap cells_of same)
+        (auto, template, over, few_points, subst (λ q. MOST_CELLS < cells_of q) same h, ap cells_of same)
 
 -- ---- what is refused before there is a system isn't answered
 

@@ -1,17 +1,19 @@
 //! The certificate that the rounds over a system make.
 
 ghost use Rattle.std.specs.Prelude.{◌≡◌, ◌≤◌, ◌++◌, IfOk, IfErr, IsTrue, OnOk};
+ghost use Rattle.base_limits.specs.declared.limits.TheConstants.{MOST_CELLS, MOST_IMPROVEMENTS};
 ghost use Rattle.flow_templates.specs.Rows.{is_template};
 ghost use Rattle.flow_systems.specs.Cells.{cells_of};
 ghost use Rattle.flow_systems.specs.View.{equations_of};
 ghost use Rattle.solve_rounds.specs.Solutions.{cert_with};
-ghost use Rattle.top_texts.specs.Parted.{IsHalted, IsRoundsCertificate};
+ghost use Rattle.top_texts.specs.Outcomes.{IsHalted, IsRoundsCertificate};
 ghost use Rattle.ask_words.specs.declared.request.Purpose.TheVariants.{Certificate};
 
 use super::rounds::solve;
 use crate::check::accept::accept;
 use crate::refusal::Refusal;
 use ask_words::Policy;
+use base_watch::Watch;
 use cert_text::write;
 use cert_types::{Cert, Rows};
 use flow_systems::System;
@@ -58,18 +60,19 @@ fn cert_of(alloc: Global, system: &System, solved: Solved) -> Result<Cert, Alloc
 /// # Errors
 ///
 /// Those of `report_of`; a wide operation may be one of the check of the certificate, too.
-pub fn certificate_of(
+pub fn certificate_of<W: Watch>(
     alloc: Global,
     system: &System,
     policy: Policy,
     limit: u32,
+    watch: &mut W,
 ) -> Result<Vec<u8>, Refusal>
-    requires limit { limit ≤ 1000000 }
-    requires cells { cells_of (equations_of system.now) ≤ 134217728 }
+    requires limit { limit ≤ MOST_IMPROVEMENTS }
+    requires cells { cells_of (equations_of system.now) ≤ MOST_CELLS }
     ensures ok { IfOk result (λ bytes. IsRoundsCertificate system.now policy limit bytes.items) }
     ensures err { IfErr result (λ refusal. IsHalted Certificate system.now policy limit refusal) }
 {
-    let solved = solve(alloc, system, policy, limit)?;
+    let solved = solve(alloc, system, policy, limit, watch)?;
     let cert = cert_of(alloc, system, solved)?;
     accept(alloc, system, &cert)?;
     Ok(write(alloc, &cert)?)

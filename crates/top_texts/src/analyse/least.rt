@@ -1,6 +1,7 @@
 //! The least bounds of the program of a text, for other outputs than its report.
 
 ghost use Rattle.std.specs.Prelude.{◌≡◌, ◌≤◌, IfOk, IfErr, length};
+ghost use Rattle.base_limits.specs.declared.limits.TheConstants.{MOST_CELLS, MOST_IMPROVEMENTS, MOST_TEXT_BYTES};
 ghost use Rattle.flow_systems.specs.Cells.{cells_of};
 ghost use Rattle.flow_systems.specs.View.{equations_of};
 ghost use Rattle.top_texts.specs.Analyses.{IsFoundIn, IsHaltedEnding, IsRefusedText, IsSolvedBy};
@@ -11,6 +12,7 @@ use super::rounds::solve;
 use super::system::system_on;
 use crate::refusal::refused;
 use ask_words::{Domain, Policy};
+use base_watch::Watch;
 use flow_systems::System;
 use solve_rounds::Solved;
 use std::alloc::Global;
@@ -24,18 +26,19 @@ pub struct LeastBounds {
 }
 
 // The least bounds of a system; or the ending where there are none.
-fn least_of(
+fn least_of<W: Watch>(
     alloc: Global,
     system: System,
     policy: Policy,
     limit: u32,
+    watch: &mut W,
 ) -> Result<LeastBounds, Ending>
-    requires limit { limit ≤ 1000000 }
-    requires cells { cells_of (equations_of system) ≤ 134217728 }
+    requires limit { limit ≤ MOST_IMPROVEMENTS }
+    requires cells { cells_of (equations_of system) ≤ MOST_CELLS }
     ensures ok { IfOk result (IsSolvedBy system policy limit) }
     ensures err { IfErr result (IsHaltedEnding system policy limit) }
 {
-    match solve(alloc, &system, policy, limit) {
+    match solve(alloc, &system, policy, limit, watch) {
         Ok(solved) => Ok(LeastBounds { system, solved }),
         Err(refusal) => {
             let status = refused(refusal);
@@ -54,21 +57,22 @@ fn least_of(
 /// # Errors
 ///
 /// The ending that the report of the text has where there are none, with what its message names.
-pub fn least_on(
+pub fn least_on<W: Watch>(
     alloc: Global,
     text: &[u8],
     rows: Domain<&[u8]>,
     policy: Policy,
     limit: u32,
+    watch: &mut W,
 ) -> Result<LeastBounds, Ending>
-    requires short { length text.now ≤ 65536 }
+    requires short { length text.now ≤ MOST_TEXT_BYTES }
     requires short_rows { HasShortRows (domain_text rows) }
-    requires limit { limit ≤ 1000000 }
+    requires limit { limit ≤ MOST_IMPROVEMENTS }
     ensures ok { IfOk result (IsFoundIn text.now (domain_text rows.entry) policy limit) }
     ensures err { IfErr result (IsRefusedText text.now (domain_text rows.entry) policy limit) }
 {
     match system_on(alloc, text, rows) {
-        Ok(system) => least_of(alloc, system, policy, limit),
+        Ok(system) => least_of(alloc, system, policy, limit, watch),
         Err(refusal) => {
             let status = refused(refusal);
             let line = answer_line(text, &status);

@@ -1,6 +1,7 @@
 //! The rounds over a system, and the report of their solution.
 
 ghost use Rattle.std.specs.Prelude.{◌≡◌, ◌≤◌, ◌*◌, ℕ, IfOk, IfErr, length};
+ghost use Rattle.base_limits.specs.declared.limits.TheConstants.{MOST_CELLS, MOST_IMPROVEMENTS};
 ghost use Rattle.flow_systems.specs.Cells.{cells_of};
 ghost use Rattle.flow_systems.specs.Equations.{Least};
 ghost use Rattle.flow_systems.specs.View.{equations_of, vector_of};
@@ -11,20 +12,27 @@ ghost use Rattle.solve_rounds.specs.Halts.{IsHalt};
 ghost use Rattle.solve_rounds.specs.Solutions.{AreNumbered, IsSolved, cert_with, made_certificate};
 ghost use Rattle.ask_words.specs.declared.request.Policy.{Policy as PolicyValue};
 ghost use Rattle.ask_words.specs.declared.request.Purpose.{Purpose};
-ghost use Rattle.top_texts.specs.Parted.{IsHalted, IsRoundsReport};
+ghost use Rattle.top_texts.specs.Outcomes.{IsHalted, IsRoundsReport};
 ghost use Rattle.top_texts.specs.Policies.{rule_of};
 
 use crate::refusal::Refusal;
 use ask_words::Policy;
+use base_watch::Watch;
 use flow_systems::{Footer, System};
 use out_report::report;
 use solve_rounds::{Halt, Solved, least_by_best, least_by_first};
 use std::alloc::Global;
 
 // The rounds over a system by a policy.
-fn rounds_by(alloc: Global, system: &System, policy: Policy, limit: u32) -> Result<Solved, Halt>
-    requires limit { limit ≤ 1000000 }
-    requires cells { cells_of (equations_of system.now) ≤ 134217728 }
+fn rounds_by<W: Watch>(
+    alloc: Global,
+    system: &System,
+    policy: Policy,
+    limit: u32,
+    watch: &mut W,
+) -> Result<Solved, Halt>
+    requires limit { limit ≤ MOST_IMPROVEMENTS }
+    requires cells { cells_of (equations_of system.now) ≤ MOST_CELLS }
     ensures solved { IfOk result (IsSolved system.now (rule_of policy) limit) }
     ensures least { IfOk result (λ solved. Least (equations_of system.now) (vector_of (length system.now.template) solved.bounds)) }
     ensures valid { IfOk result (λ solved. ValidCertificate (equations_of system.now) (made_certificate system.now solved)) }
@@ -33,8 +41,8 @@ fn rounds_by(alloc: Global, system: &System, policy: Policy, limit: u32) -> Resu
     ensures halt { IfErr result (IsHalt system.now (rule_of policy) limit) }
 {
     match policy {
-        Policy::Best => least_by_best(alloc, system, limit),
-        Policy::First => least_by_first(alloc, system, limit),
+        Policy::Best => least_by_best(alloc, system, limit, watch),
+        Policy::First => least_by_first(alloc, system, limit, watch),
     }
 }
 
@@ -52,14 +60,15 @@ fn halted(halt: Halt, limit: u32) -> Refusal
 }
 
 // The least bounds of a system, by rounds of a policy.
-pub(crate) fn solve(
+pub(crate) fn solve<W: Watch>(
     alloc: Global,
     system: &System,
     policy: Policy,
     limit: u32,
+    watch: &mut W,
 ) -> Result<Solved, Refusal>
-    requires limit { limit ≤ 1000000 }
-    requires cells { cells_of (equations_of system.now) ≤ 134217728 }
+    requires limit { limit ≤ MOST_IMPROVEMENTS }
+    requires cells { cells_of (equations_of system.now) ≤ MOST_CELLS }
     ensures solved { IfOk result (IsSolved system.now (rule_of policy) limit) }
     ensures least { IfOk result (λ solved. Least (equations_of system.now) (vector_of (length system.now.template) solved.bounds)) }
     ensures count { IfOk result (λ solved. length solved.bounds ≡ length system.now.flow.points * length system.now.template) }
@@ -68,7 +77,7 @@ pub(crate) fn solve(
     ensures numbered { IfOk result (λ solved. AreNumbered system.now solved.steps) }
     ensures err { IfErr result (λ refusal. (purpose : Purpose) → IsHalted purpose system.now policy limit refusal) }
 {
-    match rounds_by(alloc, system, policy, limit) {
+    match rounds_by(alloc, system, policy, limit, watch) {
         Ok(solved) => Ok(solved),
         Err(halt) => Err(halted(halt, limit)),
     }
@@ -80,18 +89,19 @@ pub(crate) fn solve(
 ///
 /// Improvements that are spent, a wide operation, or want of memory.
 #[tactic(auto, using(crate::proofs::rounds::OneChain::rounds_report))]
-pub fn report_of(
+pub fn report_of<W: Watch>(
     alloc: Global,
     system: &System,
     policy: Policy,
     limit: u32,
+    watch: &mut W,
 ) -> Result<Vec<u8>, Refusal>
-    requires limit { limit ≤ 1000000 }
-    requires cells { cells_of (equations_of system.now) ≤ 134217728 }
+    requires limit { limit ≤ MOST_IMPROVEMENTS }
+    requires cells { cells_of (equations_of system.now) ≤ MOST_CELLS }
     ensures ok { IfOk result (λ bytes. IsRoundsReport system.now policy limit bytes.items) }
     ensures err { IfErr result (λ refusal. (purpose : Purpose) → IsHalted purpose system.now policy limit refusal) }
 {
-    let solved = solve(alloc, system, policy, limit)?;
+    let solved = solve(alloc, system, policy, limit, watch)?;
     Ok(report(
         alloc,
         system,

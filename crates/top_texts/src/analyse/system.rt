@@ -1,6 +1,7 @@
 //! The system of the texts of a program and of its rows.
 
 ghost use Rattle.std.specs.Prelude.{◌≡◌, ◌*◌, ◌≤◌, ◌<◌, ◌≢◌, ℕ, List, IfOk, IfErr, IsTrue, Ok, Err, length};
+ghost use Rattle.base_limits.specs.declared.limits.TheConstants.{MOST_CELLS, MOST_TEXT_BYTES};
 ghost use Rattle.lang_tree.specs.Tree.{Statements};
 ghost use Rattle.flow_templates.specs.declared.fault.RowFault.TheVariants.{NoMemory};
 ghost use Rattle.flow_systems.specs.Cells.{cells_of};
@@ -10,7 +11,7 @@ ghost use Rattle.ask_words.specs.declared.request.Domain.{Domain as DomainValue}
 ghost use Rattle.top_status.specs.declared.status.TextCause.TheVariants.{Cells, Unknowns};
 ghost use Rattle.top_texts.specs.Short.{HasShortRows};
 ghost use Rattle.ask_words.specs.Request.{domain_text};
-ghost use Rattle.top_texts.specs.Parted.{IsRefusedBy};
+ghost use Rattle.top_texts.specs.Outcomes.{IsRefusedBy};
 ghost use Rattle.top_texts.specs.Texts.{HasTemplate, IsAnalysed, IsSolvedSystem};
 ghost use Rattle.flow_systems.specs.declared.limits.TheConstants.{MOST_UNKNOWNS};
 
@@ -18,15 +19,13 @@ use super::template::template_of;
 use crate::program::{flow_of, program_of};
 use crate::refusal::Refusal;
 use ask_words::Domain;
+use base_limits::MOST_CELLS;
 use flow_edges::Flow;
 use flow_systems::{System, SystemFault};
 use flow_templates::{RowFault, Template};
 use lang_tree::Program;
 use std::alloc::Global;
 use top_status::TextCause;
-
-// How many cells the largest joint problem may have.
-const MOST_CELLS: u64 = 134217728;
 
 // The refusal of rows that have this fault.
 fn row_refusal(fault: RowFault) -> Refusal
@@ -70,8 +69,8 @@ pub(crate) fn system_of(flow: Flow, template: Template) -> Result<System, Refusa
 
 // Whether the joint problems of a system have few enough cells.
 pub(crate) fn count_cells(system: &System) -> Result<(), Refusal>
-    ensures within { IfOk result (λ _. cells_of (equations_of system.now) ≤ 134217728) }
-    ensures above { IfErr result (λ _. 134217728 < cells_of (equations_of system.now)) }
+    ensures within { IfOk result (λ _. cells_of (equations_of system.now) ≤ MOST_CELLS) }
+    ensures above { IfErr result (λ _. MOST_CELLS < cells_of (equations_of system.now)) }
     ensures count { IfErr result (λ refusal. refusal ≡ Refusal.Text (Cells (cells_of (equations_of system.now)))) }
 {
     let cells = system.cells();
@@ -87,10 +86,10 @@ pub(crate) fn count_cells(system: &System) -> Result<(), Refusal>
 ///
 /// The first cause that stands: a fault of the text or of the rows, or too many unknowns or cells; or want of memory.
 pub fn system_on(alloc: Global, text: &[u8], rows: Domain<&[u8]>) -> Result<System, Refusal>
-    requires short { length text.now ≤ 65536 }
+    requires short { length text.now ≤ MOST_TEXT_BYTES }
     requires short_rows { HasShortRows (domain_text rows) }
     ensures ok { IfOk result (λ system. IsSolvedSystem text.now (domain_text rows.entry) system) }
-    ensures cells { IfOk result (λ system. cells_of (equations_of system) ≤ 134217728) }
+    ensures cells { IfOk result (λ system. cells_of (equations_of system) ≤ MOST_CELLS) }
     ensures err { IfErr result (λ refusal. IsRefusedBy text.now (domain_text rows.entry) refusal) }
 {
     let program = program_of(alloc, text)?;

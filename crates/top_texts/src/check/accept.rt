@@ -13,7 +13,7 @@ ghost use Rattle.cert_checker.specs.CheckEvents.{check_events};
 ghost use Rattle.cert_checker.specs.Events.{first_stop};
 ghost use Rattle.cert_checker.specs.Items.{is_short};
 ghost use Rattle.top_texts.specs.Checks.{IsSpelt, NoneIsWide, theirs};
-ghost use Rattle.top_texts.specs.Parted.{GetsNoReport, IsUnaccepted};
+ghost use Rattle.top_texts.specs.Outcomes.{GetsNoReport, IsUnaccepted};
 ghost use Rattle.top_texts.specs.Reports.{IsReportBy};
 
 use super::certificate::{is_countable, system_of};

@@ -4,6 +4,7 @@
 ghost use Rattle.std.specs.Prelude.{◌≡◌, ◌*◌, ◌≤◌, ◌<◌, ◌^◌, ◌≢◌, ◌&&◌, ℕ, List, [], IfOk, IfErr, IsTrue, Ok, Err, Some, length, slice_get};
 ghost use Rattle.std.specs.Prelude.{nat_lt};
 ghost use Rattle.std.specs.List.{list_all};
+ghost use Rattle.base_limits.specs.declared.limits.TheConstants.{MOST_TEXT_BYTES};
 ghost use Rattle.lang_tree.specs.Tree.{Statements};
 ghost use Rattle.flow_edges.specs.Edges.{edges_of_program};
 ghost use Rattle.flow_edges.specs.Points.{points_of_program};
@@ -13,7 +14,7 @@ ghost use Rattle.flow_systems.specs.SystemLimits.{is_over};
 ghost use Rattle.cert_types.specs.declared.cert.Cert.{Cert as CertValue};
 ghost use Rattle.cert_checker.specs.Items.{is_short, item_count};
 ghost use Rattle.top_texts.specs.Checks.{IsSpelt};
-ghost use Rattle.top_texts.specs.Parted.{FitsProgram, IsNoSystem, IsUnspelt};
+ghost use Rattle.top_texts.specs.Outcomes.{FitsProgram, IsNoSystem, IsUnspelt};
 
 use crate::form::cert_of;
 use crate::program::{flow_of, program_of};
@@ -40,7 +41,7 @@ pub struct Given {
 ///
 /// A fault of the text, or else of the form of the bytes; or want of memory.
 pub fn read_given(alloc: Global, text: &[u8], bytes: &[u8]) -> Result<Given, Refusal>
-    requires { length text.now ≤ 65536 }
+    requires { length text.now ≤ MOST_TEXT_BYTES }
     ensures spelt { IfOk result (λ given. IsSpelt text.now bytes.now given.program.names given.program.body given.cert) }
     ensures names { IfOk result (λ given. given.flow.names ≡ given.program.names) }
     ensures points { IfOk result (λ given. given.flow.points ≡ points_of_program given.program.body) }

@@ -1,7 +1,7 @@
 use Rattle.std.proofs.Common.{subst₂, sym}
 use Rattle.ask_words.specs.declared.request.Purpose.TheVariants.{Report}
 use Rattle.ask_words.specs.declared.request.Request.TheVariants.{Analyse}
-use Rattle.top_answer.specs.Parted.{Says}
+use Rattle.top_answer.specs.Outcomes.{Says}
 use Rattle.top_texts.specs.Exact.{exact}
 use Rattle.acsl_annotate.specs.Annotated.{annotating}
 use Rattle.acsl_annotate.proofs.answer.Refused.{annotated_says}

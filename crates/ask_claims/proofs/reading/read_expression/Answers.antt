@@ -1,7 +1,7 @@
 use Rattle.std.proofs.Common.{arith, ap, subst}
 use Rattle.lang_grammar.specs.View.{tokens_of}
 use Rattle.lang_feed.proofs.texts.Expressions.{few_tokens}
-use Rattle.lang_meaning.specs.Expressions.{ExpressionMeans}
+use Rattle.lang_meaning.specs.ExpressionAnswers.{ExpressionMeans}
 use Rattle.lang_parser.specs.Expressions.{read_of}
 use Rattle.ask_claims.specs.Claims.{parsed}
 use Rattle.ask_claims.proofs.claims.Parsed.{parse_handed}

@@ -37,6 +37,10 @@ pub returns-clause-equations : goal.returns-clause-equations
 unfolding clap_on_literals request_of
 returns-clause-equations c = refl
 
+pub returns-clause-points : goal.returns-clause-points
+unfolding clap_on_literals request_of
+returns-clause-points c = refl
+
 pub returns-clause-repeated : goal.returns-clause-repeated
 unfolding clap_on_literals request_of
 returns-clause-repeated c = refl

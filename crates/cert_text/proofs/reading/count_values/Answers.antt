@@ -1,4 +1,4 @@
-use Rattle.std.proofs.Common.{◌≡◌, true, sym, ◌∙◌, rules}
+use Rattle.std.proofs.Common.{◌≡◌, true, rules}
 use Rattle.serde_json.specs.View.{view}
 use Rattle.cert_text.specs.Lists.{is_list}
 use Rattle.cert_text.specs.StepForms.{is_step}

@@ -1,5 +1,4 @@
-use Rattle.std.proofs.Common.{◌≡◌, ◌≢◌, ◌∙◌, Err, List, ap, arith, length, map, rules, sym, true, vec_len}
-use Rattle.std.specs.Prelude.{ℤ}
+use Rattle.std.proofs.Common.{◌≡◌, ◌≢◌, ◌∙◌, Err, List, ap, arith, length, map, rules, sym, true}
 use Rattle.serde_json.specs.View.{view}
 use Rattle.base_fractions.specs.Extended.{extended}
 use Rattle.base_fractions.specs.declared.ext.Ext.{Ext}

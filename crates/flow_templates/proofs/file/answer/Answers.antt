@@ -1,5 +1,6 @@
 use Rattle.std.proofs.Common.{◌≡◌, ◌≤◌, ◌+◌, ◌∷◌, [], length, ap, sym, subst, ◌∙◌, refl, Ok, Err, arith}
 use Rattle.std.proofs.lemmas.Result.{err_from_is_err_and}
+use Rattle.base_limits.specs.declared.limits.TheConstants.{MOST_TEXT_BYTES}
 use Rattle.flow_templates.specs.declared.fault.RowFault.TheVariants.{Count}
 use Rattle.flow_templates.specs.Rows.{width_of}
 use Rattle.flow_templates.specs.RowFaults.{count_faults}
@@ -17,7 +18,7 @@ rows_of-requires-clause-few c =
 
 pub rows_of-requires-clause-short : goal.rows_of-requires-clause-short
 rows_of-requires-clause-short c =
-    rw c.deref.ensures.value (pieces_short 65536 c.args.text.now c.in_ok-lines.lines.items c.requires c.in_ok-lines.ensures)
+    rw c.deref.ensures.value (pieces_short MOST_TEXT_BYTES c.args.text.now c.in_ok-lines.lines.items c.requires c.in_ok-lines.ensures)
 
 pub returns-in_err-rows-clause-refused : goal.returns-in_err-rows-clause-refused
 returns-in_err-rows-clause-refused c =

@@ -1,5 +1,5 @@
 use Rattle.std.proofs.Common.{◌∙◌, ap, Ok, List}
-use Rattle.lang_grammar.specs.View.{symbol_kind}
+use Rattle.lang_grammar.specs.Symbols.{symbol_kind}
 use Rattle.lang_tokens.specs.Lines.{line_at}
 use Rattle.lang_meaning.specs.Feed.{Frame, Mode, at, wanted}
 use Rattle.lang_reader.specs.Frames.{frames_of}

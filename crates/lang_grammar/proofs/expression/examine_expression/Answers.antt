@@ -1,6 +1,6 @@
 use Rattle.std.proofs.Common.{◌∙◌}
 use Rattle.std.proofs.lemmas.Result.{IfOk-weaker}
-use Rattle.lang_grammar.specs.Expressions.{expression_start, reach_of}
+use Rattle.lang_grammar.specs.Reaches.{expression_start, reach_of}
 use Rattle.lang_grammar.specs.View.{tokens_of}
 use Rattle.lang_grammar.proofs.phrase.Exact.{exact_by}
 use Rattle.lang_grammar.proofs.phrase.Found.{found_by}

@@ -1,5 +1,5 @@
 use Rattle.std.proofs.Common.{◌∙◌, sym, arith}
-use Rattle.lang_grammar.specs.View.{stack_of}
+use Rattle.lang_grammar.specs.Goals.{stack_of}
 use Rattle.lang_grammar.proofs.phrase.Turns.{turn_ends, turn_stops, turn_nests, turn_out}
 use Rattle.lang_grammar.proofs.expression.reach.Goals as goal
 

@@ -1,6 +1,7 @@
 use Rattle.std.proofs.Common.{◌≡◌, map, drop}
-use Rattle.lang_grammar.specs.Expressions.{expression_start, longer_by, reach}
-use Rattle.lang_grammar.specs.View.{stack_of, plain_token}
+use Rattle.lang_grammar.specs.Reaches.{expression_start, longer_by, reach}
+use Rattle.lang_grammar.specs.View.{plain_token}
+use Rattle.lang_grammar.specs.Goals.{stack_of}
 use Rattle.lang_grammar.proofs.expression.reach.Given as goal
 
 abbrev pub invariant-loop-count : goal.invariant-loop-count

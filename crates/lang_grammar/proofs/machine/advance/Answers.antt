@@ -1,4 +1,4 @@
-use Rattle.lang_grammar.specs.View.{symbol_kind}
+use Rattle.lang_grammar.specs.Symbols.{symbol_kind}
 use Rattle.lang_grammar.proofs.machine.Tokens.{went}
 use Rattle.lang_grammar.proofs.machine.advance.Goals as goal
 

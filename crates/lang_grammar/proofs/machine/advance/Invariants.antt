@@ -1,6 +1,8 @@
 use Rattle.std.proofs.Common.{◌≡◌, length}
-use Rattle.lang_grammar.specs.Depth.{verdict}
-use Rattle.lang_grammar.specs.View.{symbol_kind, plain_kind, stack_of}
+use Rattle.lang_grammar.specs.Verdicts.{verdict}
+use Rattle.lang_grammar.specs.View.{plain_kind}
+use Rattle.lang_grammar.specs.Symbols.{symbol_kind}
+use Rattle.lang_grammar.specs.Goals.{stack_of}
 use Rattle.lang_grammar.proofs.machine.advance.Given as goal
 
 abbrev pub invariant-loop-goal : goal.invariant-loop-goal

@@ -1,7 +1,8 @@
 use Rattle.std.proofs.Common.{◌∙◌}
 use Rattle.std.proofs.lemmas.Result.{IfOk-weaker}
 use Rattle.lang_grammar.specs.Machine.{start}
-use Rattle.lang_grammar.specs.View.{scan_of, tokens_of}
+use Rattle.lang_grammar.specs.View.{tokens_of}
+use Rattle.lang_grammar.specs.Goals.{scan_of}
 use Rattle.lang_grammar.proofs.faults.Exact.{exact_by}
 use Rattle.lang_grammar.proofs.view.Plain.{plain_scan}
 use Rattle.lang_grammar.proofs.faults.Scanned.{found_by}

@@ -1,6 +1,7 @@
 use Rattle.std.proofs.Common.{subst}
 use Rattle.lang_grammar.specs.Faults.{Finds}
-use Rattle.lang_grammar.specs.View.{scan_of, tokens_of}
+use Rattle.lang_grammar.specs.View.{tokens_of}
+use Rattle.lang_grammar.specs.Goals.{scan_of}
 use Rattle.lang_feed.proofs.counts.WholeTexts.{ends_well}
 use Rattle.lang_feed.proofs.texts.Programs.{found_unexpected, found_nested, whole_is_read, short_is_read}
 use Rattle.lang_parser.proofs.parser.first_pass.Goals as goal

@@ -1,4 +1,4 @@
-use Rattle.std.proofs.Common.{◌≡◌, refl, ◌∙◌}
+use Rattle.std.proofs.Common.{◌≡◌, refl, inl, ◌∙◌}
 use Rattle.lang_tokens.proofs.signs.Longest.{second_of, second_read, sign_stands, nothing_stands}
 use Rattle.lang_tokens.proofs.signs.sign.Goals as goal
 
@@ -12,8 +12,9 @@ returns-in-Some c =
 pub returns-in-None : goal.returns-in-None
 returns-in-None c =
     let second : c.copied.result ≡ second_of c.args.rest.now = c.copied.ensures
-    ∙ second_read c.args.rest.now c.get.result c.get.ensures.lookup.0 c.get.ensures.lookup.1 in (
+    ∙ second_read c.args.rest.now c.get.result c.get.ensures.lookup.0 c.get.ensures.lookup.1 in
+    inl (
       refl,
-      nothing_stands c.args.rest.now c.requires.some c.requires.no_blank c.requires.no_slash c.requires.no_letter c.requires.no_digit
-          (rw second at c.in-None.ensures),
+      nothing_stands c.args.rest.now c.requires.some c.requires.no_blank c.requires.no_slash c.requires.no_letter
+          c.requires.no_digit (rw second at c.in-None.ensures),
     )

@@ -1,4 +1,4 @@
-use Rattle.std.proofs.Common.{◌≡◌, ◌≢◌, ◌+◌, ◌<◌, true, false, None, length, refl, sym, ap, ◌∙◌, subst, arith}
+use Rattle.std.proofs.Common.{◌≡◌, ◌≢◌, ◌+◌, true, None, length, sym, ◌∙◌, subst, arith}
 use Rattle.std.specs.Prelude.{IfOk}
 use Rattle.std.proofs.lemmas.List.{length-map}
 use Rattle.std.proofs.lemmas.Result.{err_from_is_err_and, on_ok_weaker, IfErr-weaker}
@@ -13,7 +13,7 @@ use Rattle.base_fractions.specs.Operation.{first_wide}
 use Rattle.lp_dictionary.specs.PivotOperations.{pivot_operations}
 use Rattle.lp_simplex.specs.declared.outcome.Outcome.TheVariants.{Empty}
 use Rattle.lp_simplex.specs.declared.phase.End.TheVariants.{Left}
-use Rattle.lp_simplex.specs.Operations.{first_refused, whole_phase, run_operations}
+use Rattle.lp_simplex.specs.Operations.{whole_phase, run_operations}
 use Rattle.lp_simplex.specs.Outcomes.{IsOutcomeOf}
 use Rattle.lp_simplex.specs.Answers.{EndsPhase, EntersRefused, RefusesRun}
 use Rattle.lp_simplex.proofs.method.Begins.{first_pivot, begins_aux, two_goals, begins_main}

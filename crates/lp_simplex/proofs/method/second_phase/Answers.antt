@@ -1,8 +1,7 @@
-use Rattle.std.proofs.Common.{◌≡◌, ◌+◌, false, length, sym, ◌∙◌, subst, arith}
+use Rattle.std.proofs.Common.{◌≡◌, false, length, subst, arith}
 use Rattle.std.proofs.lemmas.List.{length-map}
 use Rattle.lp_dictionary.specs.declared.problem.Row.{Row}
 use Rattle.lp_dictionary.specs.Exact.{exact}
-use Rattle.lp_simplex.specs.declared.phase.End.TheVariants.{AtBest, AtRay}
 use Rattle.lp_simplex.specs.Answers.{EndsPhase}
 use Rattle.lp_simplex.proofs.method.Ends.{rows_apart_end, cols_apart_end, best_end, unbounded_end}
 use Rattle.lp_simplex.proofs.method.second_phase.Goals as goal

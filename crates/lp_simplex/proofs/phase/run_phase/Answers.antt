@@ -1,8 +1,7 @@
-use Rattle.std.proofs.Common.{◌≡◌, ◌+◌, ℕ, true, false, Bool, length, refl, sym, ap, ap₂, ◌∙◌, subst, subst₂, arith}
+use Rattle.std.proofs.Common.{◌≡◌, ◌+◌, ℕ, true, false, Bool, length, sym, ap₂, ◌∙◌, subst, subst₂, arith}
 use mir.Val.{bool_byte}
 use Rattle.std.proofs.lemmas.List.{length-map}
 use Rattle.std.proofs.lemmas.Result.{err_from_is_err_and}
-use Rattle.base_numbers.specs.Rational.{ℚ}
 use Rattle.lp_theory.specs.Run.{phase_of}
 use Rattle.lp_dictionary.specs.declared.problem.Row.{Row}
 use Rattle.lp_dictionary.specs.Build.{width_of}

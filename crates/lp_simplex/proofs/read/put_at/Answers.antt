@@ -1,4 +1,4 @@
-use Rattle.std.proofs.Common.{◌≡◌, ◌<◌, ◌-◌, length, arith}
+use Rattle.std.proofs.Common.{◌<◌, ◌-◌, length, arith}
 use Rattle.lp_simplex.proofs.read.Placing.{put_in}
 use Rattle.lp_simplex.proofs.read.put_at.Goals as goal
 

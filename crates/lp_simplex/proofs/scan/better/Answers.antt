@@ -1,4 +1,4 @@
-use Rattle.std.proofs.Common.{sym, subst, subst₂}
+use Rattle.std.proofs.Common.{subst, subst₂}
 use Rattle.lp_simplex.specs.Choices.{CandidateOf, IsBefore}
 use Rattle.lp_simplex.proofs.scan.Scans.{candidate_kept, candidate_found, candidate_first, candidate_none}
 use Rattle.lp_simplex.proofs.scan.better.Goals as goal

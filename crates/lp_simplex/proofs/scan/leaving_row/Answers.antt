@@ -1,4 +1,4 @@
-use Rattle.std.proofs.Common.{◌≡◌, ℕ, ◌<◌, None, subst, arith}
+use Rattle.std.proofs.Common.{◌≡◌, None, subst, arith}
 use Rattle.std.proofs.lemmas.Result.{err_from_is_err_and}
 use Rattle.base_fractions.specs.Operation.{first_wide, operation_of}
 use Rattle.lp_dictionary.specs.Listed.{joined}

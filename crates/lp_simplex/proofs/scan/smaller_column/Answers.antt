@@ -1,9 +1,8 @@
-use Rattle.std.proofs.Common.{◌≡◌, ◌<◌, ◌≤◌, ℕ, Option, Some, None, sym, ap, ◌∙◌, subst, subst₂}
+use Rattle.std.proofs.Common.{◌≤◌, subst, subst₂}
 use Rattle.base_numbers.specs.Rational.{zero_ℚ, ◌≤ℚ◌, ◌<ℚ◌}
-use Rattle.lp_theory.specs.Table.{Table}
 use Rattle.lp_simplex.specs.Choices.{EntersAt}
 use Rattle.lp_simplex.proofs.scan.Signs.{sign_le, sign_gt}
-use Rattle.lp_simplex.proofs.scan.Scans.{enters_past, enters_kept, enters_smaller, enters_first, enters_none}
+use Rattle.lp_simplex.proofs.scan.Scans.{enters_past, enters_smaller, enters_first, enters_none}
 use Rattle.lp_simplex.proofs.scan.smaller_column.Goals as goal
 
 pub returns-then-num-le0 : goal.returns-then-num-le0

@@ -1,4 +1,4 @@
-use Rattle.std.proofs.Common.{◌≡◌, inl, inr, refl, sym, ◌∙◌, subst}
+use Rattle.std.proofs.Common.{inr, refl, ◌∙◌, subst}
 use Rattle.base_numbers.proofs.rational.Laws.{ne_of_lt_ℚ}
 use Rattle.lp_dictionary.proofs.Widths.{first_wide_later}
 use Rattle.lp_dictionary.specs.PivotOperations.{pivot_operations}

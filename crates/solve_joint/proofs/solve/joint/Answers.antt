@@ -14,15 +14,15 @@ use Rattle.solve_joint.proofs.solve.Reached.{layout_bounded, readable, answered,
 use Rattle.solve_joint.proofs.solve.joint.Goals as goal
 
 pub layout-requires-clause-few : goal.layout-requires-clause-few
-layout-requires-clause-few c = c.in_ok-problem.ensures.columns
+layout-requires-clause-few g c = c.in_ok-problem.ensures.columns
 
 pub read-requires-clause-bounded : goal.read-requires-clause-bounded
-read-requires-clause-bounded c =
+read-requires-clause-bounded g c =
     subst (AreBounded (length c.args.base.now)) (sym c.in-Ok.ensures) (layout_bounded c.args.system.now c.args.pick.now
     (length c.args.base.now) c.args.list.now c.requires.base c.requires.picked)
 
 pub read-requires-clause-readable : goal.read-requires-clause-readable
-read-requires-clause-readable c =
+read-requires-clause-readable g c =
     let system = c.args.system.now in
     let pick = c.args.pick.now in
     let base = c.args.base.now in
@@ -36,7 +36,7 @@ read-requires-clause-readable c =
     (readable system pick base list c.requires.rises (lp (problem_of system pick base list)) c.in_ok-outcome.outcome out decided)
 
 pub returns-in-Ok-clause-answer : goal.returns-in-Ok-clause-answer
-returns-in-Ok-clause-answer c =
+returns-in-Ok-clause-answer g c =
     let system = c.args.system.now in
     let pick = c.args.pick.now in
     let base = c.args.base.now in
@@ -54,7 +54,7 @@ returns-in-Ok-clause-answer c =
     (λ j h. (h.0, (c.in_ok-problem.ensures.sides, fits, h.1))) (λ f h. inr (inr (c.in_ok-problem.ensures.sides, fits, h)))
 
 pub returns-in-Ok-clause-means : goal.returns-in-Ok-clause-means
-returns-in-Ok-clause-means c =
+returns-in-Ok-clause-means g c =
     let system = c.args.system.now in
     let pick = c.args.pick.now in
     let base = c.args.base.now in
@@ -62,12 +62,12 @@ returns-in-Ok-clause-means c =
     let us = all_listed system pick list in
     let decided = joint_outcome (equations_of system) (vector_of (length system.template) base) us c.requires.rising
     (listed_distinct system pick 0 list c.requires.rises c.requires.picked) in
-    MatchResult-weaker c.read.result (returns-in-Ok-clause-answer c) (λ j h. means_of system pick base list c.requires.rises
+    MatchResult-weaker c.read.result (returns-in-Ok-clause-answer g c) (λ j h. means_of system pick base list c.requires.rises
     c.requires.rising (listed_distinct system pick 0 list c.requires.rises c.requires.picked) (lp (problem_of system pick base list)) j
     decided h.0) (λ f h. tt)
 
 pub returns-in_err-outcome-clause-answer : goal.returns-in_err-outcome-clause-answer
-returns-in_err-outcome-clause-answer c =
+returns-in_err-outcome-clause-answer g c =
     let q = err_from_is_err_and c.from_residual-in_err-outcome.result c.from_residual-in_err-outcome.ensures.1 in
     rw (q.1, q.2) (inr (inl (
       c.in_ok-problem.ensures.sides,

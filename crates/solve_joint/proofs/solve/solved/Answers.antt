@@ -8,8 +8,8 @@ use Rattle.solve_joint.specs.Joints.{RunFits, IsRunFault}
 use Rattle.solve_joint.proofs.solve.PlainProblem.{plain_problem}
 use Rattle.solve_joint.proofs.solve.solved.Goals as goal
 
-pub solve-requires : goal.solve-requires
-solve-requires c =
+pub solve_watched-requires : goal.solve_watched-requires
+solve_watched-requires g c =
     let rows = c.args.problem.now.rows.items in
     record {
       rows = λ k d l. ap length (sym (get_or-map (λ r. r.coeffs.items) rows k d [] l))
@@ -18,13 +18,13 @@ solve-requires c =
     }
 
 pub returns-in-Ok : goal.returns-in-Ok
-returns-in-Ok c =
+returns-in-Ok g c =
     let p = c.args.problem.now in
     let e = plain_problem {X = Row ℚ} (λ r. r.coeffs.items) (λ r. r.side) p.rows.items p.goal.items in
     (subst (λ P. IsOutcomeOf (λ q. q) P (lp P) c.in-Ok.outcome) e c.in-Ok.ensures.outcome, subst RunFits e c.in-Ok.ensures.fits)
 
 pub returns-in-Err : goal.returns-in-Err
-returns-in-Err c =
+returns-in-Err g c =
     let p = c.args.problem.now in
     let e = plain_problem {X = Row ℚ} (λ r. r.coeffs.items) (λ r. r.side) p.rows.items p.goal.items in
     subst (λ P. IsRunFault P c.run_fault.result) e (c.run_fault.ensures _ c.in-Err.ensures.refused)

@@ -1,5 +1,6 @@
 use Rattle.std.proofs.Common.{◌≡◌, ◌∙◌, ℕ, List, ◌+◌, ◌-◌, ◌*◌, ◌^◌, ◌<◌, ◌≤◌, ap, ap₂, subst, sym, suc, length, arith}
 use Rattle.std.specs.Prelude.{ℤ}
+use Rattle.base_limits.specs.declared.limits.TheConstants.{MOST_IMPROVEMENTS}
 use Rattle.flow_edges.specs.declared.edge.Edge.{Edge}
 use Rattle.flow_systems.specs.Equations.{Equations}
 use Rattle.flow_systems.specs.View.{equations_of}
@@ -42,7 +43,7 @@ loop-point-preserved c = record {
       ∙ next (equations_of c.args.system.now) c.loop-point.product c.loop-point.point c.count_into.result c.as_slice-edges.result.now
       c.as_slice-rows.result.now
       c.as_slice-edges.ensures c.as_slice-rows.ensures.rows c.count_into.ensures.count c.loop-point.invariant.product;
-  small = subst (λ n. n ≤ 1000000) (sym c.in-Some.ensures.1) c.in-Some.ensures.0;
+  small = subst (λ n. n ≤ MOST_IMPROVEMENTS) (sym c.in-Some.ensures.1) c.in-Some.ensures.0;
 }
 
 -- after the last point
@@ -55,7 +56,7 @@ whole c =
     c.loop-point.invariant.product ∙ ap (product_to system) (omega arith) ∙ product_to-all system
 
 pub returns-clause-count : goal.returns-clause-count
-returns-clause-count c = (subst (λ n. n ≤ 1000000) (whole c) c.loop-point.invariant.small, whole c)
+returns-clause-count c = (subst (λ n. n ≤ MOST_IMPROVEMENTS) (whole c) c.loop-point.invariant.small, whole c)
 
 pub returns-clause-rounds : goal.returns-clause-rounds
 returns-clause-rounds c T evident n d z pick steps rounds = subst (λ p. n < p) (sym (whole c))

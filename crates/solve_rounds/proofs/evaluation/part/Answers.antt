@@ -1,31 +1,28 @@
 use Rattle.std.proofs.Common.{◌≡◌, ◌∙◌, ◌<◌, length, sym, subst, arith, vec_len}
 use Rattle.std.proofs.lemmas.Result.{err_from_is_err_and}
-use Rattle.solve_rounds.proofs.evaluation.Parting.{IsParting, not_none, none_there, no_element, parting_starts, parting_ends, left_turn}
+use Rattle.solve_rounds.proofs.evaluation.Parting.{IsParting, not_none, none_there, no_element, parting_starts, parting_ends, left_stop}
 use Rattle.solve_rounds.proofs.evaluation.Parting.{left_condition, left_more}
-use Rattle.solve_rounds.specs.Turning.{turns_of_part}
-use Rattle.solve_rounds.proofs.evaluation.TurnStops.{joined_stop}
 use Rattle.solve_rounds.proofs.evaluation.part.Goals as goal
 
 pub loop-alloc-init : goal.loop-alloc-init
-loop-alloc-init c =
+loop-alloc-init g c =
     subst (λ l. IsParting c.args.system.now c.args.pick.now c.args.raises.now c.args.places.now c.args.list.now c.args.turning.now l
     c.args.turning.now) (sym c.in_ok-left.ensures.list)
     (parting_starts c.args.system.now c.args.pick.now c.args.raises.now c.args.places.now c.args.list.now c.args.turning.now
     c.requires.part)
 
 pub turn-requires-clause-condition : goal.turn-requires-clause-condition
-turn-requires-clause-condition c =
+turn-requires-clause-condition g c =
     let system = c.args.system.now in
     let now = c.loop-alloc.turning in
     let left = c.as_slice.result.now in
     let h = subst (λ l. IsParting system c.args.pick.now c.args.raises.now c.args.places.now c.args.list.now c.args.turning.now l now)
     (sym c.as_slice.ensures.value) c.loop-alloc.invariant in
-    let some = subst (λ n. 0 < n) (sym c.as_slice.ensures.len) (not_none _ (sym c.is_empty.ensures ∙ c.loop-alloc-test.true)) in
-    left_condition system c.args.pick.now c.args.raises.now c.args.places.now c.args.list.now c.args.turning.now left now some
-    c.requires.conditions h
+    left_condition system c.args.pick.now c.args.raises.now c.args.places.now c.args.list.now c.args.turning.now left now c.requires.chosen
+    c.requires.waiting h
 
 pub returns-in_err-left-2-clause-stop : goal.returns-in_err-left-2-clause-stop
-returns-in_err-left-2-clause-stop c =
+returns-in_err-left-2-clause-stop g c =
     let q = err_from_is_err_and c.from_residual-in_err-left-2.result c.from_residual-in_err-left-2.ensures.1 in
     let system = c.args.system.now in
     let now = c.loop-alloc.turning in
@@ -33,14 +30,12 @@ returns-in_err-left-2-clause-stop c =
     let h = subst (λ l. IsParting system c.args.pick.now c.args.raises.now c.args.places.now c.args.list.now c.args.turning.now l now)
     (sym c.as_slice.ensures.value) c.loop-alloc.invariant in
     let some = subst (λ n. 0 < n) (sym c.as_slice.ensures.len) (not_none _ (sym c.is_empty.ensures ∙ c.loop-alloc-test.true)) in
-    let like = left_turn system c.args.pick.now c.args.raises.now c.args.places.now c.args.list.now c.args.turning.now left now some h in
     rw (q.1, q.2)
-    (joined_stop system c.args.pick.now c.args.raises.now c.args.places.now left now.bounds (length now.steps.items) c.args.round
-    (turns_of_part system c.args.pick.now c.args.raises.now c.args.places.now c.args.list.now c.args.turning.now)
-    (h.size ∙ c.requires.bounds) h.part_left.raised like c.in_err-left-2.field-0.0 c.in_err-left-2.ensures.stop)
+    (left_stop system c.args.pick.now c.args.raises.now c.args.places.now c.args.list.now c.args.turning.now left now c.args.round
+    c.in_err-left-2.field-0.0 c.requires.bounds some h c.in_err-left-2.ensures.stop)
 
 pub loop-alloc-preserved : goal.loop-alloc-preserved
-loop-alloc-preserved c =
+loop-alloc-preserved g c =
     let system = c.args.system.now in
     let now = c.loop-alloc.turning in
     let left = c.as_slice.result.now in
@@ -51,7 +46,7 @@ loop-alloc-preserved c =
     now c.turn.new.turning some h c.in_ok-left-2.ensures.turned
 
 pub returns-clause-done : goal.returns-clause-done
-returns-clause-done c =
+returns-clause-done g c =
     let v = c.loop-alloc.left in
     let k : vec_len v ≡ length v.items = omega (arith, v.ok.0) in
     parting_ends c.args.system.now c.args.pick.now c.args.raises.now c.args.places.now c.args.list.now c.args.turning.now

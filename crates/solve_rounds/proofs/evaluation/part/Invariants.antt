@@ -3,7 +3,7 @@ use Rattle.solve_rounds.proofs.evaluation.Parting.{IsParting}
 use Rattle.solve_rounds.proofs.evaluation.part.Given as goal
 
 abbrev pub invariant-loop-alloc : goal.invariant-loop-alloc
-invariant-loop-alloc l = IsParting l.system l.pick l.raises l.places l.list l.initial.turning l.left.items l.turning
+invariant-loop-alloc g l = IsParting l.system l.pick l.raises l.places l.list l.initial.turning l.left.items l.turning
 
 abbrev pub decreases-loop-alloc : goal.decreases-loop-alloc
-decreases-loop-alloc l = length l.left.items
+decreases-loop-alloc g l = length l.left.items

@@ -1,16 +1,17 @@
 use Rattle.std.proofs.Common.{◌∙◌, ◌≤◌, ap, length, subst, arith}
 use Rattle.std.proofs.lemmas.Result.{err_from_is_err_and}
-use Rattle.solve_rounds.proofs.evaluation.NextPart.{numbered, numbered_part, numbered_few, numbered_more, numbered_conditions}
+use Rattle.solve_rounds.proofs.evaluation.NextPart.{numbered, numbered_part, numbered_few, numbered_more, numbered_waits}
 use Rattle.solve_rounds.proofs.evaluation.NextPart.{numbered_stop}
 use Rattle.solve_rounds.proofs.evaluation.Partings.{partings_start, partings_end}
 use Rattle.solve_rounds.proofs.evaluation.turns.Goals as goal
 
 pub loop-number-init : goal.loop-number-init
-loop-number-init c = partings_start c.args.system.now c.args.pick.now c.args.raises.now c.args.places.now c.args.list.now c.args.turning.now
-    c.requires.none
+loop-number-init g c =
+    partings_start c.args.system.now c.args.pick.now c.args.raises.now c.args.places.now c.args.list.now c.args.turning.now
+    c.requires.none c.requires.waiting
 
 pub part-requires-clause-few : goal.part-requires-clause-few
-part-requires-clause-few c =
+part-requires-clause-few g c =
     let n = numbered c.args.system.now c.args.pick.now c.args.list.now c.in_ok-parts.ensures.parts c.count-number-end.ensures.count
     c.loop-number-test.true c.list.ensures in
     let small = numbered_few c.args.system.now c.args.pick.now c.args.raises.now c.args.places.now c.args.list.now n c.requires.list
@@ -20,38 +21,38 @@ part-requires-clause-few c =
     omega arith
 
 pub part-requires-clause-part : goal.part-requires-clause-part
-part-requires-clause-part c =
+part-requires-clause-part g c =
     let n = numbered c.args.system.now c.args.pick.now c.args.list.now c.in_ok-parts.ensures.parts c.count-number-end.ensures.count
     c.loop-number-test.true c.list.ensures in
     numbered_part c.args.system.now c.args.pick.now c.args.raises.now c.args.places.now c.args.list.now n c.requires.list
     c.in_ok-parts.ensures.parts c.in_ok-parts.ensures.rise
 
-pub part-requires-clause-conditions : goal.part-requires-clause-conditions
-part-requires-clause-conditions c =
+pub part-requires-clause-waiting : goal.part-requires-clause-waiting
+part-requires-clause-waiting g c =
     let n = numbered c.args.system.now c.args.pick.now c.args.list.now c.in_ok-parts.ensures.parts c.count-number-end.ensures.count
     c.loop-number-test.true c.list.ensures in
-    numbered_conditions c.args.system.now c.args.pick.now c.args.raises.now c.args.places.now c.args.list.now n c.args.turning.now
-    c.loop-number.turning c.requires.chosen c.requires.conditions c.loop-number.invariant
+    numbered_waits c.args.system.now c.args.pick.now c.args.raises.now c.args.places.now c.args.list.now n c.args.turning.now
+    c.loop-number.turning c.requires.chosen c.loop-number.invariant
 
 pub returns-in_err-part-clause-stop : goal.returns-in_err-part-clause-stop
-returns-in_err-part-clause-stop c =
+returns-in_err-part-clause-stop g c =
     let q = err_from_is_err_and c.from_residual-in_err-part.result c.from_residual-in_err-part.ensures.1 in
     let n = numbered c.args.system.now c.args.pick.now c.args.list.now c.in_ok-parts.ensures.parts c.count-number-end.ensures.count
     c.loop-number-test.true c.list.ensures in
     rw (q.1, q.2)
     (numbered_stop c.args.system.now c.args.pick.now c.args.raises.now c.args.places.now c.args.list.now n c.args.turning.now
-    c.loop-number.turning c.args.round c.in_err-part.field-0.0 c.loop-number.invariant c.in_err-part.ensures.stop)
+    c.loop-number.turning c.args.round c.in_err-part.field-0.0 c.requires.none c.loop-number.invariant c.in_err-part.ensures.stop)
 
 pub loop-number-preserved : goal.loop-number-preserved
-loop-number-preserved c =
+loop-number-preserved g c =
     let n = numbered c.args.system.now c.args.pick.now c.args.list.now c.in_ok-parts.ensures.parts c.count-number-end.ensures.count
     c.loop-number-test.true c.list.ensures in
     numbered_more c.args.system.now c.args.pick.now c.args.raises.now c.args.places.now c.args.list.now n c.requires.list
     c.in_ok-parts.ensures.parts c.in_ok-parts.ensures.rise c.args.turning.now c.loop-number.turning c.part.new.turning
-    c.loop-number.invariant c.in_ok-part.ensures.done
+    c.requires.chosen c.loop-number.invariant c.in_ok-part.ensures.done
 
 pub returns-clause-done : goal.returns-clause-done
-returns-clause-done c =
+returns-clause-done g c =
     let system = c.args.system.now in
     let pick = c.args.pick.now in
     let list = c.args.list.now in

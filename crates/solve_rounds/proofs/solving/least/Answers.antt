@@ -84,6 +84,10 @@ returns-then-made-limit-clause-halt g c =
     c.loop-made.invariant.after c.improve_from.new.known) c.args.limit (sym c.if-made-limit.true)
     (λ none. true≢false (subst (λ o. IsNone o) c.in-Some.is (c.in_ok-improve_from.ensures.none.1 none)))
 
+pub raised-requires : goal.raised-requires
+raised-requires g c = after_count c.args.system.now _ c.loop-made.made _
+    (after_learned c.args.system.now _ c.loop-made.made c.loop-made.progress c.loop-made.invariant.after c.improve_from.new.known)
+
 pub advance-requires-clause-bounds : goal.advance-requires-clause-bounds
 advance-requires-clause-bounds g c = after_count c.args.system.now _ c.loop-made.made _
     (after_learned c.args.system.now _ c.loop-made.made c.loop-made.progress c.loop-made.invariant.after c.improve_from.new.known)

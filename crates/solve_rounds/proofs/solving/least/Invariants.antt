@@ -6,7 +6,7 @@ use Rattle.solve_rounds.proofs.solving.least.Given as goal
 
 abbrev pub invariant-loop-made : goal.invariant-loop-made
 invariant-loop-made g l = record {
-  after : IsAfter l.system (λ offer k. (shown : Bor _) × (pointer.words g.fn-1.I (goal.Fn-ptr g)).post l.chooser.policy shown k
+  after : IsAfter l.system (λ offer k. (shown : Bor _) × (pointer.words g.row.W g.fn-1.I (goal.Fn-ptr g)).post l.chooser.policy shown k
       × (shown.now ≡ offer)) l.made l.progress;
   within : l.made ≤ l.limit;
   known : AreKnown l.system l.progress.bounds l.progress.known;

@@ -6,13 +6,13 @@ use Rattle.solve_rounds.proofs.solving_by.ByPolicy.{answer_solved, answer_halt}
 use Rattle.solve_rounds.proofs.solving_by.least_by_first.Goals as goal
 
 pub returns-clause-solved : goal.returns-clause-solved
-returns-clause-solved c =
+returns-clause-solved g c =
     answer_solved _ by_first (λ offer k h. subst (λ (o : Offer). IsFirstExceeding o k) h.2
     (let same = c.new.ensures in let answers = h.1 in rw same at answers)) c.args.system.now c.args.limit c.least.result
     c.least.ensures.solved
 
 pub returns-clause-halt : goal.returns-clause-halt
-returns-clause-halt c =
+returns-clause-halt g c =
     answer_halt _ by_first (λ offer k h. subst (λ (o : Offer). IsFirstExceeding o k) h.2
     (let same = c.new.ensures in let answers = h.1 in rw same at answers)) c.args.system.now c.args.limit c.least.result
     c.least.ensures.halt

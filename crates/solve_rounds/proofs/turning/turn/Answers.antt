@@ -7,14 +7,14 @@ use Rattle.solve_rounds.proofs.turning.TurnedBy.{turned_is}
 use Rattle.solve_rounds.proofs.turning.turn.Goals as goal
 
 pub joined-requires-clause-rising : goal.joined-requires-clause-rising
-joined-requires-clause-rising c =
+joined-requires-clause-rising g c =
     let system = c.args.system.now in
     let pick = c.args.pick.now in
     let old = c.args.turning.now in
     rising system pick c.args.raises.now c.args.places.now c.args.list.now c.requires.part old.bounds c.requires.bounds c.requires.condition
 
 pub take-requires-clause-sizes : goal.take-requires-clause-sizes
-take-requires-clause-sizes c =
+take-requires-clause-sizes g c =
     let system = c.args.system.now in
     let pick = c.args.pick.now in
     let bounds = c.args.turning.now.bounds in
@@ -22,7 +22,7 @@ take-requires-clause-sizes c =
     read_sizes system pick bounds list (lp (problem_of system pick bounds list)) c.in_ok-outcome.outcome c.in_ok-outcome.ensures.joined
 
 pub returns-clause-turned : goal.returns-clause-turned
-returns-clause-turned c =
+returns-clause-turned g c =
     let system = c.args.system.now in
     let pick = c.args.pick.now in
     let old = c.args.turning.now in

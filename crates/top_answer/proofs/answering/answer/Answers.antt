@@ -5,13 +5,13 @@ use Rattle.top_answer.proofs.answers.Lawful.{lawful}
 use Rattle.top_answer.proofs.answering.answer.Goals as goal
 
 pub returns-clause-answer : goal.returns-clause-answer
-returns-clause-answer c = is_answer (command_of exact) lawful _ _ _ _ _ c.answer_words.ensures
+returns-clause-answer g c = is_answer (command_of exact) lawful _ _ _ _ _ c.answer_words.ensures
 
 pub returns-clause-output : goal.returns-clause-output
-returns-clause-output c = holds (command_of exact) lawful _ _ _ _ _ c.answer_words.ensures
+returns-clause-output g c = holds (command_of exact) lawful _ _ _ _ _ c.answer_words.ensures
 
 pub returns-clause-complete : goal.returns-clause-complete
-returns-clause-complete c = complete (command_of exact) lawful _ _ _ _ _ c.answer_words.ensures
+returns-clause-complete g c = complete (command_of exact) lawful _ _ _ _ _ c.answer_words.ensures
 
 pub returns-clause-message : goal.returns-clause-message
-returns-clause-message c = message_is (command_of exact) lawful _ _ _ _ _ c.answer_words.ensures
+returns-clause-message g c = message_is (command_of exact) lawful _ _ _ _ _ c.answer_words.ensures

@@ -1,41 +1,47 @@
 use Rattle.std.proofs.Common.{subst, sym}
 use Rattle.ask_words.specs.Request.{request_text}
 use Rattle.top_answer.specs.Commands.{HasRows, command_of}
-use Rattle.top_answer.specs.Parted.{Says}
+use Rattle.top_answer.specs.Outcomes.{Says}
 use Rattle.top_texts.specs.Exact.{exact}
-use Rattle.top_answer.proofs.answers.Said.{answered, benched, upgraded}
+use Rattle.top_answer.proofs.answers.Said.{answered, benched, pointed, upgraded}
 use Rattle.top_answer.proofs.outcome.outcome_of.Goals as goal
 
 pub returns-in-Analyse-clause-rows : goal.returns-in-Analyse-clause-rows
-returns-in-Analyse-clause-rows c = λ count has. c.analysed.ensures.rows count
+returns-in-Analyse-clause-rows g c = λ count has. c.analysed.ensures.rows count
     (subst (λ r. HasRows exact (request_text r) count) c.in-Analyse.is has)
 
 pub returns-in-Bench-clause-says : goal.returns-in-Bench-clause-says
-returns-in-Bench-clause-says c =
+returns-in-Bench-clause-says g c =
     subst (λ r. Says (command_of exact (request_text r)) c.outcome_from.result.status c.outcome_from.result.bytes.items) (sym c.in-Bench.is)
     (benched c.in-Bench.seed c.in-Bench.loops _ _ _ c.bench_text.ensures.ok c.bench_text.ensures.err c.outcome_from.ensures.is)
 
 pub returns-in-Upgrade-clause-says : goal.returns-in-Upgrade-clause-says
-returns-in-Upgrade-clause-says c =
+returns-in-Upgrade-clause-says g c =
     subst (λ r. Says (command_of exact (request_text r)) c.outcome_from-in-Upgrade.result.status
     c.outcome_from-in-Upgrade.result.bytes.items)
     (sym c.in-Upgrade.is)
     (upgraded c.in-Upgrade.certificate.now _ _ _ c.upgrade_text.ensures.ok c.upgrade_text.ensures.err c.outcome_from-in-Upgrade.ensures.is)
 
 pub returns-in-Prove-clause-says : goal.returns-in-Prove-clause-says
-returns-in-Prove-clause-says c =
+returns-in-Prove-clause-says g c =
     subst (λ r. Says (command_of exact (request_text r)) c.outcome_from-in-Prove.result.status c.outcome_from-in-Prove.result.bytes.items)
     (sym c.in-Prove.is)
     (answered _ _ _ _ _ c.prove_text-made.ensures.ok c.prove_text-made.ensures.err c.outcome_from-in-Prove.ensures.is)
 
 pub returns-in-Transitions-clause-says : goal.returns-in-Transitions-clause-says
-returns-in-Transitions-clause-says c =
+returns-in-Transitions-clause-says g c =
     subst (λ r. Says (command_of exact (request_text r)) c.outcome_from-in-Transitions.result.status
     c.outcome_from-in-Transitions.result.bytes.items) (sym c.in-Transitions.is)
     (answered _ _ _ _ _ c.transitions_text-made.ensures.ok c.transitions_text-made.ensures.err c.outcome_from-in-Transitions.ensures.is)
 
 pub returns-in-Equations-clause-says : goal.returns-in-Equations-clause-says
-returns-in-Equations-clause-says c =
+returns-in-Equations-clause-says g c =
     subst (λ r. Says (command_of exact (request_text r)) c.outcome_from-in-Equations.result.status
     c.outcome_from-in-Equations.result.bytes.items) (sym c.in-Equations.is)
     (answered _ _ _ _ _ c.equations_text.ensures.ok c.equations_text.ensures.err c.outcome_from-in-Equations.ensures.is)
+
+pub returns-in-Points-clause-says : goal.returns-in-Points-clause-says
+returns-in-Points-clause-says g c =
+    subst (λ r. Says (command_of exact (request_text r)) c.outcome_from-in-Points.result.status c.outcome_from-in-Points.result.bytes.items)
+    (sym c.in-Points.is)
+    (pointed c.in-Points.program.now _ _ _ c.points_text.ensures.ok c.points_text.ensures.err c.outcome_from-in-Points.ensures.is)

@@ -1,8 +1,9 @@
 use Rattle.std.proofs.Common.{◌≡◌, ◌∙◌, ◌≤◌, ap, arith, length, rules, subst, sym}
+use Rattle.base_limits.specs.declared.limits.TheConstants.{MOST_TEXT_BYTES}
 use Rattle.out_workload.specs.Texts.{generated_text}
 use Rattle.ask_words.specs.declared.request.Domain.TheVariants.{Intervals}
 use Rattle.top_texts.specs.Exact.{exact}
-use Rattle.top_texts.specs.Parted.{IsRefusedBy, IsUnanswered}
+use Rattle.top_texts.specs.Outcomes.{IsRefusedBy, IsUnanswered}
 use Rattle.top_texts.specs.Questions.{bench_question}
 use Rattle.top_texts.specs.Texts.{IsSolvedSystem}
 use Rattle.ask_words.specs.declared.request.Purpose.TheVariants.{Report}
@@ -10,12 +11,12 @@ use Rattle.top_texts.proofs.bench.Generated.{summed, unended, unread}
 use Rattle.top_texts.proofs.bench.bench_text.Goals as goal
 
 pub system_on-requires-clause-short : goal.system_on-requires-clause-short
-system_on-requires-clause-short c =
-    subst (λ t. length t ≤ 65536) (sym (c.deref.ensures.value ∙ c.in_ok-text.ensures))
+system_on-requires-clause-short g c =
+    subst (λ t. length t ≤ MOST_TEXT_BYTES) (sym (c.deref.ensures.value ∙ c.in_ok-text.ensures))
     (c.generated_texts_read.ensures c.args.seed c.args.loops c.requires.few).short
 
 pub returns-in_err-system-clause-err : goal.returns-in_err-system-clause-err
-returns-in_err-system-clause-err c =
+returns-in_err-system-clause-err g c =
     let h : IsUnanswered (bench_question exact c.args.seed c.args.loops) c.in_err-system.field-0.0 =
     unread c.generated_texts_read.ensures c.args.seed c.args.loops c.requires.few _
     (subst (λ t. IsRefusedBy t Intervals c.in_err-system.field-0.0) (c.deref.ensures.value ∙ c.in_ok-text.ensures)
@@ -23,7 +24,7 @@ returns-in_err-system-clause-err c =
     search (rules, h)
 
 pub returns-in_err-solved-clause-err : goal.returns-in_err-solved-clause-err
-returns-in_err-solved-clause-err c =
+returns-in_err-solved-clause-err g c =
     let h : IsUnanswered (bench_question exact c.args.seed c.args.loops) c.in_err-solved.field-0.0 =
     unended c.generated_texts_read.ensures c.args.seed c.args.loops c.requires.few c.in_ok-system.system _
     (subst (λ t. IsSolvedSystem t Intervals c.in_ok-system.system) (c.deref.ensures.value ∙ c.in_ok-text.ensures) c.in_ok-system.ensures.ok)
@@ -31,14 +32,14 @@ returns-in_err-solved-clause-err c =
     search (rules, h)
 
 pub overflow_cast-as_slice : goal.overflow_cast-as_slice
-overflow_cast-as_slice c =
+overflow_cast-as_slice g c =
     let short = (c.generated_texts_read.ensures c.args.seed c.args.loops c.requires.few).short in
     let size : length c.as_slice.result.now ≡ length (generated_text c.args.seed c.args.loops) =
     ap length (c.as_slice.ensures.value ∙ c.in_ok-text.ensures) in
     omega (arith, short, size)
 
 pub returns-clause-ok : goal.returns-clause-ok
-returns-clause-ok c =
+returns-clause-ok g c =
     summed c.generated_texts_read.ensures c.args.seed c.args.loops c.requires.few c.in_ok-system.system c.in_ok-solved.solved
     (length c.as_slice.result.now) c.in_ok-summary.field-0.items
     (subst (λ t. IsSolvedSystem t Intervals c.in_ok-system.system) (c.deref.ensures.value ∙ c.in_ok-text.ensures) c.in_ok-system.ensures.ok)

@@ -7,20 +7,20 @@ use Rattle.ask_claims.specs.declared.outcome.Verdict.{Verdict}
 use Rattle.ask_words.specs.declared.request.Purpose.TheVariants.{Report}
 use Rattle.top_texts.specs.Exact.{exact}
 use Rattle.ask_words.specs.Request.{domain_text}
-use Rattle.top_texts.specs.Parted.{AreUnjudged, IsUnanswered}
+use Rattle.top_texts.specs.Outcomes.{AreUnjudged, IsUnanswered}
 use Rattle.top_texts.specs.Questions.{claims_question}
 use Rattle.top_texts.proofs.claim_texts.Judged.{judged, unjudged, unsolved}
 use Rattle.top_texts.proofs.prove.prove_text.Goals as goal
 
 pub returns-in_err-claims-clause-err : goal.returns-in_err-claims-clause-err
-returns-in_err-claims-clause-err c =
+returns-in_err-claims-clause-err g c =
     let h : IsUnanswered (claims_question exact c.args.text.now (domain_text c.args.rows) c.args.given.now c.args.policy c.args.limit)
     c.in_err-claims.field-0.0 =
     c.in_err-claims.ensures.err c.args.text.now (domain_text c.args.rows) c.args.policy c.args.limit c.in_ok-system.ensures.ok in
     search (rules, h)
 
 pub returns-in_err-solved-clause-err : goal.returns-in_err-solved-clause-err
-returns-in_err-solved-clause-err c =
+returns-in_err-solved-clause-err g c =
     let h : IsUnanswered (claims_question exact c.args.text.now (domain_text c.args.rows) c.args.given.now c.args.policy c.args.limit)
     c.in_err-solved.field-0.0 =
     unsolved c.args.text.now (domain_text c.args.rows) c.args.given.now c.args.policy c.args.limit c.in_ok-system.system
@@ -29,7 +29,7 @@ returns-in_err-solved-clause-err c =
     search (rules, h)
 
 pub returns-in_err-list-clause-err : goal.returns-in_err-list-clause-err
-returns-in_err-list-clause-err c =
+returns-in_err-list-clause-err g c =
     let s = c.in_ok-system.system in
     let h : IsUnanswered (claims_question exact c.args.text.now (domain_text c.args.rows) c.args.given.now c.args.policy c.args.limit)
     c.in_err-list.field-0.0 =
@@ -40,7 +40,7 @@ returns-in_err-list-clause-err c =
     search (rules, h)
 
 pub returns-clause-ok : goal.returns-clause-ok
-returns-clause-ok c =
+returns-clause-ok g c =
     let s = c.in_ok-system.system in
     let claims = c.in_ok-claims.claims.items in
     let verdicts = c.in_ok-list.list.items in

@@ -1,6 +1,6 @@
 use Rattle.std.proofs.Common.{rules}
 use Rattle.ask_words.specs.Request.{domain_text}
-use Rattle.top_texts.specs.Parted.{IsRefusedAlong}
+use Rattle.top_texts.specs.Outcomes.{IsRefusedAlong}
 use Rattle.top_texts.specs.TransitionTexts.{IsAutoText}
 use Rattle.top_texts.proofs.transition_texts.Systems.{too_large, too_many, transition_system}
 use Rattle.top_texts.proofs.transitions.system_along.Goals as goal

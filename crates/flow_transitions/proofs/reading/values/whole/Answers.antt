@@ -1,6 +1,6 @@
 use Rattle.std.proofs.Common.{◌∙◌, subst}
 use Rattle.lang_grammar.specs.View.{tokens_of}
-use Rattle.lang_meaning.specs.Expressions.{ExpressionMeans}
+use Rattle.lang_meaning.specs.ExpressionAnswers.{ExpressionMeans}
 use Rattle.lang_parser.specs.Expressions.{expr_of}
 use Rattle.flow_transitions.proofs.progress.Expressions.{expression_range, fault_told}
 use Rattle.flow_transitions.proofs.reading.values.whole.Goals as goal

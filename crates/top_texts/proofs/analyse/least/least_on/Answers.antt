@@ -8,7 +8,7 @@ use Rattle.top_texts.proofs.analyses.Found.{halted_texts, refused_unput}
 use Rattle.top_texts.proofs.analyse.least.least_on.Goals as goal
 
 pub returns-in-Err-clause-err : goal.returns-in-Err-clause-err
-returns-in-Err-clause-err c = record {
+returns-in-Err-clause-err g c = record {
   answer = refused_answer Report c.args.text.now _ (domain_text c.args.rows) c.args.policy c.args.limit _ _ c.refused-status.ensures refl
       c.in-Err.ensures.err;
   unput = refused_unput _ _ c.refused-status.ensures;
@@ -18,5 +18,5 @@ returns-in-Err-clause-err c = record {
 }
 
 pub returns-in-Ok-clause-err : goal.returns-in-Ok-clause-err
-returns-in-Ok-clause-err c = halted_texts c.args.text.now (domain_text c.args.rows) c.in-Ok.system c.args.policy c.args.limit _
+returns-in-Ok-clause-err g c = halted_texts c.args.text.now (domain_text c.args.rows) c.in-Ok.system c.args.policy c.args.limit _
     c.in-Ok.ensures.ok c.least_of.ensures.err

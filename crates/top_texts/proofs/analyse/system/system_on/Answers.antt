@@ -1,6 +1,6 @@
 use Rattle.std.proofs.Common.{rules}
 use Rattle.ask_words.specs.Request.{domain_text}
-use Rattle.top_texts.specs.Parted.{IsRefusedBy}
+use Rattle.top_texts.specs.Outcomes.{IsRefusedBy}
 use Rattle.top_texts.specs.Texts.{IsAnalysed}
 use Rattle.top_texts.proofs.checks.Refused.{unread_refuses}
 use Rattle.top_texts.proofs.analyse.Systems.{solved_system, too_many_cells}

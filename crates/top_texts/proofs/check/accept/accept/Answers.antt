@@ -5,7 +5,7 @@ use Rattle.cert_types.specs.Certificates.{certificate_of}
 use Rattle.cert_checker.specs.CheckEvents.{check_events}
 use Rattle.cert_checker.specs.Events.{first_stop}
 use Rattle.top_texts.specs.Checks.{theirs}
-use Rattle.top_texts.specs.Parted.{IsUnaccepted}
+use Rattle.top_texts.specs.Outcomes.{IsUnaccepted}
 use Rattle.top_texts.proofs.check.accept.accept.Goals as goal
 
 pub returns-in_err-paths-clause-err : goal.returns-in_err-paths-clause-err

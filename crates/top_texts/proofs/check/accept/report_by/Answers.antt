@@ -1,6 +1,6 @@
 use Rattle.std.proofs.Common.{inr, ap, ◌∙◌, rules}
 use Rattle.flow_edges.specs.declared.graph.Flow.{Flow}
-use Rattle.top_texts.specs.Parted.{GetsNoReport}
+use Rattle.top_texts.specs.Outcomes.{GetsNoReport}
 use Rattle.top_texts.proofs.checks.Accepted.{accepted_report, unaccepted_with}
 use Rattle.top_texts.proofs.check.accept.report_by.Goals as goal
 

@@ -1,5 +1,5 @@
 use Rattle.std.proofs.Common.{rules}
-use Rattle.top_texts.specs.Parted.{IsUnspelt}
+use Rattle.top_texts.specs.Outcomes.{IsUnspelt}
 use Rattle.top_texts.specs.Texts.{IsAnalysed}
 use Rattle.top_texts.proofs.checks.Refused.{misspelt_unspelt, unread_unspelt}
 use Rattle.top_texts.proofs.check.certificate.read_given.Goals as goal

@@ -1,0 +1,187 @@
+-- What the calls answer, part by part: what is put, or why nothing is.
+use Rattle.std.specs.Prelude.{◌≡◌, ◌≤◌, ◌<◌, ◌⊎◌, ℕ, List, [], IsTrue, Some, length, slice_get}
+use Rattle.lang_tree.specs.Tree.{Statements}
+use Rattle.flow_templates.specs.RowFaults.{faults_of}
+use Rattle.flow_templates.specs.Rows.{is_template}
+use Rattle.base_numbers.specs.Extended.{Ext}
+use Rattle.flow_systems.specs.declared.footer.Footer.TheVariants.{Improvements}
+use Rattle.flow_systems.specs.declared.system.System.{System}
+use Rattle.flow_systems.specs.Equations.{Equations, Least, Vector}
+use Rattle.flow_systems.specs.Report.{report_of}
+use Rattle.flow_systems.specs.View.{equations_of, vector_of}
+use Rattle.theory_validity.specs.Certificates.{Certificate as TheoryCertificate, ValidCertificate}
+use Rattle.cert_types.specs.declared.cert.Cert.{Cert}
+use Rattle.serde_json.specs.Written.{compact_text}
+use Rattle.cert_text.specs.Certificates.{IsBeyond, IsWithin, SpellsCert, SpellsTooMany, cert_data}
+use Rattle.solve_rounds.specs.declared.solution.Solved.{Solved}
+use Rattle.solve_rounds.specs.Solutions.{IsSolved, cert_with, made_certificate}
+use Rattle.ask_claims.specs.declared.claim.Claim.{Claim}
+use Rattle.ask_words.specs.declared.request.Domain.{Domain}
+use Rattle.ask_words.specs.declared.request.Policy.{Policy}
+use Rattle.top_texts.specs.Checks.{IsCheckSpot, IsCompositionSpot, IsFormFault, IsRefusedCertificate, NoneIsWide, IsStopped, system_with}
+use Rattle.top_texts.specs.Checks.{theirs}
+use Rattle.top_texts.specs.Endings.{CheckEnd, UpgradeEnd}
+use Rattle.top_texts.specs.Questions.{IsWideIn, Question, QuestionEnds}
+use Rattle.top_texts.specs.Policies.{rule_of}
+use Rattle.top_texts.specs.Rounds.{EndsWithin, HasRounds, RunsOut}
+use Rattle.top_texts.specs.Spots.{HasSpot, IsWideFor}
+use Rattle.top_texts.specs.TransitionTexts.{AreNoTransitions}
+use Rattle.top_texts.specs.Texts.{IsRefused, IsRefusedProgram, unknowns}
+use Rattle.ask_words.specs.declared.request.Purpose.{Purpose}
+use Rattle.ask_words.specs.declared.request.Purpose.TheVariants.{Report, Certificate as AsCertificate}
+use Rattle.top_status.specs.declared.status.CertCause.TheVariants as form
+use Rattle.top_status.specs.declared.status.Status.{Status}
+use Rattle.top_status.specs.declared.status.Status.TheVariants as status
+use Rattle.top_texts.specs.declared.refusal.Refusal.{Refusal}
+use Rattle.top_texts.specs.declared.refusal.Refusal.TheVariants.{Text, Certificate, Wide, Spent, NoMemory}
+use Rattle.flow_systems.specs.declared.limits.TheConstants.{MOST_UNKNOWNS}
+
+-- the text of a program is refused by this cause; want of memory needs none
+abbrev pub IsUnread : List ℕ → Refusal → Type 0
+IsUnread text (Text cause) = IsRefusedProgram text cause
+IsUnread text NoMemory = Unit {0}
+IsUnread text _ = ⊥
+
+-- the texts are refused by this cause before there is a system; want of memory needs none
+abbrev pub IsRefusedBy : List ℕ → Domain (List ℕ) → Refusal → Type 0
+IsRefusedBy text rows (Text cause) = IsRefused text rows cause
+IsRefusedBy text rows NoMemory = Unit {0}
+IsRefusedBy text rows _ = ⊥
+
+-- the texts of a transition system and of its rows are refused by this cause before there is a system; want of memory needs none
+abbrev pub IsRefusedAlong : List ℕ → Domain (List ℕ) → Refusal → Type 0
+IsRefusedAlong text rows (Text cause) = AreNoTransitions text rows cause
+IsRefusedAlong text rows NoMemory = Unit {0}
+IsRefusedAlong text rows _ = ⊥
+
+-- why the analysis of a system has no end; want of memory needs none
+abbrev pub IsHalted : Purpose → System → Policy → ℕ → Refusal → Type 0
+IsHalted purpose system policy limit (Wide spot) = HasSpot purpose system policy limit spot
+IsHalted purpose system policy limit (Spent number) = RunsOut system policy limit × (number ≡ limit)
+IsHalted purpose system policy limit NoMemory = Unit {0}
+IsHalted purpose system policy limit _ = ⊥
+
+-- the bytes are the report of the least vector of a system, with the number of its rounds
+pub record IsRoundsReport (system : System) (policy : Policy) (limit : ℕ) (bytes : List ℕ) : Type 0 where
+  pub rounds : ℕ
+  pub within : rounds ≤ limit
+  pub bounds : List Ext
+  pub has_rounds : HasRounds system policy rounds (vector_of (length system.template) bounds)
+  pub least : Least (equations_of system) (vector_of (length system.template) bounds)
+  pub report : bytes ≡ report_of system (vector_of (length system.template) bounds) (Improvements rounds)
+
+-- the bytes are the certificate that the rounds over a system make; it is valid, no sum of its check is wide, and the bytes spell it unless
+-- its traces
+-- hold too many values
+pub record IsRoundsCertificate (system : System) (policy : Policy) (limit : ℕ) (bytes : List ℕ) : Type 0 where
+  pub solved : Solved
+  pub is_solved : IsSolved system (rule_of policy) limit solved
+  pub template : IsTrue (is_template system.template)
+  pub written : bytes ≡ compact_text (cert_data (cert_with system solved))
+  pub spells : IsWithin (cert_with system solved) → SpellsCert bytes (cert_with system solved)
+  pub expands : IsBeyond (cert_with system solved) → SpellsTooMany bytes
+  pub valid : ValidCertificate (equations_of system) (made_certificate system solved)
+  pub narrow : NoneIsWide (equations_of system) (made_certificate system solved)
+  pub least : Least (equations_of system) (vector_of (length system.template) solved.bounds)
+
+-- what is put of the analysis of a system
+abbrev pub IsOutputOf : Purpose → System → Policy → ℕ → List ℕ → Type 0
+IsOutputOf Report system policy limit bytes = IsRoundsReport system policy limit bytes
+IsOutputOf AsCertificate system policy limit bytes = IsRoundsCertificate system policy limit bytes
+
+-- the bytes spell no certificate, by this cause; want of memory needs none
+abbrev pub IsMisspelt : List ℕ → Refusal → Type 0
+IsMisspelt bytes (Certificate (form.Form fault)) = IsFormFault bytes fault
+IsMisspelt bytes NoMemory = Unit {0}
+IsMisspelt bytes _ = ⊥
+
+-- the text or the bytes are refused before the certificate's rows are seen
+abbrev pub IsUnspelt : List ℕ → List ℕ → Refusal → Type 0
+IsUnspelt text bytes (Text cause) = IsRefusedProgram text cause
+IsUnspelt text bytes (Certificate (form.Form fault)) = IsRefusedCertificate text bytes (form.Form fault)
+IsUnspelt text bytes NoMemory = Unit {0}
+IsUnspelt text bytes _ = ⊥
+
+-- the rows of a certificate are a template over a program's variables, with few enough unknowns
+pub record FitsProgram (names : List (List ℕ)) (body : Statements) (cert : Cert) : Type 0 where
+  pub rows : faults_of (length names) cert.rows ≡ []
+  pub within : unknowns body cert.rows ≤ MOST_UNKNOWNS
+
+-- why there are no verdicts on claims at a vector; want of memory needs none
+abbrev pub AreUnjudged : Equations → Vector → List Claim → Refusal → Type 0
+AreUnjudged system vector claims (Wide spot) = IsWideFor system vector claims spot
+AreUnjudged system vector claims NoMemory = Unit {0}
+AreUnjudged system vector claims _ = ⊥
+
+-- why a system and a certificate aren't accepted
+abbrev pub IsUnaccepted : Equations → TheoryCertificate → Refusal → Type 0
+IsUnaccepted system certificate (Certificate (form.Check fault)) = IsStopped system certificate fault
+IsUnaccepted system certificate (Wide spot) = IsCompositionSpot system spot ⊎ IsCheckSpot system certificate spot
+IsUnaccepted system certificate NoMemory = Unit {0}
+IsUnaccepted system certificate _ = ⊥
+
+-- why a program and a certificate are no system
+abbrev pub IsNoSystem : List (List ℕ) → Statements → Cert → Refusal → Type 0
+IsNoSystem names body cert (Certificate (form.Rows fault)) = slice_get (faults_of (length names) cert.rows) 0 ≡ Some fault
+IsNoSystem names body cert (Certificate (form.Unknowns count)) =
+    (faults_of (length names) cert.rows ≡ []) × (MOST_UNKNOWNS < unknowns body cert.rows) × (count ≡ unknowns body cert.rows)
+IsNoSystem names body cert NoMemory = Unit {0}
+IsNoSystem names body cert _ = ⊥
+
+-- why a program and a certificate that is spelt get no report
+abbrev pub GetsNoReport : List (List ℕ) → Statements → Cert → Refusal → Type 0
+GetsNoReport names body cert refusal =
+    IsNoSystem names body cert refusal ⊎ (FitsProgram names body cert × IsUnaccepted (system_with names body cert) (theirs cert) refusal)
+
+-- the ending of a refusal
+abbrev pub refused : Refusal → Status
+refused (Text cause) = status.Text cause
+refused (Certificate cause) = status.Certificate cause
+refused (Wide spot) = status.Wide spot
+refused (Spent number) = status.Spent number
+refused NoMemory = status.Memory
+
+-- what an answer to the analysis of a system says of it
+abbrev pub IsAnswerToSystem : Purpose → System → Policy → ℕ → Status → Type 0
+IsAnswerToSystem purpose system policy limit status.Done = EndsWithin system policy limit
+IsAnswerToSystem purpose system policy limit (status.Wide spot) = HasSpot purpose system policy limit spot
+IsAnswerToSystem purpose system policy limit (status.Spent number) = RunsOut system policy limit × (number ≡ limit)
+IsAnswerToSystem purpose system policy limit status.Memory = Unit {0}
+IsAnswerToSystem purpose system policy limit status.Write = EndsWithin system policy limit
+IsAnswerToSystem purpose system policy limit _ = ⊥
+
+-- what an answer to a question says of it
+abbrev pub QuestionAnswer : Question → Status → Type 0
+QuestionAnswer question status.Done = QuestionEnds question status.Done
+QuestionAnswer question (status.Text cause) = question.is_refused cause
+QuestionAnswer question (status.Wide spot) = IsWideIn question spot
+QuestionAnswer question (status.Spent number) = QuestionEnds question (status.Spent number)
+QuestionAnswer question status.Memory = Unit {0}
+QuestionAnswer question status.Write = QuestionEnds question status.Done
+QuestionAnswer question _ = ⊥
+
+-- why nothing is put of a question; want of memory needs no cause
+abbrev pub IsUnanswered : Question → Refusal → Type 0
+IsUnanswered question (Text cause) = question.is_refused cause
+IsUnanswered question (Certificate cause) = ⊥
+IsUnanswered question (Wide spot) = IsWideIn question spot
+IsUnanswered question (Spent number) = QuestionEnds question (status.Spent number)
+IsUnanswered question NoMemory = Unit {0}
+
+-- what an answer to the check of loaded texts says of them
+abbrev pub IsAnswerToCheck : List ℕ → List ℕ → Status → Type 0
+IsAnswerToCheck text bytes status.Done = CheckEnd text bytes status.Done
+IsAnswerToCheck text bytes (status.Certificate cause) = CheckEnd text bytes (status.Certificate cause)
+IsAnswerToCheck text bytes (status.Text cause) = CheckEnd text bytes (status.Text cause)
+IsAnswerToCheck text bytes (status.Wide spot) = CheckEnd text bytes (status.Wide spot)
+IsAnswerToCheck text bytes status.Memory = Unit {0}
+IsAnswerToCheck text bytes status.Write = CheckEnd text bytes status.Done
+IsAnswerToCheck text bytes _ = ⊥
+
+-- what an answer to the bytes of a certificate that is upgraded says of them
+abbrev pub IsAnswerToUpgrade : List ℕ → Status → Type 0
+IsAnswerToUpgrade bytes status.Done = UpgradeEnd bytes status.Done
+IsAnswerToUpgrade bytes (status.Certificate cause) = UpgradeEnd bytes (status.Certificate cause)
+IsAnswerToUpgrade bytes status.Memory = Unit {0}
+IsAnswerToUpgrade bytes status.Write = UpgradeEnd bytes status.Done
+IsAnswerToUpgrade bytes _ = ⊥
