@@ -22,9 +22,10 @@ KINDS = ("proofs", "proofs of tests", "edits", "builds")
 def kind_of(words, folder):
     if "/rt-edit-" in folder:
         return "edits"
-    if len(words) > 1 and words[1] == "check":
-        return "proofs of tests" if "--test" in words else "proofs"
-    return "builds"
+    if "--test" in words:
+        return "proofs of tests"
+    # The gate proves a crate by the command that also writes its library.
+    return "proofs" if words[1:2] == ["check"] or "--empty-contracts" in words else "builds"
 
 
 def processes():

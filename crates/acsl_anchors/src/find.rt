@@ -1,4 +1,4 @@
-//! The anchors of a text.
+//! The anchors of a text: each token is given to the search (`search.rt`), whose goals are in `goal.rt`.
 
 ghost use Rattle.std.specs.Prelude.{◌≡◌, ◌≤◌, IfOk, length};
 ghost use Rattle.base_limits.specs.declared.limits.TheConstants.{MOST_TEXT_BYTES};

@@ -9,7 +9,7 @@ use Rattle.acsl_annotate.specs.Messages.{saying}
 
 -- the commands that annotate end in neither
 pub annotating_inside : EndsInside (annotating exact)
-annotating_inside = record { writes = (inside exact).writes; reads = (inside exact).reads }
+annotating_inside = record { writes = inside.writes; reads = inside.reads }
 
 -- and the messages name no place
 pub annotating_plain : IsPlain (saying exact)

@@ -2,14 +2,14 @@
 
 ghost use Rattle.std.specs.Prelude.{◌≡◌, ◌≤◌, ◌⊎◌, List, ℕ, [], length, map, string_bytes};
 ghost use Rattle.base_limits.specs.declared.limits.TheConstants.{MOST_IMPROVEMENTS, MOST_TEXT_BYTES};
-ghost use Rattle.ask_files.specs.Asked.{texts_of};
+ghost use Rattle.ask_files.specs.Files.{texts_of};
 ghost use Rattle.ask_words.specs.Request.{analysis_text};
 ghost use Rattle.ask_words.specs.declared.request.Domain.{Domain};
 ghost use Rattle.ask_words.specs.declared.request.Policy.{Policy as PolicyValue};
 ghost use Rattle.ask_words.specs.declared.request.Purpose.TheVariants.{Report};
 ghost use Rattle.ask_words.specs.declared.request.Request.TheVariants.{Analyse};
 ghost use Rattle.top_answer.specs.Answers.{IsAnsweredBy, Ends, Holds, IsAnswer, IsMessage, IsOutput};
-ghost use Rattle.top_answer.specs.Limits.{IsWithin};
+ghost use Rattle.top_answer.specs.Commands.{IsWithin};
 ghost use Rattle.top_answer.specs.Outcomes.{AnswersRequest, AnswersWords, NamesPlace, Says};
 ghost use Rattle.top_status.specs.Messages.{message_of};
 ghost use Rattle.top_status.specs.declared.status.Status.{Status as StatusValue};

@@ -85,9 +85,8 @@ truth_of text names e =
     >>= λ c. decided (choice_at (spell_expr e)) c >>= λ _. Ok c
 
 -- ---- what trees say
--- The claim is without fault, and says this: its expression groups as it must and nothing in it opens one construct too many, its name is a
--- label
--- of this point, its expression says this condition, and that may be false in at most 64 cases.
+-- The claim is without fault, and says this: its expression groups as it must and nothing in it opens one construct too many, its name is
+-- a label of this point, its expression says this condition, and that may be false in at most 64 cases.
 pub record Says (text : List ℕ) (names : List (List ℕ)) (points : List Point) (c : Written) (s : Stated) : Type 0 where
   pub good : Groups 0 c.expr
   pub shallow : FineExpr (spell_expr c.expr)
@@ -110,9 +109,8 @@ pub record IsHead (points : List Point) (cs : List Written) (name : List ℕ) : 
   pub point : ℕ
   pub labels : point_of name points ≡ Some point
 
--- These tokens are what a claim behind others has before some token of it, and nothing in them is at fault: no token, its name, or its name
--- and colon
--- with what begins an expression, or with a whole one that says a condition.
+-- These tokens are what a claim behind others has before some token of it, and nothing in them is at fault: no token, its name, or its
+-- name and colon with what begins an expression, or with a whole one that says a condition.
 pub data Faultless (text : List ℕ) (names : List (List ℕ)) (points : List Point) (cs : List Written) (part : List Token) : Type 0 where
   at_start : part ≡ [] → Faultless text names points cs part
   behind_name : (x : List ℕ) (a : ℕ) → part ≡ token (a_name x) a ∷ [] → IsHead points cs x → Faultless text names points cs part
@@ -148,9 +146,8 @@ pub data FirstFault (text : List ℕ) (names : List (List ℕ)) (points : List P
       → FirstFault text names points cs tokens f
 
 -- ---- what a file says
--- The tokens read as at most 64 claims, of which each says what stands at its place in the list; or they begin with at most 64 such claims,
--- and what
--- follows has this fault first.
+-- The tokens read as at most 64 claims, of which each says what stands at its place in the list; or they begin with at most 64 such
+-- claims, and what follows has this fault first.
 abbrev pub ClaimsMean : List ℕ → List (List ℕ) → List Point → List Token → StatedClaims → Type 0
 ClaimsMean text names points tokens (Ok ss) =
     (cs : List Written) × ReadsClaims tokens cs × AllSay text names points cs ss × (length cs ≤ 64)

@@ -19,8 +19,7 @@ use Rattle.ask_claims.specs.Claims.{AreAtPoints}
 use Rattle.ask_claims.specs.Truth.{IsTrueAt}
 
 -- where no state that fits a post-solution of a program's system at a point passes a case against a condition, the condition is true at
--- every
--- configuration at this point in every run
+-- every configuration at this point in every run
 abbrev pub ProvedClaimsHold : Type 0
 ProvedClaimsHold = (variables : ℕ) (body : Statements) (template : List (List ℤ)) (v : Vector) (p : ℕ) (c : Condition) →
     PostSolution (equations_of_program variables body template) v →
@@ -40,9 +39,8 @@ VerdictsAreOne = (system : Equations) (z w : Vector) (claims : List Claim) (verd
     → AreAtPoints system claims →
     AreVerdicts system z claims verdicts → AreVerdicts system w claims again → verdicts ≡ again
 
--- where a verdict on a list of claims at a post-solution of a program's system is that a claim is proved, the claim's condition is true at
--- every
--- configuration at its point in every run
+-- where a verdict on a list of claims at a post-solution of a program's system is that a claim is proved, the claim's condition is true
+-- at every configuration at its point in every run
 abbrev pub ProvedVerdictsHold : Type 0
 ProvedVerdictsHold = (variables : ℕ) (body : Statements) (template : List (List ℤ)) (v : Vector) (claims : List Claim)
     (verdicts : List Verdict)

@@ -95,9 +95,8 @@ finished tokens i h w =
     >>= λ _. Ok (record { point = h.0; label = h.1; cond = c }, m.1 + 1)
 
 -- ---- one claim
--- From token i on the tokens begin with a claim that says this, and with this number the next token is behind it; or, behind fewer than 64
--- claims,
--- they have this fault first.
+-- From token i on the tokens begin with a claim that says this, and with this number the next token is behind it; or, behind fewer than
+-- 64 claims, they have this fault first.
 abbrev pub BeginsClaim : List ℕ → List (List ℕ) → List Point → List Token → ℕ → Result (Stated × ℕ) ClaimFault → Type 0
 BeginsClaim text names points tokens i (Ok (s, next)) =
     (c : Written) × (drop i (tokens_of text tokens) ≡ claim_then c (drop next (tokens_of text tokens))) × Says text names points c s

@@ -2,7 +2,7 @@
 
 use lang_parser::ParseFault;
 use lang_tokens::LexFault;
-use std::alloc::{AllocError, AllocFailed};
+use std::alloc::AllocFailed;
 
 /// The first fault of a file of claims; `at` counts the bytes of the text before a token (docs/FORMATS.md, "Claims").
 #[derive(Clone, Copy, Debug, PartialEq, Eq)]
@@ -32,17 +32,6 @@ impl From<ParseFault> for ClaimFault {
             ParseFault::NoMemory => ClaimFault::NoMemory,
             fault => ClaimFault::Parse(fault),
         }
-    }
-}
-
-impl From<AllocError> for ClaimFault {
-    ghost use Rattle.std.specs.Prelude.{◌≡◌};
-    ghost use Rattle.ask_claims.specs.declared.fault.ClaimFault.TheVariants.{NoMemory};
-
-    ghost from_gives = { λ _ e. e ≡ NoMemory };
-
-    fn from(_error: AllocError) -> Self {
-        ClaimFault::NoMemory
     }
 }
 

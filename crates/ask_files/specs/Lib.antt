@@ -1,4 +1,3 @@
 pub mod Files
-pub mod Asked
 pub mod Named
 pub mod Loads

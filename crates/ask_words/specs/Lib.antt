@@ -1,5 +1,3 @@
-pub mod CommandLine
 pub mod Laws
 pub mod Request
-pub mod Usage
 pub mod Values

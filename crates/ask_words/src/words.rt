@@ -2,10 +2,8 @@
 
 ghost use Rattle.std.specs.Prelude.{◌≡◌, IfOk, IsErrOf, None, Some, map, string_bytes};
 ghost use Rattle.ask_words.specs.Request.{request_of, request_text};
-ghost use Rattle.ask_words.specs.Usage.{usage_text};
 
-use crate::command::command_line;
-use crate::given::request;
+use crate::commands::{command_line, request};
 use crate::request::Request;
 use clap::error::ErrorKind;
 use std::alloc::{AllocError, Global};
@@ -49,14 +47,4 @@ pub fn read_words<'a>(alloc: Global, words: &'a [String]) -> Result<Request<&'a 
             _ => Err(WordsFault::Usage),
         },
     }
-}
-
-/// The line, with its line feed, that says which words make a command.
-pub fn usage_line() -> &'static [u8]
-    ensures { result.now ≡ usage_text }
-{
-    b"usage: tmpl solve PROGRAM [--domain D] [--rows FILE] [--improvements N] [--policy P] | certify (the same) \
-      | check PROGRAM CERT | bench --seed N --loops K | upgrade CERT \
-      | prove PROGRAM CLAIMS (the options of solve) | transitions FILE (the options of solve) \
-      | equations FILE [--improvements N] [--policy P] | points PROGRAM\n"
 }

@@ -91,58 +91,41 @@ fn weight(answer: Result<Frac, Wide<Frac>>) -> u64 {
     }
 }
 
-fn plus(pairs: &[(Frac, Frac)], rounds: u64) -> u64 {
+// The sum over all pairs, so many times, of what an operation on a pair weighs.
+fn summed<F: Fn(Frac, Frac) -> u64>(pairs: &[(Frac, Frac)], rounds: u64, one: F) -> u64
+    requires { F.IsAlwaysCallable one }
+{
     let mut sum = 0u64;
     for _ in 0..rounds {
         for (left, right) in pairs {
-            sum = sum.wrapping_add(weight(left.plus(*right)));
+            sum = sum.wrapping_add(one(*left, *right));
         }
     }
     sum
 }
 
-fn add_product(pairs: &[(Frac, Frac)], rounds: u64) -> u64 {
-    let mut sum = 0u64;
-    for _ in 0..rounds {
-        for (left, right) in pairs {
-            sum = sum.wrapping_add(weight(left.add_product(*left, *right)));
-        }
-    }
-    sum
+fn plus(left: Frac, right: Frac) -> u64 {
+    weight(left.plus(right))
 }
 
-fn times(pairs: &[(Frac, Frac)], rounds: u64) -> u64 {
-    let mut sum = 0u64;
-    for _ in 0..rounds {
-        for (left, right) in pairs {
-            sum = sum.wrapping_add(weight(left.times(*right)));
-        }
-    }
-    sum
+fn times(left: Frac, right: Frac) -> u64 {
+    weight(left.times(right))
 }
 
-fn over(pairs: &[(Frac, Frac)], rounds: u64) -> u64 {
-    let mut sum = 0u64;
-    for _ in 0..rounds {
-        for (left, right) in pairs {
-            if !right.is_zero() {
-                sum = sum.wrapping_add(weight(left.over(*right)));
-            }
-        }
-    }
-    sum
+fn add_product(left: Frac, right: Frac) -> u64 {
+    weight(left.add_product(left, right))
 }
 
-fn cmp(pairs: &[(Frac, Frac)], rounds: u64) -> u64 {
-    let mut sum = 0u64;
-    for _ in 0..rounds {
-        for (left, right) in pairs {
-            if left.cmp(right) == Ordering::Greater {
-                sum = sum.wrapping_add(1);
-            }
-        }
+fn over(left: Frac, right: Frac) -> u64 {
+    if right.is_zero() {
+        0
+    } else {
+        weight(left.over(right))
     }
-    sum
+}
+
+fn cmp(left: Frac, right: Frac) -> u64 {
+    u64::from(left.cmp(&right) == Ordering::Greater)
 }
 
 fn main(rt: HostRuntime) -> anyhow::Result<()> {
@@ -167,11 +150,11 @@ fn main(rt: HostRuntime) -> anyhow::Result<()> {
                 continue;
             }
             let sum = match op {
-                "plus" => plus(pairs.as_slice(), rounds),
-                "times" => times(pairs.as_slice(), rounds),
-                "add_product" => add_product(pairs.as_slice(), rounds),
-                "over" => over(pairs.as_slice(), rounds),
-                _ => cmp(pairs.as_slice(), rounds),
+                "plus" => summed(pairs.as_slice(), rounds, plus),
+                "times" => summed(pairs.as_slice(), rounds, times),
+                "add_product" => summed(pairs.as_slice(), rounds, add_product),
+                "over" => summed(pairs.as_slice(), rounds, over),
+                _ => summed(pairs.as_slice(), rounds, cmp),
             };
             println!(rt; "{op} {size} {sum}")?;
         }

@@ -36,8 +36,7 @@ FitAnswers system z p x result = MatchResult result (Fitted system z p x) (λ w.
     first_stop (fit_events site fault system z p x) ≡ Some (wide_answer site (operation_of (λ q. q) w)))
 
 -- the start has to fit at the edge's source; then the actions are followed up to the first guard that fails, with the row at the end; and
--- then it is told
--- whether the trace runs
+-- then it is told whether the trace runs
 unfoldable pub run_events : Site → Fault → Equations → Vector → Edge → List ℤ → Pieces → List Event
 run_events site fault system z edge row t =
     fit_events site fault system z edge.from (start_of system.variables (word t))

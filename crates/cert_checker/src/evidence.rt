@@ -44,11 +44,7 @@ fn column_passes(
         (get_or goal.now column zero_ℚ))) fault ∷ []) result }
 {
     let sum = column_sum(system, paths, edge, rows, guards, column)?;
-    if sum == coefficient(goal, column) {
-        Ok(Some(()))
-    } else {
-        Ok(None)
-    }
+    Ok((sum == coefficient(goal, column)).then_some(()))
 }
 
 // Whether the combination has the goal's entry at each column: at the start variables and then at the free values.
@@ -137,11 +133,7 @@ fn bound_passes(
         return Ok(None);
     };
     let most = value.plus(end.constant)?;
-    if most <= limit {
-        Ok(Some(()))
-    } else {
-        Ok(None)
-    }
+    Ok((most <= limit).then_some(()))
 }
 
 // Whether multiples of rows and guards show that nothing runs along the edge.
@@ -165,11 +157,7 @@ fn empty_passes(
     let Some(value) = combined_side(system, paths, bounds, edge, rows, guards, &[])? else {
         return Ok(None);
     };
-    if value < Frac::zero() {
-        Ok(Some(()))
-    } else {
-        Ok(None)
-    }
+    Ok((value < Frac::zero()).then_some(()))
 }
 
 // Whether a row is there and has the bound `-inf` at the source.
@@ -233,12 +221,6 @@ pub fn passes(
             rows.as_slice(),
             guards.as_slice(),
         ),
-        Upper::Unreached { row } => {
-            if is_unreached(system, bounds, edge, *row) {
-                Ok(Some(()))
-            } else {
-                Ok(None)
-            }
-        }
+        Upper::Unreached { row } => Ok(is_unreached(system, bounds, edge, *row).then_some(())),
     }
 }

@@ -1,12 +1,12 @@
 //! The steps of a certificate.
 
-ghost use Rattle.std.specs.Prelude.{◌≡◌, ◌*◌, ◌<◌, ◌^◌, ℕ, IsTrue, MatchResult, Some, None, length, map};
+ghost use Rattle.std.specs.Prelude.{◌≡◌, ◌*◌, ◌<◌, ◌^◌, ℕ, IfOk, IsTrue, MatchResult, Some, None, length, map};
 ghost use Rattle.std.specs.List.{list_all};
 ghost use Rattle.base_fractions.specs.Extended.{extended};
 ghost use Rattle.flow_systems.specs.Equations.{Equations, Vector};
 ghost use Rattle.flow_systems.specs.View.{equations_of};
 ghost use Rattle.cert_types.specs.Certificates.{step_of};
-ghost use Rattle.theory_validity.specs.Steps.{after_step, new_value, put, start_vector};
+ghost use Rattle.theory_validity.specs.Steps.{ValidStep, after_step, new_value, put, start_vector};
 ghost use Rattle.theory_validity.specs.Certificates.{after_steps};
 ghost use Rattle.cert_checker.specs.Events.{IsRun, first_stop};
 ghost use Rattle.cert_checker.specs.Items.{item_count, item_at, is_short};
@@ -23,6 +23,7 @@ use crate::second_pass::{test_jump, test_ray};
 use base_fractions::Ext;
 use cert_types::Step;
 use flow_systems::{Bounds, System};
+use std::alloc::{AllocError, Global};
 
 // The tests of a step's items after all of them have passed at the vector that the step finds.
 fn second_pass(
@@ -84,6 +85,40 @@ fn take(
     second_pass(system, step, number, base, next, rates)?;
     set_new_bounds(step, base);
     Ok(())
+}
+
+// The same bounds once more.
+fn copied(alloc: Global, bounds: &Bounds) -> Result<Bounds, AllocError>
+    ensures { IfOk result (λ copy. copy ≡ bounds.now) }
+{
+    let list = bounds.as_slice().to_vec(alloc)?;
+    Ok(Bounds::new(list))
+}
+
+/// Whether a step is valid where these are the bounds, by the tests of a certificate's steps: a `false` says that a test fails, or that
+/// a sum is too wide.
+///
+/// # Errors
+///
+/// Want of memory.
+pub fn is_valid_step(
+    alloc: Global,
+    system: &System,
+    step: &Step,
+    bounds: &Bounds,
+) -> Result<bool, AllocError>
+    requires few { item_count step.now < 2 ^ 32 }
+    requires bounds { length bounds.now ≡ length system.now.flow.points * length system.now.template }
+    ensures { IfOk result (λ valid. IsTrue valid → (z : Vector) → Stands (equations_of system.now) bounds.now z
+        → ValidStep (equations_of system.now) z (step_of (length system.now.template) step.now)) }
+{
+    let mut base = copied(alloc, bounds)?;
+    let mut next = copied(alloc, bounds)?;
+    let mut rates = copied(alloc, bounds)?;
+    match take(system, step, 0, &mut base, &mut next, &mut rates) {
+        Ok(()) => Ok(true),
+        Err(_) => Ok(false),
+    }
 }
 
 // The bound from which an unknown starts.

@@ -80,15 +80,16 @@ fn entry_and_loop(alloc: Global) -> Result<Points, AllocError>
     ensures { IfOk result (λ points. points ≡ entry_and_loop) }
 {
     let mut list = Vec::new(alloc);
-    list.push(Point {
-        place: Place::Entry,
-        line: 0,
-    })?;
-    list.push(Point {
-        place: Place::Loop,
-        line: 0,
-    })?;
+    list.push(unlined(Place::Entry))?;
+    list.push(unlined(Place::Loop))?;
     Ok(Points::new(list))
+}
+
+// A point that stands in no line of a text.
+fn unlined(place: Place) -> Point
+    ensures { result ≡ record { place = place; line = 0 } }
+{
+    Point { place, line: 0 }
 }
 
 // The row of each of n names.

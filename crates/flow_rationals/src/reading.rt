@@ -99,7 +99,8 @@ fn answer(alloc: Global, text: &[u8]) -> Result<Equations, EquFault>
 
 /// The equations of a text of at most 65,536 bytes, each sum over its common denominator, or the text's first fault.
 ///
-/// `1:2` is one half. `docs/FORMATS.md` has the grammar, and `EquFault` the order of the faults.
+/// `1:2` is one half. `docs/FORMATS.md` has the grammar, and `EquFault` (`fault.rt`) the faults in
+/// their order.
 pub fn read(alloc: Global, text: &[u8]) -> Result<Equations, EquFault>
     requires { length text.now ≤ MOST_TEXT_BYTES }
 

@@ -1,4 +1,4 @@
--- The faults of rows that are given as lists.
+-- The faults of rows that are given as lists, those of a file among them: how many they are, rows of zeros, lengths.
 use Rattle.std.specs.Prelude.{◌==◌, ◌&&◌, ℕ, ℤ, if◌then◌else◌, List, [], ◌∷◌, ◌++◌, length, nat_le}
 use Rattle.std.specs.List.{flat_map, enumerate_from}
 use Rattle.flow_templates.specs.declared.fault.RowFault.{RowFault}

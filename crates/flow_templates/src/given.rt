@@ -1,4 +1,4 @@
-//! Templates of given rows.
+//! Templates of given rows, those of a file among them: how many they may be, and rows of zeros.
 
 ghost use Rattle.std.specs.Prelude.{◌≡◌, ◌≢◌, ◌<◌, ◌^◌, ◌∷◌, [], Some, length, slice_get, option_to_list, IfOk, OnOk, IfErr};
 ghost use Rattle.flow_templates.specs.Rows.{is_row, width_of};

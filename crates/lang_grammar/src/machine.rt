@@ -1,4 +1,4 @@
-//! Whether tokens are a sentence, by a stack of what has still to come.
+//! Whether tokens are a sentence, by a stack of what has still to come; what each goal takes is in `goal.rt`.
 
 ghost use Rattle.std.specs.Prelude.{◌≡◌, OnOk, IfOk, List, ℕ, map};
 ghost use Rattle.lang_grammar.specs.Machine.{start};

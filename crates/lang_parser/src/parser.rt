@@ -1,4 +1,5 @@
-//! The parser.
+//! The parser, in two passes: the grammar (`lang_grammar`), and then the walk (`pass.rt`), whose names, kinds and limits are in
+//! `lang_reader`.
 
 ghost use Rattle.std.specs.Prelude.{◌≡◌, ◌≤◌, length, Err, IfOk, IfErr};
 ghost use Rattle.base_limits.specs.declared.limits.TheConstants.{MOST_TEXT_BYTES};

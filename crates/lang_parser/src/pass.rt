@@ -1,4 +1,4 @@
-//! The second pass: names, kinds and limits.
+//! The second pass: each token is fed to the reader, whose names, kinds and limits are in `lang_reader`.
 
 ghost use Rattle.std.specs.Prelude.{◌≡◌, ◌≤◌, length};
 ghost use Rattle.lang_grammar.specs.View.{tokens_of};

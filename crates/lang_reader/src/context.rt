@@ -147,6 +147,7 @@ impl Context {
     {
         self.known.truncate(known);
     }
+
     /// How many names are known here.
     pub fn known_count(&self) -> usize
         ensures { result ≡ length (state_of self.now).known }

@@ -120,6 +120,7 @@ impl Reader {
         self.frames.add(source.alloc, stmt)?;
         Ok(next)
     }
+
     /// The statement at `place` counts, and what stands within it begins.
     pub fn opened(&mut self, alloc: Global, within: Within, place: u32) -> Result<Mode, ParseFault>
         ensures { Gives (machine_of self.new) result

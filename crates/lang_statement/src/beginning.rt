@@ -11,18 +11,13 @@ ghost use Rattle.lang_reader.specs.Views.{state_of};
 
 use crate::ending::items_end;
 use crate::jumps::jump_node;
+use crate::next::Next;
 use lang_grammar::Symbol;
-use lang_meaning::ParseFault;
 use lang_reader::{Frame, Lexeme, Mode, Reader, Source, Test, Within, one};
 use lang_tokens::line_of;
 
 /// The first token of a statement, or what follows items.
-pub fn begun(
-    source: &Source,
-    reader: &mut Reader,
-    lexeme: Lexeme,
-    place: u32,
-) -> Result<Mode, ParseFault>
+pub fn begun(source: &Source, reader: &mut Reader, lexeme: Lexeme, place: u32) -> Next
     ensures { Gives (machine_of reader.new) result
         (begun (line_at source.now.text.now) source.now.width (state_of reader.old.context)
         (frames_of reader.old.frames) (lexeme_kind lexeme) place) }
@@ -35,12 +30,7 @@ pub fn begun(
 }
 
 // The same for a token that is no name.
-fn opened(
-    source: &Source,
-    reader: &mut Reader,
-    symbol: Symbol,
-    place: u32,
-) -> Result<Mode, ParseFault>
+fn opened(source: &Source, reader: &mut Reader, symbol: Symbol, place: u32) -> Next
     ensures { Gives (machine_of reader.new) result
         (begun (line_at source.now.text.now) source.now.width (state_of reader.old.context)
         (frames_of reader.old.frames) (unnamed (symbol_kind symbol)) place) }

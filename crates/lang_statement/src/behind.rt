@@ -14,8 +14,8 @@ ghost use Rattle.lang_reader.specs.Views.{state_of};
 use crate::beginning::begun;
 use crate::ending::{attach, close, while_behind};
 use crate::jumps::step_node;
+use crate::next::Next;
 use lang_grammar::{Direction, Symbol};
-use lang_meaning::ParseFault;
 use lang_reader::{Frame, Lexeme, Mode, Reader, Source};
 use lang_tokens::line_of;
 use lang_tree::{Name, Stmt};
@@ -28,7 +28,7 @@ pub fn behind_name(
     from: u32,
     lexeme: Lexeme,
     place: u32,
-) -> Result<Mode, ParseFault>
+) -> Next
     ensures { Gives (machine_of reader.new) result
         (behind_name (line_at source.now.text.now) source.now.width (state_of reader.old.context)
         (frames_of reader.old.frames) name from (lexeme_kind lexeme) place) }
@@ -65,7 +65,7 @@ pub fn behind_step(
     from: u32,
     lexeme: Lexeme,
     place: u32,
-) -> Result<Mode, ParseFault>
+) -> Next
     ensures { Gives (machine_of reader.new) result
         (behind_step (line_at source.now.text.now) source.now.width (state_of reader.old.context)
         (frames_of reader.old.frames) (direction_of direction) from (lexeme_kind lexeme) place) }
@@ -80,12 +80,7 @@ pub fn behind_step(
 }
 
 // The first token behind a statement, where it is no `else`.
-fn behind_closed(
-    source: &Source,
-    reader: &mut Reader,
-    lexeme: Lexeme,
-    place: u32,
-) -> Result<Mode, ParseFault>
+fn behind_closed(source: &Source, reader: &mut Reader, lexeme: Lexeme, place: u32) -> Next
     ensures { Gives (machine_of reader.new) result
         (behind_closed (line_at source.now.text.now) source.now.width (pending_of reader.old) (lexeme_kind lexeme) place) }
 {
@@ -108,7 +103,7 @@ pub fn behind_statement(
     nodes: Vec<Stmt>,
     lexeme: Lexeme,
     place: u32,
-) -> Result<Mode, ParseFault>
+) -> Next
     ensures { Gives (machine_of reader.new) result
         (behind_statement (line_at source.now.text.now) source.now.width (state_of reader.old.context)
         (frames_of reader.old.frames) (statements_of nodes.items) (lexeme_kind lexeme) place) }
@@ -130,7 +125,7 @@ pub fn behind_declarator(
     from: u32,
     lexeme: Lexeme,
     place: u32,
-) -> Result<Mode, ParseFault>
+) -> Next
     ensures { Gives (machine_of reader.new) result
         (behind_declarator (line_at source.now.text.now) source.now.width (state_of reader.old.context)
         (frames_of reader.old.frames) name from (lexeme_kind lexeme) place) }

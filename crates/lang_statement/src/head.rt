@@ -11,8 +11,8 @@ ghost use Rattle.lang_reader.specs.Views.{state_of};
 
 use crate::beginning::begun;
 use crate::ending::items_end;
+use crate::next::Next;
 use lang_grammar::Symbol;
-use lang_meaning::ParseFault;
 use lang_reader::{Frame, Frames, Lexeme, Mode, Reader, Source, Within};
 use std::alloc::{AllocError, Global};
 
@@ -51,12 +51,7 @@ pub fn a_declarator(lexeme: Lexeme, place: u32) -> Mode
 }
 
 /// The first part of the head of a `for`.
-pub fn in_first(
-    source: &Source,
-    reader: &mut Reader,
-    lexeme: Lexeme,
-    place: u32,
-) -> Result<Mode, ParseFault>
+pub fn in_first(source: &Source, reader: &mut Reader, lexeme: Lexeme, place: u32) -> Next
     ensures { Gives (machine_of reader.new) result
         (in_first (line_at source.now.text.now) source.now.width (state_of reader.old.context)
         (frames_of reader.old.frames) (lexeme_kind lexeme) place) }
@@ -68,12 +63,7 @@ pub fn in_first(
 }
 
 /// Its change.
-pub fn in_last(
-    source: &Source,
-    reader: &mut Reader,
-    lexeme: Lexeme,
-    place: u32,
-) -> Result<Mode, ParseFault>
+pub fn in_last(source: &Source, reader: &mut Reader, lexeme: Lexeme, place: u32) -> Next
     ensures { Gives (machine_of reader.new) result
         (in_last (line_at source.now.text.now) source.now.width (state_of reader.old.context)
         (frames_of reader.old.frames) (lexeme_kind lexeme) place) }

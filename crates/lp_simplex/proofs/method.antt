@@ -1,3 +1,4 @@
 pub mod Evidences
 pub mod Begins
 pub mod Ends
+pub mod Counted

@@ -20,8 +20,7 @@ abbrev pub form_of : Affine → Form
 form_of f = record { coeffs = f.coeffs; constant = f.constant }
 
 -- what the composed forms of an edge say of a start state and free values: all guards are at most 0 exactly where a trace goes that way,
--- and
--- the row forms have the values at its end
+-- and the row forms have the values at its end
 pub record MeanTraces (template : List (List ℤ)) (actions : List Action) (forms : EdgeForms) (x : RationalState) (free : List ℚ) :
     Type 0 where
   pub passes : AllAtMost (map form_of forms.guards) (x ++ free) ↔ ((y : RationalState) × Follows actions x free y)

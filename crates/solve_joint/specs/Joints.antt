@@ -47,8 +47,7 @@ IsReadFrom system pick base list (unbounded x d) (Ray rates) = rates.list
 IsReadFrom system pick base list (empty y) joined = ⊥
 
 -- the operations by which it is read: the numbers of the list first, then the traces in the order of the list; of a ray the directions of
--- unknowns
--- with a rate above 0
+-- unknowns with a rate above 0
 abbrev pub reading_operations : System → List (Option ℕ) → List Ext → List ℕ → Outcome → List Operation
 reading_operations system pick base list (best x v y) =
     number_operations base (entries_of system pick list x) (layout_of system pick list)

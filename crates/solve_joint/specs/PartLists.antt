@@ -24,8 +24,7 @@ EachRises [] = Unit {0}
 EachRises (part ∷ ps) = Rises 0 part × EachRises ps
 
 -- the parts are the classes of the list: each two members of one part lean on each other, directly or through others of the list, and no
--- members of
--- two parts do
+-- members of two parts do
 abbrev pub NumberClasses : System → List (Option ℕ) → List ℕ → List (List ℕ) → Type 0
 NumberClasses system pick list ps = AreClasses (equations_of system) (all_listed system pick list) (each_listed system pick ps)
 

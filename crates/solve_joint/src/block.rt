@@ -12,6 +12,7 @@ ghost use Rattle.theory_transformers.specs.EdgeProblems.{source_limit, guard_lim
 ghost use Rattle.solve_joint.specs.Rows.{AllStand, SameForm, embedded, own_limit_of, side_operation, IsSideFault};
 
 use crate::row::{negated, row_over, template_coeffs};
+use crate::span::Span;
 use base_fractions::{Ext, Frac, OrderedField};
 use flow_systems::{Part, PartFault};
 use lp_simplex::Row;
@@ -33,31 +34,21 @@ pub fn push_source(
     rows: &mut Vec<Row<Frac>>,
     bound: Ext,
     row: &[i64],
-    list: &[u32],
     target: u32,
-    offset: usize,
-    cols: usize,
+    span: &Span,
 ) -> Result<(), AllocError>
     requires numbers { IsTrue (are_numbers row.now) }
-    requires fits { length list.now + (offset + (length row.now + length row.now)) ≤ cols }
+    requires fits { length span.now.list.now + (span.now.offset + (length row.now + length row.now)) ≤ span.now.cols }
     ensures { OnOk result ((n : ℕ) (ls : List Limit) → length row.now ≤ n →
-        AllStand cols (map (λ r. r.coeffs.items) rows.old.items) (map (λ r. r.side) rows.old.items) ls →
-        AllStand cols (map (λ r. r.coeffs.items) rows.new.items) (map (λ r. r.side) rows.new.items) (ls
-        ++ source_limit (embedded (neg_ℚ one_ℚ) target list.now offset) n (extended bound) row.now [])) }
+        AllStand span.now.cols (map (λ r. r.coeffs.items) rows.old.items) (map (λ r. r.side) rows.old.items) ls →
+        AllStand span.now.cols (map (λ r. r.coeffs.items) rows.new.items) (map (λ r. r.side) rows.new.items) (ls
+        ++ source_limit (embedded (neg_ℚ one_ℚ) target span.now.list.now span.now.offset) n (extended bound) row.now [])) }
 {
     match bound {
         Ext::Fin(side) => {
             let coeffs = template_coeffs(alloc, row)?;
             let minus_one = Frac::one().negate();
-            let entries = row_over(
-                alloc,
-                cols,
-                list,
-                target,
-                minus_one,
-                offset,
-                coeffs.as_slice(),
-            )?;
+            let entries = row_over(alloc, span, target, minus_one, coeffs.as_slice())?;
             push_row(rows, entries, side)
         }
         Ext::NegInf => Ok(()),
@@ -71,17 +62,15 @@ pub fn push_guard(
     rows: &mut Vec<Row<Frac>>,
     coeffs: &[Frac],
     constant: Frac,
-    list: &[u32],
-    offset: usize,
-    cols: usize,
+    span: &Span,
 ) -> Result<(), AllocError>
-    requires { length list.now + (offset + (length coeffs.now + length coeffs.now)) ≤ cols }
+    requires { length span.now.list.now + (span.now.offset + (length coeffs.now + length coeffs.now)) ≤ span.now.cols }
     ensures { OnOk result ((form : Affine) (ls : List Limit) → SameForm coeffs.now constant form
-        → AllStand cols (map (λ r. r.coeffs.items) rows.old.items) (map (λ r. r.side) rows.old.items) ls
-        → AllStand cols (map (λ r. r.coeffs.items) rows.new.items) (map (λ r. r.side) rows.new.items)
-        (ls ++ guard_limits (embedded zero_ℚ 0 list.now offset) (form ∷ []))) }
+        → AllStand span.now.cols (map (λ r. r.coeffs.items) rows.old.items) (map (λ r. r.side) rows.old.items) ls
+        → AllStand span.now.cols (map (λ r. r.coeffs.items) rows.new.items) (map (λ r. r.side) rows.new.items)
+        (ls ++ guard_limits (embedded zero_ℚ 0 span.now.list.now span.now.offset) (form ∷ []))) }
 {
-    let entries = row_over(alloc, cols, list, 0, Frac::zero(), offset, coeffs)?;
+    let entries = row_over(alloc, span, 0, Frac::zero(), coeffs)?;
     push_row(rows, entries, constant.negate())
 }
 
@@ -105,26 +94,16 @@ pub fn push_own_row(
     rows: &mut Vec<Row<Frac>>,
     coeffs: &[Frac],
     side: Frac,
-    list: &[u32],
     target: u32,
-    offset: usize,
-    cols: usize,
+    span: &Span,
 ) -> Result<(), AllocError>
-    requires { length list.now + (offset + (length coeffs.now + length coeffs.now)) ≤ cols }
+    requires { length span.now.list.now + (span.now.offset + (length coeffs.now + length coeffs.now)) ≤ span.now.cols }
     ensures { OnOk result ((form : Affine) (ls : List Limit) → SameForm coeffs.now form.constant form →
-        AllStand cols (map (λ r. r.coeffs.items) rows.old.items) (map (λ r. r.side) rows.old.items) ls →
-        AllStand cols (map (λ r. r.coeffs.items) rows.new.items) (map (λ r. r.side) rows.new.items) (ls
-        ++ own_limit_of (embedded one_ℚ target list.now offset) form side ∷ [])) }
+        AllStand span.now.cols (map (λ r. r.coeffs.items) rows.old.items) (map (λ r. r.side) rows.old.items) ls →
+        AllStand span.now.cols (map (λ r. r.coeffs.items) rows.new.items) (map (λ r. r.side) rows.new.items) (ls
+        ++ own_limit_of (embedded one_ℚ target span.now.list.now span.now.offset) form side ∷ [])) }
 {
     let turned = negated(alloc, coeffs)?;
-    let entries = row_over(
-        alloc,
-        cols,
-        list,
-        target,
-        Frac::one(),
-        offset,
-        turned.as_slice(),
-    )?;
+    let entries = row_over(alloc, span, target, Frac::one(), turned.as_slice())?;
     push_row(rows, entries, side)
 }

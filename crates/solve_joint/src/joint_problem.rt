@@ -14,6 +14,7 @@ ghost use Rattle.solve_joint.specs.Problems.{problem_of, MakeProblem};
 ghost use Rattle.flow_systems.specs.declared.limits.TheConstants.{MOST_UNKNOWNS};
 ghost use Rattle.lang_tree.specs.declared.limits.TheConstants.{MOST_VARIABLES};
 
+use crate::based::Based;
 use crate::joint_rows::{all_rows, count_columns};
 use crate::row::push_zeros;
 use base_fractions::{Frac, OrderedField};
@@ -67,8 +68,13 @@ pub fn joint_problem(
     ensures sides { OnOk result (first_wide long_limit (side_operations system.now pick.now base.now list.now) ≡ None) }
     ensures refused { IfErr result (λ f. IsSideFault (side_operations system.now pick.now base.now list.now) f) }
 {
+    let at = Based {
+        system,
+        paths,
+        base,
+    };
     let cols = count_columns(system, paths, pick, list);
-    let rows = all_rows(alloc, system, paths, base, pick, list, cols)?;
+    let rows = all_rows(alloc, &at, pick, list, cols)?;
     let goal = goal(alloc, list.len(), cols - list.len())?;
     Ok(Problem { rows, goal })
 }

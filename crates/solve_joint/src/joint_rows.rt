@@ -14,7 +14,9 @@ ghost use Rattle.solve_joint.specs.Blocks.{side_operations};
 ghost use Rattle.flow_systems.specs.declared.limits.TheConstants.{MOST_UNKNOWNS};
 ghost use Rattle.lang_tree.specs.declared.limits.TheConstants.{MOST_VARIABLES};
 
+use crate::based::Based;
 use crate::problem::{picked_edge, push_guards, push_own, push_sources, word_width};
+use crate::span::Span;
 use base_fractions::Frac;
 use flow_systems::{Bounds, PartFault, Pick, System};
 use lp_simplex::Row;
@@ -25,61 +27,49 @@ use std::alloc::{AllocError, Global};
 fn push_limits(
     alloc: Global,
     rows: &mut Vec<Row<Frac>>,
-    system: &System,
-    paths: &Paths,
-    base: &Bounds,
+    at: &Based,
     edge: u32,
-    list: &[u32],
-    offset: usize,
-    cols: usize,
+    span: &Span,
 ) -> Result<(), AllocError>
-    requires composed { AreComposed (equations_of system.now) paths.now }
-    requires base { length base.now ≡ length system.now.flow.points * length system.now.template }
-    requires edge { edge < length system.now.flow.edges }
-    requires fits { length list.now + (offset + split_width system.now edge) ≤ cols }
-    ensures { OnOk result ((ls : List Limit) → AllStand cols (map (λ r. r.coeffs.items) rows.old.items) (map (λ r. r.side) rows.old.items)
-        ls → AllStand cols (map (λ r. r.coeffs.items) rows.new.items) (map (λ r. r.side) rows.new.items)
-        ((ls ++ sources_of system.now base.now list.now offset (edge_at system.now edge).from)
-        ++ guards_of system.now list.now offset edge)) }
+    requires edge { edge < length at.now.system.now.flow.edges }
+    requires fits { length span.now.list.now + (span.now.offset + split_width at.now.system.now edge) ≤ span.now.cols }
+    ensures { OnOk result ((ls : List Limit) → AllStand span.now.cols (map (λ r. r.coeffs.items) rows.old.items) (map (λ r. r.side)
+        rows.old.items)
+        ls → AllStand span.now.cols (map (λ r. r.coeffs.items) rows.new.items) (map (λ r. r.side) rows.new.items)
+        ((ls ++ sources_of at.now.system.now at.now.base.now span.now.list.now span.now.offset (edge_at at.now.system.now edge).from)
+        ++ guards_of at.now.system.now span.now.list.now span.now.offset edge)) }
 {
-    let edges = system.flow.edges.as_slice();
+    let edges = at.system.flow.edges.as_slice();
     let point = edges[edge as usize].from;
-    push_sources(alloc, rows, system, base, point, list, offset, cols)?;
-    push_guards(alloc, rows, system, paths, edge, list, offset, cols)
+    push_sources(alloc, rows, at, point, span)?;
+    push_guards(alloc, rows, at, edge, span)
 }
 
 // The rows of one unknown.
 fn push_block(
     alloc: Global,
     rows: &mut Vec<Row<Frac>>,
-    system: &System,
-    paths: &Paths,
-    base: &Bounds,
+    at: &Based,
     edge: u32,
-    list: &[u32],
     unknown: u32,
-    offset: usize,
-    cols: usize,
+    span: &Span,
 ) -> Result<(), PartFault>
-    requires composed { AreComposed (equations_of system.now) paths.now }
-    requires base { length base.now ≡ length system.now.flow.points * length system.now.template }
-    requires edge { edge < length system.now.flow.edges }
-    requires unknown { unknown < length system.now.flow.points * length system.now.template }
-    requires fits { length list.now + (offset + split_width system.now edge) ≤ cols }
-    ensures stands { OnOk result ((ls : List Limit) → AllStand cols (map (λ r. r.coeffs.items) rows.old.items)
+    requires edge { edge < length at.now.system.now.flow.edges }
+    requires unknown { unknown < length at.now.system.now.flow.points * length at.now.system.now.template }
+    requires fits { length span.now.list.now + (span.now.offset + split_width at.now.system.now edge) ≤ span.now.cols }
+    ensures stands { OnOk result ((ls : List Limit) → AllStand span.now.cols (map (λ r. r.coeffs.items) rows.old.items)
         (map (λ r. r.side) rows.old.items) ls →
-        AllStand cols (map (λ r. r.coeffs.items) rows.new.items) (map (λ r. r.side) rows.new.items) (ls
-        ++ block_of system.now base.now list.now offset edge unknown)) }
-    ensures side { OnOk result (first_wide long_limit (side_of system.now base.now edge (unknown % length system.now.template) unknown ∷ [])
+        AllStand span.now.cols (map (λ r. r.coeffs.items) rows.new.items) (map (λ r. r.side) rows.new.items) (ls
+        ++ block_of at.now.system.now at.now.base.now span.now.list.now span.now.offset edge unknown)) }
+    ensures side { OnOk result (first_wide long_limit (side_of at.now.system.now at.now.base.now edge (unknown % length
+        at.now.system.now.template) unknown ∷ [])
         ≡ None) }
-    ensures refused { IfErr result (λ f. IsSideFault (side_of system.now base.now edge (unknown % length system.now.template) unknown ∷ [])
+    ensures refused { IfErr result (λ f. IsSideFault (side_of at.now.system.now at.now.base.now edge (unknown % length
+        at.now.system.now.template) unknown ∷ [])
         f) }
 {
-    let row = unknown % system.template.as_slice().len() as u32;
-    push_limits(alloc, rows, system, paths, base, edge, list, offset, cols)?;
-    push_own(
-        alloc, rows, system, paths, base, edge, list, unknown, row, offset, cols,
-    )
+    push_limits(alloc, rows, at, edge, span)?;
+    push_own(alloc, rows, at, edge, unknown, span)
 }
 
 /// How many columns the joint problem of a list has: a rise for each unknown, and the split columns of each picked edge.
@@ -102,31 +92,26 @@ pub fn count_columns(system: &System, paths: &Paths, pick: &Pick, list: &[u32]) 
 /// The rows of the joint problem of a list, in order.
 pub fn all_rows(
     alloc: Global,
-    system: &System,
-    paths: &Paths,
-    base: &Bounds,
+    at: &Based,
     pick: &Pick,
     list: &[u32],
     cols: usize,
 ) -> Result<Vec<Row<Frac>>, PartFault>
-    requires composed { AreComposed (equations_of system.now) paths.now }
-    requires base { length base.now ≡ length system.now.flow.points * length system.now.template }
-    requires pick { length pick.now ≡ length system.now.flow.points * length system.now.template }
-    requires picked { ArePicked system.now pick.now list.now }
-    requires cols { cols ≡ length list.now + split_columns system.now pick.now list.now }
+    requires pick { length pick.now ≡ length at.now.system.now.flow.points * length at.now.system.now.template }
+    requires picked { ArePicked at.now.system.now pick.now list.now }
+    requires cols { cols ≡ length list.now + split_columns at.now.system.now pick.now list.now }
     ensures { MatchResult result (λ rows. AllStand cols (map (λ r. r.coeffs.items) rows.items) (map (λ r. r.side) rows.items)
-        (blocks_from system.now pick.now base.now list.now 0 list.now)
-        × (first_wide long_limit (side_operations system.now pick.now base.now list.now) ≡ None))
-        (λ f. IsSideFault (side_operations system.now pick.now base.now list.now) f) }
+        (blocks_from at.now.system.now pick.now at.now.base.now list.now 0 list.now)
+        × (first_wide long_limit (side_operations at.now.system.now pick.now at.now.base.now list.now) ≡ None))
+        (λ f. IsSideFault (side_operations at.now.system.now pick.now at.now.base.now list.now) f) }
 {
     let mut rows = Vec::new(alloc);
     let mut offset = 0;
     for unknown in list {
         let edge = picked_edge(pick, *unknown);
-        push_block(
-            alloc, &mut rows, system, paths, base, edge, list, *unknown, offset, cols,
-        )?;
-        let columns = word_width(system, paths, edge);
+        let span = Span { list, offset, cols };
+        push_block(alloc, &mut rows, at, edge, *unknown, &span)?;
+        let columns = word_width(at.system, at.paths, edge);
         offset += columns + columns;
     }
     Ok(rows)

@@ -1,6 +1,7 @@
 //! A list of unknowns with picked edges: its parts by dependence, and its joint problem, the greatest vector that the edges support.
 #![tactic(auto)]
 
+mod based;
 mod block;
 mod closure;
 mod cut;
@@ -15,6 +16,7 @@ mod problem;
 mod read;
 mod row;
 mod solve;
+mod span;
 mod table;
 
 pub use cut::parts;

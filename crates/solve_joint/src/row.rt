@@ -7,6 +7,7 @@ ghost use Rattle.lang_tree.specs.Numbers.{are_numbers};
 ghost use Rattle.theory_transformers.specs.JointProblems.{split_list};
 ghost use Rattle.solve_joint.specs.Rows.{on_number, on_numbers, dense_row};
 
+use crate::span::Span;
 use base_fractions::{Frac, OrderedField};
 use flow_systems::fraction;
 use std::alloc::{AllocError, Global};
@@ -58,25 +59,24 @@ fn push_split(row: &mut Vec<Frac>, coeffs: &[Frac]) -> Result<(), AllocError>
     Ok(())
 }
 
-/// A row over so many columns: first the rises of a list, with a coefficient on that of one unknown, and from an offset
-/// behind them the split columns of coefficients.
+/// A row over all columns: first the rises of the list, with a coefficient on that of one unknown, and in the span of a listed
+/// unknown the split columns of coefficients.
 pub fn row_over(
     alloc: Global,
-    cols: usize,
-    list: &[u32],
+    span: &Span,
     target: u32,
     coefficient: Frac,
-    offset: usize,
     coeffs: &[Frac],
 ) -> Result<Vec<Frac>, AllocError>
-    requires { length list.now + (offset + (length coeffs.now + length coeffs.now)) ≤ cols }
-    ensures { IfOk result (λ row. row.items ≡ dense_row cols (on_numbers coefficient target list.now) offset coeffs.now) }
+    requires { length span.now.list.now + (span.now.offset + (length coeffs.now + length coeffs.now)) ≤ span.now.cols }
+    ensures { IfOk result (λ row. row.items ≡ dense_row span.now.cols (on_numbers coefficient target span.now.list.now) span.now.offset
+        coeffs.now) }
 {
-    let mut row = Vec::with_capacity(alloc, cols)?;
-    push_rises(&mut row, list, target, coefficient)?;
-    push_zeros(&mut row, offset)?;
+    let mut row = Vec::with_capacity(alloc, span.cols)?;
+    push_rises(&mut row, span.list, target, coefficient)?;
+    push_zeros(&mut row, span.offset)?;
     push_split(&mut row, coeffs)?;
-    let rest = cols - list.len() - offset - coeffs.len() - coeffs.len();
+    let rest = span.cols - span.list.len() - span.offset - coeffs.len() - coeffs.len();
     push_zeros(&mut row, rest)?;
     Ok(row)
 }

@@ -1,4 +1,3 @@
 pub mod chains
 pub mod least_laws
 pub mod growth_tests
-pub mod putting

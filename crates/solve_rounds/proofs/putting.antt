@@ -1,1 +1,2 @@
 pub mod PutVector
+pub mod Puts

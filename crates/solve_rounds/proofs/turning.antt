@@ -1,5 +1,7 @@
+pub mod FoundFacts
 pub mod LayoutReads
-pub mod Putting
+pub mod OutcomeFacts
+pub mod ReadFacts
 pub mod TurnItems
 pub mod Turned
 pub mod TurnedBy

@@ -6,6 +6,7 @@ pub mod Lows
 pub mod Putting
 pub mod Round
 pub mod Turning
+pub mod Guessed
 pub mod Chains
 pub mod HaltOf
 pub mod Halts

@@ -6,9 +6,11 @@
 mod evaluation;
 mod growing;
 mod growth;
+mod guessed;
 mod halt;
 mod law;
 mod lows;
+mod putting;
 mod quiet_marks;
 mod solution;
 mod solving;
@@ -16,6 +18,7 @@ mod solving_by;
 mod turning;
 mod uppers;
 
+pub use guessed::FEWEST_GUESSED;
 pub use halt::Halt;
 pub use law::{
     one_number, one_vector, policies_have_one_number, solutions_are_ends, spent_goes_on,

@@ -1,8 +1,6 @@
 //! One turn of a round.
 
 ghost use Rattle.std.specs.Prelude.{◌≡◌, ◌*◌, ◌+◌, ◌<◌, ◌≤◌, ℕ, ◌∷◌, [], length, map, get_or, IfOk, IfErr};
-ghost use Rattle.base_numbers.specs.Rational.{zero_ℚ};
-ghost use Rattle.base_numbers.specs.Extended.{fin, pos_inf};
 ghost use Rattle.base_fractions.specs.Extended.{extended};
 ghost use Rattle.lp_theory.specs.Simplex.{lp};
 ghost use Rattle.flow_systems.specs.View.{equations_of, vector_of};
@@ -13,7 +11,8 @@ ghost use Rattle.solve_joint.specs.Problems.{problem_of};
 ghost use Rattle.solve_joint.specs.Joints.{IsReadFrom};
 ghost use Rattle.flow_systems.specs.declared.fault.Fault.TheVariants.{NoMemory};
 ghost use Rattle.solve_rounds.specs.Lows.{AreRaised, IsRaised};
-ghost use Rattle.solve_rounds.specs.Putting.{AreNumberedIn, puts};
+ghost use Rattle.solve_rounds.specs.Guessed.{IsFound};
+ghost use Rattle.solve_rounds.specs.Putting.{AreNumberedIn};
 ghost use Rattle.solve_rounds.specs.Turning.{
   MeetsCondition,
   IsPickAt,
@@ -29,7 +28,9 @@ ghost use Rattle.solve_rounds.specs.Turning.{
   ray_item_of,
 };
 
+use crate::guessed::{FEWEST_GUESSED, guessed};
 use crate::lows::{copied, edge_of, low_of};
+use crate::putting::{put_numbers, put_tops};
 use base_fractions::{Ext, Frac};
 use base_watch::Watch;
 use cert_types::{JumpItem, JumpItems, RayItem, RayItems, Step};
@@ -80,27 +81,6 @@ pub(crate) fn own(alloc: Global, list: &[u32]) -> Result<Vec<u32>, Stop>
 {
     let own = list.to_vec(alloc)?;
     Ok(own)
-}
-
-// Gives the unknowns of a list their numbers.
-fn put_numbers(bounds: &mut Bounds, list: &[u32], to: &[Frac])
-    requires within { AreNumberedIn (length bounds.old) list.now }
-    requires count { length to.now ≡ length list.now }
-    ensures { bounds.new ≡ puts (λ k. fin (get_or to.now k zero_ℚ)) list.now bounds.old (length list.now) }
-{
-    for k in 0..list.len() {
-        bounds.set(list[k], Ext::Fin(to[k]));
-    }
-}
-
-// Gives the unknowns with a rate `+inf`.
-fn put_tops(bounds: &mut Bounds, rates: &[RateOf])
-    requires { AreNumberedIn (length bounds.old) (map (λ rate. rate.unknown) rates.now) }
-    ensures { bounds.new ≡ puts (λ k. pos_inf) (map (λ rate. rate.unknown) rates.now) bounds.old (length rates.now) }
-{
-    for k in 0..rates.len() {
-        bounds.set(rates[k].unknown, Ext::PosInf);
-    }
 }
 
 // The item of a jump for an unknown that was raised.
@@ -169,8 +149,8 @@ fn ray_item(alloc: Global, raises: &[Step], places: &[u32], rate: &RateOf) -> Re
     })
 }
 
-// The items of a ray with these rates.
-fn ray_items(
+/// The items of a ray with these rates.
+pub(crate) fn ray_items(
     alloc: Global,
     raises: &[Step],
     places: &[u32],
@@ -222,7 +202,41 @@ fn joined<W: Watch>(
     }
 }
 
-// Takes the outcome of a list's joint problem: puts its step behind the others and the new bounds in place, and gives what is
+// The outcome of a list at the bounds, after so many turns: of a longer list a guess that passes its check, and else that of the
+// joint problem. It has as many parameters as a turn has.
+fn outcome<W: Watch>(
+    alloc: Global,
+    system: &System,
+    paths: &Paths,
+    bounds: &Bounds,
+    pick: &Pick,
+    raises: &[Step],
+    places: &[u32],
+    list: &[u32],
+    turn: u32,
+    round: u32,
+    watch: &mut W,
+) -> Result<Joined, Stop>
+    requires composed { AreComposed (equations_of system.now) paths.now }
+    requires bounds { length bounds.now ≡ length system.now.flow.points * length system.now.template }
+    requires pick { length pick.now ≡ length system.now.flow.points * length system.now.template }
+    requires rises { Rises 0 list.now }
+    requires picked { ArePicked system.now pick.now list.now }
+    requires rising { AllRising (equations_of system.now) (vector_of (length system.now.template) bounds.now)
+        (all_listed system.now pick.now list.now) }
+    requires raised { AreRaised raises.now places.now list.now }
+    ensures found { IfOk result (IsFound system.now pick.now raises.now places.now bounds.now list.now) }
+    ensures stop { IfErr result (IsJoinedStop system.now pick.now bounds.now list.now turn round) }
+{
+    if list.len() >= FEWEST_GUESSED {
+        if let Some(found) = guessed(alloc, system, paths, bounds, pick, raises, places, list)? {
+            return Ok(found);
+        }
+    }
+    joined(alloc, system, paths, bounds, pick, list, turn, round, watch)
+}
+
+// Takes the outcome of a list: puts its step behind the others and the new bounds in place, and gives what is
 // left of the list.
 fn take(
     alloc: Global,
@@ -255,7 +269,9 @@ fn take(
 }
 
 /// A turn of a list of unknowns that were raised: a point sets them to their numbers, and nothing is left; a ray sets those
-/// with a rate above 0 to `+inf`, and the others are left. The watch is told its number.
+/// with a rate above 0 to `+inf`, and the others are left. A list of at least `FEWEST_GUESSED` unknowns takes a guess, where that
+/// passes its check; else the joint problem is solved. The watch is told the turn's number, and of the joint
+/// problem's pivots.
 pub(crate) fn turn<W: Watch>(
     alloc: Global,
     system: &System,
@@ -281,16 +297,18 @@ pub(crate) fn turn<W: Watch>(
 {
     let number = turning.steps.len() as u32;
     watch.turn(number);
-    let outcome = joined(
+    let found = outcome(
         alloc,
         system,
         paths,
         &turning.bounds,
         pick,
+        raises,
+        places,
         list,
         number,
         round,
         watch,
     )?;
-    take(alloc, raises, places, list, outcome, turning)
+    take(alloc, raises, places, list, found, turning)
 }

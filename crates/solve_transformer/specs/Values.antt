@@ -40,9 +40,8 @@ pub record AreMultipliers (bounds : ℕ → Ext) (template : List (List ℤ)) (c
   pub of_rows : rows ≡ spread bounds template y
   pub of_guards : guards ≡ tabulate count (skip bounds template y)
 
--- what an outcome over split columns says: the value with the end value's constant c, and the trace whose entries are each positive column
--- minus the
--- negative one
+-- what an outcome over split columns says: the value with the end value's constant c, and the trace whose entries are each positive
+-- column minus the negative one
 abbrev pub ReadsOutcome : ℕ → ℕ → ℚ → (ℕ → Ext) → List (List ℤ) → ℕ → Outcome → Value → Type 0
 ReadsOutcome n w c bounds template count (best x v y) (Unreached r) = ⊥
 ReadsOutcome n w c bounds template count (best x v y) (Empty rows guards) = ⊥

@@ -1,9 +1,9 @@
 //! Runs of the call over files and streams in memory, and what is wanted of them.
 
 use acsl_annotate::annotate;
-use base_files::{MemShelf, MemSink};
+use base_files::MemSink;
 use std::alloc::{AllocError, Global};
-use top_run::Status;
+use test_cases::{Written, is_as_wanted, shelf, words_of};
 
 /// A row of a table: a run, and how it is to end.
 pub(crate) trait Case {
@@ -13,37 +13,7 @@ pub(crate) trait Case {
 
 /// The number of the first row of a table that isn't right, counted from 0.
 pub(crate) fn first_wrong<C: Case>(alloc: Global, table: &[C]) -> Option<usize> {
-    for (number, case) in table.iter().enumerate() {
-        if !case.is_right(alloc) {
-            return Some(number);
-        }
-    }
-    None
-}
-
-// What a run answered, and what it put.
-#[derive(Drop)]
-pub(crate) struct Written {
-    pub status: Status,
-    pub out: MemSink,
-    pub err: MemSink,
-}
-
-// The words of a line, which stand between blanks.
-fn words_of(alloc: Global, line: &str) -> Result<Vec<String>, AllocError> {
-    let mut words = Vec::new(alloc);
-    for word in line.split_whitespace() {
-        words.push(String::from_str(alloc, word)?)?;
-    }
-    Ok(words)
-}
-
-// A shelf of a program `p` and of rows `f`, whose loads with these numbers fail.
-fn shelf(alloc: Global, text: &[u8], rows: &[u8], fails: &[u32]) -> Result<MemShelf, AllocError> {
-    let mut files = Vec::new(alloc);
-    files.push((String::from_str(alloc, "p")?, text.to_vec(alloc)?))?;
-    files.push((String::from_str(alloc, "f")?, rows.to_vec(alloc)?))?;
-    Ok(MemShelf::new(alloc, files, fails.to_vec(alloc)?))
+    table.iter().position(|case| !case.is_right(alloc))
 }
 
 /// What fails: the loads with these numbers, and after so many bytes the puts with these numbers to the output and to the messages.
@@ -72,8 +42,8 @@ fn run_words(
     let mut shelf = shelf(alloc, text, rows, outside.loads)?;
     let mut out = MemSink::new(alloc, outside.puts.to_vec(alloc)?);
     let mut err = MemSink::new(alloc, outside.messages.to_vec(alloc)?);
-    let status = annotate(alloc, words, &mut shelf, &mut out, &mut err);
-    Ok(Written { status, out, err })
+    let code = annotate(alloc, words, &mut shelf, &mut out, &mut err).code();
+    Ok(Written { code, out, err })
 }
 
 // The run of a line of words over the files `p` and `f`.
@@ -93,11 +63,6 @@ pub(crate) fn run_word(alloc: Global, word: &str, text: &[u8]) -> Result<Written
     let mut words = Vec::new(alloc);
     words.push(String::from_str(alloc, word)?)?;
     run_words(alloc, &words, text, b"", SOUND)
-}
-
-// Whether a run ends with this code, and puts these bytes and this message.
-pub(crate) fn is_as_wanted(written: &Written, code: u8, out: &[u8], err: &[u8]) -> bool {
-    written.status.code() == code && written.out.bytes() == out && written.err.bytes() == err
 }
 
 // Whether the run of a line over the files `p` and `f` ends with this code, these bytes and this message.

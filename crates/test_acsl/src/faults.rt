@@ -1,8 +1,9 @@
 //! Loads and puts that fail: no answer changes in place of the right one, and what was put is the front of the right text.
 
-use crate::cases::{Case, Outside, SOUND, ends, first_wrong, is_as_wanted, run_line};
+use crate::cases::{Case, Outside, SOUND, ends, first_wrong, run_line};
 use crate::refusals::COUNT;
 use std::alloc::{AllocError, Global};
+use test_cases::{front, is_as_wanted, joined};
 
 const LINES: [&[u8]; 8] = [
     b"int main() {\n",
@@ -15,19 +16,6 @@ const LINES: [&[u8]; 8] = [
     b"}\n",
 ];
 
-// The first lines, and so many bytes of the next one.
-fn front(alloc: Global, lines: u32, bytes: usize) -> Result<Vec<u8>, AllocError> {
-    let mut front = Vec::new(alloc);
-    for (number, line) in LINES.iter().enumerate() {
-        if number < lines as usize {
-            front.extend_from_slice(*line)?;
-        } else if number == lines as usize && bytes <= line.len() {
-            front.extend_from_slice(&line[..bytes])?;
-        }
-    }
-    Ok(front)
-}
-
 // Whether the text stops with so many lines and bytes of the next one, where the put with that number fails after them.
 fn stops(alloc: Global, lines: u32, bytes: usize) -> Result<bool, AllocError> {
     let puts = [(lines, bytes)];
@@ -37,7 +25,7 @@ fn stops(alloc: Global, lines: u32, bytes: usize) -> Result<bool, AllocError> {
         messages: &[],
     };
     let written = run_line(alloc, "p", COUNT, b"", outside)?;
-    let front = front(alloc, lines, bytes)?;
+    let front = front(alloc, &LINES, lines, bytes)?;
     Ok(is_as_wanted(&written, 8, &front, b"cannot write\n"))
 }
 
@@ -49,7 +37,7 @@ fn text_stops(alloc: Global) -> Result<bool, AllocError> {
         }
     }
     let written = run_line(alloc, "p", COUNT, b"", SOUND)?;
-    let whole = front(alloc, 8, 0)?;
+    let whole = joined(alloc, &LINES)?;
     Ok(is_as_wanted(&written, 0, &whole, b"") && written.out.pieces().len() == 8)
 }
 

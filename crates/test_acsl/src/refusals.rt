@@ -1,7 +1,8 @@
 //! Refused words, files, rows and programs, a wide operation and spent improvements: the code, the message, and no output.
 
-use crate::cases::{Case, SOUND, ends, first_wrong, is_as_wanted, run_word};
+use crate::cases::{Case, SOUND, ends, first_wrong, run_word};
 use std::alloc::{AllocError, Global};
+use test_cases::{is_as_wanted, repeated};
 
 // Up to 100, in three improvements.
 pub(crate) const COUNT: &[u8] = b"int main() {
@@ -131,15 +132,6 @@ fn names_are_taken_as_they_are(rt: HostRuntime) {
     assert_eq!(rt; first_wrong(rt.alloc(), ABSENT), None);
 }
 
-// A text with so many blanks behind it.
-fn with_blanks(alloc: Global, text: &[u8], count: usize) -> Result<Vec<u8>, AllocError> {
-    let mut all = text.to_vec(alloc)?;
-    for _ in 0..count {
-        all.push(b' ')?;
-    }
-    Ok(all)
-}
-
 // Whether a program with so many blanks behind it ends so; the text that is written, which may be longer than what is read, has them, too.
 fn ends_with_blanks(
     alloc: Global,
@@ -148,9 +140,9 @@ fn ends_with_blanks(
     code: u8,
     message: &[u8],
 ) -> Result<bool, AllocError> {
-    let text = with_blanks(alloc, files.0, count)?;
+    let text = repeated(alloc, files.0, b" ", count, b"")?;
     let wanted = match code {
-        0 => with_blanks(alloc, files.1, count)?,
+        0 => repeated(alloc, files.1, b" ", count, b"")?,
         _ => Vec::new(alloc),
     };
     let written = run_word(alloc, "p", &text)?;

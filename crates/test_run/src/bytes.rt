@@ -1,9 +1,10 @@
 //! Hostile bytes in a certificate. What JSON is, `serde_json` decides: values nest at most 127 deep, an object keeps the last
 //! value of a key that stands twice, and a number with a point, an exponent or past 64 bits is no whole number.
 
-use crate::cases::{Case, Ending, ends, first_wrong, joined, repeated};
+use crate::cases::{Case, Ending, ends, first_wrong};
 use crate::certificates::{RAY, RAY_PROGRAM, changed, is_refused};
 use std::alloc::Global;
+use test_cases::{joined, repeated};
 
 const ACCEPTED: Ending = Ending::End(
     b"point 1: exit\n  x <= 7\n  -x <= +inf\ncertificate: accepted\n",

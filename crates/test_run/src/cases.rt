@@ -2,7 +2,8 @@
 
 use base_files::{MemShelf, MemSink};
 use std::alloc::{AllocError, Global};
-use top_run::{Status, run};
+use test_cases::{Written, is_as_wanted, repeated, shelf, words_of};
+use top_run::run;
 
 /// A row of a table: a run, and how it is to end.
 pub(crate) trait Case {
@@ -12,96 +13,7 @@ pub(crate) trait Case {
 
 /// The number of the first row of a table that isn't right, counted from 0.
 pub(crate) fn first_wrong<C: Case>(alloc: Global, table: &[C]) -> Option<usize> {
-    for (number, case) in table.iter().enumerate() {
-        if !case.is_right(alloc) {
-            return Some(number);
-        }
-    }
-    None
-}
-
-// What a run answered, and what it put.
-#[derive(Drop)]
-pub(crate) struct Written {
-    pub status: Status,
-    pub out: MemSink,
-    pub err: MemSink,
-}
-
-// Texts as they are, one after another.
-pub(crate) fn joined(alloc: Global, pieces: &[&[u8]]) -> Result<Vec<u8>, AllocError> {
-    let mut text = Vec::new(alloc);
-    for piece in pieces {
-        text.extend_from_slice(*piece)?;
-    }
-    Ok(text)
-}
-
-// A text with a piece so many times in its middle.
-pub(crate) fn repeated(
-    alloc: Global,
-    before: &[u8],
-    piece: &[u8],
-    count: usize,
-    after: &[u8],
-) -> Result<Vec<u8>, AllocError> {
-    let mut text = before.to_vec(alloc)?;
-    for _ in 0..count {
-        text.extend_from_slice(piece)?;
-    }
-    text.extend_from_slice(after)?;
-    Ok(text)
-}
-
-/// A line of words, a text with a piece so many times between two others, and the code and the message with which it is refused.
-pub(crate) type Repeated = (
-    &'static str,
-    &'static [u8],
-    &'static [u8],
-    usize,
-    &'static [u8],
-    u8,
-    &'static [u8],
-);
-
-impl Case for Repeated {
-    fn is_right(&self, alloc: Global) -> bool {
-        match repeated(alloc, self.1, self.2, self.3, self.4) {
-            Ok(text) => ends(alloc, self.0, &text, b"", Ending::Refused(self.5, self.6)),
-            Err(_) => false,
-        }
-    }
-}
-
-// The texts of these words.
-pub(crate) fn strings(alloc: Global, words: &[&str]) -> Result<Vec<String>, AllocError> {
-    let mut strings = Vec::new(alloc);
-    for word in words {
-        strings.push(String::from_str(alloc, *word)?)?;
-    }
-    Ok(strings)
-}
-
-// The words of a line, which stand between blanks.
-fn words_of(alloc: Global, line: &str) -> Result<Vec<String>, AllocError> {
-    let mut words = Vec::new(alloc);
-    for word in line.split_whitespace() {
-        words.push(String::from_str(alloc, word)?)?;
-    }
-    Ok(words)
-}
-
-// A shelf of a program `p` and of rows or a certificate `f`, whose loads with these numbers fail.
-pub(crate) fn shelf(
-    alloc: Global,
-    text: &[u8],
-    other: &[u8],
-    fails: &[u32],
-) -> Result<MemShelf, AllocError> {
-    let mut files = Vec::new(alloc);
-    files.push((String::from_str(alloc, "p")?, text.to_vec(alloc)?))?;
-    files.push((String::from_str(alloc, "f")?, other.to_vec(alloc)?))?;
-    Ok(MemShelf::new(alloc, files, fails.to_vec(alloc)?))
+    table.iter().position(|case| !case.is_right(alloc))
 }
 
 // The run of these words over a shelf, where puts fail as planned: after so many bytes the put with this number.
@@ -114,8 +26,8 @@ pub(crate) fn run_over(
 ) -> Result<Written, AllocError> {
     let mut out = MemSink::new(alloc, puts.to_vec(alloc)?);
     let mut err = MemSink::new(alloc, messages.to_vec(alloc)?);
-    let status = run(alloc, words, shelf, &mut out, &mut err);
-    Ok(Written { status, out, err })
+    let code = run(alloc, words, shelf, &mut out, &mut err).code();
+    Ok(Written { code, out, err })
 }
 
 // The run of a line of words over the files `p` and `f`, where nothing fails.
@@ -130,11 +42,6 @@ pub(crate) fn run_line(
     run_over(alloc, &words, &mut shelf, &[], &[])
 }
 
-// Whether a run ends with this code, and puts these bytes and this message.
-pub(crate) fn is_as_wanted(written: &Written, code: u8, out: &[u8], err: &[u8]) -> bool {
-    written.status.code() == code && written.out.bytes() == out && written.err.bytes() == err
-}
-
 /// How a run is to end: refused with this code and this message, and no output; or with this report or one that ends so, and
 /// no message.
 #[derive(Clone, Copy)]
@@ -147,17 +54,12 @@ pub(crate) enum Ending<'a> {
 
 // Whether a run has this ending.
 fn has_ending(written: &Written, ending: Ending) -> bool {
+    let out = written.out.bytes();
     match ending {
         Ending::Refused(code, message) => is_as_wanted(written, code, b"", message),
         Ending::Report(report) => is_as_wanted(written, 0, report, b""),
-        Ending::End(end) => {
-            let out = written.out.bytes();
-            written.status.code() == 0 && out.ends_with(end) && written.err.bytes().is_empty()
-        }
-        Ending::Start(start) => {
-            let out = written.out.bytes();
-            written.status.code() == 0 && out.starts_with(start) && written.err.bytes().is_empty()
-        }
+        Ending::End(end) => out.ends_with(end) && is_as_wanted(written, 0, out, b""),
+        Ending::Start(start) => out.starts_with(start) && is_as_wanted(written, 0, out, b""),
     }
 }
 
@@ -174,4 +76,62 @@ impl Case for (&str, &[u8], &[u8], Ending<'_>) {
     fn is_right(&self, alloc: Global) -> bool {
         ends(alloc, self.0, self.1, self.2, self.3)
     }
+}
+
+// A line of words, the file `p`, and how the run ends; the file `f` is empty.
+impl Case for (&str, &[u8], Ending<'_>) {
+    fn is_right(&self, alloc: Global) -> bool {
+        ends(alloc, self.0, self.1, b"", self.2)
+    }
+}
+
+/// The number of the first text that a line of words doesn't refuse for its cause with code 4. The text is the file `p`, or `f` where there
+/// is a program.
+pub(crate) fn first_taken(
+    alloc: Global,
+    line: &str,
+    subject: &str,
+    program: Option<&[u8]>,
+    texts: &[(&[u8], &str)],
+) -> Option<usize> {
+    texts.iter().position(|row| {
+        let files = match program {
+            Some(program) => (program, row.0),
+            None => (row.0, b"".as_slice()),
+        };
+        !is_refused(alloc, line, files, subject, row.1)
+    })
+}
+
+// Whether the run of a line over two files is refused for this cause with code 4.
+fn is_refused(
+    alloc: Global,
+    line: &str,
+    files: (&[u8], &[u8]),
+    subject: &str,
+    cause: &str,
+) -> bool {
+    match format!(in alloc; "{subject} refused: {cause}\n") {
+        Ok(message) => {
+            let refused = Ending::Refused(4, message.as_bytes());
+            ends(alloc, line, files.0, files.1, refused)
+        }
+        Err(_) => false,
+    }
+}
+
+/// A text with a piece so many times between two others, and for what a line of words refuses it.
+pub(crate) type Long<'a> = (&'a [u8], &'a [u8], usize, &'a [u8], &'a str);
+
+/// The number of the first such text that a line of words doesn't refuse for its cause with code 4.
+pub(crate) fn first_long_taken(
+    alloc: Global,
+    line: &str,
+    subject: &str,
+    texts: &[Long],
+) -> Option<usize> {
+    texts.iter().position(|row| match repeated(alloc, row.0, row.1, row.2, row.3) {
+        Ok(text) => !is_refused(alloc, line, (&text, b""), subject, row.4),
+        Err(_) => true,
+    })
 }

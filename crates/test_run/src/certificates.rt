@@ -1,10 +1,9 @@
 //! Certificates: those that are accepted, and why others are refused.
 
-use crate::cases::{
-    Case, Ending, ends, first_wrong, is_as_wanted, repeated, run_over, shelf, strings,
-};
+use crate::cases::{Case, Ending, ends, first_wrong, run_over};
 use std::alloc::{AllocError, Global};
 use std::test::Fail;
+use test_cases::{is_as_wanted, repeated, shelf, strings};
 
 pub(crate) const JUMP_PROGRAM: &str = "int main() { int x = 0; while (nondet()) { x = x; } }";
 

@@ -1,8 +1,8 @@
 //! Claims about programs: verdicts on them, and texts that are no claims.
 
-use crate::cases::{Ending, ends, first_wrong, repeated};
-use crate::refusals::USAGE;
+use crate::cases::{Ending, ends, first_taken, first_wrong};
 use std::alloc::Global;
+use test_cases::repeated;
 
 const COUNT: &[u8] = b"int main() { int x = 0; while (x < 100) x = x + 1; end: }";
 
@@ -64,6 +64,13 @@ const JUDGED: &[(&str, &[u8], &[u8], Ending)] = &[
         b"end: x == 100;",
         Ending::Refused(6, b"spent: 3 improvements\n"),
     ),
+    // Each comparison splits in two where it is false.
+    (
+        "prove p f",
+        COUNT,
+        b"end: x == 1 || x == 2 || x == 3 || x == 4 || x == 5 || x == 6;",
+        Ending::Report(b"claim 0 end: open at x = 100\nproved 0 of 1\nimprovements: 4\n"),
+    ),
 ];
 
 #[test]
@@ -120,22 +127,9 @@ fn conditions_have_verdicts(rt: HostRuntime) {
     assert_eq!(rt; first_wrong(rt.alloc(), BY_LABEL), None);
 }
 
-const REFUSED: &[(&str, &[u8], &[u8], Ending)] = &[
-    ("prove p", b"", b"", Ending::Refused(2, USAGE)),
-    ("prove p f f", b"", b"", Ending::Refused(2, USAGE)),
-    (
-        "prove p q",
-        COUNT,
-        b"",
-        Ending::Refused(3, b"cannot read the claims\n"),
-    ),
-    // The program is loaded before the claims, and the claims before the program is read.
-    (
-        "prove q q",
-        COUNT,
-        b"",
-        Ending::Refused(3, b"cannot read the program\n"),
-    ),
+// The order of what is loaded and read.
+const ORDER: &[(&str, &[u8], &[u8], Ending)] = &[
+    // The claims are loaded before the program is read.
     (
         "prove p q",
         b"int",
@@ -149,60 +143,33 @@ const REFUSED: &[(&str, &[u8], &[u8], Ending)] = &[
         b"$",
         Ending::Refused(4, b"program refused: unexpected token at line 2\n"),
     ),
+];
+
+#[test]
+fn the_program_is_read_before_the_claims(rt: HostRuntime) {
+    assert_eq!(rt; first_wrong(rt.alloc(), ORDER), None);
+}
+
+// Texts that are no claims about the loop to 100, and why.
+const REFUSED: &[(&[u8], &str)] = &[
+    (b"out: x <= 4;", "unknown label at line 1"),
+    (b"end: x <= 4;\n\n $", "bad byte at line 3"),
+    (b"end: x <= 4\nend: x <= 5;", "unexpected token at line 2"),
+    (b"end:\n y <= 4;", "unknown name at line 2"),
+    (b"end: x*x <= 4;", "not affine at line 1"),
+    (b"end: x <= 4 ||\n nondet();", "nondet at line 2"),
     (
-        "prove p f",
-        COUNT,
-        b"out: x <= 4;",
-        Ending::Refused(4, b"claims refused: unknown label at line 1\n"),
-    ),
-    (
-        "prove p f",
-        COUNT,
-        b"end: x <= 4;\n\n $",
-        Ending::Refused(4, b"claims refused: bad byte at line 3\n"),
-    ),
-    (
-        "prove p f",
-        COUNT,
-        b"end: x <= 4\nend: x <= 5;",
-        Ending::Refused(4, b"claims refused: unexpected token at line 2\n"),
-    ),
-    (
-        "prove p f",
-        COUNT,
-        b"end:\n y <= 4;",
-        Ending::Refused(4, b"claims refused: unknown name at line 2\n"),
-    ),
-    (
-        "prove p f",
-        COUNT,
-        b"end: x*x <= 4;",
-        Ending::Refused(4, b"claims refused: not affine at line 1\n"),
-    ),
-    (
-        "prove p f",
-        COUNT,
-        b"end: x <= 4 ||\n nondet();",
-        Ending::Refused(4, b"claims refused: nondet at line 2\n"),
-    ),
-    // Each comparison splits in two where it is false.
-    (
-        "prove p f",
-        COUNT,
-        b"end: x == 1 || x == 2 || x == 3 || x == 4 || x == 5 || x == 6;",
-        Ending::Report(b"claim 0 end: open at x = 100\nproved 0 of 1\nimprovements: 4\n"),
-    ),
-    (
-        "prove p f",
-        COUNT,
         b"\nend: x == 1 || x == 2 || x == 3 || x == 4 || x == 5 || x == 6 || x == 7;",
-        Ending::Refused(4, b"claims refused: cases at line 2\n"),
+        "cases at line 2",
     ),
 ];
 
 #[test]
 fn other_texts_are_no_claims(rt: HostRuntime) {
-    assert_eq!(rt; first_wrong(rt.alloc(), REFUSED), None);
+    assert_eq!(rt;
+        first_taken(rt.alloc(), "prove p f", "claims", Some(COUNT), REFUSED),
+        None
+    );
 }
 
 // Whether this claim so many times about a program is refused so.

@@ -1,10 +1,9 @@
 //! Loads and puts that fail: no answer changes in place of the right one, and what was put is the front of the right output.
 
-use crate::cases::{
-    Case, Written, first_wrong, is_as_wanted, joined, repeated, run_over, shelf, strings,
-};
+use crate::cases::{Case, first_wrong, run_over};
 use crate::reports::COUNT;
 use std::alloc::{AllocError, Global};
+use test_cases::{Written, front, is_as_wanted, joined, repeated, shelf, strings};
 
 const LINES: [&[u8]; 11] = [
     b"variables x\n",
@@ -36,14 +35,7 @@ fn run_count(
 // after them.
 fn stops(alloc: Global, lines: u32, bytes: usize) -> Result<bool, AllocError> {
     let written = run_count(alloc, &["solve", "p"], &[(lines, bytes)], &[])?;
-    let mut front = Vec::new(alloc);
-    for (number, line) in LINES.iter().enumerate() {
-        if number < lines as usize {
-            front.extend_from_slice(*line)?;
-        } else if number == lines as usize && bytes <= line.len() {
-            front.extend_from_slice(&line[..bytes])?;
-        }
-    }
+    let front = front(alloc, &LINES, lines, bytes)?;
     Ok(is_as_wanted(&written, 8, &front, b"cannot write\n"))
 }
 
@@ -71,7 +63,7 @@ impl Case for (&[&str], usize, usize, u8) {
             Ok(written) => {
                 written.out.pieces().len() == self.1
                     && written.err.pieces().len() == self.2
-                    && written.status.code() == self.3
+                    && written.code == self.3
             }
             Err(_) => false,
         }

@@ -3,11 +3,10 @@
 use crate::cases::{Case, Ending, first_wrong, run_line};
 use std::alloc::{AllocError, Global};
 
-const LOOPS: &[(&str, &[u8], &[u8], Ending)] = &[
+const LOOPS: &[(&str, &[u8], Ending)] = &[
     (
         "solve p",
         b"int main() { int x = 0; for (;;) { if (x >= 5) break; x++; } }",
-        b"",
         Ending::End(
             b"point 1: loop at line 1\n  x <= 5\n  -x <= 0\npoint 2: join at line 1\n  x <= 4\n  -x <= 0\npoint 3: exit\n  x <= 5\n  -x <= -5\nimprovements: 4\n",
         ),
@@ -15,7 +14,6 @@ const LOOPS: &[(&str, &[u8], &[u8], Ending)] = &[
     (
         "solve p",
         b"int main() { int x = 0; do { x = x + 2; } while (x < 5); }",
-        b"",
         Ending::End(
             b"point 1: loop at line 1\n  x <= 4\n  -x <= 0\npoint 2: exit\n  x <= 6\n  -x <= -5\nimprovements: 3\n",
         ),
@@ -23,7 +21,6 @@ const LOOPS: &[(&str, &[u8], &[u8], Ending)] = &[
     (
         "solve p",
         b"int main() { int x = 0; for (int i = 0; i < 4; i++) { if (i == 2) continue; x++; } }",
-        b"",
         Ending::End(
             b"point 1: loop at line 1\n  x <= +inf\n  -x <= 0\n  i <= 4\n  -i <= 0\npoint 2: join at line 1\n  x <= +inf\n  -x <= 0\n  i <= 3\n  -i <= 0\npoint 3: exit\n  x <= +inf\n  -x <= 0\n  i <= 4\n  -i <= -4\nimprovements: 7\n",
         ),
@@ -32,7 +29,6 @@ const LOOPS: &[(&str, &[u8], &[u8], Ending)] = &[
     (
         "solve p",
         b"int main() { int x = 3; do { x = x + 1; break; behind: x = 9; } while (x < 10); }",
-        b"",
         Ending::End(
             b"point 1: loop at line 1\n  x <= 3\n  -x <= -3\npoint 2: label behind at line 1\n  unreachable\npoint 3: exit\n  x <= 4\n  -x <= -4\nimprovements: 2\n",
         ),
@@ -41,7 +37,6 @@ const LOOPS: &[(&str, &[u8], &[u8], Ending)] = &[
     (
         "solve p",
         b"int main() { int x = 0; do { x = x + 1; continue; } while (x < 3); }",
-        b"",
         Ending::End(
             b"point 1: loop at line 1\n  x <= 2\n  -x <= 0\npoint 2: exit\n  x <= 3\n  -x <= -3\nimprovements: 3\n",
         ),
@@ -50,7 +45,6 @@ const LOOPS: &[(&str, &[u8], &[u8], Ending)] = &[
     (
         "solve p",
         b"int main() { int x = 0; while (x < 3) { while (0 <= 0) break; x = x + 1; } }",
-        b"",
         Ending::End(b"point 3: exit\n  x <= 3\n  -x <= -3\nimprovements: 4\n"),
     ),
 ];
@@ -228,11 +222,7 @@ impl Case for (&[u8], &str, &[u8]) {
 fn same_output(alloc: Global, line: &str, one: &[u8], other: &[u8]) -> Result<bool, AllocError> {
     let first = run_line(alloc, line, one, b"x + 2*y\n")?;
     let second = run_line(alloc, line, other, b"x + 2*y\n")?;
-    Ok(
-        first.status.code() == 0
-            && second.status.code() == 0
-            && first.out.bytes() == second.out.bytes(),
-    )
+    Ok(first.code == 0 && second.code == 0 && first.out.bytes() == second.out.bytes())
 }
 
 #[test]

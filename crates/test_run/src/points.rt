@@ -1,9 +1,9 @@
-//! The points of programs, by hand, and texts that have none.
+//! The points of programs, by hand.
 
-use crate::cases::{Case, Ending, ends, first_wrong, repeated};
-use crate::refusals::USAGE;
+use crate::cases::{Case, Ending, ends, first_wrong};
 use crate::reports::LINE;
 use std::alloc::Global;
+use test_cases::repeated;
 
 // A point of each kind, and an assumption with two cases.
 const KINDS: &[u8] = b"int main() {
@@ -23,11 +23,10 @@ end:
 }
 ";
 
-const LISTED: &[(&str, &[u8], &[u8], Ending)] = &[
+const LISTED: &[(&str, &[u8], Ending)] = &[
     (
         "points p",
         KINDS,
-        b"",
         Ending::Report(
             b"point 0: entry\npoint 1: assume at line 3\npoint 2: loop at line 4\npoint 3: join at line 5\npoint 4: label end at line 10\npoint 5: loop at line 12\npoint 6: exit\n",
         ),
@@ -36,7 +35,6 @@ const LISTED: &[(&str, &[u8], &[u8], Ending)] = &[
     (
         "points p",
         b"int main() { int x;\nif (x < 1) { for (x = 0; x < 5; x++) ; } else { a: x = 1; b: ; }\nc: x = 2; }",
-        b"",
         Ending::Report(
             b"point 0: entry\npoint 1: loop at line 2\npoint 2: label a at line 2\npoint 3: label b at line 2\npoint 4: join at line 2\npoint 5: label c at line 3\npoint 6: exit\n",
         ),
@@ -45,14 +43,12 @@ const LISTED: &[(&str, &[u8], &[u8], Ending)] = &[
     (
         "points p",
         b"int main() { int x; assume(x > 0);\nassume(x != 3); }",
-        b"",
         Ending::Report(b"point 0: entry\npoint 1: assume at line 2\npoint 2: exit\n"),
     ),
     // What nothing leads to is listed like any other point.
     (
         "points p",
         b"int main() { int x = 1; while (x < 0) { in: x++; } }",
-        b"",
         Ending::Report(
             b"point 0: entry\npoint 1: loop at line 1\npoint 2: label in at line 1\npoint 3: exit\n",
         ),
@@ -60,14 +56,12 @@ const LISTED: &[(&str, &[u8], &[u8], Ending)] = &[
     (
         "points p",
         LINE,
-        b"",
         Ending::Report(b"point 0: entry\npoint 1: exit\n"),
     ),
     // Nothing is computed: what is too wide for `solve` has its points.
     (
         "points p",
         b"int main() { int x; x = 3037000500*x; x = 3037000500*x; }",
-        b"",
         Ending::Report(b"point 0: entry\npoint 1: exit\n"),
     ),
 ];
@@ -116,53 +110,6 @@ const COUNTED: &[(&str, usize, Ending)] = &[
 #[test]
 fn points_are_counted(rt: HostRuntime) {
     assert_eq!(rt; first_wrong(rt.alloc(), COUNTED), None);
-}
-
-const REFUSED: &[(&str, &[u8], &[u8], Ending)] = &[
-    ("points", LINE, b"", Ending::Refused(2, USAGE)),
-    ("points p f", LINE, b"", Ending::Refused(2, USAGE)),
-    (
-        "points p --domain zones",
-        LINE,
-        b"",
-        Ending::Refused(2, USAGE),
-    ),
-    (
-        "points q",
-        LINE,
-        b"",
-        Ending::Refused(3, b"cannot read the program\n"),
-    ),
-    (
-        "points p",
-        b"",
-        b"",
-        Ending::Refused(4, b"program refused: unexpected token at line 1\n"),
-    ),
-    // A bad byte comes before a name that is unknown.
-    (
-        "points p",
-        b"int main() { y = 1;\nint x = 2 # 3; }",
-        b"",
-        Ending::Refused(4, b"program refused: bad byte at line 2\n"),
-    ),
-    (
-        "points p",
-        b"int main() { int x;\ny = 1; }",
-        b"",
-        Ending::Refused(4, b"program refused: unknown name at line 2\n"),
-    ),
-    (
-        "points p",
-        b"int main() { int x;\nassume(x != 1 && x != 2 && x != 3 && x != 4 && x != 5 && x != 6 && x != 7); }",
-        b"",
-        Ending::Refused(4, b"program refused: cases at line 2\n"),
-    ),
-];
-
-#[test]
-fn texts_without_points_are_refused(rt: HostRuntime) {
-    assert_eq!(rt; first_wrong(rt.alloc(), REFUSED), None);
 }
 
 // The loop to 100 has three points: each is a piece.

@@ -1,8 +1,9 @@
 //! Refused words, files, rows and programs, wide operations and spent improvements: the code, the message, and no output.
 
-use crate::cases::{Case, Ending, ends, first_wrong, repeated};
+use crate::cases::{Case, Ending, ends, first_taken, first_wrong};
 use crate::reports::{COUNT, LINE, ROWS};
 use std::alloc::Global;
+use test_cases::repeated;
 
 pub(crate) const USAGE: &[u8] =
     b"usage: tmpl solve PROGRAM [--domain D] [--rows FILE] [--improvements N] [--policy P] | certify (the same) \
@@ -10,62 +11,85 @@ pub(crate) const USAGE: &[u8] =
       | prove PROGRAM CLAIMS (the options of solve) | transitions FILE (the options of solve) \
       | equations FILE [--improvements N] [--policy P] | points PROGRAM\n";
 
-const NO_REQUEST: Ending = Ending::Refused(2, USAGE);
-
-const NO_PROGRAM: Ending = Ending::Refused(3, b"cannot read the program\n");
-
-const WORDS: &[(&str, &[u8], &[u8], Ending)] = &[
-    ("", LINE, b"", NO_REQUEST),
-    ("solve", LINE, b"", NO_REQUEST),
-    ("solve p --domain rows", LINE, b"", NO_REQUEST),
-    ("solve p --improvements 1000001", LINE, b"", NO_REQUEST),
-    ("certify q", LINE, b"", NO_PROGRAM),
-    ("check q q", LINE, b"", NO_PROGRAM),
-    ("bench --seed 1 --loops 47", LINE, b"", NO_REQUEST),
-    ("solve q --policy first", LINE, b"", NO_PROGRAM),
-    ("solve q", LINE, b"", NO_PROGRAM),
-    ("solve q --domain rows --rows q", LINE, b"", NO_PROGRAM),
-    (
-        "solve p --domain rows --rows q",
-        LINE,
-        b"",
-        Ending::Refused(3, b"cannot read the rows\n"),
-    ),
-    (
-        ROWS,
-        LINE,
-        b"0*x",
-        Ending::Refused(4, b"rows refused: zero row at line 1\n"),
-    ),
-    (
-        ROWS,
-        LINE,
-        b"",
-        Ending::Refused(4, b"rows refused: 0 rows\n"),
-    ),
-    (
-        ROWS,
-        LINE,
-        b"x\ny + z\n",
-        Ending::Refused(4, b"rows refused: unknown name at line 2\n"),
-    ),
-    (
-        ROWS,
-        LINE,
-        b"x <= 1",
-        Ending::Refused(4, b"rows refused: bad row at line 1\n"),
-    ),
-    (
-        "solve p --improvements 0",
-        LINE,
-        b"",
-        Ending::Refused(6, b"spent: 0 improvements\n"),
-    ),
+// Lines of words that ask for nothing.
+const NO_REQUESTS: &[&str] = &[
+    "",
+    "bench --seed 1 --loops 47",
+    "equations p --domain zones",
+    "equations",
+    "points p --domain zones",
+    "points p f",
+    "points",
+    "prove p f f",
+    "prove p",
+    "solve p --domain rows",
+    "solve p --improvements 1000001",
+    "solve",
+    "transitions",
 ];
 
 #[test]
-fn words_files_and_rows_are_refused(rt: HostRuntime) {
-    assert_eq!(rt; first_wrong(rt.alloc(), WORDS), None);
+fn other_words_are_no_request(rt: HostRuntime) {
+    let refused = Ending::Refused(2, USAGE);
+    let wrong = NO_REQUESTS
+        .iter()
+        .position(|line| !ends(rt.alloc(), *line, LINE, b"", refused));
+    assert_eq!(rt; wrong, None);
+}
+
+// A line of words, and which of its files isn't read first.
+const UNREAD: &[(&str, &str)] = &[
+    ("prove p q", "claims"),
+    // The program is loaded before the claims, and the claims before the program is read.
+    ("prove q q", "program"),
+    ("transitions q", "system"),
+    ("transitions p --domain rows --rows q", "rows"),
+    ("equations q", "equations"),
+    ("points q", "program"),
+    ("certify q", "program"),
+    ("check q q", "program"),
+    ("solve q --policy first", "program"),
+    ("solve q", "program"),
+    ("solve q --domain rows --rows q", "program"),
+    ("solve p --domain rows --rows q", "rows"),
+];
+
+// Whether the run of a line stops since this file isn't read.
+fn is_unread(alloc: Global, line: &str, file: &str) -> bool {
+    match format!(in alloc; "cannot read the {file}\n") {
+        Ok(message) => ends(
+            alloc,
+            line,
+            LINE,
+            b"",
+            Ending::Refused(3, message.as_bytes()),
+        ),
+        Err(_) => false,
+    }
+}
+
+#[test]
+fn files_are_absent(rt: HostRuntime) {
+    let wrong = UNREAD
+        .iter()
+        .position(|row| !is_unread(rt.alloc(), row.0, row.1));
+    assert_eq!(rt; wrong, None);
+}
+
+// Files of rows, and why they are refused.
+const NO_ROWS: &[(&[u8], &str)] = &[
+    (b"0*x", "zero row at line 1"),
+    (b"", "0 rows"),
+    (b"x\ny + z\n", "unknown name at line 2"),
+    (b"x <= 1", "bad row at line 1"),
+];
+
+#[test]
+fn rows_are_refused(rt: HostRuntime) {
+    assert_eq!(rt;
+        first_taken(rt.alloc(), ROWS, "rows", Some(LINE), NO_ROWS),
+        None
+    );
 }
 
 // How many blanks the program and the rows are, the code and the message.
@@ -93,150 +117,144 @@ const BLANKS: &[(usize, usize, u8, &[u8])] = &[
     ),
 ];
 
-#[test]
-fn files_are_too_long(rt: HostRuntime) {
-    assert_eq!(rt; first_wrong(rt.alloc(), BLANKS), None);
+// A line of words, the piece of which the file is, how often it stands there, and what the file is.
+const LONG: &[(&str, &[u8], usize, &str)] = &[
+    ("equations p", b" ", 65537, "equations"),
+    ("transitions p", b"          ", 6554, "system"),
+];
+
+// Whether the file of a line is too long.
+fn is_too_long(alloc: Global, line: &str, piece: &[u8], count: usize, file: &str) -> bool {
+    match (
+        repeated(alloc, b"", piece, count, b""),
+        format!(in alloc; "too long: the {file}\n"),
+    ) {
+        (Ok(text), Ok(message)) => {
+            ends(
+                alloc,
+                line,
+                &text,
+                b"",
+                Ending::Refused(3, message.as_bytes()),
+            )
+        }
+        _ => false,
+    }
 }
 
-const PROGRAMS: &[(&str, &[u8], &[u8], Ending)] = &[
+#[test]
+fn files_are_too_long(rt: HostRuntime) {
+    let wrong = LONG
+        .iter()
+        .position(|row| !is_too_long(rt.alloc(), row.0, row.1, row.2, row.3));
+    assert_eq!(rt; first_wrong(rt.alloc(), BLANKS), None);
+    assert_eq!(rt; wrong, None);
+}
+
+// Texts that are no programs with points, and why.
+const PROGRAMS: &[(&[u8], &str)] = &[
+    (b"", "unexpected token at line 1"),
+    (b"int main() { x = 1; }", "unknown name at line 1"),
+    (b"int main() { int x, x; }", "name twice at line 1"),
+    (b"int main() { int x = nondet() + 1; }", "nondet at line 1"),
+    (b"int main() { int x = 07; }", "bad number at line 1"),
+    (b"int main() { /* int x; }", "open comment at line 1"),
+    (b"int main() { }", "no variables"),
+    (b"int main() { int x, y; x = x*y; }", "not affine at line 1"),
     (
-        "solve p",
-        b"",
-        b"",
-        Ending::Refused(4, b"program refused: unexpected token at line 1\n"),
-    ),
-    (
-        "solve p",
-        b"int main() { x = 1; }",
-        b"",
-        Ending::Refused(4, b"program refused: unknown name at line 1\n"),
-    ),
-    (
-        "solve p",
-        b"int main() { int x, x; }",
-        b"",
-        Ending::Refused(4, b"program refused: name twice at line 1\n"),
-    ),
-    (
-        "solve p",
-        b"int main() { int x = nondet() + 1; }",
-        b"",
-        Ending::Refused(4, b"program refused: nondet at line 1\n"),
-    ),
-    (
-        "solve p",
-        b"int main() { int x = 07; }",
-        b"",
-        Ending::Refused(4, b"program refused: bad number at line 1\n"),
-    ),
-    (
-        "solve p",
-        b"int main() { /* int x; }",
-        b"",
-        Ending::Refused(4, b"program refused: open comment at line 1\n"),
-    ),
-    (
-        "solve p",
-        b"int main() { }",
-        b"",
-        Ending::Refused(4, b"program refused: no variables\n"),
-    ),
-    (
-        "solve p",
-        b"int main() { int x, y; x = x*y; }",
-        b"",
-        Ending::Refused(4, b"program refused: not affine at line 1\n"),
-    ),
-    (
-        "solve p",
         b"int main() {\n int x = 9223372036854775808; }",
-        b"",
-        Ending::Refused(4, b"program refused: long number at line 2\n"),
+        "long number at line 2",
     ),
+    (b"int main() {\n\n int x = 1 @ 2; }", "bad byte at line 3"),
     (
-        "solve p",
-        b"int main() {\n\n int x = 1 @ 2; }",
-        b"",
-        Ending::Refused(4, b"program refused: bad byte at line 3\n"),
-    ),
-    (
-        "solve p",
         b"int main() {\n int x = 1; // C joins this line \\ \r\n x = 2; }",
-        b"",
-        Ending::Refused(4, b"program refused: bad byte at line 2\n"),
+        "bad byte at line 2",
     ),
     (
-        "solve p",
         b"int main() { int x; x = (((((((((((((((((((((((((((((((((((((((((((((((((((((((((((((((((1))))))))))))))))))))))))))))))))))))))))))))))))))))))))))))))))); }",
-        b"",
-        Ending::Refused(4, b"program refused: nesting at line 1\n"),
+        "nesting at line 1",
     ),
     (
-        "solve p --domain octagons",
-        b"int main() { int a, b, c, d, e, f, g, h, i, j, k, l; l1: l2: l3: l4: l5: l6: ; }",
-        b"",
-        Ending::Refused(4, b"program refused: 2304 unknowns\n"),
-    ),
-    (
-        "solve p --domain octagons",
-        b"int main() { int a, b, c, d, e, f, g, h, i, j, k, l; }",
-        b"",
-        Ending::Refused(4, b"program refused: 1174764676 cells\n"),
-    ),
-    (
-        "solve p",
         b"int main() { int a, b, c, d, e, f, g, h, i, j, k, l, m; }",
-        b"",
-        Ending::Refused(4, b"program refused: variables at line 1\n"),
+        "variables at line 1",
     ),
     (
-        "solve p",
         b"int main() { int x = 9223372036854775807; x += x; x = 2*(9223372036854775807*x); }",
-        b"",
-        Ending::Refused(4, b"program refused: big number at line 1\n"),
+        "big number at line 1",
     ),
     (
-        "solve p",
         b"int main() { int x; assume(x != 1 && x != 2 && x != 3 && x != 4 && x != 5 && x != 6 && x != 7); }",
-        b"",
-        Ending::Refused(4, b"program refused: cases at line 1\n"),
+        "cases at line 1",
     ),
     (
-        "solve p",
         b"int main() { int x;\nl1: l2: l3: l4: l5: l6: l7: l8: l9: l10: l11: l12: l13: l14: l15: l16: l17: l18: l19: l20: l21: l22: l23: l24: l25: l26: l27: l28: l29: l30: l31: l32: l33: l34: l35: l36: l37: l38: l39: l40: l41: l42: l43: l44: l45: l46: l47: l48: l49: l50: l51: l52: l53: l54: l55: l56: l57: l58: l59: l60: l61: l62: l63: l64: l65: l66: l67: l68: l69: l70: l71: l72: l73: l74: l75: l76: l77: l78: l79: l80: l81: l82: l83: l84: l85: l86: l87: l88: l89: l90: l91: l92: l93: l94: l95: ; }",
-        b"",
-        Ending::Refused(4, b"program refused: 97 points\n"),
+        "97 points",
+    ),
+    // A bad byte comes before a name that is unknown.
+    (
+        b"int main() { y = 1;\nint x = 2 # 3; }",
+        "bad byte at line 2",
+    ),
+    (b"int main() { int x;\ny = 1; }", "unknown name at line 2"),
+    (
+        b"int main() { int x;\nassume(x != 1 && x != 2 && x != 3 && x != 4 && x != 5 && x != 6 && x != 7); }",
+        "cases at line 2",
+    ),
+];
+
+// With 24 rows for each point there may be too many unknowns, or too many cells.
+const LARGE: &[(&[u8], &str)] = &[
+    (
+        b"int main() { int a, b, c, d, e, f, g, h, i, j, k, l; l1: l2: l3: l4: l5: l6: ; }",
+        "2304 unknowns",
+    ),
+    (
+        b"int main() { int a, b, c, d, e, f, g, h, i, j, k, l; }",
+        "1174764676 cells",
     ),
 ];
 
 #[test]
 fn programs_are_refused(rt: HostRuntime) {
-    assert_eq!(rt; first_wrong(rt.alloc(), PROGRAMS), None);
+    assert_eq!(rt;
+        first_taken(rt.alloc(), "solve p", "program", None, PROGRAMS),
+        None
+    );
+    assert_eq!(rt;
+        first_taken(rt.alloc(), "points p", "program", None, PROGRAMS),
+        None
+    );
+    let octagons = "solve p --domain octagons";
+    assert_eq!(rt;
+        first_taken(rt.alloc(), octagons, "program", None, LARGE),
+        None
+    );
 }
 
-const STOPPED: &[(&str, &[u8], &[u8], Ending)] = &[
+const STOPPED: &[(&str, &[u8], Ending)] = &[
+    (
+        "solve p --improvements 0",
+        LINE,
+        Ending::Refused(6, b"spent: 0 improvements\n"),
+    ),
     (
         "solve p --improvements 2",
         COUNT,
-        b"",
         Ending::Refused(6, b"spent: 2 improvements\n"),
     ),
     (
         "certify p --improvements 2",
         COUNT,
-        b"",
         Ending::Refused(6, b"spent: 2 improvements\n"),
     ),
     (
         "solve p",
         b"int main() { int x; x = 3037000500*x; x = 3037000500*x; }",
-        b"",
         Ending::Refused(5, b"wide: mul 3037000500 3037000500 at compose edge 0\n"),
     ),
     (
         "solve p",
         b"int main() { int x = 9223372036854775807; }",
-        b"",
         Ending::Refused(
             5,
             b"wide: sub -9223372036854775807 1 at raise 1 in round 1\n",

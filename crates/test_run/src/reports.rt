@@ -1,8 +1,9 @@
 //! Reports of small programs, whole or by their ends.
 
-use crate::cases::{Case, Ending, ends, first_wrong, run_line, strings};
+use crate::cases::{Case, Ending, ends, first_wrong, run_line};
 use base_files::{PlainShelf, PlainSink};
 use std::alloc::{AllocError, Global};
+use test_cases::strings;
 use top_run::{Status, run_in_memory};
 
 pub(crate) const ROWS: &str = "solve p --domain rows --rows f";
@@ -134,30 +135,22 @@ fn straight_lines_have_whole_reports(rt: HostRuntime) {
     assert_eq!(rt; first_wrong(rt.alloc(), STRAIGHT), None);
 }
 
-const LOOPS: &[(&str, &[u8], &[u8], Ending)] = &[
+const LOOPS: &[(&str, &[u8], Ending)] = &[
     (
         "solve p --domain zones",
         b"int main() { int a = 0, b = 0, c = 0, d = 0, e = 0, f = 0, g = 0, h = 0, i = 0, j = 0, k = 1, l = 3; }",
-        b"",
         Ending::End(b"  -j + l <= 3\n  -k + l <= 2\nimprovements: 1\n"),
     ),
-    ("solve p", COUNT, b"", Ending::End(COUNT_REPORT)),
-    (
-        "solve p --improvements 3",
-        COUNT,
-        b"",
-        Ending::End(COUNT_REPORT),
-    ),
+    ("solve p", COUNT, Ending::End(COUNT_REPORT)),
+    ("solve p --improvements 3", COUNT, Ending::End(COUNT_REPORT)),
     (
         "solve p",
         b"int main() { int x; }",
-        b"",
         Ending::End(b"point 1: exit\n  x <= +inf\n  -x <= +inf\nimprovements: 1\n"),
     ),
     (
         "solve p",
         THIRDS,
-        b"",
         Ending::End(
             b"point 1: loop at line 1\n  x <= 13/3\n  -x <= 0\npoint 2: exit\n  x <= 13/3\n  -x <= 0\nimprovements: 2\n",
         ),
@@ -165,7 +158,6 @@ const LOOPS: &[(&str, &[u8], &[u8], Ending)] = &[
     (
         "solve p",
         b"int main() { int x = 0, y; while (nondet()) { y = nondet(); assume(2*y == x + 2); x = y; } }",
-        b"",
         Ending::End(
             b"point 1: loop at line 1\n  x <= 2\n  -x <= 0\n  y <= +inf\n  -y <= +inf\npoint 2: exit\n  x <= 2\n  -x <= 0\n  y <= +inf\n  -y <= +inf\nimprovements: 2\n",
         ),
@@ -173,7 +165,6 @@ const LOOPS: &[(&str, &[u8], &[u8], Ending)] = &[
     (
         "solve p",
         b"int main() { int x = 0; while (nondet()) { x = x + 1; } }",
-        b"",
         Ending::End(
             b"point 1: loop at line 1\n  x <= +inf\n  -x <= 0\npoint 2: exit\n  x <= +inf\n  -x <= 0\nimprovements: 2\n",
         ),
@@ -181,7 +172,6 @@ const LOOPS: &[(&str, &[u8], &[u8], Ending)] = &[
     (
         "solve p --domain zones",
         PAIR,
-        b"",
         Ending::End(
             b"point 1: loop at line 1\n  x <= 10\n  -x <= 0\n  y <= 10\n  -y <= 0\n  x - y <= 0\n  -x + y <= 0\npoint 2: exit\n  x <= 10\n  -x <= -10\n  y <= 10\n  -y <= -10\n  x - y <= 0\n  -x + y <= 0\nimprovements: 3\n",
         ),
@@ -189,7 +179,6 @@ const LOOPS: &[(&str, &[u8], &[u8], Ending)] = &[
     (
         "solve p --domain octagons",
         PAIR,
-        b"",
         Ending::End(
             b"point 1: loop at line 1\n  x <= 10\n  -x <= 0\n  y <= 10\n  -y <= 0\n  x + y <= 20\n  x - y <= 0\n  -x + y <= 0\n  -x - y <= 0\npoint 2: exit\n  x <= 10\n  -x <= -10\n  y <= 10\n  -y <= -10\n  x + y <= 20\n  x - y <= 0\n  -x + y <= 0\n  -x - y <= -20\nimprovements: 3\n",
         ),
@@ -197,7 +186,6 @@ const LOOPS: &[(&str, &[u8], &[u8], Ending)] = &[
     (
         "solve p",
         b"int main() { int x = 0; while (x < 100) { if (x < 50) x = x + 1; else x = x + 2; } }",
-        b"",
         Ending::End(
             b"  x <= 101\n  -x <= 0\npoint 2: join at line 1\n  x <= 101\n  -x <= -1\npoint 3: exit\n  x <= 101\n  -x <= -100\nimprovements: 5\n",
         ),
@@ -205,25 +193,21 @@ const LOOPS: &[(&str, &[u8], &[u8], Ending)] = &[
     (
         "solve p --improvements 0",
         b"int main() { int x; assume(1 > 2); }",
-        b"",
         Ending::End(b"point 1: exit\n  unreachable\nimprovements: 0\n"),
     ),
     (
         "solve p",
         b"int main() { int x; x = 3037000499*x; x = 3037000499*x; }",
-        b"",
         Ending::End(b"point 1: exit\n  x <= +inf\n  -x <= +inf\nimprovements: 1\n"),
     ),
     (
         "solve p",
         b"int main() { int x = 5; while (x != 0) { x = x - 1; } }",
-        b"",
         Ending::End(b"  x <= 5\n  -x <= 0\npoint 2: exit\n  x <= 0\n  -x <= 0\nimprovements: 3\n"),
     ),
     (
         "solve p",
         NESTED,
-        b"",
         Ending::End(
             b"point 1: loop at line 4\n  i <= 10\n  -i <= 0\n  j <= 9\n  -j <= 0\n  k <= +inf\n  -k <= 0\npoint 2: loop at line 6\n  i <= 9\n  -i <= 0\n  j <= 9\n  -j <= 0\n  k <= +inf\n  -k <= 0\npoint 3: exit\n  i <= 10\n  -i <= -10\n  j <= 9\n  -j <= 0\n  k <= +inf\n  -k <= 0\nimprovements: 5\n",
         ),
@@ -231,7 +215,6 @@ const LOOPS: &[(&str, &[u8], &[u8], Ending)] = &[
     (
         "solve p",
         CHOICES,
-        b"",
         Ending::End(
             b"point 1: assume at line 1\n  x <= 3\n  -x <= +inf\npoint 2: exit\n  x <= 3\n  -x <= +inf\nimprovements: 2\n",
         ),
@@ -239,7 +222,6 @@ const LOOPS: &[(&str, &[u8], &[u8], Ending)] = &[
     (
         "solve p --policy first",
         CHOICES,
-        b"",
         Ending::End(
             b"point 1: assume at line 1\n  x <= 3\n  -x <= +inf\npoint 2: exit\n  x <= 3\n  -x <= +inf\nimprovements: 3\n",
         ),
@@ -247,7 +229,6 @@ const LOOPS: &[(&str, &[u8], &[u8], Ending)] = &[
     (
         "solve p",
         b"int main() { int x; assume(x >= 1 && x <= 3); mid: x = 2*x; }",
-        b"",
         Ending::End(
             b"point 1: label mid at line 1\n  x <= 3\n  -x <= -1\npoint 2: exit\n  x <= 6\n  -x <= -2\nimprovements: 2\n",
         ),
@@ -255,7 +236,6 @@ const LOOPS: &[(&str, &[u8], &[u8], Ending)] = &[
     (
         "solve p",
         b"int main() { int x = 9223372036854775806; }",
-        b"",
         Ending::End(
             b"point 1: exit\n  x <= 9223372036854775806\n  -x <= -9223372036854775806\nimprovements: 1\n",
         ),
@@ -263,7 +243,6 @@ const LOOPS: &[(&str, &[u8], &[u8], Ending)] = &[
     (
         "solve p",
         b"int main() { int x; assume(x != 1 && x != 2 && x != 3 && x != 4 && x != 5 && x != 6); }",
-        b"",
         Ending::End(
             b"point 1: assume at line 1\n  x <= +inf\n  -x <= +inf\npoint 2: exit\n  x <= +inf\n  -x <= +inf\nimprovements: 2\n",
         ),
@@ -280,7 +259,7 @@ impl Case for (&str, &[u8], &[u8]) {
     fn is_right(&self, alloc: Global) -> bool {
         match run_line(alloc, self.0, self.1, b"") {
             Ok(made) => {
-                made.status == Status::Done
+                made.code == 0
                     && ends(
                         alloc,
                         "check p f",
@@ -293,6 +272,42 @@ impl Case for (&str, &[u8], &[u8]) {
         }
     }
 }
+
+// Three counters through three loops, of which the two inner ones do nothing. Their upper bounds at the three loops are solved together,
+// in one turn of nine unknowns. At the exit one of the counters has reached its end.
+const INNER_LOOPS: &[u8] = b"int main() { int x = 0, y = 0, z = 0; \
+      while (x < 10 && y < 20 && z < 30) { x = x + 1; y = y + 1; z = z + 1; while (nondet()) { } while (nondet()) { } } }";
+
+const INNER_LOOPS_REPORT: &[u8] = b"point 1: loop at line 1
+  x <= 10
+  -x <= 0
+  y <= 20
+  -y <= 0
+  z <= 30
+  -z <= 0
+point 2: loop at line 1
+  x <= 10
+  -x <= -1
+  y <= 20
+  -y <= -1
+  z <= 30
+  -z <= -1
+point 3: loop at line 1
+  x <= 10
+  -x <= -1
+  y <= 20
+  -y <= -1
+  z <= 30
+  -z <= -1
+point 4: exit
+  x <= 10
+  -x <= 0
+  y <= 20
+  -y <= 0
+  z <= 30
+  -z <= 0
+certificate: accepted
+";
 
 const CERTIFIED: &[(&str, &[u8], &[u8])] = &[
     (
@@ -310,6 +325,7 @@ const CERTIFIED: &[(&str, &[u8], &[u8])] = &[
         CHOICES,
         b"point 2: exit\n  x <= 3\n  -x <= +inf\ncertificate: accepted\n",
     ),
+    ("certify p", INNER_LOOPS, INNER_LOOPS_REPORT),
 ];
 
 // A certificate that is written is one that is accepted, with the bounds of the report.

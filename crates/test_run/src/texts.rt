@@ -1,8 +1,9 @@
 //! Hostile texts: single bytes, tokens as long as a text, open constructs, long chains of operators, rows on one endless line.
 
-use crate::cases::{Case, Ending, ends, first_wrong, repeated};
+use crate::cases::{Case, Ending, ends, first_wrong};
 use crate::reports::ROWS;
 use std::alloc::{AllocError, Global};
+use test_cases::repeated;
 
 // The message of a text of one byte: a blank is an empty program, whose end is unexpected; of the other bytes some start a
 // token, which is unexpected, too, and each other one is a bad byte.

@@ -1,7 +1,6 @@
 //! Transition systems: their reports, and texts that are none.
 
-use crate::cases::{Ending, Repeated, first_wrong};
-use crate::refusals::USAGE;
+use crate::cases::{Ending, Long, first_long_taken, first_taken, first_wrong};
 
 // Two counters that go up together.
 const PAIR: &[u8] = b"vars x, y;
@@ -87,31 +86,27 @@ point 2: label b at line 1
 improvements: 2
 ";
 
-const REPORTS: &[(&str, &[u8], &[u8], Ending)] = &[
+const REPORTS: &[(&str, &[u8], Ending)] = &[
     (
         "transitions p --domain zones",
         PAIR,
-        b"",
         Ending::Report(PAIR_REPORT),
     ),
     (
         "transitions --domain=zones --policy first p",
         PAIR,
-        b"",
         Ending::Report(PAIR_REPORT),
     ),
-    ("transitions p", COUNT, b"", Ending::Report(COUNT_REPORT)),
-    ("transitions p", CHOICE, b"", Ending::Report(CHOICE_REPORT)),
+    ("transitions p", COUNT, Ending::Report(COUNT_REPORT)),
+    ("transitions p", CHOICE, Ending::Report(CHOICE_REPORT)),
     (
         "transitions p",
         b"vars x; points s, a, b; edge a b { x = 1; }",
-        b"",
         Ending::Report(UNREACHED),
     ),
     (
         "transitions p --improvements 2",
         COUNT,
-        b"",
         Ending::Refused(6, b"spent: 2 improvements\n"),
     ),
 ];
@@ -121,137 +116,80 @@ fn systems_have_reports(rt: HostRuntime) {
     assert_eq!(rt; first_wrong(rt.alloc(), REPORTS), None);
 }
 
-const REFUSED: &[(&str, &[u8], &[u8], Ending)] = &[
-    ("transitions", COUNT, b"", Ending::Refused(2, USAGE)),
+// Texts that are no transition systems, and why.
+const REFUSED: &[(&[u8], &str)] = &[
+    (b"vars x;\npoints s, a; $", "bad byte at line 2"),
     (
-        "transitions q",
-        COUNT,
-        b"",
-        Ending::Refused(3, b"cannot read the system\n"),
-    ),
-    (
-        "transitions p --domain rows --rows q",
-        COUNT,
-        b"",
-        Ending::Refused(3, b"cannot read the rows\n"),
-    ),
-    (
-        "transitions p --domain rows --rows f",
-        COUNT,
-        b"y",
-        Ending::Refused(4, b"rows refused: unknown name at line 1\n"),
-    ),
-    (
-        "transitions p",
-        b"vars x;\npoints s, a; $",
-        b"",
-        Ending::Refused(4, b"system refused: bad byte at line 2\n"),
-    ),
-    (
-        "transitions p",
         b"vars x;\npoints s, a;\nedge s a { x 1; }",
-        b"",
-        Ending::Refused(4, b"system refused: unexpected token at line 3\n"),
+        "unexpected token at line 3",
     ),
+    (b"vars x,\n x; points s, a;", "name twice at line 2"),
     (
-        "transitions p",
-        b"vars x,\n x; points s, a;",
-        b"",
-        Ending::Refused(4, b"system refused: name twice at line 2\n"),
-    ),
-    (
-        "transitions p",
         b"vars a, b, c, d, e, f, g, h, i, j, k, l,\n m; points s, t;",
-        b"",
-        Ending::Refused(4, b"system refused: variables at line 2\n"),
+        "variables at line 2",
     ),
     (
-        "transitions p",
         b"vars x; points s, a; edge s a { y = 1; }",
-        b"",
-        Ending::Refused(4, b"system refused: unknown name at line 1\n"),
+        "unknown name at line 1",
     ),
     (
-        "transitions p",
         b"vars x; points s, a; edge s a { x = x < 1; }",
-        b"",
-        Ending::Refused(4, b"system refused: not affine at line 1\n"),
+        "not affine at line 1",
     ),
     (
-        "transitions p",
         b"vars x; points s, a; edge s a { x = 1 + nondet(); }",
-        b"",
-        Ending::Refused(4, b"system refused: nondet at line 1\n"),
+        "nondet at line 1",
     ),
     (
-        "transitions p",
         b"vars x; points s, a; edge s a { assume(9223372036854775807); }",
-        b"",
-        Ending::Refused(4, b"system refused: big number at line 1\n"),
+        "big number at line 1",
     ),
     (
-        "transitions p",
         b"vars x; points s, a; edge s q { }",
-        b"",
-        Ending::Refused(4, b"system refused: unknown point at line 1\n"),
+        "unknown point at line 1",
     ),
     (
-        "transitions p",
         b"vars x; points s, a; edge a s { }",
-        b"",
-        Ending::Refused(4, b"system refused: into the entry at line 1\n"),
+        "into the entry at line 1",
     ),
-    (
-        "transitions p",
-        b"vars x; points s;",
-        b"",
-        Ending::Refused(4, b"system refused: 1 points\n"),
-    ),
+    (b"vars x; points s;", "1 points"),
     // Seven conditions with two cases each make 128 cases.
     (
-        "transitions p",
         b"vars x; points s, a;\nedge s a { assume(x != 1 && x != 2 && x != 3 && x != 4 && x != 5 && x != 6 && x != 7); }",
-        b"",
-        Ending::Refused(4, b"system refused: cases at line 2\n"),
+        "cases at line 2",
     ),
 ];
 
 #[test]
 fn other_texts_are_no_systems(rt: HostRuntime) {
-    assert_eq!(rt; first_wrong(rt.alloc(), REFUSED), None);
+    let rows = "transitions p --domain rows --rows f";
+    let unknown: [(&[u8], &str); 1] = [(b"y", "unknown name at line 1")];
+    assert_eq!(rt;
+        first_taken(rt.alloc(), "transitions p", "system", None, REFUSED),
+        None
+    );
+    assert_eq!(rt;
+        first_taken(rt.alloc(), rows, "rows", Some(COUNT), &unknown),
+        None
+    );
 }
 
-const LARGE: &[Repeated] = &[
+// Systems that are too large, and why.
+const LARGE: &[Long] = &[
+    (b"vars x; points s, a;", b" edge s a { }", 257, b"", "edges"),
     (
-        "transitions p",
-        b"vars x; points s, a;",
-        b" edge s a { }",
-        257,
-        b"",
-        4,
-        b"system refused: edges\n",
-    ),
-    (
-        "transitions p",
         b"vars x; points s, a; edge s a {",
         b" x = 1;",
         257,
         b" }",
-        4,
-        b"system refused: actions of edge 0\n",
-    ),
-    (
-        "transitions p",
-        b"vars x; points s, a;",
-        b"          ",
-        6554,
-        b"",
-        3,
-        b"too long: the system\n",
+        "actions of edge 0",
     ),
 ];
 
 #[test]
 fn large_systems_are_refused(rt: HostRuntime) {
-    assert_eq!(rt; first_wrong(rt.alloc(), LARGE), None);
+    assert_eq!(rt;
+        first_long_taken(rt.alloc(), "transitions p", "system", LARGE),
+        None
+    );
 }

@@ -1,13 +1,12 @@
 //! Certificates that are upgraded: each that reads is written, valid or not, and its check ends as before.
 
-use crate::cases::{
-    Case, Ending, ends, first_wrong, is_as_wanted, run_line, run_over, shelf, strings,
-};
+use crate::cases::{Case, Ending, ends, first_wrong, run_line, run_over};
 use crate::certificates::{
     JUMP_FROM_ITS_BOUND, JUMP_PROGRAM, LISTED_RAY, LOOP, LOOP_PROGRAM, LOOP_REPORT, RAY,
     RAY_PROGRAM, RAY_REPORT, changed,
 };
 use std::alloc::{AllocError, Global};
+use test_cases::{is_as_wanted, shelf, strings};
 
 // Whether a certificate is upgraded in one piece, its upgrade is upgraded to itself, and the checks of both end so.
 fn is_upgraded(

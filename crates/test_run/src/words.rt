@@ -1,9 +1,10 @@
 //! Hostile words: empty names, names with a zero byte, options twice or without a value, the end of options anywhere, many words.
 
-use crate::cases::{Case, first_wrong, is_as_wanted, run_over, shelf, strings};
+use crate::cases::{Case, first_wrong, run_over};
 use crate::refusals::USAGE;
 use crate::reports::{LINE, WHOLE};
 use std::alloc::{AllocError, Global};
+use test_cases::{is_as_wanted, shelf, strings};
 
 // Whether the run of these words over a small program ends so.
 fn ends(

@@ -1,11 +1,16 @@
 //! Claims of texts.
 
-use crate::texts::{Case, first_wrong, read, repeated};
+use crate::texts::{Case, first_wrong, read};
+use ask_claims::ClaimFault::{Cases, Count, Lex, Parse, UnknownLabel};
 use ask_claims::{Claim, ClaimFault, read_claims};
 use flow_edges::flow;
-use lang_parser::{Limit, ParseFault};
-use lang_tokens::{LexFault, line_of};
+use lang_parser::Limit::{Leaves, Nesting};
+use lang_parser::ParseFault;
+use lang_parser::ParseFault::{BigNumber, NondetHere, NotAffine, Unexpected, UnknownName};
+use lang_tokens::LexFault::BadByte;
+use lang_tokens::line_of;
 use std::alloc::Global;
+use test_cases::repeated;
 
 /// Its points are the entry, `here`, the loop, `there` and the exit.
 const PROGRAM: &[u8] =
@@ -24,14 +29,14 @@ fn claims_of(alloc: Global, text: &[u8]) -> Option<Result<Vec<Claim>, ClaimFault
 // The place of the faults below.
 fn place_of(fault: ClaimFault) -> u32 {
     match fault {
-        ClaimFault::Lex(LexFault::BadByte { at }) => at,
-        ClaimFault::Parse(ParseFault::Unexpected { at }) => at,
-        ClaimFault::Parse(ParseFault::UnknownName { at }) => at,
-        ClaimFault::Parse(ParseFault::NotAffine { at }) => at,
-        ClaimFault::Parse(ParseFault::NondetHere { at }) => at,
-        ClaimFault::Parse(ParseFault::BigNumber { at }) => at,
-        ClaimFault::UnknownLabel { at } => at,
-        ClaimFault::Cases { at } => at,
+        Lex(BadByte { at }) => at,
+        Parse(Unexpected { at }) => at,
+        Parse(UnknownName { at }) => at,
+        Parse(NotAffine { at }) => at,
+        Parse(NondetHere { at }) => at,
+        Parse(BigNumber { at }) => at,
+        UnknownLabel { at } => at,
+        Cases { at } => at,
         _ => 0,
     }
 }
@@ -55,75 +60,27 @@ impl Case for (&str, ClaimFault, u32) {
 }
 
 const FAULTS: &[(&str, ClaimFault, u32)] = &[
-    (
-        "nowhere: x;\n@",
-        ClaimFault::Lex(LexFault::BadByte { at: 12 }),
-        2,
-    ),
-    (
-        "here x;",
-        ClaimFault::Parse(ParseFault::Unexpected { at: 5 }),
-        1,
-    ),
-    (
-        "here: x;\n4: x;",
-        ClaimFault::Parse(ParseFault::Unexpected { at: 9 }),
-        2,
-    ),
-    (
-        "here: x <=\n;",
-        ClaimFault::Parse(ParseFault::Unexpected { at: 11 }),
-        2,
-    ),
-    (
-        "here: x < 1",
-        ClaimFault::Parse(ParseFault::Unexpected { at: 11 }),
-        1,
-    ),
-    (
-        "here: x < 1)",
-        ClaimFault::Parse(ParseFault::Unexpected { at: 11 }),
-        1,
-    ),
-    ("nowhere: z;", ClaimFault::UnknownLabel { at: 0 }, 1),
-    (
-        "here: x;\n\nnowhere z;",
-        ClaimFault::UnknownLabel { at: 10 },
-        3,
-    ),
-    (
-        "here: x;\nhere: z < 4;",
-        ClaimFault::Parse(ParseFault::UnknownName { at: 15 }),
-        2,
-    ),
-    (
-        "here: x * y;",
-        ClaimFault::Parse(ParseFault::NotAffine { at: 8 }),
-        1,
-    ),
-    (
-        "here: nondet() + 1 < x;",
-        ClaimFault::Parse(ParseFault::NondetHere { at: 6 }),
-        1,
-    ),
-    (
-        "here: nondet();",
-        ClaimFault::Parse(ParseFault::NondetHere { at: 6 }),
-        1,
-    ),
+    ("nowhere: x;\n@", Lex(BadByte { at: 12 }), 2),
+    ("here x;", Parse(Unexpected { at: 5 }), 1),
+    ("here: x;\n4: x;", Parse(Unexpected { at: 9 }), 2),
+    ("here: x <=\n;", Parse(Unexpected { at: 11 }), 2),
+    ("here: x < 1", Parse(Unexpected { at: 11 }), 1),
+    ("here: x < 1)", Parse(Unexpected { at: 11 }), 1),
+    ("nowhere: z;", UnknownLabel { at: 0 }, 1),
+    ("here: x;\n\nnowhere z;", UnknownLabel { at: 10 }, 3),
+    ("here: x;\nhere: z < 4;", Parse(UnknownName { at: 15 }), 2),
+    ("here: x * y;", Parse(NotAffine { at: 8 }), 1),
+    ("here: nondet() + 1 < x;", Parse(NondetHere { at: 6 }), 1),
+    ("here: nondet();", Parse(NondetHere { at: 6 }), 1),
     (
         "here: x < 1 ||\n!nondet() || nondet()",
-        ClaimFault::Parse(ParseFault::NondetHere { at: 16 }),
+        Parse(NondetHere { at: 16 }),
         2,
     ),
-    (
-        "here: 9223372036854775807",
-        ClaimFault::Parse(ParseFault::BigNumber { at: 6 }),
-        1,
-    ),
+    ("here: 9223372036854775807", Parse(BigNumber { at: 6 }), 1),
     (
         "here: x;\nhere: x==1||x==1||x==1||x==1||x==1||x==1||x==1;",
-        ClaimFault::Cases { at: 9 },
+        Cases { at: 9 },
         2,
     ),
 ];
@@ -175,26 +132,14 @@ impl Case for (&[u8], &[u8], usize, &[u8], Option<ClaimFault>) {
 
 const LIMITS: &[(&[u8], &[u8], usize, &[u8], Option<ClaimFault>)] = &[
     (b"", b"here: x;", 64, b"", None),
-    (
-        b"",
-        b"here: x;",
-        65,
-        b"",
-        Some(ClaimFault::Count { at: 512 }),
-    ),
-    (
-        b"",
-        b"here: x;",
-        64,
-        b"\nnowhere",
-        Some(ClaimFault::Count { at: 513 }),
-    ),
+    (b"", b"here: x;", 65, b"", Some(Count { at: 512 })),
+    (b"", b"here: x;", 64, b"\nnowhere", Some(Count { at: 513 })),
     (
         b"",
         b"here: x;",
         64,
         b"\n;",
-        Some(ClaimFault::Parse(ParseFault::Unexpected { at: 513 })),
+        Some(Parse(Unexpected { at: 513 })),
     ),
     (b"here: ", b"x&&", 63, b"x;", None),
     (
@@ -202,9 +147,9 @@ const LIMITS: &[(&[u8], &[u8], usize, &[u8], Option<ClaimFault>)] = &[
         b"x&&",
         64,
         b"x;",
-        Some(ClaimFault::Parse(ParseFault::Limit {
+        Some(Parse(ParseFault::Limit {
             at: 6,
-            which: Limit::Leaves,
+            which: Leaves,
         })),
     ),
     (
@@ -212,9 +157,9 @@ const LIMITS: &[(&[u8], &[u8], usize, &[u8], Option<ClaimFault>)] = &[
         b"(",
         65,
         b"x;",
-        Some(ClaimFault::Parse(ParseFault::Limit {
+        Some(Parse(ParseFault::Limit {
             at: 70,
-            which: Limit::Nesting,
+            which: Nesting,
         })),
     ),
 ];

@@ -4,11 +4,12 @@ ghost use Rattle.std.specs.Prelude.{◌≡◌, IsTrue};
 ghost use Rattle.lang_tree.specs.View.{condition_of};
 ghost use Rattle.flow_edges.specs.Constants.{have_room};
 
-use crate::texts::{Case, first_wrong, read, repeated};
+use crate::texts::{Case, first_wrong, read};
 use flow_edges::{Action, CasesFault, Edge, Flow, FlowFault, Place, cases, flow};
 use lang_tree::{Coeffs, Cond, Form, Rel};
 use std::alloc::{AllocError, Global};
 use std::fmt::Write;
+use test_cases::repeated;
 
 // A place in one word.
 fn place_word(place: &Place) -> &'static str {

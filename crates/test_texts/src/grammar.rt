@@ -1,9 +1,10 @@
 //! What the grammar says of texts.
 
-use crate::texts::{Case, first_wrong, repeated};
+use crate::texts::{Case, first_wrong};
 use lang_grammar::{Syntax, examine};
 use lang_tokens::lex;
 use std::alloc::Global;
+use test_cases::repeated;
 
 // Whether the grammar says this of the text.
 fn is_told(alloc: Global, text: &[u8], wanted: Syntax) -> bool {

@@ -1,9 +1,10 @@
 //! Programs: what they read as, and their faults.
 
-use crate::texts::{Case, first_wrong, read, repeated};
+use crate::texts::{Case, first_wrong, read};
 use lang_parser::{Limit, ParseFault};
 use lang_tree::{Change, Cond, Name, Program, Rel, Stmt, leaves, statements};
 use std::alloc::Global;
+use test_cases::repeated;
 
 // Whether the text has this fault, or reads as a program where there is none.
 fn has_fault(alloc: Global, text: &[u8], fault: Option<ParseFault>) -> bool {

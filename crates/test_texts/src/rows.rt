@@ -1,9 +1,10 @@
 //! Templates, and the rows that files read as.
 
-use crate::texts::{Case, first_wrong, repeated};
+use crate::texts::{Case, first_wrong};
 use flow_templates::{RowFault, Template, from_rows, intervals, octagons, read_rows, zones};
 use lang_tree::{Coeffs, Name};
 use std::alloc::{AllocError, Global};
+use test_cases::repeated;
 
 // Whether these are the template's rows.
 fn has_rows(template: &Template, rows: &[&[i64]]) -> bool {
@@ -253,37 +254,37 @@ const FAULTS: &[(&str, RowFault)] = &[
     ("z\nx y", RowFault::UnknownName { line: 1 }),
     ("x\n\n#\nx y\nz", RowFault::BadRow { line: 4 }),
     (
-        "9223372036854775807*x + x - x",
-        RowFault::BadRow { line: 1 },
-    ),
-    (
-        "9223372036854775807*z + z - z",
-        RowFault::BadRow { line: 1 },
-    ),
-    ("9223372036854775808*x", RowFault::BadRow { line: 1 }),
-    ("02*x", RowFault::BadRow { line: 1 }),
-    ("2x", RowFault::BadRow { line: 1 }),
-    ("x*2", RowFault::BadRow { line: 1 }),
-    ("x++y", RowFault::BadRow { line: 1 }),
-    ("x + -y", RowFault::BadRow { line: 1 }),
-    ("x -", RowFault::BadRow { line: 1 }),
-    ("int", RowFault::BadRow { line: 1 }),
-    ("x // y", RowFault::BadRow { line: 1 }),
-    ("x /* y */", RowFault::BadRow { line: 1 }),
-    ("x # y", RowFault::BadRow { line: 1 }),
-    (
-        "a23456789012345678901234567890123",
-        RowFault::BadRow { line: 1 },
-    ),
-    (
         "a2345678901234567890123456789012",
         RowFault::UnknownName { line: 1 },
     ),
 ];
 
+// Texts whose first line is no row.
+const BAD_ROWS: &[&str] = &[
+    "9223372036854775807*x + x - x",
+    "9223372036854775807*z + z - z",
+    "9223372036854775808*x",
+    "02*x",
+    "2x",
+    "x*2",
+    "x++y",
+    "x + -y",
+    "x -",
+    "int",
+    "x // y",
+    "x /* y */",
+    "x # y",
+    "a23456789012345678901234567890123",
+];
+
 #[test]
 fn refuses_row_files(rt: HostRuntime) {
+    let bad = Some(RowFault::BadRow { line: 1 });
+    let wrong = BAD_ROWS
+        .iter()
+        .position(|text| !has_fault(rt.alloc(), text.as_bytes(), bad));
     assert_eq!(rt; first_wrong(rt.alloc(), FAULTS), None);
+    assert_eq!(rt; wrong, None);
 }
 
 // How many rows `x` stand before, what stands behind them, and the fault of the text.

@@ -1,13 +1,17 @@
 //! Transition systems of texts, and their edges.
 
 use crate::flows::{made, shown, write_edge};
-use crate::texts::{Case, first_wrong, repeated};
+use crate::texts::{Case, first_wrong};
 use flow_edges::Flow;
+use flow_transitions::AutoFault::{IntoEntry, Lex, Parse, Points, UnknownPoint};
 use flow_transitions::{Auto, AutoFault, flow, read};
-use lang_parser::{Limit, ParseFault};
-use lang_tokens::LexFault;
+use lang_parser::Limit::Variables;
+use lang_parser::ParseFault;
+use lang_parser::ParseFault::{BigNumber, NameTwice, NondetHere, NotAffine, UnknownName};
+use lang_tokens::LexFault::BadByte;
 use std::alloc::{AllocError, Global};
 use std::fmt::Write;
+use test_cases::repeated;
 
 // What a text is; nothing where it is too long.
 fn system_of(alloc: Global, text: &[u8]) -> Option<Result<Auto, AutoFault>> {
@@ -34,154 +38,114 @@ fn has_fault(alloc: Global, text: &[u8], fault: Option<AutoFault>) -> bool {
     }
 }
 
+// Whether a text is no transition system for this fault.
+fn is_refused(alloc: Global, text: &str, fault: AutoFault) -> bool {
+    match system_of(alloc, text.as_bytes()) {
+        Some(answer) => answer.err() == Some(fault),
+        None => false,
+    }
+}
+
 // A text, and the fault for which it is no transition system.
 impl Case for (&str, AutoFault) {
     fn is_right(&self, alloc: Global) -> bool {
-        match system_of(alloc, self.0.as_bytes()) {
-            Some(answer) => answer.err() == Some(self.1),
-            None => false,
-        }
+        is_refused(alloc, self.0, self.1)
     }
 }
 
 const FAULTS: &[(&str, AutoFault)] = &[
-    (
-        "vars x, y; points s, e; @",
-        AutoFault::Lex(LexFault::BadByte { at: 24 }),
-    ),
-    ("var x; @", AutoFault::Lex(LexFault::BadByte { at: 7 })),
-    ("", AutoFault::Parse(ParseFault::Unexpected { at: 0 })),
-    ("var x;", AutoFault::Parse(ParseFault::Unexpected { at: 0 })),
-    ("vars ;", AutoFault::Parse(ParseFault::Unexpected { at: 5 })),
-    (
-        "vars x points",
-        AutoFault::Parse(ParseFault::Unexpected { at: 7 }),
-    ),
-    (
-        "vars x;",
-        AutoFault::Parse(ParseFault::Unexpected { at: 7 }),
-    ),
-    (
-        "vars x, y, x;",
-        AutoFault::Parse(ParseFault::NameTwice { at: 11 }),
-    ),
+    ("vars x, y; points s, e; @", Lex(BadByte { at: 24 })),
+    ("var x; @", Lex(BadByte { at: 7 })),
+    ("vars x, y, x;", Parse(NameTwice { at: 11 })),
     (
         "vars a,b,c,d,e,f,g,h,i,j,k,l,m;",
-        AutoFault::Parse(ParseFault::Limit {
+        Parse(ParseFault::Limit {
             at: 29,
-            which: Limit::Variables,
+            which: Variables,
         }),
     ),
     (
         "vars a,b,c,d,e,f,g,h,i,j,k,l,a;",
-        AutoFault::Parse(ParseFault::NameTwice { at: 29 }),
+        Parse(NameTwice { at: 29 }),
     ),
-    (
-        "vars x; points s, s, e;",
-        AutoFault::Parse(ParseFault::NameTwice { at: 18 }),
-    ),
-    (
-        "vars x; points s }",
-        AutoFault::Parse(ParseFault::Unexpected { at: 17 }),
-    ),
-    ("vars x; points s; }", AutoFault::Points { count: 1 }),
-    (
-        "vars x, y; points s, e; vars",
-        AutoFault::Parse(ParseFault::Unexpected { at: 24 }),
-    ),
+    ("vars x; points s, s, e;", Parse(NameTwice { at: 18 })),
+    ("vars x; points s; }", Points { count: 1 }),
     (
         "vars x, y; points s, e; edge s z { y = ; }",
-        AutoFault::UnknownPoint { at: 31 },
+        UnknownPoint { at: 31 },
     ),
     (
         "vars x, y; points s, e; edge z s { }",
-        AutoFault::UnknownPoint { at: 29 },
+        UnknownPoint { at: 29 },
     ),
-    (
-        "vars x, y; points s, e; edge e s { }",
-        AutoFault::IntoEntry { at: 31 },
-    ),
-    (
-        "vars x, y; points s, e; edge s { }",
-        AutoFault::Parse(ParseFault::Unexpected { at: 31 }),
-    ),
-    (
-        "vars x, y; points s, e; edge s e;",
-        AutoFault::Parse(ParseFault::Unexpected { at: 32 }),
-    ),
+    ("vars x, y; points s, e; edge e s { }", IntoEntry { at: 31 }),
     (
         "vars x, y; points s, e; edge s e { z = 1; }",
-        AutoFault::Parse(ParseFault::UnknownName { at: 35 }),
+        Parse(UnknownName { at: 35 }),
     ),
     (
         "vars x, y; points s, e; edge s e { e = 1; }",
-        AutoFault::Parse(ParseFault::UnknownName { at: 35 }),
-    ),
-    (
-        "vars x, y; points s, e; edge s e { x + 1; }",
-        AutoFault::Parse(ParseFault::Unexpected { at: 37 }),
-    ),
-    (
-        "vars x, y; points s, e; edge s e { x = ; }",
-        AutoFault::Parse(ParseFault::Unexpected { at: 39 }),
+        Parse(UnknownName { at: 35 }),
     ),
     (
         "vars x, y; points s, e; edge s e { x = x < y; }",
-        AutoFault::Parse(ParseFault::NotAffine { at: 37 }),
+        Parse(NotAffine { at: 37 }),
     ),
     (
         "vars x, y; points s, e; edge s e { x = x * y; }",
-        AutoFault::Parse(ParseFault::NotAffine { at: 41 }),
-    ),
-    (
-        "vars x, y; points s, e; edge s e { x = 1 }",
-        AutoFault::Parse(ParseFault::Unexpected { at: 41 }),
-    ),
-    (
-        "vars x, y; points s, e; edge s e { assume x < 1; }",
-        AutoFault::Parse(ParseFault::Unexpected { at: 42 }),
+        Parse(NotAffine { at: 41 }),
     ),
     (
         "vars x, y; points s, e; edge s e { assume(x < z); }",
-        AutoFault::Parse(ParseFault::UnknownName { at: 46 }),
-    ),
-    (
-        "vars x, y; points s, e; edge s e { assume(x < 1; }",
-        AutoFault::Parse(ParseFault::Unexpected { at: 47 }),
-    ),
-    (
-        "vars x, y; points s, e; edge s e { assume(x < 1) }",
-        AutoFault::Parse(ParseFault::Unexpected { at: 49 }),
-    ),
-    (
-        "vars x, y; points s, e; edge s e { if (x < 1) ; }",
-        AutoFault::Parse(ParseFault::Unexpected { at: 35 }),
-    ),
-    (
-        "vars x, y; points s, e; edge s e { x = 1;",
-        AutoFault::Parse(ParseFault::Unexpected { at: 41 }),
-    ),
-    (
-        "vars x, y; points s, e; edge s e { } }",
-        AutoFault::Parse(ParseFault::Unexpected { at: 37 }),
+        Parse(UnknownName { at: 46 }),
     ),
     (
         "vars x, y; points s, e; edge s e { assume(9223372036854775807); }",
-        AutoFault::Parse(ParseFault::BigNumber { at: 42 }),
+        Parse(BigNumber { at: 42 }),
     ),
     (
         "vars x, y; points s, e; edge s e { x = 9223372036854775807 + 1; }",
-        AutoFault::Parse(ParseFault::BigNumber { at: 59 }),
+        Parse(BigNumber { at: 59 }),
     ),
     (
         "vars x, y; points s, e; edge s e { x = 1 + nondet(); }",
-        AutoFault::Parse(ParseFault::NondetHere { at: 43 }),
+        Parse(NondetHere { at: 43 }),
     ),
+];
+
+// A text with a token that can't stand where it does, and how many bytes stand before that.
+impl Case for (&str, u32) {
+    fn is_right(&self, alloc: Global) -> bool {
+        let unexpected = ParseFault::Unexpected { at: self.1 };
+        is_refused(alloc, self.0, AutoFault::Parse(unexpected))
+    }
+}
+
+const UNEXPECTED: &[(&str, u32)] = &[
+    ("", 0),
+    ("var x;", 0),
+    ("vars ;", 5),
+    ("vars x points", 7),
+    ("vars x;", 7),
+    ("vars x; points s }", 17),
+    ("vars x, y; points s, e; vars", 24),
+    ("vars x, y; points s, e; edge s { }", 31),
+    ("vars x, y; points s, e; edge s e;", 32),
+    ("vars x, y; points s, e; edge s e { x + 1; }", 37),
+    ("vars x, y; points s, e; edge s e { x = ; }", 39),
+    ("vars x, y; points s, e; edge s e { x = 1 }", 41),
+    ("vars x, y; points s, e; edge s e { assume x < 1; }", 42),
+    ("vars x, y; points s, e; edge s e { assume(x < 1; }", 47),
+    ("vars x, y; points s, e; edge s e { assume(x < 1) }", 49),
+    ("vars x, y; points s, e; edge s e { if (x < 1) ; }", 35),
+    ("vars x, y; points s, e; edge s e { x = 1;", 41),
+    ("vars x, y; points s, e; edge s e { } }", 37),
 ];
 
 #[test]
 fn systems_have_their_first_fault(rt: HostRuntime) {
     assert_eq!(rt; first_wrong(rt.alloc(), FAULTS), None);
+    assert_eq!(rt; first_wrong(rt.alloc(), UNEXPECTED), None);
 }
 
 // A text of one variable and so many points.

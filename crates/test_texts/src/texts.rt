@@ -3,7 +3,7 @@
 use lang_parser::{ParseFault, parse};
 use lang_tokens::lex;
 use lang_tree::Program;
-use std::alloc::{AllocError, Global};
+use std::alloc::Global;
 
 /// A row of a table: what a call is given, and what it is to answer.
 pub(crate) trait Case {
@@ -13,12 +13,7 @@ pub(crate) trait Case {
 
 /// The number of the first row of a table that isn't right, counted from 0.
 pub(crate) fn first_wrong<C: Case>(alloc: Global, table: &[C]) -> Option<usize> {
-    for (number, case) in table.iter().enumerate() {
-        if !case.is_right(alloc) {
-            return Some(number);
-        }
-    }
-    None
+    table.iter().position(|case| !case.is_right(alloc))
 }
 
 /// The program that a text reads as, or its fault; nothing where it is too long or has a fault in its tokens.
@@ -30,21 +25,4 @@ pub(crate) fn read(alloc: Global, text: &[u8]) -> Option<Result<Program, ParseFa
         Ok(tokens) => Some(parse(alloc, tokens.as_slice(), text)),
         Err(_) => None,
     }
-}
-
-/// What stands before, so many times the piece, and what stands behind.
-pub(crate) fn repeated(
-    alloc: Global,
-    before: &[u8],
-    piece: &[u8],
-    count: usize,
-    after: &[u8],
-) -> Result<Vec<u8>, AllocError> {
-    let mut text = Vec::new(alloc);
-    text.extend_from_slice(before)?;
-    for _ in 0..count {
-        text.extend_from_slice(piece)?;
-    }
-    text.extend_from_slice(after)?;
-    Ok(text)
 }

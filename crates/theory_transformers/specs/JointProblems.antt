@@ -131,8 +131,7 @@ AllRising system b [] = Unit {0}
 AllRising system b (u ∷ rest) = Rising system b u × AllRising system b rest
 
 -- along a direction, with a rate for each listed unknown: a finite source row rises at most by its own rate, no guard rises, and the end
--- value rises
--- at least by the unknown's rate
+-- value rises at least by the unknown's rate
 pub record Follows (system : Equations) (b : Vector) (all : List Listed) (rates : ℕ → ℚ) (u : Listed) (d : Word) : Type 0 where
   pub still : (r : ℕ) (row : List ℤ) (bound : ℚ) → slice_get system.template r ≡ Some row → b (picked system u).from r ≡ fin bound →
       lin (start_form system.variables row) d ≤ℚ rise_at all rates (picked system u).from r

@@ -2,4 +2,5 @@ pub mod StepNumbers
 pub mod Uppers
 pub mod Needs
 pub mod Greatest
+pub mod Entered
 pub mod Example

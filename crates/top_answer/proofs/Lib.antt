@@ -1,3 +1,4 @@
 pub mod requests
+pub mod commands
 pub mod answers
 pub mod outputs

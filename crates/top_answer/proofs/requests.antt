@@ -1,2 +1,3 @@
-pub mod Ranges
+pub mod Numbers
 pub mod Limits
+pub mod Ranges

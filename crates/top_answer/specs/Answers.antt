@@ -2,9 +2,8 @@
 use Rattle.std.specs.Prelude.{◌≡◌, ℕ, List, [], Some, None}
 use Rattle.flow_systems.specs.declared.spot.Spot.{Spot}
 use Rattle.ask_words.specs.Request.{request_of}
-use Rattle.ask_files.specs.Asked.{with_texts}
-use Rattle.top_answer.specs.Limits.{named_text}
-use Rattle.top_answer.specs.Commands.{Commands, HasRows}
+use Rattle.ask_files.specs.Files.{with_texts}
+use Rattle.top_answer.specs.Commands.{Commands, command_of}
 use Rattle.ask_files.specs.Files.{Request, files_of, unread}
 use Rattle.ask_files.specs.declared.which.ReadCause.{ReadCause}
 use Rattle.top_status.specs.declared.status.Status.{Status}
@@ -75,5 +74,6 @@ pub record IsMessage (m : Meanings) (words contents : List (List ℕ)) (status :
   pub line : ℕ
   pub rows : ℕ
   pub is_message : message ≡ m.message line rows status
-  pub line_is : (asked : Request) → Asks words contents asked → line ≡ m.line_named (named_text asked status) status
-  pub rows_are : (asked : Request) (count : ℕ) → Asks words contents asked → HasRows m asked count → rows ≡ m.rows_named count status
+  pub line_is : (asked : Request) → Asks words contents asked → line ≡ m.line_named ((command_of m asked).named status) status
+  pub rows_are : (asked : Request) (count : ℕ) → Asks words contents asked → (command_of m asked).has_rows count
+      → rows ≡ m.rows_named count status

@@ -1,6 +1,7 @@
 -- What the commands do with the texts of their files, each in one record: which endings the texts have, where an operation may be too wide,
--- and which bytes are written.
-use Rattle.std.specs.Prelude.{◌≡◌, ◌≤◌, ℕ, ℤ, List, length}
+-- which bytes are written, what its messages name, and within which limits its numbers and texts are.
+use Rattle.std.specs.Prelude.{◌≡◌, ◌≤◌, ◌<◌, ℕ, ℤ, List, [], length}
+use Rattle.base_limits.specs.declared.limits.TheConstants.{MOST_IMPROVEMENTS}
 use Rattle.lang_tree.specs.Tree.{Statements}
 use Rattle.flow_systems.specs.declared.footer.Footer.TheVariants.{Accepted}
 use Rattle.flow_systems.specs.declared.spot.Spot.{Spot}
@@ -8,9 +9,11 @@ use Rattle.flow_systems.specs.declared.system.System.{System}
 use Rattle.flow_systems.specs.Equations.{Least, Vector}
 use Rattle.flow_systems.specs.Solutions.{equations_of_program}
 use Rattle.flow_systems.specs.View.{equations_of}
+use Rattle.ask_words.specs.declared.request.Analysis.{Analysis}
 use Rattle.ask_words.specs.declared.request.Domain.{Domain}
 use Rattle.ask_words.specs.declared.request.Policy.{Policy}
 use Rattle.ask_words.specs.declared.request.Policy.TheVariants.{Best}
+use Rattle.ask_words.specs.declared.request.Purpose.{Purpose}
 use Rattle.ask_words.specs.declared.request.Purpose.TheVariants.{Report, Certificate as AsCertificate}
 use Rattle.ask_words.specs.declared.request.Request.TheVariants.{Analyse, Check, Bench, Upgrade, Prove, Transitions, Equations, Points}
 use Rattle.cert_text.specs.declared.fault.FormFault.{FormFault}
@@ -21,6 +24,7 @@ use Rattle.top_status.specs.declared.status.CertCause.TheVariants.{Form}
 use Rattle.top_status.specs.declared.status.Status.{Status}
 use Rattle.top_status.specs.declared.status.Status.TheVariants.{Done, Certificate, Text, Wide}
 use Rattle.top_status.specs.declared.status.TextCause.{TextCause}
+use Rattle.top_status.specs.declared.status.TextCause.TheVariants.{Claims}
 use Rattle.top_texts.specs.ClaimTexts.{AreVerdictsOf}
 use Rattle.top_texts.specs.EquationTexts.{AreValuesOf}
 use Rattle.top_texts.specs.LeastReports.{IsLeastReport, IsReportOf}
@@ -29,6 +33,7 @@ use Rattle.top_texts.specs.PointTexts.{ArePointsOf}
 use Rattle.top_texts.specs.Questions.{IsWideIn, Question, QuestionEnds, analysis_question, bench_question, claims_question}
 use Rattle.top_texts.specs.Questions.{equations_question, transitions_question}
 use Rattle.top_texts.specs.Rounds.{HasRounds}
+use Rattle.top_texts.specs.Short.{HasShortRows, IsShort}
 use Rattle.top_texts.specs.Texts.{IsAnalysed, IsReady, IsRefusedProgram, IsSolvedSystem}
 use Rattle.top_texts.specs.TransitionTexts.{IsAutoReport}
 
@@ -90,57 +95,105 @@ pub record IsSummary (m : Meanings) (seed loops : ℕ) (bytes : List ℕ) : Type
   pub least : Least (equations_of system) vector
   pub summary : bytes ≡ m.summary seed loops system vector rounds
 
+-- what is written of an analysis, by its purpose
+abbrev pub IsPut : Meanings → Purpose → Analysis (List ℕ) → List ℕ → Type 0
+IsPut m Report a bytes = IsReportOf a.program a.domain a.policy a.improvements bytes
+IsPut m AsCertificate a bytes = IsCertificate m a.program a.domain a.policy a.improvements bytes
+
+-- ---- limits
+
+-- the texts of an analysis are within their limit, and so is the number of its improvements
+pub record IsWithin (analysis : Analysis (List ℕ)) : Type 0 where
+  pub short : IsShort analysis.program
+  pub short_rows : HasShortRows analysis.domain
+  pub limit : analysis.improvements ≤ MOST_IMPROVEMENTS
+
+-- the seed of a generated program is below 2^31, and it has 1 to 46 loops
+abbrev pub AreGenerable : (seed loops : ℕ) → Type 0
+AreGenerable seed loops = (seed < 2147483648) × (1 ≤ loops) × (loops ≤ 46)
+
+-- the text in which the message of an ending of claims names a line: that of the claims, where they are refused, or of the program
+abbrev pub text_of_proof : (program claims : List ℕ) → Status → List ℕ
+text_of_proof program claims (Text (Claims fault)) = claims
+text_of_proof program claims _ = program
+
 -- ---- the commands
 
 -- what a command does with its texts: the endings that they have where there is memory and no operation is too wide; the operations that
--- may be too wide instead; and the bytes that are written where it is done
+-- may be too wide instead; and the bytes that are written where it is done. For its message: the text in which that of an ending names a
+-- line, and how many rows each point has, by which it numbers an unknown. And the limits that its words and its loads keep: of its
+-- numbers, and of these and its texts
 pub record Command : Type 1 where
   pub ends : Status → Type 0
   pub too_wide : Spot → Type 0
   pub writes : List ℕ → Type 0
+  pub named : Status → List ℕ
+  pub has_rows : ℕ → Type 0
+  pub in_range : Type 0
+  pub in_limits : Type 0
 
 -- what is done for each request, with its texts in place of names
 abbrev pub Commands : Type 1
 Commands = Request → Command
 
+-- a command that decides about its texts, where no operation may be too wide: its messages name no line and no unknown, and it has no
+-- number and no text that needs a limit, unless it says otherwise
+abbrev pub deciding : (Status → Type 0) → (List ℕ → Type 0) → Command
+deciding ends writes = record {
+  ends = ends;
+  too_wide = λ spot. ⊥;
+  writes = writes;
+  named = λ status. [];
+  has_rows = λ count. ⊥;
+  in_range = Unit {0};
+  in_limits = Unit {0};
+}
+
 -- a command that asks a question about an equation system
 abbrev pub asking : Question → (List ℕ → Type 0) → Command
-asking question writes = record {
-  ends = λ status. QuestionEnds question status;
-  too_wide = λ spot. IsWideIn question spot;
-  writes = writes;
-}
+asking question writes = record (deciding (λ status. QuestionEnds question status) writes) { too_wide = λ spot. IsWideIn question spot }
 
 -- the commands of the program
 abbrev pub command_of : Meanings → Commands
-command_of m (Analyse Report a) = asking (analysis_question m Report a.program a.domain a.policy a.improvements)
-    (λ bytes. IsReportOf a.program a.domain a.policy a.improvements bytes)
-command_of m (Analyse AsCertificate a) = asking (analysis_question m AsCertificate a.program a.domain a.policy a.improvements)
-    (λ bytes. IsCertificate m a.program a.domain a.policy a.improvements bytes)
-command_of m (Check text certificate) = record {
-  ends = λ status. CheckEnds m text certificate status;
-  too_wide = λ spot. ⊥;
-  writes = λ bytes. IsChecked m text certificate bytes;
+command_of m (Analyse purpose a) =
+    record (asking (analysis_question m purpose a.program a.domain a.policy a.improvements) (λ bytes. IsPut m purpose a bytes)) {
+      named = λ status. a.program;
+      has_rows = λ count. (system : System) × IsSolvedSystem a.program a.domain system × (count ≡ length system.template);
+      in_range = a.improvements ≤ MOST_IMPROVEMENTS;
+      in_limits = IsWithin a;
+    }
+command_of m (Check text certificate) =
+    record (deciding (λ status. CheckEnds m text certificate status) (λ bytes. IsChecked m text certificate bytes)) {
+      named = λ status. text;
+      has_rows = λ count. m.has_rows certificate count;
+      in_limits = IsShort text;
+    }
+command_of m (Bench seed loops) = record (asking (bench_question m seed loops) (λ bytes. IsSummary m seed loops bytes)) {
+  in_range = AreGenerable seed loops;
+  in_limits = AreGenerable seed loops;
 }
-command_of m (Bench seed loops) = asking (bench_question m seed loops) (λ bytes. IsSummary m seed loops bytes)
-command_of m (Upgrade certificate) = record {
-  ends = λ status. UpgradeEnds m certificate status;
-  too_wide = λ spot. ⊥;
-  writes = λ bytes. m.upgrades certificate bytes;
+command_of m (Upgrade certificate) = deciding (λ status. UpgradeEnds m certificate status) (λ bytes. m.upgrades certificate bytes)
+command_of m (Prove given a) =
+    record (asking (claims_question m a.program a.domain given a.policy a.improvements)
+    (λ bytes. AreVerdictsOf m a.program a.domain given a.policy a.improvements bytes)) {
+      named = λ status. text_of_proof a.program given status;
+      in_range = a.improvements ≤ MOST_IMPROVEMENTS;
+      in_limits = IsWithin a × IsShort given;
+    }
+command_of m (Transitions a) =
+    record (asking (transitions_question m a.program a.domain a.policy a.improvements)
+    (λ bytes. IsAutoReport a.program a.domain a.policy a.improvements bytes)) {
+      named = λ status. a.program;
+      in_range = a.improvements ≤ MOST_IMPROVEMENTS;
+      in_limits = IsWithin a;
+    }
+command_of m (Equations text limit policy) =
+    record (asking (equations_question m text policy limit) (λ bytes. AreValuesOf text policy limit bytes)) {
+      named = λ status. text;
+      in_range = limit ≤ MOST_IMPROVEMENTS;
+      in_limits = IsShort text × (limit ≤ MOST_IMPROVEMENTS);
+    }
+command_of m (Points text) = record (deciding (λ status. PointsEnd text status) (λ bytes. ArePointsOf text bytes)) {
+  named = λ status. text;
+  in_limits = IsShort text;
 }
-command_of m (Prove given a) = asking (claims_question m a.program a.domain given a.policy a.improvements)
-    (λ bytes. AreVerdictsOf m a.program a.domain given a.policy a.improvements bytes)
-command_of m (Transitions a) = asking (transitions_question m a.program a.domain a.policy a.improvements)
-    (λ bytes. IsAutoReport a.program a.domain a.policy a.improvements bytes)
-command_of m (Equations text limit policy) = asking (equations_question m text policy limit) (λ bytes. AreValuesOf text policy limit bytes)
-command_of m (Points text) = record {
-  ends = λ status. PointsEnd text status;
-  too_wide = λ spot. ⊥;
-  writes = λ bytes. ArePointsOf text bytes;
-}
-
--- each point has this number of rows: of the template of an analysis, or of the certificate that is checked
-abbrev pub HasRows : Meanings → Request → ℕ → Type 0
-HasRows m (Analyse purpose a) count = (system : System) × IsSolvedSystem a.program a.domain system × (count ≡ length system.template)
-HasRows m (Check text certificate) count = m.has_rows certificate count
-HasRows m _ count = ⊥

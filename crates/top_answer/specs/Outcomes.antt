@@ -2,9 +2,8 @@
 use Rattle.std.specs.Prelude.{◌≡◌, ◌⊎◌, ℕ, List, [], Result, Ok, Err, Some, None, Vec}
 use Rattle.std.specs.declared.alloc.Global.{Global}
 use Rattle.ask_words.specs.Request.{request_of}
-use Rattle.ask_files.specs.Asked.{with_texts}
-use Rattle.top_answer.specs.Limits.{named_text}
-use Rattle.top_answer.specs.Commands.{Command, Commands, HasRows}
+use Rattle.ask_files.specs.Files.{with_texts}
+use Rattle.top_answer.specs.Commands.{Command, Commands, command_of}
 use Rattle.ask_files.specs.Files.{Request, files_of, unread}
 use Rattle.top_status.specs.CheckMessages.{rows_of}
 use Rattle.top_status.specs.Messages.{line_in, message_of}
@@ -33,8 +32,8 @@ pub record NamesPlace (asked : Request) (status : Status) (message : List ℕ) :
   pub line : ℕ
   pub rows : ℕ
   pub is_message : message ≡ message_of line rows status
-  pub line_is : line ≡ line_in (named_text asked status) status
-  pub rows_are : (count : ℕ) → HasRows exact asked count → rows ≡ rows_of count status
+  pub line_is : line ≡ line_in ((command_of exact asked).named status) status
+  pub rows_are : (count : ℕ) → (command_of exact asked).has_rows count → rows ≡ rows_of count status
 
 -- what an answer says of a request and of the contents of its files: one of them isn't read; or it is an answer to their texts; or memory
 -- was wanted before

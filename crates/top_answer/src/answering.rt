@@ -3,16 +3,14 @@
 ghost use Rattle.std.specs.Prelude.{List, map, string_bytes};
 ghost use Rattle.ask_words.specs.Request.{request_text};
 ghost use Rattle.top_answer.specs.Answers.{IsAnsweredBy, Ends, Holds, IsAnswer, IsMessage, IsOutput};
-ghost use Rattle.ask_files.specs.Asked.{texts_of};
-ghost use Rattle.top_answer.specs.Limits.{IsInLimits, IsInRange};
+ghost use Rattle.ask_files.specs.Files.{texts_of};
 ghost use Rattle.top_answer.specs.Commands.{command_of};
 ghost use Rattle.top_answer.specs.Outcomes.{AnswersRequest, AnswersWords, NamesPlace, Says};
 ghost use Rattle.top_status.specs.declared.status.Status.{Status as StatusValue};
 ghost use Rattle.top_texts.specs.Exact.{exact};
 
 use crate::meaning::{Exact, Meaning};
-use crate::named::named_text;
-use crate::outcome::outcome_of;
+use crate::outcome::{named_text, outcome_of};
 use crate::reply::{Answer, plain_answer, with_line};
 use ask_files::{first_unread, with_texts};
 use ask_words::{Request, WordsFault, read_words};
@@ -22,7 +20,7 @@ use top_status::{Status, answer_line};
 
 // The answer to the texts of a command.
 fn answer_texts<W: Watch>(alloc: Global, asked: Request<&[u8]>, watch: &mut W) -> Answer
-    requires { IsInLimits (request_text asked) }
+    requires { (command_of exact (request_text asked)).in_limits }
     ensures says { Says (command_of exact (request_text asked.entry)) result.status result.bytes.items }
     ensures names { NamesPlace (request_text asked.entry) result.status result.message }
 {
@@ -38,7 +36,7 @@ fn answer_request<W: Watch>(
     contents: &[&[u8]],
     watch: &mut W,
 ) -> Answer
-    requires { IsInRange (request_text request) }
+    requires { (command_of exact (request_text request)).in_range }
     ensures { AnswersRequest (command_of exact) (request_text request.entry) (texts_of contents.now) result.status result.bytes.items
         result.message }
 {

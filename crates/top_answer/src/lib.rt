@@ -4,7 +4,6 @@
 mod answering;
 mod laws;
 mod meaning;
-mod named;
 mod outcome;
 mod reply;
 

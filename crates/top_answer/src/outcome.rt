@@ -1,4 +1,4 @@
-//! What the texts of a command come to: the bytes that are written, or the status of their refusal.
+//! What the texts of a command come to: the bytes that are written, or the status of their refusal; and the text whose line is named.
 
 ghost use Rattle.std.specs.Prelude.{◌≡◌, ◌≤◌, ℕ, List, [], IfOk, IfErr, length};
 ghost use Rattle.base_limits.specs.declared.limits.TheConstants.{MOST_CELLS, MOST_IMPROVEMENTS, MOST_TEXT_BYTES};
@@ -10,8 +10,7 @@ ghost use Rattle.flow_systems.specs.Cells.{cells_of};
 ghost use Rattle.flow_systems.specs.View.{equations_of};
 ghost use Rattle.ask_words.specs.Request.{analysis_text, request_text};
 ghost use Rattle.ask_words.specs.declared.request.Request.TheVariants.{Analyse, Check};
-ghost use Rattle.top_answer.specs.Limits.{IsInLimits, IsWithin};
-ghost use Rattle.top_answer.specs.Commands.{HasRows, command_of};
+ghost use Rattle.top_answer.specs.Commands.{IsWithin, command_of, text_of_proof};
 ghost use Rattle.top_answer.specs.Outcomes.{HasOutcome, Says};
 ghost use Rattle.top_status.specs.CheckMessages.{rows_of};
 ghost use Rattle.top_texts.specs.Checks.{HasRowCount, IsSpelt};
@@ -23,7 +22,7 @@ use ask_words::{Analysis, Policy, Purpose, Request};
 use base_watch::Watch;
 use flow_systems::System;
 use std::alloc::Global;
-use top_status::{Status, answer_rows};
+use top_status::{Status, TextCause, answer_rows};
 use top_texts::{
     Given, Refusal, bench_text, certificate_of, equations_text, points_text, prove_text,
     read_given, refused, report_by, report_of, system_on, transitions_text, upgrade_text,
@@ -104,7 +103,7 @@ fn analysed<W: Watch>(
 ) -> Outcome
     requires { IsWithin (analysis_text analysis) }
     ensures says { Says (command_of exact (Analyse purpose (analysis_text analysis.entry))) result.status result.bytes.items }
-    ensures rows { (count : ℕ) → HasRows exact (Analyse purpose (analysis_text analysis.entry)) count
+    ensures rows { (count : ℕ) → (command_of exact (Analyse purpose (analysis_text analysis.entry))).has_rows count
         → result.rows ≡ rows_of count result.status }
 {
     match system_on(alloc, analysis.program, analysis.domain) {
@@ -155,9 +154,9 @@ fn checked(alloc: Global, text: &[u8], certificate: &[u8]) -> Outcome
 
 // What a command comes to, with its texts in place of the names of its files.
 pub(crate) fn outcome_of<W: Watch>(alloc: Global, asked: Request<&[u8]>, watch: &mut W) -> Outcome
-    requires { IsInLimits (request_text asked) }
+    requires { (command_of exact (request_text asked)).in_limits }
     ensures says { Says (command_of exact (request_text asked.entry)) result.status result.bytes.items }
-    ensures rows { (count : ℕ) → HasRows exact (request_text asked.entry) count → result.rows ≡ rows_of count result.status }
+    ensures rows { (count : ℕ) → (command_of exact (request_text asked.entry)).has_rows count → result.rows ≡ rows_of count result.status }
 {
     match asked {
         Request::Analyse { purpose, analysis } => analysed(alloc, purpose, analysis, watch),
@@ -208,5 +207,32 @@ pub(crate) fn outcome_of<W: Watch>(alloc: Global, asked: Request<&[u8]>, watch: 
             0,
         ),
         Request::Points { program } => outcome_from(alloc, points_text(alloc, program), 0),
+    }
+}
+
+// The text in which the message of an ending of claims names a line.
+fn text_of_proof<'a>(program: &'a [u8], claims: &'a [u8], status: &Status) -> &'a [u8]
+    ensures { result.now ≡ text_of_proof program.entry.now claims.entry.now status.now }
+{
+    match status {
+        Status::Text(TextCause::Claims(_)) => claims,
+        _ => program,
+    }
+}
+
+// The text in which the message of an ending names a line.
+pub(crate) fn named_text<'a>(asked: Request<&'a [u8]>, status: &Status) -> &'a [u8]
+    requires { (command_of exact (request_text asked)).in_limits }
+    ensures text { result.now ≡ (command_of exact (request_text asked.entry)).named status.now }
+    ensures short { length result.now ≤ MOST_TEXT_BYTES }
+{
+    match asked {
+        Request::Analyse { analysis, .. } => analysis.program,
+        Request::Check { program, .. } => program,
+        Request::Bench { .. } | Request::Upgrade { .. } => &[],
+        Request::Prove { claims, analysis } => text_of_proof(analysis.program, claims, status),
+        Request::Transitions { analysis } => analysis.program,
+        Request::Equations { file, .. } => file,
+        Request::Points { program } => program,
     }
 }

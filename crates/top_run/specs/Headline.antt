@@ -1,7 +1,7 @@
 -- What is given of an analysis: the words of the headline.
 use Rattle.std.specs.Prelude.{◌≡◌, ◌++◌, ◌⊎◌, ℕ, List, [], ◌∷◌}
 use Rattle.std.specs.Io.KnownBytes.{Appends}
-use Rattle.ask_files.specs.Asked.{analysis_with}
+use Rattle.ask_files.specs.Files.{analysis_with}
 use Rattle.ask_files.specs.Files.{NamedFile, files_of}
 use Rattle.ask_files.specs.Loads.{AreRead, IsLong, contents_of}
 use Rattle.ask_files.specs.declared.which.ReadCause.TheVariants.{Failed, TooLong}

@@ -2,9 +2,8 @@
 use Rattle.std.specs.Prelude.{◌==◌, ℕ, List, [], ◌∷◌, if◌then◌else◌}
 use Rattle.base_files.specs.Puts.{as_pieces}
 use Rattle.ask_files.specs.Files.{Request}
-use Rattle.ask_words.specs.declared.request.Purpose.{Purpose}
-use Rattle.ask_words.specs.declared.request.Purpose.TheVariants.{Report, Certificate as AsCertificate}
-use Rattle.ask_words.specs.declared.request.Request.TheVariants.{Analyse, Check, Bench, Upgrade, Prove, Transitions, Equations, Points}
+use Rattle.ask_words.specs.declared.request.Purpose.TheVariants.{Certificate as AsCertificate}
+use Rattle.ask_words.specs.declared.request.Request.TheVariants.{Analyse, Upgrade}
 use Rattle.top_run.specs.declared.output.Pieces.{Pieces}
 use Rattle.top_run.specs.declared.output.Pieces.TheVariants.{Lines, Whole}
 
@@ -23,18 +22,8 @@ abbrev pub cut_by : Pieces → List ℕ → List (List ℕ)
 cut_by Lines bytes = lines_of bytes
 cut_by Whole bytes = as_pieces bytes
 
--- a report is put line by line, a certificate in one piece
-abbrev pub pieces_by : Purpose → Pieces
-pieces_by Report = Lines
-pieces_by AsCertificate = Whole
-
--- what a request puts: all else than a certificate line by line
+-- what a request puts: a certificate in one piece, all else line by line
 abbrev pub pieces_of : Request → Pieces
-pieces_of (Analyse purpose analysis) = pieces_by purpose
-pieces_of (Check program certificate) = Lines
-pieces_of (Bench seed loops) = Lines
+pieces_of (Analyse AsCertificate analysis) = Whole
 pieces_of (Upgrade certificate) = Whole
-pieces_of (Prove claims analysis) = Lines
-pieces_of (Transitions analysis) = Lines
-pieces_of (Equations file improvements policy) = Lines
-pieces_of (Points program) = Lines
+pieces_of _ = Lines

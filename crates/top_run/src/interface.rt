@@ -1,7 +1,7 @@
 //! What a program is whose runs load, answer and put.
 
 ghost use Rattle.std.specs.Prelude.{List, ℕ, map, string_bytes};
-ghost use Rattle.ask_files.specs.Asked.{texts_of};
+ghost use Rattle.ask_files.specs.Files.{texts_of};
 ghost use Rattle.top_answer.specs.Answers.{IsAnsweredBy, Ends, Holds, IsAnswer, IsMessage, IsOutput};
 ghost use Rattle.top_answer.specs.Commands.{Commands};
 ghost use Rattle.top_run.specs.Programs.{EndsInside, IsPlain};
@@ -61,7 +61,7 @@ impl Program for Tmpl {
 
     ghost takes = { λ _. Unit {0} };
 
-    ghost inside = { commands_inside exact };
+    ghost inside = { commands_inside };
 
     ghost plain = { plainly };
 

@@ -1,7 +1,7 @@
 //! The answer to words over the files that they name, as they are loaded.
 
 ghost use Rattle.std.specs.Prelude.{◌≡◌, ◌⊎◌, [], IfOk, Some, None, map, string_bytes};
-ghost use Rattle.ask_files.specs.Asked.{texts_of};
+ghost use Rattle.ask_files.specs.Files.{texts_of};
 ghost use Rattle.ask_files.specs.Loads.{contents_of};
 ghost use Rattle.ask_words.specs.Request.{request_of, request_text};
 ghost use Rattle.base_files.specs.Loads.{loaded_files};

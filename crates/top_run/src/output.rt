@@ -4,7 +4,7 @@ ghost use Rattle.std.specs.Prelude.{◌≡◌, ◌==◌, ◌∷◌, ◌≤◌, �
 ghost use Rattle.std.specs.List.{position};
 ghost use Rattle.ask_words.specs.Request.{request_text};
 ghost use Rattle.base_files.specs.Puts.{AddsPieces, HasPutCause, Puts, as_pieces};
-ghost use Rattle.top_run.specs.Lines.{cut_by, lines_of, pieces_by, pieces_of};
+ghost use Rattle.top_run.specs.Lines.{cut_by, lines_of, pieces_of};
 ghost use Rattle.top_run.specs.Parts.{IsPutBy, status_of};
 ghost use Rattle.top_run.specs.Seen.{sink_with};
 
@@ -21,29 +21,17 @@ pub(crate) enum Pieces {
     Whole,
 }
 
-// The pieces of what an analysis puts.
-fn pieces_by(purpose: Purpose) -> Pieces
-    ensures { result ≡ pieces_by purpose }
-{
-    match purpose {
-        Purpose::Report => Pieces::Lines,
-        Purpose::Certificate => Pieces::Whole,
-    }
-}
-
 // The pieces of what a request puts.
 pub(crate) fn pieces_of(request: Request<&str>) -> Pieces
     ensures { result ≡ pieces_of (request_text request.entry) }
 {
     match request {
-        Request::Analyse { purpose, .. } => pieces_by(purpose),
-        Request::Upgrade { .. } => Pieces::Whole,
-        Request::Check { .. }
-        | Request::Bench { .. }
-        | Request::Prove { .. }
-        | Request::Transitions { .. }
-        | Request::Equations { .. }
-        | Request::Points { .. } => Pieces::Lines,
+        Request::Analyse {
+            purpose: Purpose::Certificate,
+            ..
+        }
+        | Request::Upgrade { .. } => Pieces::Whole,
+        _ => Pieces::Lines,
     }
 }
 

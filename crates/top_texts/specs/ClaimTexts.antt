@@ -61,10 +61,9 @@ IsTrueInRuns variables body claim =
     (run : List Configuration) (now : Configuration) → IsRun variables body run → Contains run now → IsAt now claim.point
     → IsTrueAt (condition_of claim.cond) now.state
 
--- what verdicts on claims at a vector say of a program: there is one for each claim; a claim is proved exactly where no rational state that
--- fits the vector
--- at the claim's point passes all guards of a case in which the claim may be false; a proved claim is true in every run; an open one comes
--- with such a state
+-- what verdicts on claims at a vector say of a program: there is one for each claim; a claim is proved exactly where no rational state
+-- that fits the vector at the claim's point passes all guards of a case in which the claim may be false; a proved claim is true in every
+-- run; an open one comes with such a state
 pub record SpeakOfRuns (variables : ℕ) (body : Statements) (system : Equations) (vector : Vector) (claims : List Claim)
     (verdicts : List Verdict) : Type 0 where
   pub one_each : length verdicts ≡ length claims

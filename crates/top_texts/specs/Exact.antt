@@ -14,13 +14,12 @@ use Rattle.top_texts.specs.Spots.{HasSpot, IsClaimSpot}
 use Rattle.top_texts.specs.Upgrades.{IsUpgradeOf}
 
 -- the first operation of the composition, one of the rounds, for a certificate one of its check, and for claims the first of their
--- problems, whose exact
--- result doesn't fit;
+-- problems, whose exact result doesn't fit;
 -- the certificate of the rounds by the policy; certificates that are valid and in whose check no sum is too wide, and the first cause of
 -- others;
 -- the first fault of the form of bytes, and the text of the certificate that they spell; verdicts by the linear problem of each case
--- against a claim, an
--- open one with the state of the last dictionary of the first problem that isn't empty; programs drawn from a seed, over intervals
+-- against a claim, an open one with the state of the last dictionary of the first problem that isn't empty; programs drawn from a seed,
+-- over intervals
 abbrev pub exact : Meanings
 exact = record {
   too_wide = λ purpose system policy limit spot. HasSpot purpose system policy limit spot;

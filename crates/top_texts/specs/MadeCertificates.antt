@@ -18,9 +18,8 @@ use Rattle.top_texts.specs.Rounds.{IsSystemFor}
 use Rattle.top_texts.specs.Texts.{IsReady}
 
 -- the bytes are the certificate that the rounds make, of the program and the template of these texts; it is valid for the system of the
--- text, no sum of its
--- check is wide, and its bounds are the least vector. Where its traces hold few enough values, the bytes are read as this certificate, and
--- else refused for that
+-- text, no sum of its check is wide, and its bounds are the least vector. Where its traces hold few enough values, the bytes are read as
+-- this certificate, and else refused for that
 pub record IsCertificateOf (text : List ℕ) (rows : Domain (List ℕ)) (policy : Policy) (limit : ℕ) (bytes : List ℕ) : Type 0 where
   pub names : List (List ℕ)
   pub body : Statements

@@ -14,17 +14,13 @@ use Rattle.top_status.specs.declared.status.CertCause.{CertCause}
 use Rattle.top_status.specs.declared.status.Status.{Status}
 
 -- the solver: where an operation of the analysis of a system is too wide, by policy and limit, and where one for the claims of a text;
--- which bytes are the
--- certificate that its rounds make of texts
--- the checker: which bytes are a certificate of a text that it accepts, with the program, the rows and the vector of bounds; by which cause
--- it refuses them,
--- at which operation they are too wide; and how many rows a certificate has
--- the form of certificates: by which fault bytes spell none; and which bytes are written of the certificate that bytes spell
--- the judge: which verdicts are given on claims at a vector of a system, with the state that is shown of an open one
--- the generator: the system of a seed and so many loops, and the summary of a vector of it after so many improvements
--- the messages: the text of each ending by a line and a number of rows; the line that it names in a text, and the rows that it counts by
--- where each point has
--- so many
+-- which bytes are the certificate that its rounds make of texts the checker: which bytes are a certificate of a text that it accepts,
+-- with the program, the rows and the vector of bounds; by which cause it refuses them, at which operation they are too wide; and how many
+-- rows a certificate has the form of certificates: by which fault bytes spell none; and which bytes are written of the certificate that
+-- bytes spell the judge: which verdicts are given on claims at a vector of a system, with the state that is shown of an open one the
+-- generator: the system of a seed and so many loops, and the summary of a vector of it after so many improvements the messages: the text
+-- of each ending by a line and a number of rows; the line that it names in a text, and the rows that it counts by where each point has so
+-- many
 pub record Meanings : Type 1 where
   pub too_wide : Purpose → System → Policy → ℕ → Spot → Type 0
   pub too_wide_for : (given : List ℕ) → System → Policy → ℕ → Spot → Type 0

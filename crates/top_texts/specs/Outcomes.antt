@@ -70,9 +70,8 @@ pub record IsRoundsReport (system : System) (policy : Policy) (limit : ℕ) (byt
   pub least : Least (equations_of system) (vector_of (length system.template) bounds)
   pub report : bytes ≡ report_of system (vector_of (length system.template) bounds) (Improvements rounds)
 
--- the bytes are the certificate that the rounds over a system make; it is valid, no sum of its check is wide, and the bytes spell it unless
--- its traces
--- hold too many values
+-- the bytes are the certificate that the rounds over a system make; it is valid, no sum of its check is wide, and the bytes spell it
+-- unless its traces hold too many values
 pub record IsRoundsCertificate (system : System) (policy : Policy) (limit : ℕ) (bytes : List ℕ) : Type 0 where
   pub solved : Solved
   pub is_solved : IsSolved system (rule_of policy) limit solved

@@ -19,8 +19,7 @@ use Rattle.top_status.specs.declared.status.Status.TheVariants.{Done, Text, Spen
 use Rattle.top_status.specs.declared.status.TextCause.{TextCause}
 
 -- which texts are refused, by which cause; which system they mean otherwise; where an operation on the way is too wide; by which policy
--- improvements over the
--- system are made, and at most how many
+-- improvements over the system are made, and at most how many
 pub record Question : Type 1 where
   pub is_refused : TextCause → Type 0
   pub means : System → Type 0
@@ -29,8 +28,7 @@ pub record Question : Type 1 where
   pub limit : ℕ
 
 -- texts are refused by a cause, or mean a system over which the improvements end within the limit, or are spent; this is the ending where
--- nothing fails
--- outside, there is memory, and no operation is too wide
+-- nothing fails outside, there is memory, and no operation is too wide
 pub data QuestionEnds (question : Question) (ending : Status) : Type 0 where
   is_refused : (cause : TextCause) → ending ≡ Text cause → question.is_refused cause → QuestionEnds question ending
   rounds_end : (system : System) → ending ≡ Done → question.means system → EndsWithin system question.policy question.limit

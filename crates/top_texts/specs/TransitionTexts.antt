@@ -56,8 +56,7 @@ AreNoTransitions text rows (Cells count) =
 AreNoTransitions text rows _ = ⊥
 
 -- the bytes are the report of the least vector of the system of these texts, which holds at every configuration of every run along the
--- edges of the text,
--- with the number of improvements by the policy
+-- edges of the text, with the number of improvements by the policy
 pub record IsAutoReport (text : List ℕ) (rows : Domain (List ℕ)) (policy : Policy) (limit : ℕ) (bytes : List ℕ) : Type 0 where
   pub system : System
   pub meant : IsTransitionSystem text rows system

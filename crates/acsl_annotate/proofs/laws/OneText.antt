@@ -2,7 +2,6 @@
 use Rattle.std.proofs.Common.{◌≡◌, ◌∙◌, ◌++◌, ◌+◌, ◌<◌, ◌≤◌, ℕ, suc, List, [], ◌∷◌, length, refl, sym, ap, ap₂, subst, arith}
 use Rattle.std.specs.Prelude.{ℤ, Bool, Ok, if◌then◌else◌}
 use Rattle.base_numbers.specs.Extended.{Ext, neg_inf, fin, pos_inf}
-use Rattle.lang_tokens.specs.declared.token.Token as lex_token
 use Rattle.lang_tokens.proofs.reading.Once.{one_token_list}
 use Rattle.lang_grammar.specs.Grammar.{Program, Reads}
 use Rattle.lang_grammar.specs.View.{tokens_of}
@@ -21,10 +20,10 @@ use Rattle.acsl_anchors.specs.Laws.{is_anchored}
 use Rattle.acsl_notes.specs.Clauses.{Bounded, bounded_from, clauses, clauses_from, clauses_unless}
 use Rattle.acsl_notes.specs.Texts.{annotated, comment_at, comment_unless_silent, comments_from}
 use Rattle.ask_words.specs.declared.request.Domain.{Domain}
-use Rattle.top_texts.specs.Texts.{HasTemplate, Reading}
+use Rattle.top_texts.specs.Texts.{HasTemplate}
 use Rattle.top_texts.proofs.texts.Readings.{program_once, rows_once}
 use Rattle.top_answer.proofs.outputs.Templates.{program_names, some_row}
-use Rattle.acsl_annotate.specs.Annotated.{IsAnnotatedOf, IsTextWith, IsTreeOf}
+use Rattle.acsl_annotate.specs.Annotated.{IsAnnotatedOf, IsTreeOf}
 
 -- ---- vectors that agree say the same
 

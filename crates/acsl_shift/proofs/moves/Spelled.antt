@@ -182,16 +182,10 @@ module _ (to : ℕ → ℕ) where
   mutual
     -- whether an `if` at the very end of a statement has no `else`
     same_ending_core : (c : Core) → ending_core (move_core to c) ≡ ending_core c
-    same_ending_core (empty a) = refl
-    same_ending_core (block a is b) = refl
-    same_ending_core (if_alone a b e c s) = refl
     same_ending_core (if_else a b e c s d t) = same_ending_sub t
     same_ending_core (repeat a b e c s) = same_ending_sub s
-    same_ending_core (repeat_after a s b c e d i) = refl
     same_ending_core (repeat_for a b f t l s) = same_ending_sub s
-    same_ending_core (jumps j a b) = refl
-    same_ending_core (assumed a b e c d) = refl
-    same_ending_core (updates u c) = refl
+    same_ending_core _ = refl
 
     -- the same behind labels
     same_ending_sub : (s : Sub) → ending_sub (move_sub to s) ≡ ending_sub s

@@ -6,7 +6,7 @@ use Rattle.clap.specs.Simple.{argument_words, built, entered, names_of, subcomma
 use Rattle.clap.specs.Kinds.{Kinds}
 use Rattle.clap.specs.Faults.{fault_of}
 use Rattle.clap.proofs.OnLiterals.{clap_on_literals}
-use Rattle.ask_words.specs.CommandLine.{tmpl_app}
+use Rattle.ask_words.specs.Request.{tmpl_app}
 use Rattle.ask_words.specs.Request.{analysis_in, analyse_in, command_in, request_of, unless_fault}
 use Rattle.ask_words.specs.declared.request.Analysis.{Analysis}
 use Rattle.ask_words.specs.declared.request.Purpose.TheVariants.{Report}

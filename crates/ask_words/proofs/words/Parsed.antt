@@ -8,7 +8,7 @@ use Rattle.ask_words.specs.declared.words.WordsFault.TheVariants.{Usage}
 use Rattle.clap.specs.Words.{IsAmong, Text, fault_of, is_simple, is_simple_and_free, subcommand_of}
 use Rattle.clap.specs.declared.error.ErrorKind.{ErrorKind}
 use Rattle.clap.proofs.OnLiterals.{clap_on_literals}
-use Rattle.ask_words.specs.CommandLine.{tmpl_app}
+use Rattle.ask_words.specs.Request.{tmpl_app}
 use Rattle.ask_words.specs.Request.{command_in, request_of, request_text, unless_fault}
 
 -- the command line is simple: the words alone give its matches

@@ -1,6 +1,5 @@
--- Tests that hold as types. For tests that answer `true` the library has the lemmas (`lemmas.Bool`: `cases_Bool`, `not-true`, `and_parts`,
--- `and_from`,
--- `or_cases`, `or_left`, `eqb-true`, `eq-eqb`, `cases_eq` and more; `IsTrue b` is `b ≡ true`).
+-- Tests that hold as types. For tests that answer `true` the library has the lemmas (`lemmas.Bool`: `cases_Bool`, `not-true`,
+-- `and_parts`, `and_from`, `or_cases`, `or_left`, `eqb-true`, `eq-eqb`, `cases_eq` and more; `IsTrue b` is `b ≡ true`).
 use Rattle.std.proofs.Common.{◌≡◌, ◌&&◌, Bool, true, false, T, refl, sym, subst}
 
 -- a test that holds answers `true`

@@ -2,6 +2,7 @@
 use Rattle.std.proofs.Common.{◌≡◌, ◌∙◌, ◌↔◌, ℕ, ◌+◌, ◌<◌, ◌≤◌, Bool, true, false, not, true≢false, List, [], ◌∷◌, ◌++◌, length, get_or}
 use Rattle.std.proofs.Common.{drop, refl, sym, ap, subst}
 use Rattle.std.specs.Prelude.{Option, Some, None, IsTrue, MatchOption, flat_map, is_some}
+use Rattle.std.specs.Bool.{then_some}
 use Rattle.std.specs.Ordering.{eq_by_cmp, is_eq}
 use Rattle.std.specs.declared.cmp.Ordering.{Ordering}
 use Rattle.std.specs.declared.cmp.Ordering.TheVariants.{Less, Equal, Greater}
@@ -65,26 +66,33 @@ module _ (f : ℕ → List Event) (ks : List ℕ) (i : ℕ) (h : first_stop (fla
   all_pass l = h ∙ ap (λ js. first_stop (flat_map f js)) (drop_all i ks l)
 
 -- ---- what a call answers that tells a test
-module _ (es : List Event) (fault : Fault) (o : Option (Unit {0})) (r : Bool) (e : is_some o ≡ not r) where
-  -- what it says at one site and fault
-  abbrev Told : Option (Unit {0}) → Type 0
-  Told x = MatchOption x (first_stop es ≡ Some (fault_answer fault)) (λ u. Unit {0} × (first_stop es ≡ None))
+-- what it says at one site and fault
+abbrev pub Told : List Event → Fault → Option (Unit {0}) → Type 0
+Told es fault o = MatchOption o (first_stop es ≡ Some (fault_answer fault)) (λ u. Unit {0} × (first_stop es ≡ None))
 
+module _ (es : List Event) (fault : Fault) (o : Option (Unit {0})) (r : Bool) (e : is_some o ≡ not r) where
   -- where the call answers none, the fault stops
-  pub told_no : r ≡ true → Told o → first_stop es ≡ Some (fault_answer fault)
+  pub told_no : r ≡ true → Told es fault o → first_stop es ≡ Some (fault_answer fault)
   told_no t h = by o refl
     where
       by : (x : Option (Unit {0})) → o ≡ x → first_stop es ≡ Some (fault_answer fault)
-      by None q = subst Told q h
+      by None q = subst (Told es fault) q h
       by (Some u) q = absurd (true≢false (sym (ap is_some q) ∙ e ∙ ap not t))
 
   -- where the call answers a value, nothing stops
-  pub told_yes : r ≡ false → Told o → first_stop es ≡ None
+  pub told_yes : r ≡ false → Told es fault o → first_stop es ≡ None
   told_yes t h = by o refl
     where
       by : (x : Option (Unit {0})) → o ≡ x → first_stop es ≡ None
       by None q = absurd (true≢false (sym (sym (ap is_some q) ∙ e ∙ ap not t)))
-      by (Some u) q = (subst Told q h).1
+      by (Some u) q = (subst (Told es fault) q h).1
+
+-- where an answer is a value exactly if a test passes: nothing stops if it passes, and else the fault stops
+pub told_if : (es : List Event) (fault : Fault) (passes : Bool) → (passes ≡ true → first_stop es ≡ None)
+    → (passes ≡ false → first_stop es ≡ Some (fault_answer fault)) → (o : Option (Unit {0})) → o ≡ then_some passes tt
+    → Told es fault o
+told_if es fault true passed failed o e = subst (Told es fault) (sym e) (tt, passed refl)
+told_if es fault false passed failed o e = subst (Told es fault) (sym e) (failed refl)
 
 -- ---- what a call answers that finds a value
 module _ (es : List Event) (fault : Fault) (x : ℚ) where

@@ -1,5 +1,6 @@
 -- What is told of an item by a trace that is followed.
 use Rattle.std.proofs.Common.{◌≡◌, ◌∙◌, ◌↔◌, Bool, refl, ℕ, ◌+◌, ◌*◌, ◌/◌, ◌%◌, List, [], ◌∷◌, ◌++◌, length, get_or, sym, ap, subst, arith}
+use Rattle.std.proofs.Common.{subst₂}
 use Rattle.std.specs.Prelude.{Option, Some, None, Result, Ok, Err, MatchResult, MatchOption, IsOk, IfErr, IsTrue}
 use Rattle.std.proofs.Math.Nat.{div-add-mod}
 use Rattle.base_numbers.specs.Rational.{ℚ}
@@ -9,6 +10,7 @@ use Rattle.base_fractions.specs.Operation.{operation_of}
 use Rattle.flow_systems.specs.declared.spot.Site.{Site}
 use Rattle.flow_systems.specs.Equations.{Equations, Vector}
 use Rattle.theory_validity.specs.Steps.{Item, Placed}
+use Rattle.theory_validity.specs.Decide.{dec_le_ℚ}
 use Rattle.theory_validity.specs.Faults.{Fault, bound_at}
 use Rattle.cert_checker.specs.declared.fault.CheckFault.{CheckFault}
 use Rattle.cert_checker.specs.Events.{Event, Test, Answers, IsRun, fault_answer, wide_answer, first_stop, decided}
@@ -48,6 +50,17 @@ pub run_after : {A : Type 0} (P : A → Type 0) (before rest : List Event) (r : 
     → IsRun P rest r → IsRun P (before ++ rest) r
 run_after P before rest (Ok x) none h = (h.0, stop_later before rest none ∙ h.1)
 run_after P before rest (Err f) none h = stop_later before rest none ∙ h
+
+-- where a test passes, the answer is left to a trace that is followed and tested at its end
+pub then_reached : {Q : Type 0} {s : Site} {q : ℚ} (d : Dec Q) (fault : Fault) (site : Site) (to x : ℚ)
+    (events : Site → Fault → List Event) (r : Result (Unit {0}) CheckFault) → first_stop (Test (decided d) fault ∷ []) ≡ None
+    → s ≡ site → q ≡ to
+    → IsRun (λ u. Unit {0}) (events s fault ++ Test (decided (dec_le_ℚ q x)) fault ∷ []) r
+    → IsRun (λ u. Unit {0}) (Test (decided d) fault ∷ (events site fault ++ Test (decided (dec_le_ℚ to x)) fault ∷ [])) r
+then_reached d fault site to x events r passed same_site same_number run =
+    let rest : Site → ℚ → List Event = λ site to. events site fault ++ Test (decided (dec_le_ℚ to x)) fault ∷ [] in
+    run_after (λ u. Unit {0}) (Test (decided d) fault ∷ []) (rest site to) r passed
+    (subst₂ (λ s q. IsRun (λ u. Unit {0}) (rest s q) r) same_site same_number run)
 
 -- a test that passes, and one that doesn't
 abbrev pub goes_on : Result (Unit {0}) CheckFault

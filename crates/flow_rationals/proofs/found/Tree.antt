@@ -10,68 +10,30 @@ use Rattle.flow_rationals.specs.declared.reading.written.Choice.TheVariants.{Lea
 use Rattle.flow_rationals.specs.declared.reading.written.Written.{Written}
 use Rattle.flow_rationals.specs.Grammar.{minus_then, ratio_then, sum_then, sums_then, choice_then, choices_then, equation_then}
 use Rattle.flow_rationals.specs.Grammar.{equations_symbols, Spells}
-use Rattle.flow_rationals.specs.Found.{NoColon, NoMinus, EndsSum}
+use Rattle.flow_rationals.specs.Found.{NoColon, NoMinus}
 use Rattle.flow_rationals.proofs.grammar.Complete.{sums_end, choices_end}
 use Rattle.flow_rationals.proofs.found.Parts.{Same}
+use Rattle.flow_rationals.proofs.found.Lists.{Found, Absent, Listing}
 
 abbrev pub SumFound : List Symbol → Addends → List Symbol → Type 0
-SumFound ss s after = (t : Addends) (m : List Symbol) → EndsSum m → ss ≡ sum_then t m → Same s t after m
+SumFound ss s after = Found Addends sum_then ss s after
 
 abbrev pub NoSum : List Symbol → Type 0
-NoSum ss = (t : Addends) (m : List Symbol) → EndsSum m → ss ≡ sum_then t m → ⊥
+NoSum ss = Absent Addends sum_then ss
 
--- Sums of a minimum of which these were found go on with these symbols.
-pub record SumsGoOn (done : List Addends) (rest : List Symbol) (sums : List Addends) (m : List Symbol) : Type 0 where
-  -- the sums that are still to come
-  pub tail : List Addends
-  -- the sums found and those to come are the sums of the minimum
-  pub all : done ++ tail ≡ sums
-  -- the symbols are those of the sums to come, and what follows the minimum
-  pub rest_is : rest ≡ sums_then tail m
+-- what closes the sums of a minimum
+abbrev pub sums_close : List Symbol → List Symbol
+sums_close m = symbol.RightParen ∷ m
 
-sums_by : (done tail : List Addends) (rest others after : List Symbol) (next : Addends) (sums : List Addends) (m : List Symbol)
-    → done ++ tail ≡ sums → rest ≡ sums_then tail m → rest ≡ symbol.Comma ∷ others → SumFound others next after
-    → SumsGoOn (done ++ next ∷ []) after sums m
-sums_by done [] rest others after next sums m l r c found = absurd cc
-sums_by done (s ∷ ss) rest others after next sums m l r c found =
-    let t : others ≡ sum_then s (sums_then ss m) = cc in
-    let g = found s (sums_then ss m) (sums_end ss m) t in
-    record { tail = ss; all = append_assoc done (next ∷ []) ss ∙ (ap (λ x. done ++ x ∷ ss) g.0 ∙ l); rest_is = g.1 }
-
--- the sums of a minimum go on after `,` with the sum that was found there
-pub sums_go : (done : List Addends) (rest others after : List Symbol) (next : Addends) (sums : List Addends) (m : List Symbol)
-    → SumsGoOn done rest sums m → rest ≡ symbol.Comma ∷ others → SumFound others next after → SumsGoOn (done ++ next ∷ []) after sums m
-sums_go done rest others after next sums m g c found = sums_by done g.tail rest others after next sums m g.all g.rest_is c found
-
-sums_stuck_by : (tail : List Addends) (rest others m : List Symbol) → rest ≡ sums_then tail m → rest ≡ symbol.Comma ∷ others → NoSum others
-    → ⊥
-sums_stuck_by [] rest others m r c none = cc
-sums_stuck_by (s ∷ ss) rest others m r c none = none s (sums_then ss m) (sums_end ss m) cc
-
--- where no sum stands after `,`, no sums of a minimum go on there
-pub sums_stuck : (done : List Addends) (rest others : List Symbol) (sums : List Addends) (m : List Symbol) → SumsGoOn done rest sums m
-    → rest ≡ symbol.Comma ∷ others → NoSum others → ⊥
-sums_stuck done rest others sums m g c none = sums_stuck_by g.tail rest others m g.rest_is c none
-
-sums_close_by : (done tail : List Addends) (rest after : List Symbol) (sums : List Addends) (m : List Symbol) → done ++ tail ≡ sums
-    → rest ≡ sums_then tail m → rest ≡ symbol.RightParen ∷ after → Same done sums after m
-sums_close_by done [] rest after sums m l r c = let e : after ≡ m = cc in (sym (append-nil done) ∙ l, e)
-sums_close_by done (s ∷ ss) rest after sums m l r c = absurd cc
-
--- at `)` the sums of a minimum end, and are those found
-pub sums_close : (done made : List Addends) (rest after : List Symbol) (sums : List Addends) (m : List Symbol) → made ≡ done
-    → SumsGoOn done rest sums m → rest ≡ symbol.RightParen ∷ after → Same made sums after m
-sums_close done made rest after sums m e g c = let x = sums_close_by done g.tail rest after sums m g.all g.rest_is c in (e ∙ x.0, x.1)
-
-sums_open_by : (tail : List Addends) (rest m : List Symbol) → rest ≡ sums_then tail m → ((x : List Symbol) → rest ≡ symbol.Comma ∷ x → ⊥)
-    → ((x : List Symbol) → rest ≡ symbol.RightParen ∷ x → ⊥) → ⊥
-sums_open_by [] rest m r comma paren = paren m r
-sums_open_by (s ∷ ss) rest m r comma paren = comma (sum_then s (sums_then ss m)) r
-
--- where neither `,` nor `)` stands next, no sums of a minimum go on
-pub sums_open : (done : List Addends) (rest : List Symbol) (sums : List Addends) (m : List Symbol) → SumsGoOn done rest sums m
-    → ((x : List Symbol) → rest ≡ symbol.Comma ∷ x → ⊥) → ((x : List Symbol) → rest ≡ symbol.RightParen ∷ x → ⊥) → ⊥
-sums_open done rest sums m g comma paren = sums_open_by g.tail rest m g.rest_is comma paren
+-- how the further sums of a minimum are spelled
+pub sums_listing : Listing Addends sum_then sums_then sums_close
+sums_listing = record {
+  none = λ m. refl;
+  more = λ s ss m. refl;
+  ends = sums_end;
+  no_comma = λ m x e. cc;
+  closed_once = λ m n e. cc;
+}
 
 abbrev pub SumsFound : List Symbol → List Addends → List Symbol → Type 0
 SumsFound ss sums after = (us : List Addends) (m : List Symbol) → ss ≡ sums_then us m → Same sums us after m
@@ -97,64 +59,19 @@ pub least_no_sum : (ss : List Symbol) → NoSum ss → (s : Addends) (sums : Lis
     → ss ≡ sum_then s (sums_then sums m) → ⊥
 least_no_sum ss none s sums m e = none s (sums_then sums m) (sums_end sums m) e
 
-abbrev pub ChoiceFound : List Symbol → Choice → List Symbol → Type 0
-ChoiceFound ss c after = (d : Choice) (m : List Symbol) → EndsSum m → ss ≡ choice_then d m → Same c d after m
+-- what closes the alternatives of an equation
+abbrev pub choices_close : List Symbol → List Symbol
+choices_close m = symbol.RightParen ∷ symbol.Semicolon ∷ m
 
-abbrev pub NoChoice : List Symbol → Type 0
-NoChoice ss = (d : Choice) (m : List Symbol) → EndsSum m → ss ≡ choice_then d m → ⊥
-
--- Alternatives of which these were found go on with these symbols.
-pub record ChoicesGoOn (done : List Choice) (rest : List Symbol) (choices : List Choice) (m : List Symbol) : Type 0 where
-  -- the alternatives that are still to come
-  pub tail : List Choice
-  -- the alternatives found and those to come are all alternatives
-  pub all : done ++ tail ≡ choices
-  -- the symbols are those of the alternatives to come, and what follows the equation
-  pub rest_is : rest ≡ choices_then tail m
-
-choices_by : (done tail : List Choice) (rest others after : List Symbol) (next : Choice) (cs : List Choice) (m : List Symbol)
-    → done ++ tail ≡ cs → rest ≡ choices_then tail m → rest ≡ symbol.Comma ∷ others → ChoiceFound others next after
-    → ChoicesGoOn (done ++ next ∷ []) after cs m
-choices_by done [] rest others after next cs m l r c found = absurd cc
-choices_by done (s ∷ ss) rest others after next cs m l r c found =
-    let t : others ≡ choice_then s (choices_then ss m) = cc in
-    let g = found s (choices_then ss m) (choices_end ss m) t in
-    record { tail = ss; all = append_assoc done (next ∷ []) ss ∙ (ap (λ x. done ++ x ∷ ss) g.0 ∙ l); rest_is = g.1 }
-
--- alternatives go on after `,` with the one that was found there
-pub choices_go : (done : List Choice) (rest others after : List Symbol) (next : Choice) (cs : List Choice) (m : List Symbol)
-    → ChoicesGoOn done rest cs m → rest ≡ symbol.Comma ∷ others → ChoiceFound others next after → ChoicesGoOn (done ++ next ∷ []) after cs m
-choices_go done rest others after next cs m g c found = choices_by done g.tail rest others after next cs m g.all g.rest_is c found
-
-choices_stuck_by : (tail : List Choice) (rest others m : List Symbol) → rest ≡ choices_then tail m → rest ≡ symbol.Comma ∷ others
-    → NoChoice others → ⊥
-choices_stuck_by [] rest others m r c none = cc
-choices_stuck_by (s ∷ ss) rest others m r c none = none s (choices_then ss m) (choices_end ss m) cc
-
--- where no alternative stands after `,`, no alternatives go on there
-pub choices_stuck : (done : List Choice) (rest others : List Symbol) (cs : List Choice) (m : List Symbol) → ChoicesGoOn done rest cs m
-    → rest ≡ symbol.Comma ∷ others → NoChoice others → ⊥
-choices_stuck done rest others cs m g c none = choices_stuck_by g.tail rest others m g.rest_is c none
-
-choices_close_by : (done tail : List Choice) (rest after : List Symbol) (cs : List Choice) (m : List Symbol) → done ++ tail ≡ cs
-    → rest ≡ choices_then tail m → rest ≡ symbol.RightParen ∷ symbol.Semicolon ∷ after → Same done cs after m
-choices_close_by done [] rest after cs m l r c = let e : after ≡ m = cc in (sym (append-nil done) ∙ l, e)
-choices_close_by done (s ∷ ss) rest after cs m l r c = absurd cc
-
--- at `)` and `;` the alternatives end, and are those found
-pub choices_close : (done made : List Choice) (rest after : List Symbol) (cs : List Choice) (m : List Symbol) → made ≡ done
-    → ChoicesGoOn done rest cs m → rest ≡ symbol.RightParen ∷ symbol.Semicolon ∷ after → Same made cs after m
-choices_close done made rest after cs m e g c = let x = choices_close_by done g.tail rest after cs m g.all g.rest_is c in (e ∙ x.0, x.1)
-
-choices_open_by : (tail : List Choice) (rest m : List Symbol) → rest ≡ choices_then tail m
-    → ((x : List Symbol) → rest ≡ symbol.Comma ∷ x → ⊥) → ((x : List Symbol) → rest ≡ symbol.RightParen ∷ symbol.Semicolon ∷ x → ⊥) → ⊥
-choices_open_by [] rest m r comma paren = paren m r
-choices_open_by (s ∷ ss) rest m r comma paren = comma (choice_then s (choices_then ss m)) r
-
--- where neither `,` nor `)` and `;` stand next, no alternatives go on
-pub choices_open : (done : List Choice) (rest : List Symbol) (cs : List Choice) (m : List Symbol) → ChoicesGoOn done rest cs m
-    → ((x : List Symbol) → rest ≡ symbol.Comma ∷ x → ⊥) → ((x : List Symbol) → rest ≡ symbol.RightParen ∷ symbol.Semicolon ∷ x → ⊥) → ⊥
-choices_open done rest cs m g comma paren = choices_open_by g.tail rest m g.rest_is comma paren
+-- how the alternatives of an equation are spelled
+pub choices_listing : Listing Choice choice_then choices_then choices_close
+choices_listing = record {
+  none = λ m. refl;
+  more = λ c cs m. refl;
+  ends = choices_end;
+  no_comma = λ m x e. cc;
+  closed_once = λ m n e. cc;
+}
 
 choices_no_colon : (cs : List Choice) (m : List Symbol) → NoColon (choices_then cs m)
 choices_no_colon [] m = tt

@@ -293,20 +293,7 @@ ends (place.Constant w) = constant_ends w
 ends (place.ConstantBelow w) = constant_ends w
 ends (place.ConstantDen w) = part_ends w
 ends (place.AfterPart w) = part_ends w
-ends place.First = refl
-ends place.Name = refl
-ends place.Equal = refl
-ends place.Max = refl
-ends place.Opening = refl
-ends place.Start = refl
-ends place.StartNumber = refl
-ends place.StartBelow = refl
-ends place.StartDen = refl
-ends place.Alternatives = refl
-ends place.Alternative = refl
-ends place.MinOpening = refl
-ends place.Semicolon = refl
-ends place.Done = refl
+ends _ = refl
 
 -- symbols that go through begin a text
 pub through_begins : (front : List Symbol) (p : Place) → run place.First front ≡ Some p → Begins front

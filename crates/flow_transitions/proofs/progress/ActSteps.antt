@@ -83,6 +83,12 @@ module _ (text : List ℕ) (tokens : List Token) (names : List (List ℕ)) (poin
   closing_fails i act f h n = sign_fails text tokens (at (past_condition e act)) i f refl (λ y. refl) h
       (no_closing (there i).at e act (there i).symbol n)
 
+  -- from `assume` on the reading comes to the condition
+  pub condition_reached : (i line : ℕ) → (there i).symbol ≡ symbol.Assume → line ≡ (there i).line
+      → (there (i + 1)).symbol ≡ symbol.LeftParen
+      → Goes text tokens (at (at_act e)) i (at (at_condition e line)) (i + 1 + 1)
+  condition_reached i line w l p = λ answer h. assume_goes i line w l answer (paren_goes (i + 1) line p answer h)
+
   -- ---- the end of an act
   pub end_goes : (i : ℕ) (act : Statement) → (there i).symbol ≡ symbol.Semicolon
       → Goes text tokens (at (past_act e act)) i (at (at_act (with_act e act))) (i + 1)
@@ -123,6 +129,13 @@ module _ (text : List ℕ) (tokens : List Token) (names : List (List ℕ)) (poin
       → Fails text tokens (at (at_equal e var line)) i f
   equal_fails i var line f h n = sign_fails text tokens (at (at_equal e var line)) i f refl (λ y. refl) h
       (no_equal (there i).at e var line (there i).symbol n)
+
+  -- from the variable on the reading comes to the right side
+  pub side_reached : (i var line : ℕ) → (there i).symbol ≡ symbol.Name → line ≡ (there i).line → place_of (there i).bytes names ≡ Some var
+      → (there (i + 1)).symbol ≡ symbol.Equal
+      → Goes text tokens (at (at_act e)) i (at (at_right_side e var line (there (i + 1)).at)) (i + 1 + 1)
+  side_reached i var line w l p s = λ answer h.
+      variable_goes i var line w l p answer (equal_goes (i + 1) var line (there (i + 1)).at s refl answer h)
 
   -- an expression that is a right side leads on to the end of the assignment
   pub side_goes : (i var line sign next : ℕ) (m : Meaning) (side : Option Form)

@@ -78,3 +78,19 @@ module _ (text : List ℕ) (tokens : List Token) (names : List (List ℕ)) (poin
   pub opening_fails : (i : ℕ) (e : AutoEdge) (f : AutoFault) → f ≡ unexpected_fault (there i) → ((there i).symbol ≡ symbol.LeftBrace → ⊥)
       → Fails text tokens (at (at_opening e)) i f
   opening_fails i e f h n = sign_fails text tokens (at (at_opening e)) i f refl (λ y. refl) h (no_brace (there i).at e (there i).symbol n)
+
+  -- what stands behind the point of an edge, from its word on: the word, with the line, and the point
+  pub source_reached : (i line from : ℕ) → ((there i).symbol ≡ symbol.End → ⊥)
+      → word_then (codes "edge") (at_source line) (at at_edge) (there i) ≡ going (at at_edge) (at_source line) → line ≡ (there i).line
+      → point_at (there (i + 1)) points ≡ Ok from
+      → Goes text tokens (at at_edge) i (at (at_target line from (there (i + 1)).at)) (i + 1 + 1)
+  source_reached i line from n w l p = λ answer h.
+      edge_goes i line n w l answer (source_goes (i + 1) line from (there (i + 1)).at p refl answer h)
+
+  -- the second point, too
+  pub target_reached : (i line from to : ℕ) → ((there i).symbol ≡ symbol.End → ⊥)
+      → word_then (codes "edge") (at_source line) (at at_edge) (there i) ≡ going (at at_edge) (at_source line) → line ≡ (there i).line
+      → point_at (there (i + 1)) points ≡ Ok from → target_at (there (i + 1 + 1)) points ≡ Ok to
+      → Goes text tokens (at at_edge) i (at (at_opening (edge_to line from (there (i + 1)).at to))) (i + 1 + 1 + 1)
+  target_reached i line from to n w l p q = λ answer h.
+      source_reached i line from n w l p answer (target_goes (i + 1 + 1) line from (there (i + 1)).at to q answer h)

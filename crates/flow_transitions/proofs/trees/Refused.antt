@@ -7,7 +7,8 @@ use Rattle.lang_grammar.specs.Grammar.{replaces, assume_word, the_end}
 use Rattle.lang_tree.specs.Tree.{Statement}
 use Rattle.flow_transitions.specs.declared.auto_edge.AutoEdge.{AutoEdge}
 use Rattle.flow_transitions.specs.declared.reading.point_name.PointName.{PointName}
-use Rattle.flow_transitions.specs.AutoReading.{Stand, Progress, progress, token_at, unexpected_fault, unexpected, going, word_then}
+use Rattle.flow_transitions.specs.AutoReading.{Stand, Progress, Stepped, progress, token_at, unexpected_fault, unexpected, going, if_name}
+use Rattle.flow_transitions.specs.AutoReading.{word_then}
 use Rattle.flow_transitions.specs.AutoReading.{at_vars, at_variable, past_variable, at_points, at_point, past_point, at_edge, at_source}
 use Rattle.flow_transitions.specs.AutoReading.{at_target, at_opening, at_act, at_paren, past_condition, at_equal, past_act}
 use Rattle.flow_transitions.proofs.grammar.Accepts.{IsName}
@@ -29,6 +30,13 @@ no_word text word stand r (a_name x) a n = on (bytes_eq x word) refl where
 no_word text word stand r (change_sign replaces) a n = refl
 no_word text word stand r _ a n = refl
 
+-- where a name has to stand, whatever comes of it, anything else is unexpected
+no_name : (text : List ℕ) (here : Stepped) (k : Kind) (a : ℕ) → (IsName k → ⊥)
+    → if_name (seen_here text k a).symbol here (unexpected (seen_here text k a)) ≡ Err (unexpected_fault (seen_here text k a))
+no_name text here (a_name x) a n = absurd (n (x, refl))
+no_name text here (change_sign replaces) a n = refl
+no_name text here _ a n = refl
+
 module _ (text : List ℕ) (names : List (List ℕ)) (points : List PointName) (edges : List AutoEdge) where
   abbrev Here : Stand → Kind → ℕ → Type 0
   Here stand k a = IsRefused text (progress names points edges stand) k a
@@ -39,9 +47,7 @@ module _ (text : List ℕ) (names : List (List ℕ)) (points : List PointName) (
 
   -- where a variable has to stand, anything but a name
   pub no_variable : (k : Kind) (a : ℕ) → (IsName k → ⊥) → Here at_variable k a
-  no_variable (a_name x) a n = absurd (n (x, refl))
-  no_variable (change_sign replaces) a n = refl
-  no_variable _ a n = refl
+  no_variable k a n = no_name text _ k a n
 
   -- behind a variable anything but `,` and `;`
   pub no_variable_sign : (k : Kind) (a : ℕ) → ((k ≡ comma) ⊎ (k ≡ semicolon) → ⊥) → Here past_variable k a
@@ -56,9 +62,7 @@ module _ (text : List ℕ) (names : List (List ℕ)) (points : List PointName) (
 
   -- where a point has to stand, anything but a name
   pub no_point : (k : Kind) (a : ℕ) → (IsName k → ⊥) → Here at_point k a
-  no_point (a_name x) a n = absurd (n (x, refl))
-  no_point (change_sign replaces) a n = refl
-  no_point _ a n = refl
+  no_point k a n = no_name text _ k a n
 
   -- behind a point anything but `,` and `;`
   pub no_point_sign : (k : Kind) (a : ℕ) → ((k ≡ comma) ⊎ (k ≡ semicolon) → ⊥) → Here past_point k a

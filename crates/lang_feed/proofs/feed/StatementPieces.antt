@@ -93,15 +93,7 @@ module _ (line : ℕ → ℕ) (width : ℕ) where
       (follow_assoc ns (one n) ms)
   pushed_close n st (under (of_for k a bs c g) ns ∷ fs) ms h = ap (λ (x : Statements). close (closed k st)
       (wrapped line (of_for k a bs c g) x) fs) (follow_assoc ns (one n) ms)
-  pushed_close n st [] ms h = absurd h
-  pushed_close n st (side u o a ∷ fs) ms h = absurd h
-  pushed_close n st (before p a ∷ fs) ms h = absurd h
-  pushed_close n st (group a ∷ fs) ms h = absurd h
-  pushed_close n st (test t a ∷ fs) ms h = absurd h
-  pushed_close n st (assigns i g b a ∷ fs) ms h = absurd h
-  pushed_close n st (initial x a b ∷ fs) ms h = absurd h
-  pushed_close n st (header k a ns ∷ fs) ms h = absurd h
-  pushed_close n st (header_tested k a ns c ∷ fs) ms h = absurd h
+  pushed_close n st _ ms h = absurd h
 
   -- what is attached to a frame with a statement more
   pub pushed_attach : (n : Statement) (st : State) (fs : List Frame) (ms : Statements) → IsOpen fs
@@ -116,28 +108,12 @@ module _ (line : ℕ → ℕ) (width : ℕ) where
       (follow_assoc ns (one n) ms)
   pushed_attach n st (under (of_for k a bs c g) ns ∷ fs) ms h = ap (λ (x : Statements). attach (closed k st)
       (wrapped line (of_for k a bs c g) x) fs) (follow_assoc ns (one n) ms)
-  pushed_attach n st [] ms h = absurd h
-  pushed_attach n st (side u o a ∷ fs) ms h = absurd h
-  pushed_attach n st (before p a ∷ fs) ms h = absurd h
-  pushed_attach n st (group a ∷ fs) ms h = absurd h
-  pushed_attach n st (test t a ∷ fs) ms h = absurd h
-  pushed_attach n st (assigns i g b a ∷ fs) ms h = absurd h
-  pushed_attach n st (initial x a b ∷ fs) ms h = absurd h
-  pushed_attach n st (header k a ns ∷ fs) ms h = absurd h
-  pushed_attach n st (header_tested k a ns c ∷ fs) ms h = absurd h
+  pushed_attach n st _ ms h = absurd h
 
   -- a frame of statements stays one with a statement more
   pub pushed_open : (n : Statement) (fs : List Frame) → IsOpen fs → IsOpen (pushed n fs)
   pushed_open n (under w ns ∷ fs) h = tt
-  pushed_open n [] h = absurd h
-  pushed_open n (side u o a ∷ fs) h = absurd h
-  pushed_open n (before p a ∷ fs) h = absurd h
-  pushed_open n (group a ∷ fs) h = absurd h
-  pushed_open n (test t a ∷ fs) h = absurd h
-  pushed_open n (assigns i g b a ∷ fs) h = absurd h
-  pushed_open n (initial x a b ∷ fs) h = absurd h
-  pushed_open n (header k a ns ∷ fs) h = absurd h
-  pushed_open n (header_tested k a ns c ∷ fs) h = absurd h
+  pushed_open n _ h = absurd h
 
   -- a statement more changes nothing of the loops around
   pub pushed_inside : (n : Statement) (fs : List Frame) → IsOpen fs → is_inside (pushed n fs) ≡ is_inside fs

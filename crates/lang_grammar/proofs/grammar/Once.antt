@@ -41,25 +41,20 @@ ended_once : (u v : Update) (t s : Token) (w x : List Token) → IsEnd t → IsE
 ended_once u v t s w x m n h i e = update_once u v t s w x m n h i (sym (append_assoc (spell_update u) (t ∷ []) w) ∙ e
     ∙ append_assoc (spell_update v) (s ∷ []) x)
 
+-- an assignment or a step, and the sign that ends it
+signed_once : (k : Kind) (u v : Update) (a b : ℕ) (w x : List Token) → IsEnd (token k a) → IsEnd (token k b) → GoodUpdate u → GoodUpdate v
+    → (spell_update u ++ token k a ∷ []) ++ w ≡ (spell_update v ++ token k b ∷ []) ++ x → (u ≡ v) × (a ≡ b) × (w ≡ x)
+signed_once k u v a b w x m n h i e =
+    let r = ended_once u v (token k a) (token k b) w x m n h i e in
+    let q : token k a ≡ token k b = head_of _ _ _ _ r.1 in
+    (r.0, cc, tail_of _ _ _ _ r.1)
+
 updates_once : (u v : Update) (a b : ℕ) (w x : List Token) → GoodUpdate u → GoodUpdate v
     → (spell_update u ++ token semicolon a ∷ []) ++ w ≡ (spell_update v ++ token semicolon b ∷ []) ++ x
     → (updates u a ≡ updates v b) × (w ≡ x)
-updates_once u v a b w x h i e =
-    let r = ended_once u v (token semicolon a) (token semicolon b) w x tt tt h i e in
-    let k : token semicolon a ≡ token semicolon b = head_of _ _ _ _ r.1 in
-    let j : u ≡ v = r.0 in
-    ((cc), tail_of _ _ _ _ r.1)
+updates_once u v a b w x h i e = let r = signed_once semicolon u v a b w x tt tt h i e in (ap₂ updates r.0 r.1, r.2)
 
 -- ---- the head of a `for`
-updated_first_once : (u v : Update) (a b : ℕ) (w x : List Token) → GoodUpdate u → GoodUpdate v
-    → (spell_update u ++ token semicolon a ∷ []) ++ w ≡ (spell_update v ++ token semicolon b ∷ []) ++ x
-    → (updated_first u a ≡ updated_first v b) × (w ≡ x)
-updated_first_once u v a b w x h i e =
-    let r = ended_once u v (token semicolon a) (token semicolon b) w x tt tt h i e in
-    let k : token semicolon a ≡ token semicolon b = head_of _ _ _ _ r.1 in
-    let j : u ≡ v = r.0 in
-    ((cc), tail_of _ _ _ _ r.1)
-
 first_once : (f g : ForFirst) (w x : List Token) → GoodFirst f → GoodFirst g → spell_first f ++ w ≡ spell_first g ++ x → (f ≡ g) × (w ≡ x)
 first_once (no_first a) (no_first b) w x h i e = ((cc), (cc))
 first_once (declared_first a xs) (declared_first b ys) w x h i e =
@@ -67,10 +62,8 @@ first_once (declared_first a xs) (declared_first b ys) w x h i e =
     let k : token int_word a ≡ token int_word b = head_of _ _ _ _ e in
     let j : xs ≡ ys = r.0 in
     ((cc), r.1)
-first_once (updated_first (set v a y b f) c) (updated_first (set v2 a2 y2 b2 f2) c2) w x h i e =
-    updated_first_once (set v a y b f) (set v2 a2 y2 b2 f2) c c2 w x h i e
-first_once (updated_first (step_after v a y b) c) (updated_first (step_after v2 a2 y2 b2) c2) w x h i e = ((cc), (cc))
-first_once (updated_first (step_before y a v b) c) (updated_first (step_before y2 a2 v2 b2) c2) w x h i e = ((cc), (cc))
+first_once (updated_first u a) (updated_first v b) w x h i e =
+    let r = signed_once semicolon u v a b w x tt tt h i e in (ap₂ updated_first r.0 r.1, r.2)
 first_once _ (updated_first (set v a y b f) z) w x h i e = cc
 first_once _ (updated_first (step_after v a y b) z) w x h i e = cc
 first_once _ (updated_first (step_before y a v b) z) w x h i e = cc
@@ -104,21 +97,10 @@ test_once (given_test f a) (given_test g b) w x h i e =
     let j : f ≡ g = r.0 in
     ((cc), tail_of _ _ _ _ r.1)
 
-updated_last_once : (u v : Update) (a b : ℕ) (w x : List Token) → GoodUpdate u → GoodUpdate v
-    → (spell_update u ++ token right_paren a ∷ []) ++ w ≡ (spell_update v ++ token right_paren b ∷ []) ++ x
-    → (updated_last u a ≡ updated_last v b) × (w ≡ x)
-updated_last_once u v a b w x h i e =
-    let r = ended_once u v (token right_paren a) (token right_paren b) w x tt tt h i e in
-    let k : token right_paren a ≡ token right_paren b = head_of _ _ _ _ r.1 in
-    let j : u ≡ v = r.0 in
-    ((cc), tail_of _ _ _ _ r.1)
-
 last_once : (l m : ForLast) (w x : List Token) → GoodLast l → GoodLast m → spell_last l ++ w ≡ spell_last m ++ x → (l ≡ m) × (w ≡ x)
 last_once (no_last a) (no_last b) w x h i e = ((cc), (cc))
-last_once (updated_last (set v a y b f) c) (updated_last (set v2 a2 y2 b2 f2) c2) w x h i e =
-    updated_last_once (set v a y b f) (set v2 a2 y2 b2 f2) c c2 w x h i e
-last_once (updated_last (step_after v a y b) c) (updated_last (step_after v2 a2 y2 b2) c2) w x h i e = ((cc), (cc))
-last_once (updated_last (step_before y a v b) c) (updated_last (step_before y2 a2 v2 b2) c2) w x h i e = ((cc), (cc))
+last_once (updated_last u a) (updated_last v b) w x h i e =
+    let r = signed_once right_paren u v a b w x tt tt h i e in (ap₂ updated_last r.0 r.1, r.2)
 last_once _ (updated_last (set v a y b f) z) w x h i e = cc
 last_once _ (updated_last (step_after v a y b) z) w x h i e = cc
 last_once _ (updated_last (step_before y a v b) z) w x h i e = cc

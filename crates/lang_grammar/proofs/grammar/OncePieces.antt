@@ -65,33 +65,13 @@ not_else (token k a ∷ w) y i h e = let j : k ≡ else_word = cc in let m : Not
 
 -- no statement begins with a name and a colon
 pub label_core : (x : List ℕ) (a b : ℕ) (y z : List Token) (c : Core) → token (a_name x) a ∷ token colon b ∷ y ≡ spell_core c ++ z → ⊥
-label_core x a b y z (empty i) e = cc
-label_core x a b y z (block i is j) e = cc
-label_core x a b y z (if_alone i j f k s) e = cc
-label_core x a b y z (if_else i j f k s l t) e = cc
-label_core x a b y z (repeat i j f k s) e = cc
-label_core x a b y z (assumed i j f k l) e = cc
-label_core x a b y z (repeat_after i s j k f l m) e = cc
-label_core x a b y z (repeat_for i j f t l s) e = cc
-label_core x a b y z (jumps j i k) e = cc
-label_core x a b y z (updates (set v i h j f) k) e = cc
-label_core x a b y z (updates (step_after v i h j) k) e = cc
 label_core x a b y z (updates (step_before h i v j) k) e = cc
+label_core x a b y z _ e = cc
 
 -- no statement begins with `int`
 pub int_core : (a : ℕ) (y z : List Token) (c : Core) → token int_word a ∷ y ≡ spell_core c ++ z → ⊥
-int_core a y z (empty i) e = cc
-int_core a y z (block i is j) e = cc
-int_core a y z (if_alone i j f k s) e = cc
-int_core a y z (if_else i j f k s l t) e = cc
-int_core a y z (repeat i j f k s) e = cc
-int_core a y z (assumed i j f k l) e = cc
-int_core a y z (repeat_after i s j k f l m) e = cc
-int_core a y z (repeat_for i j f t l s) e = cc
-int_core a y z (jumps j i k) e = cc
-int_core a y z (updates (set v i h j f) k) e = cc
-int_core a y z (updates (step_after v i h j) k) e = cc
 int_core a y z (updates (step_before h i v j) k) e = cc
+int_core a y z _ e = cc
 
 -- the kinds of token that end items
 abbrev pub Ends : Kind → Type 0
@@ -101,30 +81,10 @@ Ends _ = ⊥
 
 -- no statement begins with a token that ends items
 pub end_core : (k : Kind) (a : ℕ) (y z : List Token) (c : Core) → Ends k → token k a ∷ y ≡ spell_core c ++ z → ⊥
-end_core right_brace a y z (empty i) n e = cc
-end_core right_brace a y z (block i is j) n e = cc
-end_core right_brace a y z (if_alone i j f k s) n e = cc
-end_core right_brace a y z (if_else i j f k s l t) n e = cc
-end_core right_brace a y z (repeat i j f k s) n e = cc
-end_core right_brace a y z (assumed i j f k l) n e = cc
-end_core right_brace a y z (repeat_after i s j k f l m) n e = cc
-end_core right_brace a y z (repeat_for i j f t l s) n e = cc
-end_core right_brace a y z (jumps j i k) n e = cc
-end_core right_brace a y z (updates (set v i h j f) k) n e = cc
-end_core right_brace a y z (updates (step_after v i h j) k) n e = cc
 end_core right_brace a y z (updates (step_before h i v j) k) n e = cc
-end_core return_word a y z (empty i) n e = cc
-end_core return_word a y z (block i is j) n e = cc
-end_core return_word a y z (if_alone i j f k s) n e = cc
-end_core return_word a y z (if_else i j f k s l t) n e = cc
-end_core return_word a y z (repeat i j f k s) n e = cc
-end_core return_word a y z (assumed i j f k l) n e = cc
-end_core return_word a y z (repeat_after i s j k f l m) n e = cc
-end_core return_word a y z (repeat_for i j f t l s) n e = cc
-end_core return_word a y z (jumps j i k) n e = cc
-end_core return_word a y z (updates (set v i h j f) k) n e = cc
-end_core return_word a y z (updates (step_after v i h j) k) n e = cc
+end_core right_brace a y z _ n e = cc
 end_core return_word a y z (updates (step_before h i v j) k) n e = cc
+end_core return_word a y z _ n e = cc
 end_core _ a y z c n e = absurd n
 
 -- a token that ends items is no name

@@ -90,12 +90,6 @@ module _ {F : Type 0} (m : F → ℚ) (bs ns : List ℕ) (goals : ℕ) (xs ys : 
     entry = λ i k l b. entries i k l b;
   }
 
--- its operations
-pub pivot_operations_are : {F : Type 0} (m : F → ℚ) (bs ns : List ℕ) (goals : ℕ) (xs : List F) (r c : ℕ)
-    → pivot_operations (cells_table m bs ns goals xs) r c ≡ exchange_operations m xs (length bs + goals) r (suc (length ns)) c
-unfolding pivot_operations exchange_operations
-pivot_operations_are m bs ns goals xs r c = refl
-
 -- a slice that was lent whole and given back
 pub written_back : {A : Type 0} (xs ys : List A) (n : ℕ) → length ys ≡ n → take n (ys ++ drop (length ys) xs) ≡ ys
 written_back xs ys n e = take_at ys (drop (length ys) xs) n e
@@ -106,8 +100,11 @@ pub exchange_in : {F : Type 0} (m : F → ℚ) (n k r s t c : ℕ) (xs xs' ys : 
 exchange_in m n k r s t c xs xs' ys e f g h = subst (λ a. Exchanges m a r t c xs' ys) e
     (subst (λ b. Exchanges m n r b c xs' ys) f (subst (λ o. Exchanges m n r s c o ys) g h))
 
--- the operations of a pivot at equal sizes, places and entries are the same
-pub exchange_operations_in : {F : Type 0} (m : F → ℚ) (n k r s t c : ℕ) (xs xs' : List F) → n ≡ k → s ≡ t → xs ≡ xs'
-    → exchange_operations m xs n r s c ≡ exchange_operations m xs' k r t c
-exchange_operations_in m n k r s t c xs xs' e f g = ap₂ (λ a b. exchange_operations m xs a r b c) e f
-    ∙ ap (λ o. exchange_operations m o k r t c) g
+-- the operations of a pivot are those of the exchange at equal sizes and entries
+pub pivot_operations_in : {F : Type 0} (m : F → ℚ) (bs ns : List ℕ) (goals : ℕ) (xs : List F) (r c n s : ℕ) (ys : List F)
+    → n ≡ length bs + goals → s ≡ suc (length ns) → ys ≡ xs
+    → pivot_operations (cells_table m bs ns goals xs) r c ≡ exchange_operations m ys n r s c
+unfolding pivot_operations exchange_operations
+pivot_operations_in m bs ns goals xs r c n s ys e f g =
+    sym (ap₂ (λ a b. exchange_operations m ys a r b c) e f
+    ∙ ap (λ o. exchange_operations m o (length bs + goals) r (suc (length ns)) c) g)

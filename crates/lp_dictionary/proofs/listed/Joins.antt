@@ -22,26 +22,36 @@ unfolding joined
 joined_same zero f g h = refl
 joined_same (suc n) f g h = ap₂ (λ x y. x ++ y) (joined_same n f g (λ k l. h k (omega (arith, l)))) (h n (omega arith))
 
+-- where what is found first in two lists is what is found in the first one, and where nothing is found there, in the second one
+module _ {A B : Type 0} (first : List A → Option B) (sooner : (xs ys : List A) (o : B) → first xs ≡ Some o → first (xs ++ ys) ≡ Some o)
+    (later : (xs ys : List A) → first xs ≡ None → first (xs ++ ys) ≡ first ys) where
+  -- one more list, in which nothing is found
+  pub none_found_more : (n : ℕ) (f : ℕ → List A) → first (joined n f) ≡ None → first (f n) ≡ None → first (joined (n + 1) f) ≡ None
+  none_found_more n f h k = ap first (joined-suc n f) ∙ later (joined n f) (f n) h ∙ k
+
+  -- what is found first stays the first in longer lists
+  found_more : (k n : ℕ) (f : ℕ → List A) (o : B) → k ≤ n → first (joined k f) ≡ Some o → first (joined n f) ≡ Some o
+  found_more k zero f o l h = ap (λ x. first (joined x f)) (let e : 0 ≡ k = omega (arith, l) in e) ∙ h
+  found_more k (suc n) f o l h = ⊎_elim
+      (λ b. ap (λ x. first (joined x f)) (sym (add-one n)) ∙ ap first (joined-suc n f)
+      ∙ sooner (joined n f) (f n) o (found_more k n f o (omega (arith, b)) h))
+      (λ b. ap (λ x. first (joined x f)) (let e : suc n ≡ k = omega (arith, b, l) in e) ∙ h)
+      (cases_lt k (suc n))
+
+  -- what the list number k has first, where nothing is found before it
+  pub found_at : (k n : ℕ) (f : ℕ → List A) (o : B) → k < n → first (joined k f) ≡ None → first (f k) ≡ Some o → first (joined n f) ≡ Some o
+  found_at k n f o l h w =
+      found_more (k + 1) n f o (omega (arith, l)) (ap first (joined-suc k f) ∙ later (joined k f) (f k) h ∙ w)
+
 -- one more list, of which none is wide
 pub joined_fits_more : (L : ℤ) (n : ℕ) (f : ℕ → List Operation) → first_wide L (joined n f) ≡ None → first_wide L (f n) ≡ None
     → first_wide L (joined (n + 1) f) ≡ None
-joined_fits_more L n f h k = ap (first_wide L) (joined-suc n f) ∙ first_wide_later L (joined n f) (f n) h ∙ k
-
--- the first that is wide stays the first in longer lists
-joined_wide_more : (L : ℤ) (k n : ℕ) (f : ℕ → List Operation) (o : Operation) → k ≤ n → first_wide L (joined k f) ≡ Some o
-    → first_wide L (joined n f) ≡ Some o
-joined_wide_more L k zero f o l h = ap (λ x. first_wide L (joined x f)) (let e : 0 ≡ k = omega (arith, l) in e) ∙ h
-joined_wide_more L k (suc n) f o l h = ⊎_elim
-    (λ b. ap (λ x. first_wide L (joined x f)) (sym (add-one n)) ∙ ap (first_wide L) (joined-suc n f)
-    ∙ first_wide_sooner L (joined n f) (f n) o (joined_wide_more L k n f o (omega (arith, b)) h))
-    (λ b. ap (λ x. first_wide L (joined x f)) (let e : suc n ≡ k = omega (arith, b, l) in e) ∙ h)
-    (cases_lt k (suc n))
+joined_fits_more L n f h k = none_found_more (first_wide L) (first_wide_sooner L) (first_wide_later L) n f h k
 
 -- the list number k has the first that is wide
 pub joined_wide_at : (L : ℤ) (k n : ℕ) (f : ℕ → List Operation) (o : Operation) → k < n → first_wide L (joined k f) ≡ None
     → first_wide L (f k) ≡ Some o → first_wide L (joined n f) ≡ Some o
-joined_wide_at L k n f o l h w = joined_wide_more L (k + 1) n f o (omega (arith, l))
-    (ap (first_wide L) (joined-suc k f) ∙ first_wide_later L (joined k f) (f k) h ∙ w)
+joined_wide_at L k n f o l h w = found_at (first_wide L) (first_wide_sooner L) (first_wide_later L) k n f o l h w
 
 -- none of no lists is wide
 pub joined_fits_none : (L : ℤ) (f : ℕ → List Operation) → first_wide L (joined 0 f) ≡ None

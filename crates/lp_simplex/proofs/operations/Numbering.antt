@@ -1,11 +1,10 @@
 -- The first wide operation among numbered ones.
-use Rattle.std.proofs.Common.{◌≡◌, ℕ, zero, suc, ◌+◌, ◌<◌, ◌≤◌, ⊎_elim, Bool, true, false, cond, ℤ, List, [], ◌∷◌, ◌++◌}
-use Rattle.std.proofs.Common.{Some, None, refl, ap, sym, ◌∙◌, arith, add-one}
+use Rattle.std.proofs.Common.{◌≡◌, ℕ, ◌+◌, ◌<◌, Bool, true, false, cond, ℤ, List, [], ◌∷◌, ◌++◌}
+use Rattle.std.proofs.Common.{Some, None, refl, ap, ◌∙◌}
 use Rattle.std.proofs.lemmas.List.Folds.{find-append}
-use Rattle.std.proofs.lemmas.Bool.{cases_lt}
 use Rattle.base_fractions.specs.Operation.{Operation, is_wide, first_wide}
 use Rattle.lp_dictionary.specs.Listed.{joined}
-use Rattle.lp_dictionary.proofs.listed.Joins.{joined-suc, joined-zero}
+use Rattle.lp_dictionary.proofs.listed.Joins.{joined-zero, none_found_more, found_at}
 use Rattle.lp_simplex.specs.Operations.{Numbered, numbered, first_refused}
 
 -- where none of the operations of a pivot is wide, none of the numbered ones is
@@ -41,22 +40,12 @@ refused_sooner L os ps o e = find-append (λ o. is_wide L o.operation) os ps ∙
 -- one more pivot, of which no operation is wide
 pub run_fits_more : (L : ℤ) (k : ℕ) (f : ℕ → List Numbered) → first_refused L (joined k f) ≡ None → first_refused L (f k) ≡ None
     → first_refused L (joined (k + 1) f) ≡ None
-run_fits_more L k f h e = ap (first_refused L) (joined-suc k f) ∙ refused_later L (joined k f) (f k) h ∙ e
-
-run_wide_more : (L : ℤ) (k n : ℕ) (f : ℕ → List Numbered) (o : Numbered) → k ≤ n → first_refused L (joined k f) ≡ Some o
-    → first_refused L (joined n f) ≡ Some o
-run_wide_more L k zero f o l h = ap (λ x. first_refused L (joined x f)) (let e : 0 ≡ k = omega (arith, l) in e) ∙ h
-run_wide_more L k (suc n) f o l h = ⊎_elim
-    (λ b. ap (λ x. first_refused L (joined x f)) (sym (add-one n)) ∙ ap (first_refused L) (joined-suc n f)
-    ∙ refused_sooner L (joined n f) (f n) o (run_wide_more L k n f o (omega (arith, b)) h))
-    (λ b. ap (λ x. first_refused L (joined x f)) (let e : suc n ≡ k = omega (arith, b, l) in e) ∙ h)
-    (cases_lt k (suc n))
+run_fits_more L k f h e = none_found_more (first_refused L) (refused_sooner L) (refused_later L) k f h e
 
 -- a pivot with an operation that is wide
 pub run_wide_at : (L : ℤ) (k n : ℕ) (f : ℕ → List Numbered) (o : Numbered) → k < n → first_refused L (joined k f) ≡ None
     → first_refused L (f k) ≡ Some o → first_refused L (joined n f) ≡ Some o
-run_wide_at L k n f o l h w = run_wide_more L (k + 1) n f o (omega (arith, l))
-    (ap (first_refused L) (joined-suc k f) ∙ refused_later L (joined k f) (f k) h ∙ w)
+run_wide_at L k n f o l h w = found_at (first_refused L) (refused_sooner L) (refused_later L) k n f o l h w
 
 -- no pivots have no wide operation
 pub run_fits_none : (L : ℤ) (f : ℕ → List Numbered) → first_refused L (joined 0 f) ≡ None

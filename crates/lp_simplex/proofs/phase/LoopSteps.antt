@@ -1,6 +1,6 @@
 -- From one turn of a phase's loop to the next, and to its end.
 use Rattle.std.proofs.Common.{◌≡◌, ◌≢◌, ℕ, suc, ◌+◌, ◌<◌, ◌≤◌, ⊎_elim, Bool, true, false, cond, min, ℤ}
-use Rattle.std.proofs.Common.{Some, None, ap, sym, ◌∙◌, subst, arith, true≢false}
+use Rattle.std.proofs.Common.{Some, None, ap, sym, ◌∙◌, subst, subst₂, arith, true≢false}
 use Rattle.std.proofs.lemmas.Bool.{cases_lt, ne_eqb, lt-ltb, le-ltb}
 use Rattle.base_numbers.specs.Rational.{ℚ}
 use Rattle.lp_theory.specs.Problem as lp
@@ -17,13 +17,16 @@ use Rattle.lp_theory.proofs.search.Programs.{after-zero}
 use Rattle.lp_theory.proofs.run.Phases.{phase_good}
 use Rattle.lp_dictionary.specs.Build.{width_of}
 use Rattle.base_fractions.specs.Operation.{operation_of}
+use Rattle.lp_simplex.specs.declared.phase.End.{End}
 use Rattle.lp_simplex.specs.declared.phase.End.TheVariants.{AtBest, AtRay, Left}
+use Rattle.lp_simplex.specs.declared.step.Step.{Step}
+use Rattle.lp_simplex.specs.declared.step.Step.TheVariants.{Optimal, Ray, Pivot}
 use Rattle.lp_simplex.specs.declared.outcome.SolveFault.{SolveFault}
 use Rattle.lp_simplex.specs.declared.outcome.SolveFault.TheVariants.{Wide, NoMemory}
 use Rattle.lp_simplex.specs.Operations.{first_refused, step_operations, pivot_of_phase, phase_operations, whole_phase}
 use Rattle.lp_simplex.specs.Operations.{capped}
-use Rattle.lp_simplex.specs.Choices.{EntersAt, LeavesOf, PivotMade, StepRefused}
-use Rattle.lp_simplex.specs.Answers.{RefusesRun, BeginsPhase, EndsPhase}
+use Rattle.lp_simplex.specs.Choices.{EntersAt, LeavesOf, PivotMade, StepIs, StepRefused}
+use Rattle.lp_simplex.specs.Answers.{RefusesRun, BeginsPhase, EndOf, EndsPhase}
 use Rattle.lp_simplex.proofs.operations.Numbering.{numbered_none, numbered_some, run_fits_more, run_wide_at, run_fits_none}
 use Rattle.lp_simplex.proofs.operations.PhaseSteps.{enters_in, leaves_in, optimal_in, ray_in, pivot_in, dict_in, stays_in, goes_in}
 use Rattle.lp_simplex.proofs.operations.PhaseSteps.{wide_in, fits_in}
@@ -70,46 +73,42 @@ module _ (L : ℤ) (P : lp.Problem) (aux : Bool) (h : IsPhase (names P) (phase_o
   goal_at : (U : Table) → Agree T U → U.row_name U.rows ≡ (phase_of P aux).goal
   goal_at U a = ap U.row_name a.rows ∙ a.row_name T.rows (let g = s.goals in omega (arith, g)) ∙ s.goal
 
+  -- the table stands at the end where the phase has come there
+  ends_at : (U : Table) → Agree T U → s.j ≡ (phase_of P aux).last → (end : End) → EndOf (names P) (phase_of P aux) U end
+      → EndsPhase L P aux U end pivots
+  ends_at U a q end why = record {
+    table = table_at U a q;
+    count = s.count ∙ ap (λ k. capped ((phase_of P aux).made + k)) q;
+    fits = ap (λ k. first_refused L (phase_operations (names P) (phase_of P aux) k)) (sym q) ∙ s.fits;
+    rows = a.rows ∙ s.rows;
+    goals = let g = s.goals in let b = a.goals in omega (arith, g, b);
+    width = a.width ∙ s.width;
+    goal = goal_at U a;
+    why = why;
+  }
+
   -- no column enters
-  pub ends_best : (U : Table) → Agree T U → EntersAt T T.rows T.width None → EndsPhase L P aux U AtBest pivots
+  ends_best : (U : Table) → Agree T U → EntersAt T T.rows T.width None → EndsPhase L P aux U AtBest pivots
   ends_best U a e =
       let c = optimal_in (names P) (phase_of P aux) h s.j T s.table s.goal s.goals e in
       let q = last_at (ap is_stop c) in
-      record {
-        table = table_at U a q;
-        count = s.count ∙ ap (λ k. capped ((phase_of P aux).made + k)) q;
-        fits = ap (λ k. first_refused L (phase_operations (names P) (phase_of P aux) k)) (sym q) ∙ s.fits;
-        rows = a.rows ∙ s.rows;
-        goals = let g = s.goals in let b = a.goals in omega (arith, g, b);
-        width = a.width ∙ s.width;
-        goal = goal_at U a;
-        why = (
-          ap (λ k. choose (phase_of P aux).goal (names P) (phase_dict (names P) (phase_of P aux) k)) (sym q) ∙ c,
-          ap (λ k. (phase_dict (names P) (phase_of P aux) k).basic 0) (sym q) ∙ s.basic,
-        );
-      }
+      ends_at U a q AtBest (
+        ap (λ k. choose (phase_of P aux).goal (names P) (phase_dict (names P) (phase_of P aux) k)) (sym q) ∙ c,
+        ap (λ k. (phase_dict (names P) (phase_of P aux) k).basic 0) (sym q) ∙ s.basic,
+      )
 
   -- no row leaves
-  pub ends_ray : (U : Table) (c : ℕ) → Agree T U → EntersAt T T.rows T.width (Some c) → LeavesOf T c T.rows None
+  ends_ray : (U : Table) (c : ℕ) → Agree T U → EntersAt T T.rows T.width (Some c) → LeavesOf T c T.rows None
       → EndsPhase L P aux U (AtRay c) pivots
   ends_ray U c a e l =
       let r = ray_in (names P) (phase_of P aux) h s.j T s.table s.goal s.goals c e l in
       let q = last_at (ap is_stop r) in
-      record {
-        table = table_at U a q;
-        count = s.count ∙ ap (λ k. capped ((phase_of P aux).made + k)) q;
-        fits = ap (λ k. first_refused L (phase_operations (names P) (phase_of P aux) k)) (sym q) ∙ s.fits;
-        rows = a.rows ∙ s.rows;
-        goals = let g = s.goals in let b = a.goals in omega (arith, g, b);
-        width = a.width ∙ s.width;
-        goal = goal_at U a;
-        why = (
-          (let b = a.width in let w = e.0 in omega (arith, b, w)),
-          ap (λ k. choose (phase_of P aux).goal (names P) (phase_dict (names P) (phase_of P aux) k)) (sym q) ∙ r
-              ∙ ap ray (sym (a.col_name c e.0)),
-          ap (λ k. (phase_dict (names P) (phase_of P aux) k).basic 0) (sym q) ∙ s.basic,
-        );
-      }
+      ends_at U a q (AtRay c) (
+        (let b = a.width in let w = e.0 in omega (arith, b, w)),
+        ap (λ k. choose (phase_of P aux).goal (names P) (phase_dict (names P) (phase_of P aux) k)) (sym q) ∙ r
+            ∙ ap ray (sym (a.col_name c e.0)),
+        ap (λ k. (phase_dict (names P) (phase_of P aux) k).basic 0) (sym q) ∙ s.basic,
+      )
 
   -- a step is refused
   pub refuses : {F : Type 0} (m : F → ℚ) (number : ℕ) (e : SolveFault F) → number ≡ capped ((phase_of P aux).made + s.j + 1)
@@ -165,7 +164,7 @@ module _ (L : ℤ) (P : lp.Problem) (aux : Bool) (h : IsPhase (names P) (phase_o
         ∙ ap capped (let k : (phase_of P aux).made + s.j + 1 ≡ (phase_of P aux).made + (s.j + 1) = omega arith in k)
 
     -- the loop goes on
-    pub stands_next : (number : ℕ) → number ≡ min (pivots + 1) 4294967295 → name ≢ 0 → Stands L P aux U number
+    stands_next : (number : ℕ) → number ≡ min (pivots + 1) 4294967295 → name ≢ 0 → Stands L P aux U number
     stands_next number e z = record {
       j = s.j + 1;
       below = let l = made_below in omega (arith, l);
@@ -181,7 +180,7 @@ module _ (L : ℤ) (P : lp.Problem) (aux : Bool) (h : IsPhase (names P) (phase_o
     }
 
     -- with fewer pivots left
-    pub stands_less : pivots_left (names P) (phase_of P aux) U < pivots_left (names P) (phase_of P aux) T
+    stands_less : pivots_left (names P) (phase_of P aux) U < pivots_left (names P) (phase_of P aux) T
     stands_less = pivots_fall (names P) (phase_of P aux) h s.j T U made_below s.table made_table
 
     left_basic : name ≡ 0 → (phase_dict (names P) (phase_of P aux) (s.j + 1)).basic 0 ≡ false
@@ -199,7 +198,7 @@ module _ (L : ℤ) (P : lp.Problem) (aux : Bool) (h : IsPhase (names P) (phase_o
         (sym p.named ∙ z) (pivot_leaves (phase_dict (names P) (phase_of P aux) s.j) (T.row_name p.row) (T.col_name p.col) d)
 
     -- the auxiliary variable has left
-    pub ends_left : (number : ℕ) → number ≡ min (pivots + 1) 4294967295 → name ≡ 0 → EndsPhase L P aux U Left number
+    ends_left : (number : ℕ) → number ≡ min (pivots + 1) 4294967295 → name ≡ 0 → EndsPhase L P aux U Left number
     ends_left number e z =
         let f = left_basic z in
         let q : s.j + 1 ≡ (phase_of P aux).last = ⊎_elim (λ l. absurd (true≢false (sym (h.goes_on (s.j + 1) l).1 ∙ f)))
@@ -214,6 +213,33 @@ module _ (L : ℤ) (P : lp.Problem) (aux : Bool) (h : IsPhase (names P) (phase_o
           goal = made_goal;
           why = ap (λ k. (phase_dict (names P) (phase_of P aux) k).basic 0) (sym q) ∙ f;
         }
+
+  -- ---- a step that is made with as many rows and columns as the phase has
+  module _ (U : Table) {rows width : ℕ} (e : rows ≡ P.rows) (f : width ≡ width_of aux P.cols) {made : Step}
+      (m : StepIs L T U rows width made) where
+    here : (step : Step) → made ≡ step → StepIs L T U T.rows T.width step
+    here step is = subst (StepIs L T U T.rows T.width) is (subst₂ (λ x y. StepIs L T U x y made) (e ∙ sym s.rows) (f ∙ sym s.width) m)
+
+    -- no column enters
+    pub made_best : made ≡ Optimal → EndsPhase L P aux U AtBest pivots
+    made_best is = let b = here Optimal is in ends_best U b.0 b.1
+
+    -- no row leaves
+    pub made_ray : (c : ℕ) → made ≡ Ray c → EndsPhase L P aux U (AtRay c) pivots
+    made_ray c is = let b = here (Ray c) is in ends_ray U c b.0 b.1 b.2
+
+    module _ (name : ℕ) (is : made ≡ Pivot name) where
+      -- the loop goes on
+      pub made_next : (number : ℕ) → number ≡ min (pivots + 1) 4294967295 → name ≢ 0 → Stands L P aux U number
+      made_next number n z = stands_next U name (here (Pivot name) is) number n z
+
+      -- with fewer pivots left
+      pub made_less : pivots_left (names P) (phase_of P aux) U < pivots_left (names P) (phase_of P aux) T
+      made_less = stands_less U name (here (Pivot name) is)
+
+      -- the auxiliary variable has left
+      pub made_left : (number : ℕ) → number ≡ min (pivots + 1) 4294967295 → name ≡ 0 → EndsPhase L P aux U Left number
+      made_left number n z = ends_left U name (here (Pivot name) is) number n z
 
 -- where the loop begins
 pub stands_first : (L : ℤ) (P : lp.Problem) (aux : Bool) (made : ℕ) (T : Table) → BeginsPhase P aux made T → Stands L P aux T made

@@ -10,6 +10,15 @@ use Rattle.lp_theory.proofs.Pivots.{pivot-coef, pivot_enters, pivot_leaves, pivo
 use Rattle.lp_theory.proofs.dictionary.Tables.{table_row_new, table_row_old, table_col_new, table_col_old, basic_row, free_col, names_apart}
 use Rattle.lp_theory.proofs.dictionary.Tables.{shown_entry, shown_const}
 
+-- names that are apart stay apart where one of them is changed to a name that none had
+changed_apart : (n p : ℕ) (old new : ℕ → ℕ) → ((k : ℕ) → k ≢ p → new k ≡ old k) → ((k : ℕ) → k < n → old k ≢ new p)
+    → ((i j : ℕ) → i < n → j < n → old i ≡ old j → i ≡ j) → (i j : ℕ) → i < n → j < n → new i ≡ new j → i ≡ j
+changed_apart n p old new kept fresh apart i j a b e = ⊎_elim
+    (λ x. ⊎_elim (λ y. x ∙ sym y) (λ y. absurd (fresh j b (sym (kept j y) ∙ sym e ∙ ap new x))) (cases_eq j p))
+    (λ x. ⊎_elim (λ y. absurd (fresh i a (sym (kept i x) ∙ e ∙ ap new y))) (λ y. apart i j a b (sym (kept i x) ∙ e ∙ kept j y))
+    (cases_eq j p))
+    (cases_eq i p)
+
 module _ (n : ℕ) (T : Table) (D : Dict) (h : Shows n T D) (d : IsDict n D) (r c : ℕ) (l : r < T.rows) (m : c < T.width)
     (p : T.entry r c ≢ zero_ℚ) where
   abbrev B : ℕ
@@ -46,17 +55,8 @@ module _ (n : ℕ) (T : Table) (D : Dict) (h : Shows n T D) (d : IsDict n D) (r 
 
   rows_apart : (i j : ℕ) → i < T.rows + T.goals → j < T.rows + T.goals → (pivot_table T r c).row_name i ≡ (pivot_table T r c).row_name j
       → i ≡ j
-  rows_apart i j a b e = ⊎_elim
-      (λ x. ⊎_elim (λ y. x ∙ sym y)
-      (λ y. absurd (basic_not_free (h.row_basic j b) (sym (table_row_old T r c j y) ∙ sym e ∙ ap (pivot_table T r c).row_name x
-      ∙ table_row_new T r c)))
-      (cases_eq j r))
-      (λ x. ⊎_elim
-      (λ y. absurd (basic_not_free (h.row_basic i a) (sym (table_row_old T r c i x) ∙ e ∙ ap (pivot_table T r c).row_name y
-      ∙ table_row_new T r c)))
-      (λ y. h.rows_apart i j a b (sym (table_row_old T r c i x) ∙ e ∙ table_row_old T r c j y))
-      (cases_eq j r))
-      (cases_eq i r)
+  rows_apart = changed_apart (T.rows + T.goals) r T.row_name (pivot_table T r c).row_name (table_row_old T r c)
+      (λ k l q. basic_not_free (h.row_basic k l) (q ∙ table_row_new T r c)) h.rows_apart
 
   col_free : (k : ℕ) → k < T.width → (pivot D B N).basic ((pivot_table T r c).col_name k) ≡ false
   col_free k a = ⊎_elim
@@ -66,17 +66,8 @@ module _ (n : ℕ) (T : Table) (D : Dict) (h : Shows n T D) (d : IsDict n D) (r 
       (cases_eq k c)
 
   cols_apart : (j k : ℕ) → j < T.width → k < T.width → (pivot_table T r c).col_name j ≡ (pivot_table T r c).col_name k → j ≡ k
-  cols_apart i j a b e = ⊎_elim
-      (λ x. ⊎_elim (λ y. x ∙ sym y)
-      (λ y. absurd (free_not_basic (h.col_free j b) (sym (table_col_old T r c j y) ∙ sym e ∙ ap (pivot_table T r c).col_name x
-      ∙ table_col_new T r c)))
-      (cases_eq j c))
-      (λ x. ⊎_elim
-      (λ y. absurd (free_not_basic (h.col_free i a) (sym (table_col_old T r c i x) ∙ e ∙ ap (pivot_table T r c).col_name y
-      ∙ table_col_new T r c)))
-      (λ y. h.cols_apart i j a b (sym (table_col_old T r c i x) ∙ e ∙ table_col_old T r c j y))
-      (cases_eq j c))
-      (cases_eq i c)
+  cols_apart = changed_apart T.width c T.col_name (pivot_table T r c).col_name (table_col_old T r c)
+      (λ k l q. free_not_basic (h.col_free k l) (q ∙ table_col_new T r c)) h.cols_apart
 
   all_cols : (q : ℕ) → q < n → (pivot D B N).basic q ≡ false → (k : ℕ) × (k < T.width) × ((pivot_table T r c).col_name k ≡ q)
   all_cols q a f = ⊎_elim

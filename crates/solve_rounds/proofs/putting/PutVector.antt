@@ -8,7 +8,7 @@ use Rattle.flow_systems.specs.View.{vector_of}
 use Rattle.theory_validity.specs.Steps.{Item, put, Unnamed, Distinct}
 use Rattle.theory_validity.proofs.steps.Puts.{named_or_not, not_unnamed, put-unnamed, put-named}
 use Rattle.solve_rounds.specs.Putting.{puts}
-use Rattle.solve_rounds.proofs.turning.Putting.{puts-at, puts-other}
+use Rattle.solve_rounds.proofs.putting.Puts.{puts-at, puts-other}
 use Rattle.solve_rounds.proofs.turning.TurnItems.{place_of, in_place}
 
 -- the numbers and values of items by their places

@@ -101,33 +101,17 @@ module _ (system : System) (pick : List (Option ℕ)) (raises : List CodeStep) (
   row_in k l = row_within (get_or list k 0) (length system.flow.points) rows (picked_in system pick list part.picked k l).in_range
 
   -- ---- a point
-  module _ (x : ℕ → ℚ) (v : ℚ) (y : ℕ → ℚ) (to : List ℚ) (highs : List Trace)
-      (read : IsReadFrom system pick bounds list (best x v y) (PointRead to highs)) where
-    sizes : (length to ≡ length list) × (length highs ≡ length list)
-    sizes = read_sizes system pick bounds list (best x v y) (PointRead to highs) read
-
-    to_are : to ≡ map (λ u. num (raised us x V u.point u.row)) us
-    to_are = read.0 ∙ numbers_are system pick bounds list _ x (omega arith) rising apart
-
-    -- the items are those of the theory's outcome
-    pub point_same : map (jump_item rows) (jump_items_at raises places list to highs)
-        ≡ point_items eqs.variables (raised (listed_items items) x V) items (joint_words eqs (listed_items items) x)
-    point_same =
-        jump_is rows eqs.variables (raised us x V) raises places list to highs part.raised
-        (subst (Rattle.solve_rounds.proofs.lows.JumpTurn.AllStart eqs.variables) (sym read.1)
-        (layout_starts system pick (entries_of system pick list x) list)) sizes.1
-        (to_are ∙ ap (map (λ u. num (raised us x V u.point u.row))) (sym same))
-        ∙ ap (point_items eqs.variables (raised us x V) items) (ap (map word_of) read.1 ∙ layout_words system pick x list)
-        ∙ ap (λ l. point_items eqs.variables (raised l x V) items (joint_words eqs l x)) (sym same)
-
+  module _ (to : List ℚ) (highs : List Trace) where
     abbrev pub jumps : List Item
     jumps = map (jump_item rows) (jump_items_at raises places list to highs)
 
-    length-jumps : length jumps ≡ length list
+    -- a point has an item for each unknown of the list
+    pub length-jumps : length jumps ≡ length list
     length-jumps = length-map (jump_items_at raises places list to highs) (jump_item rows)
         ∙ length-map-range_with_len (jump_item_at raises places list to highs) 0 (length list)
 
-    jump_at : (k : ℕ) → k < length list → get_or jumps k no_item ≡ jump_item rows (jump_item_at raises places list to highs k)
+    -- at each place
+    pub jump_at : (k : ℕ) → k < length list → get_or jumps k no_item ≡ jump_item rows (jump_item_at raises places list to highs k)
     jump_at k l =
         let n = length-map-range_with_len (jump_item_at raises places list to highs) 0 (length list) in
         get_or-map (jump_item rows) (jump_items_at raises places list to highs) k (jump_item_at raises places list to highs k) no_item
@@ -154,27 +138,26 @@ module _ (system : System) (pick : List (Option ℕ)) (raises : List CodeStep) (
     point_agrees distinct p r l = put_agrees rows no_item jumps (new_value JumpKind) list (λ k. fin (get_or to k zero_ℚ)) jump_numbers
         distinct bounds in_range p r l
 
+    -- a point that is read from the joint problem's outcome
+    module _ (x : ℕ → ℚ) (v : ℚ) (y : ℕ → ℚ) (read : IsReadFrom system pick bounds list (best x v y) (PointRead to highs)) where
+      sizes : (length to ≡ length list) × (length highs ≡ length list)
+      sizes = read_sizes system pick bounds list (best x v y) (PointRead to highs) read
+
+      to_are : to ≡ map (λ u. num (raised us x V u.point u.row)) us
+      to_are = read.0 ∙ numbers_are system pick bounds list _ x (omega arith) rising apart
+
+      -- the items are those of the theory's outcome
+      pub point_same : jumps ≡ point_items eqs.variables (raised (listed_items items) x V) items (joint_words eqs (listed_items items) x)
+      point_same =
+          jump_is rows eqs.variables (raised us x V) raises places list to highs part.raised
+          (subst (Rattle.solve_rounds.proofs.lows.JumpTurn.AllStart eqs.variables) (sym read.1)
+          (layout_starts system pick (entries_of system pick list x) list)) sizes.1
+          (to_are ∙ ap (map (λ u. num (raised us x V u.point u.row))) (sym same))
+          ∙ ap (point_items eqs.variables (raised us x V) items) (ap (map word_of) read.1 ∙ layout_words system pick x list)
+          ∙ ap (λ l. point_items eqs.variables (raised l x V) items (joint_words eqs l x)) (sym same)
+
   -- ---- a ray
-  module _ (x d : ℕ → ℚ) (rates : List RateOf) (read : rates ≡ named_rates (entries_of system pick list d) (layout_of system pick list))
-      (within : (rate : RateOf) → In rates rate → In list rate.unknown) where
-    abbrev ray : List ℚ
-    ray = entries_of system pick list d
-
-    laid : map (λ (rise : Rise). rise.unknown) (layout_of system pick list) ≡ list
-    laid = layout_unknowns system pick list
-
-    -- the items are those of the theory's outcome
-    pub ray_same : map (ray_item rows) (map (ray_item_of raises places) rates)
-        ≡ rate_items eqs.variables (rise_at (listed_items items) d) items (joint_words eqs (listed_items items) d)
-    ray_same =
-        ap (λ rs. map (ray_item rows) (map (ray_item_of raises places) rs)) read
-        ∙ rate_is rows eqs.variables (rise_at us d) ray raises places (layout_of system pick list)
-        (subst (AreRaised raises places) (sym laid) part.raised) (layout_starts system pick ray list)
-        (ap (λ l. map (λ v. rise_at us d v.point v.row) (listed_items (items_at rows raises places l))) laid
-        ∙ ap (map (λ v. rise_at us d v.point v.row)) same ∙ layout_rises system pick d list apart)
-        ∙ ap₂ (λ l w. rate_items eqs.variables (rise_at us d) (items_at rows raises places l) w) laid (layout_words system pick d list)
-        ∙ ap (λ l. rate_items eqs.variables (rise_at l d) items (joint_words eqs l d)) (sym same)
-
+  module _ (rates : List RateOf) (within : (rate : RateOf) → In rates rate → In list rate.unknown) where
     abbrev named : List ℕ
     named = map (λ (rate : RateOf). rate.unknown) rates
 
@@ -216,3 +199,24 @@ module _ (system : System) (pick : List (Option ℕ)) (raises : List CodeStep) (
         put_agrees rows no_item tops (new_value RayKind) named (λ k. pos_inf) top_numbers distinct bounds
         (each_unknown (λ u. u < length bounds) (λ (rate : RateOf). rate.unknown) rates no_rate list in_range within) p r l
         ∙ ap (λ n. vector_of rows (puts (λ k. pos_inf) named bounds n) p r) (length-map rates (λ (rate : RateOf). rate.unknown))
+
+  -- a ray that is read from the joint problem's outcome
+  module _ (x d : ℕ → ℚ) (rates : List RateOf) (read : rates ≡ named_rates (entries_of system pick list d) (layout_of system pick list))
+    where
+      abbrev ray : List ℚ
+      ray = entries_of system pick list d
+
+      laid : map (λ (rise : Rise). rise.unknown) (layout_of system pick list) ≡ list
+      laid = layout_unknowns system pick list
+
+      -- the items are those of the theory's outcome
+      pub ray_same : map (ray_item rows) (map (ray_item_of raises places) rates)
+          ≡ rate_items eqs.variables (rise_at (listed_items items) d) items (joint_words eqs (listed_items items) d)
+      ray_same =
+          ap (λ rs. map (ray_item rows) (map (ray_item_of raises places) rs)) read
+          ∙ rate_is rows eqs.variables (rise_at us d) ray raises places (layout_of system pick list)
+          (subst (AreRaised raises places) (sym laid) part.raised) (layout_starts system pick ray list)
+          (ap (λ l. map (λ v. rise_at us d v.point v.row) (listed_items (items_at rows raises places l))) laid
+          ∙ ap (map (λ v. rise_at us d v.point v.row)) same ∙ layout_rises system pick d list apart)
+          ∙ ap₂ (λ l w. rate_items eqs.variables (rise_at us d) (items_at rows raises places l) w) laid (layout_words system pick d list)
+          ∙ ap (λ l. rate_items eqs.variables (rise_at l d) items (joint_words eqs l d)) (sym same)

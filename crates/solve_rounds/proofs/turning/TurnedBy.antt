@@ -1,4 +1,5 @@
--- What one turn of the code makes of the bounds, the steps and the list is what an outcome with its facts makes of them.
+-- What one turn of the code makes of the bounds, the steps and the list is what an outcome with its facts makes of them, whichever
+-- that is.
 use Rattle.std.proofs.Common.{◌≡◌, ◌∙◌, ℕ, ◌+◌, ◌*◌, ◌/◌, ◌%◌, ◌<◌, Bool, true, false, List, [], ◌∷◌, ◌++◌, length, get_or, map, sym, ap}
 use Rattle.std.proofs.Common.{ap₂, subst, subst₂, arith, length-append}
 use Rattle.std.specs.Prelude.{Option, Some, None}
@@ -12,40 +13,32 @@ use Rattle.flow_systems.specs.Equations.{Equations, Vector}
 use Rattle.flow_systems.specs.View.{equations_of, vector_of}
 use Rattle.flow_systems.specs.declared.system.System.{System}
 use Rattle.flow_systems.specs.declared.trace.Trace.{Trace}
-use Rattle.theory_validity.specs.Steps.{Item, Jump as JumpKind, Ray as RayKind, put, new_value, after_step, Unnamed, Distinct}
+use Rattle.theory_validity.specs.Steps.{Item, Ray as RayKind, put, new_value, after_step, Unnamed, Distinct}
 use Rattle.theory_validity.proofs.steps.Puts.{put-named, put-unnamed}
 use Rattle.cert_types.specs.declared.step.Step.{Step as CodeStep}
 use Rattle.cert_types.specs.declared.step.Step.TheVariants.{Jump as JumpStep, Ray as RayStep}
 use Rattle.cert_types.specs.Certificates.{step_of, ray_item}
 use Rattle.solve_ray.specs.declared.rate.RateOf.{RateOf}
 use Rattle.solve_ray.specs.declared.rate.Rates.{Rates}
-use Rattle.lp_theory.specs.Problem.{Outcome as Solution, best, unbounded, empty}
-use Rattle.lp_theory.specs.Simplex.{lp}
-use Rattle.theory_transformers.specs.JointProblems.{rise_at, raised, joint_problem, joint_words}
-use Rattle.theory_strategy.specs.Picks.{IsPick}
-use Rattle.theory_strategy.specs.Round.{Outcome, Point, Rays, ListCondition, PointFacts, RayFacts, OutcomeFacts, without}
+use Rattle.theory_strategy.specs.Round.{ListCondition, without}
 use Rattle.theory_strategy.specs.Turns.{step_by, left_by}
 use Rattle.theory_strategy.proofs.round.TurnLaw.{fewer_without}
-use Rattle.solve_joint.specs.Joints.{IsReadFrom}
-use Rattle.solve_joint.specs.Problems.{problem_of}
 use Rattle.solve_joint.specs.declared.joined.Joined.{Joined}
 use Rattle.solve_joint.specs.declared.joined.Joined.TheVariants.{Point as PointRead, Ray as RayRead}
-use Rattle.theory_rounds.specs.JointItems.{listed_items, point_items, rate_items, outcome_items, exact_joint}
-use Rattle.theory_rounds.proofs.joint_items.Joined.{exact_joined}
 use Rattle.solve_rounds.specs.declared.turning.Turning.{Turning}
 use Rattle.solve_offers.specs.AtBounds.{vector_at, transformers}
 use Rattle.solve_offers.specs.Improvement.{pick_of}
 use Rattle.solve_rounds.specs.Growing.{Agrees}
 use Rattle.solve_rounds.specs.Lows.{edge_in, raise_at, item_in, IsRaised, items_at}
-use Rattle.solve_rounds.specs.Turning.{is_finite, jump_items_at, ray_item_of, turns_so_far, IsPart, IsTurned, IsTaken}
-use Rattle.solve_rounds.proofs.turning.Putting.{length-puts}
+use Rattle.solve_rounds.specs.Turning.{is_finite, jump_items_at, ray_item_of, turns_so_far, HasSizes, IsPart, IsTurned, IsTaken}
+use Rattle.solve_rounds.proofs.putting.Puts.{length-puts}
 use Rattle.solve_rounds.proofs.turning.TurnItems.{in_place}
 use Rattle.solve_rounds.proofs.lows.ListedLows.{raised_item}
 use Rattle.solve_rounds.proofs.lows.LeftOver.{kept_each, kept_rises, kept_picked, left_is}
-use Rattle.solve_rounds.proofs.turning.LayoutReads.{read_sizes}
-use Rattle.solve_rounds.proofs.turning.Turned.{same, row_in, point_same, point_agrees, ray_same, ray_agrees}
+use Rattle.solve_rounds.proofs.turning.Turned.{row_in, point_agrees, ray_agrees}
+use Rattle.solve_rounds.proofs.turning.OutcomeFacts.{outcome_of, HasFacts}
 
-module _ (system : System) (pick : List (Option ℕ)) (is_pick : IsPick (equations_of system) (pick_of (length system.template) pick))
+module _ (system : System) (pick : List (Option ℕ))
     (raises : List CodeStep) (places list : List ℕ) (part : IsPart system pick raises places list)
     (some : 0 < length list) (old new : Turning) (left : List ℕ) (size :
     length old.bounds ≡ length system.flow.points * length system.template)
@@ -115,59 +108,37 @@ module _ (system : System) (pick : List (Option ℕ)) (is_pick : IsPick (equatio
       (in_place list 0 k l)) in
       ap is_finite (sym (new_at its agrees k l) ∙ put-unnamed (new_value RayKind) its V (item_at k).point (item_at k).row n ∙ c.1)
 
-  -- what is known of a turn by an outcome
-  record TurnedAs (o : Outcome) : Type 0 where
-    -- the bounds keep their number
-    pub size_kept : length new.bounds ≡ length old.bounds
-    -- the turn makes the outcome's step
-    pub step_more : turns_so_far system new ≡ turns_so_far system old ++ step_by o ∷ []
-    -- what the outcome leaves is left
-    pub leaves : items_at (length system.template) raises places left
-        ≡ left_by o (items_at (length system.template) raises places list)
-    -- the bounds are those after the step
-    pub led : Agrees system (after_step (step_by o) (vector_at system old.bounds)) new.bounds
-    -- the unknowns left are a part
-    pub kept : IsPart system pick raises places left
-    -- fewer unknowns are left than before
-    pub fewer : length left < length list
-    -- the turn makes one step
-    pub one : length new.steps.items ≡ length old.steps.items + 1
-
-  by_point : (x : ℕ → ℚ) (v : ℚ) (y : ℕ → ℚ) (to : _) (highs : List Trace)
-      → PointFacts eqs (transformers system) V items (point_items eqs.variables (raised (listed_items items) x V) items
-      (joint_words eqs (listed_items items) x)) →
-      IsReadFrom system pick old.bounds list (best x v y) (PointRead to highs)
-      → IsTaken raises places list (PointRead to highs) old new left →
-      TurnedAs (Point (point_items eqs.variables (raised (listed_items items) x V) items (joint_words eqs (listed_items items) x)))
+  -- a point with its facts makes the jump of its items, and nothing is left
+  by_point : (to : List ℚ) (highs : List Trace) → HasFacts system raises places list old.bounds (PointRead to highs)
+      → IsTaken raises places list (PointRead to highs) old new left → IsTurned system pick raises places list old new left
   unfolding step_by left_by
-  by_point x v y to highs facts read t =
-      let e = point_same system pick raises places list part old.bounds size condition x v y to highs read in
+  by_point to highs facts t =
       let step = one_more (JumpStep (jump_items_at raises places list to highs)) t.0 in
-      let agrees = point_agrees system pick raises places list part old.bounds size condition x v y to highs read
-      (subst Distinct (sym e) facts.distinct) in
+      let agrees = point_agrees system pick raises places list part old.bounds size condition to highs facts.distinct in
       record {
-        size_kept = ap length t.1 ∙ length-puts (λ k. fin (get_or to k zero_ℚ)) list old.bounds (length list);
-        step_more = step.0 ∙ ap (λ i. turns_so_far system old ++ record { kind = JumpKind; items = i } ∷ []) e;
-        leaves = ap (items_at rows raises places) t.2;
-        led = subst (λ i. Agrees system (after_step (record { kind = JumpKind; items = i }) V) new.bounds) e
-            (λ p r l. agrees p r l ∙ ap (λ bs. vector_of rows bs p r) (sym t.1));
-        kept = subst (IsPart system pick raises places) (sym t.2) none_left;
+        size = ap length t.1 ∙ length-puts (λ k. fin (get_or to k zero_ℚ)) list old.bounds (length list);
+        outcome = outcome_of rows raises places list (PointRead to highs);
+        facts = facts;
+        steps = step.0;
+        left_is = ap (items_at rows raises places) t.2;
+        agrees = λ p r l. agrees p r l ∙ ap (λ bs. vector_of rows bs p r) (sym t.1);
+        part = subst (IsPart system pick raises places) (sym t.2) none_left;
         fewer = subst (λ l. length l < length list) (sym t.2) some;
         one = step.1;
       }
 
-  by_ray : (x d : ℕ → ℚ) (rates : Rates) → RayFacts eqs V items (rate_items eqs.variables (rise_at (listed_items items) d) items
-      (joint_words eqs (listed_items items) d)) →
-      IsReadFrom system pick old.bounds list (unbounded x d) (RayRead rates) → IsTaken raises places list (RayRead rates) old new left →
-      TurnedAs (Rays (rate_items eqs.variables (rise_at (listed_items items) d) items (joint_words eqs (listed_items items) d)))
+  -- a ray with its facts makes the ray of its items, and leaves the others
+  by_ray : (rates : Rates) → HasSizes list (RayRead rates) → HasFacts system raises places list old.bounds (RayRead rates)
+      → IsTaken raises places list (RayRead rates) old new left → IsTurned system pick raises places list old new left
   unfolding step_by left_by
-  by_ray x d rates facts read t = record {
-    size_kept = ap length t.1 ∙ length-puts (λ k. pos_inf) (map (λ (rate : RateOf). rate.unknown) rates.list) old.bounds
-        (length rates.list);
-    step_more = step.0 ∙ ap (λ i. turns_so_far system old ++ record { kind = RayKind; items = i } ∷ []) e;
-    leaves = left_items;
-    led = agrees;
-    kept = subst (IsPart system pick raises places) (sym t.2) (record {
+  by_ray rates within facts t = record {
+    size = ap length t.1 ∙ length-puts (λ k. pos_inf) (map (λ (rate : RateOf). rate.unknown) rates.list) old.bounds (length rates.list);
+    outcome = outcome_of rows raises places list (RayRead rates);
+    facts = facts;
+    steps = step.0;
+    left_is = left_items;
+    agrees = agrees;
+    part = subst (IsPart system pick raises places) (sym t.2) (record {
       rises = kept_rises test 0 list part.rises;
       picked = kept_picked system pick test list part.picked;
       raised = kept_each (λ u. IsRaised raises places u) test list part.raised;
@@ -184,24 +155,16 @@ module _ (system : System) (pick : List (Option ℕ)) (is_pick : IsPick (equatio
   }
     where
       its : List Item
-      its = rate_items eqs.variables (rise_at (listed_items items) d) items (joint_words eqs (listed_items items) d)
-
-      within : (rate : RateOf) → In rates.list rate → In list rate.unknown
-      within = read_sizes system pick old.bounds list (unbounded x d) (RayRead rates) read
-
-      e : map (ray_item rows) (map (ray_item_of raises places) rates.list) ≡ its
-      e = ray_same system pick raises places list part old.bounds size condition x d rates.list read within
+      its = map (ray_item rows) (map (ray_item_of raises places) rates.list)
 
       step : (turns_so_far system new ≡ turns_so_far system old ++ step_of rows (RayStep (map (ray_item_of raises places) rates.list)) ∷ [])
           × (length new.steps.items ≡ length old.steps.items + 1)
       step = one_more (RayStep (map (ray_item_of raises places) rates.list)) t.0
 
       agrees : Agrees system (after_step (record { kind = RayKind; items = its }) V) new.bounds
-      agrees =
-          let a = ray_agrees system pick raises places list part old.bounds size condition x d rates.list read within
-          (subst Distinct (sym e) facts.distinct) in
-          subst (λ i. Agrees system (after_step (record { kind = RayKind; items = i }) V) new.bounds) e
-          (λ p r l. a p r l ∙ ap (λ bs. vector_of rows bs p r) (sym t.1))
+      agrees p r l =
+          ray_agrees system pick raises places list part old.bounds size condition rates.list within facts.distinct p r l
+          ∙ ap (λ bs. vector_of rows bs p r) (sym t.1)
 
       test : ℕ → Bool
       test u = is_finite (get_or new.bounds u neg_inf)
@@ -212,34 +175,8 @@ module _ (system : System) (pick : List (Option ℕ)) (is_pick : IsPick (equatio
           ∙ left_is rows raises places its test list (λ k l. named_fails its agrees facts.distinct k l)
           (λ k l. unnamed_passes its agrees k l)
 
-  by_outcome : (o : Solution) → OutcomeFacts eqs (transformers system) V items (outcome_items eqs V items o) → (j : Joined)
-      → IsReadFrom system pick old.bounds list o j → IsTaken raises places list j old new left →
-      TurnedAs (outcome_items eqs V items o)
-  unfolding outcome_items
-  by_outcome (best x v y) facts (PointRead to highs) read t = by_point x v y to highs facts read t
-  by_outcome (best x v y) facts (RayRead rates) read t = absurd read
-  by_outcome (unbounded x d) facts (PointRead to highs) read t = absurd read
-  by_outcome (unbounded x d) facts (RayRead rates) read t = by_ray x d rates facts read t
-  by_outcome (empty y) facts j read t = absurd read
-
-  -- the turn of a list is one by the outcome of the exact joint problem, which has its facts
-  pub turned_is : (j : Joined) → IsReadFrom system pick old.bounds list (lp (problem_of system pick old.bounds list)) j
+  -- an outcome that has its facts and is taken makes a turn
+  pub turned_by : (j : Joined) → HasSizes list j → HasFacts system raises places list old.bounds j
       → IsTaken raises places list j old new left → IsTurned system pick raises places list old new left
-  unfolding exact_joint
-  turned_is j read t =
-      let us = same system pick raises places list part old.bounds size condition in
-      let as_theirs : IsReadFrom system pick old.bounds list (lp (joint_problem eqs V (listed_items items))) j =
-      subst (λ l. IsReadFrom system pick old.bounds list (lp (joint_problem eqs V l)) j) (sym us) read in
-      let facts = exact_joined eqs (pick_of rows pick) is_pick V items condition in
-      let h = by_outcome (lp (joint_problem eqs V (listed_items items))) facts j as_theirs t in
-      record {
-        size = h.size_kept;
-        outcome = outcome_items eqs V items (lp (joint_problem eqs V (listed_items items)));
-        facts = facts;
-        steps = h.step_more;
-        left_is = h.leaves;
-        agrees = h.led;
-        part = h.kept;
-        fewer = h.fewer;
-        one = h.one;
-      }
+  turned_by (PointRead to highs) sizes facts t = by_point to highs facts t
+  turned_by (RayRead rates) sizes facts t = by_ray rates sizes facts t

@@ -7,7 +7,9 @@ ghost use Rattle.flow_systems.specs.View.{equations_of};
 use crate::cases::{Case, Fail, first_wrong};
 use crate::rounds::lines::{add_bounds, add_number};
 use crate::rounds::offers::last;
-use crate::rounds::systems::{CASES, COUNTER, Domain, ENDLESS, IDLE, TOGETHER, system_of};
+use crate::rounds::systems::{
+    CASES, COUNTER, Domain, ENDLESS, IDLE, INNER_LOOPS, TOGETHER, system_of,
+};
 use base_watch::{Unwatched, Watch};
 use flow_systems::System;
 use solve_offers::{Chooser, picks};
@@ -110,6 +112,8 @@ impl Case for Rounds<'_> {
 // parts, the second raises one. There are two edges into the loop and one into the exit, each with two rows. After two rounds the
 // exit isn't reached yet. The loop without a guard needs two: its second round raises three unknowns, and rays set the two upper ones
 // to +inf. Only the lower bounds need evidence then.
+// Three counters through three loops need five rounds: one for each loop at its first values, then the three upper bounds of all three
+// loops together, in nine raises and one jump, and the exit. All bounds but the entry's need evidence, from nine edges with six rows.
 const COUNTERS: &[Rounds] = &[
     Rounds {
         text: COUNTER,
@@ -165,6 +169,15 @@ const COUNTERS: &[Rounds] = &[
         by: By::Best,
         limit: 3,
         start: b"+inf +inf +inf +inf +inf +inf 10 0 10 0 0 0 10 -10 10 -10 0 0 improvements 3 steps 27 uppers 18",
+        is_whole: true,
+    },
+    Rounds {
+        text: INNER_LOOPS,
+        domain: Domain::Intervals,
+        by: By::Best,
+        limit: 9,
+        start: b"+inf +inf +inf +inf +inf +inf 10 0 20 0 30 0 10 -1 20 -1 30 -1 10 -1 20 -1 30 -1 10 0 20 0 30 0 \
+              improvements 5 steps 58 uppers 54",
         is_whole: true,
     },
 ];

@@ -28,6 +28,12 @@ pub(crate) const ENDLESS: &[u8] = b"int main() { int x = 0; while (nondet()) { x
 pub(crate) const TOGETHER: &[u8] =
     b"int main() { int x = 0, y = 0; while (x < 10) { x = x + 1; y = y + 1; } }";
 
+/// Three counters through three loops, of which the two inner ones do nothing: points entry, loop, first and second inner loop, and
+/// exit; edge 0 to the loop, edge 1 through its body to the first inner loop, edges 2, 3 and 4 to the exit by the cases of the
+/// condition, edge 5 around the first inner loop, edge 6 to the second, edge 7 around it, and edge 8 back.
+pub(crate) const INNER_LOOPS: &[u8] = b"int main() { int x = 0, y = 0, z = 0; \
+      while (x < 10 && y < 20 && z < 30) { x = x + 1; y = y + 1; z = z + 1; while (nondet()) { } while (nondet()) { } } }";
+
 /// A loop that does nothing, with any value; edges as those of the counter.
 pub(crate) const IDLE: &[u8] = b"int main() { int x; while (nondet()) { } }";
 

@@ -3,7 +3,7 @@
 use crate::cases::{Case, Fail, first_wrong};
 use crate::rounds::lines::add_number;
 use crate::rounds::solved::{By, solve};
-use crate::rounds::systems::{COUNTER, Domain, ENDLESS, TOGETHER, system_of};
+use crate::rounds::systems::{COUNTER, Domain, ENDLESS, INNER_LOOPS, TOGETHER, system_of};
 use base_watch::Watch;
 use std::alloc::Global;
 
@@ -77,7 +77,8 @@ impl Case for Watched<'_> {
 // The counter's first round finds the two bounds of the loop, each a part of its own; the second raises one of them; the third finds
 // the two of the exit, when those of the loop have been raised. Of a round that isn't made nothing is told. The loop without a guard
 // has three parts in its second round: the loop's bound, and the two of the exit. Two counters over zones find six bounds of the loop,
-// and raise two of them together.
+// and raise two of them together. Three counters through three loops find six bounds of each loop in its own round, and then raise
+// the three upper ones of each loop together: one turn of nine unknowns.
 const ROUNDS: &[Watched] = &[
     Watched {
         text: COUNTER,
@@ -113,6 +114,15 @@ const ROUNDS: &[Watched] = &[
         by: By::First,
         limit: 2,
         line: b"; round 1 raised 0 turn 0 turn 1 turn 2 turn 3 turn 4 turn 5; round 2 raised 6 turn 0",
+    },
+    Watched {
+        text: INNER_LOOPS,
+        domain: Domain::Intervals,
+        by: By::Best,
+        limit: 4,
+        line: b"; round 1 raised 0 turn 0 turn 1 turn 2 turn 3 turn 4 turn 5; \
+              round 2 raised 6 turn 0 turn 1 turn 2 turn 3 turn 4 turn 5; \
+              round 3 raised 12 turn 0 turn 1 turn 2 turn 3 turn 4 turn 5; round 4 raised 18 turn 0",
     },
 ];
 

@@ -1,5 +1,5 @@
 -- What the rows of one listed unknown say: its word runs at base plus rise, and reaches its own number.
-use Rattle.std.proofs.Common.{◌≡◌, ◌∙◌, ℕ, ◌≤◌, true, false, List, [], ◌∷◌, ◌++◌, length, refl, sym, ap, subst}
+use Rattle.std.proofs.Common.{◌≡◌, ◌∙◌, ℕ, ◌≤◌, Bool, true, false, List, [], ◌∷◌, ◌++◌, length, refl, sym, ap, subst}
 use Rattle.std.specs.Prelude.{ℤ, slice_get, Some}
 use Rattle.std.proofs.lemmas.Option.{slice_get_within}
 use Rattle.theory_validity.proofs.certificates.StepNumbers.{num-fin}
@@ -120,6 +120,23 @@ source_above system b u rising r row e =
     over pos_inf h = tt
 
 -- ---- the rows of one unknown
+-- those of its source, those of its guards, and its own one
+block_parts : (rows : Bool) (system : Equations) (b : Vector) (all : List Listed) (offset : ℕ) (u : Listed) (x : ℕ → ℚ)
+    → AllUnder rows (block_limits system b all offset u) x → let e = picked system u in
+    AllUnder rows (source_limits (λ r v. on_rise (neg_ℚ one_ℚ) all e.from r ++ (zeros offset ++ split_list v)) system.variables (b e.from)
+    system.template) x
+    × AllUnder rows (guard_limits (λ v. zeros (length all) ++ (zeros offset ++ split_list v)) (guard_forms system.variables e.actions)) x
+    × AllUnder rows (own_limit system b all offset u ∷ []) x
+unfolding block_limits
+block_parts rows system b all offset u x h =
+    let e = picked system u in
+    let ls = source_limits (λ r v. on_rise (neg_ℚ one_ℚ) all e.from r ++ (zeros offset ++ split_list v)) system.variables (b e.from)
+    system.template in
+    let gs = guard_limits (λ v. zeros (length all) ++ (zeros offset ++ split_list v)) (guard_forms system.variables e.actions) in
+    let os = own_limit system b all offset u ∷ [] in
+    let behind : AllUnder rows (gs ++ os) x = under_second rows ls (gs ++ os) x h in
+    (under_first rows ls (gs ++ os) x h, under_first rows gs os x behind, under_second rows gs os x behind)
+
 -- where its rows are met, an unknown's word supports base plus rise
 pub block_out : (system : Equations) (b : Vector) (all : List Listed) (offset : ℕ) (u : Listed) (x : ℕ → ℚ) → Rising system b u →
     AllUnder true (block_limits system b all offset u) x → Supports system (raised all x b) u (word_at system all offset u x)
@@ -128,18 +145,14 @@ block_out system b all offset u x rising h =
     let n = system.variables in
     let e = picked system u in
     let w = word_at system all offset u x in
-    let ls = source_limits (λ r v. on_rise (neg_ℚ one_ℚ) all e.from r ++ (zeros offset ++ split_list v)) n (b e.from) system.template in
-    let gs = guard_limits (λ v. zeros (length all) ++ (zeros offset ++ split_list v)) (guard_forms n e.actions) in
-    let os = own_limit system b all offset u ∷ [] in
     let f = end_form n e.actions (own_row system u) in
-    let behind : AllUnder true (gs ++ os) x = under_second true ls (gs ++ os) x h in
-    let own = (under_second true gs os x behind).0 in
+    let parts = block_parts true system b all offset u x h in
     record {
       runs = record {
         passes = record {
           all = guards_out (λ v. zeros (length all) ++ (zeros offset ++ split_list v)) (width n e.actions) (guard_forms n e.actions) x w
               (guard_forms_width n e.actions)
-              (λ v l. guard_product system all offset u x v l) (under_first true gs os x behind);
+              (λ v l. guard_product system all offset u x v l) parts.1;
         };
         fits = λ r row g. at_most_raised (dotℚ row (start_of n w)) (b e.from r) (rise_at all x e.from r)
             (source_above system b u rising r row g)
@@ -147,14 +160,14 @@ block_out system b all offset u x rising h =
             (source_over (rise_at all x e.from r) (dot (start_form n row).coeffs w) c
             (subst (λ s. s ≤ℚ c) (source_product system all offset u x r row)
             (source_out true (λ r v. on_rise (neg_ℚ one_ℚ) all e.from r ++ (zeros offset ++ split_list v)) n (b e.from) system.template x
-            (under_first true ls (gs ++ os) x h) r row c g k))));
+            parts.0 r row c g k))));
       };
       reaches = subst (λ s. raise_by s (rise_at all x u.point u.row) ≤ᴱ fin (end_value system e (own_row system u) w)) (sym rising.finite)
           (subst (λ s. rising.bound +ℚ rise_at all x u.point u.row ≤ℚ s) (sym (own_end system u w))
           (own_over (rise_at all x u.point u.row) (dot f.coeffs w) f.constant rising.bound
           (subst (λ s. one_ℚ *ℚ rise_at all x u.point u.row +ℚ neg_ℚ one_ℚ *ℚ dot f.coeffs w ≤ℚ f.constant -ℚ s)
           (num-fin (b u.point u.row) rising.bound rising.finite)
-          (subst (λ s. s ≤ℚ f.constant -ℚ num (b u.point u.row)) (own_product system b all offset u x) own))));
+          (subst (λ s. s ≤ℚ f.constant -ℚ num (b u.point u.row)) (own_product system b all offset u x) parts.2.0))));
     }
 
 -- where an unknown's word supports base plus rise, its rows are met
@@ -197,21 +210,18 @@ block_falls system b all offset u d h =
     let n = system.variables in
     let e = picked system u in
     let w = word_at system all offset u d in
-    let ls = source_limits (λ r v. on_rise (neg_ℚ one_ℚ) all e.from r ++ (zeros offset ++ split_list v)) n (b e.from) system.template in
-    let gs = guard_limits (λ v. zeros (length all) ++ (zeros offset ++ split_list v)) (guard_forms n e.actions) in
-    let os = own_limit system b all offset u ∷ [] in
     let f = end_form n e.actions (own_row system u) in
-    let behind : AllUnder false (gs ++ os) d = under_second false ls (gs ++ os) d h in
-    let own = (under_second false gs os d behind).0 in
+    let parts = block_parts false system b all offset u d h in
     record {
       still = λ r row bound g k. rate_over (rise_at all d e.from r) (dot (start_form n row).coeffs w)
           (subst (λ s. s ≤ℚ zero_ℚ) (source_product system all offset u d r row)
           (source_out false (λ r v. on_rise (neg_ℚ one_ℚ) all e.from r ++ (zeros offset ++ split_list v)) n (b e.from) system.template d
-          (under_first false ls (gs ++ os) d h) r row bound g k));
+          parts.0 r row bound g k));
       falls = record {
         all = guards_fall (λ v. zeros (length all) ++ (zeros offset ++ split_list v)) (width n e.actions) (guard_forms n e.actions) d w
             (guard_forms_width n e.actions)
-            (λ v l. guard_product system all offset u d v l) (under_first false gs os d behind);
+            (λ v l. guard_product system all offset u d v l) parts.1;
       };
-      gains = gain_over (rise_at all d u.point u.row) (dot f.coeffs w) (subst (λ s. s ≤ℚ zero_ℚ) (own_product system b all offset u d) own);
+      gains = gain_over (rise_at all d u.point u.row) (dot f.coeffs w)
+          (subst (λ s. s ≤ℚ zero_ℚ) (own_product system b all offset u d) parts.2.0);
     }

@@ -1,61 +1,32 @@
 -- A valid certificate: x := 0; while x <= 9 { x := x + 1 }, with a plain step and a jump.
-use Rattle.std.proofs.Common.{◌≡◌, inl, inr, ℕ, zero, suc, ◌<◌, List, [], ◌∷◌, ℤ, pos, negsuc, get_or, refl, sym, subst, arith}
+use Rattle.std.proofs.Common.{◌≡◌, inl, inr, ℕ, zero, suc, ◌<◌, List, [], ◌∷◌, pos, negsuc, get_or, refl, subst, arith}
 use Rattle.base_facts.specs.Elements.{In}
-use Rattle.base_numbers.specs.Gcd.{gcd, gcd_within}
-use Rattle.base_numbers.specs.Vector.{dot, add_vec, scale_vec, vec_mat}
-use Rattle.base_numbers.specs.Rational.{ℚ, whole, zero_ℚ, one_ℚ, is_reduced, ratio, le_ℚ, lt_ℚ, neg_ℚ, ◌+ℚ◌, ◌-ℚ◌, ◌*ℚ◌, ◌≤ℚ◌, ◌<ℚ◌}
-use Rattle.base_numbers.specs.Extended.{fin, pos_inf, ◌≤ᴱ◌}
-use Rattle.std.specs.Prelude.{Some}
-use Rattle.theory_validity.specs.Words.{val, lin, shifted, column, columns, values, combined, composed, guards_from, ends_from, free_count}
-use Rattle.theory_validity.specs.Words.{width, guard_forms, start_form, end_form, start_of, end_of}
+use Rattle.base_numbers.specs.Vector.{vec_mat}
+use Rattle.base_numbers.specs.Rational.{ℚ, whole, zero_ℚ, ◌≤ℚ◌, ◌<ℚ◌}
+use Rattle.base_numbers.specs.Extended.{fin, pos_inf}
+use Rattle.theory_validity.specs.Words.{end_form, start_of}
 use Rattle.flow_edges.specs.declared.edge.Action.TheVariants.{Guard, Assign}
 use Rattle.flow_edges.specs.declared.edge.Edge.{Edge}
-use Rattle.flow_systems.specs.Equations.{Equations, Vector, Fits, Least}
-use Rattle.flow_systems.specs.States.{RationalState, dotℚ}
-use Rattle.theory_validity.specs.Steps.{Item, Runs, edge_of, row_of, names, put, new_value, after_step, end_value, Plain, Jump, Step}
-use Rattle.theory_validity.specs.Steps.{Placed, PlainItem, JumpItem, ValidStep, start_vector}
+use Rattle.flow_systems.specs.Equations.{Equations, Vector, Least}
+use Rattle.theory_validity.specs.Steps.{Item, put, new_value, after_step, Jump, Step}
+use Rattle.theory_validity.specs.Steps.{Placed, JumpItem, ValidStep, start_vector}
 use Rattle.theory_validity.specs.Certificates.{Bound, after_steps, Certificate, bounds_vector, needs, needs_at, into_needs, coefficients}
 use Rattle.theory_validity.specs.Certificates.{combination, row_side, guard_side, side, num, AllPass, NotFinite, Multipliers, BoundPasses}
 use Rattle.theory_validity.specs.Certificates.{PointsInRange}
 use Rattle.theory_validity.proofs.certificates.Needs.{in_of_contains}
+use Rattle.theory_validity.proofs.certificates.Entered.{only, enter, entered, first, computing, fits_both, first_valid}
 use Rattle.theory_validity.proofs.steps.CertificateLaw.{certificate_least}
 
+abbrev again : Edge
+again = record {
+  from = 1;
+  to = 1;
+  actions = Guard (record { coeffs = pos 1 ∷ []; constant = negsuc 8 })
+      ∷ Assign 0 (record { coeffs = pos 1 ∷ []; constant = pos 1 }) ∷ [];
+}
+
 abbrev system : Equations
-system = record {
-  variables = 1;
-  points = 2;
-  edges =
-      record { from = 0; to = 1; actions = Assign 0 (record { coeffs = pos 0 ∷ []; constant = pos 0 }) ∷ [] } ∷
-      record {
-        from = 1;
-        to = 1;
-        actions = Guard (record { coeffs = pos 1 ∷ []; constant = negsuc 8 })
-            ∷ Assign 0 (record { coeffs = pos 1 ∷ []; constant = pos 1 }) ∷ [];
-      } ∷ [];
-  template = (pos 1 ∷ []) ∷ (negsuc 0 ∷ []) ∷ [];
-}
-
-abbrev up : Item
-up = record {
-  point = 1;
-  row = 0;
-  edge = 0;
-  low = record { start = whole (pos 5) ∷ []; free = [] };
-  second =
-      record { start = []; free = [] };
-  number = whole (pos 0);
-}
-
-abbrev down : Item
-down = record {
-  point = 1;
-  row = 1;
-  edge = 0;
-  low = record { start = whole (pos 5) ∷ []; free = [] };
-  second =
-      record { start = []; free = [] };
-  number = whole (pos 0);
-}
+system = entered 2 (again ∷ [])
 
 abbrev loop : Item
 loop = record {
@@ -68,111 +39,41 @@ loop = record {
   number = whole (pos 10);
 }
 
-abbrev first : Step
-first = record { kind = Plain; items = up ∷ down ∷ [] }
-
 abbrev second_step : Step
 second_step = record { kind = Jump; items = loop ∷ [] }
 
--- numbers compute where all these are open
-unfoldable pub computing : whole (pos 1) ≤ℚ whole (pos 3)
-unfolding le_ℚ lt_ℚ whole is_reduced ratio gcd gcd_within zero_ℚ one_ℚ ◌+ℚ◌ ◌*ℚ◌ ◌-ℚ◌ neg_ℚ val lin shifted column columns values combined
-    composed guards_from ends_from free_count width guard_forms start_form end_form start_of end_of edge_of row_of names put new_value
-    after_step end_value start_vector dot add_vec scale_vec
-computing = record { le = tt }
-
--- a state fits where its two rows do
-fits_both : (v : Vector) (p : ℕ) (x : RationalState) → fin (dotℚ (pos 1 ∷ []) x) ≤ᴱ v p 0 → fin (dotℚ (negsuc 0 ∷ []) x) ≤ᴱ v p 1
-    → Fits system v p x
-fits_both v p x a b zero row e = subst (λ s. fin (dotℚ s x) ≤ᴱ v p 0) (same (pos 1 ∷ []) row e) a
-  where
-    same : (s t : List ℤ) → Some s ≡ Some t → s ≡ t
-    same s t e = cc
-fits_both v p x a b (suc zero) row e = subst (λ s. fin (dotℚ s x) ≤ᴱ v p 1) (same (negsuc 0 ∷ []) row e) b
-  where
-    same : (s t : List ℤ) → Some s ≡ Some t → s ≡ t
-    same s t e = cc
-fits_both v p x a b (suc (suc r)) row e = cc
-
-low_runs : (item : Item) → edge_of system item ≡ edge_of system up → Runs system start_vector (edge_of system item) (whole (pos 5) ∷ [])
-unfolding computing
-low_runs item e = subst (λ k. Runs system start_vector k (whole (pos 5) ∷ [])) (sym e)
-    (record { passes = record { all = tt }; fits = fits_both start_vector 0 (start_of 1 (whole (pos 5) ∷ [])) tt tt })
-
-first_valid : ValidStep system start_vector first
-unfolding computing
-first_valid = record { distinct = ((refl, tt), (tt, tt)); placed = placed; valid = valid }
-  where
-    placed : (item : Item) → In (up ∷ (down ∷ [])) item → Placed system item
-    placed item (inl e) = subst (Placed system) e (record {
-      later = omega arith;
-      point_within = omega arith;
-      row_within =
-          omega arith;
-      edge_within = omega arith;
-      into = refl;
-    })
-    placed item (inr (inl e)) = subst (Placed system) e (record {
-      later = omega arith;
-      point_within = omega arith;
-      row_within =
-          omega arith;
-      edge_within = omega arith;
-      into = refl;
-    })
-    placed item (inr (inr m)) = absurd m
-
-    valid : (item : Item) → In (up ∷ (down ∷ [])) item → PlainItem system start_vector item
-    valid item (inl e) = subst (PlainItem system start_vector) e (record {
-      size = (refl, refl);
-      runs = low_runs up refl;
-      above =
-          tt;
-      reached = record { le = tt };
-    })
-    valid item (inr (inl e)) = subst (PlainItem system start_vector) e
-        (record { size = (refl, refl); runs = low_runs down refl; above = tt; reached = record { le = tt } })
-    valid item (inr (inr m)) = absurd m
-
 second_valid : ValidStep system (after_step first start_vector) second_step
 unfolding computing
-second_valid = record { distinct = (tt, tt); placed = placed; valid = valid }
+second_valid = record {
+  distinct = (tt, tt);
+  placed = only (Placed system) loop
+      (record { later = omega arith; point_within = omega arith; row_within = omega arith; edge_within = omega arith; into = refl });
+  valid = only (JumpItem system (after_step first start_vector) (put (new_value Jump) (loop ∷ []) (after_step first start_vector))) loop
+      valid;
+}
   where
-    placed : (item : Item) → In (loop ∷ []) item → Placed system item
-    placed item (inl e) = subst (Placed system) e (record {
-      later = omega arith;
-      point_within = omega arith;
-      row_within =
-          omega arith;
-      edge_within = omega arith;
-      into = refl;
-    })
-    placed item (inr m) = absurd m
-
-    valid : (item : Item) → In (loop ∷ []) item → JumpItem system (after_step first start_vector)
-        (put (new_value Jump) (loop ∷ []) (after_step first start_vector)) item
-    valid item (inl e) = subst (JumpItem system (after_step first start_vector)
-        (put (new_value Jump) (loop ∷ []) (after_step first start_vector))) e (record {
-          low_size = (refl, refl);
-          high_size = (refl, refl);
-          bound = whole (pos 0);
-          finite = refl;
-          low_runs = record {
-            passes = record { all = (record { le = tt }, tt) };
-            fits =
-                fits_both (after_step first start_vector) 1 (start_of 1 (whole (pos 0) ∷ [])) (record { le = tt }) (record { le = tt });
-          };
-          low_above = record { lt = tt };
-          rises = record { le = tt };
-          high_runs = record {
-            passes = record { all = (record { le = tt }, tt) };
-            fits =
-                fits_both (put (new_value Jump) (loop ∷ []) (after_step first start_vector)) 1 (start_of 1 (whole (pos 9) ∷ []))
-                (record { le = tt }) (record { le = tt });
-          };
-          high_reaches = record { le = tt };
-        })
-    valid item (inr m) = absurd m
+    valid : JumpItem system (after_step first start_vector) (put (new_value Jump) (loop ∷ []) (after_step first start_vector)) loop
+    valid = record {
+      low_size = (refl, refl);
+      high_size = (refl, refl);
+      bound = whole (pos 0);
+      finite = refl;
+      low_runs = record {
+        passes = record { all = (record { le = tt }, tt) };
+        fits =
+            fits_both 2 (again ∷ []) (after_step first start_vector) 1 (start_of 1 (whole (pos 0) ∷ []))
+            (record { le = tt }) (record { le = tt });
+      };
+      low_above = record { lt = tt };
+      rises = record { le = tt };
+      high_runs = record {
+        passes = record { all = (record { le = tt }, tt) };
+        fits =
+            fits_both 2 (again ∷ []) (put (new_value Jump) (loop ∷ []) (after_step first start_vector)) 1 (start_of 1 (whole (pos 9) ∷ []))
+            (record { le = tt }) (record { le = tt });
+      };
+      high_reaches = record { le = tt };
+    }
 
 abbrev certificate : Certificate
 certificate = record {
@@ -207,17 +108,6 @@ two P a b zero l = a
 two P a b (suc zero) l = b
 two P a b (suc (suc k)) l = absurd (omega arith)
 
-abbrev enter : Edge
-enter = record { from = 0; to = 1; actions = Assign 0 (record { coeffs = pos 0 ∷ []; constant = pos 0 }) ∷ [] }
-
-abbrev again : Edge
-again = record {
-  from = 1;
-  to = 1;
-  actions = Guard (record { coeffs = pos 1 ∷ []; constant = negsuc 8 })
-      ∷ Assign 0 (record { coeffs = pos 1 ∷ []; constant = pos 1 }) ∷ [];
-}
-
 abbrev nought : List ℚ
 nought = whole (pos 0) ∷ whole (pos 0) ∷ []
 
@@ -236,6 +126,17 @@ enter_multipliers = record {
   zero_where = two (λ r. NotFinite (B 0 r) → get_or nought r zero_ℚ ≡ zero_ℚ) (λ n. refl) (λ n. refl);
 }
 
+-- multipliers of the loop's edge
+again_multipliers : (a b c : ℚ) → zero_ℚ ≤ℚ a → zero_ℚ ≤ℚ b → zero_ℚ ≤ℚ c → Multipliers system B again (a ∷ b ∷ []) (c ∷ [])
+unfolding opened
+again_multipliers a b c p q r = record {
+  row_count = refl;
+  guard_count = refl;
+  rows_nonneg = (p, (q, tt));
+  guards_nonneg = (r, tt);
+  zero_where = λ n l f. absurd (two (λ k. NotFinite (B 1 k) → ⊥) (λ v. v) (λ v. v) n l f);
+}
+
 upper_bounds : AllPass system B (needs system B) certificate.uppers
 unfolding opened
 upper_bounds =
@@ -248,15 +149,8 @@ upper_bounds =
       small = record { le = tt };
     } in
     let high_again : BoundPasses system B again (pos 1 ∷ []) (fin (whole (pos 10))) nought (whole (pos 1) ∷ []) = record {
-      multipliers = record {
-        row_count = refl;
-        guard_count = refl;
-        rows_nonneg =
-            (record { le = tt }, (record { le = tt }, tt));
-        guards_nonneg = (record { le = tt }, tt);
-        zero_where =
-            λ r l n. absurd (finite r l n);
-      };
+      multipliers = again_multipliers (whole (pos 0)) (whole (pos 0)) (whole (pos 1)) (record { le = tt }) (record { le = tt })
+          (record { le = tt });
       limit = whole (pos 10);
       finite = refl;
       same = one (λ k. get_or (combination system again nought (whole (pos 1) ∷ [])) k zero_ℚ
@@ -273,15 +167,8 @@ upper_bounds =
     } in
     let low_again : BoundPasses system B again (negsuc 0 ∷ []) (fin (whole (pos 0))) (whole (pos 0) ∷ whole (pos 1) ∷ [])
     (whole (pos 0) ∷ []) = record {
-      multipliers = record {
-        row_count = refl;
-        guard_count = refl;
-        rows_nonneg =
-            (record { le = tt }, (record { le = tt }, tt));
-        guards_nonneg = (record { le = tt }, tt);
-        zero_where =
-            λ r l n. absurd (finite r l n);
-      };
+      multipliers = again_multipliers (whole (pos 0)) (whole (pos 1)) (whole (pos 0)) (record { le = tt }) (record { le = tt })
+          (record { le = tt });
       limit = whole (pos 0);
       finite = refl;
       same = one (λ k. get_or (combination system again (whole (pos 0) ∷ whole (pos 1) ∷ []) (whole (pos 0) ∷ [])) k zero_ℚ
@@ -289,9 +176,6 @@ upper_bounds =
       small = record { le = tt };
     } in
     (high_in, (high_again, (low_in, (low_again, tt))))
-  where
-    finite : (r : ℕ) → r < 2 → NotFinite (B 1 r) → ⊥
-    finite = two (λ r. NotFinite (B 1 r) → ⊥) (λ n. n) (λ n. n)
 
 in_range : PointsInRange system
 in_range = record { entry = omega arith; ends = λ edge c. by edge (in_of_contains system.edges edge c) }
@@ -304,4 +188,4 @@ in_range = record { entry = omega arith; ends = λ edge c. by edge (in_of_contai
 -- the certificate is valid, so x is from 0 to 10 at the loop's head and no bound is smaller
 example : Least system B
 example = certificate_least system certificate in_range
-    (record { size = refl; steps = (first_valid, (second_valid, tt)); final = final; uppers = upper_bounds })
+    (record { size = refl; steps = (first_valid 2 (again ∷ []) (omega arith), (second_valid, tt)); final = final; uppers = upper_bounds })

@@ -5,22 +5,19 @@ use Rattle.std.specs.Prelude.{slice_get, Some}
 use Rattle.std.proofs.lemmas.Option.{same_Some}
 use Rattle.base_facts.specs.Elements.{In}
 use Rattle.base_numbers.specs.Rational.{ℚ, whole, zero_ℚ, ◌≤ℚ◌}
-use Rattle.base_numbers.specs.Extended.{neg_inf, fin, pos_inf, ◌≤ᴱ◌}
+use Rattle.base_numbers.specs.Extended.{neg_inf, fin, pos_inf}
 use Rattle.flow_edges.specs.declared.edge.Action.TheVariants.{Guard, Assign}
 use Rattle.flow_edges.specs.declared.edge.Edge.{Edge}
-use Rattle.flow_systems.specs.Equations.{Equations, Vector, Fits, Least}
-use Rattle.flow_systems.specs.States.{RationalState, dotℚ}
+use Rattle.flow_systems.specs.Equations.{Equations, Vector, Least}
 use Rattle.theory_validity.specs.Words.{lin, start_form, end_form, start_of}
-use Rattle.theory_validity.specs.Steps.{word, Item, Runs, Unnamed, row_of, after_step, Plain, Ray, Step, Placed, PlainItem, RayItem}
+use Rattle.theory_validity.specs.Steps.{word, Item, Unnamed, row_of, after_step, Ray, Step, Placed, RayItem}
 use Rattle.theory_validity.specs.Steps.{ValidStep, start_vector}
 use Rattle.theory_validity.specs.Certificates.{Bound, Empty, Unreached, after_steps, Certificate, bounds_vector, needs, AllPass, NotFinite}
 use Rattle.theory_validity.specs.Certificates.{BoundPasses, EmptyPasses, combination, PointsInRange}
 use Rattle.theory_validity.proofs.certificates.Needs.{in_of_contains}
 use Rattle.theory_validity.proofs.steps.CertificateLaw.{certificate_least}
+use Rattle.theory_validity.proofs.certificates.Entered.{only, enter, entered, first, fits_both, first_valid}
 use Rattle.theory_validity.proofs.certificates.Example.{opened, one, two}
-
-abbrev enter : Edge
-enter = record { from = 0; to = 1; actions = Assign 0 (record { coeffs = pos 0 ∷ []; constant = pos 0 }) ∷ [] }
 
 abbrev again : Edge
 again = record { from = 1; to = 1; actions = Assign 0 (record { coeffs = pos 1 ∷ []; constant = pos 1 }) ∷ [] }
@@ -32,29 +29,7 @@ abbrev idle : Edge
 idle = record { from = 2; to = 2; actions = [] }
 
 abbrev system : Equations
-system = record { variables = 1; points = 3; edges = enter ∷ again ∷ never ∷ idle ∷ []; template = (pos 1 ∷ []) ∷ (negsuc 0 ∷ []) ∷ [] }
-
-abbrev up : Item
-up = record {
-  point = 1;
-  row = 0;
-  edge = 0;
-  low = record { start = whole (pos 5) ∷ []; free = [] };
-  second =
-      record { start = []; free = [] };
-  number = whole (pos 0);
-}
-
-abbrev down : Item
-down = record {
-  point = 1;
-  row = 1;
-  edge = 0;
-  low = record { start = whole (pos 5) ∷ []; free = [] };
-  second =
-      record { start = []; free = [] };
-  number = whole (pos 0);
-}
+system = entered 3 (again ∷ never ∷ idle ∷ [])
 
 abbrev away : Item
 away = record {
@@ -67,71 +42,18 @@ away = record {
   number = whole (pos 1);
 }
 
-abbrev first : Step
-first = record { kind = Plain; items = up ∷ down ∷ [] }
-
 abbrev second_step : Step
 second_step = record { kind = Ray; items = away ∷ [] }
 
-fits_both : (v : Vector) (p : ℕ) (x : RationalState) → fin (dotℚ (pos 1 ∷ []) x) ≤ᴱ v p 0 → fin (dotℚ (negsuc 0 ∷ []) x) ≤ᴱ v p 1
-    → Fits system v p x
-fits_both v p x a b zero row e = subst (λ s. fin (dotℚ s x) ≤ᴱ v p 0) (same_Some (pos 1 ∷ []) row e) a
-fits_both v p x a b (suc zero) row e = subst (λ s. fin (dotℚ s x) ≤ᴱ v p 1) (same_Some (negsuc 0 ∷ []) row e) b
-fits_both v p x a b (suc (suc r)) row e = cc
-
-first_valid : ValidStep system start_vector first
-unfolding opened
-first_valid = record { distinct = ((refl, tt), (tt, tt)); placed = placed; valid = valid }
-  where
-    placed : (item : Item) → In (up ∷ (down ∷ [])) item → Placed system item
-    placed item (inl e) = subst (Placed system) e (record {
-      later = omega arith;
-      point_within = omega arith;
-      row_within =
-          omega arith;
-      edge_within = omega arith;
-      into = refl;
-    })
-    placed item (inr (inl e)) = subst (Placed system) e (record {
-      later = omega arith;
-      point_within = omega arith;
-      row_within =
-          omega arith;
-      edge_within = omega arith;
-      into = refl;
-    })
-    placed item (inr (inr m)) = absurd m
-
-    runs : Runs system start_vector enter (whole (pos 5) ∷ [])
-    runs = record { passes = record { all = tt }; fits = fits_both start_vector 0 (start_of 1 (whole (pos 5) ∷ [])) tt tt }
-
-    valid : (item : Item) → In (up ∷ (down ∷ [])) item → PlainItem system start_vector item
-    valid item (inl e) = subst (PlainItem system start_vector) e (record {
-      size = (refl, refl);
-      runs = runs;
-      above = tt;
-      reached =
-          record { le = tt };
-    })
-    valid item (inr (inl e)) = subst (PlainItem system start_vector) e
-        (record { size = (refl, refl); runs = runs; above = tt; reached = record { le = tt } })
-    valid item (inr (inr m)) = absurd m
-
 second_valid : ValidStep system (after_step first start_vector) second_step
 unfolding opened
-second_valid = record { distinct = (tt, tt); placed = placed; valid = valid }
+second_valid = record {
+  distinct = (tt, tt);
+  placed = only (Placed system) away
+      (record { later = omega arith; point_within = omega arith; row_within = omega arith; edge_within = omega arith; into = refl });
+  valid = only (RayItem system (after_step first start_vector) (away ∷ [])) away valid;
+}
   where
-    placed : (item : Item) → In (away ∷ []) item → Placed system item
-    placed item (inl e) = subst (Placed system) e (record {
-      later = omega arith;
-      point_within = omega arith;
-      row_within =
-          omega arith;
-      edge_within = omega arith;
-      into = refl;
-    })
-    placed item (inr m) = absurd m
-
     named : (other : Item) → In (away ∷ []) other → other.point ≡ 1 → lin (start_form 1 (row_of system other)) (word away.second) ≤ℚ
         other.number
     named other (inl e) f = subst (λ o. lin (start_form 1 (row_of system o)) (word away.second) ≤ℚ o.number) e (record { le = tt })
@@ -144,14 +66,14 @@ second_valid = record { distinct = (tt, tt); placed = placed; valid = valid }
         (record { le = tt })
     others (suc (suc r)) row bound e u f = cc
 
-    valid : (item : Item) → In (away ∷ []) item → RayItem system (after_step first start_vector) (away ∷ []) item
-    valid item (inl e) = subst (RayItem system (after_step first start_vector) (away ∷ [])) e (record {
+    valid : RayItem system (after_step first start_vector) (away ∷ []) away
+    valid = record {
       low_size = (refl, refl);
       direction_size = (refl, refl);
       below_top = tt;
       low_runs = record {
         passes = record { all = tt };
-        fits = fits_both (after_step first start_vector) 1 (start_of 1 (whole (pos 0) ∷ []))
+        fits = fits_both 3 (again ∷ never ∷ idle ∷ []) (after_step first start_vector) 1 (start_of 1 (whole (pos 0) ∷ []))
             (record { le = tt }) (record { le = tt });
       };
       low_above = record { lt = tt };
@@ -160,8 +82,7 @@ second_valid = record { distinct = (tt, tt); placed = placed; valid = valid }
       others = others;
       falls = record { all = tt };
       gains = record { le = tt };
-    })
-    valid item (inr m) = absurd m
+    }
 
 abbrev certificate : Certificate
 certificate = record {
@@ -243,7 +164,7 @@ in_range = record { entry = omega arith; ends = λ edge c. by edge (in_of_contai
 example : Least system B
 example = certificate_least system certificate in_range (record {
   size = refl;
-  steps = (first_valid, (second_valid, tt));
+  steps = (first_valid 3 (again ∷ never ∷ idle ∷ []) (omega arith), (second_valid, tt));
   final =
       final;
   uppers = uppers;

@@ -4,9 +4,8 @@ use Rattle.std.specs.Prelude.{Option, Some, None}
 use Rattle.ask_words.specs.Request.{request_of}
 use Rattle.top_answer.specs.Answers as public
 use Rattle.top_answer.specs.Answers.{IsAnsweredBy, Asks, Ends, Holds, IsAnswer, IsMessage, IsOutput}
-use Rattle.ask_files.specs.Asked.{with_texts}
-use Rattle.top_answer.specs.Limits.{named_text}
-use Rattle.top_answer.specs.Commands.{Commands, HasRows}
+use Rattle.ask_files.specs.Files.{with_texts}
+use Rattle.top_answer.specs.Commands.{Commands, command_of}
 use Rattle.ask_files.specs.Files.{Request, files_of, unread}
 use Rattle.top_answer.specs.Outcomes as parted
 use Rattle.top_answer.specs.Outcomes.{AnswersRequest, AnswersWords, NamesPlace, Says}
@@ -16,7 +15,7 @@ use Rattle.ask_files.specs.declared.which.ReadCause.{ReadCause}
 use Rattle.top_status.specs.declared.status.Status.{Status}
 use Rattle.top_status.specs.declared.status.Status.TheVariants.{Done, Certificate, Usage, Read, Text, Wide, Spent, Memory, Write}
 use Rattle.top_texts.specs.Exact.{exact}
-use Rattle.top_answer.proofs.answers.Lawful.{IsLawful}
+use Rattle.top_answer.proofs.commands.Lawful.{IsLawful}
 
 -- words ask for one request
 pub same_request : (o : Option Request) (a b : Request) → o ≡ Some a → o ≡ Some b → b ≡ a
@@ -84,7 +83,7 @@ module _ (commands : Commands) (law : IsLawful commands) (words contents : List 
     texts_answer : (status : Status) (bytes : List ℕ) → Says (commands (with_texts request contents)) status bytes
         → IsAnswer commands words contents status
     texts_answer Done bytes h =
-        public.is_ending (public.decided (with_texts request contents) asks (law.written_ends (with_texts request contents) bytes h))
+        public.is_ending (public.decided (with_texts request contents) asks ((law (with_texts request contents)).written_ends bytes h))
     texts_answer (Certificate c) bytes h = public.is_ending (public.decided (with_texts request contents) asks h.0)
     texts_answer Usage bytes h = public.is_ending (public.decided (with_texts request contents) asks h.0)
     texts_answer (Read c) bytes h = public.is_ending (public.decided (with_texts request contents) asks h.0)
@@ -111,18 +110,20 @@ module _ (commands : Commands) (law : IsLawful commands) (words contents : List 
     decided_once : (status : Status) (bytes : List ℕ) (ending : Status) → Says (commands (with_texts request contents)) status bytes
         → (commands (with_texts request contents)).ends ending → IsAnsweredBy commands words contents ending status
     decided_once Done bytes ending h k =
-        public.given (law.ends_once (with_texts request contents) Done ending (law.written_ends (with_texts request contents) bytes h) k)
-    decided_once (Certificate c) bytes ending h k = public.given (law.ends_once (with_texts request contents) (Certificate c) ending h.0 k)
-    decided_once Usage bytes ending h k = public.given (law.ends_once (with_texts request contents) Usage ending h.0 k)
-    decided_once (Read c) bytes ending h k = public.given (law.ends_once (with_texts request contents) (Read c) ending h.0 k)
-    decided_once (Text c) bytes ending h k = public.given (law.ends_once (with_texts request contents) (Text c) ending h.0 k)
+        public.given ((law (with_texts request contents)).ends_once Done ending
+        ((law (with_texts request contents)).written_ends bytes h) k)
+    decided_once (Certificate c) bytes ending h k =
+        public.given ((law (with_texts request contents)).ends_once (Certificate c) ending h.0 k)
+    decided_once Usage bytes ending h k = public.given ((law (with_texts request contents)).ends_once Usage ending h.0 k)
+    decided_once (Read c) bytes ending h k = public.given ((law (with_texts request contents)).ends_once (Read c) ending h.0 k)
+    decided_once (Text c) bytes ending h k = public.given ((law (with_texts request contents)).ends_once (Text c) ending h.0 k)
     decided_once (Wide spot) bytes ending h k =
-        ⊎_elim (λ e. public.given (law.ends_once (with_texts request contents) (Wide spot) ending e k))
+        ⊎_elim (λ e. public.given ((law (with_texts request contents)).ends_once (Wide spot) ending e k))
         (λ w. public.too_wide spot refl (record { asked = with_texts request contents; asks = asks; too_wide = w })
-        (law.wide_ends (with_texts request contents) spot ending w k)) h.0
-    decided_once (Spent n) bytes ending h k = public.given (law.ends_once (with_texts request contents) (Spent n) ending h.0 k)
+        ((law (with_texts request contents)).wide_ends spot ending w k)) h.0
+    decided_once (Spent n) bytes ending h k = public.given ((law (with_texts request contents)).ends_once (Spent n) ending h.0 k)
     decided_once Memory bytes ending h k = public.no_memory refl
-    decided_once Write bytes ending h k = public.given (law.ends_once (with_texts request contents) Write ending h.0 k)
+    decided_once Write bytes ending h k = public.given ((law (with_texts request contents)).ends_once Write ending h.0 k)
 
     texts_complete : (status : Status) (bytes : List ℕ) → Says (commands (with_texts request contents)) status bytes
         → (ending : Status) → Ends commands words contents ending → IsAnsweredBy commands words contents ending status
@@ -139,8 +140,8 @@ module _ (commands : Commands) (law : IsLawful commands) (words contents : List 
       line = n.line;
       rows = n.rows;
       is_message = n.is_message;
-      line_is = λ asked a. n.line_is ∙ ap (λ x. line_in (named_text x status) status) (sym (same_asked asked a));
-      rows_are = λ asked count a has. n.rows_are count (subst (λ x. HasRows exact x count) (same_asked asked a) has);
+      line_is = λ asked a. n.line_is ∙ ap (λ x. line_in ((command_of exact x).named status) status) (sym (same_asked asked a));
+      rows_are = λ asked count a has. n.rows_are count (subst (λ x. (command_of exact x).has_rows count) (same_asked asked a) has);
     }
 
 -- ---- want of memory
@@ -159,7 +160,7 @@ module _ (commands : Commands) (words contents : List (List ℕ)) (status : Stat
     line = 0;
     rows = 0;
     is_message = plain;
-    line_is = λ asked a. subst (λ s. 0 ≡ line_in (named_text asked s) s) (sym e) refl;
+    line_is = λ asked a. subst (λ s. 0 ≡ line_in ((command_of exact asked).named s) s) (sym e) refl;
     rows_are = λ asked count a has. subst (λ s. 0 ≡ rows_of count s) (sym e) refl;
   }
 

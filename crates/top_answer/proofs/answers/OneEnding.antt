@@ -1,14 +1,14 @@
 -- Words and contents have one ending.
 use Rattle.std.proofs.Common.{◌≡◌, ◌∙◌, ℕ, List, ap, subst, sym}
 use Rattle.std.specs.Prelude.{Some, None}
-use Rattle.ask_files.specs.Asked.{with_texts}
+use Rattle.ask_files.specs.Files.{with_texts}
 use Rattle.ask_files.specs.Files.{Request, files_of, unread}
 use Rattle.ask_files.specs.declared.which.ReadCause.{ReadCause}
 use Rattle.ask_words.specs.Request.{request_of}
 use Rattle.top_answer.specs.Answers.{Asks, Ends, decided, not_read, unasked}
 use Rattle.top_answer.specs.Commands.{Commands}
 use Rattle.top_answer.proofs.answers.Answered.{no_cause, no_request, one_cause, same_request}
-use Rattle.top_answer.proofs.answers.Lawful.{IsLawful}
+use Rattle.top_answer.proofs.commands.Lawful.{IsLawful}
 use Rattle.top_status.specs.declared.status.Status.{Status}
 use Rattle.top_status.specs.declared.status.Status.TheVariants.{Read}
 
@@ -39,7 +39,7 @@ module _ (words contents : List (List ℕ)) where
     once s t (not_read r c i h u) (decided b y k) = absurd (not_both r b c i h y)
     once s t (decided a x h) (unasked m v) = absurd (no_request (request_of words) x.request m x.request_is)
     once s t (decided a x h) (not_read q d j k v) = absurd (not_both q a d j k x)
-    once s t (decided a x h) (decided b y k) = law.ends_once a s t h (subst (λ r. (commands r).ends t) (one_asked b a y x) k)
+    once s t (decided a x h) (decided b y k) = (law a).ends_once s t h (subst (λ r. (commands r).ends t) (one_asked b a y x) k)
 
 -- words and contents have one ending
 pub one_ending : (commands : Commands) → IsLawful commands → (words contents : List (List ℕ)) (one other : Status)

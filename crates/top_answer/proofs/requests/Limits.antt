@@ -5,10 +5,8 @@ use Rattle.base_limits.specs.declared.limits.TheConstants.{MOST_IMPROVEMENTS, MO
 use Rattle.ask_words.specs.declared.request.Analysis.{Analysis}
 use Rattle.ask_words.specs.declared.request.Domain.{Domain}
 use Rattle.ask_words.specs.declared.request.Domain.TheVariants.{Intervals, Zones, Octagons, Rows}
-use Rattle.ask_words.specs.declared.request.Request.TheVariants.{Analyse, Check, Bench, Upgrade, Prove, Transitions, Equations, Points}
-use Rattle.ask_files.specs.Asked.{analysis_with, domain_with, rows_files, text_at, with_texts}
-use Rattle.top_answer.specs.Limits.{IsInLimits, IsInRange, IsWithin}
-use Rattle.ask_files.specs.Files.{NamedFile, Request, files_of, most_bytes, rows_before, unread}
+use Rattle.top_answer.specs.Commands.{IsWithin}
+use Rattle.ask_files.specs.Files.{NamedFile, analysis_with, domain_with, most_bytes, rows_before, rows_files, text_at, unread}
 use Rattle.ask_files.specs.declared.which.ReadCause.{ReadCause}
 use Rattle.ask_files.specs.declared.which.Which.TheVariants as which
 use Rattle.top_texts.specs.Short.{HasShortRows, IsShort}
@@ -24,7 +22,7 @@ not_less : (m n : ℕ) → nat_lt m n ≡ false → n ≤ m
 not_less m n e = grind arith
 
 -- the first file of some that are read has a text within its limit, and the others are read after it
-read_first : (file : NamedFile) (files : List NamedFile) (contents : List (List ℕ)) → unread (file ∷ files) contents ≡ None
+pub read_first : (file : NamedFile) (files : List NamedFile) (contents : List (List ℕ)) → unread (file ∷ files) contents ≡ None
     → (text : List ℕ) × (rest : List (List ℕ)) × (contents ≡ text ∷ rest) × (length text ≤ most_bytes file.0) × (unread files rest ≡ None)
 read_first file files [] e = absurd (some_none _ e)
 read_first file files (text ∷ rest) e =
@@ -42,7 +40,7 @@ rows_short (Rows file) later text rest e =
     subst (λ r. IsShort (text_at (text ∷ r) 1)) (sym read.2) read.3
 
 -- the claims that follow the rows are short
-claims_short : (domain : Domain (List ℕ)) (claims text : List ℕ) (rest : List (List ℕ))
+pub claims_short : (domain : Domain (List ℕ)) (claims text : List ℕ) (rest : List (List ℕ))
     → unread (rows_before domain ((which.Claims, claims) ∷ [])) rest ≡ None → IsShort (text_at (text ∷ rest) (1 + rows_files domain))
 claims_short Intervals claims text rest e =
     let read = read_first (which.Claims, claims) [] rest e in subst (λ r. IsShort (text_at (text ∷ r) 1)) (sym read.2) read.3
@@ -56,7 +54,7 @@ claims_short (Rows file) claims text rest e =
     subst (λ r. IsShort (text_at (text ∷ r) 2)) (sym rows.2) (subst (λ r. IsShort (text_at (text ∷ rows.0 ∷ r) 2)) (sym read.2) read.3)
 
 -- the texts of an analysis are within their limits
-within : (file : NamedFile) (analysis : Analysis (List ℕ)) (later : List NamedFile) (contents : List (List ℕ))
+pub within : (file : NamedFile) (analysis : Analysis (List ℕ)) (later : List NamedFile) (contents : List (List ℕ))
     → most_bytes file.0 ≡ MOST_TEXT_BYTES → analysis.improvements ≤ MOST_IMPROVEMENTS
     → unread (file ∷ rows_before analysis.domain later) contents ≡ None → IsWithin (analysis_with analysis contents)
 within file analysis later contents most limit e =
@@ -66,25 +64,9 @@ within file analysis later contents most limit e =
     (record { short = short; short_rows = rows_short analysis.domain later read.0 read.1 read.4; limit = limit })
 
 -- a text that is read alone is within its limit
-first_short : (file : NamedFile) (later : List NamedFile) (contents : List (List ℕ)) → most_bytes file.0 ≡ MOST_TEXT_BYTES
+pub first_short : (file : NamedFile) (later : List NamedFile) (contents : List (List ℕ)) → most_bytes file.0 ≡ MOST_TEXT_BYTES
     → unread (file ∷ later) contents ≡ None → IsShort (text_at contents 0)
 first_short file later contents most e =
     let read = read_first file later contents e in
     let short : length read.0 ≤ MOST_TEXT_BYTES = subst (λ n. length read.0 ≤ n) most read.3 in
     subst (λ c. IsShort (text_at c 0)) (sym read.2) short
-
--- the texts of a request whose files are read are within their limits
-pub in_limits : (request : Request) (contents : List (List ℕ)) → IsInRange request → unread (files_of request) contents ≡ None
-    → IsInLimits (with_texts request contents)
-in_limits (Analyse purpose a) contents range e = within (which.Program, a.program) a [] contents refl range e
-in_limits (Check p c) contents range e = first_short (which.Program, p) ((which.Certificate, c) ∷ []) contents refl e
-in_limits (Bench seed loops) contents range e = range
-in_limits (Upgrade c) contents range e = tt
-in_limits (Prove claims a) contents range e =
-    let read = read_first (which.Program, a.program) (rows_before a.domain ((which.Claims, claims) ∷ [])) contents e in (
-      within (which.Program, a.program) a ((which.Claims, claims) ∷ []) contents refl range e,
-      subst (λ c. IsShort (text_at c (1 + rows_files a.domain))) (sym read.2) (claims_short a.domain claims read.0 read.1 read.4),
-    )
-in_limits (Transitions a) contents range e = within (which.System, a.program) a [] contents refl range e
-in_limits (Equations file limit policy) contents range e = (first_short (which.Equations, file) [] contents refl e, range)
-in_limits (Points p) contents range e = first_short (which.Program, p) [] contents refl e

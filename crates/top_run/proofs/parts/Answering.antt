@@ -2,8 +2,7 @@
 use Rattle.std.proofs.Common.{◌≡◌, ◌∙◌, ℕ, List, [], refl, sym, subst}
 use Rattle.top_answer.specs.Answers as answers
 use Rattle.top_answer.specs.Answers.{IsAnsweredBy, Ends, Holds, IsAnswer, IsMessage, IsOutput}
-use Rattle.top_answer.specs.Commands.{Commands}
-use Rattle.top_answer.specs.Limits.{named_text}
+use Rattle.top_answer.specs.Commands.{Commands, command_of}
 use Rattle.top_run.specs.Parts.{IsAnswerTo}
 use Rattle.top_run.specs.Programs.{NamesNoPlace}
 use Rattle.top_status.specs.Messages.{message_of}
@@ -18,7 +17,7 @@ placeless m words contents status message plain is = record {
   line = 0;
   rows = 0;
   is_message = is ∙ sym plain.message;
-  line_is = λ asked asks. plain.line (named_text asked status);
+  line_is = λ asked asks. plain.line ((command_of m asked).named status);
   rows_are = λ asked count asks has. plain.rows count;
 }
 

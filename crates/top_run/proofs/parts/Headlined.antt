@@ -3,7 +3,7 @@ use Rattle.std.proofs.Common.{◌≡◌, ◌∙◌, ◌⊎◌, inl, inr, ℕ, Li
 use Rattle.std.specs.Prelude.{Some, None, Option, Result, IsErr}
 use Rattle.std.specs.declared.alloc.AllocError.{AllocError}
 use Rattle.ask_files.proofs.loads.Unread.{unread_failed, unread_long, unread_none}
-use Rattle.ask_files.specs.Asked.{analysis_with, with_texts}
+use Rattle.ask_files.specs.Files.{analysis_with, with_texts}
 use Rattle.ask_files.specs.Files.{NamedFile, Request, files_of, unread}
 use Rattle.ask_files.specs.Loads as loads
 use Rattle.ask_files.specs.Loads.{AreRead, LoadsEnd, contents_of}

@@ -1,6 +1,6 @@
--- The text of a program and the bytes of a certificate have one ending, by stages: each stage has one cause to end, or goes on to the next.
--- So have the
--- bytes of a certificate that is upgraded.
+-- The text of a program and the bytes of a certificate have one ending, by stages: each stage has one cause to end, or goes on to the
+-- next.
+-- So have the bytes of a certificate that is upgraded.
 use Rattle.std.proofs.Common.{◌≡◌, ◌≤◌, ◌<◌, ◌⊎◌, inl, inr, ⊎_elim, ℕ, List, [], true, false, refl, sym, ap, ap₂, ◌∙◌, subst, arith}
 use Rattle.std.specs.Prelude.{Bool, Option, Result, Ok, Err, Some, None, nat_lt, slice_get, length}
 use Rattle.base_fractions.specs.Operation.{Operation, operation_of}

@@ -1,5 +1,5 @@
 use Rattle.std.proofs.Common.{◌∙◌, ◌≡◌, ap, map, string_bytes, subst}
-use Rattle.ask_files.specs.Asked.{texts_of}
+use Rattle.ask_files.specs.Files.{texts_of}
 use Rattle.top_answer.specs.Answers.{IsAnsweredBy, Ends, Holds, IsAnswer, IsMessage, IsOutput}
 use Rattle.top_texts.specs.Exact.{exact}
 use Rattle.acsl_annotate.specs.Annotated.{annotating}

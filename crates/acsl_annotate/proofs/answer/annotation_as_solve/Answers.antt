@@ -1,5 +1,5 @@
 use Rattle.std.proofs.Common.{map, string_bytes, subst, subst₂, sym}
-use Rattle.ask_files.specs.Asked.{texts_of}
+use Rattle.ask_files.specs.Files.{texts_of}
 use Rattle.top_answer.specs.Answers.{IsAnsweredBy, Holds, IsAnswer, IsOutput}
 use Rattle.top_answer.proofs.answers.Answered.{complete, holds, is_answer, message_is}
 use Rattle.top_texts.specs.Exact.{exact}

@@ -1,5 +1,5 @@
 use Rattle.std.proofs.Common.{length, ◌-◌, ◌≡◌, drop, map}
-use Rattle.ask_files.specs.Asked.{texts_of}
+use Rattle.ask_files.specs.Files.{texts_of}
 use Rattle.ask_files.specs.Files.{unread}
 use Rattle.ask_files.specs.Named.{name_of}
 use Rattle.ask_files.proofs.files.unread.Given as goal

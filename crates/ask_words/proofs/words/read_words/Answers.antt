@@ -1,7 +1,7 @@
 use Rattle.std.proofs.Common.{◌≡◌, List, map, ap, subst, sym, ◌∙◌, option_and_then, string_bytes, ⊎_elim, refl}
 use Rattle.clap.specs.Words.{App, IsAmong, Text, app_of, fault_of, is_simple, is_simple_and_free, kind_of, subcommand_of}
 use Rattle.clap.specs.Words.{subcommand_rows_of}
-use Rattle.ask_words.specs.CommandLine.{tmpl_app}
+use Rattle.ask_words.specs.Request.{tmpl_app}
 use Rattle.ask_words.specs.Request.{command_in, request_of}
 use Rattle.ask_words.proofs.words.Parsed.{absent, free, given, refused, simple, taken}
 use Rattle.ask_words.proofs.words.read_words.Goals as goal

@@ -9,14 +9,14 @@ use Rattle.base_fractions.specs.Extended.{extended}
 use Rattle.base_fractions.specs.Operation.{operation_of}
 use Rattle.flow_systems.specs.View.{equations_of}
 use Rattle.flow_systems.proofs.fit_tests.Tested.{test_le}
-use Rattle.theory_validity.specs.Certificates.{side}
+use Rattle.theory_validity.specs.Certificates.{side, Bound}
 use Rattle.cert_checker.specs.Events.{fault_answer, wide_answer}
-use Rattle.cert_checker.specs.EvidenceEvents.{combination_events}
+use Rattle.cert_checker.specs.EvidenceEvents.{combination_events, evidence_events}
 use Rattle.cert_checker.proofs.combination.Forms.{no_edge, edge_there, row_count}
 use Rattle.cert_checker.proofs.uppers.Numbers.{bound_of}
 use Rattle.cert_checker.proofs.evidence.Events.{row_some, is_read, bound_infinite, bound_stops, bound_wide, bound_yes, bound_no}
 use Rattle.cert_checker.proofs.evidence.Events.{constant_added}
-use Rattle.cert_checker.proofs.evidence.Sums.{found_none, found_some}
+use Rattle.cert_checker.proofs.evidence.Sums.{found_none, found_some, told_if}
 use Rattle.cert_checker.proofs.evidence.bound_passes.Goals as goal
 
 -- a value that is no fraction
@@ -94,28 +94,8 @@ returns-in_err-most c = λ z e h f site fault.
     rw (p.1, p.2) (bound_wide site fault S z e c.args.rows.now c.args.guards.now row number c.in-Fin.limit i.finite
     c.as_slice-coeffs.result.now i.columns found.1 (operation_of (λ q. q) c.in_err-most.field-0.0) w)
 
-pub returns-then-le : goal.returns-then-le
-returns-then-le c = λ z e h f site fault.
-    let S = equations_of c.args.system.now in
-    let row = get_or c.args.system.now.template (c.args.unknown % length c.args.system.now.template) [] in
-    let number = z (c.args.unknown / length c.args.system.now.template) (c.args.unknown % length c.args.system.now.template) in
-    let i = is_read site fault S c.args.paths.now c.requires.paths c.args.bounds.now z h c.args.edge e f c.args.rows.now c.args.guards.now
-    c.args.unknown c.requires.unknown (extended c.at.result) c.at.ensures c.in-Fin.limit (ap extended c.in-Fin.is)
-    (length c.as_slice.result.now) (ap (λ rs. length rs) c.as_slice.ensures.rows) c.row-end.result.now c.row-end.ensures
-    c.as_slice-coeffs.result.now c.as_slice-coeffs.ensures in
-    let found = found_some (combination_events site fault S z e c.args.rows.now c.args.guards.now c.as_slice-coeffs.result.now) fault
-    (side S z e c.args.rows.now c.args.guards.now) c.in_ok-value.field-0 c.in-Some.value c.in-Some.is
-    (c.in_ok-value.ensures z e h f site fault) in
-    let w = constant_added site fault S z e c.args.rows.now c.args.guards.now row number c.in-Some.value c.row-end.result.now.constant
-    (Ok c.in_ok-most.most) found.0 i.constant c.in_ok-most.ensures in
-    let t = test_le c.in_ok-most.most c.in-Fin.limit c.le.result c.le.ensures in (
-      tt,
-      bound_yes site fault S z e c.args.rows.now c.args.guards.now row number c.in-Fin.limit i.finite c.as_slice-coeffs.result.now
-          i.columns found.1 w.1 c.in_ok-most.most w.0 (t.0 c.if-le.true),
-    )
-
-pub returns-else-le : goal.returns-else-le
-returns-else-le c = λ z e h f site fault.
+pub returns : goal.returns
+returns c = λ z e h f site fault.
     let S = equations_of c.args.system.now in
     let row = get_or c.args.system.now.template (c.args.unknown % length c.args.system.now.template) [] in
     let number = z (c.args.unknown / length c.args.system.now.template) (c.args.unknown % length c.args.system.now.template) in
@@ -129,5 +109,9 @@ returns-else-le c = λ z e h f site fault.
     let w = constant_added site fault S z e c.args.rows.now c.args.guards.now row number c.in-Some.value c.row-end.result.now.constant
     (Ok c.in_ok-most.most) found.0 i.constant c.in_ok-most.ensures in
     let t = test_le c.in_ok-most.most c.in-Fin.limit c.le.result c.le.ensures in
-    bound_no site fault S z e c.args.rows.now c.args.guards.now row number c.in-Fin.limit i.finite c.as_slice-coeffs.result.now i.columns
-    found.1 w.1 c.in_ok-most.most w.0 (λ j. true≢false (sym (t.1 j) ∙ c.if-le.false))
+    told_if (evidence_events site fault S z e row number (Bound c.args.rows.now c.args.guards.now)) fault c.le.result
+    (λ l. bound_yes site fault S z e c.args.rows.now c.args.guards.now row number c.in-Fin.limit i.finite c.as_slice-coeffs.result.now
+    i.columns found.1 w.1 c.in_ok-most.most w.0 (t.0 l))
+    (λ l. bound_no site fault S z e c.args.rows.now c.args.guards.now row number c.in-Fin.limit i.finite c.as_slice-coeffs.result.now
+    i.columns found.1 w.1 c.in_ok-most.most w.0 (λ j. true≢false (sym (t.1 j) ∙ l)))
+    c.then_some.result c.then_some.ensures

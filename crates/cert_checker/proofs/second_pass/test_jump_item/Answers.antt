@@ -1,19 +1,18 @@
 use Rattle.std.proofs.Common.{◌∙◌, ◌↔◌, ◌++◌, [], ◌∷◌, List, length, refl, sym, subst, subst₂}
 use Rattle.std.specs.Prelude.{IsTrue}
 use Rattle.std.proofs.lemmas.Result.{err_from_is_err_and}
-use Rattle.base_numbers.specs.Rational.{ℚ}
 use Rattle.base_numbers.specs.Extended.{fin, ◌≤ᴱ◌}
 use Rattle.flow_systems.specs.declared.spot.Site.{Site}
 use Rattle.flow_systems.specs.View.{equations_of}
 use Rattle.theory_validity.specs.Steps.{Sized, word, edge_of, row_of, item_value}
 use Rattle.theory_validity.specs.Decide.{dec_leᴱ, dec_le_ℚ}
 use Rattle.theory_validity.specs.Faults.{Fault, HighFault, bound_at}
-use Rattle.cert_checker.specs.Events.{Event, IsRun, Test, decided}
+use Rattle.cert_checker.specs.Events.{Event, Test, decided}
 use Rattle.cert_checker.specs.Runs.{run_events}
 use Rattle.cert_checker.specs.Items.{item_at}
 use Rattle.cert_checker.specs.StepEvents.{at_item, landing_events}
 use Rattle.cert_checker.proofs.following.Traces.{stop_sooner}
-use Rattle.cert_checker.proofs.fault.Tests.{bound_is, ensured, run_after, goes_on, ends_with}
+use Rattle.cert_checker.proofs.fault.Tests.{bound_is, ensured, then_reached, goes_on, ends_with}
 use Rattle.cert_checker.proofs.item.Places.{jump_second}
 use Rattle.cert_checker.proofs.second_pass.test_jump_item.Goals as goal
 
@@ -51,16 +50,12 @@ returns c = λ z p h g.
     let passed = ensured first c.is_at_most.result fault goes_on told c.in_ok-ensure.ensures.passed tt in
     let x = item_value S item (word item.second) in
     let events : Site → Fault → List Event = λ site fault. run_events site fault S p (edge_of S item) (row_of S item) item.second in
-    let rest : Site → ℚ → List Event = λ site to. events site fault ++ Test (decided (dec_le_ℚ to x)) fault ∷ [] in
-    run_after (λ u. Unit {0}) (Test (decided first) fault ∷ []) (rest (at_item c.args.number c.args.k) item.number) c.ensure_reached.result
-    passed.1
-    (subst₂ (λ s q. IsRun (λ u. Unit {0}) (rest s q) c.ensure_reached.result) c.item_site.ensures n
+    then_reached first fault (at_item c.args.number c.args.k) item.number x events c.ensure_reached.result passed.1 c.item_site.ensures n
     (c.ensure_reached.ensures x fault events (c.follow_item.ensures p item.second g
-    (c.second_at.ensures rows (jump_second rows c.args.step.now c.requires.jump))) refl))
+    (c.second_at.ensures rows (jump_second rows c.args.step.now c.requires.jump))) refl)
 
 pub follow_item-requires-clause-sized : goal.follow_item-requires-clause-sized
 follow_item-requires-clause-sized c =
-    let S = equations_of c.args.system.now in
-    let rows = length S.template in
-    subst (Sized S (item_at rows c.args.step.now c.args.k)) (c.second_at.ensures rows (jump_second rows c.args.step.now c.requires.jump))
-    c.requires.usable.sized
+    let rows = length c.args.system.now.template in
+    subst (Sized (equations_of c.args.system.now) (item_at rows c.args.step.now c.args.k))
+    (c.second_at.ensures rows (jump_second rows c.args.step.now c.requires.jump)) c.requires.usable.sized

@@ -1,13 +1,12 @@
-use Rattle.std.proofs.Common.{◌≡◌, ◌+◌, ℕ, true, false, Bool, length, sym, ap₂, ◌∙◌, subst, subst₂, arith}
+use Rattle.std.proofs.Common.{◌≡◌, ◌+◌, ℕ, true, false, Bool, length, sym, ap₂, ◌∙◌, subst₂, arith}
 use mir.Val.{bool_byte}
-use Rattle.std.proofs.lemmas.List.{length-map}
 use Rattle.std.proofs.lemmas.Result.{err_from_is_err_and}
 use Rattle.lp_theory.specs.Run.{phase_of}
-use Rattle.lp_dictionary.specs.declared.problem.Row.{Row}
 use Rattle.lp_dictionary.specs.Build.{width_of}
 use Rattle.lp_dictionary.specs.Exact.{exact}
-use Rattle.lp_simplex.specs.Choices.{StepIs, StepRefused}
-use Rattle.lp_simplex.proofs.phase.LoopSteps.{stands_first, ends_best, ends_ray, refuses, capped_next, stands_next, stands_less, ends_left}
+use Rattle.lp_simplex.specs.Choices.{StepRefused}
+use Rattle.lp_simplex.proofs.phase.LoopSteps.{stands_first, refuses, capped_next, made_best, made_ray, made_next, made_less, made_left}
+use Rattle.lp_simplex.proofs.method.Counted.{rows_counted, cols_counted}
 use Rattle.lp_simplex.proofs.phase.run_phase.Goals as goal
 
 wide_by : (b : Bool) (n : ℕ) → n + bool_byte b ≡ width_of b n
@@ -18,11 +17,8 @@ pub loop-col-init : goal.loop-col-init
 loop-col-init g c =
     let m = g.F.OrderedField.meaning in
     let p = c.args.problem.now in
-    let kr = p.rows.ok.0 in
-    let kg = p.goal.ok.0 in
-    let n = length-map p.rows.items (λ (r : Row _). m r.side) in
-    let rows : c.len-rows.result ≡ (exact m p).rows = let f = c.len-rows.ensures in omega (arith, f, n, kr) in
-    let cols : c.len.result ≡ length p.goal.items = let f = c.len.ensures in omega (arith, f, kg) in
+    let rows = rows_counted m p c.len-rows.result c.len-rows.ensures in
+    let cols = cols_counted p c.len.result c.len.ensures in
     record {
       stands = stands_first g.F.OrderedField.LIMIT (exact m p) c.args.auxiliary c.args.made (g.T.Tableau.table c.args.tableau.now)
           c.requires.begins;
@@ -49,76 +45,41 @@ returns-in_err-make_step-clause-refused g c =
 
 pub returns-in-Optimal-clause-ends : goal.returns-in-Optimal-clause-ends
 returns-in-Optimal-clause-ends g c =
-    let m = g.F.OrderedField.meaning in
-    let L = g.F.OrderedField.LIMIT in
-    let P = exact m c.args.problem.now in
     let i = c.loop-col.invariant in
-    let s = i.stands in
-    let T = g.T.Tableau.table c.loop-col.tableau in
-    let U = g.T.Tableau.table c.make_step.new.tableau in
-    let a = subst₂ (λ x y. StepIs L T U x y c.in_ok-make_step.field-0) (i.rows ∙ sym s.rows) (i.width ∙ sym s.width)
-    c.in_ok-make_step.ensures.made in
-    let b = subst (StepIs L T U T.rows T.width) c.in-Optimal.is a in
-    ends_best L P c.args.auxiliary c.requires.begins.phase T c.loop-col.pivots s U b.0 b.1
+    made_best g.F.OrderedField.LIMIT (exact g.F.OrderedField.meaning c.args.problem.now) c.args.auxiliary c.requires.begins.phase
+    (g.T.Tableau.table c.loop-col.tableau) c.loop-col.pivots i.stands (g.T.Tableau.table c.make_step.new.tableau) i.rows i.width
+    c.in_ok-make_step.ensures.made c.in-Optimal.is
 
 pub returns-in-Ray-clause-ends : goal.returns-in-Ray-clause-ends
 returns-in-Ray-clause-ends g c =
-    let m = g.F.OrderedField.meaning in
-    let L = g.F.OrderedField.LIMIT in
-    let P = exact m c.args.problem.now in
     let i = c.loop-col.invariant in
-    let s = i.stands in
-    let T = g.T.Tableau.table c.loop-col.tableau in
-    let U = g.T.Tableau.table c.make_step.new.tableau in
-    let a = subst₂ (λ x y. StepIs L T U x y c.in_ok-make_step.field-0) (i.rows ∙ sym s.rows) (i.width ∙ sym s.width)
-    c.in_ok-make_step.ensures.made in
-    let b = subst (StepIs L T U T.rows T.width) c.in-Ray.is a in
-    ends_ray L P c.args.auxiliary c.requires.begins.phase T c.loop-col.pivots s U c.in-Ray.col b.0 b.1 b.2
+    made_ray g.F.OrderedField.LIMIT (exact g.F.OrderedField.meaning c.args.problem.now) c.args.auxiliary c.requires.begins.phase
+    (g.T.Tableau.table c.loop-col.tableau) c.loop-col.pivots i.stands (g.T.Tableau.table c.make_step.new.tableau) i.rows i.width
+    c.in_ok-make_step.ensures.made c.in-Ray.col c.in-Ray.is
 
 pub returns-then-name-eq0-clause-ends : goal.returns-then-name-eq0-clause-ends
 returns-then-name-eq0-clause-ends g c =
-    let m = g.F.OrderedField.meaning in
-    let L = g.F.OrderedField.LIMIT in
-    let P = exact m c.args.problem.now in
     let i = c.loop-col.invariant in
-    let s = i.stands in
-    let T = g.T.Tableau.table c.loop-col.tableau in
-    let U = g.T.Tableau.table c.make_step.new.tableau in
-    let a = subst₂ (λ x y. StepIs L T U x y c.in_ok-make_step.field-0) (i.rows ∙ sym s.rows) (i.width ∙ sym s.width)
-    c.in_ok-make_step.ensures.made in
-    let b = subst (StepIs L T U T.rows T.width) c.in-Pivot.is a in
-    ends_left L P c.args.auxiliary c.requires.begins.phase T c.loop-col.pivots s U c.in-Pivot.name b c.saturating_add-number.result
-    c.saturating_add-number.ensures c.if-name-eq0.true
+    made_left g.F.OrderedField.LIMIT (exact g.F.OrderedField.meaning c.args.problem.now) c.args.auxiliary c.requires.begins.phase
+    (g.T.Tableau.table c.loop-col.tableau) c.loop-col.pivots i.stands (g.T.Tableau.table c.make_step.new.tableau) i.rows i.width
+    c.in_ok-make_step.ensures.made c.in-Pivot.name c.in-Pivot.is c.saturating_add-number.result c.saturating_add-number.ensures
+    c.if-name-eq0.true
 
 pub loop-col-smaller : goal.loop-col-smaller
 loop-col-smaller g c =
-    let m = g.F.OrderedField.meaning in
-    let L = g.F.OrderedField.LIMIT in
-    let P = exact m c.args.problem.now in
     let i = c.loop-col.invariant in
-    let s = i.stands in
-    let T = g.T.Tableau.table c.loop-col.tableau in
-    let U = g.T.Tableau.table c.make_step.new.tableau in
-    let a = subst₂ (λ x y. StepIs L T U x y c.in_ok-make_step.field-0) (i.rows ∙ sym s.rows) (i.width ∙ sym s.width)
-    c.in_ok-make_step.ensures.made in
-    let b = subst (StepIs L T U T.rows T.width) c.in-Pivot.is a in
-    stands_less L P c.args.auxiliary c.requires.begins.phase T c.loop-col.pivots s U c.in-Pivot.name b
+    made_less g.F.OrderedField.LIMIT (exact g.F.OrderedField.meaning c.args.problem.now) c.args.auxiliary c.requires.begins.phase
+    (g.T.Tableau.table c.loop-col.tableau) c.loop-col.pivots i.stands (g.T.Tableau.table c.make_step.new.tableau) i.rows i.width
+    c.in_ok-make_step.ensures.made c.in-Pivot.name c.in-Pivot.is
 
 pub loop-col-preserved : goal.loop-col-preserved
 loop-col-preserved g c =
-    let m = g.F.OrderedField.meaning in
-    let L = g.F.OrderedField.LIMIT in
-    let P = exact m c.args.problem.now in
     let i = c.loop-col.invariant in
-    let s = i.stands in
-    let T = g.T.Tableau.table c.loop-col.tableau in
-    let U = g.T.Tableau.table c.make_step.new.tableau in
-    let a = subst₂ (λ x y. StepIs L T U x y c.in_ok-make_step.field-0) (i.rows ∙ sym s.rows) (i.width ∙ sym s.width)
-    c.in_ok-make_step.ensures.made in
-    let b = subst (StepIs L T U T.rows T.width) c.in-Pivot.is a in
     record {
-      stands = stands_next L P c.args.auxiliary c.requires.begins.phase T c.loop-col.pivots s U c.in-Pivot.name b
-          c.saturating_add-number.result c.saturating_add-number.ensures c.if-name-eq0.false;
+      stands = made_next g.F.OrderedField.LIMIT (exact g.F.OrderedField.meaning c.args.problem.now) c.args.auxiliary c.requires.begins.phase
+          (g.T.Tableau.table c.loop-col.tableau) c.loop-col.pivots i.stands (g.T.Tableau.table c.make_step.new.tableau) i.rows i.width
+          c.in_ok-make_step.ensures.made c.in-Pivot.name c.in-Pivot.is c.saturating_add-number.result c.saturating_add-number.ensures
+          c.if-name-eq0.false;
       fresh = c.in_ok-make_step.ensures.fresh;
       rows = i.rows;
       width = i.width;

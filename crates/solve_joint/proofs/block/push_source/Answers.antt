@@ -9,15 +9,17 @@ pub returns-in_ok-entries-in-Fin : goal.returns-in_ok-entries-in-Fin
 returns-in_ok-entries-in-Fin c = on_ok_both c.push_row.result c.push_row.ensures.coeffs c.push_row.ensures.sides
     (λ e f n ls l s. rw (
       c.in-Fin.is,
-      source_finite (embedded (neg_ℚ one_ℚ) c.args.target c.args.list.now c.args.offset) n c.in-Fin.side
+      source_finite (embedded (neg_ℚ one_ℚ) c.args.target c.args.span.now.list.now c.args.span.now.offset) n c.in-Fin.side
           c.args.row.now,
     )
-    (stand_more c.args.cols _ _ _ _ ls c.in_ok-entries-in-Fin.entries.items c.in-Fin.side _ e f
-    (source_stands c.args.cols c.args.target c.args.list.now c.args.offset n c.args.row.now c.in_ok-coeffs-in-Fin.coeffs.items
+    (stand_more c.args.span.now.cols _ _ _ _ ls c.in_ok-entries-in-Fin.entries.items c.in-Fin.side _ e f
+    (source_stands c.args.span.now.cols c.args.target c.args.span.now.list.now c.args.span.now.offset n c.args.row.now
+    c.in_ok-coeffs-in-Fin.coeffs.items
     c.in_ok-entries-in-Fin.entries.items c.negate-minus_one.result c.in-Fin.side c.requires.fits l c.in_ok-coeffs-in-Fin.ensures
     (c.negate-minus_one.ensures.value ∙ ap neg_ℚ c.one.ensures.value)
-    (c.in_ok-entries-in-Fin.ensures ∙ ap (λ u. dense_row c.args.cols (on_numbers c.negate-minus_one.result c.args.target c.args.list.now)
-    c.args.offset u) c.as_slice.ensures.value)) s))
+    (c.in_ok-entries-in-Fin.ensures ∙ ap (λ u. dense_row c.args.span.now.cols (on_numbers c.negate-minus_one.result c.args.target
+    c.args.span.now.list.now)
+    c.args.span.now.offset u) c.as_slice.ensures.value)) s))
 
 pub row_over-requires : goal.row_over-requires
 row_over-requires c =
@@ -28,13 +30,13 @@ row_over-requires c =
 pub returns-in-NegInf : goal.returns-in-NegInf
 returns-in-NegInf c = λ n ls l s. rw (
   c.in-NegInf.is,
-  source_below (embedded (neg_ℚ one_ℚ) c.args.target c.args.list.now c.args.offset) n
+  source_below (embedded (neg_ℚ one_ℚ) c.args.target c.args.span.now.list.now c.args.span.now.offset) n
       c.args.row.now ls,
 ) s
 
 pub returns-in-PosInf : goal.returns-in-PosInf
 returns-in-PosInf c = λ n ls l s. rw (
   c.in-PosInf.is,
-  source_above (embedded (neg_ℚ one_ℚ) c.args.target c.args.list.now c.args.offset) n
+  source_above (embedded (neg_ℚ one_ℚ) c.args.target c.args.span.now.list.now c.args.span.now.offset) n
       c.args.row.now ls,
 ) s

@@ -7,7 +7,8 @@ use Rattle.solve_joint.proofs.problem.push_sources.Given as goal
 
 abbrev pub invariant-loop-i : goal.invariant-loop-i
 invariant-loop-i l =
-    AreSources l.cols (λ r. embedded (neg_ℚ one_ℚ) (l.point * length l.system.template + r) l.list l.offset) (length l.system.flow.names)
-    (vector_of (length l.system.template) l.base l.point) l.system.template
+    AreSources l.span.cols (λ r. embedded (neg_ℚ one_ℚ) (l.point * length l.at.system.now.template + r) l.span.list.now l.span.offset)
+    (length l.at.system.now.flow.names)
+    (vector_of (length l.at.system.now.template) l.at.base.now l.point) l.at.system.now.template
     (map (λ r. r.coeffs.items) l.initial.rows.items) (map (λ r. r.side) l.initial.rows.items) (map (λ r. r.coeffs.items) l.rows.items)
     (map (λ r. r.side) l.rows.items) l.i

@@ -7,7 +7,7 @@ use Rattle.solve_ray.specs.declared.rate.Rates.{Rates}
 use Rattle.solve_joint.specs.declared.joined.Joined.TheVariants.{Ray}
 use Rattle.solve_rounds.specs.Lows.{no_trace, IsRaised}
 use Rattle.solve_rounds.specs.Turning.{HasSizes}
-use Rattle.solve_rounds.proofs.turning.Putting.{length-puts}
+use Rattle.solve_rounds.proofs.putting.Puts.{length-puts}
 use Rattle.solve_rounds.proofs.turning.TurnItems.{each_unknown}
 use Rattle.solve_rounds.proofs.turning.take.Goals as goal
 

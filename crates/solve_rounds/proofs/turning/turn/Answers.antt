@@ -1,13 +1,11 @@
 use Rattle.std.proofs.lemmas.Result.{MatchResult-weaker}
-use Rattle.lp_theory.specs.Simplex.{lp}
-use Rattle.solve_joint.specs.Problems.{problem_of}
-use Rattle.solve_rounds.proofs.turning.LayoutReads.{read_sizes}
 use Rattle.solve_rounds.proofs.turning.Turned.{rising}
-use Rattle.solve_rounds.proofs.turning.TurnedBy.{turned_is}
+use Rattle.solve_rounds.proofs.turning.TurnedBy.{turned_by}
+use Rattle.solve_rounds.proofs.turning.FoundFacts.{found_sizes, found_facts}
 use Rattle.solve_rounds.proofs.turning.turn.Goals as goal
 
-pub joined-requires-clause-rising : goal.joined-requires-clause-rising
-joined-requires-clause-rising g c =
+pub outcome-requires-clause-rising : goal.outcome-requires-clause-rising
+outcome-requires-clause-rising g c =
     let system = c.args.system.now in
     let pick = c.args.pick.now in
     let old = c.args.turning.now in
@@ -15,18 +13,23 @@ joined-requires-clause-rising g c =
 
 pub take-requires-clause-sizes : goal.take-requires-clause-sizes
 take-requires-clause-sizes g c =
-    let system = c.args.system.now in
-    let pick = c.args.pick.now in
-    let bounds = c.args.turning.now.bounds in
-    let list = c.args.list.now in
-    read_sizes system pick bounds list (lp (problem_of system pick bounds list)) c.in_ok-outcome.outcome c.in_ok-outcome.ensures.joined
+    found_sizes c.args.system.now c.args.pick.now c.args.raises.now c.args.places.now c.args.turning.now.bounds c.args.list.now
+    c.in_ok-found.found c.in_ok-found.ensures.found
 
 pub returns-clause-turned : goal.returns-clause-turned
 returns-clause-turned g c =
     let system = c.args.system.now in
     let pick = c.args.pick.now in
+    let raises = c.args.raises.now in
+    let places = c.args.places.now in
+    let list = c.args.list.now in
     let old = c.args.turning.now in
     let new = c.take.new.turning in
+    let part = c.requires.part in
+    let found = c.in_ok-found.found in
+    let is_found = c.in_ok-found.ensures.found in
     MatchResult-weaker c.take.result c.take.ensures.taken
-    (λ left t. turned_is system pick c.requires.chosen c.args.raises.now c.args.places.now c.args.list.now c.requires.part c.requires.some
-    old new left.items c.requires.bounds c.requires.condition c.in_ok-outcome.outcome c.in_ok-outcome.ensures.joined t) (λ e h. tt)
+    (λ left t. turned_by system pick raises places list part c.requires.some old new left.items c.requires.bounds c.requires.condition found
+    (found_sizes system pick raises places old.bounds list found is_found)
+    (found_facts system pick c.requires.chosen raises places list part old.bounds c.requires.bounds c.requires.condition found is_found) t)
+    (λ e h. tt)

@@ -1,7 +1,7 @@
 use Rattle.top_answer.specs.Commands.{command_of}
 use Rattle.top_texts.specs.Exact.{exact}
 use Rattle.top_answer.proofs.answers.Answered.{complete, holds, is_answer, message_is}
-use Rattle.top_answer.proofs.answers.Lawful.{lawful}
+use Rattle.top_answer.proofs.commands.Table.{lawful}
 use Rattle.top_answer.proofs.answering.answer.Goals as goal
 
 pub returns-clause-answer : goal.returns-clause-answer

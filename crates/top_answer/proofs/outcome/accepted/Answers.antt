@@ -1,4 +1,4 @@
-use Rattle.top_answer.proofs.answers.Said.{reported}
+use Rattle.top_answer.proofs.commands.Checks.{reported}
 use Rattle.top_answer.proofs.outcome.accepted.Goals as goal
 
 pub returns-clause-says : goal.returns-clause-says

@@ -3,7 +3,7 @@ use Rattle.std.specs.Prelude.{ℤ}
 use Rattle.ask_words.specs.Request.{analysis_text}
 use Rattle.top_status.specs.CheckMessages.{rows_of}
 use Rattle.top_texts.proofs.analyses.Analysed.{system_rows}
-use Rattle.top_answer.proofs.answers.Said.{solved, unsolvable}
+use Rattle.top_answer.proofs.commands.Analyses.{solved, unsolvable}
 use Rattle.top_answer.proofs.outcome.analysed.Goals as goal
 
 pub returns-in-Ok-clause-says : goal.returns-in-Ok-clause-says

@@ -1,4 +1,4 @@
-use Rattle.top_answer.proofs.answers.Said.{unspelt}
+use Rattle.top_answer.proofs.commands.Checks.{unspelt}
 use Rattle.top_answer.proofs.outcome.checked.Goals as goal
 
 pub returns-in-Err-clause-says : goal.returns-in-Err-clause-says

@@ -1,14 +1,19 @@
 use Rattle.std.proofs.Common.{subst, sym}
-use Rattle.ask_words.specs.Request.{request_text}
-use Rattle.top_answer.specs.Commands.{HasRows, command_of}
+use Rattle.ask_words.specs.Request.{analysis_text, request_text}
+use Rattle.top_answer.specs.Commands.{command_of}
 use Rattle.top_answer.specs.Outcomes.{Says}
 use Rattle.top_texts.specs.Exact.{exact}
-use Rattle.top_answer.proofs.answers.Said.{answered, benched, pointed, upgraded}
+use Rattle.top_answer.proofs.commands.Generated.{benched}
+use Rattle.top_answer.proofs.commands.Points.{pointed}
+use Rattle.top_answer.proofs.commands.Claims.{proved}
+use Rattle.top_answer.proofs.commands.Equations.{equated}
+use Rattle.top_answer.proofs.commands.Transitions.{transited}
+use Rattle.top_answer.proofs.commands.Upgrades.{upgraded}
 use Rattle.top_answer.proofs.outcome.outcome_of.Goals as goal
 
 pub returns-in-Analyse-clause-rows : goal.returns-in-Analyse-clause-rows
 returns-in-Analyse-clause-rows g c = λ count has. c.analysed.ensures.rows count
-    (subst (λ r. HasRows exact (request_text r) count) c.in-Analyse.is has)
+    (subst (λ r. (command_of exact (request_text r)).has_rows count) c.in-Analyse.is has)
 
 pub returns-in-Bench-clause-says : goal.returns-in-Bench-clause-says
 returns-in-Bench-clause-says g c =
@@ -26,19 +31,22 @@ pub returns-in-Prove-clause-says : goal.returns-in-Prove-clause-says
 returns-in-Prove-clause-says g c =
     subst (λ r. Says (command_of exact (request_text r)) c.outcome_from-in-Prove.result.status c.outcome_from-in-Prove.result.bytes.items)
     (sym c.in-Prove.is)
-    (answered _ _ _ _ _ c.prove_text-made.ensures.ok c.prove_text-made.ensures.err c.outcome_from-in-Prove.ensures.is)
+    (proved c.in-Prove.claims.now (analysis_text c.in-Prove.analysis) _ _ _ c.prove_text-made.ensures.ok
+    c.prove_text-made.ensures.err c.outcome_from-in-Prove.ensures.is)
 
 pub returns-in-Transitions-clause-says : goal.returns-in-Transitions-clause-says
 returns-in-Transitions-clause-says g c =
     subst (λ r. Says (command_of exact (request_text r)) c.outcome_from-in-Transitions.result.status
     c.outcome_from-in-Transitions.result.bytes.items) (sym c.in-Transitions.is)
-    (answered _ _ _ _ _ c.transitions_text-made.ensures.ok c.transitions_text-made.ensures.err c.outcome_from-in-Transitions.ensures.is)
+    (transited (analysis_text c.in-Transitions.analysis) _ _ _ c.transitions_text-made.ensures.ok
+    c.transitions_text-made.ensures.err c.outcome_from-in-Transitions.ensures.is)
 
 pub returns-in-Equations-clause-says : goal.returns-in-Equations-clause-says
 returns-in-Equations-clause-says g c =
     subst (λ r. Says (command_of exact (request_text r)) c.outcome_from-in-Equations.result.status
     c.outcome_from-in-Equations.result.bytes.items) (sym c.in-Equations.is)
-    (answered _ _ _ _ _ c.equations_text.ensures.ok c.equations_text.ensures.err c.outcome_from-in-Equations.ensures.is)
+    (equated c.in-Equations.file.now c.in-Equations.improvements c.in-Equations.policy _ _ _
+    c.equations_text.ensures.ok c.equations_text.ensures.err c.outcome_from-in-Equations.ensures.is)
 
 pub returns-in-Points-clause-says : goal.returns-in-Points-clause-says
 returns-in-Points-clause-says g c =

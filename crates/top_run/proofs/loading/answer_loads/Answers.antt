@@ -1,5 +1,5 @@
 use Rattle.std.proofs.Common.{◌∙◌, ap}
-use Rattle.ask_files.specs.Asked.{texts_of}
+use Rattle.ask_files.specs.Files.{texts_of}
 use Rattle.top_run.proofs.parts.Answering.{same_contents}
 use Rattle.top_run.proofs.loading.answer_loads.Goals as goal
 

@@ -1,5 +1,5 @@
 use Rattle.std.proofs.Common.{◌≡◌, take}
-use Rattle.ask_files.specs.Asked.{texts_of}
+use Rattle.ask_files.specs.Files.{texts_of}
 use Rattle.ask_files.specs.Loads.{contents_of}
 use Rattle.base_files.specs.Loads.{loaded_files}
 use Rattle.top_run.proofs.loading.contents_of.Given as goal

@@ -1,0 +1,4 @@
+pub mod Highs
+pub mod ReachedBy
+pub mod ReachedFacts
+pub mod ValidRay

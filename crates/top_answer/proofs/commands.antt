@@ -1,0 +1,12 @@
+pub mod Lawful
+pub mod Results
+pub mod Asking
+pub mod Analyses
+pub mod Checks
+pub mod Generated
+pub mod Upgrades
+pub mod Claims
+pub mod Transitions
+pub mod Equations
+pub mod Points
+pub mod Table

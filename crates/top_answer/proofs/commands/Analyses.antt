@@ -1,0 +1,138 @@
+-- The analysis of a program, for its report or for its certificate.
+use Rattle.std.proofs.Common.{◌≡◌, ◌∙◌, ◌⊎◌, ◌≤◌, ◌<◌, arith, ⊎_elim, ℕ, List, [], length, refl, sym, ap, subst, subst₂}
+use Rattle.std.specs.Prelude.{IfOk, IfErr, Result, Some, Vec}
+use Rattle.std.specs.declared.alloc.Global.{Global}
+use Rattle.clap.specs.Words.{Row}
+use Rattle.flow_systems.specs.View.{vector_of}
+use Rattle.flow_systems.specs.declared.system.System.{System}
+use Rattle.cert_types.specs.declared.cert.Cert.{Cert}
+use Rattle.cert_text.specs.Certificates.{IsBeyond, IsWithin}
+use Rattle.cert_text.specs.Naming.{named_traces, values_of}
+use Rattle.cert_text.specs.declared.limits.TheConstants.{MOST_VALUES}
+use Rattle.solve_rounds.specs.Solutions.{cert_with}
+use Rattle.ask_files.specs.Files.{Request, analysis_with}
+use Rattle.ask_files.specs.declared.which.Which.TheVariants as which
+use Rattle.ask_words.specs.Request.{analyse_in, analysis_in}
+use Rattle.ask_words.specs.declared.request.Analysis.{Analysis}
+use Rattle.ask_words.specs.declared.request.Domain.{Domain}
+use Rattle.ask_words.specs.declared.request.Policy.{Policy}
+use Rattle.ask_words.specs.declared.request.Purpose.{Purpose}
+use Rattle.ask_words.specs.declared.request.Purpose.TheVariants.{Report, Certificate as AsCertificate}
+use Rattle.ask_words.specs.declared.request.Request.TheVariants.{Analyse}
+use Rattle.top_answer.specs.Commands.{IsCertificate, IsPut, command_of}
+use Rattle.top_answer.specs.Outcomes.{HasOutcome, Says}
+use Rattle.top_status.specs.declared.status.Status.{Status}
+use Rattle.top_status.specs.declared.status.Status.TheVariants.{Done}
+use Rattle.top_texts.specs.Checks.{system_with}
+use Rattle.top_texts.specs.Exact.{exact}
+use Rattle.top_texts.specs.Outcomes.{IsHalted, IsOutputOf, IsRefusedBy, refused}
+use Rattle.top_texts.specs.Questions.{Question, QuestionEnds, analysis_question, rounds_end}
+use Rattle.top_texts.specs.Reports.{IsCertificateOf, IsPutOf}
+use Rattle.top_texts.specs.Texts.{IsSolvedSystem}
+use Rattle.top_texts.specs.declared.refusal.Refusal.{Refusal}
+use Rattle.top_texts.proofs.analyses.Analysed.{output_put}
+use Rattle.top_texts.proofs.analyses.Unanswered.{unsolved, unsystematic}
+use Rattle.top_texts.proofs.checks.Accepted.{bounds_are}
+use Rattle.top_texts.proofs.questions.OneMeaning.{analysis_once}
+use Rattle.top_texts.proofs.rounds.OneChain.{solved_ends}
+use Rattle.top_answer.proofs.commands.Asking.{lawful}
+use Rattle.top_answer.proofs.commands.Lawful.{IsCommand, IsForNone, IsInRange}
+use Rattle.top_answer.proofs.commands.Results.{answered, err_map, ok_map, question_says}
+use Rattle.top_answer.proofs.outputs.Reports.{report_once}
+use Rattle.top_answer.proofs.requests.Limits.{within}
+use Rattle.top_answer.proofs.requests.Numbers.{analysis_bounds, map_some}
+
+-- ---- what is written
+
+-- traces that don't hold too many values hold few enough
+few : (cert : Cert) → (IsBeyond cert → ⊥) → IsWithin cert
+few cert n = ⊎_elim (λ h. h) (λ h. absurd (n h)) (le_or_lt (values_of (named_traces cert.steps)) MOST_VALUES)
+  where
+    le_or_lt : (m k : ℕ) → (m ≤ k) ⊎ (k < m)
+    le_or_lt m k = grind arith
+
+-- the certificate that the rounds make of texts is one by the exact meanings
+certificate : (text : List ℕ) (rows : Domain (List ℕ)) (policy : Policy) (limit : ℕ) (bytes : List ℕ)
+    → IsCertificateOf text rows policy limit bytes → IsCertificate exact text rows policy limit bytes
+certificate text rows policy limit bytes c = record {
+  made = c;
+  names = c.names;
+  body = c.body;
+  template = c.template;
+  ready = c.ready;
+  vector = vector_of (length c.template) c.solved.bounds;
+  accepted = λ kept. record {
+    cert = cert_with c.system c.solved;
+    rows_are = c.system_for.template_is;
+    vector_is = bounds_are (system_with c.names c.body (cert_with c.system c.solved)) c.solved.bounds
+        ∙ ap (λ t. vector_of (length t) c.solved.bounds) c.system_for.template_is;
+    valid = c.accepted (few (cert_with c.system c.solved) (λ many. kept (c.names, c.body, c.ready.system.analysed, c.expands many)));
+    narrow = c.narrow;
+  };
+  least = c.least;
+}
+
+put_by : (purpose : Purpose) (a : Analysis (List ℕ)) (bytes : List ℕ) → IsPutOf purpose a.program a.domain a.policy a.improvements bytes
+    → IsPut exact purpose a bytes
+put_by Report a bytes r = r
+put_by AsCertificate a bytes c = certificate a.program a.domain a.policy a.improvements bytes c
+
+-- ---- the laws
+
+-- the question of an analysis
+abbrev question : Purpose → Analysis (List ℕ) → Question
+question purpose a = analysis_question exact purpose a.program a.domain a.policy a.improvements
+
+written_ends : (purpose : Purpose) (a : Analysis (List ℕ)) (bytes : List ℕ) → IsPut exact purpose a bytes
+    → QuestionEnds (question purpose a) Done
+written_ends Report a bytes r = rounds_end r.system refl
+    (record { names = r.names; body = r.body; template = r.template; ready = r.ready; system_for = r.system_for })
+    (r.rounds, r.within, r.vector, r.has_rounds)
+written_ends AsCertificate a bytes c = rounds_end c.made.system refl
+    (record { names = c.made.names; body = c.made.body; template = c.made.template; ready = c.made.ready; system_for = c.made.system_for })
+    (solved_ends c.made.system a.policy a.improvements c.made.solved c.made.is_solved)
+
+one_report : (a : Analysis (List ℕ)) (one other : List ℕ) → IsPut exact Report a one → IsPut exact Report a other → one ≡ other
+one_report a one other h k = report_once a.program a.domain a.policy a.improvements one other h k
+
+writes_once : (purpose : Purpose) (a : Analysis (List ℕ)) → IsForNone (Analyse purpose a) → (contents : List (List ℕ)) (one other : List ℕ)
+    → IsPut exact purpose (analysis_with a contents) one → IsPut exact purpose (analysis_with a contents) other → one ≡ other
+writes_once Report a none contents one other h k = one_report (analysis_with a contents) one other h k
+writes_once AsCertificate a none contents one other h k = absurd (none a refl)
+
+-- an analysis is a command of the program
+pub analyses : (purpose : Purpose) (a : Analysis (List ℕ)) → IsCommand (Analyse purpose a)
+analyses purpose a = record {
+  lawful = lawful (question purpose a) (analysis_once purpose a.program a.domain a.policy a.improvements)
+      (λ bytes. IsPut exact purpose a bytes) (written_ends purpose a);
+  writes_once = writes_once purpose a;
+  limits = λ contents range e. within (which.Program, a.program) a [] contents refl range e;
+}
+
+-- its improvements are within their limit
+pub analysis_range : (purpose : Purpose) (given : List Row) (r : Request) → analyse_in purpose given ≡ Some r → IsInRange r
+analysis_range purpose given r e =
+    let made : Analysis (List ℕ) → Request = λ a. Analyse purpose a in
+    let a = map_some made (analysis_in given) r e in
+    subst (λ r. IsInRange r) a.2 (analysis_bounds given a.0 a.1)
+
+-- ---- its result
+
+module _ (a : Analysis (List ℕ)) (system : System) (is : IsSolvedSystem a.program a.domain system) where
+  -- what the analysis of a system comes to is what its texts do
+  pub solved : (purpose : Purpose) (r : Result (Vec ℕ Global) Refusal) (s : Status) (bytes : List ℕ)
+      → IfOk r (λ made. IsOutputOf purpose system a.policy a.improvements made.items)
+      → IfErr r (λ x. IsHalted purpose system a.policy a.improvements x) → HasOutcome r s bytes
+      → Says (command_of exact (Analyse purpose a)) s bytes
+  solved purpose r s bytes ok err h = answered (question purpose a) (λ b. IsPut exact purpose a b) r s bytes
+      (ok_map (λ b. IsOutputOf purpose system a.policy a.improvements b) _
+      (λ b o. put_by purpose a b (output_put purpose a.program a.domain system a.policy a.improvements b is o)) r ok)
+      (err_map (λ x. IsHalted purpose system a.policy a.improvements x) _
+      (unsolved purpose a.program a.domain a.policy a.improvements system is) r err) h
+
+-- texts that have no system
+pub unsolvable : (purpose : Purpose) (a : Analysis (List ℕ)) (x : Refusal) (s : Status) (bytes : List ℕ)
+    → IsRefusedBy a.program a.domain x → (s ≡ refused x) × (bytes ≡ []) → Says (command_of exact (Analyse purpose a)) s bytes
+unsolvable purpose a x s bytes h (e, i) = subst₂ (λ t b. Says (command_of exact (Analyse purpose a)) t b) (sym e) (sym i)
+    (question_says (question purpose a) (λ b. IsPut exact purpose a b) x
+    (unsystematic purpose a.program a.domain a.policy a.improvements x h))

@@ -1,0 +1,118 @@
+-- The check of a certificate.
+use Rattle.std.proofs.Common.{◌≡◌, inl, ℕ, List, [], ◌∷◌, refl, sym, subst, subst₂}
+use Rattle.std.specs.Prelude.{IfOk, IfErr, Result, Ok, Err, Some, Vec}
+use Rattle.std.specs.declared.alloc.Global.{Global}
+use Rattle.clap.specs.Words.{Row, Text as WordText, first_of}
+use Rattle.std.specs.Prelude.{Option, codes, option_map}
+use Rattle.theory_validity.specs.Certificates.{bounds_vector}
+use Rattle.ask_files.specs.Files.{Request, text_at}
+use Rattle.ask_files.specs.declared.which.Which.TheVariants as which
+use Rattle.ask_words.specs.Request.{check_in}
+use Rattle.ask_words.specs.declared.request.Request.TheVariants.{Check}
+use Rattle.top_answer.specs.Commands as commands
+use Rattle.top_answer.specs.Commands.{CheckEnds, IsChecked, command_of}
+use Rattle.top_answer.specs.Outcomes.{HasOutcome, Says}
+use Rattle.top_status.specs.declared.status.Status.{Status}
+use Rattle.top_status.specs.declared.status.Status.TheVariants.{Done, Certificate as Refused, Usage, Read, Text, Wide, Spent, Memory, Write}
+use Rattle.top_texts.specs.Checks.{IsSpelt, system_with}
+use Rattle.top_texts.specs.Endings.{CheckEnd}
+use Rattle.top_texts.specs.Exact.{exact}
+use Rattle.top_texts.specs.Outcomes.{GetsNoReport, IsAnswerToCheck, IsUnspelt, refused}
+use Rattle.top_texts.specs.Reports.{IsReportBy}
+use Rattle.top_texts.specs.declared.refusal.Refusal.{Refusal}
+use Rattle.top_texts.specs.declared.refusal.Refusal.TheVariants as refusal
+use Rattle.top_texts.proofs.checks.CheckOnce.{check_ends_once, check_staged}
+use Rattle.top_texts.proofs.checks.Refused.{unreported_answers, unspelt_answers}
+use Rattle.top_answer.proofs.commands.Lawful.{IsCommand, IsInRange}
+use Rattle.top_answer.proofs.commands.Results.{outcome_says}
+use Rattle.top_answer.proofs.outputs.Reports.{checked_once}
+use Rattle.top_answer.proofs.requests.Limits.{first_short}
+use Rattle.top_answer.proofs.requests.Numbers.{and_then_some, ranged}
+
+-- ---- endings, from the words of their own to those of the exact meanings, and back
+
+-- an ending of a check is one by the exact meanings
+check_end : (text bytes : List ℕ) (s : Status) → CheckEnd text bytes s → CheckEnds exact text bytes s
+check_end text bytes Done (names, body, cert, valid, narrow) =
+    commands.accepted names body cert.rows (bounds_vector (system_with names body cert) cert.bounds) refl
+    (record { cert = cert; rows_are = refl; vector_is = refl; valid = valid; narrow = narrow })
+check_end text bytes (Refused cause) h = commands.certificate_refused cause refl h
+check_end text bytes Usage h = absurd h
+check_end text bytes (Read cause) h = absurd h
+check_end text bytes (Text cause) h = commands.program_refused cause refl h
+check_end text bytes (Wide spot) h = commands.sum_too_wide spot refl h
+check_end text bytes (Spent n) h = absurd h
+check_end text bytes Memory h = absurd h
+check_end text bytes Write h = absurd h
+
+check_end_back : (text bytes : List ℕ) (s : Status) → CheckEnds exact text bytes s → CheckEnd text bytes s
+check_end_back text bytes s (commands.program_refused cause e h) = subst (λ x. CheckEnd text bytes x) (sym e) h
+check_end_back text bytes s (commands.certificate_refused cause e h) = subst (λ x. CheckEnd text bytes x) (sym e) h
+check_end_back text bytes s (commands.sum_too_wide spot e h) = subst (λ x. CheckEnd text bytes x) (sym e) h
+check_end_back text bytes s (commands.accepted names body rows vector e h) =
+    subst (λ x. CheckEnd text bytes x) (sym e) (names, body, h.cert, h.valid, h.narrow)
+
+-- ---- the laws
+
+-- the report of a certificate that is accepted is one by the exact meanings
+checked : (text given bytes : List ℕ) → IsReportBy text given bytes → IsChecked exact text given bytes
+checked text given bytes r = record {
+  names = r.names;
+  body = r.body;
+  rows = r.cert.rows;
+  vector = _;
+  accepted = record { cert = r.cert; rows_are = refl; vector_is = refl; valid = r.valid; narrow = r.narrow };
+  least = r.least;
+}
+
+-- a check is a command of the program
+pub checks : (text given : List ℕ) → IsCommand (Check text given)
+checks text given = record {
+  lawful = record {
+    ends_once = λ s t h k. check_ends_once text given s t (check_staged text given s (check_end_back text given s h))
+        (check_staged text given t (check_end_back text given t k));
+    wide_ends = λ spot s w h. absurd w;
+    written_ends = λ bytes r. commands.accepted r.names r.body r.rows r.vector refl r.accepted;
+    never_unread = λ cause h. check_end_back text given (Read cause) h;
+    never_unwritten = λ h. check_end_back text given Write h;
+  };
+  writes_once = λ none contents one other h k. checked_once (text_at contents 0) (text_at contents 1) one other h k;
+  limits = λ contents range e. first_short (which.Program, text) ((which.Certificate, given) ∷ []) contents refl e;
+}
+
+check_of : List Row → WordText → Option Request
+check_of given program = option_map (λ certificate. Check program certificate) (first_of (codes "certificate") given)
+
+-- it has no number
+pub check_range : (given : List Row) (r : Request) → check_in given ≡ Some r → IsInRange r
+unfolding check_of
+check_range given r e =
+    let p = and_then_some (check_of given) (first_of (codes "program") given) r e in
+    let made : WordText → Request = λ certificate. Check p.0 certificate in
+    ranged made (first_of (codes "certificate") given) r p.2 (λ certificate. tt)
+
+-- ---- its result
+
+check_says : (text given : List ℕ) (x : Refusal) → IsAnswerToCheck text given (refused x)
+    → Says (command_of exact (Check text given)) (refused x) []
+check_says text given (refusal.Text c) h = (check_end text given (Text c) h, refl)
+check_says text given (refusal.Certificate c) h = (check_end text given (Refused c) h, refl)
+check_says text given (refusal.Wide spot) h = (inl (check_end text given (Wide spot) h), refl)
+check_says text given (refusal.Spent n) h = absurd h
+check_says text given refusal.NoMemory h = refl
+
+-- a certificate that is spelt, and its report or why there is none
+pub reported : (text given : List ℕ) (names : _) (body : _) (cert : _) (r : Result (Vec ℕ Global) Refusal) (s : Status) (bytes : List ℕ)
+    → IsSpelt text given names body cert → IfOk r (λ made. (t g : List ℕ) → IsSpelt t g names body cert → IsReportBy t g made.items)
+    → IfErr r (λ x. GetsNoReport names body cert x) → HasOutcome r s bytes → Says (command_of exact (Check text given)) s bytes
+reported text given names body cert (Ok made) s bytes spelt ok err h =
+    outcome_says (command_of exact (Check text given)) (Ok made) s bytes (checked text given made.items (ok text given spelt)) tt h
+reported text given names body cert (Err x) s bytes spelt ok err h =
+    outcome_says (command_of exact (Check text given)) (Err x) s bytes tt
+    (check_says text given x (unreported_answers text given names body cert x spelt err)) h
+
+-- a text or bytes that spell no certificate of it
+pub unspelt : (text given : List ℕ) (x : Refusal) (s : Status) (bytes : List ℕ) → IsUnspelt text given x
+    → (s ≡ refused x) × (bytes ≡ []) → Says (command_of exact (Check text given)) s bytes
+unspelt text given x s bytes h (e, i) = subst₂ (λ t b. Says (command_of exact (Check text given)) t b) (sym e) (sym i)
+    (check_says text given x (unspelt_answers text given x h))

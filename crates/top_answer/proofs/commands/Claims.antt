@@ -1,0 +1,71 @@
+-- The proof of claims.
+use Rattle.std.proofs.Common.{◌≡◌, ◌+◌, ℕ, List, [], ◌∷◌, refl, sym, subst}
+use Rattle.std.specs.Prelude.{IfOk, IfErr, Option, None, Result, Some, Vec, codes, option_map}
+use Rattle.std.specs.declared.alloc.Global.{Global}
+use Rattle.clap.specs.Words.{Row, Text as WordText, first_of}
+use Rattle.ask_files.specs.Files.{Request, analysis_with, files_of, rows_before, rows_files, text_at, unread, with_texts}
+use Rattle.ask_files.specs.declared.which.Which.TheVariants as which
+use Rattle.ask_words.specs.Request.{analysis_in, prove_in}
+use Rattle.ask_words.specs.declared.request.Analysis.{Analysis}
+use Rattle.ask_words.specs.declared.request.Request.TheVariants.{Prove}
+use Rattle.top_answer.specs.Commands.{command_of}
+use Rattle.top_texts.specs.ClaimTexts.{AreVerdictsOf}
+use Rattle.top_texts.specs.Exact.{exact}
+use Rattle.top_texts.specs.Questions.{claims_question}
+use Rattle.top_texts.specs.Short.{IsShort}
+use Rattle.top_texts.proofs.claim_texts.Judged.{verdicts_end}
+use Rattle.top_texts.proofs.claim_texts.OneText.{verdicts_once}
+use Rattle.top_texts.proofs.questions.OneMeaning.{claims_once}
+use Rattle.top_answer.specs.Outcomes.{HasOutcome, Says}
+use Rattle.top_status.specs.declared.status.Status.{Status}
+use Rattle.top_texts.specs.Outcomes.{IsUnanswered}
+use Rattle.top_texts.specs.declared.refusal.Refusal.{Refusal}
+use Rattle.top_answer.proofs.commands.Results.{answered}
+use Rattle.top_answer.proofs.commands.Asking.{lawful}
+use Rattle.top_answer.proofs.commands.Lawful.{IsCommand, IsInRange}
+use Rattle.top_answer.proofs.requests.Limits.{claims_short, read_first, within}
+use Rattle.top_answer.proofs.requests.Numbers.{analysis_bounds, and_then_some, map_some}
+
+one_list : (a : Analysis (List ℕ)) (given one other : List ℕ) → AreVerdictsOf exact a.program a.domain given a.policy a.improvements one
+    → AreVerdictsOf exact a.program a.domain given a.policy a.improvements other → one ≡ other
+one_list a given one other h k = verdicts_once a.program a.domain given a.policy a.improvements one other h k
+
+limits : (given : List ℕ) (a : Analysis (List ℕ)) (contents : List (List ℕ)) → IsInRange (Prove given a)
+    → unread (files_of (Prove given a)) contents ≡ None → (command_of exact (with_texts (Prove given a) contents)).in_limits
+limits given a contents range e =
+    let read = read_first (which.Program, a.program) (rows_before a.domain ((which.Claims, given) ∷ [])) contents e in (
+      within (which.Program, a.program) a ((which.Claims, given) ∷ []) contents refl range e,
+      subst (λ c. IsShort (text_at c (1 + rows_files a.domain))) (sym read.2) (claims_short a.domain given read.0 read.1 read.4),
+    )
+
+-- a proof of claims is a command of the program
+pub claims : (given : List ℕ) (a : Analysis (List ℕ)) → IsCommand (Prove given a)
+claims given a = record {
+  lawful = lawful (claims_question exact a.program a.domain given a.policy a.improvements)
+      (claims_once a.program a.domain given a.policy a.improvements)
+      (λ bytes. AreVerdictsOf exact a.program a.domain given a.policy a.improvements bytes)
+      (verdicts_end a.program a.domain given a.policy a.improvements);
+  writes_once = λ none contents one other h k.
+      one_list (analysis_with a contents) (text_at contents (1 + rows_files a.domain)) one other h k;
+  limits = limits given a;
+}
+
+prove_of : List Row → Analysis WordText → Option Request
+prove_of given a = option_map (λ claims. Prove claims a) (first_of (codes "claims") given)
+
+-- its improvements are within their limit
+pub claims_range : (given : List Row) (r : Request) → prove_in given ≡ Some r → IsInRange r
+unfolding prove_of
+claims_range given r e =
+    let a = and_then_some (prove_of given) (analysis_in given) r e in
+    let made : WordText → Request = λ claims. Prove claims a.0 in
+    let claims = map_some made (first_of (codes "claims") given) r a.2 in
+    subst (λ r. IsInRange r) claims.2 (analysis_bounds given a.0 a.1)
+
+-- its verdicts, or why there are none
+pub proved : (given : List ℕ) (a : Analysis (List ℕ)) (r : Result (Vec ℕ Global) Refusal) (s : Status) (bytes : List ℕ)
+    → IfOk r (λ made. AreVerdictsOf exact a.program a.domain given a.policy a.improvements made.items)
+    → IfErr r (λ x. IsUnanswered (claims_question exact a.program a.domain given a.policy a.improvements) x) → HasOutcome r s bytes
+    → Says (command_of exact (Prove given a)) s bytes
+proved given a r s bytes ok err h = answered (claims_question exact a.program a.domain given a.policy a.improvements)
+    (λ bytes. AreVerdictsOf exact a.program a.domain given a.policy a.improvements bytes) r s bytes ok err h

@@ -1,0 +1,51 @@
+-- What commands have to keep to, so that an answer is one.
+use Rattle.std.proofs.Common.{◌≡◌, ◌≢◌, ℕ, List}
+use Rattle.std.specs.Prelude.{None}
+use Rattle.flow_systems.specs.declared.spot.Spot.{Spot}
+use Rattle.ask_files.specs.Files.{Request, files_of, unread, with_texts}
+use Rattle.ask_files.specs.declared.which.ReadCause.{ReadCause}
+use Rattle.ask_words.specs.declared.request.Analysis.{Analysis}
+use Rattle.ask_words.specs.declared.request.Purpose.TheVariants.{Certificate}
+use Rattle.ask_words.specs.declared.request.Request.TheVariants.{Analyse}
+use Rattle.top_answer.specs.Answers.{IsOfRounds}
+use Rattle.top_answer.specs.Commands.{Commands, command_of}
+use Rattle.top_status.specs.declared.status.Status.{Status}
+use Rattle.top_status.specs.declared.status.Status.TheVariants.{Done, Read, Write}
+use Rattle.top_texts.specs.Exact.{exact}
+
+-- a command whose answers are determined by what stands, by its endings, its wide operations, and what it writes
+pub record IsLawfulCommand (ends : Status → Type 0) (too_wide : Spot → Type 0) (writes : List ℕ → Type 0) : Type 0 where
+  -- texts have one ending
+  pub ends_once : (s t : Status) → ends s → ends t → s ≡ t
+  -- improvements decide it where an operation is too wide
+  pub wide_ends : (spot : Spot) (s : Status) → too_wide spot → ends s → IsOfRounds s
+  -- it is success where something is written
+  pub written_ends : (bytes : List ℕ) → writes bytes → ends Done
+  -- it is no failed read
+  pub never_unread : (cause : ReadCause) → ends (Read cause) → ⊥
+  -- and no failed put
+  pub never_unwritten : ends Write → ⊥
+
+-- commands that are such, whatever is asked
+abbrev pub IsLawful : Commands → Type 0
+IsLawful commands = (asked : Request) → IsLawfulCommand (commands asked).ends (commands asked).too_wide (commands asked).writes
+
+-- the numbers of a request are within their limits
+abbrev pub IsInRange : Request → Type 0
+IsInRange request = (command_of exact request).in_range
+
+-- the request is for no certificate
+abbrev pub IsForNone : Request → Type 0
+IsForNone request = (analysis : Analysis (List ℕ)) → request ≢ Analyse Certificate analysis
+
+-- what is shown of each request of the program
+pub record IsCommand (request : Request) : Type 0 where
+  -- its command is lawful
+  pub lawful : IsLawfulCommand (command_of exact request).ends (command_of exact request).too_wide (command_of exact request).writes
+  -- one text is written of its texts, unless it is a certificate
+  pub writes_once : IsForNone request → (contents : List (List ℕ)) (one other : List ℕ)
+      → (command_of exact (with_texts request contents)).writes one
+      → (command_of exact (with_texts request contents)).writes other → one ≡ other
+  -- where its numbers are within their limits and its files are read, its texts are within theirs
+  pub limits : (contents : List (List ℕ)) → IsInRange request → unread (files_of request) contents ≡ None
+      → (command_of exact (with_texts request contents)).in_limits

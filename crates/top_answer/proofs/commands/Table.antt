@@ -1,0 +1,63 @@
+-- All commands, and all words that ask for one.
+use Rattle.std.proofs.Common.{◌≡◌, ℕ, Bool, true, false, List, if◌then◌else◌}
+use Rattle.std.specs.Prelude.{Option, Some, None, codes}
+use Rattle.std.specs.Str.{bytes_eq}
+use Rattle.clap.specs.Words.{Row, Text}
+use Rattle.ask_files.specs.Files.{Request, files_of, unread, with_texts}
+use Rattle.ask_words.specs.Request.{analyse_in, bench_in, check_in, command_in, equations_in, points_in, prove_in, transitions_in}
+use Rattle.ask_words.specs.Request.{upgrade_in}
+use Rattle.ask_words.specs.declared.request.Purpose.TheVariants.{Report, Certificate}
+use Rattle.ask_words.specs.declared.request.Request.TheVariants.{Analyse, Check, Bench, Upgrade, Prove, Transitions, Equations, Points}
+use Rattle.top_answer.specs.Commands.{command_of}
+use Rattle.top_texts.specs.Exact.{exact}
+use Rattle.top_answer.proofs.commands.Analyses.{analyses, analysis_range}
+use Rattle.top_answer.proofs.commands.Checks.{check_range, checks}
+use Rattle.top_answer.proofs.commands.Claims.{claims, claims_range}
+use Rattle.top_answer.proofs.commands.Equations.{equations, equations_range}
+use Rattle.top_answer.proofs.commands.Generated.{bench_range, benches}
+use Rattle.top_answer.proofs.commands.Lawful.{IsCommand, IsInRange, IsLawful}
+use Rattle.top_answer.proofs.commands.Points.{points, points_range}
+use Rattle.top_answer.proofs.commands.Transitions.{transitions, transitions_range}
+use Rattle.top_answer.proofs.commands.Upgrades.{upgrade_range, upgrades}
+use Rattle.top_answer.proofs.requests.Numbers.{none_some}
+
+-- each request is for a command of the program
+pub table : (request : Request) → IsCommand request
+table (Analyse purpose a) = analyses purpose a
+table (Check text given) = checks text given
+table (Bench seed loops) = benches seed loops
+table (Upgrade given) = upgrades given
+table (Prove given a) = claims given a
+table (Transitions a) = transitions a
+table (Equations text limit policy) = equations text limit policy
+table (Points text) = points text
+
+-- the commands of the program are lawful
+pub lawful : IsLawful (command_of exact)
+lawful asked = (table asked).lawful
+
+-- where the files of a request are read, its texts are within their limits
+pub in_limits : (request : Request) (contents : List (List ℕ)) → IsInRange request → unread (files_of request) contents ≡ None
+    → (command_of exact (with_texts request contents)).in_limits
+in_limits request contents range e = (table request).limits contents range e
+
+-- ---- by their words
+
+if_range : (b : Bool) (x y : Option Request) (r : Request) → (x ≡ Some r → IsInRange r) → (y ≡ Some r → IsInRange r)
+    → (if b then x else y) ≡ Some r → IsInRange r
+if_range true x y r h k e = h e
+if_range false x y r h k e = k e
+
+-- the numbers of a command that is named are within their limits
+pub named_range : (p : Text × List Row) (r : Request) → command_in p ≡ Some r → IsInRange r
+named_range (name, given) r e =
+    if_range (bytes_eq name (codes "solve")) (analyse_in Report given) _ r (analysis_range Report given r)
+    (if_range (bytes_eq name (codes "certify")) (analyse_in Certificate given) _ r (analysis_range Certificate given r)
+    (if_range (bytes_eq name (codes "check")) (check_in given) _ r (check_range given r)
+    (if_range (bytes_eq name (codes "bench")) (bench_in given) _ r (bench_range given r)
+    (if_range (bytes_eq name (codes "upgrade")) (upgrade_in given) _ r (upgrade_range given r)
+    (if_range (bytes_eq name (codes "prove")) (prove_in given) _ r (claims_range given r)
+    (if_range (bytes_eq name (codes "transitions")) (transitions_in given) _ r (transitions_range given r)
+    (if_range (bytes_eq name (codes "equations")) (equations_in given) _ r (equations_range given r)
+    (if_range (bytes_eq name (codes "points")) (points_in given) None r (points_range given r) (λ h. absurd (none_some r h))))))))))
+    e

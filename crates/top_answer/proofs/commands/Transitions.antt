@@ -1,0 +1,55 @@
+-- The analysis of a transition system.
+use Rattle.std.proofs.Common.{◌≡◌, ℕ, List, [], refl, subst}
+use Rattle.std.specs.Prelude.{IfOk, IfErr, Result, Some, Vec}
+use Rattle.std.specs.declared.alloc.Global.{Global}
+use Rattle.clap.specs.Words.{Row, Text as WordText}
+use Rattle.ask_files.specs.Files.{Request, analysis_with}
+use Rattle.ask_files.specs.declared.which.Which.TheVariants as which
+use Rattle.ask_words.specs.Request.{analysis_in, transitions_in}
+use Rattle.ask_words.specs.declared.request.Analysis.{Analysis}
+use Rattle.ask_words.specs.declared.request.Request.TheVariants.{Transitions}
+use Rattle.top_texts.specs.Exact.{exact}
+use Rattle.top_texts.specs.Questions.{rounds_end, transitions_question}
+use Rattle.top_texts.specs.TransitionTexts.{IsAutoReport}
+use Rattle.top_texts.proofs.questions.OneMeaning.{transitions_once}
+use Rattle.top_answer.specs.Commands.{command_of}
+use Rattle.top_answer.specs.Outcomes.{HasOutcome, Says}
+use Rattle.top_status.specs.declared.status.Status.{Status}
+use Rattle.top_texts.specs.Outcomes.{IsUnanswered}
+use Rattle.top_texts.specs.declared.refusal.Refusal.{Refusal}
+use Rattle.top_answer.proofs.commands.Results.{answered}
+use Rattle.top_answer.proofs.commands.Asking.{lawful}
+use Rattle.top_answer.proofs.commands.Lawful.{IsCommand, IsInRange}
+use Rattle.top_answer.proofs.outputs.Reports.{auto_report_once}
+use Rattle.top_answer.proofs.requests.Limits.{within}
+use Rattle.top_answer.proofs.requests.Numbers.{analysis_bounds, map_some}
+
+one_report : (a : Analysis (List ℕ)) (one other : List ℕ) → IsAutoReport a.program a.domain a.policy a.improvements one
+    → IsAutoReport a.program a.domain a.policy a.improvements other → one ≡ other
+one_report a one other h k = auto_report_once a.program a.domain a.policy a.improvements one other h k
+
+-- it is a command of the program
+pub transitions : (a : Analysis (List ℕ)) → IsCommand (Transitions a)
+transitions a = record {
+  lawful = lawful (transitions_question exact a.program a.domain a.policy a.improvements)
+      (transitions_once a.program a.domain a.policy a.improvements)
+      (λ bytes. IsAutoReport a.program a.domain a.policy a.improvements bytes)
+      (λ bytes r. rounds_end r.system refl r.meant (r.rounds, r.within, r.vector, r.has_rounds));
+  writes_once = λ none contents one other h k. one_report (analysis_with a contents) one other h k;
+  limits = λ contents range e. within (which.System, a.program) a [] contents refl range e;
+}
+
+-- its improvements are within their limit
+pub transitions_range : (given : List Row) (r : Request) → transitions_in given ≡ Some r → IsInRange r
+transitions_range given r e =
+    let made : Analysis WordText → Request = λ a. Transitions a in
+    let a = map_some made (analysis_in given) r e in
+    subst (λ r. IsInRange r) a.2 (analysis_bounds given a.0 a.1)
+
+-- its report, or why there is none
+pub transited : (a : Analysis (List ℕ)) (r : Result (Vec ℕ Global) Refusal) (s : Status) (bytes : List ℕ)
+    → IfOk r (λ made. IsAutoReport a.program a.domain a.policy a.improvements made.items)
+    → IfErr r (λ x. IsUnanswered (transitions_question exact a.program a.domain a.policy a.improvements) x) → HasOutcome r s bytes
+    → Says (command_of exact (Transitions a)) s bytes
+transited a r s bytes ok err h = answered (transitions_question exact a.program a.domain a.policy a.improvements)
+    (λ bytes. IsAutoReport a.program a.domain a.policy a.improvements bytes) r s bytes ok err h
